@@ -1,0 +1,3 @@
+pub mod Days
+pub mod Civil
+pub mod Joining

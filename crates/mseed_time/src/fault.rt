@@ -1,0 +1,22 @@
+//! Why a time is refused.
+
+/// The first field of a BTIME that is out of its range, in the order of the fields.
+#[derive(Clone, Copy, Debug, PartialEq, Eq)]
+pub enum TimeFault {
+    /// Not 1900 to 2100.
+    Year,
+    /// Not a day of the year, from 1.
+    Day,
+    /// Above 23.
+    Hour,
+    /// Above 59.
+    Minute,
+    /// Above 60, the leap second.
+    Second,
+    /// Above 9999 ten-thousandths.
+    Fraction,
+}
+
+/// The instant lies in no year from 1900 to 2100, once it is rounded to a ten-thousandth of a second.
+#[derive(Clone, Copy, Debug, PartialEq, Eq)]
+pub struct OutOfRange;

@@ -1,0 +1,21 @@
+//! Instants, sample rates and joins: when a record begins, how fast it was sampled, and whether the
+//! next record begins where it ends (SEED Reference Manual 2.4, chapters 3 and 8).
+#![tactic(auto)]
+
+mod btime;
+mod fault;
+mod joins;
+mod micros;
+mod order;
+mod outcome;
+mod rate;
+mod show;
+
+pub use btime::Btime;
+pub use fault::{OutOfRange, TimeFault};
+pub use joins::join;
+pub use micros::Micros;
+pub use order::Order;
+pub use outcome::{Join, LeapStep};
+pub use rate::{NoRate, Rate};
+pub use show::show_time;

@@ -1,0 +1,21 @@
+//! How one record follows another.
+
+/// A leap second that happened during a record: the clock counts a second more, or one less.
+#[derive(Clone, Copy, Debug, PartialEq, Eq)]
+pub enum LeapStep {
+    /// A second was inserted (activity bit 4).
+    Plus,
+    /// A second was left out (activity bit 5).
+    Minus,
+}
+
+/// Where a record begins, measured from the end of the one before it.
+#[derive(Clone, Copy, Debug, PartialEq, Eq)]
+pub enum Join {
+    /// Within half a sample period of it.
+    Meets,
+    /// Later by so many whole microseconds: something is missing.
+    Late(u128),
+    /// Earlier by so many whole microseconds: the two overlap.
+    Early(u128),
+}

@@ -1,0 +1,91 @@
+//! Sample rates.
+ghost use Rattle.std.specs.Prelude.{◌≡◌, ◌≢◌, ◌↔◌, ◌≤◌, ◌<◌, ◌^◌, pos, IsTrue, IsOk, IfOk, IsSome, Some};
+ghost use Rattle.mseed_time.specs.Rate.{rate_of, SameRate, positive_part_of, negative_part_of};
+
+/// A factor or a multiplier of zero gives no rate.
+#[derive(Clone, Copy, Debug, PartialEq, Eq)]
+pub struct NoRate;
+
+/// A sample rate, as its factor and its multiplier stand in the header. Two rates are equal by `==`
+/// where these are, and the same rate by [`Rate::same_as`].
+#[derive(Clone, Copy, Debug, PartialEq, Eq)]
+pub struct Rate {
+    pub factor: i16,
+    pub multiplier: i16,
+    pub ghost factor_counts: { factor ≢ pos 0 },
+    pub ghost multiplier_counts: { multiplier ≢ pos 0 },
+}
+
+impl Rate {
+    ghost use Rattle.mseed_time.specs.Ratios.{ratio_of};
+
+    /// The rate of a factor and a multiplier (SEED manual, chapter 8): what is positive multiplies, and
+    /// what is negative divides.
+    pub fn of(factor: i16, multiplier: i16) -> Result<Rate, NoRate>
+        ensures ok { IsOk result ↔ IsSome (rate_of factor multiplier) }
+        ensures value { IfOk result (λ r. Some (ratio_of r) ≡ rate_of factor multiplier) }
+        ensures factor { IfOk result (λ r. r.factor ≡ factor) }
+        ensures multiplier { IfOk result (λ r. r.multiplier ≡ multiplier) }
+    {
+        if factor == 0 || multiplier == 0 {
+            return Err(NoRate);
+        }
+        Ok(Rate { factor, multiplier })
+    }
+
+    /// The factor and the multiplier, as they stood.
+    pub fn pair(self) -> (i16, i16)
+        ensures factor { result.0 ≡ self.factor }
+        ensures multiplier { result.1 ≡ self.multiplier }
+    {
+        (self.factor, self.multiplier)
+    }
+
+    /// How many samples there are in [`Rate::den`] seconds. The two aren't reduced.
+    pub fn num(self) -> u32
+        ensures value { result ≡ (ratio_of self).num }
+        ensures some { 0 < result }
+        ensures bound { result ≤ 2 ^ 30 }
+    {
+        positive_part(self.factor) * positive_part(self.multiplier)
+    }
+
+    /// In how many seconds there are [`Rate::num`] samples.
+    pub fn den(self) -> u32
+        ensures value { result ≡ (ratio_of self).den }
+        ensures some { 0 < result }
+        ensures bound { result ≤ 2 ^ 30 }
+    {
+        negative_part(self.factor) * negative_part(self.multiplier)
+    }
+
+    /// Whether two rates are one, reduced or not.
+    pub fn same_as(self, other: Rate) -> bool
+        ensures { IsTrue result ↔ SameRate (ratio_of self) (ratio_of other) }
+    {
+        u64::from(self.num()) * u64::from(other.den())
+            == u64::from(other.num()) * u64::from(self.den())
+    }
+}
+
+/// The number where it is positive, else 1.
+fn positive_part(number: i16) -> u32
+    ensures { result ≡ positive_part_of number }
+{
+    if number > 0 {
+        u32::from(number.unsigned_abs())
+    } else {
+        1
+    }
+}
+
+/// The size of the number where it is negative, else 1.
+fn negative_part(number: i16) -> u32
+    ensures { result ≡ negative_part_of number }
+{
+    if number < 0 {
+        u32::from(number.unsigned_abs())
+    } else {
+        1
+    }
+}
