@@ -1,0 +1,12 @@
+use Rattle.std.proofs.Common.{◌≡◌, ◌+◌, ◌++◌}
+use Rattle.std.specs.Io.KnownBytes.{Consumes}
+use Rattle.mseed_stream.proofs.whole.read_all_in.Given as goal
+
+abbrev pub invariant-loop-turn : goal.invariant-loop-turn
+invariant-loop-turn g l = record {
+  bytes : (g.R.Source.heard l.source).bytes ≡ (g.R.Source.heard l.fn.source).bytes ++ l.bytes.items;
+  calls : (g.R.Source.heard l.source).calls ≡ (g.R.Source.heard l.fn.source).calls + l.turn;
+  failures : (g.R.Source.heard l.source).failures ≡ (g.R.Source.heard l.fn.source).failures;
+  known : Consumes (g.R.Source.remaining l.fn.source) (g.R.Source.remaining l.source) l.bytes.items;
+  beside : g.R.Source.beside l.source ≡ g.R.Source.beside l.fn.source;
+}

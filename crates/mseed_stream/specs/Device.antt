@@ -1,0 +1,59 @@
+-- What a device did so far, and what one more call adds, by its answer.
+use Rattle.std.specs.Prelude.{◌≡◌, ℕ, Bool, false, ◌==◌, ◌&&◌, ◌||◌, ◌+◌, ◌++◌, not, length, List, [], take, Result, Ok, Err}
+
+-- what a source told: its bytes, the calls made and failed, and whether the input is at its end
+pub record Heard : Type 0 where
+  pub bytes : List ℕ
+  pub calls : ℕ
+  pub failures : ℕ
+  pub is_at_end : Bool
+
+-- what a sink took: its bytes, and the calls made and failed
+pub record Said : Type 0 where
+  pub bytes : List ℕ
+  pub calls : ℕ
+  pub failures : ℕ
+
+-- no call of the source yet
+abbrev pub nothing_heard : Heard
+nothing_heard = record { bytes = []; calls = 0; failures = 0; is_at_end = false }
+
+-- no call of the sink yet
+abbrev pub nothing_said : Said
+nothing_said = record { bytes = []; calls = 0; failures = 0 }
+
+-- the bytes that went through: the first n at `Ok(n)`, and none at `Err`
+abbrev pub passed : {E : Type 0} → Result ℕ E → List ℕ → List ℕ
+passed (Ok n) xs = take n xs
+passed (Err e) xs = []
+
+-- how many calls failed: this one, or none
+abbrev pub failed_count : {E : Type 0} → Result ℕ E → ℕ
+failed_count (Ok n) = 0
+failed_count (Err e) = 1
+
+-- the answer says that the input is at its end: 0 bytes, where there was room for one
+abbrev pub is_end : {E : Type 0} → Result ℕ E → ℕ → Bool
+is_end (Ok n) room = (n == 0) && not (room == 0)
+is_end (Err e) room = false
+
+-- one more read, by its answer and what the buffer then holds
+abbrev pub heard_also : {E : Type 0} → Heard → Result ℕ E → List ℕ → Heard
+heard_also h r buf = record {
+  bytes = h.bytes ++ passed r buf;
+  calls = h.calls + 1;
+  failures = h.failures + failed_count r;
+  is_at_end = h.is_at_end || is_end r (length buf);
+}
+
+-- one more write, by its answer
+abbrev pub said_also : {E : Type 0} → Said → Result ℕ E → List ℕ → Said
+said_also s r bytes = record {
+  bytes = s.bytes ++ passed r bytes;
+  calls = s.calls + 1;
+  failures = s.failures + failed_count r;
+}
+
+-- the whole is the front, with something or nothing behind it
+abbrev pub IsFrontOf : List ℕ → List ℕ → Type 0
+IsFrontOf front whole = (more : List ℕ) × (whole ≡ front ++ more)

@@ -1,0 +1,103 @@
+// The one maker of sources and sinks.
+ghost use Rattle.std.specs.Prelude.{◌≡◌};
+ghost use Rattle.mseed_stream.specs.Device.{nothing_heard, nothing_said};
+
+use crate::device::{Failed, Sink, Source};
+use crate::tally::Tally;
+use std::io::{Read, Write};
+
+/// A reader or writer as a [`Source`] or [`Sink`]: it counts what goes through.
+///
+/// One that both reads and writes is both. A reader that said 0 for a slice that isn't empty is
+/// at its end, and isn't asked again. An error of any kind counts as a failure, and is not tried
+/// again here.
+#[derive(Drop)]
+pub struct Counted<T> {
+    inner: T,
+    is_at_end: bool,
+    reads: Tally,
+    writes: Tally,
+}
+
+impl<T> Counted<T> {
+    ghost use Rattle.mseed_stream.specs.Counted.{heard_by, said_by, inner_of};
+
+    /// The reader or writer, of which nothing was asked yet.
+    pub fn new(inner: T) -> Counted<T>
+        ensures heard { heard_by result ≡ nothing_heard }
+        ensures said { said_by result ≡ nothing_said }
+        ensures inner { inner_of result ≡ inner }
+    {
+        Counted {
+            inner,
+            is_at_end: false,
+            reads: Tally::new(),
+            writes: Tally::new(),
+        }
+    }
+
+    /// The reader or writer, to look at.
+    pub fn get_ref(&self) -> &T
+        ensures { result.now ≡ inner_of self.now }
+    {
+        &self.inner
+    }
+
+    /// The reader or writer, as the calls left it.
+    pub fn into_inner(self) -> T
+        ensures { result ≡ inner_of self }
+    {
+        self.inner
+    }
+}
+
+impl<T: Read> Source for Counted<T> {
+    ghost use Rattle.mseed_stream.specs.Counted.{heard_by, said_by, remaining_of};
+
+    ghost heard = { heard_by };
+
+    ghost remaining = { remaining_of T.remaining };
+
+    ghost beside = { said_by };
+
+    fn pull(&mut self, buf: &mut [u8]) -> Result<usize, Failed> {
+        if self.is_at_end {
+            self.reads.record(&[], false);
+            return Ok(0);
+        }
+        match self.inner.read(buf) {
+            Ok(n) => {
+                self.is_at_end = n == 0 && !buf.is_empty();
+                self.reads.record(&buf[..n], false);
+                Ok(n)
+            }
+            Err(_) => {
+                self.reads.record(&[], true);
+                Err(Failed)
+            }
+        }
+    }
+}
+
+impl<T: Write> Sink for Counted<T> {
+    ghost use Rattle.mseed_stream.specs.Counted.{heard_by, said_by, contents_of};
+
+    ghost said = { said_by };
+
+    ghost contents = { contents_of T.contents };
+
+    ghost beside = { heard_by };
+
+    fn put(&mut self, bytes: &[u8]) -> Result<usize, Failed> {
+        match self.inner.write(bytes) {
+            Ok(n) if n > 0 || bytes.is_empty() => {
+                self.writes.record(&bytes[..n], false);
+                Ok(n)
+            }
+            _ => {
+                self.writes.record(&[], true);
+                Err(Failed)
+            }
+        }
+    }
+}

@@ -1,0 +1,70 @@
+// Where bytes come from, and where they go to.
+ghost use Rattle.std.specs.Prelude.{◌≡◌, List, ℕ, IsTrue, ◌<◌, ◌≤◌, length, IfOk, Option, None};
+ghost use Rattle.std.specs.Io.KnownBytes.{ReadConsumes, WriteAppends};
+ghost use Rattle.mseed_stream.specs.Device.{Heard, Said, nothing_heard, nothing_said, heard_also, said_also};
+
+/// A device failed at a call, for whatever cause. By that call no byte went through.
+#[derive(Debug, Clone, Copy, PartialEq, Eq)]
+pub struct Failed;
+
+/// Where bytes come from.
+///
+/// Contracts name three things of a source: `heard`, the record of what it told so far;
+/// `remaining`, the bytes that it has left, where they are known; and `beside`, what it took
+/// meanwhile, where it is a sink as well.
+pub trait Source {
+    // What it told so far.
+    ghost heard: { Self → Heard };
+
+    // The bytes that it will tell from here on, where they are known.
+    ghost remaining: { Self → Option (List ℕ) } = { λ _. None };
+
+    // What it took so far, where it is a sink as well. A read leaves it as it was.
+    ghost beside: { Self → Said } = { λ _. nothing_said };
+
+    /// Reads once, into the front of `buf`, and answers how many bytes it read.
+    ///
+    /// The first 0 for a slice that isn't empty is the input's end. From then on each answer is
+    /// `Ok(0)`, and the device isn't asked. A short answer is no end.
+    ///
+    /// # Errors
+    ///
+    /// `Failed` where the device failed. The bytes that come next aren't lost by it, and the next
+    /// call asks the device again.
+    fn pull(&mut self, buf: &mut [u8]) -> Result<usize, Failed>
+        ensures bound { IfOk result (λ n. n ≤ length buf.new) }
+        ensures heard { heard self.new ≡ heard_also (heard self.old) result buf.new }
+        ensures silent { IsTrue (heard self.old).is_at_end → result ≡ Ok 0 }
+        ensures known { ReadConsumes (remaining self.old) (remaining self.new) result buf.new }
+        ensures beside { beside self.new ≡ beside self.old };
+}
+
+/// Where bytes go to.
+///
+/// Contracts name three things of a sink: `said`, the record of what it took so far; `contents`,
+/// the bytes that it holds, where they are known; and `beside`, what it told meanwhile, where it
+/// is a source as well.
+pub trait Sink {
+    // What it took so far.
+    ghost said: { Self → Said };
+
+    // The bytes that it holds, where they are known.
+    ghost contents: { Self → Option (List ℕ) } = { λ _. None };
+
+    // What it told so far, where it is a source as well. A write leaves it as it was.
+    ghost beside: { Self → Heard } = { λ _. nothing_heard };
+
+    /// Writes once, from the front of `bytes`, and answers how many bytes it took.
+    ///
+    /// Of a slice that isn't empty it takes at least one byte, or it fails.
+    ///
+    /// # Errors
+    ///
+    /// `Failed` where the device failed, or took none of the bytes that there were.
+    fn put(&mut self, bytes: &[u8]) -> Result<usize, Failed>
+        ensures bound { IfOk result (λ n. n ≤ length bytes.now) }
+        ensures progress { IfOk result (λ n. 0 < length bytes.now → 0 < n) }
+        ensures said { said self.new ≡ said_also (said self.old) result bytes.now }
+        ensures known { WriteAppends (contents self.old) (contents self.new) result bytes.now }
+        ensures beside { beside self.new ≡ beside self.old };
+}

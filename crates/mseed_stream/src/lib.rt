@@ -1,0 +1,21 @@
+//! Reading and writing devices by what they told, took and were asked.
+//!
+//! A [`Source`] tells bytes and a [`Sink`] takes them. Each has a record, for proofs alone, of all
+//! the bytes that went through it, of the calls that were made and of those that failed, so that a
+//! contract can speak of a whole run over a device. [`Counted`] makes either of any reader or
+//! writer of `std::io`. [`read_all`] and [`write_all_of`] are the two loops over them.
+#![tactic(auto)]
+
+mod counted;
+mod device;
+mod fault;
+mod tally;
+mod whole;
+
+pub use counted::Counted;
+pub use device::{Failed, Sink, Source};
+pub use fault::StreamFault;
+pub use whole::{read_all, read_all_in, write_all_of};
+
+#[cfg(test)]
+mod tests;

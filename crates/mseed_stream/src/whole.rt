@@ -1,0 +1,114 @@
+// All that a source tells, and all of a slice to a sink.
+ghost use Rattle.std.specs.Prelude.{◌≡◌, IsTrue, ◌+◌, ◌++◌, ◌<◌, length, take, IfOk, OnOk, IfErr, OnErr, IfSome, MatchResult};
+ghost use Rattle.std.specs.Io.KnownBytes.{Appends};
+ghost use Rattle.mseed_stream.specs.Device.{IsFrontOf};
+ghost use Rattle.mseed_stream.specs.Fault.{IsStreamFault};
+
+use crate::device::{Failed, Sink, Source};
+use crate::fault::StreamFault;
+use std::alloc::{Allocator, Global};
+
+/// At most so many reads of one input.
+const TURNS: u64 = 1 << 40;
+
+/// The bytes that one read has room for.
+const ROOM: usize = 4096;
+
+/// All that the source tells from here up to its end.
+///
+/// # Errors
+///
+/// `Read` where the source failed, with the number of bytes told before; `Turns` where it wasn't
+/// at its end after 2^40 reads; `Memory` where there was no room for bytes that it told. The bytes
+/// told in the call are lost then.
+pub fn read_all<R: Source>(alloc: Global, source: &mut R) -> Result<Vec<u8>, StreamFault>
+    ensures ok { IfOk result (λ bytes.
+        (R.heard source.new).bytes ≡ (R.heard source.old).bytes ++ bytes.items) }
+    ensures end { OnOk result (IsTrue (R.heard source.new).is_at_end) }
+    ensures fine { OnOk result ((R.heard source.new).failures ≡ (R.heard source.old).failures) }
+
+    // What the source is known to have left is what it told.
+    ensures known { IfOk result (λ bytes.
+        IfSome (R.remaining source.old) (λ xs. bytes.items ≡ xs)) }
+    ensures fault { IfErr result (λ fault.
+        IsStreamFault fault (R.heard source.old) (R.heard source.new)) }
+
+    // Memory is asked for only where a byte was told.
+    ensures memory { result ≡ Err StreamFault.Memory
+        → length (R.heard source.old).bytes < length (R.heard source.new).bytes }
+    ensures front { IsFrontOf (R.heard source.old).bytes (R.heard source.new).bytes }
+    ensures beside { R.beside source.new ≡ R.beside source.old }
+{
+    read_all_in(alloc, source)
+}
+
+/// [`read_all`] with any allocator, as one that refuses.
+///
+/// # Errors
+///
+/// Those of [`read_all`].
+pub fn read_all_in<A: Allocator, R: Source>(
+    alloc: A,
+    source: &mut R,
+) -> Result<Vec<u8, A>, StreamFault>
+    ensures ok { IfOk result (λ bytes.
+        (R.heard source.new).bytes ≡ (R.heard source.old).bytes ++ bytes.items) }
+    ensures end { OnOk result (IsTrue (R.heard source.new).is_at_end) }
+    ensures fine { OnOk result ((R.heard source.new).failures ≡ (R.heard source.old).failures) }
+
+    // What the source is known to have left is what it told.
+    ensures known { IfOk result (λ bytes.
+        IfSome (R.remaining source.old) (λ xs. bytes.items ≡ xs)) }
+    ensures fault { IfErr result (λ fault.
+        IsStreamFault fault (R.heard source.old) (R.heard source.new)) }
+
+    // Memory is asked for only where a byte was told.
+    ensures memory { result ≡ Err StreamFault.Memory
+        → length (R.heard source.old).bytes < length (R.heard source.new).bytes }
+    ensures front { IsFrontOf (R.heard source.old).bytes (R.heard source.new).bytes }
+    ensures beside { R.beside source.new ≡ R.beside source.old }
+{
+    let mut bytes = Vec::new(alloc);
+    let mut buf = [0; ROOM];
+    for turn in 0..TURNS {
+        match source.pull(&mut buf) {
+            Ok(0) => return Ok(bytes),
+            Ok(n) => match bytes.extend_from_slice(&buf[..n]) {
+                Ok(()) => {}
+                Err(_) => return Err(StreamFault::Memory),
+            },
+            Err(Failed) => return Err(StreamFault::Read(bytes.len() as u64)),
+        }
+    }
+    Err(StreamFault::Turns(bytes.len() as u64))
+}
+
+/// Writes all of the bytes.
+///
+/// # Errors
+///
+/// How many of the bytes were taken before the sink failed: fewer than there are. The sink isn't
+/// asked again.
+pub fn write_all_of<W: Sink>(sink: &mut W, bytes: &[u8]) -> Result<(), usize>
+    ensures ok { OnOk result ((W.said sink.new).bytes ≡ (W.said sink.old).bytes ++ bytes.now) }
+    ensures fine { OnOk result ((W.said sink.new).failures ≡ (W.said sink.old).failures) }
+    ensures err { IfErr result (λ n.
+        (W.said sink.new).bytes ≡ (W.said sink.old).bytes ++ take n bytes.now) }
+    ensures within { IfErr result (λ n. n < length bytes.now) }
+    ensures failed { OnErr result ((W.said sink.new).failures ≡ (W.said sink.old).failures + 1) }
+
+    // What the sink is known to hold grew by what it took.
+    ensures known { MatchResult result
+        (λ _. Appends (W.contents sink.old) (W.contents sink.new) bytes.now)
+        (λ n. Appends (W.contents sink.old) (W.contents sink.new) (take n bytes.now)) }
+    ensures beside { W.beside sink.new ≡ W.beside sink.old }
+{
+    let mut at = 0;
+    while at < bytes.len() {
+        match sink.put(&bytes[at..]) {
+            Ok(n) => at += n,
+            Err(Failed) => return Err(at),
+        }
+    }
+    Ok(())
+}
