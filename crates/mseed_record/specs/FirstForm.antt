@@ -1,5 +1,5 @@
 -- The one plain form of record that is read so far: 128 bytes, big-endian, up to sixteen 32-bit integers.
-use Rattle.std.specs.Prelude.{◌≡◌, ℕ, ◌≤◌, IsTrue, List, [], ◌∷◌, length, slice_index, slice_range, ℤ, pos, ◌<ℤ◌, None, true}
+use Rattle.std.specs.Prelude.{◌≡◌, ℕ, ◌<◌, ◌≤◌, IsTrue, List, [], ◌∷◌, length, slice_index, slice_range, ℤ, pos, ◌<ℤ◌, None, true}
 use Rattle.byteorder.specs.Endian.{twos_complement}
 use Rattle.mseed_time.specs.declared.order.Order.TheVariants.{Big}
 use Rattle.mseed_time.specs.Btime.{first_fault, instant_of}
@@ -28,6 +28,7 @@ pub record HasPlainNumbers (b : List ℕ) : Type 0 where
 
 pub record IsFirstForm (b : List ℕ) : Type 0 where
   pub size : length b ≡ 128
+  pub octets : (i : ℕ) → slice_index b i < 256
   pub fixed : IsTrue (has_fixed_bytes b)
   pub time : first_fault (time_at Big b) ≡ None
   pub numbers : HasPlainNumbers b

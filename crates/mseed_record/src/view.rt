@@ -59,7 +59,8 @@ impl<'a> RecordView<'a> {
 
     /// All of its bytes.
     pub fn bytes(&self) -> &'a [u8]
-        ensures { result.now ≡ self.now }
+        ensures value { result.now ≡ self.now }
+        ensures form { IsFirstForm result.now }
     {
         self.bytes
     }
@@ -76,7 +77,9 @@ impl<'a> RecordView<'a> {
 
     /// The number of samples.
     pub fn samples(&self) -> u16
-        ensures { result ≡ samples_at Big self.now }
+        ensures value { result ≡ samples_at Big self.now }
+        ensures some { 1 ≤ result }
+        ensures few { result ≤ 16 }
     {
         Order::Big.u16_at(self.bytes, 30)
     }

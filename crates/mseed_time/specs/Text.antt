@@ -23,5 +23,5 @@ clock_text t =
     ++ digits 2 (t / 1_000_000 % 60) ++ codes "." ++ digits 6 (t % 1_000_000)
 
 -- an instant: its date and its time of day
-abbrev pub time_text : ℤ → List ℕ
+unfoldable pub time_text : ℤ → List ℕ
 time_text t = date_text (since_1800 t / 86_400_000_000) ++ codes "T" ++ clock_text (since_1800 t % 86_400_000_000)

@@ -13,6 +13,7 @@ const DAY: u64 = 86_400_000_000;
 const FIRST_OF_1800: u32 = 4_309_496;
 
 /// An instant as text, such as `2024-01-01T00:00:00.000000`.
+#[tactic(auto, unfolding(crate::specs::Text::time_text))]
 pub fn show_time(instant: Micros) -> [u8; 26]
     ensures { result ≡ time_text instant }
 {

@@ -1,0 +1,71 @@
+-- The text of an audit.
+use Rattle.std.specs.Prelude.{ℕ, ◌+◌, ◌&&◌, nat_le, if◌then◌else◌, List, [], ◌∷◌, ◌++◌, map, length, slice_range, codes, decimal, ℤ}
+use Rattle.std.specs.List.{list_all}
+use Rattle.mseed_time.specs.Rate.{Ratio}
+use Rattle.mseed_time.specs.Ratios.{ratio_of}
+use Rattle.mseed_time.specs.Text.{time_text}
+use Rattle.mseed_record.specs.Header.{is_blank, key_at}
+use Rattle.mseed_record.specs.FirstForm.{start_of}
+use Rattle.mseed_audit.specs.declared.finding.Why.{Why}
+use Rattle.mseed_audit.specs.declared.finding.Why.TheVariants.{RateChange, Gap, Overlap}
+use Rattle.mseed_audit.specs.declared.finding.Finding.{Finding}
+use Rattle.mseed_audit.specs.declared.finding.Verdict.{Verdict}
+use Rattle.mseed_audit.specs.declared.finding.Verdict.TheVariants.{Continuous, Broken}
+use Rattle.mseed_audit.specs.Follows.{rate_at}
+use Rattle.mseed_audit.specs.Verdict.{findings_of, sample_count}
+
+-- a code without its trailing spaces and NULs
+abbrev pub trimmed : List ℕ → List ℕ
+trimmed [] = []
+trimmed (c ∷ cs) = if list_all is_blank (c ∷ cs) then [] else c ∷ trimmed cs
+
+-- a byte of a name as it is printed: what is no printable character, or a space, is `?`
+abbrev pub printed : ℕ → ℕ
+printed c = if nat_le 33 c && nat_le c 126 then c else 63
+
+-- a code as it is printed
+abbrev pub code_text : List ℕ → List ℕ
+code_text code = map printed (trimmed code)
+
+-- a channel's name: network, station, location and channel
+abbrev pub name_text : List ℕ → List ℕ
+name_text key =
+    code_text (slice_range key 0 2) ++ codes "_" ++ code_text (slice_range key 2 7) ++ codes "_"
+    ++ code_text (slice_range key 7 9) ++ codes "_" ++ code_text (slice_range key 9 12)
+
+abbrev pub why_text : Why → List ℕ
+why_text RateChange = codes "ratechange"
+why_text (Gap us) = codes "gap " ++ decimal us
+why_text (Overlap us) = codes "overlap " ++ decimal us
+
+-- the line of a continuous channel, from its name on
+abbrev pub continuous_words : ℤ → Ratio → ℕ → ℕ → List ℕ
+continuous_words start rate records samples =
+    codes " continuous " ++ time_text start ++ codes " rate " ++ decimal rate.num ++ codes "/" ++ decimal rate.den
+    ++ codes " records " ++ decimal records ++ codes " samples " ++ decimal samples ++ codes "\n"
+
+-- the line of a broken channel, from its name on
+abbrev pub broken_words : Finding → ℕ → List ℕ
+broken_words first count =
+    codes " broken findings " ++ decimal count ++ codes " first record " ++ decimal first.number
+    ++ codes " offset " ++ decimal first.offset ++ codes " " ++ why_text first.why ++ codes "\n"
+
+-- a channel's line, by its verdict
+abbrev pub verdict_line : List ℕ → Verdict → List ℕ
+verdict_line key (Continuous start rate records samples) = name_text key ++ continuous_words start (ratio_of rate) records samples
+verdict_line key (Broken first count) = name_text key ++ broken_words first count
+
+-- the last line
+abbrev pub total_line : ℕ → ℕ → List ℕ
+total_line records channels =
+    codes "records " ++ decimal records ++ codes " channels " ++ decimal channels ++ codes "\n"
+
+-- a channel's line, by its records and their findings
+abbrev pub line_by : List Finding → List ℕ → List (List ℕ) → List ℕ
+line_by [] b bs = name_text (key_at b) ++ continuous_words (start_of b) (rate_at b) (length bs + 1) (sample_count (b ∷ bs))
+line_by (first ∷ rest) b bs = name_text (key_at b) ++ broken_words first (length rest + 1)
+
+-- the text of the audit of an archive whose records are of one channel
+abbrev pub audit_text : List (List ℕ) → List ℕ
+audit_text [] = total_line 0 0
+audit_text (b ∷ bs) = line_by (findings_of (b ∷ bs)) b bs ++ total_line (length bs + 1) 1

@@ -1,0 +1,165 @@
+//! The lines of an audit's text.
+ghost use Rattle.std.specs.Prelude.{◌≡◌, ◌++◌, OnOk, decimal};
+ghost use Rattle.mseed_audit.specs.Text.{verdict_line, continuous_words, broken_words, total_line, name_text, code_text, why_text, printed, trimmed};
+ghost use Rattle.mseed_time.specs.Ratios.{ratio_of};
+ghost use Rattle.mseed_record.specs.Header.{is_blank};
+
+use crate::finding::{Finding, Verdict, Why};
+use itoa::Buffer;
+use mseed_record::Codes;
+use mseed_time::{Micros, Rate, show_time};
+use std::alloc::{AllocError, Allocator};
+
+/// Adds the line of a channel.
+pub fn push_channel_line<A: Allocator>(
+    text: &mut Vec<u8, A>,
+    codes: &Codes,
+    verdict: &Verdict,
+) -> Result<(), AllocError>
+    ensures { OnOk result (text.new.items ≡ text.old.items ++ verdict_line codes.now verdict.now) }
+{
+    push_name(text, codes)?;
+    match verdict {
+        Verdict::Continuous {
+            start,
+            rate,
+            records,
+            samples,
+        } => push_continuous(text, *start, *rate, *records, *samples),
+        Verdict::Broken { first, count } => push_broken(text, first, *count),
+    }
+}
+
+/// Adds what follows the name of a continuous channel.
+fn push_continuous<A: Allocator>(
+    text: &mut Vec<u8, A>,
+    start: Micros,
+    rate: Rate,
+    records: u64,
+    samples: u64,
+) -> Result<(), AllocError>
+    ensures { OnOk result (text.new.items ≡ text.old.items ++ continuous_words start (ratio_of rate) records samples) }
+{
+    push_bytes(text, b" continuous ")?;
+    push_bytes(text, &show_time(start))?;
+    push_count(text, b" rate ", u128::from(rate.num()))?;
+    push_count(text, b"/", u128::from(rate.den()))?;
+    push_count(text, b" records ", u128::from(records))?;
+    push_count(text, b" samples ", u128::from(samples))?;
+    push_bytes(text, b"\n")
+}
+
+/// Adds what follows the name of a broken channel.
+fn push_broken<A: Allocator>(
+    text: &mut Vec<u8, A>,
+    first: &Finding,
+    count: u64,
+) -> Result<(), AllocError>
+    ensures { OnOk result (text.new.items ≡ text.old.items ++ broken_words first.now count) }
+{
+    push_count(text, b" broken findings ", u128::from(count))?;
+    push_count(text, b" first record ", u128::from(first.number))?;
+    push_count(text, b" offset ", u128::from(first.offset))?;
+    push_bytes(text, b" ")?;
+    push_why(text, &first.why)?;
+    push_bytes(text, b"\n")
+}
+
+/// Adds the last line: how many records there were, and of how many channels.
+pub fn push_total_line<A: Allocator>(
+    text: &mut Vec<u8, A>,
+    records: u64,
+    channels: u64,
+) -> Result<(), AllocError>
+    ensures { OnOk result (text.new.items ≡ text.old.items ++ total_line records channels) }
+{
+    push_count(text, b"records ", u128::from(records))?;
+    push_count(text, b" channels ", u128::from(channels))?;
+    push_bytes(text, b"\n")
+}
+
+/// Adds the words of a finding.
+fn push_why<A: Allocator>(text: &mut Vec<u8, A>, why: &Why) -> Result<(), AllocError>
+    ensures { OnOk result (text.new.items ≡ text.old.items ++ why_text why.now) }
+{
+    match why {
+        Why::RateChange => push_bytes(text, b"ratechange"),
+        Why::Gap(micros) => push_count(text, b"gap ", *micros),
+        Why::Overlap(micros) => push_count(text, b"overlap ", *micros),
+    }
+}
+
+/// Adds a label and a number.
+fn push_count<A: Allocator>(
+    text: &mut Vec<u8, A>,
+    label: &[u8],
+    count: u128,
+) -> Result<(), AllocError>
+    ensures { OnOk result (text.new.items ≡ text.old.items ++ label.now ++ decimal count) }
+{
+    push_bytes(text, label)?;
+    let mut buffer = Buffer::new();
+    push_bytes(text, buffer.format(count).as_bytes())
+}
+
+/// Adds bytes.
+fn push_bytes<A: Allocator>(text: &mut Vec<u8, A>, bytes: &[u8]) -> Result<(), AllocError>
+    ensures { OnOk result (text.new.items ≡ text.old.items ++ bytes.now) }
+{
+    text.extend_from_slice(bytes)
+}
+
+/// Adds a channel's name.
+fn push_name<A: Allocator>(text: &mut Vec<u8, A>, codes: &Codes) -> Result<(), AllocError>
+    ensures { OnOk result (text.new.items ≡ text.old.items ++ name_text codes.now) }
+{
+    push_code(text, codes.network())?;
+    push_bytes(text, b"_")?;
+    push_code(text, codes.station())?;
+    push_bytes(text, b"_")?;
+    push_code(text, codes.location())?;
+    push_bytes(text, b"_")?;
+    push_code(text, codes.channel())
+}
+
+/// Adds a code without its trailing spaces and NULs.
+fn push_code<A: Allocator>(text: &mut Vec<u8, A>, code: &[u8]) -> Result<(), AllocError>
+    ensures { OnOk result (text.new.items ≡ text.old.items ++ code_text code.now) }
+{
+    for byte in trimmed(code) {
+        text.push(printed(*byte))?;
+    }
+    Ok(())
+}
+
+/// A code without its trailing spaces and NULs.
+fn trimmed(code: &[u8]) -> &[u8]
+    ensures { result.now ≡ trimmed code.now }
+{
+    let mut end = code.len();
+    while end > 0 {
+        if !is_blank(code[end - 1]) {
+            return &code[..end];
+        }
+        end -= 1;
+    }
+    &code[..0]
+}
+
+/// Whether a byte is a space or NUL.
+fn is_blank(byte: u8) -> bool
+    ensures { result ≡ is_blank byte }
+{
+    byte == b' ' || byte == 0
+}
+
+/// A byte of a name as it is printed.
+fn printed(byte: u8) -> u8
+    ensures { result ≡ printed byte }
+{
+    if (33..=126).contains(&byte) {
+        byte
+    } else {
+        b'?'
+    }
+}
