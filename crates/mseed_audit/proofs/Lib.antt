@@ -1,3 +1,4 @@
 pub mod Readings
 pub mod Breaks
 pub mod Trims
+pub mod Lines

@@ -72,6 +72,13 @@ impl Channel {
         self.last = Last::of(view);
     }
 
+    /// How many records came.
+    pub fn records(&self) -> u64
+        ensures { result ≡ records_of self.now }
+    {
+        self.records
+    }
+
     /// What is found of the next record.
     fn finding(&self, view: &RecordView) -> Option<Finding>
         requires { records_of self.now < 2 ^ 56 }

@@ -42,3 +42,18 @@ pub enum Verdict {
         count: u64,
     },
 }
+
+impl Verdict {
+    ghost use Rattle.std.specs.Prelude.{◌≡◌};
+    ghost use Rattle.mseed_audit.specs.Verdict.{says_continuous};
+
+    /// Whether the channel is continuous.
+    pub fn is_continuous(&self) -> bool
+        ensures { result ≡ says_continuous self.now }
+    {
+        match self {
+            Verdict::Continuous { .. } => true,
+            Verdict::Broken { .. } => false,
+        }
+    }
+}

@@ -1,0 +1,8 @@
+-- When an archive has a broken channel.
+use Rattle.std.specs.Prelude.{◌≡◌, ◌≢◌, ℕ, Bool, false, IsTrue, List, [], ◌⊎◌}
+use Rattle.mseed_audit.specs.Continuous.{IsContinuous}
+
+-- a broken channel isn't continuous; with none that is broken there are no records, or they are continuous
+pub record IsBrokenAs (is_broken : Bool) (bs : List (List ℕ)) : Type 0 where
+  pub broken : IsTrue is_broken → (bs ≢ []) × (IsContinuous bs → ⊥)
+  pub continuous : is_broken ≡ false → (bs ≡ []) ⊎ IsContinuous bs

@@ -1,0 +1,5 @@
+pub mod Archive
+pub mod Broken
+pub mod Walk
+pub mod Outcome
+pub mod Run
