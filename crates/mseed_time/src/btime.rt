@@ -1,6 +1,6 @@
 //! BTIME, the 10 bytes of a time in a header.
-ghost use Rattle.std.specs.Prelude.{◌≡◌, ◌≤◌, pos, neg_ℤ, ◌+ℤ◌, ◌≤ℤ◌};
-ghost use Rattle.mseed_time.specs.Btime.{IsTime, day_of, shift_of};
+ghost use Rattle.std.specs.Prelude.{◌≡◌, ◌<◌, ◌≤◌, pos, neg_ℤ, ◌+ℤ◌, ◌≤ℤ◌};
+ghost use Rattle.mseed_time.specs.Btime.{IsTime, day_of, days_in_year, shift_of};
 
 use crate::fault::{OutOfRange, TimeFault};
 use crate::micros::Micros;
@@ -9,6 +9,15 @@ use jiff_core::civil::{self, Date};
 
 /// The microseconds from 1900-01-01T00:00:00 to 1970-01-01T00:00:00.
 const BEFORE_1970: i64 = 2_208_988_800_000_000;
+
+/// The microseconds from 1800-01-01T00:00:00, the first instant, to 1900-01-01T00:00:00.
+const START_OF_1900: u64 = 3_155_673_600_000_000;
+
+/// The microseconds from the first instant to 2101-01-01T00:00:00.
+const START_OF_2101: u64 = 9_498_643_200_000_000;
+
+/// Half a ten-thousandth of a second, in microseconds.
+const HALF_TICK: u64 = 50;
 
 /// The days from the calendar's first day to 1900-01-01.
 const FIRST_OF_1900: u32 = 4_346_020;
@@ -32,7 +41,8 @@ pub struct Btime {
 }
 
 impl Btime {
-    ghost use Rattle.std.specs.Prelude.{◌<◌, IfOk};
+    ghost use Rattle.std.specs.Prelude.{◌↔◌, ◌*◌, false, IfOk, IsErr, slice_index, None};
+    ghost use Rattle.mseed_time.specs.Spelling.{Spells, IsOnlySpelling, IsOutside, HasNoSpelling};
     ghost use Rattle.std.specs.Result.{result_err};
     ghost use Rattle.mseed_time.specs.Btime.{parts_at, first_fault, instant_of, microsecond_of};
     ghost use Rattle.mseed_time.specs.Parts.{parts_of};
@@ -47,7 +57,7 @@ impl Btime {
             return Err(TimeFault::Year);
         }
         let day = order.u16_at(bytes, 2);
-        if day < 1 || day > civil::days_in_year(year as i16) {
+        if day < 1 || (day > 365 && day > civil::days_in_year(year as i16)) {
             return Err(TimeFault::Day);
         }
         let hour = bytes[4];
@@ -85,6 +95,58 @@ impl Btime {
         Micros::within(whole + i64::from(microseconds))
     }
 
+    /// Writes the time as a BTIME, with 0 in the unused byte.
+    pub fn write(&self, order: Order) -> [u8; 10]
+        ensures fields { parts_at order 0 result ≡ parts_of self.now }
+        ensures unused { slice_index result 7 ≡ 0 }
+        ensures reads_back { first_fault (parts_at order 0 result) ≡ None }
+    {
+        let mut bytes = [0, 0, 0, 0, self.hour, self.minute, self.second, 0, 0, 0];
+        order.put_u16(&mut bytes, 0, self.year);
+        order.put_u16(&mut bytes, 2, self.day);
+        order.put_u16(&mut bytes, 8, self.fraction);
+        bytes
+    }
+
+    /// The time that is nearest to an instant, the later one of two, and the microseconds from it to the
+    /// instant, -50 to 49. The time's second is never 60.
+    pub fn of_micros(instant: Micros) -> Result<(Btime, i8), OutOfRange>
+        ensures value { IfOk result (λ a. instant_of (parts_of a.0) (pos 0) false a.1 ≡ instant) }
+        ensures spells { IfOk result (λ a. Spells instant (parts_of a.0) a.1) }
+        ensures unique { IfOk result (λ a. IsOnlySpelling instant (parts_of a.0) a.1) }
+        ensures out_of_range { IsErr result ↔ IsOutside instant }
+        ensures no_spelling { IsErr result ↔ HasNoSpelling instant }
+    {
+        let since_1800 = instant.since_first() + HALF_TICK;
+        if since_1800 < START_OF_1900 || since_1800 >= START_OF_2101 {
+            return Err(OutOfRange);
+        }
+        let since_1900 = since_1800 - START_OF_1900;
+        let microseconds = (since_1900 % 100) as i8 - 50;
+        Ok((Btime::of_ticks(since_1900 / 100), microseconds))
+    }
+
+    /// The time that is so many ten-thousandths of a second after 1900-01-01T00:00:00.
+    fn of_ticks(ticks: u64) -> Btime
+        requires { ticks < 63_429_696_000_000 }
+        ensures value { microsecond_of (parts_of result) +ℤ pos 2_208_988_800_000_000 ≡ pos (100 * ticks) }
+        ensures second { result.second ≤ 59 }
+    {
+        let (seconds, fraction) = (ticks / 10_000, ticks % 10_000);
+        let (minutes, second) = (seconds / 60, seconds % 60);
+        let (hours, minute) = (minutes / 60, minutes % 60);
+        let (days, hour) = (hours / 24, hours % 24);
+        let (year, day) = year_and_day(days as u32);
+        Btime {
+            year,
+            day,
+            hour: hour as u8,
+            minute: minute as u8,
+            second: second as u8,
+            fraction: fraction as u16,
+        }
+    }
+
     /// The microseconds from 1970-01-01T00:00:00 to the time.
     fn whole(&self) -> i64
         ensures value { result ≡ microsecond_of (parts_of self.now) }
@@ -113,6 +175,19 @@ fn days_since_1900(year: u16) -> u64
     ensures { day_of year 1 +ℤ pos 25_567 ≡ pos result }
 {
     u64::from(Date::constrain(year as i16, 1, 1).days_since_min() - FIRST_OF_1900)
+}
+
+/// The year and the day of the year, by the days after 1900-01-01.
+fn year_and_day(days: u32) -> (u16, u16)
+    requires { days < 73_414 }
+    ensures low { 1900 ≤ result.0 }
+    ensures high { result.0 ≤ 2100 }
+    ensures first { 1 ≤ result.1 }
+    ensures last { result.1 ≤ days_in_year result.0 }
+    ensures value { day_of result.0 result.1 +ℤ pos 25_567 ≡ pos days }
+{
+    let date = Date::from_days_since_min(days + FIRST_OF_1900);
+    (date.year.unsigned_abs(), date.day_of_year())
 }
 
 /// The microseconds that a time correction adds.

@@ -21,7 +21,7 @@ pub fn join(start: Micros, count: u32, rate: Rate, step: Option<LeapStep>, next:
 {
     let miss = miss(start, count, rate, step, next);
     let distance = miss.unsigned_abs();
-    if 2 * distance <= u128::from(rate.den()) * 1_000_000 {
+    if 2 * distance <= u128::from(u64::from(rate.den()) * 1_000_000) {
         Join::Meets
     } else if miss < 0 {
         Join::Early(distance / u128::from(rate.num()))
@@ -53,10 +53,10 @@ fn due(count: u32, den: u32) -> i128
     ensures low { pos 0 ≤ℤ result }
     ensures high { result ≤ℤ pos (2 ^ 84) }
 {
-    (u128::from(count) * u128::from(den) * 1_000_000) as i128
+    (u128::from(u64::from(count) * u64::from(den)) * 1_000_000) as i128
 }
 
-/// A product that fits.
+/// The microseconds that passed, times the rate's `num`.
 fn scaled(passed: i64, num: u32) -> i128
     ensures value { result ≡ passed *ℤ pos num }
     ensures low { neg_ℤ (pos (2 ^ 95)) ≤ℤ result }

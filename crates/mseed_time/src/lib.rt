@@ -10,6 +10,8 @@ mod order;
 mod outcome;
 mod rate;
 mod show;
+#[cfg(test)]
+mod tests;
 
 pub use btime::Btime;
 pub use fault::{OutOfRange, TimeFault};

@@ -1,5 +1,5 @@
 //! Byte orders.
-ghost use Rattle.std.specs.Prelude.{◌≡◌, ◌+◌, ◌≤◌, length};
+ghost use Rattle.std.specs.Prelude.{◌≡◌, ◌+◌, ◌<◌, ◌≤◌, ℕ, length, slice_index};
 
 use byteorder::{BigEndian, ByteOrder, LittleEndian};
 
@@ -21,6 +21,19 @@ impl Order {
         match self {
             Order::Big => BigEndian::read_u16(&bytes[offset..]),
             Order::Little => LittleEndian::read_u16(&bytes[offset..]),
+        }
+    }
+
+    /// Writes an unsigned 16-bit number at an offset.
+    pub fn put_u16(self, bytes: &mut [u8], offset: usize, number: u16)
+        requires { offset + 2 ≤ length bytes.old }
+        ensures number { number_at self 2 offset bytes.new ≡ number }
+        ensures before { (k : ℕ) → k < offset → slice_index bytes.new k ≡ slice_index bytes.old k }
+        ensures after { (k : ℕ) → offset + 2 ≤ k → slice_index bytes.new k ≡ slice_index bytes.old k }
+    {
+        match self {
+            Order::Big => BigEndian::write_u16(&mut bytes[offset..offset + 2], number),
+            Order::Little => LittleEndian::write_u16(&mut bytes[offset..offset + 2], number),
         }
     }
 }
