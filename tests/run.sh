@@ -1,0 +1,41 @@
+#!/usr/bin/env bash
+# The whole gate, then every test script. The last line counts them all together.
+set -u
+cd "$(dirname "$0")/.." || exit 1
+
+passed=0
+failed=0
+
+# Runs a command, shows what it prints, and adds what its last line `N passed, M failed` says. One that
+# fails without such a line counts as one failure.
+count() {
+    local log status last
+    log=$(mktemp)
+    "$@" 2>&1 | tee "$log"
+    status=${PIPESTATUS[0]}
+    last=$(grep -aE '^[0-9]+ passed, [0-9]+ failed' "$log" | tail -n 1)
+    rm -f "$log"
+    if [[ $last =~ ^([0-9]+)\ passed,\ ([0-9]+)\ failed ]]; then
+        passed=$((passed + BASH_REMATCH[1]))
+        failed=$((failed + BASH_REMATCH[2]))
+        if [ "$status" -ne 0 ] && [ "${BASH_REMATCH[2]}" -eq 0 ]; then
+            failed=$((failed + 1))
+        fi
+    else
+        echo "FAILED $*: status $status, and no count"
+        failed=$((failed + 1))
+    fi
+}
+
+count rt ci
+if make --silent build; then
+    for script in tests/*.sh; do
+        [ "$script" = tests/run.sh ] || count bash "$script"
+    done
+else
+    echo "FAILED make build"
+    failed=$((failed + 1))
+fi
+
+echo "$passed passed, $failed failed"
+[ "$failed" -eq 0 ]
