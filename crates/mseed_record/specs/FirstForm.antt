@@ -3,8 +3,7 @@ use Rattle.std.specs.Prelude.{◌≡◌, ℕ, ◌<◌, ◌≤◌, IsTrue, List, 
 use Rattle.byteorder.specs.Endian.{twos_complement}
 use Rattle.mseed_time.specs.declared.order.Order.TheVariants.{Big}
 use Rattle.mseed_time.specs.Btime.{first_fault, instant_of}
-use Rattle.mseed_time.specs.Fields.{number_at}
-use Rattle.mseed_record.specs.Header.{has_fixed_bytes, time_at, samples_at, factor_at, multiplier_at, activity_at, data_at, blockette_at}
+use Rattle.mseed_record.specs.Header.{has_fixed_bytes, time_at, samples_at, factor_at, multiplier_at, activity_at, correction_at, data_at, blockette_at}
 
 -- blockette 1000 at 48, the next at 56: 32-bit integers, big-endian, 2^7 bytes
 abbrev pub first_blockette : List ℕ
@@ -22,7 +21,7 @@ pub record HasPlainNumbers (b : List ℕ) : Type 0 where
   pub factor : pos 0 <ℤ factor_at Big b
   pub multiplier : pos 0 <ℤ multiplier_at Big b
   pub activity : activity_at b ≡ 0
-  pub correction : number_at Big 4 40 b ≡ 0
+  pub correction : correction_at Big b ≡ pos 0
   pub begins : data_at Big b ≡ 64
   pub blockette : blockette_at Big b ≡ 48
 

@@ -142,7 +142,7 @@ fn has_plain_numbers(bytes: &[u8]) -> bool
     if bytes[36] != 0 {
         return false;
     }
-    if u32_at(bytes, 40) != 0 || Order::Big.u16_at(bytes, 44) != 64 {
+    if i32_at(bytes, 40) != 0 || Order::Big.u16_at(bytes, 44) != 64 {
         return false;
     }
     Order::Big.u16_at(bytes, 46) == 48
@@ -167,12 +167,12 @@ fn i8_at(bytes: &[u8], offset: usize) -> i8
     bytes[offset].cast_signed()
 }
 
-/// The 32-bit number at an offset.
-fn u32_at(bytes: &[u8], offset: usize) -> u32
+/// The signed 32-bit number at an offset.
+fn i32_at(bytes: &[u8], offset: usize) -> i32
     requires { offset + 4 ≤ length bytes.now }
-    ensures { result ≡ number_at Big 4 offset bytes.now }
+    ensures { result ≡ twos_complement 4 (number_at Big 4 offset bytes.now) }
 {
-    BigEndian::read_u32(&bytes[offset..])
+    BigEndian::read_i32(&bytes[offset..])
 }
 
 /// The signed 16-bit number at an offset.
