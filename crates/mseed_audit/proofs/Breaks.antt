@@ -34,7 +34,7 @@ break_by_none r s (Early us) e = grind (arith, nat_tests)
 none_break_by : (r s : Ratio) (j : Join) → SameRate r s → j ≡ Meets → break_by r s j ≡ None
 none_break_by r s j h e = rw e (grind (arith, nat_tests, h))
 
-break_none : (b next : List ℕ) → break_between b next ≡ None → Follows b next
+pub break_none : (b next : List ℕ) → break_between b next ≡ None → Follows b next
 break_none b next e =
     let parts = break_by_none (rate_at b) (rate_at next) (join_of (start_of b) (samples_at Big b) (rate_at b) None (start_of next)) e in
     record { rate = parts.0; joins = (meets_only (miss_of (start_of b) (samples_at Big b) (rate_at b) None (start_of next)) (rate_at b)).0 parts.1 }

@@ -1,41 +1,57 @@
 -- A record of the first form has one reading, and no other.
-use Rattle.std.proofs.Common.{◌≡◌, ℕ, zero, suc, ◌+◌, ◌-◌, ◌*◌, ◌^◌, ◌<◌, ◌≤◌, List, [], ◌∷◌, ◌++◌, length, take, drop, get_or, refl, sym, ap, subst, arith, ⊎_elim, length-take, length-drop, ℤ, pos, negsuc, neg_ℤ, ◌-ℤ◌, ◌≤ℤ◌, ◌<ℤ◌, ltb, false, ◌∙◌}
+use Rattle.std.proofs.Common.{◌≡◌, ℕ, zero, suc, ◌+◌, ◌-◌, ◌*◌, ◌^◌, ◌<◌, ◌≤◌, List, [], ◌∷◌, ◌++◌, length, take, drop, get_or, refl, sym, ap, subst, arith, ⊎_elim, length-take, length-drop, ℤ, pos, negsuc, neg_ℤ, ◌+ℤ◌, ◌≤ℤ◌, ◌<ℤ◌, ◌∙◌, ltb→lt, lt→ltb, leb→le, le→leb, lit<}
 use Rattle.std.proofs.Math.Nat.{mod-eq_of_lt}
 use Rattle.std.proofs.Math.Seq.{take-append_seam, drop-append_seam}
 use Rattle.std.proofs.lemmas.List.{take-append-drop, get_or-drop, get_or-take}
 use Rattle.std.proofs.Math.ListN.{get_or-eq_default}
 use Rattle.std.specs.List.{AllByRecursion}
-use Rattle.std.proofs.lemmas.Bool.{cases_lt}
-use Rattle.std.proofs.lemmas.Bool.Decides.{nat_tests}
-use Rattle.std.proofs.lemmas.Int.{ints}
+use Rattle.std.proofs.lemmas.Bool.{cases_lt, lt-ltb, le-ltb}
 use Rattle.byteorder.specs.Endian.{big_number, twos_complement}
 use Rattle.mseed_time.specs.declared.order.Order.TheVariants.{Big}
 use Rattle.mseed_record.specs.Header.{samples_at}
 use Rattle.mseed_record.specs.FirstForm.{IsFirstForm, payload_of}
 use Rattle.mseed_audit.specs.Reading.{residue, Spells, BeginsWith, HasReading, HasOneReading}
 
+-- numbers of 32 bits, by their signs
+pos_small : (a : ℕ) → pos a <ℤ pos (2 ^ 31) → a < 2 ^ 31
+pos_small a h = ltb→lt a (2 ^ 31) h.lt
+
+negsuc_small : (a : ℕ) → neg_ℤ (pos (2 ^ 31)) ≤ℤ negsuc a → a < 2 ^ 31
+negsuc_small a h =
+    let most : a ≤ 2 ^ 31 - 1 = leb→le a (2 ^ 31 - 1) h.le in
+    omega arith
+
+wider : (a : ℕ) → a < 2 ^ 31 → a < 2 ^ 32
+wider a h = omega arith
+
+-- the two halves of the residues
+apart : (a b : ℕ) → a < 2 ^ 31 → b < 2 ^ 31 → a ≡ 2 ^ 32 - 1 - b → ⊥
+apart a b h k e = omega arith
+
+mirrored : (a b : ℕ) → a < 2 ^ 32 → b < 2 ^ 32 → 2 ^ 32 - 1 - a ≡ 2 ^ 32 - 1 - b → a ≡ b
+mirrored a b h k e = omega arith
+
+pos_residue : (a : ℕ) → a < 2 ^ 31 → residue (2 ^ 32) (pos a) ≡ a
+pos_residue a h = mod-eq_of_lt (wider a h)
+
+negsuc_residue : (a : ℕ) → a < 2 ^ 31 → residue (2 ^ 32) (negsuc a) ≡ 2 ^ 32 - 1 - a
+negsuc_residue a h = ap (λ (n : ℕ). 2 ^ 32 - 1 - n) (mod-eq_of_lt (wider a h))
+
 -- two numbers of 32 bits with one residue are one
 residue_one : (d e : ℤ) → neg_ℤ (pos (2 ^ 31)) ≤ℤ d → d <ℤ pos (2 ^ 31) → neg_ℤ (pos (2 ^ 31)) ≤ℤ e → e <ℤ pos (2 ^ 31) → residue (2 ^ 32) d ≡ residue (2 ^ 32) e → d ≡ e
-residue_one (pos a) (pos b) d1 d2 e1 e2 r =
-    let al : a < 2 ^ 32 = omega (arith, ints) in
-    let bl : b < 2 ^ 32 = omega (arith, ints) in
-    ap pos (omega (arith, r, mod-eq_of_lt al, mod-eq_of_lt bl))
+residue_one (pos a) (pos b) d1 d2 e1 e2 r = ap pos (sym (pos_residue a (pos_small a d2)) ∙ r ∙ pos_residue b (pos_small b e2))
 residue_one (pos a) (negsuc b) d1 d2 e1 e2 r =
-    let al : a < 2 ^ 31 = omega (arith, ints) in
-    let bl : b < 2 ^ 31 = omega (arith, ints) in
-    let am : a < 2 ^ 32 = omega arith in
-    let bm : b < 2 ^ 32 = omega arith in
-    absurd (omega (arith, r, mod-eq_of_lt am, mod-eq_of_lt bm))
+    let al = pos_small a d2 in
+    let bl = negsuc_small b e1 in
+    absurd (apart a b al bl (sym (pos_residue a al) ∙ r ∙ negsuc_residue b bl))
 residue_one (negsuc a) (pos b) d1 d2 e1 e2 r =
-    let al : a < 2 ^ 31 = omega (arith, ints) in
-    let bl : b < 2 ^ 31 = omega (arith, ints) in
-    let am : a < 2 ^ 32 = omega arith in
-    let bm : b < 2 ^ 32 = omega arith in
-    absurd (omega (arith, r, mod-eq_of_lt am, mod-eq_of_lt bm))
+    let al = negsuc_small a d1 in
+    let bl = pos_small b e2 in
+    absurd (apart b a bl al (sym (pos_residue b bl) ∙ sym r ∙ negsuc_residue a al))
 residue_one (negsuc a) (negsuc b) d1 d2 e1 e2 r =
-    let al : a < 2 ^ 32 = omega (arith, ints) in
-    let bl : b < 2 ^ 32 = omega (arith, ints) in
-    ap negsuc (omega (arith, r, mod-eq_of_lt al, mod-eq_of_lt bl))
+    let al = negsuc_small a d1 in
+    let bl = negsuc_small b e1 in
+    ap negsuc (mirrored a b (wider a al) (wider b bl) (sym (negsuc_residue a al) ∙ r ∙ negsuc_residue b bl))
 
 front_one : (a b s t : List ℕ) → length a ≡ length b → a ++ s ≡ b ++ t → a ≡ b
 front_one a b s t l e =
@@ -61,38 +77,53 @@ begins_one bytes (d ∷ ds) (e ∷ es) l h k =
 pub reading_one : (b : List ℕ) → HasOneReading b
 reading_one b s t h k = begins_one (payload_of b) s t (h.count ∙ sym k.count) h.spelled k.spelled
 
-below : (n : ℕ) → n < 2 ^ 32 → n < 2 ^ 32
-below n h = h
+-- a difference below zero
+minus : (x m : ℕ) → x < suc m → pos x +ℤ negsuc m ≡ negsuc (m - x)
+minus x m h =
+    let same : suc m - suc x ≡ m - x = omega arith in
+    rw (lt-ltb x (suc m) h, same) refl
+
+-- the numbers below 2^32, by their highest bit
+plain : (x : ℕ) → x < 2 ^ 31 → twos_complement 4 x ≡ pos x
+plain x low = rw (lt-ltb x (2 ^ 31) low) refl
 
 negative : (x : ℕ) → 2 ^ 31 ≤ x → x < 2 ^ 32 → twos_complement 4 x ≡ negsuc (2 ^ 32 - 1 - x)
-negative x high small =
-    let minus : pos x -ℤ pos (2 ^ 32) ≡ negsuc (2 ^ 32 - 1 - x) = omega (arith, ints, high, small) in
-    let no : ltb x (2 ^ 31) ≡ false = grind (arith, nat_tests, high) in
-    rw no minus
+negative x high small = rw (le-ltb x (2 ^ 31) high) (minus x (2 ^ 32 - 1) small)
+
+mirror : (x : ℕ) → 2 ^ 31 ≤ x → x < 2 ^ 32 → 2 ^ 32 - 1 - x < 2 ^ 31
+mirror x high small = omega arith
+
+twice : (x : ℕ) → x < 2 ^ 32 → 2 ^ 32 - 1 - (2 ^ 32 - 1 - x) ≡ x
+twice x small = omega arith
+
+low_end : (n : ℕ) → n < 2 ^ 31 → neg_ℤ (pos (2 ^ 31)) ≤ℤ negsuc n
+low_end n h =
+    let most : n ≤ 2 ^ 31 - 1 = omega arith in
+    record { le = le→leb n (2 ^ 31 - 1) most }
 
 front_octet : (n : ℕ) (bytes : List ℕ) → ((i : ℕ) → get_or bytes i 0 < 256) → (i : ℕ) → get_or (take n bytes) i 0 < 256
 front_octet n bytes octets i = ⊎_elim
-    (λ l. rw (get_or-take n bytes i 0 l) (octets i))
-    (λ g. let out : length (take n bytes) ≤ i = omega (arith, length-take n bytes, g) in rw (get_or-eq_default (take n bytes) 0 out) (omega arith))
+    (λ (l : i < n). rw (get_or-take n bytes i 0 l) (octets i))
+    (λ (g : n ≤ i). let out : length (take n bytes) ≤ i = omega (arith, length-take n bytes) in rw (get_or-eq_default (take n bytes) 0 out) (lit< tt))
     (cases_lt i n)
 
 -- a number below 2^32 is the residue of what it is in two's complement
 number_spells : (word : List ℕ) (x : ℕ) → length word ≡ 4 → big_number 4 word ≡ x → x < 2 ^ 32 → Spells word (twos_complement 4 x)
 number_spells word x size e small = ⊎_elim
-    (λ low. let plain : twos_complement 4 x ≡ pos x = grind (arith, nat_tests, low) in
-    let value : residue (2 ^ 32) (pos x) ≡ x = mod-eq_of_lt small in
-    subst (λ (z : ℤ). Spells word z) (sym plain) (record { size = size; low = omega (arith, ints); high = omega (arith, ints, low); value = e ∙ sym value }))
+    (λ low. subst (λ (z : ℤ). Spells word z) (sym (plain x low)) (record { size = size; low = record { le = tt }; high = record { lt = lt→ltb x (2 ^ 31) low }; value = e ∙ sym (pos_residue x low) }))
     (λ high. let n : ℕ = 2 ^ 32 - 1 - x in
-    let minus : twos_complement 4 x ≡ negsuc n = negative x high small in
-    let value : residue (2 ^ 32) (negsuc n) ≡ x = omega (arith, mod-eq_of_lt (below n (omega (arith, small)))) in
-    subst (λ (z : ℤ). Spells word z) (sym minus) (record { size = size; low = omega (arith, ints, high, small); high = omega (arith, ints); value = e ∙ sym value }))
+    let less : n < 2 ^ 31 = mirror x high small in
+    let value : residue (2 ^ 32) (negsuc n) ≡ x = negsuc_residue n less ∙ twice x small in
+    subst (λ (z : ℤ). Spells word z) (sym (negative x high small)) (record { size = size; low = low_end n less; high = record { lt = tt }; value = e ∙ sym value }))
     (cases_lt x (2 ^ 31))
+
+four_octets : (a b c d : ℕ) → a < 256 → b < 256 → c < 256 → d < 256 → a * 256 ^ 3 + (b * 256 ^ 2 + (c * 256 ^ 1 + (d * 256 ^ 0 + 0))) < 2 ^ 32
+four_octets a b c d ha hb hc hd = omega arith
 
 -- four bytes spell the number that they are in two's complement
 spells_four : (word : List ℕ) → length word ≡ 4 → ((i : ℕ) → get_or word i 0 < 256) → Spells word (twos_complement 4 (big_number 4 word))
 spells_four word size octets =
-    let a = octets 0 in let b = octets 1 in let c = octets 2 in let d = octets 3 in
-    let small : big_number 4 word < 2 ^ 32 = omega (arith, a, b, c, d) in
+    let small : big_number 4 word < 2 ^ 32 = four_octets (get_or word 0 0) (get_or word 1 0) (get_or word 2 0) (get_or word 3 0) (octets 0) (octets 1) (octets 2) (octets 3) in
     number_spells word (big_number 4 word) size refl small
 
 -- the first n numbers of four bytes each

@@ -10,7 +10,8 @@ use Rattle.mseed_record.specs.FirstForm.{start_of}
 abbrev pub rate_at : List ℕ → Ratio
 rate_at b = unwrap_or (rate_of (factor_at Big b) (multiplier_at Big b)) (record { num = 0; den = 0 })
 
--- the rates are the same, and the next record begins within half a sample period of the end
+-- of two records of the first form: the rates are the same, and the next record begins within half a
+-- sample period of the end
 pub record Follows (b next : List ℕ) : Type 0 where
   pub rate : SameRate (rate_at b) (rate_at next)
   pub joins : Joins (start_of b) (samples_at Big b) (rate_at b) None (start_of next)

@@ -5,3 +5,4 @@ pub mod Continuous
 pub mod Text
 pub mod End
 pub mod Standing
+pub mod FirstBreak

@@ -1,5 +1,5 @@
 -- The samples of a record of 32-bit integers (SEED manual, appendix A and chapter 8, blockette 1000,
--- encoding 3: two's complement, in the record's word order).
+-- encoding 3: two's complement; word order 1: the highest byte first).
 use Rattle.std.specs.Prelude.{◌≡◌, ⊤, ℕ, ◌-◌, ◌%◌, ◌^◌, List, [], ◌∷◌, ◌++◌, length, ℤ, pos, negsuc, neg_ℤ, ◌≤ℤ◌, ◌<ℤ◌}
 use Rattle.byteorder.specs.Endian.{big_number}
 use Rattle.mseed_time.specs.declared.order.Order.TheVariants.{Big}
@@ -11,7 +11,8 @@ abbrev pub residue : ℕ → ℤ → ℕ
 residue m (pos n) = n % m
 residue m (negsuc n) = m - 1 - n % m
 
--- four bytes spell a number: it has 32 bits, and their sum of powers of 256 is it modulo 2^32
+-- four bytes, the highest first, spell a number: it has 32 bits, and their sum of powers of 256 is it
+-- modulo 2^32
 pub record Spells (bytes : List ℕ) (z : ℤ) : Type 0 where
   pub size : length bytes ≡ 4
   pub low : neg_ℤ (pos (2 ^ 31)) ≤ℤ z

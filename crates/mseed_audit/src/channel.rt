@@ -37,6 +37,7 @@ impl Channel {
     ghost use Rattle.mseed_audit.specs.Standing.{Stands, records_of, last_of};
     ghost use Rattle.mseed_audit.specs.Verdict.{IsVerdict, says_continuous, found_at, byte_count, break_between};
     ghost use Rattle.mseed_audit.specs.Continuous.{IsContinuous};
+    ghost use Rattle.mseed_audit.specs.FirstBreak.{TellsFirstBreak};
     ghost use Rattle.mseed_audit.specs.Reading.{HasOneReading};
 
     /// A channel of one record.
@@ -98,6 +99,7 @@ impl Channel {
         ensures verdict { (b : List ℕ) (bs : List (List ℕ)) → Stands self.now b bs → IsVerdict result b bs }
         ensures continuous { (b : List ℕ) (bs : List (List ℕ)) → Stands self.now b bs
             → AllByRecursion IsFirstForm (b ∷ bs) → (IsTrue (says_continuous result) ↔ IsContinuous (b ∷ bs)) }
+        ensures first_break { (b : List ℕ) (bs : List (List ℕ)) → Stands self.now b bs → TellsFirstBreak result (b ∷ bs) }
         ensures one_reading { (b : List ℕ) → HasOneReading b }
     {
         match self.first {

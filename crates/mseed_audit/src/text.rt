@@ -10,7 +10,7 @@ use mseed_record::Codes;
 use mseed_time::{Micros, Rate, show_time};
 use std::alloc::{AllocError, Allocator};
 
-/// Adds the line of a channel.
+/// Adds the line of a channel. Where memory is refused, a part of it may have been added.
 pub fn push_channel_line<A: Allocator>(
     text: &mut Vec<u8, A>,
     codes: &Codes,
@@ -65,7 +65,8 @@ fn push_broken<A: Allocator>(
     push_bytes(text, b"\n")
 }
 
-/// Adds the last line: how many records there were, and of how many channels.
+/// Adds the last line: how many records there were, and of how many channels. Where memory is refused, a
+/// part of it may have been added.
 pub fn push_total_line<A: Allocator>(
     text: &mut Vec<u8, A>,
     records: u64,
