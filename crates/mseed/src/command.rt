@@ -1,5 +1,5 @@
 //! The command line.
-ghost use Rattle.std.specs.Prelude.{◌≡◌, ◌↔◌, Bool, Result, IsTrue, map, ◌≤◌, ◌+◌, ◌++◌, length, decimal};
+ghost use Rattle.std.specs.Prelude.{◌≡◌, ◌↔◌, Bool, Result, IsTrue, map, ◌≤◌, ◌+◌, ◌++◌, length, codes, decimal};
 ghost use Rattle.mseed_stream.specs.Device.{nothing_heard};
 ghost use Rattle.mseed.specs.declared.first.FirstFault.{FirstFault};
 ghost use Rattle.mseed.specs.Outcome.{IsAudit, IsAuditRun, IsBadRun, Tells, fault_line, stream_line};
@@ -52,8 +52,7 @@ pub fn run_in<A: Allocator + Copy, R: Source, W: Sink, E: Sink>(
         (W.said output.old) (W.said output.new) (E.said errors.old) (E.said errors.new) }
 {
     if !wants_audit(words) {
-        tell(errors, b"mseed: bad value\n");
-        return Run::Status(3);
+        return refuse_words(errors);
     }
     match audit(alloc, input, output) {
         Ok(is_broken) => Run::Status(u8::from(is_broken)),
@@ -62,6 +61,24 @@ pub fn run_in<A: Allocator + Copy, R: Source, W: Sink, E: Sink>(
             Run::Status(2)
         }
     }
+}
+
+/// Says that the words of the command line ask for nothing that there is, or aren't UTF-8.
+pub fn refuse_words<E: Sink>(errors: &mut E) -> Run
+    ensures status { status_in result ≡ 3 }
+    ensures told { Tells (codes "mseed: bad value\n") (E.said errors.old) (E.said errors.new) }
+{
+    tell(errors, b"mseed: bad value\n");
+    Run::Status(3)
+}
+
+/// Says that there was no memory for the words of the command line.
+pub fn refuse_memory<E: Sink>(errors: &mut E) -> Run
+    ensures status { status_in result ≡ 2 }
+    ensures told { Tells (codes "mseed: no memory\n") (E.said errors.old) (E.said errors.new) }
+{
+    tell(errors, b"mseed: no memory\n");
+    Run::Status(2)
 }
 
 /// Whether the words ask for an audit.

@@ -8,13 +8,31 @@ mod outcome;
 mod tests;
 mod walk;
 
-use mseed_stream::Counted;
+use mseed_stream::{Counted, Sink};
+use outcome::Run;
+use std::io::ErrorKind;
 use std::process::ExitCode;
 use std::{env, io};
 
-fn main(rt: HostRuntime) -> io::Result<ExitCode> {
+fn main(rt: HostRuntime) -> ExitCode {
+    let mut errors = Counted::new(rt.stderr());
+    let Run::Status(status) = match run_with_words(&rt, &mut errors) {
+        Ok(run) => run,
+        Err(error) if error.kind() == ErrorKind::OutOfMemory => command::refuse_memory(&mut errors),
+        Err(_) => command::refuse_words(&mut errors),
+    };
+    ExitCode::from(status)
+}
+
+/// Runs the command over the standard streams with the words of the command line.
+///
+/// # Errors
+///
+/// `OutOfMemory` where there was no room for the words, and `InvalidData` where one isn't UTF-8.
+/// Nothing was read or written then.
+fn run_with_words<E: Sink>(rt: &HostRuntime, errors: &mut E) -> io::Result<Run> {
     let mut words = Vec::new(rt.alloc());
-    for word in env::args(&rt)?.skip(1) {
+    for word in env::args(rt)?.skip(1) {
         words.push(word)?;
     }
     let mut lent = Vec::new(rt.alloc());
@@ -22,14 +40,6 @@ fn main(rt: HostRuntime) -> io::Result<ExitCode> {
         lent.push(word.as_str())?;
     }
     let mut input = Counted::new(rt.reader());
-    let mut output = Counted::new(io::writer(&rt));
-    let mut errors = Counted::new(rt.stderr());
-    let outcome::Run::Status(status) = command::run(
-        rt.alloc(),
-        &lent,
-        &mut input,
-        &mut output,
-        &mut errors,
-    );
-    Ok(ExitCode::from(status))
+    let mut output = Counted::new(io::writer(rt));
+    Ok(command::run(rt.alloc(), &lent, &mut input, &mut output, errors))
 }
