@@ -1,5 +1,5 @@
 -- A walk over the records of an archive.
-use Rattle.std.proofs.Common.{◌≡◌, ◌≢◌, ℕ, zero, suc, ◌+◌, ◌*◌, ◌<◌, ◌≤◌, ◌++◌, List, [], ◌∷◌, length, take, drop, sym, ap, subst, ◌∙◌, arith, refl, length-take, length-drop, append-nil, Bool, true, false, not, IsTrue, ◌↔◌, Some, inl, inr, eqb}
+use Rattle.std.proofs.Common.{◌≡◌, ◌≢◌, ℕ, zero, suc, ◌+◌, ◌*◌, ◌<◌, ◌≤◌, ◌++◌, List, [], ◌∷◌, length, take, drop, sym, ap, subst, ◌∙◌, arith, refl, length-take, length-drop, append-nil, append_assoc, Bool, true, false, not, IsTrue, ◌↔◌, Some, inl, inr, eqb}
 use Rattle.std.proofs.Math.Seq.{take-add}
 use Rattle.std.proofs.lemmas.List.{take-append-drop}
 use Rattle.std.proofs.lemmas.List.Folds.{concat-append}
@@ -12,6 +12,9 @@ use Rattle.std.proofs.lemmas.Bool.{false≢true}
 use Rattle.std.proofs.lemmas.Slice.Eq.{bytes_eq-Decides}
 use lib.Pointwise.{pointwise}
 use Rattle.mseed_audit.specs.Continuous.{IsContinuous}
+use Rattle.mseed_audit.specs.declared.finding.Verdict.{Verdict}
+use Rattle.mseed_audit.specs.declared.finding.Verdict.TheVariants.{Continuous, Broken}
+use Rattle.mseed_audit.specs.Verdict.{IsVerdict, says_continuous}
 use Rattle.mseed.specs.declared.walk.Walked.{Walked}
 use Rattle.mseed.specs.Walk.{IsWalkOf, StandsFor}
 use Rattle.mseed.specs.Broken.{IsBrokenAs}
@@ -99,11 +102,19 @@ walk_cases w (b ∷ bs) h k = k b bs refl h
 
 -- whether they are broken
 pub broken_none : IsBrokenAs false []
-broken_none = record { broken = λ t. absurd (false≢true t); continuous = λ e. inl refl }
+broken_none = record { broken = λ t. absurd (false≢true t); continuous = λ e. inl refl; findings = (λ t. absurd (false≢true t), λ some. absurd (some refl)) }
 
-pub broken_some : (says : Bool) (b : List ℕ) (bs : List (List ℕ)) → (IsTrue says ↔ IsContinuous (b ∷ bs)) → IsBrokenAs (not says) (b ∷ bs)
-broken_some true b bs h = record { broken = λ t. absurd (false≢true t); continuous = λ e. inr (h.0 refl) }
-broken_some false b bs h = record { broken = λ t. (λ e. cc, λ k. false≢true (h.1 k)); continuous = λ e. absurd (false≢true (sym e)) }
+pub broken_some : (v : Verdict) (b : List ℕ) (bs : List (List ℕ)) → IsVerdict v b bs → (IsTrue (says_continuous v) ↔ IsContinuous (b ∷ bs)) → IsBrokenAs (not (says_continuous v)) (b ∷ bs)
+broken_some (Continuous start rate records samples) b bs is h = record {
+  broken = λ t. absurd (false≢true t);
+  continuous = λ e. inr (h.0 refl);
+  findings = (λ t. absurd (false≢true t), λ some. absurd (some is.0));
+}
+broken_some (Broken first count) b bs is h = record {
+  broken = λ t. (λ e. cc, λ k. false≢true (h.1 k));
+  continuous = λ e. absurd (false≢true (sym e));
+  findings = (λ t. λ none. (let e = is.1.0 in cc), λ some. refl);
+}
 
 -- the first record
 pub walk_begins : (bytes view codes : List ℕ) (channel : Channel) → view ≡ take 128 bytes → IsFirstForm (take 128 bytes) → codes ≡ key_at view → Stands channel view [] → records_of channel ≡ 1 → Walks bytes 128 codes channel (take 128 bytes) []
@@ -148,3 +159,9 @@ other_codes r xs ys e t same =
 
 pub same_codes : (r : Bool) (xs ys : List ℕ) → r ≡ not (pointwise eqb xs ys) → r ≡ false → xs ≡ ys
 same_codes r xs ys e f = (bytes_eq-Decides xs ys).0 (not_false (pointwise eqb xs ys) (sym e ∙ f))
+
+-- a channel's text, from what was added for it
+pub text_parts : (total : ℕ → List ℕ) (old middle new line says : List ℕ) (count n : ℕ) → new ≡ middle ++ total count → middle ≡ old ++ line → line ≡ says → count ≡ n → new ≡ old ++ (says ++ total n)
+text_parts total old middle new line says count n told pushed is same =
+    told ∙ ap (λ (xs : List ℕ). xs ++ total count) (pushed ∙ ap (λ (xs : List ℕ). old ++ xs) is) ∙ ap (λ (k : ℕ). (old ++ says) ++ total k) same
+    ∙ append_assoc old says (total n)

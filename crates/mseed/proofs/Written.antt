@@ -1,11 +1,10 @@
 -- What is known after a write.
-use Rattle.std.proofs.Common.{◌≡◌, ℕ, ◌+◌, ◌++◌, List, [], ◌∷◌, length, take, Result, Ok, Err, OnOk, OnErr, IfErr, sym, ap, ◌∙◌, arith, refl}
+use Rattle.std.proofs.Common.{◌≡◌, ℕ, ◌+◌, ◌<◌, ◌++◌, List, length, take, Result, Ok, Err, OnOk, OnErr, IfErr, inl, inr}
+use Rattle.mseed_stream.specs.Device.{Said}
+use Rattle.mseed.specs.Outcome.{Tells}
 
-take_all : (xs : List ℕ) → take (length xs) xs ≡ xs
-take_all [] = refl
-take_all (x ∷ xs) = ap (λ (ys : List ℕ). x ∷ ys) (take_all xs)
-
--- a front of the line, and the whole line where nothing failed
-pub told : {U : Type 0} (r : Result U ℕ) (line old new : List ℕ) (before after : ℕ) → OnOk r (new ≡ old ++ line) → IfErr r (λ n. new ≡ old ++ take n line) → OnErr r (after ≡ before + 1) → ((n : ℕ) × (new ≡ old ++ take n line)) × (after ≡ before → new ≡ old ++ line)
-told (Ok u) line old new before after e h k = ((length line, e ∙ ap (λ (xs : List ℕ). old ++ xs) (sym (take_all line))), λ f. e)
-told (Err n) line old new before after e h k = ((n, h), λ f. absurd (omega (arith, f, k)))
+-- the whole line, or a front of it where the device failed
+pub told : {U : Type 0} (r : Result U ℕ) (line : List ℕ) (old new : Said) → OnOk r (new.bytes ≡ old.bytes ++ line) → OnOk r (new.failures ≡ old.failures)
+    → IfErr r (λ n. new.bytes ≡ old.bytes ++ take n line) → IfErr r (λ n. n < length line) → OnErr r (new.failures ≡ old.failures + 1) → Tells line old new
+told (Ok u) line old new all fine front part failed = record { either = inl (record { text = all; fine = fine }) }
+told (Err n) line old new all fine front part failed = record { either = inr (record { front = (n, (part, front)); failed = failed }) }

@@ -1,5 +1,5 @@
 -- What the command did.
-use Rattle.std.specs.Prelude.{◌≡◌, ℕ, ◌+◌, ◌<◌, Bool, IsTrue, if◌then◌else◌, List, [], ◌∷◌, ◌++◌, length, take, Result, Ok, Err, codes, decimal}
+use Rattle.std.specs.Prelude.{◌≡◌, ◌≢◌, ◌⊎◌, ℕ, ◌+◌, ◌<◌, Bool, IsTrue, if◌then◌else◌, List, [], ◌∷◌, ◌++◌, length, take, Result, Ok, Err, codes, decimal}
 use Rattle.std.specs.List.{AllByRecursion}
 use Rattle.mseed_stream.specs.Device.{Heard, Said}
 use Rattle.mseed_stream.specs.declared.fault.StreamFault.{StreamFault}
@@ -32,16 +32,22 @@ pub record IsCutOff (taken : ℕ) (said_old said_new : Said) (bs : List (List �
   pub part : taken < length (audit_text bs)
   pub failed : said_new.failures ≡ said_old.failures + 1
 
+-- memory was asked for only for bytes that were told, or for the text once all were told
+abbrev pub HasToKeep : Heard → Heard → Type 0
+HasToKeep old new = (length old.bytes < length new.bytes) ⊎ IsTrue new.is_at_end
+
 -- what was heard and said, by the outcome
 abbrev pub IsOutcome : Result Bool FirstFault → Heard → Heard → Said → Said → Type 0
 IsOutcome (Ok is_broken) old new said_old said_new =
     (bs : List (List ℕ)) × (IsRead old new bs × IsAudited is_broken said_old said_new bs)
 IsOutcome (Err (NotYet place)) old new said_old said_new = (said_new ≡ said_old) × IsTrue new.is_at_end
     × (new.failures ≡ old.failures) × ((bs : List (List ℕ)) × ((rest : List ℕ) × IsNotYet new.bytes place bs rest))
-IsOutcome (Err (Stream fault)) old new said_old said_new = (said_new ≡ said_old) × IsStreamFault fault old new
+IsOutcome (Err (Stream fault)) old new said_old said_new =
+    (said_new ≡ said_old) × IsStreamFault fault old new × (fault ≢ StreamMemory)
 IsOutcome (Err (Write taken)) old new said_old said_new =
     (bs : List (List ℕ)) × (IsRead old new bs × IsCutOff taken said_old said_new bs)
-IsOutcome (Err Memory) old new said_old said_new = (said_new ≡ said_old) × (new.failures ≡ old.failures)
+IsOutcome (Err Memory) old new said_old said_new =
+    (said_new ≡ said_old) × (new.failures ≡ old.failures) × HasToKeep old new
 
 -- the exit status
 abbrev pub status_of : Result Bool FirstFault → ℕ
@@ -61,14 +67,24 @@ fault_line (Stream fault) = stream_line fault
 fault_line (Write taken) = codes "mseed: write failed\n"
 fault_line Memory = codes "mseed: no memory\n"
 
-abbrev pub line_of : Result Bool FirstFault → List ℕ
-line_of (Ok is_broken) = []
-line_of (Err fault) = fault_line fault
+-- a line was written
+pub record TellsAll (line : List ℕ) (old new : Said) : Type 0 where
+  pub text : new.bytes ≡ old.bytes ++ line
+  pub fine : new.failures ≡ old.failures
+
+-- a front of a line was written, and then the device failed, and wasn't asked again
+pub record TellsFront (line : List ℕ) (old new : Said) : Type 0 where
+  pub front : (n : ℕ) × ((n < length line) × (new.bytes ≡ old.bytes ++ take n line))
+  pub failed : new.failures ≡ old.failures + 1
 
 -- a line was written, whole unless the device failed
 pub record Tells (line : List ℕ) (old new : Said) : Type 0 where
-  pub front : (n : ℕ) × (new.bytes ≡ old.bytes ++ take n line)
-  pub whole : new.failures ≡ old.failures → new.bytes ≡ old.bytes ++ line
+  pub either : TellsAll line old new ⊎ TellsFront line old new
+
+-- the line of a fault was written; without one, the device was left alone
+abbrev pub TellsOf : Result Bool FirstFault → Said → Said → Type 0
+TellsOf (Ok is_broken) old new = new ≡ old
+TellsOf (Err fault) old new = Tells (fault_line fault) old new
 
 -- the words of the command line ask for an audit
 abbrev pub IsAudit : List (List ℕ) → Type 0
@@ -78,7 +94,7 @@ IsAudit words = words ≡ codes "audit" ∷ []
 pub record IsAuditRun (outcome : Result Bool FirstFault) (status : ℕ) (old new : Heard) (said_old said_new told_old told_new : Said) : Type 0 where
   pub outcome_is : IsOutcome outcome old new said_old said_new
   pub status_is : status ≡ status_of outcome
-  pub told : Tells (line_of outcome) told_old told_new
+  pub told : TellsOf outcome told_old told_new
 
 -- words that ask for nothing that there is
 pub record IsBadRun (status : ℕ) (old new : Heard) (said_old said_new told_old told_new : Said) : Type 0 where

@@ -12,3 +12,7 @@ pub returns-in-Turns : goal.returns-in-Turns
 returns-in-Turns g c =
     let line : c.deref-in-Turns.result.now ≡ stream_line c.args.fault.now = c.deref-in-Turns.ensures.0 ∙ c.placed-in-Turns.ensures ∙ ap (λ (f : StreamFault). stream_line f) (sym c.in-Turns.is) in
     subst (λ (l : List ℕ). Tells l (g.E.Sink.said c.args.errors.now) (g.E.Sink.said c.tell-in-Turns.new.errors)) line c.tell-in-Turns.ensures
+
+pub returns-in-Memory : goal.returns-in-Memory
+returns-in-Memory g c =
+    subst (λ (f : StreamFault). Tells (stream_line f) (g.E.Sink.said c.args.errors.now) (g.E.Sink.said c.tell-in-Memory.new.errors)) (sym c.in-Memory.is) c.tell-in-Memory.ensures
