@@ -3,6 +3,8 @@
 
 mod channel;
 mod finding;
+#[cfg(test)]
+mod tests;
 mod text;
 
 pub use channel::Channel;
