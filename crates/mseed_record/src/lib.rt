@@ -3,6 +3,8 @@
 #![tactic(auto)]
 
 mod codes;
+#[cfg(test)]
+mod tests;
 mod view;
 
 pub use codes::Codes;
