@@ -1,2 +1,6 @@
 pub mod Header
 pub mod FirstForm
+pub mod Order
+pub mod Chain
+pub mod Record
+pub mod Scan

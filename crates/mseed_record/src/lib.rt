@@ -3,9 +3,13 @@
 #![tactic(auto)]
 
 mod codes;
+mod frame;
+mod framing;
 #[cfg(test)]
 mod tests;
 mod view;
 
 pub use codes::Codes;
+pub use frame::{FrameFault, Scan};
+pub use framing::scan;
 pub use view::RecordView;

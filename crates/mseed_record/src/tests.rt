@@ -1,6 +1,8 @@
 //! A record of the first form, and what bytes near it are: expected values are those of the manual's
 //! tables of the fixed section, of BTIME and of blockettes 1000 and 1001.
 
+mod framing;
+
 use crate::{Codes, RecordView};
 
 /// 2024-01-01T00:00:00.

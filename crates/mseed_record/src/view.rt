@@ -184,7 +184,7 @@ fn i16_at(bytes: &[u8], offset: usize) -> i16
 }
 
 /// Whether the bytes before the station are those of a header.
-fn has_fixed_bytes(bytes: &[u8]) -> bool
+pub(crate) fn has_fixed_bytes(bytes: &[u8]) -> bool
     requires { 8 ≤ length bytes.now }
     ensures { result ≡ has_fixed_bytes bytes.now }
 {

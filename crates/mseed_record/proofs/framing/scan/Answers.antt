@@ -1,0 +1,11 @@
+use Rattle.mseed_record.proofs.Scanned.{scanned}
+use Rattle.mseed_record.proofs.framing.scan.Goals as goal
+
+pub returns-clause-record : goal.returns-clause-record
+returns-clause-record c = (scanned c.args.front.now c.by_steps.result (λ i. (c.type_inv.front i).fits) c.by_steps.ensures).record_is
+
+pub returns-clause-refused : goal.returns-clause-refused
+returns-clause-refused c = (scanned c.args.front.now c.by_steps.result (λ i. (c.type_inv.front i).fits) c.by_steps.ensures).refused_is
+
+pub returns-clause-needed : goal.returns-clause-needed
+returns-clause-needed c = (scanned c.args.front.now c.by_steps.result (λ i. (c.type_inv.front i).fits) c.by_steps.ensures).needed_is

@@ -1,0 +1,32 @@
+//! What framing answers.
+
+/// Why the bytes at the front of an input begin no record, by the first framing step that applies. No
+/// bytes that may come can make one of them.
+#[derive(Clone, Copy, Debug, PartialEq, Eq)]
+pub enum FrameFault {
+    /// The bytes before the station aren't those of a data record's header.
+    NotData,
+    /// The start's year and day can be read in neither byte order.
+    Order,
+    /// A blockette begins within the header, or isn't 4 bytes further on than the one that names it.
+    Chain,
+    /// The chain of blockettes ends without a blockette 1000, so that the record's length isn't known.
+    No1000,
+    /// Blockette 1000's length exponent isn't in 7..=20.
+    Length(u8),
+    /// Blockette 1000 lies outside the record whose length it gives.
+    Outside,
+    /// The bytes begin as those of miniSEED 3.
+    Version3,
+}
+
+/// What the front of an input is.
+#[derive(Clone, Copy, Debug, PartialEq, Eq)]
+pub enum Scan {
+    /// So many bytes are needed before it can be said.
+    Need(usize),
+    /// The first so many bytes are a record.
+    Record(usize),
+    /// No bytes that may come make a record of it.
+    Not(FrameFault),
+}
