@@ -10,10 +10,12 @@ FILE ?= samples/two_records.mseed
 audit: build
 	@$(MSEED) audit < "$(FILE)"
 
-# Proves every crate that the program stands on, builds it, and runs it once.
+# Proves every crate that the program stands on, builds it, and runs it once: what isn't proved isn't built.
 build:
-	@cd crates/mseed && rt run -- audit < /dev/null > /dev/null 2> out.log || { cat out.log; exit 1; }
-	@grep -a '^logic=' crates/mseed/out.log || echo 'proved before, and unchanged since'; rm -f crates/mseed/out.log
+	@echo 'Proving and building: some minutes the first time.'
+	@cd crates/mseed && rt run -- audit < /dev/null > out.log 2>&1 || { cat out.log; exit 1; }
+	@rm -f crates/mseed/out.log
+	@echo 'Proved and built.'
 
 test:
 	@bash tests/run.sh
