@@ -1,21 +1,23 @@
 -- Where the framing steps need more bytes, and which.
-use Rattle.std.proofs.Common.{◌≡◌, ℕ, ◌+◌, ◌-◌, ◌^◌, ◌<◌, ◌≤◌, ◌++◌, List, [], ◌∷◌, length, take, get_or, replicate, Some, refl, sym, ap, subst, arith, lit<, ⊎_elim, true, ◌∙◌}
+use Rattle.std.proofs.Common.{◌≡◌, ℕ, zero, suc, ◌+◌, ◌-◌, ◌^◌, ◌<◌, ◌≤◌, ◌++◌, List, [], ◌∷◌, length, take, get_or, replicate, Some, refl, sym, ap, subst, arith, lit<, ⊎_elim, true, ◌∙◌}
+use Rattle.std.specs.Prelude.{⊤}
 use Rattle.std.proofs.lemmas.Bool.{cases_lt}
 use Rattle.std.proofs.lemmas.Bool.Decides.{nat_tests}
-use Rattle.std.proofs.lemmas.List.{length-replicate, length-append, get_or-replicate}
+use Rattle.std.proofs.lemmas.List.{length-replicate, length-append, append_assoc}
 use Rattle.std.proofs.Math.Seq.{take-append_seam, get_or-append_right}
-use Rattle.std.proofs.Math.ListN.{get_or-append, get_or-eq_default}
+use Rattle.std.proofs.Math.ListN.{get_or-append}
 use Rattle.mseed_time.specs.declared.order.Order.{Order}
+use Rattle.mseed_time.specs.declared.order.Order.TheVariants.{Big, Little}
 use Rattle.mseed_time.specs.Fields.{number_at}
 use Rattle.mseed_record.specs.declared.frame.Scan.{Scan}
 use Rattle.mseed_record.specs.declared.frame.Scan.TheVariants.{Need}
 use Rattle.mseed_record.specs.Header.{has_fixed_bytes, blockette_at}
 use Rattle.mseed_record.specs.Order.{order_of}
-use Rattle.mseed_record.specs.Chain.{type_at, next_at, Passes, IsChain}
-use Rattle.mseed_record.specs.Record.{exponent_at, IsRecordBy}
-use Rattle.mseed_record.specs.Scan.{at_offset, DecidesFrom, Decides, version3, short, no_data, no_order, by_chain, MayBecome, Needs, header, blockette, exponent, record_end}
+use Rattle.mseed_record.specs.Chain.{type_at, next_at, Passes}
+use Rattle.mseed_record.specs.Record.{exponent_at, IsRecordBy, IsRecord}
+use Rattle.mseed_record.specs.Scan.{at_offset, DecidesFrom, Decides, version3, short, no_data, no_order, by_chain, HasRecord, Needs, header, blockette, exponent, record_end}
 use Rattle.mseed_record.proofs.Passing.{none_within}
-use Rattle.mseed_record.proofs.Framed.{number_front, fixed_front, order_front, passes_above, other_at}
+use Rattle.mseed_record.proofs.Framed.{number_front, fixed_front, order_front, other_at}
 
 number_more : (order : Order) (front more : List ℕ) (o : ℕ) → o + 2 ≤ length front → number_at order 2 o (front ++ more) ≡ number_at order 2 o front
 number_more order front more o h =
@@ -34,7 +36,7 @@ record Grows (order : Order) (front : List ℕ) (o k : ℕ) : Type 0 where
 -- the three places where bytes are missing
 data Lacks (order : Order) (front : List ℕ) (o k : ℕ) : Type 0 where
   four : length front < o + 4 → k ≡ o + 4 → Lacks order front o k
-  eight : type_at order front o ≡ 1000 → length front < o + 8 → k ≡ o + 8 → Lacks order front o k
+  eight : type_at order front o ≡ 1000 → o + 4 ≤ length front → length front < o + 8 → k ≡ o + 8 → Lacks order front o k
   rest : Grows order front o k → Lacks order front o k
 
 low_of : (order : Order) (front : List ℕ) (low o k : ℕ) → at_offset order front low o ≡ Some (Need k) → low ≤ o
@@ -64,75 +66,237 @@ lacks : (order : Order) (front : List ℕ) (low o k : ℕ) → at_offset order f
 lacks order front low o k e = ⊎_elim
     (λ (s : length front < o + 4). four s (lacks_four order front low o k e s))
     (λ (l : o + 4 ≤ length front). ⊎_elim
-    (λ (s : length front < o + 8). eight (type_of order front low o k e l) s (lacks_eight order front low o k e l s))
+    (λ (s : length front < o + 8). eight (type_of order front low o k e l) l s (lacks_eight order front low o k e l s))
     (λ (g : o + 8 ≤ length front). rest (grows order front low o k e g))
     (cases_lt (length front) (o + 8)))
     (cases_lt (length front) (o + 4))
 
+-- these blockettes have their first four bytes
+abbrev Within : List ℕ → List ℕ → Type 0
+Within front [] = ⊤
+Within front (o ∷ os) = (o + 4 ≤ length front) × Within front os
+
 -- the blockette where bytes are missing, behind those that were passed
-lacking : (order : Order) (front : List ℕ) (low o : ℕ) (os : List ℕ) (k : ℕ) → DecidesFrom order front low o os (Need k) → (last : ℕ) × ((low ≤ o) × Passes order front o os last × Lacks order front last k)
-lacking order front low o [] k e = (o, (low_of order front low o k e, refl, lacks order front low o k e))
+lacking : (order : Order) (front : List ℕ) (low o : ℕ) (os : List ℕ) (k : ℕ) → DecidesFrom order front low o os (Need k) → (last : ℕ) × ((low ≤ o) × Passes order front o os last × Within front os × Lacks order front last k)
+lacking order front low o [] k e = (o, (low_of order front low o k e, refl, tt, lacks order front low o k e))
 lacking order front low o (p ∷ os) k e =
     let later = lacking order front (o + 4) (next_at order front o) os k e.2 in
-    (later.0, ((none_within order front low o e.1).0, (e.0, other_at order front low o e.1, later.1.0, later.1.1), later.1.2))
+    let here = none_within order front low o e.1 in
+    let place : p + 4 ≤ length front = rw e.0 here.1 in
+    (later.0, (here.0, (e.0, other_at order front low o e.1, later.1.0, later.1.1), (place, later.1.2), later.1.3))
 
-passes_more : (order : Order) (front more : List ℕ) (o : ℕ) (os : List ℕ) (last : ℕ) → last + 8 ≤ length front → Passes order front o os last → Passes order (front ++ more) o os last
-passes_more order front more o [] last l h = h
-passes_more order front more o (q ∷ os) last l h =
-    let above = passes_above order front (next_at order front o) os last h.3 in
-    let type : type_at order (front ++ more) o ≡ type_at order front o = number_more order front more o (omega (arith, h.2)) in
-    let next : next_at order (front ++ more) o ≡ next_at order front o = number_more order front more (o + 2) (omega (arith, h.2)) in
-    let later = passes_more order front more (next_at order front o) os last l h.3 in
+passes_more : (order : Order) (front more : List ℕ) (o : ℕ) (os : List ℕ) (last : ℕ) → Within front os → Passes order front o os last → Passes order (front ++ more) o os last
+passes_more order front more o [] last w h = h
+passes_more order front more o (q ∷ os) last w h =
+    let place : o + 4 ≤ length front = subst (λ (n : ℕ). n + 4 ≤ length front) h.0 w.0 in
+    let type : type_at order (front ++ more) o ≡ type_at order front o = number_more order front more o (omega arith) in
+    let next : next_at order (front ++ more) o ≡ next_at order front o = number_more order front more (o + 2) (omega arith) in
+    let later = passes_more order front more (next_at order front o) os last w.1 h.3 in
     (h.0, λ t. h.1 (sym type ∙ t), rw next h.2, subst (λ (n : ℕ). Passes order (front ++ more) n os last) (sym next) later)
 
-octet_zero : (n i : ℕ) → get_or (replicate n 0) i 0 < 256
-octet_zero n i = ⊎_elim
-    (λ (l : i < n). rw (get_or-replicate {A = ℕ} n i 0 0 l) (lit< tt))
-    (λ (g : n ≤ i). let zeros : List ℕ = replicate n 0 in
-    let out : length zeros ≤ i = omega (arith, length-replicate {A = ℕ} n 0) in
-    rw (get_or-eq_default zeros 0 out) (lit< tt))
-    (cases_lt i n)
+within_more : (front more : List ℕ) (os : List ℕ) → Within front os → Within (front ++ more) os
+within_more front more [] w = tt
+within_more front more (o ∷ os) w =
+    let place = w.0 in
+    let wide : o + 4 ≤ length (front ++ more) = omega (arith, length-append front more) in
+    (wide, within_more front more os w.1)
 
-octets_more : (front : List ℕ) (n : ℕ) → ((i : ℕ) → get_or front i 0 < 256) → (i : ℕ) → get_or (front ++ replicate n 0) i 0 < 256
-octets_more front n octets i = ⊎_elim
-    (λ (l : i < length front). rw (get_or-append front (replicate n 0) 0 i l) (octets i))
-    (λ (g : length front ≤ i). rw (get_or-append_right front (replicate n 0) i 0 g) (octet_zero n (i - length front)))
-    (cases_lt i (length front))
+-- lists of bytes
+abbrev Octets : List ℕ → Type 0
+Octets b = (i : ℕ) → get_or b i 0 < 256
 
--- a record whose end isn't there yet: what is missing may be zeros
-may_become : (order : Order) (front : List ℕ) (os : List ℕ) (last k : ℕ) → ((i : ℕ) → get_or front i 0 < 256) → 48 ≤ length front → has_fixed_bytes front ≡ true → order_of front ≡ Some order → 48 ≤ blockette_at order front → Passes order front (blockette_at order front) os last → Grows order front last k → MayBecome front k
-may_become order front os last k octets long fixed dated low passes g =
-    let more : List ℕ = replicate (k - length front) 0 in
+octets_none : Octets []
+octets_none i = lit< tt
+
+octets_cons : (x : ℕ) (xs : List ℕ) → x < 256 → Octets xs → Octets (x ∷ xs)
+octets_cons x xs h k zero = h
+octets_cons x xs h k (suc i) = k i
+
+octets_zeros : (n : ℕ) → Octets (replicate n 0)
+octets_zeros zero = octets_none
+octets_zeros (suc n) = octets_cons 0 (replicate n 0) (lit< tt) (octets_zeros n)
+
+octets_append : (xs ys : List ℕ) → Octets xs → Octets ys → Octets (xs ++ ys)
+octets_append [] ys h k = k
+octets_append (x ∷ xs) ys h k = octets_cons x (xs ++ ys) (h 0) (octets_append xs ys (λ i. h (suc i)) k)
+
+-- a header and the blockettes that its chain passes
+record Headed (order : Order) (front : List ℕ) (os : List ℕ) (last : ℕ) : Type 0 where
+  octets : Octets front
+  long : 48 ≤ length front
+  fixed : has_fixed_bytes front ≡ true
+  dated : order_of front ≡ Some order
+  begins : 48 ≤ blockette_at order front
+  passes : Passes order front (blockette_at order front) os last
+  within : Within front os
+
+headed_more : (order : Order) (front more : List ℕ) (os : List ℕ) (last : ℕ) → Octets more → Headed order front os last → Headed order (front ++ more) os last
+headed_more order front more os last octets h =
     let all : List ℕ = front ++ more in
     let cut : take (length front) all ≡ front = take-append_seam front more in
+    let long = h.long in
+    let same : blockette_at order all ≡ blockette_at order front = number_more order front more 46 (omega arith) in
+    record {
+      octets = octets_append front more h.octets octets;
+      long = omega (arith, length-append front more);
+      fixed = sym (fixed_front all (length front) h.long) ∙ ap (λ (b : List ℕ). has_fixed_bytes b) cut ∙ h.fixed;
+      dated = sym (order_front all (length front) h.long) ∙ ap (λ (b : List ℕ). order_of b) cut ∙ h.dated;
+      begins = rw same h.begins;
+      passes = subst (λ (n : ℕ). Passes order all n os last) (sym same) (passes_more order front more (blockette_at order front) os last h.within h.passes);
+      within = within_more front more os h.within;
+    }
+
+-- a record whose end isn't there yet: what is missing may be zeros
+grown : (order : Order) (front : List ℕ) (os : List ℕ) (last k : ℕ) → Headed order front os last → Grows order front last k → HasRecord front
+grown order front os last k h g =
+    let more : List ℕ = replicate (k - length front) 0 in
+    let all : List ℕ = front ++ more in
+    let headed = headed_more order front more os last (octets_zeros (k - length front)) h in
     let short : length front < k = subst (λ (n : ℕ). length front < n) (sym g.size) g.short in
     let size : length all ≡ k = omega (arith, length-append front more, length-replicate {A = ℕ} (k - length front) 0) in
     let same : exponent_at all last ≡ exponent_at front last = get_or-append front more 0 (last + 6) (omega (arith, g.there)) in
-    let begins : blockette_at order all ≡ blockette_at order front = number_more order front more 46 (omega arith) in
     let type : type_at order all last ≡ type_at order front last = number_more order front more last (omega (arith, g.there)) in
-    let chain : IsChain order all os last = record {
-      low = rw begins low;
-      others = subst (λ (n : ℕ). Passes order all n os last) (sym begins) (passes_more order front more (blockette_at order front) os last g.there passes);
-      found = type ∙ g.type;
-    } in
     let facts : IsRecordBy order os last all = record {
-      octets = octets_more front (k - length front) octets;
-      fixed = sym (fixed_front all (length front) long) ∙ ap (λ (b : List ℕ). has_fixed_bytes b) cut ∙ fixed;
-      order_is = sym (order_front all (length front) long) ∙ ap (λ (b : List ℕ). order_of b) cut ∙ dated;
-      chain = chain;
+      octets = headed.octets;
+      fixed = headed.fixed;
+      order_is = headed.dated;
+      chain = record { low = headed.begins; others = headed.passes; found = type ∙ g.type };
       exponent_low = rw same g.exponent_low;
       exponent_high = rw same g.exponent_high;
       inside = rw same g.inside;
       size = size ∙ g.size ∙ ap (λ (n : ℕ). 2 ^ n) (sym same);
     } in
-    (more, size, (order, (os, (last, facts))))
+    (more, (order, (os, (last, facts))))
 
-needs_by : (order : Order) (front : List ℕ) (os : List ℕ) (last k : ℕ) → ((i : ℕ) → get_or front i 0 < 256) → 48 ≤ length front → has_fixed_bytes front ≡ true → order_of front ≡ Some order → 48 ≤ blockette_at order front → Passes order front (blockette_at order front) os last → Lacks order front last k → Needs front k
-needs_by order front os last k octets long fixed dated low passes (four s e) = subst (λ (n : ℕ). Needs front n) (sym e) (blockette order os last passes s)
-needs_by order front os last k octets long fixed dated low passes (eight t s e) = subst (λ (n : ℕ). Needs front n) (sym e) (exponent order os last passes t s)
-needs_by order front os last k octets long fixed dated low passes (rest g) =
+-- offsets have 16 bits
+number_small : (order : Order) (b : List ℕ) (o : ℕ) → Octets b → number_at order 2 o b < 2 ^ 16
+number_small Big b o k =
+    let high = k o in
+    let low = k (suc o) in
+    omega arith
+number_small Little b o k =
+    let low = k o in
+    let high = k (suc o) in
+    omega arith
+
+passes_small : (order : Order) (b : List ℕ) (o : ℕ) (os : List ℕ) (last : ℕ) → Octets b → o < 2 ^ 16 → Passes order b o os last → last < 2 ^ 16
+passes_small order b o [] last octets s h = subst (λ (n : ℕ). n < 2 ^ 16) h s
+passes_small order b o (q ∷ os) last octets s h =
+    passes_small order b (next_at order b o) os last octets (number_small order b (o + 2) octets) h.3
+
+last_small : (order : Order) (b : List ℕ) (os : List ℕ) (last : ℕ) → Headed order b os last → last + 8 < 2 ^ 20
+last_small order b os last h =
+    let small = passes_small order b (blockette_at order b) os last h.octets (number_small order b 46 h.octets) h.passes in
+    omega arith
+
+-- bytes behind a front
+behind : (xs ys : List ℕ) (p i : ℕ) → p ≡ length xs + i → get_or (xs ++ ys) p 0 ≡ get_or ys i 0
+behind xs ys p i e =
+    let over : length xs ≤ p = omega (arith, e) in
+    let same : p - length xs ≡ i = omega (arith, e) in
+    get_or-append_right xs ys p 0 over ∙ ap (λ (n : ℕ). get_or ys n 0) same
+
+-- the same record may come of a front and of what is put behind it
+before : (front middle : List ℕ) → HasRecord (front ++ middle) → HasRecord front
+before front middle r = (middle ++ r.0, subst (λ (b : List ℕ). IsRecord b) (append_assoc front middle r.0) r.1)
+
+-- a 1000 with the longest record that there is
+abbrev longest : Order → List ℕ
+longest Big = 3 ∷ 232 ∷ 0 ∷ 0 ∷ 0 ∷ 0 ∷ 20 ∷ 0 ∷ []
+longest Little = 232 ∷ 3 ∷ 0 ∷ 0 ∷ 0 ∷ 0 ∷ 20 ∷ 0 ∷ []
+
+abbrev exponent_bytes : List ℕ
+exponent_bytes = 0 ∷ 0 ∷ 20 ∷ 0 ∷ []
+
+octets_exponent : Octets exponent_bytes
+octets_exponent =
+    let last = octets_cons 0 [] (lit< tt) octets_none in
+    let two = octets_cons 20 (0 ∷ []) (lit< tt) last in
+    let three = octets_cons 0 (20 ∷ 0 ∷ []) (lit< tt) two in
+    octets_cons 0 (0 ∷ 20 ∷ 0 ∷ []) (lit< tt) three
+
+octets_longest : (order : Order) → Octets (longest order)
+octets_longest Big =
+    let next = octets_cons 0 (0 ∷ exponent_bytes) (lit< tt) (octets_cons 0 exponent_bytes (lit< tt) octets_exponent) in
+    octets_cons 3 (232 ∷ 0 ∷ 0 ∷ exponent_bytes) (lit< tt) (octets_cons 232 (0 ∷ 0 ∷ exponent_bytes) (lit< tt) next)
+octets_longest Little =
+    let next = octets_cons 0 (0 ∷ exponent_bytes) (lit< tt) (octets_cons 0 exponent_bytes (lit< tt) octets_exponent) in
+    octets_cons 232 (3 ∷ 0 ∷ 0 ∷ exponent_bytes) (lit< tt) (octets_cons 3 (0 ∷ 0 ∷ exponent_bytes) (lit< tt) next)
+
+longest_length : (order : Order) → length (longest order) ≡ 8
+longest_length Big = refl
+longest_length Little = refl
+
+longest_exponent : (order : Order) → get_or (longest order) 6 0 ≡ 20
+longest_exponent Big = refl
+longest_exponent Little = refl
+
+longest_type : (order : Order) (front : List ℕ) (last : ℕ) → length front ≡ last → type_at order (front ++ longest order) last ≡ 1000
+longest_type Big front last e =
+    let one : get_or (front ++ longest Big) last 0 ≡ 3 = behind front (longest Big) last 0 (omega (arith, e)) in
+    let two : get_or (front ++ longest Big) (suc last) 0 ≡ 232 = behind front (longest Big) (suc last) 1 (omega (arith, e)) in
+    rw (one, two) refl
+longest_type Little front last e =
+    let one : get_or (front ++ longest Little) last 0 ≡ 232 = behind front (longest Little) last 0 (omega (arith, e)) in
+    let two : get_or (front ++ longest Little) (suc last) 0 ≡ 3 = behind front (longest Little) (suc last) 1 (omega (arith, e)) in
+    rw (one, two) refl
+
+seven_twenty : 7 ≤ 20
+seven_twenty = omega arith
+
+twenty_twenty : 20 ≤ 20
+twenty_twenty = omega arith
+
+-- a 1000 whose exponent is 20 has its record to come
+grows_by : (order : Order) (front : List ℕ) (last : ℕ) → type_at order front last ≡ 1000 → exponent_at front last ≡ 20 → last + 8 ≡ length front → last + 8 < 2 ^ 20 → Grows order front last (2 ^ 20)
+grows_by order front last t e l s = record {
+  type = t;
+  there = omega (arith, l);
+  exponent_low = rw e seven_twenty;
+  exponent_high = rw e twenty_twenty;
+  inside = rw e (omega (arith, s));
+  short = rw e (subst (λ (n : ℕ). n < 2 ^ 20) l s);
+  size = ap (λ (n : ℕ). 2 ^ n) (sym e);
+}
+
+at_its_place : (order : Order) (front : List ℕ) (os : List ℕ) (last : ℕ) → length front ≡ last → Headed order front os last → HasRecord front
+at_its_place order front os last e h =
+    let all : List ℕ = front ++ longest order in
+    let headed = headed_more order front (longest order) os last (octets_longest order) h in
+    let size : last + 8 ≡ length all = omega (arith, e, length-append front (longest order), longest_length order) in
+    let exponent : exponent_at all last ≡ 20 = behind front (longest order) (last + 6) 6 (omega (arith, e)) ∙ longest_exponent order in
+    let small = last_small order all os last headed in
+    before front (longest order) (grown order all os last (2 ^ 20) headed (grows_by order all last (longest_type order front last e) exponent size small))
+
+ahead_of_it : (order : Order) (front : List ℕ) (os : List ℕ) (last : ℕ) → length front ≤ last → Headed order front os last → HasRecord front
+ahead_of_it order front os last l h =
+    let zeros : List ℕ = replicate (last - length front) 0 in
+    let headed = headed_more order front zeros os last (octets_zeros (last - length front)) h in
+    let size : length (front ++ zeros) ≡ last = omega (arith, l, length-append front zeros, length-replicate {A = ℕ} (last - length front) 0) in
+    before front zeros (at_its_place order (front ++ zeros) os last size headed)
+
+at_its_exponent : (order : Order) (front : List ℕ) (os : List ℕ) (last : ℕ) → length front ≡ last + 4 → type_at order front last ≡ 1000 → Headed order front os last → HasRecord front
+at_its_exponent order front os last e t h =
+    let all : List ℕ = front ++ exponent_bytes in
+    let headed = headed_more order front exponent_bytes os last octets_exponent h in
+    let size : last + 8 ≡ length all = omega (arith, e, length-append front exponent_bytes) in
+    let type : type_at order all last ≡ 1000 = number_more order front exponent_bytes last (omega (arith, e)) ∙ t in
+    let exponent : exponent_at all last ≡ 20 = behind front exponent_bytes (last + 6) 2 (omega (arith, e)) in
+    let small = last_small order all os last headed in
+    before front exponent_bytes (grown order all os last (2 ^ 20) headed (grows_by order all last type exponent size small))
+
+needs_by : (order : Order) (front : List ℕ) (os : List ℕ) (last k : ℕ) → Headed order front os last → Lacks order front last k → Needs front k
+needs_by order front os last k h (four s e) = subst (λ (n : ℕ). Needs front n) (sym e) (⊎_elim
+    (λ (i : last < length front). blockette order os last h.dated h.passes i s)
+    (λ (l : length front ≤ last). record_end (last + 4) s (ahead_of_it order front os last l h))
+    (cases_lt last (length front)))
+needs_by order front os last k h (eight t l s e) = subst (λ (n : ℕ). Needs front n) (sym e) (⊎_elim
+    (λ (i : last + 4 < length front). exponent order os last h.dated h.passes t i s)
+    (λ (o : length front ≤ last + 4). record_end (last + 8) s (at_its_exponent order front os last (omega (arith, l, o)) t h))
+    (cases_lt (last + 4) (length front)))
+needs_by order front os last k h (rest g) =
     let short : length front < k = subst (λ (n : ℕ). length front < n) (sym g.size) g.short in
-    record_end k short (may_become order front os last k octets long fixed dated low passes g)
+    record_end k short (grown order front os last k h g)
 
 needs_of : (front : List ℕ) (k : ℕ) (a : Scan) → ((i : ℕ) → get_or front i 0 < 256) → Decides front a → a ≡ Need k → Needs front k
 needs_of front k _ octets (version3 v) e = cc
@@ -143,7 +307,8 @@ needs_of front k _ octets (no_data v s f) e = cc
 needs_of front k _ octets (no_order v s f o) e = cc
 needs_of front k a octets (by_chain order ps answer v s f o d) e =
     let it = lacking order front 48 (blockette_at order front) ps k (subst (λ (x : Scan). DecidesFrom order front 48 (blockette_at order front) ps x) e d) in
-    needs_by order front ps it.0 k octets s f o it.1.0 it.1.1 it.1.2
+    let headed : Headed order front ps it.0 = record { octets = octets; long = s; fixed = f; dated = o; begins = it.1.0; passes = it.1.1; within = it.1.2 } in
+    needs_by order front ps it.0 k headed it.1.3
 
 -- the steps ask for bytes only where they are needed
 pub needed : (front : List ℕ) (k : ℕ) → ((i : ℕ) → get_or front i 0 < 256) → Decides front (Need k) → Needs front k

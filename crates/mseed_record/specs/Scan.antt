@@ -52,14 +52,15 @@ pub data Decides (front : List ℕ) : Scan → Type 0 where
 abbrev pub HasNoRecord : List ℕ → Type 0
 HasNoRecord front = (more : List ℕ) (k : ℕ) → IsRecord (take k (front ++ more)) → ⊥
 
--- the front and some bytes after it are a record of k bytes
-abbrev pub MayBecome : List ℕ → ℕ → Type 0
-MayBecome front k = (more : List ℕ) × (length (front ++ more) ≡ k) × IsRecord (front ++ more)
+-- some bytes that may come make a record of it
+abbrev pub HasRecord : List ℕ → Type 0
+HasRecord front = (more : List ℕ) × IsRecord (front ++ more)
 
--- why k bytes are needed: they end the header, or the first four bytes of a blockette that the chain
--- comes to, or the second four of its first 1000, or else a record that there may be
+-- Why k bytes are needed: for the header; where the front ends within the first four bytes of a blockette
+-- that the chain comes to, or within the second four of its first 1000, for the rest of those; and
+-- everywhere else since there may be a record.
 pub data Needs (front : List ℕ) : ℕ → Type 0 where
   header : length front < 48 → Needs front 48
-  blockette : (order : Order) (os : List ℕ) (last : ℕ) → Passes order front (blockette_at order front) os last → length front < last + 4 → Needs front (last + 4)
-  exponent : (order : Order) (os : List ℕ) (last : ℕ) → Passes order front (blockette_at order front) os last → type_at order front last ≡ 1000 → length front < last + 8 → Needs front (last + 8)
-  record_end : (k : ℕ) → length front < k → MayBecome front k → Needs front k
+  blockette : (order : Order) (os : List ℕ) (last : ℕ) → order_of front ≡ Some order → Passes order front (blockette_at order front) os last → last < length front → length front < last + 4 → Needs front (last + 4)
+  exponent : (order : Order) (os : List ℕ) (last : ℕ) → order_of front ≡ Some order → Passes order front (blockette_at order front) os last → type_at order front last ≡ 1000 → last + 4 < length front → length front < last + 8 → Needs front (last + 8)
+  record_end : (k : ℕ) → length front < k → HasRecord front → Needs front k
