@@ -14,7 +14,11 @@ use mseed_time::Order;
 /// The bytes of the fixed section of a header.
 const HEADER: usize = 48;
 
-/// Says whether a record begins the bytes, and how long it is, by the first framing step that applies.
+/// Says whether a record begins the bytes, and how many bytes it has, by the first framing step that
+/// applies (SEED manual, chapter 8, "Data record blockettes": the length is blockette 1000's).
+///
+/// `Need` names how many bytes there have to be in all before more can be said, `Not` the step by which
+/// no bytes that may come can help. Each blockette up to the first 1000 is looked at once.
 pub fn scan(front: &[u8]) -> Scan
     ensures decides { Decides front.now result }
     ensures record { (k : ℕ) → (result ≡ Record k) ↔ ((k ≤ length front.now) × IsRecord (take k front.now)) }
