@@ -10,6 +10,7 @@ use Rattle.mseed_record.specs.Chain.{type_at, next_at, Passes}
 use Rattle.mseed_record.specs.Record.{IsRecordBy, exponent_at}
 use Rattle.mseed_record.specs.Scan.{is_version3, at_1000, at_offset, DecidesFrom, Decides, version3, no_data, no_order, by_chain, HasNoRecord}
 use Rattle.mseed_record.proofs.Fronts.{Alike, alike_cut, byte_alike, number_alike, fixed_alike, order_alike}
+use Rattle.mseed_record.proofs.Framed.{passes_above, other_at}
 use Rattle.mseed_record.proofs.Passing.{none_within}
 
 -- the first byte of miniSEED 3 isn't one of a sequence number
@@ -21,19 +22,9 @@ fixed_first : (b : List ℕ) → 0 < length b → has_fixed_bytes b ≡ true →
 fixed_first [] long e = λ same. omega arith
 fixed_first (c ∷ b) long e = λ same. grind (arith, nat_tests)
 
--- blockettes lead forward
-passes_on : (order : Order) (b : List ℕ) (o : ℕ) (os : List ℕ) (last : ℕ) → Passes order b o os last → o ≤ last
-passes_on order b o [] last h = omega (arith, h)
-passes_on order b o (q ∷ os) last h =
-    let later = passes_on order b (next_at order b o) os last h.3 in
-    omega (arith, h.2, later)
-
 -- what is refused at an offset that is far enough on is a blockette 1000 that lies within the front
 refused_at : (order : Order) (front : List ℕ) (low o : ℕ) (f : FrameFault) → 0 < low → low ≤ o → at_offset order front low o ≡ Some (Not f) → (type_at order front o ≡ 1000) × (o + 8 ≤ length front) × (at_1000 front o ≡ Not f)
 refused_at order front low o f positive on e = grind (arith, nat_tests)
-
-passed_at : (order : Order) (front : List ℕ) (low o : ℕ) → at_offset order front low o ≡ None → type_at order front o ≢ 1000
-passed_at order front low o e = λ same. grind (arith, nat_tests)
 
 -- a blockette 1000 isn't refused for its own length
 not_refused : (front : List ℕ) (o : ℕ) (f : FrameFault) → 7 ≤ exponent_at front o → exponent_at front o ≤ 20 → o + 8 ≤ 2 ^ exponent_at front o → at_1000 front o ≡ Not f → ⊥
@@ -49,16 +40,16 @@ chain_goes_on order b front low o [] [] last f alike positive on room found low_
     not_refused front o f (rw same at low_enough) (rw same at high) (rw (same, sym there) at inside) at_o.2
 chain_goes_on order b front low o [] (q ∷ os) last f alike positive on room found low_enough high inside refused there =
     let at_o = refused_at order front low o f positive on refused in
-    let further : next_at order b o ≤ last = passes_on order b (next_at order b o) os last there.3 in
+    let further : next_at order b o ≤ last = passes_above order b (next_at order b o) os last there.3 in
     let same : type_at order b o ≡ type_at order front o = number_alike order 2 o b front alike (omega (arith, there.2, further, room)) (omega (arith, at_o.1)) in
     there.1 (same ∙ at_o.0)
 chain_goes_on order b front low o (p ∷ passed) [] last f alike positive on room found low_enough high inside refused there =
     let within : o + 4 ≤ length front = (none_within order front low o refused.1).1 in
     let same : type_at order b o ≡ type_at order front o = number_alike order 2 o b front alike (omega (arith, there, room)) (omega (arith, within)) in
-    passed_at order front low o refused.1 (sym same ∙ (ap (λ (n : ℕ). type_at order b n) there ∙ found))
+    other_at order front low o refused.1 (sym same ∙ (ap (λ (n : ℕ). type_at order b n) there ∙ found))
 chain_goes_on order b front low o (p ∷ passed) (q ∷ os) last f alike positive on room found low_enough high inside refused there =
     let within : o + 4 ≤ length front = (none_within order front low o refused.1).1 in
-    let further : next_at order b o ≤ last = passes_on order b (next_at order b o) os last there.3 in
+    let further : next_at order b o ≤ last = passes_above order b (next_at order b o) os last there.3 in
     let same : next_at order b o ≡ next_at order front o = number_alike order 2 (o + 2) b front alike (omega (arith, there.2, further, room)) (omega (arith, within)) in
     let rest : Passes order b (next_at order front o) os last = subst (λ (n : ℕ). Passes order b n os last) same there.3 in
     let on_there : o + 4 ≤ next_at order front o = subst (λ (n : ℕ). o + 4 ≤ n) same there.2 in
@@ -67,7 +58,7 @@ chain_goes_on order b front low o (p ∷ passed) (q ∷ os) last f alike positiv
 -- the fixed section lies within a record, and its first blockette 1000 lies behind it
 record_room : (order : Order) (os : List ℕ) (last : ℕ) (b : List ℕ) → IsRecordBy order os last b → (48 ≤ last) × (last + 8 ≤ length b)
 record_room order os last b r =
-    let on = passes_on order b (blockette_at order b) os last r.chain.others in
+    let on = passes_above order b (blockette_at order b) os last r.chain.others in
     (omega (arith, on, r.chain.low), omega (arith, r.inside, r.size))
 
 refused_by : (front b : List ℕ) (f : FrameFault) (order : Order) (os : List ℕ) (last : ℕ) → Alike b front → IsRecordBy order os last b → Decides front (Not f) → ⊥
