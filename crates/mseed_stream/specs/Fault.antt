@@ -1,12 +1,14 @@
 -- What a fault of a stream means.
-use Rattle.std.specs.Prelude.{◌≡◌, ◌+◌, ◌^◌, length}
+use Rattle.std.specs.Prelude.{◌≡◌, ◌+◌, ◌^◌, length, false}
 use Rattle.mseed_stream.specs.Device.{Heard}
 use Rattle.mseed_stream.specs.declared.fault.StreamFault.{StreamFault}
 use Rattle.mseed_stream.specs.declared.fault.StreamFault.TheVariants.{Read, Turns, Memory}
 
--- by what was heard of the source before the call and after it
+-- by what was heard of the source before the call and after it: where a read failed or the turns ran out,
+-- the input wasn't at its end
 abbrev pub IsStreamFault : StreamFault → Heard → Heard → Type 0
 IsStreamFault (Read n) old new = (length new.bytes ≡ length old.bytes + n) × (new.failures ≡ old.failures + 1)
+    × (new.is_at_end ≡ false)
 IsStreamFault (Turns n) old new = (length new.bytes ≡ length old.bytes + n) × (new.failures ≡ old.failures)
-    × (new.calls ≡ old.calls + 2 ^ 40)
+    × (new.calls ≡ old.calls + 2 ^ 40) × (new.is_at_end ≡ false)
 IsStreamFault Memory old new = new.failures ≡ old.failures

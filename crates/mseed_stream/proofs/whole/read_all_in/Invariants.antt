@@ -1,4 +1,4 @@
-use Rattle.std.proofs.Common.{◌≡◌, ◌+◌, ◌++◌}
+use Rattle.std.proofs.Common.{◌≡◌, ◌+◌, ◌++◌, ◌<◌, false}
 use Rattle.std.specs.Io.KnownBytes.{Consumes}
 use Rattle.mseed_stream.proofs.whole.read_all_in.Given as goal
 
@@ -8,5 +8,6 @@ invariant-loop-turn g l = record {
   calls : (g.R.Source.heard l.source).calls ≡ (g.R.Source.heard l.fn.source).calls + l.turn;
   failures : (g.R.Source.heard l.source).failures ≡ (g.R.Source.heard l.fn.source).failures;
   known : Consumes (g.R.Source.remaining l.fn.source) (g.R.Source.remaining l.source) l.bytes.items;
+  going_on : 0 < l.turn → (g.R.Source.heard l.source).is_at_end ≡ false;
   beside : g.R.Source.beside l.source ≡ g.R.Source.beside l.fn.source;
 }
