@@ -4,7 +4,7 @@ ghost use Rattle.mseed.specs.Archive.{IsArchive, IsNotYet};
 ghost use Rattle.mseed.specs.Walk.{IsWalkOf};
 
 use mseed_audit::Channel;
-use mseed_record::{Codes, RecordView};
+use mseed_record::{Codes, FirstView};
 
 /// The bytes of a record.
 const RECORD: usize = 128;
@@ -25,14 +25,14 @@ pub fn walk(bytes: &[u8]) -> Result<Option<Walked>, u64>
     if bytes.is_empty() {
         return Ok(None);
     }
-    let Some(view) = RecordView::first(bytes) else {
+    let Some(view) = FirstView::of(bytes) else {
         return Err(0);
     };
     let codes = view.codes();
     let mut channel = Channel::begin(&view);
     let mut at = RECORD;
     while at < bytes.len() {
-        let Some(view) = RecordView::first(&bytes[at..]) else {
+        let Some(view) = FirstView::of(&bytes[at..]) else {
             return Err(at as u64);
         };
         if view.codes() != codes {

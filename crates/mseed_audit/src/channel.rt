@@ -4,7 +4,7 @@ ghost use Rattle.std.specs.Option.{option_to_list};
 ghost use Rattle.std.specs.List.{AllByRecursion};
 
 use crate::finding::{Finding, Verdict, Why};
-use mseed_record::RecordView;
+use mseed_record::FirstView;
 use mseed_time::{Join, Micros, Rate, join};
 
 /// The end of a record: where it began, and how many samples follow at which rate.
@@ -41,7 +41,7 @@ impl Channel {
     ghost use Rattle.mseed_audit.specs.Reading.{HasOneReading};
 
     /// A channel of one record.
-    pub fn begin(view: &RecordView) -> Channel
+    pub fn begin(view: &FirstView) -> Channel
         ensures stands { Stands result view.now [] }
         ensures records { records_of result ≡ 1 }
     {
@@ -58,7 +58,7 @@ impl Channel {
     }
 
     /// One more record of the channel.
-    pub fn add(&mut self, view: &RecordView)
+    pub fn add(&mut self, view: &FirstView)
         requires { records_of self.old < 2 ^ 56 }
         ensures stands { (b : List ℕ) (bs : List (List ℕ)) → Stands self.old b bs
             → Stands self.new b (bs ++ view.now ∷ []) }
@@ -81,7 +81,7 @@ impl Channel {
     }
 
     /// What is found of the next record.
-    fn finding(&self, view: &RecordView) -> Option<Finding>
+    fn finding(&self, view: &FirstView) -> Option<Finding>
         requires { records_of self.now < 2 ^ 56 }
         ensures { (b : List ℕ) (bs : List (List ℕ)) → Stands self.now b bs
             → option_to_list result ≡ found_at (1 + length bs + 1) (0 + byte_count (b ∷ bs)) (break_between (last_of b bs) view.now) }
@@ -122,7 +122,7 @@ impl Last {
     ghost use Rattle.mseed_audit.specs.End.{IsEndOf};
 
     /// The end of a record.
-    fn of(view: &RecordView) -> Last
+    fn of(view: &FirstView) -> Last
         ensures { IsEndOf result view.now }
     {
         Last {
@@ -133,7 +133,7 @@ impl Last {
     }
 
     /// Why the next record doesn't follow, if it doesn't.
-    fn break_before(&self, next: &RecordView) -> Option<Why>
+    fn break_before(&self, next: &FirstView) -> Option<Why>
         ensures { (b : List ℕ) → IsEndOf self.now b → result ≡ break_between b next.now }
     {
         let rate = next.rate();

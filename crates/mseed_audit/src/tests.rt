@@ -1,7 +1,7 @@
 //! Channels of a few records, and the lines that tell of them.
 
 use crate::{Channel, Finding, Verdict, Why, push_channel_line, push_total_line};
-use mseed_record::RecordView;
+use mseed_record::FirstView;
 use mseed_time::{Micros, Rate};
 use std::test::Fail;
 
@@ -58,12 +58,12 @@ fn with_codes(codes: &[u8; 12]) -> [u8; 128] {
 /// The channel of at most a hundred records.
 fn channel_of(records: &[[u8; 128]]) -> Option<Channel> {
     let (first, rest) = records.split_first()?;
-    let mut channel = Channel::begin(&RecordView::first(first)?);
+    let mut channel = Channel::begin(&FirstView::of(first)?);
     for record in rest {
         if channel.records() >= 100 {
             return None;
         }
-        channel.add(&RecordView::first(record)?);
+        channel.add(&FirstView::of(record)?);
     }
     Some(channel)
 }
@@ -172,7 +172,7 @@ fn finds_breaks(rt: HostRuntime) {
 
 #[test]
 fn writes_channel_lines(rt: HostRuntime) -> Result<(), Fail> {
-    let view = RecordView::first(&FIRST).expect(&rt, "a record");
+    let view = FirstView::of(&FIRST).expect(&rt, "a record");
     let early = Verdict::Continuous {
         start: Micros::new(-1).expect(&rt, "an instant"),
         rate: Rate::of(-10, 1).expect(&rt, "a rate"),
@@ -233,7 +233,7 @@ fn prints_codes_without_their_padding(rt: HostRuntime) -> Result<(), Fail> {
     ];
     for (codes, name) in rows {
         let record = with_codes(codes);
-        let view = RecordView::first(&record).expect(&rt, name);
+        let view = FirstView::of(&record).expect(&rt, name);
         let line = format!(in rt.alloc();
             "{name} broken findings 1 first record 3 offset 256 ratechange\n"
         )?;
@@ -262,7 +262,7 @@ fn writes_total_lines(rt: HostRuntime) -> Result<(), Fail> {
 
 #[test]
 fn adds_lines_to_what_stands(rt: HostRuntime) -> Result<(), Fail> {
-    let view = RecordView::first(&FIRST).expect(&rt, "a record");
+    let view = FirstView::of(&FIRST).expect(&rt, "a record");
     let channel = channel_of(&[FIRST, at(0, 8000, 0)]).expect(&rt, "records");
     let mut text = Vec::new(rt.alloc());
     text.extend_from_slice(b"before\n")?;

@@ -1,6 +1,7 @@
 -- The chain of blockettes (SEED manual, chapter 8, "Data record blockettes"): each begins with its type
 -- and the offset of the next one, counted from the start of the record.
-use Rattle.std.specs.Prelude.{◌≡◌, ◌≢◌, ℕ, ◌+◌, ◌≤◌, List, [], ◌∷◌}
+use Rattle.std.specs.Prelude.{◌≡◌, ◌≢◌, ℕ, ◌+◌, ◌≤◌, ◌==◌, ◌&&◌, nat_le, Bool, true, false, if◌then◌else◌, List, [], ◌∷◌, length, Option}
+use Rattle.std.specs.List.{find, list_any}
 use Rattle.mseed_time.specs.declared.order.Order.{Order}
 use Rattle.mseed_time.specs.Fields.{number_at}
 use Rattle.mseed_record.specs.Header.{blockette_at}
@@ -23,3 +24,30 @@ pub record IsChain (order : Order) (b : List ℕ) (os : List ℕ) (last : ℕ) :
   pub low : 48 ≤ blockette_at order b
   pub others : Passes order b (blockette_at order b) os last
   pub found : type_at order b last ≡ 1000
+
+-- how many bytes of a blockette of this type have to lie in the record for the chain to come to it
+abbrev pub head_of : ℕ → ℕ
+head_of kind = if kind == 1001 then 8 else 4
+
+-- behind the first 1000 the chain goes on from o while the next blockette is at least 4 bytes further on and
+-- its head lies in the record
+abbrev pub goes_on : Order → List ℕ → ℕ → Bool
+goes_on order b o = nat_le (o + 4) (next_at order b o) && nat_le (next_at order b o + head_of (type_at order b (next_at order b o))) (length b)
+
+-- the blockettes behind the one at o, up to one from which the chain doesn't go on
+abbrev pub Rest : Order → List ℕ → ℕ → List ℕ → Type 0
+Rest order b o [] = goes_on order b o ≡ false
+Rest order b o (p ∷ ps) = (goes_on order b o ≡ true) × (p ≡ next_at order b o) × Rest order b p ps
+
+-- the whole chain: that to the first 1000, and the rest behind it
+pub record IsWholeChain (order : Order) (b : List ℕ) (os : List ℕ) (last : ℕ) (rest : List ℕ) : Type 0 where
+  pub chain : IsChain order b os last
+  pub others : Rest order b last rest
+
+-- the first of these blockettes that is of this type
+abbrev pub first_of : Order → ℕ → List ℕ → List ℕ → Option ℕ
+first_of order kind b os = find (λ o. type_at order b o == kind) os
+
+-- one of these blockettes is of this type
+abbrev pub has_type : Order → ℕ → List ℕ → List ℕ → Bool
+has_type order kind b os = list_any (λ o. type_at order b o == kind) os

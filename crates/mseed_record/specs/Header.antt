@@ -14,6 +14,9 @@ is_sequence_byte c = (nat_le 48 c && nat_le c 57) || (c == 32) || (c == 0)
 abbrev pub is_quality : ℕ → Bool
 is_quality c = (c == 68) || (c == 82) || (c == 81) || (c == 77)
 
+abbrev pub quality_at : List ℕ → ℕ
+quality_at b = slice_index b 6
+
 -- the reserved byte: a space or NUL
 abbrev pub is_blank : ℕ → Bool
 is_blank c = (c == 32) || (c == 0)

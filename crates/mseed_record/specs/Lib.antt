@@ -4,3 +4,5 @@ pub mod Order
 pub mod Chain
 pub mod Record
 pub mod Scan
+pub mod View
+pub mod Found

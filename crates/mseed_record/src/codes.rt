@@ -1,5 +1,6 @@
 //! What a channel is called.
-ghost use Rattle.std.specs.Prelude.{◌≡◌, length, slice_range};
+ghost use Rattle.std.specs.Prelude.{◌≡◌, ◌≤◌, length, slice_range};
+ghost use Rattle.mseed_record.specs.Header.{key_at};
 
 use std::marker::Model;
 
@@ -62,4 +63,15 @@ impl Codes {
     {
         &self.key[9..]
     }
+}
+
+/// The codes in a header.
+pub(crate) fn codes_at(bytes: &[u8]) -> Codes
+    requires { 20 ≤ length bytes.now }
+    ensures { result ≡ key_at bytes.now }
+{
+    let b = bytes;
+    Codes::of_key([
+        b[18], b[19], b[8], b[9], b[10], b[11], b[12], b[13], b[14], b[15], b[16], b[17],
+    ])
 }

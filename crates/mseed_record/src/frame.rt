@@ -30,3 +30,29 @@ pub enum Scan {
     /// No bytes that may come make a record of it.
     Not(FrameFault),
 }
+
+/// Why no record begins the bytes, as framing says.
+#[derive(Clone, Copy, Debug, PartialEq, Eq)]
+pub enum ViewFault {
+    /// No bytes that may come make a record of them.
+    Not(FrameFault),
+    /// So many bytes are needed before it can be said.
+    Short(usize),
+}
+
+/// The leap seconds that happened during a record, by its activity flags.
+#[derive(Clone, Copy, Debug, PartialEq, Eq)]
+pub enum Leap {
+    /// None.
+    None,
+    /// A positive one: a minute of 61 seconds.
+    Positive,
+    /// A negative one: a minute of 59 seconds.
+    Negative,
+    /// Both flags are set, which says nothing.
+    Both,
+}
+
+/// The beginning of data lies within the header, or behind the record's end.
+#[derive(Clone, Copy, Debug, PartialEq, Eq)]
+pub struct DataOffset;

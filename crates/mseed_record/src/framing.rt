@@ -8,11 +8,11 @@ ghost use Rattle.mseed_record.specs.Record.{IsRecord};
 ghost use Rattle.mseed_record.specs.Scan.{Decides, DecidesFrom, at_offset, at_1000, HasNoRecord, Needs};
 
 use crate::frame::{FrameFault, Scan};
-use crate::view::has_fixed_bytes;
+use crate::header::has_fixed_bytes;
 use mseed_time::Order;
 
 /// The bytes of the fixed section of a header.
-const HEADER: usize = 48;
+pub(crate) const HEADER: usize = 48;
 
 /// Says whether a record begins the bytes, and how many bytes it has, by the first framing step that
 /// applies (SEED manual, chapter 8, "Data record blockettes": the length is blockette 1000's).
@@ -22,6 +22,7 @@ const HEADER: usize = 48;
 pub fn scan(front: &[u8]) -> Scan
     ensures decides { Decides front.now result }
     ensures record { (k : ℕ) → (result ≡ Record k) ↔ ((k ≤ length front.now) × IsRecord (take k front.now)) }
+    ensures only { (k : ℕ) → result ≡ Record k → (j : ℕ) → j ≤ length front.now → IsRecord (take j front.now) → j ≡ k }
     ensures refused { (f : FrameFault) → result ≡ Not f → HasNoRecord front.now }
     ensures needed { (k : ℕ) → result ≡ Need k → Needs front.now k }
 {
@@ -107,7 +108,7 @@ fn at_1000(front: &[u8], offset: usize) -> Scan
 }
 
 /// The byte order of a header.
-fn order_of(front: &[u8]) -> Option<Order>
+pub(crate) fn order_of(front: &[u8]) -> Option<Order>
     requires { 48 ≤ length front.now }
     ensures { result ≡ order_of front.now }
 {

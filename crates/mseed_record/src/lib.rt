@@ -2,14 +2,18 @@
 //! chapter 8).
 #![tactic(auto)]
 
+mod chain;
 mod codes;
+mod first;
 mod frame;
 mod framing;
+mod header;
 #[cfg(test)]
 mod tests;
 mod view;
 
 pub use codes::Codes;
-pub use frame::{FrameFault, Scan};
+pub use first::FirstView;
+pub use frame::{DataOffset, FrameFault, Leap, Scan, ViewFault};
 pub use framing::scan;
 pub use view::RecordView;

@@ -2,8 +2,9 @@
 //! tables of the fixed section, of BTIME and of blockettes 1000 and 1001.
 
 mod framing;
+mod view;
 
-use crate::{Codes, RecordView};
+use crate::{Codes, FirstView};
 
 /// 2024-01-01T00:00:00.
 const NEW_YEAR: i64 = 1_704_067_200_000_000;
@@ -33,12 +34,12 @@ fn with(offset: usize, bytes: &[u8]) -> [u8; 128] {
 
 /// The codes of the first record with other bytes for station, location, channel and network.
 fn codes_of(bytes: &[u8; 12]) -> Option<Codes> {
-    Some(RecordView::first(&with(8, bytes))?.codes())
+    Some(FirstView::of(&with(8, bytes))?.codes())
 }
 
 #[test]
 fn tells_the_header(rt: HostRuntime) {
-    let view = RecordView::first(&FIRST).expect(&rt, "a record");
+    let view = FirstView::of(&FIRST).expect(&rt, "a record");
     let codes = view.codes();
     assert_eq!(rt; codes.network(), b"XX".as_slice());
     assert_eq!(rt; codes.station(), b"STA  ".as_slice());
@@ -56,7 +57,7 @@ fn takes_its_own_bytes_alone(rt: HostRuntime) {
     let mut longer = [7; 300];
     longer[..128].copy_from_slice(&FIRST);
     for len in [128, 129, 300] {
-        let view = RecordView::first(&longer[..len]).expect(&rt, "a record");
+        let view = FirstView::of(&longer[..len]).expect(&rt, "a record");
         assert_eq!(rt; view.bytes(), FIRST.as_slice(), "{len}");
         assert_eq!(rt; view.payload(), &FIRST[64..], "{len}");
     }
@@ -118,7 +119,7 @@ fn reads_starts(rt: HostRuntime) {
     ];
     for (bytes, micros) in rows {
         let record = with(20, &bytes);
-        let view = RecordView::first(&record).expect(&rt, "a record");
+        let view = FirstView::of(&record).expect(&rt, "a record");
         assert_eq!(rt; view.start().get(), micros);
     }
 }
@@ -135,7 +136,7 @@ fn adds_the_microseconds(rt: HostRuntime) {
     ];
     for (byte, micros) in rows {
         let record = with(61, &[byte]);
-        let view = RecordView::first(&record).expect(&rt, "a record");
+        let view = FirstView::of(&record).expect(&rt, "a record");
         assert_eq!(rt; view.start().get(), micros, "{byte}");
     }
 }
@@ -157,7 +158,7 @@ fn reads_samples_and_rates(rt: HostRuntime) {
     ];
     for (bytes, samples, pair, num) in rows {
         let record = with(30, &bytes);
-        let view = RecordView::first(&record).expect(&rt, "a record");
+        let view = FirstView::of(&record).expect(&rt, "a record");
         assert_eq!(rt; view.samples(), samples);
         assert_eq!(rt; view.rate().pair(), pair);
         assert_eq!(rt; (view.rate().num(), view.rate().den()), (num, 1));
@@ -207,7 +208,7 @@ fn refuses_other_headers(rt: HostRuntime) {
     for (offset, bytes, what) in rows {
         let record = with(offset, bytes);
         assert!(rt; record != FIRST, "{what}");
-        assert!(rt; RecordView::first(&record).is_none(), "{what}");
+        assert!(rt; FirstView::of(&record).is_none(), "{what}");
     }
 }
 
@@ -226,7 +227,7 @@ fn refuses_other_blockettes(rt: HostRuntime) {
     ];
     for (offset, bytes, what) in rows {
         let record = with(offset, bytes);
-        assert!(rt; RecordView::first(&record).is_none(), "{what}");
+        assert!(rt; FirstView::of(&record).is_none(), "{what}");
     }
 }
 
@@ -251,7 +252,7 @@ fn takes_what_is_not_judged(rt: HostRuntime) {
     for (offset, bytes, what) in rows {
         let record = with(offset, bytes);
         assert!(rt; record != FIRST, "{what}");
-        let view = RecordView::first(&record).expect(&rt, what);
+        let view = FirstView::of(&record).expect(&rt, what);
         assert_eq!(rt; view.bytes(), record.as_slice(), "{what}");
     }
 }
@@ -321,7 +322,7 @@ fn judges_each_byte(rt: HostRuntime) {
             for byte in 0..=255 {
                 let record = with(offset, &[byte]);
                 assert_eq!(rt;
-                    RecordView::first(&record).is_some(),
+                    FirstView::of(&record).is_some(),
                     is_within(ranges, byte),
                     "{byte} at {offset}"
                 );
@@ -333,7 +334,7 @@ fn judges_each_byte(rt: HostRuntime) {
 #[test]
 fn refuses_fewer_bytes(rt: HostRuntime) {
     for len in 0..128 {
-        assert!(rt; RecordView::first(&FIRST[..len]).is_none(), "{len}");
+        assert!(rt; FirstView::of(&FIRST[..len]).is_none(), "{len}");
     }
-    assert!(rt; RecordView::first(&FIRST[1..]).is_none());
+    assert!(rt; FirstView::of(&FIRST[1..]).is_none());
 }

@@ -1,226 +1,254 @@
 //! A record where it lies.
-ghost use Rattle.std.specs.Prelude.{◌≡◌, ◌↔◌, ◌≤◌, ◌+◌, ◌<◌, IsTrue, IsSome, IfSome, IfOk, length, take, slice_index, slice_range};
-ghost use Rattle.mseed_record.specs.FirstForm.{IsFirstForm, HasPlainNumbers, start_of, payload_of};
-ghost use Rattle.mseed_record.specs.Header.{key_at, time_at, samples_at, factor_at, multiplier_at, has_fixed_bytes, is_sequence_byte, is_quality, is_blank};
-ghost use Rattle.mseed_time.specs.Fields.{number_at};
-ghost use Rattle.mseed_time.specs.Btime.{first_fault};
-ghost use Rattle.mseed_time.specs.Parts.{parts_of};
-ghost use Rattle.byteorder.specs.Endian.{twos_complement};
-ghost use Rattle.std.specs.List.{list_all};
+ghost use Rattle.std.specs.Prelude.{◌≡◌, ◌↔◌, ◌≤◌, ℕ, List, length, take, slice_index, ◌+◌, ◌<◌, ◌==◌, IfOk, IfSome, IsOk, IsSome, IsTrue, Err};
 ghost use Rattle.std.specs.Result.{result_err};
-ghost use Rattle.mseed_time.specs.declared.order.Order.TheVariants.{Big};
+ghost use Rattle.std.specs.Int.{bit_at};
+ghost use Rattle.mseed_time.specs.Btime.{first_fault};
+ghost use Rattle.mseed_time.specs.Rate.{rate_of};
+ghost use Rattle.mseed_record.specs.declared.frame.FrameFault.{FrameFault};
+ghost use Rattle.mseed_record.specs.Header.{key_at, quality_at, time_at, samples_at, factor_at, multiplier_at, activity_at, is_quality};
+ghost use Rattle.mseed_record.specs.Record.{IsRecord};
+ghost use Rattle.mseed_record.specs.View.{View, IsView, word_order_at, microseconds_at, scan_of, start_of, leap_of, HasPayload, payload_of};
+ghost use Rattle.mseed_record.specs.Scan.{Decides, HasNoRecord, Needs};
 
-use crate::codes::Codes;
-use byteorder::{BigEndian, ByteOrder};
-use mseed_time::{Btime, Micros, Order, Rate, TimeFault};
+use crate::chain::blockettes_of;
+use crate::codes::{Codes, codes_at};
+use crate::frame::{DataOffset, Leap, Scan, ViewFault};
+use crate::framing::{HEADER, order_of, scan};
+use crate::header::{i8_at, i16_at, i32_at, read_time};
+use mseed_time::{Micros, NoRate, Order, Rate, TimeFault};
 use std::marker::Model;
 
-/// The bytes of a record of the first form.
-const LENGTH: usize = 128;
+/// The activity flag that says that the time correction has been applied to the start.
+const CORRECTED: u32 = 1;
 
-/// Blockette 1000 of the first form, but for its reserved byte.
-const FIRST_BLOCKETTE: [u8; 7] = [3, 232, 0, 56, 3, 1, 7];
+/// The activity flag of a positive leap second during the record.
+const LEAP_ADDED: u32 = 4;
 
-/// Blockette 1001 of the first form: its type, and no further one.
-const SECOND_BLOCKETTE: [u8; 4] = [3, 233, 0, 0];
+/// The activity flag of a negative leap second during the record.
+const LEAP_DROPPED: u32 = 5;
 
 /// A record, borrowed from the bytes that hold it.
+///
+/// What its chain of blockettes says is looked up once, when the view is made.
 #[derive(Debug, Drop)]
 pub struct RecordView<'a> {
     bytes: &'a [u8],
+    order: Order,
+    encoding: u8,
+    payload_order: Order,
+    microseconds: i8,
+    has_rate_blockette: bool,
 }
 
 impl<'a> Model for RecordView<'a> {
-    ghost use Rattle.std.specs.Prelude.{List, ℕ};
-    ghost use Rattle.mseed_record.specs.FirstForm.{IsFirstForm};
+    ghost use Rattle.mseed_record.specs.View.{View, IsView};
 
-    ghost Value = { List ℕ };
+    ghost Value = { View };
 
-    ghost view = { λ r. r.bytes.now };
+    ghost view = { λ r. record {
+      bytes = r.bytes.now;
+      order = r.order;
+      encoding = r.encoding;
+      payload_order = r.payload_order;
+      microseconds = r.microseconds;
+      has_rate_blockette = r.has_rate_blockette;
+    } };
 
-    ghost invariant = { λ r. IsFirstForm r.bytes.now };
+    ghost invariant = { λ r. IsView (record {
+      bytes = r.bytes.now;
+      order = r.order;
+      encoding = r.encoding;
+      payload_order = r.payload_order;
+      microseconds = r.microseconds;
+      has_rate_blockette = r.has_rate_blockette;
+    }) };
 }
 
 impl<'a> RecordView<'a> {
-    /// The record of the first form that begins the bytes.
-    pub fn first(bytes: &'a [u8]) -> Option<RecordView<'a>>
-        ensures some { IsSome result ↔ IsFirstForm (take 128 bytes.now) }
-        ensures value { IfSome result (λ r. r ≡ take 128 bytes.now) }
+    /// The record that begins the bytes, exactly as [`scan`] answers.
+    ///
+    /// # Errors
+    ///
+    /// `Not` where no bytes that may come make a record of them, `Short` where more are needed.
+    pub fn of(bytes: &'a [u8]) -> Result<RecordView<'a>, ViewFault>
+        ensures ok { IsOk result ↔ ((k : ℕ) × ((k ≤ length bytes.now) × IsRecord (take k bytes.now))) }
+        ensures front { IfOk result (λ v. v.bytes ≡ take (length v.bytes) bytes.now) }
+        ensures view { IfOk result IsView }
+        ensures only { IfOk result (λ v. (w : View) → IsView w → w.bytes ≡ v.bytes → w ≡ v) }
+        ensures decides { Decides bytes.now (scan_of result) }
+        ensures refused { (f : FrameFault) → result ≡ Err (ViewFault.Not f) → HasNoRecord bytes.now }
+        ensures needed { (k : ℕ) → result ≡ Err (ViewFault.Short k) → Needs bytes.now k }
     {
-        if bytes.len() < LENGTH {
-            return None;
+        match scan(bytes) {
+            Scan::Need(k) => Err(ViewFault::Short(k)),
+            Scan::Not(fault) => Err(ViewFault::Not(fault)),
+            Scan::Record(k) => Ok(RecordView::of_record(&bytes[..k])),
         }
-        let bytes = &bytes[..LENGTH];
-        if !is_first_form(bytes) {
-            return None;
-        }
-        Some(RecordView { bytes })
     }
 
     /// All of its bytes.
     pub fn bytes(&self) -> &'a [u8]
-        ensures value { result.now ≡ self.now }
-        ensures form { IsFirstForm result.now }
+        ensures value { result.now ≡ self.now.bytes }
+        ensures view { IsView self.now }
     {
         self.bytes
     }
 
     /// The channel that it belongs to.
     pub fn codes(&self) -> Codes
-        ensures { result ≡ key_at self.now }
+        ensures { result ≡ key_at self.now.bytes }
     {
-        let b = self.bytes;
-        Codes::of_key([
-            b[18], b[19], b[8], b[9], b[10], b[11], b[12], b[13], b[14], b[15], b[16], b[17],
-        ])
+        codes_at(self.bytes)
+    }
+
+    /// The quality indicator: `D`, `R`, `Q` or `M`.
+    pub fn quality(&self) -> u8
+        ensures value { result ≡ quality_at self.now.bytes }
+        ensures range { IsTrue (is_quality result) }
+    {
+        self.bytes[6]
     }
 
     /// The number of samples.
     pub fn samples(&self) -> u16
-        ensures value { result ≡ samples_at Big self.now }
-        ensures some { 1 ≤ result }
-        ensures few { result ≤ 16 }
+        ensures { result ≡ samples_at self.now.order self.now.bytes }
     {
-        Order::Big.u16_at(self.bytes, 30)
+        self.order.u16_at(self.bytes, 30)
     }
 
-    /// The instant of the first sample.
-    pub fn start(&self) -> Micros
-        ensures { result ≡ start_of self.now }
+    /// The instant of the first sample: the header's BTIME, the time correction where the activity flags
+    /// don't say that it has been applied, and the microseconds of the first blockette 1001.
+    ///
+    /// # Errors
+    ///
+    /// The first field of the BTIME that is out of its range.
+    pub fn start(&self) -> Result<Micros, TimeFault>
+        ensures value { IfOk result (λ t. t ≡ start_of self.now) }
+        ensures fault { result_err result ≡ first_fault (time_at self.now.order self.now.bytes) }
     {
-        match read_time(self.bytes) {
-            Ok(time) => time.micros(0, true, i8_at(self.bytes, 61)),
-            Err(_) => unreachable!(),
-        }
+        let time = read_time(self.bytes, self.order)?;
+        let correction = i32_at(self.bytes, 40, self.order);
+        Ok(time.micros(correction, self.has_flag(CORRECTED), self.microseconds))
     }
 
     /// The sample rate.
-    pub fn rate(&self) -> Rate
-        ensures factor { result.factor ≡ factor_at Big self.now }
-        ensures multiplier { result.multiplier ≡ multiplier_at Big self.now }
+    ///
+    /// # Errors
+    ///
+    /// `NoRate` where the factor or the multiplier is 0.
+    pub fn rate(&self) -> Result<Rate, NoRate>
+        ensures ok { IsOk result ↔ IsSome (rate_of (factor_at self.now.order self.now.bytes) (multiplier_at self.now.order self.now.bytes)) }
+        ensures factor { IfOk result (λ r. r.factor ≡ factor_at self.now.order self.now.bytes) }
+        ensures multiplier { IfOk result (λ r. r.multiplier ≡ multiplier_at self.now.order self.now.bytes) }
     {
-        match Rate::of(i16_at(self.bytes, 32), i16_at(self.bytes, 34)) {
-            Ok(rate) => rate,
-            Err(_) => unreachable!(),
+        Rate::of(
+            i16_at(self.bytes, 32, self.order),
+            i16_at(self.bytes, 34, self.order),
+        )
+    }
+
+    /// How the payload is encoded, by the first blockette 1000.
+    pub fn encoding(&self) -> u8
+        ensures { result ≡ self.now.encoding }
+    {
+        self.encoding
+    }
+
+    /// The order of the payload's words, by the first blockette 1000. The header's can be another.
+    pub fn payload_order(&self) -> Order
+        ensures { result ≡ self.now.payload_order }
+    {
+        self.payload_order
+    }
+
+    /// Whether a blockette 100, which gives another rate, stands anywhere on the chain.
+    pub fn has_rate_blockette(&self) -> bool
+        ensures { result ≡ self.now.has_rate_blockette }
+    {
+        self.has_rate_blockette
+    }
+
+    /// The leap seconds that happened during the record.
+    pub fn leap(&self) -> Leap
+        ensures { result ≡ leap_of self.now.bytes }
+    {
+        match (self.has_flag(LEAP_ADDED), self.has_flag(LEAP_DROPPED)) {
+            (false, false) => Leap::None,
+            (true, false) => Leap::Positive,
+            (false, true) => Leap::Negative,
+            (true, true) => Leap::Both,
         }
     }
 
-    /// The data, up to the record's end.
-    pub fn payload(&self) -> &'a [u8]
-        ensures { result.now ≡ payload_of self.now }
+    /// The data, from where they begin to the record's end.
+    ///
+    /// # Errors
+    ///
+    /// `DataOffset` where they begin within the header, or behind the record's end.
+    pub fn payload(&self) -> Result<&'a [u8], DataOffset>
+        ensures ok { IsOk result ↔ HasPayload self.now }
+        ensures value { IfOk result (λ bytes. bytes.now ≡ payload_of self.now) }
     {
-        &self.bytes[64..]
+        let begin = usize::from(self.order.u16_at(self.bytes, 44));
+        if begin < HEADER || begin > self.bytes.len() {
+            return Err(DataOffset);
+        }
+        Ok(&self.bytes[begin..])
+    }
+
+    /// Whether an activity flag is set, by its bit; bit 0 is the lowest.
+    fn has_flag(&self, bit: u32) -> bool
+        requires { bit < 8 }
+        ensures { result ≡ (bit_at (activity_at self.now.bytes) bit == 1) }
+    {
+        (self.bytes[36] >> bit) & 1 == 1
+    }
+
+    /// A whole record.
+    fn of_record(bytes: &'a [u8]) -> RecordView<'a>
+        requires { IsRecord bytes.now }
+        ensures bytes { result.bytes ≡ bytes.now }
+        ensures view { IsView result }
+    {
+        let order = match order_of(bytes) {
+            Some(order) => order,
+            None => unreachable!(),
+        };
+        let found = blockettes_of(bytes, order);
+        let offset = match found.first_1000 {
+            Some(offset) => offset,
+            None => unreachable!(),
+        };
+        RecordView {
+            bytes,
+            order,
+            encoding: bytes[offset + 4],
+            payload_order: word_order_at(bytes, offset),
+            microseconds: microseconds_at(bytes, found.first_1001),
+            has_rate_blockette: found.has_100,
+        }
     }
 }
 
-/// Whether the bytes are a record of the first form.
-fn is_first_form(bytes: &[u8]) -> bool
-    requires { length bytes.now ≡ 128 }
-    ensures { IsTrue result ↔ IsFirstForm bytes.now }
+/// The order of the payload's words, by the blockette 1000 at an offset.
+fn word_order_at(bytes: &[u8], offset: usize) -> Order
+    requires { offset + 5 < length bytes.now }
+    ensures { result ≡ word_order_at bytes.now offset }
 {
-    if !has_fixed_bytes(bytes) || read_time(bytes).is_err() {
-        return false;
+    if bytes[offset + 5] == 0 {
+        Order::Little
+    } else {
+        Order::Big
     }
-    if bytes[48..55] != FIRST_BLOCKETTE[..] || bytes[56..60] != SECOND_BLOCKETTE[..] {
-        return false;
+}
+
+/// The microseconds of the blockette 1001 at an offset; 0 where there is none.
+fn microseconds_at(bytes: &[u8], offset: Option<usize>) -> i8
+    requires { IfSome offset (λ o. o + 8 ≤ length bytes.now) }
+    ensures { result ≡ microseconds_at bytes.now offset }
+{
+    match offset {
+        Some(offset) => i8_at(bytes, offset + 5),
+        None => 0,
     }
-    has_plain_numbers(bytes)
-}
-
-/// Whether the header's numbers are those of the first form.
-fn has_plain_numbers(bytes: &[u8]) -> bool
-    requires { length bytes.now ≡ 128 }
-    ensures { IsTrue result ↔ HasPlainNumbers bytes.now }
-{
-    let samples = Order::Big.u16_at(bytes, 30);
-    if samples < 1 || samples > 16 {
-        return false;
-    }
-    if i16_at(bytes, 32) <= 0 || i16_at(bytes, 34) <= 0 {
-        return false;
-    }
-    if bytes[36] != 0 {
-        return false;
-    }
-    if i32_at(bytes, 40) != 0 || Order::Big.u16_at(bytes, 44) != 64 {
-        return false;
-    }
-    Order::Big.u16_at(bytes, 46) == 48
-}
-
-/// The start's BTIME.
-fn read_time(bytes: &[u8]) -> Result<Btime, TimeFault>
-    requires { 30 ≤ length bytes.now }
-    ensures fields { IfOk result (λ b. parts_of b ≡ time_at Big bytes.now) }
-    ensures fault { result_err result ≡ first_fault (time_at Big bytes.now) }
-{
-    let mut field = [0; 10];
-    field.copy_from_slice(&bytes[20..30]);
-    Btime::read(&field, Order::Big)
-}
-
-/// The signed byte at an offset.
-fn i8_at(bytes: &[u8], offset: usize) -> i8
-    requires { offset < length bytes.now }
-    ensures { result ≡ twos_complement 1 (slice_index bytes.now offset) }
-{
-    bytes[offset].cast_signed()
-}
-
-/// The signed 32-bit number at an offset.
-fn i32_at(bytes: &[u8], offset: usize) -> i32
-    requires { offset + 4 ≤ length bytes.now }
-    ensures { result ≡ twos_complement 4 (number_at Big 4 offset bytes.now) }
-{
-    BigEndian::read_i32(&bytes[offset..])
-}
-
-/// The signed 16-bit number at an offset.
-fn i16_at(bytes: &[u8], offset: usize) -> i16
-    requires { offset + 2 ≤ length bytes.now }
-    ensures { result ≡ twos_complement 2 (number_at Big 2 offset bytes.now) }
-{
-    BigEndian::read_i16(&bytes[offset..])
-}
-
-/// Whether the bytes before the station are those of a header.
-pub(crate) fn has_fixed_bytes(bytes: &[u8]) -> bool
-    requires { 8 ≤ length bytes.now }
-    ensures { result ≡ has_fixed_bytes bytes.now }
-{
-    if !is_sequence(&bytes[..6]) {
-        return false;
-    }
-    if !is_quality(bytes[6]) {
-        return false;
-    }
-    is_blank(bytes[7])
-}
-
-/// Whether all bytes may stand in a sequence number.
-fn is_sequence(bytes: &[u8]) -> bool
-    ensures { result ≡ list_all is_sequence_byte bytes.now }
-{
-    bytes.iter().all(|byte| is_sequence_byte(*byte))
-}
-
-/// Whether a byte may stand in a sequence number.
-fn is_sequence_byte(byte: u8) -> bool
-    ensures { result ≡ is_sequence_byte byte }
-{
-    byte.is_ascii_digit() || is_blank(byte)
-}
-
-/// Whether a byte is a quality indicator.
-fn is_quality(byte: u8) -> bool
-    ensures { result ≡ is_quality byte }
-{
-    matches!(byte, b'D' | b'R' | b'Q' | b'M')
-}
-
-/// Whether a byte is a space or NUL.
-fn is_blank(byte: u8) -> bool
-    ensures { result ≡ is_blank byte }
-{
-    byte == b' ' || byte == 0
 }

@@ -5,7 +5,7 @@ use crate::{FrameFault, Scan, scan};
 use std::test::Fail;
 
 /// The first record with some of its bytes in other places: the parts are written one after another.
-fn with_parts(parts: &[(usize, &[u8])]) -> [u8; 132] {
+pub(super) fn with_parts(parts: &[(usize, &[u8])]) -> [u8; 132] {
     let mut record = [0; 132];
     record[..128].copy_from_slice(&FIRST);
     for (offset, bytes) in parts {

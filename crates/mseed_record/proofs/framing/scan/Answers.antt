@@ -1,3 +1,5 @@
+use Rattle.std.proofs.Common.{◌≡◌}
+use Rattle.mseed_record.specs.declared.frame.Scan.TheVariants.{Record}
 use Rattle.mseed_record.proofs.Scanned.{scanned}
 use Rattle.mseed_record.proofs.framing.scan.Goals as goal
 
@@ -9,3 +11,8 @@ returns-clause-refused c = (scanned c.args.front.now c.by_steps.result (λ i. (c
 
 pub returns-clause-needed : goal.returns-clause-needed
 returns-clause-needed c = (scanned c.args.front.now c.by_steps.result (λ i. (c.type_inv.front i).fits) c.by_steps.ensures).needed_is
+
+pub returns-clause-only : goal.returns-clause-only
+returns-clause-only c k e j h r =
+    let same : c.by_steps.result ≡ Record j = ((scanned c.args.front.now c.by_steps.result (λ i. (c.type_inv.front i).fits) c.by_steps.ensures).record_is j).1 (h, r) in
+    cc (e, same)

@@ -4,7 +4,7 @@ use Rattle.byteorder.specs.Endian.{twos_complement}
 use Rattle.mseed_time.specs.Btime.{Parts, instant_of}
 use Rattle.mseed_time.specs.Parts.{parts_of}
 use Rattle.mseed_record.specs.FirstForm.{start_of}
-use Rattle.mseed_record.proofs.view.RecordView.start.Goals as goal
+use Rattle.mseed_record.proofs.first.FirstView.start.Goals as goal
 
 pub returns : goal.returns
 returns c =

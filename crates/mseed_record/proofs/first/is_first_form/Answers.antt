@@ -5,7 +5,7 @@ use Rattle.std.specs.Str.{bytes_eq}
 use Rattle.std.specs.Result.{is_err, result_err}
 use Rattle.mseed_record.specs.FirstForm.{first_blockette, second_blockette}
 use Rattle.mseed_record.specs.Header.{has_fixed_bytes}
-use Rattle.mseed_record.proofs.view.is_first_form.Goals as goal
+use Rattle.mseed_record.proofs.first.is_first_form.Goals as goal
 
 -- what is no error has none
 ok_no_error : {T E : Type 0} (r : Result T E) → is_err r ≡ false → result_err r ≡ None

@@ -1,0 +1,95 @@
+//! Fields of a header, read where they stand.
+ghost use Rattle.std.specs.Prelude.{◌≡◌, ◌≤◌, ◌+◌, ◌<◌, IfOk, length, slice_index};
+ghost use Rattle.mseed_record.specs.Header.{time_at, has_fixed_bytes, is_sequence_byte, is_quality, is_blank};
+ghost use Rattle.mseed_time.specs.Fields.{number_at};
+ghost use Rattle.mseed_time.specs.Btime.{first_fault};
+ghost use Rattle.mseed_time.specs.Parts.{parts_of};
+ghost use Rattle.byteorder.specs.Endian.{twos_complement};
+ghost use Rattle.std.specs.List.{list_all};
+ghost use Rattle.std.specs.Result.{result_err};
+
+use byteorder::{BigEndian, ByteOrder, LittleEndian};
+use mseed_time::{Btime, Order, TimeFault};
+
+/// The start's BTIME.
+pub(crate) fn read_time(bytes: &[u8], order: Order) -> Result<Btime, TimeFault>
+    requires { 30 ≤ length bytes.now }
+    ensures fields { IfOk result (λ b. parts_of b ≡ time_at order bytes.now) }
+    ensures fault { result_err result ≡ first_fault (time_at order bytes.now) }
+{
+    let mut field = [0; 10];
+    field.copy_from_slice(&bytes[20..30]);
+    Btime::read(&field, order)
+}
+
+/// The signed byte at an offset.
+pub(crate) fn i8_at(bytes: &[u8], offset: usize) -> i8
+    requires { offset < length bytes.now }
+    ensures { result ≡ twos_complement 1 (slice_index bytes.now offset) }
+{
+    bytes[offset].cast_signed()
+}
+
+/// The signed 32-bit number at an offset.
+pub(crate) fn i32_at(bytes: &[u8], offset: usize, order: Order) -> i32
+    requires { offset + 4 ≤ length bytes.now }
+    ensures { result ≡ twos_complement 4 (number_at order 4 offset bytes.now) }
+{
+    match order {
+        Order::Big => BigEndian::read_i32(&bytes[offset..]),
+        Order::Little => LittleEndian::read_i32(&bytes[offset..]),
+    }
+}
+
+/// The signed 16-bit number at an offset.
+pub(crate) fn i16_at(bytes: &[u8], offset: usize, order: Order) -> i16
+    requires { offset + 2 ≤ length bytes.now }
+    ensures { result ≡ twos_complement 2 (number_at order 2 offset bytes.now) }
+{
+    match order {
+        Order::Big => BigEndian::read_i16(&bytes[offset..]),
+        Order::Little => LittleEndian::read_i16(&bytes[offset..]),
+    }
+}
+
+/// Whether the bytes before the station are those of a header.
+pub(crate) fn has_fixed_bytes(bytes: &[u8]) -> bool
+    requires { 8 ≤ length bytes.now }
+    ensures { result ≡ has_fixed_bytes bytes.now }
+{
+    if !is_sequence(&bytes[..6]) {
+        return false;
+    }
+    if !is_quality(bytes[6]) {
+        return false;
+    }
+    is_blank(bytes[7])
+}
+
+/// Whether all bytes may stand in a sequence number.
+fn is_sequence(bytes: &[u8]) -> bool
+    ensures { result ≡ list_all is_sequence_byte bytes.now }
+{
+    bytes.iter().all(|byte| is_sequence_byte(*byte))
+}
+
+/// Whether a byte may stand in a sequence number.
+fn is_sequence_byte(byte: u8) -> bool
+    ensures { result ≡ is_sequence_byte byte }
+{
+    byte.is_ascii_digit() || is_blank(byte)
+}
+
+/// Whether a byte is a quality indicator.
+fn is_quality(byte: u8) -> bool
+    ensures { result ≡ is_quality byte }
+{
+    matches!(byte, b'D' | b'R' | b'Q' | b'M')
+}
+
+/// Whether a byte is a space or NUL.
+fn is_blank(byte: u8) -> bool
+    ensures { result ≡ is_blank byte }
+{
+    byte == b' ' || byte == 0
+}
