@@ -10,7 +10,7 @@ use Rattle.mseed_record.specs.Found.{IsFound}
 use Rattle.mseed_record.specs.View.{View, IsViewBy, IsView, word_order_at, microseconds_at}
 
 -- two chains to a first 1000 are one
-passes_once : (order : Order) (b : List ℕ) (o : ℕ) (os ps : List ℕ) (last end : ℕ) → Passes order b o os last → type_at order b last ≡ 1000 → Passes order b o ps end → type_at order b end ≡ 1000 → (os ≡ ps) × (last ≡ end)
+pub passes_once : (order : Order) (b : List ℕ) (o : ℕ) (os ps : List ℕ) (last end : ℕ) → Passes order b o os last → type_at order b last ≡ 1000 → Passes order b o ps end → type_at order b end ≡ 1000 → (os ≡ ps) × (last ≡ end)
 passes_once order b o [] [] last end h t k u = (refl, cc (h, k))
 passes_once order b o [] (q ∷ ps) last end h t k u = absurd (k.1 (subst (λ (n : ℕ). type_at order b n ≡ 1000) (sym h) t))
 passes_once order b o (q ∷ os) [] last end h t k u = absurd (h.1 (subst (λ (n : ℕ). type_at order b n ≡ 1000) (sym k) u))
@@ -19,7 +19,7 @@ passes_once order b o (q ∷ os) (r ∷ ps) last end h t k u =
     (cc (h.0, k.0, later.0), later.1)
 
 -- so are two rests of a chain
-rest_once : (order : Order) (b : List ℕ) (o : ℕ) (ps qs : List ℕ) → Rest order b o ps → Rest order b o qs → ps ≡ qs
+pub rest_once : (order : Order) (b : List ℕ) (o : ℕ) (ps qs : List ℕ) → Rest order b o ps → Rest order b o qs → ps ≡ qs
 rest_once order b o [] [] h k = refl
 rest_once order b o [] (q ∷ qs) h k = absurd (false≢true (sym h ∙ k.0))
 rest_once order b o (p ∷ ps) [] h k = absurd (false≢true (sym k ∙ h.0))

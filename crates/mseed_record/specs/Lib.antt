@@ -6,3 +6,4 @@ pub mod Record
 pub mod Scan
 pub mod View
 pub mod Found
+pub mod Viewing

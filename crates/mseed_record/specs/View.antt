@@ -1,14 +1,10 @@
 -- What a record says: its header's fields, and what its chain of blockettes adds (SEED manual, chapter 8).
-use Rattle.std.specs.Prelude.{◌≡◌, ℕ, ◌+◌, ◌≤◌, ◌==◌, Bool, if◌then◌else◌, List, ◌∷◌, ◌++◌, length, slice_index, drop, Option, Some, None, ℤ, pos, Result, Ok, Err}
+use Rattle.std.specs.Prelude.{◌≡◌, ℕ, ◌+◌, ◌≤◌, ◌==◌, Bool, if◌then◌else◌, List, ◌∷◌, ◌++◌, length, slice_index, drop, Option, Some, None, ℤ, pos}
 use Rattle.std.specs.Int.{bit_at}
 use Rattle.byteorder.specs.Endian.{twos_complement}
 use Rattle.mseed_time.specs.declared.order.Order.{Order}
 use Rattle.mseed_time.specs.declared.order.Order.TheVariants.{Big, Little}
 use Rattle.mseed_time.specs.Btime.{instant_of}
-use Rattle.mseed_record.specs.declared.frame.Scan.{Scan}
-use Rattle.mseed_record.specs.declared.frame.Scan.TheVariants.{Need, Record, Not}
-use Rattle.mseed_record.specs.declared.frame.ViewFault.{ViewFault}
-use Rattle.mseed_record.specs.declared.frame.ViewFault.TheVariants.{Not as Refused, Short}
 use Rattle.mseed_record.specs.declared.frame.Leap.{Leap}
 use Rattle.mseed_record.specs.declared.frame.Leap.TheVariants.{None as NoLeap, Positive, Negative, Both}
 use Rattle.mseed_record.specs.Header.{time_at, correction_at, activity_at, data_at}
@@ -45,12 +41,6 @@ pub record IsViewBy (os : List ℕ) (last : ℕ) (rest : List ℕ) (v : View) : 
 
 abbrev pub IsView : View → Type 0
 IsView v = (os : List ℕ) × ((last : ℕ) × ((rest : List ℕ) × IsViewBy os last rest v))
-
--- what framing answers where this is answered of a view
-abbrev pub scan_of : Result View ViewFault → Scan
-scan_of (Ok v) = Record (length v.bytes)
-scan_of (Err (Refused f)) = Not f
-scan_of (Err (Short k)) = Need k
 
 -- the instant of the first sample: activity bit 1 says that the time correction has been applied
 abbrev pub start_of : View → ℤ

@@ -7,7 +7,7 @@ ghost use Rattle.mseed_time.specs.Rate.{rate_of};
 ghost use Rattle.mseed_record.specs.declared.frame.FrameFault.{FrameFault};
 ghost use Rattle.mseed_record.specs.Header.{key_at, quality_at, time_at, samples_at, factor_at, multiplier_at, activity_at, is_quality};
 ghost use Rattle.mseed_record.specs.Record.{IsRecord};
-ghost use Rattle.mseed_record.specs.View.{View, IsView, word_order_at, microseconds_at, scan_of, start_of, leap_of, HasPayload, payload_of};
+ghost use Rattle.mseed_record.specs.View.{View, IsView, word_order_at, microseconds_at, start_of, leap_of, HasPayload, payload_of};
 ghost use Rattle.mseed_record.specs.Scan.{Decides, HasNoRecord, Needs};
 
 use crate::chain::blockettes_of;
@@ -16,7 +16,6 @@ use crate::frame::{DataOffset, Leap, Scan, ViewFault};
 use crate::framing::{HEADER, order_of, scan};
 use crate::header::{i8_at, i16_at, i32_at, read_time};
 use mseed_time::{Micros, NoRate, Order, Rate, TimeFault};
-use std::marker::Model;
 
 /// The activity flag that says that the time correction has been applied to the start.
 const CORRECTED: u32 = 1;
@@ -30,7 +29,7 @@ const LEAP_DROPPED: u32 = 5;
 /// A record, borrowed from the bytes that hold it.
 ///
 /// What its chain of blockettes says is looked up once, when the view is made.
-#[derive(Debug, Drop)]
+#[derive(Clone, Copy, Debug)]
 pub struct RecordView<'a> {
     bytes: &'a [u8],
     order: Order,
@@ -38,33 +37,20 @@ pub struct RecordView<'a> {
     payload_order: Order,
     microseconds: i8,
     has_rate_blockette: bool,
-}
-
-impl<'a> Model for RecordView<'a> {
-    ghost use Rattle.mseed_record.specs.View.{View, IsView};
-
-    ghost Value = { View };
-
-    ghost view = { λ r. record {
-      bytes = r.bytes.now;
-      order = r.order;
-      encoding = r.encoding;
-      payload_order = r.payload_order;
-      microseconds = r.microseconds;
-      has_rate_blockette = r.has_rate_blockette;
-    } };
-
-    ghost invariant = { λ r. IsView (record {
-      bytes = r.bytes.now;
-      order = r.order;
-      encoding = r.encoding;
-      payload_order = r.payload_order;
-      microseconds = r.microseconds;
-      has_rate_blockette = r.has_rate_blockette;
-    }) };
+    ghost has_header: { 48 ≤ length bytes.now },
+    ghost is_view: { ∥ IsView (record {
+      bytes = bytes.now;
+      order = order;
+      encoding = encoding;
+      payload_order = payload_order;
+      microseconds = microseconds;
+      has_rate_blockette = has_rate_blockette;
+    }) ∥₁ },
 }
 
 impl<'a> RecordView<'a> {
+    ghost use Rattle.mseed_record.specs.Viewing.{view_of, scan_of};
+
     /// The record that begins the bytes, exactly as [`scan`] answers.
     ///
     /// # Errors
@@ -72,9 +58,9 @@ impl<'a> RecordView<'a> {
     /// `Not` where no bytes that may come make a record of them, `Short` where more are needed.
     pub fn of(bytes: &'a [u8]) -> Result<RecordView<'a>, ViewFault>
         ensures ok { IsOk result ↔ ((k : ℕ) × ((k ≤ length bytes.now) × IsRecord (take k bytes.now))) }
-        ensures front { IfOk result (λ v. v.bytes ≡ take (length v.bytes) bytes.now) }
-        ensures view { IfOk result IsView }
-        ensures only { IfOk result (λ v. (w : View) → IsView w → w.bytes ≡ v.bytes → w ≡ v) }
+        ensures front { IfOk result (λ r. (view_of r).bytes ≡ take (length (view_of r).bytes) bytes.now) }
+        ensures view { IfOk result (λ r. IsView (view_of r)) }
+        ensures only { IfOk result (λ r. (v : View) → IsView v → v.bytes ≡ (view_of r).bytes → v ≡ view_of r) }
         ensures decides { Decides bytes.now (scan_of result) }
         ensures refused { (f : FrameFault) → result ≡ Err (ViewFault.Not f) → HasNoRecord bytes.now }
         ensures needed { (k : ℕ) → result ≡ Err (ViewFault.Short k) → Needs bytes.now k }
@@ -88,22 +74,22 @@ impl<'a> RecordView<'a> {
 
     /// All of its bytes.
     pub fn bytes(&self) -> &'a [u8]
-        ensures value { result.now ≡ self.now.bytes }
-        ensures view { IsView self.now }
+        ensures value { result.now ≡ (view_of self.now).bytes }
+        ensures view { IsView (view_of self.now) }
     {
         self.bytes
     }
 
     /// The channel that it belongs to.
     pub fn codes(&self) -> Codes
-        ensures { result ≡ key_at self.now.bytes }
+        ensures { result ≡ key_at (view_of self.now).bytes }
     {
         codes_at(self.bytes)
     }
 
     /// The quality indicator: `D`, `R`, `Q` or `M`.
     pub fn quality(&self) -> u8
-        ensures value { result ≡ quality_at self.now.bytes }
+        ensures value { result ≡ quality_at (view_of self.now).bytes }
         ensures range { IsTrue (is_quality result) }
     {
         self.bytes[6]
@@ -111,7 +97,7 @@ impl<'a> RecordView<'a> {
 
     /// The number of samples.
     pub fn samples(&self) -> u16
-        ensures { result ≡ samples_at self.now.order self.now.bytes }
+        ensures { result ≡ samples_at (view_of self.now).order (view_of self.now).bytes }
     {
         self.order.u16_at(self.bytes, 30)
     }
@@ -123,8 +109,8 @@ impl<'a> RecordView<'a> {
     ///
     /// The first field of the BTIME that is out of its range.
     pub fn start(&self) -> Result<Micros, TimeFault>
-        ensures value { IfOk result (λ t. t ≡ start_of self.now) }
-        ensures fault { result_err result ≡ first_fault (time_at self.now.order self.now.bytes) }
+        ensures value { IfOk result (λ t. t ≡ start_of (view_of self.now)) }
+        ensures fault { result_err result ≡ first_fault (time_at (view_of self.now).order (view_of self.now).bytes) }
     {
         let time = read_time(self.bytes, self.order)?;
         let correction = i32_at(self.bytes, 40, self.order);
@@ -137,9 +123,9 @@ impl<'a> RecordView<'a> {
     ///
     /// `NoRate` where the factor or the multiplier is 0.
     pub fn rate(&self) -> Result<Rate, NoRate>
-        ensures ok { IsOk result ↔ IsSome (rate_of (factor_at self.now.order self.now.bytes) (multiplier_at self.now.order self.now.bytes)) }
-        ensures factor { IfOk result (λ r. r.factor ≡ factor_at self.now.order self.now.bytes) }
-        ensures multiplier { IfOk result (λ r. r.multiplier ≡ multiplier_at self.now.order self.now.bytes) }
+        ensures ok { IsOk result ↔ IsSome (rate_of (factor_at (view_of self.now).order (view_of self.now).bytes) (multiplier_at (view_of self.now).order (view_of self.now).bytes)) }
+        ensures factor { IfOk result (λ r. r.factor ≡ factor_at (view_of self.now).order (view_of self.now).bytes) }
+        ensures multiplier { IfOk result (λ r. r.multiplier ≡ multiplier_at (view_of self.now).order (view_of self.now).bytes) }
     {
         Rate::of(
             i16_at(self.bytes, 32, self.order),
@@ -149,28 +135,28 @@ impl<'a> RecordView<'a> {
 
     /// How the payload is encoded, by the first blockette 1000.
     pub fn encoding(&self) -> u8
-        ensures { result ≡ self.now.encoding }
+        ensures { result ≡ (view_of self.now).encoding }
     {
         self.encoding
     }
 
     /// The order of the payload's words, by the first blockette 1000. The header's can be another.
     pub fn payload_order(&self) -> Order
-        ensures { result ≡ self.now.payload_order }
+        ensures { result ≡ (view_of self.now).payload_order }
     {
         self.payload_order
     }
 
     /// Whether a blockette 100, which gives another rate, stands anywhere on the chain.
     pub fn has_rate_blockette(&self) -> bool
-        ensures { result ≡ self.now.has_rate_blockette }
+        ensures { result ≡ (view_of self.now).has_rate_blockette }
     {
         self.has_rate_blockette
     }
 
     /// The leap seconds that happened during the record.
     pub fn leap(&self) -> Leap
-        ensures { result ≡ leap_of self.now.bytes }
+        ensures { result ≡ leap_of (view_of self.now).bytes }
     {
         match (self.has_flag(LEAP_ADDED), self.has_flag(LEAP_DROPPED)) {
             (false, false) => Leap::None,
@@ -186,8 +172,8 @@ impl<'a> RecordView<'a> {
     ///
     /// `DataOffset` where they begin within the header, or behind the record's end.
     pub fn payload(&self) -> Result<&'a [u8], DataOffset>
-        ensures ok { IsOk result ↔ HasPayload self.now }
-        ensures value { IfOk result (λ bytes. bytes.now ≡ payload_of self.now) }
+        ensures ok { IsOk result ↔ HasPayload (view_of self.now) }
+        ensures value { IfOk result (λ bytes. bytes.now ≡ payload_of (view_of self.now)) }
     {
         let begin = usize::from(self.order.u16_at(self.bytes, 44));
         if begin < HEADER || begin > self.bytes.len() {
@@ -199,7 +185,7 @@ impl<'a> RecordView<'a> {
     /// Whether an activity flag is set, by its bit; bit 0 is the lowest.
     fn has_flag(&self, bit: u32) -> bool
         requires { bit < 8 }
-        ensures { result ≡ (bit_at (activity_at self.now.bytes) bit == 1) }
+        ensures { result ≡ (bit_at (activity_at (view_of self.now).bytes) bit == 1) }
     {
         (self.bytes[36] >> bit) & 1 == 1
     }
@@ -207,8 +193,8 @@ impl<'a> RecordView<'a> {
     /// A whole record.
     fn of_record(bytes: &'a [u8]) -> RecordView<'a>
         requires { IsRecord bytes.now }
-        ensures bytes { result.bytes ≡ bytes.now }
-        ensures view { IsView result }
+        ensures bytes { (view_of result).bytes ≡ bytes.now }
+        ensures view { IsView (view_of result) }
     {
         let order = match order_of(bytes) {
             Some(order) => order,

@@ -3,6 +3,7 @@ use Rattle.std.proofs.lemmas.Bool.{false≢true}
 use Rattle.std.proofs.lemmas.List.{length-take-le}
 use Rattle.mseed_record.specs.declared.frame.Scan.TheVariants.{Record}
 use Rattle.mseed_record.specs.Scan.{Decides}
+use Rattle.mseed_record.specs.Viewing.{view_of}
 use Rattle.mseed_record.proofs.Viewed.{view_once}
 use Rattle.mseed_record.proofs.view.RecordView.of.Goals as goal
 
@@ -39,13 +40,13 @@ size b k bytes e h = ap (λ (xs : List ℕ). length xs) e ∙ length-take-le k b
 
 pub returns-in-Record-clause-front : goal.returns-in-Record-clause-front
 returns-in-Record-clause-front c =
-    let same = size c.args.bytes.now c.in-Record.k c.of_record.result.bytes c.of_record.ensures.bytes ((c.scan.ensures.record c.in-Record.k).0 c.in-Record.is).0 in
+    let same = size c.args.bytes.now c.in-Record.k c.of_record.result.bytes.now c.of_record.ensures.bytes ((c.scan.ensures.record c.in-Record.k).0 c.in-Record.is).0 in
     c.of_record.ensures.bytes ∙ ap (λ (k : ℕ). take k c.args.bytes.now) (sym same)
 
 pub returns-in-Record-clause-only : goal.returns-in-Record-clause-only
-returns-in-Record-clause-only c w h e = view_once c.of_record.result w c.of_record.ensures.view h e
+returns-in-Record-clause-only c w h e = view_once (view_of c.of_record.result) w c.of_record.ensures.view h e
 
 pub returns-in-Record-clause-decides : goal.returns-in-Record-clause-decides
 returns-in-Record-clause-decides c =
-    let same = size c.args.bytes.now c.in-Record.k c.of_record.result.bytes c.of_record.ensures.bytes ((c.scan.ensures.record c.in-Record.k).0 c.in-Record.is).0 in
+    let same = size c.args.bytes.now c.in-Record.k c.of_record.result.bytes.now c.of_record.ensures.bytes ((c.scan.ensures.record c.in-Record.k).0 c.in-Record.is).0 in
     subst (λ (k : ℕ). Decides c.args.bytes.now (Record k)) (sym same) (subst (λ s. Decides c.args.bytes.now s) c.in-Record.is c.scan.ensures.decides)
