@@ -1,9 +1,9 @@
 -- What the command did.
-use Rattle.std.specs.Prelude.{◌≡◌, ◌≢◌, ◌⊎◌, ℕ, ◌+◌, ◌<◌, Bool, IsTrue, if◌then◌else◌, List, [], ◌∷◌, ◌++◌, length, take, Result, Ok, Err, codes, decimal}
+use Rattle.std.specs.Prelude.{⊤, ◌≡◌, ◌≢◌, ◌⊎◌, ℕ, ◌+◌, ◌<◌, Bool, IsTrue, if◌then◌else◌, List, [], ◌∷◌, ◌++◌, length, take, Result, Ok, Err, codes, decimal}
 use Rattle.std.specs.List.{AllByRecursion}
 use Rattle.mseed_stream.specs.Device.{Heard, Said}
 use Rattle.mseed_stream.specs.declared.fault.StreamFault.{StreamFault}
-use Rattle.mseed_stream.specs.declared.fault.StreamFault.TheVariants.{Read, Turns, Memory as StreamMemory}
+use Rattle.mseed_stream.specs.declared.fault.StreamFault.TheVariants.{Frame, Truncated, Read, Turns, Memory as StreamMemory}
 use Rattle.mseed_stream.specs.Fault.{IsStreamFault}
 use Rattle.mseed_audit.specs.Reading.{HasReading, HasOneReading}
 use Rattle.mseed_audit.specs.Text.{audit_text}
@@ -54,8 +54,20 @@ abbrev pub status_of : Result Bool FirstFault → ℕ
 status_of (Ok is_broken) = if is_broken then 1 else 0
 status_of (Err fault) = 2
 
--- the words of a stream's fault, with the number of bytes told
+-- some reads of a whole input ended with the fault
+abbrev pub EndsReads : StreamFault → Type 0
+EndsReads fault = (old : Heard) × ((new : Heard) × IsStreamFault fault old new)
+
+abbrev pub MayEnd : FirstFault → Type 0
+MayEnd (NotYet place) = ⊤
+MayEnd (Stream fault) = EndsReads fault
+MayEnd (Write taken) = ⊤
+MayEnd Memory = ⊤
+
+-- the words of a stream's fault, with the number of bytes told; such reads look for no record
 abbrev pub stream_line : StreamFault → List ℕ
+stream_line (Frame place why) = []
+stream_line (Truncated place have) = []
 stream_line (Read place) = codes "mseed: fault at " ++ decimal place ++ codes " read\n"
 stream_line (Turns place) = codes "mseed: fault at " ++ decimal place ++ codes " turns\n"
 stream_line StreamMemory = codes "mseed: no memory\n"

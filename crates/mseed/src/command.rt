@@ -2,7 +2,7 @@
 ghost use Rattle.std.specs.Prelude.{◌≡◌, ◌↔◌, Bool, Result, IsTrue, map, ◌≤◌, ◌+◌, ◌++◌, length, codes, decimal};
 ghost use Rattle.mseed_stream.specs.Device.{nothing_heard};
 ghost use Rattle.mseed.specs.declared.first.FirstFault.{FirstFault};
-ghost use Rattle.mseed.specs.Outcome.{IsAudit, IsAuditRun, IsBadRun, Tells, fault_line, stream_line};
+ghost use Rattle.mseed.specs.Outcome.{IsAudit, IsAuditRun, IsBadRun, MayEnd, EndsReads, Tells, fault_line, stream_line};
 ghost use Rattle.mseed.specs.Run.{status_in};
 
 use crate::first::{FirstFault, audit};
@@ -93,6 +93,7 @@ fn wants_audit(words: &[&str]) -> bool
 
 /// Writes the line of a fault.
 fn complain<E: Sink>(errors: &mut E, fault: &FirstFault)
+    requires { MayEnd fault.now }
     ensures { Tells (fault_line fault.now) (E.said errors.old) (E.said errors.new) }
 {
     match fault {
@@ -105,6 +106,7 @@ fn complain<E: Sink>(errors: &mut E, fault: &FirstFault)
 
 /// Writes the line of a stream's fault.
 fn complain_of_stream<E: Sink>(errors: &mut E, fault: &StreamFault)
+    requires { EndsReads fault.now }
     ensures { Tells (stream_line fault.now) (E.said errors.old) (E.said errors.new) }
 {
     match fault {
@@ -114,6 +116,7 @@ fn complain_of_stream<E: Sink>(errors: &mut E, fault: &StreamFault)
             &placed(b"mseed: fault at ", *place, b" turns\n"),
         ),
         StreamFault::Memory => tell(errors, b"mseed: no memory\n"),
+        StreamFault::Frame(..) | StreamFault::Truncated(..) => unreachable!(),
     }
 }
 

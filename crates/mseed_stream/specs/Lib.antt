@@ -1,3 +1,6 @@
+pub mod Archive
 pub mod Counted
+pub mod Cutting
 pub mod Device
 pub mod Fault
+pub mod Standing

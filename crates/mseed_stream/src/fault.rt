@@ -1,14 +1,21 @@
 // Why a stream wasn't read to its end.
+use mseed_record::FrameFault;
 
 /// Why an input wasn't read to its end.
 ///
-/// The numbers count bytes from the place where the call began, which is the input's beginning
-/// for a source of which nothing was read before.
+/// The first number of each counts bytes: from the input's beginning to where the next record begins,
+/// for a [`Cutter`](crate::Cutter); from the place where the call began, for
+/// [`read_all`](crate::read_all).
 #[derive(Debug, Clone, Copy, PartialEq, Eq)]
 pub enum StreamFault {
+    /// No bytes that may come can make a record of those behind so many bytes.
+    Frame(u64, FrameFault),
+    /// The input ended while more was needed: behind so many bytes, with so many of what might have been
+    /// a record.
+    Truncated(u64, usize),
     /// The reader failed, behind so many bytes.
     Read(u64),
-    /// The input wasn't at its end after 2^40 reads, which told so many bytes.
+    /// The input wasn't at its end after 2^40 reads, behind so many bytes.
     Turns(u64),
     /// A growth was refused.
     Memory,

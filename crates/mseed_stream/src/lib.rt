@@ -7,12 +7,14 @@
 #![tactic(auto)]
 
 mod counted;
+mod cutter;
 mod device;
 mod fault;
 mod tally;
 mod whole;
 
 pub use counted::Counted;
+pub use cutter::Cutter;
 pub use device::{Failed, Sink, Source};
 pub use fault::StreamFault;
 pub use whole::{read_all, read_all_in, write_all_of};

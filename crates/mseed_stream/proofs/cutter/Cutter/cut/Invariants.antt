@@ -1,0 +1,22 @@
+use Rattle.std.proofs.Common.{◌≡◌, ◌+◌, ◌-◌, ◌<◌, ◌≤◌, ◌^◌, ℕ, length, true, false, if◌then◌else◌}
+use Rattle.std.specs.Io.KnownBytes.{IsAtEnd}
+use Rattle.mseed_stream.specs.Cutting.{IsHeard, IsStop, TellsMore}
+use Rattle.mseed_stream.proofs.cutter.Cutter.cut.Given as goal
+
+abbrev pub invariant-stops : goal.invariant-stops
+invariant-stops g l = record {
+  heard : IsHeard (g.R.Source.heard l.source) l.self;
+  not_lent : l.self.is_lent ≡ false;
+  more : TellsMore (g.R.Source.heard l.fn.source) (g.R.Source.heard l.source) (g.R.Source.remaining l.fn.source) (g.R.Source.remaining l.source);
+  place : l.self.place ≡ l.fn.self.place;
+  answer : l.self.answer ≡ l.fn.self.answer;
+  room : l.fn.self.room ≤ l.self.room;
+  stop : (n : ℕ) × (IsStop l.self.front n × (length l.self.front ≤ n) × (l.is_at_end ≡ false → length l.self.front ≡ n) × (l.is_at_end ≡ true → length l.self.front < n));
+  end : (g.R.Source.heard l.source).is_at_end ≡ l.is_at_end;
+  known : l.is_at_end ≡ true → IsAtEnd (g.R.Source.remaining l.source);
+  failures : (g.R.Source.heard l.source).failures ≡ (g.R.Source.heard l.fn.source).failures;
+  beside : g.R.Source.beside l.source ≡ g.R.Source.beside l.fn.source;
+}
+
+abbrev pub decreases-stops : goal.decreases-stops
+decreases-stops g l = if l.is_at_end then 0 else 2 ^ 20 + 1 - length l.self.front

@@ -1,0 +1,22 @@
+use Rattle.std.proofs.Common.{◌≡◌, ◌+◌, ◌-◌, ◌≤◌, take, length, false, vec_len}
+use Rattle.mseed_stream.specs.Standing.{Standing}
+use Rattle.mseed_stream.specs.Cutting.{IsHeard, TellsMore}
+use Rattle.mseed_stream.proofs.cutter.Cutter.fill.Given as goal
+
+abbrev pub invariant-loop-self : goal.invariant-loop-self
+invariant-loop-self g l = let c = l.self-inside in record {
+  heard : IsHeard (g.R.Source.heard l.source) (record { place = c.offset; front = take c.have c.held.items; is_lent = c.is_lent; room = vec_len c.held; reads = c.reads; answer = c.ending });
+  not_lent : c.is_lent ≡ false;
+  more : TellsMore (g.R.Source.heard l.fn.source) (g.R.Source.heard l.source) (g.R.Source.remaining l.fn.source) (g.R.Source.remaining l.source);
+  place : c.offset ≡ l.fn.self.place;
+  answer : c.ending ≡ l.fn.self.answer;
+  room : l.fn.self.room ≤ vec_len c.held;
+  fits : l.needed ≤ vec_len c.held;
+  within : c.have ≤ l.needed;
+  going_on : (g.R.Source.heard l.source).is_at_end ≡ false;
+  failures : (g.R.Source.heard l.source).failures ≡ (g.R.Source.heard l.fn.source).failures;
+  beside : g.R.Source.beside l.source ≡ g.R.Source.beside l.fn.source;
+}
+
+abbrev pub decreases-loop-self : goal.decreases-loop-self
+decreases-loop-self g l = l.needed - l.self-inside.have

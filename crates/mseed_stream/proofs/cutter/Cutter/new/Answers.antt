@@ -1,0 +1,19 @@
+use Rattle.std.proofs.Common.{refl, arith}
+use Rattle.mseed_stream.specs.Cutting.{at_start}
+use Rattle.mseed_stream.proofs.cutter.Cutter.new.Goals as goal
+
+pub returns-clause-along : goal.returns-clause-along
+returns-clause-along g c = record {
+  heard = record {
+    told = refl;
+    held = refl;
+    reads = refl;
+    few_reads = omega arith;
+    few_bytes = omega arith;
+    within = omega arith;
+    small = omega (arith, c.new.ensures.len);
+  };
+  stop = λ same. at_start;
+  going_on = λ same. refl;
+  ended = tt;
+}

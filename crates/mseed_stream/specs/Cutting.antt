@@ -1,0 +1,164 @@
+-- How a cutter stands to what its source told, and what its answers mean.
+use Rattle.std.specs.Prelude.{⊤, ◌≡◌, ◌≢◌, ◌⊎◌, Bool, true, false, ℕ, ◌+◌, ◌*◌, ◌^◌, ◌<◌, ◌≤◌, List, [], ◌∷◌, ◌++◌, length, take, drop, if◌then◌else◌, Option, Some, None, IfSome, Result, Ok, Err}
+use Rattle.std.specs.Io.KnownBytes.{Consumes, IsAtEnd}
+use Rattle.mseed_record.specs.declared.frame.Scan.TheVariants.{Need}
+use Rattle.mseed_record.specs.Scan.{Decides}
+use Rattle.mseed_stream.specs.Device.{Heard}
+use Rattle.mseed_stream.specs.Standing.{Standing}
+use Rattle.mseed_stream.specs.Archive.{IsEndOf, clean, frame, truncated}
+use Rattle.mseed_stream.specs.declared.cutter.Ending.{Ending}
+use Rattle.mseed_stream.specs.declared.cutter.Ending.TheVariants.{Clean, Fault}
+use Rattle.mseed_stream.specs.declared.fault.StreamFault.{StreamFault}
+use Rattle.mseed_stream.specs.declared.fault.StreamFault.TheVariants.{Frame, Truncated, Read, Turns, Memory}
+
+-- The lengths to which a record's bytes are read before they're looked at again: none, and then each that the
+-- framing steps ask for at the one before.
+pub data IsStop (bytes : List ℕ) : ℕ → Type 0 where
+  at_start : IsStop bytes 0
+  asked_for : (m n : ℕ) → IsStop bytes m → m ≤ length bytes → Decides (take m bytes) (Need n) → IsStop bytes n
+
+-- the bytes told from the place on, by what is held
+abbrev pub held_of : Standing → List ℕ
+held_of c = if c.is_lent then [] else c.front
+
+-- what was told from a place on
+abbrev pub told_from : ℕ → Heard → List ℕ
+told_from place h = drop place h.bytes
+
+-- what a fault means, of the place where the next record begins and of what was heard
+abbrev pub IsCutFault : StreamFault → ℕ → Heard → Type 0
+IsCutFault (Frame n f) place h = (n ≡ place) × IsEndOf (told_from place h) (frame f)
+IsCutFault (Truncated n have) place h = (n ≡ place) × IsEndOf (told_from place h) (truncated have) × (h.is_at_end ≡ true)
+IsCutFault (Read n) place h = (n ≡ place) × (0 < h.failures) × (h.is_at_end ≡ false)
+IsCutFault (Turns n) place h = (n ≡ place) × (h.calls ≡ 2 ^ 40) × (h.is_at_end ≡ false)
+IsCutFault Memory place h = ⊤
+
+-- the input ended where a record ended
+abbrev pub IsCleanEnd : ℕ → Heard → Type 0
+IsCleanEnd place h = IsEndOf (told_from place h) clean × (h.is_at_end ≡ true)
+
+abbrev pub IsEnding : Ending → ℕ → Heard → Type 0
+IsEnding Clean place h = IsCleanEnd place h
+IsEnding (Fault e) place h = IsCutFault e place h × (e ≢ Memory)
+
+-- A cutter holds of what its source told the bytes from the place on, and was alone to ask it.
+pub record IsHeard (h : Heard) (c : Standing) : Type 0 where
+  pub told : length h.bytes ≡ c.place + length (held_of c)
+  pub held : told_from c.place h ≡ held_of c
+  pub reads : h.calls ≡ c.reads
+  pub few_reads : c.reads ≤ 2 ^ 40
+  pub few_bytes : length h.bytes ≤ 2 ^ 20 * c.reads
+  pub within : length c.front ≤ c.room
+  pub small : c.room ≤ 2 ^ 20
+
+-- And it goes on, where the framing steps are to be taken next, or has answered for ever.
+pub record IsAlong (h : Heard) (c : Standing) : Type 0 where
+  pub heard : IsHeard h c
+  pub stop : c.answer ≡ None → IsStop (held_of c) (length (held_of c))
+  pub going_on : c.answer ≡ None → h.is_at_end ≡ false
+  pub ended : IfSome c.answer (λ e. IsEnding e c.place h)
+
+-- what more a source told, and what it's known to have left
+abbrev pub TellsMore : Heard → Heard → Option (List ℕ) → Option (List ℕ) → Type 0
+TellsMore old new left rest = (more : List ℕ) × (new.bytes ≡ old.bytes ++ more) × Consumes left rest more
+
+-- what a fault means of the reads for one stop, and of the room that there was for so many bytes before them
+abbrev pub IsFillFault : StreamFault → ℕ → ℕ → ℕ → Heard → Heard → Type 0
+IsFillFault (Frame n f) place room needed old new = ⊥
+IsFillFault (Truncated n have) place room needed old new = ⊥
+IsFillFault (Read n) place room needed old new = (n ≡ place) × (new.failures ≡ old.failures + 1) × (new.is_at_end ≡ false)
+IsFillFault (Turns n) place room needed old new = (n ≡ place) × (new.failures ≡ old.failures) × (new.calls ≡ 2 ^ 40) × (new.is_at_end ≡ false)
+IsFillFault Memory place room needed old new = (room < needed) × (new ≡ old)
+
+-- an answer before which less may have been read than was asked for
+abbrev pub MayBeShort : {X : Type 0} → Result X StreamFault → Bool → Type 0
+MayBeShort (Err (Read n)) is_at_end = ⊤
+MayBeShort (Err (Turns n)) is_at_end = ⊤
+MayBeShort (Err (Frame n f)) is_at_end = is_at_end ≡ true
+MayBeShort (Err (Truncated n have)) is_at_end = is_at_end ≡ true
+MayBeShort (Err Memory) is_at_end = ⊥
+MayBeShort (Ok r) is_at_end = is_at_end ≡ true
+
+-- The bytes were read up to a stop and no further, and short of it only where the input ended, a read failed or the
+-- turns ran out.
+abbrev pub IsReadTo : {X : Type 0} → List ℕ → Result X StreamFault → Bool → Type 0
+IsReadTo bytes result is_at_end = (n : ℕ) × (IsStop bytes n × (length bytes ≤ n) × (length bytes < n → MayBeShort result is_at_end))
+
+-- what a fault means of the reads for one record
+abbrev pub IsCuttingFault : StreamFault → Standing → Standing → Heard → Heard → Type 0
+IsCuttingFault (Frame n f) c after old new = (n ≡ c.place) × (new.failures ≡ old.failures) × IsEndOf after.front (frame f)
+IsCuttingFault (Truncated n have) c after old new = (n ≡ c.place) × (new.failures ≡ old.failures) × IsEndOf after.front (truncated have) × (new.is_at_end ≡ true)
+IsCuttingFault (Read n) c after old new = (n ≡ c.place) × (new.failures ≡ old.failures + 1) × (new.is_at_end ≡ false)
+IsCuttingFault (Turns n) c after old new = (n ≡ c.place) × (new.failures ≡ old.failures) × (new.calls ≡ 2 ^ 40) × (new.is_at_end ≡ false)
+IsCuttingFault Memory c after old new = (new.failures ≡ old.failures) × (new.is_at_end ≡ false) × ((n : ℕ) × (c.room < n) × Decides after.front (Need n))
+
+-- at the input's end: nothing is left, or so many bytes of what might have been a record
+abbrev pub IsAnswerAtEnd : Result Bool StreamFault → ℕ → List ℕ → Type 0
+IsAnswerAtEnd (Ok found) place front = (found ≡ false) × (front ≡ [])
+IsAnswerAtEnd (Err e) place front = (e ≡ Truncated place (length front)) × (0 < length front)
+
+-- more room was needed than there was
+abbrev pub NeedsRoom : ℕ → List ℕ → Type 0
+NeedsRoom room bytes = (n : ℕ) × (room < n) × Decides bytes (Need n)
+
+-- how far an answer moves the place: by the bytes of the record that it lends
+abbrev pub moves_by : {X : Type 0} → Result (Option X) StreamFault → List ℕ → ℕ
+moves_by (Ok (Some r)) bytes = length bytes
+moves_by (Ok None) bytes = 0
+moves_by (Err e) bytes = 0
+
+-- how many failed reads an answer tells of
+abbrev pub failed_by : {X : Type 0} → Result (Option X) StreamFault → ℕ
+failed_by (Err (Read n)) = 1
+failed_by (Err (Frame n f)) = 0
+failed_by (Err (Truncated n have)) = 0
+failed_by (Err (Turns n)) = 0
+failed_by (Err Memory) = 0
+failed_by (Ok o) = 0
+
+-- the answer that a cutter gives once it has ended
+abbrev pub answer_of : {X : Type 0} → Ending → Result (Option X) StreamFault
+answer_of Clean = Ok None
+answer_of (Fault e) = Err e
+
+-- the answer that is kept for ever: all but a record and a want of memory
+abbrev pub kept_of : {X : Type 0} → Result (Option X) StreamFault → Option Ending
+kept_of (Ok (Some r)) = None
+kept_of (Ok None) = Some Clean
+kept_of (Err Memory) = None
+kept_of (Err (Frame n f)) = Some (Fault (Frame n f))
+kept_of (Err (Truncated n have)) = Some (Fault (Truncated n have))
+kept_of (Err (Read n)) = Some (Fault (Read n))
+kept_of (Err (Turns n)) = Some (Fault (Turns n))
+
+-- whether a record was found as the answer that lends it, of so many bytes
+abbrev pub lent_of : ℕ → Result Bool StreamFault → Result (Option ℕ) StreamFault
+lent_of n (Ok true) = Ok (Some n)
+lent_of n (Ok false) = Ok None
+lent_of n (Err e) = Err e
+
+-- a cutter that found a record, or not, and then lends it or keeps its answer
+abbrev pub settled : Standing → Result Bool StreamFault → Standing
+settled c (Ok true) = record c { place = c.place + length c.front; is_lent = true }
+settled c (Ok false) = record c { answer = Some Clean }
+settled c (Err Memory) = c
+settled c (Err (Frame n f)) = record c { answer = Some (Fault (Frame n f)) }
+settled c (Err (Truncated n have)) = record c { answer = Some (Fault (Truncated n have)) }
+settled c (Err (Read n)) = record c { answer = Some (Fault (Read n)) }
+settled c (Err (Turns n)) = record c { answer = Some (Fault (Turns n)) }
+
+-- the record that an answer hands out
+abbrev pub handed_by : {X : Type 0} → Result (Option X) StreamFault → List ℕ → List (List ℕ)
+handed_by (Ok (Some r)) bytes = bytes ∷ []
+handed_by (Ok None) bytes = []
+handed_by (Err e) bytes = []
+
+-- where an answer says how the stream ends
+abbrev pub IfEnds : {X : Type 0} → Result (Option X) StreamFault → Type 0 → Type 0
+IfEnds (Ok (Some r)) P = ⊤
+IfEnds (Ok None) P = P
+IfEnds (Err (Frame n f)) P = P
+IfEnds (Err (Truncated n have)) P = P
+IfEnds (Err (Read n)) P = ⊤
+IfEnds (Err (Turns n)) P = ⊤
+IfEnds (Err Memory) P = ⊤

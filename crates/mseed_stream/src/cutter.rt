@@ -1,0 +1,322 @@
+// Cuts what a source tells into records.
+ghost use Rattle.std.specs.Prelude.{◌≡◌, ◌≢◌, ◌+◌, ◌*◌, ◌^◌, ◌<◌, ◌≤◌, length, take, drop, true, false, IfOk, IfErr, OnErr, OnOk, IsTrue, Ok, slice_range, [], ℕ, IfSome, Some, None, Err, ⊤, List, ◌∷◌, ◌++◌};
+ghost use Rattle.std.specs.Io.KnownBytes.{IsAtEnd, ReadConsumes};
+ghost use Rattle.mseed_record.specs.Record.{IsRecord};
+ghost use Rattle.mseed_record.specs.Scan.{Decides};
+ghost use Rattle.mseed_record.specs.View.{IsView};
+ghost use Rattle.mseed_record.specs.Viewing.{view_of};
+ghost use Rattle.mseed_record.specs.declared.frame.Scan.TheVariants.{Need, Record};
+ghost use Rattle.mseed_stream.specs.Device.{heard_also, nothing_heard};
+ghost use Rattle.mseed_stream.specs.Archive.{HasRecords, IsArchive};
+ghost use Rattle.mseed_stream.specs.Cutting.{IsHeard, IsAlong, IsStop, TellsMore, IsReadTo, IsFillFault, IsAnswerAtEnd, IsCuttingFault, IsCutFault, IsCleanEnd, NeedsRoom, held_of, told_from, moves_by, failed_by, answer_of, kept_of, lent_of, handed_by, IfEnds, settled};
+
+use crate::device::{Failed, Sink, Source};
+use crate::fault::StreamFault;
+use mseed_record::{RecordView, Scan, scan};
+use std::alloc::{Allocator, Global};
+use std::marker::Model;
+
+/// At most so many reads of one input.
+const TURNS: u64 = 1 << 40;
+
+/// How a cutter ended, for ever.
+#[derive(Debug, Clone, Copy)]
+pub(crate) enum Ending {
+    Clean,
+    Fault(StreamFault),
+}
+
+impl Ending {
+    /// The answer for ever.
+    fn answer(self) -> Result<Option<usize>, StreamFault>
+        ensures { result ≡ answer_of self }
+    {
+        match self {
+            Ending::Clean => Ok(None),
+            Ending::Fault(fault) => Err(fault),
+        }
+    }
+}
+
+/// Cuts what a source tells into records, and lends each out of its one buffer.
+#[derive(Drop)]
+pub struct Cutter<A: Allocator = Global> {
+    // Its length is the room that there is.
+    held: Vec<u8, A>,
+    // How many bytes stand at its front.
+    have: usize,
+    // They are a record that was lent, and not needed any more.
+    is_lent: bool,
+    offset: u64,
+    reads: u64,
+    ending: Option<Ending>,
+}
+
+impl<A: Allocator> Model for Cutter<A> {
+    ghost use Rattle.std.specs.Prelude.{◌≤◌, ◌+◌, ◌*◌, ◌^◌, take, if◌then◌else◌};
+    ghost use Rattle.std.specs.Vec.{vec_len};
+    ghost use Rattle.mseed_stream.specs.Standing.{Standing};
+
+    ghost Value = { Standing };
+
+    ghost view = { λ c. record { place = c.offset; front = take c.have c.held.items; is_lent = c.is_lent; room = vec_len c.held; reads = c.reads; answer = c.ending } };
+
+    ghost invariant = { λ c. (c.have ≤ vec_len c.held) × (vec_len c.held ≤ 2 ^ 20) × (c.reads ≤ 2 ^ 40) × (c.offset + (if c.is_lent then 0 else c.have) ≤ 2 ^ 20 * c.reads) };
+}
+
+impl<A: Allocator> Cutter<A> {
+    ghost use Rattle.mseed_stream.specs.contracts.cutter.Cutter.{the_row};
+    ghost use mathlib.Core.Option.{none};
+    ghost use denote.Follow.{follows_so};
+    ghost use Rattle.std.specs.Borrow.{sem};
+
+    /// A cutter of which nothing was asked yet. It takes no memory.
+    pub fn new(alloc: A) -> Cutter<A>
+        ensures along { IsAlong nothing_heard result }
+        ensures place { result.place ≡ 0 }
+        ensures records { HasRecords [] result.place [] }
+        ensures goes_on { result.answer ≡ None }
+        ensures room { result.room ≡ 0 }
+    {
+        Cutter {
+            held: Vec::new(alloc),
+            have: 0,
+            is_lent: false,
+            offset: 0,
+            reads: 0,
+            ending: None,
+        }
+    }
+
+    /// Where the next record begins.
+    pub fn offset(&self) -> u64
+        ensures { result ≡ self.now.place }
+    {
+        self.offset
+    }
+
+    /// The length of the buffer.
+    pub fn room(&self) -> usize
+        ensures value { result ≡ self.now.room }
+        ensures most { result ≤ 1048576 }
+    {
+        self.held.len()
+    }
+
+    /// The next record.
+    pub fn next<R: Source>(&mut self, source: &mut R) -> Result<Option<RecordView<'_>>, StreamFault>
+        requires { IsAlong (R.heard source.old) self.old }
+        ensures more { TellsMore (R.heard source.old) (R.heard source.new) (R.remaining source.old) (R.remaining source.new) }
+        ensures record { IfOk result (λ o. IfSome o (λ r. IsView (view_of r) × ((view_of r).bytes ≡ told_from self.old.place (R.heard source.new)))) }
+        ensures end { result ≡ Ok None → IsCleanEnd self.old.place (R.heard source.new) }
+        ensures fault { IfErr result (λ e. IsCutFault e self.old.place (R.heard source.new)) }
+        ensures records { (records : List (List ℕ)) → HasRecords (R.heard source.old).bytes self.old.place records
+            → HasRecords (R.heard source.new).bytes (self.old.place + moves_by result (told_from self.old.place (R.heard source.new))) (records ++ handed_by result (told_from self.old.place (R.heard source.new))) }
+        ensures archive { (records : List (List ℕ)) → HasRecords (R.heard source.old).bytes self.old.place records
+            → IfEnds result (IsArchive (R.heard source.new).bytes records (told_from self.old.place (R.heard source.new))) }
+        ensures memory { result ≡ Err StreamFault.Memory → NeedsRoom self.old.room (told_from self.old.place (R.heard source.new)) }
+        ensures read_to { self.old.answer ≡ None → IsReadTo (told_from self.old.place (R.heard source.new)) result (R.heard source.new).is_at_end }
+        ensures failed { self.old.answer ≡ None → (R.heard source.new).failures ≡ (R.heard source.old).failures + failed_by result }
+        ensures repeats { IfSome self.old.answer (λ e. (result ≡ answer_of e) × (R.heard source.new ≡ R.heard source.old)) }
+        ensures most { length (R.heard source.new).bytes ≤ self.old.place + 2 ^ 20 }
+        ensures known { self.old.answer ≡ None → (R.heard source.new).is_at_end ≡ true → IsAtEnd (R.remaining source.new) }
+        ensures beside { R.beside source.new ≡ R.beside source.old }
+        ensures* after { sem 𝓛 (follows_so (the_row A.row A.Allocator) (the_row A.row A.Allocator) self.entry.ghost_name none (λ _ _. ⊤)
+            (λ c. IsAlong (R.heard source.new) c × (c.place ≡ self.old.place + moves_by result (told_from self.old.place (R.heard source.new)))
+            × (c.answer ≡ kept_of result) × (self.old.room ≤ c.room))) }
+    {
+        match self.advance(source)? {
+            Some(length) => Ok(Some(record_of(&self.held, length))),
+            None => Ok(None),
+        }
+    }
+
+    /// The next answer, by which the bytes of a record that is found are lent.
+    fn advance<R: Source>(&mut self, source: &mut R) -> Result<Option<usize>, StreamFault>
+        requires { IsAlong (R.heard source.old) self.old }
+        ensures along { IsAlong (R.heard source.new) self.new }
+        ensures more { TellsMore (R.heard source.old) (R.heard source.new) (R.remaining source.old) (R.remaining source.new) }
+        ensures record { IfOk result (λ o. IfSome o (λ n. (n ≡ length self.new.front) × IsRecord self.new.front × (self.new.front ≡ told_from self.old.place (R.heard source.new)))) }
+        ensures place { self.new.place ≡ self.old.place + moves_by result self.new.front }
+        ensures end { result ≡ Ok None → IsCleanEnd self.old.place (R.heard source.new) }
+        ensures fault { IfErr result (λ e. IsCutFault e self.old.place (R.heard source.new)) }
+        ensures records { (records : List (List ℕ)) → HasRecords (R.heard source.old).bytes self.old.place records
+            → HasRecords (R.heard source.new).bytes (self.old.place + moves_by result (told_from self.old.place (R.heard source.new))) (records ++ handed_by result (told_from self.old.place (R.heard source.new))) }
+        ensures archive { (records : List (List ℕ)) → HasRecords (R.heard source.old).bytes self.old.place records
+            → IfEnds result (IsArchive (R.heard source.new).bytes records (told_from self.old.place (R.heard source.new))) }
+        ensures memory { result ≡ Err StreamFault.Memory → NeedsRoom self.old.room (told_from self.old.place (R.heard source.new)) }
+        ensures read_to { self.old.answer ≡ None → IsReadTo (told_from self.old.place (R.heard source.new)) result (R.heard source.new).is_at_end }
+        ensures failed { self.old.answer ≡ None → (R.heard source.new).failures ≡ (R.heard source.old).failures + failed_by result }
+        ensures repeats { IfSome self.old.answer (λ e. (result ≡ answer_of e) × (R.heard source.new ≡ R.heard source.old)) }
+        ensures kept { self.new.answer ≡ kept_of result }
+        ensures room { self.old.room ≤ self.new.room }
+        ensures most { length (R.heard source.new).bytes ≤ self.old.place + 2 ^ 20 }
+        ensures known { self.old.answer ≡ None → (R.heard source.new).is_at_end ≡ true → IsAtEnd (R.remaining source.new) }
+        ensures beside { R.beside source.new ≡ R.beside source.old }
+    {
+        if let Some(ending) = self.ending {
+            return ending.answer();
+        }
+        self.forget();
+        let found = self.cut(source);
+        self.settle(found)
+    }
+
+    /// Forgets the record that was lent.
+    fn forget(&mut self)
+        ensures { self.new ≡ record self.old { front = held_of self.old; is_lent = false } }
+    {
+        if self.is_lent {
+            self.have = 0;
+            self.is_lent = false;
+        }
+    }
+
+    /// Lends what was found, or keeps the answer for ever.
+    fn settle(&mut self, found: Result<bool, StreamFault>) -> Result<Option<usize>, StreamFault>
+        requires { self.old.is_lent ≡ false }
+        ensures after { self.new ≡ settled self.old found }
+        ensures answer { result ≡ lent_of (length self.old.front) found }
+    {
+        match found {
+            Ok(true) => {
+                self.offset += self.have as u64;
+                self.is_lent = true;
+                Ok(Some(self.have))
+            }
+            Ok(false) => {
+                self.ending = Some(Ending::Clean);
+                Ok(None)
+            }
+            Err(StreamFault::Memory) => Err(StreamFault::Memory),
+            Err(fault) => {
+                self.ending = Some(Ending::Fault(fault));
+                Err(fault)
+            }
+        }
+    }
+
+    /// Reads to the next record's end, or answers that the input ended where a record ended.
+    fn cut<R: Source>(&mut self, source: &mut R) -> Result<bool, StreamFault>
+        requires heard { IsHeard (R.heard source.old) self.old }
+        requires not_lent { self.old.is_lent ≡ false }
+        requires stop { IsStop self.old.front (length self.old.front) }
+        requires going_on { (R.heard source.old).is_at_end ≡ false }
+        ensures heard { IsHeard (R.heard source.new) self.new }
+        ensures more { TellsMore (R.heard source.old) (R.heard source.new) (R.remaining source.old) (R.remaining source.new) }
+        ensures stays { (self.new.place ≡ self.old.place) × (self.new.is_lent ≡ false) × (self.new.answer ≡ self.old.answer) }
+        ensures room { self.old.room ≤ self.new.room }
+        ensures stop { IsReadTo self.new.front result (R.heard source.new).is_at_end }
+        ensures found { result ≡ Ok true → IsRecord self.new.front × (R.heard source.new).is_at_end ≡ false }
+        ensures ended { result ≡ Ok false → (self.new.front ≡ []) × ((R.heard source.new).is_at_end ≡ true) }
+        ensures fine { OnOk result ((R.heard source.new).failures ≡ (R.heard source.old).failures) }
+        ensures fault { IfErr result (λ e. IsCuttingFault e self.old self.new (R.heard source.old) (R.heard source.new)) }
+        ensures known { (R.heard source.new).is_at_end ≡ true → IsAtEnd (R.remaining source.new) }
+        ensures beside { R.beside source.new ≡ R.beside source.old }
+    {
+        let mut is_at_end = false;
+        'stops: loop {
+            match self.look() {
+                Scan::Record(_) => return Ok(true),
+                Scan::Not(fault) => return Err(StreamFault::Frame(self.offset, fault)),
+                Scan::Need(_) if is_at_end => return self.end(),
+                Scan::Need(needed) => is_at_end = self.fill(source, needed)?,
+            }
+        }
+    }
+
+    /// The answer at the input's end, by how many bytes are left.
+    fn end(&self) -> Result<bool, StreamFault>
+        ensures { IsAnswerAtEnd result self.now.place self.now.front }
+    {
+        if self.have == 0 {
+            Ok(false)
+        } else {
+            Err(StreamFault::Truncated(self.offset, self.have))
+        }
+    }
+
+    /// What the bytes that are held begin.
+    fn look(&self) -> Scan
+        ensures decides { Decides self.now.front result }
+        ensures record { (k : ℕ) → result ≡ Record k → (k ≤ length self.now.front) × IsRecord (take k self.now.front) }
+        ensures needed { (k : ℕ) → result ≡ Need k → (length self.now.front < k) × (k ≤ 2 ^ 20) }
+    {
+        scan_within(&self.held[..self.have])
+    }
+
+    /// Reads until so many bytes are held, and answers whether the input ended before.
+    fn fill<R: Source>(&mut self, source: &mut R, needed: usize) -> Result<bool, StreamFault>
+        requires heard { IsHeard (R.heard source.old) self.old }
+        requires not_lent { self.old.is_lent ≡ false }
+        requires more { length self.old.front < needed }
+        requires most { needed ≤ 2 ^ 20 }
+        requires going_on { (R.heard source.old).is_at_end ≡ false }
+        ensures heard { IsHeard (R.heard source.new) self.new }
+        ensures more { TellsMore (R.heard source.old) (R.heard source.new) (R.remaining source.old) (R.remaining source.new) }
+        ensures stays { (self.new.place ≡ self.old.place) × (self.new.is_lent ≡ false) × (self.new.answer ≡ self.old.answer) }
+        ensures room { self.old.room ≤ self.new.room }
+        ensures whole { result ≡ Ok false → (length self.new.front ≡ needed) × ((R.heard source.new).is_at_end ≡ false) }
+        ensures ended { result ≡ Ok true → (length self.new.front < needed) × ((R.heard source.new).is_at_end ≡ true) × IsAtEnd (R.remaining source.new) }
+        ensures fine { OnOk result ((R.heard source.new).failures ≡ (R.heard source.old).failures) }
+        ensures fault { IfErr result (λ e. IsFillFault e self.old.place self.old.room needed (R.heard source.old) (R.heard source.new)) }
+        ensures short { OnErr result (length self.new.front < needed) }
+        ensures beside { R.beside source.new ≡ R.beside source.old }
+    {
+        if self.held.len() < needed && self.held.resize(needed, 0).is_err() {
+            return Err(StreamFault::Memory);
+        }
+        while self.have < needed {
+            if self.reads == TURNS {
+                return Err(StreamFault::Turns(self.offset));
+            }
+            self.reads += 1;
+            match pull_between(source, &mut self.held, self.have, needed) {
+                Ok(0) => return Ok(true),
+                Ok(n) => self.have += n,
+                Err(Failed) => return Err(StreamFault::Read(self.offset)),
+            }
+        }
+        Ok(false)
+    }
+}
+
+/// Reads once, into the bytes between two places.
+fn pull_between<R: Source>(
+    source: &mut R,
+    held: &mut [u8],
+    begin: usize,
+    end: usize,
+) -> Result<usize, Failed>
+    requires low { begin ≤ end }
+    requires high { end ≤ length held.old }
+    ensures bound { IfOk result (λ n. begin + n ≤ end) }
+    ensures before { take begin held.new ≡ take begin held.old }
+    ensures heard { R.heard source.new ≡ heard_also (R.heard source.old) result (slice_range held.new begin end) }
+    ensures known { ReadConsumes (R.remaining source.old) (R.remaining source.new) result (slice_range held.new begin end) }
+    ensures beside { R.beside source.new ≡ R.beside source.old }
+{
+    source.pull(&mut held[begin..end])
+}
+
+/// [`scan`], which asks for no more bytes than the longest record has.
+fn scan_within(front: &[u8]) -> Scan
+    ensures decides { Decides front.now result }
+    ensures record { (k : ℕ) → result ≡ Record k → (k ≤ length front.now) × IsRecord (take k front.now) }
+    ensures needed { (k : ℕ) → result ≡ Need k → (length front.now < k) × (k ≤ 2 ^ 20) }
+{
+    scan(front)
+}
+
+/// The record that is the first so many bytes.
+fn record_of(held: &[u8], end: usize) -> RecordView<'_>
+    requires within { end ≤ length held.now }
+    requires record { IsRecord (take end held.now) }
+    ensures view { IsView (view_of result) }
+    ensures bytes { (view_of result).bytes ≡ take end held.now }
+{
+    match RecordView::of(&held[..end]) {
+        Ok(view) => view,
+        Err(_) => unreachable!(),
+    }
+}
