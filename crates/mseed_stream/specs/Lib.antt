@@ -3,4 +3,5 @@ pub mod Counted
 pub mod Cutting
 pub mod Device
 pub mod Fault
+pub mod Split
 pub mod Standing

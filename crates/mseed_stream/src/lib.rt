@@ -10,6 +10,7 @@ mod counted;
 mod cutter;
 mod device;
 mod fault;
+mod slices;
 mod tally;
 mod whole;
 
@@ -17,6 +18,7 @@ pub use counted::Counted;
 pub use cutter::Cutter;
 pub use device::{Failed, Sink, Source};
 pub use fault::StreamFault;
+pub use slices::{split, split_in};
 pub use whole::{read_all, read_all_in, write_all_of};
 
 #[cfg(test)]

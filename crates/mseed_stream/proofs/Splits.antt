@@ -1,0 +1,78 @@
+-- The records of a slice, one after another.
+use Rattle.std.proofs.Common.{◌≡◌, ℕ, ◌+◌, ◌-◌, ◌<◌, ◌≤◌, ◌^◌, ◌++◌, List, [], ◌∷◌, map, length, take, drop, refl, sym, ap, subst, ◌∙◌, arith, append_assoc, length-drop, suc, Result, Err}
+use Rattle.std.proofs.lemmas.List.{append-nil, take-append-drop, length-take-le, take_all}
+use Rattle.std.proofs.lemmas.List.Folds.{concat-append}
+use Rattle.std.proofs.Math.Seq.{take-add}
+use Rattle.std.specs.List.{concat, AllByRecursion}
+use Rattle.mseed_record.specs.declared.frame.Scan.TheVariants.{Need, Not}
+use Rattle.mseed_record.specs.declared.frame.ViewFault.{ViewFault}
+use Rattle.mseed_record.specs.declared.frame.ViewFault.TheVariants.{Not as Refused, Short}
+use Rattle.mseed_record.specs.declared.view.RecordView.{RecordView}
+use Rattle.mseed_record.specs.Record.{IsRecord}
+use Rattle.mseed_record.specs.View.{IsView}
+use Rattle.mseed_record.specs.Viewing.{view_of, scan_of}
+use Rattle.mseed_record.specs.Scan.{Decides}
+use Rattle.mseed_stream.specs.Archive.{IsArchive, HasRecords, End, IsEndOf, frame, truncated, is_frame, is_truncated}
+use Rattle.mseed_stream.specs.Split.{bytes_of_each, fault_at, EndsBehind, IsSplitFault}
+use Rattle.mseed_stream.proofs.Handed.{no_further}
+use Rattle.mseed_stream.proofs.Records.{view_record, front_within}
+
+ends_behind : (bytes : List ℕ) (place : ℕ) (records : List (List ℕ)) (end : End) → place ≤ length bytes → HasRecords bytes place records → length records < 2 ^ 40 → IsEndOf (drop place bytes) end → EndsBehind bytes place records end
+ends_behind bytes place records end within has few is = record {
+  archive = record {
+    joined = sym (take-append-drop place bytes) ∙ ap (λ (xs : List ℕ). xs ++ drop place bytes) has.joined;
+    each = has.each;
+    no_further = no_further (drop place bytes) end is;
+  };
+  place_is = ap (λ (xs : List ℕ). length xs) (sym has.joined) ∙ length-take-le place bytes within;
+  few = few;
+  ends = is;
+}
+
+-- where no record begins behind the records, the bytes end
+pub split_fault : (bytes : List ℕ) (place : ℕ) (records : List (List ℕ)) (e : ViewFault) → place < length bytes → HasRecords bytes place records → length records < 2 ^ 40 → Decides (drop place bytes) (scan_of (Err e)) → IsSplitFault (fault_at (length bytes) place e) bytes
+split_fault bytes place records (Refused f) within has few d = (records, ends_behind bytes place records (frame f) (omega arith) has few (is_frame f d))
+split_fault bytes place records (Short k) within has few d =
+    let size : length (drop place bytes) ≡ length bytes - place = length-drop place bytes in
+    let some : 0 < length (drop place bytes) = omega (arith, size) in
+    let end : IsEndOf (drop place bytes) (truncated (length bytes - place)) = subst (λ (n : ℕ). IsEndOf (drop place bytes) (truncated n)) size (is_truncated k some d) in
+    (records, ends_behind bytes place records (truncated (length bytes - place)) (omega arith) has few end)
+
+each_more : (xs : List (List ℕ)) (x : List ℕ) → AllByRecursion IsRecord xs → IsRecord x → AllByRecursion IsRecord (xs ++ x ∷ [])
+each_more [] x all is = (is, tt)
+each_more (y ∷ ys) x all is = (all.0, each_more ys x all.1 is)
+
+bytes_more : (views : List RecordView) (r : RecordView) → bytes_of_each (views ++ r ∷ []) ≡ bytes_of_each views ++ (view_of r).bytes ∷ []
+bytes_more [] r = refl
+bytes_more (v ∷ views) r = ap (λ (xs : List (List ℕ)). (view_of v).bytes ∷ xs) (bytes_more views r)
+
+pub views_more : (views : List RecordView) (r : RecordView) → AllByRecursion (λ v. IsView (view_of v)) views → IsView (view_of r) → AllByRecursion (λ v. IsView (view_of v)) (views ++ r ∷ [])
+views_more [] r all is = (is, tt)
+views_more (v ∷ views) r all is = (all.0, views_more views r all.1 is)
+
+-- one more record
+pub split_more : (bytes : List ℕ) (place : ℕ) (views : List RecordView) (r : RecordView) → HasRecords bytes place (bytes_of_each views) → IsView (view_of r) → (view_of r).bytes ≡ take (length (view_of r).bytes) (drop place bytes)
+    → HasRecords bytes (place + length (view_of r).bytes) (bytes_of_each (views ++ r ∷ []))
+split_more bytes place views r has is front =
+    let b : List ℕ = (view_of r).bytes in
+    let one : concat (b ∷ []) ≡ b = append-nil b in
+    let all : bytes_of_each (views ++ r ∷ []) ≡ bytes_of_each views ++ b ∷ [] = bytes_more views r in
+    record {
+      joined = take-add place (length b) bytes ∙ (ap (λ (xs : List ℕ). take place bytes ++ xs) (sym front) ∙ (ap (λ (xs : List ℕ). xs ++ b) has.joined
+          ∙ (ap (λ (xs : List ℕ). concat (bytes_of_each views) ++ xs) (sym one) ∙ (sym (concat-append (bytes_of_each views) (b ∷ [])) ∙ ap (λ (xs : List (List ℕ)). concat xs) (sym all)))));
+      each = subst (λ (xs : List (List ℕ)). AllByRecursion IsRecord xs) (sym all) (each_more (bytes_of_each views) b has.each (view_record (view_of r) is));
+    }
+
+pub split_within : (bytes : List ℕ) (place : ℕ) (b : List ℕ) → place < length bytes → b ≡ take (length b) (drop place bytes) → place + length b ≤ length bytes
+split_within bytes place b within front = omega (arith, front_within (drop place bytes) b front, length-drop place bytes)
+
+length_of_each : (views : List RecordView) → length (bytes_of_each views) ≡ length views
+length_of_each [] = refl
+length_of_each (v ∷ views) = ap (λ (n : ℕ). suc n) (length_of_each views)
+
+pub size_of_each : (views : List RecordView) (n : ℕ) → length views ≡ n → length (bytes_of_each views) ≡ n
+size_of_each views n e = length_of_each views ∙ e
+
+-- a slice from a place to its end is all that is left
+pub tail_is : (bytes : List ℕ) (place : ℕ) → take (length bytes - place) (drop place bytes) ≡ drop place bytes
+tail_is bytes place = take_all (length bytes - place) (drop place bytes) (omega (arith, length-drop place bytes))

@@ -1,0 +1,40 @@
+-- What it means to split some bytes into records.
+use Rattle.std.specs.Prelude.{⊤, ◌≡◌, ℕ, ◌+◌, ◌-◌, ◌^◌, ◌<◌, ◌≤◌, List, [], ◌++◌, map, length, take, drop}
+use Rattle.std.specs.List.{concat}
+use Rattle.mseed_record.specs.declared.frame.ViewFault.{ViewFault}
+use Rattle.mseed_record.specs.declared.frame.ViewFault.TheVariants.{Not as Refused, Short}
+use Rattle.mseed_record.specs.declared.view.RecordView.{RecordView}
+use Rattle.mseed_record.specs.Record.{IsRecord}
+use Rattle.mseed_record.specs.Viewing.{view_of}
+use Rattle.mseed_stream.specs.Archive.{IsArchive, HasRecords, End, IsEndOf, frame, truncated}
+use Rattle.mseed_stream.specs.declared.fault.StreamFault.{StreamFault}
+use Rattle.mseed_stream.specs.declared.fault.StreamFault.TheVariants.{Frame, Truncated, Read, Turns, Memory}
+
+-- the bytes of each record
+abbrev pub bytes_of_each : List RecordView → List (List ℕ)
+bytes_of_each views = map (λ r. (view_of r).bytes) views
+
+-- fewer than 2^40 records stand up to the place, and the bytes behind them end so
+pub record EndsBehind (bytes : List ℕ) (place : ℕ) (records : List (List ℕ)) (end : End) : Type 0 where
+  pub archive : IsArchive bytes records (drop place bytes)
+  pub place_is : length (concat records) ≡ place
+  pub few : length records < 2 ^ 40
+  pub ends : IsEndOf (drop place bytes) end
+
+-- so many records stand up to the place, and a further one behind them
+pub record GoesOnBehind (bytes : List ℕ) (place : ℕ) (records : List (List ℕ)) : Type 0 where
+  pub before : HasRecords bytes place records
+  pub further : (k : ℕ) × ((k ≤ length (drop place bytes)) × IsRecord (take k (drop place bytes)))
+
+-- what a fault means: the end of the bytes, the 2^40th record, or a record for which memory was asked
+abbrev pub IsSplitFault : StreamFault → List ℕ → Type 0
+IsSplitFault (Frame n f) bytes = (records : List (List ℕ)) × EndsBehind bytes n records (frame f)
+IsSplitFault (Truncated n have) bytes = (records : List (List ℕ)) × EndsBehind bytes n records (truncated have)
+IsSplitFault (Read n) bytes = ⊥
+IsSplitFault (Turns n) bytes = (records : List (List ℕ)) × GoesOnBehind bytes n records × (length records + 1 ≡ 2 ^ 40)
+IsSplitFault Memory bytes = (n : ℕ) × ((records : List (List ℕ)) × GoesOnBehind bytes n records)
+
+-- the fault behind a place, by why no record begins there
+abbrev pub fault_at : ℕ → ℕ → ViewFault → StreamFault
+fault_at size place (Refused f) = Frame place f
+fault_at size place (Short k) = Truncated place (size - place)
