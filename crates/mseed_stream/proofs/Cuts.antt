@@ -1,12 +1,12 @@
 -- What a cutter answers, by what it holds.
-use Rattle.std.proofs.Common.{◌≡◌, ℕ, ◌+◌, ◌<◌, ◌≤◌, Bool, true, false, List, [], length, take, Result, Ok, Err, IfErr, refl, sym, ap, subst, ◌∙◌, arith}
+use Rattle.std.proofs.Common.{◌≡◌, ℕ, ◌<◌, ◌≤◌, Bool, true, false, List, length, take, Result, Ok, Err, IfErr, refl, sym, subst, arith}
 use Rattle.mseed_record.specs.declared.frame.Scan.TheVariants.{Need}
 use Rattle.mseed_record.specs.Record.{IsRecord}
 use Rattle.mseed_record.specs.Scan.{Decides}
-use Rattle.mseed_stream.specs.Archive.{is_clean, is_frame, is_truncated}
+use Rattle.mseed_stream.specs.Archive.{is_truncated}
 use Rattle.mseed_stream.specs.Device.{Heard}
 use Rattle.mseed_stream.specs.Standing.{Standing}
-use Rattle.mseed_stream.specs.Cutting.{IsStop, IsHeard, IsReadTo, IsFillFault, IsCuttingFault, IsAnswerAtEnd}
+use Rattle.mseed_stream.specs.Cutting.{IsStop, IsReadTo, IsFillFault, IsCuttingFault, IsAnswerAtEnd}
 use Rattle.mseed_stream.specs.declared.fault.StreamFault.{StreamFault}
 use Rattle.mseed_stream.specs.declared.fault.StreamFault.TheVariants.{Frame, Truncated, Read, Turns, Memory}
 use Rattle.mseed_stream.proofs.Stops.{record_whole}

@@ -1,17 +1,17 @@
 -- An archive's end is the only one, since the framing steps decide one thing.
-use Rattle.std.proofs.Common.{◌≡◌, ℕ, ◌+◌, ◌<◌, ◌≤◌, Bool, true, false, if◌then◌else◌, List, [], ◌∷◌, length, Option, Some, None, refl, sym, ap, subst, ◌∙◌, arith}
+use Rattle.std.proofs.Common.{◌≡◌, ℕ, ◌+◌, if◌then◌else◌, List, [], ◌∷◌, length, Option, Some, None, refl, sym, ap, subst, arith}
 use Rattle.std.specs.Prelude.{nat_lt, not}
 use Rattle.std.proofs.lemmas.Bool.Decides.{nat_tests}
 use Rattle.mseed_time.specs.declared.order.Order.{Order}
 use Rattle.mseed_record.specs.declared.frame.Scan.{Scan}
-use Rattle.mseed_record.specs.declared.frame.Scan.TheVariants.{Need, Record, Not}
+use Rattle.mseed_record.specs.declared.frame.Scan.TheVariants.{Need, Not}
 use Rattle.mseed_record.specs.declared.frame.FrameFault.{FrameFault}
 use Rattle.mseed_record.specs.declared.frame.FrameFault.TheVariants.{NotData, Order as NoOrder, Version3}
 use Rattle.mseed_record.specs.Header.{has_fixed_bytes, blockette_at}
 use Rattle.mseed_record.specs.Order.{order_of}
 use Rattle.mseed_record.specs.Chain.{next_at}
-use Rattle.mseed_record.specs.Scan.{is_version3, at_offset, DecidesFrom, Decides, version3, short, no_data, no_order, by_chain}
-use Rattle.mseed_stream.specs.Archive.{End, clean, frame, truncated, IsEndOf, is_clean, is_frame, is_truncated}
+use Rattle.mseed_record.specs.Scan.{is_version3, DecidesFrom, Decides, version3, short, no_data, no_order, by_chain}
+use Rattle.mseed_stream.specs.Archive.{End, frame, IsEndOf, is_clean, is_frame, is_truncated}
 
 one_from : (order : Order) (b : List ℕ) (low o : ℕ) (os ps : List ℕ) (a c : Scan) → DecidesFrom order b low o os a → DecidesFrom order b low o ps c → a ≡ c
 one_from order b low o [] [] a c d e = cc

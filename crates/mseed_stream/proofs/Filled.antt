@@ -1,11 +1,11 @@
 -- What one more read adds to what a cutter holds.
-use Rattle.std.proofs.Common.{◌≡◌, ℕ, ◌+◌, ◌-◌, ◌*◌, ◌^◌, ◌<◌, ◌≤◌, ◌++◌, List, length, take, drop, false, sym, ap, ◌∙◌, arith, length-append, length-take}
+use Rattle.std.proofs.Common.{◌≡◌, ℕ, ◌+◌, ◌-◌, ◌^◌, ◌<◌, ◌≤◌, ◌++◌, List, length, take, drop, false, sym, ap, ◌∙◌, arith, length-append}
 use Rattle.std.proofs.lemmas.List.{take-take, drop-append-le}
 use Rattle.std.proofs.Math.Seq.{take-add, take-append_seam}
 use Rattle.std.specs.Prelude.{slice_range}
 use Rattle.mseed_stream.specs.Device.{Heard}
 use Rattle.mseed_stream.specs.Standing.{Standing}
-use Rattle.mseed_stream.specs.Cutting.{held_of, told_from, IsHeard}
+use Rattle.mseed_stream.specs.Cutting.{held_of, IsHeard}
 
 -- a write back of as many bytes is all of them
 pub written_back : (held items : List ℕ) (n : ℕ) → length held ≡ n → take n (held ++ drop (length held) items) ≡ held
@@ -48,7 +48,7 @@ held_grows h now c after more is then lent lent_after place bytes =
     let size = is.told in
     let within : c.place ≤ length h.bytes = omega arith in
     sym (then.held ∙ held_is after lent_after) ∙ (ap (λ (xs : List ℕ). drop after.place xs) bytes ∙ (ap (λ (n : ℕ). drop n (h.bytes ++ more)) place
-        ∙ (drop-append-le c.place h.bytes more within ∙ ap (λ (xs : List ℕ). xs ++ more) (is.held ∙ held_is c lent))))
+    ∙ (drop-append-le c.place h.bytes more within ∙ ap (λ (xs : List ℕ). xs ++ more) (is.held ∙ held_is c lent))))
 
 -- and stays where nothing is told
 pub held_stays : (h now : Heard) (c after : Standing) → IsHeard h c → IsHeard now after → c.is_lent ≡ false → after.is_lent ≡ false → after.place ≡ c.place → now ≡ h → after.front ≡ c.front

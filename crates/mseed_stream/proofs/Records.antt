@@ -1,8 +1,8 @@
 -- At most one front of some bytes is a record, and an archive's records are the only ones.
-use Rattle.std.proofs.Common.{◌≡◌, ◌≢◌, ℕ, ◌+◌, ◌^◌, ◌<◌, ◌≤◌, ◌++◌, List, [], ◌∷◌, length, take, drop, get_or, Some, refl, sym, ap, subst, ◌∙◌, arith, append_assoc, length-append, length-take}
+use Rattle.std.proofs.Common.{◌≡◌, ℕ, ◌+◌, ◌^◌, ◌≤◌, ◌++◌, List, [], ◌∷◌, length, take, Some, refl, sym, ap, subst, ◌∙◌, arith, append_assoc, length-append, length-take}
 use Rattle.std.proofs.lemmas.List.{length-take-le, take-take, append_cancel_left}
 use Rattle.std.proofs.Math.Seq.{take-append_seam, take-length}
-use Rattle.std.specs.List.{concat, AllByRecursion}
+use Rattle.std.specs.List.{concat}
 use Rattle.mseed_time.specs.declared.order.Order.{Order}
 use Rattle.mseed_record.specs.Header.{blockette_at}
 use Rattle.mseed_record.specs.Chain.{type_at, next_at, Passes}
@@ -10,7 +10,7 @@ use Rattle.mseed_record.specs.Record.{exponent_at, IsRecordBy, IsRecord}
 use Rattle.mseed_record.specs.View.{View, IsView}
 use Rattle.mseed_record.proofs.Framed.{passes_above}
 use Rattle.mseed_record.proofs.Fronts.{Alike, byte_alike, number_alike, order_alike}
-use Rattle.mseed_stream.specs.Archive.{IsArchive, HasOneArchive}
+use Rattle.mseed_stream.specs.Archive.{IsArchive}
 use Rattle.mseed_stream.proofs.Stops.{record_room}
 
 -- two chains along the same bytes come to the same 1000

@@ -1,11 +1,13 @@
 -- A cutter stays along what its source told, whatever it answers.
-use Rattle.std.proofs.Common.{◌≡◌, ◌≢◌, ℕ, ◌+◌, ◌<◌, ◌≤◌, Bool, true, false, List, [], length, drop, Option, Some, None, Result, Ok, Err, IfOk, IfErr, IfSome, refl, sym, ap, subst, ◌∙◌, arith}
+use Rattle.std.proofs.Common.{◌≡◌, ◌≢◌, ℕ, ◌+◌, Bool, true, false, List, [], length, Option, Some, None, Result, Ok, Err, IfOk, IfErr, IfSome, refl, sym, ap, subst, ◌∙◌, arith}
 use Rattle.std.proofs.lemmas.List.{drop_all}
 use Rattle.mseed_record.specs.Record.{IsRecord}
+use Rattle.mseed_record.specs.Scan.{Decides, short}
+use Rattle.mseed_record.specs.declared.frame.Scan.TheVariants.{Need}
 use Rattle.mseed_stream.specs.Archive.{IsEndOf, clean, frame, truncated, is_clean}
 use Rattle.mseed_stream.specs.Device.{Heard}
 use Rattle.mseed_stream.specs.Standing.{Standing}
-use Rattle.mseed_stream.specs.Cutting.{IsStop, at_start, held_of, told_from, IsHeard, IsAlong, IsEnding, IsReadTo, IsCutFault, IsCleanEnd, IsCuttingFault, lent_of, answer_of, settled}
+use Rattle.mseed_stream.specs.Cutting.{IsStop, at_start, told_from, IsHeard, IsAlong, IsEnding, IsReadTo, IsCutFault, IsCleanEnd, IsCuttingFault, lent_of, answer_of, settled}
 use Rattle.mseed_stream.specs.declared.cutter.Ending.{Ending}
 use Rattle.mseed_stream.specs.declared.cutter.Ending.TheVariants.{Clean, Fault}
 use Rattle.mseed_stream.specs.declared.fault.StreamFault.{StreamFault}
@@ -52,6 +54,7 @@ ended_along : (h : Heard) (c : Standing) (e : Ending) → IsHeard h c → IsEndi
 ended_along h c e is ending = record {
   heard = kept_heard h c (Some e) is;
   stop = λ other. cc;
+  asks = λ other. absurd cc;
   going_on = λ other. cc;
   ended = ending;
 }
@@ -60,6 +63,7 @@ pub along_record : (h : Heard) (c : Standing) → IsHeard h c → c.is_lent ≡ 
 along_record h c is lent goes going_on = record {
   heard = lent_heard h c is lent;
   stop = λ same. at_start;
+  asks = λ same. (48, short refl (omega arith));
   going_on = λ same. going_on;
   ended = nothing_ended c.answer (λ e. IsEnding e (c.place + length c.front) h) goes;
 }
@@ -70,14 +74,15 @@ clean_end h c is lent empty = is_clean (told_is h c is lent ∙ empty)
 along_fault : (h : Heard) (c : Standing) (e : StreamFault) → IsHeard h c → e ≢ Memory → IsCutFault e c.place h → IsAlong h (record c { answer = Some (Fault e) })
 along_fault h c e is other fault = ended_along h c (Fault e) is (fault, other)
 
-along_memory : (h : Heard) (c : Standing) → IsHeard h c → c.is_lent ≡ false → c.answer ≡ None → IsReadTo {X = Bool} c.front (Err Memory) h.is_at_end → h.is_at_end ≡ false → IsAlong h c
-along_memory h c is lent goes read going_on =
+along_memory : (h : Heard) (c : Standing) → IsHeard h c → c.is_lent ≡ false → c.answer ≡ None → IsReadTo {X = Bool} c.front (Err Memory) h.is_at_end → h.is_at_end ≡ false → (n : ℕ) → Decides c.front (Need n) → IsAlong h c
+along_memory h c is lent goes read going_on n asks =
     let below = read.1.1 in
     let whole : length c.front ≡ read.0 = omega (arith, read.1.2) in
     let stop : IsStop c.front (length c.front) = subst (λ (n : ℕ). IsStop c.front n) (sym whole) read.1.0 in
     record {
       heard = is;
       stop = λ same. subst (λ (xs : List ℕ). IsStop xs (length xs)) (sym (held_is c lent)) stop;
+      asks = λ same. (n, subst (λ (xs : List ℕ). Decides xs (Need n)) (sym (held_is c lent)) asks);
       going_on = λ same. going_on;
       ended = nothing_ended c.answer (λ e. IsEnding e c.place h) goes;
     }
@@ -100,7 +105,7 @@ along_settled (Ok true) c after old new is lent goes place one ended read fault 
 along_settled (Ok false) c after old new is lent goes place one ended read fault =
     let end = ended refl in
     ended_along new after Clean is (clean_end new after is lent end.0, end.1)
-along_settled (Err Memory) c after old new is lent goes place one ended read fault = along_memory new after is lent goes read fault.1
+along_settled (Err Memory) c after old new is lent goes place one ended read fault = along_memory new after is lent goes read fault.1 fault.2.0 fault.2.2
 along_settled (Err (Frame n f)) c after old new is lent goes place one ended read fault =
     along_fault new after (Frame n f) is (λ e. cc) (cut_fault (Frame n f) c after old new is lent place fault)
 along_settled (Err (Truncated n have)) c after old new is lent goes place one ended read fault =

@@ -1,10 +1,9 @@
 -- The records of a slice, one after another.
-use Rattle.std.proofs.Common.{◌≡◌, ℕ, ◌+◌, ◌-◌, ◌<◌, ◌≤◌, ◌^◌, ◌++◌, List, [], ◌∷◌, map, length, take, drop, refl, sym, ap, subst, ◌∙◌, arith, append_assoc, length-drop, suc, Result, Err}
+use Rattle.std.proofs.Common.{◌≡◌, ℕ, ◌+◌, ◌-◌, ◌<◌, ◌≤◌, ◌^◌, ◌++◌, List, [], ◌∷◌, length, take, drop, refl, sym, ap, subst, ◌∙◌, arith, length-drop, suc, Err}
 use Rattle.std.proofs.lemmas.List.{append-nil, take-append-drop, length-take-le, take_all}
 use Rattle.std.proofs.lemmas.List.Folds.{concat-append}
 use Rattle.std.proofs.Math.Seq.{take-add}
 use Rattle.std.specs.List.{concat, AllByRecursion}
-use Rattle.mseed_record.specs.declared.frame.Scan.TheVariants.{Need, Not}
 use Rattle.mseed_record.specs.declared.frame.ViewFault.{ViewFault}
 use Rattle.mseed_record.specs.declared.frame.ViewFault.TheVariants.{Not as Refused, Short}
 use Rattle.mseed_record.specs.declared.view.RecordView.{RecordView}
@@ -12,7 +11,7 @@ use Rattle.mseed_record.specs.Record.{IsRecord}
 use Rattle.mseed_record.specs.View.{IsView}
 use Rattle.mseed_record.specs.Viewing.{view_of, scan_of}
 use Rattle.mseed_record.specs.Scan.{Decides}
-use Rattle.mseed_stream.specs.Archive.{IsArchive, HasRecords, End, IsEndOf, frame, truncated, is_frame, is_truncated}
+use Rattle.mseed_stream.specs.Archive.{HasRecords, End, IsEndOf, frame, truncated, is_frame, is_truncated}
 use Rattle.mseed_stream.specs.Split.{bytes_of_each, fault_at, EndsBehind, IsSplitFault}
 use Rattle.mseed_stream.proofs.Handed.{no_further}
 use Rattle.mseed_stream.proofs.Records.{view_record, front_within}

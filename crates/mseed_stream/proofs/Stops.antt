@@ -1,5 +1,5 @@
 -- Where the bytes of a record are looked at: no record ends before the framing steps have what they ask for.
-use Rattle.std.proofs.Common.{◌≡◌, ◌≢◌, ℕ, zero, suc, ◌+◌, ◌*◌, ◌^◌, ◌<◌, ◌≤◌, ◌++◌, List, [], ◌∷◌, length, take, drop, get_or, Some, None, refl, sym, ap, subst, ◌∙◌, arith, ⊎_elim, length-append, length-take}
+use Rattle.std.proofs.Common.{◌≡◌, ◌≢◌, ℕ, suc, ◌+◌, ◌^◌, ◌<◌, ◌≤◌, ◌++◌, List, [], ◌∷◌, length, take, drop, get_or, Some, sym, ap, subst, ◌∙◌, arith, ⊎_elim, length-append}
 use Rattle.std.proofs.lemmas.Bool.{cases_lt}
 use Rattle.std.proofs.lemmas.Bool.Decides.{nat_tests}
 use Rattle.std.proofs.lemmas.List.{take-append-le, take-append-drop, length-take-le, take_all}
@@ -139,7 +139,6 @@ stop_record b _ k at_start r = omega (arith, record_long (take k b) r)
 stop_record b n k (asked_for m _ s l d) r =
     let whole_is : take m b ++ drop m b ≡ b = take-append-drop m b in
     subst (λ (xs : List ℕ). n ≤ length (take k xs)) whole_is (asked (take m b) (drop m b) n k d (subst (λ (xs : List ℕ). IsRecord (take k xs)) (sym whole_is) r))
-
 
 number_small : (order : Order) (b : List ℕ) (o : ℕ) → ((i : ℕ) → get_or b i 0 < 256) → number_at order 2 o b < 2 ^ 16
 number_small Big b o octets = omega (arith, octets o, octets (suc o))

@@ -1,6 +1,6 @@
 -- How a cutter stands to what its source told, and what its answers mean.
-use Rattle.std.specs.Prelude.{⊤, ◌≡◌, ◌≢◌, ◌⊎◌, Bool, true, false, ℕ, ◌+◌, ◌*◌, ◌^◌, ◌<◌, ◌≤◌, List, [], ◌∷◌, ◌++◌, length, take, drop, if◌then◌else◌, Option, Some, None, IfSome, Result, Ok, Err}
-use Rattle.std.specs.Io.KnownBytes.{Consumes, IsAtEnd}
+use Rattle.std.specs.Prelude.{⊤, ◌≡◌, ◌≢◌, Bool, true, false, ℕ, ◌+◌, ◌*◌, ◌^◌, ◌<◌, ◌≤◌, List, [], ◌∷◌, ◌++◌, length, take, drop, if◌then◌else◌, Option, Some, None, IfSome, Result, Ok, Err}
+use Rattle.std.specs.Io.KnownBytes.{Consumes}
 use Rattle.mseed_record.specs.declared.frame.Scan.TheVariants.{Need}
 use Rattle.mseed_record.specs.Scan.{Decides}
 use Rattle.mseed_stream.specs.Device.{Heard}
@@ -55,6 +55,7 @@ pub record IsHeard (h : Heard) (c : Standing) : Type 0 where
 pub record IsAlong (h : Heard) (c : Standing) : Type 0 where
   pub heard : IsHeard h c
   pub stop : c.answer ≡ None → IsStop (held_of c) (length (held_of c))
+  pub asks : c.answer ≡ None → (k : ℕ) × Decides (held_of c) (Need k)
   pub going_on : c.answer ≡ None → h.is_at_end ≡ false
   pub ended : IfSome c.answer (λ e. IsEnding e c.place h)
 

@@ -1,4 +1,4 @@
-// Cuts what a source tells into records.
+//! Cuts what a source tells into records.
 ghost use Rattle.std.specs.Prelude.{◌≡◌, ◌≢◌, ◌+◌, ◌*◌, ◌^◌, ◌<◌, ◌≤◌, length, take, drop, true, false, IfOk, IfErr, OnErr, OnOk, IsTrue, Ok, slice_range, [], ℕ, IfSome, Some, None, Err, ⊤, List, ◌∷◌, ◌++◌};
 ghost use Rattle.std.specs.Io.KnownBytes.{IsAtEnd, ReadConsumes};
 ghost use Rattle.mseed_record.specs.Record.{IsRecord};
@@ -22,7 +22,9 @@ const TURNS: u64 = 1 << 40;
 /// How a cutter ended, for ever.
 #[derive(Debug, Clone, Copy)]
 pub(crate) enum Ending {
+    /// The input ended where a record ended.
     Clean,
+    /// A fault, but for a want of memory.
     Fault(StreamFault),
 }
 
@@ -39,16 +41,25 @@ impl Ending {
 }
 
 /// Cuts what a source tells into records, and lends each out of its one buffer.
+///
+/// It reads up to what framing asks for ([`Scan::Need`]), or to the input's end, before it looks at the
+/// bytes again, and so never past a record's end. The buffer is kept from record to record: once it has
+/// room for the longest, no more memory is asked for.
+///
+/// Contracts see a cutter as a `Standing`, and say by `IsAlong` how it stands to what its source told.
 #[derive(Drop)]
 pub struct Cutter<A: Allocator = Global> {
-    // Its length is the room that there is.
+    // The bytes that were told and not handed out, and room behind them.
     held: Vec<u8, A>,
     // How many bytes stand at its front.
     have: usize,
     // They are a record that was lent, and not needed any more.
     is_lent: bool,
+    // Where the next record begins.
     offset: u64,
+    // How often the source was asked.
     reads: u64,
+    // The answer for ever, once there is one.
     ending: Option<Ending>,
 }
 
@@ -88,14 +99,14 @@ impl<A: Allocator> Cutter<A> {
         }
     }
 
-    /// Where the next record begins.
+    /// Where the next record begins, in bytes from the input's beginning.
     pub fn offset(&self) -> u64
         ensures { result ≡ self.now.place }
     {
         self.offset
     }
 
-    /// The length of the buffer.
+    /// The length of the buffer, which never becomes shorter.
     pub fn room(&self) -> usize
         ensures value { result ≡ self.now.room }
         ensures most { result ≤ 1048576 }
@@ -103,7 +114,20 @@ impl<A: Allocator> Cutter<A> {
         self.held.len()
     }
 
-    /// The next record.
+    /// The next record, or `None` where the input ended where a record ended.
+    ///
+    /// The record is lent. The cutter then stands behind it, and has read no byte that follows. The source
+    /// is the same at each call, and the cutter alone asks it, from its first read on.
+    ///
+    /// After `None`, and after any fault but `Memory`, the same is answered for ever, and the source isn't
+    /// asked again.
+    ///
+    /// # Errors
+    ///
+    /// `Frame` where no bytes that may come can make a record of those at the offset; `Truncated` where the
+    /// input ended while more was needed; `Read` where the source failed; `Turns` where 2^40 reads were
+    /// made; `Memory` where more room was needed than there is. After `Memory` no byte told is lost, and a
+    /// further call goes on.
     pub fn next<R: Source>(&mut self, source: &mut R) -> Result<Option<RecordView<'_>>, StreamFault>
         requires { IsAlong (R.heard source.old) self.old }
         ensures more { TellsMore (R.heard source.old) (R.heard source.new) (R.remaining source.old) (R.remaining source.new) }
@@ -116,6 +140,7 @@ impl<A: Allocator> Cutter<A> {
             → IfEnds result (IsArchive (R.heard source.new).bytes records (told_from self.old.place (R.heard source.new))) }
         ensures memory { result ≡ Err StreamFault.Memory → NeedsRoom self.old.room (told_from self.old.place (R.heard source.new)) }
         ensures read_to { self.old.answer ≡ None → IsReadTo (told_from self.old.place (R.heard source.new)) result (R.heard source.new).is_at_end }
+        ensures asked { IfOk result (λ o. IfSome o (λ r. (R.heard source.old).calls < (R.heard source.new).calls)) }
         ensures failed { self.old.answer ≡ None → (R.heard source.new).failures ≡ (R.heard source.old).failures + failed_by result }
         ensures repeats { IfSome self.old.answer (λ e. (result ≡ answer_of e) × (R.heard source.new ≡ R.heard source.old)) }
         ensures most { length (R.heard source.new).bytes ≤ self.old.place + 2 ^ 20 }
@@ -146,6 +171,7 @@ impl<A: Allocator> Cutter<A> {
             → IfEnds result (IsArchive (R.heard source.new).bytes records (told_from self.old.place (R.heard source.new))) }
         ensures memory { result ≡ Err StreamFault.Memory → NeedsRoom self.old.room (told_from self.old.place (R.heard source.new)) }
         ensures read_to { self.old.answer ≡ None → IsReadTo (told_from self.old.place (R.heard source.new)) result (R.heard source.new).is_at_end }
+        ensures asked { IfOk result (λ o. IfSome o (λ r. (R.heard source.old).calls < (R.heard source.new).calls)) }
         ensures failed { self.old.answer ≡ None → (R.heard source.new).failures ≡ (R.heard source.old).failures + failed_by result }
         ensures repeats { IfSome self.old.answer (λ e. (result ≡ answer_of e) × (R.heard source.new ≡ R.heard source.old)) }
         ensures kept { self.new.answer ≡ kept_of result }
@@ -201,6 +227,7 @@ impl<A: Allocator> Cutter<A> {
         requires heard { IsHeard (R.heard source.old) self.old }
         requires not_lent { self.old.is_lent ≡ false }
         requires stop { IsStop self.old.front (length self.old.front) }
+        requires asks { (k : ℕ) × Decides self.old.front (Need k) }
         requires going_on { (R.heard source.old).is_at_end ≡ false }
         ensures heard { IsHeard (R.heard source.new) self.new }
         ensures more { TellsMore (R.heard source.old) (R.heard source.new) (R.remaining source.old) (R.remaining source.new) }
@@ -208,6 +235,7 @@ impl<A: Allocator> Cutter<A> {
         ensures room { self.old.room ≤ self.new.room }
         ensures stop { IsReadTo self.new.front result (R.heard source.new).is_at_end }
         ensures found { result ≡ Ok true → IsRecord self.new.front × (R.heard source.new).is_at_end ≡ false }
+        ensures asked { result ≡ Ok true → (R.heard source.old).calls < (R.heard source.new).calls }
         ensures ended { result ≡ Ok false → (self.new.front ≡ []) × ((R.heard source.new).is_at_end ≡ true) }
         ensures fine { OnOk result ((R.heard source.new).failures ≡ (R.heard source.old).failures) }
         ensures fault { IfErr result (λ e. IsCuttingFault e self.old self.new (R.heard source.old) (R.heard source.new)) }
@@ -261,6 +289,7 @@ impl<A: Allocator> Cutter<A> {
         ensures fine { OnOk result ((R.heard source.new).failures ≡ (R.heard source.old).failures) }
         ensures fault { IfErr result (λ e. IsFillFault e self.old.place self.old.room needed (R.heard source.old) (R.heard source.new)) }
         ensures short { OnErr result (length self.new.front < needed) }
+        ensures asked { OnOk result ((R.heard source.old).calls < (R.heard source.new).calls) }
         ensures beside { R.beside source.new ≡ R.beside source.old }
     {
         if self.held.len() < needed && self.held.resize(needed, 0).is_err() {

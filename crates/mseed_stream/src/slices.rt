@@ -37,10 +37,7 @@ pub fn split(alloc: Global, bytes: &[u8]) -> Result<Vec<RecordView<'_>>, StreamF
 /// # Errors
 ///
 /// Those of [`split`].
-pub fn split_in<A: Allocator>(
-    alloc: A,
-    bytes: &[u8],
-) -> Result<Vec<RecordView<'_>, A>, StreamFault>
+pub fn split_in<A: Allocator>(alloc: A, bytes: &[u8]) -> Result<Vec<RecordView<'_>, A>, StreamFault>
     ensures archive { IfOk result (λ views. IsArchive bytes.now (bytes_of_each views.items) []) }
     ensures views { IfOk result (λ views. AllByRecursion (λ r. IsView (view_of r)) views.items) }
     ensures few { IfOk result (λ views. length views.items < 2 ^ 40) }

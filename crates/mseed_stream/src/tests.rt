@@ -2,6 +2,8 @@
 ghost use Rattle.std.specs.Prelude.{◌≡◌, IfOk, IfSome};
 ghost use Rattle.mseed_stream.specs.Device.{nothing_heard, nothing_said};
 
+mod cutting;
+
 use crate::{Counted, Failed, Sink, Source, StreamFault, read_all, read_all_in, write_all_of};
 use linked_list_allocator::LocalHeap;
 use std::alloc::Global;

@@ -1,4 +1,4 @@
-use Rattle.std.proofs.Common.{◌≡◌, ◌≤◌, List, ℕ, length, take, sym, subst, arith}
+use Rattle.std.proofs.Common.{◌≤◌, List, ℕ, length, take, sym, subst, arith}
 use Rattle.std.proofs.lemmas.Bool.{false≢true}
 use Rattle.std.proofs.Math.Seq.{take-length}
 use Rattle.mseed_record.specs.Record.{IsRecord}

@@ -1,6 +1,5 @@
 use Rattle.std.proofs.Common.{◌≡◌, ◌+◌, ◌^◌, refl, ◌<◌, ◌≤◌, ◌++◌, ◌∷◌, [], ℕ, List, length, take, drop, Err, sym, ap, subst, ◌∙◌, arith, rules, length-append}
 use Rattle.mseed_record.specs.declared.view.RecordView.{RecordView}
-use Rattle.mseed_record.specs.declared.frame.ViewFault.{ViewFault}
 use Rattle.mseed_record.specs.Viewing.{view_of, scan_of}
 use Rattle.mseed_record.specs.Record.{IsRecord}
 use Rattle.mseed_record.specs.Scan.{Decides}
@@ -8,7 +7,7 @@ use Rattle.mseed_record.specs.View.{IsView}
 use Rattle.std.specs.List.{AllByRecursion}
 use Rattle.mseed_stream.specs.declared.fault.StreamFault.{StreamFault}
 use Rattle.mseed_stream.specs.Archive.{HasRecords}
-use Rattle.mseed_stream.specs.Split.{bytes_of_each, fault_at, IsSplitFault}
+use Rattle.mseed_stream.specs.Split.{bytes_of_each, IsSplitFault}
 use Rattle.mseed_stream.proofs.Splits.{split_fault, split_more, split_within, views_more, size_of_each, tail_is}
 use Rattle.mseed_stream.proofs.slices.split_in.Goals as goal
 

@@ -1,5 +1,5 @@
-use Rattle.std.proofs.Common.{◌≡◌, ◌-◌, ◌<◌, ◌≤◌, ◌^◌, length}
-use Rattle.std.specs.List.{concat, AllByRecursion}
+use Rattle.std.proofs.Common.{◌-◌, ◌<◌, ◌≤◌, ◌^◌, length}
+use Rattle.std.specs.List.{AllByRecursion}
 use Rattle.mseed_record.specs.View.{IsView}
 use Rattle.mseed_record.specs.Viewing.{view_of}
 use Rattle.mseed_stream.specs.Archive.{HasRecords}

@@ -1,11 +1,11 @@
-use Rattle.std.proofs.Common.{◌≡◌, ◌≤◌, List, [], ℕ, length, Bool, Result, Ok, Some, None, Option, IfOk, IfErr, IfSome, subst, sym, ap, ◌∙◌, arith, rules}
+use Rattle.std.proofs.Common.{◌≡◌, ◌≤◌, List, [], ℕ, length, Result, Some, None, Option, IfOk, IfErr, IfSome, subst, sym, ap, ◌∙◌, arith, rules}
 use Rattle.std.proofs.lemmas.List.{append-nil}
 use Rattle.mseed_record.specs.Record.{IsRecord}
 use Rattle.mseed_stream.specs.declared.fault.StreamFault.{StreamFault}
 use Rattle.mseed_stream.specs.Device.{Heard}
 use Rattle.mseed_stream.specs.Standing.{Standing}
 use Rattle.mseed_stream.specs.Archive.{IsEndOf, clean}
-use Rattle.mseed_stream.specs.Cutting.{IsAlong, IsCutFault, told_from, lent_of, settled}
+use Rattle.mseed_stream.specs.Cutting.{IsAlong, IsCutFault, told_from, lent_of}
 use Rattle.mseed_stream.proofs.Handed.{records_after, archive_at}
 use Rattle.mseed_stream.proofs.Settled.{along_settled, clean_end, nothing_found, told_is, record_found, fault_found, fault_again, end_again}
 use Rattle.mseed_stream.proofs.cutter.Cutter.advance.Goals as goal
@@ -37,7 +37,6 @@ returns-in-Some-clause-archive g c records has =
     archive_at c.answer.result told told [] place records within (sym (append-nil told.bytes)) has
     (end_again c.answer.result c.args.self.now.answer c.in-Some.ending place told same c.answer.ensures c.requires.ended)
     (fault_again c.answer.result c.args.self.now.answer c.in-Some.ending place told same c.answer.ensures c.requires.ended)
-
 
 pub returns-clause-records : goal.returns-clause-records
 returns-clause-records g c records has =

@@ -1,5 +1,6 @@
-use Rattle.std.proofs.Common.{◌≡◌, ◌+◌, ◌<◌, ◌≤◌, ◌++◌, length, take, true, false, Bool, Ok, Err, Result, ℕ, List, sym, ap, subst, ◌∙◌, append_assoc, arith, rules}
-use Rattle.std.proofs.lemmas.Grind.{common_steps}
+use Rattle.std.proofs.Common.{◌≡◌, ◌<◌, ◌≤◌, ◌++◌, length, true, false, Bool, Ok, Err, Result, ℕ, List, sym, ap, subst, ◌∙◌, append_assoc, arith, rules, ⊎_elim}
+use Rattle.std.proofs.lemmas.Bool.{cases_lt}
+use Rattle.mseed_record.proofs.Answered.{answered}
 use Rattle.std.proofs.KnownBytes.{Consumes-trans}
 use Rattle.mseed_record.specs.declared.frame.Scan.{Scan}
 use Rattle.mseed_record.specs.declared.frame.Scan.TheVariants.{Need}
@@ -20,6 +21,20 @@ returns-in-Record-clause-found g c _ =
     let record_at = c.look.ensures.record c.in-Record.field-0 c.in-Record.is in
     let it = found c.stops.self.front c.stops.is_at_end c.in-Record.field-0 inv.stop record_at.0 record_at.1 in
     (it.0, inv.end ∙ it.1)
+
+pub returns-in-Record-clause-asked : goal.returns-in-Record-clause-asked
+returns-in-Record-clause-asked g c _ =
+    let inv = c.stops.invariant in
+    let k : ℕ = c.in-Record.field-0 in
+    let n : ℕ = c.requires.asks.0 in
+    let old : ℕ = (g.R.Source.heard c.args.source.now).calls in
+    let new : ℕ = (g.R.Source.heard c.stops.source).calls in
+    let record_at = c.look.ensures.record k c.in-Record.is in
+    ⊎_elim (λ (less : old < new). less)
+    (λ (none : new ≤ old).
+    let asks = subst (λ (xs : List ℕ). Decides xs (Need n)) (sym (inv.asked none)) c.requires.asks.1 in
+    absurd (cc (answered c.stops.self.front k (Need n) asks record_at.0 record_at.1)))
+    (cases_lt old new)
 
 pub returns-in-Not-clause-fault : goal.returns-in-Not-clause-fault
 returns-in-Not-clause-fault g c =
@@ -76,6 +91,8 @@ stops-preserved g c =
       stop = stops_again after needed at_end stop (λ e. (ok.whole (answer false e)).0) (λ e. (ok.ended (answer true e)).0);
       end = same_end new.is_at_end at_end (λ e. (ok.whole (answer false e)).1) (λ e. (ok.ended (answer true e)).1);
       known = λ e. (ok.ended (answer true e)).2;
+      calls = omega (arith, ok.asked, inv.calls);
+      asked = λ none. absurd (omega (arith, ok.asked, inv.calls));
       failures = ok.fine ∙ inv.failures;
       beside = ok.beside ∙ inv.beside;
     }

@@ -14,6 +14,8 @@ invariant-stops g l = record {
   stop : (n : ℕ) × (IsStop l.self.front n × (length l.self.front ≤ n) × (l.is_at_end ≡ false → length l.self.front ≡ n) × (l.is_at_end ≡ true → length l.self.front < n));
   end : (g.R.Source.heard l.source).is_at_end ≡ l.is_at_end;
   known : l.is_at_end ≡ true → IsAtEnd (g.R.Source.remaining l.source);
+  calls : (g.R.Source.heard l.fn.source).calls ≤ (g.R.Source.heard l.source).calls;
+  asked : (g.R.Source.heard l.source).calls ≤ (g.R.Source.heard l.fn.source).calls → l.self.front ≡ l.fn.self.front;
   failures : (g.R.Source.heard l.source).failures ≡ (g.R.Source.heard l.fn.source).failures;
   beside : g.R.Source.beside l.source ≡ g.R.Source.beside l.fn.source;
 }

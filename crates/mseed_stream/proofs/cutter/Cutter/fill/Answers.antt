@@ -1,9 +1,8 @@
-use Rattle.std.proofs.Common.{◌≡◌, ◌+◌, ◌-◌, ◌≤◌, ◌<◌, ◌^◌, ◌++◌, length, take, drop, List, ℕ, Bool, false, Ok, arith, slice_range, ap, sym, ◌∙◌, refl, length-take, append_assoc}
+use Rattle.std.proofs.Common.{◌≡◌, ◌+◌, ◌≤◌, ◌<◌, ◌^◌, ◌++◌, length, take, drop, List, ℕ, arith, slice_range, ap, ◌∙◌, refl, length-take, append_assoc}
 use Rattle.std.proofs.lemmas.Grind.{common_steps}
 use Rattle.std.proofs.KnownBytes.{Consumes-trans}
 use Rattle.mseed_stream.specs.Device.{Heard}
 use Rattle.mseed_stream.specs.Standing.{Standing}
-use Rattle.mseed_stream.proofs.Stops.{asked}
 use Rattle.mseed_stream.proofs.Filled.{written_back, front_more, heard_more}
 use Rattle.mseed_stream.proofs.cutter.Cutter.fill.Goals as goal
 
@@ -42,6 +41,8 @@ loop-self-preserved g c =
       fits = inv.fits;
       within = bound;
       going_on = grind (arith, common_steps, c.in-Ok.ensures.heard);
+      calls = omega (arith, calls, inv.calls);
+      asked = λ grown. omega (arith, calls, inv.calls);
       failures = grind (arith, common_steps, c.in-Ok.ensures.heard);
       beside = c.in-Ok.ensures.beside ∙ inv.beside;
     }

@@ -1,5 +1,4 @@
-use Rattle.std.proofs.Common.{◌≡◌, ◌+◌, ◌-◌, ◌≤◌, take, length, false, vec_len}
-use Rattle.mseed_stream.specs.Standing.{Standing}
+use Rattle.std.proofs.Common.{◌≡◌, ◌-◌, ◌≤◌, ◌<◌, take, length, false, vec_len}
 use Rattle.mseed_stream.specs.Cutting.{IsHeard, TellsMore}
 use Rattle.mseed_stream.proofs.cutter.Cutter.fill.Given as goal
 
@@ -14,6 +13,8 @@ invariant-loop-self g l = let c = l.self-inside in record {
   fits : l.needed ≤ vec_len c.held;
   within : c.have ≤ l.needed;
   going_on : (g.R.Source.heard l.source).is_at_end ≡ false;
+  calls : (g.R.Source.heard l.fn.source).calls ≤ (g.R.Source.heard l.source).calls;
+  asked : length l.fn.self.front < c.have → (g.R.Source.heard l.fn.source).calls < (g.R.Source.heard l.source).calls;
   failures : (g.R.Source.heard l.source).failures ≡ (g.R.Source.heard l.fn.source).failures;
   beside : g.R.Source.beside l.source ≡ g.R.Source.beside l.fn.source;
 }

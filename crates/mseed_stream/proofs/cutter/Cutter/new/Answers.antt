@@ -1,4 +1,5 @@
 use Rattle.std.proofs.Common.{refl, arith}
+use Rattle.mseed_record.specs.Scan.{short}
 use Rattle.mseed_stream.specs.Cutting.{at_start}
 use Rattle.mseed_stream.proofs.cutter.Cutter.new.Goals as goal
 
@@ -14,6 +15,7 @@ returns-clause-along g c = record {
     small = omega (arith, c.new.ensures.len);
   };
   stop = λ same. at_start;
+  asks = λ same. (48, short refl (omega arith));
   going_on = λ same. refl;
   ended = tt;
 }

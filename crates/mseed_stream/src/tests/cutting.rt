@@ -1,0 +1,243 @@
+// Records cut out of small readers: lengths, places and ends are those of the header's fields and of
+// blockette 1000.
+ghost use Rattle.std.specs.Prelude.{◌≡◌};
+ghost use Rattle.mseed_stream.specs.Counted.{heard_by};
+ghost use Rattle.mseed_stream.specs.Cutting.{IsAlong};
+ghost use Rattle.mseed_stream.specs.Device.{nothing_heard};
+
+use crate::{Counted, Cutter, Source, StreamFault, split, split_in};
+use linked_list_allocator::LocalHeap;
+use mseed_record::FrameFault;
+use std::alloc::{AllocError, Allocator, Global};
+use std::io;
+use std::io::Read;
+use std::test::Fail;
+
+/// The header of a record of 48 32-bit integers from the first instant of 2024, and its blockettes.
+const HEAD: [u8; 64] = [
+    48, 48, 48, 48, 48, 49, 68, 32, // the sequence number, the quality and the reserved byte
+    83, 84, 65, 32, 32, 32, 32, 66, 72, 90, 88, 88, // station, location, channel and network
+    7, 232, 0, 1, 0, 0, 0, 0, 0, 0, // the start
+    0, 48, 0, 20, 0, 1, // the samples, the factor and the multiplier
+    0, 0, 0, 2, 0, 0, 0, 0, 0, 64, 0, 48, // flags, blockettes, correction, and where things stand
+    3, 232, 0, 56, 3, 1, 8, 0, // blockette 1000
+    3, 233, 0, 0, 0, 0, 0, 0, // blockette 1001
+];
+
+/// Where blockette 1000 has the length exponent.
+const EXPONENT: usize = 54;
+
+/// Tells pieces of at most so many bytes, and fails once behind so many calls.
+#[derive(Drop)]
+struct Pieces<'a> {
+    rest: &'a [u8],
+    most: usize,
+    calls_before_failure: Option<usize>,
+}
+
+impl Read for Pieces<'_> {
+    fn read(&mut self, buf: &mut [u8]) -> io::Result<usize> {
+        if self.calls_before_failure == Some(0) {
+            self.calls_before_failure = None;
+            return Err(io::ErrorKind::Interrupted.into());
+        }
+        self.calls_before_failure = self.calls_before_failure.map(|n| n.saturating_sub(1));
+        let n = self.most.min(buf.len()).min(self.rest.len());
+        buf[..n].copy_from_slice(&self.rest[..n]);
+        self.rest = &self.rest[n..];
+        Ok(n)
+    }
+}
+
+/// The bytes in pieces, of which nothing was read yet.
+fn in_pieces(rest: &[u8], most: usize) -> Counted<Pieces<'_>>
+    ensures { heard_by result ≡ nothing_heard }
+{
+    Counted::new(Pieces {
+        rest,
+        most,
+        calls_before_failure: None,
+    })
+}
+
+/// What a cutter answered.
+#[derive(Clone, Copy, Debug, PartialEq, Eq)]
+enum Answer {
+    /// A record of so many bytes, and where it begins.
+    Record(u64, usize),
+    End,
+    Fault(StreamFault),
+}
+
+/// The next answer. The cutter can be asked again, whatever it was.
+fn next_answer<A: Allocator, R: Source>(cutter: &mut Cutter<A>, source: &mut R) -> Answer
+    requires { IsAlong (R.heard source.old) cutter.old }
+    ensures { IsAlong (R.heard source.new) cutter.new }
+{
+    let offset = cutter.offset();
+    match cutter.next(source) {
+        Ok(Some(record)) => Answer::Record(offset, record.bytes().len()),
+        Ok(None) => Answer::End,
+        Err(fault) => Answer::Fault(fault),
+    }
+}
+
+/// The first four answers of a cutter.
+fn answers<R: Source>(alloc: Global, source: &mut R) -> [Answer; 4]
+    requires { R.heard source.old ≡ nothing_heard }
+{
+    let mut cutter = Cutter::new(alloc);
+    let first = next_answer(&mut cutter, source);
+    let second = next_answer(&mut cutter, source);
+    let third = next_answer(&mut cutter, source);
+    [first, second, third, next_answer(&mut cutter, source)]
+}
+
+/// Appends a record of 2^exponent bytes, with zeros for its integers.
+fn push_record(bytes: &mut Vec<u8>, exponent: u8) -> Result<(), AllocError> {
+    let mut head = HEAD;
+    head[EXPONENT] = exponent;
+    let end = bytes.len().saturating_add(1 << (exponent % 21));
+    bytes.extend_from_slice(&head)?;
+    bytes.resize(end, 0)
+}
+
+/// Records of these exponents, one after another.
+fn records(alloc: Global, exponents: &[u8]) -> Result<Vec<u8>, AllocError> {
+    let mut bytes = Vec::new(alloc);
+    for exponent in exponents {
+        push_record(&mut bytes, *exponent)?;
+    }
+    Ok(bytes)
+}
+
+#[test]
+fn cuts_records_in_any_pieces(rt: HostRuntime) -> Result<(), Fail> {
+    let bytes = records(rt.alloc(), &[8, 7, 9])?;
+    let wanted = [
+        Answer::Record(0, 256),
+        Answer::Record(256, 128),
+        Answer::Record(384, 512),
+        Answer::End,
+    ];
+    for most in [1, 3, 48, 256, 900] {
+        assert_eq!(rt;
+            answers(rt.alloc(), &mut in_pieces(&bytes, most)),
+            wanted,
+            "{most}"
+        );
+    }
+    Ok(())
+}
+
+#[test]
+fn says_how_the_input_ends(rt: HostRuntime) -> Result<(), Fail> {
+    let truncated = |have| Answer::Fault(StreamFault::Truncated(256, have));
+    let frame = |fault| Answer::Fault(StreamFault::Frame(256, fault));
+    let mut far = HEAD;
+    far[47] = 250;
+    let mut low = HEAD;
+    low[47] = 47;
+    let rows: [(&[u8], Answer); 12] = [
+        (b"", Answer::End),
+        (&HEAD[..1], truncated(1)),
+        (&HEAD[..47], truncated(47)),
+        (&HEAD[..48], truncated(48)),
+        (&HEAD[..52], truncated(52)),
+        (&HEAD[..56], truncated(56)),
+        (&HEAD, truncated(64)),
+        (&far, truncated(64)),
+        (&low, frame(FrameFault::Chain)),
+        (b"MS\x03", frame(FrameFault::Version3)),
+        (b"MS", truncated(2)),
+        (&[b'x'; 48], frame(FrameFault::NotData)),
+    ];
+    for (rest, wanted) in rows {
+        let mut bytes = records(rt.alloc(), &[8])?;
+        bytes.extend_from_slice(rest)?;
+        for most in [1, 7, 1000] {
+            let found = answers(rt.alloc(), &mut in_pieces(&bytes, most));
+            assert_eq!(rt; found, [Answer::Record(0, 256), wanted, wanted, wanted]);
+        }
+        let whole = split(rt.alloc(), &bytes);
+        let end = whole.map_or_else(Answer::Fault, |_| Answer::End);
+        assert_eq!(rt; end, wanted);
+    }
+    Ok(())
+}
+
+#[test]
+fn keeps_the_fault_of_a_read(rt: HostRuntime) -> Result<(), Fail> {
+    let bytes = records(rt.alloc(), &[7, 7])?;
+    let fault = Answer::Fault(StreamFault::Read(128));
+    let mut source = Counted::new(Pieces {
+        rest: &bytes,
+        most: 1,
+        calls_before_failure: Some(200),
+    });
+    let wanted = [Answer::Record(0, 128), fault, fault, fault];
+    assert_eq!(rt; answers(rt.alloc(), &mut source), wanted);
+    assert_eq!(rt; source.get_ref().rest.len(), 56, "the reader would go on");
+    Ok(())
+}
+
+#[test]
+fn loses_nothing_to_want_of_memory(rt: HostRuntime) -> Result<(), Fail> {
+    let bytes = records(rt.alloc(), &[9, 7])?;
+    let mut refusals = 0_u8;
+    for size in 0..64 {
+        let heap = LocalHeap::new(rt.alloc(), 4096)?;
+        let mut cutter = Cutter::new(&heap);
+        let mut source = in_pieces(&bytes, 100);
+        let Ok(blocker) = Vec::<u8, _>::with_capacity(&heap, size * 64) else {
+            break;
+        };
+        let mut first = next_answer(&mut cutter, &mut source);
+        drop(blocker);
+        if first == Answer::Fault(StreamFault::Memory) {
+            refusals = refusals.saturating_add(1);
+            assert_eq!(rt; cutter.offset(), 0);
+            first = next_answer(&mut cutter, &mut source);
+        }
+        assert_eq!(rt; first, Answer::Record(0, 512), "{size}");
+        assert_eq!(rt;
+            next_answer(&mut cutter, &mut source),
+            Answer::Record(512, 128)
+        );
+        assert_eq!(rt; cutter.room(), 512, "the room stays");
+        assert_eq!(rt; next_answer(&mut cutter, &mut source), Answer::End);
+    }
+    assert!(rt; refusals > 3);
+    Ok(())
+}
+
+#[test]
+fn answers_memory_of_a_slice(rt: HostRuntime) -> Result<(), Fail> {
+    let bytes = records(rt.alloc(), &[7; 20])?;
+    let mut was_split = false;
+    for size in 0..64 {
+        let heap = LocalHeap::new(rt.alloc(), size * 64)?;
+        match split_in(&heap, &bytes) {
+            Ok(views) => {
+                was_split = true;
+                assert_eq!(rt; views.len(), 20);
+            }
+            Err(fault) => assert_eq!(rt; fault, StreamFault::Memory),
+        }
+    }
+    assert!(rt; was_split);
+    Ok(())
+}
+
+#[test]
+fn lends_the_longest_record(rt: HostRuntime) -> Result<(), Fail> {
+    let bytes = records(rt.alloc(), &[20])?;
+    let mut cutter = Cutter::new(rt.alloc());
+    assert_eq!(rt; cutter.room(), 0);
+    let mut source = in_pieces(&bytes, 4096);
+    let record = cutter.next(&mut source)?.expect(&rt, "a record");
+    assert!(rt; record.bytes() == bytes.as_slice());
+    assert_eq!(rt; cutter.room(), 1_048_576);
+    assert_eq!(rt; cutter.offset(), 1_048_576);
+    Ok(())
+}
