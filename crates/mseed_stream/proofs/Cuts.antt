@@ -6,7 +6,8 @@ use Rattle.mseed_record.specs.Scan.{Decides}
 use Rattle.mseed_stream.specs.Archive.{is_truncated}
 use Rattle.mseed_stream.specs.Device.{Heard}
 use Rattle.mseed_stream.specs.Standing.{Standing}
-use Rattle.mseed_stream.specs.Cutting.{IsStop, IsReadTo, IsFillFault, IsCuttingFault, IsAnswerAtEnd}
+use Rattle.mseed_stream.specs.Cutting.{IsStop, IsReadTo}
+use Rattle.mseed_stream.specs.Steps.{IsFillFault, IsCuttingFault, IsAnswerAtEnd}
 use Rattle.mseed_stream.specs.declared.fault.StreamFault.{StreamFault}
 use Rattle.mseed_stream.specs.declared.fault.StreamFault.TheVariants.{Frame, Truncated, Read, Turns, Memory}
 use Rattle.mseed_stream.proofs.Stops.{record_whole}

@@ -7,7 +7,8 @@ use Rattle.mseed_record.specs.declared.frame.Scan.TheVariants.{Need}
 use Rattle.mseed_stream.specs.Archive.{IsEndOf, clean, frame, truncated, is_clean}
 use Rattle.mseed_stream.specs.Device.{Heard}
 use Rattle.mseed_stream.specs.Standing.{Standing}
-use Rattle.mseed_stream.specs.Cutting.{IsStop, at_start, told_from, IsHeard, IsAlong, IsEnding, IsReadTo, IsCutFault, IsCleanEnd, IsCuttingFault, lent_of, answer_of, settled}
+use Rattle.mseed_stream.specs.Cutting.{IsStop, at_start, told_from, IsHeard, IsAlong, IsEnding, IsReadTo, IsCutFault, IsCleanEnd, answer_of}
+use Rattle.mseed_stream.specs.Steps.{IsCuttingFault, lent_of, settled}
 use Rattle.mseed_stream.specs.declared.cutter.Ending.{Ending}
 use Rattle.mseed_stream.specs.declared.cutter.Ending.TheVariants.{Clean, Fault}
 use Rattle.mseed_stream.specs.declared.fault.StreamFault.{StreamFault}

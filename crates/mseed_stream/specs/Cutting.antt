@@ -63,14 +63,6 @@ pub record IsAlong (h : Heard) (c : Standing) : Type 0 where
 abbrev pub TellsMore : Heard → Heard → Option (List ℕ) → Option (List ℕ) → Type 0
 TellsMore old new left rest = (more : List ℕ) × (new.bytes ≡ old.bytes ++ more) × Consumes left rest more
 
--- what a fault means of the reads for one stop, and of the room that there was for so many bytes before them
-abbrev pub IsFillFault : StreamFault → ℕ → ℕ → ℕ → Heard → Heard → Type 0
-IsFillFault (Frame n f) place room needed old new = ⊥
-IsFillFault (Truncated n have) place room needed old new = ⊥
-IsFillFault (Read n) place room needed old new = (n ≡ place) × (new.failures ≡ old.failures + 1) × (new.is_at_end ≡ false)
-IsFillFault (Turns n) place room needed old new = (n ≡ place) × (new.failures ≡ old.failures) × (new.calls ≡ 2 ^ 40) × (new.is_at_end ≡ false)
-IsFillFault Memory place room needed old new = (room < needed) × (new ≡ old)
-
 -- an answer before which less may have been read than was asked for
 abbrev pub MayBeShort : {X : Type 0} → Result X StreamFault → Bool → Type 0
 MayBeShort (Err (Read n)) is_at_end = ⊤
@@ -84,19 +76,6 @@ MayBeShort (Ok r) is_at_end = is_at_end ≡ true
 -- turns ran out.
 abbrev pub IsReadTo : {X : Type 0} → List ℕ → Result X StreamFault → Bool → Type 0
 IsReadTo bytes result is_at_end = (n : ℕ) × (IsStop bytes n × (length bytes ≤ n) × (length bytes < n → MayBeShort result is_at_end))
-
--- what a fault means of the reads for one record
-abbrev pub IsCuttingFault : StreamFault → Standing → Standing → Heard → Heard → Type 0
-IsCuttingFault (Frame n f) c after old new = (n ≡ c.place) × (new.failures ≡ old.failures) × IsEndOf after.front (frame f)
-IsCuttingFault (Truncated n have) c after old new = (n ≡ c.place) × (new.failures ≡ old.failures) × IsEndOf after.front (truncated have) × (new.is_at_end ≡ true)
-IsCuttingFault (Read n) c after old new = (n ≡ c.place) × (new.failures ≡ old.failures + 1) × (new.is_at_end ≡ false)
-IsCuttingFault (Turns n) c after old new = (n ≡ c.place) × (new.failures ≡ old.failures) × (new.calls ≡ 2 ^ 40) × (new.is_at_end ≡ false)
-IsCuttingFault Memory c after old new = (new.failures ≡ old.failures) × (new.is_at_end ≡ false) × ((n : ℕ) × (c.room < n) × Decides after.front (Need n))
-
--- at the input's end: nothing is left, or so many bytes of what might have been a record
-abbrev pub IsAnswerAtEnd : Result Bool StreamFault → ℕ → List ℕ → Type 0
-IsAnswerAtEnd (Ok found) place front = (found ≡ false) × (front ≡ [])
-IsAnswerAtEnd (Err e) place front = (e ≡ Truncated place (length front)) × (0 < length front)
 
 -- more room was needed than there was
 abbrev pub NeedsRoom : ℕ → List ℕ → Type 0
@@ -131,22 +110,6 @@ kept_of (Err (Frame n f)) = Some (Fault (Frame n f))
 kept_of (Err (Truncated n have)) = Some (Fault (Truncated n have))
 kept_of (Err (Read n)) = Some (Fault (Read n))
 kept_of (Err (Turns n)) = Some (Fault (Turns n))
-
--- whether a record was found as the answer that lends it, of so many bytes
-abbrev pub lent_of : ℕ → Result Bool StreamFault → Result (Option ℕ) StreamFault
-lent_of n (Ok true) = Ok (Some n)
-lent_of n (Ok false) = Ok None
-lent_of n (Err e) = Err e
-
--- a cutter that found a record, or not, and then lends it or keeps its answer
-abbrev pub settled : Standing → Result Bool StreamFault → Standing
-settled c (Ok true) = record c { place = c.place + length c.front; is_lent = true }
-settled c (Ok false) = record c { answer = Some Clean }
-settled c (Err Memory) = c
-settled c (Err (Frame n f)) = record c { answer = Some (Fault (Frame n f)) }
-settled c (Err (Truncated n have)) = record c { answer = Some (Fault (Truncated n have)) }
-settled c (Err (Read n)) = record c { answer = Some (Fault (Read n)) }
-settled c (Err (Turns n)) = record c { answer = Some (Fault (Turns n)) }
 
 -- the record that an answer hands out
 abbrev pub handed_by : {X : Type 0} → Result (Option X) StreamFault → List ℕ → List (List ℕ)

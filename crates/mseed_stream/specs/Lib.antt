@@ -5,3 +5,4 @@ pub mod Device
 pub mod Fault
 pub mod Split
 pub mod Standing
+pub mod Steps

@@ -8,7 +8,8 @@ ghost use Rattle.mseed_record.specs.Viewing.{view_of};
 ghost use Rattle.mseed_record.specs.declared.frame.Scan.TheVariants.{Need, Record};
 ghost use Rattle.mseed_stream.specs.Device.{heard_also, nothing_heard};
 ghost use Rattle.mseed_stream.specs.Archive.{HasRecords, IsArchive};
-ghost use Rattle.mseed_stream.specs.Cutting.{IsHeard, IsAlong, IsStop, TellsMore, IsReadTo, IsFillFault, IsAnswerAtEnd, IsCuttingFault, IsCutFault, IsCleanEnd, NeedsRoom, held_of, told_from, moves_by, failed_by, answer_of, kept_of, lent_of, handed_by, IfEnds, settled};
+ghost use Rattle.mseed_stream.specs.Cutting.{IsHeard, IsAlong, IsStop, TellsMore, IsReadTo, IsCutFault, IsCleanEnd, NeedsRoom, held_of, told_from, moves_by, failed_by, answer_of, kept_of, handed_by, IfEnds};
+ghost use Rattle.mseed_stream.specs.Steps.{IsFillFault, IsAnswerAtEnd, IsCuttingFault, lent_of, settled};
 
 use crate::device::{Failed, Sink, Source};
 use crate::fault::StreamFault;

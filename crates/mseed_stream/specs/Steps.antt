@@ -1,0 +1,47 @@
+-- What the single steps of a cutter do: the reads for one stop, those for one record, and the answer by what was found.
+use Rattle.std.specs.Prelude.{◌≡◌, Bool, true, false, ℕ, ◌+◌, ◌^◌, ◌<◌, List, [], length, Option, Some, None, Result, Ok, Err}
+use Rattle.mseed_record.specs.declared.frame.Scan.TheVariants.{Need}
+use Rattle.mseed_record.specs.Scan.{Decides}
+use Rattle.mseed_stream.specs.Device.{Heard}
+use Rattle.mseed_stream.specs.Standing.{Standing}
+use Rattle.mseed_stream.specs.Archive.{IsEndOf, frame, truncated}
+use Rattle.mseed_stream.specs.declared.cutter.Ending.TheVariants.{Clean, Fault}
+use Rattle.mseed_stream.specs.declared.fault.StreamFault.{StreamFault}
+use Rattle.mseed_stream.specs.declared.fault.StreamFault.TheVariants.{Frame, Truncated, Read, Turns, Memory}
+
+-- what a fault means of the reads for one stop, and of the room that there was for so many bytes before them
+abbrev pub IsFillFault : StreamFault → ℕ → ℕ → ℕ → Heard → Heard → Type 0
+IsFillFault (Frame n f) place room needed old new = ⊥
+IsFillFault (Truncated n have) place room needed old new = ⊥
+IsFillFault (Read n) place room needed old new = (n ≡ place) × (new.failures ≡ old.failures + 1) × (new.is_at_end ≡ false)
+IsFillFault (Turns n) place room needed old new = (n ≡ place) × (new.failures ≡ old.failures) × (new.calls ≡ 2 ^ 40) × (new.is_at_end ≡ false)
+IsFillFault Memory place room needed old new = (room < needed) × (new ≡ old)
+
+-- what a fault means of the reads for one record
+abbrev pub IsCuttingFault : StreamFault → Standing → Standing → Heard → Heard → Type 0
+IsCuttingFault (Frame n f) c after old new = (n ≡ c.place) × (new.failures ≡ old.failures) × IsEndOf after.front (frame f)
+IsCuttingFault (Truncated n have) c after old new = (n ≡ c.place) × (new.failures ≡ old.failures) × IsEndOf after.front (truncated have) × (new.is_at_end ≡ true)
+IsCuttingFault (Read n) c after old new = (n ≡ c.place) × (new.failures ≡ old.failures + 1) × (new.is_at_end ≡ false)
+IsCuttingFault (Turns n) c after old new = (n ≡ c.place) × (new.failures ≡ old.failures) × (new.calls ≡ 2 ^ 40) × (new.is_at_end ≡ false)
+IsCuttingFault Memory c after old new = (new.failures ≡ old.failures) × (new.is_at_end ≡ false) × ((n : ℕ) × (c.room < n) × Decides after.front (Need n))
+
+-- at the input's end: nothing is left, or so many bytes of what might have been a record
+abbrev pub IsAnswerAtEnd : Result Bool StreamFault → ℕ → List ℕ → Type 0
+IsAnswerAtEnd (Ok found) place front = (found ≡ false) × (front ≡ [])
+IsAnswerAtEnd (Err e) place front = (e ≡ Truncated place (length front)) × (0 < length front)
+
+-- whether a record was found as the answer that lends it, of so many bytes
+abbrev pub lent_of : ℕ → Result Bool StreamFault → Result (Option ℕ) StreamFault
+lent_of n (Ok true) = Ok (Some n)
+lent_of n (Ok false) = Ok None
+lent_of n (Err e) = Err e
+
+-- a cutter that found a record, or not, and then lends it or keeps its answer
+abbrev pub settled : Standing → Result Bool StreamFault → Standing
+settled c (Ok true) = record c { place = c.place + length c.front; is_lent = true }
+settled c (Ok false) = record c { answer = Some Clean }
+settled c (Err Memory) = c
+settled c (Err (Frame n f)) = record c { answer = Some (Fault (Frame n f)) }
+settled c (Err (Truncated n have)) = record c { answer = Some (Fault (Truncated n have)) }
+settled c (Err (Read n)) = record c { answer = Some (Fault (Read n)) }
+settled c (Err (Turns n)) = record c { answer = Some (Fault (Turns n)) }
