@@ -82,6 +82,25 @@ fn next_answer<A: Allocator, R: Source>(cutter: &mut Cutter<A>, source: &mut R) 
     }
 }
 
+/// How often memory was refused before the first record came, where each time one more block is given back.
+fn refusals_before_record<A: Allocator, R: Source, B: Drop>(
+    cutter: &mut Cutter<A>,
+    source: &mut R,
+    blocks: &mut Vec<B>,
+) -> Option<usize>
+    requires { IsAlong (R.heard source.old) cutter.old }
+    ensures { IsAlong (R.heard source.new) cutter.new }
+{
+    for refusals in 0..100 {
+        match next_answer(cutter, source) {
+            Answer::Fault(StreamFault::Memory) => drop(blocks.pop()),
+            Answer::Record(0, 512) => return Some(refusals),
+            _ => return None,
+        }
+    }
+    None
+}
+
 /// The first four answers of a cutter.
 fn answers<R: Source>(alloc: Global, source: &mut R) -> [Answer; 4]
     requires { R.heard source.old ≡ nothing_heard }
@@ -208,6 +227,28 @@ fn loses_nothing_to_want_of_memory(rt: HostRuntime) -> Result<(), Fail> {
         assert_eq!(rt; next_answer(&mut cutter, &mut source), Answer::End);
     }
     assert!(rt; refusals > 3);
+    Ok(())
+}
+
+#[test]
+fn goes_on_where_memory_is_refused_in_turn(rt: HostRuntime) -> Result<(), Fail> {
+    let bytes = records(rt.alloc(), &[9, 7])?;
+    let heap = LocalHeap::new(rt.alloc(), 2048)?;
+    let mut blocks = Vec::new(rt.alloc());
+    for _ in 0..64 {
+        if let Ok(block) = Vec::<u8, _>::with_capacity(&heap, 32) {
+            blocks.push(block)?;
+        }
+    }
+    let mut cutter = Cutter::new(&heap);
+    let mut source = in_pieces(&bytes, 100);
+    let refusals = refusals_before_record(&mut cutter, &mut source, &mut blocks);
+    assert!(rt; refusals.is_some_and(|n| n > 3));
+    assert_eq!(rt;
+        next_answer(&mut cutter, &mut source),
+        Answer::Record(512, 128)
+    );
+    assert_eq!(rt; next_answer(&mut cutter, &mut source), Answer::End);
     Ok(())
 }
 
