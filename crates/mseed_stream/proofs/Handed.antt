@@ -22,7 +22,7 @@ no_further rest _ (is_clean empty) k l r =
 no_further rest _ (is_frame f d) k l r = cc (answered rest k _ d l r)
 no_further rest _ (is_truncated n some d) k l r = cc (answered rest k _ d l r)
 
-all_more : (xs : List (List ℕ)) (x : List ℕ) → AllByRecursion IsRecord xs → IsRecord x → AllByRecursion IsRecord (xs ++ x ∷ [])
+pub all_more : (xs : List (List ℕ)) (x : List ℕ) → AllByRecursion IsRecord xs → IsRecord x → AllByRecursion IsRecord (xs ++ x ∷ [])
 all_more [] x all is = (is, tt)
 all_more (y ∷ ys) x all is = (all.0, all_more ys x all.1 is)
 

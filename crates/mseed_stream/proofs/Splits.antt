@@ -13,7 +13,7 @@ use Rattle.mseed_record.specs.Viewing.{view_of, scan_of}
 use Rattle.mseed_record.specs.Scan.{Decides}
 use Rattle.mseed_stream.specs.Archive.{HasRecords, End, IsEndOf, frame, truncated, is_frame, is_truncated}
 use Rattle.mseed_stream.specs.Split.{bytes_of_each, fault_at, EndsBehind, IsSplitFault}
-use Rattle.mseed_stream.proofs.Handed.{no_further}
+use Rattle.mseed_stream.proofs.Handed.{no_further, all_more}
 use Rattle.mseed_stream.proofs.Records.{view_record, front_within}
 
 ends_behind : (bytes : List ℕ) (place : ℕ) (records : List (List ℕ)) (end : End) → place ≤ length bytes → HasRecords bytes place records → length records < 2 ^ 40 → IsEndOf (drop place bytes) end → EndsBehind bytes place records end
@@ -37,10 +37,6 @@ split_fault bytes place records (Short k) within has few d =
     let end : IsEndOf (drop place bytes) (truncated (length bytes - place)) = subst (λ (n : ℕ). IsEndOf (drop place bytes) (truncated n)) size (is_truncated k some d) in
     (records, ends_behind bytes place records (truncated (length bytes - place)) (omega arith) has few end)
 
-each_more : (xs : List (List ℕ)) (x : List ℕ) → AllByRecursion IsRecord xs → IsRecord x → AllByRecursion IsRecord (xs ++ x ∷ [])
-each_more [] x all is = (is, tt)
-each_more (y ∷ ys) x all is = (all.0, each_more ys x all.1 is)
-
 bytes_more : (views : List RecordView) (r : RecordView) → bytes_of_each (views ++ r ∷ []) ≡ bytes_of_each views ++ (view_of r).bytes ∷ []
 bytes_more [] r = refl
 bytes_more (v ∷ views) r = ap (λ (xs : List (List ℕ)). (view_of v).bytes ∷ xs) (bytes_more views r)
@@ -59,7 +55,7 @@ split_more bytes place views r has is front =
     record {
       joined = take-add place (length b) bytes ∙ (ap (λ (xs : List ℕ). take place bytes ++ xs) (sym front) ∙ (ap (λ (xs : List ℕ). xs ++ b) has.joined
           ∙ (ap (λ (xs : List ℕ). concat (bytes_of_each views) ++ xs) (sym one) ∙ (sym (concat-append (bytes_of_each views) (b ∷ [])) ∙ ap (λ (xs : List (List ℕ)). concat xs) (sym all)))));
-      each = subst (λ (xs : List (List ℕ)). AllByRecursion IsRecord xs) (sym all) (each_more (bytes_of_each views) b has.each (view_record (view_of r) is));
+      each = subst (λ (xs : List (List ℕ)). AllByRecursion IsRecord xs) (sym all) (all_more (bytes_of_each views) b has.each (view_record (view_of r) is));
     }
 
 pub split_within : (bytes : List ℕ) (place : ℕ) (b : List ℕ) → place < length bytes → b ≡ take (length b) (drop place bytes) → place + length b ≤ length bytes
