@@ -1,0 +1,164 @@
+-- A word's digits are what it spells, and nothing else is.
+use Rattle.std.proofs.Common.{◌≡◌, ℕ, zero, suc, ◌+◌, ◌-◌, ◌*◌, ◌/◌, ◌%◌, ◌^◌, ◌<◌, ◌≤◌, List, [], ◌∷◌, length, ℤ, arith, sym, ap, subst, refl, All, ⊎_elim, Bool, true, false, cond, eqb, Option, Some, None, w32, to_z, Result, Ok, Err, MatchResult, IsOkAnd, IfOk, OnErr}
+use Rattle.arrayvec.specs.ArrayVec.{ArrayVec}
+use Rattle.std.proofs.lemmas.Nat.{pow_pos, mod-pow-add}
+use Rattle.std.proofs.lemmas.Int.{ints}
+use Rattle.std.proofs.lemmas.Bool.{cases_lt, lt-ltb, le-ltb, ne_eqb, eqb-true}
+use Rattle.std.proofs.Math.Nat.{mod-eq_of_lt, mod-lt, mul-suc, mul-zero, mod-one}
+use Rattle.std.proofs.lemmas.List.Elements.{All-cons, All-nil}
+use Rattle.mseed_steim.specs.declared.scheme.Scheme.{Scheme}
+use Rattle.mseed_steim.specs.declared.scheme.Scheme.TheVariants.{One, Two}
+use Rattle.mseed_steim.specs.Groups.{Group, group_of, plain, wide_group, narrow_group}
+use Rattle.mseed_steim.specs.Spelling.{Spells, SpellsNone, IsGroup, empty, row, residue, IsWithin, positional}
+use Rattle.mseed_steim.specs.Digits.{signed, digit_at, digits, differences_in, differences_of}
+use Rattle.mseed_steim.proofs.Words.{twice_half}
+use Rattle.mseed_steim.proofs.Table.{Sized, Kind, whole, full, short, group_sized, no_row, at_top, spelled_as_one}
+
+-- what a digit stands for is in range, and has the digit as its residue
+pub signed_within : (w n : ℕ) → 0 < w → n < 2 ^ w → IsWithin w (signed w n)
+signed_within w n p h = ⊎_elim
+    (λ (low : n < 2 ^ (w - 1)). rw (lt-ltb n (2 ^ (w - 1)) low) (omega (arith, ints), omega (arith, ints)))
+    (λ (high : 2 ^ (w - 1) ≤ n). let e = twice_half w p in rw (le-ltb n (2 ^ (w - 1)) high) (omega (arith, ints), omega (arith, ints)))
+    (cases_lt n (2 ^ (w - 1)))
+
+pub signed_residue : (w n : ℕ) → 0 < w → n < 2 ^ w → residue (2 ^ w) (signed w n) ≡ n
+signed_residue w n p h = ⊎_elim
+    (λ (low : n < 2 ^ (w - 1)). rw (lt-ltb n (2 ^ (w - 1)) low) (mod-eq_of_lt h))
+    (λ (high : 2 ^ (w - 1) ≤ n).
+    let less : 2 ^ w - 1 - n < 2 ^ w = omega arith in
+    let same : (2 ^ w - 1 - n) % 2 ^ w ≡ 2 ^ w - 1 - n = mod-eq_of_lt less in
+    rw (le-ltb n (2 ^ (w - 1)) high, same) (omega arith))
+    (cases_lt n (2 ^ (w - 1)))
+
+pub length-digits : (w word k : ℕ) → length (digits w word k) ≡ k
+unfolding digits
+length-digits w word zero = refl
+length-digits w word (suc k) = ap suc (length-digits w word k)
+
+digits_within : (w word k : ℕ) → 0 < w → All (IsWithin w) (digits w word k)
+unfolding digits
+digits_within w word zero p = All-nil (IsWithin w)
+digits_within w word (suc k) p =
+    All-cons (IsWithin w) (digit_at w word k) (digits w word k) (signed_within w (word / 2 ^ (w * k) % 2 ^ w) p (mod-lt (word / 2 ^ (w * k)) (pow_pos w))) (digits_within w word k p)
+
+digits_positional : (w word k : ℕ) → 0 < w → positional w (digits w word k) ≡ word % 2 ^ (w * k)
+unfolding digits
+digits_positional w word zero p = rw mul-zero (sym (mod-one word))
+digits_positional w word (suc k) p =
+    let digit : residue (2 ^ w) (digit_at w word k) ≡ word / 2 ^ (w * k) % 2 ^ w = signed_residue w (word / 2 ^ (w * k) % 2 ^ w) p (mod-lt (word / 2 ^ (w * k)) (pow_pos w)) in
+    let long : w * suc k ≡ w + w * k = omega (arith, mul-suc w k) in
+    rw (digit, length-digits w word k, digits_positional w word k p, long) (sym (mod-pow-add word w (w * k)))
+
+-- the digits are the word's differences, by the three kinds of rows
+is_group : (g : Group) (word : ℕ) → word < 2 ^ 32 → 0 < g.width → Kind g → IsGroup g (word / 2 ^ 30) word (digits g.width word g.count)
+is_group g word small p (whole m j l) =
+    let sum : positional g.width (digits g.width word g.count) ≡ word % 2 ^ 32 = rw l at (digits_positional g.width word g.count p) in
+    record { count = length-digits g.width word g.count; range = digits_within g.width word g.count p; sum = (0, omega (arith, j), rw m (omega (arith, sum))) }
+is_group g word small p (full m j l) =
+    let sum : positional g.width (digits g.width word g.count) ≡ word % 2 ^ 30 = rw l at (digits_positional g.width word g.count p) in
+    record { count = length-digits g.width word g.count; range = digits_within g.width word g.count p; sum = (0, omega (arith, j), rw m (omega (arith, sum))) }
+is_group g word small p (short m j l) =
+    let sum : positional g.width (digits g.width word g.count) ≡ word % 2 ^ 28 = rw l at (digits_positional g.width word g.count p) in
+    record { count = length-digits g.width word g.count; range = digits_within g.width word g.count p; sum = (word / 2 ^ 28 % 4, omega (arith, j), rw m (omega (arith, sum))) }
+
+from_group : (s : Scheme) (c word : ℕ) (o : Option Group) (ds : List ℤ) → word < 2 ^ 32 → group_of s c (word / 2 ^ 30) ≡ o → differences_in word o ≡ Some ds → Spells s c word ds
+from_group s c word None ds small e h = cc
+from_group s c word (Some g) ds small e h =
+    let z : Sized g = group_sized s c (word / 2 ^ 30) g e in
+    let same : digits g.width word g.count ≡ ds = cc in
+    subst (λ (xs : List ℤ). Spells s c word xs) same (row g (word / 2 ^ 30) e (is_group g word small z.wide z.kind))
+
+by_code : (s : Scheme) (c word : ℕ) (b : Bool) (ds : List ℤ) → word < 2 ^ 32 → eqb c 0 ≡ b → cond b (Some []) (differences_in word (group_of s c (word / 2 ^ 30))) ≡ Some ds → Spells s c word ds
+by_code s c word true ds small e h = empty (eqb-true c 0 e) (cc)
+by_code s c word false ds small e h = from_group s c word (group_of s c (word / 2 ^ 30)) ds small refl h
+
+-- What the digits are is spelled.
+pub differences_spelled : (s : Scheme) (c word : ℕ) (ds : List ℤ) → word < 2 ^ 32 → differences_of s c word ≡ Some ds → Spells s c word ds
+unfolding differences_of
+differences_spelled s c word ds small h = by_code s c word (eqb c 0) ds small refl h
+
+-- What is spelled is the digits.
+pub spelled_differences : (s : Scheme) (c word : ℕ) (ds : List ℤ) → word < 2 ^ 32 → Spells s c word ds → differences_of s c word ≡ Some ds
+unfolding differences_of
+spelled_differences s c word ds small (empty e q) = rw (e, q) refl
+spelled_differences s c word ds small (row g d e p) =
+    let z : Sized g = group_sized s c d g e in
+    let found = at_top s c d word g ds z.kind e p in
+    let same : digits g.width word g.count ≡ ds = spelled_as_one g (word / 2 ^ 30) word (digits g.width word g.count) ds z (is_group g word small z.wide z.kind) found.1 in
+    let some : eqb c 0 ≡ false = ne_eqb c 0 (λ (z : c ≡ 0). absurd (no_row s d g (rw z at e))) in
+    rw (some, found.0, same) refl
+
+-- the next digit, and those after it
+pub digits_step : (w word count i : ℕ) → i < count → digits w word (count - i) ≡ digit_at w word (count - 1 - i) ∷ digits w word (count - (i + 1))
+unfolding digits
+digits_step w word count i h =
+    let more : count - i ≡ suc (count - 1 - i) = omega arith in
+    let less : count - (i + 1) ≡ count - 1 - i = omega arith in
+    rw (more, less) refl
+
+-- the one digit of 32 bits
+signed_32 : (n : ℕ) → n < 2 ^ 32 → signed 32 n ≡ to_z w32 n
+signed_32 n h = ⊎_elim
+    (λ (low : n < 2 ^ 31). rw (lt-ltb n (2 ^ 31) low) refl)
+    (λ (high : 2 ^ 31 ≤ n). let same : 2 ^ 32 - 1 - n ≡ 2 ^ 32 - suc n = omega arith in rw (le-ltb n (2 ^ 31) high, same) refl)
+    (cases_lt n (2 ^ 31))
+
+pub whole_digit : (word : ℕ) → word < 2 ^ 32 → digits 32 word 1 ≡ to_z w32 word ∷ []
+unfolding digits
+whole_digit word h =
+    let same : word / 2 ^ (32 * 0) % 2 ^ 32 ≡ word = omega arith in
+    rw (same, signed_32 word h) refl
+
+-- after the last digit there's none
+pub digits_over : (w word count i : ℕ) → count ≤ i → digits w word (count - i) ≡ []
+unfolding digits
+digits_over w word count i h = let over : count - i ≡ 0 = omega arith in rw over refl
+
+-- the differences of a word by its row of the table
+pub by_row : (s : Scheme) (c word : ℕ) (m : Bool) (j k w : ℕ) (ds : List ℤ) → 0 < c → group_of s c (word / 2 ^ 30) ≡ Some (record { marked = m; spare = j; count = k; width = w }) → ds ≡ digits w word k → differences_of s c word ≡ Some ds
+unfolding differences_of
+by_row s c word m j k w ds p e q = let some : eqb c 0 ≡ false = ne_eqb c 0 (λ (z : c ≡ 0). omega arith) in rw (some, e, q) refl
+
+pub by_no_row : (s : Scheme) (c word : ℕ) → 0 < c → group_of s c (word / 2 ^ 30) ≡ None → differences_of s c word ≡ None
+unfolding differences_of
+by_no_row s c word p e = let some : eqb c 0 ≡ false = ne_eqb c 0 (λ (z : c ≡ 0). omega arith) in rw (some, e) refl
+
+-- code 1 is one row in both schemes
+pub bytes_row : (s : Scheme) (d : ℕ) → group_of s 1 d ≡ plain 4 8
+bytes_row One d = refl
+bytes_row Two d = refl
+
+-- the dnibs that have no row
+pub wide_none : (d : ℕ) → d < 1 → wide_group d ≡ None
+wide_none d h =
+    let first : eqb d 1 ≡ false = ne_eqb d 1 (λ (z : d ≡ 1). omega arith) in
+    let second : eqb d 2 ≡ false = ne_eqb d 2 (λ (z : d ≡ 2). omega arith) in
+    let third : eqb d 3 ≡ false = ne_eqb d 3 (λ (z : d ≡ 3). omega arith) in
+    rw (first, second, third) refl
+
+pub narrow_none : (d : ℕ) → 2 < d → narrow_group d ≡ None
+narrow_none d h =
+    let zeroth : eqb d 0 ≡ false = ne_eqb d 0 (λ (z : d ≡ 0). omega arith) in
+    let first : eqb d 1 ≡ false = ne_eqb d 1 (λ (z : d ≡ 1). omega arith) in
+    let second : eqb d 2 ≡ false = ne_eqb d 2 (λ (z : d ≡ 2). omega arith) in
+    rw (zeroth, first, second) refl
+
+-- What is answered is spelled.
+pub answer_spelled : {E : Type 0} (s : Scheme) (c word : ℕ) (r : Result (ArrayVec ℤ) E) → word < 2 ^ 32 → MatchResult r (λ v. differences_of s c word ≡ Some v.items) (λ _. differences_of s c word ≡ None) → IfOk r (λ v. Spells s c word v.items)
+answer_spelled s c word (Ok v) small h = differences_spelled s c word v.items small h
+answer_spelled s c word (Err e) small h = tt
+
+-- What is answered is all that is spelled.
+pub only_spelled : {E : Type 0} (s : Scheme) (c word : ℕ) (r : Result (ArrayVec ℤ) E) → word < 2 ^ 32 → MatchResult r (λ v. differences_of s c word ≡ Some v.items) (λ _. differences_of s c word ≡ None) → (ds : List ℤ) → Spells s c word ds → IsOkAnd r (λ v. v.items ≡ ds)
+only_spelled s c word (Ok v) small h ds p = cc (spelled_differences s c word ds small p)
+only_spelled s c word (Err e) small h ds p = cc (spelled_differences s c word ds small p)
+
+-- What is a bad word spells nothing.
+pub bad_spells_none : {E : Type 0} (s : Scheme) (c word : ℕ) (r : Result (ArrayVec ℤ) E) → word < 2 ^ 32 → MatchResult r (λ v. differences_of s c word ≡ Some v.items) (λ _. differences_of s c word ≡ None) → OnErr r (SpellsNone s c word)
+bad_spells_none s c word (Ok v) small h = tt
+bad_spells_none s c word (Err e) small h = λ ds p. cc (spelled_differences s c word ds small p)
+
+-- code 0
+pub no_differences : (s : Scheme) (c word : ℕ) (ds : List ℤ) → c ≡ 0 → ds ≡ [] → differences_of s c word ≡ Some ds
+unfolding differences_of
+no_differences s c word ds e q = rw (e, q) refl

@@ -1,0 +1,99 @@
+-- Words as sums of signed digits.
+use Rattle.std.proofs.Common.{◌≡◌, ℕ, suc, ◌+◌, ◌-◌, ◌*◌, ◌/◌, ◌%◌, ◌^◌, ◌<◌, ◌≤◌, ◌≤ℤ◌, ◌<ℤ◌, List, [], ◌∷◌, ◌++◌, length, ℤ, pos, negsuc, neg_ℤ, arith, sym, ap, ◌∙◌, refl, All, length-append, lit<}
+use Rattle.std.proofs.lemmas.Nat.{one_shl, pow_pos, pow-add, shr-shr, mod-pow-add, same_from_place, mul-add-lt}
+use Rattle.std.proofs.lemmas.Int.{ints}
+use Rattle.std.proofs.lemmas.List.Elements.{All-head, All-tail}
+use Rattle.std.proofs.Math.Nat.{two-pow-succ, mod-eq_of_lt, mod-lt, pow-le-pow_right, mul-zero, mul-suc}
+use Rattle.mseed_steim.specs.Spelling.{IsWithin, residue, positional}
+
+-- twice the half is the whole
+pub twice_half : (w : ℕ) → 0 < w → 2 ^ w ≡ 2 * 2 ^ (w - 1)
+twice_half w p =
+    let e : w ≡ suc (w - 1) = omega arith in
+    let f : 2 ^ suc (w - 1) ≡ 2 ^ (w - 1) + 2 ^ (w - 1) = two-pow-succ (w - 1) in
+    let g : 2 ^ w ≡ 2 ^ suc (w - 1) = ap (λ n. 2 ^ n) e in
+    omega (arith, f, g)
+
+-- `1 << (w - 1)`, and twice that
+pub half_shl : (w : ℕ) → 0 < w → w ≤ 30 → ((1 * 2 ^ (w - 1)) % 2 ^ 32 ≡ 2 ^ (w - 1)) × (2 ^ w ≡ 2 * 2 ^ (w - 1)) × (2 ^ (w - 1) ≤ 2 ^ 29)
+half_shl w p q =
+    let low : w - 1 ≤ 29 = omega arith in
+    (one_shl (w - 1) 32 (omega arith), twice_half w p, pow-le-pow_right (lit< tt) low)
+
+pub ruleset shifts = half_shl
+
+-- a residue is below its modulus
+pub residue_lt : (m : ℕ) (d : ℤ) → 0 < m → residue m d < m
+residue_lt m (pos n) p = mod-lt n p
+residue_lt m (negsuc n) p = omega (arith, mod-lt n p)
+
+-- two numbers in range with one residue are one
+residue_one_half : (m h : ℕ) (d e : ℤ) → m ≡ 2 * h → (neg_ℤ (pos h) ≤ℤ d) → d <ℤ pos h → (neg_ℤ (pos h) ≤ℤ e) → e <ℤ pos h → residue m d ≡ residue m e → d ≡ e
+residue_one_half m h (pos a) (pos b) s d1 d2 e1 e2 r =
+    let al : a < m = omega (arith, ints) in
+    let bl : b < m = omega (arith, ints) in
+    ap pos (omega (arith, r, mod-eq_of_lt al, mod-eq_of_lt bl))
+residue_one_half m h (pos a) (negsuc b) s d1 d2 e1 e2 r =
+    let al : a < h = omega (arith, ints) in
+    let bl : b < h = omega (arith, ints) in
+    let am : a < m = omega arith in
+    let bm : b < m = omega arith in
+    absurd (omega (arith, r, mod-eq_of_lt am, mod-eq_of_lt bm))
+residue_one_half m h (negsuc a) (pos b) s d1 d2 e1 e2 r =
+    let al : a < h = omega (arith, ints) in
+    let bl : b < h = omega (arith, ints) in
+    let am : a < m = omega arith in
+    let bm : b < m = omega arith in
+    absurd (omega (arith, r, mod-eq_of_lt am, mod-eq_of_lt bm))
+residue_one_half m h (negsuc a) (negsuc b) s d1 d2 e1 e2 r =
+    let al : a < h = omega (arith, ints) in
+    let bl : b < h = omega (arith, ints) in
+    let am : a < m = omega arith in
+    let bm : b < m = omega arith in
+    ap negsuc (omega (arith, r, mod-eq_of_lt am, mod-eq_of_lt bm))
+
+pub residue_one : (w : ℕ) (d e : ℤ) → 0 < w → IsWithin w d → IsWithin w e → residue (2 ^ w) d ≡ residue (2 ^ w) e → d ≡ e
+residue_one w d e p h k s = residue_one_half (2 ^ w) (2 ^ (w - 1)) d e (twice_half w p) h.0 h.1 k.0 k.1 s
+
+pub positional_lt : (w : ℕ) (ds : List ℤ) → positional w ds < 2 ^ (w * length ds)
+positional_lt w [] = pow_pos (w * 0)
+positional_lt w (d ∷ ds) =
+    let h : residue (2 ^ w) d < 2 ^ w = residue_lt (2 ^ w) d (pow_pos w) in
+    let k : positional w ds < 2 ^ (w * length ds) = positional_lt w ds in
+    let e : 2 ^ (w + w * length ds) ≡ 2 ^ w * 2 ^ (w * length ds) = pow-add 2 w (w * length ds) in
+    let f : 2 ^ (w * suc (length ds)) ≡ 2 ^ (w + w * length ds) = ap (λ n. 2 ^ n) (omega arith) in
+    omega (arith, mul-add-lt (residue (2 ^ w) d) (2 ^ (w * length ds)) (positional w ds) (2 ^ w) h k, e, f)
+
+pub positional_push : (w : ℕ) (ds : List ℤ) (d : ℤ) → positional w (ds ++ (d ∷ [])) ≡ positional w ds * 2 ^ w + residue (2 ^ w) d
+positional_push w [] d =
+    let e : 2 ^ (w * 0) ≡ 1 = ap (λ n. 2 ^ n) (mul-zero w) in
+    rw e (omega arith)
+positional_push w (x ∷ xs) d =
+    let l : length (xs ++ (d ∷ [])) ≡ length xs + 1 = omega (arith, length-append xs (d ∷ [])) in
+    let k : positional w (xs ++ (d ∷ [])) ≡ positional w xs * 2 ^ w + residue (2 ^ w) d = positional_push w xs d in
+    let e : 2 ^ (w * length xs + w) ≡ 2 ^ (w * length xs) * 2 ^ w = pow-add 2 (w * length xs) w in
+    let f : 2 ^ (w * length (xs ++ (d ∷ []))) ≡ 2 ^ (w * length xs) * 2 ^ w = ap (λ n. 2 ^ n) (rw l (omega arith)) ∙ e in
+    rw (f, k) (omega arith)
+
+-- The word's digits are one list.
+pub positional_one : (w : ℕ) (ds es : List ℤ) → 0 < w → length ds ≡ length es → All (IsWithin w) ds → All (IsWithin w) es → positional w ds ≡ positional w es → ds ≡ es
+positional_one w [] [] p l h k s = refl
+positional_one w [] (e ∷ es) p l h k s = absurd (omega arith)
+positional_one w (d ∷ ds) [] p l h k s = absurd (omega arith)
+positional_one w (d ∷ ds) (e ∷ es) p l h k s =
+    let same : length ds ≡ length es = omega arith in
+    let below : positional w ds < 2 ^ (w * length es) = rw same at (positional_lt w ds) in
+    let both : residue (2 ^ w) d * 2 ^ (w * length es) + positional w ds ≡ residue (2 ^ w) e * 2 ^ (w * length es) + positional w es = rw same at s in
+    let parts : (residue (2 ^ w) d ≡ residue (2 ^ w) e) × (positional w ds ≡ positional w es) = same_from_place (residue (2 ^ w) d) (positional w ds) (residue (2 ^ w) e) (positional w es) (2 ^ (w * length es)) below (positional_lt w es) both in
+    let first : d ≡ e = residue_one w d e p (All-head (IsWithin w) d ds h) (All-head (IsWithin w) e es k) parts.0 in
+    let rest : ds ≡ es = positional_one w ds es p same (All-tail (IsWithin w) d ds h) (All-tail (IsWithin w) e es k) parts.1 in
+    cc
+
+-- One more digit of a number, from the top.
+pub digit_more : (n w c i : ℕ) → i < c → n / 2 ^ (w * (c - i)) % 2 ^ (w * i) * 2 ^ w + n / 2 ^ (w * (c - 1 - i)) % 2 ^ w ≡ n / 2 ^ (w * (c - (i + 1))) % 2 ^ (w * (i + 1))
+digit_more n w c i h =
+    let a : c - i ≡ suc (c - 1 - i) = omega arith in
+    let b : c - (i + 1) ≡ c - 1 - i = omega arith in
+    let e : n / 2 ^ (w * (c - i)) ≡ n / 2 ^ (w * (c - 1 - i)) / 2 ^ w = rw a (rw mul-suc (sym (shr-shr n (w * (c - 1 - i)) w))) in
+    let f : 2 ^ (w * (i + 1)) ≡ 2 ^ (w * i + w) = ap (λ n. 2 ^ n) (omega arith) in
+    rw (e, b, f) (sym (mod-pow-add (n / 2 ^ (w * (c - 1 - i))) (w * i) w))

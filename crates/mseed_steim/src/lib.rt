@@ -1,0 +1,11 @@
+//! The samples of a record: what the words of its Steim frames and its integers spell (SEED Reference
+//! Manual 2.4, appendix B).
+#![tactic(auto)]
+
+mod scheme;
+#[cfg(test)]
+mod tests;
+mod word;
+
+pub use scheme::Scheme;
+pub use word::{BadWord, unpack_word};
