@@ -6,7 +6,7 @@ use Rattle.mseed_steim.specs.Groups.{wide_group, narrow_group, Group, group_of, 
 use Rattle.mseed_steim.specs.Spelling.{Spells, IsGroup, empty, row, positional}
 use Rattle.mseed_steim.proofs.Words.{positional_lt, positional_one}
 
-cond_holds : (P : Option Group → Type 0) (b : Bool) (x y : Option Group) → P x → P y → P (cond b x y)
+pub cond_holds : (P : Option Group → Type 0) (b : Bool) (x y : Option Group) → P x → P y → P (cond b x y)
 cond_holds P true x y p q = p
 cond_holds P false x y p q = q
 

@@ -2,10 +2,13 @@
 //! Manual 2.4, appendix B).
 #![tactic(auto)]
 
+mod differences;
+mod frames;
 mod scheme;
 #[cfg(test)]
 mod tests;
 mod word;
 
+pub use differences::{BadWordAt, Differences};
 pub use scheme::Scheme;
 pub use word::{BadWord, unpack_word};

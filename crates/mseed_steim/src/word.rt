@@ -78,7 +78,7 @@ fn narrow(word: u32) -> Result<ArrayVec<i32, 7>, BadWord>
 }
 
 /// The differences of a word, by its row of the table.
-fn row_of(scheme: Scheme, code: u8, word: u32) -> Result<ArrayVec<i32, 7>, BadWord>
+pub(crate) fn row_of(scheme: Scheme, code: u8, word: u32) -> Result<ArrayVec<i32, 7>, BadWord>
     requires { code < 4 }
     ensures { MatchResult result (λ v. differences_of scheme code word ≡ Some v.items) (λ _. differences_of scheme code word ≡ None) }
 {

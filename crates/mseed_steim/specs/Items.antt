@@ -1,0 +1,16 @@
+-- The differences of words one by one, by the words' digits. What they are is said in Runs.
+use Rattle.std.specs.Prelude.{List, [], ◌∷◌, ◌++◌, map, ℤ, Option, Some, None, Result, Ok, Err}
+use Rattle.mseed_steim.specs.declared.scheme.Scheme.{Scheme}
+use Rattle.mseed_steim.specs.declared.differences.BadWordAt.{BadWordAt}
+use Rattle.mseed_steim.specs.Digits.{differences_of}
+use Rattle.mseed_steim.specs.Frames.{DataWord}
+use Rattle.mseed_steim.specs.Runs.{place_of}
+
+-- a word's differences and then the items of the words after it; or the place of a bad word, and no more
+abbrev pub with_items : DataWord → Option (List ℤ) → List (Result ℤ BadWordAt) → List (Result ℤ BadWordAt)
+with_items w None more = Err (place_of w) ∷ []
+with_items w (Some ds) more = map Ok ds ++ more
+
+unfoldable pub items_of : Scheme → List DataWord → List (Result ℤ BadWordAt)
+items_of scheme [] = []
+items_of scheme (w ∷ ws) = with_items w (differences_of scheme w.code w.bits) (items_of scheme ws)
