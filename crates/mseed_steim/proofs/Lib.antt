@@ -4,3 +4,4 @@ pub mod Spelled
 pub mod Walking
 pub mod Given
 pub mod Few
+pub mod Folds

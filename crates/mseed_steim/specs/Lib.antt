@@ -5,3 +5,5 @@ pub mod Frames
 pub mod Runs
 pub mod Items
 pub mod Steps
+pub mod Samples
+pub mod Sums

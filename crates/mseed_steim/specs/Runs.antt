@@ -1,5 +1,5 @@
 -- What a run of data words spells.
-use Rattle.std.specs.Prelude.{◌≡◌, List, [], ◌∷◌, ◌++◌, map, ℤ, Result, Ok, Err}
+use Rattle.std.specs.Prelude.{◌≡◌, ℕ, List, [], ◌∷◌, ◌++◌, map, ℤ, Result, Ok, Err}
 use Rattle.mseed_steim.specs.declared.scheme.Scheme.{Scheme}
 use Rattle.mseed_steim.specs.declared.differences.BadWordAt.{BadWordAt}
 use Rattle.mseed_steim.specs.Spelling.{Spells, SpellsNone}
@@ -14,6 +14,10 @@ SpellsRun scheme (w ∷ ws) ds =
 -- where a bad word stands
 abbrev pub place_of : DataWord → BadWordAt
 place_of w = record { frame = w.frame; word = w.place }
+
+-- a word at a place
+abbrev pub word_of : BadWordAt → ℕ → ℕ → DataWord
+word_of at code bits = record { frame = at.frame; place = at.word; code = code; bits = bits }
 
 -- The words give all differences that they spell; or, where one of them spells nothing, those of the
 -- words before it, and then its place.

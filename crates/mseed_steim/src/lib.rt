@@ -3,12 +3,16 @@
 #![tactic(auto)]
 
 mod differences;
+mod fault;
 mod frames;
 mod scheme;
+mod sum;
 #[cfg(test)]
 mod tests;
+mod walk;
 mod word;
 
 pub use differences::{BadWordAt, Differences};
+pub use fault::ReadFault;
 pub use scheme::Scheme;
 pub use word::{BadWord, unpack_word};

@@ -14,7 +14,7 @@ pub struct BadWord;
 
 /// What a digit of `width` bits stands for in two's complement.
 #[tactic(auto, using(crate::proofs::Words::shifts))]
-fn signed_digit(digit: u32, width: u32) -> i32
+pub(crate) fn signed_digit(digit: u32, width: u32) -> i32
     requires positive { 0 < width }
     requires narrow { width ≤ 30 }
     requires digit { digit < 2 ^ width }

@@ -1,0 +1,50 @@
+use Rattle.std.proofs.Common.{◌≢◌, ◌+◌, ◌%◌, ◌∙◌, List, ℤ, Result, arith, ap, sym}
+use Rattle.mseed_steim.specs.declared.differences.BadWordAt.{BadWordAt}
+use Rattle.mseed_steim.specs.Frames.{word_count, first_constant}
+use Rattle.mseed_steim.specs.Sums.{fold}
+use Rattle.mseed_steim.proofs.Walking.{items_from, items_over, items_skip, items_step}
+use Rattle.mseed_steim.proofs.Folds.{fold_enough, fold_short}
+use Rattle.mseed_steim.proofs.walk.add_frames.Goals as goal
+
+pub returns-then-end-eq0 : goal.returns-then-end-eq0
+returns-then-end-eq0 c =
+    let none = items_over c.args.scheme c.args.payload.now 3 (word_count c.args.payload.now) (omega arith) in
+    sym (ap (λ (items : List (Result ℤ BadWordAt)). fold c.args.samples (record { met = 0; last = first_constant c.args.payload.now }) items) none
+    ∙ fold_short c.args.samples (record { met = 0; last = first_constant c.args.payload.now }) (λ e. omega arith))
+
+pub returns-then-sum-samples : goal.returns-then-sum-samples
+returns-then-sum-samples c = sym (c.loop-index.invariant.same ∙ fold_enough c.args.samples c.loop-index.sum _ c.if-sum-samples.true)
+
+pub loop-index-preserved-then-index-eq0 : goal.loop-index-preserved-then-index-eq0
+loop-index-preserved-then-index-eq0 c = record {
+  from = omega arith;
+  met = c.loop-index.invariant.met;
+  same = c.loop-index.invariant.same ∙ ap (λ (items : List (Result ℤ BadWordAt)). fold c.args.samples c.loop-index.sum items) (items_skip c.args.scheme c.args.payload.now c.loop-index.index c.count_words-end.result c.loop-index-test.true c.if-index-eq0.true);
+}
+
+pub returns-in-Err : goal.returns-in-Err
+returns-in-Err c =
+    let data_word : c.loop-index.index % 16 ≢ 0 = λ e. omega arith in
+    let step = items_step c.args.scheme c.args.payload.now c.loop-index.index c.count_words-end.result c.loop-index-test.true data_word in
+    let past = rw (c.read_code.ensures.value, c.read_word-in-loop-index.ensures) at (c.in-Err.ensures.goes_on (items_from c.args.scheme c.args.payload.now (c.loop-index.index + 1) c.count_words-end.result)) in
+    sym (c.loop-index.invariant.same ∙ ap (λ (items : List (Result ℤ BadWordAt)). fold c.args.samples c.loop-index.sum items) step ∙ past)
+
+pub loop-index-preserved : goal.loop-index-preserved
+loop-index-preserved c =
+    let data_word : c.loop-index.index % 16 ≢ 0 = λ e. omega arith in
+    let step = items_step c.args.scheme c.args.payload.now c.loop-index.index c.count_words-end.result c.loop-index-test.true data_word in
+    let past = rw (c.read_code.ensures.value, c.read_word-in-loop-index.ensures) at (c.in-Ok.ensures.goes_on (items_from c.args.scheme c.args.payload.now (c.loop-index.index + 1) c.count_words-end.result)) in
+    record {
+      from = omega arith;
+      met = c.in-Ok.ensures.met;
+      same = c.loop-index.invariant.same ∙ ap (λ (items : List (Result ℤ BadWordAt)). fold c.args.samples c.loop-index.sum items) step ∙ past;
+    }
+
+pub returns-then-sum-samples-2 : goal.returns-then-sum-samples-2
+returns-then-sum-samples-2 c = sym (c.loop-index.invariant.same ∙ fold_enough c.args.samples c.loop-index.sum _ c.if-sum-samples-2.true)
+
+pub returns-else-sum-samples-2 : goal.returns-else-sum-samples-2
+returns-else-sum-samples-2 c =
+    let none = items_over c.args.scheme c.args.payload.now c.loop-index.index c.count_words-end.result c.loop-index-test.false in
+    sym (c.loop-index.invariant.same ∙ ap (λ (items : List (Result ℤ BadWordAt)). fold c.args.samples c.loop-index.sum items) none
+    ∙ fold_short c.args.samples c.loop-index.sum (λ e. c.if-sum-samples-2.false e))

@@ -1,0 +1,12 @@
+use Rattle.std.proofs.Common.{◌≡◌, ◌-◌, ◌≤◌}
+use Rattle.mseed_steim.specs.Frames.{words_from, data_words, first_constant}
+use Rattle.mseed_steim.specs.Items.{items_of}
+use Rattle.mseed_steim.specs.Sums.{fold}
+use Rattle.mseed_steim.proofs.walk.add_frames.Given as goal
+
+abbrev pub invariant-loop-index : goal.invariant-loop-index
+invariant-loop-index l = record {
+  from : 3 ≤ l.index;
+  met : l.sum.met ≤ l.samples;
+  same : fold l.samples (record { met = 0; last = first_constant l.payload }) (items_of l.scheme (data_words l.payload)) ≡ fold l.samples l.sum (items_of l.scheme (words_from l.payload l.index (l.end - l.index)));
+}

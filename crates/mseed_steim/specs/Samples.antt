@@ -1,0 +1,88 @@
+-- The samples that a payload's bytes say (SEED manual, chapter 8, blockette 1000, field 4, and appendix B).
+use Rattle.std.specs.Prelude.{◌≡◌, ◌≢◌, ⊤, ℕ, ◌+◌, ◌-◌, ◌*◌, ◌/◌, ◌^◌, ◌<◌, ◌≤◌, ◌==◌, if◌then◌else◌, List, [], ◌∷◌, ◌++◌, length, slice_get, ℤ, ◌+ℤ◌, Option, Some, None, All}
+use Rattle.mseed_time.specs.declared.order.Order.{Order}
+use Rattle.mseed_time.specs.declared.order.Order.TheVariants.{Big}
+use Rattle.mseed_time.specs.Fields.{number_at}
+use Rattle.mseed_steim.specs.declared.scheme.Scheme.{Scheme}
+use Rattle.mseed_steim.specs.declared.scheme.Scheme.TheVariants.{One, Two}
+use Rattle.mseed_steim.specs.declared.fault.ReadFault.{ReadFault}
+use Rattle.mseed_steim.specs.declared.fault.ReadFault.TheVariants.{Short, BadWord, Overflow, LastDiffers}
+use Rattle.mseed_steim.specs.Spelling.{residue, IsWithin, SpellsNone}
+use Rattle.mseed_steim.specs.Frames.{DataWord, data_words, first_constant, last_constant}
+use Rattle.mseed_steim.specs.Runs.{SpellsRun}
+
+-- How the encodings that are read hold samples: as integers of so many bytes, or as Steim frames.
+pub data Form : Type 0 where
+  integers : ℕ → Form
+  frames : Scheme → Form
+
+-- the encodings: 1 is 16-bit integers, 3 is 32-bit integers, 10 is Steim-1, 11 is Steim-2
+abbrev pub form_of : ℕ → Option Form
+form_of encoding =
+    if encoding == 1 then Some (integers 2)
+    else if encoding == 3 then Some (integers 4)
+    else if encoding == 10 then Some (frames One)
+    else if encoding == 11 then Some (frames Two)
+    else None
+
+-- numbers of 32 bits
+abbrev pub IsSample : ℤ → Type 0
+IsSample s = IsWithin 32 s
+
+-- The bytes from a place on begin with the spellings of these integers, one after another: each is in two's
+-- complement and the payload's order.
+abbrev pub BeginsWith : Order → ℕ → List ℕ → ℕ → List ℤ → Type 0
+BeginsWith order width bytes place [] = ⊤
+BeginsWith order width bytes place (z ∷ zs) =
+    (place + width ≤ length bytes) × IsWithin (8 * width) z × (number_at order width place bytes ≡ residue (2 ^ (8 * width)) z)
+    × BeginsWith order width bytes (place + width) zs
+
+-- each of the samples is the one before it plus its difference, as whole numbers
+abbrev pub Adds : ℤ → List ℤ → List ℤ → Type 0
+Adds before ds [] = ⊤
+Adds before [] (s ∷ ss) = ⊥
+Adds before (d ∷ ds) (s ∷ ss) = (s ≡ before +ℤ d) × Adds s ds ss
+
+-- the first sample is this one; the difference that stands first isn't used
+abbrev pub StartsAndAdds : ℤ → List ℤ → List ℤ → Type 0
+StartsAndAdds first ds [] = ⊤
+StartsAndAdds first [] (s ∷ ss) = ⊥
+StartsAndAdds first (d ∷ ds) (s ∷ ss) = (s ≡ first) × Adds first ds ss
+
+-- The samples are the n sums of the differences that some front of the data words spells.
+pub record AreSums (scheme : Scheme) (payload : List ℕ) (n : ℕ) (samples : List ℤ) : Type 0 where
+  pub count : length samples ≡ n
+  pub front : List DataWord
+  pub rest : List DataWord
+  pub cut : data_words payload ≡ front ++ rest
+  pub differences : List ℤ
+  pub spelled : SpellsRun scheme front differences
+  pub enough : n ≤ length differences
+  pub sums : StartsAndAdds (first_constant payload) differences samples
+
+-- the n samples of a payload of this form and order; Steim frames are read in the order of their words alone
+abbrev pub IsPayloadReading : Form → Order → List ℕ → ℕ → List ℤ → Type 0
+IsPayloadReading (integers width) order payload n samples = (length samples ≡ n) × BeginsWith order width payload 0 samples
+IsPayloadReading (frames scheme) order payload n samples = (order ≡ Big) × AreSums scheme payload n samples × All IsSample samples
+
+-- where the samples of Steim frames end on Xn; integers have no such constant
+abbrev pub EndsOnConstant : Form → List ℕ → List ℤ → Type 0
+EndsOnConstant (integers width) payload samples = ⊤
+EndsOnConstant (frames scheme) payload samples = slice_get samples (length samples - 1) ≡ Some (last_constant payload)
+
+-- Why n samples of Steim frames can't be read: all data words spell fewer differences; a word spells none
+-- and those before it fewer than n; the sum at a place is the first that 32 bits don't hold; the last sum
+-- isn't Xn.
+pub data IsFrameFault (scheme : Scheme) (payload : List ℕ) (n : ℕ) : ReadFault → Type 0 where
+  short : (ds : List ℤ) → SpellsRun scheme (data_words payload) ds → length ds < n → IsFrameFault scheme payload n (Short (length ds))
+  bad_word : (before : List DataWord) (bad : DataWord) (after : List DataWord) (ds : List ℤ) → data_words payload ≡ before ++ bad ∷ after
+      → SpellsRun scheme before ds → length ds < n → SpellsNone scheme bad.code bad.bits → IsFrameFault scheme payload n (BadWord bad.frame bad.place)
+  overflow : (front : List ℤ) (sum : ℤ) (rest : List ℤ) → AreSums scheme payload n (front ++ sum ∷ rest) → All IsSample front → ¬ (IsSample sum)
+      → IsFrameFault scheme payload n (Overflow (length front))
+  last_differs : (front : List ℤ) (last : ℤ) → AreSums scheme payload n (front ++ last ∷ []) → All IsSample (front ++ last ∷ []) → last ≢ last_constant payload
+      → IsFrameFault scheme payload n (LastDiffers last (last_constant payload))
+
+-- Why n samples of a payload can't be read; of integers, since it has fewer whole ones.
+abbrev pub IsPayloadFault : Form → List ℕ → ℕ → ReadFault → Type 0
+IsPayloadFault (integers width) payload n fault = (length payload / width < n) × (fault ≡ Short (length payload / width))
+IsPayloadFault (frames scheme) payload n fault = IsFrameFault scheme payload n fault

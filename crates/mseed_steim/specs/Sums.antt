@@ -1,0 +1,52 @@
+-- A walk over items that adds them up. What it answers is said in Samples.
+use Rattle.std.specs.Prelude.{◌≡◌, ℕ, ◌+◌, ◌^◌, ◌==◌, nat_lt, Bool, if◌then◌else◌, List, [], ◌∷◌, ℤ, pos, negsuc, ◌+ℤ◌, Option, Some, None, Result, Ok, Err}
+use Rattle.mseed_steim.specs.declared.differences.BadWordAt.{BadWordAt}
+use Rattle.mseed_steim.specs.declared.fault.ReadFault.{ReadFault}
+use Rattle.mseed_steim.specs.declared.fault.ReadFault.TheVariants.{Short, BadWord, Overflow}
+use Rattle.mseed_steim.specs.declared.sum.Sum.{Sum}
+use Rattle.mseed_steim.specs.Frames.{DataWord}
+use Rattle.mseed_steim.specs.Items.{with_items}
+
+-- 32 bits hold the number
+abbrev pub fits : ℤ → Bool
+fits (pos n) = nat_lt n (2 ^ 31)
+fits (negsuc n) = nat_lt n (2 ^ 31)
+
+-- the sum with one more sample
+abbrev pub one_more : Sum → ℤ → Sum
+one_more sum last = record { met = sum.met + 1; last = last }
+
+-- the sum once n samples have been met, or what comes first in place of one
+unfoldable pub fold : ℕ → Sum → List (Result ℤ BadWordAt) → Result Sum ReadFault
+fold n sum [] = if sum.met == n then Ok sum else Err (Short sum.met)
+fold n sum (Err at ∷ more) = if sum.met == n then Ok sum else Err (BadWord at.frame at.word)
+fold n sum (Ok d ∷ more) =
+    if sum.met == n then Ok sum
+    else if sum.met == 0 then fold n (one_more sum sum.last) more
+    else if fits (sum.last +ℤ d) then fold n (one_more sum (sum.last +ℤ d)) more
+    else Err (Overflow sum.met)
+
+-- the samples that the walk meets
+unfoldable pub met_in : ℕ → Sum → List (Result ℤ BadWordAt) → List ℤ
+met_in n sum [] = []
+met_in n sum (Err at ∷ more) = []
+met_in n sum (Ok d ∷ more) =
+    if sum.met == n then []
+    else if sum.met == 0 then sum.last ∷ met_in n (one_more sum sum.last) more
+    else if fits (sum.last +ℤ d) then (sum.last +ℤ d) ∷ met_in n (one_more sum (sum.last +ℤ d)) more
+    else []
+
+-- what comes first in place of one of n differences, where any does
+unfoldable pub lack : ℕ → ℕ → List (Result ℤ BadWordAt) → Option ReadFault
+lack n met [] = if met == n then None else Some (Short met)
+lack n met (Err at ∷ more) = if met == n then None else Some (BadWord at.frame at.word)
+lack n met (Ok d ∷ more) = if met == n then None else lack n (met + 1) more
+
+-- A walk over all these items goes on from the answer with those behind, or ends with the answer's fault.
+abbrev pub GoesOn : ℕ → Sum → List (Result ℤ BadWordAt) → List (Result ℤ BadWordAt) → Result Sum ReadFault → Type 0
+GoesOn n sum items behind (Ok next) = (fold n sum items ≡ fold n next behind)
+GoesOn n sum items behind (Err fault) = (fold n sum items ≡ Err fault)
+
+-- so does one over the items of a word, whatever stands behind it
+abbrev pub GoesOnPast : ℕ → Sum → DataWord → Option (List ℤ) → Result Sum ReadFault → Type 0
+GoesOnPast n sum word differences answer = (more : List (Result ℤ BadWordAt)) → GoesOn n sum (with_items word differences more) more answer

@@ -1,0 +1,55 @@
+//! A walk over a payload's frames.
+
+ghost use Rattle.std.specs.Prelude.{◌≡◌, ◌<◌};
+ghost use Rattle.mseed_steim.specs.Frames.{first_constant, data_words};
+ghost use Rattle.mseed_steim.specs.Items.{items_of};
+ghost use Rattle.mseed_steim.specs.Sums.{fold};
+
+use crate::differences::BadWordAt;
+use crate::fault::ReadFault;
+use crate::frames::{count_words, read_code, read_word};
+use crate::scheme::Scheme;
+use crate::sum::{Sum, add_word};
+
+/// The sum of so many samples, or what comes first in place of one.
+pub(crate) fn add_frames(payload: &[u8], scheme: Scheme, samples: usize) -> Result<Sum, ReadFault>
+    requires { 0 < samples }
+    ensures { result ≡ fold samples (record { met = 0; last = first_constant payload.now }) (items_of scheme (data_words payload.now)) }
+{
+    let end = count_words(payload);
+    if end == 0 {
+        return Err(ReadFault::Short(0));
+    }
+    let mut sum = Sum {
+        met: 0,
+        last: read_word(payload, 1).cast_signed(),
+    };
+    for index in 3..end {
+        if sum.met == samples {
+            return Ok(sum);
+        }
+        if index % 16 == 0 {
+            continue;
+        }
+        let at = BadWordAt {
+            frame: index / 16,
+            word: index % 16,
+        };
+        match add_word(
+            scheme,
+            read_code(payload, index),
+            read_word(payload, index),
+            at,
+            samples,
+            sum,
+        ) {
+            Ok(next) => sum = next,
+            Err(fault) => return Err(fault),
+        }
+    }
+    if sum.met == samples {
+        Ok(sum)
+    } else {
+        Err(ReadFault::Short(sum.met))
+    }
+}
