@@ -18,7 +18,7 @@ use Rattle.mseed_steim.proofs.Spelled.{differences_spelled, spelled_differences}
 abbrev pub IsWord : DataWord → Type 0
 IsWord w = w.bits < 2 ^ 32
 
-word_small : (p : List ℕ) (k : ℕ) → ((i : ℕ) → get_or p i 0 < 256) → word_at p k < 2 ^ 32
+pub word_small : (p : List ℕ) (k : ℕ) → ((i : ℕ) → get_or p i 0 < 256) → word_at p k < 2 ^ 32
 word_small p k octets = big_from-lt 0 4 (drop (4 * k) p) (λ i. rw (get_or-drop (4 * k) p i 0) (octets (4 * k + i)))
 
 -- a word in front, with what it spells

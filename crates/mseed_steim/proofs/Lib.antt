@@ -5,3 +5,10 @@ pub mod Walking
 pub mod Given
 pub mod Few
 pub mod Folds
+pub mod Folded
+pub mod Fronts
+pub mod Framed
+pub mod Ended
+pub mod Integers
+pub mod Runs
+pub mod Laws

@@ -7,3 +7,4 @@ pub mod Items
 pub mod Steps
 pub mod Samples
 pub mod Sums
+pub mod Reading

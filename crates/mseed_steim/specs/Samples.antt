@@ -1,28 +1,33 @@
 -- The samples that a payload's bytes say (SEED manual, chapter 8, blockette 1000, field 4, and appendix B).
-use Rattle.std.specs.Prelude.{◌≡◌, ◌≢◌, ⊤, ℕ, ◌+◌, ◌-◌, ◌*◌, ◌/◌, ◌^◌, ◌<◌, ◌≤◌, ◌==◌, if◌then◌else◌, List, [], ◌∷◌, ◌++◌, length, slice_get, ℤ, ◌+ℤ◌, Option, Some, None, All}
+use Rattle.std.specs.Prelude.{◌≡◌, ◌≢◌, ⊤, ℕ, ◌+◌, ◌-◌, ◌*◌, ◌/◌, ◌^◌, ◌<◌, ◌≤◌, ◌==◌, if◌then◌else◌, List, [], ◌∷◌, ◌++◌, length, slice_get, ℤ, ◌+ℤ◌, Option, Some, None, Result, Ok, Err, All}
 use Rattle.mseed_time.specs.declared.order.Order.{Order}
 use Rattle.mseed_time.specs.declared.order.Order.TheVariants.{Big}
 use Rattle.mseed_time.specs.Fields.{number_at}
 use Rattle.mseed_steim.specs.declared.scheme.Scheme.{Scheme}
-use Rattle.mseed_steim.specs.declared.scheme.Scheme.TheVariants.{One, Two}
+use Rattle.mseed_steim.specs.declared.scheme.Scheme.TheVariants.{One as Steim1, Two as Steim2}
+use Rattle.mseed_steim.specs.declared.form.Width.{Width}
+use Rattle.mseed_steim.specs.declared.form.Width.TheVariants.{Two, Four}
+use Rattle.mseed_steim.specs.declared.form.Form.{Form}
+use Rattle.mseed_steim.specs.declared.form.Form.TheVariants.{Integers, Frames}
+use Rattle.mseed_steim.specs.declared.fault.Ends.{Ends}
 use Rattle.mseed_steim.specs.declared.fault.ReadFault.{ReadFault}
 use Rattle.mseed_steim.specs.declared.fault.ReadFault.TheVariants.{Short, BadWord, Overflow, LastDiffers}
 use Rattle.mseed_steim.specs.Spelling.{residue, IsWithin, SpellsNone}
 use Rattle.mseed_steim.specs.Frames.{DataWord, data_words, first_constant, last_constant}
 use Rattle.mseed_steim.specs.Runs.{SpellsRun}
 
--- How the encodings that are read hold samples: as integers of so many bytes, or as Steim frames.
-pub data Form : Type 0 where
-  integers : ℕ → Form
-  frames : Scheme → Form
+-- the bytes of an integer
+abbrev pub bytes_of : Width → ℕ
+bytes_of Two = 2
+bytes_of Four = 4
 
--- the encodings: 1 is 16-bit integers, 3 is 32-bit integers, 10 is Steim-1, 11 is Steim-2
+-- the encodings that are read: 1 is 16-bit integers, 3 is 32-bit integers, 10 is Steim-1, 11 is Steim-2
 abbrev pub form_of : ℕ → Option Form
 form_of encoding =
-    if encoding == 1 then Some (integers 2)
-    else if encoding == 3 then Some (integers 4)
-    else if encoding == 10 then Some (frames One)
-    else if encoding == 11 then Some (frames Two)
+    if encoding == 1 then Some (Integers Two)
+    else if encoding == 3 then Some (Integers Four)
+    else if encoding == 10 then Some (Frames Steim1)
+    else if encoding == 11 then Some (Frames Steim2)
     else None
 
 -- numbers of 32 bits
@@ -62,13 +67,13 @@ pub record AreSums (scheme : Scheme) (payload : List ℕ) (n : ℕ) (samples : L
 
 -- the n samples of a payload of this form and order; Steim frames are read in the order of their words alone
 abbrev pub IsPayloadReading : Form → Order → List ℕ → ℕ → List ℤ → Type 0
-IsPayloadReading (integers width) order payload n samples = (length samples ≡ n) × BeginsWith order width payload 0 samples
-IsPayloadReading (frames scheme) order payload n samples = (order ≡ Big) × AreSums scheme payload n samples × All IsSample samples
+IsPayloadReading (Integers width) order payload n samples = (length samples ≡ n) × BeginsWith order (bytes_of width) payload 0 samples
+IsPayloadReading (Frames scheme) order payload n samples = (order ≡ Big) × AreSums scheme payload n samples × All IsSample samples
 
 -- where the samples of Steim frames end on Xn; integers have no such constant
 abbrev pub EndsOnConstant : Form → List ℕ → List ℤ → Type 0
-EndsOnConstant (integers width) payload samples = ⊤
-EndsOnConstant (frames scheme) payload samples = slice_get samples (length samples - 1) ≡ Some (last_constant payload)
+EndsOnConstant (Integers width) payload samples = ⊤
+EndsOnConstant (Frames scheme) payload samples = slice_get samples (length samples - 1) ≡ Some (last_constant payload)
 
 -- Why n samples of Steim frames can't be read: all data words spell fewer differences; a word spells none
 -- and those before it fewer than n; the sum at a place is the first that 32 bits don't hold; the last sum
@@ -84,5 +89,15 @@ pub data IsFrameFault (scheme : Scheme) (payload : List ℕ) (n : ℕ) : ReadFau
 
 -- Why n samples of a payload can't be read; of integers, since it has fewer whole ones.
 abbrev pub IsPayloadFault : Form → List ℕ → ℕ → ReadFault → Type 0
-IsPayloadFault (integers width) payload n fault = (length payload / width < n) × (fault ≡ Short (length payload / width))
-IsPayloadFault (frames scheme) payload n fault = IsFrameFault scheme payload n fault
+IsPayloadFault (Integers width) payload n fault = (length payload / bytes_of width < n) × (fault ≡ Short (length payload / bytes_of width))
+IsPayloadFault (Frames scheme) payload n fault = IsFrameFault scheme payload n fault
+
+-- the first and the last of some samples
+abbrev pub AreEnds : Ends → List ℤ → Type 0
+AreEnds ends samples = (slice_get samples 0 ≡ Some ends.first) × (slice_get samples (length samples - 1) ≡ Some ends.last)
+
+-- the ends of samples that are a reading and end on their constant, or why there are none
+abbrev pub IsChecked : Form → Order → List ℕ → ℕ → Result Ends ReadFault → Type 0
+IsChecked form order payload n (Ok ends) =
+    (samples : List ℤ) × (IsPayloadReading form order payload n samples × EndsOnConstant form payload samples × AreEnds ends samples)
+IsChecked form order payload n (Err fault) = IsPayloadFault form payload n fault

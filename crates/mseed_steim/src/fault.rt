@@ -21,3 +21,10 @@ pub enum ReadFault {
     /// No memory for the samples.
     Memory,
 }
+
+/// The first and the last sample of a record.
+#[derive(Clone, Copy, Debug, PartialEq, Eq)]
+pub struct Ends {
+    pub first: i32,
+    pub last: i32,
+}

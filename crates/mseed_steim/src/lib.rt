@@ -2,9 +2,12 @@
 //! Manual 2.4, appendix B).
 #![tactic(auto)]
 
+mod check;
 mod differences;
 mod fault;
+mod form;
 mod frames;
+mod law;
 mod scheme;
 mod sum;
 #[cfg(test)]
@@ -12,7 +15,10 @@ mod tests;
 mod walk;
 mod word;
 
+pub use check::check_samples;
 pub use differences::{BadWordAt, Differences};
-pub use fault::ReadFault;
+pub use fault::{Ends, ReadFault};
+pub use form::{Form, Width};
+pub use law::one_reading;
 pub use scheme::Scheme;
 pub use word::{BadWord, unpack_word};

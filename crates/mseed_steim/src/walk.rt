@@ -1,20 +1,22 @@
 //! A walk over a payload's frames.
 
-ghost use Rattle.std.specs.Prelude.{◌≡◌, ◌<◌};
+ghost use Rattle.std.specs.Prelude.{◌≡◌, ◌≤◌, ◌<◌, ℕ, length, OnOk};
 ghost use Rattle.mseed_steim.specs.Frames.{first_constant, data_words};
 ghost use Rattle.mseed_steim.specs.Items.{items_of};
-ghost use Rattle.mseed_steim.specs.Sums.{fold};
+ghost use Rattle.mseed_steim.specs.Sums.{fold, lack};
 
 use crate::differences::BadWordAt;
 use crate::fault::ReadFault;
 use crate::frames::{count_words, read_code, read_word};
 use crate::scheme::Scheme;
 use crate::sum::{Sum, add_word};
+use crate::word::row_of;
 
 /// The sum of so many samples, or what comes first in place of one.
 pub(crate) fn add_frames(payload: &[u8], scheme: Scheme, samples: usize) -> Result<Sum, ReadFault>
     requires { 0 < samples }
-    ensures { result ≡ fold samples (record { met = 0; last = first_constant payload.now }) (items_of scheme (data_words payload.now)) }
+    ensures folded { result ≡ fold samples (record { met = 0; last = first_constant payload.now }) (items_of scheme (data_words payload.now)) }
+    ensures framed { OnOk result (64 ≤ length payload.now) }
 {
     let end = count_words(payload);
     if end == 0 {
@@ -52,4 +54,27 @@ pub(crate) fn add_frames(payload: &[u8], scheme: Scheme, samples: usize) -> Resu
     } else {
         Err(ReadFault::Short(sum.met))
     }
+}
+
+/// What comes first in place of one of so many differences, where any does, whatever they add up to.
+pub(crate) fn find_lack(payload: &[u8], scheme: Scheme, samples: usize) -> Option<ReadFault>
+    requires { 0 < samples }
+    ensures { result ≡ lack samples 0 (items_of scheme (data_words payload.now)) }
+{
+    let mut met = 0;
+    for index in 3..count_words(payload) {
+        if index % 16 == 0 {
+            continue;
+        }
+        match row_of(scheme, read_code(payload, index), read_word(payload, index)) {
+            Ok(group) => {
+                if samples - met <= group.len() {
+                    return None;
+                }
+                met += group.len();
+            }
+            Err(_) => return Some(ReadFault::BadWord(index / 16, index % 16)),
+        }
+    }
+    Some(ReadFault::Short(met))
 }

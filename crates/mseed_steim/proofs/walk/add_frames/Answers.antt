@@ -6,14 +6,14 @@ use Rattle.mseed_steim.proofs.Walking.{items_from, items_over, items_skip, items
 use Rattle.mseed_steim.proofs.Folds.{fold_enough, fold_short}
 use Rattle.mseed_steim.proofs.walk.add_frames.Goals as goal
 
-pub returns-then-end-eq0 : goal.returns-then-end-eq0
-returns-then-end-eq0 c =
+pub returns-then-end-eq0-clause-folded : goal.returns-then-end-eq0-clause-folded
+returns-then-end-eq0-clause-folded c =
     let none = items_over c.args.scheme c.args.payload.now 3 (word_count c.args.payload.now) (omega arith) in
     sym (ap (λ (items : List (Result ℤ BadWordAt)). fold c.args.samples (record { met = 0; last = first_constant c.args.payload.now }) items) none
     ∙ fold_short c.args.samples (record { met = 0; last = first_constant c.args.payload.now }) (λ e. omega arith))
 
-pub returns-then-sum-samples : goal.returns-then-sum-samples
-returns-then-sum-samples c = sym (c.loop-index.invariant.same ∙ fold_enough c.args.samples c.loop-index.sum _ c.if-sum-samples.true)
+pub returns-then-sum-samples-clause-folded : goal.returns-then-sum-samples-clause-folded
+returns-then-sum-samples-clause-folded c = sym (c.loop-index.invariant.same ∙ fold_enough c.args.samples c.loop-index.sum _ c.if-sum-samples.true)
 
 pub loop-index-preserved-then-index-eq0 : goal.loop-index-preserved-then-index-eq0
 loop-index-preserved-then-index-eq0 c = record {
@@ -22,8 +22,8 @@ loop-index-preserved-then-index-eq0 c = record {
   same = c.loop-index.invariant.same ∙ ap (λ (items : List (Result ℤ BadWordAt)). fold c.args.samples c.loop-index.sum items) (items_skip c.args.scheme c.args.payload.now c.loop-index.index c.count_words-end.result c.loop-index-test.true c.if-index-eq0.true);
 }
 
-pub returns-in-Err : goal.returns-in-Err
-returns-in-Err c =
+pub returns-in-Err-clause-folded : goal.returns-in-Err-clause-folded
+returns-in-Err-clause-folded c =
     let data_word : c.loop-index.index % 16 ≢ 0 = λ e. omega arith in
     let step = items_step c.args.scheme c.args.payload.now c.loop-index.index c.count_words-end.result c.loop-index-test.true data_word in
     let past = rw (c.read_code.ensures.value, c.read_word-in-loop-index.ensures) at (c.in-Err.ensures.goes_on (items_from c.args.scheme c.args.payload.now (c.loop-index.index + 1) c.count_words-end.result)) in
@@ -40,11 +40,11 @@ loop-index-preserved c =
       same = c.loop-index.invariant.same ∙ ap (λ (items : List (Result ℤ BadWordAt)). fold c.args.samples c.loop-index.sum items) step ∙ past;
     }
 
-pub returns-then-sum-samples-2 : goal.returns-then-sum-samples-2
-returns-then-sum-samples-2 c = sym (c.loop-index.invariant.same ∙ fold_enough c.args.samples c.loop-index.sum _ c.if-sum-samples-2.true)
+pub returns-then-sum-samples-2-clause-folded : goal.returns-then-sum-samples-2-clause-folded
+returns-then-sum-samples-2-clause-folded c = sym (c.loop-index.invariant.same ∙ fold_enough c.args.samples c.loop-index.sum _ c.if-sum-samples-2.true)
 
-pub returns-else-sum-samples-2 : goal.returns-else-sum-samples-2
-returns-else-sum-samples-2 c =
+pub returns-else-sum-samples-2-clause-folded : goal.returns-else-sum-samples-2-clause-folded
+returns-else-sum-samples-2-clause-folded c =
     let none = items_over c.args.scheme c.args.payload.now c.loop-index.index c.count_words-end.result c.loop-index-test.false in
     sym (c.loop-index.invariant.same ∙ ap (λ (items : List (Result ℤ BadWordAt)). fold c.args.samples c.loop-index.sum items) none
     ∙ fold_short c.args.samples c.loop-index.sum (λ e. c.if-sum-samples-2.false e))

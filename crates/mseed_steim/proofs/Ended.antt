@@ -1,0 +1,81 @@
+-- The ends of samples.
+use Rattle.std.proofs.Common.{◌≡◌, ◌≢◌, ℕ, suc, ◌-◌, ◌<◌, ◌≤◌, List, [], ◌∷◌, ◌++◌, length, get_or, ℤ, arith, refl, ap, sym, ◌∙◌, subst, slice_get, to_z, w32, ◌^◌, ⊎_elim, Option, Some, None, Result, Ok, Err, All}
+use Rattle.std.proofs.lemmas.Bool.{cases_lt, lt-ltb, le-ltb}
+use Rattle.byteorder.specs.Endian.{twos_complement}
+use Rattle.mseed_time.specs.declared.order.Order.TheVariants.{Big}
+use Rattle.mseed_steim.specs.declared.scheme.Scheme.{Scheme}
+use Rattle.mseed_steim.specs.declared.form.Form.TheVariants.{Frames}
+use Rattle.mseed_steim.specs.declared.fault.Ends.{Ends}
+use Rattle.mseed_steim.specs.declared.fault.ReadFault.{ReadFault}
+use Rattle.mseed_steim.specs.declared.fault.ReadFault.TheVariants.{LastDiffers}
+use Rattle.mseed_steim.specs.declared.sum.Sum.{Sum}
+use Rattle.mseed_steim.specs.Frames.{data_words, first_constant, last_constant}
+use Rattle.mseed_steim.specs.Items.{items_of}
+use Rattle.mseed_steim.specs.Samples.{IsSample, AreSums, IsFrameFault, last_differs, IsChecked}
+use Rattle.mseed_steim.specs.Sums.{fold, lack}
+use Rattle.mseed_steim.proofs.Given.{items_given, words_small}
+use Rattle.mseed_steim.proofs.Folded.{last_of, Lacks, lacks}
+use Rattle.mseed_steim.proofs.Framed.{minus, Met, Begins, begins, all_met, is_lacking, is_fault, constant_fits}
+
+-- the last of samples by its place, and what stands before it
+get_last : (x : ℤ) (ss : List ℤ) → slice_get (x ∷ ss) (length ss) ≡ Some (last_of x ss)
+get_last x [] = refl
+get_last x (s ∷ ss) = get_last s ss
+
+get_end : (x : ℤ) (ss : List ℤ) → slice_get (x ∷ ss) (length (x ∷ ss) - 1) ≡ Some (last_of x ss)
+get_end x ss = let place : length (x ∷ ss) - 1 ≡ length ss = omega arith in rw place (get_last x ss)
+
+before_last : (x : ℤ) (ss : List ℤ) → (front : List ℤ) × (x ∷ ss ≡ front ++ last_of x ss ∷ [])
+before_last x [] = ([], refl)
+before_last x (s ∷ ss) = let found = before_last s ss in (x ∷ found.0, ap (λ (xs : List ℤ). x ∷ xs) found.1)
+
+-- a walk that met all samples, from what it answers
+walked : (s : Scheme) (p : List ℕ) (n : ℕ) (sum : Sum) → 0 < n → ((i : ℕ) → get_or p i 0 < 256) → Ok sum ≡ fold n (record { met = 0; last = first_constant p }) (items_of s (data_words p)) → Met s p n sum.last
+walked s p n sum h octets e =
+    let b = subst (λ (r : Result Sum ReadFault). Begins n (first_constant p) (items_of s (data_words p)) r) (sym e) (begins n (first_constant p) (items_of s (data_words p)) h) in
+    all_met s p n (items_of s (data_words p)) sum (items_given s (data_words p) (words_small p octets 3 _)) (constant_fits p octets 1) b
+
+pub ends_met : (s : Scheme) (p : List ℕ) (n : ℕ) (sum : Sum) → 0 < n → ((i : ℕ) → get_or p i 0 < 256) → Ok sum ≡ fold n (record { met = 0; last = first_constant p }) (items_of s (data_words p))
+    → (ends : Ends) → ends.first ≡ first_constant p → ends.last ≡ last_constant p → sum.last ≡ last_constant p → IsChecked (Frames s) Big p n (Ok ends)
+ends_met s p n sum h octets e ends first last same =
+    let m = walked s p n sum h octets e in
+    let found : slice_get (first_constant p ∷ m.others) (length (first_constant p ∷ m.others) - 1) ≡ Some (last_constant p) = get_end (first_constant p) m.others ∙ ap (λ (z : ℤ). Some z) (sym m.ends ∙ same) in
+    (first_constant p ∷ m.others, ((refl, m.sums, m.range), found, (ap (λ (z : ℤ). Some z) (sym first), found ∙ ap (λ (z : ℤ). Some z) (sym last))))
+
+pub ends_differ : (s : Scheme) (p : List ℕ) (n : ℕ) (sum : Sum) → 0 < n → ((i : ℕ) → get_or p i 0 < 256) → Ok sum ≡ fold n (record { met = 0; last = first_constant p }) (items_of s (data_words p))
+    → (a c : ℤ) → a ≡ sum.last → c ≡ last_constant p → a ≢ c → IsFrameFault s p n (LastDiffers a c)
+ends_differ s p n sum h octets e a c found constant differ =
+    let m = walked s p n sum h octets e in
+    let split = before_last (first_constant p) m.others in
+    let last : a ≡ last_of (first_constant p) m.others = found ∙ m.ends in
+    let whole : first_constant p ∷ m.others ≡ split.0 ++ a ∷ [] = rw last split.1 in
+    subst (λ (z : ℤ). IsFrameFault s p n (LastDiffers a z)) (sym constant)
+    (last_differs split.0 a (subst (λ (xs : List ℤ). AreSums s p n xs) whole m.sums) (subst (λ (xs : List ℤ). All IsSample xs) whole m.range) (λ q. differ (q ∙ sym constant)))
+
+-- a walk that ended with a fault
+pub lacking_fault : (s : Scheme) (p : List ℕ) (n : ℕ) (f : ReadFault) → ((i : ℕ) → get_or p i 0 < 256) → Some f ≡ lack n 0 (items_of s (data_words p)) → IsFrameFault s p n f
+lacking_fault s p n f octets e =
+    let l = subst (λ (o : Option ReadFault). Lacks n 0 (items_of s (data_words p)) o) (sym e) (lacks n 0 (items_of s (data_words p)) (omega arith)) in
+    is_lacking s p n (items_of s (data_words p)) f (items_given s (data_words p) (words_small p octets 3 _)) l
+
+pub walk_fault : (s : Scheme) (p : List ℕ) (n : ℕ) (f : ReadFault) → 0 < n → ((i : ℕ) → get_or p i 0 < 256) → Err f ≡ fold n (record { met = 0; last = first_constant p }) (items_of s (data_words p)) → None ≡ lack n 0 (items_of s (data_words p)) → IsFrameFault s p n f
+walk_fault s p n f h octets e o =
+    let l = subst (λ (o : Option ReadFault). Lacks n 0 (items_of s (data_words p)) o) (sym o) (lacks n 0 (items_of s (data_words p)) (omega arith)) in
+    let b = subst (λ (r : Result Sum ReadFault). Begins n (first_constant p) (items_of s (data_words p)) r) (sym e) (begins n (first_constant p) (items_of s (data_words p)) h) in
+    is_fault s p n (items_of s (data_words p)) f h (items_given s (data_words p) (words_small p octets 3 _)) (constant_fits p octets 1) b l
+
+-- a word of 32 bits, cast to a signed number
+pub cast_is : (x : ℕ) → x < 2 ^ 32 → to_z w32 x ≡ twos_complement 4 x
+cast_is x small = ⊎_elim
+    (λ (low : x < 2 ^ 31). rw (lt-ltb x (2 ^ 31) low) refl)
+    (λ (high : 2 ^ 31 ≤ x). let same : 2 ^ 32 - suc x ≡ 2 ^ 32 - 1 - x = omega arith in rw (le-ltb x (2 ^ 31) high, minus x (2 ^ 32 - 1) small, same) refl)
+    (cases_lt x (2 ^ 31))
+
+last_pushed : (x : ℤ) (front : List ℤ) (last : ℤ) → last_of x (front ++ last ∷ []) ≡ last
+last_pushed x [] last = refl
+last_pushed x (y ∷ front) last = last_pushed y front last
+
+-- the last of samples, one of which was pushed
+pub get_pushed : (front : List ℤ) (last : ℤ) → slice_get (front ++ last ∷ []) (length (front ++ last ∷ []) - 1) ≡ Some last
+get_pushed [] last = refl
+get_pushed (x ∷ front) last = get_end x (front ++ last ∷ []) ∙ ap (λ (z : ℤ). Some z) (last_pushed x front last)

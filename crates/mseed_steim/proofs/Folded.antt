@@ -1,0 +1,124 @@
+-- What a walk over items answers, in the words of lists.
+use Rattle.std.proofs.Common.{◌≡◌, ℕ, ◌+◌, ◌<◌, ◌≤◌, ◌^◌, List, [], ◌∷◌, ◌++◌, map, length, ℤ, pos, negsuc, ◌+ℤ◌, arith, refl, ap, sym, ◌∙◌, subst, false, true, Option, Some, None, Result, Ok, Err, All, ⊎_elim}
+use Rattle.std.proofs.lemmas.Int.{ints}
+use Rattle.std.proofs.lemmas.Bool.{ne_eqb, eq-eqb, cases_lt}
+use Rattle.std.proofs.lemmas.Bool.Decides.{nat_tests}
+use Rattle.std.proofs.lemmas.List.Elements.{All-cons, All-nil}
+use Rattle.mseed_steim.specs.declared.differences.BadWordAt.{BadWordAt}
+use Rattle.mseed_steim.specs.declared.fault.ReadFault.{ReadFault}
+use Rattle.mseed_steim.specs.declared.fault.ReadFault.TheVariants.{Short, BadWord, Overflow}
+use Rattle.mseed_steim.specs.declared.sum.Sum.{Sum}
+use Rattle.mseed_steim.specs.Samples.{IsSample, Adds}
+use Rattle.mseed_steim.specs.Sums.{fits, fold, lack, one_more}
+use Rattle.mseed_steim.proofs.Folds.{fold_enough, fold_add, fold_over, fold_bad, fold_short}
+
+-- the last of some samples, or the one before them
+abbrev pub last_of : ℤ → List ℤ → ℤ
+last_of before [] = before
+last_of before (s ∷ ss) = last_of s ss
+
+-- the answer of a walk that has met m samples, the last of them l
+pub data Folds (n m : ℕ) (l : ℤ) (items : List (Result ℤ BadWordAt)) : Result Sum ReadFault → Type 0 where
+  done : (next : Sum) (ds ss : List ℤ) (more : List (Result ℤ BadWordAt)) → items ≡ map Ok ds ++ more → length ds + m ≡ n → length ss ≡ length ds → Adds l ds ss → All IsSample ss
+      → next.met ≡ n → next.last ≡ last_of l ss → Folds n m l items (Ok next)
+  short : (k : ℕ) (ds : List ℤ) → items ≡ map Ok ds → length ds + m ≡ k → k < n → Folds n m l items (Err (Short k))
+  bad : (ds : List ℤ) (at : BadWordAt) (more : List (Result ℤ BadWordAt)) → items ≡ map Ok ds ++ Err at ∷ more → length ds + m < n → Folds n m l items (Err (BadWord at.frame at.word))
+  over : (k : ℕ) (ds : List ℤ) (d : ℤ) (ss : List ℤ) (more : List (Result ℤ BadWordAt)) → items ≡ map Ok ds ++ Ok d ∷ more → length ds + m ≡ k → k < n → length ss ≡ length ds → Adds l ds ss → All IsSample ss
+      → ¬ (IsSample (last_of l ss +ℤ d)) → Folds n m l items (Err (Overflow k))
+
+-- the test of 32 bits
+pub fits_sample : (z : ℤ) → fits z ≡ true → IsSample z
+fits_sample (pos n) e = let h : n < 2 ^ 31 = grind (arith, nat_tests) in (omega (arith, ints), omega (arith, ints))
+fits_sample (negsuc n) e = let h : n < 2 ^ 31 = grind (arith, nat_tests) in (omega (arith, ints), omega (arith, ints))
+
+pub fits_not : (z : ℤ) → fits z ≡ false → ¬ (IsSample z)
+fits_not (pos n) e s = let h : 2 ^ 31 ≤ n = grind (arith, nat_tests) in omega (arith, ints, s.1)
+fits_not (negsuc n) e s = let h : 2 ^ 31 ≤ n = grind (arith, nat_tests) in omega (arith, ints, s.0)
+
+-- a difference in front
+more_folded : (n m : ℕ) (l d : ℤ) (items : List (Result ℤ BadWordAt)) (r : Result Sum ReadFault) → IsSample (l +ℤ d) → Folds n (m + 1) (l +ℤ d) items r → Folds n m l (Ok d ∷ items) r
+more_folded n m l d items r fit (done next ds ss more e count same adds all met last) =
+    done next (d ∷ ds) ((l +ℤ d) ∷ ss) more (ap (λ (xs : List (Result ℤ BadWordAt)). Ok d ∷ xs) e) (omega arith) (omega arith) (refl, adds) (All-cons IsSample (l +ℤ d) ss fit all) met last
+more_folded n m l d items r fit (short k ds e count less) = short k (d ∷ ds) (ap (λ (xs : List (Result ℤ BadWordAt)). Ok d ∷ xs) e) (omega arith) less
+more_folded n m l d items r fit (bad ds at more e less) = bad (d ∷ ds) at more (ap (λ (xs : List (Result ℤ BadWordAt)). Ok d ∷ xs) e) (omega arith)
+more_folded n m l d items r fit (over k ds x ss more e count less same adds all not) =
+    over k (d ∷ ds) x ((l +ℤ d) ∷ ss) more (ap (λ (xs : List (Result ℤ BadWordAt)). Ok d ∷ xs) e) (omega arith) less (omega arith) (refl, adds) (All-cons IsSample (l +ℤ d) ss fit all) not
+
+enough : (n : ℕ) (s : Sum) (items : List (Result ℤ BadWordAt)) → s.met ≡ n → Folds n s.met s.last items (fold n s items)
+enough n s items e = subst (λ r. Folds n s.met s.last items r) (sym (fold_enough n s items e)) (done s [] [] items refl (omega arith) refl tt (All-nil IsSample) e refl)
+
+pub folds : (n : ℕ) (s : Sum) (items : List (Result ℤ BadWordAt)) → 0 < s.met → s.met ≤ n → Folds n s.met s.last items (fold n s items)
+folds n s [] p h = ⊎_elim
+    (λ (less : s.met < n). subst (λ r. Folds n s.met s.last [] r) (sym (fold_short n s (λ (z : s.met ≡ n). omega arith))) (short s.met [] refl (omega arith) less))
+    (λ (most : n ≤ s.met). enough n s [] (omega arith))
+    (cases_lt s.met n)
+folds n s (Err at ∷ more) p h = ⊎_elim
+    (λ (less : s.met < n). subst (λ r. Folds n s.met s.last (Err at ∷ more) r) (sym (fold_bad n s at more less)) (bad [] at more refl (omega arith)))
+    (λ (most : n ≤ s.met). enough n s (Err at ∷ more) (omega arith))
+    (cases_lt s.met n)
+folds n s (Ok d ∷ more) p h = ⊎_elim
+    (λ (less : s.met < n).
+    let later = folds n (one_more s (s.last +ℤ d)) more (omega arith) (omega arith) in
+    (elim (fits (s.last +ℤ d)) as (λ b. fits (s.last +ℤ d) ≡ b → Folds n s.met s.last (Ok d ∷ more) (fold n s (Ok d ∷ more))) [
+      | true ↦ λ e. subst (λ r. Folds n s.met s.last (Ok d ∷ more) r) (sym (fold_add n s d more less p e)) (more_folded n s.met s.last d more _ (fits_sample (s.last +ℤ d) e) later)
+      | false ↦ λ e. subst (λ r. Folds n s.met s.last (Ok d ∷ more) r) (sym (fold_over n s d more less p e)) (over s.met [] d [] more refl (omega arith) less refl tt (All-nil IsSample) (fits_not (s.last +ℤ d) e))
+    ]) refl)
+    (λ (most : n ≤ s.met). enough n s (Ok d ∷ more) (omega arith))
+    (cases_lt s.met n)
+
+-- what is lacking
+pub data Lacks (n m : ℕ) (items : List (Result ℤ BadWordAt)) : Option ReadFault → Type 0 where
+  nothing : (ds : List ℤ) (more : List (Result ℤ BadWordAt)) → items ≡ map Ok ds ++ more → length ds + m ≡ n → Lacks n m items None
+  short : (k : ℕ) (ds : List ℤ) → items ≡ map Ok ds → length ds + m ≡ k → k < n → Lacks n m items (Some (Short k))
+  bad : (ds : List ℤ) (at : BadWordAt) (more : List (Result ℤ BadWordAt)) → items ≡ map Ok ds ++ Err at ∷ more → length ds + m < n → Lacks n m items (Some (BadWord at.frame at.word))
+
+pub lack_enough : (n m : ℕ) (items : List (Result ℤ BadWordAt)) → m ≡ n → lack n m items ≡ None
+unfolding lack
+lack_enough n m [] e = rw (eq-eqb m n e) refl
+lack_enough n m (Ok d ∷ more) e = rw (eq-eqb m n e) refl
+lack_enough n m (Err at ∷ more) e = rw (eq-eqb m n e) refl
+
+pub lack_more : (n m : ℕ) (d : ℤ) (more : List (Result ℤ BadWordAt)) → m < n → lack n m (Ok d ∷ more) ≡ lack n (m + 1) more
+unfolding lack
+lack_more n m d more h = rw (ne_eqb m n (λ (z : m ≡ n). omega arith)) refl
+
+pub lack_bad : (n m : ℕ) (at : BadWordAt) (more : List (Result ℤ BadWordAt)) → m < n → lack n m (Err at ∷ more) ≡ Some (BadWord at.frame at.word)
+unfolding lack
+lack_bad n m at more h = rw (ne_eqb m n (λ (z : m ≡ n). omega arith)) refl
+
+pub lack_short : (n m : ℕ) → m < n → lack n m [] ≡ Some (Short m)
+unfolding lack
+lack_short n m h = rw (ne_eqb m n (λ (z : m ≡ n). omega arith)) refl
+
+more_lacked : (n m : ℕ) (d : ℤ) (items : List (Result ℤ BadWordAt)) (o : Option ReadFault) → Lacks n (m + 1) items o → Lacks n m (Ok d ∷ items) o
+more_lacked n m d items o (nothing ds more e count) = nothing (d ∷ ds) more (ap (λ (xs : List (Result ℤ BadWordAt)). Ok d ∷ xs) e) (omega arith)
+more_lacked n m d items o (short k ds e count less) = short k (d ∷ ds) (ap (λ (xs : List (Result ℤ BadWordAt)). Ok d ∷ xs) e) (omega arith) less
+more_lacked n m d items o (bad ds at more e less) = bad (d ∷ ds) at more (ap (λ (xs : List (Result ℤ BadWordAt)). Ok d ∷ xs) e) (omega arith)
+
+pub lacks : (n m : ℕ) (items : List (Result ℤ BadWordAt)) → m ≤ n → Lacks n m items (lack n m items)
+lacks n m [] h = ⊎_elim
+    (λ (less : m < n). subst (λ o. Lacks n m [] o) (sym (lack_short n m less)) (short m [] refl (omega arith) less))
+    (λ (most : n ≤ m). subst (λ o. Lacks n m [] o) (sym (lack_enough n m [] (omega arith))) (nothing [] [] refl (omega arith)))
+    (cases_lt m n)
+lacks n m (Err at ∷ more) h = ⊎_elim
+    (λ (less : m < n). subst (λ o. Lacks n m (Err at ∷ more) o) (sym (lack_bad n m at more less)) (bad [] at more refl (omega arith)))
+    (λ (most : n ≤ m). subst (λ o. Lacks n m (Err at ∷ more) o) (sym (lack_enough n m (Err at ∷ more) (omega arith))) (nothing [] (Err at ∷ more) refl (omega arith)))
+    (cases_lt m n)
+lacks n m (Ok d ∷ more) h = ⊎_elim
+    (λ (less : m < n). subst (λ o. Lacks n m (Ok d ∷ more) o) (sym (lack_more n m d more less)) (more_lacked n m d more _ (lacks n (m + 1) more (omega arith))))
+    (λ (most : n ≤ m). subst (λ o. Lacks n m (Ok d ∷ more) o) (sym (lack_enough n m (Ok d ∷ more) (omega arith))) (nothing [] (Ok d ∷ more) refl (omega arith)))
+    (cases_lt m n)
+
+-- past a word's differences
+pub lack_group : (n m : ℕ) (ds : List ℤ) (more : List (Result ℤ BadWordAt)) → m + length ds < n → lack n m (map Ok ds ++ more) ≡ lack n (m + length ds) more
+lack_group n m [] more h = ap (λ (k : ℕ). lack n k more) (omega arith)
+lack_group n m (d ∷ ds) more h =
+    lack_more n m d (map Ok ds ++ more) (omega arith) ∙ lack_group n (m + 1) ds more (omega arith) ∙ ap (λ (k : ℕ). lack n k more) (omega arith)
+
+-- the differences are enough
+pub lack_none : (n m : ℕ) (ds : List ℤ) (more : List (Result ℤ BadWordAt)) → m < n → n ≤ m + length ds → lack n m (map Ok ds ++ more) ≡ None
+lack_none n m [] more h e = absurd (omega arith)
+lack_none n m (d ∷ ds) more h e = ⊎_elim
+    (λ (less : m + 1 < n). lack_more n m d (map Ok ds ++ more) h ∙ lack_none n (m + 1) ds more less (omega arith))
+    (λ (most : n ≤ m + 1). lack_more n m d (map Ok ds ++ more) h ∙ lack_enough n (m + 1) (map Ok ds ++ more) (omega arith))
+    (cases_lt (m + 1) n)

@@ -1,0 +1,199 @@
+-- A record has one reading at most, or one fault.
+use Rattle.std.proofs.Common.{◌≡◌, ◌≢◌, ℕ, ◌+◌, ◌-◌, ◌*◌, ◌/◌, ◌<◌, ◌≤◌, List, [], ◌∷◌, ◌++◌, length, ℤ, arith, refl, ap, sym, ◌∙◌, subst, slice_get, true, false, Some, Result, Ok, Err, IsOkAnd, IfOk, IfErr, ◌↔◌, All}
+use Rattle.std.proofs.Math.Nat.{mul-suc}
+use Rattle.mseed_time.specs.declared.order.Order.{Order}
+use Rattle.mseed_time.specs.declared.order.Order.TheVariants.{Big, Little}
+use Rattle.mseed_record.specs.View.{View, HasPayload, payload_of}
+use Rattle.mseed_steim.specs.declared.scheme.Scheme.{Scheme}
+use Rattle.mseed_steim.specs.declared.form.Width.{Width}
+use Rattle.mseed_steim.specs.declared.form.Width.TheVariants.{Two, Four}
+use Rattle.mseed_steim.specs.declared.form.Form.{Form}
+use Rattle.mseed_steim.specs.declared.form.Form.TheVariants.{Integers, Frames}
+use Rattle.mseed_steim.specs.declared.fault.Ends.{Ends}
+use Rattle.mseed_steim.specs.declared.fault.ReadFault.{ReadFault}
+use Rattle.mseed_steim.specs.declared.fault.ReadFault.TheVariants.{Blockette100, Encoding, LittleSteim, DataOffset, Short, BadWord, Overflow, LastDiffers, Memory}
+use Rattle.mseed_steim.specs.Frames.{last_constant}
+use Rattle.mseed_steim.specs.Samples.{bytes_of, form_of, BeginsWith, IsPayloadReading, EndsOnConstant, IsPayloadFault, IsSample, AreEnds, short, bad_word, overflow, last_differs, IsFrameFault, IsChecked}
+use Rattle.mseed_steim.specs.Reading.{count_of, IsReading, EndsOnConstants, HasOneReading, IsReadable, IsFault, blockette_100, encoding, little_steim, data_offset, in_payload, Denies, HoldsIn, IsAnswer, is_little_steim}
+use Rattle.mseed_steim.proofs.Words.{residue_one}
+use Rattle.mseed_steim.proofs.Runs.{sums_one, fault_one, not_short, not_bad, not_in}
+use Rattle.mseed_steim.proofs.Ended.{get_pushed}
+
+begins_one : (order : Order) (w : ℕ) (p : List ℕ) (place : ℕ) (ss ts : List ℤ) → 0 < w → length ss ≡ length ts → BeginsWith order w p place ss → BeginsWith order w p place ts → ss ≡ ts
+begins_one order w p place [] [] some l h k = refl
+begins_one order w p place [] (t ∷ ts) some l h k = absurd (omega arith)
+begins_one order w p place (s ∷ ss) [] some l h k = absurd (omega arith)
+begins_one order w p place (s ∷ ss) (t ∷ ts) some l h k =
+    let positive : 0 < 8 * w = omega arith in
+    let first : s ≡ t = residue_one (8 * w) s t positive h.1 k.1 (sym h.2 ∙ k.2) in
+    let later : ss ≡ ts = begins_one order w p (place + w) ss ts some (omega arith) h.3 k.3 in
+    cc
+
+begins_long : (order : Order) (w : ℕ) (p : List ℕ) (place : ℕ) (ss : List ℤ) → place ≤ length p → BeginsWith order w p place ss → place + w * length ss ≤ length p
+begins_long order w p place [] within h = omega arith
+begins_long order w p place (s ∷ ss) within h =
+    let later = begins_long order w p (place + w) ss h.0 h.3 in
+    omega (arith, later, mul-suc w (length ss))
+
+payload_one : (form : Form) (order : Order) (p : List ℕ) (n : ℕ) (ss ts : List ℤ) → IsPayloadReading form order p n ss → IsPayloadReading form order p n ts → ss ≡ ts
+payload_one (Integers Two) order p n ss ts h k = begins_one order 2 p 0 ss ts (omega arith) (h.0 ∙ sym k.0) h.1 k.1
+payload_one (Integers Four) order p n ss ts h k = begins_one order 4 p 0 ss ts (omega arith) (h.0 ∙ sym k.0) h.1 k.1
+payload_one (Frames scheme) order p n ss ts h k = sums_one scheme p n ss ts h.1 k.1
+
+-- A record has one reading at most.
+pub reading_one : (v : View) → HasOneReading v
+reading_one v ss ts a b =
+    let same : a.form ≡ b.form = cc (a.encoding, b.encoding) in
+    payload_one b.form v.payload_order (payload_of v) (count_of v) ss ts (subst (λ (form : Form). IsPayloadReading form v.payload_order (payload_of v) (count_of v) ss) same a.spelled) b.spelled
+
+-- integers that are there leave no fault
+integers_fit : (width : Width) (order : Order) (p : List ℕ) (n : ℕ) (ss : List ℤ) → IsPayloadReading (Integers width) order p n ss → length p / bytes_of width < n → ⊥
+integers_fit Two order p n ss h less = let long = begins_long order 2 p 0 ss (omega arith) h.1 in omega (arith, long, h.0)
+integers_fit Four order p n ss h less = let long = begins_long order 4 p 0 ss (omega arith) h.1 in omega (arith, long, h.0)
+
+payload_fault_one : (form : Form) (p : List ℕ) (n : ℕ) (f g : ReadFault) → IsPayloadFault form p n f → IsPayloadFault form p n g → f ≡ g
+payload_fault_one (Integers width) p n f g h k = h.1 ∙ sym k.1
+payload_fault_one (Frames scheme) p n f g h k = fault_one scheme p n f g h k
+
+not_readable : (form : Form) (order : Order) (s : Scheme) → form ≡ Frames s → order ≡ Little → IsReadable form order → ⊥
+not_readable (Integers width) order s e l h = cc
+not_readable (Frames scheme) order s e l h = cc
+
+-- A record has one fault at most.
+pub record_fault_one : (v : View) (f g : ReadFault) → IsFault v f → IsFault v g → f ≡ g
+record_fault_one v f g (blockette_100 a) (blockette_100 b) = refl
+record_fault_one v f g (blockette_100 a) (encoding b e) = cc (a, b)
+record_fault_one v f g (blockette_100 a) (little_steim b s e l) = cc (a, b)
+record_fault_one v f g (blockette_100 a) (data_offset b form e r p) = cc (a, b)
+record_fault_one v f g (blockette_100 a) (in_payload b form e r p fault h) = cc (a, b)
+record_fault_one v f g (encoding a d) (blockette_100 b) = cc (a, b)
+record_fault_one v f g (encoding a d) (encoding b e) = refl
+record_fault_one v f g (encoding a d) (little_steim b s e l) = cc (d, e)
+record_fault_one v f g (encoding a d) (data_offset b form e r p) = cc (d, e)
+record_fault_one v f g (encoding a d) (in_payload b form e r p fault h) = cc (d, e)
+record_fault_one v f g (little_steim a s d l) (blockette_100 b) = cc (a, b)
+record_fault_one v f g (little_steim a s d l) (encoding b e) = cc (d, e)
+record_fault_one v f g (little_steim a s d l) (little_steim b t e m) = refl
+record_fault_one v f g (little_steim a s d l) (data_offset b form e r p) = absurd (not_readable form v.payload_order s (cc (d, e)) l r)
+record_fault_one v f g (little_steim a s d l) (in_payload b form e r p fault h) = absurd (not_readable form v.payload_order s (cc (d, e)) l r)
+record_fault_one v f g (data_offset a form d r p) (blockette_100 b) = cc (a, b)
+record_fault_one v f g (data_offset a form d r p) (encoding b e) = cc (d, e)
+record_fault_one v f g (data_offset a form d r p) (little_steim b s e l) = absurd (not_readable form v.payload_order s (cc (d, e)) l r)
+record_fault_one v f g (data_offset a form d r p) (data_offset b form' e r' p') = refl
+record_fault_one v f g (data_offset a form d r p) (in_payload b form' e r' p' fault h) = absurd (p p')
+record_fault_one v f g (in_payload a form d r p fault h) (blockette_100 b) = cc (a, b)
+record_fault_one v f g (in_payload a form d r p fault h) (encoding b e) = cc (d, e)
+record_fault_one v f g (in_payload a form d r p fault h) (little_steim b s e l) = absurd (not_readable form v.payload_order s (cc (d, e)) l r)
+record_fault_one v f g (in_payload a form d r p fault h) (data_offset b form' e r' p') = absurd (p' p)
+record_fault_one v f g (in_payload a form d r p fault h) (in_payload b form' e r' p' fault' h') =
+    let same : form ≡ form' = cc (d, e) in
+    payload_fault_one form' (payload_of v) (count_of v) f g (subst (λ (x : Form). IsPayloadFault x (payload_of v) (count_of v) f) same h) h'
+
+-- two forms of one encoding
+same_payload : (v : View) (form : Form) (s : List ℤ) → form_of v.encoding ≡ Some form → IsReading v s → IsPayloadReading form v.payload_order (payload_of v) (count_of v) s
+same_payload v form s e a =
+    let same : a.form ≡ form = cc (a.encoding, e) in
+    subst (λ (x : Form). IsPayloadReading x v.payload_order (payload_of v) (count_of v) s) same a.spelled
+
+-- what a fault of frames denies
+differs : (v : View) (scheme : Scheme) (front : List ℤ) (last : ℤ) → 0 < count_of v → v.has_rate_blockette ≡ false → form_of v.encoding ≡ Some (Frames scheme) → v.payload_order ≡ Big → HasPayload v
+    → IsPayloadReading (Frames scheme) v.payload_order (payload_of v) (count_of v) (front ++ last ∷ []) → last ≢ last_constant (payload_of v) → Denies v (LastDiffers last (last_constant (payload_of v)))
+differs v scheme front last some a e big p h not =
+    let whole : IsReading v (front ++ last ∷ []) = record { some = some; one_rate = a; form = Frames scheme; encoding = e; payload = p; spelled = h } in (
+      front ++ last ∷ [],
+      (
+        whole,
+        λ t b.
+            let one : front ++ last ∷ [] ≡ t = reading_one v (front ++ last ∷ []) t whole b in (
+              one,
+              λ ends.
+                  let end : slice_get (front ++ last ∷ []) (length (front ++ last ∷ []) - 1) ≡ Some (last_constant (payload_of v)) = subst (λ (xs : List ℤ). slice_get xs (length xs - 1) ≡ Some (last_constant (payload_of v))) (sym one) (ends (Frames scheme) e) in
+                  not (cc (end, get_pushed front last)),
+            ),
+      ),
+    )
+
+frames_deny : (v : View) (scheme : Scheme) (f : ReadFault) → 0 < count_of v → v.has_rate_blockette ≡ false → form_of v.encoding ≡ Some (Frames scheme) → v.payload_order ≡ Big → HasPayload v → IsFrameFault scheme (payload_of v) (count_of v) f → Denies v f
+frames_deny v scheme f some a e big p (short ds h less) = λ s r.
+    let q = same_payload v (Frames scheme) s e r in not_short scheme (payload_of v) (count_of v) s ds q.1 h less
+frames_deny v scheme f some a e big p (bad_word before bad after ds cut h less none) = λ s r.
+    let q = same_payload v (Frames scheme) s e r in not_bad scheme (payload_of v) (count_of v) s before bad after ds q.1 cut h less none
+frames_deny v scheme f some a e big p (overflow front sum rest sums all not) = λ s r.
+    let q = same_payload v (Frames scheme) s e r in
+    not_in front sum rest (subst (λ (xs : List ℤ). All IsSample xs) (sums_one scheme (payload_of v) (count_of v) s (front ++ sum ∷ rest) q.1 sums) q.2) not
+frames_deny v scheme f some a e big p (last_differs front last sums all not) = differs v scheme front last some a e big p (big, sums, all) not
+
+-- What a fault says of readings.
+pub fault_denies : (v : View) (f : ReadFault) → 0 < count_of v → IsFault v f → Denies v f
+fault_denies v f some (blockette_100 a) = λ s r. cc (a, r.one_rate)
+fault_denies v f some (encoding a d) = λ s r. cc (d, r.encoding)
+fault_denies v f some (little_steim a scheme d l) = λ s r. let q = same_payload v (Frames scheme) s d r in cc (q.0, l)
+fault_denies v f some (data_offset a form d readable p) = λ s r. p r.payload
+fault_denies v f some (in_payload a (Integers width) d readable p fault h) =
+    subst (λ (x : ReadFault). Denies v x) (sym h.1) (λ s r. integers_fit width v.payload_order (payload_of v) (count_of v) s (same_payload v (Integers width) s d r) h.0)
+fault_denies v f some (in_payload a (Frames scheme) d readable p fault h) = frames_deny v scheme f some a d readable p h
+
+-- So a record with a fault has no reading that ends on its constants.
+denied : (v : View) (f : ReadFault) (s : List ℤ) → Denies v f → IsReading v s → EndsOnConstants v s → ⊥
+denied v Blockette100 s h r e = h s r
+denied v (Encoding code) s h r e = h s r
+denied v LittleSteim s h r e = h s r
+denied v DataOffset s h r e = h s r
+denied v (Short found) s h r e = h s r
+denied v (BadWord frame word) s h r e = h s r
+denied v (Overflow index) s h r e = h s r
+denied v (LastDiffers found constant) s h r e = (h.1.1 s r).1 e
+denied v Memory s h r e = h s r
+
+-- what the answer of a check means
+pub answer_ends : (v : View) (r : Result Ends ReadFault) → IsAnswer v r → IfOk r (λ ends. (s : List ℤ) × (IsReading v s × EndsOnConstants v s × AreEnds ends s))
+answer_ends v (Ok ends) h = h
+answer_ends v (Err f) h = tt
+
+pub answer_only : (v : View) (r : Result Ends ReadFault) → 0 < count_of v → IsAnswer v r → (s : List ℤ) → IsReading v s → EndsOnConstants v s → IsOkAnd r (λ ends. AreEnds ends s)
+answer_only v (Ok ends) some h s a e = subst (λ (xs : List ℤ). AreEnds ends xs) (reading_one v h.0 s h.1.0 a) h.1.2
+answer_only v (Err f) some h s a e = absurd (denied v f s (fault_denies v f some h) a e)
+
+pub answer_fault : (v : View) (r : Result Ends ReadFault) → 0 < count_of v → IsAnswer v r → (f : ReadFault) → (r ≡ Err f) ↔ IsFault v f
+answer_fault v (Ok ends) some h f = ((λ e. cc), (λ q. absurd (denied v f h.0 (fault_denies v f some q) h.1.0 h.1.1)))
+answer_fault v (Err g) some h f = ((λ e. let same : g ≡ f = cc in subst (λ (x : ReadFault). IsFault v x) same h), (λ q. ap Err (record_fault_one v g f h q)))
+
+pub answer_denies : (v : View) (r : Result Ends ReadFault) → 0 < count_of v → IsAnswer v r → IfErr r (λ f. Denies v f)
+answer_denies v (Ok ends) some h = tt
+answer_denies v (Err f) some h = fault_denies v f some h
+
+-- a check of the payload is one of the record
+pub payload_answer : (v : View) (form : Form) (p : List ℕ) (r : Result Ends ReadFault) → 0 < count_of v → HoldsIn v form p → IsChecked form v.payload_order p (count_of v) r → IsAnswer v r
+payload_answer v form p (Ok ends) some holds h =
+    let e : form_of v.encoding ≡ Some form = holds.1 in (
+      h.0,
+      (
+        record {
+          some = some;
+          one_rate = holds.0;
+          form = form;
+          encoding = e;
+          payload = holds.3;
+          spelled = subst (λ (xs : List ℕ). IsPayloadReading form v.payload_order xs (count_of v) h.0) holds.4 h.1.0;
+        },
+        (λ other q. let same : form ≡ other = cc (e, q) in
+            subst (λ (x : Form). EndsOnConstant x (payload_of v) h.0) same (subst (λ (xs : List ℕ). EndsOnConstant form xs h.0) holds.4 h.1.1)),
+        h.1.2,
+      ),
+    )
+payload_answer v form p (Err f) some holds h =
+    in_payload holds.0 form holds.1 holds.2 holds.3 f (subst (λ (xs : List ℕ). IsPayloadFault form xs (count_of v) f) holds.4 h)
+
+little_in : (v : View) (form : Form) (order : Order) → v.has_rate_blockette ≡ false → form_of v.encoding ≡ Some form → v.payload_order ≡ order → is_little_steim form order ≡ true → IsFault v LittleSteim
+little_in v (Integers width) order a e l h = cc
+little_in v (Frames scheme) Big a e l h = cc
+little_in v (Frames scheme) Little a e l h = little_steim a scheme e l
+
+-- what the test of little-endian frames tells
+pub little_fault : (v : View) (form : Form) → v.has_rate_blockette ≡ false → form_of v.encoding ≡ Some form → is_little_steim form v.payload_order ≡ true → IsFault v LittleSteim
+little_fault v form a e h = little_in v form v.payload_order a e refl h
+
+pub readable_else : (form : Form) (order : Order) → is_little_steim form order ≡ false → IsReadable form order
+readable_else (Integers width) order h = tt
+readable_else (Frames scheme) Big h = refl
+readable_else (Frames scheme) Little h = cc

@@ -1,0 +1,133 @@
+//! Payloads that are checked without keeping their samples.
+
+ghost use Rattle.std.specs.Prelude.{◌≡◌, ◌↔◌, ◌<◌, List, ℤ, IfOk, IfErr, IsOkAnd, Err};
+ghost use Rattle.mseed_record.specs.Viewing.{view_of};
+ghost use Rattle.mseed_time.specs.declared.order.Order.TheVariants.{Big};
+ghost use Rattle.mseed_steim.specs.declared.form.Form.TheVariants.{Integers, Frames};
+ghost use Rattle.mseed_steim.specs.Samples.{IsChecked, AreEnds};
+ghost use Rattle.mseed_steim.specs.declared.fault.ReadFault.{ReadFault};
+ghost use Rattle.mseed_steim.specs.Reading.{count_of, IsReading, EndsOnConstants, IsFault, Denies, HoldsIn, IsAnswer, is_little_steim};
+
+use crate::fault::{Ends, ReadFault};
+use crate::form::{Form, Width, form_of, integer_at};
+use crate::frames::read_word;
+use crate::scheme::Scheme;
+use crate::walk::{add_frames, find_lack};
+use mseed_record::RecordView;
+use mseed_time::Order;
+
+/// The ends of so many samples of Steim frames.
+pub(crate) fn check_frames(
+    payload: &[u8],
+    scheme: Scheme,
+    samples: usize,
+) -> Result<Ends, ReadFault>
+    requires { 0 < samples }
+    ensures { IsChecked (Frames scheme) Big payload.now samples result }
+{
+    match add_frames(payload, scheme, samples) {
+        Ok(sum) => {
+            let first = read_word(payload, 1).cast_signed();
+            let last = read_word(payload, 2).cast_signed();
+            if sum.last == last {
+                Ok(Ends { first, last })
+            } else {
+                Err(ReadFault::LastDiffers(sum.last, last))
+            }
+        }
+        Err(fault) => match find_lack(payload, scheme, samples) {
+            Some(earlier) => Err(earlier),
+            None => Err(fault),
+        },
+    }
+}
+
+/// The ends of so many integers.
+pub(crate) fn check_integers(
+    payload: &[u8],
+    width: Width,
+    order: Order,
+    samples: usize,
+) -> Result<Ends, ReadFault>
+    requires { 0 < samples }
+    ensures { IsChecked (Integers width) order payload.now samples result }
+{
+    let found = payload.len() / width.bytes();
+    if found < samples {
+        return Err(ReadFault::Short(found));
+    }
+    Ok(Ends {
+        first: integer_at(payload, width, order, 0),
+        last: integer_at(payload, width, order, width.bytes() * (samples - 1)),
+    })
+}
+
+/// Steim frames of little-endian words.
+fn is_little_steim(form: Form, order: Order) -> bool
+    ensures { result ≡ is_little_steim form order }
+{
+    match form {
+        Form::Integers(_) => false,
+        Form::Frames(_) => match order {
+            Order::Big => false,
+            Order::Little => true,
+        },
+    }
+}
+
+/// How a record holds its samples, and the bytes that do.
+pub(crate) fn payload_of<'a>(view: &RecordView<'a>) -> Result<(Form, &'a [u8]), ReadFault>
+    ensures held { IfOk result (λ found. HoldsIn (view_of view.now) found.0 found.1.now) }
+    ensures fault { IfErr result (λ fault. IsFault (view_of view.now) fault) }
+{
+    if view.has_rate_blockette() {
+        return Err(ReadFault::Blockette100);
+    }
+    let code = view.encoding();
+    let Some(form) = form_of(code) else {
+        return Err(ReadFault::Encoding(code));
+    };
+    if is_little_steim(form, view.payload_order()) {
+        return Err(ReadFault::LittleSteim);
+    }
+    match view.payload() {
+        Ok(payload) => Ok((form, payload)),
+        Err(_) => Err(ReadFault::DataOffset),
+    }
+}
+
+/// The ends of a record's samples.
+fn check_record(view: &RecordView<'_>) -> Result<Ends, ReadFault>
+    requires { 0 < count_of (view_of view.now) }
+    ensures { IsAnswer (view_of view.now) result }
+{
+    let (form, payload) = match payload_of(view) {
+        Ok(found) => found,
+        Err(fault) => return Err(fault),
+    };
+    let samples = usize::from(view.samples());
+    match form {
+        Form::Integers(width) => check_integers(payload, width, view.payload_order(), samples),
+        Form::Frames(scheme) => check_frames(payload, scheme, samples),
+    }
+}
+
+/// The first and the last of a record's samples, without keeping any: those of its one reading, where it
+/// ends on the payload's constant.
+///
+/// # Errors
+///
+/// The first reason, in the order of [`ReadFault`], why the record has no such reading.
+pub fn check_samples(view: &RecordView<'_>) -> Result<Ends, ReadFault>
+    requires { 0 < count_of (view_of view.now) }
+    // What is answered are the ends of a reading.
+    ensures ends { IfOk result (λ ends. (s : List ℤ) × (IsReading (view_of view.now) s × EndsOnConstants (view_of view.now) s × AreEnds ends s)) }
+    // There's no other, and where there is one, its ends are answered.
+    ensures only { (s : List ℤ) → IsReading (view_of view.now) s → EndsOnConstants (view_of view.now) s → IsOkAnd result (λ ends. AreEnds ends s) }
+    // A fault is answered exactly where it is the first.
+    ensures fault { (f : ReadFault) → (result ≡ Err f) ↔ IsFault (view_of view.now) f }
+    // A fault says that there's no reading, or that the only one ends elsewhere.
+    ensures denied { IfErr result (λ f. Denies (view_of view.now) f) }
+{
+    check_record(view)
+}

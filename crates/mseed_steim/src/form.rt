@@ -1,0 +1,69 @@
+//! How a payload holds samples.
+
+ghost use Rattle.std.specs.Prelude.{◌≡◌, ◌≤◌, ◌+◌, ◌*◌, length};
+ghost use Rattle.byteorder.specs.Endian.{twos_complement};
+ghost use Rattle.mseed_time.specs.Fields.{number_at};
+ghost use Rattle.mseed_steim.specs.Samples.{bytes_of, form_of};
+
+use crate::scheme::Scheme;
+use byteorder::{BigEndian, ByteOrder, LittleEndian};
+use mseed_time::Order;
+
+/// The bytes of an integer.
+#[derive(Clone, Copy, Debug, PartialEq, Eq)]
+pub enum Width {
+    Two,
+    Four,
+}
+
+/// How a payload holds samples: as integers, or as Steim frames.
+#[derive(Clone, Copy, Debug, PartialEq, Eq)]
+pub enum Form {
+    Integers(Width),
+    Frames(Scheme),
+}
+
+/// The form of an encoding that is read.
+pub(crate) fn form_of(encoding: u8) -> Option<Form>
+    ensures { result ≡ form_of encoding }
+{
+    match encoding {
+        1 => Some(Form::Integers(Width::Two)),
+        3 => Some(Form::Integers(Width::Four)),
+        10 => Some(Form::Frames(Scheme::One)),
+        11 => Some(Form::Frames(Scheme::Two)),
+        _ => None,
+    }
+}
+
+impl Width {
+    /// The number of bytes.
+    pub(crate) fn bytes(self) -> usize
+        ensures value { result ≡ bytes_of self }
+        ensures low { 2 ≤ result }
+        ensures high { result ≤ 4 }
+    {
+        match self {
+            Width::Two => 2,
+            Width::Four => 4,
+        }
+    }
+}
+
+/// The integer at an offset.
+pub(crate) fn integer_at(payload: &[u8], width: Width, order: Order, offset: usize) -> i32
+    requires { offset + bytes_of width ≤ length payload.now }
+    ensures { result ≡ twos_complement (bytes_of width) (number_at order (bytes_of width) offset payload.now) }
+{
+    let rest = &payload[offset..];
+    match width {
+        Width::Two => match order {
+            Order::Big => i32::from(BigEndian::read_i16(rest)),
+            Order::Little => i32::from(LittleEndian::read_i16(rest)),
+        },
+        Width::Four => match order {
+            Order::Big => BigEndian::read_i32(rest),
+            Order::Little => LittleEndian::read_i32(rest),
+        },
+    }
+}
