@@ -11,8 +11,8 @@ use Rattle.mseed_steim.specs.declared.fault.ReadFault.TheVariants.{LastDiffers}
 use Rattle.mseed_steim.specs.declared.sum.Sum.{Sum}
 use Rattle.mseed_steim.specs.Frames.{data_words, first_constant, last_constant}
 use Rattle.mseed_steim.specs.Items.{items_of}
-use Rattle.mseed_steim.specs.Samples.{IsSample, AreSums, IsFrameFault, last_differs, IsChecked}
-use Rattle.mseed_steim.specs.Sums.{fold, lack}
+use Rattle.mseed_steim.specs.Samples.{IsSample, AreSums, IsFrameFault, last_differs, IsChecked, IsPayloadReading, EndsOnConstant}
+use Rattle.mseed_steim.specs.Sums.{fold, met_in, lack}
 use Rattle.mseed_steim.proofs.Given.{items_given, words_small}
 use Rattle.mseed_steim.proofs.Folded.{last_of, Lacks, lacks}
 use Rattle.mseed_steim.proofs.Framed.{minus, Met, Begins, begins, all_met, is_lacking, is_fault, constant_fits}
@@ -30,10 +30,10 @@ before_last x [] = ([], refl)
 before_last x (s ∷ ss) = let found = before_last s ss in (x ∷ found.0, ap (λ (xs : List ℤ). x ∷ xs) found.1)
 
 -- a walk that met all samples, from what it answers
-walked : (s : Scheme) (p : List ℕ) (n : ℕ) (sum : Sum) → 0 < n → ((i : ℕ) → get_or p i 0 < 256) → Ok sum ≡ fold n (record { met = 0; last = first_constant p }) (items_of s (data_words p)) → Met s p n sum.last
+pub walked : (s : Scheme) (p : List ℕ) (n : ℕ) (sum : Sum) → 0 < n → ((i : ℕ) → get_or p i 0 < 256) → Ok sum ≡ fold n (record { met = 0; last = first_constant p }) (items_of s (data_words p)) → Met s p n (met_in n (record { met = 0; last = first_constant p }) (items_of s (data_words p))) sum.last
 walked s p n sum h octets e =
-    let b = subst (λ (r : Result Sum ReadFault). Begins n (first_constant p) (items_of s (data_words p)) r) (sym e) (begins n (first_constant p) (items_of s (data_words p)) h) in
-    all_met s p n (items_of s (data_words p)) sum (items_given s (data_words p) (words_small p octets 3 _)) (constant_fits p octets 1) b
+    let b = subst (λ (r : Result Sum ReadFault). Begins n (first_constant p) (met_in n (record { met = 0; last = first_constant p }) (items_of s (data_words p))) (items_of s (data_words p)) r) (sym e) (begins n (first_constant p) (items_of s (data_words p)) h) in
+    all_met s p n _ (items_of s (data_words p)) sum (items_given s (data_words p) (words_small p octets 3 _)) (constant_fits p octets 1) b
 
 pub ends_met : (s : Scheme) (p : List ℕ) (n : ℕ) (sum : Sum) → 0 < n → ((i : ℕ) → get_or p i 0 < 256) → Ok sum ≡ fold n (record { met = 0; last = first_constant p }) (items_of s (data_words p))
     → (ends : Ends) → ends.first ≡ first_constant p → ends.last ≡ last_constant p → sum.last ≡ last_constant p → IsChecked (Frames s) Big p n (Ok ends)
@@ -61,8 +61,8 @@ lacking_fault s p n f octets e =
 pub walk_fault : (s : Scheme) (p : List ℕ) (n : ℕ) (f : ReadFault) → 0 < n → ((i : ℕ) → get_or p i 0 < 256) → Err f ≡ fold n (record { met = 0; last = first_constant p }) (items_of s (data_words p)) → None ≡ lack n 0 (items_of s (data_words p)) → IsFrameFault s p n f
 walk_fault s p n f h octets e o =
     let l = subst (λ (o : Option ReadFault). Lacks n 0 (items_of s (data_words p)) o) (sym o) (lacks n 0 (items_of s (data_words p)) (omega arith)) in
-    let b = subst (λ (r : Result Sum ReadFault). Begins n (first_constant p) (items_of s (data_words p)) r) (sym e) (begins n (first_constant p) (items_of s (data_words p)) h) in
-    is_fault s p n (items_of s (data_words p)) f h (items_given s (data_words p) (words_small p octets 3 _)) (constant_fits p octets 1) b l
+    let b = subst (λ (r : Result Sum ReadFault). Begins n (first_constant p) (met_in n (record { met = 0; last = first_constant p }) (items_of s (data_words p))) (items_of s (data_words p)) r) (sym e) (begins n (first_constant p) (items_of s (data_words p)) h) in
+    is_fault s p n _ (items_of s (data_words p)) f h (items_given s (data_words p) (words_small p octets 3 _)) (constant_fits p octets 1) b l
 
 -- a word of 32 bits, cast to a signed number
 pub cast_is : (x : ℕ) → x < 2 ^ 32 → to_z w32 x ≡ twos_complement 4 x
@@ -79,3 +79,11 @@ last_pushed x (y ∷ front) last = last_pushed y front last
 pub get_pushed : (front : List ℤ) (last : ℤ) → slice_get (front ++ last ∷ []) (length (front ++ last ∷ []) - 1) ≡ Some last
 get_pushed [] last = refl
 get_pushed (x ∷ front) last = get_end x (front ++ last ∷ []) ∙ ap (λ (z : ℤ). Some z) (last_pushed x front last)
+
+-- samples that were put in their places
+pub filled_met : (s : Scheme) (p : List ℕ) (n : ℕ) (sum : Sum) (out : List ℤ) → 0 < n → ((i : ℕ) → get_or p i 0 < 256) → Ok sum ≡ fold n (record { met = 0; last = first_constant p }) (items_of s (data_words p))
+    → out ≡ met_in n (record { met = 0; last = first_constant p }) (items_of s (data_words p)) → sum.last ≡ last_constant p → IsPayloadReading (Frames s) Big p n out × EndsOnConstant (Frames s) p out
+filled_met s p n sum out h octets e put same =
+    let m = walked s p n sum h octets e in
+    let found : slice_get (first_constant p ∷ m.others) (length (first_constant p ∷ m.others) - 1) ≡ Some (last_constant p) = get_end (first_constant p) m.others ∙ ap (λ (z : ℤ). Some z) (sym m.ends ∙ same) in
+    subst (λ (xs : List ℤ). IsPayloadReading (Frames s) Big p n xs × EndsOnConstant (Frames s) p xs) (sym (put ∙ m.kept)) ((refl, m.sums, m.range), found)

@@ -1,5 +1,7 @@
 -- What a walk over items answers, in the words of lists.
-use Rattle.std.proofs.Common.{◌≡◌, ℕ, ◌+◌, ◌<◌, ◌≤◌, ◌^◌, List, [], ◌∷◌, ◌++◌, map, length, ℤ, pos, negsuc, ◌+ℤ◌, arith, refl, ap, sym, ◌∙◌, subst, false, true, Option, Some, None, Result, Ok, Err, All, ⊎_elim}
+use Rattle.std.proofs.Math.Seq.{drop-cons, take-suc-set, take-length}
+use Rattle.std.proofs.Math.ListN.{set}
+use Rattle.std.proofs.Common.{take, drop, get_or, append_assoc, append-nil, ◌≡◌, ℕ, ◌+◌, ◌<◌, ◌≤◌, ◌^◌, List, [], ◌∷◌, ◌++◌, map, length, ℤ, pos, negsuc, ◌+ℤ◌, arith, refl, ap, sym, ◌∙◌, subst, false, true, Option, Some, None, Result, Ok, Err, All, ⊎_elim, eqb, suc}
 use Rattle.std.proofs.lemmas.Int.{ints}
 use Rattle.std.proofs.lemmas.Bool.{ne_eqb, eq-eqb, cases_lt}
 use Rattle.std.proofs.lemmas.Bool.Decides.{nat_tests}
@@ -9,7 +11,7 @@ use Rattle.mseed_steim.specs.declared.fault.ReadFault.{ReadFault}
 use Rattle.mseed_steim.specs.declared.fault.ReadFault.TheVariants.{Short, BadWord, Overflow}
 use Rattle.mseed_steim.specs.declared.sum.Sum.{Sum}
 use Rattle.mseed_steim.specs.Samples.{IsSample, Adds}
-use Rattle.mseed_steim.specs.Sums.{fits, fold, lack, one_more}
+use Rattle.mseed_steim.specs.Sums.{fits, fold, met_in, lack, one_more}
 use Rattle.mseed_steim.proofs.Folds.{fold_enough, fold_add, fold_over, fold_bad, fold_short}
 
 -- the last of some samples, or the one before them
@@ -18,13 +20,13 @@ last_of before [] = before
 last_of before (s ∷ ss) = last_of s ss
 
 -- the answer of a walk that has met m samples, the last of them l
-pub data Folds (n m : ℕ) (l : ℤ) (items : List (Result ℤ BadWordAt)) : Result Sum ReadFault → Type 0 where
+pub data Folds (n m : ℕ) (l : ℤ) (items : List (Result ℤ BadWordAt)) (mets : List ℤ) : Result Sum ReadFault → Type 0 where
   done : (next : Sum) (ds ss : List ℤ) (more : List (Result ℤ BadWordAt)) → items ≡ map Ok ds ++ more → length ds + m ≡ n → length ss ≡ length ds → Adds l ds ss → All IsSample ss
-      → next.met ≡ n → next.last ≡ last_of l ss → Folds n m l items (Ok next)
-  short : (k : ℕ) (ds : List ℤ) → items ≡ map Ok ds → length ds + m ≡ k → k < n → Folds n m l items (Err (Short k))
-  bad : (ds : List ℤ) (at : BadWordAt) (more : List (Result ℤ BadWordAt)) → items ≡ map Ok ds ++ Err at ∷ more → length ds + m < n → Folds n m l items (Err (BadWord at.frame at.word))
+      → next.met ≡ n → next.last ≡ last_of l ss → mets ≡ ss → Folds n m l items mets (Ok next)
+  short : (k : ℕ) (ds : List ℤ) → items ≡ map Ok ds → length ds + m ≡ k → k < n → Folds n m l items mets (Err (Short k))
+  bad : (ds : List ℤ) (at : BadWordAt) (more : List (Result ℤ BadWordAt)) → items ≡ map Ok ds ++ Err at ∷ more → length ds + m < n → Folds n m l items mets (Err (BadWord at.frame at.word))
   over : (k : ℕ) (ds : List ℤ) (d : ℤ) (ss : List ℤ) (more : List (Result ℤ BadWordAt)) → items ≡ map Ok ds ++ Ok d ∷ more → length ds + m ≡ k → k < n → length ss ≡ length ds → Adds l ds ss → All IsSample ss
-      → ¬ (IsSample (last_of l ss +ℤ d)) → Folds n m l items (Err (Overflow k))
+      → ¬ (IsSample (last_of l ss +ℤ d)) → Folds n m l items mets (Err (Overflow k))
 
 -- the test of 32 bits
 pub fits_sample : (z : ℤ) → fits z ≡ true → IsSample z
@@ -36,32 +38,52 @@ fits_not (pos n) e s = let h : 2 ^ 31 ≤ n = grind (arith, nat_tests) in omega 
 fits_not (negsuc n) e s = let h : 2 ^ 31 ≤ n = grind (arith, nat_tests) in omega (arith, ints, s.0)
 
 -- a difference in front
-more_folded : (n m : ℕ) (l d : ℤ) (items : List (Result ℤ BadWordAt)) (r : Result Sum ReadFault) → IsSample (l +ℤ d) → Folds n (m + 1) (l +ℤ d) items r → Folds n m l (Ok d ∷ items) r
-more_folded n m l d items r fit (done next ds ss more e count same adds all met last) =
-    done next (d ∷ ds) ((l +ℤ d) ∷ ss) more (ap (λ (xs : List (Result ℤ BadWordAt)). Ok d ∷ xs) e) (omega arith) (omega arith) (refl, adds) (All-cons IsSample (l +ℤ d) ss fit all) met last
-more_folded n m l d items r fit (short k ds e count less) = short k (d ∷ ds) (ap (λ (xs : List (Result ℤ BadWordAt)). Ok d ∷ xs) e) (omega arith) less
-more_folded n m l d items r fit (bad ds at more e less) = bad (d ∷ ds) at more (ap (λ (xs : List (Result ℤ BadWordAt)). Ok d ∷ xs) e) (omega arith)
-more_folded n m l d items r fit (over k ds x ss more e count less same adds all not) =
+more_folded : (n m : ℕ) (l d : ℤ) (items : List (Result ℤ BadWordAt)) (mets : List ℤ) (r : Result Sum ReadFault) → IsSample (l +ℤ d) → Folds n (m + 1) (l +ℤ d) items mets r → Folds n m l (Ok d ∷ items) ((l +ℤ d) ∷ mets) r
+more_folded n m l d items mets r fit (done next ds ss more e count same adds all met last kept) =
+    done next (d ∷ ds) ((l +ℤ d) ∷ ss) more (ap (λ (xs : List (Result ℤ BadWordAt)). Ok d ∷ xs) e) (omega arith) (omega arith) (refl, adds) (All-cons IsSample (l +ℤ d) ss fit all) met last (ap (λ (xs : List ℤ). (l +ℤ d) ∷ xs) kept)
+more_folded n m l d items mets r fit (short k ds e count less) = short k (d ∷ ds) (ap (λ (xs : List (Result ℤ BadWordAt)). Ok d ∷ xs) e) (omega arith) less
+more_folded n m l d items mets r fit (bad ds at more e less) = bad (d ∷ ds) at more (ap (λ (xs : List (Result ℤ BadWordAt)). Ok d ∷ xs) e) (omega arith)
+more_folded n m l d items mets r fit (over k ds x ss more e count less same adds all not) =
     over k (d ∷ ds) x ((l +ℤ d) ∷ ss) more (ap (λ (xs : List (Result ℤ BadWordAt)). Ok d ∷ xs) e) (omega arith) less (omega arith) (refl, adds) (All-cons IsSample (l +ℤ d) ss fit all) not
 
-enough : (n : ℕ) (s : Sum) (items : List (Result ℤ BadWordAt)) → s.met ≡ n → Folds n s.met s.last items (fold n s items)
-enough n s items e = subst (λ r. Folds n s.met s.last items r) (sym (fold_enough n s items e)) (done s [] [] items refl (omega arith) refl tt (All-nil IsSample) e refl)
+-- the samples that a walk meets
+pub met_enough : (n : ℕ) (s : Sum) (items : List (Result ℤ BadWordAt)) → s.met ≡ n → met_in n s items ≡ []
+unfolding met_in
+met_enough n s [] e = refl
+met_enough n s (Ok d ∷ more) e = rw (eq-eqb s.met n e) refl
+met_enough n s (Err at ∷ more) e = refl
 
-pub folds : (n : ℕ) (s : Sum) (items : List (Result ℤ BadWordAt)) → 0 < s.met → s.met ≤ n → Folds n s.met s.last items (fold n s items)
+pub met_first : (n : ℕ) (s : Sum) (d : ℤ) (more : List (Result ℤ BadWordAt)) → s.met < n → s.met ≡ 0 → met_in n s (Ok d ∷ more) ≡ s.last ∷ met_in n (one_more s s.last) more
+unfolding met_in
+met_first n s d more h e =
+    let less : eqb s.met n ≡ false = ne_eqb s.met n (λ (z : s.met ≡ n). omega arith) in
+    rw (less, eq-eqb s.met 0 e) refl
+
+pub met_add : (n : ℕ) (s : Sum) (d : ℤ) (more : List (Result ℤ BadWordAt)) → s.met < n → 0 < s.met → fits (s.last +ℤ d) ≡ true → met_in n s (Ok d ∷ more) ≡ (s.last +ℤ d) ∷ met_in n (one_more s (s.last +ℤ d)) more
+unfolding met_in
+met_add n s d more h p e =
+    let less : eqb s.met n ≡ false = ne_eqb s.met n (λ (z : s.met ≡ n). omega arith) in
+    let some : eqb s.met 0 ≡ false = ne_eqb s.met 0 (λ (z : s.met ≡ 0). omega arith) in
+    rw (less, some, e) refl
+
+enough : (n : ℕ) (s : Sum) (items : List (Result ℤ BadWordAt)) → s.met ≡ n → Folds n s.met s.last items (met_in n s items) (fold n s items)
+enough n s items e = subst (λ r. Folds n s.met s.last items (met_in n s items) r) (sym (fold_enough n s items e)) (done s [] [] items refl (omega arith) refl tt (All-nil IsSample) e refl (met_enough n s items e))
+
+pub folds : (n : ℕ) (s : Sum) (items : List (Result ℤ BadWordAt)) → 0 < s.met → s.met ≤ n → Folds n s.met s.last items (met_in n s items) (fold n s items)
 folds n s [] p h = ⊎_elim
-    (λ (less : s.met < n). subst (λ r. Folds n s.met s.last [] r) (sym (fold_short n s (λ (z : s.met ≡ n). omega arith))) (short s.met [] refl (omega arith) less))
+    (λ (less : s.met < n). subst (λ r. Folds n s.met s.last [] (met_in n s []) r) (sym (fold_short n s (λ (z : s.met ≡ n). omega arith))) (short s.met [] refl (omega arith) less))
     (λ (most : n ≤ s.met). enough n s [] (omega arith))
     (cases_lt s.met n)
 folds n s (Err at ∷ more) p h = ⊎_elim
-    (λ (less : s.met < n). subst (λ r. Folds n s.met s.last (Err at ∷ more) r) (sym (fold_bad n s at more less)) (bad [] at more refl (omega arith)))
+    (λ (less : s.met < n). subst (λ r. Folds n s.met s.last (Err at ∷ more) (met_in n s (Err at ∷ more)) r) (sym (fold_bad n s at more less)) (bad [] at more refl (omega arith)))
     (λ (most : n ≤ s.met). enough n s (Err at ∷ more) (omega arith))
     (cases_lt s.met n)
 folds n s (Ok d ∷ more) p h = ⊎_elim
     (λ (less : s.met < n).
     let later = folds n (one_more s (s.last +ℤ d)) more (omega arith) (omega arith) in
-    (elim (fits (s.last +ℤ d)) as (λ b. fits (s.last +ℤ d) ≡ b → Folds n s.met s.last (Ok d ∷ more) (fold n s (Ok d ∷ more))) [
-      | true ↦ λ e. subst (λ r. Folds n s.met s.last (Ok d ∷ more) r) (sym (fold_add n s d more less p e)) (more_folded n s.met s.last d more _ (fits_sample (s.last +ℤ d) e) later)
-      | false ↦ λ e. subst (λ r. Folds n s.met s.last (Ok d ∷ more) r) (sym (fold_over n s d more less p e)) (over s.met [] d [] more refl (omega arith) less refl tt (All-nil IsSample) (fits_not (s.last +ℤ d) e))
+    (elim (fits (s.last +ℤ d)) as (λ b. fits (s.last +ℤ d) ≡ b → Folds n s.met s.last (Ok d ∷ more) (met_in n s (Ok d ∷ more)) (fold n s (Ok d ∷ more))) [
+      | true ↦ λ e. subst (λ r. Folds n s.met s.last (Ok d ∷ more) (met_in n s (Ok d ∷ more)) r) (sym (fold_add n s d more less p e)) (subst (λ (xs : List ℤ). Folds n s.met s.last (Ok d ∷ more) xs (fold n (one_more s (s.last +ℤ d)) more)) (sym (met_add n s d more less p e)) (more_folded n s.met s.last d more _ _ (fits_sample (s.last +ℤ d) e) later))
+      | false ↦ λ e. subst (λ r. Folds n s.met s.last (Ok d ∷ more) (met_in n s (Ok d ∷ more)) r) (sym (fold_over n s d more less p e)) (over s.met [] d [] more refl (omega arith) less refl tt (All-nil IsSample) (fits_not (s.last +ℤ d) e))
     ]) refl)
     (λ (most : n ≤ s.met). enough n s (Ok d ∷ more) (omega arith))
     (cases_lt s.met n)
@@ -122,3 +144,22 @@ lack_none n m (d ∷ ds) more h e = ⊎_elim
     (λ (less : m + 1 < n). lack_more n m d (map Ok ds ++ more) h ∙ lack_none n (m + 1) ds more less (omega arith))
     (λ (most : n ≤ m + 1). lack_more n m d (map Ok ds ++ more) h ∙ lack_enough n (m + 1) (map Ok ds ++ more) (omega arith))
     (cases_lt (m + 1) n)
+
+-- the next of some differences, and those after it
+pub drop_step : (ds : List ℤ) (i : ℕ) (z : ℤ) (more : List (Result ℤ BadWordAt)) → i < length ds → map Ok (drop i ds) ++ more ≡ Ok (get_or ds i z) ∷ (map Ok (drop (i + 1) ds) ++ more)
+drop_step ds i z more h =
+    let next : suc i ≡ i + 1 = omega arith in
+    let cut : drop i ds ≡ get_or ds i z ∷ drop (i + 1) ds = drop-cons ds i z h ∙ ap (λ (k : ℕ). get_or ds i z ∷ drop k ds) next in
+    ap (λ (xs : List ℤ). map Ok xs ++ more) cut
+
+-- a sample put in its place
+pub take_put : (out : List ℤ) (i k : ℕ) (z : ℤ) (xs : List ℤ) → i < length out → k ≡ i + 1 → take k (set out i z) ++ xs ≡ take i out ++ z ∷ xs
+take_put out i k z xs h e =
+    let next : k ≡ suc i = omega arith in
+    ap (λ (m : ℕ). take m (set out i z) ++ xs) next ∙ ap (λ (ys : List ℤ). ys ++ xs) (take-suc-set out i z h) ∙ append_assoc (take i out) (z ∷ []) xs
+
+-- all places are filled
+pub all_kept : (n : ℕ) (s : Sum) (out : List ℤ) (items : List (Result ℤ BadWordAt)) → length out ≡ n → s.met ≡ n → out ≡ take s.met out ++ met_in n s items
+all_kept n s out items room e =
+    let whole : take s.met out ≡ out = ap (λ (k : ℕ). take k out) (e ∙ sym room) ∙ take-length out in
+    sym (ap (λ (xs : List ℤ). take s.met out ++ xs) (met_enough n s items e) ∙ append-nil (take s.met out) ∙ whole)

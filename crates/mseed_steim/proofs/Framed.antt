@@ -12,10 +12,10 @@ use Rattle.mseed_steim.specs.declared.sum.Sum.{Sum}
 use Rattle.mseed_steim.specs.Frames.{word_at, data_words, first_constant}
 use Rattle.mseed_steim.specs.Runs.{Gives}
 use Rattle.mseed_steim.specs.Samples.{IsSample, Adds, StartsAndAdds, AreSums, IsFrameFault, short, bad_word, overflow}
-use Rattle.mseed_steim.specs.Sums.{fold}
+use Rattle.mseed_steim.specs.Sums.{fold, met_in}
 use Rattle.mseed_steim.proofs.Given.{word_small}
 use Rattle.mseed_steim.proofs.Folds.{fold_first, fold_bad, fold_short}
-use Rattle.mseed_steim.proofs.Folded.{last_of, Folds, done, short as short_folds, bad as bad_folds, over as over_folds, folds, Lacks, nothing, short as short_lacks, bad as bad_lacks}
+use Rattle.mseed_steim.proofs.Folded.{last_of, Folds, done, short as short_folds, bad as bad_folds, over as over_folds, folds, met_first, Lacks, nothing, short as short_lacks, bad as bad_lacks}
 use Rattle.mseed_steim.proofs.Fronts.{Fronted, fronted, spelled_all, broken_at}
 
 -- the payload's first constant is a sample
@@ -34,24 +34,25 @@ pub constant_fits : (p : List ℕ) → ((i : ℕ) → get_or p i 0 < 256) → (k
 constant_fits p octets k = number_fits (word_at p k) (word_small p k octets)
 
 -- the first difference isn't used
-pub data Begins (n : ℕ) (x : ℤ) : List (Result ℤ BadWordAt) → Result Sum ReadFault → Type 0 where
-  some : (d : ℤ) (items : List (Result ℤ BadWordAt)) (r : Result Sum ReadFault) → Folds n 1 x items r → Begins n x (Ok d ∷ items) r
-  none : Begins n x [] (Err (Short 0))
-  broken : (at : BadWordAt) (items : List (Result ℤ BadWordAt)) → Begins n x (Err at ∷ items) (Err (BadWord at.frame at.word))
+pub data Begins (n : ℕ) (x : ℤ) (mets : List ℤ) : List (Result ℤ BadWordAt) → Result Sum ReadFault → Type 0 where
+  some : (d : ℤ) (items : List (Result ℤ BadWordAt)) (others : List ℤ) (r : Result Sum ReadFault) → mets ≡ x ∷ others → Folds n 1 x items others r → Begins n x mets (Ok d ∷ items) r
+  none : Begins n x mets [] (Err (Short 0))
+  broken : (at : BadWordAt) (items : List (Result ℤ BadWordAt)) → Begins n x mets (Err at ∷ items) (Err (BadWord at.frame at.word))
 
-pub begins : (n : ℕ) (x : ℤ) (items : List (Result ℤ BadWordAt)) → 0 < n → Begins n x items (fold n (record { met = 0; last = x }) items)
-begins n x [] h = subst (λ r. Begins n x [] r) (sym (fold_short n (record { met = 0; last = x }) (λ e. omega arith))) none
-begins n x (Err at ∷ items) h = subst (λ r. Begins n x (Err at ∷ items) r) (sym (fold_bad n (record { met = 0; last = x }) at items h)) (broken at items)
+pub begins : (n : ℕ) (x : ℤ) (items : List (Result ℤ BadWordAt)) → 0 < n → Begins n x (met_in n (record { met = 0; last = x }) items) items (fold n (record { met = 0; last = x }) items)
+begins n x [] h = subst (λ r. Begins n x (met_in n (record { met = 0; last = x }) []) [] r) (sym (fold_short n (record { met = 0; last = x }) (λ e. omega arith))) none
+begins n x (Err at ∷ items) h = subst (λ r. Begins n x (met_in n (record { met = 0; last = x }) (Err at ∷ items)) (Err at ∷ items) r) (sym (fold_bad n (record { met = 0; last = x }) at items h)) (broken at items)
 begins n x (Ok d ∷ items) h =
-    subst (λ r. Begins n x (Ok d ∷ items) r) (sym (fold_first n (record { met = 0; last = x }) d items h refl))
-    (some d items _ (folds n (record { met = 1; last = x }) items (omega arith) (omega arith)))
+    subst (λ r. Begins n x (met_in n (record { met = 0; last = x }) (Ok d ∷ items)) (Ok d ∷ items) r) (sym (fold_first n (record { met = 0; last = x }) d items h refl))
+    (some d items _ _ (met_first n (record { met = 0; last = x }) d items h refl) (folds n (record { met = 1; last = x }) items (omega arith) (omega arith)))
 
 -- the samples of a walk that met them all
-pub record Met (s : Scheme) (p : List ℕ) (n : ℕ) (last : ℤ) : Type 0 where
+pub record Met (s : Scheme) (p : List ℕ) (n : ℕ) (mets : List ℤ) (last : ℤ) : Type 0 where
   pub others : List ℤ
   pub sums : AreSums s p n (first_constant p ∷ others)
   pub range : All IsSample (first_constant p ∷ others)
   pub ends : last ≡ last_of (first_constant p) others
+  pub kept : mets ≡ first_constant p ∷ others
 
 adds_longer : (x : ℤ) (ds ss t : List ℤ) → Adds x ds ss → Adds x (ds ++ t) ss
 adds_longer x ds [] t h = tt
@@ -73,10 +74,10 @@ sums_of s p n d ds ss f count same adds =
       sums = subst (λ (xs : List ℤ). StartsAndAdds (first_constant p) xs (first_constant p ∷ ss)) (sym f.longer) (refl, adds_longer (first_constant p) ds ss f.tail adds);
     }
 
-pub all_met : (s : Scheme) (p : List ℕ) (n : ℕ) (items : List (Result ℤ BadWordAt)) (next : Sum) → Gives s (data_words p) items → IsSample (first_constant p) → Begins n (first_constant p) items (Ok next) → Met s p n next.last
-all_met s p n items next g fit (some d later r (done next' ds ss more e count same adds all met last)) =
+pub all_met : (s : Scheme) (p : List ℕ) (n : ℕ) (mets : List ℤ) (items : List (Result ℤ BadWordAt)) (next : Sum) → Gives s (data_words p) items → IsSample (first_constant p) → Begins n (first_constant p) mets items (Ok next) → Met s p n mets next.last
+all_met s p n mets items next g fit (some d later others r q (done next' ds ss more e count same adds all met last kept)) =
     let front = fronted s (data_words p) items (d ∷ ds) more g (ap (λ (xs : List (Result ℤ BadWordAt)). Ok d ∷ xs) e) in
-    record { others = ss; sums = sums_of s p n d ds ss front count same adds; range = All-cons IsSample (first_constant p) ss fit all; ends = last }
+    record { others = ss; sums = sums_of s p n d ds ss front count same adds; range = All-cons IsSample (first_constant p) ss fit all; ends = last; kept = q ∙ ap (λ (xs : List ℤ). first_constant p ∷ xs) kept }
 
 -- fewer differences than samples
 is_short : (s : Scheme) (p : List ℕ) (n k : ℕ) (items : List (Result ℤ BadWordAt)) (ds : List ℤ) → Gives s (data_words p) items → items ≡ map Ok ds → length ds ≡ k → k < n → IsFrameFault s p n (Short k)
@@ -140,13 +141,13 @@ is_over s p n k c d ds ss es more later g fit e count place less same adds all n
     subst (λ (m : ℕ). IsFrameFault s p n (Overflow m)) (omega arith)
     (overflow (first_constant p ∷ ss) sum rest sums (All-cons IsSample (first_constant p) ss fit all) not)
 
-pub is_fault : (s : Scheme) (p : List ℕ) (n : ℕ) (items : List (Result ℤ BadWordAt)) (f : ReadFault) → 0 < n → Gives s (data_words p) items → IsSample (first_constant p) → Begins n (first_constant p) items (Err f) → Lacks n 0 items None → IsFrameFault s p n f
-is_fault s p n items f h g fit none (nothing es later e count) = is_short s p n 0 [] [] g refl refl h
-is_fault s p n items f h g fit (broken at more) (nothing es later e count) = is_bad s p n (Err at ∷ more) [] at more g refl h
-is_fault s p n items f h g fit (some c items' r (short_folds k ds q count' less)) (nothing es later e count) =
+pub is_fault : (s : Scheme) (p : List ℕ) (n : ℕ) (mets : List ℤ) (items : List (Result ℤ BadWordAt)) (f : ReadFault) → 0 < n → Gives s (data_words p) items → IsSample (first_constant p) → Begins n (first_constant p) mets items (Err f) → Lacks n 0 items None → IsFrameFault s p n f
+is_fault s p n mets items f h g fit none (nothing es later e count) = is_short s p n 0 [] [] g refl refl h
+is_fault s p n mets items f h g fit (broken at more) (nothing es later e count) = is_bad s p n (Err at ∷ more) [] at more g refl h
+is_fault s p n mets items f h g fit (some c items' others r q0 (short_folds k ds q count' less)) (nothing es later e count) =
     is_short s p n k (Ok c ∷ items') (c ∷ ds) g (ap (λ (xs : List (Result ℤ BadWordAt)). Ok c ∷ xs) q) (omega arith) less
-is_fault s p n items f h g fit (some c items' r (bad_folds ds at more q less)) (nothing es later e count) =
+is_fault s p n mets items f h g fit (some c items' others r q0 (bad_folds ds at more q less)) (nothing es later e count) =
     is_bad s p n (Ok c ∷ items') (c ∷ ds) at more g (ap (λ (xs : List (Result ℤ BadWordAt)). Ok c ∷ xs) q) (omega arith)
-is_fault s p n items f h g fit (some c items' r (over_folds k ds d ss more q place less same adds all not)) (nothing es later e count) =
+is_fault s p n mets items f h g fit (some c items' others r q0 (over_folds k ds d ss more q place less same adds all not)) (nothing es later e count) =
     is_over s p n k c d ds ss es more later (subst (λ (xs : List (Result ℤ BadWordAt)). Gives s (data_words p) (Ok c ∷ xs)) q g) fit
     (sym (ap (λ (xs : List (Result ℤ BadWordAt)). Ok c ∷ xs) q) ∙ e) (omega arith) place less same adds all not

@@ -13,7 +13,7 @@ use Rattle.mseed_steim.specs.declared.form.Form.TheVariants.{Integers}
 use Rattle.mseed_steim.specs.declared.fault.Ends.{Ends}
 use Rattle.mseed_steim.specs.Spelling.{IsWithin}
 use Rattle.mseed_steim.specs.Digits.{signed}
-use Rattle.mseed_steim.specs.Samples.{bytes_of, BeginsWith, IsChecked}
+use Rattle.mseed_steim.specs.Samples.{bytes_of, BeginsWith, IsChecked, IsPayloadReading}
 use Rattle.mseed_steim.proofs.Spelled.{signed_within, signed_residue}
 use Rattle.mseed_steim.proofs.Framed.{minus}
 
@@ -82,3 +82,22 @@ integers_checked order width p n ends h octets long first last =
 pub whole_count : (width : Width) (n long : ℕ) → n ≤ long / bytes_of width → bytes_of width * n ≤ long
 whole_count Two n long h = omega arith
 whole_count Four n long h = omega arith
+
+-- one integer after another
+pub integers_step : (order : Order) (w : ℕ) (p : List ℕ) (n i : ℕ) → i < n → integers order w p (w * i) (n - i) ≡ twos_complement w (number_at order w (w * i) p) ∷ integers order w p (w * (i + 1)) (n - (i + 1))
+unfolding integers
+integers_step order w p n i h =
+    let more : n - i ≡ suc (n - (i + 1)) = omega arith in
+    let place : w * i + w ≡ w * (i + 1) = omega (arith, mul-suc w i) in
+    rw (more, place) refl
+
+pub integers_over : (order : Order) (w : ℕ) (p : List ℕ) (n i : ℕ) → n ≤ i → integers order w p (w * i) (n - i) ≡ []
+unfolding integers
+integers_over order w p n i h = let none : n - i ≡ 0 = omega arith in rw none refl
+
+pub integers_begin : (order : Order) (w : ℕ) (p : List ℕ) (n : ℕ) → integers order w p (w * 0) (n - 0) ≡ integers order w p 0 n
+integers_begin order w p n = let zeroth : w * 0 ≡ 0 = omega arith in let all : n - 0 ≡ n = omega arith in rw (zeroth, all) refl
+
+pub filled : (order : Order) (width : Width) (p : List ℕ) (n : ℕ) (out : List ℤ) → ((i : ℕ) → get_or p i 0 < 256) → bytes_of width * n ≤ length p → out ≡ integers order (bytes_of width) p 0 n → IsPayloadReading (Integers width) order p n out
+filled order width p n out octets long e =
+    subst (λ (xs : List ℤ). IsPayloadReading (Integers width) order p n xs) (sym e) (length-integers order (bytes_of width) p 0 n, begins order width p n octets long)

@@ -1,5 +1,5 @@
 -- A record has one reading at most, or one fault.
-use Rattle.std.proofs.Common.{◌≡◌, ◌≢◌, ℕ, ◌+◌, ◌-◌, ◌*◌, ◌/◌, ◌<◌, ◌≤◌, List, [], ◌∷◌, ◌++◌, length, ℤ, arith, refl, ap, sym, ◌∙◌, subst, slice_get, true, false, Some, Result, Ok, Err, IsOkAnd, IfOk, IfErr, ◌↔◌, All}
+use Rattle.std.proofs.Common.{◌≡◌, ◌≢◌, ℕ, ◌+◌, ◌-◌, ◌*◌, ◌/◌, ◌<◌, ◌≤◌, List, [], ◌∷◌, ◌++◌, length, ℤ, arith, refl, ap, sym, ◌∙◌, subst, slice_get, true, false, Some, Result, Ok, Err, IsOkAnd, IfOk, IfErr, MatchResult, inl, inr, ◌↔◌, All}
 use Rattle.std.proofs.Math.Nat.{mul-suc}
 use Rattle.mseed_time.specs.declared.order.Order.{Order}
 use Rattle.mseed_time.specs.declared.order.Order.TheVariants.{Big, Little}
@@ -13,8 +13,8 @@ use Rattle.mseed_steim.specs.declared.fault.Ends.{Ends}
 use Rattle.mseed_steim.specs.declared.fault.ReadFault.{ReadFault}
 use Rattle.mseed_steim.specs.declared.fault.ReadFault.TheVariants.{Blockette100, Encoding, LittleSteim, DataOffset, Short, BadWord, Overflow, LastDiffers, Memory}
 use Rattle.mseed_steim.specs.Frames.{last_constant}
-use Rattle.mseed_steim.specs.Samples.{bytes_of, form_of, BeginsWith, IsPayloadReading, EndsOnConstant, IsPayloadFault, IsSample, AreEnds, short, bad_word, overflow, last_differs, IsFrameFault, IsChecked}
-use Rattle.mseed_steim.specs.Reading.{count_of, IsReading, EndsOnConstants, HasOneReading, IsReadable, IsFault, blockette_100, encoding, little_steim, data_offset, in_payload, Denies, HoldsIn, IsAnswer, is_little_steim}
+use Rattle.mseed_steim.specs.Samples.{bytes_of, form_of, BeginsWith, IsPayloadReading, EndsOnConstant, IsPayloadFault, IsSample, AreEnds, short, bad_word, overflow, last_differs, IsFrameFault, IsChecked, IsFilled}
+use Rattle.mseed_steim.specs.Reading.{count_of, IsReading, EndsOnConstants, HasOneReading, IsReadable, IsFault, blockette_100, encoding, little_steim, data_offset, in_payload, Denies, HoldsIn, IsAnswer, is_little_steim, IsWhole, IsRefusal}
 use Rattle.mseed_steim.proofs.Words.{residue_one}
 use Rattle.mseed_steim.proofs.Runs.{sums_one, fault_one, not_short, not_bad, not_in}
 use Rattle.mseed_steim.proofs.Ended.{get_pushed}
@@ -197,3 +197,45 @@ pub readable_else : (form : Form) (order : Order) → is_little_steim form order
 readable_else (Integers width) order h = tt
 readable_else (Frames scheme) Big h = refl
 readable_else (Frames scheme) Little h = cc
+
+-- a filled payload is a record's
+pub payload_filled : (v : View) (form : Form) (p : List ℕ) (out : List ℤ) (r : Result (Unit {0}) ReadFault) → 0 < count_of v → HoldsIn v form p → IsFilled form v.payload_order p (count_of v) out r → MatchResult r (λ _. IsWhole v out) (λ f. IsFault v f)
+payload_filled v form p out (Ok done) some holds h =
+    let e : form_of v.encoding ≡ Some form = holds.1 in (
+      record {
+        some = some;
+        one_rate = holds.0;
+        form = form;
+        encoding = e;
+        payload = holds.3;
+        spelled = subst (λ (xs : List ℕ). IsPayloadReading form v.payload_order xs (count_of v) out) holds.4 h.0;
+      },
+      (λ other q. let same : form ≡ other = cc (e, q) in
+          subst (λ (x : Form). EndsOnConstant x (payload_of v) out) same (subst (λ (xs : List ℕ). EndsOnConstant form xs out) holds.4 h.1)),
+    )
+payload_filled v form p out (Err f) some holds h =
+    in_payload holds.0 form holds.1 holds.2 holds.3 f (subst (λ (xs : List ℕ). IsPayloadFault form xs (count_of v) f) holds.4 h)
+
+-- what the answer of a read means
+pub read_only : {X : Type 0} (v : View) (items : X → List ℤ) (r : Result X ReadFault) → 0 < count_of v → MatchResult r (λ x. IsWhole v (items x)) (λ f. IsRefusal v f) → (s : List ℤ) → IsWhole v s → MatchResult r (λ x. items x ≡ s) (λ f. f ≡ Memory)
+read_only v items (Ok x) some h s w = reading_one v (items x) s h.0 w.0
+read_only v items (Err f) some (inl h) s w = absurd (denied v f s (fault_denies v f some h) w.0 w.1)
+read_only v items (Err f) some (inr h) s w = h.0
+
+pub read_fault : {X : Type 0} (v : View) (items : X → List ℤ) (r : Result X ReadFault) → 0 < count_of v → MatchResult r (λ x. IsWhole v (items x)) (λ f. IsRefusal v f) → (f : ReadFault) → IsFault v f → r ≡ Err f
+read_fault v items (Ok x) some h f q = absurd (denied v f (items x) (fault_denies v f some q) h.0 h.1)
+read_fault v items (Err g) some (inl h) f q = ap Err (record_fault_one v g f h q)
+read_fault v items (Err g) some (inr h) f q = absurd (denied v f h.1.0 (fault_denies v f some q) h.1.1.0 h.1.1.1)
+
+pub read_denies : {X : Type 0} (v : View) (items : X → List ℤ) (r : Result X ReadFault) → 0 < count_of v → MatchResult r (λ x. IsWhole v (items x)) (λ f. IsRefusal v f) → IfErr r (λ f. f ≢ Memory → Denies v f)
+read_denies v items (Ok x) some h = tt
+read_denies v items (Err f) some (inl h) = λ not. fault_denies v f some h
+read_denies v items (Err f) some (inr h) = λ not. absurd (not h.0)
+
+pub read_whole : {X : Type 0} (v : View) (items : X → List ℤ) (r : Result X ReadFault) → MatchResult r (λ x. IsWhole v (items x)) (λ f. IsRefusal v f) → IfOk r (λ x. IsWhole v (items x))
+read_whole v items (Ok x) h = h
+read_whole v items (Err f) h = tt
+
+pub read_refused : {X : Type 0} (v : View) (items : X → List ℤ) (r : Result X ReadFault) → MatchResult r (λ x. IsWhole v (items x)) (λ f. IsRefusal v f) → IfErr r (λ f. IsRefusal v f)
+read_refused v items (Ok x) h = tt
+read_refused v items (Err f) h = h

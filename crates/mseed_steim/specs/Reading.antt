@@ -1,5 +1,5 @@
 -- The samples that a record says, and why it says none (SEED manual, chapters 8 and appendix B).
-use Rattle.std.specs.Prelude.{◌≡◌, ⊤, ℕ, ◌<◌, Bool, true, false, List, ℤ, Some, None, Result, Ok, Err}
+use Rattle.std.specs.Prelude.{◌≡◌, ◌⊎◌, ⊤, ℕ, ◌<◌, Bool, true, false, List, ℤ, Some, None, Result, Ok, Err}
 use Rattle.mseed_time.specs.declared.order.Order.{Order}
 use Rattle.mseed_time.specs.declared.order.Order.TheVariants.{Big, Little}
 use Rattle.mseed_record.specs.Header.{samples_at}
@@ -9,7 +9,7 @@ use Rattle.mseed_steim.specs.declared.form.Form.{Form}
 use Rattle.mseed_steim.specs.declared.form.Form.TheVariants.{Integers, Frames}
 use Rattle.mseed_steim.specs.declared.fault.Ends.{Ends}
 use Rattle.mseed_steim.specs.declared.fault.ReadFault.{ReadFault}
-use Rattle.mseed_steim.specs.declared.fault.ReadFault.TheVariants.{Blockette100, Encoding, LittleSteim, DataOffset, LastDiffers}
+use Rattle.mseed_steim.specs.declared.fault.ReadFault.TheVariants.{Blockette100, Encoding, LittleSteim, DataOffset, LastDiffers, Memory}
 use Rattle.mseed_steim.specs.Samples.{form_of, IsPayloadReading, EndsOnConstant, IsPayloadFault, AreEnds}
 
 -- the number of samples
@@ -68,3 +68,11 @@ HoldsIn v form payload =
 abbrev pub IsAnswer : View → Result Ends ReadFault → Type 0
 IsAnswer v (Ok ends) = (s : List ℤ) × (IsReading v s × EndsOnConstants v s × AreEnds ends s)
 IsAnswer v (Err fault) = IsFault v fault
+
+-- the samples are the reading, and end on their constant
+abbrev pub IsWhole : View → List ℤ → Type 0
+IsWhole v s = IsReading v s × EndsOnConstants v s
+
+-- Why samples aren't kept: a fault; or, where there's none, no memory for them.
+abbrev pub IsRefusal : View → ReadFault → Type 0
+IsRefusal v fault = IsFault v fault ⊎ ((fault ≡ Memory) × ((s : List ℤ) × IsWhole v s))

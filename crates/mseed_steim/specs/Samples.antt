@@ -101,3 +101,8 @@ abbrev pub IsChecked : Form → Order → List ℕ → ℕ → Result Ends ReadF
 IsChecked form order payload n (Ok ends) =
     (samples : List ℤ) × (IsPayloadReading form order payload n samples × EndsOnConstant form payload samples × AreEnds ends samples)
 IsChecked form order payload n (Err fault) = IsPayloadFault form payload n fault
+
+-- samples that are a reading and end on their constant, or why there are none
+abbrev pub IsFilled : Form → Order → List ℕ → ℕ → List ℤ → Result (Unit {0}) ReadFault → Type 0
+IsFilled form order payload n samples (Ok done) = IsPayloadReading form order payload n samples × EndsOnConstant form payload samples
+IsFilled form order payload n samples (Err fault) = IsPayloadFault form payload n fault

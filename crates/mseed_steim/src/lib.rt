@@ -8,6 +8,7 @@ mod fault;
 mod form;
 mod frames;
 mod law;
+mod read;
 mod scheme;
 mod sum;
 #[cfg(test)]
@@ -20,5 +21,6 @@ pub use differences::{BadWordAt, Differences};
 pub use fault::{Ends, ReadFault};
 pub use form::{Form, Width};
 pub use law::one_reading;
+pub use read::read_samples;
 pub use scheme::Scheme;
 pub use word::{BadWord, unpack_word};

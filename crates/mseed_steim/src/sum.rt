@@ -1,11 +1,11 @@
 //! Differences that are added up, word by word.
 
-ghost use Rattle.std.specs.Prelude.{◌≡◌, ℕ, ◌≤◌, ◌<◌, ◌*◌, ◌^◌, List, ◌∷◌, ◌++◌, map, ℤ, Result, Ok, IfOk};
+ghost use Rattle.std.specs.Prelude.{◌≡◌, ◌+◌, ℕ, ◌≤◌, ◌<◌, ◌*◌, ◌^◌, List, ◌∷◌, ◌++◌, map, ℤ, Result, Ok, IfOk};
 ghost use Rattle.mseed_steim.specs.declared.scheme.Scheme.TheVariants.{Two};
 ghost use Rattle.mseed_steim.specs.declared.differences.BadWordAt.{BadWordAt};
 ghost use Rattle.mseed_steim.specs.Digits.{digits, differences_of};
 ghost use Rattle.mseed_steim.specs.Runs.{word_of};
-ghost use Rattle.mseed_steim.specs.Sums.{GoesOn, GoesOnPast};
+ghost use Rattle.mseed_steim.specs.Sums.{GoesOn, GoesOnPast, met_in};
 
 use crate::differences::BadWordAt;
 use crate::fault::ReadFault;
@@ -23,7 +23,8 @@ pub(crate) struct Sum {
 pub(crate) fn add_difference(difference: i32, samples: usize, sum: Sum) -> Result<Sum, ReadFault>
     requires { sum.met < samples }
     ensures goes_on { (more : List (Result ℤ BadWordAt)) → GoesOn samples sum (Ok difference ∷ more) more result }
-    ensures met { IfOk result (λ next. next.met ≤ samples) }
+    ensures met { IfOk result (λ next. next.met ≡ sum.met + 1) }
+    ensures kept { IfOk result (λ next. (more : List (Result ℤ BadWordAt)) → met_in samples sum (Ok difference ∷ more) ≡ next.last ∷ met_in samples next more) }
 {
     if sum.met == 0 {
         return Ok(Sum { met: 1, ..sum });

@@ -1,0 +1,211 @@
+//! Samples that are kept.
+
+ghost use Rattle.std.specs.Prelude.{◌≡◌, ◌≢◌, ◌≤◌, ◌<◌, ◌++◌, ℕ, List, ℤ, Result, Ok, Err, IfOk, IfErr, OnOk, MatchResult, map, take, length};
+ghost use Rattle.mseed_time.specs.declared.order.Order.TheVariants.{Big};
+ghost use Rattle.mseed_record.specs.Viewing.{view_of};
+ghost use Rattle.mseed_steim.specs.declared.form.Form.TheVariants.{Integers, Frames};
+ghost use Rattle.mseed_steim.specs.declared.differences.BadWordAt.{BadWordAt};
+ghost use Rattle.mseed_steim.specs.declared.fault.ReadFault.{ReadFault};
+ghost use Rattle.mseed_steim.specs.declared.fault.ReadFault.TheVariants.{Memory};
+ghost use Rattle.mseed_steim.specs.Frames.{first_constant, data_words};
+ghost use Rattle.mseed_steim.specs.Items.{items_of};
+ghost use Rattle.mseed_steim.specs.Reading.{count_of, IsFault, IsWhole, IsRefusal, Denies};
+ghost use Rattle.mseed_steim.specs.Samples.{IsFilled};
+ghost use Rattle.mseed_steim.specs.Sums.{GoesOn, fold, met_in};
+
+use crate::check::{check_samples, payload_of};
+use crate::fault::ReadFault;
+use crate::form::{Form, Width, integer_at};
+use crate::frames::{count_words, read_code, read_word};
+use crate::scheme::Scheme;
+use crate::sum::{Sum, add_difference};
+use crate::walk::find_lack;
+use crate::word::row_of;
+use mseed_record::RecordView;
+use mseed_time::Order;
+use std::alloc::{AllocError, Allocator, Global};
+
+/// The differences of a word, as far as they are needed, with each sample put in its place.
+fn put_group(group: &[i32], samples: usize, sum: Sum, out: &mut [i32]) -> Result<Sum, ReadFault>
+    requires room { length out.old ≡ samples }
+    requires met { sum.met ≤ samples }
+    ensures goes_on { (more : List (Result ℤ BadWordAt)) → GoesOn samples sum (map Ok group.now ++ more) more result }
+    ensures met { IfOk result (λ next. next.met ≤ samples) }
+    ensures kept { IfOk result (λ next. (more : List (Result ℤ BadWordAt)) → take next.met out.new ++ met_in samples next more ≡ take sum.met out.old ++ met_in samples sum (map Ok group.now ++ more)) }
+{
+    let mut sum = sum;
+    for i in 0..group.len() {
+        if sum.met == samples {
+            return Ok(sum);
+        }
+        match add_difference(group[i], samples, sum) {
+            Ok(next) => {
+                out[sum.met] = next.last;
+                sum = next;
+            }
+            Err(fault) => return Err(fault),
+        }
+    }
+    Ok(sum)
+}
+
+/// The sum of so many samples, each put in its place, or what comes first in place of one.
+pub(crate) fn read_frames(
+    payload: &[u8],
+    scheme: Scheme,
+    samples: usize,
+    out: &mut [i32],
+) -> Result<Sum, ReadFault>
+    requires some { 0 < samples }
+    requires room { length out.old ≡ samples }
+    ensures folded { result ≡ fold samples (record { met = 0; last = first_constant payload.now }) (items_of scheme (data_words payload.now)) }
+    ensures framed { OnOk result (64 ≤ length payload.now) }
+    ensures kept { OnOk result (out.new ≡ met_in samples (record { met = 0; last = first_constant payload.now }) (items_of scheme (data_words payload.now))) }
+{
+    let end = count_words(payload);
+    if end == 0 {
+        return Err(ReadFault::Short(0));
+    }
+    let mut sum = Sum {
+        met: 0,
+        last: read_word(payload, 1).cast_signed(),
+    };
+    for index in 3..end {
+        if sum.met == samples {
+            return Ok(sum);
+        }
+        if index % 16 == 0 {
+            continue;
+        }
+        match row_of(scheme, read_code(payload, index), read_word(payload, index)) {
+            Ok(group) => match put_group(group.as_slice(), samples, sum, out) {
+                Ok(next) => sum = next,
+                Err(fault) => return Err(fault),
+            },
+            Err(_) => return Err(ReadFault::BadWord(index / 16, index % 16)),
+        }
+    }
+    if sum.met == samples {
+        Ok(sum)
+    } else {
+        Err(ReadFault::Short(sum.met))
+    }
+}
+
+/// Fills in so many samples of Steim frames.
+fn fill_frames(
+    payload: &[u8],
+    scheme: Scheme,
+    samples: usize,
+    out: &mut [i32],
+) -> Result<(), ReadFault>
+    requires some { 0 < samples }
+    requires room { length out.old ≡ samples }
+    ensures { IsFilled (Frames scheme) Big payload.now samples out.new result }
+{
+    match read_frames(payload, scheme, samples, out) {
+        Ok(sum) => {
+            let last = read_word(payload, 2).cast_signed();
+            if sum.last == last {
+                Ok(())
+            } else {
+                Err(ReadFault::LastDiffers(sum.last, last))
+            }
+        }
+        Err(fault) => match find_lack(payload, scheme, samples) {
+            Some(earlier) => Err(earlier),
+            None => Err(fault),
+        },
+    }
+}
+
+/// Fills in so many integers.
+fn fill_integers(
+    payload: &[u8],
+    width: Width,
+    order: Order,
+    samples: usize,
+    out: &mut [i32],
+) -> Result<(), ReadFault>
+    requires { length out.old ≡ samples }
+    ensures { IsFilled (Integers width) order payload.now samples out.new result }
+{
+    let bytes = width.bytes();
+    let found = payload.len() / bytes;
+    if found < samples {
+        return Err(ReadFault::Short(found));
+    }
+    for i in 0..samples {
+        out[i] = integer_at(payload, width, order, bytes * i);
+    }
+    Ok(())
+}
+
+/// Fills in a record's samples.
+fn fill_record(view: &RecordView<'_>, out: &mut [i32]) -> Result<(), ReadFault>
+    requires some { 0 < count_of (view_of view.now) }
+    requires room { length out.old ≡ count_of (view_of view.now) }
+    ensures { MatchResult result (λ _. IsWhole (view_of view.now) out.new) (λ fault. IsFault (view_of view.now) fault) }
+{
+    let (form, payload) = match payload_of(view) {
+        Ok(found) => found,
+        Err(fault) => return Err(fault),
+    };
+    let samples = usize::from(view.samples());
+    match form {
+        Form::Integers(width) => fill_integers(payload, width, view.payload_order(), samples, out),
+        Form::Frames(scheme) => fill_frames(payload, scheme, samples, out),
+    }
+}
+
+/// A record's samples: those of its one reading, where it ends on the payload's constant.
+///
+/// # Errors
+///
+/// The first reason, in the order of [`ReadFault`], why the record has no such reading. Where it has one,
+/// `Memory` where there is no memory for it.
+pub fn read_samples(alloc: Global, view: &RecordView<'_>) -> Result<Vec<i32>, ReadFault>
+    requires { 0 < count_of (view_of view.now) }
+    // What is answered is a reading that ends on its constants.
+    ensures reading { IfOk result (λ samples. IsWhole (view_of view.now) samples.items) }
+    // There's no other, and where there is one, it's answered unless memory lacks.
+    ensures only { (s : List ℤ) → IsWhole (view_of view.now) s → MatchResult result (λ samples. samples.items ≡ s) (λ fault. fault ≡ Memory) }
+    // A fault is answered where it is the first, and no other; memory lacks only where there's a reading.
+    ensures fault { (f : ReadFault) → IsFault (view_of view.now) f → result ≡ Err f }
+    ensures refused { IfErr result (λ fault. IsRefusal (view_of view.now) fault) }
+    // A fault says that there's no reading, or that the only one ends elsewhere.
+    ensures denied { IfErr result (λ fault. fault ≢ Memory → Denies (view_of view.now) fault) }
+{
+    keep_samples(alloc, view)
+}
+
+/// A record's samples, in memory that may lack.
+fn keep_samples<A: Allocator + Drop>(
+    alloc: A,
+    view: &RecordView<'_>,
+) -> Result<Vec<i32, A>, ReadFault>
+    requires { 0 < count_of (view_of view.now) }
+    ensures { MatchResult result (λ samples. IsWhole (view_of view.now) samples.items) (λ fault. IsRefusal (view_of view.now) fault) }
+{
+    let samples = usize::from(view.samples());
+    let mut out = match zeros(alloc, samples) {
+        Ok(out) => out,
+        Err(_) => {
+            return match check_samples(view) {
+                Ok(_) => Err(ReadFault::Memory),
+                Err(fault) => Err(fault),
+            };
+        }
+    };
+    match fill_record(view, &mut out) {
+        Ok(()) => Ok(out),
+        Err(fault) => Err(fault),
+    }
+}
+
+/// So many zeros.
+fn zeros<A: Allocator + Drop>(alloc: A, count: usize) -> Result<Vec<i32, A>, AllocError>
+    ensures { IfOk result (λ samples. length samples.items ≡ count) }
+{
+    Ok(vec![in alloc; 0; count]?)
+}
