@@ -44,7 +44,10 @@ impl<'a> Model for Differences<'a> {
 impl<'a> Differences<'a> {
     /// Those of a payload, by its scheme. Bytes after the last whole frame aren't read.
     pub fn over(payload: &'a [u8], scheme: Scheme) -> Self
-        ensures { Gives scheme (data_words payload.now) result }
+        // What is handed out is what the words spell, or those before the first bad word, and its place.
+        ensures items { Gives scheme (data_words payload.now) result }
+        // No more than seven for each word.
+        ensures few { 4 * length result ≤ 7 * length payload.now }
     {
         let end = count_words(payload);
         Differences {
