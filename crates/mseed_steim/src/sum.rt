@@ -38,7 +38,40 @@ pub(crate) fn add_difference(difference: i32, samples: usize, sum: Sum) -> Resul
     }
 }
 
+/// The `count` differences of `width` bits in the low bits of a word, all of which are needed and used.
+#[inline(always)]
+fn add_all_digits(
+    word: u32,
+    count: u32,
+    width: u32,
+    samples: usize,
+    sum: Sum,
+) -> Result<Sum, ReadFault>
+    requires few { count ≤ 7 }
+    requires positive { 0 < width }
+    requires narrow { width ≤ 30 }
+    requires room { width * count ≤ 32 }
+    requires begun { 0 < sum.met }
+    requires needed { sum.met + count ≤ samples }
+    ensures goes_on { (more : List (Result ℤ BadWordAt)) → GoesOn samples sum (map Ok (digits width word count) ++ more) more result }
+    ensures met { IfOk result (λ next. next.met ≤ samples) }
+{
+    let mut last = sum.last;
+    for i in 0..count {
+        let digit = (word >> (width * (count - 1 - i))) & ((1 << width) - 1);
+        match last.checked_add(signed_digit(digit, width)) {
+            Some(next) => last = next,
+            None => return Err(ReadFault::Overflow(sum.met + i as usize)),
+        }
+    }
+    Ok(Sum {
+        met: sum.met + count as usize,
+        last,
+    })
+}
+
 /// The `count` differences of `width` bits in the low bits of a word, as far as they are needed.
+#[inline(always)]
 pub(crate) fn add_digits(
     word: u32,
     count: u32,
@@ -54,6 +87,9 @@ pub(crate) fn add_digits(
     ensures goes_on { (more : List (Result ℤ BadWordAt)) → GoesOn samples sum (map Ok (digits width word count) ++ more) more result }
     ensures met { IfOk result (λ next. next.met ≤ samples) }
 {
+    if 0 < sum.met && count as usize <= samples - sum.met {
+        return add_all_digits(word, count, width, samples, sum);
+    }
     let mut sum = sum;
     for i in 0..count {
         if sum.met == samples {
