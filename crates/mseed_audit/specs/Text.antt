@@ -6,6 +6,10 @@ use Rattle.mseed_time.specs.Ratios.{ratio_of}
 use Rattle.mseed_time.specs.Text.{time_text}
 use Rattle.mseed_record.specs.Header.{is_blank, key_at}
 use Rattle.mseed_record.specs.FirstForm.{start_of}
+use Rattle.mseed_record.specs.declared.frame.FrameFault.{FrameFault}
+use Rattle.mseed_record.specs.declared.frame.FrameFault.TheVariants.{NotData, Order as NoOrder, Chain, No1000, Length, Outside, Version3}
+use Rattle.mseed_stream.specs.declared.fault.StreamFault.{StreamFault}
+use Rattle.mseed_stream.specs.declared.fault.StreamFault.TheVariants.{Frame, Truncated, Read, Turns, Memory}
 use Rattle.mseed_audit.specs.declared.finding.Why.{Why}
 use Rattle.mseed_audit.specs.declared.finding.Why.TheVariants.{RateChange, Gap, Overlap}
 use Rattle.mseed_audit.specs.declared.finding.Finding.{Finding}
@@ -59,6 +63,24 @@ verdict_line key (Broken first count) = name_text key ++ broken_words first coun
 abbrev pub total_line : ℕ → ℕ → List ℕ
 total_line records channels =
     codes "records " ++ decimal records ++ codes " channels " ++ decimal channels ++ codes "\n"
+
+-- the line of bytes that begin no record
+abbrev pub frame_line : ℕ → FrameFault → List ℕ
+frame_line offset NotData = codes "fault at " ++ decimal offset ++ codes " notdata\n"
+frame_line offset NoOrder = codes "fault at " ++ decimal offset ++ codes " order\n"
+frame_line offset Chain = codes "fault at " ++ decimal offset ++ codes " chain\n"
+frame_line offset No1000 = codes "fault at " ++ decimal offset ++ codes " no1000\n"
+frame_line offset (Length e) = codes "fault at " ++ decimal offset ++ codes " length " ++ decimal e ++ codes "\n"
+frame_line offset Outside = codes "fault at " ++ decimal offset ++ codes " outside\n"
+frame_line offset Version3 = codes "fault at " ++ decimal offset ++ codes " version3\n"
+
+-- the line of a stream's fault: a want of memory has none
+abbrev pub fault_line : StreamFault → List ℕ
+fault_line (Frame offset f) = frame_line offset f
+fault_line (Truncated offset have) = codes "fault at " ++ decimal offset ++ codes " truncated " ++ decimal have ++ codes "\n"
+fault_line (Read offset) = codes "fault at " ++ decimal offset ++ codes " read\n"
+fault_line (Turns offset) = codes "fault at " ++ decimal offset ++ codes " turns\n"
+fault_line Memory = []
 
 -- a channel's line, by its records and their findings
 abbrev pub line_by : List Finding → List ℕ → List (List ℕ) → List ℕ

@@ -9,4 +9,4 @@ mod text;
 
 pub use channel::Channel;
 pub use finding::{Finding, Verdict, Why};
-pub use text::{push_channel_line, push_total_line};
+pub use text::{push_channel_line, push_fault_line, push_name, push_total_line};

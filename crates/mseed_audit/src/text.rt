@@ -1,12 +1,13 @@
 //! The lines of an audit's text.
-ghost use Rattle.std.specs.Prelude.{◌≡◌, ◌++◌, OnOk, decimal};
-ghost use Rattle.mseed_audit.specs.Text.{verdict_line, continuous_words, broken_words, total_line, name_text, code_text, why_text, printed, trimmed};
+ghost use Rattle.std.specs.Prelude.{◌≡◌, ◌++◌, OnOk, codes, decimal};
+ghost use Rattle.mseed_audit.specs.Text.{verdict_line, continuous_words, broken_words, total_line, name_text, code_text, why_text, printed, trimmed, fault_line, frame_line};
 ghost use Rattle.mseed_time.specs.Ratios.{ratio_of};
 ghost use Rattle.mseed_record.specs.Header.{is_blank};
 
 use crate::finding::{Finding, Verdict, Why};
 use itoa::Buffer;
-use mseed_record::Codes;
+use mseed_record::{Codes, FrameFault};
+use mseed_stream::StreamFault;
 use mseed_time::{Micros, Rate, show_time};
 use std::alloc::{AllocError, Allocator};
 
@@ -79,6 +80,62 @@ pub fn push_total_line<A: Allocator>(
     push_bytes(text, b"\n")
 }
 
+/// Adds the line of a stream's fault; none for a want of memory. Where memory is refused, a part of it may
+/// have been added.
+pub fn push_fault_line<A: Allocator>(
+    text: &mut Vec<u8, A>,
+    fault: &StreamFault,
+) -> Result<(), AllocError>
+    ensures { OnOk result (text.new.items ≡ text.old.items ++ fault_line fault.now) }
+{
+    match fault {
+        StreamFault::Frame(offset, fault) => push_frame_line(text, *offset, fault),
+        StreamFault::Truncated(offset, have) => {
+            push_count(text, b"fault at ", u128::from(*offset))?;
+            push_count(text, b" truncated ", *have as u128)?;
+            push_bytes(text, b"\n")
+        }
+        StreamFault::Read(offset) => push_place_line(text, *offset, b" read\n"),
+        StreamFault::Turns(offset) => push_place_line(text, *offset, b" turns\n"),
+        StreamFault::Memory => Ok(()),
+    }
+}
+
+/// Adds the line of bytes that begin no record.
+fn push_frame_line<A: Allocator>(
+    text: &mut Vec<u8, A>,
+    offset: u64,
+    fault: &FrameFault,
+) -> Result<(), AllocError>
+    ensures { OnOk result (text.new.items ≡ text.old.items ++ frame_line offset fault.now) }
+{
+    match fault {
+        FrameFault::NotData => push_place_line(text, offset, b" notdata\n"),
+        FrameFault::Order => push_place_line(text, offset, b" order\n"),
+        FrameFault::Chain => push_place_line(text, offset, b" chain\n"),
+        FrameFault::No1000 => push_place_line(text, offset, b" no1000\n"),
+        FrameFault::Length(exponent) => {
+            push_count(text, b"fault at ", u128::from(offset))?;
+            push_count(text, b" length ", u128::from(*exponent))?;
+            push_bytes(text, b"\n")
+        }
+        FrameFault::Outside => push_place_line(text, offset, b" outside\n"),
+        FrameFault::Version3 => push_place_line(text, offset, b" version3\n"),
+    }
+}
+
+/// Adds where a fault is, and its words.
+fn push_place_line<A: Allocator>(
+    text: &mut Vec<u8, A>,
+    offset: u64,
+    words: &[u8],
+) -> Result<(), AllocError>
+    ensures { OnOk result (text.new.items ≡ text.old.items ++ codes "fault at " ++ decimal offset ++ words.now) }
+{
+    push_count(text, b"fault at ", u128::from(offset))?;
+    push_bytes(text, words)
+}
+
 /// Adds the words of a finding.
 fn push_why<A: Allocator>(text: &mut Vec<u8, A>, why: &Why) -> Result<(), AllocError>
     ensures { OnOk result (text.new.items ≡ text.old.items ++ why_text why.now) }
@@ -110,8 +167,10 @@ fn push_bytes<A: Allocator>(text: &mut Vec<u8, A>, bytes: &[u8]) -> Result<(), A
     text.extend_from_slice(bytes)
 }
 
-/// Adds a channel's name.
-fn push_name<A: Allocator>(text: &mut Vec<u8, A>, codes: &Codes) -> Result<(), AllocError>
+/// Adds a channel's name: network, station, location and channel, each without its trailing spaces and
+/// NULs, with `?` for what is left and can't be printed. Where memory is refused, a part of it may have
+/// been added.
+pub fn push_name<A: Allocator>(text: &mut Vec<u8, A>, codes: &Codes) -> Result<(), AllocError>
     ensures { OnOk result (text.new.items ≡ text.old.items ++ name_text codes.now) }
 {
     push_code(text, codes.network())?;
