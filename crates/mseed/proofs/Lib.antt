@@ -1,2 +1,4 @@
 pub mod Written
 pub mod Walking
+pub mod Taken
+pub mod Gathered

@@ -3,3 +3,9 @@ pub mod Broken
 pub mod Walk
 pub mod Outcome
 pub mod Run
+pub mod Options
+pub mod Words
+pub mod Listing
+pub mod Show
+pub mod Gathering
+pub mod Done

@@ -1,5 +1,5 @@
 -- What the command did.
-use Rattle.std.specs.Prelude.{⊤, ◌≡◌, ◌≢◌, ◌⊎◌, ℕ, ◌+◌, ◌<◌, Bool, IsTrue, if◌then◌else◌, List, [], ◌∷◌, ◌++◌, length, take, Result, Ok, Err, codes, decimal}
+use Rattle.std.specs.Prelude.{⊤, ◌≡◌, ◌≢◌, ◌⊎◌, ℕ, ◌+◌, ◌<◌, Bool, IsTrue, if◌then◌else◌, List, [], ◌++◌, length, take, Result, Ok, Err, codes, decimal}
 use Rattle.std.specs.List.{AllByRecursion}
 use Rattle.mseed_stream.specs.Device.{Heard, Said}
 use Rattle.mseed_stream.specs.declared.fault.StreamFault.{StreamFault}
@@ -97,10 +97,6 @@ pub record Tells (line : List ℕ) (old new : Said) : Type 0 where
 abbrev pub TellsOf : Result Bool FirstFault → Said → Said → Type 0
 TellsOf (Ok is_broken) old new = new ≡ old
 TellsOf (Err fault) old new = Tells (fault_line fault) old new
-
--- the words of the command line ask for an audit
-abbrev pub IsAudit : List (List ℕ) → Type 0
-IsAudit words = words ≡ codes "audit" ∷ []
 
 -- an audit, its status and its line
 pub record IsAuditRun (outcome : Result Bool FirstFault) (status : ℕ) (old new : Heard) (said_old said_new told_old told_new : Said) : Type 0 where

@@ -1,22 +1,37 @@
 //! The command line.
-ghost use Rattle.std.specs.Prelude.{◌≡◌, ◌↔◌, Bool, Result, IsTrue, map, ◌≤◌, ◌+◌, ◌++◌, length, codes, decimal};
+ghost use Rattle.std.specs.Prelude.{◌≡◌, ◌⊎◌, Bool, Option, Result, map, ◌≤◌, ◌+◌, ◌++◌, length, codes, decimal};
 ghost use Rattle.mseed_stream.specs.Device.{nothing_heard};
 ghost use Rattle.mseed.specs.declared.first.FirstFault.{FirstFault};
-ghost use Rattle.mseed.specs.Outcome.{IsAudit, IsAuditRun, IsBadRun, MayEnd, EndsReads, Tells, fault_line, stream_line};
+ghost use Rattle.mseed.specs.Outcome.{IsAuditRun, IsBadRun, MayEnd, EndsReads, Tells, fault_line, stream_line};
 ghost use Rattle.mseed.specs.Run.{status_in};
+ghost use Rattle.mseed.specs.Words.{AsksFor, AsksForNothing, AreRefused};
+ghost use Rattle.mseed.specs.Done.{IsShowRun, IsMemoryRun, IsRefusedRun};
+ghost use Rattle.clap.specs.Values.{kind_of};
+ghost use Rattle.mseed_stream.specs.declared.fault.StreamFault.{StreamFault};
+ghost use Rattle.mseed.specs.declared.ending.ShowFault.{ShowFault};
+ghost use Rattle.mseed.specs.declared.request.Request.{Request};
+ghost use Rattle.clap.specs.declared.error.kind.ErrorKind.{ErrorKind};
 
+use crate::ending::ShowFault;
 use crate::first::{FirstFault, audit};
 use crate::outcome::Run;
+use crate::request::Request;
+use crate::show::show;
+use crate::words;
 use arrayvec::ArrayVec;
+use clap::Error;
+use clap::error::ErrorKind;
 use itoa::Buffer;
 use mseed_stream::{Sink, Source, StreamFault, write_all_of};
 use std::alloc::{Allocator, Global};
 
-/// Carries out what the words of the command line ask for.
+/// Carries out what the words of the command line ask for, those after the program's name.
 ///
 /// `audit` reads an archive from `input` and writes its audit to `output`: status 0 where every channel
 /// is continuous, 1 where one is broken, 2 where the audit couldn't be done, with a line on `errors`.
-/// Other words are a bad command line: status 3. The input is one of which nothing was read yet.
+/// `show` lists the records of `input`: status 0, or 2 where the input ended with a fault, which the
+/// listing names, or where it couldn't be written whole. Other words are a bad command line: status 3.
+/// Where there was no memory for the words, status 2. The input is one of which nothing was read yet.
 pub fn run<R: Source, W: Sink, E: Sink>(
     alloc: Global,
     words: &[&str],
@@ -25,41 +40,112 @@ pub fn run<R: Source, W: Sink, E: Sink>(
     errors: &mut E,
 ) -> Run
     requires { R.heard input.old ≡ nothing_heard }
-    ensures audit { IsAudit (map (λ word. word.now) words.now)
-        → (outcome : Result Bool FirstFault) × IsAuditRun outcome (status_in result) (R.heard input.old) (R.heard input.new)
+    ensures audit { AsksFor (map (λ word. word.now) words.now) Request.Audit
+        → ((outcome : Result Bool FirstFault) × IsAuditRun outcome (status_in result) (R.heard input.old) (R.heard input.new)
+        (W.said output.old) (W.said output.new) (E.said errors.old) (E.said errors.new))
+        ⊎ IsMemoryRun (status_in result) (R.heard input.old) (R.heard input.new)
         (W.said output.old) (W.said output.new) (E.said errors.old) (E.said errors.new) }
-    ensures bad { (IsAudit (map (λ word. word.now) words.now) → ⊥)
+    ensures show { AsksFor (map (λ word. word.now) words.now) Request.Show
+        → ((outcome : Result (Option StreamFault) ShowFault) × IsShowRun outcome (status_in result) (R.heard input.new)
+        (W.said output.old) (W.said output.new) (E.said errors.old) (E.said errors.new))
+        ⊎ IsMemoryRun (status_in result) (R.heard input.old) (R.heard input.new)
+        (W.said output.old) (W.said output.new) (E.said errors.old) (E.said errors.new) }
+    ensures bad { AsksForNothing (map (λ word. word.now) words.now)
         → IsBadRun (status_in result) (R.heard input.old) (R.heard input.new)
+        (W.said output.old) (W.said output.new) (E.said errors.old) (E.said errors.new)
+        ⊎ IsMemoryRun (status_in result) (R.heard input.old) (R.heard input.new)
+        (W.said output.old) (W.said output.new) (E.said errors.old) (E.said errors.new) }
+    ensures refused { AreRefused (map (λ word. word.now) words.now)
+        → IsRefusedRun (status_in result) (R.heard input.old) (R.heard input.new)
+        (W.said output.old) (W.said output.new)
+        ⊎ IsMemoryRun (status_in result) (R.heard input.old) (R.heard input.new)
         (W.said output.old) (W.said output.new) (E.said errors.old) (E.said errors.new) }
 {
-    run_in(alloc, words, input, output, errors)
+    match words::read(alloc, words) {
+        Ok(Some(request)) => carry_out(alloc, request, input, output, errors),
+        Ok(None) => refuse_words(errors),
+        Err(error) => refuse(alloc, errors, &error),
+    }
 }
 
-/// [`run`] with any allocator, as one that refuses.
-pub fn run_in<A: Allocator + Copy, R: Source, W: Sink, E: Sink>(
+/// Does what is asked for, with any allocator, as one that refuses.
+pub fn carry_out<A: Allocator + Copy, R: Source, W: Sink, E: Sink>(
     alloc: A,
-    words: &[&str],
+    request: Request,
     input: &mut R,
     output: &mut W,
     errors: &mut E,
 ) -> Run
     requires { R.heard input.old ≡ nothing_heard }
-    ensures audit { IsAudit (map (λ word. word.now) words.now)
+    ensures audit { request ≡ Request.Audit
         → (outcome : Result Bool FirstFault) × IsAuditRun outcome (status_in result) (R.heard input.old) (R.heard input.new)
         (W.said output.old) (W.said output.new) (E.said errors.old) (E.said errors.new) }
-    ensures bad { (IsAudit (map (λ word. word.now) words.now) → ⊥)
-        → IsBadRun (status_in result) (R.heard input.old) (R.heard input.new)
+    ensures show { request ≡ Request.Show
+        → (outcome : Result (Option StreamFault) ShowFault) × IsShowRun outcome (status_in result) (R.heard input.new)
         (W.said output.old) (W.said output.new) (E.said errors.old) (E.said errors.new) }
 {
-    if !wants_audit(words) {
-        return refuse_words(errors);
+    match request {
+        Request::Audit => run_audit(alloc, input, output, errors),
+        Request::Show => run_show(alloc, input, output, errors),
     }
+}
+
+/// Audits, and says on `errors` why it couldn't.
+fn run_audit<A: Allocator + Copy, R: Source, W: Sink, E: Sink>(
+    alloc: A,
+    input: &mut R,
+    output: &mut W,
+    errors: &mut E,
+) -> Run
+    requires { R.heard input.old ≡ nothing_heard }
+    ensures { (outcome : Result Bool FirstFault) × IsAuditRun outcome (status_in result) (R.heard input.old) (R.heard input.new)
+        (W.said output.old) (W.said output.new) (E.said errors.old) (E.said errors.new) }
+{
     match audit(alloc, input, output) {
         Ok(is_broken) => Run::Status(u8::from(is_broken)),
         Err(fault) => {
             complain(errors, &fault);
             Run::Status(2)
         }
+    }
+}
+
+/// Lists, and says on `errors` why not all was written. A fault of the input is in the listing.
+fn run_show<A: Allocator + Copy, R: Source, W: Sink, E: Sink>(
+    alloc: A,
+    input: &mut R,
+    output: &mut W,
+    errors: &mut E,
+) -> Run
+    requires { R.heard input.old ≡ nothing_heard }
+    ensures { (outcome : Result (Option StreamFault) ShowFault) × IsShowRun outcome (status_in result) (R.heard input.new)
+        (W.said output.old) (W.said output.new) (E.said errors.old) (E.said errors.new) }
+{
+    match show(alloc, input, output) {
+        Ok(None) => Run::Status(0),
+        Ok(Some(_)) => Run::Status(2),
+        Err(ShowFault::Write) => {
+            tell(errors, b"mseed: write failed\n");
+            Run::Status(2)
+        }
+        Err(ShowFault::Memory) => refuse_memory(errors),
+    }
+}
+
+/// Says why `clap` refuses the words, in its own text.
+fn refuse<E: Sink>(alloc: Global, errors: &mut E, error: &Error) -> Run
+    ensures memory { kind_of error.now ≡ ErrorKind.OutOfMemory → (status_in result ≡ 2) × Tells (codes "mseed: no memory\n") (E.said errors.old) (E.said errors.new) }
+    ensures either { (status_in result ≡ 3) ⊎ ((status_in result ≡ 2) × Tells (codes "mseed: no memory\n") (E.said errors.old) (E.said errors.new)) }
+{
+    if error.kind() == ErrorKind::OutOfMemory {
+        return refuse_memory(errors);
+    }
+    match error.to_string(alloc) {
+        Ok(text) => {
+            tell(errors, text.as_bytes());
+            Run::Status(3)
+        }
+        Err(_) => refuse_memory(errors),
     }
 }
 
@@ -79,16 +165,6 @@ pub fn refuse_memory<E: Sink>(errors: &mut E) -> Run
 {
     tell(errors, b"mseed: no memory\n");
     Run::Status(2)
-}
-
-/// Whether the words ask for an audit.
-fn wants_audit(words: &[&str]) -> bool
-    ensures { IsTrue result ↔ IsAudit (map (λ word. word.now) words.now) }
-{
-    match words {
-        [word] => *word == "audit",
-        _ => false,
-    }
 }
 
 /// Writes the line of a fault.

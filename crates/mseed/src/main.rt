@@ -2,17 +2,25 @@
 #![tactic(auto)]
 
 mod command;
+mod ending;
 mod first;
+mod listing;
 mod outcome;
+mod request;
+mod show;
 #[cfg(test)]
 mod tests;
 mod walk;
+mod words;
 
 use mseed_stream::{Counted, Sink};
 use outcome::Run;
-use std::io::ErrorKind;
+use std::io::{BufReader, ErrorKind};
 use std::process::ExitCode;
 use std::{env, io};
+
+/// So many bytes of the input are read at once.
+const ROOM: usize = 1 << 16;
 
 fn main(rt: HostRuntime) -> ExitCode {
     let mut errors = Counted::new(rt.stderr());
@@ -39,7 +47,7 @@ fn run_with_words<E: Sink>(rt: &HostRuntime, errors: &mut E) -> io::Result<Run> 
     for word in &words {
         lent.push(word.as_str())?;
     }
-    let mut input = Counted::new(rt.reader());
+    let mut input = Counted::new(BufReader::with_capacity(rt.alloc(), ROOM, rt.reader())?);
     let mut output = Counted::new(io::writer(rt));
     Ok(command::run(rt.alloc(), &lent, &mut input, &mut output, errors))
 }

@@ -1,7 +1,10 @@
 //! Runs over small devices: what is written for which input, byte for byte.
 
-use crate::command::{run, run_in};
+mod listing;
+
+use crate::command::{carry_out, run};
 use crate::outcome::Run;
+use crate::request::Request;
 use linked_list_allocator::LocalHeap;
 use mseed_stream::Counted;
 use std::alloc::{AllocError, Global};
@@ -220,9 +223,12 @@ fn prints_codes_without_their_padding(rt: HostRuntime) -> Result<(), Fail> {
 
 #[test]
 fn reads_nothing_for_other_words(rt: HostRuntime) {
-    let rows: [&[&str]; 6] = [
+    let rows: [&[&str]; 9] = [
         &[],
-        &["show"],
+        &["repack"],
+        &["show", "show"],
+        &["audit", "--port", "18000"],
+        &["--length=512"],
         &["audit", "audit"],
         &["Audit"],
         &["audit "],
@@ -236,6 +242,26 @@ fn reads_nothing_for_other_words(rt: HostRuntime) {
             assert!(rt; ran.output.is_empty());
             assert_eq!(rt; (ran.status, ran.unread), (3, 128));
         }
+    }
+}
+
+#[test]
+fn shows_the_text_of_refused_words(rt: HostRuntime) {
+    // Each is the text of `clap`, which tells at least what it is about.
+    let rows: [(&[&str], &str); 5] = [
+        (&["--bogus"], "--bogus"),
+        (&["audit", "--port", "0"], "--port"),
+        (&["show", "--tries", "1000001"], "--tries"),
+        (&["--help"], "Usage"),
+        (&["show", "--first", "1", "--first", "2"], "--first"),
+    ];
+    for (words, about) in rows {
+        let ran = run_over(rt.alloc(), words, whole(&FIRST), 1000, 10_000);
+        let errors = str::from_utf8(&ran.errors).unwrap_or("");
+        assert!(rt; errors.contains(about), "{about}");
+        assert!(rt; !errors.contains("mseed: bad value"), "{about}");
+        assert!(rt; ran.output.is_empty(), "{about}");
+        assert_eq!(rt; (ran.status, ran.unread), (3, 128), "{about}");
     }
 }
 
@@ -294,7 +320,13 @@ fn writes_nothing_where_memory_is_refused(rt: HostRuntime) -> Result<(), Fail> {
             taken: Vec::new(rt.alloc()),
             room: 1000,
         });
-        let Run::Status(status) = run_in(&heap, &["audit"], &mut input, &mut output, &mut errors);
+        let Run::Status(status) = carry_out(
+            &heap,
+            Request::Audit,
+            &mut input,
+            &mut output,
+            &mut errors,
+        );
         let (output, errors) = (output.into_inner().taken, errors.into_inner().taken);
         if status == 0 {
             was_audited = true;

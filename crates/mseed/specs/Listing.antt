@@ -1,0 +1,73 @@
+-- The text of a listing.
+use Rattle.std.specs.Prelude.{ℕ, ◌+◌, Bool, if◌then◌else◌, List, [], ◌∷◌, ◌++◌, length, Option, Some, None, ℤ, codes, decimal}
+use Rattle.mseed_time.specs.declared.order.Order.{Order}
+use Rattle.mseed_time.specs.declared.order.Order.TheVariants.{Big, Little}
+use Rattle.mseed_time.specs.declared.fault.TimeFault.{TimeFault}
+use Rattle.mseed_time.specs.declared.fault.TimeFault.TheVariants.{Year, Day, Hour, Minute, Second, Fraction}
+use Rattle.mseed_time.specs.Btime.{first_fault}
+use Rattle.mseed_time.specs.Rate.{Ratio, rate_of}
+use Rattle.mseed_time.specs.Text.{time_text}
+use Rattle.mseed_record.specs.Header.{key_at, quality_at, time_at, samples_at, factor_at, multiplier_at}
+use Rattle.mseed_record.specs.View.{View, start_of}
+use Rattle.mseed_audit.specs.Text.{name_text}
+
+-- a start that is refused: the first field that is out of its range
+abbrev pub time_fault_words : TimeFault → List ℕ
+time_fault_words Year = codes "fault year"
+time_fault_words Day = codes "fault day"
+time_fault_words Hour = codes "fault hour"
+time_fault_words Minute = codes "fault minute"
+time_fault_words Second = codes "fault second"
+time_fault_words Fraction = codes "fault fraction"
+
+abbrev pub start_by : Option TimeFault → ℤ → List ℕ
+start_by None start = time_text start
+start_by (Some fault) start = time_fault_words fault
+
+abbrev pub start_text : View → List ℕ
+start_text v = start_by (first_fault (time_at v.order v.bytes)) (start_of v)
+
+abbrev pub ratio_text : Ratio → List ℕ
+ratio_text rate = decimal rate.num ++ codes "/" ++ decimal rate.den
+
+abbrev pub rate_by : Option Ratio → List ℕ
+rate_by (Some rate) = ratio_text rate
+rate_by None = codes "none"
+
+abbrev pub rate_text : View → List ℕ
+rate_text v = rate_by (rate_of (factor_at v.order v.bytes) (multiplier_at v.order v.bytes))
+
+abbrev pub order_word : Order → List ℕ
+order_word Big = codes " big"
+order_word Little = codes " little"
+
+-- the words of a record's line, a few at a time
+abbrev pub place_words : ℕ → View → List ℕ
+place_words offset v = decimal offset ++ codes " " ++ name_text (key_at v.bytes)
+
+abbrev pub size_words : View → List ℕ
+size_words v =
+    codes " " ++ (quality_at v.bytes ∷ []) ++ codes " length " ++ decimal (length v.bytes)
+    ++ codes " samples " ++ decimal (samples_at v.order v.bytes)
+
+abbrev pub time_words : View → List ℕ
+time_words v = codes " start " ++ start_text v ++ codes " rate " ++ rate_text v
+
+abbrev pub last_words : Bool → List ℕ
+last_words has_rate_blockette = if has_rate_blockette then codes " blockette100\n" else codes "\n"
+
+abbrev pub payload_words : View → List ℕ
+payload_words v = codes " encoding " ++ decimal v.encoding ++ order_word v.payload_order ++ last_words v.has_rate_blockette
+
+-- a record's line, by where it begins
+abbrev pub record_line : ℕ → View → List ℕ
+record_line offset v = place_words offset v ++ size_words v ++ time_words v ++ payload_words v
+
+-- the lines of records that stand one behind another from a place on
+abbrev pub record_lines : ℕ → List View → List ℕ
+record_lines place [] = []
+record_lines place (v ∷ vs) = record_line place v ++ record_lines (place + length v.bytes) vs
+
+-- how many records there are
+abbrev pub count_line : ℕ → List ℕ
+count_line records = codes "records " ++ decimal records ++ codes "\n"

@@ -1,0 +1,49 @@
+-- The command as `clap` reads it: one simple command, whose entries are a function of the words.
+use Rattle.std.specs.Prelude.{pos, true, List, [], ◌∷◌, Some, codes}
+use Rattle.clap.specs.Walk.{Rule, Text}
+use Rattle.clap.specs.Simple.{App, new_app, new_rule, on_top, with_rule}
+use Rattle.clap.specs.declared.builder.action.ArgAction.TheVariants.{Append}
+use Rattle.clap.specs.declared.builder.value_parser.ValueParser.{ValueParser}
+use Rattle.clap.specs.declared.builder.value_parser.ValueParser.TheVariants.{Signed}
+
+-- `--name VALUE`
+abbrev pub option_rule : Text → Rule
+option_rule name = record (new_rule name) { long = Some name }
+
+-- `--name NUMBER`
+abbrev pub number_rule : Text → ValueParser → Rule
+number_rule name numbers = record (option_rule name) { parser = Some numbers }
+
+-- the command's word
+abbrev pub word_rule : Rule
+word_rule = new_rule (codes "command")
+
+-- further places
+abbrev pub places_rule : Rule
+places_rule = record (new_rule (codes "place")) { action = Some Append }
+
+-- the options of packing
+abbrev pub packing_rules : List Rule
+packing_rules = option_rule (codes "length") ∷ option_rule (codes "encoding") ∷ []
+
+-- the options of a feed
+abbrev pub feed_rules : List Rule
+feed_rules = option_rule (codes "station") ∷ option_rule (codes "network") ∷ option_rule (codes "capacity")
+    ∷ option_rule (codes "first") ∷ option_rule (codes "from") ∷ []
+
+abbrev pub number_rules : List Rule
+number_rules = number_rule (codes "port") (Signed (pos 1) (pos 65535)) ∷ number_rule (codes "connections") (Signed (pos 1) (pos 1000000))
+    ∷ number_rule (codes "tries") (Signed (pos 1) (pos 1000000)) ∷ []
+
+abbrev pub with_rules : App → List Rule → App
+with_rules a [] = a
+with_rules a (r ∷ rs) = with_rules (with_rule a r) rs
+
+-- without places and options; the program's name isn't among the words
+abbrev pub bare_command : App
+bare_command = on_top (λ s. record s { no_binary_name = true }) (new_app (codes "mseed"))
+
+-- with all places and options side by side
+abbrev pub the_command : App
+the_command =
+    with_rules (with_rules (with_rules (with_rule (with_rule bare_command word_rule) places_rule) packing_rules) feed_rules) number_rules
