@@ -98,7 +98,8 @@ check 'no rate' 2 '' 'mseed: not yet at 0\n' no_rate audit
 check 'odd codes' 0 "~!_S?A_?0_?H? continuous $start rate 20/1 records 1 samples 16\nrecords 1 channels 1\n" '' odd_codes audit
 check 'many records' 0 "XX_STA__BHZ continuous $start rate 20/1 records 500 samples 8000\nrecords 500 channels 1\n" '' many audit
 check 'no word' 3 '' 'mseed: bad value\n' two
-check 'another word' 3 '' 'mseed: bad value\n' two show
+check 'another word' 3 '' 'mseed: bad value\n' two repack
+check 'an option of another command' 3 '' 'mseed: bad value\n' two audit --port 18000
 check 'two words' 3 '' 'mseed: bad value\n' two audit audit
 check 'an empty word' 3 '' 'mseed: bad value\n' two ''
 check 'a word that is not UTF-8' 3 '' 'mseed: bad value\n' two $'audit\xff'
