@@ -1,46 +1,77 @@
 #!/bin/bash
-# Refuses each of the program's requests for memory in turn: each such run writes nothing on its
-# output, `mseed: no memory` on its standard error, and ends with status 2.
+# Refuses each of the program's requests for memory in turn: each such run says `mseed: no memory` on its
+# standard error and ends with status 2. An audit writes nothing then, and a listing a front of its text.
+# MSEED names the program.
 set -u
 
 root=$(cd "$(dirname "$0")/.." && pwd)
+program=$(realpath "${MSEED:-$root/crates/mseed/out/mseed}")
 folder=$(mktemp -d)
 trap 'rm -rf "$folder"' EXIT
+cd "$folder" || exit 2
 passed=0
 failed=0
-text='XX_STA__BHZ continuous 2024-01-01T00:00:00.000000 rate 20/1 records 2 samples 32
-records 2 channels 1'
 
-# attempt N: a run whose Nth request is refused
+cc -shared -fPIC -O1 -o refuse.so "$root/tests/refuse_memory.c" -ldl || exit 2
+
+# attempt N WORD..: a run whose Nth request is refused
 attempt() {
-    (cd "$root/crates/mseed" && rt try --fail-alloc "$1" -- audit) \
-        < "$root/samples/two_records.mseed" > "$folder/output" 2> "$folder/all"
+    local request=$1
+    shift
+    REFUSE=$request LD_PRELOAD=$folder/refuse.so "$program" "$@" \
+        < "$root/samples/two_records.mseed" > output 2> errors
     status=$?
-    # What `rt try` itself writes stands among the program's errors.
-    grep -v -e '^allocations: ' -e '^interpreter: ' -e '^checked: ' -e '^run=' "$folder/all" > "$folder/errors"
 }
 
-# judge NAME STATUS OUTPUT ERRORS
 judge() {
-    if [ "$status" = "$2" ] && printf '%s' "$3" | cmp -s - "$folder/output" \
-        && printf '%s' "$4" | cmp -s - "$folder/errors"; then
-        echo "ok $1"
+    local name=$1
+    shift
+    if "$@"; then
+        echo "ok $name"
         passed=$((passed + 1))
     else
-        echo "FAILED $1: status $status, output '$(cat "$folder/output")', standard error '$(cat "$folder/all")'"
+        echo "FAILED $name: status $status, output '$(cat output)', standard error '$(cat errors)'"
         failed=$((failed + 1))
     fi
 }
 
-for ((request = 1; request <= 100; request++)); do
-    attempt "$request"
-    [ "$status" = 0 ] && break
-    judge "request $request refused" 2 '' $'mseed: no memory\n'
-done
-judge "no request refused at $request" 0 "$text"$'\n' ''
-attempt $((request + 1))
-judge "no request refused at $((request + 1))" 0 "$text"$'\n' ''
-[ "$request" -gt 1 ] || { echo 'FAILED no request was refused'; failed=$((failed + 1)); }
+is_refused() {
+    [ "$status" = 2 ] && [ "$(cat errors)" = 'mseed: no memory' ]
+}
+
+wrote_nothing() {
+    is_refused && [ ! -s output ]
+}
+
+wrote_a_front() {
+    is_refused && cmp -s -n "$(stat -c %s output)" output text
+}
+
+is_as_without() {
+    [ "$status" = "$1" ] && cmp -s output text && cmp -s errors lines
+}
+
+# refuse STATUS JUDGE WORD..: each request in turn, until there is none to refuse; then all is as without
+refuse() {
+    local wanted=$1 judged=$2 request
+    shift 2
+    attempt 0 "$@"
+    cp output text
+    cp errors lines
+    judge "$* with all its memory" is_as_without "$wanted"
+    for ((request = 1; request <= 1000; request++)); do
+        attempt "$request" "$@"
+        [ "$status" = "$wanted" ] && break
+        judge "$* with request $request refused" "$judged"
+    done
+    judge "$* with no request refused at $request" is_as_without "$wanted"
+    [ "$request" -gt 5 ] || { echo "FAILED $*: few requests"; failed=$((failed + 1)); }
+}
+
+refuse 0 wrote_nothing audit
+refuse 0 wrote_a_front show
+refuse 3 wrote_nothing show --bogus
+refuse 3 wrote_nothing show show
 
 echo "$passed passed, $failed failed"
 [ "$failed" = 0 ]
