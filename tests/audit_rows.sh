@@ -1,15 +1,7 @@
 #!/bin/bash
 # Runs the program over inputs that a small Python makes, and compares its output, its standard
 # error and its status with what they must be, byte for byte. MSEED names the program.
-set -u
-
-root=$(cd "$(dirname "$0")/.." && pwd)
-program=$(realpath "${MSEED:-$root/crates/mseed/out/mseed}")
-folder=$(mktemp -d)
-trap 'rm -rf "$folder"' EXIT
-cd "$folder" || exit 2
-passed=0
-failed=0
+. "$(dirname "$0")/judge.bash"
 
 python3 - <<'PYTHON' || exit 2
 import struct
@@ -49,36 +41,6 @@ write("odd_codes", record(1, codes=b"S\0A \0 0\x7fH\xff~!"))
 # Some hundred records last longer than one read of the program.
 write("many", *[record(n + 1, second=n * 8 // 10, fraction=n * 8 % 10 * 1000) for n in range(500)])
 PYTHON
-
-judge() {
-    local name=$1
-    shift
-    if "$@"; then
-        echo "ok $name"
-        passed=$((passed + 1))
-    else
-        echo "FAILED $name: status $status, output '$(tr -d '\0' < output)', standard error '$(tr -d '\0' < errors)'"
-        failed=$((failed + 1))
-    fi
-}
-
-is_as() {
-    [ "$status" = "$1" ] && printf '%b' "$2" | cmp -s - output && printf '%b' "$3" | cmp -s - errors
-}
-
-# check NAME STATUS OUTPUT ERRORS INPUT WORD..: the input as a file, and through a pipe byte for byte
-check() {
-    local name=$1 wanted=$2 output=$3 errors=$4 input=$5
-    shift 5
-    "$program" "$@" < "$input" > output 2> errors
-    status=$?
-    judge "$name" is_as "$wanted" "$output" "$errors"
-    python3 -c 'import os, sys
-for byte in open(sys.argv[1], "rb").read():
-    os.write(1, bytes([byte]))' "$input" 2> /dev/null | "$program" "$@" > output 2> errors
-    status=${PIPESTATUS[1]}
-    judge "$name, piped" is_as "$wanted" "$output" "$errors"
-}
 
 start=2024-01-01T00:00:00.000000
 continuous="XX_STA__BHZ continuous $start rate 20/1 records 2 samples 32\nrecords 2 channels 1\n"
@@ -122,5 +84,4 @@ judge 'full standard error' is_as 2 '' ''
 status=$?
 judge 'full standard error for other words' is_as 3 '' ''
 
-echo "$passed passed, $failed failed"
-[ "$failed" = 0 ]
+report

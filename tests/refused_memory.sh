@@ -2,15 +2,7 @@
 # Refuses each of the program's requests for memory in turn: each such run says `mseed: no memory` on its
 # standard error and ends with status 2. An audit writes nothing then, and a listing a front of its text.
 # MSEED names the program.
-set -u
-
-root=$(cd "$(dirname "$0")/.." && pwd)
-program=$(realpath "${MSEED:-$root/crates/mseed/out/mseed}")
-folder=$(mktemp -d)
-trap 'rm -rf "$folder"' EXIT
-cd "$folder" || exit 2
-passed=0
-failed=0
+. "$(dirname "$0")/judge.bash"
 
 cc -shared -fPIC -O1 -o refuse.so "$root/tests/refuse_memory.c" -ldl || exit 2
 
@@ -21,18 +13,6 @@ attempt() {
     REFUSE=$request LD_PRELOAD=$folder/refuse.so "$program" "$@" \
         < "$root/samples/two_records.mseed" > output 2> errors
     status=$?
-}
-
-judge() {
-    local name=$1
-    shift
-    if "$@"; then
-        echo "ok $name"
-        passed=$((passed + 1))
-    else
-        echo "FAILED $name: status $status, output '$(cat output)', standard error '$(cat errors)'"
-        failed=$((failed + 1))
-    fi
 }
 
 is_refused() {
@@ -73,5 +53,4 @@ refuse 0 wrote_a_front show
 refuse 3 wrote_nothing show --bogus
 refuse 3 wrote_nothing show show
 
-echo "$passed passed, $failed failed"
-[ "$failed" = 0 ]
+report

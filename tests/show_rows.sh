@@ -1,15 +1,7 @@
 #!/bin/bash
 # Lists inputs that a small Python makes, and compares the output, the standard error and the status
 # with what they must be, byte for byte. MSEED names the program.
-set -u
-
-root=$(cd "$(dirname "$0")/.." && pwd)
-program=$(realpath "${MSEED:-$root/crates/mseed/out/mseed}")
-folder=$(mktemp -d)
-trap 'rm -rf "$folder"' EXIT
-cd "$folder" || exit 2
-passed=0
-failed=0
+. "$(dirname "$0")/judge.bash"
 
 python3 - <<'PYTHON' || exit 2
 import struct
@@ -67,58 +59,28 @@ with open("many.text", "w") as file:
     file.write("records 3000\n")
 PYTHON
 
-judge() {
-    local name=$1
-    shift
-    if "$@"; then
-        echo "ok $name"
-        passed=$((passed + 1))
-    else
-        echo "FAILED $name: status $status, output '$(head -c 2000 output | tr -d '\0')', standard error '$(head -c 2000 errors | tr -d '\0')'"
-        failed=$((failed + 1))
-    fi
-}
-
-is_as() {
-    [ "$status" = "$1" ] && printf '%b' "$2" | cmp -s - output && [ ! -s errors ]
-}
-
-# check NAME STATUS OUTPUT INPUT: the input as a file and, where it is short, through a pipe byte for byte
-check() {
-    local name=$1 wanted=$2 output=$3 input=$4
-    "$program" show < "$input" > output 2> errors
-    status=$?
-    judge "$name" is_as "$wanted" "$output"
-    [ "$(stat -c %s "$input")" -gt 2000 ] && return
-    python3 -c 'import os, sys
-for byte in open(sys.argv[1], "rb").read():
-    os.write(1, bytes([byte]))' "$input" 2> /dev/null | "$program" show > output 2> errors
-    status=${PIPESTATUS[1]}
-    judge "$name, piped" is_as "$wanted" "$output"
-}
-
 start=2024-01-01T00:00:00.000000
 longer="XX_STA__BHZ D length 256 samples 48 start $start rate 20/1 encoding 3 big\n"
 short="0 XX_STA__BHZ D length 128 samples 1 start"
 
-check 'nothing' 0 'records 0\n' nothing
-check 'two records' 0 "0 ${longer}256 ${longer}records 2\n" longer
-check 'the first 300 bytes' 2 "0 ${longer}records 1\nfault at 256 truncated 44\n" cut
-check 'little-endian headers between' 0 "0 ${longer}256 XX_STA__BHZ R length 512 samples 300 start 2023-12-31T23:59:59.999990 rate 1/10 encoding 11 little\n768 ${longer}records 3\n" mixed
-check 'a 1001 before the 1000' 0 "$short 2024-01-01T00:00:00.000049 rate 20/1 encoding 10 big\nrecords 1\n" swapped
-check 'a blockette 100' 0 "$short $start rate 20/1 encoding 10 big blockette100\nrecords 1\n" other_rate
-check 'a 1001 that points back' 0 "$short 2024-01-01T00:00:00.000001 rate 20/1 encoding 10 big\nrecords 1\n" points_back
-check 'no rate' 0 "$short $start rate none encoding 10 big\nrecords 1\n" no_rate
-check 'a refused day' 0 "$short fault day rate 20/1 encoding 10 big\nrecords 1\n" no_day
-check 'no order' 2 'records 0\nfault at 0 order\n' no_order
-check 'year 2056, little-endian' 0 "$short 2056-01-10T00:00:00.000000 rate 20/1 encoding 10 big\nrecords 1\n" year_2056
-check 'miniSEED 3' 2 "0 ${longer}records 1\nfault at 256 version3\n" version_3
-check 'other bytes' 2 "0 ${longer}records 1\nfault at 256 notdata\n" not_data
-check 'a 1000 outside' 2 'records 0\nfault at 0 outside\n' outside
-check 'an exponent of 6' 2 'records 0\nfault at 0 length 6\n' length_6
-check 'no 1000 in the longest chain' 2 'records 0\nfault at 0 no1000\n' no_1000
-check 'a chain that overlaps' 2 'records 0\nfault at 0 chain\n' chain
-check 'the longest record' 0 "0 XX_STA__BHZ D length 1048576 samples 65535 start $start rate 20/1 encoding 3 big\nrecords 1\n" longest
+check 'nothing' 0 'records 0\n' '' nothing show
+check 'two records' 0 "0 ${longer}256 ${longer}records 2\n" '' longer show
+check 'the first 300 bytes' 2 "0 ${longer}records 1\nfault at 256 truncated 44\n" '' cut show
+check 'little-endian headers between' 0 "0 ${longer}256 XX_STA__BHZ R length 512 samples 300 start 2023-12-31T23:59:59.999990 rate 1/10 encoding 11 little\n768 ${longer}records 3\n" '' mixed show
+check 'a 1001 before the 1000' 0 "$short 2024-01-01T00:00:00.000049 rate 20/1 encoding 10 big\nrecords 1\n" '' swapped show
+check 'a blockette 100' 0 "$short $start rate 20/1 encoding 10 big blockette100\nrecords 1\n" '' other_rate show
+check 'a 1001 that points back' 0 "$short 2024-01-01T00:00:00.000001 rate 20/1 encoding 10 big\nrecords 1\n" '' points_back show
+check 'no rate' 0 "$short $start rate none encoding 10 big\nrecords 1\n" '' no_rate show
+check 'a refused day' 0 "$short fault day rate 20/1 encoding 10 big\nrecords 1\n" '' no_day show
+check 'no order' 2 'records 0\nfault at 0 order\n' '' no_order show
+check 'year 2056, little-endian' 0 "$short 2056-01-10T00:00:00.000000 rate 20/1 encoding 10 big\nrecords 1\n" '' year_2056 show
+check 'miniSEED 3' 2 "0 ${longer}records 1\nfault at 256 version3\n" '' version_3 show
+check 'other bytes' 2 "0 ${longer}records 1\nfault at 256 notdata\n" '' not_data show
+check 'a 1000 outside' 2 'records 0\nfault at 0 outside\n' '' outside show
+check 'an exponent of 6' 2 'records 0\nfault at 0 length 6\n' '' length_6 show
+check 'no 1000 in the longest chain' 2 'records 0\nfault at 0 no1000\n' '' no_1000 show
+check 'a chain that overlaps' 2 'records 0\nfault at 0 chain\n' '' chain show
+check 'the longest record' 0 "0 XX_STA__BHZ D length 1048576 samples 65535 start $start rate 20/1 encoding 3 big\nrecords 1\n" '' longest show
 
 "$program" show < many > output 2> errors
 status=$?
@@ -131,7 +93,7 @@ judge 'a full output' [ "$status $(cat errors)" = '2 mseed: write failed' ]
 
 "$program" show < "$folder" > output 2> errors
 status=$?
-judge 'an input that cannot be read' is_as 2 'records 0\nfault at 0 read\n'
+judge 'an input that cannot be read' is_as 2 'records 0\nfault at 0 read\n' ''
 
 # refuse NAME ABOUT WORD..: words that are refused in clap's own text
 refuse() {
@@ -148,5 +110,4 @@ refuse 'a port out of range' port serve --port 65536
 refuse 'tries out of range' tries fetch --tries 0
 refuse 'an option given twice' first serve --first 1 --first 2
 
-echo "$passed passed, $failed failed"
-[ "$failed" = 0 ]
+report
