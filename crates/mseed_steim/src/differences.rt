@@ -1,7 +1,8 @@
 //! The differences of a payload, one by one.
 
-ghost use Rattle.std.specs.Prelude.{◌≡◌, ◌≤◌, ◌*◌, ◌-◌, ◌++◌, List, ℤ, Result, Ok, map, drop, length};
-ghost use Rattle.std.specs.Iterator.{YieldsFirst, item_count};
+ghost use Rattle.std.specs.Prelude.{◌≡◌, ◌≤◌, ◌*◌, ◌-◌, ◌++◌, List, ℤ, Result, Ok, IfSome, IsSome, map, drop, length};
+ghost use Rattle.std.specs.Iterator.{UpTo, YieldsFirst, at_most, item_count};
+ghost use Rattle.std.specs.Iterator.SizeHint.{IsWithinCount};
 ghost use Rattle.mseed_steim.specs.declared.differences.BadWordAt.{BadWordAt};
 ghost use Rattle.mseed_steim.specs.Frames.{words_from, data_words};
 ghost use Rattle.mseed_steim.specs.Items.{items_of};
@@ -89,7 +90,13 @@ impl<'a> Iterator for Differences<'a> {
     }
 
     /// The differences that are left of a word, and seven more for each word that is left at the most.
-    fn size_hint(&self) -> (usize, Option<usize>) {
+    fn size_hint(&self) -> (usize, Option<usize>)
+        // The items left lie between the bounds.
+        ensures lower { IsWithinCount result.0 (at_most (length self.now)) }
+        ensures upper { IfSome result.1 (UpTo (at_most (length self.now))) }
+        // There's always an upper bound.
+        ensures bounded { IsSome result.1 }
+    {
         let given = self.group.len() - self.given;
         (given, Some(given + 7 * (self.end - self.next)))
     }
