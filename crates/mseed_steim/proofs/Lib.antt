@@ -6,6 +6,7 @@ pub mod Given
 pub mod Few
 pub mod Folds
 pub mod Folded
+pub mod Kept
 pub mod Fronts
 pub mod Framed
 pub mod Ended

@@ -1,5 +1,5 @@
 -- A walk over items that adds them up. What it answers is said in Samples.
-use Rattle.std.specs.Prelude.{◌≡◌, ℕ, ◌+◌, ◌^◌, ◌==◌, nat_lt, Bool, if◌then◌else◌, List, [], ◌∷◌, ℤ, pos, negsuc, ◌+ℤ◌, Option, Some, None, Result, Ok, Err}
+use Rattle.std.specs.Prelude.{◌≡◌, ℕ, ◌+◌, ◌^◌, ◌==◌, nat_lt, Bool, if◌then◌else◌, List, [], ◌∷◌, ◌++◌, take, ℤ, pos, negsuc, ◌+ℤ◌, Option, Some, None, Result, Ok, Err}
 use Rattle.mseed_steim.specs.declared.differences.BadWordAt.{BadWordAt}
 use Rattle.mseed_steim.specs.declared.fault.ReadFault.{ReadFault}
 use Rattle.mseed_steim.specs.declared.fault.ReadFault.TheVariants.{Short, BadWord, Overflow}
@@ -50,3 +50,9 @@ GoesOn n sum items behind (Err fault) = (fold n sum items ≡ Err fault)
 -- so does one over the items of a word, whatever stands behind it
 abbrev pub GoesOnPast : ℕ → Sum → DataWord → Option (List ℤ) → Result Sum ReadFault → Type 0
 GoesOnPast n sum word differences answer = (more : List (Result ℤ BadWordAt)) → GoesOn n sum (with_items word differences more) more answer
+
+-- The samples that were kept and those that a walk over a word's items and what is behind it meets are those
+-- that are kept now and those that a walk from the next sum meets.
+abbrev pub KeptPast : ℕ → Sum → List ℤ → DataWord → Option (List ℤ) → List ℤ → Sum → Type 0
+KeptPast n sum before word differences after next =
+    (more : List (Result ℤ BadWordAt)) → take next.met after ++ met_in n next more ≡ take sum.met before ++ met_in n sum (with_items word differences more)

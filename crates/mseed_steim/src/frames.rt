@@ -14,7 +14,7 @@ use byteorder::{BigEndian, ByteOrder};
 const WORD: usize = 4;
 
 /// Words of a frame.
-const FRAME: usize = 16;
+pub(crate) const FRAME: usize = 16;
 
 /// The number of words in a payload's whole frames.
 pub(crate) fn count_words(payload: &[u8]) -> usize

@@ -8,7 +8,10 @@ mod fault;
 mod form;
 mod frames;
 mod law;
+mod put;
 mod read;
+#[cfg(test)]
+mod reference;
 mod scheme;
 mod sum;
 #[cfg(test)]

@@ -7,7 +7,7 @@ ghost use Rattle.mseed_steim.specs.Sums.{fold, lack};
 
 use crate::differences::BadWordAt;
 use crate::fault::ReadFault;
-use crate::frames::{count_words, read_code, read_word};
+use crate::frames::{FRAME, count_words, read_code, read_word};
 use crate::scheme::Scheme;
 use crate::sum::{Sum, add_word};
 use crate::word::row_of;
@@ -30,12 +30,12 @@ pub(crate) fn add_frames(payload: &[u8], scheme: Scheme, samples: usize) -> Resu
         if sum.met == samples {
             return Ok(sum);
         }
-        if index % 16 == 0 {
+        if index % FRAME == 0 {
             continue;
         }
         let at = BadWordAt {
-            frame: index / 16,
-            word: index % 16,
+            frame: index / FRAME,
+            word: index % FRAME,
         };
         match add_word(
             scheme,
@@ -63,7 +63,7 @@ pub(crate) fn find_lack(payload: &[u8], scheme: Scheme, samples: usize) -> Optio
 {
     let mut met = 0;
     for index in 3..count_words(payload) {
-        if index % 16 == 0 {
+        if index % FRAME == 0 {
             continue;
         }
         match row_of(scheme, read_code(payload, index), read_word(payload, index)) {
@@ -73,7 +73,7 @@ pub(crate) fn find_lack(payload: &[u8], scheme: Scheme, samples: usize) -> Optio
                 }
                 met += group.len();
             }
-            Err(_) => return Some(ReadFault::BadWord(index / 16, index % 16)),
+            Err(_) => return Some(ReadFault::BadWord(index / FRAME, index % FRAME)),
         }
     }
     Some(ReadFault::Short(met))

@@ -2,7 +2,7 @@ use Rattle.std.proofs.Common.{◌≡◌, ◌-◌, ◌≤◌, ◌++◌, take, len
 use Rattle.mseed_steim.specs.Frames.{words_from, data_words, first_constant}
 use Rattle.mseed_steim.specs.Items.{items_of}
 use Rattle.mseed_steim.specs.Sums.{fold, met_in}
-use Rattle.mseed_steim.proofs.read.read_frames.Given as goal
+use Rattle.mseed_steim.proofs.reference.read_frames.Given as goal
 
 abbrev pub invariant-loop-index : goal.invariant-loop-index
 invariant-loop-index l = record {

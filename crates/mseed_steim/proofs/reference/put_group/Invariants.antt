@@ -1,7 +1,7 @@
 use Rattle.std.proofs.Common.{◌≡◌, ◌≤◌, ◌++◌, map, take, drop, length, List, ℤ, Result, Ok}
 use Rattle.mseed_steim.specs.declared.differences.BadWordAt.{BadWordAt}
 use Rattle.mseed_steim.specs.Sums.{fold, met_in}
-use Rattle.mseed_steim.proofs.read.put_group.Given as goal
+use Rattle.mseed_steim.proofs.reference.put_group.Given as goal
 
 abbrev pub invariant-loop-i : goal.invariant-loop-i
 invariant-loop-i l = record {

@@ -1,12 +1,11 @@
-use Rattle.std.proofs.Common.{◌≡◌, ◌≢◌, ◌+◌, ◌%◌, ◌/◌, ◌++◌, ◌∙◌, [], List, ℤ, Result, Some, None, arith, ap, sym, rules, take}
+use Rattle.std.proofs.Common.{◌≢◌, ◌+◌, ◌%◌, ◌++◌, ◌∙◌, List, ℤ, Result, arith, ap, sym, rules, take}
 use Rattle.mseed_steim.specs.declared.differences.BadWordAt.{BadWordAt}
-use Rattle.mseed_steim.specs.Digits.{differences_of}
-use Rattle.mseed_steim.specs.Frames.{word_count, first_constant, code_at, word_at}
+use Rattle.mseed_steim.specs.Frames.{word_count, first_constant}
 use Rattle.mseed_steim.specs.Sums.{fold, met_in}
-use Rattle.mseed_steim.proofs.Walking.{items_from, items_over, items_skip, items_group, items_bad}
-use Rattle.mseed_steim.proofs.Folds.{fold_enough, fold_short, fold_bad}
+use Rattle.mseed_steim.proofs.Walking.{items_from, items_over, items_skip, items_step}
+use Rattle.mseed_steim.proofs.Folds.{fold_enough, fold_short}
 use Rattle.mseed_steim.proofs.Folded.{all_kept}
-use Rattle.mseed_steim.proofs.read.read_frames.Goals as goal
+use Rattle.mseed_steim.proofs.put.read_frames.Goals as goal
 
 pub returns-then-end-eq0-clause-folded : goal.returns-then-end-eq0-clause-folded
 returns-then-end-eq0-clause-folded c =
@@ -32,34 +31,24 @@ loop-index-preserved-then-index-eq0 c =
       kept = ap (λ (items : List (Result ℤ BadWordAt)). take c.loop-index.sum.met c.loop-index.out ++ met_in c.args.samples c.loop-index.sum items) (sym skip) ∙ c.loop-index.invariant.kept;
     }
 
-pub returns-in-Err-put_group-clause-folded : goal.returns-in-Err-put_group-clause-folded
-returns-in-Err-put_group-clause-folded c =
-    let data_word : c.loop-index.index % 16 ≢ 0 = λ e. omega arith in
-    let found : differences_of c.args.scheme (code_at c.args.payload.now c.loop-index.index) (word_at c.args.payload.now c.loop-index.index) ≡ Some c.in-Ok.group.items = rw (c.read_code.ensures.value, c.read_word-in-loop-index.ensures) at c.in-Ok.ensures in
-    let step = items_group c.args.scheme c.args.payload.now c.loop-index.index c.count_words-end.result c.in-Ok.group.items c.loop-index-test.true data_word found in
-    let past = rw c.as_slice.ensures.value at (c.in-Err-put_group.ensures.goes_on (items_from c.args.scheme c.args.payload.now (c.loop-index.index + 1) c.count_words-end.result)) in
-    sym (c.loop-index.invariant.same ∙ ap (λ (items : List (Result ℤ BadWordAt)). fold c.args.samples c.loop-index.sum items) step ∙ past)
-
 pub returns-in-Err-clause-folded : goal.returns-in-Err-clause-folded
 returns-in-Err-clause-folded c =
     let data_word : c.loop-index.index % 16 ≢ 0 = λ e. omega arith in
-    let found : differences_of c.args.scheme (code_at c.args.payload.now c.loop-index.index) (word_at c.args.payload.now c.loop-index.index) ≡ None = rw (c.read_code.ensures.value, c.read_word-in-loop-index.ensures) at c.in-Err.ensures in
-    let step = items_bad c.args.scheme c.args.payload.now c.loop-index.index c.count_words-end.result c.loop-index-test.true data_word found in
-    sym (c.loop-index.invariant.same ∙ ap (λ (items : List (Result ℤ BadWordAt)). fold c.args.samples c.loop-index.sum items) step
-    ∙ fold_bad c.args.samples c.loop-index.sum (record { frame = c.loop-index.index / 16; word = c.loop-index.index % 16 }) [] (omega arith))
+    let step = items_step c.args.scheme c.args.payload.now c.loop-index.index c.count_words-end.result c.loop-index-test.true data_word in
+    let past = rw (c.read_code.ensures.value, c.read_word-in-loop-index.ensures) at (c.in-Err.ensures.goes_on (items_from c.args.scheme c.args.payload.now (c.loop-index.index + 1) c.count_words-end.result)) in
+    sym (c.loop-index.invariant.same ∙ ap (λ (items : List (Result ℤ BadWordAt)). fold c.args.samples c.loop-index.sum items) step ∙ past)
 
 pub loop-index-preserved : goal.loop-index-preserved
 loop-index-preserved c =
     let data_word : c.loop-index.index % 16 ≢ 0 = λ e. omega arith in
-    let found : differences_of c.args.scheme (code_at c.args.payload.now c.loop-index.index) (word_at c.args.payload.now c.loop-index.index) ≡ Some c.in-Ok.group.items = rw (c.read_code.ensures.value, c.read_word-in-loop-index.ensures) at c.in-Ok.ensures in
-    let step = items_group c.args.scheme c.args.payload.now c.loop-index.index c.count_words-end.result c.in-Ok.group.items c.loop-index-test.true data_word found in
+    let step = items_step c.args.scheme c.args.payload.now c.loop-index.index c.count_words-end.result c.loop-index-test.true data_word in
     let later = items_from c.args.scheme c.args.payload.now (c.loop-index.index + 1) c.count_words-end.result in
-    let past = rw c.as_slice.ensures.value at (c.in-Ok-put_group.ensures.goes_on later) in
-    let kept = rw c.as_slice.ensures.value at (c.in-Ok-put_group.ensures.kept later) in
+    let past = rw (c.read_code.ensures.value, c.read_word-in-loop-index.ensures) at (c.in-Ok.ensures.goes_on later) in
+    let kept = rw (c.read_code.ensures.value, c.read_word-in-loop-index.ensures) at (c.in-Ok.ensures.kept later) in
     record {
       from = omega arith;
       room = search rules;
-      met = c.in-Ok-put_group.ensures.met;
+      met = c.in-Ok.ensures.met;
       same = c.loop-index.invariant.same ∙ ap (λ (items : List (Result ℤ BadWordAt)). fold c.args.samples c.loop-index.sum items) step ∙ past;
       kept = kept ∙ ap (λ (items : List (Result ℤ BadWordAt)). take c.loop-index.sum.met c.loop-index.out ++ met_in c.args.samples c.loop-index.sum items) (sym step) ∙ c.loop-index.invariant.kept;
     }

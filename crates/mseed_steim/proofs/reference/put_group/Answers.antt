@@ -4,7 +4,7 @@ use Rattle.mseed_steim.specs.declared.differences.BadWordAt.{BadWordAt}
 use Rattle.mseed_steim.specs.Sums.{fold, met_in}
 use Rattle.mseed_steim.proofs.Folds.{fold_enough}
 use Rattle.mseed_steim.proofs.Folded.{met_enough, drop_step, take_put}
-use Rattle.mseed_steim.proofs.read.put_group.Goals as goal
+use Rattle.mseed_steim.proofs.reference.put_group.Goals as goal
 
 pub returns-then-sum-samples-clause-goes_on : goal.returns-then-sum-samples-clause-goes_on
 returns-then-sum-samples-clause-goes_on c = λ more.

@@ -1,0 +1,62 @@
+use Rattle.std.proofs.Common.{◌≡◌, ◌<◌, ◌+◌, ◌-◌, ◌*◌, ◌%◌, ◌^◌, ◌++◌, map, take, length, List, ℤ, Ok, arith, ◌∙◌, ap, sym, rules, w32, FitsSigned}
+use Rattle.std.proofs.lemmas.Int.{to_z-of_z}
+use Rattle.std.proofs.lemmas.Nat.{one_shl, and_mask}
+use Rattle.mseed_steim.specs.Digits.{digits, digit_at}
+use Rattle.mseed_steim.specs.Sums.{met_in}
+use Rattle.mseed_steim.proofs.Spelled.{digits_step, digits_over}
+use Rattle.mseed_steim.proofs.Folds.{fold_enough}
+use Rattle.mseed_steim.proofs.Folded.{met_enough, take_put}
+use Rattle.mseed_steim.proofs.put.put_digits.Goals as goal
+
+pub returns-then-sum-samples-clause-goes_on : goal.returns-then-sum-samples-clause-goes_on
+returns-then-sum-samples-clause-goes_on c = λ more.
+    c.loop-i.invariant.same more ∙ fold_enough c.args.samples c.loop-i.sum _ c.if-sum-samples.true ∙ sym (fold_enough c.args.samples c.loop-i.sum more c.if-sum-samples.true)
+
+pub returns-then-sum-samples-clause-kept : goal.returns-then-sum-samples-clause-kept
+returns-then-sum-samples-clause-kept c = λ more.
+    ap (λ (xs : List ℤ). take c.loop-i.sum.met c.loop-i.out ++ xs)
+    (met_enough c.args.samples c.loop-i.sum more c.if-sum-samples.true ∙ sym (met_enough c.args.samples c.loop-i.sum (map Ok (digits c.args.width c.args.word (c.args.count - c.loop-i.i)) ++ more) c.if-sum-samples.true))
+    ∙ c.loop-i.invariant.kept more
+
+pub returns-in-Err-clause-goes_on : goal.returns-in-Err-clause-goes_on
+returns-in-Err-clause-goes_on c =
+    let small : c.args.width < 32 = omega arith in
+    let one : 1 * 2 ^ c.args.width % 2 ^ 32 ≡ 2 ^ c.args.width = one_shl c.args.width 32 small in
+    let digit : c.signed_digit.result ≡ digit_at c.args.width c.args.word (c.args.count - 1 - c.loop-i.i) = rw (one, and_mask) at c.signed_digit.ensures in
+    let fits : FitsSigned w32 c.signed_digit.result = search rules in
+    let step = digits_step c.args.width c.args.word c.args.count c.loop-i.i c.loop-i-test.true in
+    let same = rw (step, ← digit) at c.loop-i.invariant.same in
+    λ more. same more ∙ (rw to_z-of_z at (c.in-Err.ensures.goes_on (map Ok (digits c.args.width c.args.word (c.args.count - (c.loop-i.i + 1))) ++ more)))
+
+pub loop-i-preserved : goal.loop-i-preserved
+loop-i-preserved c =
+    let small : c.args.width < 32 = omega arith in
+    let one : 1 * 2 ^ c.args.width % 2 ^ 32 ≡ 2 ^ c.args.width = one_shl c.args.width 32 small in
+    let digit : c.signed_digit.result ≡ digit_at c.args.width c.args.word (c.args.count - 1 - c.loop-i.i) = rw (one, and_mask) at c.signed_digit.ensures in
+    let fits : FitsSigned w32 c.signed_digit.result = search rules in
+    let last : FitsSigned w32 c.in-Ok.next.last = search rules in
+    let step = digits_step c.args.width c.args.word c.args.count c.loop-i.i c.loop-i-test.true in
+    let same = rw (step, ← digit) at c.loop-i.invariant.same in
+    let kept = rw (step, ← digit) at c.loop-i.invariant.kept in
+    let inside : c.loop-i.sum.met < length c.loop-i.out = omega arith in
+    record {
+      places = search rules;
+      met = let met = c.in-Ok.ensures.met in omega (arith, met);
+      same = λ more. same more ∙ (rw to_z-of_z at (c.in-Ok.ensures.goes_on (map Ok (digits c.args.width c.args.word (c.args.count - (c.loop-i.i + 1))) ++ more)));
+      kept = λ more.
+          let rest = map Ok (digits c.args.width c.args.word (c.args.count - (c.loop-i.i + 1))) ++ more in
+          let met = rw to_z-of_z at (c.in-Ok.ensures.kept rest) in
+          rw to_z-of_z (take_put c.loop-i.out c.loop-i.sum.met c.in-Ok.next.met c.in-Ok.next.last (met_in c.args.samples c.in-Ok.next rest) inside c.in-Ok.ensures.met
+          ∙ ap (λ (xs : List ℤ). take c.loop-i.sum.met c.loop-i.out ++ xs) (sym met)
+          ∙ kept more);
+    }
+
+pub returns-clause-goes_on : goal.returns-clause-goes_on
+returns-clause-goes_on c = λ more.
+    let none = digits_over c.args.width c.args.word c.args.count c.loop-i.i c.loop-i-test.false in
+    (rw none at c.loop-i.invariant.same) more
+
+pub returns-clause-kept : goal.returns-clause-kept
+returns-clause-kept c = λ more.
+    let none = digits_over c.args.width c.args.word c.args.count c.loop-i.i c.loop-i-test.false in
+    (rw none at c.loop-i.invariant.kept) more
