@@ -1,9 +1,14 @@
 //! Records of 256 bytes: their samples are worked by hand from the words of their payload.
 
-use crate::{BadWordAt, Differences, Ends, ReadFault, Scheme, check_samples, read_samples};
+use crate::read::keep_samples;
+use crate::{
+    BadWordAt, Differences, Ends, ReadFault, Scheme, check_samples, put, read_samples, reference,
+};
+use linked_list_allocator::LocalHeap;
 use mseed_record::RecordView;
 use std::alloc::Global;
 use std::process::Abort;
+use std::test::Fail;
 
 /// A header of 64 bytes for a record of 2^8, with the blockettes 1000 and 1001.
 const HEADER: [u8; 64] = [
@@ -84,6 +89,25 @@ fn assert_record(rt: &impl Abort, alloc: Global, bytes: &[u8], wanted: Result<&[
             assert_eq!(rt; ends, Err(fault));
         }
     }
+}
+
+/// Checks that a payload's samples are kept as the reference keeps them.
+fn assert_as_reference(rt: &impl Abort, bytes: &[u8; 256], scheme: Scheme, row: &Row) {
+    let mut kept = [0; 8];
+    let mut wanted = [0; 8];
+    let samples = usize::from(row.samples);
+    if samples == 0 || 8 < samples {
+        assert!(rt; false, "{samples} samples");
+        return;
+    }
+    let payload = &bytes[usize::from(row.data).min(256)..];
+    let found = put::read_frames(payload, scheme, samples, &mut kept[..samples]);
+    let expected = reference::read_frames(payload, scheme, samples, &mut wanted[..samples]);
+    assert_eq!(rt;
+        found.map(|sum| (sum.met, sum.last)),
+        expected.map(|sum| (sum.met, sum.last))
+    );
+    assert_eq!(rt; kept, wanted);
 }
 
 #[test]
@@ -300,7 +324,11 @@ fn reads_steim(rt: HostRuntime) {
         ),
     ];
     for (row, wanted) in cases {
-        assert_record(&rt, alloc, &record(&row), wanted);
+        let bytes = record(&row);
+        assert_record(&rt, alloc, &bytes, wanted);
+        for scheme in [Scheme::One, Scheme::Two] {
+            assert_as_reference(&rt, &bytes, scheme, &row);
+        }
     }
 }
 
@@ -364,6 +392,58 @@ fn reads_integers(rt: HostRuntime) {
     for (row, wanted) in cases {
         assert_record(&rt, alloc, &record(&row), wanted);
     }
+}
+
+/// Keeps a record's samples in a heap of so many bytes, and says whether memory lacked.
+fn lacks_memory(
+    rt: &impl Abort,
+    heap: &LocalHeap,
+    bytes: &[u8],
+    wanted: Result<&[i32], ReadFault>,
+) -> bool {
+    let Ok(view) = RecordView::of(bytes) else {
+        assert!(rt; false, "no record");
+        return false;
+    };
+    if view.samples() == 0 {
+        assert!(rt; false, "no samples");
+        return false;
+    }
+    match keep_samples(heap, &view) {
+        Ok(samples) => assert_eq!(rt; Ok(samples.as_slice()), wanted),
+        Err(ReadFault::Memory) => return true,
+        Err(fault) => assert_eq!(rt; Err(fault), wanted),
+    }
+    false
+}
+
+#[test]
+fn answers_memory_behind_each_other_fault(rt: HostRuntime) -> Result<(), Fail> {
+    // Thirteen words of four differences of 0.
+    let level = Row {
+        samples: 40,
+        words: &[0x0155_5555, 7, 7],
+        ..STEIM_1
+    };
+    let read = record(&level);
+    let short = record(&Row {
+        samples: 53,
+        ..level
+    });
+    let mut was_refused = false;
+    let mut was_kept = false;
+    for size in 0..32 {
+        let heap = LocalHeap::new(rt.alloc(), size * 16)?;
+        if lacks_memory(&rt, &heap, &read, Ok(&[7; 40])) {
+            assert!(rt; !was_kept, "more memory, and less is kept");
+            was_refused = true;
+        } else {
+            was_kept = true;
+        }
+        assert!(rt; !lacks_memory(&rt, &heap, &short, Err(ReadFault::Short(52))));
+    }
+    assert!(rt; was_refused && was_kept);
+    Ok(())
 }
 
 #[test]
