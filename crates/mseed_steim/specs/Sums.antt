@@ -51,6 +51,10 @@ GoesOn n sum items behind (Err fault) = (fold n sum items ≡ Err fault)
 abbrev pub GoesOnPast : ℕ → Sum → DataWord → Option (List ℤ) → Result Sum ReadFault → Type 0
 GoesOnPast n sum word differences answer = (more : List (Result ℤ BadWordAt)) → GoesOn n sum (with_items word differences more) more answer
 
+-- A walk over the items of a word of these differences goes on from the next sum, whatever stands behind it.
+abbrev pub GoesOnTo : ℕ → Sum → Option (List ℤ) → Sum → Type 0
+GoesOnTo n sum differences next = (word : DataWord) (more : List (Result ℤ BadWordAt)) → fold n sum (with_items word differences more) ≡ fold n next more
+
 -- The samples that were kept and those that a walk over a word's items and what is behind it meets are those
 -- that are kept now and those that a walk from the next sum meets.
 abbrev pub KeptPast : ℕ → Sum → List ℤ → DataWord → Option (List ℤ) → List ℤ → Sum → Type 0

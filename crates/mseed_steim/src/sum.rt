@@ -1,11 +1,11 @@
 //! Differences that are added up, word by word.
 
-ghost use Rattle.std.specs.Prelude.{◌≡◌, ◌+◌, ℕ, ◌≤◌, ◌<◌, ◌*◌, ◌^◌, List, ◌∷◌, ◌++◌, map, ℤ, Result, Ok, IfOk};
+ghost use Rattle.std.specs.Prelude.{◌≡◌, ◌+◌, ℕ, ◌≤◌, ◌<◌, ◌*◌, ◌^◌, List, ◌∷◌, ◌++◌, map, ℤ, Result, Ok, IfOk, IfSome};
 ghost use Rattle.mseed_steim.specs.declared.scheme.Scheme.TheVariants.{Two};
 ghost use Rattle.mseed_steim.specs.declared.differences.BadWordAt.{BadWordAt};
 ghost use Rattle.mseed_steim.specs.Digits.{digits, differences_of};
 ghost use Rattle.mseed_steim.specs.Runs.{word_of};
-ghost use Rattle.mseed_steim.specs.Sums.{GoesOn, GoesOnPast, met_in};
+ghost use Rattle.mseed_steim.specs.Sums.{GoesOn, GoesOnPast, GoesOnTo, fold, met_in};
 
 use crate::differences::BadWordAt;
 use crate::fault::ReadFault;
@@ -39,46 +39,90 @@ pub(crate) fn add_difference(difference: i32, samples: usize, sum: Sum) -> Resul
 }
 
 /// The `count` differences of `width` bits in the low bits of a word, all of which are needed and used.
+/// None where a sum leaves 32 bits.
 #[inline(always)]
-fn add_all_digits(
-    word: u32,
-    count: u32,
-    width: u32,
-    samples: usize,
-    sum: Sum,
-) -> Result<Sum, ReadFault>
+fn add_all_digits(word: u32, count: u32, width: u32, samples: usize, sum: Sum) -> Option<Sum>
     requires few { count ≤ 7 }
     requires positive { 0 < width }
     requires narrow { width ≤ 30 }
     requires room { width * count ≤ 32 }
     requires begun { 0 < sum.met }
-    requires needed { sum.met + count ≤ samples }
-    ensures goes_on { (more : List (Result ℤ BadWordAt)) → GoesOn samples sum (map Ok (digits width word count) ++ more) more result }
-    ensures met { IfOk result (λ next. next.met ≤ samples) }
+    requires needed { sum.met + 7 ≤ samples }
+    ensures goes_on { IfSome result (λ next. (more : List (Result ℤ BadWordAt)) → fold samples sum (map Ok (digits width word count) ++ more) ≡ fold samples next more) }
+    ensures met { IfSome result (λ next. next.met ≤ samples) }
 {
     let mut last = sum.last;
     for i in 0..count {
         let digit = (word >> (width * (count - 1 - i))) & ((1 << width) - 1);
         match last.checked_add(signed_digit(digit, width)) {
             Some(next) => last = next,
-            None => return Err(ReadFault::Overflow(sum.met + i as usize)),
+            None => return None,
         }
     }
-    Ok(Sum {
+    Some(Sum {
         met: sum.met + count as usize,
         last,
     })
 }
 
-/// The `count` differences of `width` bits in the low bits of a word, as far as they are needed.
+/// The differences of a Steim-2 word of code 2, all of which are needed and used.
 #[inline(always)]
-pub(crate) fn add_digits(
-    word: u32,
-    count: u32,
-    width: u32,
-    samples: usize,
-    sum: Sum,
-) -> Result<Sum, ReadFault>
+fn add_all_wide(word: u32, samples: usize, sum: Sum) -> Option<Sum>
+    requires begun { 0 < sum.met }
+    requires needed { sum.met + 7 ≤ samples }
+    ensures goes_on { IfSome result (GoesOnTo samples sum (differences_of Two 2 word)) }
+    ensures met { IfSome result (λ next. next.met ≤ samples) }
+{
+    match word >> 30 {
+        1 => add_all_digits(word, 1, 30, samples, sum),
+        2 => add_all_digits(word, 2, 15, samples, sum),
+        3 => add_all_digits(word, 3, 10, samples, sum),
+        _ => None,
+    }
+}
+
+/// The differences of a Steim-2 word of code 3, all of which are needed and used.
+#[inline(always)]
+fn add_all_narrow(word: u32, samples: usize, sum: Sum) -> Option<Sum>
+    requires begun { 0 < sum.met }
+    requires needed { sum.met + 7 ≤ samples }
+    ensures goes_on { IfSome result (GoesOnTo samples sum (differences_of Two 3 word)) }
+    ensures met { IfSome result (λ next. next.met ≤ samples) }
+{
+    match word >> 30 {
+        0 => add_all_digits(word, 5, 6, samples, sum),
+        1 => add_all_digits(word, 6, 5, samples, sum),
+        2 => add_all_digits(word, 7, 4, samples, sum),
+        _ => None,
+    }
+}
+
+/// The differences of a word, all of which are needed and used: the fast way past most words. None where
+/// [`add_word`] has to find out what comes.
+#[inline(always)]
+pub(crate) fn add_all(scheme: Scheme, code: u8, word: u32, samples: usize, sum: Sum) -> Option<Sum>
+    requires code { code < 4 }
+    requires begun { 0 < sum.met }
+    requires needed { sum.met + 7 ≤ samples }
+    ensures goes_on { IfSome result (GoesOnTo samples sum (differences_of scheme code word)) }
+    ensures met { IfSome result (λ next. next.met ≤ samples) }
+{
+    match code {
+        1 => add_all_digits(word, 4, 8, samples, sum),
+        2 => match scheme {
+            Scheme::One => add_all_digits(word, 2, 16, samples, sum),
+            Scheme::Two => add_all_wide(word, samples, sum),
+        },
+        3 => match scheme {
+            Scheme::One => None,
+            Scheme::Two => add_all_narrow(word, samples, sum),
+        },
+        _ => None,
+    }
+}
+
+/// The `count` differences of `width` bits in the low bits of a word, as far as they are needed.
+fn add_digits(word: u32, count: u32, width: u32, samples: usize, sum: Sum) -> Result<Sum, ReadFault>
     requires few { count ≤ 7 }
     requires positive { 0 < width }
     requires narrow { width ≤ 30 }
@@ -87,9 +131,6 @@ pub(crate) fn add_digits(
     ensures goes_on { (more : List (Result ℤ BadWordAt)) → GoesOn samples sum (map Ok (digits width word count) ++ more) more result }
     ensures met { IfOk result (λ next. next.met ≤ samples) }
 {
-    if 0 < sum.met && count as usize <= samples - sum.met {
-        return add_all_digits(word, count, width, samples, sum);
-    }
     let mut sum = sum;
     for i in 0..count {
         if sum.met == samples {
@@ -133,6 +174,8 @@ fn add_narrow(word: u32, at: BadWordAt, samples: usize, sum: Sum) -> Result<Sum,
 }
 
 /// The differences of a word, by its row of the table.
+#[cold]
+#[inline(never)]
 pub(crate) fn add_word(
     scheme: Scheme,
     code: u8,

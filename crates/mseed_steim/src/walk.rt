@@ -9,7 +9,7 @@ use crate::differences::BadWordAt;
 use crate::fault::ReadFault;
 use crate::frames::{FRAME, count_words, read_code, read_word};
 use crate::scheme::Scheme;
-use crate::sum::{Sum, add_word};
+use crate::sum::{Sum, add_all, add_word};
 use crate::word::row_of;
 
 /// The sum of so many samples, or what comes first in place of one.
@@ -33,18 +33,19 @@ pub(crate) fn add_frames(payload: &[u8], scheme: Scheme, samples: usize) -> Resu
         if index % FRAME == 0 {
             continue;
         }
+        let code = read_code(payload, index);
+        let word = read_word(payload, index);
+        if 0 < sum.met && 7 <= samples - sum.met {
+            if let Some(next) = add_all(scheme, code, word, samples, sum) {
+                sum = next;
+                continue;
+            }
+        }
         let at = BadWordAt {
             frame: index / FRAME,
             word: index % FRAME,
         };
-        match add_word(
-            scheme,
-            read_code(payload, index),
-            read_word(payload, index),
-            at,
-            samples,
-            sum,
-        ) {
+        match add_word(scheme, code, word, at, samples, sum) {
             Ok(next) => sum = next,
             Err(fault) => return Err(fault),
         }

@@ -4,21 +4,8 @@ use Rattle.std.proofs.lemmas.Nat.{one_shl, and_mask}
 use Rattle.mseed_steim.specs.declared.sum.Sum.{Sum}
 use Rattle.mseed_steim.specs.Digits.{digits, digit_at}
 use Rattle.mseed_steim.proofs.Spelled.{digits_step, digits_over}
-use Rattle.mseed_steim.proofs.Folds.{fold_add, fold_over, fits_true, fits_false}
+use Rattle.mseed_steim.proofs.Folds.{fold_add, fits_true}
 use Rattle.mseed_steim.proofs.sum.add_all_digits.Goals as goal
-
-pub returns-in-None-clause-goes_on : goal.returns-in-None-clause-goes_on
-returns-in-None-clause-goes_on c =
-    let small : c.args.width < 32 = omega arith in
-    let one : 1 * 2 ^ c.args.width % 2 ^ 32 ≡ 2 ^ c.args.width = one_shl c.args.width 32 small in
-    let digit : c.signed_digit.result ≡ digit_at c.args.width c.args.word (c.args.count - 1 - c.loop-i.i) = rw (one, and_mask) at c.signed_digit.ensures in
-    let fits : FitsSigned w32 c.signed_digit.result = search rules in
-    let step = digits_step c.args.width c.args.word c.args.count c.loop-i.i c.loop-i-test.true in
-    let same = rw (step, ← digit) at c.loop-i.invariant.same in
-    let now : Sum = record { met = c.args.sum.met + c.loop-i.i; last = to_z w32 c.loop-i.last-bits } in
-    let less : now.met < c.args.samples = omega arith in
-    let some : 0 < now.met = omega arith in
-    λ more. same more ∙ fold_over c.args.samples now c.signed_digit.result (map Ok (digits c.args.width c.args.word (c.args.count - (c.loop-i.i + 1))) ++ more) less some (fits_false (to_z w32 c.loop-i.last-bits +ℤ c.signed_digit.result) (rw to_z-of_z at c.in-None.ensures))
 
 pub loop-i-preserved : goal.loop-i-preserved
 loop-i-preserved c =

@@ -1,6 +1,6 @@
 use Rattle.std.proofs.Common.{◌≢◌, ◌+◌, ◌%◌, ◌∙◌, List, ℤ, Result, arith, ap, sym}
 use Rattle.mseed_steim.specs.declared.differences.BadWordAt.{BadWordAt}
-use Rattle.mseed_steim.specs.Frames.{word_count, first_constant}
+use Rattle.mseed_steim.specs.Frames.{word_count, first_constant, data_word as frame_word}
 use Rattle.mseed_steim.specs.Sums.{fold}
 use Rattle.mseed_steim.proofs.Walking.{items_from, items_over, items_skip, items_step}
 use Rattle.mseed_steim.proofs.Folds.{fold_enough, fold_short}
@@ -26,14 +26,25 @@ pub returns-in-Err-clause-folded : goal.returns-in-Err-clause-folded
 returns-in-Err-clause-folded c =
     let data_word : c.loop-index.index % 16 ≢ 0 = λ e. omega arith in
     let step = items_step c.args.scheme c.args.payload.now c.loop-index.index c.count_words-end.result c.loop-index-test.true data_word in
-    let past = rw (c.read_code.ensures.value, c.read_word-in-loop-index.ensures) at (c.in-Err.ensures.goes_on (items_from c.args.scheme c.args.payload.now (c.loop-index.index + 1) c.count_words-end.result)) in
+    let past = rw (c.read_code-code.ensures.value, c.read_word-word.ensures) at (c.in-Err.ensures.goes_on (items_from c.args.scheme c.args.payload.now (c.loop-index.index + 1) c.count_words-end.result)) in
     sym (c.loop-index.invariant.same ∙ ap (λ (items : List (Result ℤ BadWordAt)). fold c.args.samples c.loop-index.sum items) step ∙ past)
+
+pub loop-index-preserved-in-Some : goal.loop-index-preserved-in-Some
+loop-index-preserved-in-Some c =
+    let data_word : c.loop-index.index % 16 ≢ 0 = λ e. omega arith in
+    let step = items_step c.args.scheme c.args.payload.now c.loop-index.index c.count_words-end.result c.loop-index-test.true data_word in
+    let past = rw (c.read_code-code.ensures.value, c.read_word-word.ensures) at (c.in-Some.ensures.goes_on (frame_word c.args.payload.now c.loop-index.index) (items_from c.args.scheme c.args.payload.now (c.loop-index.index + 1) c.count_words-end.result)) in
+    record {
+      from = omega arith;
+      met = c.in-Some.ensures.met;
+      same = c.loop-index.invariant.same ∙ ap (λ (items : List (Result ℤ BadWordAt)). fold c.args.samples c.loop-index.sum items) step ∙ past;
+    }
 
 pub loop-index-preserved : goal.loop-index-preserved
 loop-index-preserved c =
     let data_word : c.loop-index.index % 16 ≢ 0 = λ e. omega arith in
     let step = items_step c.args.scheme c.args.payload.now c.loop-index.index c.count_words-end.result c.loop-index-test.true data_word in
-    let past = rw (c.read_code.ensures.value, c.read_word-in-loop-index.ensures) at (c.in-Ok.ensures.goes_on (items_from c.args.scheme c.args.payload.now (c.loop-index.index + 1) c.count_words-end.result)) in
+    let past = rw (c.read_code-code.ensures.value, c.read_word-word.ensures) at (c.in-Ok.ensures.goes_on (items_from c.args.scheme c.args.payload.now (c.loop-index.index + 1) c.count_words-end.result)) in
     record {
       from = omega arith;
       met = c.in-Ok.ensures.met;
