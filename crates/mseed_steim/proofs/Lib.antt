@@ -7,6 +7,7 @@ pub mod Few
 pub mod Folds
 pub mod Folded
 pub mod Kept
+pub mod Shifts
 pub mod Fronts
 pub mod Framed
 pub mod Ended

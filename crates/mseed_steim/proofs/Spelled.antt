@@ -97,7 +97,7 @@ digits_step w word count i h =
     rw (more, less) refl
 
 -- the one digit of 32 bits
-signed_32 : (n : ℕ) → n < 2 ^ 32 → signed 32 n ≡ to_z w32 n
+pub signed_32 : (n : ℕ) → n < 2 ^ 32 → signed 32 n ≡ to_z w32 n
 signed_32 n h = ⊎_elim
     (λ (low : n < 2 ^ 31). rw (lt-ltb n (2 ^ 31) low) refl)
     (λ (high : 2 ^ 31 ≤ n). let same : 2 ^ 32 - 1 - n ≡ 2 ^ 32 - suc n = omega arith in rw (le-ltb n (2 ^ 31) high, same) refl)

@@ -14,7 +14,7 @@ use crate::fault::ReadFault;
 use crate::frames::{FRAME, count_words, read_code, read_word};
 use crate::scheme::Scheme;
 use crate::sum::{Sum, add_difference};
-use crate::word::signed_digit;
+use crate::word::read_digit;
 
 /// The `count` differences of `width` bits in the low bits of a word, as far as they are needed.
 #[inline(always)]
@@ -41,8 +41,7 @@ fn put_digits(
         if sum.met == samples {
             return Ok(sum);
         }
-        let digit = (word >> (width * (count - 1 - i))) & ((1 << width) - 1);
-        match add_difference(signed_digit(digit, width), samples, sum) {
+        match add_difference(read_digit(word, width, count - 1 - i), samples, sum) {
             Ok(next) => {
                 out[sum.met] = next.last;
                 sum = next;

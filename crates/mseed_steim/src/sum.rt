@@ -10,7 +10,7 @@ ghost use Rattle.mseed_steim.specs.Sums.{GoesOn, GoesOnPast, GoesOnTo, fold, met
 use crate::differences::BadWordAt;
 use crate::fault::ReadFault;
 use crate::scheme::Scheme;
-use crate::word::signed_digit;
+use crate::word::read_digit;
 
 /// How many samples have been met, and the last of them; before the first, the payload's constant for it.
 #[derive(Clone, Copy)]
@@ -53,8 +53,7 @@ fn add_all_digits(word: u32, count: u32, width: u32, samples: usize, sum: Sum) -
 {
     let mut last = sum.last;
     for i in 0..count {
-        let digit = (word >> (width * (count - 1 - i))) & ((1 << width) - 1);
-        match last.checked_add(signed_digit(digit, width)) {
+        match last.checked_add(read_digit(word, width, count - 1 - i)) {
             Some(next) => last = next,
             None => return None,
         }
@@ -136,8 +135,7 @@ fn add_digits(word: u32, count: u32, width: u32, samples: usize, sum: Sum) -> Re
         if sum.met == samples {
             return Ok(sum);
         }
-        let digit = (word >> (width * (count - 1 - i))) & ((1 << width) - 1);
-        match add_difference(signed_digit(digit, width), samples, sum) {
+        match add_difference(read_digit(word, width, count - 1 - i), samples, sum) {
             Ok(next) => sum = next,
             Err(fault) => return Err(fault),
         }

@@ -1,8 +1,8 @@
 //! What a word of a Steim frame spells.
 
-ghost use Rattle.std.specs.Prelude.{◌≡◌, ℕ, ◌*◌, ◌^◌, ◌<◌, ◌≤◌, IsOkAnd, IfOk, OnErr, MatchResult, List, ℤ, Some, None};
+ghost use Rattle.std.specs.Prelude.{◌≡◌, ℕ, ◌+◌, ◌*◌, ◌^◌, ◌<◌, ◌≤◌, IsOkAnd, IfOk, OnErr, MatchResult, List, ℤ, Some, None};
 ghost use Rattle.mseed_steim.specs.declared.scheme.Scheme.TheVariants.{Two};
-ghost use Rattle.mseed_steim.specs.Digits.{signed, digits, differences_of};
+ghost use Rattle.mseed_steim.specs.Digits.{signed, digit_at, digits, differences_of};
 ghost use Rattle.mseed_steim.specs.Spelling.{Spells, SpellsNone};
 
 use crate::scheme::Scheme;
@@ -14,7 +14,7 @@ pub struct BadWord;
 
 /// What a digit of `width` bits stands for in two's complement.
 #[tactic(auto, using(crate::proofs::Words::shifts))]
-pub(crate) fn signed_digit(digit: u32, width: u32) -> i32
+fn signed_digit(digit: u32, width: u32) -> i32
     requires positive { 0 < width }
     requires narrow { width ≤ 30 }
     requires digit { digit < 2 ^ width }
@@ -26,6 +26,18 @@ pub(crate) fn signed_digit(digit: u32, width: u32) -> i32
     } else {
         digit as i32 - 2 * half as i32
     }
+}
+
+/// The digit of `width` bits at a place of a word, counted from its last, in two's complement: shifted up
+/// to the word's top, and down again.
+#[inline(always)]
+pub(crate) fn read_digit(word: u32, width: u32, place: u32) -> i32
+    requires positive { 0 < width }
+    requires narrow { width ≤ 30 }
+    requires room { width * (place + 1) ≤ 32 }
+    ensures { result ≡ digit_at width word place }
+{
+    (word << (32 - width * (place + 1))).cast_signed() >> (32 - width)
 }
 
 /// The `count` differences of `width` bits in the low bits of a word.

@@ -1,6 +1,5 @@
-use Rattle.std.proofs.Common.{◌≡◌, ◌<◌, ◌+◌, ◌-◌, ◌*◌, ◌%◌, ◌^◌, ◌++◌, map, take, length, List, ℤ, Ok, arith, ◌∙◌, ap, sym, rules, w32, FitsSigned}
+use Rattle.std.proofs.Common.{◌≡◌, ◌<◌, ◌+◌, ◌-◌, ◌++◌, map, take, length, List, ℤ, Ok, arith, ◌∙◌, ap, sym, rules, w32, FitsSigned}
 use Rattle.std.proofs.lemmas.Int.{to_z-of_z}
-use Rattle.std.proofs.lemmas.Nat.{one_shl, and_mask}
 use Rattle.mseed_steim.specs.Digits.{digits, digit_at}
 use Rattle.mseed_steim.specs.Sums.{met_in}
 use Rattle.mseed_steim.proofs.Spelled.{digits_step, digits_over}
@@ -20,20 +19,16 @@ returns-then-sum-samples-clause-kept c = λ more.
 
 pub returns-in-Err-clause-goes_on : goal.returns-in-Err-clause-goes_on
 returns-in-Err-clause-goes_on c =
-    let small : c.args.width < 32 = omega arith in
-    let one : 1 * 2 ^ c.args.width % 2 ^ 32 ≡ 2 ^ c.args.width = one_shl c.args.width 32 small in
-    let digit : c.signed_digit.result ≡ digit_at c.args.width c.args.word (c.args.count - 1 - c.loop-i.i) = rw (one, and_mask) at c.signed_digit.ensures in
-    let fits : FitsSigned w32 c.signed_digit.result = search rules in
+    let digit : c.read_digit.result ≡ digit_at c.args.width c.args.word (c.args.count - 1 - c.loop-i.i) = c.read_digit.ensures in
+    let fits : FitsSigned w32 c.read_digit.result = search rules in
     let step = digits_step c.args.width c.args.word c.args.count c.loop-i.i c.loop-i-test.true in
     let same = rw (step, ← digit) at c.loop-i.invariant.same in
     λ more. same more ∙ (rw to_z-of_z at (c.in-Err.ensures.goes_on (map Ok (digits c.args.width c.args.word (c.args.count - (c.loop-i.i + 1))) ++ more)))
 
 pub loop-i-preserved : goal.loop-i-preserved
 loop-i-preserved c =
-    let small : c.args.width < 32 = omega arith in
-    let one : 1 * 2 ^ c.args.width % 2 ^ 32 ≡ 2 ^ c.args.width = one_shl c.args.width 32 small in
-    let digit : c.signed_digit.result ≡ digit_at c.args.width c.args.word (c.args.count - 1 - c.loop-i.i) = rw (one, and_mask) at c.signed_digit.ensures in
-    let fits : FitsSigned w32 c.signed_digit.result = search rules in
+    let digit : c.read_digit.result ≡ digit_at c.args.width c.args.word (c.args.count - 1 - c.loop-i.i) = c.read_digit.ensures in
+    let fits : FitsSigned w32 c.read_digit.result = search rules in
     let last : FitsSigned w32 c.in-Ok.next.last = search rules in
     let step = digits_step c.args.width c.args.word c.args.count c.loop-i.i c.loop-i-test.true in
     let same = rw (step, ← digit) at c.loop-i.invariant.same in

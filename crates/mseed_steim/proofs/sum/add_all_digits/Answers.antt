@@ -1,6 +1,5 @@
-use Rattle.std.proofs.Common.{◌≡◌, ◌<◌, ◌+◌, ◌-◌, ◌*◌, ◌%◌, ◌^◌, ◌++◌, ◌+ℤ◌, map, Ok, arith, ◌∙◌, rules, w32, to_z, FitsSigned}
+use Rattle.std.proofs.Common.{◌≡◌, ◌<◌, ◌+◌, ◌-◌, ◌++◌, ◌+ℤ◌, map, Ok, arith, ◌∙◌, rules, w32, to_z, FitsSigned}
 use Rattle.std.proofs.lemmas.Int.{to_z-of_z}
-use Rattle.std.proofs.lemmas.Nat.{one_shl, and_mask}
 use Rattle.mseed_steim.specs.declared.sum.Sum.{Sum}
 use Rattle.mseed_steim.specs.Digits.{digits, digit_at}
 use Rattle.mseed_steim.proofs.Spelled.{digits_step, digits_over}
@@ -9,10 +8,8 @@ use Rattle.mseed_steim.proofs.sum.add_all_digits.Goals as goal
 
 pub loop-i-preserved : goal.loop-i-preserved
 loop-i-preserved c =
-    let small : c.args.width < 32 = omega arith in
-    let one : 1 * 2 ^ c.args.width % 2 ^ 32 ≡ 2 ^ c.args.width = one_shl c.args.width 32 small in
-    let digit : c.signed_digit.result ≡ digit_at c.args.width c.args.word (c.args.count - 1 - c.loop-i.i) = rw (one, and_mask) at c.signed_digit.ensures in
-    let fits : FitsSigned w32 c.signed_digit.result = search rules in
+    let digit : c.read_digit.result ≡ digit_at c.args.width c.args.word (c.args.count - 1 - c.loop-i.i) = c.read_digit.ensures in
+    let fits : FitsSigned w32 c.read_digit.result = search rules in
     let step = digits_step c.args.width c.args.word c.args.count c.loop-i.i c.loop-i-test.true in
     let same = rw (step, ← digit) at c.loop-i.invariant.same in
     let now : Sum = record { met = c.args.sum.met + c.loop-i.i; last = to_z w32 c.loop-i.last-bits } in
@@ -21,7 +18,7 @@ loop-i-preserved c =
     let sum = rw to_z-of_z at c.in-Some.ensures in
     let next_fits : FitsSigned w32 c.in-Some.next = search rules in
     let next : c.args.sum.met + c.loop-i.i + 1 ≡ c.args.sum.met + (c.loop-i.i + 1) = omega arith in
-    record { same = λ more. same more ∙ rw (to_z-of_z w32 c.in-Some.next next_fits, sum.1, ← next) (fold_add c.args.samples now c.signed_digit.result (map Ok (digits c.args.width c.args.word (c.args.count - (c.loop-i.i + 1))) ++ more) less some (fits_true (to_z w32 c.loop-i.last-bits +ℤ c.signed_digit.result) sum.0)) }
+    record { same = λ more. same more ∙ rw (to_z-of_z w32 c.in-Some.next next_fits, sum.1, ← next) (fold_add c.args.samples now c.read_digit.result (map Ok (digits c.args.width c.args.word (c.args.count - (c.loop-i.i + 1))) ++ more) less some (fits_true (to_z w32 c.loop-i.last-bits +ℤ c.read_digit.result) sum.0)) }
 
 pub returns-clause-goes_on : goal.returns-clause-goes_on
 returns-clause-goes_on c =
