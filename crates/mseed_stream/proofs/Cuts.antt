@@ -1,16 +1,16 @@
 -- What a cutter answers, by what it holds.
-use Rattle.std.proofs.Common.{◌≡◌, ℕ, ◌<◌, ◌≤◌, Bool, true, false, List, length, take, Result, Ok, Err, IfErr, refl, sym, subst, arith}
+use Rattle.std.proofs.Common.{◌≡◌, ℕ, ◌<◌, ◌≤◌, Bool, true, false, List, length, take, Result, Ok, Err, IfErr, refl, sym, ap, subst, ◌∙◌, ◌+◌, arith, length-take}
 use Rattle.mseed_record.specs.declared.frame.Scan.TheVariants.{Need}
 use Rattle.mseed_record.specs.Record.{IsRecord}
 use Rattle.mseed_record.specs.Scan.{Decides}
-use Rattle.mseed_stream.specs.Archive.{is_truncated}
+use Rattle.mseed_stream.specs.Archive.{HasNoFurther, is_truncated}
 use Rattle.mseed_stream.specs.Device.{Heard}
 use Rattle.mseed_stream.specs.Standing.{Standing}
 use Rattle.mseed_stream.specs.Cutting.{IsStop, IsReadTo}
 use Rattle.mseed_stream.specs.Steps.{IsFillFault, IsCuttingFault, IsAnswerAtEnd}
 use Rattle.mseed_stream.specs.declared.fault.StreamFault.{StreamFault}
 use Rattle.mseed_stream.specs.declared.fault.StreamFault.TheVariants.{Frame, Truncated, Read, Turns, Memory}
-use Rattle.mseed_stream.proofs.Stops.{record_whole}
+use Rattle.mseed_stream.proofs.Stops.{record_whole, stop_record}
 
 is_false : (b : Bool) → (b ≡ true → ⊥) → b ≡ false
 is_false true f = absurd (f refl)
@@ -42,6 +42,24 @@ read_to_err (Turns n) after needed place room old new is stop short held = (need
 read_to_err Memory after needed place room old new is stop short held =
     let same : length after ≤ length after = omega arith in
     (length after, (held is.1, same, λ l. absurd (omega arith)))
+
+-- short of a stop there's no record
+pub stop_none : (b : List ℕ) (n : ℕ) → IsStop b n → length b < n → HasNoFurther b
+stop_none b n stop less k within r =
+    let far : n ≤ length (take k b) = stop_record b n k stop r in
+    omega (arith, length-take k b)
+
+-- a fault of the reads for one stop is one of the reads for the record
+pub cutting_err : (e : StreamFault) (c before after : Standing) (old middle new : Heard) (needed : ℕ) → IsFillFault e before.place before.room needed middle new → before.place ≡ c.place → c.room ≤ before.room
+    → middle.failures ≡ old.failures → middle.is_at_end ≡ false → IsStop after.front needed → length after.front < needed → (new ≡ middle → Decides after.front (Need needed)) → IsCuttingFault e c after old new
+cutting_err (Frame n f) c before after old middle new needed is place room fine going stop less asks = absurd is
+cutting_err (Truncated n have) c before after old middle new needed is place room fine going stop less asks = absurd is
+cutting_err (Read n) c before after old middle new needed is place room fine going stop less asks =
+    (is.0 ∙ place, is.1 ∙ ap (λ (k : ℕ). k + 1) fine, is.2, stop_none after.front needed stop less)
+cutting_err (Turns n) c before after old middle new needed is place room fine going stop less asks =
+    (is.0 ∙ place, is.1 ∙ fine, is.2, is.3, stop_none after.front needed stop less)
+cutting_err Memory c before after old middle new needed is place room fine going stop less asks =
+    (ap (λ (h : Heard). h.failures) is.1 ∙ fine, ap (λ (h : Heard). h.is_at_end) is.1 ∙ going, (needed, omega (arith, room, is.0), asks is.1))
 
 pub stops_again : (b : List ℕ) (n : ℕ) (is_at_end : Bool) → IsStop b n → (is_at_end ≡ false → length b ≡ n) → (is_at_end ≡ true → length b < n) → StopsAt b is_at_end
 stops_again b n true stop whole short =

@@ -6,7 +6,7 @@ use Rattle.std.proofs.Math.Seq.{take-add, take-length}
 use Rattle.std.specs.List.{concat, AllByRecursion}
 use Rattle.mseed_record.specs.Record.{IsRecord}
 use Rattle.mseed_record.proofs.Answered.{answered}
-use Rattle.mseed_stream.specs.Archive.{IsArchive, HasRecords, End, IsEndOf, clean, frame, truncated, is_clean, is_frame, is_truncated}
+use Rattle.mseed_stream.specs.Archive.{HasNoFurther, IsArchive, HasRecords, End, IsEndOf, clean, frame, truncated, is_clean, is_frame, is_truncated}
 use Rattle.mseed_stream.specs.Device.{Heard}
 use Rattle.mseed_stream.specs.Cutting.{told_from, moves_by, handed_by, IfEnds, IsCutFault, IsCleanEnd}
 use Rattle.mseed_stream.specs.declared.fault.StreamFault.{StreamFault}
@@ -59,12 +59,15 @@ records_after (Ok None) old new more place records l e is has = records_stay old
 records_after (Err f) old new more place records l e is has = records_stay old.bytes new.bytes more place records l e has
 
 -- the bytes told are those records and then the rest
-archive_by : (old new more : List ℕ) (place : ℕ) (records : List (List ℕ)) (end : End) → place ≤ length old → new ≡ old ++ more → HasRecords old place records → IsEndOf (drop place new) end → IsArchive new records (drop place new)
-archive_by old new more place records end l e has is = record {
+archive_of : (old new more : List ℕ) (place : ℕ) (records : List (List ℕ)) → place ≤ length old → new ≡ old ++ more → HasRecords old place records → HasNoFurther (drop place new) → IsArchive new records (drop place new)
+archive_of old new more place records l e has none = record {
   joined = sym (take-append-drop place new) ∙ ap (λ (xs : List ℕ). xs ++ drop place new) (same_front old new more place l e ∙ has.joined);
   each = has.each;
-  no_further = no_further (drop place new) end is;
+  no_further = none;
 }
+
+archive_by : (old new more : List ℕ) (place : ℕ) (records : List (List ℕ)) (end : End) → place ≤ length old → new ≡ old ++ more → HasRecords old place records → IsEndOf (drop place new) end → IsArchive new records (drop place new)
+archive_by old new more place records end l e has is = archive_of old new more place records l e has (no_further (drop place new) end is)
 
 pub archive_at : (result : Result (Option ℕ) StreamFault) (old new : Heard) (more : List ℕ) (place : ℕ) (records : List (List ℕ)) → place ≤ length old.bytes → new.bytes ≡ old.bytes ++ more → HasRecords old.bytes place records
     → (result ≡ Ok None → IsCleanEnd place new) → IfErr result (λ e. IsCutFault e place new) → IfEnds result (IsArchive new.bytes records (told_from place new))
@@ -72,6 +75,6 @@ archive_at (Ok (Some n)) old new more place records l e has end fault = tt
 archive_at (Ok None) old new more place records l e has end fault = archive_by old.bytes new.bytes more place records clean l e has (end refl).0
 archive_at (Err (Frame n f)) old new more place records l e has end fault = archive_by old.bytes new.bytes more place records (frame f) l e has fault.1
 archive_at (Err (Truncated n have)) old new more place records l e has end fault = archive_by old.bytes new.bytes more place records (truncated have) l e has fault.1
-archive_at (Err (Read n)) old new more place records l e has end fault = tt
-archive_at (Err (Turns n)) old new more place records l e has end fault = tt
+archive_at (Err (Read n)) old new more place records l e has end fault = archive_of old.bytes new.bytes more place records l e has fault.3
+archive_at (Err (Turns n)) old new more place records l e has end fault = archive_of old.bytes new.bytes more place records l e has fault.3
 archive_at (Err Memory) old new more place records l e has end fault = tt

@@ -4,7 +4,7 @@ use Rattle.std.proofs.lemmas.List.{drop_all}
 use Rattle.mseed_record.specs.Record.{IsRecord}
 use Rattle.mseed_record.specs.Scan.{Decides, short}
 use Rattle.mseed_record.specs.declared.frame.Scan.TheVariants.{Need}
-use Rattle.mseed_stream.specs.Archive.{IsEndOf, clean, frame, truncated, is_clean}
+use Rattle.mseed_stream.specs.Archive.{HasNoFurther, IsEndOf, clean, frame, truncated, is_clean}
 use Rattle.mseed_stream.specs.Device.{Heard}
 use Rattle.mseed_stream.specs.Standing.{Standing}
 use Rattle.mseed_stream.specs.Cutting.{IsStop, at_start, told_from, IsHeard, IsAlong, IsEnding, IsReadTo, IsCutFault, IsCleanEnd, answer_of}
@@ -94,8 +94,8 @@ cut_fault (Frame n f) c after old new is lent place it = (it.0 ∙ sym place, su
 cut_fault (Truncated n have) c after old new is lent place it = (it.0 ∙ sym place, subst (λ (xs : List ℕ). IsEndOf xs (truncated have)) (sym (told_is new after is lent)) it.2, it.3)
 cut_fault (Read n) c after old new is lent place it =
     let one = it.1 in
-    (it.0 ∙ sym place, omega arith, it.2)
-cut_fault (Turns n) c after old new is lent place it = (it.0 ∙ sym place, it.2, it.3)
+    (it.0 ∙ sym place, omega arith, it.2, subst (λ (xs : List ℕ). HasNoFurther xs) (sym (told_is new after is lent)) it.3)
+cut_fault (Turns n) c after old new is lent place it = (it.0 ∙ sym place, it.2, it.3, subst (λ (xs : List ℕ). HasNoFurther xs) (sym (told_is new after is lent)) it.4)
 cut_fault Memory c after old new is lent place it = tt
 
 -- by each answer

@@ -5,7 +5,7 @@ use Rattle.mseed_record.specs.declared.frame.Scan.TheVariants.{Need}
 use Rattle.mseed_record.specs.Scan.{Decides}
 use Rattle.mseed_stream.specs.Device.{Heard}
 use Rattle.mseed_stream.specs.Standing.{Standing}
-use Rattle.mseed_stream.specs.Archive.{IsEndOf, clean, frame, truncated}
+use Rattle.mseed_stream.specs.Archive.{HasNoFurther, IsEndOf, clean, frame, truncated}
 use Rattle.mseed_stream.specs.declared.cutter.Ending.{Ending}
 use Rattle.mseed_stream.specs.declared.cutter.Ending.TheVariants.{Clean, Fault}
 use Rattle.mseed_stream.specs.declared.fault.StreamFault.{StreamFault}
@@ -25,12 +25,13 @@ held_of c = if c.is_lent then [] else c.front
 abbrev pub told_from : ℕ → Heard → List ℕ
 told_from place h = drop place h.bytes
 
--- what a fault means, of the place where the next record begins and of what was heard
+-- What a fault means, of the place where the next record begins and of what was heard. At a failed read, too, no
+-- record that was told whole is kept back.
 abbrev pub IsCutFault : StreamFault → ℕ → Heard → Type 0
 IsCutFault (Frame n f) place h = (n ≡ place) × IsEndOf (told_from place h) (frame f)
 IsCutFault (Truncated n have) place h = (n ≡ place) × IsEndOf (told_from place h) (truncated have) × (h.is_at_end ≡ true)
-IsCutFault (Read n) place h = (n ≡ place) × (0 < h.failures) × (h.is_at_end ≡ false)
-IsCutFault (Turns n) place h = (n ≡ place) × (h.calls ≡ 2 ^ 40) × (h.is_at_end ≡ false)
+IsCutFault (Read n) place h = (n ≡ place) × (0 < h.failures) × (h.is_at_end ≡ false) × HasNoFurther (told_from place h)
+IsCutFault (Turns n) place h = (n ≡ place) × (h.calls ≡ 2 ^ 40) × (h.is_at_end ≡ false) × HasNoFurther (told_from place h)
 IsCutFault Memory place h = ⊤
 
 -- the input ended where a record ended
@@ -117,12 +118,12 @@ handed_by (Ok (Some r)) bytes = bytes ∷ []
 handed_by (Ok None) bytes = []
 handed_by (Err e) bytes = []
 
--- where an answer says how the stream ends
+-- where an answer says that there is no further record
 abbrev pub IfEnds : {X : Type 0} → Result (Option X) StreamFault → Type 0 → Type 0
 IfEnds (Ok (Some r)) P = ⊤
 IfEnds (Ok None) P = P
 IfEnds (Err (Frame n f)) P = P
 IfEnds (Err (Truncated n have)) P = P
-IfEnds (Err (Read n)) P = ⊤
-IfEnds (Err (Turns n)) P = ⊤
+IfEnds (Err (Read n)) P = P
+IfEnds (Err (Turns n)) P = P
 IfEnds (Err Memory) P = ⊤

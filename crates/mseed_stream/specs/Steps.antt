@@ -4,7 +4,7 @@ use Rattle.mseed_record.specs.declared.frame.Scan.TheVariants.{Need}
 use Rattle.mseed_record.specs.Scan.{Decides}
 use Rattle.mseed_stream.specs.Device.{Heard}
 use Rattle.mseed_stream.specs.Standing.{Standing}
-use Rattle.mseed_stream.specs.Archive.{IsEndOf, frame, truncated}
+use Rattle.mseed_stream.specs.Archive.{HasNoFurther, IsEndOf, frame, truncated}
 use Rattle.mseed_stream.specs.declared.cutter.Ending.TheVariants.{Clean, Fault}
 use Rattle.mseed_stream.specs.declared.fault.StreamFault.{StreamFault}
 use Rattle.mseed_stream.specs.declared.fault.StreamFault.TheVariants.{Frame, Truncated, Read, Turns, Memory}
@@ -21,8 +21,8 @@ IsFillFault Memory place room needed old new = (room < needed) × (new ≡ old)
 abbrev pub IsCuttingFault : StreamFault → Standing → Standing → Heard → Heard → Type 0
 IsCuttingFault (Frame n f) c after old new = (n ≡ c.place) × (new.failures ≡ old.failures) × IsEndOf after.front (frame f)
 IsCuttingFault (Truncated n have) c after old new = (n ≡ c.place) × (new.failures ≡ old.failures) × IsEndOf after.front (truncated have) × (new.is_at_end ≡ true)
-IsCuttingFault (Read n) c after old new = (n ≡ c.place) × (new.failures ≡ old.failures + 1) × (new.is_at_end ≡ false)
-IsCuttingFault (Turns n) c after old new = (n ≡ c.place) × (new.failures ≡ old.failures) × (new.calls ≡ 2 ^ 40) × (new.is_at_end ≡ false)
+IsCuttingFault (Read n) c after old new = (n ≡ c.place) × (new.failures ≡ old.failures + 1) × (new.is_at_end ≡ false) × HasNoFurther after.front
+IsCuttingFault (Turns n) c after old new = (n ≡ c.place) × (new.failures ≡ old.failures) × (new.calls ≡ 2 ^ 40) × (new.is_at_end ≡ false) × HasNoFurther after.front
 IsCuttingFault Memory c after old new = (new.failures ≡ old.failures) × (new.is_at_end ≡ false) × ((n : ℕ) × (c.room < n) × Decides after.front (Need n))
 
 -- at the input's end: nothing is left, or so many bytes of what might have been a record

@@ -3,7 +3,10 @@
 //! A [`Source`] tells bytes and a [`Sink`] takes them. Each has a record, for proofs alone, of all
 //! the bytes that went through it, of the calls that were made and of those that failed, so that a
 //! contract can speak of a whole run over a device. [`Counted`] makes either of any reader or
-//! writer of `std::io`. [`read_all`] and [`write_all_of`] are the two loops over them.
+//! writer of `std::io`.
+//!
+//! A [`Cutter`] hands out the records of what a source tells, one by one, and [`split`] those of a
+//! slice. [`read_all`] and [`write_all_of`] are the plain loops over devices.
 #![tactic(auto)]
 
 mod counted;

@@ -54,6 +54,17 @@ returns-clause-records g c records has =
     let handed = subst (λ (r : Result (Option ℕ) StreamFault). IfOk r (λ o. IfSome o (λ m. IsRecord (told_from place new)))) (sym c.settle.ensures.answer) is in
     records_after c.settle.result old new cut.more.0 place records within cut.more.1 handed has
 
+pub returns-clause-fault : goal.returns-clause-fault
+returns-clause-fault g c =
+    let cut = c.cut-found.ensures in
+    let after : Standing = c.cut-found.new.self in
+    let old : Heard = g.R.Source.heard c.args.source.now in
+    let new : Heard = g.R.Source.heard c.cut-found.new.source in
+    let same_place : after.place ≡ c.args.self.now.place = cut.stays.0 ∙ ap (λ (s : Standing). s.place) c.forget.ensures in
+    let fault = fault_found c.cut-found.result (length after.front) c.forget.new.self after old new cut.heard cut.stays.1 cut.stays.0 cut.fault in
+    let fault_here = subst (λ (n : ℕ). IfErr (lent_of (length after.front) c.cut-found.result) (λ e. IsCutFault e n new)) same_place fault in
+    subst (λ (r : Result (Option ℕ) StreamFault). IfErr r (λ e. IsCutFault e c.args.self.now.place new)) (sym c.settle.ensures.answer) fault_here
+
 pub returns-clause-archive : goal.returns-clause-archive
 returns-clause-archive g c records has =
     let cut = c.cut-found.ensures in
@@ -63,7 +74,4 @@ returns-clause-archive g c records has =
     let new : Heard = g.R.Source.heard c.cut-found.new.source in
     let within : place ≤ length old.bytes = omega (arith, c.requires.heard.told) in
     let same_place : after.place ≡ place = cut.stays.0 ∙ ap (λ (s : Standing). s.place) c.forget.ensures in
-    let fault = fault_found c.cut-found.result (length after.front) c.forget.new.self after old new cut.heard cut.stays.1 cut.stays.0 cut.fault in
-    let fault_here = subst (λ (n : ℕ). IfErr (lent_of (length after.front) c.cut-found.result) (λ e. IsCutFault e n new)) same_place fault in
-    let fault_told = subst (λ (r : Result (Option ℕ) StreamFault). IfErr r (λ e. IsCutFault e place new)) (sym c.settle.ensures.answer) fault_here in
-    archive_at c.settle.result old new cut.more.0 place records within cut.more.1 has (returns-clause-end g c) fault_told
+    archive_at c.settle.result old new cut.more.0 place records within cut.more.1 has (returns-clause-end g c) (returns-clause-fault g c)

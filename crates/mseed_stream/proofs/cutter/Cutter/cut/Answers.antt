@@ -1,4 +1,4 @@
-use Rattle.std.proofs.Common.{◌≡◌, ◌<◌, ◌≤◌, ◌++◌, length, true, false, Bool, Ok, Err, Result, ℕ, List, sym, ap, subst, ◌∙◌, append_assoc, arith, rules, ⊎_elim}
+use Rattle.std.proofs.Common.{◌≡◌, ◌<◌, ◌≤◌, ◌++◌, length, true, false, Bool, Ok, Err, IfErr, Result, ℕ, List, sym, ap, subst, ◌∙◌, append_assoc, arith, rules, ⊎_elim}
 use Rattle.std.proofs.lemmas.Bool.{cases_lt}
 use Rattle.mseed_record.proofs.Answered.{answered}
 use Rattle.std.proofs.KnownBytes.{Consumes-trans}
@@ -9,10 +9,11 @@ use Rattle.mseed_stream.specs.Archive.{is_frame}
 use Rattle.mseed_stream.specs.Device.{Heard}
 use Rattle.mseed_stream.specs.Standing.{Standing}
 use Rattle.mseed_stream.specs.Cutting.{IsStop, IsReadTo}
+use Rattle.mseed_stream.specs.Steps.{IsCuttingFault}
 use Rattle.mseed_stream.specs.declared.fault.StreamFault.{StreamFault}
 use Rattle.mseed_stream.proofs.Stops.{stop_grows, stop_next}
 use Rattle.mseed_stream.proofs.Filled.{held_grows, held_stays}
-use Rattle.mseed_stream.proofs.Cuts.{found, fault_at_end, read_to_err, stops_again, same_end, stop_here}
+use Rattle.mseed_stream.proofs.Cuts.{found, fault_at_end, cutting_err, read_to_err, stops_again, same_end, stop_here}
 use Rattle.mseed_stream.proofs.cutter.Cutter.cut.Goals as goal
 
 pub returns-in-Record-clause-found : goal.returns-in-Record-clause-found
@@ -65,6 +66,26 @@ returns-in_err-is_at_end-in-Need-2-clause-stop g c =
     let held = λ (same : new ≡ old). subst (λ (xs : List ℕ). IsStop xs (length xs)) (sym (held_stays old new c.stops.self c.fill.new.self inv.heard err.heard inv.not_lent err.stays.1 err.stays.0 same)) here in
     let same : c.from_residual.result ≡ Err fault = search rules in
     subst (λ (r : Result Bool StreamFault). IsReadTo after r new.is_at_end) (sym same) (read_to_err fault after needed c.stops.self.place c.stops.self.room old new err.fault stop err.short held)
+
+pub returns-in_err-is_at_end-in-Need-2-clause-fault : goal.returns-in_err-is_at_end-in-Need-2-clause-fault
+returns-in_err-is_at_end-in-Need-2-clause-fault g c =
+    let inv = c.stops.invariant in
+    let err = c.in_err-is_at_end-in-Need-2.ensures in
+    let fault : StreamFault = c.in_err-is_at_end-in-Need-2.field-0.0 in
+    let needed : ℕ = c.in-Need.field-0 in
+    let before : List ℕ = c.stops.self.front in
+    let after : Standing = c.fill.new.self in
+    let first : Heard = g.R.Source.heard c.args.source.now in
+    let old : Heard = g.R.Source.heard c.stops.source in
+    let new : Heard = g.R.Source.heard c.fill.new.source in
+    let decides = subst (λ (a : Scan). Decides before a) c.in-Need.is c.look.ensures.decides in
+    let here = stop_here before c.stops.is_at_end inv.stop c.if-is_at_end.false in
+    let grown : after.front ≡ before ++ err.more.0 = held_grows old new c.stops.self after err.more.0 inv.heard err.heard inv.not_lent err.stays.1 err.stays.0 err.more.1 in
+    let stop = subst (λ (xs : List ℕ). IsStop xs needed) (sym grown) (stop_grows before err.more.0 needed (stop_next before needed here decides)) in
+    let asks = λ (same : new ≡ old). subst (λ (xs : List ℕ). Decides xs (Need needed)) (sym (held_stays old new c.stops.self after inv.heard err.heard inv.not_lent err.stays.1 err.stays.0 same)) decides in
+    let same : c.from_residual.result ≡ Err fault = search rules in
+    subst (λ (r : Result Bool StreamFault). IfErr r (λ e. IsCuttingFault e c.args.self.now after first new)) (sym same)
+    (cutting_err fault c.args.self.now c.stops.self after first old new needed err.fault inv.place inv.room inv.failures (inv.end ∙ c.if-is_at_end.false) stop err.short asks)
 
 pub stops-preserved : goal.stops-preserved
 stops-preserved g c =
