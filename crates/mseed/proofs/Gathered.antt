@@ -1,6 +1,6 @@
 -- The lines of a listing, record after record.
-use Rattle.std.proofs.Common.{◌≡◌, ℕ, ◌+◌, ◌≤◌, ◌++◌, List, [], ◌∷◌, length, take, drop, map, refl, sym, ap, ◌∙◌, subst, append_assoc, arith, inl, inr, Option, Result, Ok, Err}
-use Rattle.std.proofs.lemmas.List.{take-append-drop, length-take-le, append-nil, length-append}
+use Rattle.std.proofs.Common.{◌≡◌, ℕ, ◌+◌, ◌++◌, List, [], ◌∷◌, length, take, drop, map, refl, sym, ap, ◌∙◌, subst, append_assoc, arith, inl, inr, Option, Result, Ok, Err}
+use Rattle.std.proofs.lemmas.List.{take-append-drop, append-nil, length-append}
 use Rattle.std.specs.List.{concat, AllByRecursion}
 use Rattle.mseed_record.specs.View.{View, IsView}
 use Rattle.mseed_stream.specs.Device.{Heard, Said, IsFrontOf}
@@ -29,10 +29,17 @@ lines_from place (w ∷ views) v n e =
     ∙ sym (append_assoc (record_line place w) (record_lines (place + length w.bytes) views) (record_line n v))
 
 -- one more line
-pub lines_more : (bytes : List ℕ) (place : ℕ) (views : List View) (v : View) → place ≤ length bytes → AreShown bytes place views → record_lines 0 (views ++ v ∷ []) ≡ record_lines 0 views ++ record_line place v
-lines_more bytes place views v h shown =
-    let size : length (concat (map (λ v. v.bytes) views)) ≡ place = ap (λ (xs : List ℕ). length xs) (sym shown.records.joined) ∙ length-take-le place bytes h in
-    lines_from 0 views v place (omega (arith, size))
+pub lines_more : (bytes : List ℕ) (place : ℕ) (views : List View) (v : View) → AreShown bytes place views → record_lines 0 (views ++ v ∷ []) ≡ record_lines 0 views ++ record_line place v
+lines_more bytes place views v shown = lines_from 0 views v place (omega (arith, shown.place_is))
+
+-- how many bytes the records have, with one more
+size_more : (views : List View) (v : View) → length (concat (map (λ v. v.bytes) (views ++ v ∷ []))) ≡ length (concat (map (λ v. v.bytes) views)) + length v.bytes
+size_more [] v = length-append v.bytes [] ∙ omega arith
+size_more (w ∷ views) v =
+    let rest : List ℕ = concat (map (λ v. v.bytes) views) in
+    let more : List ℕ = concat (map (λ v. v.bytes) (views ++ v ∷ [])) in
+    let later : length more ≡ length rest + length v.bytes = size_more views v in
+    omega (arith, later, length-append w.bytes more, length-append w.bytes rest)
 
 all_more : (views : List View) (v : View) → AllByRecursion IsView views → IsView v → AllByRecursion IsView (views ++ v ∷ [])
 all_more [] v h k = (k, tt)
@@ -48,6 +55,7 @@ pub shown_more : (old new : List ℕ) (place : ℕ) (views : List View) (v : Vie
 shown_more old new place views v told shown is same has = record {
   each = all_more views v shown.each is;
   records = subst (λ (xs : List (List ℕ)). HasRecords new (place + length told) xs) (ap (λ (xs : List ℕ). map (λ v. v.bytes) views ++ xs ∷ []) (sym same) ∙ bytes_more views v) has;
+  place_is = size_more views v ∙ (ap (λ (n : ℕ). n + length v.bytes) shown.place_is ∙ ap (λ (xs : List ℕ). place + length xs) same);
 }
 
 -- no further record
@@ -55,6 +63,7 @@ pub shown_still : (old new : List ℕ) (place : ℕ) (views : List View) → Are
 shown_still old new place views shown has = record {
   each = shown.each;
   records = subst (λ (xs : List (List ℕ)). HasRecords new place xs) (append-nil (map (λ v. v.bytes) views)) (subst (λ (n : ℕ). HasRecords new n (map (λ v. v.bytes) views ++ [])) (omega arith) has);
+  place_is = shown.place_is;
 }
 
 -- a fault before which a front of the lines was written

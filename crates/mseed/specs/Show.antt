@@ -1,6 +1,6 @@
 -- What is written when an input is listed.
 use Rattle.std.specs.Prelude.{◌≡◌, ◌≢◌, ◌⊎◌, ℕ, ◌<◌, List, ◌++◌, map, length, Option, Some, None, Result, Ok, Err, codes}
-use Rattle.std.specs.List.{AllByRecursion}
+use Rattle.std.specs.List.{AllByRecursion, concat}
 use Rattle.mseed_record.specs.View.{View, IsView}
 use Rattle.mseed_stream.specs.Device.{Heard, Said, IsFrontOf}
 use Rattle.mseed_stream.specs.Archive.{HasRecords}
@@ -16,6 +16,7 @@ use Rattle.mseed.specs.declared.ending.ShowFault.TheVariants.{Write, Memory}
 pub record AreShown (bytes : List ℕ) (place : ℕ) (views : List View) : Type 0 where
   pub each : AllByRecursion IsView views
   pub records : HasRecords bytes place (map (λ v. v.bytes) views)
+  pub place_is : length (concat (map (λ v. v.bytes) views)) ≡ place
 
 -- how the input ends behind them: where a record ended, or by a fault
 abbrev pub IsEnd : Option StreamFault → ℕ → Heard → Type 0

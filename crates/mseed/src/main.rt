@@ -1,4 +1,4 @@
-//! `mseed`, the command: audits archives of seismic waveforms in miniSEED.
+//! `mseed`, the command: audits and lists archives of seismic waveforms in miniSEED.
 #![tactic(auto)]
 
 mod command;

@@ -1,4 +1,4 @@
-use Rattle.std.proofs.Common.{◌≡◌, ℕ, ◌+◌, ◌≤◌, ◌++◌, ◌∷◌, [], List, map, length, sym, ap, subst, ◌∙◌, arith, append_assoc, Err, rules}
+use Rattle.std.proofs.Common.{◌≡◌, ℕ, ◌+◌, ◌++◌, ◌∷◌, [], List, map, length, sym, ap, subst, ◌∙◌, arith, append_assoc, Err, rules}
 use Rattle.std.proofs.lemmas.List.{length-append}
 use Rattle.mseed_record.specs.View.{View}
 use Rattle.mseed_record.specs.Viewing.{view_of}
@@ -20,7 +20,6 @@ returns-in_err-list_record-in-Ok-Some g c =
     let view : View = view_of c.in-Ok-Some.view in
     let views : List View = c.records.invariant.3.0 in
     let shown = c.records.invariant.3.1.0 in
-    let along = c.records.invariant.0 in
     let place : ℕ = c.records.cutter.place in
     let before : Heard = g.R.Source.heard c.records.input in
     let heard : Heard = g.R.Source.heard c.next.new.source in
@@ -29,8 +28,7 @@ returns-in_err-list_record-in-Ok-Some g c =
     let is = rw some at c.in-Ok-Some.ensures.record in
     let has = rw some at c.in-Ok-Some.ensures.records (map (λ v. v.bytes) views) shown.records in
     let more : AreShown heard.bytes (place + length told) (views ++ view ∷ []) = shown_more before.bytes heard.bytes place views view told shown is.0 is.1 has in
-    let within : place ≤ length before.bytes = omega (arith, along.heard.told) in
-    let line = lines_more before.bytes place views view within shown in
+    let line = lines_more before.bytes place views view shown in
     let first : Said = g.W.Sink.said c.args.output.now in
     let old : Said = g.W.Sink.said c.records.output in
     let new : Said = g.W.Sink.said c.list_record.new.output in
@@ -46,7 +44,6 @@ records-preserved g c =
     let view : View = view_of c.in-Ok-Some.view in
     let views : List View = c.records.invariant.3.0 in
     let shown = c.records.invariant.3.1.0 in
-    let along = c.records.invariant.0 in
     let place : ℕ = c.records.cutter.place in
     let before : Heard = g.R.Source.heard c.records.input in
     let heard : Heard = g.R.Source.heard c.next.new.source in
@@ -58,8 +55,7 @@ records-preserved g c =
     let asked = rw some at c.in-Ok-Some.ensures.asked in
     let has = rw some at c.in-Ok-Some.ensures.records (map (λ v. v.bytes) views) shown.records in
     let more : AreShown heard.bytes (place + length told) (views ++ view ∷ []) = shown_more before.bytes heard.bytes place views view told shown is.0 is.1 has in
-    let within : place ≤ length before.bytes = omega (arith, along.heard.told) in
-    let line = lines_more before.bytes place views view within shown in
+    let line = lines_more before.bytes place views view shown in
     let written = rw c.offset-offset.ensures at c.in_ok-list_record-in-Ok-Some.ensures.ok in
     let lines = joined _ _ (g.W.Sink.said c.args.output.now).bytes (record_lines 0 views) (record_line place view) (record_lines 0 (views ++ view ∷ [])) written c.records.invariant.3.1.1 line in
     let number : c.records.records + 1 ≡ length (views ++ view ∷ []) = omega (arith, c.records.invariant.3.1.2, length-append views (view ∷ [])) in
