@@ -8,7 +8,7 @@ pub enum FrameFault {
     NotData,
     /// The start's year and day can be read in neither byte order.
     Order,
-    /// A blockette begins within the header, or isn't 4 bytes further on than the one that names it.
+    /// A blockette begins within the header, or isn't at least 4 bytes further on than the one that names it.
     Chain,
     /// The chain of blockettes ends without a blockette 1000, so that the record's length isn't known.
     No1000,
