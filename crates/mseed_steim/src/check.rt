@@ -113,7 +113,7 @@ fn check_record(view: &RecordView<'_>) -> Result<Ends, ReadFault>
 }
 
 /// The first and the last of a record's samples, without keeping any: those of its one reading, where it
-/// ends on the payload's constant.
+/// ends on the payload's constant. The record has at least one sample.
 ///
 /// # Errors
 ///

@@ -86,7 +86,8 @@ fn fill_record(view: &RecordView<'_>, out: &mut [i32]) -> Result<(), ReadFault>
     }
 }
 
-/// A record's samples: those of its one reading, where it ends on the payload's constant.
+/// A record's samples: those of its one reading, where it ends on the payload's constant. The record has at
+/// least one sample.
 ///
 /// # Errors
 ///
