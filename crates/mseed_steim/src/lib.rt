@@ -22,7 +22,6 @@ mod word;
 pub use check::check_samples;
 pub use differences::{BadWordAt, Differences};
 pub use fault::{Ends, ReadFault};
-pub use form::{Form, Width};
 pub use law::one_reading;
 pub use read::read_samples;
 pub use scheme::Scheme;
