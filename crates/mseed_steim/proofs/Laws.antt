@@ -134,7 +134,7 @@ fault_denies v f some (in_payload a (Integers width) d readable p fault h) =
 fault_denies v f some (in_payload a (Frames scheme) d readable p fault h) = frames_deny v scheme f some a d readable p h
 
 -- So a record with a fault has no reading that ends on its constants.
-denied : (v : View) (f : ReadFault) (s : List ℤ) → Denies v f → IsReading v s → EndsOnConstants v s → ⊥
+pub denied : (v : View) (f : ReadFault) (s : List ℤ) → Denies v f → IsReading v s → EndsOnConstants v s → ⊥
 denied v Blockette100 s h r e = h s r
 denied v (Encoding code) s h r e = h s r
 denied v LittleSteim s h r e = h s r

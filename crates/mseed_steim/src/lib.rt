@@ -22,7 +22,7 @@ mod word;
 pub use check::check_samples;
 pub use differences::{BadWordAt, Differences};
 pub use fault::{Ends, ReadFault};
-pub use law::one_reading;
+pub use law::{one_fault, one_reading};
 pub use read::read_samples;
 pub use scheme::Scheme;
 pub use word::{BadWord, unpack_word};

@@ -18,7 +18,7 @@ use crate::scheme::Scheme;
 use crate::walk::find_lack;
 use mseed_record::RecordView;
 use mseed_time::Order;
-use std::alloc::{AllocError, Allocator, Global};
+use std::alloc::{AllocError, Allocator};
 
 /// Fills in so many samples of Steim frames.
 fn fill_frames(
@@ -93,7 +93,10 @@ fn fill_record(view: &RecordView<'_>, out: &mut [i32]) -> Result<(), ReadFault>
 ///
 /// The first reason, in the order of [`ReadFault`], why the record has no such reading. Where it has one,
 /// `Memory` where there is no memory for it.
-pub fn read_samples(alloc: Global, view: &RecordView<'_>) -> Result<Vec<i32>, ReadFault>
+pub fn read_samples<A: Allocator + Drop>(
+    alloc: A,
+    view: &RecordView<'_>,
+) -> Result<Vec<i32, A>, ReadFault>
     requires { 0 < count_of (view_of view.now) }
     // What is answered is a reading that ends on its constants.
     ensures reading { IfOk result (λ samples. IsWhole (view_of view.now) samples.items) }
