@@ -7,7 +7,9 @@ use Rattle.mseed_stream.specs.Device.{Heard, Said, IsFrontOf}
 use Rattle.mseed_stream.specs.Archive.{HasRecords}
 use Rattle.mseed_stream.specs.declared.fault.StreamFault.{StreamFault}
 use Rattle.mseed.specs.Listing.{record_line, record_lines, count_line}
-use Rattle.mseed.specs.Show.{AreShown, IsShown, show_text, end_lines}
+use Rattle.mseed_audit.specs.Archive.{AreViews}
+use Rattle.mseed_audit.specs.Text.{end_line}
+use Rattle.mseed.specs.Show.{IsShown, show_text}
 use Rattle.std.specs.Result.{IsErrAnd}
 use Rattle.mseed.specs.Gathering.{IsWritten, IsGathered, AreGathered}
 use Rattle.mseed.specs.declared.ending.ShowFault.{ShowFault}
@@ -29,7 +31,7 @@ lines_from place (w ∷ views) v n e =
     ∙ sym (append_assoc (record_line place w) (record_lines (place + length w.bytes) views) (record_line n v))
 
 -- one more line
-pub lines_more : (bytes : List ℕ) (place : ℕ) (views : List View) (v : View) → AreShown bytes place views → record_lines 0 (views ++ v ∷ []) ≡ record_lines 0 views ++ record_line place v
+pub lines_more : (bytes : List ℕ) (place : ℕ) (views : List View) (v : View) → AreViews bytes place views → record_lines 0 (views ++ v ∷ []) ≡ record_lines 0 views ++ record_line place v
 lines_more bytes place views v shown = lines_from 0 views v place (omega (arith, shown.place_is))
 
 -- how many bytes the records have, with one more
@@ -50,8 +52,8 @@ bytes_more [] v = refl
 bytes_more (w ∷ views) v = ap (λ (xs : List (List ℕ)). w.bytes ∷ xs) (bytes_more views v)
 
 -- one more record
-pub shown_more : (old new : List ℕ) (place : ℕ) (views : List View) (v : View) (told : List ℕ) → AreShown old place views → IsView v → v.bytes ≡ told
-    → HasRecords new (place + length told) (map (λ v. v.bytes) views ++ told ∷ []) → AreShown new (place + length told) (views ++ v ∷ [])
+pub shown_more : (old new : List ℕ) (place : ℕ) (views : List View) (v : View) (told : List ℕ) → AreViews old place views → IsView v → v.bytes ≡ told
+    → HasRecords new (place + length told) (map (λ v. v.bytes) views ++ told ∷ []) → AreViews new (place + length told) (views ++ v ∷ [])
 shown_more old new place views v told shown is same has = record {
   each = all_more views v shown.each is;
   records = subst (λ (xs : List (List ℕ)). HasRecords new (place + length told) xs) (ap (λ (xs : List ℕ). map (λ v. v.bytes) views ++ xs ∷ []) (sym same) ∙ bytes_more views v) has;
@@ -59,7 +61,7 @@ shown_more old new place views v told shown is same has = record {
 }
 
 -- no further record
-pub shown_still : (old new : List ℕ) (place : ℕ) (views : List View) → AreShown old place views → HasRecords new (place + 0) (map (λ v. v.bytes) views ++ []) → AreShown new place views
+pub shown_still : (old new : List ℕ) (place : ℕ) (views : List View) → AreViews old place views → HasRecords new (place + 0) (map (λ v. v.bytes) views ++ []) → AreViews new place views
 shown_still old new place views shown has = record {
   each = shown.each;
   records = subst (λ (xs : List (List ℕ)). HasRecords new place xs) (append-nil (map (λ v. v.bytes) views)) (subst (λ (n : ℕ). HasRecords new n (map (λ v. v.bytes) views ++ [])) (omega arith) has);
@@ -67,7 +69,7 @@ shown_still old new place views shown has = record {
 }
 
 -- a fault before which a front of the lines was written
-pub cut_short : (fault : ShowFault) (h : Heard) (first old new : Said) (text : List ℕ) (place : ℕ) (views : List View) → AreShown h.bytes place views → old.failures ≡ first.failures
+pub cut_short : (fault : ShowFault) (h : Heard) (first old new : Said) (text : List ℕ) (place : ℕ) (views : List View) → AreViews h.bytes place views → old.failures ≡ first.failures
     → old.bytes ++ text ≡ first.bytes ++ record_lines 0 views → IsWritten fault old new text → IsShown (Err fault) h first new
 cut_short Write h first old new text place views shown same lines written =
     (omega (arith, same, written.0), (place, (views, record { shown = shown; front = inl (subst (λ (xs : List ℕ). IsFrontOf new.bytes xs) lines written.1) })))
@@ -83,13 +85,13 @@ whole_text old text first lines tail e = sym (append_assoc old text tail) ∙ ap
 
 -- a fault before which a front of the whole text was written
 pub end_short : (fault : ShowFault) (records : ℕ) (end : Option StreamFault) (h : Heard) (first old new : Said) (text whole : List ℕ) (place : ℕ) (views : List View) → AreGathered records end h first old text place views
-    → whole ≡ text ++ count_line records ++ end_lines end → IsWritten fault old new whole → IsShown (Err fault) h first new
+    → whole ≡ text ++ count_line records ++ end_line end → IsWritten fault old new whole → IsShown (Err fault) h first new
 end_short fault records end h first old new text whole place views gathered e written =
-    let number : whole ≡ text ++ count_line (length views) ++ end_lines end = e ∙ ap (λ (n : ℕ). text ++ count_line n ++ end_lines end) gathered.number in
+    let number : whole ≡ text ++ count_line (length views) ++ end_line end = e ∙ ap (λ (n : ℕ). text ++ count_line n ++ end_line end) gathered.number in
     let lines = whole_text old.bytes text first.bytes (record_lines 0 views) (count_line (length views)) gathered.lines in
     let same : old.bytes ++ whole ≡ first.bytes ++ show_text views end =
     ap (λ (xs : List ℕ). old.bytes ++ xs) number
-    ∙ whole_text old.bytes (text ++ count_line (length views)) first.bytes (record_lines 0 views ++ count_line (length views)) (end_lines end) lines in
+    ∙ whole_text old.bytes (text ++ count_line (length views)) first.bytes (record_lines 0 views ++ count_line (length views)) (end_line end) lines in
     go fault written same
   where
     go : (f : ShowFault) → IsWritten f old new whole → old.bytes ++ whole ≡ first.bytes ++ show_text views end → IsShown (Err f) h first new

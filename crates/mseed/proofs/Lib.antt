@@ -1,4 +1,3 @@
 pub mod Written
-pub mod Walking
 pub mod Taken
 pub mod Gathered

@@ -4,7 +4,8 @@ use Rattle.mseed_record.specs.View.{View}
 use Rattle.mseed_stream.specs.Device.{Heard, Said, IsFrontOf}
 use Rattle.mseed_stream.specs.declared.fault.StreamFault.{StreamFault}
 use Rattle.mseed.specs.Listing.{record_lines}
-use Rattle.mseed.specs.Show.{AreShown, IsEnd, IsShown}
+use Rattle.mseed_audit.specs.Archive.{AreViews, IsEnd}
+use Rattle.mseed.specs.Show.{IsShown}
 use Rattle.mseed.specs.declared.ending.ShowFault.{ShowFault}
 use Rattle.mseed.specs.declared.ending.ShowFault.TheVariants.{Write, Memory}
 
@@ -15,7 +16,7 @@ IsWritten Memory old new text = (new.failures ≡ old.failures) × IsFrontOf new
 
 -- the lines of the records up to the end were written or are gathered
 pub record AreGathered (records : ℕ) (end : Option StreamFault) (h : Heard) (old new : Said) (text : List ℕ) (place : ℕ) (views : List View) : Type 0 where
-  pub shown : AreShown h.bytes place views
+  pub shown : AreViews h.bytes place views
   pub ends : IsEnd end place h
   pub lines : new.bytes ++ text ≡ old.bytes ++ record_lines 0 views
   pub fine : new.failures ≡ old.failures

@@ -1,6 +1,3 @@
-pub mod Archive
-pub mod Broken
-pub mod Walk
 pub mod Outcome
 pub mod Run
 pub mod Options

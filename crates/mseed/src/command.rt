@@ -1,8 +1,9 @@
 //! The command line.
-ghost use Rattle.std.specs.Prelude.{◌≡◌, ◌⊎◌, Bool, Option, Result, map, ◌≤◌, ◌+◌, ◌++◌, length, codes, decimal};
+ghost use Rattle.std.specs.Prelude.{◌≡◌, ◌⊎◌, Option, Result, map, codes};
 ghost use Rattle.mseed_stream.specs.Device.{nothing_heard};
-ghost use Rattle.mseed.specs.declared.first.FirstFault.{FirstFault};
-ghost use Rattle.mseed.specs.Outcome.{IsAuditRun, IsBadRun, MayEnd, EndsReads, Tells, fault_line, stream_line};
+ghost use Rattle.mseed_audit.specs.declared.whole.AuditFault.{AuditFault};
+ghost use Rattle.mseed_audit.specs.declared.whole.Summary.{Summary};
+ghost use Rattle.mseed.specs.Outcome.{IsAuditRun, IsBadRun, Tells, summary_status};
 ghost use Rattle.mseed.specs.Run.{status_in};
 ghost use Rattle.mseed.specs.Words.{AsksFor, AsksForNothing, AreRefused};
 ghost use Rattle.mseed.specs.Done.{IsShowRun, IsMemoryRun, IsRefusedRun};
@@ -13,24 +14,22 @@ ghost use Rattle.mseed.specs.declared.request.Request.{Request};
 ghost use Rattle.clap.specs.declared.error.kind.ErrorKind.{ErrorKind};
 
 use crate::ending::ShowFault;
-use crate::first::{FirstFault, audit};
 use crate::outcome::Run;
 use crate::request::Request;
 use crate::show::show;
 use crate::words;
-use arrayvec::ArrayVec;
 use clap::Error;
 use clap::error::ErrorKind;
-use itoa::Buffer;
-use mseed_stream::{Sink, Source, StreamFault, write_all_of};
+use mseed_audit::{AuditFault, Summary, audit};
+use mseed_stream::{Sink, Source, write_all_of};
 use std::alloc::{Allocator, Global};
 
 /// Carries out what the words of the command line ask for, those after the program's name.
 ///
-/// `audit` reads an archive from `input` and writes its audit to `output`: status 0 where every channel
-/// is continuous, 1 where one is broken, 2 where the audit couldn't be done, with a line on `errors`.
-/// `show` lists the records of `input`: status 0, or 2 where the input ended with a fault, which the
-/// listing names, or where it couldn't be written whole. Other words are a bad command line: status 3.
+/// `audit` writes the audit of the records of `input` to `output`: status 0 where every channel is
+/// continuous, 1 where one is broken, and 2 where the input ended with a fault, which the text names, or
+/// where the text couldn't be written whole. `show` lists the records: status 0, or 2 where the input ended
+/// with a fault, which the listing names, or where it couldn't be written whole. Other words are a bad command line: status 3.
 /// Where there was no memory for the words, status 2. The input is one of which nothing was read yet.
 pub fn run<R: Source, W: Sink, E: Sink>(
     alloc: Global,
@@ -41,7 +40,7 @@ pub fn run<R: Source, W: Sink, E: Sink>(
 ) -> Run
     requires { R.heard input.old ≡ nothing_heard }
     ensures audit { AsksFor (map (λ word. word.now) words.now) Request.Audit
-        → ((outcome : Result Bool FirstFault) × IsAuditRun outcome (status_in result) (R.heard input.old) (R.heard input.new)
+        → ((outcome : Result Summary AuditFault) × IsAuditRun outcome (status_in result) (R.heard input.new)
         (W.said output.old) (W.said output.new) (E.said errors.old) (E.said errors.new))
         ⊎ IsMemoryRun (status_in result) (R.heard input.old) (R.heard input.new)
         (W.said output.old) (W.said output.new) (E.said errors.old) (E.said errors.new) }
@@ -78,7 +77,7 @@ pub fn carry_out<A: Allocator + Copy, R: Source, W: Sink, E: Sink>(
 ) -> Run
     requires { R.heard input.old ≡ nothing_heard }
     ensures audit { request ≡ Request.Audit
-        → (outcome : Result Bool FirstFault) × IsAuditRun outcome (status_in result) (R.heard input.old) (R.heard input.new)
+        → (outcome : Result Summary AuditFault) × IsAuditRun outcome (status_in result) (R.heard input.new)
         (W.said output.old) (W.said output.new) (E.said errors.old) (E.said errors.new) }
     ensures show { request ≡ Request.Show
         → (outcome : Result (Option StreamFault) ShowFault) × IsShowRun outcome (status_in result) (R.heard input.new)
@@ -90,7 +89,7 @@ pub fn carry_out<A: Allocator + Copy, R: Source, W: Sink, E: Sink>(
     }
 }
 
-/// Audits, and says on `errors` why it couldn't.
+/// Audits, and says on `errors` why not all was written. A fault of the input is in the text.
 fn run_audit<A: Allocator + Copy, R: Source, W: Sink, E: Sink>(
     alloc: A,
     input: &mut R,
@@ -98,15 +97,27 @@ fn run_audit<A: Allocator + Copy, R: Source, W: Sink, E: Sink>(
     errors: &mut E,
 ) -> Run
     requires { R.heard input.old ≡ nothing_heard }
-    ensures { (outcome : Result Bool FirstFault) × IsAuditRun outcome (status_in result) (R.heard input.old) (R.heard input.new)
+    ensures { (outcome : Result Summary AuditFault) × IsAuditRun outcome (status_in result) (R.heard input.new)
         (W.said output.old) (W.said output.new) (E.said errors.old) (E.said errors.new) }
 {
     match audit(alloc, input, output) {
-        Ok(is_broken) => Run::Status(u8::from(is_broken)),
-        Err(fault) => {
-            complain(errors, &fault);
+        Ok(summary) => Run::Status(summary_status(summary)),
+        Err(AuditFault::Write(_)) => {
+            tell(errors, b"mseed: write failed\n");
             Run::Status(2)
         }
+        Err(AuditFault::Memory) => refuse_memory(errors),
+    }
+}
+
+/// The exit status of an audit whose text was written: a fault of the input comes before a broken channel.
+fn summary_status(summary: Summary) -> u8
+    ensures { result ≡ summary_status summary }
+{
+    if summary.fault {
+        2
+    } else {
+        u8::from(summary.broken > 0)
     }
 }
 
@@ -167,63 +178,9 @@ pub fn refuse_memory<E: Sink>(errors: &mut E) -> Run
     Run::Status(2)
 }
 
-/// Writes the line of a fault.
-fn complain<E: Sink>(errors: &mut E, fault: &FirstFault)
-    requires { MayEnd fault.now }
-    ensures { Tells (fault_line fault.now) (E.said errors.old) (E.said errors.new) }
-{
-    match fault {
-        FirstFault::NotYet(place) => tell(errors, &placed(b"mseed: not yet at ", *place, b"\n")),
-        FirstFault::Stream(fault) => complain_of_stream(errors, fault),
-        FirstFault::Write(_) => tell(errors, b"mseed: write failed\n"),
-        FirstFault::Memory => tell(errors, b"mseed: no memory\n"),
-    }
-}
-
-/// Writes the line of a stream's fault.
-fn complain_of_stream<E: Sink>(errors: &mut E, fault: &StreamFault)
-    requires { EndsReads fault.now }
-    ensures { Tells (stream_line fault.now) (E.said errors.old) (E.said errors.new) }
-{
-    match fault {
-        StreamFault::Read(place) => tell(errors, &placed(b"mseed: fault at ", *place, b" read\n")),
-        StreamFault::Turns(place) => tell(
-            errors,
-            &placed(b"mseed: fault at ", *place, b" turns\n"),
-        ),
-        StreamFault::Memory => tell(errors, b"mseed: no memory\n"),
-        StreamFault::Frame(..) | StreamFault::Truncated(..) => unreachable!(),
-    }
-}
-
 /// Writes a line. A device that fails is left as it is: there is nowhere else to say so.
 fn tell<E: Sink>(errors: &mut E, line: &[u8])
     ensures { Tells line.now (E.said errors.old) (E.said errors.new) }
 {
     let _ = write_all_of(errors, line);
-}
-
-/// A line with a place in it.
-fn placed(before: &[u8], place: u64, after: &[u8]) -> ArrayVec<u8, 64>
-    requires before { length before.now ≤ 20 }
-    requires after { length after.now ≤ 10 }
-    ensures { result.items ≡ before.now ++ decimal place ++ after.now }
-{
-    let mut line = ArrayVec::new();
-    let mut buffer = Buffer::new();
-    push(&mut line, before);
-    push(&mut line, buffer.format(place).as_bytes());
-    push(&mut line, after);
-    line
-}
-
-/// Adds bytes for which there is room.
-fn push(line: &mut ArrayVec<u8, 64>, bytes: &[u8])
-    requires { length line.old.items + length bytes.now ≤ 64 }
-    ensures { line.new.items ≡ line.old.items ++ bytes.now }
-{
-    match line.try_extend_from_slice(bytes) {
-        Ok(()) => {}
-        Err(_) => unreachable!(),
-    }
 }

@@ -3,14 +3,12 @@
 
 mod command;
 mod ending;
-mod first;
 mod listing;
 mod outcome;
 mod request;
 mod show;
 #[cfg(test)]
 mod tests;
-mod walk;
 mod words;
 
 use mseed_stream::{Counted, Sink};

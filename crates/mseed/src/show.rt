@@ -3,7 +3,8 @@ ghost use Rattle.std.specs.Prelude.{◌≡◌, ◌++◌, ◌+◌, ◌<◌, List,
 ghost use Rattle.mseed_record.specs.Viewing.{view_of};
 ghost use Rattle.mseed_stream.specs.Device.{nothing_heard, IsFrontOf};
 ghost use Rattle.mseed.specs.Listing.{record_line, count_line};
-ghost use Rattle.mseed.specs.Show.{IsShown, end_lines};
+ghost use Rattle.mseed_audit.specs.Text.{end_line};
+ghost use Rattle.mseed.specs.Show.{IsShown};
 ghost use Rattle.mseed.specs.Gathering.{IsWritten, IsGathered};
 
 use crate::ending::ShowFault;
@@ -86,7 +87,7 @@ fn push_end<A: Allocator>(
     records: u64,
     end: &Option<StreamFault>,
 ) -> Result<(), ShowFault>
-    ensures ok { OnOk result (text.new.items ≡ text.old.items ++ count_line records ++ end_lines end.now) }
+    ensures ok { OnOk result (text.new.items ≡ text.old.items ++ count_line records ++ end_line end.now) }
     ensures err { IfErr result (λ fault. fault ≡ ShowFault.Memory) }
 {
     push_count_line(text, records)?;

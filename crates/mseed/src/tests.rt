@@ -165,6 +165,12 @@ fn writes_the_audit(rt: HostRuntime) -> Result<(), Fail> {
         "XX_STA__BHZ broken findings 1 first record 2 offset 128 overlap 25001\nrecords 2 channels 1\n";
     let rate =
         "XX_STA__BHZ broken findings 1 first record 3 offset 256 ratechange\nrecords 3 channels 1\n";
+    let cut =
+        "XX_STA__BHZ continuous 2024-01-01T00:00:00.000000 rate 20/1 records 1 samples 16\nrecords 1 channels 1\nfault at 128 truncated 72\n";
+    let two =
+        "XX_STA__BHN continuous 2024-01-01T00:00:00.800000 rate 20/1 records 1 samples 16\nXX_STA__BHZ continuous 2024-01-01T00:00:00.000000 rate 20/1 records 1 samples 16\nrecords 2 channels 2\n";
+    let no_rate =
+        "XX_STA__BHZ broken findings 1 first record 1 offset 0 norate\nrecords 1 channels 1\n";
     let rows: [(&[[u8; 128]], usize, u8, &str, &str); 9] = [
         (&[], 0, 0, none, ""),
         (&[FIRST, next], 256, 0, TWO_CONTINUOUS, ""),
@@ -172,15 +178,9 @@ fn writes_the_audit(rt: HostRuntime) -> Result<(), Fail> {
         (&[FIRST, at(0, 8250, 1)], 256, 1, late, ""),
         (&[FIRST, at(0, 7750, -1)], 256, 1, early, ""),
         (&[FIRST, next, faster], 384, 1, rate, ""),
-        (&[FIRST, next], 200, 2, "", "mseed: not yet at 128\n"),
-        (&[FIRST, other], 256, 2, "", "mseed: not yet at 128\n"),
-        (
-            &[with_factor(FIRST, 0)],
-            128,
-            2,
-            "",
-            "mseed: not yet at 0\n",
-        ),
+        (&[FIRST, next], 200, 2, cut, ""),
+        (&[FIRST, other], 256, 0, two, ""),
+        (&[with_factor(FIRST, 0)], 128, 1, no_rate, ""),
     ];
     for (records, len, status, text, line) in rows {
         let bytes = archive(rt.alloc(), records)?;
@@ -268,21 +268,22 @@ fn shows_the_text_of_refused_words(rt: HostRuntime) {
 #[test]
 fn says_where_a_read_failed(rt: HostRuntime) -> Result<(), Fail> {
     let bytes = archive(rt.alloc(), &[FIRST, at(0, 8000, 0)])?;
-    for len in [0, 1, 200, 256] {
+    let none = "records 0 channels 0\nfault at 0 read\n";
+    let one =
+        "XX_STA__BHZ continuous 2024-01-01T00:00:00.000000 rate 20/1 records 1 samples 16\nrecords 1 channels 1\nfault at 128 read\n";
+    let two = format!(in rt.alloc(); "{TWO_CONTINUOUS}fault at 256 read\n")?;
+    let rows: [(usize, &str); 4] = [(0, none), (1, none), (200, one), (256, &two)];
+    for (len, text) in rows {
         for piece in [1, 4096] {
-            for line_room in [0, 8, 1000] {
-                let input = Telling {
-                    bytes: &bytes[..len.min(bytes.len())],
-                    piece,
-                    fails: true,
-                };
-                let line = format!(in rt.alloc(); "mseed: fault at {len} read\n")?;
-                let line = line.as_bytes();
-                let ran = run_over(rt.alloc(), &["audit"], input, 1000, line_room);
-                assert_eq!(rt; ran.errors.as_slice(), &line[..line_room.min(line.len())]);
-                assert!(rt; ran.output.is_empty());
-                assert_eq!(rt; ran.status, 2);
-            }
+            let input = Telling {
+                bytes: &bytes[..len.min(bytes.len())],
+                piece,
+                fails: true,
+            };
+            let ran = run_over(rt.alloc(), &["audit"], input, 1000, 1000);
+            assert_eq!(rt; ran.output.as_slice(), text.as_bytes(), "{len}");
+            assert!(rt; ran.errors.is_empty(), "{len}");
+            assert_eq!(rt; ran.status, 2, "{len}");
         }
     }
     Ok(())
@@ -310,7 +311,7 @@ fn writes_nothing_where_memory_is_refused(rt: HostRuntime) -> Result<(), Fail> {
     let mut was_refused = false;
     let mut was_audited = false;
     for size in 0..100 {
-        let heap = LocalHeap::new(rt.alloc(), size * 16)?;
+        let heap = LocalHeap::new(rt.alloc(), size * 64)?;
         let mut input = Counted::new(bytes.as_slice());
         let mut output = Counted::new(Taking {
             taken: Vec::new(rt.alloc()),

@@ -1,8 +1,8 @@
-pub mod Reading
+pub mod Archive
+pub mod Channels
 pub mod Follows
-pub mod Verdict
-pub mod Continuous
-pub mod Text
-pub mod End
+pub mod Judging
 pub mod Standing
-pub mod FirstBreak
+pub mod Text
+pub mod Verdict
+pub mod Whole

@@ -1,34 +1,87 @@
--- What is kept of a channel, by the records that came.
-use Rattle.std.specs.Prelude.{◌≡◌, ℕ, ◌+◌, List, [], ◌∷◌, length, Option, Some, None}
-use Rattle.mseed_time.specs.declared.order.Order.TheVariants.{Big}
+-- What an audit keeps, by the records that were added.
+use Rattle.std.specs.Prelude.{⊤, ◌≡◌, ◌≤◌, ◌+◌, ◌*◌, ℕ, List, [], ◌∷◌, ◌++◌, length, Option, Some, None, IsSome}
+use Rattle.std.specs.List.{All}
+use Rattle.std.specs.Map.{lookup, values_of}
+use Rattle.std.specs.Vec.{vec_capacity}
+use Rattle.std.specs.declared.vec.Vec.{Vec}
+use Rattle.mseed_time.specs.Ratios.{ratio_of}
 use Rattle.mseed_record.specs.Header.{factor_at, multiplier_at}
-use Rattle.mseed_record.specs.FirstForm.{start_of}
+use Rattle.mseed_record.specs.View.{View, start_of, leap_of}
+use Rattle.mseed_steim.specs.Reading.{count_of}
+use Rattle.mseed_audit.specs.declared.channel.Tail.{Tail}
 use Rattle.mseed_audit.specs.declared.channel.Channel.{Channel}
-use Rattle.mseed_audit.specs.End.{IsEndOf}
-use Rattle.mseed_audit.specs.Verdict.{findings_of, sample_count, byte_count}
+use Rattle.mseed_audit.specs.declared.finding.Finding.{Finding}
+use Rattle.mseed_audit.specs.declared.finding.Verdict.{Verdict}
+use Rattle.mseed_audit.specs.declared.finding.Verdict.TheVariants.{Continuous, Broken}
+use Rattle.mseed_audit.specs.Channels.{Added, Placed, same_key, records_of}
+use Rattle.mseed_audit.specs.Judging.{known_rate}
+use Rattle.mseed_audit.specs.Verdict.{IsVerdict}
 
--- the last of b and the records after it
-abbrev pub last_of : List ℕ → List (List ℕ) → List ℕ
-last_of b [] = b
-last_of b (c ∷ cs) = last_of c cs
+-- what is kept of a record whose time and rate are known
+pub record IsTail (t : Tail) (v : View) : Type 0 where
+  pub start : t.start ≡ start_of v
+  pub samples : t.samples ≡ count_of v
+  pub rate : known_rate v ≡ Some (ratio_of t.rate)
+  pub factor : t.rate.factor ≡ factor_at v.order v.bytes
+  pub multiplier : t.rate.multiplier ≡ multiplier_at v.order v.bytes
+  pub leap : t.leap ≡ leap_of v.bytes
 
--- the first of a list
-abbrev pub first_of_list : {X : Type 0} → List X → Option X
-first_of_list [] = None
-first_of_list (x ∷ xs) = Some x
+-- or that they aren't
+abbrev pub IsTailOf : Option Tail → View → Type 0
+IsTailOf None v = known_rate v ≡ None
+IsTailOf (Some t) v = IsTail t v
 
--- how many records came
-abbrev pub records_of : Channel → ℕ
-records_of c = c.records
+-- what is kept of the channel's record before another, where there is one whose time and rate are known
+abbrev pub IsTailBefore : Option Tail → Option View → Type 0
+IsTailBefore None None = ⊤
+IsTailBefore None (Some b) = known_rate b ≡ None
+IsTailBefore (Some t) None = ⊥
+IsTailBefore (Some t) (Some b) = IsTail t b
 
--- what is kept is what the records b and bs say
-pub record Stands (c : Channel) (b : List ℕ) (bs : List (List ℕ)) : Type 0 where
-  pub start : c.start ≡ start_of b
-  pub factor : c.rate.factor ≡ factor_at Big b
-  pub multiplier : c.rate.multiplier ≡ multiplier_at Big b
-  pub records : c.records ≡ length bs + 1
-  pub samples : c.samples ≡ sample_count (b ∷ bs)
-  pub bytes : c.bytes ≡ byte_count (b ∷ bs)
-  pub last : IsEndOf c.last (last_of b bs)
-  pub first : c.first ≡ first_of_list (findings_of (b ∷ bs))
-  pub count : c.count ≡ length (findings_of (b ∷ bs))
+-- what is kept of a channel: the verdict on its records so far, and the end of the last of them
+pub record Stands (c : Channel) (ps : List Placed) : Type 0 where
+  pub verdict : IsVerdict c.verdict ps
+  pub front : List Placed
+  pub last : Placed
+  pub parts : ps ≡ front ++ last ∷ []
+  pub tail : IsTailOf c.tail last.view
+
+abbrev pub StandsAt : Option Channel → List Placed → Type 0
+StandsAt None ps = ps ≡ []
+StandsAt (Some c) ps = Stands c ps
+
+-- the verdict, once a further finding is made
+abbrev pub with_finding : Verdict → Finding → Verdict
+with_finding (Continuous start rate records samples) found = Broken found 1
+with_finding (Broken first count) found = Broken first (count + 1)
+
+-- the verdict, once a further record of so many samples has no finding
+abbrev pub with_samples : Verdict → ℕ → Verdict
+with_samples (Continuous start rate records samples) n = Continuous start rate (records + 1) (samples + n)
+with_samples (Broken first count) n = Broken first count
+
+-- the counts of a verdict on at most so many records
+abbrev pub IsWithin : ℕ → Verdict → Type 0
+IsWithin n (Continuous start rate records samples) = (records ≤ n) × (samples ≤ 65535 * records)
+IsWithin n (Broken first count) = count ≤ n
+
+abbrev pub AreWithin : ℕ → List (List ℕ × Channel) → Type 0
+AreWithin n channels = All (λ c. IsWithin n c.verdict) (values_of channels)
+
+-- there is room for a verdict on each channel, and none yet
+abbrev pub HasRoom : {Y Z : Type 0} → List Y → Vec (List ℕ × Verdict) Z → Type 0
+HasRoom channels verdicts = (verdicts.items ≡ []) × (length channels ≤ vec_capacity verdicts)
+
+-- what a clause sees of an audit: what is kept of each channel, by its key, and how many records were added
+pub record Held : Type 0 where
+  pub channels : List (List ℕ × Channel)
+  pub added : ℕ
+
+-- the audit holds what these records, added one after another, say
+pub record IsAuditOf (h : Held) (added : List Added) : Type 0 where
+  pub number : h.added ≡ length added
+  pub each : (key : List ℕ) → StandsAt (lookup (same_key key) h.channels) (records_of key added)
+
+-- a record with samples of the channel with this key was added
+abbrev pub HoldsKey : Held → List ℕ → Type 0
+HoldsKey h key = IsSome (lookup (same_key key) h.channels)

@@ -1,22 +1,23 @@
 -- The text of an audit.
-use Rattle.std.specs.Prelude.{ℕ, ◌+◌, ◌&&◌, nat_le, if◌then◌else◌, List, [], ◌∷◌, ◌++◌, map, length, slice_range, codes, decimal, ℤ}
+use Rattle.std.specs.Prelude.{ℕ, suc, ◌+◌, ◌&&◌, nat_le, if◌then◌else◌, List, [], ◌∷◌, ◌++◌, map, length, slice_range, codes, decimal, ℤ, pos, negsuc, Option, Some, None}
 use Rattle.std.specs.List.{list_all}
 use Rattle.mseed_time.specs.Rate.{Ratio}
 use Rattle.mseed_time.specs.Ratios.{ratio_of}
 use Rattle.mseed_time.specs.Text.{time_text}
-use Rattle.mseed_record.specs.Header.{is_blank, key_at}
-use Rattle.mseed_record.specs.FirstForm.{start_of}
+use Rattle.mseed_time.specs.declared.fault.TimeFault.{TimeFault}
+use Rattle.mseed_time.specs.declared.fault.TimeFault.TheVariants.{Year, Day, Hour, Minute, Second, Fraction}
+use Rattle.mseed_record.specs.Header.{is_blank}
 use Rattle.mseed_record.specs.declared.frame.FrameFault.{FrameFault}
 use Rattle.mseed_record.specs.declared.frame.FrameFault.TheVariants.{NotData, Order as NoOrder, Chain, No1000, Length, Outside, Version3}
+use Rattle.mseed_steim.specs.declared.fault.ReadFault.{ReadFault}
+use Rattle.mseed_steim.specs.declared.fault.ReadFault.TheVariants.{Blockette100, Encoding, LittleSteim, DataOffset, Short, BadWord, Overflow, LastDiffers, Memory as NoMemory}
 use Rattle.mseed_stream.specs.declared.fault.StreamFault.{StreamFault}
 use Rattle.mseed_stream.specs.declared.fault.StreamFault.TheVariants.{Frame, Truncated, Read, Turns, Memory}
 use Rattle.mseed_audit.specs.declared.finding.Why.{Why}
-use Rattle.mseed_audit.specs.declared.finding.Why.TheVariants.{RateChange, Gap, Overlap}
+use Rattle.mseed_audit.specs.declared.finding.Why.TheVariants.{Time, Rate, Read as ReadFailed, RateChange, Leap, Gap, Overlap}
 use Rattle.mseed_audit.specs.declared.finding.Finding.{Finding}
 use Rattle.mseed_audit.specs.declared.finding.Verdict.{Verdict}
 use Rattle.mseed_audit.specs.declared.finding.Verdict.TheVariants.{Continuous, Broken}
-use Rattle.mseed_audit.specs.Follows.{rate_at}
-use Rattle.mseed_audit.specs.Verdict.{findings_of, sample_count}
 
 -- a code without its trailing spaces and NULs
 abbrev pub trimmed : List ℕ → List ℕ
@@ -37,8 +38,38 @@ name_text key =
     code_text (slice_range key 0 2) ++ codes "_" ++ code_text (slice_range key 2 7) ++ codes "_"
     ++ code_text (slice_range key 7 9) ++ codes "_" ++ code_text (slice_range key 9 12)
 
+-- the words of a start that is no time
+abbrev pub time_text_of : TimeFault → List ℕ
+time_text_of Year = codes "time year"
+time_text_of Day = codes "time day"
+time_text_of Hour = codes "time hour"
+time_text_of Minute = codes "time minute"
+time_text_of Second = codes "time second"
+time_text_of Fraction = codes "time fraction"
+
+-- a number with `-` before it where it is negative
+abbrev pub signed : ℤ → List ℕ
+signed (pos n) = decimal n
+signed (negsuc n) = codes "-" ++ decimal (suc n)
+
+-- the words of samples that can't be read; a want of memory is no finding
+abbrev pub read_text : ReadFault → List ℕ
+read_text Blockette100 = codes "blockette100"
+read_text (Encoding code) = codes "encoding " ++ decimal code
+read_text LittleSteim = codes "littlesteim"
+read_text DataOffset = codes "dataoffset"
+read_text (Short found) = codes "short " ++ decimal found
+read_text (BadWord frame word) = codes "badword " ++ decimal frame ++ codes " " ++ decimal word
+read_text (Overflow index) = codes "overflow " ++ decimal index
+read_text (LastDiffers found constant) = codes "lastdiffers " ++ signed found ++ codes " " ++ signed constant
+read_text NoMemory = []
+
 abbrev pub why_text : Why → List ℕ
+why_text (Time fault) = time_text_of fault
+why_text Rate = codes "norate"
+why_text (ReadFailed fault) = read_text fault
 why_text RateChange = codes "ratechange"
+why_text Leap = codes "leap"
 why_text (Gap us) = codes "gap " ++ decimal us
 why_text (Overlap us) = codes "overlap " ++ decimal us
 
@@ -82,12 +113,16 @@ fault_line (Read offset) = codes "fault at " ++ decimal offset ++ codes " read\n
 fault_line (Turns offset) = codes "fault at " ++ decimal offset ++ codes " turns\n"
 fault_line Memory = []
 
--- a channel's line, by its records and their findings
-abbrev pub line_by : List Finding → List ℕ → List (List ℕ) → List ℕ
-line_by [] b bs = name_text (key_at b) ++ continuous_words (start_of b) (rate_at b) (length bs + 1) (sample_count (b ∷ bs))
-line_by (first ∷ rest) b bs = name_text (key_at b) ++ broken_words first (length rest + 1)
+-- the lines of the verdicts
+abbrev pub verdict_lines : List (List ℕ × Verdict) → List ℕ
+verdict_lines [] = []
+verdict_lines (v ∷ vs) = verdict_line v.0 v.1 ++ verdict_lines vs
 
--- the text of the audit of an archive whose records are of one channel
-abbrev pub audit_text : List (List ℕ) → List ℕ
-audit_text [] = total_line 0 0
-audit_text (b ∷ bs) = line_by (findings_of (b ∷ bs)) b bs ++ total_line (length bs + 1) 1
+-- the line at the end, where the archive ends with a fault
+abbrev pub end_line : Option StreamFault → List ℕ
+end_line None = []
+end_line (Some fault) = fault_line fault
+
+-- the text of an audit: a line for each verdict, how many records and channels there are, and the fault
+abbrev pub audit_text : List (List ℕ × Verdict) → ℕ → Option StreamFault → List ℕ
+audit_text verdicts records end = verdict_lines verdicts ++ total_line records (length verdicts) ++ end_line end

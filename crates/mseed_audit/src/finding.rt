@@ -1,11 +1,20 @@
 //! What an audit says of a channel.
-use mseed_time::{Micros, Rate};
+use mseed_steim::ReadFault;
+use mseed_time::{Micros, Rate, TimeFault};
 
-/// Why a record doesn't follow the one before it.
+/// What is found of a record within its channel: the first reason that holds, in this order.
 #[derive(Clone, Copy, Debug, PartialEq, Eq)]
 pub enum Why {
-    /// Its sample rate is another.
+    /// Its start is no time.
+    Time(TimeFault),
+    /// Its factor and multiplier give no sample rate.
+    Rate,
+    /// Its samples can't be read, or don't end on their constant.
+    Read(ReadFault),
+    /// Its sample rate isn't that of the record before.
     RateChange,
+    /// The record before bears both leap flags, so that nobody can say where it ends.
+    Leap,
     /// It begins so many microseconds after that record's end.
     Gap(u128),
     /// It begins so many microseconds before that record's end.
@@ -15,9 +24,9 @@ pub enum Why {
 /// What was found of a record.
 #[derive(Clone, Copy, Debug, PartialEq, Eq)]
 pub struct Finding {
-    /// The record's number in the input, from 1.
+    /// The record's number among all that were added, from 1.
     pub number: u64,
-    /// Where it begins in the input.
+    /// Where it begins, in bytes from the input's beginning.
     pub offset: u64,
     pub why: Why,
 }
@@ -25,7 +34,7 @@ pub struct Finding {
 /// What an audit says of a channel.
 #[derive(Clone, Copy, Debug, PartialEq, Eq)]
 pub enum Verdict {
-    /// Each record follows the one before it.
+    /// Nothing was found of any record.
     Continuous {
         /// The first sample's instant.
         start: Micros,
@@ -34,7 +43,7 @@ pub enum Verdict {
         records: u64,
         samples: u64,
     },
-    /// Some record doesn't.
+    /// Something was.
     Broken {
         /// The first finding.
         first: Finding,

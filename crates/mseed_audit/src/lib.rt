@@ -1,12 +1,15 @@
-//! The audit of an archive: whether a channel is continuous, and where it breaks.
+//! The audit of an archive: which channels are continuous, and where the others break.
 #![tactic(auto)]
 
 mod channel;
 mod finding;
-#[cfg(test)]
-mod tests;
+mod keep;
+mod law;
 mod text;
+mod whole;
 
-pub use channel::Channel;
 pub use finding::{Finding, Verdict, Why};
-pub use text::{push_channel_line, push_fault_line, push_name, push_total_line};
+pub use keep::{Audit, Memory, Verdicts};
+pub use law::{continuous_exactly, one_verdict};
+pub use text::{push_fault_line, push_name};
+pub use whole::{AuditFault, Summary, audit};

@@ -1,18 +1,51 @@
 //! The lines of an audit's text.
 ghost use Rattle.std.specs.Prelude.{◌≡◌, ◌++◌, OnOk, codes, decimal};
-ghost use Rattle.mseed_audit.specs.Text.{verdict_line, continuous_words, broken_words, total_line, name_text, code_text, why_text, printed, trimmed, fault_line, frame_line};
+ghost use Rattle.mseed_audit.specs.Text.{audit_text, verdict_lines, verdict_line, continuous_words, broken_words, total_line, name_text, code_text, why_text, read_text, time_text_of, signed, printed, trimmed, end_line, fault_line, frame_line};
 ghost use Rattle.mseed_time.specs.Ratios.{ratio_of};
 ghost use Rattle.mseed_record.specs.Header.{is_blank};
 
 use crate::finding::{Finding, Verdict, Why};
 use itoa::Buffer;
 use mseed_record::{Codes, FrameFault};
+use mseed_steim::ReadFault;
 use mseed_stream::StreamFault;
-use mseed_time::{Micros, Rate, show_time};
+use mseed_time::{Micros, Rate, TimeFault, show_time};
 use std::alloc::{AllocError, Allocator};
 
-/// Adds the line of a channel. Where memory is refused, a part of it may have been added.
-pub fn push_channel_line<A: Allocator>(
+/// Adds the text of an audit: a line for each verdict, the numbers of records and of channels, and the line of
+/// the fault with which the archive ends, if with any. Where memory is refused, a part of it may have been
+/// added.
+pub(crate) fn push_audit<A: Allocator>(
+    text: &mut Vec<u8, A>,
+    verdicts: &[(Codes, Verdict)],
+    records: u64,
+    end: &Option<StreamFault>,
+) -> Result<(), AllocError>
+    ensures { OnOk result (text.new.items ≡ text.old.items ++ audit_text verdicts.now records end.now) }
+{
+    push_verdicts(text, verdicts)?;
+    push_total_line(text, records, verdicts.len() as u64)?;
+    match end {
+        Some(fault) => push_fault_line(text, fault),
+        None => Ok(()),
+    }
+}
+
+/// Adds a line for each verdict.
+fn push_verdicts<A: Allocator>(
+    text: &mut Vec<u8, A>,
+    verdicts: &[(Codes, Verdict)],
+) -> Result<(), AllocError>
+    ensures { OnOk result (text.new.items ≡ text.old.items ++ verdict_lines verdicts.now) }
+{
+    for (codes, verdict) in verdicts {
+        push_channel_line(text, codes, verdict)?;
+    }
+    Ok(())
+}
+
+/// Adds the line of a channel.
+fn push_channel_line<A: Allocator>(
     text: &mut Vec<u8, A>,
     codes: &Codes,
     verdict: &Verdict,
@@ -66,9 +99,8 @@ fn push_broken<A: Allocator>(
     push_bytes(text, b"\n")
 }
 
-/// Adds the last line: how many records there were, and of how many channels. Where memory is refused, a
-/// part of it may have been added.
-pub fn push_total_line<A: Allocator>(
+/// Adds the line that tells how many records there were, and of how many channels.
+fn push_total_line<A: Allocator>(
     text: &mut Vec<u8, A>,
     records: u64,
     channels: u64,
@@ -141,10 +173,66 @@ fn push_why<A: Allocator>(text: &mut Vec<u8, A>, why: &Why) -> Result<(), AllocE
     ensures { OnOk result (text.new.items ≡ text.old.items ++ why_text why.now) }
 {
     match why {
+        Why::Time(fault) => push_bytes(text, time_words(*fault)),
+        Why::Rate => push_bytes(text, b"norate"),
+        Why::Read(fault) => push_read_fault(text, fault),
         Why::RateChange => push_bytes(text, b"ratechange"),
+        Why::Leap => push_bytes(text, b"leap"),
         Why::Gap(micros) => push_count(text, b"gap ", *micros),
         Why::Overlap(micros) => push_count(text, b"overlap ", *micros),
     }
+}
+
+/// The words of a start that is no time.
+fn time_words(fault: TimeFault) -> &'static [u8]
+    ensures { result.now ≡ time_text_of fault }
+{
+    match fault {
+        TimeFault::Year => b"time year",
+        TimeFault::Day => b"time day",
+        TimeFault::Hour => b"time hour",
+        TimeFault::Minute => b"time minute",
+        TimeFault::Second => b"time second",
+        TimeFault::Fraction => b"time fraction",
+    }
+}
+
+/// Adds the words of samples that can't be read.
+fn push_read_fault<A: Allocator>(text: &mut Vec<u8, A>, fault: &ReadFault) -> Result<(), AllocError>
+    ensures { OnOk result (text.new.items ≡ text.old.items ++ read_text fault.now) }
+{
+    match fault {
+        ReadFault::Blockette100 => push_bytes(text, b"blockette100"),
+        ReadFault::Encoding(code) => push_count(text, b"encoding ", u128::from(*code)),
+        ReadFault::LittleSteim => push_bytes(text, b"littlesteim"),
+        ReadFault::DataOffset => push_bytes(text, b"dataoffset"),
+        ReadFault::Short(found) => push_count(text, b"short ", *found as u128),
+        ReadFault::BadWord(frame, word) => {
+            push_count(text, b"badword ", *frame as u128)?;
+            push_count(text, b" ", *word as u128)
+        }
+        ReadFault::Overflow(index) => push_count(text, b"overflow ", *index as u128),
+        ReadFault::LastDiffers(found, constant) => {
+            push_signed(text, b"lastdiffers ", *found)?;
+            push_signed(text, b" ", *constant)
+        }
+        ReadFault::Memory => Ok(()),
+    }
+}
+
+/// Adds a label and a number that may be negative.
+fn push_signed<A: Allocator>(
+    text: &mut Vec<u8, A>,
+    label: &[u8],
+    number: i32,
+) -> Result<(), AllocError>
+    ensures { OnOk result (text.new.items ≡ text.old.items ++ label.now ++ signed number) }
+{
+    push_bytes(text, label)?;
+    if number < 0 {
+        push_bytes(text, b"-")?;
+    }
+    push_count(text, b"", u128::from(number.unsigned_abs()))
 }
 
 /// Adds a label and a number.

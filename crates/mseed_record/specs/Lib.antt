@@ -1,5 +1,4 @@
 pub mod Header
-pub mod FirstForm
 pub mod Order
 pub mod Chain
 pub mod Record

@@ -4,7 +4,6 @@
 
 mod chain;
 mod codes;
-mod first;
 mod frame;
 mod framing;
 mod header;
@@ -13,7 +12,6 @@ mod tests;
 mod view;
 
 pub use codes::Codes;
-pub use first::FirstView;
 pub use frame::{DataOffset, FrameFault, Leap, Scan, ViewFault};
 pub use framing::scan;
 pub use view::RecordView;

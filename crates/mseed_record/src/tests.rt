@@ -1,10 +1,9 @@
-//! A record of the first form, and what bytes near it are: expected values are those of the manual's
-//! tables of the fixed section, of BTIME and of blockettes 1000 and 1001.
+//! What a header says: expected values are those of the manual's tables of the fixed section and of BTIME.
 
 mod framing;
 mod view;
 
-use crate::{Codes, FirstView};
+use crate::{Codes, RecordView};
 
 /// 2024-01-01T00:00:00.
 const NEW_YEAR: i64 = 1_704_067_200_000_000;
@@ -34,33 +33,7 @@ fn with(offset: usize, bytes: &[u8]) -> [u8; 128] {
 
 /// The codes of the first record with other bytes for station, location, channel and network.
 fn codes_of(bytes: &[u8; 12]) -> Option<Codes> {
-    Some(FirstView::of(&with(8, bytes))?.codes())
-}
-
-#[test]
-fn tells_the_header(rt: HostRuntime) {
-    let view = FirstView::of(&FIRST).expect(&rt, "a record");
-    let codes = view.codes();
-    assert_eq!(rt; codes.network(), b"XX".as_slice());
-    assert_eq!(rt; codes.station(), b"STA  ".as_slice());
-    assert_eq!(rt; codes.location(), b"  ".as_slice());
-    assert_eq!(rt; codes.channel(), b"BHZ".as_slice());
-    assert_eq!(rt; codes.key(), b"XXSTA    BHZ");
-    assert_eq!(rt; view.samples(), 16);
-    assert_eq!(rt; view.start().get(), NEW_YEAR);
-    assert_eq!(rt; view.rate().pair(), (20, 1));
-    assert_eq!(rt; (view.rate().num(), view.rate().den()), (20, 1));
-}
-
-#[test]
-fn takes_its_own_bytes_alone(rt: HostRuntime) {
-    let mut longer = [7; 300];
-    longer[..128].copy_from_slice(&FIRST);
-    for len in [128, 129, 300] {
-        let view = FirstView::of(&longer[..len]).expect(&rt, "a record");
-        assert_eq!(rt; view.bytes(), FIRST.as_slice(), "{len}");
-        assert_eq!(rt; view.payload(), &FIRST[64..], "{len}");
-    }
+    Some(RecordView::of(&with(8, bytes)).ok()?.codes())
 }
 
 #[test]
@@ -119,25 +92,8 @@ fn reads_starts(rt: HostRuntime) {
     ];
     for (bytes, micros) in rows {
         let record = with(20, &bytes);
-        let view = FirstView::of(&record).expect(&rt, "a record");
-        assert_eq!(rt; view.start().get(), micros);
-    }
-}
-
-#[test]
-fn adds_the_microseconds(rt: HostRuntime) {
-    let rows: [(u8, i64); 5] = [
-        (0, NEW_YEAR),
-        (1, NEW_YEAR + 1),
-        (49, NEW_YEAR + 49),
-        (255, NEW_YEAR - 1),
-        // 256 - 50.
-        (206, NEW_YEAR - 50),
-    ];
-    for (byte, micros) in rows {
-        let record = with(61, &[byte]);
-        let view = FirstView::of(&record).expect(&rt, "a record");
-        assert_eq!(rt; view.start().get(), micros, "{byte}");
+        let view = RecordView::of(&record).expect(&rt, "a record");
+        assert_eq!(rt; view.start().map(|start| start.get()), Ok(micros));
     }
 }
 
@@ -158,183 +114,10 @@ fn reads_samples_and_rates(rt: HostRuntime) {
     ];
     for (bytes, samples, pair, num) in rows {
         let record = with(30, &bytes);
-        let view = FirstView::of(&record).expect(&rt, "a record");
+        let view = RecordView::of(&record).expect(&rt, "a record");
         assert_eq!(rt; view.samples(), samples);
-        assert_eq!(rt; view.rate().pair(), pair);
-        assert_eq!(rt; (view.rate().num(), view.rate().den()), (num, 1));
+        let rate = view.rate().expect(&rt, "a rate");
+        assert_eq!(rt; rate.pair(), pair);
+        assert_eq!(rt; (rate.num(), rate.den()), (num, 1));
     }
-}
-
-#[test]
-fn refuses_other_headers(rt: HostRuntime) {
-    let rows: [(usize, &[u8], &str); 36] = [
-        (0, b"x", "a letter in the sequence number"),
-        (5, b"/", "what stands before the digits"),
-        (5, b":", "what stands behind the digits"),
-        (6, b"X", "quality X"),
-        (6, b"d", "quality d"),
-        (6, b" ", "no quality"),
-        (7, b"a", "a reserved byte"),
-        (20, &[7, 107], "year 1899"),
-        (20, &[8, 53], "year 2101"),
-        (20, &[232, 7, 1, 0], "a little-endian date"),
-        (22, &[0, 0], "day 0"),
-        (20, &[7, 231, 1, 110], "day 366 of 2023"),
-        (22, &[1, 111], "day 367"),
-        (24, &[24], "hour 24"),
-        (25, &[60], "minute 60"),
-        (26, &[61], "second 61"),
-        (28, &[39, 16], "fraction 10000"),
-        (28, &[255, 255], "fraction 65535"),
-        (30, &[0, 0], "no samples"),
-        (30, &[0, 17], "17 samples"),
-        (30, &[1, 0], "256 samples"),
-        (30, &[16, 0], "little-endian samples"),
-        (32, &[0, 0], "factor 0"),
-        (32, &[255, 255], "factor -1"),
-        (32, &[128, 0], "factor -32768"),
-        (34, &[0, 0], "multiplier 0"),
-        (34, &[255, 246], "multiplier -10"),
-        (36, &[2], "a correction that is applied"),
-        (36, &[16], "a leap second"),
-        (40, &[0, 0, 0, 1], "correction 1"),
-        (40, &[255, 255, 255, 255], "correction -1"),
-        (44, &[0, 63], "data at 63"),
-        (44, &[0, 0], "no data"),
-        (44, &[64, 0], "little-endian places"),
-        (46, &[0, 0], "no blockette"),
-        (46, &[0, 56], "the first blockette at 56"),
-    ];
-    for (offset, bytes, what) in rows {
-        let record = with(offset, bytes);
-        assert!(rt; record != FIRST, "{what}");
-        assert!(rt; FirstView::of(&record).is_none(), "{what}");
-    }
-}
-
-#[test]
-fn refuses_other_blockettes(rt: HostRuntime) {
-    let rows: [(usize, &[u8], &str); 9] = [
-        (48, &[3, 233], "blockette 1001 first"),
-        (50, &[0, 0], "no second blockette"),
-        (50, &[0, 64], "the second blockette at 64"),
-        (52, &[11], "encoding 11"),
-        (53, &[0], "the lowest byte first"),
-        (54, &[8], "256 bytes"),
-        (56, &[3, 232], "blockette 1000 again"),
-        (56, &[0, 100], "blockette 100"),
-        (58, &[0, 64], "a third blockette"),
-    ];
-    for (offset, bytes, what) in rows {
-        let record = with(offset, bytes);
-        assert!(rt; FirstView::of(&record).is_none(), "{what}");
-    }
-}
-
-#[test]
-fn takes_what_is_not_judged(rt: HostRuntime) {
-    let rows: [(usize, &[u8], &str); 14] = [
-        (0, b"      ", "spaces for a sequence number"),
-        (0, &[0; 6], "NULs for a sequence number"),
-        (0, b"9 \x000 9", "a sequence number of all sorts"),
-        (6, b"R", "quality R"),
-        (6, b"Q", "quality Q"),
-        (6, b"M", "quality M"),
-        (7, &[0], "a reserved NUL"),
-        (8, &[255; 12], "codes of other bytes"),
-        (26, &[60], "a leap second"),
-        (27, &[255], "the unused byte of the start"),
-        (37, &[255; 3], "flags and the number of blockettes"),
-        (55, &[255], "the reserved byte of blockette 1000"),
-        (60, &[255; 4], "timing quality to frame count"),
-        (64, &[255; 64], "the payload"),
-    ];
-    for (offset, bytes, what) in rows {
-        let record = with(offset, bytes);
-        assert!(rt; record != FIRST, "{what}");
-        let view = FirstView::of(&record).expect(&rt, what);
-        assert_eq!(rt; view.bytes(), record.as_slice(), "{what}");
-    }
-}
-
-/// Whether a byte is in one of the ranges, whose ends belong to them.
-fn is_within(ranges: &[(u8, u8)], byte: u8) -> bool {
-    ranges
-        .iter()
-        .any(|(low, high)| *low <= byte && byte <= *high)
-}
-
-#[test]
-fn judges_each_byte(rt: HostRuntime) {
-    let any: &[(u8, u8)] = &[(0, 255)];
-    let zero: &[(u8, u8)] = &[(0, 0)];
-    // From where to where, and what each byte there may be beside the others of the first record.
-    let rows: [(usize, usize, &[(u8, u8)]); 38] = [
-        (0, 6, &[(b'0', b'9'), (b' ', b' '), (0, 0)]),
-        (
-            6,
-            7,
-            &[(b'D', b'D'), (b'R', b'R'), (b'Q', b'Q'), (b'M', b'M')],
-        ),
-        (7, 8, &[(b' ', b' '), (0, 0)]),
-        (8, 20, any),
-        // With the low byte 232, 7 alone spells a year from 1900 to 2100: 2024.
-        (20, 21, &[(7, 7)]),
-        // 7 * 256 + 108 is 1900.
-        (21, 22, &[(108, 255)]),
-        // Days 1 and 257, and days 1 to 255.
-        (22, 23, &[(0, 1)]),
-        (23, 24, &[(1, 255)]),
-        (24, 25, &[(0, 23)]),
-        (25, 26, &[(0, 59)]),
-        (26, 27, &[(0, 60)]),
-        (27, 28, any),
-        // 39 * 256 is 9984.
-        (28, 29, &[(0, 39)]),
-        (29, 30, any),
-        (30, 31, zero),
-        (31, 32, &[(1, 16)]),
-        (32, 33, &[(0, 127)]),
-        (33, 34, &[(1, 255)]),
-        (34, 35, &[(0, 127)]),
-        (35, 36, &[(1, 255)]),
-        (36, 37, zero),
-        (37, 40, any),
-        (40, 45, zero),
-        (45, 46, &[(64, 64)]),
-        (46, 47, zero),
-        (47, 48, &[(48, 48)]),
-        (48, 49, &[(3, 3)]),
-        (49, 50, &[(232, 232)]),
-        (50, 51, zero),
-        (51, 52, &[(56, 56)]),
-        (52, 53, &[(3, 3)]),
-        (53, 54, &[(1, 1)]),
-        (54, 55, &[(7, 7)]),
-        (55, 56, any),
-        (56, 57, &[(3, 3)]),
-        (57, 58, &[(233, 233)]),
-        (58, 60, zero),
-        (60, 128, any),
-    ];
-    for (from, to, ranges) in rows {
-        for offset in from..to {
-            for byte in 0..=255 {
-                let record = with(offset, &[byte]);
-                assert_eq!(rt;
-                    FirstView::of(&record).is_some(),
-                    is_within(ranges, byte),
-                    "{byte} at {offset}"
-                );
-            }
-        }
-    }
-}
-
-#[test]
-fn refuses_fewer_bytes(rt: HostRuntime) {
-    for len in 0..128 {
-        assert!(rt; FirstView::of(&FIRST[..len]).is_none(), "{len}");
-    }
-    assert!(rt; FirstView::of(&FIRST[1..]).is_none());
 }

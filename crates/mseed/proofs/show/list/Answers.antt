@@ -5,7 +5,8 @@ use Rattle.mseed_record.specs.Viewing.{view_of}
 use Rattle.mseed_stream.specs.Device.{Heard, Said}
 use Rattle.mseed_stream.specs.Cutting.{told_from, IsAlong}
 use Rattle.mseed.specs.Listing.{record_line, record_lines}
-use Rattle.mseed.specs.Show.{AreShown, IsShown}
+use Rattle.mseed_audit.specs.Archive.{AreViews}
+use Rattle.mseed.specs.Show.{IsShown}
 use Rattle.mseed.specs.declared.ending.ShowFault.{ShowFault}
 use Rattle.mseed.proofs.Gathered.{lines_more, shown_more, cut_short, gathered_err}
 use Rattle.mseed.proofs.show.list.Goals as goal
@@ -27,7 +28,7 @@ returns-in_err-list_record-in-Ok-Some g c =
     let some = c.in-Ok-Some.field-0-is in
     let is = rw some at c.in-Ok-Some.ensures.record in
     let has = rw some at c.in-Ok-Some.ensures.records (map (λ v. v.bytes) views) shown.records in
-    let more : AreShown heard.bytes (place + length told) (views ++ view ∷ []) = shown_more before.bytes heard.bytes place views view told shown is.0 is.1 has in
+    let more : AreViews heard.bytes (place + length told) (views ++ view ∷ []) = shown_more before.bytes heard.bytes place views view told shown is.0 is.1 has in
     let line = lines_more before.bytes place views view shown in
     let first : Said = g.W.Sink.said c.args.output.now in
     let old : Said = g.W.Sink.said c.records.output in
@@ -54,10 +55,10 @@ records-preserved g c =
     let is = rw some at c.in-Ok-Some.ensures.record in
     let asked = rw some at c.in-Ok-Some.ensures.asked in
     let has = rw some at c.in-Ok-Some.ensures.records (map (λ v. v.bytes) views) shown.records in
-    let more : AreShown heard.bytes (place + length told) (views ++ view ∷ []) = shown_more before.bytes heard.bytes place views view told shown is.0 is.1 has in
+    let more : AreViews heard.bytes (place + length told) (views ++ view ∷ []) = shown_more before.bytes heard.bytes place views view told shown is.0 is.1 has in
     let line = lines_more before.bytes place views view shown in
     let written = rw c.offset-offset.ensures at c.in_ok-list_record-in-Ok-Some.ensures.ok in
     let lines = joined _ _ (g.W.Sink.said c.args.output.now).bytes (record_lines 0 views) (record_line place view) (record_lines 0 (views ++ view ∷ [])) written c.records.invariant.3.1.1 line in
     let number : c.records.records + 1 ≡ length (views ++ view ∷ []) = omega (arith, c.records.invariant.3.1.2, length-append views (view ∷ [])) in
-    let moved : AreShown heard.bytes c.next.follows.lender-at-none.place (views ++ view ∷ []) = subst (λ (n : ℕ). AreShown heard.bytes n (views ++ view ∷ [])) (sym at) more in
+    let moved : AreViews heard.bytes c.next.follows.lender-at-none.place (views ++ view ∷ []) = subst (λ (n : ℕ). AreViews heard.bytes n (views ++ view ∷ [])) (sym at) more in
     (after, omega (arith, c.records.invariant.1, asked), c.in_ok-list_record-in-Ok-Some.ensures.fine ∙ c.records.invariant.2, (views ++ view ∷ [], (moved, lines, number)))

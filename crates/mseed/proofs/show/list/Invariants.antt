@@ -2,13 +2,13 @@ use Rattle.std.proofs.Common.{◌≡◌, ◌+◌, ◌-◌, ◌^◌, ◌≤◌, �
 use Rattle.mseed_record.specs.View.{View}
 use Rattle.mseed_stream.specs.Cutting.{IsAlong}
 use Rattle.mseed.specs.Listing.{record_lines}
-use Rattle.mseed.specs.Show.{AreShown}
+use Rattle.mseed_audit.specs.Archive.{AreViews}
 use Rattle.mseed.proofs.show.list.Given as goal
 
 abbrev pub invariant-records : goal.invariant-records
 invariant-records g l = IsAlong (g.R.Source.heard l.input) l.cutter × (l.records ≤ (g.R.Source.heard l.input).calls)
     × ((g.W.Sink.said l.output).failures ≡ (g.W.Sink.said l.fn.output).failures)
-    × ((views : List View) × (AreShown (g.R.Source.heard l.input).bytes l.cutter.place views
+    × ((views : List View) × (AreViews (g.R.Source.heard l.input).bytes l.cutter.place views
     × ((g.W.Sink.said l.output).bytes ++ l.text.items ≡ (g.W.Sink.said l.fn.output).bytes ++ record_lines 0 views)
     × (l.records ≡ length views)))
 

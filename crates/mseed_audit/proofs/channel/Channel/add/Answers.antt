@@ -1,28 +1,31 @@
-use Rattle.std.proofs.Common.{◌≡◌, ℕ, ◌+◌, ◌++◌, ◌∷◌, [], length, length-append, List, Option, sym, ap, refl, ◌∙◌, arith}
-use Rattle.std.specs.Option.{option_to_list, option_or, is_some}
-use Rattle.mseed_audit.specs.declared.finding.Finding.{Finding}
-use Rattle.mseed_audit.specs.Verdict.{findings_after}
-use Rattle.mseed_audit.specs.Standing.{first_of_list}
-use Rattle.mseed_audit.proofs.Breaks.{findings_more, samples_more, bytes_more, last_more, first_or, count_or}
+use Rattle.std.proofs.Common.{◌≡◌, ℕ, ◌∷◌, ◌++◌, [], Option, None, Some, refl, ap, subst, sym, ◌∙◌}
+use Rattle.mseed_record.specs.View.{View}
+use Rattle.mseed_record.specs.Viewing.{view_of}
+use Rattle.mseed_steim.specs.Reading.{count_of}
+use Rattle.mseed_audit.specs.declared.finding.Why.{Why}
+use Rattle.mseed_audit.specs.declared.finding.Verdict.{Verdict}
+use Rattle.mseed_audit.specs.Channels.{Placed}
+use Rattle.mseed_audit.specs.Judging.{IsFound}
+use Rattle.mseed_audit.specs.Standing.{with_samples}
+use Rattle.mseed_audit.specs.Verdict.{IsVerdict}
+use Rattle.mseed_audit.proofs.Findings.{verdict_found, verdict_whole, tail_before}
 use Rattle.mseed_audit.proofs.channel.Channel.add.Goals as goal
+use Rattle.mseed_audit.proofs.channel.Channel.add.Goals.{in-Some, in-None}
 
 pub returns-clause-stands : goal.returns-clause-stands
-returns-clause-stands c b bs stands =
-    let next : List ℕ = c.args.view.now in
-    let found = c.finding-found.result in
-    let more : findings_after 1 0 b (bs ++ next ∷ []) ≡ findings_after 1 0 b bs ++ option_to_list found =
-    findings_more 1 0 b bs next ∙ ap (λ (fs : List Finding). findings_after 1 0 b bs ++ fs) (sym (c.finding-found.ensures b bs stands)) in
-    let one : length (bs ++ next ∷ []) ≡ length bs + 1 = omega (arith, length-append bs (next ∷ [])) in
-    let some : c.is_some.result ≡ is_some found = c.is_some.ensures in
-    let counted : c.args.self.now.count + c.from.result ≡ length (findings_after 1 0 b (bs ++ next ∷ [])) = rw (c.from.ensures, some, stands.count, more, count_or (findings_after 1 0 b bs) found) refl in
-    record {
-      start = stands.start;
-      factor = stands.factor;
-      multiplier = stands.multiplier;
-      records = omega (arith, one, stands.records);
-      samples = omega (arith, stands.samples, samples_more bs next, c.from-2.ensures, c.samples.ensures.value);
-      bytes = omega (arith, stands.bytes, bytes_more bs next, ap (λ (xs : List ℕ). length xs) c.bytes.ensures.value);
-      last = rw (last_more b bs next) c.of-self.ensures;
-      first = c.or-self.ensures ∙ ap (λ (o : Option Finding). option_or o found) stands.first ∙ sym (first_or (findings_after 1 0 b bs) found) ∙ ap (λ (fs : List Finding). first_of_list fs) (sym more);
-      count = counted;
-    }
+returns-clause-stands c = λ ps stands.
+    let v : View = view_of c.args.view.now in
+    let p : Placed = record { view = v; offset = c.args.offset; number = c.args.number } in
+    let found : IsFound (Some stands.last.view) v c.judge-judged.result.why = c.judge-judged.ensures.why (Some stands.last.view) (tail_before c.args.self.now.tail stands.last.view stands.tail) in
+    let verdict : IsVerdict c.match-judged.self (ps ++ p ∷ []) = (elim c.match-judged.branch [
+      | in-Some w ↦
+          let why : IsFound (Some stands.last.view) v (Some w.in-Some.why) = subst (λ (x : Option Why). IsFound (Some stands.last.view) v x) w.in-Some.is found in
+          subst (λ (x : Verdict). IsVerdict x (ps ++ p ∷ [])) (sym (w.self-is ∙ w.with_finding-self.ensures))
+          (verdict_found c.args.self.now.verdict ps stands.front stands.last p w.in-Some.why stands.parts stands.verdict why)
+      | in-None w ↦
+          let none : IsFound (Some stands.last.view) v None = subst (λ (x : Option Why). IsFound (Some stands.last.view) v x) w.in-None.is found in
+          let counted : c.match-judged.self ≡ with_samples c.args.self.now.verdict (count_of v) = w.self-is ∙ w.with_samples-self.ensures ∙ ap (λ (n : ℕ). with_samples c.args.self.now.verdict n) w.samples.ensures in
+          subst (λ (x : Verdict). IsVerdict x (ps ++ p ∷ [])) (sym counted)
+          (verdict_whole c.args.self.now.verdict ps stands.front stands.last p stands.parts stands.verdict none)
+    ]) in
+    record { verdict = verdict; front = ps; last = p; parts = refl; tail = c.judge-judged.ensures.tail }

@@ -1,0 +1,45 @@
+-- What is found of a record, by what's kept of the one before it.
+use Rattle.std.proofs.Common.{◌≡◌, if◌then◌else◌, ◌==◌, Option, Some, None, IsSome, ℕ, List, ℤ, subst, refl, ap, sym, ◌∙◌}
+use Rattle.std.proofs.lemmas.Bool.{ne_eqb}
+use Rattle.mseed_time.specs.declared.fault.TimeFault.{TimeFault}
+use Rattle.mseed_time.specs.Rate.{Ratio}
+use Rattle.mseed_time.specs.Ratios.{ratio_of}
+use Rattle.mseed_record.specs.View.{View}
+use Rattle.mseed_steim.specs.Reading.{IsReading, EndsOnConstants}
+use Rattle.mseed_audit.specs.declared.channel.Tail.{Tail}
+use Rattle.mseed_audit.specs.declared.finding.Why.{Why}
+use Rattle.mseed_audit.specs.declared.finding.Why.TheVariants.{RateChange}
+use Rattle.mseed_audit.specs.Judging.{time_fault_of, rate_in, rate_unless, known_rate, why_between, why_from, why_after, IsFound, after}
+use Rattle.mseed_audit.specs.Standing.{IsTail, IsTailBefore}
+
+pub none_unless : {X : Type 0} (x : Option X) → ¬ (IsSome x) → x ≡ None
+none_unless None h = refl
+none_unless (Some x) h = absurd (h refl)
+
+-- a record without a time has no rate that is known
+pub unknown_timed : (v : View) (fault : TimeFault) → time_fault_of v ≡ Some fault → known_rate v ≡ None
+unknown_timed v fault e = ap (λ (f : Option TimeFault). rate_unless f (rate_in v)) e
+
+-- with a time, the rate is what the record says
+pub known_timed : (v : View) (rate : Option Ratio) → time_fault_of v ≡ None → rate_in v ≡ rate → known_rate v ≡ rate
+known_timed v rate e r = ap (λ (f : Option TimeFault). rate_unless f (rate_in v)) e ∙ r
+
+-- another rate
+pub changed : (m n : ℕ) (why : Option Why) → ¬ (m ≡ n) → (if m == n then why else Some RateChange) ≡ Some RateChange
+changed m n why ne = rw (ne_eqb m n ne) refl
+
+-- the one before has no rate that is known
+pub after_none : (before : Option View) (v : View) (next : Ratio) → IsTailBefore None before → why_after before v next ≡ None
+after_none None v next h = refl
+after_none (Some b) v next h = ap (λ (rate : Option Ratio). why_from b rate v next) h
+
+-- the one before has a rate
+pub after_some : (t : Tail) (before : Option View) (v : View) (next : Ratio) (why : Option Why) → IsTailBefore (Some t) before
+    → ((b : View) → IsTail t b → why ≡ why_between b (ratio_of t.rate) v next) → why_after before v next ≡ why
+after_some t None v next why h k = absurd h
+after_some t (Some b) v next why h k = ap (λ (rate : Option Ratio). why_from b rate v next) h.rate ∙ sym (k b h)
+
+-- its samples are whole
+pub found_whole : (before : Option View) (v : View) (next : Ratio) (s : List ℤ) (why : Option Why) → known_rate v ≡ Some next → IsReading v s → EndsOnConstants v s
+    → why_after before v next ≡ why → IsFound before v why
+found_whole before v next s why known reads ends e = subst (λ (found : Option Why). IsFound before v found) e (after next known s (reads, ends))

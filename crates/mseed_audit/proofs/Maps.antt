@@ -1,0 +1,30 @@
+-- Maps by the bytes of their keys.
+use Rattle.std.proofs.Common.{◌≡◌, ℕ, List, Bool, true, refl}
+use Rattle.std.specs.Ordering.{nat_cmp, eq_by_cmp}
+use Rattle.std.specs.Cmp.{IsEquivalence}
+use Rattle.std.specs.Cmp.Lexicographic.{slice_cmp}
+use Rattle.std.proofs.lemmas.Cmp.{eq_by_cmp_equiv, nat_list_cmp_total}
+use Rattle.std.specs.declared.cmp.Ordering.{Ordering}
+use Rattle.std.specs.declared.cmp.Ordering.TheVariants.{Less, Equal, Greater}
+use Rattle.std.specs.Ordering.{is_eq}
+use Rattle.std.proofs.lemmas.Map.Lookups.{exact_bytes}
+use Rattle.std.proofs.lemmas.Bool.{false≢true}
+use Rattle.mseed_audit.specs.Channels.{same_key}
+
+pub keys_alike : IsEquivalence (eq_by_cmp (slice_cmp nat_cmp))
+keys_alike = eq_by_cmp_equiv nat_list_cmp_total
+
+pub same_back : (key other : List ℕ) → same_key key other ≡ same_key other key
+same_back key other = keys_alike.symm key other
+
+pub same_itself : (key : List ℕ) → same_key key key ≡ true
+same_itself key = keys_alike.refl key
+
+equal_from : (o : Ordering) → is_eq o ≡ true → o ≡ Equal
+equal_from Less e = absurd (false≢true e)
+equal_from Equal e = refl
+equal_from Greater e = absurd (false≢true e)
+
+-- keys that compare equal are equal
+pub same_is : (key other : List ℕ) → same_key key other ≡ true → key ≡ other
+same_is key other e = exact_bytes key other (equal_from (slice_cmp nat_cmp key other) e)

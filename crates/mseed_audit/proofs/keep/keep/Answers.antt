@@ -1,0 +1,17 @@
+use Rattle.std.proofs.Common.{◌≡◌, ℕ, List, Bool, cond, ap, ◌∙◌, subst, sym, Some}
+use Rattle.std.specs.List.{All}
+use Rattle.std.specs.Map.{lookup, values_of}
+use Rattle.std.proofs.lemmas.Map.Views.{All-values-insert_entry}
+use Rattle.mseed_audit.specs.Channels.{same_key}
+use Rattle.mseed_audit.specs.Standing.{IsWithin}
+use Rattle.mseed_audit.proofs.Maps.{same_back}
+use Rattle.mseed_audit.proofs.keep.keep.Goals as goal
+
+pub returns-in-Ok-insert-clause-kept : goal.returns-in-Ok-insert-clause-kept
+returns-in-Ok-insert-clause-kept g c = λ key.
+    c.in-Ok-insert.ensures.updates.0 key
+    ∙ ap (λ (b : Bool). cond b (Some c.args.channel) (lookup (same_key key) c.args.channels.now.entries)) (same_back c.args.codes key)
+
+pub returns-in-Ok-insert-clause-within : goal.returns-in-Ok-insert-clause-within
+returns-in-Ok-insert-clause-within g c = λ n all new.
+    rw c.in-Ok-insert.ensures.entries (All-values-insert_entry _ c.args.codes c.args.channel (λ c. IsWithin n c.verdict) c.args.channels.now.entries all new)
