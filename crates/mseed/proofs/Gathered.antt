@@ -60,14 +60,6 @@ shown_more old new place views v told shown is same has = record {
   place_is = size_more views v ∙ (ap (λ (n : ℕ). n + length v.bytes) shown.place_is ∙ ap (λ (xs : List ℕ). place + length xs) same);
 }
 
--- no further record
-pub shown_still : (old new : List ℕ) (place : ℕ) (views : List View) → AreViews old place views → HasRecords new (place + 0) (map (λ v. v.bytes) views ++ []) → AreViews new place views
-shown_still old new place views shown has = record {
-  each = shown.each;
-  records = subst (λ (xs : List (List ℕ)). HasRecords new place xs) (append-nil (map (λ v. v.bytes) views)) (subst (λ (n : ℕ). HasRecords new n (map (λ v. v.bytes) views ++ [])) (omega arith) has);
-  place_is = shown.place_is;
-}
-
 -- a fault before which a front of the lines was written
 pub cut_short : (fault : ShowFault) (h : Heard) (first old new : Said) (text : List ℕ) (place : ℕ) (views : List View) → AreViews h.bytes place views → old.failures ≡ first.failures
     → old.bytes ++ text ≡ first.bytes ++ record_lines 0 views → IsWritten fault old new text → IsShown (Err fault) h first new

@@ -102,10 +102,7 @@ fn run_audit<A: Allocator + Copy, R: Source, W: Sink, E: Sink>(
 {
     match audit(alloc, input, output) {
         Ok(summary) => Run::Status(summary_status(summary)),
-        Err(AuditFault::Write(_)) => {
-            tell(errors, b"mseed: write failed\n");
-            Run::Status(2)
-        }
+        Err(AuditFault::Write(_)) => write_failed(errors),
         Err(AuditFault::Memory) => refuse_memory(errors),
     }
 }
@@ -135,12 +132,18 @@ fn run_show<A: Allocator + Copy, R: Source, W: Sink, E: Sink>(
     match show(alloc, input, output) {
         Ok(None) => Run::Status(0),
         Ok(Some(_)) => Run::Status(2),
-        Err(ShowFault::Write) => {
-            tell(errors, b"mseed: write failed\n");
-            Run::Status(2)
-        }
+        Err(ShowFault::Write) => write_failed(errors),
         Err(ShowFault::Memory) => refuse_memory(errors),
     }
+}
+
+/// Says that the output failed.
+fn write_failed<E: Sink>(errors: &mut E) -> Run
+    ensures status { status_in result ≡ 2 }
+    ensures told { Tells (codes "mseed: write failed\n") (E.said errors.old) (E.said errors.new) }
+{
+    tell(errors, b"mseed: write failed\n");
+    Run::Status(2)
 }
 
 /// Says why `clap` refuses the words, in its own text.
