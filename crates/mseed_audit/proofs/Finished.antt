@@ -37,7 +37,7 @@ stands_verdict (Some c) ps s = s.verdict
 
 pub finished : (h : Held) (added : List Added) → IsStrictlySortedBy (slice_cmp nat_cmp) (keys_of h.channels) → IsAuditOf h added → AreVerdicts added (verdicts_of h.channels)
 finished h added sorted is = record {
-    ascending = subst (λ (ks : List (List ℕ)). IsStrictlySortedBy (slice_cmp nat_cmp) ks) (sym (same_keys h.channels)) sorted;
-    each = λ key. subst (λ (o : Option Verdict). IsVerdictAt o (records_of key added)) (sym (lookup_verdict key h.channels))
-        (stands_verdict (lookup (same_key key) h.channels) (records_of key added) (is.each key))
-    }
+  ascending = subst (λ (ks : List (List ℕ)). IsStrictlySortedBy (slice_cmp nat_cmp) ks) (sym (same_keys h.channels)) sorted;
+  each = λ key. subst (λ (o : Option Verdict). IsVerdictAt o (records_of key added)) (sym (lookup_verdict key h.channels))
+      (stands_verdict (lookup (same_key key) h.channels) (records_of key added) (is.each key));
+}

@@ -42,9 +42,9 @@ pub audit_more : (h new : Held) (added : List Added) (a : Added) → IsAuditOf h
     → ((key : List ℕ) (ps : List Placed) → StandsAt (lookup (same_key key) h.channels) ps → StandsAt (lookup (same_key key) new.channels) (with_record key ps (placed_at a (h.added + 1))))
     → IsAuditOf new (added ++ a ∷ [])
 audit_more h new added a is number stands = record {
-    number = number ∙ omega (arith, is.number, length-append added (a ∷ []));
-    each = λ key.
-        let more : records_of key (added ++ a ∷ []) ≡ with_record key (records_of key added) (placed_at a (h.added + 1)) =
-            records_more key added a ∙ ap (λ (n : ℕ). with_record key (records_of key added) (placed_at a n)) (omega (arith, is.number)) in
-        subst (λ (ps : List Placed). StandsAt (lookup (same_key key) new.channels) ps) (sym more) (stands key (records_of key added) (is.each key))
-    }
+  number = number ∙ omega (arith, is.number, length-append added (a ∷ []));
+  each = λ key.
+      let more : records_of key (added ++ a ∷ []) ≡ with_record key (records_of key added) (placed_at a (h.added + 1)) =
+      records_more key added a ∙ ap (λ (n : ℕ). with_record key (records_of key added) (placed_at a n)) (omega (arith, is.number)) in
+      subst (λ (ps : List Placed). StandsAt (lookup (same_key key) new.channels) ps) (sym more) (stands key (records_of key added) (is.each key));
+}

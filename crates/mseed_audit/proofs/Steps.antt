@@ -51,7 +51,7 @@ pub new_stands : {E : Type 0} (old new : List (List ℕ × Channel)) (code : Lis
     → (key : List ℕ) (ps : List Placed) → StandsAt (lookup (same_key key) old) ps → OnOk result (StandsAt (lookup (same_key key) new) (with_record key ps p))
 new_stands old new code p c (Ok done) at some kept none stands key ps before =
     let begins : (qs : List Placed) → StandsAt (lookup (same_key code) old) qs → Stands c (qs ++ p ∷ []) =
-        λ qs s. subst (λ (rs : List Placed). Stands c (rs ++ p ∷ [])) (sym (subst (λ o. StandsAt o qs) none s)) stands in
+    λ qs s. subst (λ (rs : List Placed). Stands c (rs ++ p ∷ [])) (sym (subst (λ o. StandsAt o qs) none s)) stands in
     stands_more old new code p c at some (λ q. kept q ∙ ap (λ (b : Bool). cond b (Some c) (lookup (same_key q) old)) (same_back q code)) begins key ps before
 new_stands old new code p c (Err e) at some kept none stands key ps before = search rules
 

@@ -159,7 +159,12 @@ fn judge<A: Allocator + Copy>(
             channel.add(view, number, offset);
             Ok(())
         }
-        None => keep(channels, verdicts, codes, Channel::begin(view, number, offset)),
+        None => keep(
+            channels,
+            verdicts,
+            codes,
+            Channel::begin(view, number, offset),
+        ),
     }
 }
 

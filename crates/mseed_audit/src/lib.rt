@@ -1,15 +1,19 @@
 //! The audit of an archive: which channels are continuous, and where the others break.
 #![tactic(auto)]
 
+mod assemble;
 mod channel;
 mod finding;
 mod keep;
 mod law;
 mod text;
+mod trace;
 mod whole;
 
+pub use assemble::{NotContinuous, series};
 pub use finding::{Finding, Verdict, Why};
 pub use keep::{Audit, Memory, Verdicts};
 pub use law::{continuous_exactly, one_verdict};
 pub use text::{push_fault_line, push_name};
+pub use trace::{BadStep, Series};
 pub use whole::{AuditFault, Summary, audit};

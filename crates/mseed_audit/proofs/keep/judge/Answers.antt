@@ -24,7 +24,7 @@ returns-in-Some-clause-stands g c =
     let there = some_is _ _ c.in-Some.ensures.value in
     let writes = (c.get_mut.follows.holds c.add.new.self).3 there in
     let step : (qs : List Placed) → StandsAt (lookup (same_key code) old) qs → Stands c.add.new.self (qs ++ p ∷ []) =
-        λ qs s. c.add.ensures.stands qs (subst (λ o. StandsAt o qs) (sym c.in-Some.ensures.value) s) in
+    λ qs s. c.add.ensures.stands qs (subst (λ o. StandsAt o qs) (sym c.in-Some.ensures.value) s) in
     stands_more old new code p c.add.new.self c.codes-codes.ensures (search rules) writes.0 step
 
 pub returns-in-Some-clause-within : goal.returns-in-Some-clause-within
@@ -46,6 +46,7 @@ returns-in-None-clause-within g c = λ n all.
     c.keep.ensures.within (n + 1) (rw c.get_mut.follows.holds-at-none more) new
 
 pub returns-in-None-clause-memory : goal.returns-in-None-clause-memory
-returns-in-None-clause-memory g c = elim
-    [ inl none ↦ absurd (search rules)
-    | inr there ↦ absurd (false≢true (rw (sym c.codes-codes.ensures, sym c.in-None.ensures.value) at there)) ]
+returns-in-None-clause-memory g c = elim [
+  | inl none ↦ absurd (search rules)
+  | inr there ↦ absurd (false≢true (rw (sym c.codes-codes.ensures, sym c.in-None.ensures.value) at there))
+]

@@ -13,5 +13,5 @@ returns g c = λ added h.
     let is : IsAuditOf held added = rw (← c.self.view_is) at h in
     let all = rw c.in-None.ensures.steps.0 at c.loop-codes.invariant.0 in
     let there : c.loop-codes.verdicts.items ≡ verdicts_of c.self.inside.channels.entries =
-        sym (append-nil c.loop-codes.verdicts.items) ∙ all ∙ ap verdicts_of made.0 in
+    sym (append-nil c.loop-codes.verdicts.items) ∙ all ∙ ap verdicts_of made.0 in
     subst (λ (vs : List (List ℕ × Verdict)). AreVerdicts added vs) (sym there) (finished held added made.5 is)
