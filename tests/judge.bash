@@ -25,23 +25,37 @@ judge() {
 
 # is_as STATUS OUTPUT ERRORS: the run ended so, byte for byte
 is_as() {
-    [ "$status" = "$1" ] && printf '%b' "$2" | cmp -s - output && printf '%b' "$3" | cmp -s - errors
+    [ "$status" = "$1" ] && holds output "$2" && holds errors "$3"
+}
+
+# holds FILE TEXT: the file has these bytes
+holds() {
+    if [ -z "$2" ]; then
+        [ ! -s "$1" ]
+    else
+        printf '%b' "$2" > wanted && cmp -s wanted "$1"
+    fi
 }
 
 # check NAME STATUS OUTPUT ERRORS INPUT WORD..: the input as a file and, where it is short, through a pipe
 # byte for byte
 check() {
-    local name=$1 wanted=$2 output=$3 errors=$4 input=$5
-    shift 5
-    "$program" "$@" < "$input" > output 2> errors
+    check_file "$@"
+    [ "$(stat -c %s "$5")" -gt 70000 ] || check_piped "$@"
+}
+
+# check_file NAME STATUS OUTPUT ERRORS INPUT WORD..: the input as a file
+check_file() {
+    "$program" "${@:6}" < "$5" > output 2> errors
     status=$?
-    judge "$name" is_as "$wanted" "$output" "$errors"
-    [ "$(stat -c %s "$input")" -gt 70000 ] && return
-    python3 -c 'import os, sys
-for byte in open(sys.argv[1], "rb").read():
-    os.write(1, bytes([byte]))' "$input" 2> /dev/null | "$program" "$@" > output 2> errors
+    judge "$1" is_as "$2" "$3" "$4"
+}
+
+# check_piped NAME STATUS OUTPUT ERRORS INPUT WORD..: the input through a pipe, byte for byte
+check_piped() {
+    dd if="$5" bs=1 status=none 2> /dev/null | "$program" "${@:6}" > output 2> errors
     status=${PIPESTATUS[1]}
-    judge "$name, piped" is_as "$wanted" "$output" "$errors"
+    judge "$1, piped" is_as "$2" "$3" "$4"
 }
 
 # The last line, which the gate counts.
