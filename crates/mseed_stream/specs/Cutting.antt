@@ -88,14 +88,18 @@ moves_by (Ok (Some r)) bytes = length bytes
 moves_by (Ok None) bytes = 0
 moves_by (Err e) bytes = 0
 
--- how many failed reads an answer tells of
+-- how many failed reads a fault tells of
+abbrev pub failed_reads : StreamFault → ℕ
+failed_reads (Read n) = 1
+failed_reads (Frame n f) = 0
+failed_reads (Truncated n have) = 0
+failed_reads (Turns n) = 0
+failed_reads Memory = 0
+
+-- and an answer
 abbrev pub failed_by : {X : Type 0} → Result (Option X) StreamFault → ℕ
-failed_by (Err (Read n)) = 1
-failed_by (Err (Frame n f)) = 0
-failed_by (Err (Truncated n have)) = 0
-failed_by (Err (Turns n)) = 0
-failed_by (Err Memory) = 0
 failed_by (Ok o) = 0
+failed_by (Err e) = failed_reads e
 
 -- the answer that a cutter gives once it has ended
 abbrev pub answer_of : {X : Type 0} → Ending → Result (Option X) StreamFault

@@ -1,4 +1,4 @@
-use Rattle.std.proofs.Common.{◌≡◌, ℕ, ◌+◌, ◌++◌, ◌∷◌, [], List, map, length, sym, ap, subst, ◌∙◌, arith, append_assoc, Err, rules}
+use Rattle.std.proofs.Common.{◌≡◌, ℕ, ◌+◌, ◌++◌, ◌∷◌, [], List, map, length, sym, ap, subst, ◌∙◌, arith, append_assoc, Err, None, rules}
 use Rattle.std.proofs.lemmas.List.{length-append}
 use Rattle.mseed_record.specs.View.{View}
 use Rattle.mseed_record.specs.Viewing.{view_of}
@@ -19,8 +19,8 @@ joined new old first lines line whole n o w =
 pub returns-in_err-list_record-in-Ok-Some : goal.returns-in_err-list_record-in-Ok-Some
 returns-in_err-list_record-in-Ok-Some g c =
     let view : View = view_of c.in-Ok-Some.view in
-    let views : List View = c.records.invariant.3.0 in
-    let shown = c.records.invariant.3.1.0 in
+    let views : List View = c.records.invariant.5.0 in
+    let shown = c.records.invariant.5.1.0 in
     let place : ℕ = c.records.cutter.place in
     let before : Heard = g.R.Source.heard c.records.input in
     let heard : Heard = g.R.Source.heard c.next.new.source in
@@ -36,15 +36,15 @@ returns-in_err-list_record-in-Ok-Some g c =
     let fault : ShowFault = c.in_err-list_record-in-Ok-Some.field-0.0 in
     let written = rw c.offset-offset.ensures at c.in_err-list_record-in-Ok-Some.ensures.err in
     let lines = joined (old.bytes ++ (c.records.text.items ++ record_line place view)) (old.bytes ++ c.records.text.items) first.bytes (record_lines 0 views) (record_line place view) (record_lines 0 (views ++ view ∷ []))
-    (sym (append_assoc old.bytes c.records.text.items (record_line place view))) c.records.invariant.3.1.1 line in
-    let ends : IsShown (Err fault) heard first new = cut_short fault heard first old new (c.records.text.items ++ record_line place view) (place + length told) (views ++ view ∷ []) more c.records.invariant.2 lines written in
+    (sym (append_assoc old.bytes c.records.text.items (record_line place view))) c.records.invariant.5.1.1 line in
+    let ends : IsShown (Err fault) heard first new = cut_short fault heard first old new (c.records.text.items ++ record_line place view) (place + length told) (views ++ view ∷ []) more c.records.invariant.4 lines written in
     gathered_err c.from_residual.result _ fault heard first new c.list_record.new.text.items c.from_residual.ensures.1 (λ e q. q) ends
 
 pub records-preserved : goal.records-preserved
 records-preserved g c =
     let view : View = view_of c.in-Ok-Some.view in
-    let views : List View = c.records.invariant.3.0 in
-    let shown = c.records.invariant.3.1.0 in
+    let views : List View = c.records.invariant.5.0 in
+    let shown = c.records.invariant.5.1.0 in
     let place : ℕ = c.records.cutter.place in
     let before : Heard = g.R.Source.heard c.records.input in
     let heard : Heard = g.R.Source.heard c.next.new.source in
@@ -58,7 +58,9 @@ records-preserved g c =
     let more : AreViews heard.bytes (place + length told) (views ++ view ∷ []) = shown_more before.bytes heard.bytes place views view told shown is.0 is.1 has in
     let line = lines_more before.bytes place views view shown in
     let written = rw c.offset-offset.ensures at c.in_ok-list_record-in-Ok-Some.ensures.ok in
-    let lines = joined _ _ (g.W.Sink.said c.args.output.now).bytes (record_lines 0 views) (record_line place view) (record_lines 0 (views ++ view ∷ [])) written c.records.invariant.3.1.1 line in
-    let number : c.records.records + 1 ≡ length (views ++ view ∷ []) = omega (arith, c.records.invariant.3.1.2, length-append views (view ∷ [])) in
+    let lines = joined _ _ (g.W.Sink.said c.args.output.now).bytes (record_lines 0 views) (record_line place view) (record_lines 0 (views ++ view ∷ [])) written c.records.invariant.5.1.1 line in
+    let number : c.records.records + 1 ≡ length (views ++ view ∷ []) = omega (arith, c.records.invariant.5.1.2, length-append views (view ∷ [])) in
     let moved : AreViews heard.bytes c.next.follows.lender-at-none.place (views ++ view ∷ []) = subst (λ (n : ℕ). AreViews heard.bytes n (views ++ view ∷ [])) (sym at) more in
-    (after, omega (arith, c.records.invariant.1, asked), c.in_ok-list_record-in-Ok-Some.ensures.fine ∙ c.records.invariant.2, (views ++ view ∷ [], (moved, lines, number)))
+    let goes : c.next.follows.lender-at-none.answer ≡ None = search rules in
+    let failed = c.in-Ok-Some.ensures.failed c.records.invariant.2 in
+    (after, omega (arith, c.records.invariant.1, asked), goes, omega (arith, failed, c.records.invariant.3), c.in_ok-list_record-in-Ok-Some.ensures.fine ∙ c.records.invariant.4, (views ++ view ∷ [], (moved, lines, number)))

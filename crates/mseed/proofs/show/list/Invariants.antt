@@ -1,4 +1,4 @@
-use Rattle.std.proofs.Common.{◌≡◌, ◌+◌, ◌-◌, ◌^◌, ◌≤◌, ◌++◌, List, length}
+use Rattle.std.proofs.Common.{◌≡◌, ◌+◌, ◌-◌, ◌^◌, ◌≤◌, ◌++◌, List, length, None}
 use Rattle.mseed_record.specs.View.{View}
 use Rattle.mseed_stream.specs.Cutting.{IsAlong}
 use Rattle.mseed.specs.Listing.{record_lines}
@@ -7,6 +7,7 @@ use Rattle.mseed.proofs.show.list.Given as goal
 
 abbrev pub invariant-records : goal.invariant-records
 invariant-records g l = IsAlong (g.R.Source.heard l.input) l.cutter × (l.records ≤ (g.R.Source.heard l.input).calls)
+    × (l.cutter.answer ≡ None) × ((g.R.Source.heard l.input).failures ≡ 0)
     × ((g.W.Sink.said l.output).failures ≡ (g.W.Sink.said l.fn.output).failures)
     × ((views : List View) × (AreViews (g.R.Source.heard l.input).bytes l.cutter.place views
     × ((g.W.Sink.said l.output).bytes ++ l.text.items ≡ (g.W.Sink.said l.fn.output).bytes ++ record_lines 0 views)
