@@ -1,5 +1,5 @@
 -- The series of a continuous channel.
-use Rattle.std.proofs.Common.{◌≡◌, ◌↔◌, ℕ, ℤ, nat_lt, List, [], ◌∷◌, true, Result, Ok, Err, IfOk, IfErr, IsTrue, refl, sym, ap, subst, ◌∙◌, arith}
+use Rattle.std.proofs.Common.{◌≡◌, ◌↔◌, ℕ, ℤ, nat_lt, List, ◌∷◌, true, Result, Ok, Err, IfOk, IfErr, IsTrue, refl, sym, ap, subst, ◌∙◌, arith}
 use Rattle.std.specs.List.{All, AllByRecursion, filter}
 use Rattle.std.proofs.lemmas.Bool.{and_parts}
 use Rattle.std.proofs.lemmas.List.Elements.{filter_passes}

@@ -1,5 +1,5 @@
 -- Records that stand one behind another, and those of a channel among them.
-use Rattle.std.proofs.Common.{◌≡◌, ℕ, zero, suc, ◌+◌, ◌*◌, ◌^◌, ◌≤◌, ◌<◌, List, [], ◌∷◌, ◌++◌, length, map, take, get_or, cond, if◌then◌else◌, Bool, true, false, Option, IfSome, refl, sym, ap, subst, ◌∙◌, append-nil, length-take-le, arith}
+use Rattle.std.proofs.Common.{◌≡◌, ℕ, zero, suc, ◌+◌, ◌^◌, ◌≤◌, ◌<◌, List, [], ◌∷◌, ◌++◌, length, map, take, get_or, cond, if◌then◌else◌, Bool, true, false, Option, refl, sym, ap, subst, ◌∙◌, append-nil, length-take-le, arith}
 use Rattle.std.specs.List.{filter, AllByRecursion}
 use Rattle.std.proofs.lemmas.List.{map_more, length-map}
 use Rattle.std.proofs.Math.Nat.{pow-le-pow_right}
@@ -103,7 +103,7 @@ pub sound_at : (key : List ℕ) (rs : List RecordView) (n : ℕ) (r : RecordView
 sound_at key [] n r h is of all = absurd (omega (arith, h))
 sound_at key (s ∷ rs) zero r h is of all =
     subst (λ (q : RecordView). IsSound (view_of q)) (sym is)
-        (first_sound (is_of key (view_of s)) (view_of s) (filter (is_of key) (map view_of rs)) (sym (of ∙ ap (λ (q : RecordView). is_of key (view_of q)) is)) all)
+    (first_sound (is_of key (view_of s)) (view_of s) (filter (is_of key) (map view_of rs)) (sym (of ∙ ap (λ (q : RecordView). is_of key (view_of q)) is)) all)
 sound_at key (s ∷ rs) (suc n) r h is of all =
     sound_at key rs n r (omega (arith, h)) is of (rest_sound (is_of key (view_of s)) (view_of s) (filter (is_of key) (map view_of rs)) all)
 

@@ -4,7 +4,7 @@ use Rattle.std.specs.List.{AllByRecursion}
 use Rattle.mseed_time.specs.Rate.{Ratio}
 use Rattle.mseed_record.specs.View.{View}
 use Rattle.mseed_steim.specs.declared.fault.ReadFault.{ReadFault}
-use Rattle.mseed_steim.specs.Reading.{IsFault, IsWhole}
+use Rattle.mseed_steim.specs.Reading.{IsFault, IsWhole, HasOneReading}
 use Rattle.mseed_audit.specs.declared.finding.Why.{Why}
 use Rattle.mseed_audit.specs.declared.finding.Finding.{Finding}
 use Rattle.mseed_audit.specs.declared.finding.Verdict.{Verdict}
@@ -20,13 +20,17 @@ use Rattle.mseed_audit.proofs.Between.{follows_of, between_none}
 abbrev pub Excludes : Type 0
 Excludes = (v : View) (f : ReadFault) (s : List ℤ) → IsFault v f → ¬ (IsWhole v s)
 
+-- no record has two readings
+abbrev pub HaveOneReading : Type 0
+HaveOneReading = (v : View) → HasOneReading v
+
 -- a record of which nothing is found
-found_none : (before : Option View) (v : View) (why : Option Why) → IsFound before v why → why ≡ None → IsSound v × ((next : Ratio) × ((known_rate v ≡ Some next) × (why_after before v next ≡ None)))
-found_none before v why (by_time fault e) h = cc
-found_none before v why (by_rate e r) h = cc
-found_none before v why (by_read next known fault f) h = cc
-found_none before v why (by_after next known samples whole) h =
-    (record { timed = subst (λ (r : Option Ratio). IsSome r) (sym known) refl; samples = samples; whole = whole }, (next, (known, h)))
+found_none : HaveOneReading → (before : Option View) (v : View) (why : Option Why) → IsFound before v why → why ≡ None → IsSound v × ((next : Ratio) × ((known_rate v ≡ Some next) × (why_after before v next ≡ None)))
+found_none single before v why (by_time fault e) h = cc
+found_none single before v why (by_rate e r) h = cc
+found_none single before v why (by_read next known fault f) h = cc
+found_none single before v why (by_after next known samples whole) h =
+    (record { timed = subst (λ (r : Option Ratio). IsSome r) (sym known) refl; samples = samples; whole = whole; only = λ others r. single v others samples r whole.0 }, (next, (known, h)))
 
 unknown : (v : View) → IsSome (known_rate v) → known_rate v ≡ None → ⊥
 unknown v some e = let no : false ≡ true = subst (λ (r : Option Ratio). IsSome r) e some in cc (no)
@@ -55,20 +59,20 @@ no_finding p None rest e = (refl, e)
 no_finding p (Some why) rest e = cc
 
 -- records behind another of which nothing is found
-behind_sound : (b : View) (rate : Ratio) (ps : List Placed) (found : List Finding) → known_rate b ≡ Some rate → AreFindings (Some b) ps found → found ≡ []
+behind_sound : HaveOneReading → (b : View) (rate : Ratio) (ps : List Placed) (found : List Finding) → known_rate b ≡ Some rate → AreFindings (Some b) ps found → found ≡ []
     → AllByRecursion IsSound (views_in ps) × AllNeighbours Follows (b ∷ views_in ps)
-behind_sound b rate [] found known (none _) e = (tt, tt)
-behind_sound b rate (p ∷ ps) found known (one _ _ _ why rest h later) e =
+behind_sound single b rate [] found known (none _) e = (tt, tt)
+behind_sound single b rate (p ∷ ps) found known (one _ _ _ why rest h later) e =
     let parts : (why ≡ None) × (rest ≡ []) = no_finding p why rest e in
-    let here = found_none (Some b) p.view why h parts.0 in
-    let more = behind_sound p.view here.1.0 ps rest here.1.1.0 later parts.1 in
+    let here = found_none single (Some b) p.view why h parts.0 in
+    let more = behind_sound single p.view here.1.0 ps rest here.1.1.0 later parts.1 in
     ((here.0, more.0), (follows_after b p.view rate here.1.0 known here.1.1.0 here.1.1.1, more.1))
 
-run_continuous : (first : Placed) (rest : List Placed) (found : List Finding) → AreFindings None (first ∷ rest) found → found ≡ [] → IsContinuous (views_in (first ∷ rest))
-run_continuous first rest found (one _ _ _ why others h later) e =
+run_continuous : HaveOneReading → (first : Placed) (rest : List Placed) (found : List Finding) → AreFindings None (first ∷ rest) found → found ≡ [] → IsContinuous (views_in (first ∷ rest))
+run_continuous single first rest found (one _ _ _ why others h later) e =
     let parts : (why ≡ None) × (others ≡ []) = no_finding first why others e in
-    let here = found_none None first.view why h parts.0 in
-    let more = behind_sound first.view here.1.0 rest others here.1.1.0 later parts.1 in
+    let here = found_none single None first.view why h parts.0 in
+    let more = behind_sound single first.view here.1.0 rest others here.1.1.0 later parts.1 in
     record { some = λ no. cc; each = (here.0, more.0); follow = more.1 }
 
 none_more : (p : Placed) (why : Option Why) (rest : List Finding) → why ≡ None → rest ≡ [] → finding_at p why ++ rest ≡ []
@@ -90,8 +94,8 @@ none_continuous excludes (p ∷ ps) found (one _ _ _ why rest k later) h =
     (none_found None p.view why excludes k h.each.0 (λ next known. refl))
     (behind_none excludes p.view ps rest later h.each.1 h.follow)
 
-pub verdict_exact : Excludes → (verdict : Verdict) (ps : List Placed) → IsVerdict verdict ps → (IsTrue (says_continuous verdict) ↔ IsContinuous (views_in ps))
-verdict_exact excludes (Continuous start rate records samples) ps h =
-    ((λ says. subst (λ (qs : List Placed). IsContinuous (views_in qs)) (sym h.1.1.0) (run_continuous h.0 h.1.0 [] h.1.1.1.findings refl)), (λ is. refl))
-verdict_exact excludes (Broken first count) ps h =
+pub verdict_exact : HaveOneReading → Excludes → (verdict : Verdict) (ps : List Placed) → IsVerdict verdict ps → (IsTrue (says_continuous verdict) ↔ IsContinuous (views_in ps))
+verdict_exact single excludes (Continuous start rate records samples) ps h =
+    ((λ says. subst (λ (qs : List Placed). IsContinuous (views_in qs)) (sym h.1.1.0) (run_continuous single h.0 h.1.0 [] h.1.1.1.findings refl)), (λ is. refl))
+verdict_exact single excludes (Broken first count) ps h =
     ((λ says. cc), (λ is. let no : first ∷ h.0 ≡ [] = none_continuous excludes ps (first ∷ h.0) h.1.0 is in cc))

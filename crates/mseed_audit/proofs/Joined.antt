@@ -1,5 +1,5 @@
 -- The samples and leap seconds of records, with one more.
-use Rattle.std.proofs.Common.{◌≡◌, ℕ, ℤ, ◌+◌, ◌<◌, List, [], ◌∷◌, ◌++◌, Option, length, refl, sym, ap, subst, ◌∙◌, append_assoc, append-nil, arith}
+use Rattle.std.proofs.Common.{◌≡◌, ℕ, ℤ, ◌+◌, List, [], ◌∷◌, ◌++◌, Option, length, refl, sym, ap, subst, ◌∙◌, append_assoc, append-nil, arith}
 use Rattle.std.proofs.lemmas.List.{length-append}
 use Rattle.mseed_time.specs.declared.order.Order.{Order}
 use Rattle.mseed_time.specs.declared.outcome.LeapStep.{LeapStep}
@@ -9,7 +9,6 @@ use Rattle.mseed_steim.specs.declared.form.Form.{Form}
 use Rattle.mseed_steim.specs.declared.form.Form.TheVariants.{Integers, Frames}
 use Rattle.mseed_steim.specs.Samples.{IsPayloadReading}
 use Rattle.mseed_steim.specs.Reading.{count_of, IsWhole}
-use Rattle.mseed_audit.specs.Follows.{IsSound}
 use Rattle.mseed_audit.specs.Judging.{step_in}
 use Rattle.mseed_audit.specs.Series.{Trace, AreJoined, none, one, step_at, steps_from, HoldsAll}
 
@@ -18,11 +17,8 @@ counted (Integers width) order payload n samples h = h.0
 counted (Frames scheme) order payload n samples h = h.1.count
 
 -- a reading has as many samples as the record says
-pub count_is : (v : View) (samples : List ℤ) → IsWhole v samples → length samples ≡ count_of v
+count_is : (v : View) (samples : List ℤ) → IsWhole v samples → length samples ≡ count_of v
 count_is v samples h = counted h.0.form v.payload_order _ (count_of v) samples h.0.spelled
-
-pub sound_some : (v : View) → IsSound v → 0 < count_of v
-sound_some v sound = sound.whole.0.some
 
 joined_more : (vs : List View) (samples : List ℤ) (v : View) (more : List ℤ) → AreJoined vs samples → IsWhole v more → AreJoined (vs ++ v ∷ []) (samples ++ more)
 joined_more [] [] v more none h = subst (λ (xs : List ℤ). AreJoined (v ∷ []) xs) (append-nil more) (one v [] more [] h none)

@@ -5,7 +5,7 @@ use Rattle.mseed_time.specs.Join.{Joins}
 use Rattle.mseed_time.specs.Rate.{Ratio, SameRate}
 use Rattle.mseed_record.specs.declared.frame.Leap.TheVariants.{Both}
 use Rattle.mseed_record.specs.View.{View, start_of, leap_of}
-use Rattle.mseed_steim.specs.Reading.{count_of, IsWhole}
+use Rattle.mseed_steim.specs.Reading.{count_of, IsReading, IsWhole}
 use Rattle.mseed_audit.specs.Judging.{known_rate, step_in}
 
 -- the times and rates of both are known, the rates are the same, the record before tells which leap second it
@@ -26,11 +26,12 @@ AllNeighbours R [] = ⊤
 AllNeighbours R (x ∷ []) = ⊤
 AllNeighbours R (x ∷ (y ∷ zs)) = R x y × AllNeighbours R (y ∷ zs)
 
--- the time and the rate are known, and the samples are a reading that ends on its constants; there's no other
+-- the time and the rate are known, and the samples are the one and only reading, which ends on its constants
 pub record IsSound (v : View) : Type 0 where
   pub timed : IsSome (known_rate v)
   pub samples : List ℤ
   pub whole : IsWhole v samples
+  pub only : (others : List ℤ) → IsReading v others → others ≡ samples
 
 -- the channel has records, each is sound, and each next one follows
 pub record IsContinuous (vs : List View) : Type 0 where

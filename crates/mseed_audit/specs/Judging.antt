@@ -33,7 +33,7 @@ rate_unless (Some fault) rate = None
 abbrev pub known_rate : View → Option Ratio
 known_rate v = rate_unless (time_fault_of v) (rate_in v)
 
--- the leap second at the record's end; with both flags nobody can say
+-- the leap second at the record's end; with both flags nobody can say, which is asked first
 abbrev pub step_in : Leap → Option LeapStep
 step_in NoLeap = None
 step_in Positive = Some Plus

@@ -26,7 +26,7 @@ pub record IsTail (t : Tail) (v : View) : Type 0 where
   pub multiplier : t.rate.multiplier ≡ multiplier_at v.order v.bytes
   pub leap : t.leap ≡ leap_of v.bytes
 
--- or that they aren't
+-- or nothing, where they aren't known
 abbrev pub IsTailOf : Option Tail → View → Type 0
 IsTailOf None v = known_rate v ≡ None
 IsTailOf (Some t) v = IsTail t v
@@ -82,6 +82,6 @@ pub record IsAuditOf (h : Held) (added : List Added) : Type 0 where
   pub number : h.added ≡ length added
   pub each : (key : List ℕ) → StandsAt (lookup (same_key key) h.channels) (records_of key added)
 
--- a record with samples of the channel with this key was added
+-- something is kept of the channel with this key: of an audit of some records, one of them is of the channel
 abbrev pub HoldsKey : Held → List ℕ → Type 0
 HoldsKey h key = IsSome (lookup (same_key key) h.channels)

@@ -90,7 +90,7 @@ abbrev pub verdict_line : List ℕ → Verdict → List ℕ
 verdict_line key (Continuous start rate records samples) = name_text key ++ continuous_words start (ratio_of rate) records samples
 verdict_line key (Broken first count) = name_text key ++ broken_words first count
 
--- the last line
+-- how many records and channels there are
 abbrev pub total_line : ℕ → ℕ → List ℕ
 total_line records channels =
     codes "records " ++ decimal records ++ codes " channels " ++ decimal channels ++ codes "\n"

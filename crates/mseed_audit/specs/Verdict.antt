@@ -24,7 +24,7 @@ pub data AreFindings : Option View → List Placed → List Finding → Type 0 w
   one : (before : Option View) (p : Placed) (ps : List Placed) (why : Option Why) (found : List Finding) → IsFound before p.view why
       → AreFindings (Some p.view) ps found → AreFindings before (p ∷ ps) (finding_at p why ++ found)
 
--- a channel without a finding begins and counts so
+-- a channel without a finding: its first record's start and rate, and its counts
 pub record IsRun (first : Placed) (rest : List Placed) (start : ℤ) (factor multiplier : ℤ) (records samples : ℕ) : Type 0 where
   pub findings : AreFindings None (first ∷ rest) []
   pub start_is : start ≡ start_of first.view

@@ -86,7 +86,7 @@ impl<A: Allocator + Copy> Audit<A> {
     }
 
     /// Adds a record that begins at an offset of the input, and judges it within its channel. A record
-    /// without samples is silent: it is counted, and judged not.
+    /// without samples is silent: it is counted, and not judged.
     ///
     /// # Errors
     ///

@@ -1,4 +1,4 @@
-use Rattle.std.proofs.Common.{◌≡◌, ◌++◌, ◌∷◌, [], length, List, map, take, true, false, sym, ap, refl, arith}
+use Rattle.std.proofs.Common.{◌≡◌, ◌++◌, ◌∷◌, [], List, map, take, true, false, sym, ap, refl, arith}
 use Rattle.std.specs.List.{filter}
 use Rattle.std.proofs.lemmas.List.{take_all}
 use Rattle.mseed_record.specs.declared.view.RecordView.{RecordView}
@@ -39,4 +39,4 @@ returns-clause-holds g c =
     let n = c.loop-view.view-index in
     let all : take n rs ≡ rs = take_all n rs (omega (arith, c.loop-view-test.false)) in
     holds_same key c.args.start c.args.rate (filter (is_of key) (map view_of (take n rs))) _ c.loop-view.series c.loop-view.series
-        (ap (λ (qs : List RecordView). filter (is_of key) (map view_of qs)) (sym all)) refl c.loop-view.invariant
+    (ap (λ (qs : List RecordView). filter (is_of key) (map view_of qs)) (sym all)) refl c.loop-view.invariant

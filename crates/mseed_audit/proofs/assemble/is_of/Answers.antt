@@ -1,14 +1,14 @@
-use Rattle.std.proofs.Common.{◌≡◌, ◌<◌, ℕ, ◌&&◌, nat_lt, nat_eq, true, ap, refl, sym, ◌∙◌, rules, arith}
+use Rattle.std.proofs.Common.{◌≡◌, ℕ, ◌&&◌, nat_lt, nat_eq, true, ap, sym, ◌∙◌, rules, arith}
 use Rattle.std.specs.Ordering.{nat_cmp, is_eq}
 use Rattle.std.specs.Cmp.Lexicographic.{lists_ties}
 use Rattle.std.proofs.lemmas.Bool.Decides.{nat_tests}
 use Rattle.mseed_record.specs.Header.{key_at}
 use Rattle.mseed_record.specs.Viewing.{view_of}
 use Rattle.mseed_steim.specs.Reading.{count_of}
-use Rattle.mseed_audit.specs.Channels.{is_of, same_key}
+use Rattle.mseed_audit.specs.Channels.{same_key}
 use Rattle.mseed_audit.proofs.assemble.is_of.Goals as goal
 
-pub tied : (m n : ℕ) → nat_eq m n ≡ is_eq (nat_cmp m n)
+tied : (m n : ℕ) → nat_eq m n ≡ is_eq (nat_cmp m n)
 tied m n = grind (arith, nat_tests)
 
 pub returns-then-samples-gt0 : goal.returns-then-samples-gt0

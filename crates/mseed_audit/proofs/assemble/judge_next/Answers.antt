@@ -1,6 +1,3 @@
-use Rattle.std.proofs.Common.{◌≡◌, ◌+◌, ℕ, IfSome, subst, sym, rules, arith}
-use Rattle.mseed_audit.specs.Standing.{IsWithin}
-use Rattle.mseed_audit.proofs.Counts.{within_more}
 use Rattle.mseed_audit.proofs.assemble.judge_next.Goals as goal
 
 pub returns-in-Some-clause-within : goal.returns-in-Some-clause-within

@@ -1,4 +1,4 @@
-use Rattle.std.proofs.Common.{◌≡◌, ℕ, ◌<◌, ◌≤◌, length, rules}
+use Rattle.std.proofs.Common.{rules}
 use Rattle.mseed_time.specs.declared.outcome.LeapStep.TheVariants.{Plus}
 use Rattle.mseed_audit.specs.Series.{IsBadStep}
 use Rattle.mseed_audit.proofs.Places.{bad_step, bad_steps, more_steps}

@@ -1,5 +1,5 @@
-use Rattle.std.proofs.Common.{◌≡◌, ℕ, ◌++◌, List, take, drop}
-use Rattle.mseed_audit.specs.Series.{AreSteps, AreStepsFrom}
+use Rattle.std.proofs.Common.{◌≡◌, take}
+use Rattle.mseed_audit.specs.Series.{AreSteps}
 use Rattle.mseed_audit.proofs.Places.{place_of}
 use Rattle.mseed_audit.proofs.trace.first_bad.Given as goal
 
