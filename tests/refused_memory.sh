@@ -1,17 +1,25 @@
 #!/bin/bash
 # Refuses each of the program's requests for memory in turn: each such run says `mseed: no memory` on its
 # standard error and ends with status 2. An audit writes nothing then, and a listing a front of its text.
-# MSEED names the program.
+# An audit of many records asks for memory as often as one of four. MSEED names the program.
 . "$(dirname "$0")/judge.bash"
 
 cc -shared -fPIC -O1 -o refuse.so "$root/tests/refuse_memory.c" -ldl || exit 2
 
-# attempt N WORD..: a run whose Nth request is refused
+cp "$root/samples/two_records.mseed" two
+# The first of them, and the same of another channel, over and over.
+python3 - <<'PYTHON' || exit 2
+with open("two", "rb") as file:
+    record = file.read(128)
+both = record + record.replace(b"BHZ", b"BHN")
+for name, times in [("four", 2), ("many", 5000)]:
+    with open(name, "wb") as file:
+        file.write(both * times)
+PYTHON
+
+# attempt N INPUT WORD..: a run whose Nth request is refused
 attempt() {
-    local request=$1
-    shift
-    REFUSE=$request LD_PRELOAD=$folder/refuse.so "$program" "$@" \
-        < "$root/samples/two_records.mseed" > output 2> errors
+    REFUSE=$1 LD_PRELOAD=$folder/refuse.so "$program" "${@:3}" < "$2" > output 2> errors
     status=$?
 }
 
@@ -31,26 +39,31 @@ is_as_without() {
     [ "$status" = "$1" ] && cmp -s output text && cmp -s errors lines
 }
 
-# refuse STATUS JUDGE WORD..: each request in turn, until there is none to refuse; then all is as without
+# refuse STATUS JUDGE INPUT WORD..: each request in turn, until there is none to refuse; then all is as
+# without. How many runs that took is left in `request`.
 refuse() {
-    local wanted=$1 judged=$2 request
-    shift 2
-    attempt 0 "$@"
+    local wanted=$1 judged=$2 input=$3 words="${*:3}"
+    shift 3
+    attempt 0 "$input" "$@"
     cp output text
     cp errors lines
-    judge "$* with all its memory" is_as_without "$wanted"
+    judge "$words with all its memory" is_as_without "$wanted"
     for ((request = 1; request <= 1000; request++)); do
-        attempt "$request" "$@"
+        attempt "$request" "$input" "$@"
         [ "$status" = "$wanted" ] && break
-        judge "$* with request $request refused" "$judged"
+        judge "$words with request $request refused" "$judged"
     done
-    judge "$* with no request refused at $request" is_as_without "$wanted"
-    [ "$request" -gt 5 ] || { echo "FAILED $*: few requests"; failed=$((failed + 1)); }
+    judge "$words with no request refused at $request" is_as_without "$wanted"
+    [ "$request" -gt 5 ] || { echo "FAILED $words: few requests"; failed=$((failed + 1)); }
 }
 
-refuse 0 wrote_nothing audit
-refuse 0 wrote_a_front show
-refuse 3 wrote_nothing show --bogus
-refuse 3 wrote_nothing show show
+refuse 0 wrote_nothing two audit
+refuse 0 wrote_a_front two show
+refuse 3 wrote_nothing two show --bogus
+refuse 3 wrote_nothing two show show
+refuse 1 wrote_nothing four audit
+of_four=$request
+refuse 1 wrote_nothing many audit
+judge "as many requests for many records as for four" [ "$request" = "$of_four" ]
 
 report

@@ -1,5 +1,6 @@
 //! Runs over small devices: what is written for which input, byte for byte.
 
+mod auditing;
 mod listing;
 
 use crate::command::{carry_out, run};
