@@ -1,5 +1,6 @@
 //! Runs over small devices: what is written for which input, byte for byte.
 
+mod assembling;
 mod auditing;
 mod listing;
 
