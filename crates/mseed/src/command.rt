@@ -29,8 +29,9 @@ use std::alloc::{Allocator, Global};
 /// `audit` writes the audit of the records of `input` to `output`: status 0 where every channel is
 /// continuous, 1 where one is broken, and 2 where the input ended with a fault, which the text names, or
 /// where the text couldn't be written whole. `show` lists the records: status 0, or 2 where the input ended
-/// with a fault, which the listing names, or where it couldn't be written whole. Other words are a bad command line: status 3.
-/// Where there was no memory for the words, status 2. The input is one of which nothing was read yet.
+/// with a fault, which the listing names, or where it couldn't be written whole. Other words are a bad
+/// command line: status 3. Where there was no memory for the words, status 2. The input is one of which
+/// nothing was read yet.
 pub fn run<R: Source, W: Sink, E: Sink>(
     alloc: Global,
     words: &[&str],
