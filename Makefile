@@ -1,11 +1,12 @@
 # make audit            proves and builds the program, and audits a sample archive
 # make audit FILE=..    the same for an archive of yours
 # make test             the whole gate, then every test script
+# make bench            the program side by side with libmseed (wants libmseed-dev)
 
 MSEED := crates/mseed/out/mseed
 FILE ?= samples/two_records.mseed
 
-.PHONY: audit build test
+.PHONY: audit bench build test
 
 audit: build
 	@$(MSEED) audit < "$(FILE)"
@@ -19,3 +20,6 @@ build:
 
 test:
 	@bash tests/run.sh
+
+bench: build
+	@python3 bench/bench.py $(MSEED)
