@@ -13,7 +13,7 @@ use Rattle.mseed_record.specs.Record.{exponent_at, IsRecordBy, IsRecord}
 use Rattle.mseed_record.specs.Scan.{is_version3, at_offset, DecidesFrom, Decides, version3, short, no_data, no_order, by_chain}
 use Rattle.mseed_record.proofs.Framed.{Stands, number_front, fixed_front, order_front, passes_above}
 
-none_at : (order : Order) (front : List ℕ) (low o : ℕ) → low ≤ o → 0 < low → o + 4 ≤ length front → (type_at order front o ≡ 1000 → ⊥) → at_offset order front low o ≡ None
+pub none_at : (order : Order) (front : List ℕ) (low o : ℕ) → low ≤ o → 0 < low → o + 4 ≤ length front → (type_at order front o ≡ 1000 → ⊥) → at_offset order front low o ≡ None
 none_at order front low o h z l t = grind (arith, nat_tests, t)
 
 some_at : (order : Order) (front : List ℕ) (low o k : ℕ) → low ≤ o → 0 < low → Stands order front o k → at_offset order front low o ≡ Some (Record k)
@@ -33,7 +33,7 @@ decided order front k low o (q ∷ os) last h z w l p s =
     (p.0, none, subst (λ (n : ℕ). DecidesFrom order front (o + 4) n os (Record k)) next later)
 
 -- the steps along a chain decide one thing
-one_from : (order : Order) (front : List ℕ) (low o : ℕ) (os ps : List ℕ) (a c : Scan) → DecidesFrom order front low o os a → DecidesFrom order front low o ps c → a ≡ c
+pub one_from : (order : Order) (front : List ℕ) (low o : ℕ) (os ps : List ℕ) (a c : Scan) → DecidesFrom order front low o os a → DecidesFrom order front low o ps c → a ≡ c
 one_from order front low o [] [] a c d e = cc
 one_from order front low o [] (p ∷ ps) a c d e = cc (d, e.1)
 one_from order front low o (p ∷ os) [] a c d e = cc (d.1, e)

@@ -66,6 +66,12 @@ passes_above order b o (q ∷ os) last h =
     let later = passes_above order b (next_at order b o) os last h.3 in
     omega (arith, h.2)
 
+-- the fixed section lies within a record, and its first blockette 1000 lies behind it
+pub record_room : (order : Order) (os : List ℕ) (last : ℕ) (b : List ℕ) → IsRecordBy order os last b → (48 ≤ last) × (last + 8 ≤ length b)
+record_room order os last b r =
+    let on = passes_above order b (blockette_at order b) os last r.chain.others in
+    (omega (arith, on, r.chain.low), omega (arith, r.inside, r.size))
+
 -- the same blockettes stand in the first k bytes
 pub passes_front : (order : Order) (b : List ℕ) (k o : ℕ) (os : List ℕ) (last : ℕ) → last + 8 ≤ k → Passes order b o os last → Passes order (take k b) o os last
 passes_front order b k o [] last w h = h

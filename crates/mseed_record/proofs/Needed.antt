@@ -19,7 +19,7 @@ use Rattle.mseed_record.specs.Scan.{at_offset, DecidesFrom, Decides, version3, s
 use Rattle.mseed_record.proofs.Passing.{none_within}
 use Rattle.mseed_record.proofs.Framed.{number_front, fixed_front, order_front, other_at}
 
-number_more : (order : Order) (front more : List ℕ) (o : ℕ) → o + 2 ≤ length front → number_at order 2 o (front ++ more) ≡ number_at order 2 o front
+pub number_more : (order : Order) (front more : List ℕ) (o : ℕ) → o + 2 ≤ length front → number_at order 2 o (front ++ more) ≡ number_at order 2 o front
 number_more order front more o h =
     sym (number_front order (front ++ more) o (length front) h) ∙ ap (λ (b : List ℕ). number_at order 2 o b) (take-append_seam front more)
 

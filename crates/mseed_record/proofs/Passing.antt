@@ -5,12 +5,7 @@ use Rattle.mseed_time.specs.declared.order.Order.{Order}
 use Rattle.mseed_record.specs.declared.frame.Scan.{Scan}
 use Rattle.mseed_record.specs.Chain.{next_at}
 use Rattle.mseed_record.specs.Scan.{at_offset, DecidesFrom}
-
--- the blockettes os are passed from o on, and q is the next offset, which may not be below `least`
-abbrev pub PassesTo : Order → List ℕ → ℕ → ℕ → List ℕ → ℕ → ℕ → Type 0
-PassesTo order front low o [] least q = (low ≡ least) × (o ≡ q)
-PassesTo order front low o (p ∷ os) least q =
-    (p ≡ o) × (at_offset order front low o ≡ None) × PassesTo order front (o + 4) (next_at order front o) os least q
+use Rattle.mseed_record.specs.Framer.{PassesTo}
 
 pub none_within : (order : Order) (front : List ℕ) (low o : ℕ) → at_offset order front low o ≡ None → (low ≤ o) × (o + 4 ≤ length front)
 none_within order front low o e = grind (arith, nat_tests)

@@ -10,7 +10,7 @@ use Rattle.mseed_record.specs.Chain.{type_at, next_at, Passes}
 use Rattle.mseed_record.specs.Record.{IsRecordBy, exponent_at}
 use Rattle.mseed_record.specs.Scan.{is_version3, at_1000, at_offset, DecidesFrom, Decides, version3, no_data, no_order, by_chain, HasNoRecord}
 use Rattle.mseed_record.proofs.Fronts.{Alike, alike_cut, byte_alike, number_alike, fixed_alike, order_alike}
-use Rattle.mseed_record.proofs.Framed.{passes_above, other_at}
+use Rattle.mseed_record.proofs.Framed.{passes_above, other_at, record_room}
 use Rattle.mseed_record.proofs.Passing.{none_within}
 
 -- the first byte of miniSEED 3 isn't one of a sequence number
@@ -54,12 +54,6 @@ chain_goes_on order b front low o (p ∷ passed) (q ∷ os) last f alike positiv
     let rest : Passes order b (next_at order front o) os last = subst (λ (n : ℕ). Passes order b n os last) same there.3 in
     let on_there : o + 4 ≤ next_at order front o = subst (λ (n : ℕ). o + 4 ≤ n) same there.2 in
     chain_goes_on order b front (o + 4) (next_at order front o) passed os last f alike (omega arith) on_there room found low_enough high inside refused.2 rest
-
--- the fixed section lies within a record, and its first blockette 1000 lies behind it
-record_room : (order : Order) (os : List ℕ) (last : ℕ) (b : List ℕ) → IsRecordBy order os last b → (48 ≤ last) × (last + 8 ≤ length b)
-record_room order os last b r =
-    let on = passes_above order b (blockette_at order b) os last r.chain.others in
-    (omega (arith, on, r.chain.low), omega (arith, r.inside, r.size))
 
 refused_by : (front b : List ℕ) (f : FrameFault) (order : Order) (os : List ℕ) (last : ℕ) → Alike b front → IsRecordBy order os last b → Decides front (Not f) → ⊥
 refused_by front b f order os last alike r (version3 is) =

@@ -6,7 +6,7 @@ use Rattle.mseed_record.specs.declared.chain.Blockettes.{Blockettes}
 use Rattle.mseed_record.specs.Header.{blockette_at}
 use Rattle.mseed_record.specs.Chain.{type_at, next_at, Passes, Rest, IsWholeChain}
 use Rattle.mseed_record.specs.Record.{IsRecordBy}
-use Rattle.mseed_record.specs.Found.{IsFound}
+use Rattle.mseed_record.specs.Blockettes.{AreBlockettes}
 use Rattle.mseed_record.specs.View.{View, IsViewBy, IsView, word_order_at, microseconds_at}
 
 -- two chains to a first 1000 are one
@@ -30,7 +30,7 @@ rest_once order b o (p ∷ ps) (q ∷ qs) h k =
 
 -- the blockettes of a record, as they were found
 abbrev pub Found : Order → List ℕ → Blockettes → Type 0
-Found order b found = (os : List ℕ) × ((last : ℕ) × ((rest : List ℕ) × (IsRecordBy order os last b × IsWholeChain order b os last rest × IsFound order b (os ++ last ∷ rest) found × (found.first_1000 ≡ Some last))))
+Found order b found = (os : List ℕ) × ((last : ℕ) × ((rest : List ℕ) × (IsRecordBy order os last b × IsWholeChain order b os last rest × AreBlockettes order b (os ++ last ∷ rest) found × (found.first_1000 ≡ Some last))))
 
 -- the first 1000 has its eight bytes in the record
 pub found_within : (order : Order) (b : List ℕ) (found : Blockettes) (o : ℕ) → Found order b found → found.first_1000 ≡ Some o → o + 8 ≤ length b

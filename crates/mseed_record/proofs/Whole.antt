@@ -9,7 +9,7 @@ use Rattle.mseed_record.specs.Chain.{type_at, next_at, head_of, goes_on, Passes,
 use Rattle.mseed_record.specs.declared.chain.Blockettes.{Blockettes}
 use Rattle.mseed_record.specs.Header.{blockette_at}
 use Rattle.mseed_record.specs.Record.{IsRecordBy}
-use Rattle.mseed_record.specs.Found.{IsFound}
+use Rattle.mseed_record.specs.Blockettes.{AreBlockettes}
 use Rattle.mseed_record.proofs.Framed.{passes_above}
 
 -- the chain goes on from o through these blockettes to p
@@ -72,10 +72,10 @@ has_type_more order kind b vs o =
     ap (λ (x : Bool). has_type order kind b vs || x) (sym (or_false (type_at order b o == kind))) ∙ sym (list_any-append (λ p. type_at order b p == kind) vs (o ∷ []))
 
 -- what counts, with one more blockette
-pub found_more : (order : Order) (b : List ℕ) (vs : List ℕ) (o : ℕ) (kind : ℕ) (found more : Blockettes) → IsFound order b vs found → kind ≡ type_at order b o
+pub found_more : (order : Order) (b : List ℕ) (vs : List ℕ) (o : ℕ) (kind : ℕ) (found more : Blockettes) → AreBlockettes order b vs found → kind ≡ type_at order b o
     → more.first_1000 ≡ option_or found.first_1000 (if kind == 1000 then Some o else None)
     → more.first_1001 ≡ option_or found.first_1001 (if kind == 1001 then Some o else None)
-    → more.has_100 ≡ (found.has_100 || (kind == 100)) → IsFound order b (vs ++ o ∷ []) more
+    → more.has_100 ≡ (found.has_100 || (kind == 100)) → AreBlockettes order b (vs ++ o ∷ []) more
 found_more order b vs o kind found more h k first second third = record {
   first_1000 = first ∙ cc (h.first_1000, k) ∙ first_of_more order 1000 b vs o;
   first_1001 = second ∙ cc (h.first_1001, k) ∙ first_of_more order 1001 b vs o;

@@ -3,6 +3,7 @@ pub mod Order
 pub mod Chain
 pub mod Record
 pub mod Scan
+pub mod Framer
 pub mod View
-pub mod Found
+pub mod Blockettes
 pub mod Viewing

@@ -52,6 +52,10 @@ pub data Decides (front : List ℕ) : Scan → Type 0 where
 abbrev pub HasNoRecord : List ℕ → Type 0
 HasNoRecord front = (more : List ℕ) (k : ℕ) → IsRecord (take k (front ++ more)) → ⊥
 
+-- no record that may come of it is shorter than k
+abbrev pub HasNoShorter : List ℕ → ℕ → Type 0
+HasNoShorter front k = (more : List ℕ) (n : ℕ) → IsRecord (take n (front ++ more)) → k ≤ length (take n (front ++ more))
+
 -- some bytes that may come make a record of it
 abbrev pub HasRecord : List ℕ → Type 0
 HasRecord front = (more : List ℕ) × IsRecord (front ++ more)

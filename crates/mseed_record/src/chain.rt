@@ -4,7 +4,7 @@ ghost use Rattle.std.specs.Option.{option_or};
 ghost use Rattle.mseed_record.specs.Header.{blockette_at};
 ghost use Rattle.mseed_record.specs.Chain.{IsWholeChain, type_at, next_at, head_of, goes_on, first_of, has_type};
 ghost use Rattle.mseed_record.specs.Record.{IsRecordBy};
-ghost use Rattle.mseed_record.specs.Found.{IsFound};
+ghost use Rattle.mseed_record.specs.Blockettes.{AreBlockettes};
 
 use mseed_time::Order;
 
@@ -19,7 +19,7 @@ pub(crate) struct Blockettes {
 /// Goes along the whole chain of a record, once.
 pub(crate) fn blockettes_of(bytes: &[u8], order: Order) -> Blockettes
     requires { (os : List ℕ) × ((last : ℕ) × IsRecordBy order os last bytes.now) }
-    ensures found { (os : List ℕ) × ((last : ℕ) × ((rest : List ℕ) × (IsRecordBy order os last bytes.now × IsWholeChain order bytes.now os last rest × IsFound order bytes.now (os ++ last ∷ rest) result × (result.first_1000 ≡ Some last)))) }
+    ensures found { (os : List ℕ) × ((last : ℕ) × ((rest : List ℕ) × (IsRecordBy order os last bytes.now × IsWholeChain order bytes.now os last rest × AreBlockettes order bytes.now (os ++ last ∷ rest) result × (result.first_1000 ≡ Some last)))) }
     ensures within { IfSome result.first_1001 (λ o. o + 8 ≤ length bytes.now) }
 {
     let mut found = Blockettes {

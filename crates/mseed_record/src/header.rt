@@ -1,6 +1,7 @@
 //! Fields of a header, read where they stand.
 ghost use Rattle.std.specs.Prelude.{◌≡◌, ◌≤◌, ◌+◌, ◌<◌, IfOk, length, slice_index};
 ghost use Rattle.mseed_record.specs.Header.{time_at, has_fixed_bytes, is_sequence_byte, is_quality, is_blank};
+ghost use Rattle.mseed_record.specs.Order.{order_of, is_dated};
 ghost use Rattle.mseed_time.specs.Fields.{number_at};
 ghost use Rattle.mseed_time.specs.Btime.{first_fault};
 ghost use Rattle.mseed_time.specs.Parts.{parts_of};
@@ -10,6 +11,9 @@ ghost use Rattle.std.specs.Result.{result_err};
 
 use byteorder::{BigEndian, ByteOrder, LittleEndian};
 use mseed_time::{Btime, Order, TimeFault};
+
+/// The bytes of the fixed section of a header.
+pub(crate) const HEADER: usize = 48;
 
 /// The start's BTIME.
 pub(crate) fn read_time(bytes: &[u8], order: Order) -> Result<Btime, TimeFault>
@@ -92,4 +96,27 @@ fn is_blank(byte: u8) -> bool
     ensures { result ≡ is_blank byte }
 {
     byte == b' ' || byte == 0
+}
+
+/// The byte order of a header.
+pub(crate) fn order_of(front: &[u8]) -> Option<Order>
+    requires { 48 ≤ length front.now }
+    ensures { result ≡ order_of front.now }
+{
+    if is_dated(front, Order::Big) {
+        Some(Order::Big)
+    } else if is_dated(front, Order::Little) {
+        Some(Order::Little)
+    } else {
+        None
+    }
+}
+
+/// Whether the start has a year and a day in this order.
+fn is_dated(front: &[u8], order: Order) -> bool
+    requires { 48 ≤ length front.now }
+    ensures { result ≡ is_dated order front.now }
+{
+    let (year, day) = (order.u16_at(front, 20), order.u16_at(front, 22));
+    (1900..=2100).contains(&year) && (1..=366).contains(&day)
 }

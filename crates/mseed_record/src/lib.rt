@@ -5,6 +5,7 @@
 mod chain;
 mod codes;
 mod frame;
+mod framer;
 mod framing;
 mod header;
 #[cfg(test)]
@@ -13,5 +14,6 @@ mod view;
 
 pub use codes::Codes;
 pub use frame::{DataOffset, FrameFault, Leap, Scan, ViewFault};
+pub use framer::Framer;
 pub use framing::scan;
 pub use view::RecordView;

@@ -13,8 +13,8 @@ ghost use Rattle.mseed_record.specs.Scan.{Decides, HasNoRecord, Needs};
 use crate::chain::blockettes_of;
 use crate::codes::{Codes, codes_at};
 use crate::frame::{DataOffset, Leap, Scan, ViewFault};
-use crate::framing::{HEADER, order_of, scan};
-use crate::header::{i8_at, i16_at, i32_at, read_time};
+use crate::framing::scan;
+use crate::header::{HEADER, i8_at, i16_at, i32_at, order_of, read_time};
 use mseed_time::{Micros, NoRate, Order, Rate, TimeFault};
 
 /// The activity flag that says that the time correction has been applied to the start.
@@ -69,6 +69,32 @@ impl<'a> RecordView<'a> {
             Scan::Need(k) => Err(ViewFault::Short(k)),
             Scan::Not(fault) => Err(ViewFault::Not(fault)),
             Scan::Record(k) => Ok(RecordView::of_record(&bytes[..k])),
+        }
+    }
+
+    /// The record that all of the bytes are. They aren't framed again.
+    pub fn of_record(bytes: &'a [u8]) -> RecordView<'a>
+        requires { IsRecord bytes.now }
+        ensures bytes { (view_of result).bytes ≡ bytes.now }
+        ensures view { IsView (view_of result) }
+        ensures only { (v : View) → IsView v → v.bytes ≡ bytes.now → v ≡ view_of result }
+    {
+        let order = match order_of(bytes) {
+            Some(order) => order,
+            None => unreachable!(),
+        };
+        let found = blockettes_of(bytes, order);
+        let offset = match found.first_1000 {
+            Some(offset) => offset,
+            None => unreachable!(),
+        };
+        RecordView {
+            bytes,
+            order,
+            encoding: bytes[offset + 4],
+            payload_order: word_order_at(bytes, offset),
+            microseconds: microseconds_at(bytes, found.first_1001),
+            has_rate_blockette: found.has_100,
         }
     }
 
@@ -188,31 +214,6 @@ impl<'a> RecordView<'a> {
         ensures { result ≡ (bit_at (activity_at (view_of self.now).bytes) bit == 1) }
     {
         (self.bytes[36] >> bit) & 1 == 1
-    }
-
-    /// A whole record.
-    fn of_record(bytes: &'a [u8]) -> RecordView<'a>
-        requires { IsRecord bytes.now }
-        ensures bytes { (view_of result).bytes ≡ bytes.now }
-        ensures view { IsView (view_of result) }
-    {
-        let order = match order_of(bytes) {
-            Some(order) => order,
-            None => unreachable!(),
-        };
-        let found = blockettes_of(bytes, order);
-        let offset = match found.first_1000 {
-            Some(offset) => offset,
-            None => unreachable!(),
-        };
-        RecordView {
-            bytes,
-            order,
-            encoding: bytes[offset + 4],
-            payload_order: word_order_at(bytes, offset),
-            microseconds: microseconds_at(bytes, found.first_1001),
-            has_rate_blockette: found.has_100,
-        }
     }
 }
 

@@ -11,7 +11,7 @@ use Rattle.mseed_stream.specs.Device.{Heard}
 use Rattle.mseed_stream.specs.Cutting.{told_from, moves_by, handed_by, IfEnds, IsCutFault, IsCleanEnd}
 use Rattle.mseed_stream.specs.declared.fault.StreamFault.{StreamFault}
 use Rattle.mseed_stream.specs.declared.fault.StreamFault.TheVariants.{Frame, Truncated, Read, Turns, Memory}
-use Rattle.mseed_stream.proofs.Stops.{record_long}
+use Rattle.mseed_record.proofs.Asked.{record_long}
 
 -- no front of a rest with an end is a record
 pub no_further : (rest : List ℕ) (e : End) → IsEndOf rest e → (k : ℕ) → k ≤ length rest → IsRecord (take k rest) → ⊥

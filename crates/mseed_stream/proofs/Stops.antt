@@ -1,123 +1,12 @@
 -- Where the bytes of a record are looked at: no record ends before the framing steps have what they ask for.
-use Rattle.std.proofs.Common.{◌≡◌, ◌≢◌, ℕ, suc, ◌+◌, ◌^◌, ◌<◌, ◌≤◌, ◌++◌, List, [], ◌∷◌, length, take, drop, get_or, Some, sym, ap, subst, ◌∙◌, arith, ⊎_elim, length-append}
-use Rattle.std.proofs.lemmas.Bool.{cases_lt}
-use Rattle.std.proofs.lemmas.Bool.Decides.{nat_tests}
+use Rattle.std.proofs.Common.{◌≡◌, ℕ, ◌≤◌, ◌++◌, List, length, take, drop, sym, subst, arith, length-append}
 use Rattle.std.proofs.lemmas.List.{take-append-le, take-append-drop, length-take-le, take_all}
-use Rattle.std.proofs.Math.Nat.{pow-le-pow_right}
 use Rattle.std.proofs.Math.Seq.{take-length}
-use Rattle.mseed_time.specs.declared.order.Order.{Order}
-use Rattle.mseed_time.specs.declared.order.Order.TheVariants.{Big, Little}
-use Rattle.mseed_time.specs.Fields.{number_at}
 use Rattle.mseed_record.specs.declared.frame.Scan.TheVariants.{Need}
-use Rattle.mseed_record.specs.Header.{blockette_at}
-use Rattle.mseed_record.specs.Chain.{type_at, next_at, Passes}
-use Rattle.mseed_record.specs.Record.{exponent_at, IsRecordBy, IsRecord}
-use Rattle.mseed_record.specs.Scan.{at_offset, DecidesFrom, Decides, short, by_chain, Needs, header, blockette, exponent, record_end}
-use Rattle.mseed_record.proofs.Passing.{none_within}
-use Rattle.mseed_record.proofs.Framed.{passes_above, other_at}
-use Rattle.mseed_record.proofs.Fronts.{Alike, alike_cut, byte_alike, number_alike, order_alike}
+use Rattle.mseed_record.specs.Record.{IsRecord}
+use Rattle.mseed_record.specs.Scan.{Decides}
+use Rattle.mseed_record.proofs.Asked.{asked, record_long}
 use Rattle.mseed_stream.specs.Cutting.{IsStop, at_start, asked_for}
-
--- bytes are asked for behind those that are there
-pub needs_more : (b : List ℕ) (n : ℕ) → Needs b n → length b < n
-needs_more b n (header s) = omega arith
-needs_more b n (blockette order os last d p i s) = s
-needs_more b n (exponent order os last d p t i s) = s
-needs_more b n (record_end k s h) = s
-
--- what is asked for at an offset
-data Asks (order : Order) (front : List ℕ) (o n : ℕ) : Type 0 where
-  head : n ≡ o + 4 → Asks order front o n
-  rest : n ≡ o + 8 → Asks order front o n
-  whole : type_at order front o ≡ 1000 → o + 8 ≤ length front → exponent_at front o ≤ 20 → n ≡ 2 ^ exponent_at front o → Asks order front o n
-
-asks_four : (order : Order) (front : List ℕ) (low o n : ℕ) → at_offset order front low o ≡ Some (Need n) → length front < o + 4 → n ≡ o + 4
-asks_four order front low o n e s = grind (arith, nat_tests, e, s)
-
-asks_eight : (order : Order) (front : List ℕ) (low o n : ℕ) → at_offset order front low o ≡ Some (Need n) → o + 4 ≤ length front → length front < o + 8 → n ≡ o + 8
-asks_eight order front low o n e l s = grind (arith, nat_tests, e, l, s)
-
-asks_type : (order : Order) (front : List ℕ) (low o n : ℕ) → at_offset order front low o ≡ Some (Need n) → o + 4 ≤ length front → type_at order front o ≡ 1000
-asks_type order front low o n e l = grind (arith, nat_tests, e, l)
-
-asks_most : (order : Order) (front : List ℕ) (low o n : ℕ) → at_offset order front low o ≡ Some (Need n) → o + 8 ≤ length front → exponent_at front o ≤ 20
-asks_most order front low o n e l = grind (arith, nat_tests, e, l)
-
-asks_whole : (order : Order) (front : List ℕ) (low o n : ℕ) → at_offset order front low o ≡ Some (Need n) → o + 8 ≤ length front → n ≡ 2 ^ exponent_at front o
-asks_whole order front low o n e l = grind (arith, nat_tests, e, l)
-
-asks : (order : Order) (front : List ℕ) (low o n : ℕ) → at_offset order front low o ≡ Some (Need n) → Asks order front o n
-asks order front low o n e = ⊎_elim
-    (λ (s : length front < o + 4). head (asks_four order front low o n e s))
-    (λ (l : o + 4 ≤ length front). ⊎_elim
-    (λ (s : length front < o + 8). rest (asks_eight order front low o n e l s))
-    (λ (g : o + 8 ≤ length front). whole (asks_type order front low o n e l) g (asks_most order front low o n e g) (asks_whole order front low o n e g))
-    (cases_lt (length front) (o + 8)))
-    (cases_lt (length front) (o + 4))
-
--- the first 1000 of a record, and the record's length
-record Ends (order : Order) (b : List ℕ) (last : ℕ) : Type 0 where
-  room : last + 8 ≤ length b
-  type : type_at order b last ≡ 1000
-  size : length b ≡ 2 ^ exponent_at b last
-
--- what is asked for at the first 1000 of a record
-asks_last : (order : Order) (b front : List ℕ) (o n : ℕ) → Alike b front → Ends order b o → Asks order front o n → n ≤ length b
-asks_last order b front o n alike ends (head e) = omega (arith, ends.room)
-asks_last order b front o n alike ends (rest e) = omega (arith, ends.room)
-asks_last order b front o n alike ends (whole t l m e) =
-    let there : o + 6 < length b = omega (arith, ends.room) in
-    let same : get_or b (o + 6) 0 ≡ get_or front (o + 6) 0 = byte_alike b front (o + 6) alike there (omega arith) in
-    let size : length b ≡ n = ends.size ∙ (ap (λ (k : ℕ). 2 ^ k) same ∙ sym e) in
-    omega (arith, size)
-
--- what is asked for at a blockette of a record before its first 1000
-asks_other : (order : Order) (b front : List ℕ) (o last n : ℕ) → Alike b front → Ends order b last → type_at order b o ≢ 1000 → o + 4 ≤ last → Asks order front o n → n ≤ length b
-asks_other order b front o last n alike ends other on (head e) = omega (arith, ends.room)
-asks_other order b front o last n alike ends other on (rest e) = omega (arith, ends.room)
-asks_other order b front o last n alike ends other on (whole t l m e) =
-    let same : type_at order b o ≡ type_at order front o = number_alike order 2 o b front alike (omega (arith, ends.room)) (omega arith) in
-    absurd (other (same ∙ t))
-
--- along one chain in the front and in a record that begins with it
-asks_along : (order : Order) (b front : List ℕ) (low o : ℕ) (passed os : List ℕ) (last n : ℕ) → Alike b front → Ends order b last → DecidesFrom order front low o passed (Need n) → Passes order b o os last → n ≤ length b
-asks_along order b front low o [] [] last n alike ends asked there =
-    asks_last order b front o n alike (subst (λ (k : ℕ). Ends order b k) (sym there) ends) (asks order front low o n asked)
-asks_along order b front low o [] (q ∷ os) last n alike ends asked there =
-    let further : next_at order b o ≤ last = passes_above order b (next_at order b o) os last there.3 in
-    asks_other order b front o last n alike ends there.1 (omega (arith, there.2)) (asks order front low o n asked)
-asks_along order b front low o (p ∷ passed) [] last n alike ends asked there =
-    let within : o + 4 ≤ length front = (none_within order front low o asked.1).1 in
-    let same : type_at order b o ≡ type_at order front o = number_alike order 2 o b front alike (omega (arith, there, ends.room)) (omega arith) in
-    absurd (other_at order front low o asked.1 (sym same ∙ (ap (λ (k : ℕ). type_at order b k) there ∙ ends.type)))
-asks_along order b front low o (p ∷ passed) (q ∷ os) last n alike ends asked there =
-    let within : o + 4 ≤ length front = (none_within order front low o asked.1).1 in
-    let further : next_at order b o ≤ last = passes_above order b (next_at order b o) os last there.3 in
-    let same : next_at order b o ≡ next_at order front o = number_alike order 2 (o + 2) b front alike (omega (arith, there.2, ends.room)) (omega arith) in
-    asks_along order b front (o + 4) (next_at order front o) passed os last n alike ends asked.2 (subst (λ (k : ℕ). Passes order b k os last) same there.3)
-
--- the header lies within a record, and its first 1000 too
-pub record_room : (order : Order) (os : List ℕ) (last : ℕ) (b : List ℕ) → IsRecordBy order os last b → (48 ≤ last) × (last + 8 ≤ length b)
-record_room order os last b r =
-    let on = passes_above order b (blockette_at order b) os last r.chain.others in
-    (omega (arith, on, r.chain.low), omega (arith, r.inside, r.size))
-
-asked_by : (front b : List ℕ) (n : ℕ) (order : Order) (os : List ℕ) (last : ℕ) → Alike b front → IsRecordBy order os last b → Decides front (Need n) → n ≤ length b
-asked_by front b n order os last alike r (short _ s) =
-    let room = record_room order os last b r in
-    omega (arith, room)
-asked_by front b n order os last alike r (by_chain found passed answer _ long _ dated asked) =
-    let room = record_room order os last b r in
-    let one : Some found ≡ Some order = sym dated ∙ (sym (order_alike b front alike (omega (arith, room)) long) ∙ r.order_is) in
-    let same : found ≡ order = grind arith in
-    let start : blockette_at order b ≡ blockette_at order front = number_alike order 2 46 b front alike (omega (arith, room)) (omega (arith, long)) in
-    let there : Passes order b (blockette_at order front) os last = subst (λ (k : ℕ). Passes order b k os last) start r.chain.others in
-    let steps : DecidesFrom order front 48 (blockette_at order front) passed (Need n) = subst (λ (chosen : Order). DecidesFrom chosen front 48 (blockette_at chosen front) passed (Need n)) same asked in
-    asks_along order b front 48 (blockette_at order front) passed os last n alike (record { room = room.1; type = r.chain.found; size = r.size }) steps there
-
--- a record has all the bytes that are asked for at its front
-pub asked : (front more : List ℕ) (n k : ℕ) → Decides front (Need n) → IsRecord (take k (front ++ more)) → n ≤ length (take k (front ++ more))
-asked front more n k d r = asked_by front (take k (front ++ more)) n r.0 r.1.0 r.1.1.0 (alike_cut front more k) r.1.1.1 d
 
 -- stops stay where more is told
 pub stop_grows : (b more : List ℕ) (n : ℕ) → IsStop b n → IsStop (b ++ more) n
@@ -130,35 +19,12 @@ stop_grows b more n (asked_for m _ s l d) =
 pub stop_next : (b : List ℕ) (n : ℕ) → IsStop b (length b) → Decides b (Need n) → IsStop b n
 stop_next b n s d = asked_for (length b) n s (omega arith) (subst (λ (xs : List ℕ). Decides xs (Need n)) (sym (take-length b)) d)
 
-pub record_long : (b : List ℕ) → IsRecord b → 48 ≤ length b
-record_long b r = omega (arith, record_room r.0 r.1.0 r.1.1.0 b r.1.1.1)
-
 -- no record ends before a stop
 pub stop_record : (b : List ℕ) (n k : ℕ) → IsStop b n → IsRecord (take k b) → n ≤ length (take k b)
 stop_record b _ k at_start r = omega (arith, record_long (take k b) r)
 stop_record b n k (asked_for m _ s l d) r =
     let whole_is : take m b ++ drop m b ≡ b = take-append-drop m b in
     subst (λ (xs : List ℕ). n ≤ length (take k xs)) whole_is (asked (take m b) (drop m b) n k d (subst (λ (xs : List ℕ). IsRecord (take k xs)) (sym whole_is) r))
-
-number_small : (order : Order) (b : List ℕ) (o : ℕ) → ((i : ℕ) → get_or b i 0 < 256) → number_at order 2 o b < 2 ^ 16
-number_small Big b o octets = omega (arith, octets o, octets (suc o))
-number_small Little b o octets = omega (arith, octets o, octets (suc o))
-
-asks_few : (order : Order) (front : List ℕ) (o n : ℕ) → o < 2 ^ 16 → Asks order front o n → n ≤ 2 ^ 20
-asks_few order front o n small (head e) = omega (arith, e)
-asks_few order front o n small (rest e) = omega (arith, e)
-asks_few order front o n small (whole t l m e) = subst (λ (k : ℕ). k ≤ 2 ^ 20) (sym e) (pow-le-pow_right {n = 2} (omega arith) m)
-
-few_along : (order : Order) (front : List ℕ) (low o : ℕ) (passed : List ℕ) (n : ℕ) → ((i : ℕ) → get_or front i 0 < 256) → o < 2 ^ 16 → DecidesFrom order front low o passed (Need n) → n ≤ 2 ^ 20
-few_along order front low o [] n octets small d = asks_few order front o n small (asks order front low o n d)
-few_along order front low o (p ∷ passed) n octets small d =
-    few_along order front (o + 4) (next_at order front o) passed n octets (number_small order front (o + 2) octets) d.2
-
--- no more bytes are asked for than the longest record has
-pub few_asked : (front : List ℕ) (n : ℕ) → ((i : ℕ) → get_or front i 0 < 256) → Decides front (Need n) → n ≤ 2 ^ 20
-few_asked front n octets (short _ s) = omega arith
-few_asked front n octets (by_chain order passed answer _ long _ dated d) =
-    few_along order front 48 (blockette_at order front) passed n octets (number_small order front 46 octets) d
 
 -- at a stop, what begins with a record is one
 pub record_whole : (b : List ℕ) (n k : ℕ) → IsStop b n → length b ≤ n → k ≤ length b → IsRecord (take k b) → IsRecord b × (n ≤ length b)

@@ -13,7 +13,7 @@ ghost use Rattle.mseed_stream.specs.Steps.{IsFillFault, IsAnswerAtEnd, IsCutting
 
 use crate::device::{Failed, Sink, Source};
 use crate::fault::StreamFault;
-use mseed_record::{RecordView, Scan, scan};
+use mseed_record::{Framer, RecordView, Scan};
 use std::alloc::{Allocator, Global};
 use std::marker::Model;
 
@@ -60,6 +60,8 @@ pub struct Cutter<A: Allocator = Global> {
     offset: u64,
     // How often the source was asked.
     reads: u64,
+    // How far framing has come along the bytes at its front.
+    framer: Framer,
     // The answer for ever, once there is one.
     ending: Option<Ending>,
 }
@@ -67,13 +69,14 @@ pub struct Cutter<A: Allocator = Global> {
 impl<A: Allocator> Model for Cutter<A> {
     ghost use Rattle.std.specs.Prelude.{◌≤◌, ◌+◌, ◌*◌, ◌^◌, take, if◌then◌else◌};
     ghost use Rattle.std.specs.Vec.{vec_len};
+    ghost use Rattle.mseed_record.specs.Framer.{IsFramerOf};
     ghost use Rattle.mseed_stream.specs.Standing.{Standing};
 
     ghost Value = { Standing };
 
     ghost view = { λ c. record { place = c.offset; front = take c.have c.held.items; is_lent = c.is_lent; room = vec_len c.held; reads = c.reads; answer = c.ending } };
 
-    ghost invariant = { λ c. (c.have ≤ vec_len c.held) × (vec_len c.held ≤ 2 ^ 20) × (c.reads ≤ 2 ^ 40) × (c.offset + (if c.is_lent then 0 else c.have) ≤ 2 ^ 20 * c.reads) };
+    ghost invariant = { λ c. (c.have ≤ vec_len c.held) × (vec_len c.held ≤ 2 ^ 20) × (c.reads ≤ 2 ^ 40) × (c.offset + (if c.is_lent then 0 else c.have) ≤ 2 ^ 20 * c.reads) × IsFramerOf c.framer (take c.have c.held.items) };
 }
 
 impl<A: Allocator> Cutter<A> {
@@ -96,6 +99,7 @@ impl<A: Allocator> Cutter<A> {
             is_lent: false,
             offset: 0,
             reads: 0,
+            framer: Framer::new(),
             ending: None,
         }
     }
@@ -152,7 +156,7 @@ impl<A: Allocator> Cutter<A> {
             × (c.answer ≡ kept_of result) × (self.old.room ≤ c.room))) }
     {
         match self.advance(source)? {
-            Some(length) => Ok(Some(record_of(&self.held, length))),
+            Some(length) => Ok(Some(RecordView::of_record(&self.held[..length]))),
             None => Ok(None),
         }
     }
@@ -196,6 +200,7 @@ impl<A: Allocator> Cutter<A> {
         if self.is_lent {
             self.have = 0;
             self.is_lent = false;
+            self.framer = Framer::new();
         }
     }
 
@@ -265,13 +270,29 @@ impl<A: Allocator> Cutter<A> {
         }
     }
 
-    /// What the bytes that are held begin.
-    fn look(&self) -> Scan
-        ensures decides { Decides self.now.front result }
-        ensures record { (k : ℕ) → result ≡ Record k → (k ≤ length self.now.front) × IsRecord (take k self.now.front) }
-        ensures needed { (k : ℕ) → result ≡ Need k → (length self.now.front < k) × (k ≤ 2 ^ 20) }
+    /// What the bytes that are held begin: framing goes on where it ended.
+    fn look(&mut self) -> Scan
+        ensures stays { self.new ≡ self.old }
+        ensures decides { Decides self.old.front result }
+        ensures record { (k : ℕ) → result ≡ Record k → (k ≤ length self.old.front) × IsRecord (take k self.old.front) }
+        ensures needed { (k : ℕ) → result ≡ Need k → (length self.old.front < k) × (k ≤ 2 ^ 20) }
     {
-        scan_within(&self.held[..self.have])
+        self.framer.look(&self.held[..self.have])
+    }
+
+    /// Makes the buffer at least so long.
+    fn make_room(&mut self, needed: usize) -> Result<(), StreamFault>
+        requires { needed ≤ 2 ^ 20 }
+        ensures ok { OnOk result (needed ≤ self.new.room) }
+        ensures err { IfErr result (λ e. (e ≡ StreamFault.Memory) × (self.old.room < needed) × (self.new ≡ self.old)) }
+        ensures stays { self.new ≡ record self.old { room = self.new.room } }
+        ensures longer { self.old.room ≤ self.new.room }
+        ensures small { self.new.room ≤ 2 ^ 20 }
+    {
+        if self.held.len() < needed && self.held.resize(needed, 0).is_err() {
+            return Err(StreamFault::Memory);
+        }
+        Ok(())
     }
 
     /// Reads until so many bytes are held, and answers whether the input ended before.
@@ -293,9 +314,7 @@ impl<A: Allocator> Cutter<A> {
         ensures asked { OnOk result ((R.heard source.old).calls < (R.heard source.new).calls) }
         ensures beside { R.beside source.new ≡ R.beside source.old }
     {
-        if self.held.len() < needed && self.held.resize(needed, 0).is_err() {
-            return Err(StreamFault::Memory);
-        }
+        self.make_room(needed)?;
         while self.have < needed {
             if self.reads == TURNS {
                 return Err(StreamFault::Turns(self.offset));
@@ -327,26 +346,4 @@ fn pull_between<R: Source>(
     ensures beside { R.beside source.new ≡ R.beside source.old }
 {
     source.pull(&mut held[begin..end])
-}
-
-/// [`scan`], which asks for no more bytes than the longest record has.
-fn scan_within(front: &[u8]) -> Scan
-    ensures decides { Decides front.now result }
-    ensures record { (k : ℕ) → result ≡ Record k → (k ≤ length front.now) × IsRecord (take k front.now) }
-    ensures needed { (k : ℕ) → result ≡ Need k → (length front.now < k) × (k ≤ 2 ^ 20) }
-{
-    scan(front)
-}
-
-/// The record that is the first so many bytes.
-fn record_of(held: &[u8], end: usize) -> RecordView<'_>
-    requires within { end ≤ length held.now }
-    requires record { IsRecord (take end held.now) }
-    ensures view { IsView (view_of result) }
-    ensures bytes { (view_of result).bytes ≡ take end held.now }
-{
-    match RecordView::of(&held[..end]) {
-        Ok(view) => view,
-        Err(_) => unreachable!(),
-    }
 }

@@ -1,7 +1,7 @@
 use Rattle.std.proofs.Common.{◌≤◌, ◌+◌, ◌++◌, ℕ, List, [], ◌∷◌, length, refl, sym, ◌∙◌, subst, arith}
 use Rattle.mseed_record.specs.Header.{blockette_at}
 use Rattle.mseed_record.specs.Chain.{type_at, next_at, head_of, goes_on}
-use Rattle.mseed_record.specs.Found.{IsFound}
+use Rattle.mseed_record.specs.Blockettes.{AreBlockettes}
 use Rattle.mseed_record.proofs.Whole.{Visits, goes_on_within, visits_more, visits_whole, passes_visits, first_1000, found_more, head_small, begins_within, if_some, if_none, within_more}
 use Rattle.mseed_record.proofs.chain.blockettes_of.Goals as goal
 
@@ -43,5 +43,5 @@ returns-in-None-clause-found c =
     let inside : last + 8 ≤ length b = subst (λ (n : ℕ). last + 8 ≤ n) (sym there.size) there.inside in
     let front = passes_visits order b (blockette_at order b) os last inside there.chain.others in
     let whole = visits_whole order b (blockette_at order b) os last visited.0 o front visited.1.0 ends in
-    let counts : IsFound order b (os ++ last ∷ whole.0) c.and-found.result = subst (λ (ps : List ℕ). IsFound order b ps c.and-found.result) whole.1.0 found in
+    let counts : AreBlockettes order b (os ++ last ∷ whole.0) c.and-found.result = subst (λ (ps : List ℕ). AreBlockettes order b ps c.and-found.result) whole.1.0 found in
     (os, (last, (whole.0, (there, record { chain = there.chain; others = whole.1.1 }, counts, counts.first_1000 ∙ first_1000 order b (blockette_at order b) os last whole.0 there.chain.others there.chain.found))))

@@ -21,7 +21,7 @@ returns-in-Record-clause-found g c _ =
     let inv = c.stops.invariant in
     let record_at = c.look.ensures.record c.in-Record.field-0 c.in-Record.is in
     let it = found c.stops.self.front c.stops.is_at_end c.in-Record.field-0 inv.stop record_at.0 record_at.1 in
-    (it.0, inv.end ∙ it.1)
+    (rw c.look.ensures.stays it.0, inv.end ∙ it.1)
 
 pub returns-in-Record-clause-asked : goal.returns-in-Record-clause-asked
 returns-in-Record-clause-asked g c _ =
@@ -41,18 +41,20 @@ pub returns-in-Not-clause-fault : goal.returns-in-Not-clause-fault
 returns-in-Not-clause-fault g c =
     let inv = c.stops.invariant in
     let decides = subst (λ (a : Scan). Decides c.stops.self.front a) c.in-Not.is c.look.ensures.decides in
-    (ap (λ (s : Standing). s.place) c.self.view_is ∙ inv.place, inv.failures, is_frame c.in-Not.fault decides)
+    let same = c.look.ensures.stays in
+    (ap (λ (s : Standing). s.place) (c.self.view_is ∙ same) ∙ inv.place, inv.failures, rw same (is_frame c.in-Not.fault decides))
 
 pub returns-in-Need-clause-fault : goal.returns-in-Need-clause-fault
 returns-in-Need-clause-fault g c =
     let inv = c.stops.invariant in
+    let same = c.look.ensures.stays in
     let decides = subst (λ (a : Scan). Decides c.stops.self.front a) c.in-Need.is c.look.ensures.decides in
-    fault_at_end c.end.result c.in-Need.field-0 c.args.self.now c.stops.self (g.R.Source.heard c.args.source.now) (g.R.Source.heard c.stops.source) c.end.ensures inv.place inv.failures (inv.end ∙ c.if-is_at_end.true) decides
+    fault_at_end c.end.result c.in-Need.field-0 c.args.self.now c.look.new.self (g.R.Source.heard c.args.source.now) (g.R.Source.heard c.stops.source) c.end.ensures (ap (λ (s : Standing). s.place) same ∙ inv.place) inv.failures (inv.end ∙ c.if-is_at_end.true) (rw same decides)
 
 pub returns-in_err-is_at_end-in-Need-2-clause-stop : goal.returns-in_err-is_at_end-in-Need-2-clause-stop
 returns-in_err-is_at_end-in-Need-2-clause-stop g c =
     let inv = c.stops.invariant in
-    let err = c.in_err-is_at_end-in-Need-2.ensures in
+    let err = rw c.look.ensures.stays at c.in_err-is_at_end-in-Need-2.ensures in
     let fault : StreamFault = c.in_err-is_at_end-in-Need-2.field-0.0 in
     let needed : ℕ = c.in-Need.field-0 in
     let before : List ℕ = c.stops.self.front in
@@ -70,7 +72,7 @@ returns-in_err-is_at_end-in-Need-2-clause-stop g c =
 pub returns-in_err-is_at_end-in-Need-2-clause-fault : goal.returns-in_err-is_at_end-in-Need-2-clause-fault
 returns-in_err-is_at_end-in-Need-2-clause-fault g c =
     let inv = c.stops.invariant in
-    let err = c.in_err-is_at_end-in-Need-2.ensures in
+    let err = rw c.look.ensures.stays at c.in_err-is_at_end-in-Need-2.ensures in
     let fault : StreamFault = c.in_err-is_at_end-in-Need-2.field-0.0 in
     let needed : ℕ = c.in-Need.field-0 in
     let before : List ℕ = c.stops.self.front in
@@ -90,7 +92,7 @@ returns-in_err-is_at_end-in-Need-2-clause-fault g c =
 pub stops-preserved : goal.stops-preserved
 stops-preserved g c =
     let inv = c.stops.invariant in
-    let ok = c.in_ok-is_at_end-in-Need-2.ensures in
+    let ok = rw c.look.ensures.stays at c.in_ok-is_at_end-in-Need-2.ensures in
     let needed : ℕ = c.in-Need.field-0 in
     let before : List ℕ = c.stops.self.front in
     let after : List ℕ = c.fill.new.self.front in

@@ -1,6 +1,8 @@
-use Rattle.std.proofs.Common.{◌≡◌, ◌+◌, ◌≤◌, ◌<◌, ◌^◌, ◌++◌, length, take, drop, List, ℕ, arith, slice_range, ap, ◌∙◌, refl, length-take, append_assoc}
+use Rattle.std.proofs.Common.{◌≡◌, ◌+◌, ◌≤◌, ◌<◌, ◌^◌, ◌++◌, length, take, drop, List, ℕ, arith, slice_range, sym, ap, subst, ◌∙◌, refl, length-take, append_assoc}
 use Rattle.std.proofs.lemmas.Grind.{common_steps}
 use Rattle.std.proofs.KnownBytes.{Consumes-trans}
+use Rattle.mseed_record.specs.Framer.{IsFramerOf}
+use Rattle.mseed_record.proofs.Reached.{framer_more}
 use Rattle.mseed_stream.specs.Device.{Heard}
 use Rattle.mseed_stream.specs.Standing.{Standing}
 use Rattle.mseed_stream.proofs.Filled.{written_back, front_more, heard_more}
@@ -40,6 +42,7 @@ loop-self-preserved g c =
       room = inv.room;
       fits = inv.fits;
       within = bound;
+      framer = subst (λ (xs : List ℕ). IsFramerOf i.framer xs) (sym front) (framer_more i.framer (take have items) told inv.framer);
       going_on = grind (arith, common_steps, c.in-Ok.ensures.heard);
       calls = omega (arith, calls, inv.calls);
       asked = λ grown. omega (arith, calls, inv.calls);

@@ -1,4 +1,5 @@
 use Rattle.std.proofs.Common.{◌≡◌, ◌-◌, ◌≤◌, ◌<◌, take, length, false, vec_len}
+use Rattle.mseed_record.specs.Framer.{IsFramerOf}
 use Rattle.mseed_stream.specs.Cutting.{IsHeard, TellsMore}
 use Rattle.mseed_stream.proofs.cutter.Cutter.fill.Given as goal
 
@@ -12,6 +13,7 @@ invariant-loop-self g l = let c = l.self-inside in record {
   room : l.fn.self.room ≤ vec_len c.held;
   fits : l.needed ≤ vec_len c.held;
   within : c.have ≤ l.needed;
+  framer : IsFramerOf c.framer (take c.have c.held.items);
   going_on : (g.R.Source.heard l.source).is_at_end ≡ false;
   calls : (g.R.Source.heard l.fn.source).calls ≤ (g.R.Source.heard l.source).calls;
   asked : length l.fn.self.front < c.have → (g.R.Source.heard l.fn.source).calls < (g.R.Source.heard l.source).calls;

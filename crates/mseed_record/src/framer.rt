@@ -1,0 +1,146 @@
+//! Framing that goes on where it ended, while a record's bytes come.
+ghost use Rattle.std.specs.Prelude.{◌≡◌, ◌≤◌, ◌<◌, ◌+◌, ◌++◌, ◌^◌, ℕ, List, length, take, IfOk, IfErr};
+ghost use Rattle.mseed_record.specs.declared.frame.Scan.TheVariants.{Need, Record};
+ghost use Rattle.mseed_record.specs.Record.{IsRecord};
+ghost use Rattle.mseed_record.specs.Scan.{Decides, at_offset, at_1000};
+ghost use Rattle.mseed_record.specs.Framer.{IsFramerOf, HasReached};
+
+use crate::frame::{FrameFault, Scan};
+use crate::header::{HEADER, has_fixed_bytes, order_of};
+use mseed_time::Order;
+
+/// Frames one record while its bytes come: each look goes on along the chain of blockettes from where the
+/// last one ended. Of the bytes it keeps only how far that is.
+///
+/// Contracts say by `IsFramerOf` how a framer stands to the bytes that it is shown.
+#[derive(Clone, Copy, Debug)]
+pub struct Framer {
+    // Where the last look ended; nowhere while the header isn't there.
+    reached: Option<Reached>,
+}
+
+/// How far a look along a chain of blockettes has come.
+#[derive(Clone, Copy, Debug)]
+pub(crate) struct Reached {
+    /// The byte order of the header.
+    order: Order,
+    /// Behind the first four bytes of the last blockette, or behind the header: the next can't begin before.
+    low: usize,
+    /// Where the next blockette is said to begin; 0 where there is none.
+    offset: usize,
+}
+
+impl Framer {
+    /// A framer that was shown nothing yet.
+    pub fn new() -> Framer
+        ensures { (front : List ℕ) → IsFramerOf result front }
+    {
+        Framer { reached: None }
+    }
+
+    /// Says of a front what [`scan`](crate::scan) says of it, and looks only at what it didn't pass before.
+    /// The front begins with the bytes of the looks before.
+    pub fn look(&mut self, front: &[u8]) -> Scan
+        requires { IsFramerOf self.old front.now }
+        ensures goes_on { (more : List ℕ) → IsFramerOf self.new (front.now ++ more) }
+        ensures decides { Decides front.now result }
+        ensures record { (k : ℕ) → result ≡ Record k → (k ≤ length front.now) × IsRecord (take k front.now) }
+        ensures bound { (k : ℕ) → result ≡ Need k → (length front.now < k) × (k ≤ 2 ^ 20) }
+    {
+        let from = match self.reached {
+            Some(reached) => reached,
+            None => match chain_of(front) {
+                Ok(begin) => begin,
+                Err(answer) => return answer,
+            },
+        };
+        let (reached, answer) = go_along(front, from);
+        self.reached = Some(reached);
+        answer
+    }
+}
+
+/// Where the chain begins, or what is decided before it.
+fn chain_of(front: &[u8]) -> Result<Reached, Scan>
+    ensures ok { IfOk result (λ begin. HasReached begin front.now) }
+    ensures err { IfErr result (λ answer. Decides front.now answer) }
+{
+    if front.starts_with(b"MS\x03") {
+        return Err(Scan::Not(FrameFault::Version3));
+    }
+    if front.len() < HEADER {
+        return Err(Scan::Need(HEADER));
+    }
+    if !has_fixed_bytes(front) {
+        return Err(Scan::Not(FrameFault::NotData));
+    }
+    match order_of(front) {
+        Some(order) => Ok(Reached {
+            order,
+            low: HEADER,
+            offset: usize::from(order.u16_at(front, 46)),
+        }),
+        None => Err(Scan::Not(FrameFault::Order)),
+    }
+}
+
+/// Goes along the chain of blockettes up to the first 1000, or to where bytes are missing.
+fn go_along(front: &[u8], from: Reached) -> (Reached, Scan)
+    requires { HasReached from front.now }
+    ensures reached { HasReached result.0 front.now }
+    ensures decides { Decides front.now result.1 }
+{
+    let order = from.order;
+    let mut low = from.low;
+    let mut offset = from.offset;
+    'chain: loop {
+        if let Some(answer) = at_offset(front, order, low, offset) {
+            return (Reached { order, low, offset }, answer);
+        }
+        low = offset + 4;
+        offset = usize::from(order.u16_at(front, offset + 2));
+    }
+}
+
+/// What is decided at an offset that a header or a blockette names; `None` where the blockette there is
+/// of another type.
+fn at_offset(front: &[u8], order: Order, low: usize, offset: usize) -> Option<Scan>
+    requires { offset < 2 ^ 16 }
+    ensures { result ≡ at_offset order front.now low offset }
+{
+    if offset == 0 {
+        return Some(Scan::Not(FrameFault::No1000));
+    }
+    if offset < low {
+        return Some(Scan::Not(FrameFault::Chain));
+    }
+    if front.len() < offset + 4 {
+        return Some(Scan::Need(offset + 4));
+    }
+    if order.u16_at(front, offset) != 1000 {
+        return None;
+    }
+    if front.len() < offset + 8 {
+        return Some(Scan::Need(offset + 8));
+    }
+    Some(at_1000(front, offset))
+}
+
+/// What the first blockette 1000 decides.
+fn at_1000(front: &[u8], offset: usize) -> Scan
+    requires within { offset + 8 ≤ length front.now }
+    ensures { result ≡ at_1000 front.now offset }
+{
+    let exponent = front[offset + 6];
+    if !(7..=20).contains(&exponent) {
+        return Scan::Not(FrameFault::Length(exponent));
+    }
+    let record = 1 << exponent;
+    if record < offset + 8 {
+        Scan::Not(FrameFault::Outside)
+    } else if front.len() < record {
+        Scan::Need(record)
+    } else {
+        Scan::Record(record)
+    }
+}
