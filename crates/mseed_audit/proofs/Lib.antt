@@ -1,3 +1,4 @@
+pub mod Alike
 pub mod Assembled
 pub mod Behind
 pub mod Between
@@ -10,6 +11,8 @@ pub mod Judged
 pub mod Maps
 pub mod More
 pub mod OneMore
+pub mod OneList
+pub mod OneSeries
 pub mod OneVerdict
 pub mod Outcomes
 pub mod Places

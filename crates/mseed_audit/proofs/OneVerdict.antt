@@ -17,11 +17,11 @@ use Rattle.mseed_audit.specs.Verdict.{finding_at, AreFindings, none, one, IsRun,
 use Rattle.mseed_audit.proofs.Judged.{unknown_timed, known_timed}
 use Rattle.mseed_audit.proofs.Continuity.{Excludes}
 
--- a record has one fault at most
+-- no record has two faults
 abbrev pub HasOneFault : Type 0
 HasOneFault = (v : View) (f g : ReadFault) → IsFault v f → IsFault v g → f ≡ g
 
-found_one : HasOneFault → Excludes → (before : Option View) (v : View) (a b : Option Why) → IsFound before v a → IsFound before v b → a ≡ b
+pub found_one : HasOneFault → Excludes → (before : Option View) (v : View) (a b : Option Why) → IsFound before v a → IsFound before v b → a ≡ b
 found_one only excludes before v a b (by_time f e) (by_time g h) = cc (e, h)
 found_one only excludes before v a b (by_time f e) (by_rate h r) = cc (e, h)
 found_one only excludes before v a b (by_time f e) (by_read next known g h) = cc (unknown_timed v f e, known)
@@ -40,7 +40,7 @@ found_one only excludes before v a b (by_after next known samples whole) (by_rea
 found_one only excludes before v a b (by_after next known samples whole) (by_after other same others all) =
     let e : next ≡ other = cc (known, same) in ap (λ (r : Ratio). why_after before v r) e
 
-findings_same : HasOneFault → Excludes → (before : Option View) (ps : List Placed) (a b : List Finding) → AreFindings before ps a → AreFindings before ps b → a ≡ b
+pub findings_same : HasOneFault → Excludes → (before : Option View) (ps : List Placed) (a b : List Finding) → AreFindings before ps a → AreFindings before ps b → a ≡ b
 findings_same only excludes before [] a b (none _) (none _) = refl
 findings_same only excludes before (p ∷ ps) a b (one _ _ _ why rest h later) (one _ _ _ other others k latter) =
     let here : why ≡ other = found_one only excludes before p.view why other h k in
@@ -62,7 +62,7 @@ same_numbers f g m n p r q s e h =
     (λ q. (subst (λ (y : ℤ). (s : y ≢ pos 0) → counted f m p r ≡ counted f y q s) h (λ s. same_counts f m p q r s)) s)) q
 
 -- a rate is its factor and its multiplier
-same_rate : (a b : Rate) → a.factor ≡ b.factor → a.multiplier ≡ b.multiplier → a ≡ b
+pub same_rate : (a b : Rate) → a.factor ≡ b.factor → a.multiplier ≡ b.multiplier → a ≡ b
 same_rate a b e h = same_numbers a.factor b.factor a.multiplier b.multiplier a.factor_counts a.multiplier_counts b.factor_counts b.multiplier_counts e h
 
 run_one : (p q : Placed) (ps qs : List Placed) (s t : ℤ) (f g m n : ℤ) (k l i j : ℕ) → p ∷ ps ≡ q ∷ qs → IsRun p ps s f m k i → IsRun q qs t g n l j

@@ -1,5 +1,5 @@
 -- What an audit says of a channel, by its records in their order.
-use Rattle.std.specs.Prelude.{◌≡◌, ℕ, ◌+◌, List, [], ◌∷◌, ◌++◌, length, map, Option, Some, None, Bool, true, false, ℤ}
+use Rattle.std.specs.Prelude.{⊤, ◌≡◌, ◌↔◌, ℕ, ◌+◌, List, [], ◌∷◌, ◌++◌, length, map, Option, Some, None, Bool, true, false, ℤ, IsTrue}
 use Rattle.std.specs.Ordering.{nat_cmp}
 use Rattle.std.specs.Cmp.Lexicographic.{slice_cmp}
 use Rattle.std.specs.List.Sorted.{IsStrictlySortedBy}
@@ -10,7 +10,8 @@ use Rattle.mseed_audit.specs.declared.finding.Why.{Why}
 use Rattle.mseed_audit.specs.declared.finding.Finding.{Finding}
 use Rattle.mseed_audit.specs.declared.finding.Verdict.{Verdict}
 use Rattle.mseed_audit.specs.declared.finding.Verdict.TheVariants.{Continuous, Broken}
-use Rattle.mseed_audit.specs.Channels.{Added, Placed, same_key, records_of, sample_count}
+use Rattle.mseed_audit.specs.Channels.{Added, Placed, same_key, records_of, sample_count, views_in}
+use Rattle.mseed_audit.specs.Follows.{IsContinuous}
 use Rattle.mseed_audit.specs.Judging.{IsFound}
 
 -- a record's finding, if it has one, with the record's number and place
@@ -51,7 +52,13 @@ abbrev pub IsVerdictAt : Option Verdict → List Placed → Type 0
 IsVerdictAt None ps = ps ≡ []
 IsVerdictAt (Some verdict) ps = IsVerdict verdict ps
 
+-- a verdict, where there is one, says that the channel is continuous exactly where it is
+abbrev pub IsExactAt : Option Verdict → List Placed → Type 0
+IsExactAt None ps = ⊤
+IsExactAt (Some verdict) ps = IsTrue (says_continuous verdict) ↔ IsContinuous (views_in ps)
+
 -- the verdicts on all channels with samples, in the ascending order of their keys
 pub record AreVerdicts (added : List Added) (verdicts : List (List ℕ × Verdict)) : Type 0 where
   pub ascending : IsStrictlySortedBy (slice_cmp nat_cmp) (keys_of verdicts)
   pub each : (key : List ℕ) → IsVerdictAt (lookup (same_key key) verdicts) (records_of key added)
+  pub exact : (key : List ℕ) → IsExactAt (lookup (same_key key) verdicts) (records_of key added)

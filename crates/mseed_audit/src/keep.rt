@@ -10,6 +10,7 @@ ghost use Rattle.mseed_audit.specs.Verdict.{AreVerdicts};
 
 use crate::channel::Channel;
 use crate::finding::Verdict;
+use crate::law::continuous_exactly;
 use mseed_record::{Codes, RecordView};
 use std::alloc::{Allocator, Global};
 use std::collections::BTreeMap;
@@ -105,10 +106,12 @@ impl<A: Allocator + Copy> Audit<A> {
         Ok(())
     }
 
-    /// What the audit says of the records that were added. It takes no memory.
+    /// What the audit says of the records that were added: of each channel with samples its verdict, which says
+    /// that the channel is continuous exactly where it is. It takes no memory.
     pub fn finish(self) -> Verdicts<A>
         ensures { (added : List Added) → IsAuditOf self added → AreVerdicts added result }
     {
+        continuous_exactly();
         let Audit {
             channels,
             mut verdicts,

@@ -1,9 +1,15 @@
-//! Laws of verdicts.
-ghost use Rattle.std.specs.Prelude.{◌≡◌, ◌↔◌, List, IsTrue};
+//! Laws: what the definitions determine, they determine once.
+ghost use Rattle.std.specs.Prelude.{◌≡◌, ◌↔◌, List, ℕ, ℤ, Option, IsTrue};
+ghost use Rattle.mseed_record.specs.View.{View};
+ghost use Rattle.mseed_time.specs.declared.outcome.LeapStep.{LeapStep};
+ghost use Rattle.mseed_audit.specs.declared.finding.Why.{Why};
+ghost use Rattle.mseed_audit.specs.declared.finding.Finding.{Finding};
 ghost use Rattle.mseed_audit.specs.declared.finding.Verdict.{Verdict};
-ghost use Rattle.mseed_audit.specs.Channels.{Placed, views_in};
+ghost use Rattle.mseed_audit.specs.Channels.{Added, Placed, views_in};
 ghost use Rattle.mseed_audit.specs.Follows.{IsContinuous};
-ghost use Rattle.mseed_audit.specs.Verdict.{IsVerdict, says_continuous};
+ghost use Rattle.mseed_audit.specs.Judging.{IsFound};
+ghost use Rattle.mseed_audit.specs.Series.{Trace, AreJoined, IsBadStep, IsSeriesOf};
+ghost use Rattle.mseed_audit.specs.Verdict.{AreFindings, AreVerdicts, IsVerdict, says_continuous};
 
 use mseed_steim::{one_fault, one_reading};
 
@@ -16,9 +22,38 @@ pub fn continuous_exactly()
     one_fault();
 }
 
+/// A record has one finding, which may be none, and records one list of findings.
+pub fn one_finding()
+    ensures of_one { (before : Option View) (v : View) (a b : Option Why) → IsFound before v a → IsFound before v b → a ≡ b }
+    ensures of_all { (before : Option View) (ps : List Placed) (a b : List Finding)
+        → AreFindings before ps a → AreFindings before ps b → a ≡ b }
+{
+    one_fault();
+}
+
 /// A channel has one verdict at most.
 pub fn one_verdict()
     ensures { (v w : Verdict) (ps : List Placed) → IsVerdict v ps → IsVerdict w ps → v ≡ w }
 {
     one_fault();
 }
+
+/// An archive has one list of verdicts at most.
+pub fn one_list_of_verdicts()
+    ensures { (added : List Added) (vs ws : List (List ℕ × Verdict)) → AreVerdicts added vs → AreVerdicts added ws → vs ≡ ws }
+{
+    one_fault();
+}
+
+/// A channel has one series at most.
+pub fn one_series()
+    ensures samples { (vs : List View) (s t : List ℤ) → AreJoined vs s → AreJoined vs t → s ≡ t }
+    ensures series { (s t : Trace) (vs : List View) → IsSeriesOf s vs → IsSeriesOf t vs → s ≡ t }
+{
+    one_reading();
+}
+
+/// Of leap seconds one at most is the first that a series can't have.
+pub fn one_bad_step()
+    ensures { (size : ℕ) (steps : List (ℕ × LeapStep)) (i j : ℕ) → IsBadStep size steps i → IsBadStep size steps j → i ≡ j }
+{}

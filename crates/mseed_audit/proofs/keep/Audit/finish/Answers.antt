@@ -14,4 +14,4 @@ returns g c = λ added h.
     let all = rw c.in-None.ensures.steps.0 at c.loop-codes.invariant.0 in
     let there : c.loop-codes.verdicts.items ≡ verdicts_of c.self.inside.channels.entries =
     sym (append-nil c.loop-codes.verdicts.items) ∙ all ∙ ap verdicts_of made.0 in
-    subst (λ (vs : List (List ℕ × Verdict)). AreVerdicts added vs) (sym there) (finished held added made.5 is)
+    subst (λ (vs : List (List ℕ × Verdict)). AreVerdicts added vs) (sym there) (finished c.continuous_exactly.ensures held added made.5 is)

@@ -1,0 +1,5 @@
+use Rattle.mseed_audit.proofs.OneList.{verdicts_one}
+use Rattle.mseed_audit.proofs.law.one_list_of_verdicts.Goals as goal
+
+pub returns : goal.returns
+returns c = λ added vs ws. verdicts_one c.one_fault.ensures.one c.one_fault.ensures.excludes added vs ws
