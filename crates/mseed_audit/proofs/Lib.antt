@@ -11,6 +11,7 @@ pub mod Judged
 pub mod Maps
 pub mod More
 pub mod OneMore
+pub mod OneAudit
 pub mod OneList
 pub mod OneSeries
 pub mod OneVerdict

@@ -1,5 +1,5 @@
 //! Laws: what the definitions determine, they determine once.
-ghost use Rattle.std.specs.Prelude.{◌≡◌, ◌↔◌, List, ℕ, ℤ, Option, IsTrue};
+ghost use Rattle.std.specs.Prelude.{◌≡◌, ◌↔◌, ◌<◌, ◌^◌, List, ℕ, ℤ, Option, IsTrue};
 ghost use Rattle.mseed_record.specs.View.{View};
 ghost use Rattle.mseed_time.specs.declared.outcome.LeapStep.{LeapStep};
 ghost use Rattle.mseed_audit.specs.declared.finding.Why.{Why};
@@ -9,6 +9,9 @@ ghost use Rattle.mseed_audit.specs.Channels.{Added, Placed, views_in};
 ghost use Rattle.mseed_audit.specs.Follows.{IsContinuous};
 ghost use Rattle.mseed_audit.specs.Judging.{IsFound};
 ghost use Rattle.mseed_audit.specs.Series.{Trace, AreJoined, IsBadStep, IsSeriesOf};
+ghost use Rattle.mseed_stream.specs.Device.{Heard};
+ghost use Rattle.mseed_audit.specs.declared.whole.Summary.{Summary};
+ghost use Rattle.mseed_audit.specs.Whole.{Audited, IsSummary, text_of};
 ghost use Rattle.mseed_audit.specs.Verdict.{AreFindings, AreVerdicts, IsVerdict, says_continuous};
 
 use mseed_steim::{one_fault, one_reading};
@@ -41,6 +44,16 @@ pub fn one_verdict()
 /// An archive has one list of verdicts at most.
 pub fn one_list_of_verdicts()
     ensures { (added : List Added) (vs ws : List (List ℕ × Verdict)) → AreVerdicts added vs → AreVerdicts added ws → vs ≡ ws }
+{
+    one_fault();
+}
+
+/// What was heard has one audit: one text and one summary. It is of fewer than 2^40 reads, after which a text may
+/// end with `turns` in place of another fault.
+pub fn one_audit()
+    ensures text { (h : Heard) (a b : Audited h) → h.calls < 2 ^ 40 → text_of a ≡ text_of b }
+    ensures summary { (h : Heard) (a b : Audited h) (s t : Summary) → h.calls < 2 ^ 40
+        → IsSummary s a → IsSummary t b → s ≡ t }
 {
     one_fault();
 }

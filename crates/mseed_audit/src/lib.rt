@@ -14,7 +14,7 @@ pub use assemble::{NotContinuous, series};
 pub use finding::{Finding, Verdict, Why};
 pub use keep::{Audit, Memory, Verdicts};
 pub use law::{
-    continuous_exactly, one_bad_step, one_finding, one_list_of_verdicts, one_series, one_verdict,
+    continuous_exactly, one_audit, one_bad_step, one_finding, one_list_of_verdicts, one_series, one_verdict,
 };
 pub use text::{push_fault_line, push_name};
 pub use trace::{BadStep, Series};
