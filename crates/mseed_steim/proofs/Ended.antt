@@ -1,21 +1,20 @@
 -- The ends of samples.
-use Rattle.std.proofs.Common.{◌≡◌, ◌≢◌, ℕ, suc, ◌-◌, ◌<◌, ◌≤◌, List, [], ◌∷◌, ◌++◌, length, get_or, ℤ, arith, refl, ap, sym, ◌∙◌, subst, slice_get, to_z, w32, ◌^◌, ⊎_elim, Option, Some, None, Result, Ok, Err, All}
-use Rattle.std.proofs.lemmas.Bool.{cases_lt, lt-ltb, le-ltb}
-use Rattle.byteorder.specs.Endian.{twos_complement}
+use Rattle.std.proofs.Common.{◌≡◌, ◌≢◌, ℕ, ◌-◌, ◌<◌, List, [], ◌∷◌, ◌++◌, length, get_or, ℤ, arith, refl, ap, sym, ◌∙◌, subst, slice_get, Option, Some, None, Result, Ok, Err, All}
 use Rattle.mseed_time.specs.declared.order.Order.TheVariants.{Big}
 use Rattle.mseed_steim.specs.declared.scheme.Scheme.{Scheme}
 use Rattle.mseed_steim.specs.declared.form.Form.TheVariants.{Frames}
 use Rattle.mseed_steim.specs.declared.fault.Ends.{Ends}
 use Rattle.mseed_steim.specs.declared.fault.ReadFault.{ReadFault}
-use Rattle.mseed_steim.specs.declared.fault.ReadFault.TheVariants.{LastDiffers}
+use Rattle.mseed_steim.specs.declared.fault.ReadFault.TheVariants.{Short, LastDiffers}
 use Rattle.mseed_steim.specs.declared.sum.Sum.{Sum}
-use Rattle.mseed_steim.specs.Frames.{data_words, first_constant, last_constant}
+use Rattle.mseed_steim.specs.Frames.{word_count, data_words, first_constant, last_constant}
 use Rattle.mseed_steim.specs.Items.{items_of}
-use Rattle.mseed_steim.specs.Samples.{IsSample, AreSums, IsFrameFault, last_differs, IsChecked, IsPayloadReading, EndsOnConstant}
+use Rattle.mseed_steim.specs.Samples.{IsSample, AreSums, IsFrameFault, short, last_differs, IsChecked, IsPayloadReading, EndsOnConstant}
 use Rattle.mseed_steim.specs.Sums.{fold, met_in, lack}
+use Rattle.mseed_steim.proofs.Walking.{words_none}
 use Rattle.mseed_steim.proofs.Given.{items_given, words_small}
 use Rattle.mseed_steim.proofs.Folded.{last_of, Lacks, lacks}
-use Rattle.mseed_steim.proofs.Framed.{minus, Met, Begins, begins, all_met, is_lacking, is_fault, constant_fits}
+use Rattle.mseed_steim.proofs.Framed.{Met, Begins, begins, all_met, is_lacking, is_fault, constant_fits}
 
 -- the last of samples by its place, and what stands before it
 get_last : (x : ℤ) (ss : List ℤ) → slice_get (x ∷ ss) (length ss) ≡ Some (last_of x ss)
@@ -64,13 +63,6 @@ walk_fault s p n f h octets e o =
     let b = subst (λ (r : Result Sum ReadFault). Begins n (first_constant p) (met_in n (record { met = 0; last = first_constant p }) (items_of s (data_words p))) (items_of s (data_words p)) r) (sym e) (begins n (first_constant p) (items_of s (data_words p)) h) in
     is_fault s p n _ (items_of s (data_words p)) f h (items_given s (data_words p) (words_small p octets 3 _)) (constant_fits p octets 1) b l
 
--- a word of 32 bits, cast to a signed number
-pub cast_is : (x : ℕ) → x < 2 ^ 32 → to_z w32 x ≡ twos_complement 4 x
-cast_is x small = ⊎_elim
-    (λ (low : x < 2 ^ 31). rw (lt-ltb x (2 ^ 31) low) refl)
-    (λ (high : 2 ^ 31 ≤ x). let same : 2 ^ 32 - suc x ≡ 2 ^ 32 - 1 - x = omega arith in rw (le-ltb x (2 ^ 31) high, minus x (2 ^ 32 - 1) small, same) refl)
-    (cases_lt x (2 ^ 31))
-
 last_pushed : (x : ℤ) (front : List ℤ) (last : ℤ) → last_of x (front ++ last ∷ []) ≡ last
 last_pushed x [] last = refl
 last_pushed x (y ∷ front) last = last_pushed y front last
@@ -87,3 +79,10 @@ filled_met s p n sum out h octets e put same =
     let m = walked s p n sum h octets e in
     let found : slice_get (first_constant p ∷ m.others) (length (first_constant p ∷ m.others) - 1) ≡ Some (last_constant p) = get_end (first_constant p) m.others ∙ ap (λ (z : ℤ). Some z) (sym m.ends ∙ same) in
     subst (λ (xs : List ℤ). IsPayloadReading (Frames s) Big p n xs × EndsOnConstant (Frames s) p xs) (sym (put ∙ m.kept)) ((refl, m.sums, m.range), found)
+
+-- without a frame there are no words
+pub no_frame : (s : Scheme) (p : List ℕ) (n : ℕ) → length p < 64 → 0 < n → IsFrameFault s p n (Short 0)
+no_frame s p n small some =
+    let over : word_count p - 3 ≡ 0 = omega arith in
+    let none : data_words p ≡ [] = rw over (words_none p 3) in
+    short [] (rw none refl) some

@@ -1,14 +1,13 @@
 -- How many differences words have: seven each at the most.
-use Rattle.std.proofs.Common.{ℕ, zero, suc, ◌+◌, ◌*◌, ◌/◌, ◌%◌, ◌^◌, ◌≤◌, List, [], ◌∷◌, map, length, ℤ, arith, length-append, eqb, not, Option, Some, None, Result}
+use Rattle.std.proofs.Common.{ℕ, ◌+◌, ◌*◌, ◌/◌, ◌^◌, ◌≤◌, List, [], ◌∷◌, length, ℤ, arith, length-append, eqb, Option, Some, None, Result}
 use Rattle.std.proofs.lemmas.Bool.{cond_both}
-use Rattle.std.specs.List.{filter, range_with_len}
 use Rattle.std.proofs.lemmas.List.{length-map}
 use Rattle.mseed_steim.specs.declared.scheme.Scheme.{Scheme}
 use Rattle.mseed_steim.specs.declared.scheme.Scheme.TheVariants.{One, Two}
 use Rattle.mseed_steim.specs.declared.differences.BadWordAt.{BadWordAt}
 use Rattle.mseed_steim.specs.Groups.{Group, group_of}
 use Rattle.mseed_steim.specs.Digits.{differences_in, differences_of}
-use Rattle.mseed_steim.specs.Frames.{DataWord, data_word, is_data, words_from}
+use Rattle.mseed_steim.specs.Frames.{DataWord}
 use Rattle.mseed_steim.specs.Items.{with_items, items_of}
 use Rattle.mseed_steim.proofs.Table.{cond_holds}
 use Rattle.mseed_steim.proofs.Spelled.{length-digits}
@@ -45,16 +44,7 @@ few_items s w more = cond_both (eqb w.code 0) (Some []) (differences_in w.bits (
     (λ _. omega arith)
     (λ _. few_in w (group_of s w.code (w.bits / 2 ^ 30)) more (few s w.code (w.bits / 2 ^ 30)))
 
-few_data : (s : Scheme) (p : List ℕ) (k n : ℕ) → length (items_of s (map (data_word p) (filter is_data (range_with_len k n)))) ≤ 7 * n
+pub few_of : (s : Scheme) (ws : List DataWord) → length (items_of s ws) ≤ 7 * length ws
 unfolding items_of
-few_data s p k zero = omega arith
-few_data s p k (suc n) =
-    let later = few_data s p (k + 1) n in
-    cond_both (not (eqb (k % 16) 0)) (k ∷ filter is_data (range_with_len (k + 1) n)) (filter is_data (range_with_len (k + 1) n))
-    (λ (ks : List ℕ). length (items_of s (map (data_word p) ks)) ≤ 7 * suc n)
-    (λ _. omega (arith, later, few_items s (data_word p k) (items_of s (map (data_word p) (filter is_data (range_with_len (k + 1) n))))))
-    (λ _. omega (arith, later))
-
-pub few_from : (s : Scheme) (p : List ℕ) (k n : ℕ) → length (items_of s (words_from p k n)) ≤ 7 * n
-unfolding words_from
-few_from s p k n = few_data s p k n
+few_of s [] = omega arith
+few_of s (w ∷ ws) = let later = few_of s ws in omega (arith, later, few_items s w (items_of s ws))

@@ -50,8 +50,3 @@ data_small p octets k (suc n) = cond_both (not (eqb (k % 16) 0)) (k ∷ filter i
 pub words_small : (p : List ℕ) → ((i : ℕ) → get_or p i 0 < 256) → (k n : ℕ) → AllByRecursion IsWord (words_from p k n)
 unfolding words_from
 words_small p octets k n = data_small p octets k n
-
--- the words from place 0 on where there's none
-pub no_words : (p : List ℕ) (k l : ℕ) → words_from p k 0 ≡ words_from p l 0
-unfolding words_from
-no_words p k l = refl

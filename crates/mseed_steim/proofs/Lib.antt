@@ -1,12 +1,12 @@
 pub mod Words
 pub mod Table
 pub mod Spelled
+pub mod Grouped
 pub mod Walking
 pub mod Given
 pub mod Few
 pub mod Folds
 pub mod Folded
-pub mod Kept
 pub mod Shifts
 pub mod Fronts
 pub mod Framed

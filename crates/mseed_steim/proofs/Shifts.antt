@@ -3,7 +3,7 @@ use Rattle.std.proofs.Common.{◌≡◌, ℕ, ◌+◌, ◌-◌, ◌*◌, ◌/◌
 use Rattle.std.specs.Int.Signed.{shr_z}
 use Rattle.std.proofs.lemmas.Bool.{lt-ltb, le-ltb, cases_lt}
 use Rattle.std.proofs.lemmas.Nat.{pow_pos, pow-add, shl-shr, shr-shr, shr_high, mod-pow-add, mod_below, mul-add-lt}
-use Rattle.std.proofs.Math.Nat.{add-mul, mul-le-mul_right, pow-le-pow_right}
+use Rattle.std.proofs.Math.Nat.{add-mul, mul-le-mul_left, mul-le-mul_right, pow-le-pow_right}
 use Rattle.mseed_steim.specs.Digits.{signed, digit_at}
 use Rattle.mseed_steim.proofs.Spelled.{signed_32}
 use Rattle.mseed_steim.proofs.Words.{twice_half}
@@ -15,7 +15,7 @@ below_top w k word = (word * 2 ^ k) % 2 ^ (32 - w)
 abbrev digit_of : ℕ → ℕ → ℕ → ℕ
 digit_of w place word = word / 2 ^ (w * place) % 2 ^ w
 
-at_top : (w place k word : ℕ) → w ≤ 30 → k + w * place ≡ 32 - w → (word * 2 ^ k) % 2 ^ 32 ≡ digit_of w place word * 2 ^ (32 - w) + below_top w k word
+at_top : (w place k word : ℕ) → w ≤ 32 → k + w * place ≡ 32 - w → (word * 2 ^ k) % 2 ^ 32 ≡ digit_of w place word * 2 ^ (32 - w) + below_top w k word
 at_top w place k word n e =
     let whole : w + (32 - w) ≡ 32 = omega arith in
     let up : (word * 2 ^ k) / 2 ^ (32 - w) ≡ word / 2 ^ (w * place) =
@@ -23,7 +23,7 @@ at_top w place k word n e =
     ap (λ (i : ℕ). (word * 2 ^ k) % 2 ^ i) (sym whole) ∙ mod-pow-add (word * 2 ^ k) w (32 - w) ∙ ap (λ (i : ℕ). i % 2 ^ w * 2 ^ (32 - w) + below_top w k word) up
 
 -- its shift down
-down : (w q r x : ℕ) → 0 < w → w ≤ 30 → q < 2 ^ w → r < 2 ^ (32 - w) → x < 2 ^ 32 → x ≡ q * 2 ^ (32 - w) + r → shr_z (signed 32 x) (2 ^ (32 - w)) ≡ signed w q
+down : (w q r x : ℕ) → 0 < w → w ≤ 32 → q < 2 ^ w → r < 2 ^ (32 - w) → x < 2 ^ 32 → x ≡ q * 2 ^ (32 - w) + r → shr_z (signed 32 x) (2 ^ (32 - w)) ≡ signed w q
 down w q r x p n small rest fits e =
     let bits : 31 ≡ w - 1 + (32 - w) = omega arith in
     let whole : 2 ^ 31 ≡ 2 ^ (w - 1) * 2 ^ (32 - w) = ap (λ (i : ℕ). 2 ^ i) bits ∙ pow-add 2 (w - 1) (32 - w) in
@@ -46,22 +46,36 @@ down w q r x p n small rest fits e =
     rw (le-ltb x (2 ^ 31) most, le-ltb q (2 ^ (w - 1)) high) (ap negsuc (ap (λ (i : ℕ). i / 2 ^ (32 - w)) other ∙ shr_high left (32 - w) (2 ^ (32 - w) - 1 - r) (omega arith))))
     (cases_lt q (2 ^ (w - 1)))
 
-fitting : (w q : ℕ) → w ≤ 30 → q < 2 ^ w → FitsSigned w32 (signed w q)
-fitting w q n h =
-    let most : 2 ^ w ≤ 2 ^ 30 = pow-le-pow_right (lit< tt) n in
+fitting : (w q : ℕ) → 0 < w → w ≤ 32 → q < 2 ^ w → FitsSigned w32 (signed w q)
+fitting w q p n h =
+    let less : w - 1 ≤ 31 = omega arith in
+    let most : 2 ^ (w - 1) ≤ 2 ^ 31 = pow-le-pow_right (lit< tt) less in
+    let half = twice_half w p in
     ⊎_elim
     (λ (low : q < 2 ^ (w - 1)). rw (lt-ltb q (2 ^ (w - 1)) low) (record { sfits = omega (arith, most) }))
-    (λ (high : 2 ^ (w - 1) ≤ q). rw (le-ltb q (2 ^ (w - 1)) high) (record { sfits = omega (arith, most) }))
+    (λ (high : 2 ^ (w - 1) ≤ q). rw (le-ltb q (2 ^ (w - 1)) high) (record { sfits = omega (arith, most, half) }))
     (cases_lt q (2 ^ (w - 1)))
 
-pub digit_fits : (w place word : ℕ) → w ≤ 30 → FitsSigned w32 (digit_at w word place)
-digit_fits w place word n = fitting w (digit_of w place word) n (mod_below (word / 2 ^ (w * place)) (2 ^ w) (pow_pos w))
+pub digit_fits : (w place word : ℕ) → 0 < w → w ≤ 32 → FitsSigned w32 (digit_at w word place)
+digit_fits w place word p n = fitting w (digit_of w place word) p n (mod_below (word / 2 ^ (w * place)) (2 ^ w) (pow_pos w))
 
-pub shifted : (w place word : ℕ) → 0 < w → w ≤ 30 → w * (place + 1) ≤ 32 → shr_z (to_z w32 ((word * 2 ^ (32 - w * (place + 1))) % 2 ^ 32)) (2 ^ (32 - w)) ≡ digit_at w word place
-shifted w place word p n h =
+-- a digit within a word has no more bits than the word
+pub narrow : (w place : ℕ) → w * (place + 1) ≤ 32 → w ≤ 32
+narrow w place h = let cut : w * (place + 1) ≡ w * place + w = omega arith in omega (arith, cut)
+
+pub shifted : (w place word : ℕ) → 0 < w → w * (place + 1) ≤ 32 → shr_z (to_z w32 ((word * 2 ^ (32 - w * (place + 1))) % 2 ^ 32)) (2 ^ (32 - w)) ≡ digit_at w word place
+shifted w place word p h =
+    let n = narrow w place h in
     let k = 32 - w * (place + 1) in
     let cut : w * (place + 1) ≡ w * place + w = omega arith in
     let places : k + w * place ≡ 32 - w = omega (arith, cut) in
     let fits : (word * 2 ^ k) % 2 ^ 32 < 2 ^ 32 = mod_below (word * 2 ^ k) (2 ^ 32) (pow_pos 32) in
     ap (λ (z : ℤ). shr_z z (2 ^ (32 - w))) (sym (signed_32 ((word * 2 ^ k) % 2 ^ 32) fits))
     ∙ down w (digit_of w place word) (below_top w k word) ((word * 2 ^ k) % 2 ^ 32) p n (mod_below (word / 2 ^ (w * place)) (2 ^ w) (pow_pos w)) (mod_below (word * 2 ^ k) (2 ^ (32 - w)) (pow_pos (32 - w))) fits (at_top w place k word n places)
+
+-- the digits of a group are within the word
+pub room_at : (w count i : ℕ) → i < count → w * count ≤ 32 → w * (count - 1 - i + 1) ≤ 32
+room_at w count i h fits =
+    let less : count - 1 - i + 1 ≤ count = omega arith in
+    let most = mul-le-mul_left w less in
+    omega (arith, most)

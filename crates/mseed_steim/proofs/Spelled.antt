@@ -1,6 +1,5 @@
 -- A word's digits are what it spells, and nothing else is.
-use Rattle.std.proofs.Common.{◌≡◌, ℕ, zero, suc, ◌+◌, ◌-◌, ◌*◌, ◌/◌, ◌%◌, ◌^◌, ◌<◌, ◌≤◌, List, [], ◌∷◌, length, ℤ, arith, sym, ap, subst, refl, All, ⊎_elim, Bool, true, false, cond, eqb, Option, Some, None, w32, to_z, Result, Ok, Err, MatchResult, IsOkAnd, IfOk, OnErr}
-use Rattle.arrayvec.specs.ArrayVec.{ArrayVec}
+use Rattle.std.proofs.Common.{◌≡◌, ℕ, zero, suc, ◌+◌, ◌-◌, ◌*◌, ◌/◌, ◌%◌, ◌^◌, ◌<◌, ◌≤◌, List, [], ◌∷◌, length, ℤ, arith, sym, ap, subst, refl, All, ⊎_elim, Bool, true, false, cond, eqb, Option, Some, None, w32, to_z}
 use Rattle.std.proofs.lemmas.Nat.{pow_pos, mod-pow-add}
 use Rattle.std.proofs.lemmas.Int.{ints}
 use Rattle.std.proofs.lemmas.Bool.{cases_lt, lt-ltb, le-ltb, ne_eqb, eqb-true}
@@ -9,7 +8,7 @@ use Rattle.std.proofs.lemmas.List.Elements.{All-cons, All-nil}
 use Rattle.mseed_steim.specs.declared.scheme.Scheme.{Scheme}
 use Rattle.mseed_steim.specs.declared.scheme.Scheme.TheVariants.{One, Two}
 use Rattle.mseed_steim.specs.Groups.{Group, group_of, plain, wide_group, narrow_group}
-use Rattle.mseed_steim.specs.Spelling.{Spells, SpellsNone, IsGroup, empty, row, residue, IsWithin, positional}
+use Rattle.mseed_steim.specs.Spelling.{Spells, IsGroup, empty, row, residue, IsWithin, positional}
 use Rattle.mseed_steim.specs.Digits.{signed, digit_at, digits, differences_in, differences_of}
 use Rattle.mseed_steim.proofs.Words.{twice_half}
 use Rattle.mseed_steim.proofs.Table.{Sized, Kind, whole, full, short, group_sized, no_row, at_top, spelled_as_one}
@@ -103,12 +102,6 @@ signed_32 n h = ⊎_elim
     (λ (high : 2 ^ 31 ≤ n). let same : 2 ^ 32 - 1 - n ≡ 2 ^ 32 - suc n = omega arith in rw (le-ltb n (2 ^ 31) high, same) refl)
     (cases_lt n (2 ^ 31))
 
-pub whole_digit : (word : ℕ) → word < 2 ^ 32 → digits 32 word 1 ≡ to_z w32 word ∷ []
-unfolding digits
-whole_digit word h =
-    let same : word / 2 ^ (32 * 0) % 2 ^ 32 ≡ word = omega arith in
-    rw (same, signed_32 word h) refl
-
 -- after the last digit there's none
 pub digits_over : (w word count i : ℕ) → count ≤ i → digits w word (count - i) ≡ []
 unfolding digits
@@ -142,21 +135,6 @@ narrow_none d h =
     let first : eqb d 1 ≡ false = ne_eqb d 1 (λ (z : d ≡ 1). omega arith) in
     let second : eqb d 2 ≡ false = ne_eqb d 2 (λ (z : d ≡ 2). omega arith) in
     rw (zeroth, first, second) refl
-
--- What is answered is spelled.
-pub answer_spelled : {E : Type 0} (s : Scheme) (c word : ℕ) (r : Result (ArrayVec ℤ) E) → word < 2 ^ 32 → MatchResult r (λ v. differences_of s c word ≡ Some v.items) (λ _. differences_of s c word ≡ None) → IfOk r (λ v. Spells s c word v.items)
-answer_spelled s c word (Ok v) small h = differences_spelled s c word v.items small h
-answer_spelled s c word (Err e) small h = tt
-
--- What is answered is all that is spelled.
-pub only_spelled : {E : Type 0} (s : Scheme) (c word : ℕ) (r : Result (ArrayVec ℤ) E) → word < 2 ^ 32 → MatchResult r (λ v. differences_of s c word ≡ Some v.items) (λ _. differences_of s c word ≡ None) → (ds : List ℤ) → Spells s c word ds → IsOkAnd r (λ v. v.items ≡ ds)
-only_spelled s c word (Ok v) small h ds p = cc (spelled_differences s c word ds small p)
-only_spelled s c word (Err e) small h ds p = cc (spelled_differences s c word ds small p)
-
--- What is a bad word spells nothing.
-pub bad_spells_none : {E : Type 0} (s : Scheme) (c word : ℕ) (r : Result (ArrayVec ℤ) E) → word < 2 ^ 32 → MatchResult r (λ v. differences_of s c word ≡ Some v.items) (λ _. differences_of s c word ≡ None) → OnErr r (SpellsNone s c word)
-bad_spells_none s c word (Ok v) small h = tt
-bad_spells_none s c word (Err e) small h = λ ds p. cc (spelled_differences s c word ds small p)
 
 -- code 0
 pub no_differences : (s : Scheme) (c word : ℕ) (ds : List ℤ) → c ≡ 0 → ds ≡ [] → differences_of s c word ≡ Some ds

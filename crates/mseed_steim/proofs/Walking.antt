@@ -1,42 +1,46 @@
 -- One word after another: what the words from a place on give.
-use Rattle.std.proofs.Common.{◌≡◌, ◌≢◌, ℕ, suc, ◌+◌, ◌-◌, ◌%◌, ◌/◌, ◌<◌, ◌≤◌, List, [], ◌∷◌, ◌++◌, map, ℤ, arith, refl, ap, ◌∙◌, Option, Some, None, Result, Ok, Err}
-use Rattle.std.proofs.lemmas.Bool.{ne_eqb}
+use Rattle.std.proofs.Common.{◌≡◌, ◌≢◌, ◌⊎◌, ⊎_elim, inl, inr, ℕ, zero, suc, ◌+◌, ◌%◌, ◌/◌, ◌<◌, ◌≤◌, List, [], ◌∷◌, ◌++◌, map, length, ℤ, arith, refl, ap, Option, Some, None, Ok, Err}
+use Rattle.std.proofs.lemmas.Bool.{ne_eqb, cases_lt}
 use Rattle.mseed_steim.specs.declared.scheme.Scheme.{Scheme}
-use Rattle.mseed_steim.specs.declared.differences.BadWordAt.{BadWordAt}
 use Rattle.mseed_steim.specs.Digits.{differences_of}
-use Rattle.mseed_steim.specs.Frames.{data_word, code_at, word_at, words_from}
+use Rattle.mseed_steim.specs.Frames.{DataWord, data_word, words_from}
+use Rattle.mseed_steim.specs.Runs.{place_of}
 use Rattle.mseed_steim.specs.Items.{with_items, items_of}
 
+-- none
+pub words_none : (p : List ℕ) (k : ℕ) → words_from p k 0 ≡ []
+unfolding words_from
+words_none p k = refl
+
 -- a frame's first word is passed, and each other word is data
-words_skip : (p : List ℕ) (k n : ℕ) → k % 16 ≡ 0 → words_from p k (suc n) ≡ words_from p (k + 1) n
+pub words_skip : (p : List ℕ) (k n : ℕ) → k % 16 ≡ 0 → words_from p k (suc n) ≡ words_from p (k + 1) n
 unfolding words_from
 words_skip p k n e = rw e refl
 
-words_step : (p : List ℕ) (k n : ℕ) → k % 16 ≢ 0 → words_from p k (suc n) ≡ data_word p k ∷ words_from p (k + 1) n
+pub words_step : (p : List ℕ) (k n : ℕ) → k % 16 ≢ 0 → words_from p k (suc n) ≡ data_word p k ∷ words_from p (k + 1) n
 unfolding words_from
 words_step p k n h = rw (ne_eqb (k % 16) 0 h) refl
 
--- the items from word k on
-abbrev pub items_from : Scheme → List ℕ → ℕ → ℕ → List (Result ℤ BadWordAt)
-items_from s p k end = items_of s (words_from p k (end - k))
-
-pub items_over : (s : Scheme) (p : List ℕ) (k end : ℕ) → end ≤ k → items_from s p k end ≡ []
-unfolding items_of words_from
-items_over s p k end h = let none : end - k ≡ 0 = omega arith in rw none refl
-
-pub items_skip : (s : Scheme) (p : List ℕ) (k end : ℕ) → k < end → k % 16 ≡ 0 → items_from s p k end ≡ items_from s p (k + 1) end
-items_skip s p k end h e =
-    let more : end - k ≡ suc (end - (k + 1)) = omega arith in
-    rw (more, words_skip p k (end - (k + 1)) e) refl
-
-pub items_step : (s : Scheme) (p : List ℕ) (k end : ℕ) → k < end → k % 16 ≢ 0 → items_from s p k end ≡ with_items (data_word p k) (differences_of s (code_at p k) (word_at p k)) (items_from s p (k + 1) end)
+-- a word's items, and those of the words behind it
+pub items_group : (s : Scheme) (before after : List DataWord) (w : DataWord) (ds : List ℤ) → before ≡ w ∷ after → differences_of s w.code w.bits ≡ Some ds → items_of s before ≡ map Ok ds ++ items_of s after
 unfolding items_of
-items_step s p k end h e =
-    let more : end - k ≡ suc (end - (k + 1)) = omega arith in
-    rw (more, words_step p k (end - (k + 1)) e) refl
+items_group s before after w ds cut e = rw cut (ap (λ (o : Option (List ℤ)). with_items w o (items_of s after)) e)
 
-pub items_group : (s : Scheme) (p : List ℕ) (k end : ℕ) (ds : List ℤ) → k < end → k % 16 ≢ 0 → differences_of s (code_at p k) (word_at p k) ≡ Some ds → items_from s p k end ≡ map Ok ds ++ items_from s p (k + 1) end
-items_group s p k end ds h e q = items_step s p k end h e ∙ ap (λ (o : Option (List ℤ)). with_items (data_word p k) o (items_from s p (k + 1) end)) q
+pub items_bad : (s : Scheme) (before after : List DataWord) (w : DataWord) → before ≡ w ∷ after → differences_of s w.code w.bits ≡ None → items_of s before ≡ Err (place_of w) ∷ []
+unfolding items_of
+items_bad s before after w cut e = rw cut (ap (λ (o : Option (List ℤ)). with_items w o (items_of s after)) e)
 
-pub items_bad : (s : Scheme) (p : List ℕ) (k end : ℕ) → k < end → k % 16 ≢ 0 → differences_of s (code_at p k) (word_at p k) ≡ None → items_from s p k end ≡ Err (record { frame = k / 16; word = k % 16 }) ∷ []
-items_bad s p k end h e q = items_step s p k end h e ∙ ap (λ (o : Option (List ℤ)). with_items (data_word p k) o (items_from s p (k + 1) end)) q
+pub no_items : (s : Scheme) (before : List DataWord) → before ≡ [] → items_of s before ≡ []
+unfolding items_of
+no_items s before e = rw e refl
+
+-- how many data words there are: all but the first of each frame
+pub length-words_from : (p : List ℕ) (k n : ℕ) → length (words_from p k n) + (k + n + 15) / 16 ≡ n + (k + 15) / 16
+length-words_from p k zero = rw (words_none p k) (omega arith)
+length-words_from p k (suc n) = ⊎_elim
+    (λ (head : k % 16 ≡ 0). let later = length-words_from p (k + 1) n in rw (words_skip p k n head) (omega (arith, later)))
+    (λ (data_word : k % 16 ≢ 0). let later = length-words_from p (k + 1) n in rw (words_step p k n data_word) (omega (arith, later)))
+    (is_head k)
+  where
+    is_head : (k : ℕ) → (k % 16 ≡ 0) ⊎ (k % 16 ≢ 0)
+    is_head k = ⊎_elim (λ (some : 0 < k % 16). inr (λ e. omega arith)) (λ (none : k % 16 ≤ 0). inl (omega arith)) (cases_lt 0 (k % 16))

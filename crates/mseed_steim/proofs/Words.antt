@@ -1,9 +1,9 @@
 -- Words as sums of signed digits.
-use Rattle.std.proofs.Common.{◌≡◌, ℕ, suc, ◌+◌, ◌-◌, ◌*◌, ◌/◌, ◌%◌, ◌^◌, ◌<◌, ◌≤◌, ◌≤ℤ◌, ◌<ℤ◌, List, [], ◌∷◌, ◌++◌, length, ℤ, pos, negsuc, neg_ℤ, arith, sym, ap, ◌∙◌, refl, All, length-append, lit<}
-use Rattle.std.proofs.lemmas.Nat.{one_shl, pow_pos, pow-add, shr-shr, mod-pow-add, same_from_place, mul-add-lt}
+use Rattle.std.proofs.Common.{◌≡◌, ℕ, suc, ◌+◌, ◌-◌, ◌*◌, ◌^◌, ◌<◌, ◌≤ℤ◌, ◌<ℤ◌, List, [], ◌∷◌, length, ℤ, pos, negsuc, neg_ℤ, arith, ap, refl, All}
+use Rattle.std.proofs.lemmas.Nat.{pow_pos, pow-add, same_from_place, mul-add-lt}
 use Rattle.std.proofs.lemmas.Int.{ints}
 use Rattle.std.proofs.lemmas.List.Elements.{All-head, All-tail}
-use Rattle.std.proofs.Math.Nat.{two-pow-succ, mod-eq_of_lt, mod-lt, pow-le-pow_right, mul-zero, mul-suc}
+use Rattle.std.proofs.Math.Nat.{two-pow-succ, mod-eq_of_lt, mod-lt}
 use Rattle.mseed_steim.specs.Spelling.{IsWithin, residue, positional}
 
 -- twice the half is the whole
@@ -13,14 +13,6 @@ twice_half w p =
     let f : 2 ^ suc (w - 1) ≡ 2 ^ (w - 1) + 2 ^ (w - 1) = two-pow-succ (w - 1) in
     let g : 2 ^ w ≡ 2 ^ suc (w - 1) = ap (λ n. 2 ^ n) e in
     omega (arith, f, g)
-
--- `1 << (w - 1)`, and twice that
-pub half_shl : (w : ℕ) → 0 < w → w ≤ 30 → ((1 * 2 ^ (w - 1)) % 2 ^ 32 ≡ 2 ^ (w - 1)) × (2 ^ w ≡ 2 * 2 ^ (w - 1)) × (2 ^ (w - 1) ≤ 2 ^ 29)
-half_shl w p q =
-    let low : w - 1 ≤ 29 = omega arith in
-    (one_shl (w - 1) 32 (omega arith), twice_half w p, pow-le-pow_right (lit< tt) low)
-
-pub ruleset shifts = half_shl
 
 -- a residue is below its modulus
 pub residue_lt : (m : ℕ) (d : ℤ) → 0 < m → residue m d < m
@@ -64,17 +56,6 @@ positional_lt w (d ∷ ds) =
     let f : 2 ^ (w * suc (length ds)) ≡ 2 ^ (w + w * length ds) = ap (λ n. 2 ^ n) (omega arith) in
     omega (arith, mul-add-lt (residue (2 ^ w) d) (2 ^ (w * length ds)) (positional w ds) (2 ^ w) h k, e, f)
 
-pub positional_push : (w : ℕ) (ds : List ℤ) (d : ℤ) → positional w (ds ++ (d ∷ [])) ≡ positional w ds * 2 ^ w + residue (2 ^ w) d
-positional_push w [] d =
-    let e : 2 ^ (w * 0) ≡ 1 = ap (λ n. 2 ^ n) (mul-zero w) in
-    rw e (omega arith)
-positional_push w (x ∷ xs) d =
-    let l : length (xs ++ (d ∷ [])) ≡ length xs + 1 = omega (arith, length-append xs (d ∷ [])) in
-    let k : positional w (xs ++ (d ∷ [])) ≡ positional w xs * 2 ^ w + residue (2 ^ w) d = positional_push w xs d in
-    let e : 2 ^ (w * length xs + w) ≡ 2 ^ (w * length xs) * 2 ^ w = pow-add 2 (w * length xs) w in
-    let f : 2 ^ (w * length (xs ++ (d ∷ []))) ≡ 2 ^ (w * length xs) * 2 ^ w = ap (λ n. 2 ^ n) (rw l (omega arith)) ∙ e in
-    rw (f, k) (omega arith)
-
 -- The word's digits are one list.
 pub positional_one : (w : ℕ) (ds es : List ℤ) → 0 < w → length ds ≡ length es → All (IsWithin w) ds → All (IsWithin w) es → positional w ds ≡ positional w es → ds ≡ es
 positional_one w [] [] p l h k s = refl
@@ -88,12 +69,3 @@ positional_one w (d ∷ ds) (e ∷ es) p l h k s =
     let first : d ≡ e = residue_one w d e p (All-head (IsWithin w) d ds h) (All-head (IsWithin w) e es k) parts.0 in
     let rest : ds ≡ es = positional_one w ds es p same (All-tail (IsWithin w) d ds h) (All-tail (IsWithin w) e es k) parts.1 in
     cc
-
--- One more digit of a number, from the top.
-pub digit_more : (n w c i : ℕ) → i < c → n / 2 ^ (w * (c - i)) % 2 ^ (w * i) * 2 ^ w + n / 2 ^ (w * (c - 1 - i)) % 2 ^ w ≡ n / 2 ^ (w * (c - (i + 1))) % 2 ^ (w * (i + 1))
-digit_more n w c i h =
-    let a : c - i ≡ suc (c - 1 - i) = omega arith in
-    let b : c - (i + 1) ≡ c - 1 - i = omega arith in
-    let e : n / 2 ^ (w * (c - i)) ≡ n / 2 ^ (w * (c - 1 - i)) / 2 ^ w = rw a (rw mul-suc (sym (shr-shr n (w * (c - 1 - i)) w))) in
-    let f : 2 ^ (w * (i + 1)) ≡ 2 ^ (w * i + w) = ap (λ n. 2 ^ n) (omega arith) in
-    rw (e, b, f) (sym (mod-pow-add (n / 2 ^ (w * (c - 1 - i))) (w * i) w))

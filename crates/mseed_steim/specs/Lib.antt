@@ -4,6 +4,8 @@ pub mod Digits
 pub mod Frames
 pub mod Runs
 pub mod Items
+pub mod Reads
+pub mod Left
 pub mod Steps
 pub mod Samples
 pub mod Sums

@@ -1,15 +1,15 @@
 -- What comes next in a walk over data words.
-use Rattle.std.specs.Prelude.{◌≡◌, ℕ, ◌-◌, ◌<◌, ◌≤◌, List, [], ◌∷◌, ◌++◌, map, length, Ok, Err}
+use Rattle.std.specs.Prelude.{◌≡◌, ◌<◌, ◌≤◌, List, [], ◌∷◌, ◌++◌, map, length, ℤ, Option, Some, None, Result, Ok, Err}
+use Rattle.arrayvec.specs.ArrayVec.{ArrayVec}
 use Rattle.mseed_steim.specs.declared.scheme.Scheme.{Scheme}
-use Rattle.mseed_steim.specs.declared.frames.Step.{Step}
-use Rattle.mseed_steim.specs.declared.frames.Step.TheVariants.{Differences, Bad, End}
-use Rattle.mseed_steim.specs.Frames.{words_from}
+use Rattle.mseed_steim.specs.declared.differences.BadWordAt.{BadWordAt}
+use Rattle.mseed_steim.specs.Frames.{DataWord}
 use Rattle.mseed_steim.specs.Items.{items_of}
 
--- the items of the words from `from` to before `end` are those of this step and those of the words behind it
-abbrev pub IsStep : Scheme → List ℕ → ℕ → ℕ → Step → Type 0
-IsStep scheme payload from end (Differences group next) =
-    (from < next) × (next ≤ end) × (0 < length group.items)
-    × (items_of scheme (words_from payload from (end - from)) ≡ map Ok group.items ++ items_of scheme (words_from payload next (end - next)))
-IsStep scheme payload from end (Bad at) = items_of scheme (words_from payload from (end - from)) ≡ Err at ∷ []
-IsStep scheme payload from end End = items_of scheme (words_from payload from (end - from)) ≡ []
+-- the items of the words before are those of this step and those of the words after
+abbrev pub IsStep : Scheme → List DataWord → Option (Result (ArrayVec ℤ) BadWordAt) → List DataWord → Type 0
+IsStep scheme before None after = (items_of scheme before ≡ []) × (after ≡ [])
+IsStep scheme before (Some (Ok group)) after =
+    (items_of scheme before ≡ map Ok group.items ++ items_of scheme after) × (0 < length group.items) × (length group.items ≤ 7)
+    × (length after < length before)
+IsStep scheme before (Some (Err at)) after = (items_of scheme before ≡ Err at ∷ []) × (after ≡ []) × (0 < length before)

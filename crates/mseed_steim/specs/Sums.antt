@@ -1,11 +1,9 @@
 -- A walk over items that adds them up. What it answers is said in Samples.
-use Rattle.std.specs.Prelude.{◌≡◌, ℕ, ◌+◌, ◌^◌, ◌==◌, nat_lt, Bool, if◌then◌else◌, List, [], ◌∷◌, ◌++◌, take, ℤ, pos, negsuc, ◌+ℤ◌, Option, Some, None, Result, Ok, Err}
+use Rattle.std.specs.Prelude.{◌≡◌, ℕ, ◌+◌, ◌^◌, ◌==◌, nat_lt, Bool, if◌then◌else◌, List, [], ◌∷◌, ℤ, pos, negsuc, ◌+ℤ◌, Option, Some, None, Result, Ok, Err}
 use Rattle.mseed_steim.specs.declared.differences.BadWordAt.{BadWordAt}
 use Rattle.mseed_steim.specs.declared.fault.ReadFault.{ReadFault}
 use Rattle.mseed_steim.specs.declared.fault.ReadFault.TheVariants.{Short, BadWord, Overflow}
 use Rattle.mseed_steim.specs.declared.sum.Sum.{Sum}
-use Rattle.mseed_steim.specs.Frames.{DataWord}
-use Rattle.mseed_steim.specs.Items.{with_items}
 
 -- 32 bits hold the number
 abbrev pub fits : ℤ → Bool
@@ -46,17 +44,3 @@ lack n met (Ok d ∷ more) = if met == n then None else lack n (met + 1) more
 abbrev pub GoesOn : ℕ → Sum → List (Result ℤ BadWordAt) → List (Result ℤ BadWordAt) → Result Sum ReadFault → Type 0
 GoesOn n sum items behind (Ok next) = (fold n sum items ≡ fold n next behind)
 GoesOn n sum items behind (Err fault) = (fold n sum items ≡ Err fault)
-
--- so does one over the items of a word, whatever stands behind it
-abbrev pub GoesOnPast : ℕ → Sum → DataWord → Option (List ℤ) → Result Sum ReadFault → Type 0
-GoesOnPast n sum word differences answer = (more : List (Result ℤ BadWordAt)) → GoesOn n sum (with_items word differences more) more answer
-
--- A walk over the items of a word of these differences goes on from the next sum, whatever stands behind it.
-abbrev pub GoesOnTo : ℕ → Sum → Option (List ℤ) → Sum → Type 0
-GoesOnTo n sum differences next = (word : DataWord) (more : List (Result ℤ BadWordAt)) → fold n sum (with_items word differences more) ≡ fold n next more
-
--- The samples that were kept and those that a walk over a word's items and what is behind it meets are those
--- that are kept now and those that a walk from the next sum meets.
-abbrev pub KeptPast : ℕ → Sum → List ℤ → DataWord → Option (List ℤ) → List ℤ → Sum → Type 0
-KeptPast n sum before word differences after next =
-    (more : List (Result ℤ BadWordAt)) → take next.met after ++ met_in n next more ≡ take sum.met before ++ met_in n sum (with_items word differences more)

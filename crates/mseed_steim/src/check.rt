@@ -1,38 +1,51 @@
 //! Payloads that are checked without keeping their samples.
 
-ghost use Rattle.std.specs.Prelude.{◌≡◌, ◌↔◌, ◌<◌, List, ℤ, IfOk, IfErr, IsOkAnd, Err};
+ghost use Rattle.std.specs.Prelude.{◌≡◌, ◌↔◌, ◌<◌, List, ℤ, IfOk, IfErr, IfSome, IfNone, IsOkAnd, Err, length};
 ghost use Rattle.mseed_record.specs.Viewing.{view_of};
 ghost use Rattle.mseed_time.specs.declared.order.Order.TheVariants.{Big};
 ghost use Rattle.mseed_steim.specs.declared.form.Form.TheVariants.{Integers, Frames};
+ghost use Rattle.mseed_steim.specs.Frames.{first_constant, last_constant};
 ghost use Rattle.mseed_steim.specs.Samples.{IsChecked, AreEnds};
 ghost use Rattle.mseed_steim.specs.declared.fault.ReadFault.{ReadFault};
 ghost use Rattle.mseed_steim.specs.Reading.{count_of, IsReading, EndsOnConstants, IsFault, Denies, HoldsIn, IsAnswer, is_little_steim};
 
+use crate::data_words::read_word;
 use crate::fault::{Ends, ReadFault};
 use crate::form::{Form, Width, form_of, integer_at};
-use crate::frames::read_word;
 use crate::scheme::Scheme;
-use crate::walk::{add_frames, find_lack};
+use crate::walk::{add_words, find_lack};
 use mseed_record::RecordView;
 use mseed_time::Order;
 
+/// The constants for the first and the last sample, where there's a frame that holds them.
+pub(crate) fn constants_of(payload: &[u8]) -> Option<Ends>
+    ensures none { IfNone result (length payload.now < 64) }
+    ensures first { IfSome result (λ ends. ends.first ≡ first_constant payload.now) }
+    ensures last { IfSome result (λ ends. ends.last ≡ last_constant payload.now) }
+{
+    if payload.len() < 64 {
+        return None;
+    }
+    Some(Ends {
+        first: read_word(payload, 1).cast_signed(),
+        last: read_word(payload, 2).cast_signed(),
+    })
+}
+
 /// The ends of so many samples of Steim frames.
-pub(crate) fn check_frames(
-    payload: &[u8],
-    scheme: Scheme,
-    samples: usize,
-) -> Result<Ends, ReadFault>
+fn check_frames(payload: &[u8], scheme: Scheme, samples: usize) -> Result<Ends, ReadFault>
     requires { 0 < samples }
     ensures { IsChecked (Frames scheme) Big payload.now samples result }
 {
-    match add_frames(payload, scheme, samples) {
+    let Some(constants) = constants_of(payload) else {
+        return Err(ReadFault::Short(0));
+    };
+    match add_words(payload, scheme, samples, constants.first) {
         Ok(sum) => {
-            let first = read_word(payload, 1).cast_signed();
-            let last = read_word(payload, 2).cast_signed();
-            if sum.last == last {
-                Ok(Ends { first, last })
+            if sum.last == constants.last {
+                Ok(constants)
             } else {
-                Err(ReadFault::LastDiffers(sum.last, last))
+                Err(ReadFault::LastDiffers(sum.last, constants.last))
             }
         }
         Err(fault) => match find_lack(payload, scheme, samples) {
@@ -43,7 +56,7 @@ pub(crate) fn check_frames(
 }
 
 /// The ends of so many integers.
-pub(crate) fn check_integers(
+fn check_integers(
     payload: &[u8],
     width: Width,
     order: Order,
@@ -96,7 +109,7 @@ pub(crate) fn payload_of<'a>(view: &RecordView<'a>) -> Result<(Form, &'a [u8]), 
     }
 }
 
-/// The ends of a record's samples.
+/// The ends of a record's samples: one relation, from which the clauses of [`check_samples`] follow.
 fn check_record(view: &RecordView<'_>) -> Result<Ends, ReadFault>
     requires { 0 < count_of (view_of view.now) }
     ensures { IsAnswer (view_of view.now) result }

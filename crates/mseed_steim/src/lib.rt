@@ -3,10 +3,11 @@
 #![tactic(auto)]
 
 mod check;
+mod data_words;
 mod differences;
 mod fault;
 mod form;
-mod frames;
+mod group;
 mod law;
 mod put;
 mod read;
@@ -22,7 +23,7 @@ mod word;
 pub use check::check_samples;
 pub use differences::{BadWordAt, Differences};
 pub use fault::{Ends, ReadFault};
-pub use law::{one_fault, one_reading};
+pub use law::{one_fault, one_reading, reading_has_count};
 pub use read::read_samples;
 pub use scheme::Scheme;
 pub use word::{BadWord, unpack_word};

@@ -9,11 +9,10 @@ ghost use Rattle.mseed_steim.specs.declared.fault.ReadFault.TheVariants.{Memory}
 ghost use Rattle.mseed_steim.specs.Reading.{count_of, IsFault, IsWhole, IsRefusal, Denies};
 ghost use Rattle.mseed_steim.specs.Samples.{IsFilled};
 
-use crate::check::{check_samples, payload_of};
+use crate::check::{check_samples, constants_of, payload_of};
 use crate::fault::ReadFault;
 use crate::form::{Form, Width, integer_at};
-use crate::frames::read_word;
-use crate::put::read_frames;
+use crate::put::put_words;
 use crate::scheme::Scheme;
 use crate::walk::find_lack;
 use mseed_record::RecordView;
@@ -31,13 +30,15 @@ fn fill_frames(
     requires room { length out.old ≡ samples }
     ensures { IsFilled (Frames scheme) Big payload.now samples out.new result }
 {
-    match read_frames(payload, scheme, samples, out) {
+    let Some(constants) = constants_of(payload) else {
+        return Err(ReadFault::Short(0));
+    };
+    match put_words(payload, scheme, samples, constants.first, out) {
         Ok(sum) => {
-            let last = read_word(payload, 2).cast_signed();
-            if sum.last == last {
+            if sum.last == constants.last {
                 Ok(())
             } else {
-                Err(ReadFault::LastDiffers(sum.last, last))
+                Err(ReadFault::LastDiffers(sum.last, constants.last))
             }
         }
         Err(fault) => match find_lack(payload, scheme, samples) {
@@ -86,33 +87,15 @@ fn fill_record(view: &RecordView<'_>, out: &mut [i32]) -> Result<(), ReadFault>
     }
 }
 
-/// A record's samples: those of its one reading, where it ends on the payload's constant. The record has at
-/// least one sample.
-///
-/// # Errors
-///
-/// The first reason, in the order of [`ReadFault`], why the record has no such reading. Where it has one,
-/// `Memory` where there is no memory for it.
-pub fn read_samples<A: Allocator + Drop>(
-    alloc: A,
-    view: &RecordView<'_>,
-) -> Result<Vec<i32, A>, ReadFault>
-    requires { 0 < count_of (view_of view.now) }
-    // What is answered is a reading that ends on its constants.
-    ensures reading { IfOk result (λ samples. IsWhole (view_of view.now) samples.items) }
-    // There's no other, and where there is one, it's answered unless memory lacks.
-    ensures only { (s : List ℤ) → IsWhole (view_of view.now) s → MatchResult result (λ samples. samples.items ≡ s) (λ fault. fault ≡ Memory) }
-    // A fault is answered where it is the first, and no other; memory lacks only where there's a reading.
-    ensures fault { (f : ReadFault) → IsFault (view_of view.now) f → result ≡ Err f }
-    ensures refused { IfErr result (λ fault. IsRefusal (view_of view.now) fault) }
-    // A fault says that there's no reading, or that the only one ends elsewhere.
-    ensures denied { IfErr result (λ fault. fault ≢ Memory → Denies (view_of view.now) fault) }
+/// So many zeros.
+fn zeros<A: Allocator + Drop>(alloc: A, count: usize) -> Result<Vec<i32, A>, AllocError>
+    ensures { IfOk result (λ samples. length samples.items ≡ count) }
 {
-    keep_samples(alloc, view)
+    Ok(vec![in alloc; 0; count]?)
 }
 
-/// A record's samples, in memory that may lack.
-pub(crate) fn keep_samples<A: Allocator + Drop>(
+/// A record's samples: one relation, from which the clauses of [`read_samples`] follow.
+fn read_record<A: Allocator + Drop>(
     alloc: A,
     view: &RecordView<'_>,
 ) -> Result<Vec<i32, A>, ReadFault>
@@ -135,9 +118,27 @@ pub(crate) fn keep_samples<A: Allocator + Drop>(
     }
 }
 
-/// So many zeros.
-fn zeros<A: Allocator + Drop>(alloc: A, count: usize) -> Result<Vec<i32, A>, AllocError>
-    ensures { IfOk result (λ samples. length samples.items ≡ count) }
+/// A record's samples: those of its one reading, where it ends on the payload's constant. The record has at
+/// least one sample.
+///
+/// # Errors
+///
+/// The first reason, in the order of [`ReadFault`], why the record has no such reading. Where it has one,
+/// `Memory` where there is no memory for it.
+pub fn read_samples<A: Allocator + Drop>(
+    alloc: A,
+    view: &RecordView<'_>,
+) -> Result<Vec<i32, A>, ReadFault>
+    requires { 0 < count_of (view_of view.now) }
+    // What is answered is a reading that ends on its constants.
+    ensures reading { IfOk result (λ samples. IsWhole (view_of view.now) samples.items) }
+    // There's no other, and where there is one, it's answered unless memory lacks.
+    ensures only { (s : List ℤ) → IsWhole (view_of view.now) s → MatchResult result (λ samples. samples.items ≡ s) (λ fault. fault ≡ Memory) }
+    // A fault is answered where it is the first, and no other; memory lacks only where there's a reading.
+    ensures fault { (f : ReadFault) → IsFault (view_of view.now) f → result ≡ Err f }
+    ensures refused { IfErr result (λ fault. IsRefusal (view_of view.now) fault) }
+    // A fault says that there's no reading, or that the only one ends elsewhere.
+    ensures denied { IfErr result (λ fault. fault ≢ Memory → Denies (view_of view.now) fault) }
 {
-    Ok(vec![in alloc; 0; count]?)
+    read_record(alloc, view)
 }

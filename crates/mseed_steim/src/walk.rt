@@ -1,51 +1,37 @@
-//! A walk over a payload's frames.
+//! Walks over a payload's words.
 
-ghost use Rattle.std.specs.Prelude.{◌≡◌, ◌≤◌, ◌<◌, ℕ, length, OnOk};
-ghost use Rattle.mseed_steim.specs.Frames.{first_constant, data_words};
+ghost use Rattle.std.specs.Prelude.{◌≡◌, ◌<◌};
+ghost use Rattle.mseed_steim.specs.Frames.{data_words};
 ghost use Rattle.mseed_steim.specs.Items.{items_of};
 ghost use Rattle.mseed_steim.specs.Sums.{fold, lack};
 
-use crate::differences::BadWordAt;
+use crate::data_words::Words;
 use crate::fault::ReadFault;
-use crate::frames::{FRAME, count_words, read_code, read_word};
+use crate::group::group_of;
 use crate::scheme::Scheme;
-use crate::sum::{Sum, add_all, add_word};
-use crate::word::row_of;
+use crate::sum::{Sum, add_group};
 
-/// The sum of so many samples, or what comes first in place of one.
-pub(crate) fn add_frames(payload: &[u8], scheme: Scheme, samples: usize) -> Result<Sum, ReadFault>
-    requires { 0 < samples }
-    ensures folded { result ≡ fold samples (record { met = 0; last = first_constant payload.now }) (items_of scheme (data_words payload.now)) }
-    ensures framed { OnOk result (64 ≤ length payload.now) }
+/// The sum of so many samples, of which this is the first, or what comes first in place of one.
+pub(crate) fn add_words(
+    payload: &[u8],
+    scheme: Scheme,
+    samples: usize,
+    first: i32,
+) -> Result<Sum, ReadFault>
+    ensures { result ≡ fold samples (record { met = 0; last = first }) (items_of scheme (data_words payload.now)) }
 {
-    let end = count_words(payload);
-    if end == 0 {
-        return Err(ReadFault::Short(0));
-    }
     let mut sum = Sum {
         met: 0,
-        last: read_word(payload, 1).cast_signed(),
+        last: first,
     };
-    for index in 3..end {
+    for word in Words::of(payload) {
         if sum.met == samples {
             return Ok(sum);
         }
-        if index % FRAME == 0 {
-            continue;
-        }
-        let code = read_code(payload, index);
-        let word = read_word(payload, index);
-        if 0 < sum.met && 7 <= samples - sum.met {
-            if let Some(next) = add_all(scheme, code, word, samples, sum) {
-                sum = next;
-                continue;
-            }
-        }
-        let at = BadWordAt {
-            frame: index / FRAME,
-            word: index % FRAME,
+        let Some(group) = group_of(scheme, word.code, word.bits) else {
+            return Err(ReadFault::BadWord(word.frame, word.place));
         };
-        match add_word(scheme, code, word, at, samples, sum) {
+        match add_group(word.bits, group, samples, sum) {
             Ok(next) => sum = next,
             Err(fault) => return Err(fault),
         }
@@ -63,19 +49,15 @@ pub(crate) fn find_lack(payload: &[u8], scheme: Scheme, samples: usize) -> Optio
     ensures { result ≡ lack samples 0 (items_of scheme (data_words payload.now)) }
 {
     let mut met = 0;
-    for index in 3..count_words(payload) {
-        if index % FRAME == 0 {
-            continue;
+    for word in Words::of(payload) {
+        let Some(group) = group_of(scheme, word.code, word.bits) else {
+            return Some(ReadFault::BadWord(word.frame, word.place));
+        };
+        let count = group.count as usize;
+        if samples - met <= count {
+            return None;
         }
-        match row_of(scheme, read_code(payload, index), read_word(payload, index)) {
-            Ok(group) => {
-                if samples - met <= group.len() {
-                    return None;
-                }
-                met += group.len();
-            }
-            Err(_) => return Some(ReadFault::BadWord(index / FRAME, index % FRAME)),
-        }
+        met += count;
     }
     Some(ReadFault::Short(met))
 }

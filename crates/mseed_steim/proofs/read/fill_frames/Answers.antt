@@ -1,29 +1,37 @@
 use Rattle.std.proofs.Common.{◌≡◌, ◌<◌, ◌∙◌, rules, sym, ap, w32, to_z, of_z, FitsSigned, get_or, ℕ}
 use Rattle.std.proofs.lemmas.Int.{to_z-of_z}
-use Rattle.mseed_steim.specs.Frames.{last_constant, word_at}
-use Rattle.mseed_steim.proofs.Given.{word_small}
-use Rattle.mseed_steim.proofs.Ended.{filled_met, ends_differ, lacking_fault, walk_fault, cast_is}
+use Rattle.mseed_steim.specs.Frames.{last_constant}
+use Rattle.mseed_steim.proofs.Ended.{filled_met, ends_differ, lacking_fault, walk_fault, no_frame}
 use Rattle.mseed_steim.proofs.read.fill_frames.Goals as goal
 
-pub returns-then-sum-last : goal.returns-then-sum-last
-returns-then-sum-last c =
-    let octets : (i : ℕ) → get_or c.args.payload.now i 0 < 256 = λ i. (c.type_inv.payload i).fits in
-    let last_fits : FitsSigned w32 c.cast_signed-last.result = search rules in
-    let sum_fits : FitsSigned w32 c.in-Ok.sum.last = search rules in
-    let last : c.cast_signed-last.result ≡ last_constant c.args.payload.now = c.cast_signed-last.ensures ∙ ap (to_z w32) c.read_word.ensures ∙ cast_is (word_at c.args.payload.now 2) (word_small c.args.payload.now 2 octets) in
-    let same : c.in-Ok.sum.last ≡ last_constant c.args.payload.now = sym (to_z-of_z w32 c.in-Ok.sum.last sum_fits) ∙ ap (to_z w32) c.if-sum-last.true ∙ to_z-of_z w32 c.cast_signed-last.result last_fits ∙ last in
-    filled_met c.args.scheme c.args.payload.now c.args.samples c.in-Ok.sum c.read_frames.new.out c.requires.some octets c.in-Ok.ensures.folded c.in-Ok.ensures.kept same
+pub returns-in_default : goal.returns-in_default
+returns-in_default c = no_frame c.args.scheme c.args.payload.now c.args.samples c.in_default.ensures.none c.requires.some
 
-pub returns-else-sum-last : goal.returns-else-sum-last
-returns-else-sum-last c =
+pub returns-then-sum-constants : goal.returns-then-sum-constants
+returns-then-sum-constants c =
     let octets : (i : ℕ) → get_or c.args.payload.now i 0 < 256 = λ i. (c.type_inv.payload i).fits in
-    let last_fits : FitsSigned w32 c.cast_signed-last.result = search rules in
+    let first_fits : FitsSigned w32 c.in-Some.constants.first = search rules in
+    let last_fits : FitsSigned w32 c.in-Some.constants.last = search rules in
     let sum_fits : FitsSigned w32 c.in-Ok.sum.last = search rules in
-    let last : c.cast_signed-last.result ≡ last_constant c.args.payload.now = c.cast_signed-last.ensures ∙ ap (to_z w32) c.read_word.ensures ∙ cast_is (word_at c.args.payload.now 2) (word_small c.args.payload.now 2 octets) in
-    ends_differ c.args.scheme c.args.payload.now c.args.samples c.in-Ok.sum c.requires.some octets c.in-Ok.ensures.folded _ _ (to_z-of_z w32 c.in-Ok.sum.last sum_fits) (rw to_z-of_z last) (λ e. c.if-sum-last.false (ap (of_z w32) (sym (to_z-of_z w32 c.in-Ok.sum.last sum_fits) ∙ e ∙ to_z-of_z w32 c.cast_signed-last.result last_fits)))
+    let folded = rw (to_z-of_z, c.in-Some.ensures.first) at c.in-Ok.ensures.folded in
+    let kept = rw (to_z-of_z, c.in-Some.ensures.first) at c.in-Ok.ensures.kept in
+    let same : c.in-Ok.sum.last ≡ last_constant c.args.payload.now = sym (to_z-of_z w32 c.in-Ok.sum.last sum_fits) ∙ ap (to_z w32) c.if-sum-constants.true ∙ to_z-of_z w32 c.in-Some.constants.last last_fits ∙ c.in-Some.ensures.last in
+    filled_met c.args.scheme c.args.payload.now c.args.samples c.in-Ok.sum c.put_words.new.out c.requires.some octets folded kept same
 
-pub returns-in-Some : goal.returns-in-Some
-returns-in-Some c = lacking_fault c.args.scheme c.args.payload.now c.args.samples c.in-Some.earlier (λ i. (c.type_inv.payload i).fits) (sym c.in-Some.is ∙ c.find_lack.ensures)
+pub returns-else-sum-constants : goal.returns-else-sum-constants
+returns-else-sum-constants c =
+    let octets : (i : ℕ) → get_or c.args.payload.now i 0 < 256 = λ i. (c.type_inv.payload i).fits in
+    let first_fits : FitsSigned w32 c.in-Some.constants.first = search rules in
+    let last_fits : FitsSigned w32 c.in-Some.constants.last = search rules in
+    let sum_fits : FitsSigned w32 c.in-Ok.sum.last = search rules in
+    let folded = rw (to_z-of_z, c.in-Some.ensures.first) at c.in-Ok.ensures.folded in
+    ends_differ c.args.scheme c.args.payload.now c.args.samples c.in-Ok.sum c.requires.some octets folded _ _ (to_z-of_z w32 c.in-Ok.sum.last sum_fits) (to_z-of_z w32 c.in-Some.constants.last last_fits ∙ c.in-Some.ensures.last) (λ e. c.if-sum-constants.false (ap (of_z w32) (sym (to_z-of_z w32 c.in-Ok.sum.last sum_fits) ∙ e ∙ to_z-of_z w32 c.in-Some.constants.last last_fits)))
+
+pub returns-in-Some-find_lack : goal.returns-in-Some-find_lack
+returns-in-Some-find_lack c = lacking_fault c.args.scheme c.args.payload.now c.args.samples c.in-Some-find_lack.earlier (λ i. (c.type_inv.payload i).fits) (sym c.in-Some-find_lack.is ∙ c.find_lack.ensures)
 
 pub returns-in-None : goal.returns-in-None
-returns-in-None c = walk_fault c.args.scheme c.args.payload.now c.args.samples c.in-Err.fault c.requires.some (λ i. (c.type_inv.payload i).fits) c.in-Err.ensures.folded (sym c.in-None.is ∙ c.find_lack.ensures)
+returns-in-None c =
+    let first_fits : FitsSigned w32 c.in-Some.constants.first = search rules in
+    let folded = rw (to_z-of_z, c.in-Some.ensures.first) at c.in-Err.ensures.folded in
+    walk_fault c.args.scheme c.args.payload.now c.args.samples c.in-Err.fault c.requires.some (λ i. (c.type_inv.payload i).fits) folded (sym c.in-None.is ∙ c.find_lack.ensures)

@@ -1,0 +1,119 @@
+//! The data words of a payload's frames.
+
+ghost use Rattle.std.specs.Prelude.{◌≡◌, ◌≢◌, ◌≤◌, ◌<◌, ◌+◌, ◌-◌, ◌*◌, ◌/◌, ◌%◌, ◌^◌, List, [], length};
+ghost use Rattle.std.specs.Iterator.{YieldsFirstBy, item_count};
+ghost use Rattle.mseed_steim.specs.Frames.{DataWord, word_at, words_from, data_words};
+ghost use Rattle.mseed_steim.specs.Reads.{as_data};
+
+use byteorder::{BigEndian, ByteOrder};
+use std::marker::Model;
+
+/// Bytes of a word.
+const WORD: usize = 4;
+
+/// Words of a frame.
+const FRAME: usize = 16;
+
+/// The bits of a word, which are counted from the payload's begin.
+pub(crate) fn read_word(payload: &[u8], index: usize) -> u32
+    requires { 4 * (index + 1) ≤ length payload.now }
+    ensures { result ≡ word_at payload.now index }
+{
+    BigEndian::read_u32(&payload[WORD * index..])
+}
+
+/// A data word: its frame, from 0, its place in it, from 1 to 15, its code and its bits.
+#[derive(Clone, Copy)]
+pub(crate) struct Word {
+    pub(crate) frame: usize,
+    pub(crate) place: usize,
+    pub(crate) code: u8,
+    pub(crate) bits: u32,
+}
+
+/// The data words of a payload's whole frames, in their order.
+#[derive(Drop)]
+pub(crate) struct Words<'a> {
+    payload: &'a [u8],
+    /// The word that is next, and the end of the words.
+    next: usize,
+    end: usize,
+    /// The codes of the frame in which the next word stands, once they have been read.
+    codes: u32,
+}
+
+impl<'a> Model for Words<'a> {
+    ghost Value = { List DataWord };
+
+    ghost view = { λ w. words_from w.payload.now w.next (w.end - w.next) };
+
+    ghost invariant = { λ w. (w.next ≤ w.end) × (w.end % 16 ≡ 0) × (4 * w.end ≤ length w.payload.now) × (w.next % 16 ≢ 0 → w.codes ≡ word_at w.payload.now (16 * (w.next / 16))) };
+}
+
+impl<'a> Words<'a> {
+    /// Those of all whole frames: all words but the first of each frame, and of the first frame its constants.
+    pub(crate) fn of(payload: &'a [u8]) -> Self
+        ensures { result ≡ data_words payload.now }
+    {
+        let end = payload.len() / (FRAME * WORD) * FRAME;
+        if end == 0 {
+            return Words {
+                payload,
+                next: 0,
+                end,
+                codes: 0,
+            };
+        }
+        Words {
+            payload,
+            next: 3,
+            end,
+            codes: read_word(payload, 0),
+        }
+    }
+
+    /// The number of words that are left.
+    pub(crate) fn count_left(&self) -> usize
+        ensures value { result ≡ length self.now }
+        ensures low { result < 2 ^ 61 }
+    {
+        let heads = self.end / FRAME - self.next.div_ceil(FRAME);
+        self.end - self.next - heads
+    }
+
+    /// Passes over all words that are left.
+    pub(crate) fn pass_all(&mut self)
+        ensures { self.new ≡ [] }
+    {
+        self.next = self.end;
+    }
+}
+
+impl<'a> Iterator for Words<'a> {
+    type Item = Word;
+
+    ghost next_gives = { YieldsFirstBy as_data (λ words. words) };
+
+    ghost remaining = { item_count (λ words. words) };
+
+    #[inline]
+    fn next(&mut self) -> Option<Word> {
+        if self.next == self.end {
+            return None;
+        }
+        if self.next % FRAME == 0 {
+            self.codes = read_word(self.payload, self.next);
+            self.next += 1;
+        }
+        let (frame, place) = (self.next / FRAME, self.next % FRAME);
+        let code = (self.codes >> (30 - 2 * place) & 3) as u8;
+        let bits = read_word(self.payload, self.next);
+        self.next += 1;
+        Some(Word {
+            frame,
+            place,
+            code,
+            bits,
+        })
+    }
+}
