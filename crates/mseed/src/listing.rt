@@ -1,13 +1,13 @@
 //! The lines of a listing.
-ghost use Rattle.std.specs.Prelude.{◌≡◌, ◌++◌, OnOk, decimal};
+ghost use Rattle.std.specs.Prelude.{◌≡◌, ◌++◌, OnOk, codes};
 ghost use Rattle.mseed_record.specs.Viewing.{view_of};
-ghost use Rattle.mseed_time.specs.Ratios.{ratio_of};
-ghost use Rattle.mseed.specs.Listing.{record_line, place_words, size_words, time_words, payload_words, count_line, start_text, rate_text, ratio_text, time_fault_words, order_word, last_words};
+ghost use Rattle.mseed.specs.Listing.{record_line, place_words, size_words, time_words, payload_words, count_line};
+ghost use Rattle.mseed.specs.Listing.{start_text, rate_text, time_fault_words, order_word, last_words};
 
-use itoa::Buffer;
-use mseed_audit::push_name;
+use mseed_audit::Part::{Count, Words};
+use mseed_audit::{push_name, push_parts};
 use mseed_record::RecordView;
-use mseed_time::{NoRate, Order, Rate, TimeFault, show_time};
+use mseed_time::{NoRate, Order, TimeFault, show_time};
 use std::alloc::{AllocError, Allocator};
 
 /// Adds a record's line. Where memory is refused, a part of it may have been added.
@@ -28,8 +28,7 @@ pub fn push_record_line<A: Allocator>(
 pub fn push_count_line<A: Allocator>(text: &mut Vec<u8, A>, records: u64) -> Result<(), AllocError>
     ensures { OnOk result (text.new.items ≡ text.old.items ++ count_line records) }
 {
-    push_count(text, b"records ", records)?;
-    text.extend_from_slice(b"\n")
+    push_parts(text, &[Words(b"records "), Count(records), Words(b"\n")])
 }
 
 /// Adds where a record begins, and its channel's name.
@@ -40,8 +39,7 @@ fn push_place<A: Allocator>(
 ) -> Result<(), AllocError>
     ensures { OnOk result (text.new.items ≡ text.old.items ++ place_words offset (view_of view.now)) }
 {
-    push_number(text, offset)?;
-    text.push(b' ')?;
+    push_parts(text, &[Count(offset), Words(b" ")])?;
     push_name(text, &view.codes())
 }
 
@@ -49,56 +47,67 @@ fn push_place<A: Allocator>(
 fn push_size<A: Allocator>(text: &mut Vec<u8, A>, view: &RecordView) -> Result<(), AllocError>
     ensures { OnOk result (text.new.items ≡ text.old.items ++ size_words (view_of view.now)) }
 {
-    text.extend_from_slice(&[b' ', view.quality()])?;
-    push_count(text, b" length ", view.bytes().len() as u64)?;
-    push_count(text, b" samples ", u64::from(view.samples()))
+    push_parts(
+        text,
+        &[
+            Words(&[b' ', view.quality()]),
+            Words(b" length "),
+            Count(view.bytes().len() as u64),
+            Words(b" samples "),
+            Count(u64::from(view.samples())),
+        ],
+    )
 }
 
 /// Adds a record's start and rate.
 fn push_times<A: Allocator>(text: &mut Vec<u8, A>, view: &RecordView) -> Result<(), AllocError>
     ensures { OnOk result (text.new.items ≡ text.old.items ++ time_words (view_of view.now)) }
 {
-    text.extend_from_slice(b" start ")?;
     push_start(text, view)?;
-    text.extend_from_slice(b" rate ")?;
     push_rate(text, view)
 }
 
 /// Adds a record's start, or the field that is out of its range.
 fn push_start<A: Allocator>(text: &mut Vec<u8, A>, view: &RecordView) -> Result<(), AllocError>
-    ensures { OnOk result (text.new.items ≡ text.old.items ++ start_text (view_of view.now)) }
+    ensures { OnOk result (text.new.items ≡ text.old.items ++ codes " start " ++ start_text (view_of view.now)) }
 {
     match view.start() {
-        Ok(start) => text.extend_from_slice(&show_time(start)),
-        Err(fault) => text.extend_from_slice(time_fault_words(fault)),
+        Ok(start) => push_parts(text, &[Words(b" start "), Words(&show_time(start))]),
+        Err(fault) => push_parts(text, &[Words(b" start "), Words(time_fault_words(fault))]),
     }
 }
 
 /// Adds a record's rate.
 fn push_rate<A: Allocator>(text: &mut Vec<u8, A>, view: &RecordView) -> Result<(), AllocError>
-    ensures { OnOk result (text.new.items ≡ text.old.items ++ rate_text (view_of view.now)) }
+    ensures { OnOk result (text.new.items ≡ text.old.items ++ codes " rate " ++ rate_text (view_of view.now)) }
 {
     match view.rate() {
-        Ok(rate) => push_ratio(text, rate),
-        Err(NoRate) => text.extend_from_slice(b"none"),
+        Ok(rate) => push_parts(
+            text,
+            &[
+                Words(b" rate "),
+                Count(u64::from(rate.num())),
+                Words(b"/"),
+                Count(u64::from(rate.den())),
+            ],
+        ),
+        Err(NoRate) => push_parts(text, &[Words(b" rate none")]),
     }
-}
-
-/// Adds how many samples there are in how many seconds.
-fn push_ratio<A: Allocator>(text: &mut Vec<u8, A>, rate: Rate) -> Result<(), AllocError>
-    ensures { OnOk result (text.new.items ≡ text.old.items ++ ratio_text (ratio_of rate)) }
-{
-    push_number(text, u64::from(rate.num()))?;
-    push_count(text, b"/", u64::from(rate.den()))
 }
 
 /// Adds how a record's payload is encoded, and whether a blockette 100 gives another rate.
 fn push_payload<A: Allocator>(text: &mut Vec<u8, A>, view: &RecordView) -> Result<(), AllocError>
     ensures { OnOk result (text.new.items ≡ text.old.items ++ payload_words (view_of view.now)) }
 {
-    push_count(text, b" encoding ", u64::from(view.encoding()))?;
-    text.extend_from_slice(order_word(view.payload_order()))?;
-    text.extend_from_slice(last_words(view.has_rate_blockette()))
+    push_parts(
+        text,
+        &[
+            Words(b" encoding "),
+            Count(u64::from(view.encoding())),
+            Words(order_word(view.payload_order())),
+            Words(last_words(view.has_rate_blockette())),
+        ],
+    )
 }
 
 /// The words of a start that is refused.
@@ -134,24 +143,4 @@ fn last_words(has_rate_blockette: bool) -> &'static [u8]
     } else {
         b"\n"
     }
-}
-
-/// Adds a label and a number.
-fn push_count<A: Allocator>(
-    text: &mut Vec<u8, A>,
-    label: &[u8],
-    count: u64,
-) -> Result<(), AllocError>
-    ensures { OnOk result (text.new.items ≡ text.old.items ++ label.now ++ decimal count) }
-{
-    text.extend_from_slice(label)?;
-    push_number(text, count)
-}
-
-/// Adds a number.
-fn push_number<A: Allocator>(text: &mut Vec<u8, A>, number: u64) -> Result<(), AllocError>
-    ensures { OnOk result (text.new.items ≡ text.old.items ++ decimal number) }
-{
-    let mut buffer = Buffer::new();
-    text.extend_from_slice(buffer.format(number).as_bytes())
 }

@@ -1,6 +1,6 @@
 -- How high the counts of verdicts are.
-use Rattle.std.proofs.Common.{◌≡◌, ℕ, ◌+◌, ◌≤◌, ◌<◌, List, arith, sym, subst}
-use Rattle.std.specs.List.{All, IsAmong}
+use Rattle.std.proofs.Common.{ℕ, ◌≤◌, List, arith, sym, subst}
+use Rattle.std.specs.List.{IsAmong}
 use Rattle.std.specs.Map.{values_of}
 use Rattle.mseed_audit.specs.declared.channel.Channel.{Channel}
 use Rattle.mseed_audit.specs.declared.finding.Verdict.{Verdict}

@@ -16,6 +16,7 @@ pub mod OneList
 pub mod OneSeries
 pub mod OneVerdict
 pub mod Outcomes
+pub mod Pieces
 pub mod Places
 pub mod Steps
 pub mod Trims

@@ -1,5 +1,5 @@
 -- Maps by the bytes of their keys.
-use Rattle.std.proofs.Common.{◌≡◌, ℕ, List, Bool, true, refl}
+use Rattle.std.proofs.Common.{◌≡◌, ℕ, List, true, refl}
 use Rattle.std.specs.Ordering.{nat_cmp, eq_by_cmp}
 use Rattle.std.specs.Cmp.{IsEquivalence}
 use Rattle.std.specs.Cmp.Lexicographic.{slice_cmp}

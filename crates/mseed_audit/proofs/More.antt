@@ -4,10 +4,8 @@ use Rattle.std.specs.List.{filter}
 use Rattle.std.proofs.lemmas.List.Elements.{filter-append}
 use Rattle.std.specs.Map.{lookup}
 use Rattle.std.proofs.lemmas.List.{length-append}
-use Rattle.mseed_record.specs.View.{View}
 use Rattle.mseed_record.specs.Header.{key_at}
 use Rattle.mseed_steim.specs.Reading.{count_of}
-use Rattle.mseed_audit.specs.declared.channel.Channel.{Channel}
 use Rattle.mseed_audit.specs.Channels.{Added, Placed, numbered, same_key, is_of, records_of, with_record}
 use Rattle.mseed_audit.specs.Standing.{Held, StandsAt, IsAuditOf}
 

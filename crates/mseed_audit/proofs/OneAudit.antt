@@ -1,8 +1,7 @@
 -- What was heard has one audit.
-use Rattle.std.proofs.Common.{◌≡◌, ◌≢◌, ℕ, ◌<◌, ◌^◌, ◌++◌, List, [], ◌∷◌, length, take, drop, map, Option, Some, None, refl, sym, ap, subst, ◌∙◌, arith, is_some}
+use Rattle.std.proofs.Common.{◌≡◌, ℕ, ◌<◌, ◌^◌, ◌++◌, List, [], ◌∷◌, length, drop, map, Option, Some, None, refl, sym, ap, subst, ◌∙◌, arith, is_some}
 use Rattle.std.specs.List.{concat, AllByRecursion}
 use Rattle.std.proofs.lemmas.List.{take-append-drop}
-use Rattle.mseed_record.specs.declared.frame.FrameFault.{FrameFault}
 use Rattle.mseed_record.specs.View.{View, IsView}
 use Rattle.mseed_record.proofs.Viewed.{view_once}
 use Rattle.mseed_stream.specs.Archive.{HasNoFurther, IsArchive, End, clean, frame, truncated, IsEndOf}
@@ -87,7 +86,7 @@ pub record IsSame {h : Heard} (a b : Audited h) : Type 0 where
 pub audited_one : HasOneFault → Excludes → (h : Heard) (a b : Audited h) → h.calls < 2 ^ 40 → IsSame a b
 audited_one only excludes h a b few =
     let both = one_archive h.bytes (map (λ v. v.bytes) a.views) (map (λ v. v.bytes) b.views) (drop a.place h.bytes) (drop b.place h.bytes)
-        (archive_is a.place a.views a.end h a.records a.ends) (archive_is b.place b.views b.end h b.records b.ends) in
+    (archive_is a.place a.views a.end h a.records a.ends) (archive_is b.place b.views b.end h b.records b.ends) in
     let views : a.views ≡ b.views = same_views a.views b.views a.records.each b.records.each both.0 in
     let place : a.place ≡ b.place = sym a.records.place_is ∙ ap (λ (vs : List View). length (concat (map (λ v. v.bytes) vs))) views ∙ b.records.place_is in
     let ending : IsEnd a.end b.place h = subst (λ (n : ℕ). IsEnd a.end n h) place a.ends in

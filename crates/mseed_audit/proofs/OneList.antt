@@ -1,11 +1,11 @@
 -- An archive has one list of verdicts at most.
-use Rattle.std.proofs.Common.{◌≡◌, ℕ, List, [], ◌∷◌, Option, Some, None, refl, sym, ap, subst}
+use Rattle.std.proofs.Common.{◌≡◌, ℕ, List, [], ◌∷◌, Option, Some, None, refl, ap}
 use Rattle.std.specs.Map.{lookup}
 use Rattle.mseed_audit.specs.declared.finding.Finding.{Finding}
 use Rattle.mseed_audit.specs.declared.finding.Verdict.{Verdict}
 use Rattle.mseed_audit.specs.declared.finding.Verdict.TheVariants.{Continuous, Broken}
 use Rattle.mseed_audit.specs.Channels.{Added, Placed, same_key, records_of}
-use Rattle.mseed_audit.specs.Verdict.{AreFindings, none, one, IsVerdict, IsVerdictAt, AreVerdicts}
+use Rattle.mseed_audit.specs.Verdict.{AreFindings, IsVerdict, IsVerdictAt, AreVerdicts}
 use Rattle.mseed_audit.proofs.Alike.{one_list}
 use Rattle.mseed_audit.proofs.Continuity.{Excludes}
 use Rattle.mseed_audit.proofs.OneVerdict.{HasOneFault, verdict_one}

@@ -1,7 +1,6 @@
 -- Records have one series at most, and leap seconds one first that a series can't have.
 use Rattle.std.proofs.Common.{◌≡◌, ℕ, ℤ, ◌<◌, ◌≤◌, List, [], ◌∷◌, ◌++◌, length, refl, sym, ap, subst, ◌∙◌, arith}
 use Rattle.mseed_time.specs.declared.outcome.LeapStep.{LeapStep}
-use Rattle.mseed_time.specs.declared.rate.Rate.{Rate}
 use Rattle.mseed_record.specs.Header.{key_at, factor_at, multiplier_at}
 use Rattle.mseed_record.specs.View.{View, start_of}
 use Rattle.mseed_steim.specs.Reading.{HasOneReading}

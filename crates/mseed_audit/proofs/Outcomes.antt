@@ -1,5 +1,5 @@
 -- What an audit of a whole input comes to, by what its calls ensure.
-use Rattle.std.proofs.Common.{◌≡◌, ℕ, suc, ◌+◌, ◌<◌, ◌++◌, List, [], ◌∷◌, length, take, Option, refl, sym, ap, ◌∙◌, subst, is_some}
+use Rattle.std.proofs.Common.{◌≡◌, ℕ, suc, ◌+◌, ◌<◌, ◌++◌, List, [], ◌∷◌, length, take, Option, refl, ap, ◌∙◌, subst, is_some}
 use Rattle.mseed_record.specs.View.{View}
 use Rattle.mseed_stream.specs.Device.{Heard, Said}
 use Rattle.mseed_stream.specs.declared.fault.StreamFault.{StreamFault}

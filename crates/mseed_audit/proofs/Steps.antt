@@ -4,12 +4,11 @@ use Rattle.std.specs.Map.{lookup}
 use Rattle.std.proofs.lemmas.Bool.{false≢true}
 use Rattle.std.proofs.lemmas.List.{length-append}
 use Rattle.mseed_record.specs.Header.{key_at}
-use Rattle.mseed_record.specs.View.{View}
 use Rattle.mseed_steim.specs.Reading.{count_of}
 use Rattle.mseed_audit.specs.declared.channel.Channel.{Channel}
 use Rattle.mseed_audit.specs.Channels.{Placed, same_key, is_of, with_record}
 use Rattle.mseed_audit.specs.Standing.{Stands, StandsAt}
-use Rattle.mseed_audit.proofs.Maps.{same_back, same_is, same_itself}
+use Rattle.mseed_audit.proofs.Maps.{same_back, same_is}
 
 -- a record with samples is of the channel with its own key, and of no other
 of_key : (key code : List ℕ) (p : Placed) (b : Bool) → code ≡ key_at p.view.bytes → 0 < count_of p.view → same_key code key ≡ b → is_of key p.view ≡ b

@@ -2,6 +2,7 @@ pub mod Archive
 pub mod Channels
 pub mod Follows
 pub mod Judging
+pub mod Parts
 pub mod Series
 pub mod Standing
 pub mod Text

@@ -1,5 +1,6 @@
 -- The text of an audit.
-use Rattle.std.specs.Prelude.{ℕ, suc, ◌+◌, ◌&&◌, nat_le, if◌then◌else◌, List, [], ◌∷◌, ◌++◌, map, length, slice_range, codes, decimal, ℤ, pos, negsuc, Option, Some, None}
+use Rattle.std.specs.Prelude.{ℕ, ◌&&◌, nat_le, if◌then◌else◌, List, [], ◌∷◌, ◌++◌, map, length, slice_range, codes, decimal, ℤ, Option, Some, None}
+use Rattle.std.specs.Fmt.{signed_decimal}
 use Rattle.std.specs.List.{list_all}
 use Rattle.mseed_time.specs.Rate.{Ratio}
 use Rattle.mseed_time.specs.Ratios.{ratio_of}
@@ -47,11 +48,6 @@ time_text_of Minute = codes "time minute"
 time_text_of Second = codes "time second"
 time_text_of Fraction = codes "time fraction"
 
--- a number with `-` before it where it is negative
-abbrev pub signed : ℤ → List ℕ
-signed (pos n) = decimal n
-signed (negsuc n) = codes "-" ++ decimal (suc n)
-
 -- the words of samples that can't be read; a want of memory is no finding
 abbrev pub read_text : ReadFault → List ℕ
 read_text Blockette100 = codes "blockette100"
@@ -61,7 +57,7 @@ read_text DataOffset = codes "dataoffset"
 read_text (Short found) = codes "short " ++ decimal found
 read_text (BadWord frame word) = codes "badword " ++ decimal frame ++ codes " " ++ decimal word
 read_text (Overflow index) = codes "overflow " ++ decimal index
-read_text (LastDiffers found constant) = codes "lastdiffers " ++ signed found ++ codes " " ++ signed constant
+read_text (LastDiffers found constant) = codes "lastdiffers " ++ signed_decimal found ++ codes " " ++ signed_decimal constant
 read_text NoMemory = []
 
 abbrev pub why_text : Why → List ℕ
@@ -95,19 +91,19 @@ abbrev pub total_line : ℕ → ℕ → List ℕ
 total_line records channels =
     codes "records " ++ decimal records ++ codes " channels " ++ decimal channels ++ codes "\n"
 
--- the line of bytes that begin no record
-abbrev pub frame_line : ℕ → FrameFault → List ℕ
-frame_line offset NotData = codes "fault at " ++ decimal offset ++ codes " notdata\n"
-frame_line offset NoOrder = codes "fault at " ++ decimal offset ++ codes " order\n"
-frame_line offset Chain = codes "fault at " ++ decimal offset ++ codes " chain\n"
-frame_line offset No1000 = codes "fault at " ++ decimal offset ++ codes " no1000\n"
-frame_line offset (Length e) = codes "fault at " ++ decimal offset ++ codes " length " ++ decimal e ++ codes "\n"
-frame_line offset Outside = codes "fault at " ++ decimal offset ++ codes " outside\n"
-frame_line offset Version3 = codes "fault at " ++ decimal offset ++ codes " version3\n"
+-- why bytes begin no record
+abbrev pub frame_words : FrameFault → List ℕ
+frame_words NotData = codes "notdata"
+frame_words NoOrder = codes "order"
+frame_words Chain = codes "chain"
+frame_words No1000 = codes "no1000"
+frame_words (Length e) = codes "length " ++ decimal e
+frame_words Outside = codes "outside"
+frame_words Version3 = codes "version3"
 
 -- the line of a stream's fault: a want of memory has none
 abbrev pub fault_line : StreamFault → List ℕ
-fault_line (Frame offset f) = frame_line offset f
+fault_line (Frame offset f) = codes "fault at " ++ decimal offset ++ codes " " ++ frame_words f ++ codes "\n"
 fault_line (Truncated offset have) = codes "fault at " ++ decimal offset ++ codes " truncated " ++ decimal have ++ codes "\n"
 fault_line (Read offset) = codes "fault at " ++ decimal offset ++ codes " read\n"
 fault_line (Turns offset) = codes "fault at " ++ decimal offset ++ codes " turns\n"

@@ -1,11 +1,16 @@
 //! The lines of an audit's text.
-ghost use Rattle.std.specs.Prelude.{◌≡◌, ◌++◌, OnOk, codes, decimal};
-ghost use Rattle.mseed_audit.specs.Text.{audit_text, verdict_lines, verdict_line, continuous_words, broken_words, total_line, name_text, code_text, why_text, read_text, time_text_of, signed, printed, trimmed, end_line, fault_line, frame_line};
+ghost use Rattle.std.specs.Prelude.{◌≡◌, ◌++◌, OnOk};
 ghost use Rattle.mseed_time.specs.Ratios.{ratio_of};
-ghost use Rattle.mseed_record.specs.Header.{is_blank};
+ghost use Rattle.mseed_stream.specs.Device.{IsFrontOf};
+ghost use Rattle.mseed_audit.specs.Text.{audit_text, verdict_lines, verdict_line, continuous_words};
+ghost use Rattle.mseed_audit.specs.Text.{broken_words, total_line, why_text, read_text, time_text_of};
+ghost use Rattle.mseed_audit.specs.Text.{fault_line, frame_words};
+ghost use Rattle.mseed_stream.specs.declared.fault.StreamFault.{StreamFault};
 
 use crate::finding::{Finding, Verdict, Why};
-use itoa::Buffer;
+use crate::name::push_name;
+use crate::parts::Part::{Count, Signed, Wide, Words};
+use crate::parts::push_parts;
 use mseed_record::{Codes, FrameFault};
 use mseed_steim::ReadFault;
 use mseed_stream::StreamFault;
@@ -21,7 +26,8 @@ pub(crate) fn push_audit<A: Allocator>(
     records: u64,
     end: &Option<StreamFault>,
 ) -> Result<(), AllocError>
-    ensures { OnOk result (text.new.items ≡ text.old.items ++ audit_text verdicts.now records end.now) }
+    ensures ok { OnOk result (text.new.items ≡ text.old.items ++ audit_text verdicts.now records end.now) }
+    ensures front { IsFrontOf text.old.items text.new.items }
 {
     push_verdicts(text, verdicts)?;
     push_total_line(text, records, verdicts.len() as u64)?;
@@ -36,7 +42,8 @@ fn push_verdicts<A: Allocator>(
     text: &mut Vec<u8, A>,
     verdicts: &[(Codes, Verdict)],
 ) -> Result<(), AllocError>
-    ensures { OnOk result (text.new.items ≡ text.old.items ++ verdict_lines verdicts.now) }
+    ensures ok { OnOk result (text.new.items ≡ text.old.items ++ verdict_lines verdicts.now) }
+    ensures front { IsFrontOf text.old.items text.new.items }
 {
     for (codes, verdict) in verdicts {
         push_channel_line(text, codes, verdict)?;
@@ -50,7 +57,8 @@ fn push_channel_line<A: Allocator>(
     codes: &Codes,
     verdict: &Verdict,
 ) -> Result<(), AllocError>
-    ensures { OnOk result (text.new.items ≡ text.old.items ++ verdict_line codes.now verdict.now) }
+    ensures ok { OnOk result (text.new.items ≡ text.old.items ++ verdict_line codes.now verdict.now) }
+    ensures front { IsFrontOf text.old.items text.new.items }
 {
     push_name(text, codes)?;
     match verdict {
@@ -72,15 +80,26 @@ fn push_continuous<A: Allocator>(
     records: u64,
     samples: u64,
 ) -> Result<(), AllocError>
-    ensures { OnOk result (text.new.items ≡ text.old.items ++ continuous_words start (ratio_of rate) records samples) }
+    ensures ok { OnOk result (text.new.items
+        ≡ text.old.items ++ continuous_words start (ratio_of rate) records samples) }
+    ensures front { IsFrontOf text.old.items text.new.items }
 {
-    push_bytes(text, b" continuous ")?;
-    push_bytes(text, &show_time(start))?;
-    push_count(text, b" rate ", u128::from(rate.num()))?;
-    push_count(text, b"/", u128::from(rate.den()))?;
-    push_count(text, b" records ", u128::from(records))?;
-    push_count(text, b" samples ", u128::from(samples))?;
-    push_bytes(text, b"\n")
+    push_parts(
+        text,
+        &[
+            Words(b" continuous "),
+            Words(&show_time(start)),
+            Words(b" rate "),
+            Count(u64::from(rate.num())),
+            Words(b"/"),
+            Count(u64::from(rate.den())),
+            Words(b" records "),
+            Count(records),
+            Words(b" samples "),
+            Count(samples),
+            Words(b"\n"),
+        ],
+    )
 }
 
 /// Adds what follows the name of a broken channel.
@@ -89,14 +108,23 @@ fn push_broken<A: Allocator>(
     first: &Finding,
     count: u64,
 ) -> Result<(), AllocError>
-    ensures { OnOk result (text.new.items ≡ text.old.items ++ broken_words first.now count) }
+    ensures ok { OnOk result (text.new.items ≡ text.old.items ++ broken_words first.now count) }
+    ensures front { IsFrontOf text.old.items text.new.items }
 {
-    push_count(text, b" broken findings ", u128::from(count))?;
-    push_count(text, b" first record ", u128::from(first.number))?;
-    push_count(text, b" offset ", u128::from(first.offset))?;
-    push_bytes(text, b" ")?;
+    push_parts(
+        text,
+        &[
+            Words(b" broken findings "),
+            Count(count),
+            Words(b" first record "),
+            Count(first.number),
+            Words(b" offset "),
+            Count(first.offset),
+            Words(b" "),
+        ],
+    )?;
     push_why(text, &first.why)?;
-    push_bytes(text, b"\n")
+    push_parts(text, &[Words(b"\n")])
 }
 
 /// Adds the line that tells how many records there were, and of how many channels.
@@ -105,11 +133,19 @@ fn push_total_line<A: Allocator>(
     records: u64,
     channels: u64,
 ) -> Result<(), AllocError>
-    ensures { OnOk result (text.new.items ≡ text.old.items ++ total_line records channels) }
+    ensures ok { OnOk result (text.new.items ≡ text.old.items ++ total_line records channels) }
+    ensures front { IsFrontOf text.old.items text.new.items }
 {
-    push_count(text, b"records ", u128::from(records))?;
-    push_count(text, b" channels ", u128::from(channels))?;
-    push_bytes(text, b"\n")
+    push_parts(
+        text,
+        &[
+            Words(b"records "),
+            Count(records),
+            Words(b" channels "),
+            Count(channels),
+            Words(b"\n"),
+        ],
+    )
 }
 
 /// Adds the line of a stream's fault; none for a want of memory. Where memory is refused, a part of it may
@@ -118,17 +154,33 @@ pub fn push_fault_line<A: Allocator>(
     text: &mut Vec<u8, A>,
     fault: &StreamFault,
 ) -> Result<(), AllocError>
-    ensures { OnOk result (text.new.items ≡ text.old.items ++ fault_line fault.now) }
+    ensures ok { OnOk result (text.new.items ≡ text.old.items ++ fault_line fault.now) }
+    ensures front { IsFrontOf text.old.items text.new.items }
 {
     match fault {
         StreamFault::Frame(offset, fault) => push_frame_line(text, *offset, fault),
-        StreamFault::Truncated(offset, have) => {
-            push_count(text, b"fault at ", u128::from(*offset))?;
-            push_count(text, b" truncated ", *have as u128)?;
-            push_bytes(text, b"\n")
+        StreamFault::Truncated(offset, have) => push_parts(
+            text,
+            &[
+                Words(b"fault at "),
+                Count(*offset),
+                Words(b" truncated "),
+                Count(*have as u64),
+                Words(b"\n"),
+            ],
+        ),
+        StreamFault::Read(offset) => {
+            push_parts(
+                text,
+                &[Words(b"fault at "), Count(*offset), Words(b" read\n")],
+            )
         }
-        StreamFault::Read(offset) => push_place_line(text, *offset, b" read\n"),
-        StreamFault::Turns(offset) => push_place_line(text, *offset, b" turns\n"),
+        StreamFault::Turns(offset) => {
+            push_parts(
+                text,
+                &[Words(b"fault at "), Count(*offset), Words(b" turns\n")],
+            )
+        }
         StreamFault::Memory => Ok(()),
     }
 }
@@ -139,47 +191,48 @@ fn push_frame_line<A: Allocator>(
     offset: u64,
     fault: &FrameFault,
 ) -> Result<(), AllocError>
-    ensures { OnOk result (text.new.items ≡ text.old.items ++ frame_line offset fault.now) }
+    ensures ok { OnOk result (text.new.items ≡ text.old.items ++ fault_line (StreamFault.Frame offset fault.now)) }
+    ensures front { IsFrontOf text.old.items text.new.items }
 {
-    match fault {
-        FrameFault::NotData => push_place_line(text, offset, b" notdata\n"),
-        FrameFault::Order => push_place_line(text, offset, b" order\n"),
-        FrameFault::Chain => push_place_line(text, offset, b" chain\n"),
-        FrameFault::No1000 => push_place_line(text, offset, b" no1000\n"),
-        FrameFault::Length(exponent) => {
-            push_count(text, b"fault at ", u128::from(offset))?;
-            push_count(text, b" length ", u128::from(*exponent))?;
-            push_bytes(text, b"\n")
-        }
-        FrameFault::Outside => push_place_line(text, offset, b" outside\n"),
-        FrameFault::Version3 => push_place_line(text, offset, b" version3\n"),
-    }
+    push_parts(text, &[Words(b"fault at "), Count(offset), Words(b" ")])?;
+    push_frame_words(text, fault)?;
+    push_parts(text, &[Words(b"\n")])
 }
 
-/// Adds where a fault is, and its words.
-fn push_place_line<A: Allocator>(
+/// Adds why bytes begin no record.
+fn push_frame_words<A: Allocator>(
     text: &mut Vec<u8, A>,
-    offset: u64,
-    words: &[u8],
+    fault: &FrameFault,
 ) -> Result<(), AllocError>
-    ensures { OnOk result (text.new.items ≡ text.old.items ++ codes "fault at " ++ decimal offset ++ words.now) }
+    ensures ok { OnOk result (text.new.items ≡ text.old.items ++ frame_words fault.now) }
+    ensures front { IsFrontOf text.old.items text.new.items }
 {
-    push_count(text, b"fault at ", u128::from(offset))?;
-    push_bytes(text, words)
+    match fault {
+        FrameFault::NotData => push_parts(text, &[Words(b"notdata")]),
+        FrameFault::Order => push_parts(text, &[Words(b"order")]),
+        FrameFault::Chain => push_parts(text, &[Words(b"chain")]),
+        FrameFault::No1000 => push_parts(text, &[Words(b"no1000")]),
+        FrameFault::Length(exponent) => {
+            push_parts(text, &[Words(b"length "), Count(u64::from(*exponent))])
+        }
+        FrameFault::Outside => push_parts(text, &[Words(b"outside")]),
+        FrameFault::Version3 => push_parts(text, &[Words(b"version3")]),
+    }
 }
 
 /// Adds the words of a finding.
 fn push_why<A: Allocator>(text: &mut Vec<u8, A>, why: &Why) -> Result<(), AllocError>
-    ensures { OnOk result (text.new.items ≡ text.old.items ++ why_text why.now) }
+    ensures ok { OnOk result (text.new.items ≡ text.old.items ++ why_text why.now) }
+    ensures front { IsFrontOf text.old.items text.new.items }
 {
     match why {
-        Why::Time(fault) => push_bytes(text, time_words(*fault)),
-        Why::Rate => push_bytes(text, b"norate"),
+        Why::Time(fault) => push_parts(text, &[Words(time_words(*fault))]),
+        Why::Rate => push_parts(text, &[Words(b"norate")]),
         Why::Read(fault) => push_read_fault(text, fault),
-        Why::RateChange => push_bytes(text, b"ratechange"),
-        Why::Leap => push_bytes(text, b"leap"),
-        Why::Gap(micros) => push_count(text, b"gap ", *micros),
-        Why::Overlap(micros) => push_count(text, b"overlap ", *micros),
+        Why::RateChange => push_parts(text, &[Words(b"ratechange")]),
+        Why::Leap => push_parts(text, &[Words(b"leap")]),
+        Why::Gap(micros) => push_parts(text, &[Words(b"gap "), Wide(*micros)]),
+        Why::Overlap(micros) => push_parts(text, &[Words(b"overlap "), Wide(*micros)]),
     }
 }
 
@@ -199,115 +252,38 @@ fn time_words(fault: TimeFault) -> &'static [u8]
 
 /// Adds the words of samples that can't be read.
 fn push_read_fault<A: Allocator>(text: &mut Vec<u8, A>, fault: &ReadFault) -> Result<(), AllocError>
-    ensures { OnOk result (text.new.items ≡ text.old.items ++ read_text fault.now) }
+    ensures ok { OnOk result (text.new.items ≡ text.old.items ++ read_text fault.now) }
+    ensures front { IsFrontOf text.old.items text.new.items }
 {
     match fault {
-        ReadFault::Blockette100 => push_bytes(text, b"blockette100"),
-        ReadFault::Encoding(code) => push_count(text, b"encoding ", u128::from(*code)),
-        ReadFault::LittleSteim => push_bytes(text, b"littlesteim"),
-        ReadFault::DataOffset => push_bytes(text, b"dataoffset"),
-        ReadFault::Short(found) => push_count(text, b"short ", *found as u128),
-        ReadFault::BadWord(frame, word) => {
-            push_count(text, b"badword ", *frame as u128)?;
-            push_count(text, b" ", *word as u128)
+        ReadFault::Blockette100 => push_parts(text, &[Words(b"blockette100")]),
+        ReadFault::Encoding(code) => {
+            push_parts(text, &[Words(b"encoding "), Count(u64::from(*code))])
         }
-        ReadFault::Overflow(index) => push_count(text, b"overflow ", *index as u128),
-        ReadFault::LastDiffers(found, constant) => {
-            push_signed(text, b"lastdiffers ", *found)?;
-            push_signed(text, b" ", *constant)
+        ReadFault::LittleSteim => push_parts(text, &[Words(b"littlesteim")]),
+        ReadFault::DataOffset => push_parts(text, &[Words(b"dataoffset")]),
+        ReadFault::Short(found) => push_parts(text, &[Words(b"short "), Count(*found as u64)]),
+        ReadFault::BadWord(frame, word) => push_parts(
+            text,
+            &[
+                Words(b"badword "),
+                Count(*frame as u64),
+                Words(b" "),
+                Count(*word as u64),
+            ],
+        ),
+        ReadFault::Overflow(index) => {
+            push_parts(text, &[Words(b"overflow "), Count(*index as u64)])
         }
+        ReadFault::LastDiffers(found, constant) => push_parts(
+            text,
+            &[
+                Words(b"lastdiffers "),
+                Signed(*found),
+                Words(b" "),
+                Signed(*constant),
+            ],
+        ),
         ReadFault::Memory => Ok(()),
-    }
-}
-
-/// Adds a label and a number that may be negative.
-fn push_signed<A: Allocator>(
-    text: &mut Vec<u8, A>,
-    label: &[u8],
-    number: i32,
-) -> Result<(), AllocError>
-    ensures { OnOk result (text.new.items ≡ text.old.items ++ label.now ++ signed number) }
-{
-    push_bytes(text, label)?;
-    if number < 0 {
-        push_bytes(text, b"-")?;
-    }
-    push_count(text, b"", u128::from(number.unsigned_abs()))
-}
-
-/// Adds a label and a number.
-fn push_count<A: Allocator>(
-    text: &mut Vec<u8, A>,
-    label: &[u8],
-    count: u128,
-) -> Result<(), AllocError>
-    ensures { OnOk result (text.new.items ≡ text.old.items ++ label.now ++ decimal count) }
-{
-    push_bytes(text, label)?;
-    let mut buffer = Buffer::new();
-    push_bytes(text, buffer.format(count).as_bytes())
-}
-
-/// Adds bytes.
-fn push_bytes<A: Allocator>(text: &mut Vec<u8, A>, bytes: &[u8]) -> Result<(), AllocError>
-    ensures { OnOk result (text.new.items ≡ text.old.items ++ bytes.now) }
-{
-    text.extend_from_slice(bytes)
-}
-
-/// Adds a channel's name: network, station, location and channel, each without its trailing spaces and
-/// NULs, with `?` for what is left and can't be printed. Where memory is refused, a part of it may have
-/// been added.
-pub fn push_name<A: Allocator>(text: &mut Vec<u8, A>, codes: &Codes) -> Result<(), AllocError>
-    ensures { OnOk result (text.new.items ≡ text.old.items ++ name_text codes.now) }
-{
-    push_code(text, codes.network())?;
-    push_bytes(text, b"_")?;
-    push_code(text, codes.station())?;
-    push_bytes(text, b"_")?;
-    push_code(text, codes.location())?;
-    push_bytes(text, b"_")?;
-    push_code(text, codes.channel())
-}
-
-/// Adds a code without its trailing spaces and NULs.
-fn push_code<A: Allocator>(text: &mut Vec<u8, A>, code: &[u8]) -> Result<(), AllocError>
-    ensures { OnOk result (text.new.items ≡ text.old.items ++ code_text code.now) }
-{
-    for byte in trimmed(code) {
-        text.push(printed(*byte))?;
-    }
-    Ok(())
-}
-
-/// A code without its trailing spaces and NULs.
-fn trimmed(code: &[u8]) -> &[u8]
-    ensures { result.now ≡ trimmed code.now }
-{
-    let mut end = code.len();
-    while end > 0 {
-        if !is_blank(code[end - 1]) {
-            return &code[..end];
-        }
-        end -= 1;
-    }
-    &code[..0]
-}
-
-/// Whether a byte is a space or NUL.
-fn is_blank(byte: u8) -> bool
-    ensures { result ≡ is_blank byte }
-{
-    byte == b' ' || byte == 0
-}
-
-/// A byte of a name as it is printed.
-fn printed(byte: u8) -> u8
-    ensures { result ≡ printed byte }
-{
-    if (33..=126).contains(&byte) {
-        byte
-    } else {
-        b'?'
     }
 }

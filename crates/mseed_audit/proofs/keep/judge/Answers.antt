@@ -1,10 +1,9 @@
-use Rattle.std.proofs.Common.{◌≡◌, ℕ, ◌+◌, ◌≤◌, List, [], ◌∷◌, ◌++◌, Bool, cond, Some, None, IsSome, OnOk, IsOk, inl, inr, sym, ap, subst, ◌∙◌, rules, arith}
-use Rattle.std.specs.Map.{lookup, values_of}
+use Rattle.std.proofs.Common.{◌≡◌, ℕ, ◌+◌, List, [], ◌∷◌, ◌++◌, None, inl, inr, sym, subst, rules, arith}
+use Rattle.std.specs.Map.{lookup}
 use Rattle.std.proofs.lemmas.Map.Views.{All-values-set_value}
 use Rattle.std.proofs.lemmas.Bool.{false≢true}
 use Rattle.mseed_record.specs.Viewing.{view_of}
-use Rattle.mseed_audit.specs.declared.channel.Channel.{Channel}
-use Rattle.mseed_audit.specs.Channels.{Placed, same_key, with_record}
+use Rattle.mseed_audit.specs.Channels.{Placed, same_key}
 use Rattle.mseed_audit.specs.Standing.{Stands, StandsAt, IsWithin}
 use Rattle.mseed_audit.proofs.Counts.{within_more, all_within_more, among_within}
 use Rattle.mseed_audit.proofs.Steps.{stands_more, some_is, new_stands}

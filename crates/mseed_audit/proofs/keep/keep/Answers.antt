@@ -1,6 +1,5 @@
-use Rattle.std.proofs.Common.{◌≡◌, ℕ, List, Bool, cond, ap, ◌∙◌, subst, sym, Some}
-use Rattle.std.specs.List.{All}
-use Rattle.std.specs.Map.{lookup, values_of}
+use Rattle.std.proofs.Common.{Bool, cond, ap, ◌∙◌, Some}
+use Rattle.std.specs.Map.{lookup}
 use Rattle.std.proofs.lemmas.Map.Views.{All-values-insert_entry}
 use Rattle.mseed_audit.specs.Channels.{same_key}
 use Rattle.mseed_audit.specs.Standing.{IsWithin}

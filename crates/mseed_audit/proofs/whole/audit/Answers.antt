@@ -1,4 +1,4 @@
-use Rattle.std.proofs.Common.{◌≡◌, ◌∙◌, ap, length, List, ℕ}
+use Rattle.std.proofs.Common.{◌∙◌, ap, length}
 use Rattle.mseed_stream.specs.Device.{Heard, Said}
 use Rattle.mseed_audit.specs.Whole.{broken_count}
 use Rattle.mseed_audit.proofs.Outcomes.{with_verdicts, audited, text_is, summary_is, written, cut_off}
@@ -14,7 +14,7 @@ returns-in-Ok-write_all_of g c =
     let verdicts = c.finish-verdicts.result in
     let f = with_verdicts held end heard verdicts c.in-Ok.ensures c.finish-verdicts.ensures in
     let write = c.in-Ok-write_all_of.ensures in
-    let text = text_is held end heard verdicts c.as_slice.result.now c.added-records.result c.new-text.result.items c.push_audit.new.text.items c.deref.result.now f c.new-text.ensures.items c.in-Ok-push_audit.ensures c.as_slice.ensures c.added-records.ensures c.deref.ensures.value in
+    let text = text_is held end heard verdicts c.as_slice.result.now c.added-records.result c.new-text.result.items c.push_audit.new.text.items c.deref.result.now f c.new-text.ensures.items c.in-Ok-push_audit.ensures.ok c.as_slice.ensures c.added-records.ensures c.deref.ensures.value in
     let summary = summary_is _ held end heard verdicts f c.added-records.ensures (ap length c.as_slice-in-Ok-write_all_of.ensures) (c.count_broken.ensures ∙ ap broken_count c.as_slice-in-Ok-write_all_of-2.ensures) c.is_some.ensures in
     (audited held end heard verdicts f, written _ (audited held end heard verdicts f) c.deref.result.now old new text summary write.ok write.fine)
 
@@ -28,5 +28,5 @@ returns g c =
     let verdicts = c.finish-verdicts.result in
     let f = with_verdicts held end heard verdicts c.in-Ok.ensures c.finish-verdicts.ensures in
     let write = c.in-Err-write_all_of.ensures in
-    let text = text_is held end heard verdicts c.as_slice.result.now c.added-records.result c.new-text.result.items c.push_audit.new.text.items c.deref.result.now f c.new-text.ensures.items c.in-Ok-push_audit.ensures c.as_slice.ensures c.added-records.ensures c.deref.ensures.value in
+    let text = text_is held end heard verdicts c.as_slice.result.now c.added-records.result c.new-text.result.items c.push_audit.new.text.items c.deref.result.now f c.new-text.ensures.items c.in-Ok-push_audit.ensures.ok c.as_slice.ensures c.added-records.ensures c.deref.ensures.value in
     (audited held end heard verdicts f, cut_off c.in-Err-write_all_of.taken (audited held end heard verdicts f) c.deref.result.now old new text write.err write.within write.failed)

@@ -1,6 +1,4 @@
-use Rattle.std.proofs.Common.{◌≡◌, ◌≤◌, ◌+◌, ℕ, take, if◌then◌else◌, sym, ◌∙◌, arith}
-use Rattle.mseed_audit.specs.Whole.{broken_count}
-use Rattle.mseed_audit.specs.Verdict.{says_continuous}
+use Rattle.std.proofs.Common.{arith}
 use Rattle.mseed_audit.proofs.OneMore.{count_more}
 use Rattle.mseed_audit.proofs.whole.count_broken.Goals as goal
 use Rattle.mseed_audit.proofs.whole.count_broken.Goals.{then-not-is_continuous, else-not-is_continuous}

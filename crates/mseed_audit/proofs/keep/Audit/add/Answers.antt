@@ -1,6 +1,5 @@
-use Rattle.std.proofs.Common.{◌≡◌, ℕ, ◌+◌, refl}
+use Rattle.std.proofs.Common.{◌+◌, refl}
 use Rattle.mseed_record.specs.Viewing.{view_of}
-use Rattle.mseed_audit.specs.Channels.{Added}
 use Rattle.mseed_audit.specs.Standing.{Held, IsAuditOf}
 use Rattle.mseed_audit.proofs.More.{audit_more}
 use Rattle.mseed_audit.proofs.keep.Audit.add.Goals as goal

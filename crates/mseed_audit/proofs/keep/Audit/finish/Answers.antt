@@ -1,5 +1,4 @@
-use Rattle.std.proofs.Common.{◌≡◌, ℕ, List, [], ◌++◌, sym, ap, subst, ◌∙◌, append-nil}
-use Rattle.mseed_audit.specs.declared.channel.Channel.{Channel}
+use Rattle.std.proofs.Common.{◌≡◌, ℕ, List, sym, ap, subst, ◌∙◌, append-nil}
 use Rattle.mseed_audit.specs.declared.finding.Verdict.{Verdict}
 use Rattle.mseed_audit.specs.Standing.{Held, IsAuditOf}
 use Rattle.mseed_audit.specs.Verdict.{AreVerdicts}

@@ -1,6 +1,5 @@
-use Rattle.std.proofs.Common.{◌≡◌, List, ℕ, Bool, true, ◌∙◌, sym, subst}
-use Rattle.std.specs.Map.{lookup}
-use Rattle.mseed_audit.specs.Channels.{same_key, records_of}
+use Rattle.std.proofs.Common.{◌∙◌, sym}
+use Rattle.mseed_audit.specs.Channels.{records_of}
 use Rattle.mseed_audit.proofs.Steps.{kept_some}
 use Rattle.mseed_audit.proofs.keep.Audit.holds.Goals as goal
 

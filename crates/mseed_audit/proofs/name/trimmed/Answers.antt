@@ -2,7 +2,7 @@ use Rattle.std.proofs.Common.{◌≡◌, ℕ, suc, ◌-◌, take, drop, get_or, 
 use Rattle.std.specs.List.{list_all}
 use Rattle.mseed_record.specs.Header.{is_blank}
 use Rattle.mseed_audit.proofs.Trims.{trimmed_none, trimmed_is}
-use Rattle.mseed_audit.proofs.text.trimmed.Goals as goal
+use Rattle.mseed_audit.proofs.name.trimmed.Goals as goal
 
 pub returns-then-not-is_blank : goal.returns-then-not-is_blank
 returns-then-not-is_blank c =

@@ -1,0 +1,69 @@
+//! A channel's name as it is printed.
+ghost use Rattle.std.specs.Prelude.{◌≡◌, ◌++◌, OnOk};
+ghost use Rattle.mseed_stream.specs.Device.{IsFrontOf};
+ghost use Rattle.mseed_audit.specs.Text.{name_text, code_text, printed, trimmed};
+ghost use Rattle.mseed_record.specs.Header.{is_blank};
+
+use crate::parts::Part::Words;
+use crate::parts::push_parts;
+use mseed_record::Codes;
+use std::alloc::{AllocError, Allocator};
+
+/// Adds a channel's name: network, station, location and channel, each without its trailing spaces and
+/// NULs, with `?` for what is left and can't be printed. Where memory is refused, a part of it may have
+/// been added.
+pub fn push_name<A: Allocator>(text: &mut Vec<u8, A>, codes: &Codes) -> Result<(), AllocError>
+    ensures ok { OnOk result (text.new.items ≡ text.old.items ++ name_text codes.now) }
+    ensures front { IsFrontOf text.old.items text.new.items }
+{
+    push_code(text, codes.network())?;
+    push_parts(text, &[Words(b"_")])?;
+    push_code(text, codes.station())?;
+    push_parts(text, &[Words(b"_")])?;
+    push_code(text, codes.location())?;
+    push_parts(text, &[Words(b"_")])?;
+    push_code(text, codes.channel())
+}
+
+/// Adds a code without its trailing spaces and NULs.
+fn push_code<A: Allocator>(text: &mut Vec<u8, A>, code: &[u8]) -> Result<(), AllocError>
+    ensures ok { OnOk result (text.new.items ≡ text.old.items ++ code_text code.now) }
+    ensures front { IsFrontOf text.old.items text.new.items }
+{
+    for byte in trimmed(code) {
+        text.push(printed(*byte))?;
+    }
+    Ok(())
+}
+
+/// A code without its trailing spaces and NULs.
+fn trimmed(code: &[u8]) -> &[u8]
+    ensures { result.now ≡ trimmed code.now }
+{
+    let mut end = code.len();
+    while end > 0 {
+        if !is_blank(code[end - 1]) {
+            return &code[..end];
+        }
+        end -= 1;
+    }
+    &code[..0]
+}
+
+/// Whether a byte is a space or NUL.
+fn is_blank(byte: u8) -> bool
+    ensures { result ≡ is_blank byte }
+{
+    byte == b' ' || byte == 0
+}
+
+/// A byte of a name as it is printed.
+fn printed(byte: u8) -> u8
+    ensures { result ≡ printed byte }
+{
+    if (33..=126).contains(&byte) {
+        byte
+    } else {
+        b'?'
+    }
+}

@@ -1,0 +1,45 @@
+//! A text in parts: words and numbers, one behind another.
+ghost use Rattle.std.specs.Prelude.{◌≡◌, ◌++◌, OnOk};
+ghost use Rattle.mseed_stream.specs.Device.{IsFrontOf};
+ghost use Rattle.mseed_audit.specs.Parts.{part_text, parts_text};
+
+use itoa::Buffer;
+use std::alloc::{AllocError, Allocator};
+
+/// A part of a text.
+#[derive(Clone, Copy, Debug)]
+pub enum Part<'a> {
+    /// Bytes as they are.
+    Words(&'a [u8]),
+    /// The decimal digits of a number.
+    Count(u64),
+    /// Those of a number that may be larger.
+    Wide(u128),
+    /// Those of a number with `-` before them where it is negative.
+    Signed(i32),
+}
+
+/// Adds the parts. Where memory is refused, some of them may have been added.
+pub fn push_parts<A: Allocator>(text: &mut Vec<u8, A>, parts: &[Part<'_>]) -> Result<(), AllocError>
+    ensures ok { OnOk result (text.new.items ≡ text.old.items ++ parts_text parts.now) }
+    ensures front { IsFrontOf text.old.items text.new.items }
+{
+    for part in parts {
+        push_part(text, *part)?;
+    }
+    Ok(())
+}
+
+/// Adds a part.
+fn push_part<A: Allocator>(text: &mut Vec<u8, A>, part: Part<'_>) -> Result<(), AllocError>
+    ensures ok { OnOk result (text.new.items ≡ text.old.items ++ part_text part.entry) }
+    ensures front { IsFrontOf text.old.items text.new.items }
+{
+    let mut buffer = Buffer::new();
+    match part {
+        Part::Words(words) => text.extend_from_slice(words),
+        Part::Count(count) => text.extend_from_slice(buffer.format(count).as_bytes()),
+        Part::Wide(count) => text.extend_from_slice(buffer.format(count).as_bytes()),
+        Part::Signed(number) => text.extend_from_slice(buffer.format(number).as_bytes()),
+    }
+}
