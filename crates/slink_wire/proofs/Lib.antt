@@ -1,0 +1,10 @@
+pub mod Cuts
+pub mod Codes
+pub mod Digits
+pub mod Packets
+pub mod Pieces
+pub mod Spelled
+pub mod Stepped
+pub mod Keywords
+pub mod Said
+pub mod Worded

@@ -1,0 +1,46 @@
+-- Command lines: words between spaces, the first of them in either case.
+use Rattle.std.specs.Prelude.{◌≡◌, ℕ, ◌==◌, ◌≤◌, ◌⊎◌, not, Some, None, List, [], ◌∷◌, length, map, codes}
+use Rattle.std.specs.List.{filter, slice_split}
+use Rattle.std.specs.Char.{to_ascii_lowercase}
+use Rattle.slink_wire.specs.declared.command.Command.{Command}
+use Rattle.slink_wire.specs.declared.command.Command.TheVariants.{Hello, Station, SelectAll, Data, Fetch, End, Bye, Other}
+use Rattle.slink_wire.specs.Hexadecimal.{SaysNumber}
+use Rattle.slink_wire.specs.Place.{IsCode, filled}
+
+-- the words of a line: what stands between spaces
+unfoldable pub words : List ℕ → List (List ℕ)
+words line = filter (λ w. not (length w == 0)) (slice_split (λ b. b == 32) line)
+
+-- words, the first of them in small letters
+abbrev pub in_small_letters : List ℕ → List ℕ
+in_small_letters word = map to_ascii_lowercase word
+
+abbrev pub folded : List (List ℕ) → List (List ℕ)
+folded [] = []
+folded (keyword ∷ ws) = in_small_letters keyword ∷ ws
+
+-- a number of one to six hexadecimal digits
+abbrev pub IsNumber : List ℕ → ℕ → Type 0
+IsNumber word n = (1 ≤ length word) × (length word ≤ 6) × SaysNumber word n
+
+-- the words of each command
+abbrev pub IsSaid : Command → List (List ℕ) → Type 0
+IsSaid Hello ws = ws ≡ codes "hello" ∷ []
+IsSaid (Station sta None) ws = (s : List ℕ) × IsCode 5 s × (sta ≡ filled 5 s) × (ws ≡ codes "station" ∷ s ∷ [])
+IsSaid (Station sta (Some net)) ws = (s n : List ℕ) × IsCode 5 s × IsCode 2 n × (sta ≡ filled 5 s) × (net ≡ filled 2 n) × (ws ≡ codes "station" ∷ s ∷ n ∷ [])
+IsSaid SelectAll ws = ws ≡ codes "select" ∷ []
+IsSaid (Data None) ws = ws ≡ codes "data" ∷ []
+IsSaid (Data (Some n)) ws = (h : List ℕ) × IsNumber h n × (ws ≡ codes "data" ∷ h ∷ [])
+IsSaid (Fetch None) ws = ws ≡ codes "fetch" ∷ []
+IsSaid (Fetch (Some n)) ws = (h : List ℕ) × IsNumber h n × (ws ≡ codes "fetch" ∷ h ∷ [])
+IsSaid End ws = ws ≡ codes "end" ∷ []
+IsSaid Bye ws = ws ≡ codes "bye" ∷ []
+IsSaid Other ws = ⊥
+
+-- Words that say no command are another.
+abbrev pub IsRow : Command → List (List ℕ) → Type 0
+IsRow c ws = IsSaid c ws ⊎ ((c ≡ Other) × ((d : Command) → ¬ (IsSaid d ws)))
+
+-- the command that a line is
+abbrev pub IsCommand : List ℕ → Command → Type 0
+IsCommand line c = IsRow c (folded (words line))

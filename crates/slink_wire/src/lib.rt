@@ -1,0 +1,18 @@
+//! The bytes of SeedLink 3: packets, command lines and replies.
+#![tactic(auto)]
+
+mod command;
+mod cut;
+mod hexadecimal;
+mod keyword;
+mod lines;
+mod packet;
+mod place;
+mod reply;
+mod words;
+
+pub use command::Command;
+pub use lines::{Lines, Took, What};
+pub use packet::{NotPacket, Packet};
+pub use place::{BadPlace, Place};
+pub use reply::Reply;

@@ -1,0 +1,115 @@
+//! Command lines out of a stream that comes in any pieces.
+ghost use Rattle.std.specs.Prelude.{◌≡◌, ◌<◌, ◌≤◌, ◌++◌, List, ℕ, [], true, false, length, take};
+ghost use Rattle.slink_wire.specs.Lines.{Held, IsHeld, TellsNothing};
+ghost use Rattle.slink_wire.specs.Taking.{Tells, step};
+
+use arrayvec::ArrayVec;
+use std::marker::Model;
+
+/// What the bytes that a call took tell.
+#[derive(Debug, Drop)]
+pub enum What {
+    /// No line ended.
+    More,
+    /// A line, without its CR.
+    Line(ArrayVec<u8, 255>),
+    /// A line has more than 255 bytes: the stream has ended.
+    TooLong,
+}
+
+/// How many bytes a call took, and what they tell.
+#[derive(Debug, Drop)]
+pub struct Took {
+    pub used: usize,
+    pub what: What,
+}
+
+/// What is held of a stream of command lines, as it is taken piece by piece.
+#[derive(Debug, Drop)]
+pub struct Lines {
+    begun: ArrayVec<u8, 255>,
+    is_too_long: bool,
+}
+
+impl Model for Lines {
+    ghost use Rattle.std.specs.Prelude.{◌≤◌, length};
+    ghost use Rattle.slink_wire.specs.Lines.{Held};
+
+    ghost Value = { Held };
+
+    ghost view = { λ l. record { begun = l.begun.items; is_too_long = l.is_too_long } };
+
+    ghost invariant = { λ l. length l.begun.items ≤ 255 };
+}
+
+impl Lines {
+    /// Before the first byte of a stream.
+    #[tactic(auto, unfolding(crate::specs::Lines::lines_of))]
+    pub fn new() -> Lines
+        ensures { IsHeld result [] }
+    {
+        Lines {
+            begun: ArrayVec::new(),
+            is_too_long: false,
+        }
+    }
+
+    /// Takes one byte.
+    fn take_byte(&mut self, byte: u8) -> What
+        requires { self.old.is_too_long ≡ false }
+        ensures { step self.old.begun byte ≡ (self.new, result) }
+    {
+        if byte == b'\r' {
+            if self.begun.is_empty() {
+                return What::More;
+            }
+            return What::Line(self.begun.take());
+        }
+        if byte == b'\n' && self.begun.is_empty() {
+            return What::More;
+        }
+        if self.begun.is_full() {
+            self.begun.clear();
+            self.is_too_long = true;
+            return What::TooLong;
+        }
+        self.begun.push(byte);
+        What::More
+    }
+
+    /// Takes bytes of a stream up to the end of a line, or to the byte that is too many in one, or all. Once a line was
+    /// too long, nothing is taken.
+    ///
+    /// The clauses hold of every stream whose bytes were taken so far, in whatever pieces. A stream spells one list of
+    /// lines, so that the pieces make no difference.
+    pub fn take(&mut self, piece: &[u8]) -> Took
+        // What is held goes on to stand for the bytes taken.
+        ensures held { (stream : List ℕ) → IsHeld self.old stream → IsHeld self.new (stream ++ take result.used piece.now) }
+        // The answer is what these bytes add to what the stream spells.
+        ensures told { (stream : List ℕ) → IsHeld self.old stream
+            → Tells result.what stream (stream ++ take result.used piece.now) }
+        // Fewer of them add nothing, so that it stops where there is something to tell.
+        ensures first { (stream : List ℕ) (k : ℕ) → IsHeld self.old stream → k < result.used
+            → TellsNothing stream (stream ++ take k piece.now) }
+        ensures whole { result.what ≡ What.More → result.used ≡ length piece.now }
+        ensures bound { result.used ≤ length piece.now }
+        ensures repeats { self.old.is_too_long ≡ true → (result ≡ record { used = 0; what = What.TooLong }) × (self.new ≡ self.old) }
+    {
+        if self.is_too_long {
+            return Took {
+                used: 0,
+                what: What::TooLong,
+            };
+        }
+        for (i, byte) in piece.iter().enumerate() {
+            match self.take_byte(*byte) {
+                What::More => {}
+                what => return Took { used: i + 1, what },
+            }
+        }
+        Took {
+            used: piece.len(),
+            what: What::More,
+        }
+    }
+}

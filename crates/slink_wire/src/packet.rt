@@ -1,0 +1,50 @@
+//! Packets, 520 bytes each.
+ghost use Rattle.std.specs.Prelude.{◌≡◌, ℕ, ◌^◌, ◌<◌, ◌≤◌, IsOkAnd, IfOk, OnErr, List, length};
+ghost use Rattle.slink_wire.specs.Packet.{IsPacket, in_capitals, packet_bytes};
+
+use crate::hexadecimal::{header, number_of};
+
+/// No packet: the bytes don't begin with `SL` and six hexadecimal digits.
+#[derive(Clone, Copy, Debug, PartialEq, Eq)]
+pub struct NotPacket;
+
+/// The packets of the feed: `SL`, the number of a record in six hexadecimal digits, and the record.
+pub struct Packet;
+
+impl Packet {
+    /// The packet of a record, with its number's digits in capitals.
+    #[tactic(auto, using(crate::proofs::Packets::read_back))]
+    pub fn write(number: u32, bytes: &[u8; 512]) -> [u8; 520]
+        requires { number < 2 ^ 24 }
+        ensures value { result ≡ packet_bytes number bytes.now }
+        ensures reads_back { IsPacket result number bytes.now }
+    {
+        let mut packet = [0; 520];
+        let (head, body) = packet.split_at_mut(8);
+        head.copy_from_slice(&header(number));
+        body.copy_from_slice(bytes);
+        packet
+    }
+
+    /// The number and the record of a packet, whose digits may stand in either case.
+    #[tactic(auto, using(crate::proofs::Packets::one_packet))]
+    pub fn read(bytes: &[u8; 520]) -> Result<(u32, &[u8; 512]), NotPacket>
+        ensures packet { IfOk result (λ p. IsPacket bytes.now p.0 p.1.now) }
+        // All that is a packet is answered, so it has at most one number and record.
+        ensures only { (n : ℕ) (r : List ℕ) → IsPacket bytes.now n r → IsOkAnd result (λ p. (p.0 ≡ n) × (p.1.now ≡ r)) }
+        ensures refused { OnErr result ((n : ℕ) (r : List ℕ) → ¬ (IsPacket bytes.now n r)) }
+        // A packet is as it was written, up to the case of its digits.
+        ensures written { IfOk result (λ p. in_capitals bytes.now ≡ packet_bytes p.0 p.1.now) }
+    {
+        let Some((head, body)) = bytes.split_last_chunk() else {
+            return Err(NotPacket);
+        };
+        if !head.starts_with(b"SL") {
+            return Err(NotPacket);
+        }
+        match number_of(&head[2..]) {
+            Some(number) => Ok((number, body)),
+            None => Err(NotPacket),
+        }
+    }
+}

@@ -1,0 +1,113 @@
+//! Whose records a feed has.
+ghost use Rattle.std.specs.Prelude.{◌≡◌, ◌↔◌, ◌≤◌, IsTrue, IsOk, IfOk, IsOkAnd, length};
+ghost use Rattle.std.specs.List.{list_all};
+ghost use Rattle.std.specs.Char.{is_ascii_alphanumeric};
+ghost use Rattle.slink_wire.specs.Place.{Bears, Fields, IsCode, SpellsPlace, code_in, filled, fields_of};
+
+use crate::cut::{first, parts};
+use std::marker::Model;
+
+/// No station and network of 1 to 5 and 1 to 2 ASCII letters or digits.
+#[derive(Clone, Copy, Debug, PartialEq, Eq)]
+pub struct BadPlace;
+
+/// A station of a network.
+#[derive(Clone, Copy, Debug, PartialEq, Eq)]
+pub struct Place {
+    station: [u8; 5],
+    network: [u8; 2],
+}
+
+impl Model for Place {
+    ghost use Rattle.slink_wire.specs.Place.{Fields, IsField};
+
+    ghost Value = { Fields };
+
+    ghost view = { λ p. record { station = p.station; network = p.network } };
+
+    ghost invariant = { λ p. IsField 5 p.station × IsField 2 p.network };
+
+    ghost inverse = { λ f. record { station = f.station; network = f.network } };
+}
+
+/// Whether all bytes are ASCII letters or digits.
+fn are_alphanumeric(bytes: &[u8]) -> bool
+    ensures { result ≡ list_all is_ascii_alphanumeric bytes.now }
+{
+    bytes.iter().all(|b| b.is_ascii_alphanumeric())
+}
+
+/// Whether bytes are a code: 1 to `width` ASCII letters or digits.
+pub(crate) fn is_code(width: usize, code: &[u8]) -> bool
+    ensures { IsTrue result ↔ IsCode width code.now }
+{
+    !code.is_empty() && code.len() <= width && are_alphanumeric(code)
+}
+
+/// A code, filled with spaces.
+pub(crate) fn fill<const N: usize>(code: &[u8]) -> [u8; N]
+    requires { length code.now ≤ N }
+    ensures { result ≡ filled N code.now }
+{
+    let mut field = [b' '; N];
+    field[..code.len()].copy_from_slice(code);
+    field
+}
+
+/// The code in a field, before the first space.
+fn code_in(field: &[u8]) -> &[u8]
+    ensures { result.now ≡ code_in field.now }
+{
+    &field[..first(field, b' ')]
+}
+
+impl Place {
+    /// The place of a station code, 1 to 5 ASCII letters or digits, and a network code, 1 or 2 of them.
+    pub fn new(sta: &[u8], net: &[u8]) -> Result<Place, BadPlace>
+        ensures accepted { IsOk result ↔ (IsCode 5 sta.now × IsCode 2 net.now) }
+        ensures value { IfOk result (λ p. p ≡ fields_of sta.now net.now) }
+    {
+        if !is_code(5, sta) || !is_code(2, net) {
+            return Err(BadPlace);
+        }
+        Ok(Place {
+            station: fill(sta),
+            network: fill(net),
+        })
+    }
+
+    /// The place that a text spells: the network's code, an underscore, and the station's code.
+    pub fn read(text: &[u8]) -> Result<Place, BadPlace>
+        ensures place { IfOk result (SpellsPlace text.now) }
+        // All that is spelled is answered, so at most one place is.
+        ensures only { (p : Fields) → SpellsPlace text.now p → IsOkAnd result (λ q. q ≡ p) }
+    {
+        let Some((net, sta)) = parts(text, b'_') else {
+            return Err(BadPlace);
+        };
+        Place::new(sta, net)
+    }
+
+    /// The station's code, without the spaces that fill its field.
+    pub fn station(&self) -> &[u8]
+        ensures code { IsCode 5 result.now }
+        ensures field { filled 5 result.now ≡ self.now.station }
+    {
+        code_in(&self.station)
+    }
+
+    /// The network's code, without the space that may fill its field.
+    pub fn network(&self) -> &[u8]
+        ensures code { IsCode 2 result.now }
+        ensures field { filled 2 result.now ≡ self.now.network }
+    {
+        code_in(&self.network)
+    }
+
+    /// Whether a record's header has this station and network.
+    pub fn bears(&self, bytes: &[u8; 512]) -> bool
+        ensures { IsTrue result ↔ Bears bytes.now self.now }
+    {
+        &bytes[8..13] == &self.station[..] && &bytes[18..20] == &self.network[..]
+    }
+}
