@@ -132,3 +132,7 @@ pub few_asked : (front : List ℕ) (n : ℕ) → ((i : ℕ) → get_or front i 0
 few_asked front n octets (short _ s) = omega arith
 few_asked front n octets (by_chain order passed answer _ long _ dated d) =
     few_along order front 48 (blockette_at order front) passed n octets (number_small order front 46 octets) d
+
+-- a record has more than its header
+pub record_more : (b : List ℕ) → IsRecord b → 48 < length b
+record_more b r = omega (arith, record_room r.0 r.1.0 r.1.1.0 b r.1.1.1)

@@ -20,12 +20,12 @@ front_more held now have n needed same fits =
 pub held_is : (c : Standing) → c.is_lent ≡ false → held_of c ≡ c.front
 held_is c e = rw e
 
-pub heard_more : (h now : Heard) (c after : Standing) (more : List ℕ) → IsHeard h c → c.is_lent ≡ false → after.is_lent ≡ false → after.place ≡ c.place → after.front ≡ c.front ++ more
+pub heard_more : (h now : Heard) (c after : Standing) (more : List ℕ) → IsHeard h c → c.is_lent ≡ false → after.is_lent ≡ false → after.offset ≡ c.offset → after.front ≡ c.front ++ more
     → now.bytes ≡ h.bytes ++ more → now.calls ≡ h.calls + 1 → after.reads ≡ c.reads + 1 → c.reads < 2 ^ 40 → length after.front ≤ after.room → after.room ≤ 2 ^ 20 → IsHeard now after
-heard_more h now c after more is lent lent_after place front bytes calls reads few within small =
+heard_more h now c after more is lent lent_after offset front bytes calls reads few within small =
     let held : held_of c ≡ c.front = held_is c lent in
     let held_after : held_of after ≡ c.front ++ more = held_is after lent_after ∙ front in
-    let size : length h.bytes ≡ c.place + length c.front = is.told ∙ ap (λ (xs : List ℕ). c.place + length xs) held in
+    let size : length h.bytes ≡ c.offset + length c.front = is.told ∙ ap (λ (xs : List ℕ). c.offset + length xs) held in
     let size_now : length now.bytes ≡ length h.bytes + length more = ap (λ (xs : List ℕ). length xs) bytes ∙ length-append h.bytes more in
     let size_held : length (held_of after) ≡ length c.front + length more = ap (λ (xs : List ℕ). length xs) held_after ∙ length-append c.front more in
     let size_front : length after.front ≡ length c.front + length more = ap (λ (xs : List ℕ). length xs) front ∙ length-append c.front more in
@@ -33,7 +33,7 @@ heard_more h now c after more is lent lent_after place front bytes calls reads f
     let asked = is.reads in
     record {
       told = omega arith;
-      held = ap (λ (xs : List ℕ). drop after.place xs) bytes ∙ (ap (λ (n : ℕ). drop n (h.bytes ++ more)) place ∙ (drop-append-le c.place h.bytes more (omega arith)
+      held = ap (λ (xs : List ℕ). drop after.offset xs) bytes ∙ (ap (λ (n : ℕ). drop n (h.bytes ++ more)) offset ∙ (drop-append-le c.offset h.bytes more (omega arith)
           ∙ (ap (λ (xs : List ℕ). xs ++ more) (is.held ∙ held) ∙ sym held_after)));
       reads = calls ∙ (ap (λ (n : ℕ). n + 1) asked ∙ sym reads);
       few_reads = omega arith;
@@ -43,14 +43,14 @@ heard_more h now c after more is lent lent_after place front bytes calls reads f
     }
 
 -- what is held grows by what is told
-pub held_grows : (h now : Heard) (c after : Standing) (more : List ℕ) → IsHeard h c → IsHeard now after → c.is_lent ≡ false → after.is_lent ≡ false → after.place ≡ c.place → now.bytes ≡ h.bytes ++ more → after.front ≡ c.front ++ more
-held_grows h now c after more is then lent lent_after place bytes =
+pub held_grows : (h now : Heard) (c after : Standing) (more : List ℕ) → IsHeard h c → IsHeard now after → c.is_lent ≡ false → after.is_lent ≡ false → after.offset ≡ c.offset → now.bytes ≡ h.bytes ++ more → after.front ≡ c.front ++ more
+held_grows h now c after more is then lent lent_after offset bytes =
     let size = is.told in
-    let within : c.place ≤ length h.bytes = omega arith in
-    sym (then.held ∙ held_is after lent_after) ∙ (ap (λ (xs : List ℕ). drop after.place xs) bytes ∙ (ap (λ (n : ℕ). drop n (h.bytes ++ more)) place
-    ∙ (drop-append-le c.place h.bytes more within ∙ ap (λ (xs : List ℕ). xs ++ more) (is.held ∙ held_is c lent))))
+    let within : c.offset ≤ length h.bytes = omega arith in
+    sym (then.held ∙ held_is after lent_after) ∙ (ap (λ (xs : List ℕ). drop after.offset xs) bytes ∙ (ap (λ (n : ℕ). drop n (h.bytes ++ more)) offset
+    ∙ (drop-append-le c.offset h.bytes more within ∙ ap (λ (xs : List ℕ). xs ++ more) (is.held ∙ held_is c lent))))
 
 -- and stays where nothing is told
-pub held_stays : (h now : Heard) (c after : Standing) → IsHeard h c → IsHeard now after → c.is_lent ≡ false → after.is_lent ≡ false → after.place ≡ c.place → now ≡ h → after.front ≡ c.front
-held_stays h now c after is then lent lent_after place same =
-    sym (then.held ∙ held_is after lent_after) ∙ (ap (λ (n : ℕ). drop n now.bytes) place ∙ (ap (λ (x : Heard). drop c.place x.bytes) same ∙ (is.held ∙ held_is c lent)))
+pub held_stays : (h now : Heard) (c after : Standing) → IsHeard h c → IsHeard now after → c.is_lent ≡ false → after.is_lent ≡ false → after.offset ≡ c.offset → now ≡ h → after.front ≡ c.front
+held_stays h now c after is then lent lent_after offset same =
+    sym (then.held ∙ held_is after lent_after) ∙ (ap (λ (n : ℕ). drop n now.bytes) offset ∙ (ap (λ (x : Heard). drop c.offset x.bytes) same ∙ (is.held ∙ held_is c lent)))

@@ -16,26 +16,26 @@ use Rattle.mseed_stream.specs.Split.{bytes_of_each, fault_at, EndsBehind, IsSpli
 use Rattle.mseed_stream.proofs.Handed.{no_further, all_more}
 use Rattle.mseed_stream.proofs.Records.{view_record, front_within}
 
-ends_behind : (bytes : List ℕ) (place : ℕ) (records : List (List ℕ)) (end : End) → place ≤ length bytes → HasRecords bytes place records → length records < 2 ^ 40 → IsEndOf (drop place bytes) end → EndsBehind bytes place records end
-ends_behind bytes place records end within has few is = record {
+ends_behind : (bytes : List ℕ) (offset : ℕ) (records : List (List ℕ)) (end : End) → offset ≤ length bytes → HasRecords bytes offset records → length records < 2 ^ 40 → IsEndOf (drop offset bytes) end → EndsBehind bytes offset records end
+ends_behind bytes offset records end within has few is = record {
   archive = record {
-    joined = sym (take-append-drop place bytes) ∙ ap (λ (xs : List ℕ). xs ++ drop place bytes) has.joined;
+    joined = sym (take-append-drop offset bytes) ∙ ap (λ (xs : List ℕ). xs ++ drop offset bytes) has.joined;
     each = has.each;
-    no_further = no_further (drop place bytes) end is;
+    no_further = no_further (drop offset bytes) end is;
   };
-  place_is = ap (λ (xs : List ℕ). length xs) (sym has.joined) ∙ length-take-le place bytes within;
+  offset_is = ap (λ (xs : List ℕ). length xs) (sym has.joined) ∙ length-take-le offset bytes within;
   few = few;
   ends = is;
 }
 
 -- where no record begins behind the records, the bytes end
-pub split_fault : (bytes : List ℕ) (place : ℕ) (records : List (List ℕ)) (e : ViewFault) → place < length bytes → HasRecords bytes place records → length records < 2 ^ 40 → Decides (drop place bytes) (scan_of (Err e)) → IsSplitFault (fault_at (length bytes) place e) bytes
-split_fault bytes place records (Refused f) within has few d = (records, ends_behind bytes place records (frame f) (omega arith) has few (is_frame f d))
-split_fault bytes place records (Short k) within has few d =
-    let size : length (drop place bytes) ≡ length bytes - place = length-drop place bytes in
-    let some : 0 < length (drop place bytes) = omega (arith, size) in
-    let end : IsEndOf (drop place bytes) (truncated (length bytes - place)) = subst (λ (n : ℕ). IsEndOf (drop place bytes) (truncated n)) size (is_truncated k some d) in
-    (records, ends_behind bytes place records (truncated (length bytes - place)) (omega arith) has few end)
+pub split_fault : (bytes : List ℕ) (offset : ℕ) (records : List (List ℕ)) (e : ViewFault) → offset < length bytes → HasRecords bytes offset records → length records < 2 ^ 40 → Decides (drop offset bytes) (scan_of (Err e)) → IsSplitFault (fault_at (length bytes) offset e) bytes
+split_fault bytes offset records (Refused f) within has few d = (records, ends_behind bytes offset records (frame f) (omega arith) has few (is_frame f d))
+split_fault bytes offset records (Short k) within has few d =
+    let size : length (drop offset bytes) ≡ length bytes - offset = length-drop offset bytes in
+    let some : 0 < length (drop offset bytes) = omega (arith, size) in
+    let end : IsEndOf (drop offset bytes) (truncated (length bytes - offset)) = subst (λ (n : ℕ). IsEndOf (drop offset bytes) (truncated n)) size (is_truncated k some d) in
+    (records, ends_behind bytes offset records (truncated (length bytes - offset)) (omega arith) has few end)
 
 bytes_more : (views : List RecordView) (r : RecordView) → bytes_of_each (views ++ r ∷ []) ≡ bytes_of_each views ++ (view_of r).bytes ∷ []
 bytes_more [] r = refl
@@ -46,20 +46,20 @@ views_more [] r all is = (is, tt)
 views_more (v ∷ views) r all is = (all.0, views_more views r all.1 is)
 
 -- one more record
-pub split_more : (bytes : List ℕ) (place : ℕ) (views : List RecordView) (r : RecordView) → HasRecords bytes place (bytes_of_each views) → IsView (view_of r) → (view_of r).bytes ≡ take (length (view_of r).bytes) (drop place bytes)
-    → HasRecords bytes (place + length (view_of r).bytes) (bytes_of_each (views ++ r ∷ []))
-split_more bytes place views r has is front =
+pub split_more : (bytes : List ℕ) (offset : ℕ) (views : List RecordView) (r : RecordView) → HasRecords bytes offset (bytes_of_each views) → IsView (view_of r) → (view_of r).bytes ≡ take (length (view_of r).bytes) (drop offset bytes)
+    → HasRecords bytes (offset + length (view_of r).bytes) (bytes_of_each (views ++ r ∷ []))
+split_more bytes offset views r has is front =
     let b : List ℕ = (view_of r).bytes in
     let one : concat (b ∷ []) ≡ b = append-nil b in
     let all : bytes_of_each (views ++ r ∷ []) ≡ bytes_of_each views ++ b ∷ [] = bytes_more views r in
     record {
-      joined = take-add place (length b) bytes ∙ (ap (λ (xs : List ℕ). take place bytes ++ xs) (sym front) ∙ (ap (λ (xs : List ℕ). xs ++ b) has.joined
+      joined = take-add offset (length b) bytes ∙ (ap (λ (xs : List ℕ). take offset bytes ++ xs) (sym front) ∙ (ap (λ (xs : List ℕ). xs ++ b) has.joined
           ∙ (ap (λ (xs : List ℕ). concat (bytes_of_each views) ++ xs) (sym one) ∙ (sym (concat-append (bytes_of_each views) (b ∷ [])) ∙ ap (λ (xs : List (List ℕ)). concat xs) (sym all)))));
       each = subst (λ (xs : List (List ℕ)). AllByRecursion IsRecord xs) (sym all) (all_more (bytes_of_each views) b has.each (view_record (view_of r) is));
     }
 
-pub split_within : (bytes : List ℕ) (place : ℕ) (b : List ℕ) → place < length bytes → b ≡ take (length b) (drop place bytes) → place + length b ≤ length bytes
-split_within bytes place b within front = omega (arith, front_within (drop place bytes) b front, length-drop place bytes)
+pub split_within : (bytes : List ℕ) (offset : ℕ) (b : List ℕ) → offset < length bytes → b ≡ take (length b) (drop offset bytes) → offset + length b ≤ length bytes
+split_within bytes offset b within front = omega (arith, front_within (drop offset bytes) b front, length-drop offset bytes)
 
 length_of_each : (views : List RecordView) → length (bytes_of_each views) ≡ length views
 length_of_each [] = refl
@@ -68,6 +68,6 @@ length_of_each (v ∷ views) = ap (λ (n : ℕ). suc n) (length_of_each views)
 pub size_of_each : (views : List RecordView) (n : ℕ) → length views ≡ n → length (bytes_of_each views) ≡ n
 size_of_each views n e = length_of_each views ∙ e
 
--- a slice from a place to its end is all that is left
-pub tail_is : (bytes : List ℕ) (place : ℕ) → take (length bytes - place) (drop place bytes) ≡ drop place bytes
-tail_is bytes place = take_all (length bytes - place) (drop place bytes) (omega (arith, length-drop place bytes))
+-- a slice from a offset to its end is all that is left
+pub tail_is : (bytes : List ℕ) (offset : ℕ) → take (length bytes - offset) (drop offset bytes) ≡ drop offset bytes
+tail_is bytes offset = take_all (length bytes - offset) (drop offset bytes) (omega (arith, length-drop offset bytes))

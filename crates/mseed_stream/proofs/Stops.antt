@@ -1,12 +1,13 @@
 -- Where the bytes of a record are looked at: no record ends before the framing steps have what they ask for.
-use Rattle.std.proofs.Common.{◌≡◌, ℕ, ◌≤◌, ◌++◌, List, length, take, drop, sym, subst, arith, length-append}
+use Rattle.std.proofs.Common.{◌≡◌, ℕ, ◌≤◌, ◌++◌, List, length, take, drop, sym, subst, arith, length-append, length-take}
 use Rattle.std.proofs.lemmas.List.{take-append-le, take-append-drop, length-take-le, take_all}
 use Rattle.std.proofs.Math.Seq.{take-length}
 use Rattle.mseed_record.specs.declared.frame.Scan.TheVariants.{Need}
 use Rattle.mseed_record.specs.Record.{IsRecord}
 use Rattle.mseed_record.specs.Scan.{Decides}
 use Rattle.mseed_record.proofs.Asked.{asked, record_long}
-use Rattle.mseed_stream.specs.Cutting.{IsStop, at_start, asked_for}
+use Rattle.mseed_stream.specs.Archive.{HasNoFurther}
+use Rattle.mseed_stream.specs.Cutting.{IsStop, at_start, asked_for, FallsShort}
 
 -- stops stay where more is told
 pub stop_grows : (b more : List ℕ) (n : ℕ) → IsStop b n → IsStop (b ++ more) n
@@ -25,6 +26,13 @@ stop_record b _ k at_start r = omega (arith, record_long (take k b) r)
 stop_record b n k (asked_for m _ s l d) r =
     let whole_is : take m b ++ drop m b ≡ b = take-append-drop m b in
     subst (λ (xs : List ℕ). n ≤ length (take k xs)) whole_is (asked (take m b) (drop m b) n k d (subst (λ (xs : List ℕ). IsRecord (take k xs)) (sym whole_is) r))
+
+-- short of a stop there's no record
+pub none_short : (b : List ℕ) → FallsShort b → HasNoFurther b
+none_short b short k within r =
+    let far : short.0 ≤ length (take k b) = stop_record b short.0 k short.1.0 r in
+    let less = short.1.1 in
+    omega (arith, length-take k b)
 
 -- at a stop, what begins with a record is one
 pub record_whole : (b : List ℕ) (n k : ℕ) → IsStop b n → length b ≤ n → k ≤ length b → IsRecord (take k b) → IsRecord b × (n ≤ length b)

@@ -38,7 +38,7 @@ HasOneArchive bytes = (records others : List (List ℕ)) (rest left : List ℕ) 
 abbrev pub HasOneEnd : List ℕ → Type 0
 HasOneEnd rest = (one other : End) → IsEndOf rest one → IsEndOf rest other → one ≡ other
 
--- these records stand one behind another up to the place
-pub record HasRecords (bytes : List ℕ) (place : ℕ) (records : List (List ℕ)) : Type 0 where
-  pub joined : take place bytes ≡ concat records
+-- these records stand one behind another up to the offset
+pub record HasRecords (bytes : List ℕ) (offset : ℕ) (records : List (List ℕ)) : Type 0 where
+  pub joined : take offset bytes ≡ concat records
   pub each : AllByRecursion IsRecord records

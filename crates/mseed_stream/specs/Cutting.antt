@@ -5,7 +5,7 @@ use Rattle.mseed_record.specs.declared.frame.Scan.TheVariants.{Need}
 use Rattle.mseed_record.specs.Scan.{Decides}
 use Rattle.mseed_stream.specs.Device.{Heard}
 use Rattle.mseed_stream.specs.Standing.{Standing}
-use Rattle.mseed_stream.specs.Archive.{HasNoFurther, IsEndOf, clean, frame, truncated}
+use Rattle.mseed_stream.specs.Archive.{IsEndOf, clean, frame, truncated}
 use Rattle.mseed_stream.specs.declared.cutter.Ending.{Ending}
 use Rattle.mseed_stream.specs.declared.cutter.Ending.TheVariants.{Clean, Fault}
 use Rattle.mseed_stream.specs.declared.fault.StreamFault.{StreamFault}
@@ -17,35 +17,44 @@ pub data IsStop (bytes : List ℕ) : ℕ → Type 0 where
   at_start : IsStop bytes 0
   asked_for : (m n : ℕ) → IsStop bytes m → m ≤ length bytes → Decides (take m bytes) (Need n) → IsStop bytes n
 
--- the bytes told from the place on, by what is held
+-- the bytes told from the offset on, by what is held
 abbrev pub held_of : Standing → List ℕ
 held_of c = if c.is_lent then [] else c.front
 
--- what was told from a place on
+-- what was told from an offset on
 abbrev pub told_from : ℕ → Heard → List ℕ
-told_from place h = drop place h.bytes
+told_from offset h = drop offset h.bytes
 
--- What a fault means, of the place where the next record begins and of what was heard. At a failed read, too, no
--- record that was told whole is kept back.
+-- The bytes fall short of the stop that the framing steps ask for at an earlier one: so there's no record yet.
+abbrev pub FallsShort : List ℕ → Type 0
+FallsShort bytes = (n : ℕ) × (IsStop bytes n × (length bytes < n))
+
+-- the bytes go up to a stop and no further, or fall short of one
+abbrev pub IsReadTo : List ℕ → Bool → Type 0
+IsReadTo bytes false = IsStop bytes (length bytes)
+IsReadTo bytes true = FallsShort bytes
+
+-- What a fault means, of the offset where the next record begins and of what was heard. Bytes are refused once all
+-- that was asked for is there, or at the input's end; where a read failed or the turns ran out, more was asked for.
 abbrev pub IsCutFault : StreamFault → ℕ → Heard → Type 0
-IsCutFault (Frame n f) place h = (n ≡ place) × IsEndOf (told_from place h) (frame f)
-IsCutFault (Truncated n have) place h = (n ≡ place) × IsEndOf (told_from place h) (truncated have) × (h.is_at_end ≡ true)
-IsCutFault (Read n) place h = (n ≡ place) × (0 < h.failures) × (h.is_at_end ≡ false) × HasNoFurther (told_from place h)
-IsCutFault (Turns n) place h = (n ≡ place) × (h.calls ≡ 2 ^ 40) × (h.is_at_end ≡ false) × HasNoFurther (told_from place h)
-IsCutFault Memory place h = ⊤
+IsCutFault (Frame n f) offset h = (n ≡ offset) × IsEndOf (told_from offset h) (frame f) × IsReadTo (told_from offset h) h.is_at_end
+IsCutFault (Truncated n have) offset h = (n ≡ offset) × IsEndOf (told_from offset h) (truncated have) × (h.is_at_end ≡ true)
+IsCutFault (Read n) offset h = (n ≡ offset) × (0 < h.failures) × (h.is_at_end ≡ false) × FallsShort (told_from offset h)
+IsCutFault (Turns n) offset h = (n ≡ offset) × (h.calls ≡ 2 ^ 40) × (h.is_at_end ≡ false) × FallsShort (told_from offset h)
+IsCutFault Memory offset h = ⊤
 
 -- the input ended where a record ended
 abbrev pub IsCleanEnd : ℕ → Heard → Type 0
-IsCleanEnd place h = IsEndOf (told_from place h) clean × (h.is_at_end ≡ true)
+IsCleanEnd offset h = IsEndOf (told_from offset h) clean × (h.is_at_end ≡ true)
 
 abbrev pub IsEnding : Ending → ℕ → Heard → Type 0
-IsEnding Clean place h = IsCleanEnd place h
-IsEnding (Fault e) place h = IsCutFault e place h × (e ≢ Memory)
+IsEnding Clean offset h = IsCleanEnd offset h
+IsEnding (Fault e) offset h = IsCutFault e offset h × (e ≢ Memory)
 
--- A cutter holds of what its source told the bytes from the place on, and was alone to ask it.
+-- A cutter holds of what its source told the bytes from the offset on, and was alone to ask it.
 pub record IsHeard (h : Heard) (c : Standing) : Type 0 where
-  pub told : length h.bytes ≡ c.place + length (held_of c)
-  pub held : told_from c.place h ≡ held_of c
+  pub told : length h.bytes ≡ c.offset + length (held_of c)
+  pub held : told_from c.offset h ≡ held_of c
   pub reads : h.calls ≡ c.reads
   pub few_reads : c.reads ≤ 2 ^ 40
   pub few_bytes : length h.bytes ≤ 2 ^ 20 * c.reads
@@ -58,35 +67,35 @@ pub record IsAlong (h : Heard) (c : Standing) : Type 0 where
   pub stop : c.answer ≡ None → IsStop (held_of c) (length (held_of c))
   pub asks : c.answer ≡ None → (k : ℕ) × Decides (held_of c) (Need k)
   pub going_on : c.answer ≡ None → h.is_at_end ≡ false
-  pub ended : IfSome c.answer (λ e. IsEnding e c.place h)
+  pub ended : IfSome c.answer (λ e. IsEnding e c.offset h)
 
 -- what more a source told, and what it's known to have left
 abbrev pub TellsMore : Heard → Heard → Option (List ℕ) → Option (List ℕ) → Type 0
 TellsMore old new left rest = (more : List ℕ) × (new.bytes ≡ old.bytes ++ more) × Consumes left rest more
 
--- an answer before which less may have been read than was asked for
-abbrev pub MayBeShort : {X : Type 0} → Result X StreamFault → Bool → Type 0
-MayBeShort (Err (Read n)) is_at_end = ⊤
-MayBeShort (Err (Turns n)) is_at_end = ⊤
-MayBeShort (Err (Frame n f)) is_at_end = is_at_end ≡ true
-MayBeShort (Err (Truncated n have)) is_at_end = is_at_end ≡ true
-MayBeShort (Err Memory) is_at_end = ⊥
-MayBeShort (Ok r) is_at_end = is_at_end ≡ true
-
--- The bytes were read up to a stop and no further, and short of it only where the input ended, a read failed or the
--- turns ran out.
-abbrev pub IsReadTo : {X : Type 0} → List ℕ → Result X StreamFault → Bool → Type 0
-IsReadTo bytes result is_at_end = (n : ℕ) × (IsStop bytes n × (length bytes ≤ n) × (length bytes < n → MayBeShort result is_at_end))
+-- whether less was read before an answer than was asked for: at the input's end, a failed read and the last turn
+abbrev pub is_short : {X : Type 0} → Result X StreamFault → Bool → Bool
+is_short (Err (Read n)) is_at_end = true
+is_short (Err (Turns n)) is_at_end = true
+is_short (Err (Frame n f)) is_at_end = is_at_end
+is_short (Err (Truncated n have)) is_at_end = is_at_end
+is_short (Err Memory) is_at_end = false
+is_short (Ok r) is_at_end = is_at_end
 
 -- more room was needed than there was
 abbrev pub NeedsRoom : ℕ → List ℕ → Type 0
 NeedsRoom room bytes = (n : ℕ) × (room < n) × Decides bytes (Need n)
 
--- how far an answer moves the place: by the bytes of the record that it lends
+-- how far an answer moves the offset: by the bytes of the record that it lends
 abbrev pub moves_by : {X : Type 0} → Result (Option X) StreamFault → List ℕ → ℕ
 moves_by (Ok (Some r)) bytes = length bytes
 moves_by (Ok None) bytes = 0
 moves_by (Err e) bytes = 0
+
+-- how often at least a source was asked for bytes that are held
+abbrev pub asks_of : List ℕ → ℕ
+asks_of [] = 0
+asks_of (x ∷ xs) = 1
 
 -- how many failed reads a fault tells of
 abbrev pub failed_reads : StreamFault → ℕ
@@ -115,6 +124,12 @@ kept_of (Err (Frame n f)) = Some (Fault (Frame n f))
 kept_of (Err (Truncated n have)) = Some (Fault (Truncated n have))
 kept_of (Err (Read n)) = Some (Fault (Read n))
 kept_of (Err (Turns n)) = Some (Fault (Turns n))
+
+-- how many records an answer hands out
+abbrev pub count_of : {X : Type 0} → Result (Option X) StreamFault → ℕ
+count_of (Ok (Some r)) = 1
+count_of (Ok None) = 0
+count_of (Err e) = 0
 
 -- the record that an answer hands out
 abbrev pub handed_by : {X : Type 0} → Result (Option X) StreamFault → List ℕ → List (List ℕ)

@@ -6,3 +6,4 @@ pub mod Fault
 pub mod Split
 pub mod Standing
 pub mod Steps
+pub mod Walk

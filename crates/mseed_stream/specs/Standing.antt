@@ -5,7 +5,7 @@ use Rattle.mseed_stream.specs.declared.cutter.Ending.{Ending}
 -- where the next record begins, the bytes at the buffer's front and whether they're a record that was lent, the
 -- buffer's length, how often the source was asked, and the answer for ever
 pub record Standing : Type 0 where
-  pub place : ℕ
+  pub offset : ℕ
   pub front : List ℕ
   pub is_lent : Bool
   pub room : ℕ

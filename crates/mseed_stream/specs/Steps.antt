@@ -4,31 +4,32 @@ use Rattle.mseed_record.specs.declared.frame.Scan.TheVariants.{Need}
 use Rattle.mseed_record.specs.Scan.{Decides}
 use Rattle.mseed_stream.specs.Device.{Heard}
 use Rattle.mseed_stream.specs.Standing.{Standing}
-use Rattle.mseed_stream.specs.Archive.{HasNoFurther, IsEndOf, frame, truncated}
+use Rattle.mseed_stream.specs.Archive.{IsEndOf, frame, truncated}
+use Rattle.mseed_stream.specs.Cutting.{FallsShort, IsReadTo}
 use Rattle.mseed_stream.specs.declared.cutter.Ending.TheVariants.{Clean, Fault}
 use Rattle.mseed_stream.specs.declared.fault.StreamFault.{StreamFault}
 use Rattle.mseed_stream.specs.declared.fault.StreamFault.TheVariants.{Frame, Truncated, Read, Turns, Memory}
 
 -- what a fault means of the reads for one stop, and of the room that there was for so many bytes before them
 abbrev pub IsFillFault : StreamFault → ℕ → ℕ → ℕ → Heard → Heard → Type 0
-IsFillFault (Frame n f) place room needed old new = ⊥
-IsFillFault (Truncated n have) place room needed old new = ⊥
-IsFillFault (Read n) place room needed old new = (n ≡ place) × (new.failures ≡ old.failures + 1) × (new.is_at_end ≡ false)
-IsFillFault (Turns n) place room needed old new = (n ≡ place) × (new.failures ≡ old.failures) × (new.calls ≡ 2 ^ 40) × (new.is_at_end ≡ false)
-IsFillFault Memory place room needed old new = (room < needed) × (new ≡ old)
+IsFillFault (Frame n f) offset room needed old new = ⊥
+IsFillFault (Truncated n have) offset room needed old new = ⊥
+IsFillFault (Read n) offset room needed old new = (n ≡ offset) × (new.failures ≡ old.failures + 1) × (new.is_at_end ≡ false)
+IsFillFault (Turns n) offset room needed old new = (n ≡ offset) × (new.failures ≡ old.failures) × (new.calls ≡ 2 ^ 40) × (new.is_at_end ≡ false)
+IsFillFault Memory offset room needed old new = (room < needed) × (new ≡ old)
 
 -- what a fault means of the reads for one record
 abbrev pub IsCuttingFault : StreamFault → Standing → Standing → Heard → Heard → Type 0
-IsCuttingFault (Frame n f) c after old new = (n ≡ c.place) × (new.failures ≡ old.failures) × IsEndOf after.front (frame f)
-IsCuttingFault (Truncated n have) c after old new = (n ≡ c.place) × (new.failures ≡ old.failures) × IsEndOf after.front (truncated have) × (new.is_at_end ≡ true)
-IsCuttingFault (Read n) c after old new = (n ≡ c.place) × (new.failures ≡ old.failures + 1) × (new.is_at_end ≡ false) × HasNoFurther after.front
-IsCuttingFault (Turns n) c after old new = (n ≡ c.place) × (new.failures ≡ old.failures) × (new.calls ≡ 2 ^ 40) × (new.is_at_end ≡ false) × HasNoFurther after.front
+IsCuttingFault (Frame n f) c after old new = (n ≡ c.offset) × (new.failures ≡ old.failures) × IsEndOf after.front (frame f) × IsReadTo after.front new.is_at_end
+IsCuttingFault (Truncated n have) c after old new = (n ≡ c.offset) × (new.failures ≡ old.failures) × IsEndOf after.front (truncated have) × (new.is_at_end ≡ true)
+IsCuttingFault (Read n) c after old new = (n ≡ c.offset) × (new.failures ≡ old.failures + 1) × (new.is_at_end ≡ false) × FallsShort after.front
+IsCuttingFault (Turns n) c after old new = (n ≡ c.offset) × (new.failures ≡ old.failures) × (new.calls ≡ 2 ^ 40) × (new.is_at_end ≡ false) × FallsShort after.front
 IsCuttingFault Memory c after old new = (new.failures ≡ old.failures) × (new.is_at_end ≡ false) × ((n : ℕ) × (c.room < n) × Decides after.front (Need n))
 
 -- at the input's end: nothing is left, or so many bytes of what might have been a record
 abbrev pub IsAnswerAtEnd : Result Bool StreamFault → ℕ → List ℕ → Type 0
-IsAnswerAtEnd (Ok found) place front = (found ≡ false) × (front ≡ [])
-IsAnswerAtEnd (Err e) place front = (e ≡ Truncated place (length front)) × (0 < length front)
+IsAnswerAtEnd (Ok found) offset front = (found ≡ false) × (front ≡ [])
+IsAnswerAtEnd (Err e) offset front = (e ≡ Truncated offset (length front)) × (0 < length front)
 
 -- whether a record was found as the answer that lends it, of so many bytes
 abbrev pub lent_of : ℕ → Result Bool StreamFault → Result (Option ℕ) StreamFault
@@ -38,7 +39,7 @@ lent_of n (Err e) = Err e
 
 -- a cutter that found a record, or not, and then lends it or keeps its answer
 abbrev pub settled : Standing → Result Bool StreamFault → Standing
-settled c (Ok true) = record c { place = c.place + length c.front; is_lent = true }
+settled c (Ok true) = record c { offset = c.offset + length c.front; is_lent = true }
 settled c (Ok false) = record c { answer = Some Clean }
 settled c (Err Memory) = c
 settled c (Err (Frame n f)) = record c { answer = Some (Fault (Frame n f)) }

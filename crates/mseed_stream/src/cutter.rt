@@ -3,12 +3,13 @@ ghost use Rattle.std.specs.Prelude.{◌≡◌, ◌≢◌, ◌+◌, ◌*◌, ◌^
 ghost use Rattle.std.specs.Io.KnownBytes.{IsAtEnd, ReadConsumes};
 ghost use Rattle.mseed_record.specs.Record.{IsRecord};
 ghost use Rattle.mseed_record.specs.Scan.{Decides};
-ghost use Rattle.mseed_record.specs.View.{IsView};
+ghost use Rattle.mseed_record.specs.View.{View, IsView};
 ghost use Rattle.mseed_record.specs.Viewing.{view_of};
 ghost use Rattle.mseed_record.specs.declared.frame.Scan.TheVariants.{Need, Record};
 ghost use Rattle.mseed_stream.specs.Device.{heard_also, nothing_heard};
 ghost use Rattle.mseed_stream.specs.Archive.{HasRecords, IsArchive};
-ghost use Rattle.mseed_stream.specs.Cutting.{IsHeard, IsAlong, IsStop, TellsMore, IsReadTo, IsCutFault, IsCleanEnd, NeedsRoom, held_of, told_from, moves_by, failed_by, answer_of, kept_of, handed_by, IfEnds};
+ghost use Rattle.mseed_stream.specs.Cutting.{IsHeard, IsAlong, IsStop, TellsMore, IsReadTo, is_short, asks_of, count_of, IsCutFault, IsCleanEnd, NeedsRoom, held_of, told_from, moves_by, failed_by, answer_of, kept_of, handed_by, IfEnds};
+ghost use Rattle.mseed_stream.specs.Walk.{HasHandedOut, AreAllViews, IfGoesOn, end_of};
 ghost use Rattle.mseed_stream.specs.Steps.{IsFillFault, IsAnswerAtEnd, IsCuttingFault, lent_of, settled};
 
 use crate::device::{Failed, Sink, Source};
@@ -74,7 +75,7 @@ impl<A: Allocator> Model for Cutter<A> {
 
     ghost Value = { Standing };
 
-    ghost view = { λ c. record { place = c.offset; front = take c.have c.held.items; is_lent = c.is_lent; room = vec_len c.held; reads = c.reads; answer = c.ending } };
+    ghost view = { λ c. record { offset = c.offset; front = take c.have c.held.items; is_lent = c.is_lent; room = vec_len c.held; reads = c.reads; answer = c.ending } };
 
     ghost invariant = { λ c. (c.have ≤ vec_len c.held) × (vec_len c.held ≤ 2 ^ 20) × (c.reads ≤ 2 ^ 40) × (c.offset + (if c.is_lent then 0 else c.have) ≤ 2 ^ 20 * c.reads) × IsFramerOf c.framer (take c.have c.held.items) };
 }
@@ -88,8 +89,9 @@ impl<A: Allocator> Cutter<A> {
     /// A cutter of which nothing was asked yet. It takes no memory.
     pub fn new(alloc: A) -> Cutter<A>
         ensures along { IsAlong nothing_heard result }
-        ensures place { result.place ≡ 0 }
-        ensures records { HasRecords [] result.place [] }
+        ensures offset { result.offset ≡ 0 }
+        ensures records { HasRecords [] result.offset [] }
+        ensures handed { HasHandedOut nothing_heard result [] }
         ensures goes_on { result.answer ≡ None }
         ensures room { result.room ≡ 0 }
     {
@@ -106,7 +108,7 @@ impl<A: Allocator> Cutter<A> {
 
     /// Where the next record begins, in bytes from the input's beginning.
     pub fn offset(&self) -> u64
-        ensures { result ≡ self.now.place }
+        ensures { result ≡ self.now.offset }
     {
         self.offset
     }
@@ -136,24 +138,28 @@ impl<A: Allocator> Cutter<A> {
     pub fn next<R: Source>(&mut self, source: &mut R) -> Result<Option<RecordView<'_>>, StreamFault>
         requires { IsAlong (R.heard source.old) self.old }
         ensures more { TellsMore (R.heard source.old) (R.heard source.new) (R.remaining source.old) (R.remaining source.new) }
-        ensures record { IfOk result (λ o. IfSome o (λ r. IsView (view_of r) × ((view_of r).bytes ≡ told_from self.old.place (R.heard source.new)))) }
-        ensures end { result ≡ Ok None → IsCleanEnd self.old.place (R.heard source.new) }
-        ensures fault { IfErr result (λ e. IsCutFault e self.old.place (R.heard source.new)) }
-        ensures records { (records : List (List ℕ)) → HasRecords (R.heard source.old).bytes self.old.place records
-            → HasRecords (R.heard source.new).bytes (self.old.place + moves_by result (told_from self.old.place (R.heard source.new))) (records ++ handed_by result (told_from self.old.place (R.heard source.new))) }
-        ensures archive { (records : List (List ℕ)) → HasRecords (R.heard source.old).bytes self.old.place records
-            → IfEnds result (IsArchive (R.heard source.new).bytes records (told_from self.old.place (R.heard source.new))) }
-        ensures memory { result ≡ Err StreamFault.Memory → NeedsRoom self.old.room (told_from self.old.place (R.heard source.new)) }
-        ensures read_to { self.old.answer ≡ None → IsReadTo (told_from self.old.place (R.heard source.new)) result (R.heard source.new).is_at_end }
+        ensures record { IfOk result (λ o. IfSome o (λ r. IsView (view_of r) × ((view_of r).bytes ≡ told_from self.old.offset (R.heard source.new)))) }
+        ensures end { result ≡ Ok None → IsCleanEnd self.old.offset (R.heard source.new) }
+        ensures fault { IfErr result (λ e. IsCutFault e self.old.offset (R.heard source.new)) }
+        ensures records { (records : List (List ℕ)) → HasRecords (R.heard source.old).bytes self.old.offset records
+            → HasRecords (R.heard source.new).bytes (self.old.offset + moves_by result (told_from self.old.offset (R.heard source.new))) (records ++ handed_by result (told_from self.old.offset (R.heard source.new))) }
+        ensures archive { (records : List (List ℕ)) → HasRecords (R.heard source.old).bytes self.old.offset records
+            → IfEnds result (IsArchive (R.heard source.new).bytes records (told_from self.old.offset (R.heard source.new))) }
+        ensures all { (views : List View) → HasHandedOut (R.heard source.old) self.old views
+            → IfEnds result (AreAllViews (R.heard source.new) views (end_of result)) }
+        ensures memory { result ≡ Err StreamFault.Memory → NeedsRoom self.old.room (told_from self.old.offset (R.heard source.new)) }
+        ensures read_to { self.old.answer ≡ None → IsReadTo (told_from self.old.offset (R.heard source.new)) (is_short result (R.heard source.new).is_at_end) }
         ensures asked { IfOk result (λ o. IfSome o (λ r. (R.heard source.old).calls < (R.heard source.new).calls)) }
         ensures failed { self.old.answer ≡ None → (R.heard source.new).failures ≡ (R.heard source.old).failures + failed_by result }
         ensures repeats { IfSome self.old.answer (λ e. (result ≡ answer_of e) × (R.heard source.new ≡ R.heard source.old)) }
-        ensures most { length (R.heard source.new).bytes ≤ self.old.place + 2 ^ 20 }
+        ensures most { length (R.heard source.new).bytes ≤ self.old.offset + 2 ^ 20 }
         ensures known { self.old.answer ≡ None → (R.heard source.new).is_at_end ≡ true → IsAtEnd (R.remaining source.new) }
         ensures beside { R.beside source.new ≡ R.beside source.old }
         ensures* after { sem 𝓛 (follows_so (the_row A.row A.Allocator) (the_row A.row A.Allocator) self.entry.ghost_name none (λ _ _. ⊤)
-            (λ c. IsAlong (R.heard source.new) c × (c.place ≡ self.old.place + moves_by result (told_from self.old.place (R.heard source.new)))
-            × (c.answer ≡ kept_of result) × (self.old.room ≤ c.room))) }
+            (λ c. IsAlong (R.heard source.new) c × (c.offset ≡ self.old.offset + moves_by result (told_from self.old.offset (R.heard source.new)))
+            × (c.answer ≡ kept_of result) × (self.old.room ≤ c.room)
+            × ((views : List View) → HasHandedOut (R.heard source.old) self.old views
+            → IfGoesOn result (λ more. HasHandedOut (R.heard source.new) c (views ++ more))))) }
     {
         match self.advance(source)? {
             Some(length) => Ok(Some(RecordView::of_record(&self.held[..length]))),
@@ -166,22 +172,22 @@ impl<A: Allocator> Cutter<A> {
         requires { IsAlong (R.heard source.old) self.old }
         ensures along { IsAlong (R.heard source.new) self.new }
         ensures more { TellsMore (R.heard source.old) (R.heard source.new) (R.remaining source.old) (R.remaining source.new) }
-        ensures record { IfOk result (λ o. IfSome o (λ n. (n ≡ length self.new.front) × IsRecord self.new.front × (self.new.front ≡ told_from self.old.place (R.heard source.new)))) }
-        ensures place { self.new.place ≡ self.old.place + moves_by result self.new.front }
-        ensures end { result ≡ Ok None → IsCleanEnd self.old.place (R.heard source.new) }
-        ensures fault { IfErr result (λ e. IsCutFault e self.old.place (R.heard source.new)) }
-        ensures records { (records : List (List ℕ)) → HasRecords (R.heard source.old).bytes self.old.place records
-            → HasRecords (R.heard source.new).bytes (self.old.place + moves_by result (told_from self.old.place (R.heard source.new))) (records ++ handed_by result (told_from self.old.place (R.heard source.new))) }
-        ensures archive { (records : List (List ℕ)) → HasRecords (R.heard source.old).bytes self.old.place records
-            → IfEnds result (IsArchive (R.heard source.new).bytes records (told_from self.old.place (R.heard source.new))) }
-        ensures memory { result ≡ Err StreamFault.Memory → NeedsRoom self.old.room (told_from self.old.place (R.heard source.new)) }
-        ensures read_to { self.old.answer ≡ None → IsReadTo (told_from self.old.place (R.heard source.new)) result (R.heard source.new).is_at_end }
-        ensures asked { IfOk result (λ o. IfSome o (λ r. (R.heard source.old).calls < (R.heard source.new).calls)) }
+        ensures record { IfOk result (λ o. IfSome o (λ n. (n ≡ length self.new.front) × IsRecord self.new.front × (self.new.front ≡ told_from self.old.offset (R.heard source.new)))) }
+        ensures offset { self.new.offset ≡ self.old.offset + moves_by result self.new.front }
+        ensures end { result ≡ Ok None → IsCleanEnd self.old.offset (R.heard source.new) }
+        ensures fault { IfErr result (λ e. IsCutFault e self.old.offset (R.heard source.new)) }
+        ensures records { (records : List (List ℕ)) → HasRecords (R.heard source.old).bytes self.old.offset records
+            → HasRecords (R.heard source.new).bytes (self.old.offset + moves_by result (told_from self.old.offset (R.heard source.new))) (records ++ handed_by result (told_from self.old.offset (R.heard source.new))) }
+        ensures archive { (records : List (List ℕ)) → HasRecords (R.heard source.old).bytes self.old.offset records
+            → IfEnds result (IsArchive (R.heard source.new).bytes records (told_from self.old.offset (R.heard source.new))) }
+        ensures memory { result ≡ Err StreamFault.Memory → NeedsRoom self.old.room (told_from self.old.offset (R.heard source.new)) }
+        ensures read_to { self.old.answer ≡ None → IsReadTo (told_from self.old.offset (R.heard source.new)) (is_short result (R.heard source.new).is_at_end) }
+        ensures asked { (R.heard source.old).calls + 2 * count_of result + asks_of (held_of self.new) ≤ (R.heard source.new).calls + asks_of (held_of self.old) }
         ensures failed { self.old.answer ≡ None → (R.heard source.new).failures ≡ (R.heard source.old).failures + failed_by result }
         ensures repeats { IfSome self.old.answer (λ e. (result ≡ answer_of e) × (R.heard source.new ≡ R.heard source.old)) }
         ensures kept { self.new.answer ≡ kept_of result }
         ensures room { self.old.room ≤ self.new.room }
-        ensures most { length (R.heard source.new).bytes ≤ self.old.place + 2 ^ 20 }
+        ensures most { length (R.heard source.new).bytes ≤ self.old.offset + 2 ^ 20 }
         ensures known { self.old.answer ≡ None → (R.heard source.new).is_at_end ≡ true → IsAtEnd (R.remaining source.new) }
         ensures beside { R.beside source.new ≡ R.beside source.old }
     {
@@ -237,11 +243,12 @@ impl<A: Allocator> Cutter<A> {
         requires going_on { (R.heard source.old).is_at_end ≡ false }
         ensures heard { IsHeard (R.heard source.new) self.new }
         ensures more { TellsMore (R.heard source.old) (R.heard source.new) (R.remaining source.old) (R.remaining source.new) }
-        ensures stays { (self.new.place ≡ self.old.place) × (self.new.is_lent ≡ false) × (self.new.answer ≡ self.old.answer) }
+        ensures stays { (self.new.offset ≡ self.old.offset) × (self.new.is_lent ≡ false) × (self.new.answer ≡ self.old.answer) }
         ensures room { self.old.room ≤ self.new.room }
-        ensures stop { IsReadTo self.new.front result (R.heard source.new).is_at_end }
+        ensures stop { IsReadTo self.new.front (is_short result (R.heard source.new).is_at_end) }
         ensures found { result ≡ Ok true → IsRecord self.new.front × (R.heard source.new).is_at_end ≡ false }
-        ensures asked { result ≡ Ok true → (R.heard source.old).calls < (R.heard source.new).calls }
+        ensures asked { result ≡ Ok true → (R.heard source.old).calls + 2 ≤ (R.heard source.new).calls + asks_of self.old.front }
+        ensures quiet { ((R.heard source.new).calls ≤ (R.heard source.old).calls → self.new.front ≡ self.old.front) × ((R.heard source.old).calls ≤ (R.heard source.new).calls) }
         ensures ended { result ≡ Ok false → (self.new.front ≡ []) × ((R.heard source.new).is_at_end ≡ true) }
         ensures fine { OnOk result ((R.heard source.new).failures ≡ (R.heard source.old).failures) }
         ensures fault { IfErr result (λ e. IsCuttingFault e self.old self.new (R.heard source.old) (R.heard source.new)) }
@@ -261,7 +268,7 @@ impl<A: Allocator> Cutter<A> {
 
     /// The answer at the input's end, by how many bytes are left.
     fn end(&self) -> Result<bool, StreamFault>
-        ensures { IsAnswerAtEnd result self.now.place self.now.front }
+        ensures { IsAnswerAtEnd result self.now.offset self.now.front }
     {
         if self.have == 0 {
             Ok(false)
@@ -304,14 +311,16 @@ impl<A: Allocator> Cutter<A> {
         requires going_on { (R.heard source.old).is_at_end ≡ false }
         ensures heard { IsHeard (R.heard source.new) self.new }
         ensures more { TellsMore (R.heard source.old) (R.heard source.new) (R.remaining source.old) (R.remaining source.new) }
-        ensures stays { (self.new.place ≡ self.old.place) × (self.new.is_lent ≡ false) × (self.new.answer ≡ self.old.answer) }
+        ensures stays { (self.new.offset ≡ self.old.offset) × (self.new.is_lent ≡ false) × (self.new.answer ≡ self.old.answer) }
         ensures room { self.old.room ≤ self.new.room }
         ensures whole { result ≡ Ok false → (length self.new.front ≡ needed) × ((R.heard source.new).is_at_end ≡ false) }
         ensures ended { result ≡ Ok true → (length self.new.front < needed) × ((R.heard source.new).is_at_end ≡ true) × IsAtEnd (R.remaining source.new) }
         ensures fine { OnOk result ((R.heard source.new).failures ≡ (R.heard source.old).failures) }
-        ensures fault { IfErr result (λ e. IsFillFault e self.old.place self.old.room needed (R.heard source.old) (R.heard source.new)) }
+        ensures fault { IfErr result (λ e. IsFillFault e self.old.offset self.old.room needed (R.heard source.old) (R.heard source.new)) }
         ensures short { OnErr result (length self.new.front < needed) }
         ensures asked { OnOk result ((R.heard source.old).calls < (R.heard source.new).calls) }
+        ensures calls { (R.heard source.old).calls ≤ (R.heard source.new).calls }
+        ensures quiet { length self.old.front < length self.new.front → (R.heard source.old).calls < (R.heard source.new).calls }
         ensures beside { R.beside source.new ≡ R.beside source.old }
     {
         self.make_room(needed)?;
@@ -330,7 +339,7 @@ impl<A: Allocator> Cutter<A> {
     }
 }
 
-/// Reads once, into the bytes between two places.
+/// Reads once, into the bytes from `begin` to `end`.
 fn pull_between<R: Source>(
     source: &mut R,
     held: &mut [u8],

@@ -4,7 +4,7 @@ use mseed_record::FrameFault;
 /// Why an input wasn't read to its end.
 ///
 /// The first number of each counts bytes: from the input's beginning to where the next record begins,
-/// for a [`Cutter`](crate::Cutter) and for [`split`](crate::split); from the place where the call
+/// for a [`Cutter`](crate::Cutter) and for [`split`](crate::split); from where the call
 /// began, for [`read_all`](crate::read_all).
 #[derive(Debug, Clone, Copy, PartialEq, Eq)]
 pub enum StreamFault {

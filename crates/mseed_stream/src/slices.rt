@@ -18,7 +18,7 @@ const MOST: usize = (1 << 40) - 1;
 /// # Errors
 ///
 /// As a [`Cutter`](crate::Cutter) says of a reader that tells the bytes: `Frame` and `Truncated` with the
-/// place behind the records, `Turns` at a 2^40th record, `Memory` where there was no room for a record.
+/// offset behind the records, `Turns` at a 2^40th record, `Memory` where there was no room for a record.
 pub fn split(alloc: Global, bytes: &[u8]) -> Result<Vec<RecordView<'_>>, StreamFault>
     ensures archive { IfOk result (λ views. IsArchive bytes.now (bytes_of_each views.items) []) }
     ensures views { IfOk result (λ views. AllByRecursion (λ r. IsView (view_of r)) views.items) }
@@ -61,7 +61,7 @@ pub fn split_in<A: Allocator>(alloc: A, bytes: &[u8]) -> Result<Vec<RecordView<'
     Ok(records)
 }
 
-/// The fault of bytes that don't begin with a record from a place on.
+/// The fault of bytes that don't begin with a record from an offset on.
 fn fault_at(bytes: &[u8], offset: usize, fault: ViewFault) -> StreamFault
     requires { offset < length bytes.now }
     ensures { result ≡ fault_at (length bytes.now) offset fault }

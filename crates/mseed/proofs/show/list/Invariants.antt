@@ -9,7 +9,7 @@ abbrev pub invariant-records : goal.invariant-records
 invariant-records g l = IsAlong (g.R.Source.heard l.input) l.cutter × (l.records ≤ (g.R.Source.heard l.input).calls)
     × (l.cutter.answer ≡ None) × ((g.R.Source.heard l.input).failures ≡ 0)
     × ((g.W.Sink.said l.output).failures ≡ (g.W.Sink.said l.fn.output).failures)
-    × ((views : List View) × (AreViews (g.R.Source.heard l.input).bytes l.cutter.place views
+    × ((views : List View) × (AreViews (g.R.Source.heard l.input).bytes l.cutter.offset views
     × ((g.W.Sink.said l.output).bytes ++ l.text.items ≡ (g.W.Sink.said l.fn.output).bytes ++ record_lines 0 views)
     × (l.records ≡ length views)))
 

@@ -9,7 +9,7 @@ use Rattle.mseed_audit.proofs.whole.gather.Given as goal
 abbrev pub invariant-records : goal.invariant-records
 invariant-records g l = IsAlong (g.R.Source.heard l.source) l.cutter × (l.audit.added ≤ (g.R.Source.heard l.source).calls)
     × (l.cutter.answer ≡ None) × ((g.R.Source.heard l.source).failures ≡ 0)
-    × ((views : List View) × (AreViews (g.R.Source.heard l.source).bytes l.cutter.place views × IsAuditOf l.audit (added_from 0 views)))
+    × ((views : List View) × (AreViews (g.R.Source.heard l.source).bytes l.cutter.offset views × IsAuditOf l.audit (added_from 0 views)))
 
 abbrev pub decreases-records : goal.decreases-records
 decreases-records g l = 2 ^ 40 + 1 - (g.R.Source.heard l.source).calls

@@ -14,12 +14,12 @@ use Rattle.mseed_stream.proofs.slices.split_in.Goals as goal
 pub returns-in-Err-clause-fault : goal.returns-in-Err-clause-fault
 returns-in-Err-clause-fault g c =
     let inv = c.loop-offset.invariant in
-    let place : ℕ = c.loop-offset.offset in
+    let offset : ℕ = c.loop-offset.offset in
     let bytes : List ℕ = c.args.bytes.now in
     let few : length (bytes_of_each c.loop-offset.records.items) < 2 ^ 40 = omega (arith, inv.few, size_of_each c.loop-offset.records.items (length c.loop-offset.records.items) refl) in
-    let decides = subst (λ (xs : List ℕ). Decides xs (scan_of (Err c.in-Err.fault))) (tail_is bytes place) c.in-Err.ensures.decides in
+    let decides = subst (λ (xs : List ℕ). Decides xs (scan_of (Err c.in-Err.fault))) (tail_is bytes offset) c.in-Err.ensures.decides in
     subst (λ (e : StreamFault). IsSplitFault e bytes) (sym c.fault_at.ensures)
-    (split_fault bytes place (bytes_of_each c.loop-offset.records.items) c.in-Err.fault c.loop-offset-test.true inv.records few decides)
+    (split_fault bytes offset (bytes_of_each c.loop-offset.records.items) c.in-Err.fault c.loop-offset-test.true inv.records few decides)
 
 pub returns-then-len-eq-MOST-clause-fault : goal.returns-then-len-eq-MOST-clause-fault
 returns-then-len-eq-MOST-clause-fault g c =
@@ -33,22 +33,22 @@ returns-then-len-eq-MOST-clause-fault g c =
 pub loop-offset-preserved : goal.loop-offset-preserved
 loop-offset-preserved g c =
     let inv = c.loop-offset.invariant in
-    let place : ℕ = c.loop-offset.offset in
+    let offset : ℕ = c.loop-offset.offset in
     let bytes : List ℕ = c.args.bytes.now in
     let views : List RecordView = c.loop-offset.records.items in
     let r : RecordView = c.in-Ok.record in
     let b : List ℕ = (view_of r).bytes in
     let items : c.push.new.self.items ≡ views ++ r ∷ [] = search rules in
-    let front : b ≡ take (length b) (drop place bytes) = c.in-Ok.ensures.front ∙ ap (λ (xs : List ℕ). take (length b) xs) (tail_is bytes place) in
+    let front : b ≡ take (length b) (drop offset bytes) = c.in-Ok.ensures.front ∙ ap (λ (xs : List ℕ). take (length b) xs) (tail_is bytes offset) in
     let size : length c.bytes.result.now ≡ length b = ap (λ (xs : List ℕ). length xs) c.bytes.ensures.value in
-    let more = split_more bytes place views r inv.records c.in-Ok.ensures.view front in
+    let more = split_more bytes offset views r inv.records c.in-Ok.ensures.view front in
     let grown : length c.push.new.self.items ≡ length views + 1 = ap (λ (xs : List RecordView). length xs) items ∙ length-append views (r ∷ []) in
     let count : length views ≡ c.len.result = omega (arith, c.loop-offset.records.ok, c.len.ensures) in
     let other = c.if-len-eq-MOST.false in
     record {
-      records = subst (λ (n : ℕ). HasRecords bytes (place + n) (bytes_of_each c.push.new.self.items)) (sym size)
-          (subst (λ (xs : List RecordView). HasRecords bytes (place + length b) (bytes_of_each xs)) (sym items) more);
+      records = subst (λ (n : ℕ). HasRecords bytes (offset + n) (bytes_of_each c.push.new.self.items)) (sym size)
+          (subst (λ (xs : List RecordView). HasRecords bytes (offset + length b) (bytes_of_each xs)) (sym items) more);
       views = subst (λ (xs : List RecordView). AllByRecursion (λ v. IsView (view_of v)) xs) (sym items) (views_more views r inv.views c.in-Ok.ensures.view);
       few = omega (arith, inv.few);
-      within = omega (arith, size, split_within bytes place b c.loop-offset-test.true front);
+      within = omega (arith, size, split_within bytes offset b c.loop-offset-test.true front);
     }

@@ -26,33 +26,33 @@ returns-clause-end g c e =
     let after : Standing = c.cut-found.new.self in
     let new : Heard = g.R.Source.heard c.cut-found.new.source in
     let nothing = cut.ended (nothing_found c.cut-found.result (length after.front) (sym c.settle.ensures.answer ∙ e)) in
-    let place : after.place ≡ c.args.self.now.place = cut.stays.0 ∙ ap (λ (s : Standing). s.place) c.forget.ensures in
-    (subst (λ (n : ℕ). IsEndOf (told_from n new) clean) place (clean_end new after cut.heard cut.stays.1 nothing.0), nothing.1)
+    let offset : after.offset ≡ c.args.self.now.offset = cut.stays.0 ∙ ap (λ (s : Standing). s.offset) c.forget.ensures in
+    (subst (λ (n : ℕ). IsEndOf (told_from n new) clean) offset (clean_end new after cut.heard cut.stays.1 nothing.0), nothing.1)
 
 pub returns-in-Some-clause-archive : goal.returns-in-Some-clause-archive
 returns-in-Some-clause-archive g c records has =
-    let place : ℕ = c.args.self.now.place in
+    let offset : ℕ = c.args.self.now.offset in
     let told : Heard = g.R.Source.heard c.args.source.now in
-    let within : place ≤ length told.bytes = omega (arith, c.requires.heard.told) in
+    let within : offset ≤ length told.bytes = omega (arith, c.requires.heard.told) in
     let same : c.args.self.now.answer ≡ Some c.in-Some.ending = sym (ap (λ (s : Standing). s.answer) c.self.view_is) ∙ c.in-Some.is in
-    archive_at c.answer.result told told [] place records within (sym (append-nil told.bytes)) has
-    (end_again c.answer.result c.args.self.now.answer c.in-Some.ending place told same c.answer.ensures c.requires.ended)
-    (fault_again c.answer.result c.args.self.now.answer c.in-Some.ending place told same c.answer.ensures c.requires.ended)
+    archive_at c.answer.result told told [] offset records within (sym (append-nil told.bytes)) has
+    (end_again c.answer.result c.args.self.now.answer c.in-Some.ending offset told same c.answer.ensures c.requires.ended)
+    (fault_again c.answer.result c.args.self.now.answer c.in-Some.ending offset told same c.answer.ensures c.requires.ended)
 
 pub returns-clause-records : goal.returns-clause-records
 returns-clause-records g c records has =
     let cut = c.cut-found.ensures in
     let after : Standing = c.cut-found.new.self in
-    let place : ℕ = c.args.self.now.place in
+    let offset : ℕ = c.args.self.now.offset in
     let old : Heard = g.R.Source.heard c.args.source.now in
     let new : Heard = g.R.Source.heard c.cut-found.new.source in
-    let within : place ≤ length old.bytes = omega (arith, c.requires.heard.told) in
-    let same_place : after.place ≡ place = cut.stays.0 ∙ ap (λ (s : Standing). s.place) c.forget.ensures in
-    let told : after.front ≡ told_from place new = sym (told_is new after cut.heard cut.stays.1) ∙ ap (λ (n : ℕ). told_from n new) same_place in
+    let within : offset ≤ length old.bytes = omega (arith, c.requires.heard.told) in
+    let same_offset : after.offset ≡ offset = cut.stays.0 ∙ ap (λ (s : Standing). s.offset) c.forget.ensures in
+    let told : after.front ≡ told_from offset new = sym (told_is new after cut.heard cut.stays.1) ∙ ap (λ (n : ℕ). told_from n new) same_offset in
     let found = record_found c.cut-found.result (length after.front) after.front new.is_at_end cut.found in
     let is = subst (λ (xs : List ℕ). IfOk (lent_of (length after.front) c.cut-found.result) (λ o. IfSome o (λ m. IsRecord xs))) told found in
-    let handed = subst (λ (r : Result (Option ℕ) StreamFault). IfOk r (λ o. IfSome o (λ m. IsRecord (told_from place new)))) (sym c.settle.ensures.answer) is in
-    records_after c.settle.result old new cut.more.0 place records within cut.more.1 handed has
+    let handed = subst (λ (r : Result (Option ℕ) StreamFault). IfOk r (λ o. IfSome o (λ m. IsRecord (told_from offset new)))) (sym c.settle.ensures.answer) is in
+    records_after c.settle.result old new cut.more.0 offset records within cut.more.1 handed has
 
 pub returns-clause-fault : goal.returns-clause-fault
 returns-clause-fault g c =
@@ -60,18 +60,18 @@ returns-clause-fault g c =
     let after : Standing = c.cut-found.new.self in
     let old : Heard = g.R.Source.heard c.args.source.now in
     let new : Heard = g.R.Source.heard c.cut-found.new.source in
-    let same_place : after.place ≡ c.args.self.now.place = cut.stays.0 ∙ ap (λ (s : Standing). s.place) c.forget.ensures in
+    let same_offset : after.offset ≡ c.args.self.now.offset = cut.stays.0 ∙ ap (λ (s : Standing). s.offset) c.forget.ensures in
     let fault = fault_found c.cut-found.result (length after.front) c.forget.new.self after old new cut.heard cut.stays.1 cut.stays.0 cut.fault in
-    let fault_here = subst (λ (n : ℕ). IfErr (lent_of (length after.front) c.cut-found.result) (λ e. IsCutFault e n new)) same_place fault in
-    subst (λ (r : Result (Option ℕ) StreamFault). IfErr r (λ e. IsCutFault e c.args.self.now.place new)) (sym c.settle.ensures.answer) fault_here
+    let fault_here = subst (λ (n : ℕ). IfErr (lent_of (length after.front) c.cut-found.result) (λ e. IsCutFault e n new)) same_offset fault in
+    subst (λ (r : Result (Option ℕ) StreamFault). IfErr r (λ e. IsCutFault e c.args.self.now.offset new)) (sym c.settle.ensures.answer) fault_here
 
 pub returns-clause-archive : goal.returns-clause-archive
 returns-clause-archive g c records has =
     let cut = c.cut-found.ensures in
     let after : Standing = c.cut-found.new.self in
-    let place : ℕ = c.args.self.now.place in
+    let offset : ℕ = c.args.self.now.offset in
     let old : Heard = g.R.Source.heard c.args.source.now in
     let new : Heard = g.R.Source.heard c.cut-found.new.source in
-    let within : place ≤ length old.bytes = omega (arith, c.requires.heard.told) in
-    let same_place : after.place ≡ place = cut.stays.0 ∙ ap (λ (s : Standing). s.place) c.forget.ensures in
-    archive_at c.settle.result old new cut.more.0 place records within cut.more.1 has (returns-clause-end g c) (returns-clause-fault g c)
+    let within : offset ≤ length old.bytes = omega (arith, c.requires.heard.told) in
+    let same_offset : after.offset ≡ offset = cut.stays.0 ∙ ap (λ (s : Standing). s.offset) c.forget.ensures in
+    archive_at c.settle.result old new cut.more.0 offset records within cut.more.1 has (returns-clause-end g c) (returns-clause-fault g c)

@@ -1,6 +1,6 @@
-use Rattle.std.proofs.Common.{◌≡◌, ◌+◌, ◌-◌, ◌<◌, ◌≤◌, ◌^◌, ℕ, length, true, false, if◌then◌else◌}
+use Rattle.std.proofs.Common.{◌≡◌, ◌+◌, ◌-◌, ◌≤◌, ◌^◌, [], length, true, false, if◌then◌else◌}
 use Rattle.std.specs.Io.KnownBytes.{IsAtEnd}
-use Rattle.mseed_stream.specs.Cutting.{IsHeard, IsStop, TellsMore}
+use Rattle.mseed_stream.specs.Cutting.{IsHeard, IsReadTo, TellsMore}
 use Rattle.mseed_stream.proofs.cutter.Cutter.cut.Given as goal
 
 abbrev pub invariant-stops : goal.invariant-stops
@@ -8,14 +8,15 @@ invariant-stops g l = record {
   heard : IsHeard (g.R.Source.heard l.source) l.self;
   not_lent : l.self.is_lent ≡ false;
   more : TellsMore (g.R.Source.heard l.fn.source) (g.R.Source.heard l.source) (g.R.Source.remaining l.fn.source) (g.R.Source.remaining l.source);
-  place : l.self.place ≡ l.fn.self.place;
+  offset : l.self.offset ≡ l.fn.self.offset;
   answer : l.self.answer ≡ l.fn.self.answer;
   room : l.fn.self.room ≤ l.self.room;
-  stop : (n : ℕ) × (IsStop l.self.front n × (length l.self.front ≤ n) × (l.is_at_end ≡ false → length l.self.front ≡ n) × (l.is_at_end ≡ true → length l.self.front < n));
+  stop : IsReadTo l.self.front l.is_at_end;
   end : (g.R.Source.heard l.source).is_at_end ≡ l.is_at_end;
   known : l.is_at_end ≡ true → IsAtEnd (g.R.Source.remaining l.source);
   calls : (g.R.Source.heard l.fn.source).calls ≤ (g.R.Source.heard l.source).calls;
   asked : (g.R.Source.heard l.source).calls ≤ (g.R.Source.heard l.fn.source).calls → l.self.front ≡ l.fn.self.front;
+  header : l.fn.self.front ≡ [] → (g.R.Source.heard l.source).calls ≤ (g.R.Source.heard l.fn.source).calls + 1 → length l.self.front ≤ 48;
   failures : (g.R.Source.heard l.source).failures ≡ (g.R.Source.heard l.fn.source).failures;
   beside : g.R.Source.beside l.source ≡ g.R.Source.beside l.fn.source;
 }

@@ -18,9 +18,9 @@ loop-self-preserved g c =
     let now : List ℕ = c.pull_between.new.held in
     let items : List ℕ = i.held.items in
     let told : List ℕ = take n (slice_range now have c.args.needed) in
-    let before : Standing = record { place = i.offset; front = take have items; is_lent = i.is_lent; room = room; reads = i.reads; answer = i.ending } in
+    let before : Standing = record { offset = i.offset; front = take have items; is_lent = i.is_lent; room = room; reads = i.reads; answer = i.ending } in
     let front_now : List ℕ = take (have + n) (take room (now ++ drop (length now) items)) in
-    let after : Standing = record { place = i.offset; front = front_now; is_lent = i.is_lent; room = room; reads = i.reads + 1; answer = i.ending } in
+    let after : Standing = record { offset = i.offset; front = front_now; is_lent = i.is_lent; room = room; reads = i.reads + 1; answer = i.ending } in
     let old : Heard = g.R.Source.heard c.loop-self.source in
     let new : Heard = g.R.Source.heard c.pull_between.new.source in
     let size : length now ≡ room = c.pull_between.auto.held ∙ c.deref_mut.ensures.len in
@@ -37,7 +37,7 @@ loop-self-preserved g c =
       heard = heard_more old new before after told inv.heard inv.not_lent inv.not_lent refl front bytes calls refl few within small;
       not_lent = inv.not_lent;
       more = (inv.more.0 ++ told, bytes ∙ (ap (λ (xs : List ℕ). xs ++ told) inv.more.1 ∙ append_assoc (g.R.Source.heard c.args.source.now).bytes inv.more.0 told), Consumes-trans _ _ _ _ _ inv.more.2 c.in-Ok.ensures.known.0);
-      place = inv.place;
+      offset = inv.offset;
       answer = inv.answer;
       room = inv.room;
       fits = inv.fits;

@@ -19,3 +19,12 @@ returns-clause-along g c = record {
   going_on = λ same. refl;
   ended = tt;
 }
+
+pub returns-clause-handed : goal.returns-clause-handed
+returns-clause-handed g c = record {
+  along = returns-clause-along g c;
+  goes_on = refl;
+  fine = refl;
+  records = record { each = tt; records = record { joined = refl; each = tt }; offset_is = refl };
+  asked = omega arith;
+}

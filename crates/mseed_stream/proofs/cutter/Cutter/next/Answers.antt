@@ -1,0 +1,73 @@
+use Rattle.std.proofs.Common.{◌≡◌, ◌+◌, ◌≤◌, ◌++◌, List, [], ◌∷◌, ℕ, subst, length, take, refl, sym, ap, ◌∙◌, arith, Option, Some, None, Ok, IfSome}
+use Rattle.std.proofs.lemmas.List.{length-take-le}
+use Rattle.mseed_record.specs.View.{View}
+use Rattle.mseed_record.specs.Viewing.{view_of}
+use Rattle.mseed_stream.specs.Device.{Heard}
+use Rattle.mseed_stream.specs.Standing.{Standing}
+use Rattle.mseed_record.specs.declared.view.RecordView.{RecordView}
+use Rattle.mseed_stream.specs.Cutting.{told_from, held_of, answer_of}
+use Rattle.mseed_stream.proofs.Settled.{few_asks}
+use Rattle.mseed_stream.specs.Walk.{HasHandedOut, bytes_in}
+use Rattle.mseed_stream.specs.declared.cutter.Ending.{Ending}
+use Rattle.mseed_stream.specs.declared.cutter.Ending.TheVariants.{Clean, Fault}
+use Rattle.mseed_stream.proofs.Walks.{handed_record}
+use Rattle.mseed_stream.proofs.cutter.Cutter.next.Goals as goal
+
+-- as many bytes as the front has are the front
+taken : (items front : List ℕ) (have n : ℕ) → take have items ≡ front → n ≡ length front → have ≤ length items → take n items ≡ front
+taken items front have n is size within =
+    let same : n ≡ have = size ∙ (ap (λ (xs : List ℕ). length xs) (sym is) ∙ length-take-le have items within) in
+    ap (λ (k : ℕ). take k items) same ∙ is
+
+-- a cutter that has ended hands out no record
+no_record : (o : Option Ending) (n : ℕ) (r : RecordView) (Same : Type 0) → IfSome o (λ e. (Ok (Some n) ≡ answer_of e) × Same) → IfSome o (λ e. (Ok (Some r) ≡ answer_of e) × Same)
+no_record None n r Same h = h
+no_record (Some Clean) n r Same h = absurd (cc h.0)
+no_record (Some (Fault f)) n r Same h = absurd (cc h.0)
+
+pub returns-in-Some : goal.returns-in-Some
+returns-in-Some g c =
+    let it = rw c.in-Some.is at c.in_ok-length.ensures in
+    let before : Standing = c.args.self.now in
+    let after : Standing = c.advance.new.self in
+    let old : Heard = g.R.Source.heard c.args.source.now in
+    let new : Heard = g.R.Source.heard c.advance.new.source in
+    let told : List ℕ = told_from before.offset new in
+    let view : View = view_of c.of_record.result in
+    let items : List ℕ = c.self.inside.held.items in
+    let front : take c.self.inside.have items ≡ after.front = ap (λ (s : Standing). s.front) c.self.view_is in
+    let size : length items ≡ length c.deref.result.now = ap (λ (xs : List ℕ). length xs) (sym c.deref.ensures.value) in
+    let within : c.self.inside.have ≤ length items = omega (arith, size, c.deref.ensures.len, c.self.invariant.0) in
+    let bytes : view.bytes ≡ told = c.of_record.ensures.bytes ∙ (ap (λ (xs : List ℕ). take c.in-Some.length xs) c.deref.ensures.value ∙ (taken items after.front c.self.inside.have c.in-Some.length front it.record.0 within ∙ it.record.2)) in
+    let moved : after.offset ≡ before.offset + length told = it.offset ∙ ap (λ (xs : List ℕ). before.offset + length xs) it.record.2 in
+    let handed = λ (views : List View) (h : HasHandedOut old before views). subst (λ (x : Standing). HasHandedOut new x (views ++ view ∷ [])) (sym c.self.view_is) (handed_record old new before after views view h c.of_record.ensures.view bytes (it.records (bytes_in views) h.records.records) it.along moved it.kept (omega (arith, it.failed h.goes_on)) it.asked) in (
+      (
+        refl,
+        λ _. tt,
+        (
+          rw c.self.view_is it.along,
+          ap (λ (s : Standing). s.offset) c.self.view_is ∙ moved,
+          ap (λ (s : Standing). s.answer) c.self.view_is ∙ it.kept,
+          omega (arith, it.room, ap (λ (s : Standing). s.room) c.self.view_is),
+          handed,
+        ),
+      ),
+      record {
+        more = it.more;
+        «record» = (c.of_record.ensures.view, bytes);
+        end = λ e. cc;
+        fault = tt;
+        records = it.records;
+        archive = it.archive;
+        all = λ views h. tt;
+        memory = λ e. cc;
+        read_to = it.read_to;
+        asked = omega (arith, it.asked, few_asks (held_of before));
+        failed = it.failed;
+        repeats = no_record before.answer c.in-Some.length c.of_record.result (new ≡ old) it.repeats;
+        most = it.most;
+        known = it.known;
+        beside = it.beside;
+        after = tt;
+      },
+    )
