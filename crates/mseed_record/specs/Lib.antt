@@ -7,3 +7,5 @@ pub mod Framer
 pub mod View
 pub mod Blockettes
 pub mod Viewing
+pub mod Written
+pub mod Fields

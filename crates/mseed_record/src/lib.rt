@@ -4,16 +4,22 @@
 
 mod chain;
 mod codes;
+mod fields;
 mod frame;
 mod framer;
 mod framing;
 mod header;
+mod naming;
 #[cfg(test)]
 mod tests;
 mod view;
+mod write;
 
 pub use codes::Codes;
+pub use fields::Fields;
 pub use frame::{DataOffset, FrameFault, Leap, Scan, ViewFault};
 pub use framer::Framer;
 pub use framing::scan;
+pub use naming::{BadCode, CodeField};
 pub use view::RecordView;
+pub use write::{TooShort, write_header};

@@ -2,6 +2,7 @@
 
 mod framing;
 mod view;
+mod write;
 
 use crate::{Codes, RecordView};
 

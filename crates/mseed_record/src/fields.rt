@@ -1,0 +1,27 @@
+//! What a header says that is written.
+ghost use Rattle.std.specs.Prelude.{◌<◌};
+
+use crate::codes::Codes;
+use mseed_time::{Btime, Rate};
+
+/// What a header says that is written.
+#[derive(Clone, Copy, Debug, PartialEq, Eq)]
+pub struct Fields {
+    /// 0 to 999,999.
+    pub sequence: u32,
+    pub codes: Codes,
+    pub start: Btime,
+    /// What the start's instant lies behind its BTIME, in microseconds.
+    pub usec: i8,
+    pub samples: u16,
+    pub rate: Rate,
+    /// The code of the payload's encoding, for blockette 1000.
+    pub encoding: u8,
+    /// The power of two that is the record's length, for blockette 1000.
+    pub exponent: u8,
+    /// How many frames hold data words in use, for blockette 1001.
+    pub frames: u8,
+    /// The activity flags.
+    pub activity: u8,
+    pub ghost numbered: { sequence < 1_000_000 },
+}
