@@ -9,7 +9,7 @@ use Rattle.mseed_stream.specs.declared.fault.StreamFault.{StreamFault}
 use Rattle.mseed.specs.Listing.{record_line, record_lines, count_line}
 use Rattle.mseed_audit.specs.Archive.{AreViews}
 use Rattle.mseed_audit.specs.Text.{end_line}
-use Rattle.mseed.specs.Show.{IsShown, show_text}
+use Rattle.mseed.specs.Show.{IsShown, show_text, IsListed}
 use Rattle.std.specs.Result.{IsErrAnd}
 use Rattle.mseed.specs.Gathering.{IsWritten, IsGathered, AreGathered}
 use Rattle.mseed.specs.declared.ending.ShowFault.{ShowFault}
@@ -89,6 +89,20 @@ end_short fault records end h first old new text whole place views gathered e wr
     go : (f : ShowFault) → IsWritten f old new whole → old.bytes ++ whole ≡ first.bytes ++ show_text views end → IsShown (Err f) h first new
     go Write w s = (omega (arith, gathered.fine, w.0), (place, (views, record { shown = gathered.shown; front = inr (end, (gathered.ends, subst (λ (xs : List ℕ). IsFrontOf new.bytes xs) s w.1)) })))
     go Memory w s = (w.0 ∙ gathered.fine, (place, (views, record { shown = gathered.shown; front = inr (end, (gathered.ends, subst (λ (xs : List ℕ). IsFrontOf new.bytes xs) s w.1)) })))
+
+-- the whole text was written
+pub end_listed : (records : ℕ) (end : Option StreamFault) (h : Heard) (first old new : Said) (text whole : List ℕ) (place : ℕ) (views : List View) → AreGathered records end h first old text place views
+    → whole ≡ text ++ count_line records ++ end_line end → new.bytes ≡ old.bytes ++ whole → new.failures ≡ old.failures → IsListed end h first new place views
+end_listed records end h first old new text whole place views gathered e written fine =
+    let number : whole ≡ text ++ count_line (length views) ++ end_line end = e ∙ ap (λ (n : ℕ). text ++ count_line n ++ end_line end) gathered.number in
+    let lines = whole_text old.bytes text first.bytes (record_lines 0 views) (count_line (length views)) gathered.lines in
+    record {
+      shown = gathered.shown;
+      ends = gathered.ends;
+      text = written ∙ ap (λ (xs : List ℕ). old.bytes ++ xs) number
+          ∙ whole_text old.bytes (text ++ count_line (length views)) first.bytes (record_lines 0 views ++ count_line (length views)) (end_line end) lines;
+      fine = fine ∙ gathered.fine;
+    }
 
 pub shown_err : (r : Result (Option StreamFault) ShowFault) (Q : ShowFault → Type 0) (fault : ShowFault) (h : Heard) (old new : Said) → IsErrAnd r Q → ((e : ShowFault) → Q e → e ≡ fault) → IsShown (Err fault) h old new → IsShown r h old new
 shown_err (Ok x) Q fault h old new is q shown = absurd is

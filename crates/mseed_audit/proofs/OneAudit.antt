@@ -12,6 +12,7 @@ use Rattle.mseed_stream.specs.declared.fault.StreamFault.TheVariants.{Frame, Tru
 use Rattle.mseed_stream.proofs.Ends.{one_end}
 use Rattle.mseed_stream.proofs.Handed.{no_further}
 use Rattle.mseed_stream.proofs.Records.{one_archive}
+use Rattle.mseed_stream.proofs.Stops.{none_short}
 use Rattle.mseed_audit.specs.declared.finding.Verdict.{Verdict}
 use Rattle.mseed_audit.specs.declared.whole.Summary.{Summary}
 use Rattle.mseed_audit.specs.Archive.{AreViews, IsEnd}
@@ -28,8 +29,8 @@ none_behind : (end : Option StreamFault) (place : ℕ) (h : Heard) → IsEnd end
 none_behind None place h is = no_further (told_from place h) clean is.0.0
 none_behind (Some (Frame n f)) place h is = no_further (told_from place h) (frame f) is.0.1
 none_behind (Some (Truncated n have)) place h is = no_further (told_from place h) (truncated have) is.0.1
-none_behind (Some (Read n)) place h is = is.0.3
-none_behind (Some (Turns n)) place h is = is.0.3
+none_behind (Some (Read n)) place h is = none_short (told_from place h) is.0.3
+none_behind (Some (Turns n)) place h is = none_short (told_from place h) is.0.3
 none_behind (Some Memory) place h is = absurd (is.1 refl)
 
 archive_is : (place : ℕ) (views : List View) (end : Option StreamFault) (h : Heard) → AreViews h.bytes place views → IsEnd end place h
