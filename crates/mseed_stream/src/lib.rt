@@ -13,6 +13,7 @@ mod counted;
 mod cutter;
 mod device;
 mod fault;
+mod law;
 mod slices;
 mod tally;
 mod whole;
@@ -21,6 +22,7 @@ pub use counted::Counted;
 pub use cutter::Cutter;
 pub use device::{Failed, Sink, Source};
 pub use fault::StreamFault;
+pub use law::one_input;
 pub use slices::{split, split_in};
 pub use whole::{read_all, read_all_in, write_all_of};
 

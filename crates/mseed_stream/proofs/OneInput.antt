@@ -1,0 +1,185 @@
+-- What was heard of an input has one list of records, and one end behind them.
+use Rattle.std.proofs.Common.{◌≡◌, ℕ, suc, ◌+◌, ◌<◌, ◌≤◌, ◌++◌, Bool, true, false, List, [], ◌∷◌, length, take, drop, map, Option, Some, None, refl, sym, ap, subst, ◌∙◌, arith, ⊎_elim, append-nil, length-take}
+use Rattle.std.proofs.lemmas.Bool.{cases_lt, false≢true}
+use Rattle.std.proofs.lemmas.List.{take-append-drop}
+use Rattle.std.proofs.Math.Seq.{take-length}
+use Rattle.std.specs.List.{concat, AllByRecursion}
+use Rattle.mseed_record.specs.declared.frame.Scan.TheVariants.{Need, Not}
+use Rattle.mseed_record.specs.declared.frame.FrameFault.{FrameFault}
+use Rattle.mseed_record.specs.Record.{IsRecord}
+use Rattle.mseed_record.specs.Scan.{Decides}
+use Rattle.mseed_record.specs.View.{View, IsView}
+use Rattle.mseed_record.proofs.Asked.{record_long}
+use Rattle.mseed_record.proofs.OneAnswer.{one_answer}
+use Rattle.mseed_record.proofs.Viewed.{view_once}
+use Rattle.mseed_stream.specs.Device.{Heard}
+use Rattle.mseed_stream.specs.Archive.{HasNoFurther, IsArchive, HasRecords, End, clean, frame, truncated, IsEndOf, is_frame}
+use Rattle.mseed_stream.specs.Cutting.{IsStop, at_start, asked_for, FallsShort, IsReadTo, told_from}
+use Rattle.mseed_stream.specs.Walk.{bytes_in, AreViews, IsEnd, AreAllViews}
+use Rattle.mseed_stream.specs.declared.fault.StreamFault.{StreamFault}
+use Rattle.mseed_stream.specs.declared.fault.StreamFault.TheVariants.{Frame, Truncated, Read, Turns, Memory}
+use Rattle.mseed_stream.proofs.Ends.{one_end}
+use Rattle.mseed_stream.proofs.Handed.{no_further}
+use Rattle.mseed_stream.proofs.Records.{one_archive}
+use Rattle.mseed_stream.proofs.Stops.{none_short}
+
+-- how many stops there are before one
+abbrev index : (b : List ℕ) (n : ℕ) → IsStop b n → ℕ
+index b _ at_start = 0
+index b n (asked_for m _ s l d) = suc (index b m s)
+
+same_stop : (b : List ℕ) (n m : ℕ) (s : IsStop b n) (t : IsStop b m) → index b n s ≡ index b m t → n ≡ m
+same_stop b _ _ at_start at_start e = refl
+same_stop b _ m at_start (asked_for k _ t l d) e = absurd (omega arith)
+same_stop b n _ (asked_for k _ s l d) at_start e = absurd (omega arith)
+same_stop b n m (asked_for k _ s l d) (asked_for j _ t w c) e =
+    let before : k ≡ j = same_stop b k j s t (omega arith) in
+    let asks : Decides (take k b) (Need m) = subst (λ (i : ℕ). Decides (take i b) (Need m)) (sym before) c in
+    let same : Need n ≡ Need m = one_answer (take k b) (Need n) (Need m) d asks in
+    cc
+
+-- a stop before another is within the bytes, and more is asked for there
+record Earlier (b : List ℕ) (n : ℕ) : Type 0 where
+  within : n ≤ length b
+  next : ℕ
+  asks : Decides (take n b) (Need next)
+
+earlier : (b : List ℕ) (n m : ℕ) (s : IsStop b n) (t : IsStop b m) → index b n s < index b m t → Earlier b n
+earlier b n _ s at_start less = absurd (omega arith)
+earlier b n m s (asked_for k _ t l d) less = ⊎_elim
+    (λ (more : index b n s < index b k t). earlier b n k s t more)
+    (λ (last : index b k t ≤ index b n s).
+    let same : n ≡ k = same_stop b n k s t (omega (arith, less, last)) in
+    record {
+      within = omega (arith, same, l);
+      next = m;
+      asks = subst (λ (i : ℕ). Decides (take i b) (Need m)) (sym same) d;
+    })
+    (cases_lt (index b n s) (index b k t))
+
+-- bytes fall short of one stop
+pub one_stop : (b : List ℕ) (n m : ℕ) → IsStop b n → IsStop b m → length b < n → length b < m → n ≡ m
+one_stop b n m s t past over = ⊎_elim
+    (λ (less : index b n s < index b m t). let it = earlier b n m s t less in absurd (omega (arith, it.within)))
+    (λ (other : index b m t ≤ index b n s). ⊎_elim
+    (λ (less : index b m t < index b n s). let it = earlier b m n t s less in absurd (omega (arith, it.within)))
+    (λ (last : index b n s ≤ index b m t). same_stop b n m s t (omega (arith, other, last)))
+    (cases_lt (index b m t) (index b n s)))
+    (cases_lt (index b n s) (index b m t))
+
+-- what is refused at a stop falls short of none
+refused_whole : (b : List ℕ) (f : FrameFault) → IsStop b (length b) → Decides b (Not f) → FallsShort b → ⊥
+refused_whole b f s d (n, (t, past)) = ⊎_elim
+    (λ (less : index b (length b) s < index b n t).
+    let it = earlier b (length b) n s t less in
+    let asks : Decides b (Need it.next) = subst (λ (xs : List ℕ). Decides xs (Need it.next)) (take-length b) it.asks in
+    cc (one_answer b (Not f) (Need it.next) d asks))
+    (λ (other : index b n t ≤ index b (length b) s). ⊎_elim
+    (λ (less : index b n t < index b (length b) s). let it = earlier b n (length b) t s less in omega (arith, it.within))
+    (λ (last : index b (length b) s ≤ index b n t).
+    let same : n ≡ length b = same_stop b n (length b) t s (omega (arith, other, last)) in
+    omega arith)
+    (cases_lt (index b n t) (index b (length b) s)))
+    (cases_lt (index b (length b) s) (index b n t))
+
+-- records of the same bytes have the same views
+same_views : (vs ws : List View) → AllByRecursion IsView vs → AllByRecursion IsView ws → bytes_in vs ≡ bytes_in ws → vs ≡ ws
+same_views [] [] h k e = refl
+same_views [] (w ∷ ws) h k e = cc
+same_views (v ∷ vs) [] h k e = cc
+same_views (v ∷ vs) (w ∷ ws) h k e =
+    let bytes : v.bytes ≡ w.bytes = cc in
+    let more : bytes_in vs ≡ bytes_in ws = cc in
+    let here : v ≡ w = view_once w v k.0 h.0 bytes in
+    let others : vs ≡ ws = same_views vs ws h.1 k.1 more in
+    λ i. here i ∷ others i
+
+none_in : HasNoFurther []
+none_in k within r = omega (arith, record_long (take k []) r, length-take {A = ℕ} k [])
+
+archive_to : (bytes : List ℕ) (offset : ℕ) (views : List View) → AreViews bytes offset views → IsArchive (take offset bytes) (bytes_in views) []
+archive_to bytes offset views are = record {
+  joined = are.records.joined ∙ sym (append-nil (concat (bytes_in views)));
+  each = are.records.each;
+  no_further = none_in;
+}
+
+-- the bytes up to an offset are those of one list of views
+pub one_views : (bytes : List ℕ) (offset : ℕ) (vs ws : List View) → AreViews bytes offset vs → AreViews bytes offset ws → vs ≡ ws
+one_views bytes offset vs ws a b =
+    let both = one_archive (take offset bytes) (bytes_in vs) (bytes_in ws) [] [] (archive_to bytes offset vs a) (archive_to bytes offset ws b) in
+    same_views vs ws a.each b.each both.0
+
+-- no record begins behind the last
+none_behind : (end : Option StreamFault) (offset : ℕ) (h : Heard) → IsEnd end offset h → HasNoFurther (told_from offset h)
+none_behind None offset h is = no_further (told_from offset h) clean is.0.0
+none_behind (Some (Frame n f)) offset h is = no_further (told_from offset h) (frame f) is.0.1
+none_behind (Some (Truncated n have)) offset h is = no_further (told_from offset h) (truncated have) is.0.1
+none_behind (Some (Read n)) offset h is = none_short (told_from offset h) is.0.3
+none_behind (Some (Turns n)) offset h is = none_short (told_from offset h) is.0.3
+none_behind (Some Memory) offset h is = absurd (is.1 refl)
+
+archive_is : (offset : ℕ) (views : List View) (end : Option StreamFault) (h : Heard) → AreViews h.bytes offset views → IsEnd end offset h → IsArchive h.bytes (bytes_in views) (drop offset h.bytes)
+archive_is offset views end h are is = record {
+  joined = sym (take-append-drop offset h.bytes) ∙ ap (λ (xs : List ℕ). xs ++ drop offset h.bytes) are.records.joined;
+  each = are.records.each;
+  no_further = none_behind end offset h is;
+}
+
+-- how the input ends, by how its bytes end
+abbrev ended : ℕ → End → Option StreamFault
+ended offset clean = None
+ended offset (frame f) = Some (Frame offset f)
+ended offset (truncated have) = Some (Truncated offset have)
+
+-- bytes that are refused at a stop
+abbrev RefusedAtStop : List ℕ → Type 0
+RefusedAtStop bytes = (f : FrameFault) × (IsStop bytes (length bytes) × Decides bytes (Not f))
+
+data Ended (offset : ℕ) (h : Heard) (end : Option StreamFault) : Type 0 where
+  by_bytes : (e : End) → IsEndOf (told_from offset h) e → h.failures ≡ 0 → (h.is_at_end ≡ false → RefusedAtStop (told_from offset h)) → end ≡ ended offset e → Ended offset h end
+  by_failure : h.failures ≡ 1 → end ≡ Some (Read offset) → Ended offset h end
+  by_turns : h.failures ≡ 0 → h.is_at_end ≡ false → FallsShort (told_from offset h) → end ≡ Some (Turns offset) → Ended offset h end
+
+refused_of : (bytes : List ℕ) (f : FrameFault) → IsEndOf bytes (frame f) → Decides bytes (Not f)
+refused_of bytes f (is_frame _ d) = d
+
+not_both : (b : Bool) → b ≡ true → b ≡ false → ⊥
+not_both b t f = false≢true (sym f ∙ t)
+
+ends : (end : Option StreamFault) (offset : ℕ) (h : Heard) → IsEnd end offset h → Ended offset h end
+ends None offset h is = by_bytes clean is.0.0 is.1 (λ going. absurd (not_both h.is_at_end is.0.1 going)) refl
+ends (Some (Frame n f)) offset h is =
+    let told : List ℕ = told_from offset h in
+    by_bytes (frame f) is.0.1 is.2 (λ going. (f, (subst (λ (b : Bool). IsReadTo told b) going is.0.2, refused_of told f is.0.1))) (ap (λ (k : ℕ). Some (Frame k f)) is.0.0)
+ends (Some (Truncated n have)) offset h is = by_bytes (truncated have) is.0.1 is.2 (λ going. absurd (not_both h.is_at_end is.0.2 going)) (ap (λ (k : ℕ). Some (Truncated k have)) is.0.0)
+ends (Some (Read n)) offset h is = by_failure is.2 (ap (λ (k : ℕ). Some (Read k)) is.0.0)
+ends (Some (Turns n)) offset h is = by_turns is.2 is.0.2 is.0.3 (ap (λ (k : ℕ). Some (Turns k)) is.0.0)
+ends (Some Memory) offset h is = absurd (is.1 refl)
+
+-- bytes that end an input don't fall short of more while it goes on
+never_both : (offset : ℕ) (h : Heard) → (h.is_at_end ≡ false → RefusedAtStop (told_from offset h)) → h.is_at_end ≡ false → FallsShort (told_from offset h) → ⊥
+never_both offset h refused going short =
+    let it = refused going in
+    refused_whole (told_from offset h) it.0 it.1.0 it.1.1 short
+
+same_end : (offset : ℕ) (h : Heard) (a b : Option StreamFault) → Ended offset h a → Ended offset h b → a ≡ b
+same_end offset h a b (by_bytes e is none going at) (by_bytes d are nor wide to) = at ∙ ap (ended offset) (one_end (told_from offset h) e d is are) ∙ sym to
+same_end offset h a b (by_bytes e is none going at) (by_failure failed to) = absurd (omega (arith, none, failed))
+same_end offset h a b (by_bytes e is none going at) (by_turns nor goes short to) = absurd (never_both offset h going goes short)
+same_end offset h a b (by_failure failed at) (by_bytes e is none going to) = absurd (omega (arith, none, failed))
+same_end offset h a b (by_failure failed at) (by_failure fails to) = at ∙ sym to
+same_end offset h a b (by_failure failed at) (by_turns none goes short to) = absurd (omega (arith, none, failed))
+same_end offset h a b (by_turns none goes short at) (by_bytes e is nor going to) = absurd (never_both offset h going goes short)
+same_end offset h a b (by_turns none goes short at) (by_failure failed to) = absurd (omega (arith, none, failed))
+same_end offset h a b (by_turns none goes short at) (by_turns nor runs less to) = at ∙ sym to
+
+-- all records of what was heard, and its end, are the only ones
+pub one_input : (h : Heard) (vs ws : List View) (a b : Option StreamFault) → AreAllViews h vs a → AreAllViews h ws b → (vs ≡ ws) × (a ≡ b)
+one_input h vs ws a b p q =
+    let both = one_archive h.bytes (bytes_in vs) (bytes_in ws) (drop p.offset h.bytes) (drop q.offset h.bytes)
+    (archive_is p.offset vs a h p.records p.ends) (archive_is q.offset ws b h q.records q.ends) in
+    let views : vs ≡ ws = same_views vs ws p.records.each q.records.each both.0 in
+    let offset : p.offset ≡ q.offset = sym p.records.offset_is ∙ ap (λ (xs : List View). length (concat (bytes_in xs))) views ∙ q.records.offset_is in
+    let ending : IsEnd a q.offset h = subst (λ (n : ℕ). IsEnd a n h) offset p.ends in
+    (views, same_end q.offset h a b (ends a q.offset h ending) (ends b q.offset h q.ends))
