@@ -1,10 +1,10 @@
 -- What the command did.
 use Rattle.std.specs.Prelude.{◌≡◌, ◌⊎◌, ℕ, ◌+◌, ◌<◌, nat_lt, if◌then◌else◌, List, ◌++◌, length, take, Result, Ok, Err, codes}
 use Rattle.mseed_stream.specs.Device.{Heard, Said}
-use Rattle.mseed_audit.specs.declared.whole.Summary.{Summary}
-use Rattle.mseed_audit.specs.declared.whole.AuditFault.{AuditFault}
-use Rattle.mseed_audit.specs.declared.whole.AuditFault.TheVariants.{Write, Memory}
-use Rattle.mseed_audit.specs.Whole.{IsOutcome}
+use Rattle.mseed_audit.specs.declared.archive.Summary.{Summary}
+use Rattle.mseed_audit.specs.declared.archive.AuditFault.{AuditFault}
+use Rattle.mseed_audit.specs.declared.archive.AuditFault.TheVariants.{Write, Memory}
+use Rattle.mseed_audit.specs.Summary.{IsOutcome}
 
 -- the exit status of an audit that was written: 2 for a fault of the input, else 1 for a broken channel, else 0
 abbrev pub summary_status : Summary → ℕ

@@ -1,8 +1,8 @@
 //! The command line.
 ghost use Rattle.std.specs.Prelude.{◌≡◌, ◌⊎◌, Option, Result, map, codes};
 ghost use Rattle.mseed_stream.specs.Device.{nothing_heard};
-ghost use Rattle.mseed_audit.specs.declared.whole.AuditFault.{AuditFault};
-ghost use Rattle.mseed_audit.specs.declared.whole.Summary.{Summary};
+ghost use Rattle.mseed_audit.specs.declared.archive.AuditFault.{AuditFault};
+ghost use Rattle.mseed_audit.specs.declared.archive.Summary.{Summary};
 ghost use Rattle.mseed.specs.Outcome.{IsAuditRun, IsBadRun, Tells, summary_status};
 ghost use Rattle.mseed.specs.Run.{status_in};
 ghost use Rattle.mseed.specs.Words.{AsksFor, AsksForNothing, AreRefused};

@@ -7,10 +7,10 @@ use Rattle.mseed_time.specs.declared.rate.Rate.{Rate}
 use Rattle.mseed_record.specs.Header.{key_at}
 use Rattle.mseed_record.specs.View.{View}
 use Rattle.mseed_steim.specs.Reading.{count_of}
-use Rattle.mseed_audit.specs.declared.assemble.NotContinuous.{NotContinuous}
-use Rattle.mseed_audit.specs.declared.assemble.NotContinuous.TheVariants.{Memory}
-use Rattle.mseed_audit.specs.declared.finding.Verdict.{Verdict}
-use Rattle.mseed_audit.specs.declared.finding.Verdict.TheVariants.{Continuous}
+use Rattle.mseed_audit.specs.declared.assembly.NotContinuous.{NotContinuous}
+use Rattle.mseed_audit.specs.declared.assembly.NotContinuous.TheVariants.{Memory}
+use Rattle.mseed_audit.specs.declared.verdict.Verdict.{Verdict}
+use Rattle.mseed_audit.specs.declared.verdict.Verdict.TheVariants.{Continuous}
 use Rattle.mseed_audit.specs.Channels.{Placed, added_from, is_of, same_key, records_of, views_in}
 use Rattle.mseed_audit.specs.Follows.{IsSound, IsContinuous}
 use Rattle.mseed_audit.specs.Series.{Trace, AreJoined, steps_from, HoldsAll, IsSeriesOf, IsSeries}

@@ -11,7 +11,7 @@ use Rattle.mseed_record.specs.declared.view.RecordView.{RecordView}
 use Rattle.mseed_audit.specs.declared.channel.Channel.{Channel}
 use Rattle.mseed_audit.specs.Channels.{Added, Placed, added_from, numbered, is_of, records_of, with_record, views_in}
 use Rattle.mseed_audit.specs.Follows.{IsSound}
-use Rattle.mseed_audit.specs.Standing.{StandsAt}
+use Rattle.mseed_audit.specs.Audit.{StandsAt}
 use Rattle.mseed_audit.proofs.More.{placed_at, records_more}
 
 -- where the last of them ends

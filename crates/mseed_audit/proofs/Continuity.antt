@@ -7,8 +7,8 @@ use Rattle.mseed_steim.specs.declared.fault.ReadFault.{ReadFault}
 use Rattle.mseed_steim.specs.Reading.{IsFault, IsWhole, HasOneReading}
 use Rattle.mseed_audit.specs.declared.finding.Why.{Why}
 use Rattle.mseed_audit.specs.declared.finding.Finding.{Finding}
-use Rattle.mseed_audit.specs.declared.finding.Verdict.{Verdict}
-use Rattle.mseed_audit.specs.declared.finding.Verdict.TheVariants.{Continuous, Broken}
+use Rattle.mseed_audit.specs.declared.verdict.Verdict.{Verdict}
+use Rattle.mseed_audit.specs.declared.verdict.Verdict.TheVariants.{Continuous, Broken}
 use Rattle.mseed_audit.specs.Channels.{Placed, views_in}
 use Rattle.mseed_audit.specs.Follows.{FollowsAt, Follows, AllNeighbours, IsSound, IsContinuous}
 use Rattle.mseed_audit.specs.Judging.{known_rate, why_from, why_after, IsFound, time as by_time, rate as by_rate, read as by_read, after as by_after}

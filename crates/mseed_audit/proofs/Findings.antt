@@ -3,14 +3,15 @@ use Rattle.std.proofs.Common.{◌≡◌, ◌+◌, List, [], ◌∷◌, ◌++◌,
 use Rattle.std.proofs.lemmas.List.{append-nil, length-append}
 use Rattle.mseed_record.specs.View.{View}
 use Rattle.mseed_steim.specs.Reading.{count_of}
-use Rattle.mseed_audit.specs.declared.channel.Tail.{Tail}
+use Rattle.mseed_audit.specs.declared.tail.Tail.{Tail}
 use Rattle.mseed_audit.specs.declared.finding.Why.{Why}
 use Rattle.mseed_audit.specs.declared.finding.Finding.{Finding}
-use Rattle.mseed_audit.specs.declared.finding.Verdict.{Verdict}
-use Rattle.mseed_audit.specs.declared.finding.Verdict.TheVariants.{Continuous, Broken}
+use Rattle.mseed_audit.specs.declared.verdict.Verdict.{Verdict}
+use Rattle.mseed_audit.specs.declared.verdict.Verdict.TheVariants.{Continuous, Broken}
 use Rattle.mseed_audit.specs.Channels.{Placed, sample_count}
 use Rattle.mseed_audit.specs.Judging.{IsFound}
-use Rattle.mseed_audit.specs.Standing.{IsTailOf, IsTailBefore, with_finding, with_samples}
+use Rattle.mseed_audit.specs.Audit.{IsTailOf}
+use Rattle.mseed_audit.specs.Kept.{IsTailBefore, with_finding, with_samples}
 use Rattle.mseed_audit.specs.Verdict.{finding_at, AreFindings, none, one, IsRun, IsVerdict}
 
 -- of one record

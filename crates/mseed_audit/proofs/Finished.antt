@@ -5,11 +5,11 @@ use Rattle.std.specs.Ordering.{nat_cmp}
 use Rattle.std.specs.Cmp.Lexicographic.{slice_cmp}
 use Rattle.std.specs.List.Sorted.{IsStrictlySortedBy}
 use Rattle.mseed_audit.specs.declared.channel.Channel.{Channel}
-use Rattle.mseed_audit.specs.declared.finding.Verdict.{Verdict}
+use Rattle.mseed_audit.specs.declared.verdict.Verdict.{Verdict}
 use Rattle.mseed_audit.specs.Channels.{Added, Placed, same_key, records_of, views_in}
 use Rattle.mseed_audit.specs.Follows.{IsContinuous}
 use Rattle.mseed_audit.specs.Verdict.{IsVerdict, IsVerdictAt, IsExactAt, says_continuous, AreVerdicts}
-use Rattle.mseed_audit.specs.Standing.{Held, StandsAt, IsAuditOf}
+use Rattle.mseed_audit.specs.Audit.{Held, StandsAt, IsAuditOf}
 
 abbrev pub verdicts_of : List (List ℕ × Channel) → List (List ℕ × Verdict)
 verdicts_of [] = []

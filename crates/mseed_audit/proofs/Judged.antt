@@ -6,11 +6,12 @@ use Rattle.mseed_time.specs.Rate.{Ratio}
 use Rattle.mseed_time.specs.Ratios.{ratio_of}
 use Rattle.mseed_record.specs.View.{View}
 use Rattle.mseed_steim.specs.Reading.{IsReading, EndsOnConstants}
-use Rattle.mseed_audit.specs.declared.channel.Tail.{Tail}
+use Rattle.mseed_audit.specs.declared.tail.Tail.{Tail}
 use Rattle.mseed_audit.specs.declared.finding.Why.{Why}
 use Rattle.mseed_audit.specs.declared.finding.Why.TheVariants.{RateChange}
 use Rattle.mseed_audit.specs.Judging.{time_fault_of, rate_in, rate_unless, known_rate, why_between, why_from, why_after, IsFound, after}
-use Rattle.mseed_audit.specs.Standing.{IsTail, IsTailBefore}
+use Rattle.mseed_audit.specs.Audit.{IsTail}
+use Rattle.mseed_audit.specs.Kept.{IsTailBefore}
 
 pub none_unless : {X : Type 0} (x : Option X) → ¬ (IsSome x) → x ≡ None
 none_unless None h = refl

@@ -7,7 +7,7 @@ use Rattle.std.proofs.lemmas.List.{length-append}
 use Rattle.mseed_record.specs.Header.{key_at}
 use Rattle.mseed_steim.specs.Reading.{count_of}
 use Rattle.mseed_audit.specs.Channels.{Added, Placed, numbered, same_key, is_of, records_of, with_record}
-use Rattle.mseed_audit.specs.Standing.{Held, StandsAt, IsAuditOf}
+use Rattle.mseed_audit.specs.Audit.{Held, StandsAt, IsAuditOf}
 
 abbrev pub placed_at : Added → ℕ → Placed
 placed_at a n = record { view = a.view; offset = a.offset; number = n }

@@ -19,7 +19,7 @@ use Rattle.mseed_audit.specs.Archive.{AreViews, IsEnd}
 use Rattle.mseed_audit.specs.Channels.{added_from}
 use Rattle.mseed_audit.specs.Text.{audit_text}
 use Rattle.mseed_audit.specs.Verdict.{AreVerdicts}
-use Rattle.mseed_audit.specs.Whole.{Audited, text_of, broken_count, IsSummary}
+use Rattle.mseed_audit.specs.Summary.{Audited, text_of, broken_count, IsSummary}
 use Rattle.mseed_audit.proofs.Continuity.{Excludes}
 use Rattle.mseed_audit.proofs.OneList.{verdicts_one}
 use Rattle.mseed_audit.proofs.OneVerdict.{HasOneFault}

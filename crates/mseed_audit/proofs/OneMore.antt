@@ -1,11 +1,11 @@
 -- Verdicts, one after another.
 use Rattle.std.proofs.Common.{◌≡◌, ℕ, ◌+◌, ◌<◌, ◌++◌, List, [], ◌∷◌, length, take, get_or, if◌then◌else◌, refl, sym, ap, ◌∙◌, append_assoc, append-nil, arith}
 use Rattle.std.proofs.lemmas.List.{take_more}
-use Rattle.mseed_audit.specs.declared.finding.Verdict.{Verdict}
-use Rattle.mseed_audit.specs.declared.finding.Verdict.TheVariants.{Continuous, Broken}
+use Rattle.mseed_audit.specs.declared.verdict.Verdict.{Verdict}
+use Rattle.mseed_audit.specs.declared.verdict.Verdict.TheVariants.{Continuous, Broken}
 use Rattle.mseed_audit.specs.Text.{verdict_line, verdict_lines}
 use Rattle.mseed_audit.specs.Verdict.{says_continuous}
-use Rattle.mseed_audit.specs.Whole.{broken_count}
+use Rattle.mseed_audit.specs.Summary.{broken_count}
 
 -- the front with one more
 front_more : (vs : List (List ℕ × Verdict)) (n : ℕ) (v : List ℕ × Verdict) → n < length vs → v ≡ get_or vs n v → take (n + 1) vs ≡ take n vs ++ v ∷ []

@@ -9,8 +9,8 @@ use Rattle.mseed_steim.specs.Reading.{IsFault}
 use Rattle.mseed_audit.specs.declared.finding.Why.{Why}
 use Rattle.mseed_audit.specs.declared.finding.Why.TheVariants.{Read}
 use Rattle.mseed_audit.specs.declared.finding.Finding.{Finding}
-use Rattle.mseed_audit.specs.declared.finding.Verdict.{Verdict}
-use Rattle.mseed_audit.specs.declared.finding.Verdict.TheVariants.{Continuous, Broken}
+use Rattle.mseed_audit.specs.declared.verdict.Verdict.{Verdict}
+use Rattle.mseed_audit.specs.declared.verdict.Verdict.TheVariants.{Continuous, Broken}
 use Rattle.mseed_audit.specs.Channels.{Placed, sample_count}
 use Rattle.mseed_audit.specs.Judging.{why_after, IsFound, time as by_time, rate as by_rate, read as by_read, after as by_after}
 use Rattle.mseed_audit.specs.Verdict.{finding_at, AreFindings, none, one, IsRun, IsVerdict}

@@ -3,13 +3,13 @@ use Rattle.std.proofs.Common.{◌≡◌, ℕ, suc, ◌+◌, ◌<◌, ◌++◌, L
 use Rattle.mseed_record.specs.View.{View}
 use Rattle.mseed_stream.specs.Device.{Heard, Said}
 use Rattle.mseed_stream.specs.declared.fault.StreamFault.{StreamFault}
-use Rattle.mseed_audit.specs.declared.finding.Verdict.{Verdict}
-use Rattle.mseed_audit.specs.declared.whole.Summary.{Summary}
+use Rattle.mseed_audit.specs.declared.verdict.Verdict.{Verdict}
+use Rattle.mseed_audit.specs.declared.archive.Summary.{Summary}
 use Rattle.mseed_audit.specs.Channels.{Added, added_from}
 use Rattle.mseed_audit.specs.Verdict.{AreVerdicts}
-use Rattle.mseed_audit.specs.Standing.{Held, IsAuditOf}
+use Rattle.mseed_audit.specs.Audit.{Held, IsAuditOf}
 use Rattle.mseed_audit.specs.Text.{audit_text}
-use Rattle.mseed_audit.specs.Whole.{Audited, text_of, broken_count, IsSummary, IsWritten, IsCutOff, IsGathered}
+use Rattle.mseed_audit.specs.Summary.{Audited, text_of, broken_count, IsSummary, IsWritten, IsCutOff, IsGathered}
 
 added_length : (place : ℕ) (views : List View) → length (added_from place views) ≡ length views
 added_length place [] = refl

@@ -7,7 +7,7 @@ use Rattle.mseed_record.specs.Header.{key_at}
 use Rattle.mseed_steim.specs.Reading.{count_of}
 use Rattle.mseed_audit.specs.declared.channel.Channel.{Channel}
 use Rattle.mseed_audit.specs.Channels.{Placed, same_key, is_of, with_record}
-use Rattle.mseed_audit.specs.Standing.{Stands, StandsAt}
+use Rattle.mseed_audit.specs.Audit.{Stands, StandsAt}
 use Rattle.mseed_audit.proofs.Maps.{same_back, same_is}
 
 -- a record with samples is of the channel with its own key, and of no other

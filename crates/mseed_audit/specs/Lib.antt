@@ -1,10 +1,11 @@
 pub mod Archive
+pub mod Audit
 pub mod Channels
 pub mod Follows
 pub mod Judging
+pub mod Kept
 pub mod Parts
 pub mod Series
-pub mod Standing
+pub mod Summary
 pub mod Text
 pub mod Verdict
-pub mod Whole

@@ -5,8 +5,8 @@ use Rattle.mseed_time.specs.declared.rate.Rate.{Rate}
 use Rattle.mseed_record.specs.Header.{key_at, factor_at, multiplier_at}
 use Rattle.mseed_record.specs.View.{View, start_of, leap_of}
 use Rattle.mseed_steim.specs.Reading.{count_of, IsWhole}
-use Rattle.mseed_audit.specs.declared.assemble.NotContinuous.{NotContinuous}
-use Rattle.mseed_audit.specs.declared.assemble.NotContinuous.TheVariants.{Absent, Broken, Memory}
+use Rattle.mseed_audit.specs.declared.assembly.NotContinuous.{NotContinuous}
+use Rattle.mseed_audit.specs.declared.assembly.NotContinuous.TheVariants.{Absent, Broken, Memory}
 use Rattle.mseed_audit.specs.declared.finding.Finding.{Finding}
 use Rattle.mseed_audit.specs.Channels.{Placed, views_in}
 use Rattle.mseed_audit.specs.Follows.{IsContinuous}

@@ -17,8 +17,8 @@ use Rattle.mseed_stream.specs.declared.fault.StreamFault.TheVariants.{Frame, Tru
 use Rattle.mseed_audit.specs.declared.finding.Why.{Why}
 use Rattle.mseed_audit.specs.declared.finding.Why.TheVariants.{Time, Rate, Read as ReadFailed, RateChange, Leap, Gap, Overlap}
 use Rattle.mseed_audit.specs.declared.finding.Finding.{Finding}
-use Rattle.mseed_audit.specs.declared.finding.Verdict.{Verdict}
-use Rattle.mseed_audit.specs.declared.finding.Verdict.TheVariants.{Continuous, Broken}
+use Rattle.mseed_audit.specs.declared.verdict.Verdict.{Verdict}
+use Rattle.mseed_audit.specs.declared.verdict.Verdict.TheVariants.{Continuous, Broken}
 
 -- a code without its trailing spaces and NULs
 abbrev pub trimmed : List ℕ → List ℕ

@@ -1,6 +1,6 @@
-//! What an audit says of a channel.
+//! What is found of a record.
 use mseed_steim::ReadFault;
-use mseed_time::{Micros, Rate, TimeFault};
+use mseed_time::TimeFault;
 
 /// What is found of a record within its channel: the first reason that holds, in this order.
 #[derive(Clone, Copy, Debug, PartialEq, Eq)]
@@ -29,40 +29,4 @@ pub struct Finding {
     /// Where it begins, in bytes from the input's beginning.
     pub offset: u64,
     pub why: Why,
-}
-
-/// What an audit says of a channel.
-#[derive(Clone, Copy, Debug, PartialEq, Eq)]
-pub enum Verdict {
-    /// Nothing was found of any record.
-    Continuous {
-        /// The first sample's instant.
-        start: Micros,
-        /// The first record's rate.
-        rate: Rate,
-        records: u64,
-        samples: u64,
-    },
-    /// Something was.
-    Broken {
-        /// The first finding.
-        first: Finding,
-        /// The number of records with a finding.
-        count: u64,
-    },
-}
-
-impl Verdict {
-    ghost use Rattle.std.specs.Prelude.{◌≡◌};
-    ghost use Rattle.mseed_audit.specs.Verdict.{says_continuous};
-
-    /// Whether the channel is continuous.
-    pub fn is_continuous(&self) -> bool
-        ensures { result ≡ says_continuous self.now }
-    {
-        match self {
-            Verdict::Continuous { .. } => true,
-            Verdict::Broken { .. } => false,
-        }
-    }
 }

@@ -4,14 +4,14 @@ ghost use Rattle.mseed_record.specs.View.{View};
 ghost use Rattle.mseed_time.specs.declared.outcome.LeapStep.{LeapStep};
 ghost use Rattle.mseed_audit.specs.declared.finding.Why.{Why};
 ghost use Rattle.mseed_audit.specs.declared.finding.Finding.{Finding};
-ghost use Rattle.mseed_audit.specs.declared.finding.Verdict.{Verdict};
+ghost use Rattle.mseed_audit.specs.declared.verdict.Verdict.{Verdict};
 ghost use Rattle.mseed_audit.specs.Channels.{Added, Placed, views_in};
 ghost use Rattle.mseed_audit.specs.Follows.{IsContinuous};
 ghost use Rattle.mseed_audit.specs.Judging.{IsFound};
 ghost use Rattle.mseed_audit.specs.Series.{Trace, AreJoined, IsBadStep, IsSeriesOf};
 ghost use Rattle.mseed_stream.specs.Device.{Heard};
-ghost use Rattle.mseed_audit.specs.declared.whole.Summary.{Summary};
-ghost use Rattle.mseed_audit.specs.Whole.{Audited, IsSummary, text_of};
+ghost use Rattle.mseed_audit.specs.declared.archive.Summary.{Summary};
+ghost use Rattle.mseed_audit.specs.Summary.{Audited, IsSummary, text_of};
 ghost use Rattle.mseed_audit.specs.Verdict.{AreFindings, AreVerdicts, IsVerdict, says_continuous};
 
 use mseed_steim::{one_fault, one_reading};

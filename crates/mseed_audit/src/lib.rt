@@ -1,26 +1,29 @@
 //! The audit of an archive: which channels are continuous, and where the others break.
 #![tactic(auto)]
 
-mod assemble;
+mod archive;
+mod assembly;
+mod audits;
 mod channel;
 mod finding;
-mod keep;
 mod law;
 mod name;
 mod parts;
+mod channel_series;
+mod tail;
 mod text;
-mod trace;
-mod whole;
+mod verdict;
 
-pub use assemble::{NotContinuous, series};
-pub use finding::{Finding, Verdict, Why};
-pub use keep::{Audit, Memory, Verdicts};
+pub use archive::{AuditFault, Summary, audit};
+pub use assembly::{NotContinuous, series};
+pub use audits::{Audit, Memory, Verdicts};
+pub use finding::{Finding, Why};
 pub use law::{
     continuous_exactly, one_audit, one_bad_step, one_finding, one_list_of_verdicts, one_series,
     one_verdict,
 };
 pub use name::push_name;
 pub use parts::{Part, push_parts};
+pub use channel_series::{BadStep, Series};
 pub use text::push_fault_line;
-pub use trace::{BadStep, Series};
-pub use whole::{AuditFault, Summary, audit};
+pub use verdict::Verdict;

@@ -7,10 +7,11 @@ ghost use Rattle.mseed_audit.specs.Text.{broken_words, total_line, why_text, rea
 ghost use Rattle.mseed_audit.specs.Text.{fault_line, frame_words};
 ghost use Rattle.mseed_stream.specs.declared.fault.StreamFault.{StreamFault};
 
-use crate::finding::{Finding, Verdict, Why};
+use crate::finding::{Finding, Why};
 use crate::name::push_name;
 use crate::parts::Part::{Count, Signed, Wide, Words};
 use crate::parts::push_parts;
+use crate::verdict::Verdict;
 use mseed_record::{Codes, FrameFault};
 use mseed_steim::ReadFault;
 use mseed_stream::StreamFault;

@@ -4,10 +4,11 @@ use Rattle.mseed_time.specs.Ratios.{ratio_of}
 use Rattle.mseed_record.specs.View.{View}
 use Rattle.mseed_record.specs.Viewing.{view_of}
 use Rattle.mseed_steim.specs.Reading.{IsFault}
-use Rattle.mseed_audit.specs.declared.channel.Tail.{Tail}
+use Rattle.mseed_audit.specs.declared.tail.Tail.{Tail}
 use Rattle.mseed_audit.specs.declared.finding.Why.{Why}
 use Rattle.mseed_audit.specs.Judging.{known_rate, IsFound, read}
-use Rattle.mseed_audit.specs.Standing.{IsTailBefore}
+use Rattle.mseed_audit.specs.Audit.{IsTailOf}
+use Rattle.mseed_audit.specs.Kept.{IsTailBefore}
 use Rattle.mseed_audit.proofs.Judged.{after_none, after_some, found_whole}
 use Rattle.mseed_audit.proofs.channel.judge.Goals as goal
 use Rattle.mseed_audit.proofs.channel.judge.Goals.{in-Ok-check_samples+in-Some, in-Ok-check_samples+in-None, in-Err-check_samples}
@@ -17,7 +18,7 @@ returns-clause-why c = λ b before.
     let v : View = view_of c.args.view.now in
     let next : Ratio = ratio_of c.in-Ok.tail.rate in
     let known : known_rate v ≡ Some next = c.in-Ok.ensures.ok.rate in
-    elim c.match-check_samples.branch [
+    subst (λ (why : Option Why). IsFound b v why) (sym c.with_end.ensures.why) (elim c.match-check_samples.branch [
       | in-Ok-check_samples+in-Some w ↦
           let kept : IsTailBefore (Some w.in-Some.before) b = subst (λ (t : Option Tail). IsTailBefore t b) w.in-Some.is before in
           let whole = w.in-Ok-check_samples.ensures.ends in
@@ -29,4 +30,7 @@ returns-clause-why c = λ b before.
       | in-Err-check_samples w ↦
           let fault : IsFault v w.in-Err-check_samples.fault = (w.in-Err-check_samples.ensures.fault w.in-Err-check_samples.fault).0 refl in
           subst (λ (why : Option Why). IsFound b v why) (sym w.why-is) (read next known w.in-Err-check_samples.fault fault)
-    ]
+    ])
+
+pub returns-clause-tail : goal.returns-clause-tail
+returns-clause-tail c = subst (λ (t : Option Tail). IsTailOf t (view_of c.args.view.now)) (sym c.with_end.ensures.tail) c.in-Ok.ensures.ok

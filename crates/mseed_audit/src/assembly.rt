@@ -1,0 +1,170 @@
+//! The series of a channel, put together from its records.
+ghost use Rattle.std.specs.Prelude.{◌≡◌, ◌<◌, ◌+◌, ◌^◌, ◌∷◌, ◌++◌, [], List, ℕ, ℤ, IfSome, IfErr, OnOk, IfOk, length, map};
+ghost use Rattle.std.specs.List.{filter, AllByRecursion};
+ghost use Rattle.mseed_time.specs.declared.rate.Rate.{Rate};
+ghost use Rattle.mseed_record.specs.View.{View};
+ghost use Rattle.mseed_record.specs.Viewing.{view_of};
+ghost use Rattle.mseed_audit.specs.declared.assembly.NotContinuous.TheVariants.{Memory};
+ghost use Rattle.mseed_audit.specs.Channels.{Placed, added_from, is_of, records_of, with_record};
+ghost use Rattle.mseed_audit.specs.Judging.{step_in};
+ghost use Rattle.mseed_audit.specs.Audit.{StandsAt};
+ghost use Rattle.mseed_audit.specs.Kept.{IsBounded};
+ghost use Rattle.mseed_audit.specs.Series.{HoldsAll, IsSeries};
+ghost use Rattle.mseed_audit.specs.Follows.{IsSound};
+
+use crate::channel::Channel;
+use crate::finding::Finding;
+use crate::law::continuous_exactly;
+use crate::channel_series::Series;
+use crate::verdict::Verdict;
+use mseed_record::{Codes, Leap, RecordView};
+use mseed_steim::read_samples;
+use mseed_time::{LeapStep, Micros, Rate};
+use std::alloc::Allocator;
+
+/// Why records give no series of a channel.
+#[derive(Clone, Copy, Debug, PartialEq, Eq)]
+pub enum NotContinuous {
+    /// None of them has samples of the channel.
+    Absent,
+    /// The channel is broken: the first finding, whose offset is where the record begins if the records
+    /// stand one behind another.
+    Broken(Finding),
+    /// A growth was refused.
+    Memory,
+}
+
+/// The series of a channel: the samples of its records, one behind another.
+///
+/// # Errors
+///
+/// `Absent` where the channel has no samples, `Broken` where it isn't continuous, `Memory` where a growth
+/// was refused.
+pub fn series<A: Allocator + Copy>(
+    alloc: A,
+    views: &[RecordView],
+    codes: &Codes,
+) -> Result<Series<A>, NotContinuous>
+    requires { length views.now < 2 ^ 40 }
+    ensures { IsSeries result (records_of codes.now (added_from 0 (map view_of views.now))) }
+{
+    continuous_exactly();
+    let channel = match channel_of(views, codes) {
+        Some(channel) => channel,
+        None => return Err(NotContinuous::Absent),
+    };
+    match channel.verdict() {
+        Verdict::Continuous {
+            start,
+            rate,
+            samples,
+            ..
+        } => assemble(alloc, views, codes, start, rate, samples),
+        Verdict::Broken { first, .. } => Err(NotContinuous::Broken(first)),
+    }
+}
+
+/// What is kept of a channel once all records came; nothing where none of them has samples of it.
+fn channel_of(views: &[RecordView], codes: &Codes) -> Option<Channel>
+    requires { length views.now < 2 ^ 40 }
+    ensures { StandsAt result (records_of codes.now (added_from 0 (map view_of views.now))) }
+{
+    let mut channel = None;
+    let mut offset = 0;
+    for (index, view) in views.iter().enumerate() {
+        channel = channel_with(channel, view, codes, index as u64 + 1, offset);
+        offset += view.bytes().len() as u64;
+    }
+    channel
+}
+
+/// What is kept of a channel once a further record came, which may be of another.
+fn channel_with(
+    channel: Option<Channel>,
+    view: &RecordView,
+    codes: &Codes,
+    number: u64,
+    offset: u64,
+) -> Option<Channel>
+    requires { IfSome channel (λ c. IsBounded (2 ^ 40) c.verdict) }
+    ensures stands { (ps : List Placed) → StandsAt channel ps
+        → StandsAt result (with_record codes.now ps (record { view = view_of view.now; offset = offset; number = number })) }
+    ensures bounded { (n : ℕ) → IfSome channel (λ c. IsBounded n c.verdict) → IfSome result (λ c. IsBounded (n + 1) c.verdict) }
+{
+    if !is_of(codes, view) {
+        return channel;
+    }
+    match channel {
+        None => Some(Channel::begin(view, number, offset)),
+        Some(mut channel) => {
+            channel.add(view, number, offset);
+            Some(channel)
+        }
+    }
+}
+
+/// Whether a record has samples, and is of a channel.
+fn is_of(codes: &Codes, view: &RecordView) -> bool
+    ensures { result ≡ is_of codes.now (view_of view.now) }
+{
+    view.samples() > 0 && *codes == view.codes()
+}
+
+/// The series of a channel that is continuous, of so many samples.
+fn assemble<A: Allocator + Copy>(
+    alloc: A,
+    views: &[RecordView],
+    codes: &Codes,
+    start: Micros,
+    rate: Rate,
+    count: u64,
+) -> Result<Series<A>, NotContinuous>
+    requires { AllByRecursion IsSound (filter (is_of codes.now) (map view_of views.now)) }
+    ensures holds { IfOk result (λ s. HoldsAll codes.now start rate (filter (is_of codes.now) (map view_of views.now)) s) }
+    ensures memory { IfErr result (λ e. e ≡ Memory) }
+{
+    let samples = match Vec::with_capacity(alloc, count as usize) {
+        Ok(samples) => samples,
+        Err(_) => return Err(NotContinuous::Memory),
+    };
+    let mut series = Series::new(alloc, *codes, start, rate, samples);
+    for view in views {
+        if is_of(codes, view) {
+            append_record(alloc, &mut series, view)?;
+        }
+    }
+    Ok(series)
+}
+
+/// Adds the samples of a sound record behind those that are there, and the leap second that it bears.
+fn append_record<A: Allocator + Copy>(
+    alloc: A,
+    series: &mut Series<A>,
+    view: &RecordView,
+) -> Result<(), NotContinuous>
+    requires { IsSound (view_of view.now) }
+    ensures holds { (codes : List ℕ) (start : ℤ) (rate : Rate) (vs : List View) → HoldsAll codes start rate vs series.old
+        → OnOk result (HoldsAll codes start rate (vs ++ view_of view.now ∷ []) series.new) }
+    ensures memory { IfErr result (λ e. e ≡ Memory) }
+{
+    // A sound record has a reading, so that nothing but memory can lack.
+    let samples = match read_samples(alloc, view) {
+        Ok(samples) => samples,
+        Err(_) => return Err(NotContinuous::Memory),
+    };
+    match series.push(&samples, step_in(view.leap())) {
+        Ok(()) => Ok(()),
+        Err(_) => Err(NotContinuous::Memory),
+    }
+}
+
+/// The leap second at a record's end; with both flags nobody can say.
+fn step_in(leap: Leap) -> Option<LeapStep>
+    ensures { result ≡ step_in leap }
+{
+    match leap {
+        Leap::None | Leap::Both => None,
+        Leap::Positive => Some(LeapStep::Plus),
+        Leap::Negative => Some(LeapStep::Minus),
+    }
+}
