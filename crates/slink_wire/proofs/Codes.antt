@@ -4,7 +4,7 @@ use Rattle.std.specs.List.{list_all, position_or_len}
 use Rattle.std.specs.Char.{is_ascii_alphanumeric}
 use Rattle.std.proofs.lemmas.Bool.Decides.{eqb_tells}
 use Rattle.std.proofs.lemmas.List.{take_at}
-use Rattle.std.specs.Prelude.{Result, Ok, Err, IsOk, IfOk, IsOkAnd}
+use Rattle.std.specs.Prelude.{Result, Ok, Err, IsOk, IfOk, IsOkAnd, OnErr}
 use Rattle.slink_wire.specs.declared.place.BadPlace.{BadPlace}
 use Rattle.slink_wire.specs.Place.{Fields, IsCode, IsField, SpellsPlace, filled, fields_of, code_in}
 use Rattle.slink_wire.proofs.Cuts.{Lacks, both, first_at, none_at, one_cut}
@@ -46,3 +46,8 @@ all_spelled (Ok q) text sta net e lacks accepted value p h = value ∙ sym (spel
 all_spelled (Err b) text sta net e lacks accepted value p h =
     let parts : IsCode 5 sta × IsCode 2 net × (p ≡ fields_of sta net) = spelled_parts text sta net e lacks p h in
     absurd (let k : false ≡ true = accepted (parts.0, parts.1) in cc k)
+
+-- so nothing is spelled where there is no answer
+pub none_spelled : (r : Result Fields BadPlace) (text : List ℕ) → ((p : Fields) → SpellsPlace text p → IsOkAnd r (λ q. q ≡ p)) → OnErr r ((p : Fields) → ¬ (SpellsPlace text p))
+none_spelled (Ok q) text h = tt
+none_spelled (Err b) text h = h

@@ -8,3 +8,4 @@ pub mod Stepped
 pub mod Keywords
 pub mod Said
 pub mod Worded
+pub mod Calls

@@ -3,6 +3,7 @@ pub mod Hexadecimal
 pub mod Packet
 pub mod Lines
 pub mod Taking
+pub mod Steps
 pub mod Command
-pub mod Reading
+pub mod Parsing
 pub mod Reply

@@ -1,8 +1,8 @@
 -- What a call that takes bytes of a stream tells.
-use Rattle.std.specs.Prelude.{◌≡◌, ℕ, ◌==◌, true, false, List, [], ◌∷◌, ◌++◌, length, if◌then◌else◌}
+use Rattle.std.specs.Prelude.{◌≡◌, ℕ, true, false, List, [], ◌∷◌, ◌++◌}
 use Rattle.slink_wire.specs.declared.lines.What.{What}
 use Rattle.slink_wire.specs.declared.lines.What.TheVariants.{More, Line, TooLong}
-use Rattle.slink_wire.specs.Lines.{Held, TellsNothing, lines_of}
+use Rattle.slink_wire.specs.Lines.{TellsNothing, lines_of}
 
 -- from the one stream to the other: no line more, this line more, or one that is too long
 abbrev pub Tells : What → List ℕ → List ℕ → Type 0
@@ -10,18 +10,27 @@ Tells More before after = TellsNothing before after
 Tells (Line line) before after = ((lines_of after).lines ≡ (lines_of before).lines ++ line.items ∷ []) × ((lines_of after).is_too_long ≡ false)
 Tells TooLong before after = ((lines_of after).lines ≡ (lines_of before).lines) × ((lines_of after).is_too_long ≡ true)
 
--- what is held after a byte, and what it tells: a CR, an LF, any other
-abbrev pub begun : List ℕ → Held
-begun line = record { begun = line; is_too_long = false }
+-- a call: the bytes that it took, and what it told
+pub record Call : Type 0 where
+  pub bytes : List ℕ
+  pub what : What
 
-abbrev pub cr_step : List ℕ → Held × What
-cr_step line = if length line == 0 then (begun [], More) else (begun [], Line (record { items = line }))
+-- calls one after another, behind this stream
+abbrev pub AreCalls : List ℕ → List Call → Type 0
+AreCalls stream [] = Unit {0}
+AreCalls stream (call ∷ calls) = Tells call.what stream (stream ++ call.bytes) × AreCalls (stream ++ call.bytes) calls
 
-abbrev pub other_step : List ℕ → ℕ → Held × What
-other_step line b = if length line == 255 then (record { begun = []; is_too_long = true }, TooLong) else (begun (line ++ b ∷ []), More)
+-- the bytes that calls took
+abbrev pub bytes_in : List Call → List ℕ
+bytes_in [] = []
+bytes_in (call ∷ calls) = call.bytes ++ bytes_in calls
 
-abbrev pub lf_step : List ℕ → ℕ → Held × What
-lf_step line b = if length line == 0 then (begun [], More) else other_step line b
+-- the lines that they told
+abbrev pub line_in : What → List (List ℕ)
+line_in More = []
+line_in (Line line) = line.items ∷ []
+line_in TooLong = []
 
-abbrev pub step : List ℕ → ℕ → Held × What
-step line b = if b == 13 then cr_step line else if b == 10 then lf_step line b else other_step line b
+abbrev pub lines_in : List Call → List (List ℕ)
+lines_in [] = []
+lines_in (call ∷ calls) = line_in call.what ++ lines_in calls

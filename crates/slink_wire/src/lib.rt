@@ -5,13 +5,17 @@ mod command;
 mod cut;
 mod hexadecimal;
 mod keyword;
+mod law;
 mod lines;
 mod packet;
 mod place;
 mod reply;
+#[cfg(test)]
+mod tests;
 mod words;
 
 pub use command::Command;
+pub use law::any_pieces;
 pub use lines::{Lines, Took, What};
 pub use packet::{NotPacket, Packet};
 pub use place::{BadPlace, Place};

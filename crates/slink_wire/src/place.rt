@@ -1,5 +1,5 @@
 //! Whose records a feed has.
-ghost use Rattle.std.specs.Prelude.{◌≡◌, ◌↔◌, ◌≤◌, IsTrue, IsOk, IfOk, IsOkAnd, length};
+ghost use Rattle.std.specs.Prelude.{◌≡◌, ◌↔◌, ◌≤◌, IsTrue, IsOk, IfOk, IsOkAnd, OnErr, length};
 ghost use Rattle.std.specs.List.{list_all};
 ghost use Rattle.std.specs.Char.{is_ascii_alphanumeric};
 ghost use Rattle.slink_wire.specs.Place.{Bears, Fields, IsCode, SpellsPlace, code_in, filled, fields_of};
@@ -81,6 +81,7 @@ impl Place {
         ensures place { IfOk result (SpellsPlace text.now) }
         // All that is spelled is answered, so at most one place is.
         ensures only { (p : Fields) → SpellsPlace text.now p → IsOkAnd result (λ q. q ≡ p) }
+        ensures refused { OnErr result ((p : Fields) → ¬ (SpellsPlace text.now p)) }
     {
         let Some((net, sta)) = parts(text, b'_') else {
             return Err(BadPlace);
@@ -90,6 +91,7 @@ impl Place {
 
     /// The station's code, without the spaces that fill its field.
     pub fn station(&self) -> &[u8]
+        ensures value { result.now ≡ code_in self.now.station }
         ensures code { IsCode 5 result.now }
         ensures field { filled 5 result.now ≡ self.now.station }
     {
@@ -98,6 +100,7 @@ impl Place {
 
     /// The network's code, without the space that may fill its field.
     pub fn network(&self) -> &[u8]
+        ensures value { result.now ≡ code_in self.now.network }
         ensures code { IsCode 2 result.now }
         ensures field { filled 2 result.now ≡ self.now.network }
     {
