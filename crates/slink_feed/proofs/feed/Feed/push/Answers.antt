@@ -1,0 +1,23 @@
+use Rattle.std.proofs.Common.{◌≡◌, arith, ap, length, sym, ◌∙◌, subst, ◌<◌, ◌^◌, Option, Some, IsSomeAnd, slice_get, option_map}
+use Rattle.slink_wire.specs.Place.{Bears}
+use Rattle.slink_feed.specs.Window.{Window, with_record}
+use Rattle.slink_feed.proofs.Slots.{same_length, slot_at, slot_written}
+use Rattle.slink_feed.proofs.feed.Feed.push.Goals as goal
+
+pub unreachable-requires : goal.unreachable-requires
+unreachable-requires g c = omega (arith, c.requires.in_range, same_length c.self.inside.rings.items c.args.self.now c.self.invariant c.self.view_is, ap length c.as_mut_slice-slots.ensures.value)
+
+pub push_slot-requires : goal.push_slot-requires
+push_slot-requires g c =
+    let at : (w : Window) × (c.index-slots-k.result ≡ Some w) × (slice_get c.args.self.now c.args.k ≡ Some w) =
+    slot_at c.self.inside.rings.items c.as_mut_slice-slots.result.now c.args.self.now c.args.k c.index-slots-k.result c.self.invariant c.self.view_is c.as_mut_slice-slots.ensures.value c.index-slots-k.is c.requires.in_range in
+    let P : Option Window → Type 0 = λ o. IsSomeAnd o (λ w. Bears c.args.bytes.now w.place × w.next < 2 ^ 63) in
+    subst P (sym at.1 ∙ c.index-slots-k.is) (c.requires.bears at.0 at.2, c.requires.room at.0 at.2)
+
+pub invariant_of-self : goal.invariant_of-self
+invariant_of-self g c = (slot_written c.self.inside.rings.items c.as_mut_slice-slots.result.now c.args.self.now c.args.k c.index-slots-k.result c.push_slot.new.slot (λ w. with_record w c.args.bytes.now)
+    c.self.invariant c.self.view_is c.as_mut_slice-slots.ensures.value c.index-slots-k.is c.requires.in_range (c.push_slot.ensures ∙ ap (option_map (λ w. with_record w c.args.bytes.now)) (sym c.index-slots-k.is))).0
+
+pub returns : goal.returns
+returns g c = (slot_written c.self.inside.rings.items c.as_mut_slice-slots.result.now c.args.self.now c.args.k c.index-slots-k.result c.push_slot.new.slot (λ w. with_record w c.args.bytes.now)
+    c.self.invariant c.self.view_is c.as_mut_slice-slots.ensures.value c.index-slots-k.is c.requires.in_range (c.push_slot.ensures ∙ ap (option_map (λ w. with_record w c.args.bytes.now)) (sym c.index-slots-k.is))).1

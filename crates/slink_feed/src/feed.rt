@@ -1,0 +1,129 @@
+//! The rings of one feed.
+ghost use Rattle.std.specs.Prelude.{◌≡◌, ◌^◌, ◌<◌, ◌≤◌, ◌↔◌, [], ◌∷◌, ◌++◌, Some, length, slice_get, slice_set, IfErr, IsErrAnd, IsOk, IsTrue, OnOk, OnErr, IsSomeAnd, option_map};
+ghost use Rattle.std.specs.Option.{ForSome};
+ghost use Rattle.std.specs.Bool.{OnFalse, OnTrue};
+ghost use Rattle.slink_wire.specs.Place.{Bears};
+ghost use Rattle.slink_feed.specs.Fault.{IsFeedFault};
+ghost use Rattle.slink_feed.specs.Rings.{HasPlace, LacksPlace};
+ghost use Rattle.slink_feed.specs.Window.{Window, with_record};
+
+use crate::ring::Ring;
+use arrayvec::ArrayVec;
+use slink_wire::Place;
+use std::alloc::{Allocator, Global};
+use std::marker::Model;
+
+/// The most rings that a feed has.
+const MOST: usize = 16;
+
+/// Why a ring isn't taken. It comes back.
+#[derive(Drop)]
+pub enum FeedFault<A: Allocator = Global> {
+    /// The feed has sixteen rings.
+    Full(Ring<A>),
+    /// The feed has a ring of this place.
+    Double(Ring<A>),
+}
+
+/// Up to sixteen rings of different places, in the order in which they were added.
+#[derive(Drop)]
+pub struct Feed<A: Allocator = Global> {
+    rings: ArrayVec<Option<Ring<A>>, 16>,
+}
+
+impl<A: Allocator> Model for Feed<A> {
+    ghost use Rattle.std.specs.Prelude.{List};
+    ghost use Rattle.slink_feed.specs.Rings.{AreFilled, filled_of};
+    ghost use Rattle.slink_feed.specs.Window.{Window};
+
+    ghost Value = { List Window };
+
+    ghost view = { λ f. filled_of f.rings.items };
+
+    ghost invariant = { λ f. AreFilled f.rings.items };
+}
+
+/// Gives a record to the ring in a slot.
+fn push_slot<A: Allocator>(slot: &mut Option<Ring<A>>, bytes: &[u8; 512])
+    requires { IsSomeAnd slot.old (λ w. Bears bytes.now w.place × (w.next < 2 ^ 63)) }
+    ensures { slot.new ≡ option_map (λ w. with_record w bytes.now) slot.old }
+{
+    match slot {
+        Some(ring) => ring.push(bytes),
+        None => unreachable!(),
+    }
+}
+
+impl<A: Allocator> Feed<A> {
+    /// A feed without rings.
+    pub fn new() -> Self
+        ensures { result ≡ [] }
+    {
+        Feed {
+            rings: ArrayVec::new(),
+        }
+    }
+
+    /// Takes a ring, unless the feed has sixteen already, or one of the same place: then nothing changes.
+    pub fn add(&mut self, ring: Ring<A>) -> Result<(), FeedFault<A>>
+        ensures ok { OnOk result (self.new ≡ self.old ++ ring ∷ []) }
+        ensures taken { OnOk result ((length self.old < 16) × LacksPlace self.old ring.place) }
+        ensures fault { IfErr result (λ e. IsFeedFault e self.old ring) }
+        ensures err { OnErr result (self.new ≡ self.old) }
+    {
+        if self.rings.len() == MOST {
+            return Err(FeedFault::Full(ring));
+        }
+        if self.has(ring.place()) {
+            return Err(FeedFault::Double(ring));
+        }
+        self.rings.push(Some(ring));
+        Ok(())
+    }
+
+    /// How many rings there are.
+    pub fn len(&self) -> usize
+        ensures value { result ≡ length self.now }
+        ensures most { result ≤ 16 }
+    {
+        self.rings.len()
+    }
+
+    /// The ring at an index, counting from 0 in the order in which they were added.
+    pub fn ring(&self, k: usize) -> &Ring<A>
+        requires { k < length self.now }
+        ensures { slice_get self.now k ≡ Some result.now }
+    {
+        match &self.rings.as_slice()[k] {
+            Some(ring) => ring,
+            None => unreachable!(),
+        }
+    }
+
+    /// Gives a record of its place to the ring at an index.
+    pub fn push(&mut self, k: usize, bytes: &[u8; 512])
+        requires in_range { k < length self.old }
+        requires bears { ForSome (slice_get self.old k) (λ w. Bears bytes.now w.place) }
+        requires room { ForSome (slice_get self.old k) (λ w. w.next < 2 ^ 63) }
+        ensures { ForSome (slice_get self.old k) (λ w. self.new ≡ slice_set self.old k (with_record w bytes.now)) }
+    {
+        let slots = self.rings.as_mut_slice();
+        if k >= slots.len() {
+            unreachable!();
+        }
+        push_slot(&mut slots[k], bytes);
+    }
+
+    /// Whether a ring is of this place.
+    fn has(&self, place: Place) -> bool
+        ensures yes { OnTrue result (HasPlace self.now place) }
+        ensures no { OnFalse result (LacksPlace self.now place) }
+    {
+        for k in 0..self.len() {
+            if self.ring(k).place() == place {
+                return true;
+            }
+        }
+        false
+    }
+}
