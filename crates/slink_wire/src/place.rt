@@ -2,7 +2,7 @@
 ghost use Rattle.std.specs.Prelude.{◌≡◌, ◌↔◌, ◌≤◌, IsTrue, IsOk, IfOk, IsOkAnd, OnErr, length};
 ghost use Rattle.std.specs.List.{list_all};
 ghost use Rattle.std.specs.Char.{is_ascii_alphanumeric};
-ghost use Rattle.slink_wire.specs.Place.{Bears, Fields, IsCode, SpellsPlace, code_in, filled, fields_of};
+ghost use Rattle.slink_wire.specs.Place.{Bears, Fields, IsCode, SpellsPlace, code_in, filled, fields_of, matches};
 
 use crate::cut::{first, parts};
 use std::marker::Model;
@@ -105,6 +105,17 @@ impl Place {
         ensures field { filled 2 result.now ≡ self.now.network }
     {
         code_in(&self.network)
+    }
+
+    /// Whether this is a place that a command names: its station, in its network or in any.
+    pub fn matches(&self, sta: &[u8; 5], net: Option<[u8; 2]>) -> bool
+        ensures { result ≡ matches self.now sta.now net }
+    {
+        self.station == *sta
+            && match net {
+                Some(net) => self.network == net,
+                None => true,
+            }
     }
 
     /// Whether a record's header has this station and network.
