@@ -1,5 +1,5 @@
 pub mod Days
-pub mod Spelling
+pub mod Naming
 pub mod Civil
 pub mod Joining
 pub mod Reading

@@ -3,7 +3,7 @@ pub mod Btime
 pub mod Rate
 pub mod Ratios
 pub mod Parts
-pub mod Spelling
+pub mod Naming
 pub mod Join
 pub mod Calendar
 pub mod Text

@@ -42,7 +42,7 @@ pub struct Btime {
 
 impl Btime {
     ghost use Rattle.std.specs.Prelude.{◌↔◌, ◌*◌, false, IfOk, IsErr, slice_index, None};
-    ghost use Rattle.mseed_time.specs.Spelling.{Spells, IsOnlySpelling, IsOutside, HasNoSpelling};
+    ghost use Rattle.mseed_time.specs.Naming.{Names, IsOnlyName, IsOutside, HasNoName};
     ghost use Rattle.std.specs.Result.{result_err};
     ghost use Rattle.mseed_time.specs.Btime.{parts_at, first_fault, instant_of, microsecond_of};
     ghost use Rattle.mseed_time.specs.Parts.{parts_of};
@@ -112,10 +112,10 @@ impl Btime {
     /// instant, -50 to 49. The time's second is never 60.
     pub fn of_micros(instant: Micros) -> Result<(Btime, i8), OutOfRange>
         ensures value { IfOk result (λ a. instant_of (parts_of a.0) (pos 0) false a.1 ≡ instant) }
-        ensures spells { IfOk result (λ a. Spells instant (parts_of a.0) a.1) }
-        ensures unique { IfOk result (λ a. IsOnlySpelling instant (parts_of a.0) a.1) }
+        ensures names { IfOk result (λ a. Names instant (parts_of a.0) a.1) }
+        ensures unique { IfOk result (λ a. IsOnlyName instant (parts_of a.0) a.1) }
         ensures out_of_range { IsErr result ↔ IsOutside instant }
-        ensures no_spelling { IsErr result ↔ HasNoSpelling instant }
+        ensures no_name { IsErr result ↔ HasNoName instant }
     {
         let since_1800 = instant.since_first() + HALF_TICK;
         if since_1800 < START_OF_1900 || since_1800 >= START_OF_2101 {

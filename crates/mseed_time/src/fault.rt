@@ -1,4 +1,5 @@
 //! Why a time is refused.
+ghost use Rattle.std.specs.Prelude.{◌≡◌};
 
 /// The first field of a BTIME that is out of its range, in the order of the fields.
 #[derive(Clone, Copy, Debug, PartialEq, Eq)]
@@ -15,6 +16,24 @@ pub enum TimeFault {
     Second,
     /// Above 9999 ten-thousandths.
     Fraction,
+}
+
+impl TimeFault {
+    ghost use Rattle.mseed_time.specs.Text.{fault_word};
+
+    /// The word for the field, in texts.
+    pub fn word(self) -> &'static str
+        ensures { result.now ≡ fault_word self }
+    {
+        match self {
+            TimeFault::Year => "year",
+            TimeFault::Day => "day",
+            TimeFault::Hour => "hour",
+            TimeFault::Minute => "minute",
+            TimeFault::Second => "second",
+            TimeFault::Fraction => "fraction",
+        }
+    }
 }
 
 /// The instant lies in no year from 1900 to 2100, once it is rounded to a ten-thousandth of a second.

@@ -4,7 +4,7 @@ use Rattle.std.proofs.lemmas.Bool.{cases_order}
 use Rattle.std.proofs.lemmas.Bool.Decides.{nat_tests}
 use Rattle.jiff_core.proofs.SignedLemmas.{signed_arith}
 use Rattle.mseed_time.specs.Btime.{Parts, IsTime, leap_days, days_in_year, microsecond_of}
-use Rattle.mseed_time.specs.Spelling.{Spells}
+use Rattle.mseed_time.specs.Naming.{Names}
 use Rattle.mseed_time.proofs.Days.{microsecond_of-counted}
 
 -- the days of the years before one, from the year 1 on
@@ -52,7 +52,7 @@ unfolding days_of
 counted t h = microsecond_of-counted t (days_of t) (omega (arith, signed_arith)) ∙ ap pos (omega arith)
 
 -- two pairs that spell one instant have the same microseconds, and the same ten-thousandths
-same_ticks : (instant u v : ℤ) (t s : Parts) → Spells instant t u → Spells instant s v → (u ≡ v) × (ticks_of (days_of t) t ≡ ticks_of (days_of s) s)
+same_ticks : (instant u v : ℤ) (t s : Parts) → Names instant t u → Names instant s v → (u ≡ v) × (ticks_of (days_of t) t ≡ ticks_of (days_of s) s)
 same_ticks instant u v t s a b =
     let first = counted t a.valid in
     let second = counted s b.valid in
@@ -74,7 +74,7 @@ same_parts t s a t59 b s59 e =
     let day = same_day t.year t.day s.year s.day (omega arith) (omega arith) a.2 a.3 b.2 b.3 (omega arith) in
     λ i. record { year = day.0 i; day = day.1 i; hour = clock.3 i; minute = clock.2 i; second = clock.1 i; fraction = clock.0 i }
 
-pub spelling_unique : (instant u v : ℤ) (t s : Parts) → Spells instant t u → Spells instant s v → (t ≡ s) × (u ≡ v)
-spelling_unique instant u v t s a b =
+pub name_unique : (instant u v : ℤ) (t s : Parts) → Names instant t u → Names instant s v → (t ≡ s) × (u ≡ v)
+name_unique instant u v t s a b =
     let same = same_ticks instant u v t s a b in
     (same_parts t s a.valid a.second b.valid b.second same.1, same.0)

@@ -5,7 +5,7 @@ use Rattle.mseed_time.specs.Btime.{Parts, IsTime, day_of, microsecond_of}
 -- A time and the microseconds of blockette 1001 (SEED manual, chapter 8, blockette 1001, field 4) that
 -- name the instant together. The time isn't in a leap second: second 60 would name an instant that
 -- second 0 of the next minute names too.
-pub record Spells (instant : ℤ) (t : Parts) (microseconds : ℤ) : Type 0 where
+pub record Names (instant : ℤ) (t : Parts) (microseconds : ℤ) : Type 0 where
   pub valid : IsTime t
   pub second : t.second ≤ 59
   pub low : neg_ℤ (pos 50) ≤ℤ microseconds
@@ -13,13 +13,13 @@ pub record Spells (instant : ℤ) (t : Parts) (microseconds : ℤ) : Type 0 wher
   pub value : microsecond_of t +ℤ microseconds ≡ instant
 
 -- each such pair is this one
-abbrev pub IsOnlySpelling : ℤ → Parts → ℤ → Type 0
-IsOnlySpelling instant t microseconds =
-    (s : Parts) (u : ℤ) → Spells instant s u → (t ≡ s) × (microseconds ≡ u)
+abbrev pub IsOnlyName : ℤ → Parts → ℤ → Type 0
+IsOnlyName instant t microseconds =
+    (s : Parts) (u : ℤ) → Names instant s u → (t ≡ s) × (microseconds ≡ u)
 
 -- there is none
-abbrev pub HasNoSpelling : ℤ → Type 0
-HasNoSpelling instant = (t : Parts) (u : ℤ) → ¬ (Spells instant t u)
+abbrev pub HasNoName : ℤ → Type 0
+HasNoName instant = (t : Parts) (u : ℤ) → ¬ (Names instant t u)
 
 -- the microseconds from 1970-01-01T00:00:00 to the start of a year
 abbrev pub year_begins : ℕ → ℤ
