@@ -1,10 +1,11 @@
 -- One item after another: how a walk goes on.
-use Rattle.std.proofs.Common.{◌≡◌, ◌≢◌, ℕ, ◌<◌, ◌^◌, List, [], ◌∷◌, ℤ, pos, negsuc, ◌+ℤ◌, arith, refl, eqb, false, true, Result, Ok, Err, w32, FitsSigned}
+use Rattle.std.proofs.Common.{◌≡◌, ◌≢◌, ℕ, ◌<◌, ◌^◌, List, [], ◌∷◌, ◌∙◌, ℤ, pos, negsuc, ◌+ℤ◌, arith, refl, eqb, false, true, Result, Ok, Err, w32, FitsSigned}
 use Rattle.std.proofs.lemmas.Bool.{ne_eqb, eq-eqb, lt-ltb, le-ltb}
 use Rattle.mseed_steim.specs.declared.differences.BadWordAt.{BadWordAt}
+use Rattle.mseed_steim.specs.declared.fault.ReadFault.{ReadFault}
 use Rattle.mseed_steim.specs.declared.fault.ReadFault.TheVariants.{Short, BadWord, Overflow}
 use Rattle.mseed_steim.specs.declared.sum.Sum.{Sum}
-use Rattle.mseed_steim.specs.Sums.{fits, fold, one_more}
+use Rattle.mseed_steim.specs.Sums.{GoesOn, fits, fold, one_more}
 
 pub fold_enough : (n : ℕ) (s : Sum) (items : List (Result ℤ BadWordAt)) → s.met ≡ n → fold n s items ≡ Ok s
 unfolding fold
@@ -49,3 +50,8 @@ fold_bad n s at more h = let less : eqb s.met n ≡ false = ne_eqb s.met n (λ (
 pub fold_short : (n : ℕ) (s : Sum) → s.met ≢ n → fold n s [] ≡ Err (Short s.met)
 unfolding fold
 fold_short n s h = rw (ne_eqb s.met n h) refl
+
+-- a walk that is at another sum by now
+pub goes_from : (n : ℕ) (s t : Sum) (items later behind : List (Result ℤ BadWordAt)) (r : Result Sum ReadFault) → fold n s items ≡ fold n t later → GoesOn n t later behind r → GoesOn n s items behind r
+goes_from n s t items later behind (Ok next) e h = e ∙ h
+goes_from n s t items later behind (Err fault) e h = e ∙ h

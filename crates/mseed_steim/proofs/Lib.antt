@@ -14,3 +14,13 @@ pub mod Ended
 pub mod Integers
 pub mod Runs
 pub mod Laws
+pub mod LaneTables
+pub mod FrameBytes
+pub mod LaneSums
+pub mod FrameRows
+pub mod FrameWords
+pub mod FrameSums
+pub mod FrameOne
+pub mod Far
+pub mod FrameNear
+pub mod FrameItems

@@ -1,6 +1,8 @@
 -- One word after another: what the words from a place on give.
-use Rattle.std.proofs.Common.{◌≡◌, ◌≢◌, ◌⊎◌, ⊎_elim, inl, inr, ℕ, zero, suc, ◌+◌, ◌%◌, ◌/◌, ◌<◌, ◌≤◌, List, [], ◌∷◌, ◌++◌, map, length, ℤ, arith, refl, ap, Option, Some, None, Ok, Err}
+use Rattle.std.specs.Simd.{first_chunks}
+use Rattle.std.proofs.Common.{◌≡◌, ◌≢◌, ◌⊎◌, ⊎_elim, take, drop, get_or, ◌*◌, ◌∙◌, inl, inr, ℕ, zero, suc, ◌+◌, ◌%◌, ◌/◌, ◌<◌, ◌≤◌, List, [], ◌∷◌, ◌++◌, map, length, ℤ, arith, refl, ap, Option, Some, None, Ok, Err}
 use Rattle.std.proofs.lemmas.Bool.{ne_eqb, cases_lt}
+use Rattle.std.proofs.lemmas.List.{drop-drop}
 use Rattle.mseed_steim.specs.declared.scheme.Scheme.{Scheme}
 use Rattle.mseed_steim.specs.Digits.{differences_of}
 use Rattle.mseed_steim.specs.Frames.{DataWord, data_word, words_from}
@@ -34,6 +36,9 @@ pub no_items : (s : Scheme) (before : List DataWord) → before ≡ [] → items
 unfolding items_of
 no_items s before e = rw e refl
 
+is_head : (k : ℕ) → (k % 16 ≡ 0) ⊎ (k % 16 ≢ 0)
+is_head k = ⊎_elim (λ (some : 0 < k % 16). inr (λ e. omega arith)) (λ (none : k % 16 ≤ 0). inl (omega arith)) (cases_lt 0 (k % 16))
+
 -- how many data words there are: all but the first of each frame
 pub length-words_from : (p : List ℕ) (k n : ℕ) → length (words_from p k n) + (k + n + 15) / 16 ≡ n + (k + 15) / 16
 length-words_from p k zero = rw (words_none p k) (omega arith)
@@ -41,6 +46,27 @@ length-words_from p k (suc n) = ⊎_elim
     (λ (head : k % 16 ≡ 0). let later = length-words_from p (k + 1) n in rw (words_skip p k n head) (omega (arith, later)))
     (λ (data_word : k % 16 ≢ 0). let later = length-words_from p (k + 1) n in rw (words_step p k n data_word) (omega (arith, later)))
     (is_head k)
-  where
-    is_head : (k : ℕ) → (k % 16 ≡ 0) ⊎ (k % 16 ≢ 0)
-    is_head k = ⊎_elim (λ (some : 0 < k % 16). inr (λ e. omega arith)) (λ (none : k % 16 ≤ 0). inl (omega arith)) (cases_lt 0 (k % 16))
+
+-- words that are cut in two
+pub words_cut : (p : List ℕ) (k n m : ℕ) → words_from p k (n + m) ≡ words_from p k n ++ words_from p (k + n) m
+words_cut p k zero m =
+    let none : k + 0 ≡ k = omega arith in
+    let all : 0 + m ≡ m = omega arith in
+    rw (none, all, words_none p k) refl
+words_cut p k (suc n) m =
+    let next : k + 1 + n ≡ k + suc n = omega arith in
+    let more : suc n + m ≡ suc (n + m) = omega arith in
+    let later : words_from p (k + 1) (n + m) ≡ words_from p (k + 1) n ++ words_from p (k + suc n) m = rw next at (words_cut p (k + 1) n m) in
+    ⊎_elim
+    (λ (head : k % 16 ≡ 0). rw (more, words_skip p k (n + m) head, words_skip p k n head) later)
+    (λ (data_place : k % 16 ≢ 0). rw (more, words_step p k (n + m) data_place, words_step p k n data_place) (ap (λ (ws : List DataWord). data_word p k ∷ ws) later))
+    (is_head k)
+
+-- a frame of a payload
+pub frame_at : (n : ℕ) (p : List ℕ) (i : ℕ) → i < n → get_or (first_chunks 64 n p) i [] ≡ take 64 (drop (64 * i) p)
+frame_at zero p i h = absurd (omega arith)
+frame_at (suc n) p zero h = refl
+frame_at (suc n) p (suc i) h =
+    let later = frame_at n (drop 64 p) i (omega arith) in
+    let place : 64 + 64 * i ≡ 64 * suc i = omega arith in
+    later ∙ (rw (drop-drop, place) refl)

@@ -7,6 +7,8 @@ pub mod Items
 pub mod Reads
 pub mod Left
 pub mod Steps
+pub mod Lanes
+pub mod Moves
 pub mod Samples
 pub mod Sums
 pub mod Reading

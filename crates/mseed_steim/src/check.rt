@@ -1,6 +1,6 @@
 //! Payloads that are checked without keeping their samples.
 
-ghost use Rattle.std.specs.Prelude.{◌≡◌, ◌↔◌, ◌<◌, List, ℤ, IfOk, IfErr, IfSome, IfNone, IsOkAnd, Err, length};
+ghost use Rattle.std.specs.Prelude.{◌≡◌, ◌↔◌, ◌<◌, ◌≤◌, List, ℤ, IfOk, IfErr, IfSome, IfNone, IsOkAnd, Err, length};
 ghost use Rattle.mseed_record.specs.Viewing.{view_of};
 ghost use Rattle.mseed_time.specs.declared.order.Order.TheVariants.{Big};
 ghost use Rattle.mseed_steim.specs.declared.form.Form.TheVariants.{Integers, Frames};
@@ -13,7 +13,7 @@ use crate::data_words::read_word;
 use crate::fault::{Ends, ReadFault};
 use crate::form::{Form, Width, form_of, integer_at};
 use crate::scheme::Scheme;
-use crate::walk::{add_words, find_lack};
+use crate::walk::{add_frames, find_lack};
 use mseed_record::RecordView;
 use mseed_time::Order;
 
@@ -22,6 +22,7 @@ pub(crate) fn constants_of(payload: &[u8]) -> Option<Ends>
     ensures none { IfNone result (length payload.now < 64) }
     ensures first { IfSome result (λ ends. ends.first ≡ first_constant payload.now) }
     ensures last { IfSome result (λ ends. ends.last ≡ last_constant payload.now) }
+    ensures framed { IfSome result (λ _. 64 ≤ length payload.now) }
 {
     if payload.len() < 64 {
         return None;
@@ -40,7 +41,7 @@ fn check_frames(payload: &[u8], scheme: Scheme, samples: usize) -> Result<Ends, 
     let Some(constants) = constants_of(payload) else {
         return Err(ReadFault::Short(0));
     };
-    match add_words(payload, scheme, samples, constants.first) {
+    match add_frames(scheme, payload, samples, constants.first) {
         Ok(sum) => {
             if sum.last == constants.last {
                 Ok(constants)

@@ -12,7 +12,7 @@ use std::marker::Model;
 const WORD: usize = 4;
 
 /// Words of a frame.
-const FRAME: usize = 16;
+pub(crate) const FRAME: usize = 16;
 
 /// The bits of a word, which are counted from the payload's begin.
 pub(crate) fn read_word(payload: &[u8], index: usize) -> u32
@@ -56,19 +56,27 @@ impl<'a> Words<'a> {
         ensures { result ≡ data_words payload.now }
     {
         let end = payload.len() / (FRAME * WORD) * FRAME;
-        if end == 0 {
-            return Words {
-                payload,
-                next: 0,
-                end,
-                codes: 0,
-            };
-        }
+        let from = if end == 0 { 0 } else { 3 };
+        Words::between(payload, from, end)
+    }
+
+    /// Those from a word on, up to a frame's end.
+    pub(crate) fn between(payload: &'a [u8], from: usize, end: usize) -> Self
+        requires order { from ≤ end }
+        requires whole { end % 16 ≡ 0 }
+        requires inside { 4 * end ≤ length payload.now }
+        ensures { result ≡ words_from payload.now from (end - from) }
+    {
+        let codes = if from < end {
+            read_word(payload, from / FRAME * FRAME)
+        } else {
+            0
+        };
         Words {
             payload,
-            next: 3,
+            next: from,
             end,
-            codes: read_word(payload, 0),
+            codes,
         }
     }
 

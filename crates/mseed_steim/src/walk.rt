@@ -1,37 +1,155 @@
-//! Walks over a payload's words.
+//! Walks over a payload's frames.
 
-ghost use Rattle.std.specs.Prelude.{◌≡◌, ◌<◌};
-ghost use Rattle.mseed_steim.specs.Frames.{data_words};
+ghost use Rattle.std.specs.Prelude.{◌≡◌, ◌≤◌, ◌<◌, ◌+◌, ◌*◌, List, ◌∷◌, ◌++◌, ℤ, Result, Ok, IfOk, IfSome, map, take, drop, length};
+ghost use Rattle.mseed_steim.specs.declared.differences.BadWordAt.{BadWordAt};
+ghost use Rattle.mseed_steim.specs.Frames.{DataWord, data_words, words_from};
 ghost use Rattle.mseed_steim.specs.Items.{items_of};
-ghost use Rattle.mseed_steim.specs.Sums.{fold, lack};
+ghost use Rattle.mseed_steim.specs.Moves.{Moves};
+ghost use Rattle.mseed_steim.specs.Reads.{as_data};
+ghost use Rattle.mseed_steim.specs.Sums.{GoesOn, fold, lack};
 
-use crate::data_words::Words;
+use crate::data_words::{FRAME, Word, Words};
 use crate::fault::ReadFault;
+use crate::frame::{FROM_1, FROM_4, Moved, move_of};
 use crate::group::group_of;
 use crate::scheme::Scheme;
 use crate::sum::{Sum, add_group};
 
-/// The sum of so many samples, of which this is the first, or what comes first in place of one.
-pub(crate) fn add_words(
-    payload: &[u8],
+/// No sum of a frame's differences is further from 0 than this, unless one of them has 30 or 32 bits.
+const REACH: u32 = 1 << 20;
+
+/// The differences of a word, as far as they are needed.
+fn add_word(scheme: Scheme, word: Word, samples: usize, sum: Sum) -> Result<Sum, ReadFault>
+    requires { sum.met ≤ samples }
+    ensures goes_on { (rest : List DataWord) → GoesOn samples sum (items_of scheme (as_data word ∷ rest)) (items_of scheme rest) result }
+    ensures met { IfOk result (λ next. next.met ≤ samples) }
+{
+    if samples <= sum.met {
+        return Ok(sum);
+    }
+    match group_of(scheme, word.code, word.bits) {
+        Some(group) => add_group(word.bits, group, samples, sum),
+        None => Err(ReadFault::BadWord(word.frame, word.place)),
+    }
+}
+
+/// The differences of some words, as far as they are needed.
+#[cold]
+fn add_words(scheme: Scheme, words: Words<'_>, samples: usize, sum: Sum) -> Result<Sum, ReadFault>
+    requires { sum.met ≤ samples }
+    ensures goes_on { (rest : List DataWord) → GoesOn samples sum (items_of scheme (words.entry ++ rest)) (items_of scheme rest) result }
+    ensures met { IfOk result (λ next. next.met ≤ samples) }
+{
+    let mut sum = sum;
+    for word in words {
+        match add_word(scheme, word, samples, sum) {
+            Ok(next) => sum = next,
+            Err(fault) => return Err(fault),
+        }
+    }
+    Ok(sum)
+}
+
+/// The sum once all of a frame's differences are added. None where the words have to be looked at: where not
+/// all are needed, none was met before, a word is bad or its differences wide, or the limits of 32 bits are
+/// within reach.
+#[inline(always)]
+fn add_at_once(moved: Moved, samples: usize, sum: Sum) -> Option<Sum>
+    requires { sum.met ≤ samples }
+    ensures few { IfSome result (λ _. moved.count < 128) }
+    ensures goes_on { IfSome result (λ next. (ds : List ℤ) (more : List (Result ℤ BadWordAt)) → Moves moved ds → fold samples sum (map Ok ds ++ more) ≡ fold samples next more) }
+    ensures met { IfSome result (λ next. next.met ≤ samples) }
+{
+    let count = moved.count as usize;
+    if sum.met == 0
+        || moved.count >= 128
+        || samples - sum.met < count
+        || sum.last.unsigned_abs() >= (1 << 31) - REACH
+    {
+        return None;
+    }
+    Some(Sum {
+        met: sum.met + count,
+        last: sum.last.wrapping_add(moved.by),
+    })
+}
+
+/// The differences of the first frame, as far as they are needed.
+fn add_first_frame(
     scheme: Scheme,
+    payload: &[u8],
+    frame: &[u8; 64],
     samples: usize,
     first: i32,
 ) -> Result<Sum, ReadFault>
-    ensures { result ≡ fold samples (record { met = 0; last = first }) (items_of scheme (data_words payload.now)) }
+    requires inside { 64 ≤ length payload.now }
+    requires front { frame.now ≡ take 64 payload.now }
+    ensures goes_on { (rest : List DataWord) → GoesOn samples (record { met = 0; last = first }) (items_of scheme (words_from payload.now 3 13 ++ rest)) (items_of scheme rest) result }
+    ensures met { IfOk result (λ next. next.met ≤ samples) }
 {
-    let mut sum = Sum {
+    let none = Sum {
         met: 0,
         last: first,
     };
-    for word in Words::of(payload) {
+    let mut words = Words::between(payload, 3, FRAME);
+    let Some(word) = words.next() else {
+        return Ok(none);
+    };
+    let sum = match add_word(scheme, word, samples, none) {
+        Ok(sum) => sum,
+        Err(fault) => return Err(fault),
+    };
+    match add_at_once(move_of(scheme, frame, FROM_4), samples, sum) {
+        Some(sum) => Ok(sum),
+        None => add_words(scheme, words, samples, sum),
+    }
+}
+
+/// The differences of a later frame, as far as they are needed.
+fn add_frame(
+    scheme: Scheme,
+    payload: &[u8],
+    frame: &[u8; 64],
+    index: usize,
+    samples: usize,
+    sum: Sum,
+) -> Result<Sum, ReadFault>
+    requires inside { 64 * (index + 1) ≤ length payload.now }
+    requires at { frame.now ≡ take 64 (drop (64 * index) payload.now) }
+    requires met { sum.met ≤ samples }
+    ensures goes_on { (rest : List DataWord) → GoesOn samples sum (items_of scheme (words_from payload.now (16 * index) 16 ++ rest)) (items_of scheme rest) result }
+    ensures met { IfOk result (λ next. next.met ≤ samples) }
+{
+    match add_at_once(move_of(scheme, frame, FROM_1), samples, sum) {
+        Some(sum) => Ok(sum),
+        None => {
+            let words = Words::between(payload, FRAME * index, FRAME * (index + 1));
+            add_words(scheme, words, samples, sum)
+        }
+    }
+}
+
+/// The sum of so many samples, of which this is the first, or what comes first in place of one. Frames are
+/// added up at once, where that can't go wrong, and else word by word.
+pub(crate) fn add_frames(
+    scheme: Scheme,
+    payload: &[u8],
+    samples: usize,
+    first: i32,
+) -> Result<Sum, ReadFault>
+    requires { 64 ≤ length payload.now }
+    ensures { result ≡ fold samples (record { met = 0; last = first }) (items_of scheme (data_words payload.now)) }
+{
+    let (frames, _) = payload.as_chunks::<64>();
+    let mut sum = match add_first_frame(scheme, payload, &frames[0], samples, first) {
+        Ok(sum) => sum,
+        Err(fault) => return Err(fault),
+    };
+    for index in 1..frames.len() {
         if sum.met == samples {
             return Ok(sum);
         }
-        let Some(group) = group_of(scheme, word.code, word.bits) else {
-            return Err(ReadFault::BadWord(word.frame, word.place));
-        };
-        match add_group(word.bits, group, samples, sum) {
+        match add_frame(scheme, payload, &frames[index], index, samples, sum) {
             Ok(next) => sum = next,
             Err(fault) => return Err(fault),
         }

@@ -1,0 +1,40 @@
+-- Differences that are added up at once, while the limits of 32 bits are out of reach.
+use Rattle.std.proofs.Common.{◌≡◌, ℕ, ◌+◌, ◌<◌, ◌≤◌, ◌^◌, List, [], ◌∷◌, ◌++◌, map, length, ℤ, pos, negsuc, ◌+ℤ◌, nat_abs, w32, FitsSigned, arith, refl, ◌∙◌, true, Ok, Result}
+use Rattle.std.proofs.lemmas.Int.{ints}
+use Rattle.std.proofs.lemmas.Bool.{lt-ltb}
+use Rattle.mseed_steim.specs.declared.differences.BadWordAt.{BadWordAt}
+use Rattle.mseed_steim.specs.declared.sum.Sum.{Sum}
+use Rattle.mseed_steim.specs.Lanes.{total, span}
+use Rattle.mseed_steim.specs.Sums.{fits, fold, one_more}
+use Rattle.mseed_steim.proofs.Folds.{fold_add}
+
+pub abs_sum : (a b : ℤ) → nat_abs (a +ℤ b) ≤ nat_abs a + nat_abs b
+abs_sum (pos a) (pos b) = omega arith
+abs_sum (pos a) (negsuc b) = omega (arith, ints)
+abs_sum (negsuc a) (pos b) = omega (arith, ints)
+abs_sum (negsuc a) (negsuc b) = omega arith
+
+near_fits : (z : ℤ) → nat_abs z < 2 ^ 31 → fits z ≡ true
+near_fits (pos n) h = lt-ltb n (2 ^ 31) (omega (arith, h))
+near_fits (negsuc n) h = lt-ltb n (2 ^ 31) (omega (arith, h))
+
+pub total_near : (ds : List ℤ) → nat_abs (total ds) ≤ span ds
+total_near [] = omega arith
+total_near (d ∷ ds) = let later = total_near ds in omega (arith, later, abs_sum d (total ds))
+
+pub fold_far : (n : ℕ) (ds : List ℤ) (s : Sum) (more : List (Result ℤ BadWordAt)) → 0 < s.met → s.met + length ds ≤ n → nat_abs s.last + span ds < 2 ^ 31
+    → fold n s (map Ok ds ++ more) ≡ fold n (record { met = s.met + length ds; last = s.last +ℤ total ds }) more
+fold_far n [] s more some room far =
+    let met : s.met + 0 ≡ s.met = omega arith in
+    let last : s.last +ℤ pos 0 ≡ s.last = omega (arith, ints) in
+    rw (met, last) refl
+fold_far n (d ∷ ds) s more some room far =
+    let near = abs_sum s.last d in
+    let met : s.met + 1 + length ds ≡ s.met + length (d ∷ ds) = omega arith in
+    let last : (s.last +ℤ d) +ℤ total ds ≡ s.last +ℤ total (d ∷ ds) = omega (arith, ints) in
+    fold_add n s d (map Ok ds ++ more) (omega arith) some (near_fits (s.last +ℤ d) (omega (arith, near)))
+    ∙ (rw (met, last) at (fold_far n ds (one_more s (s.last +ℤ d)) more (omega arith) (omega arith) (omega (arith, near))))
+
+pub near_signed : (z : ℤ) → nat_abs z < 2 ^ 31 → FitsSigned w32 z
+near_signed (pos n) h = record { sfits = omega (arith, h) }
+near_signed (negsuc n) h = record { sfits = omega (arith, h) }

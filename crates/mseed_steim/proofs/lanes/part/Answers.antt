@@ -1,0 +1,21 @@
+use Rattle.std.proofs.Common.{◌∙◌, ap, length, arith, get_or}
+use Rattle.std.proofs.lemmas.Simd.{dot4_Fits, length-zip2}
+use Rattle.std.specs.Int.Bits.{bit_and}
+use Rattle.mseed_steim.specs.Lanes.{words}
+use Rattle.mseed_steim.proofs.LaneTables.{more_below, and_fits, length_of_table}
+use Rattle.mseed_steim.proofs.LaneSums.{kept_words, table_words, weighed_words}
+use Rattle.mseed_steim.proofs.lanes.part.Goals as goal
+
+pub dot4 : goal.dot4
+dot4 c =
+    let small = c.look_up-2.ensures.below 65 c.requires.long c.requires.weight in
+    (dot4_Fits _ _ (and_fits c.args.plane c.look_up.result c.fits-plane.1) small, more_below 65 128 (omega arith) c.look_up-2.result small)
+
+pub returns : goal.returns
+returns c = λ byte row e f.
+    let l = ap length c.look_up.ensures.value ∙ length_of_table (λ r. get_or c.args.mask r 0) c.args.rows c.fits-rows.0 in
+    let m = ap length c.look_up-2.ensures.value ∙ length_of_table (λ r. get_or c.args.weight r 0) c.args.rows c.fits-rows.0 in
+    weighed_words _ c.look_up-2.result _ _ words
+    (length-zip2 bit_and c.args.plane c.look_up.result (omega (arith, l, c.fits-plane.0)) ∙ c.fits-plane.0) m
+    (kept_words c.args.plane c.look_up.result c.args.rows c.args.mask byte row words c.look_up.ensures.value e f)
+    (table_words c.look_up-2.result c.args.rows c.args.weight row words c.look_up-2.ensures.value f)

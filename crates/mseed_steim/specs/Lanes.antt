@@ -1,0 +1,159 @@
+-- The sixteen words of a frame, as they stand in lanes: what a word adds by its row, and by which parts of its bytes.
+use Rattle.std.specs.Prelude.{◌≡◌, ◌⊎◌, ℕ, ℤ, pos, ◌+ℤ◌, ◌+◌, ◌-◌, ◌*◌, ◌/◌, ◌%◌, ◌^◌, nat_lt, if◌then◌else◌, nat_abs, List, [], ◌∷◌, slice_index, bit_and, bit_xor}
+use Rattle.mseed_steim.specs.Digits.{digits}
+
+-- the word of four bytes
+abbrev pub word_of : ℕ → ℕ → ℕ → ℕ → ℕ
+word_of a b c d = a * 16777216 + b * 65536 + c * 256 + d
+
+-- the sum of some differences
+abbrev pub total : List ℤ → ℤ
+total [] = pos 0
+total (x ∷ xs) = x +ℤ total xs
+
+-- the sum of what they are without their signs: no sum of some of them is further from 0
+abbrev pub span : List ℤ → ℕ
+span [] = 0
+span (x ∷ xs) = nat_abs x + span xs
+
+-- the places of a frame's words
+unfoldable pub words : List ℕ
+words = 0 ∷ 1 ∷ 2 ∷ 3 ∷ 4 ∷ 5 ∷ 6 ∷ 7 ∷ 8 ∷ 9 ∷ 10 ∷ 11 ∷ 12 ∷ 13 ∷ 14 ∷ 15 ∷ []
+
+-- a byte of a word
+abbrev pub byte_at : List ℕ → ℕ → ℕ → ℕ
+byte_at frame place word = slice_index frame (4 * word + place)
+
+abbrev pub word_at : List ℕ → ℕ → ℕ
+word_at frame word = word_of (byte_at frame 0 word) (byte_at frame 1 word) (byte_at frame 2 word) (byte_at frame 3 word)
+
+-- the code of a word: two bits of the first word
+abbrev pub code_at : List ℕ → ℕ → ℕ
+code_at frame word = word_at frame 0 / 2 ^ (30 - 2 * word) % 4
+
+-- the same, where the words before the first that is added have none
+abbrev pub code_from : List ℕ → ℕ → ℕ → ℕ
+code_from frame from word = if nat_lt word from then 0 else code_at frame word
+
+-- the row of a word: its code, and its top two bits
+abbrev pub row_at : List ℕ → ℕ → ℕ → ℕ
+row_at frame from word = 4 * code_from frame from word + word_at frame word / 2 ^ 30
+
+-- which bits of the codes count, by the word that is the first to be added: word 1, or word 4
+abbrev pub Begins : List ℕ → ℕ → Type 0
+Begins begin from =
+    ((from ≡ 1) × (begin ≡ 0 ∷ 48 ∷ 12 ∷ 3 ∷ 192 ∷ 48 ∷ 12 ∷ 3 ∷ 192 ∷ 48 ∷ 12 ∷ 3 ∷ 192 ∷ 48 ∷ 12 ∷ 3 ∷ []))
+    ⊎ ((from ≡ 4) × (begin ≡ 0 ∷ 0 ∷ 0 ∷ 0 ∷ 192 ∷ 48 ∷ 12 ∷ 3 ∷ 192 ∷ 48 ∷ 12 ∷ 3 ∷ 192 ∷ 48 ∷ 12 ∷ 3 ∷ []))
+
+-- the numbers of a table that holds the groups of Steim-2 alone
+abbrev pub table_two : ℕ → ℕ → ℕ → ℕ → ℕ → ℕ → List ℕ
+table_two a b c d e f = 0 ∷ 0 ∷ 0 ∷ 0 ∷ a ∷ a ∷ a ∷ a ∷ 0 ∷ 0 ∷ b ∷ c ∷ d ∷ e ∷ f ∷ 0 ∷ []
+
+-- how many differences a word of a row has; 128 where it is bad or has one of 30 bits
+unfoldable pub counts_two : List ℕ
+counts_two = 0 ∷ 0 ∷ 0 ∷ 0 ∷ 4 ∷ 4 ∷ 4 ∷ 4 ∷ 128 ∷ 128 ∷ 2 ∷ 3 ∷ 5 ∷ 6 ∷ 7 ∷ 128 ∷ []
+
+-- and of how many bits
+unfoldable pub widths_two : List ℕ
+widths_two = table_two 8 15 10 6 5 4
+
+-- a word's differences
+abbrev pub differences_two : List ℕ → ℕ → ℕ → List ℤ
+differences_two frame from word =
+    digits (slice_index widths_two (row_at frame from word)) (word_at frame word) (slice_index counts_two (row_at frame from word))
+
+-- their sum
+abbrev pub moved_two : List ℕ → ℕ → ℕ → ℤ
+moved_two frame from word = total (differences_two frame from word)
+
+-- how far they go in all, up and down
+abbrev pub spanned_two : List ℕ → ℕ → ℕ → ℕ
+spanned_two frame from word = span (differences_two frame from word)
+
+-- what a byte's part counts for
+abbrev pub kept : List ℕ → List ℕ → ℕ → ℕ → ℕ
+kept mask weight row byte = bit_and byte (slice_index mask row) * slice_index weight row
+
+abbrev pub kept_by : List ℕ → ℕ → ℕ → ℕ → ℕ
+kept_by mask weight row byte = bit_and byte (slice_index mask row) * weight
+
+abbrev pub turned : List ℕ → ℕ → ℕ → ℕ
+turned table row byte = bit_xor byte (slice_index table row)
+
+-- by a word's row and bytes: what counts for less than 1, 128-fold
+unfoldable pub fine_two : ℕ → ℕ → ℕ → ℕ → ℕ → ℕ
+fine_two row a b c d =
+    kept_by (table_two 0 0 0 0 62 0) 64 row a + kept (table_two 0 0 240 252 240 240) (table_two 0 0 8 32 8 8) row b
+    + kept (table_two 0 0 252 240 124 240) (table_two 0 0 32 8 32 8) row c + kept_by (table_two 0 128 0 0 128 0) 1 row c
+    + kept (table_two 0 0 0 192 224 240) (table_two 0 0 0 2 4 8) row d
+
+unfoldable pub ones_two : ℕ → ℕ → ℕ → ℕ → ℕ → ℕ
+ones_two row a b c d =
+    kept (table_two 255 0 63 63 1 15) (table_two 1 0 16 1 16 1) row a + kept (table_two 255 255 15 3 15 15) (table_two 1 2 64 16 2 1) row b
+    + kept (table_two 255 0 0 15 3 15) (table_two 1 0 0 4 8 1) row c + kept_by (table_two 255 255 255 63 31 15) 1 row d
+
+-- what counts 256-fold
+unfoldable pub coarse_two : ℕ → ℕ → ℕ → ℕ → ℕ → ℕ
+coarse_two row a b c d = kept_by (table_two 0 63 0 0 0 0) 2 row a + kept_by (table_two 0 127 3 0 0 0) 1 row c
+
+unfoldable pub turned_a : ℕ → ℕ → ℕ
+turned_a row a = turned (table_two 128 32 32 32 33 8) row a
+
+unfoldable pub turned_b : ℕ → ℕ → ℕ
+turned_b row b = turned (table_two 128 0 8 130 8 136) row b
+
+unfoldable pub turned_c : ℕ → ℕ → ℕ
+turned_c row c = turned (table_two 128 64 2 8 66 136) row c
+
+unfoldable pub turned_d : ℕ → ℕ → ℕ
+turned_d row d = turned (table_two 128 0 0 32 16 136) row d
+
+unfoldable pub least_two : ℕ → ℕ
+least_two row = slice_index (table_two 64 0 192 20 12 7) row
+
+unfoldable pub least_coarse_two : ℕ → ℕ
+least_coarse_two row = slice_index (table_two 0 128 0 0 0 0) row
+
+-- the sum over some words
+abbrev pub sum_z : List ℤ → ℤ
+sum_z [] = pos 0
+sum_z (x ∷ xs) = x +ℤ sum_z xs
+
+-- a table of 4x8, and of 2x16
+abbrev pub table_one : ℕ → ℕ → List ℕ
+table_one a b = 0 ∷ 0 ∷ 0 ∷ 0 ∷ a ∷ a ∷ a ∷ a ∷ b ∷ b ∷ b ∷ b ∷ 0 ∷ 0 ∷ 0 ∷ 0 ∷ []
+
+-- how many differences a word of a row has; 128 where it has one of 32 bits
+unfoldable pub counts_one : List ℕ
+counts_one = 0 ∷ 0 ∷ 0 ∷ 0 ∷ 4 ∷ 4 ∷ 4 ∷ 4 ∷ 2 ∷ 2 ∷ 2 ∷ 2 ∷ 128 ∷ 128 ∷ 128 ∷ 128 ∷ []
+
+unfoldable pub widths_one : List ℕ
+widths_one = table_one 8 16
+
+abbrev pub differences_one : List ℕ → ℕ → ℕ → List ℤ
+differences_one frame from word =
+    digits (slice_index widths_one (row_at frame from word)) (word_at frame word) (slice_index counts_one (row_at frame from word))
+
+-- their sum
+abbrev pub moved_one : List ℕ → ℕ → ℕ → ℤ
+moved_one frame from word = total (differences_one frame from word)
+
+-- how far they go in all, up and down
+abbrev pub spanned_one : List ℕ → ℕ → ℕ → ℕ
+spanned_one frame from word = span (differences_one frame from word)
+
+unfoldable pub low_one : ℕ → ℕ → ℕ → ℕ → ℕ → ℕ
+low_one row a b c d =
+    kept_by (table_one 255 0) 1 row a + kept_by (table_one 255 255) 1 row b + kept_by (table_one 255 0) 1 row c + kept_by (table_one 255 255) 1 row d
+
+unfoldable pub high_one : ℕ → ℕ → ℕ → ℕ → ℕ → ℕ
+high_one row a b c d = kept_by (table_one 0 255) 1 row a + kept_by (table_one 0 255) 1 row c
+
+unfoldable pub flipped : ℕ → ℕ → ℕ
+flipped row byte = turned (table_one 128 128) row byte
+
+unfoldable pub flipped_low : ℕ → ℕ → ℕ
+flipped_low row byte = turned (table_one 128 0) row byte
+
+unfoldable pub least_one : ℕ → ℕ
+least_one row = slice_index (table_one 1 128) row
