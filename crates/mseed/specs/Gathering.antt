@@ -4,24 +4,24 @@ use Rattle.mseed_record.specs.View.{View}
 use Rattle.mseed_stream.specs.Device.{Heard, Said, IsFrontOf}
 use Rattle.mseed_stream.specs.declared.fault.StreamFault.{StreamFault}
 use Rattle.mseed.specs.Listing.{record_lines}
-use Rattle.mseed_audit.specs.Archive.{AreViews, IsEnd}
+use Rattle.mseed_stream.specs.Walk.{AreViews, IsEnd}
 use Rattle.mseed.specs.Show.{IsShown}
 use Rattle.mseed.specs.declared.ending.ShowFault.{ShowFault}
 use Rattle.mseed.specs.declared.ending.ShowFault.TheVariants.{Write, Memory}
 
 -- a front of some text was written before the fault, which is the output's where the output failed
-abbrev pub IsWritten : ShowFault → Said → Said → List ℕ → Type 0
-IsWritten Write old new text = (old.failures < new.failures) × IsFrontOf new.bytes (old.bytes ++ text)
-IsWritten Memory old new text = (new.failures ≡ old.failures) × IsFrontOf new.bytes (old.bytes ++ text)
+abbrev pub IsFrontWritten : ShowFault → Said → Said → List ℕ → Type 0
+IsFrontWritten Write old new text = (old.failures < new.failures) × IsFrontOf new.bytes (old.bytes ++ text)
+IsFrontWritten Memory old new text = (new.failures ≡ old.failures) × IsFrontOf new.bytes (old.bytes ++ text)
 
 -- the lines of the records up to the end were written or are gathered
-pub record AreGathered (records : ℕ) (end : Option StreamFault) (h : Heard) (old new : Said) (text : List ℕ) (place : ℕ) (views : List View) : Type 0 where
-  pub shown : AreViews h.bytes place views
-  pub ends : IsEnd end place h
+pub record HasLines (records : ℕ) (end : Option StreamFault) (h : Heard) (old new : Said) (text : List ℕ) (offset : ℕ) (views : List View) : Type 0 where
+  pub shown : AreViews h.bytes offset views
+  pub ends : IsEnd end offset h
   pub lines : new.bytes ++ text ≡ old.bytes ++ record_lines 0 views
   pub fine : new.failures ≡ old.failures
   pub number : records ≡ length views
 
-abbrev pub IsGathered : Result (ℕ × Option StreamFault) ShowFault → Heard → Said → Said → List ℕ → Type 0
-IsGathered (Ok found) h old new text = (place : ℕ) × ((views : List View) × AreGathered found.0 found.1 h old new text place views)
-IsGathered (Err fault) h old new text = IsShown (Err fault) h old new
+abbrev pub IsListing : Result (ℕ × Option StreamFault) ShowFault → Heard → Said → Said → List ℕ → Type 0
+IsListing (Ok found) h old new text = (offset : ℕ) × ((views : List View) × HasLines found.0 found.1 h old new text offset views)
+IsListing (Err fault) h old new text = IsShown (Err fault) h old new

@@ -42,8 +42,8 @@ order_word Big = codes " big"
 order_word Little = codes " little"
 
 -- the words of a record's line, a few at a time
-abbrev pub place_words : ℕ → View → List ℕ
-place_words offset v = decimal offset ++ codes " " ++ name_text (key_at v.bytes)
+abbrev pub offset_words : ℕ → View → List ℕ
+offset_words offset v = decimal offset ++ codes " " ++ name_text (key_at v.bytes)
 
 abbrev pub size_words : View → List ℕ
 size_words v =
@@ -61,12 +61,12 @@ payload_words v = codes " encoding " ++ decimal v.encoding ++ order_word v.paylo
 
 -- a record's line, by where it begins
 abbrev pub record_line : ℕ → View → List ℕ
-record_line offset v = place_words offset v ++ size_words v ++ time_words v ++ payload_words v
+record_line offset v = offset_words offset v ++ size_words v ++ time_words v ++ payload_words v
 
--- the lines of records that stand one behind another from a place on
+-- the lines of records that stand one behind another from an offset on
 abbrev pub record_lines : ℕ → List View → List ℕ
-record_lines place [] = []
-record_lines place (v ∷ vs) = record_line place v ++ record_lines (place + length v.bytes) vs
+record_lines offset [] = []
+record_lines offset (v ∷ vs) = record_line offset v ++ record_lines (offset + length v.bytes) vs
 
 -- how many records there are
 abbrev pub count_line : ℕ → List ℕ

@@ -3,7 +3,7 @@ use Rattle.std.specs.Prelude.{◌≡◌, ◌⊎◌, ℕ, ◌<◌, List, ◌++◌
 use Rattle.mseed_record.specs.View.{View}
 use Rattle.mseed_stream.specs.Device.{Heard, Said, IsFrontOf}
 use Rattle.mseed_stream.specs.declared.fault.StreamFault.{StreamFault}
-use Rattle.mseed_audit.specs.Archive.{AreViews, IsEnd}
+use Rattle.mseed_stream.specs.Walk.{AreViews, IsEnd}
 use Rattle.mseed_audit.specs.Text.{end_line}
 use Rattle.mseed.specs.Listing.{record_lines, count_line}
 use Rattle.mseed.specs.declared.ending.ShowFault.{ShowFault}
@@ -14,20 +14,20 @@ abbrev pub show_text : List View → Option StreamFault → List ℕ
 show_text views end = record_lines 0 views ++ count_line (length views) ++ end_line end
 
 -- the whole text was written
-pub record IsListed (end : Option StreamFault) (h : Heard) (old new : Said) (place : ℕ) (views : List View) : Type 0 where
-  pub shown : AreViews h.bytes place views
-  pub ends : IsEnd end place h
+pub record IsListed (end : Option StreamFault) (h : Heard) (old new : Said) (offset : ℕ) (views : List View) : Type 0 where
+  pub shown : AreViews h.bytes offset views
+  pub ends : IsEnd end offset h
   pub text : new.bytes ≡ old.bytes ++ show_text views end
   pub fine : new.failures ≡ old.failures
 
 -- a front of the text was written: of the lines of some records, or of the whole
-pub record IsCutShort (h : Heard) (old new : Said) (place : ℕ) (views : List View) : Type 0 where
-  pub shown : AreViews h.bytes place views
+pub record IsCutShort (h : Heard) (old new : Said) (offset : ℕ) (views : List View) : Type 0 where
+  pub shown : AreViews h.bytes offset views
   pub front : IsFrontOf new.bytes (old.bytes ++ record_lines 0 views)
-      ⊎ ((end : Option StreamFault) × (IsEnd end place h × IsFrontOf new.bytes (old.bytes ++ show_text views end)))
+      ⊎ ((end : Option StreamFault) × (IsEnd end offset h × IsFrontOf new.bytes (old.bytes ++ show_text views end)))
 
 -- by the outcome
 abbrev pub IsShown : Result (Option StreamFault) ShowFault → Heard → Said → Said → Type 0
-IsShown (Ok end) h old new = (place : ℕ) × ((views : List View) × IsListed end h old new place views)
-IsShown (Err Write) h old new = (old.failures < new.failures) × ((place : ℕ) × ((views : List View) × IsCutShort h old new place views))
-IsShown (Err Memory) h old new = (new.failures ≡ old.failures) × ((place : ℕ) × ((views : List View) × IsCutShort h old new place views))
+IsShown (Ok end) h old new = (offset : ℕ) × ((views : List View) × IsListed end h old new offset views)
+IsShown (Err Write) h old new = (old.failures < new.failures) × ((offset : ℕ) × ((views : List View) × IsCutShort h old new offset views))
+IsShown (Err Memory) h old new = (new.failures ≡ old.failures) × ((offset : ℕ) × ((views : List View) × IsCutShort h old new offset views))

@@ -1,7 +1,7 @@
 //! The lines of a listing.
 ghost use Rattle.std.specs.Prelude.{◌≡◌, ◌++◌, OnOk, codes};
 ghost use Rattle.mseed_record.specs.Viewing.{view_of};
-ghost use Rattle.mseed.specs.Listing.{record_line, place_words, size_words, time_words, payload_words, count_line};
+ghost use Rattle.mseed.specs.Listing.{record_line, offset_words, size_words, time_words, payload_words, count_line};
 ghost use Rattle.mseed.specs.Listing.{start_text, rate_text, time_fault_words, order_word, last_words};
 
 use mseed_audit::Part::{Count, Words};
@@ -18,7 +18,7 @@ pub fn push_record_line<A: Allocator>(
 ) -> Result<(), AllocError>
     ensures { OnOk result (text.new.items ≡ text.old.items ++ record_line offset (view_of view.now)) }
 {
-    push_place(text, offset, view)?;
+    push_offset(text, offset, view)?;
     push_size(text, view)?;
     push_times(text, view)?;
     push_payload(text, view)
@@ -32,12 +32,12 @@ pub fn push_count_line<A: Allocator>(text: &mut Vec<u8, A>, records: u64) -> Res
 }
 
 /// Adds where a record begins, and its channel's name.
-fn push_place<A: Allocator>(
+fn push_offset<A: Allocator>(
     text: &mut Vec<u8, A>,
     offset: u64,
     view: &RecordView,
 ) -> Result<(), AllocError>
-    ensures { OnOk result (text.new.items ≡ text.old.items ++ place_words offset (view_of view.now)) }
+    ensures { OnOk result (text.new.items ≡ text.old.items ++ offset_words offset (view_of view.now)) }
 {
     push_parts(text, &[Count(offset), Words(b" ")])?;
     push_name(text, &view.codes())

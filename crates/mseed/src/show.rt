@@ -5,7 +5,7 @@ ghost use Rattle.mseed_stream.specs.Device.{nothing_heard, IsFrontOf};
 ghost use Rattle.mseed.specs.Listing.{record_line, count_line};
 ghost use Rattle.mseed_audit.specs.Text.{end_line};
 ghost use Rattle.mseed.specs.Show.{IsShown};
-ghost use Rattle.mseed.specs.Gathering.{IsWritten, IsGathered};
+ghost use Rattle.mseed.specs.Gathering.{IsFrontWritten, IsListing};
 
 use crate::ending::ShowFault;
 use crate::listing::{push_count_line, push_record_line};
@@ -46,7 +46,7 @@ fn list<A: Allocator + Copy, R: Source, W: Sink>(
 ) -> Result<(u64, Option<StreamFault>), ShowFault>
     requires heard { R.heard input.old ≡ nothing_heard }
     requires text { text.old.items ≡ [] }
-    ensures { IsGathered result (R.heard input.new) (W.said output.old) (W.said output.new) text.new.items }
+    ensures { IsListing result (R.heard input.new) (W.said output.old) (W.said output.new) text.new.items }
 {
     let mut cutter = Cutter::new(alloc);
     let mut records = 0;
@@ -72,7 +72,8 @@ fn list_record<A: Allocator, W: Sink>(
     ensures ok { OnOk result ((W.said output.new).bytes ++ text.new.items
         ≡ ((W.said output.old).bytes ++ text.old.items) ++ record_line offset (view_of view.now)) }
     ensures fine { OnOk result ((W.said output.new).failures ≡ (W.said output.old).failures) }
-    ensures err { IfErr result (λ fault. IsWritten fault (W.said output.old) (W.said output.new) (text.old.items ++ record_line offset (view_of view.now))) }
+    ensures err { IfErr result (λ fault. IsFrontWritten fault (W.said output.old) (W.said output.new)
+        (text.old.items ++ record_line offset (view_of view.now))) }
 {
     push_record_line(text, offset, view)?;
     if text.len() >= GATHERED {
@@ -102,7 +103,7 @@ fn write_out<A: Allocator, W: Sink>(output: &mut W, text: &mut Vec<u8, A>) -> Re
     ensures ok { OnOk result ((W.said output.new).bytes ≡ (W.said output.old).bytes ++ text.old.items) }
     ensures text { OnOk result (text.new.items ≡ []) }
     ensures fine { OnOk result ((W.said output.new).failures ≡ (W.said output.old).failures) }
-    ensures err { IfErr result (λ fault. IsWritten fault (W.said output.old) (W.said output.new) text.old.items) }
+    ensures err { IfErr result (λ fault. IsFrontWritten fault (W.said output.old) (W.said output.new) text.old.items) }
 {
     match write_all_of(output, text) {
         Ok(()) => {

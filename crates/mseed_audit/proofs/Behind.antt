@@ -16,8 +16,8 @@ use Rattle.mseed_audit.proofs.More.{placed_at, records_more}
 
 -- where the last of them ends
 abbrev pub end_of : ℕ → List View → ℕ
-end_of place [] = place
-end_of place (v ∷ vs) = end_of (place + length v.bytes) vs
+end_of offset [] = offset
+end_of offset (v ∷ vs) = end_of (offset + length v.bytes) vs
 
 -- a record has at most 2 ^ 20 bytes
 pub few_bytes : (v : View) → IsView v → length v.bytes ≤ 2 ^ 20
@@ -25,19 +25,19 @@ few_bytes v is =
     let by = is.1.1.1.record_is in
     subst (λ (n : ℕ). n ≤ 2 ^ 20) (sym by.size) (pow-le-pow_right {n = 2} (omega arith) by.exponent_high)
 
-end_more : (place : ℕ) (vs : List View) (v : View) → end_of place (vs ++ v ∷ []) ≡ end_of place vs + length v.bytes
-end_more place [] v = refl
-end_more place (w ∷ vs) v = end_more (place + length w.bytes) vs v
+end_more : (offset : ℕ) (vs : List View) (v : View) → end_of offset (vs ++ v ∷ []) ≡ end_of offset vs + length v.bytes
+end_more offset [] v = refl
+end_more offset (w ∷ vs) v = end_more (offset + length w.bytes) vs v
 
-behind : (place : ℕ) (vs : List View) (v : View) → added_from place (vs ++ v ∷ []) ≡ added_from place vs ++ record { view = v; offset = end_of place vs } ∷ []
-behind place [] v = refl
-behind place (w ∷ vs) v =
-    let here : Added = record { view = w; offset = place } in
-    ap (λ (xs : List Added). here ∷ xs) (behind (place + length w.bytes) vs v)
+behind : (offset : ℕ) (vs : List View) (v : View) → added_from offset (vs ++ v ∷ []) ≡ added_from offset vs ++ record { view = v; offset = end_of offset vs } ∷ []
+behind offset [] v = refl
+behind offset (w ∷ vs) v =
+    let here : Added = record { view = w; offset = offset } in
+    ap (λ (xs : List Added). here ∷ xs) (behind (offset + length w.bytes) vs v)
 
-as_many : (place : ℕ) (vs : List View) → length (added_from place vs) ≡ length vs
-as_many place [] = refl
-as_many place (v ∷ vs) = omega (arith, as_many (place + length v.bytes) vs)
+as_many : (offset : ℕ) (vs : List View) → length (added_from offset vs) ≡ length vs
+as_many offset [] = refl
+as_many offset (v ∷ vs) = omega (arith, as_many (offset + length v.bytes) vs)
 
 -- the channel's records with one more record behind all
 one_behind : (key : List ℕ) (vs : List View) (v : View) → records_of key (added_from 0 (vs ++ v ∷ []))
@@ -112,10 +112,10 @@ either : (b : Bool) (p : Placed) (ps : List Placed) (vs : List View) → views_i
 either true p ps vs e = ap (λ (ws : List View). p.view ∷ ws) e
 either false p ps vs e = e
 
-views_from : (key : List ℕ) (n place : ℕ) (vs : List View) → views_in (filter (λ p. is_of key p.view) (numbered n (added_from place vs))) ≡ filter (is_of key) vs
-views_from key n place [] = refl
-views_from key n place (v ∷ vs) = either (is_of key v) (record { view = v; offset = place; number = n }) (filter (λ p. is_of key p.view) (numbered (n + 1) (added_from (place + length v.bytes) vs)))
-    (filter (is_of key) vs) (views_from key (n + 1) (place + length v.bytes) vs)
+views_from : (key : List ℕ) (n offset : ℕ) (vs : List View) → views_in (filter (λ p. is_of key p.view) (numbered n (added_from offset vs))) ≡ filter (is_of key) vs
+views_from key n offset [] = refl
+views_from key n offset (v ∷ vs) = either (is_of key v) (record { view = v; offset = offset; number = n }) (filter (λ p. is_of key p.view) (numbered (n + 1) (added_from (offset + length v.bytes) vs)))
+    (filter (is_of key) vs) (views_from key (n + 1) (offset + length v.bytes) vs)
 
 pub views_are : (key : List ℕ) (vs : List View) → views_in (records_of key (added_from 0 vs)) ≡ filter (is_of key) vs
 views_are key vs = views_from key 1 0 vs

@@ -11,23 +11,23 @@ use Rattle.mseed_audit.specs.Audit.{Held, IsAuditOf}
 use Rattle.mseed_audit.specs.Text.{audit_text}
 use Rattle.mseed_audit.specs.Summary.{Audited, text_of, broken_count, IsSummary, IsWritten, IsCutOff, IsGathered}
 
-added_length : (place : ℕ) (views : List View) → length (added_from place views) ≡ length views
-added_length place [] = refl
-added_length place (v ∷ views) = ap suc (added_length (place + length v.bytes) views)
+added_length : (offset : ℕ) (views : List View) → length (added_from offset views) ≡ length views
+added_length offset [] = refl
+added_length offset (v ∷ views) = ap suc (added_length (offset + length v.bytes) views)
 
 -- what was gathered, and the verdicts on it
 pub record HasVerdicts (held : Held) (end : Option StreamFault) (h : Heard) (verdicts : List (List ℕ × Verdict)) : Type 0 where
-  pub place : ℕ
+  pub offset : ℕ
   pub views : List View
-  pub gathered : IsGathered held end h place views
+  pub gathered : IsGathered held end h offset views
   pub are_verdicts : AreVerdicts (added_from 0 views) verdicts
 
-pub with_verdicts : (held : Held) (end : Option StreamFault) (h : Heard) (verdicts : List (List ℕ × Verdict)) → (place : ℕ) × ((views : List View) × IsGathered held end h place views)
+pub with_verdicts : (held : Held) (end : Option StreamFault) (h : Heard) (verdicts : List (List ℕ × Verdict)) → (offset : ℕ) × ((views : List View) × IsGathered held end h offset views)
     → ((added : List Added) → IsAuditOf held added → AreVerdicts added verdicts) → HasVerdicts held end h verdicts
-with_verdicts held end h verdicts found are = record { place = found.0; views = found.1.0; gathered = found.1.1; are_verdicts = are (added_from 0 found.1.0) found.1.1.audit }
+with_verdicts held end h verdicts found are = record { offset = found.0; views = found.1.0; gathered = found.1.1; are_verdicts = are (added_from 0 found.1.0) found.1.1.audit }
 
 abbrev pub audited : (held : Held) (end : Option StreamFault) (h : Heard) (verdicts : List (List ℕ × Verdict)) → HasVerdicts held end h verdicts → Audited h
-audited held end h verdicts f = record { place = f.place; views = f.views; end = end; verdicts = verdicts; records = f.gathered.records; ends = f.gathered.ends; are_verdicts = f.are_verdicts }
+audited held end h verdicts f = record { offset = f.offset; views = f.views; end = end; verdicts = verdicts; records = f.gathered.records; ends = f.gathered.ends; are_verdicts = f.are_verdicts }
 
 count_is : (held : Held) (end : Option StreamFault) (h : Heard) (verdicts : List (List ℕ × Verdict)) (f : HasVerdicts held end h verdicts) → held.added ≡ length f.views
 count_is held end h verdicts f = f.gathered.audit.number ∙ added_length 0 f.views

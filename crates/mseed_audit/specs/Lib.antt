@@ -1,4 +1,3 @@
-pub mod Archive
 pub mod Audit
 pub mod Channels
 pub mod Follows

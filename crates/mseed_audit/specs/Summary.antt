@@ -8,7 +8,7 @@ use Rattle.mseed_audit.specs.declared.verdict.Verdict.TheVariants.{Continuous, B
 use Rattle.mseed_audit.specs.declared.archive.Summary.{Summary}
 use Rattle.mseed_audit.specs.declared.archive.AuditFault.{AuditFault}
 use Rattle.mseed_audit.specs.declared.archive.AuditFault.TheVariants.{Write, Memory}
-use Rattle.mseed_audit.specs.Archive.{AreViews, IsEnd}
+use Rattle.mseed_stream.specs.Walk.{AreViews, IsEnd}
 use Rattle.mseed_audit.specs.Channels.{added_from}
 use Rattle.mseed_audit.specs.Verdict.{AreVerdicts}
 use Rattle.mseed_audit.specs.Audit.{Held, IsAuditOf}
@@ -16,12 +16,12 @@ use Rattle.mseed_audit.specs.Text.{audit_text}
 
 -- what was heard is these records and this end behind them, and these are the verdicts on the channels
 pub record Audited (h : Heard) : Type 0 where
-  pub place : ℕ
+  pub offset : ℕ
   pub views : List View
   pub end : Option StreamFault
   pub verdicts : List (List ℕ × Verdict)
-  pub records : AreViews h.bytes place views
-  pub ends : IsEnd end place h
+  pub records : AreViews h.bytes offset views
+  pub ends : IsEnd end offset h
   pub are_verdicts : AreVerdicts (added_from 0 views) verdicts
 
 abbrev pub text_of : {h : Heard} → Audited h → List ℕ
@@ -58,7 +58,7 @@ IsOutcome (Err (Write taken)) h old new = (a : Audited h) × IsCutOff taken a ol
 IsOutcome (Err Memory) h old new = new ≡ old
 
 -- the records up to the end were added
-pub record IsGathered (held : Held) (end : Option StreamFault) (h : Heard) (place : ℕ) (views : List View) : Type 0 where
-  pub records : AreViews h.bytes place views
-  pub ends : IsEnd end place h
+pub record IsGathered (held : Held) (end : Option StreamFault) (h : Heard) (offset : ℕ) (views : List View) : Type 0 where
+  pub records : AreViews h.bytes offset views
+  pub ends : IsEnd end offset h
   pub audit : IsAuditOf held (added_from 0 views)

@@ -14,7 +14,7 @@ use Rattle.mseed_audit.specs.Channels.{Added, Placed, same_key, records_of, samp
 use Rattle.mseed_audit.specs.Follows.{IsContinuous}
 use Rattle.mseed_audit.specs.Judging.{IsFound}
 
--- a record's finding, if it has one, with the record's number and place
+-- a record's finding, if it has one, with the record's number and offset
 abbrev pub finding_at : Placed → Option Why → List Finding
 finding_at p None = []
 finding_at p (Some why) = record { number = p.number; offset = p.offset; why = why } ∷ []

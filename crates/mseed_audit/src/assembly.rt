@@ -1,5 +1,6 @@
 //! The series of a channel, put together from its records.
-ghost use Rattle.std.specs.Prelude.{◌≡◌, ◌<◌, ◌+◌, ◌^◌, ◌∷◌, ◌++◌, [], List, ℕ, ℤ, IfSome, IfErr, OnOk, IfOk, length, map};
+ghost use Rattle.std.specs.Prelude.{◌≡◌, ◌<◌, ◌+◌, ◌^◌, ◌∷◌, ◌++◌, [], List, ℕ, ℤ, IfSome, IfErr, OnOk, IfOk, length};
+ghost use Rattle.std.specs.Prelude.{map};
 ghost use Rattle.std.specs.List.{filter, AllByRecursion};
 ghost use Rattle.mseed_time.specs.declared.rate.Rate.{Rate};
 ghost use Rattle.mseed_record.specs.View.{View};
@@ -13,9 +14,9 @@ ghost use Rattle.mseed_audit.specs.Series.{HoldsAll, IsSeries};
 ghost use Rattle.mseed_audit.specs.Follows.{IsSound};
 
 use crate::channel::Channel;
+use crate::channel_series::Series;
 use crate::finding::Finding;
 use crate::law::continuous_exactly;
-use crate::channel_series::Series;
 use crate::verdict::Verdict;
 use mseed_record::{Codes, Leap, RecordView};
 use mseed_steim::read_samples;
@@ -88,8 +89,10 @@ fn channel_with(
 ) -> Option<Channel>
     requires { IfSome channel (λ c. IsBounded (2 ^ 40) c.verdict) }
     ensures stands { (ps : List Placed) → StandsAt channel ps
-        → StandsAt result (with_record codes.now ps (record { view = view_of view.now; offset = offset; number = number })) }
-    ensures bounded { (n : ℕ) → IfSome channel (λ c. IsBounded n c.verdict) → IfSome result (λ c. IsBounded (n + 1) c.verdict) }
+        → StandsAt result (with_record codes.now ps
+        (record { view = view_of view.now; offset = offset; number = number })) }
+    ensures bounded { (n : ℕ) → IfSome channel (λ c. IsBounded n c.verdict)
+        → IfSome result (λ c. IsBounded (n + 1) c.verdict) }
 {
     if !is_of(codes, view) {
         return channel;
@@ -120,7 +123,8 @@ fn assemble<A: Allocator + Copy>(
     count: u64,
 ) -> Result<Series<A>, NotContinuous>
     requires { AllByRecursion IsSound (filter (is_of codes.now) (map view_of views.now)) }
-    ensures holds { IfOk result (λ s. HoldsAll codes.now start rate (filter (is_of codes.now) (map view_of views.now)) s) }
+    ensures holds { IfOk result (λ s. HoldsAll codes.now start rate
+        (filter (is_of codes.now) (map view_of views.now)) s) }
     ensures memory { IfErr result (λ e. e ≡ Memory) }
 {
     let samples = match Vec::with_capacity(alloc, count as usize) {
@@ -143,7 +147,8 @@ fn append_record<A: Allocator + Copy>(
     view: &RecordView,
 ) -> Result<(), NotContinuous>
     requires { IsSound (view_of view.now) }
-    ensures holds { (codes : List ℕ) (start : ℤ) (rate : Rate) (vs : List View) → HoldsAll codes start rate vs series.old
+    ensures holds { (codes : List ℕ) (start : ℤ) (rate : Rate) (vs : List View)
+        → HoldsAll codes start rate vs series.old
         → OnOk result (HoldsAll codes start rate (vs ++ view_of view.now ∷ []) series.new) }
     ensures memory { IfErr result (λ e. e ≡ Memory) }
 {

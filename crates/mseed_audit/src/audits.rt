@@ -1,5 +1,6 @@
 //! The audit of records as they come, and the verdicts that it ends with.
-ghost use Rattle.std.specs.Prelude.{◌≡◌, ◌≢◌, ◌↔◌, ◌⊎◌, ◌<◌, ◌≤◌, ◌+◌, ◌^◌, List, ℕ, [], ◌∷◌, ◌++◌, OnOk, OnErr, IsOk, IsSome, IsTrue, Some, None, if◌then◌else◌};
+ghost use Rattle.std.specs.Prelude.{◌≡◌, ◌≢◌, ◌↔◌, ◌⊎◌, ◌<◌, ◌≤◌, ◌+◌, ◌^◌, List, ℕ, [], ◌∷◌, ◌++◌, OnOk, OnErr};
+ghost use Rattle.std.specs.Prelude.{IsOk, IsSome, IsTrue, Some, None, if◌then◌else◌};
 ghost use Rattle.mseed_record.specs.Header.{key_at};
 ghost use Rattle.mseed_record.specs.Viewing.{view_of};
 ghost use Rattle.mseed_steim.specs.Reading.{count_of};
@@ -10,8 +11,8 @@ ghost use Rattle.mseed_audit.specs.Kept.{IsBounded, AreBounded, HasRoom};
 ghost use Rattle.mseed_audit.specs.Verdict.{AreVerdicts};
 
 use crate::channel::Channel;
-use crate::verdict::Verdict;
 use crate::law::continuous_exactly;
+use crate::verdict::Verdict;
 use mseed_record::{Codes, RecordView};
 use std::alloc::{Allocator, Global};
 use std::collections::BTreeMap;
@@ -83,7 +84,8 @@ impl<A: Allocator + Copy> Audit<A> {
     /// Whether a record with samples of this channel was added.
     pub fn holds(&self, codes: &Codes) -> bool
         ensures value { IsTrue result ↔ HoldsKey self.now codes.now }
-        ensures among { (added : List Added) → IsAuditOf self.now added → (IsTrue result ↔ (records_of codes.now added ≢ [])) }
+        ensures among { (added : List Added) → IsAuditOf self.now added
+            → (IsTrue result ↔ (records_of codes.now added ≢ [])) }
     {
         self.channels.contains_key(codes)
     }
@@ -100,7 +102,8 @@ impl<A: Allocator + Copy> Audit<A> {
             → OnOk result (IsAuditOf self.new (added ++ record { view = view_of view.now; offset = offset } ∷ [])) }
         ensures number { OnOk result (self.new.added ≡ self.old.added + 1) }
         ensures unchanged { OnErr result (self.new ≡ self.old) }
-        ensures memory { (count_of (view_of view.now) ≡ 0) ⊎ HoldsKey self.old (key_at (view_of view.now).bytes) → IsOk result }
+        ensures memory { (count_of (view_of view.now) ≡ 0)
+            ⊎ HoldsKey self.old (key_at (view_of view.now).bytes) → IsOk result }
     {
         let number = self.added + 1;
         add_to_channel(&mut self.channels, &mut self.verdicts, view, number, offset)?;
@@ -149,11 +152,13 @@ fn add_to_channel<A: Allocator + Copy>(
     requires few { AreBounded (2 ^ 40) channels.old.entries }
     requires room { HasRoom channels.old.entries verdicts.old }
     ensures stands { (key : List ℕ) (ps : List Placed) → StandsAt (lookup (same_key key) channels.old.entries) ps
-        → OnOk result (StandsAt (lookup (same_key key) channels.new.entries) (with_record key ps (record { view = view_of view.now; offset = offset; number = number }))) }
+        → OnOk result (StandsAt (lookup (same_key key) channels.new.entries)
+        (with_record key ps (record { view = view_of view.now; offset = offset; number = number }))) }
     ensures bounded { (n : ℕ) → AreBounded n channels.old.entries → AreBounded (n + 1) channels.new.entries }
     ensures room { HasRoom channels.new.entries verdicts.new }
     ensures unchanged { OnErr result (channels.new.entries ≡ channels.old.entries) }
-    ensures memory { (count_of (view_of view.now) ≡ 0) ⊎ IsSome (lookup (same_key (key_at (view_of view.now).bytes)) channels.old.entries) → IsOk result }
+    ensures memory { (count_of (view_of view.now) ≡ 0)
+        ⊎ IsSome (lookup (same_key (key_at (view_of view.now).bytes)) channels.old.entries) → IsOk result }
 {
     if view.samples() == 0 {
         return Ok(());
@@ -182,8 +187,11 @@ fn keep<A: Allocator + Copy>(
 ) -> Result<(), Memory>
     requires absent { lookup (same_key codes) channels.old.entries ≡ None }
     requires room { HasRoom channels.old.entries verdicts.old }
-    ensures kept { (key : List ℕ) → OnOk result (lookup (same_key key) channels.new.entries ≡ (if same_key key codes then Some channel else lookup (same_key key) channels.old.entries)) }
-    ensures bounded { (n : ℕ) → AreBounded n channels.old.entries → IsBounded n channel.verdict → AreBounded n channels.new.entries }
+    ensures kept { (key : List ℕ)
+        → OnOk result (lookup (same_key key) channels.new.entries
+        ≡ (if same_key key codes then Some channel else lookup (same_key key) channels.old.entries)) }
+    ensures bounded { (n : ℕ) → AreBounded n channels.old.entries → IsBounded n channel.verdict
+        → AreBounded n channels.new.entries }
     ensures room { HasRoom channels.new.entries verdicts.new }
     ensures unchanged { OnErr result (channels.new.entries ≡ channels.old.entries) }
 {

@@ -25,7 +25,13 @@ impl<A: Allocator> Model for Series<A> {
 
     ghost Value = { Trace };
 
-    ghost view = { λ s. record { codes = s.codes; start = s.start; rate = s.rate; samples = s.samples.items; steps = s.steps.items } };
+    ghost view = { λ s. record {
+      codes = s.codes;
+      start = s.start;
+      rate = s.rate;
+      samples = s.samples.items;
+      steps = s.steps.items;
+    } };
 
     ghost invariant = { λ s. AreSteps (length s.samples.items) s.steps.items };
 }
@@ -91,7 +97,11 @@ impl<A: Allocator + Copy> Series<A> {
     /// part of them may have been added.
     pub(crate) fn push(&mut self, samples: &[i32], step: Option<LeapStep>) -> Result<(), AllocError>
         requires { 0 < length samples.now }
-        ensures { OnOk result (self.new ≡ record self.old { samples = self.old.samples ++ samples.now; steps = self.old.steps ++ step_at (length self.old.samples + length samples.now) step }) }
+        ensures { OnOk result (self.new
+            ≡ record self.old {
+              samples = self.old.samples ++ samples.now;
+              steps = self.old.steps ++ step_at (length self.old.samples + length samples.now) step;
+            }) }
     {
         self.samples.extend_from_slice(samples)?;
         if let Some(step) = step {

@@ -27,7 +27,8 @@ pub fn continuous_exactly()
 
 /// A record has one finding, which may be none, and records one list of findings.
 pub fn one_finding()
-    ensures of_one { (before : Option View) (v : View) (a b : Option Why) → IsFound before v a → IsFound before v b → a ≡ b }
+    ensures of_one { (before : Option View) (v : View) (a b : Option Why) → IsFound before v a
+        → IsFound before v b → a ≡ b }
     ensures of_all { (before : Option View) (ps : List Placed) (a b : List Finding)
         → AreFindings before ps a → AreFindings before ps b → a ≡ b }
 {
@@ -43,7 +44,8 @@ pub fn one_verdict()
 
 /// An archive has one list of verdicts at most.
 pub fn one_list_of_verdicts()
-    ensures { (added : List Added) (vs ws : List (List ℕ × Verdict)) → AreVerdicts added vs → AreVerdicts added ws → vs ≡ ws }
+    ensures { (added : List Added) (vs ws : List (List ℕ × Verdict)) → AreVerdicts added vs
+        → AreVerdicts added ws → vs ≡ ws }
 {
     one_fault();
 }
@@ -68,5 +70,6 @@ pub fn one_series()
 
 /// Of leap seconds one at most is the first that a series can't have.
 pub fn one_bad_step()
-    ensures { (size : ℕ) (steps : List (ℕ × LeapStep)) (i j : ℕ) → IsBadStep size steps i → IsBadStep size steps j → i ≡ j }
+    ensures { (size : ℕ) (steps : List (ℕ × LeapStep)) (i j : ℕ) → IsBadStep size steps i
+        → IsBadStep size steps j → i ≡ j }
 {}

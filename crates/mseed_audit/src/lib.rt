@@ -5,11 +5,11 @@ mod archive;
 mod assembly;
 mod audits;
 mod channel;
+mod channel_series;
 mod finding;
 mod law;
 mod name;
 mod parts;
-mod channel_series;
 mod tail;
 mod text;
 mod verdict;
@@ -17,6 +17,7 @@ mod verdict;
 pub use archive::{AuditFault, Summary, audit};
 pub use assembly::{NotContinuous, series};
 pub use audits::{Audit, Memory, Verdicts};
+pub use channel_series::{BadStep, Series};
 pub use finding::{Finding, Why};
 pub use law::{
     continuous_exactly, one_audit, one_bad_step, one_finding, one_list_of_verdicts, one_series,
@@ -24,6 +25,5 @@ pub use law::{
 };
 pub use name::push_name;
 pub use parts::{Part, push_parts};
-pub use channel_series::{BadStep, Series};
 pub use text::push_fault_line;
 pub use verdict::Verdict;

@@ -2,7 +2,7 @@ use Rattle.std.proofs.Common.{◌≡◌, ◌+◌, ◌-◌, ◌^◌, ◌≤◌, �
 use Rattle.mseed_record.specs.View.{View}
 use Rattle.mseed_stream.specs.Cutting.{IsAlong}
 use Rattle.mseed.specs.Listing.{record_lines}
-use Rattle.mseed_audit.specs.Archive.{AreViews}
+use Rattle.mseed_stream.specs.Walk.{AreViews}
 use Rattle.mseed.proofs.show.list.Given as goal
 
 abbrev pub invariant-records : goal.invariant-records

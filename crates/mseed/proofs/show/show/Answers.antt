@@ -1,6 +1,6 @@
 use Rattle.mseed_stream.specs.Device.{Said}
 use Rattle.mseed.specs.declared.ending.ShowFault.{ShowFault}
-use Rattle.mseed.proofs.Gathered.{end_short, end_listed, shown_err}
+use Rattle.mseed.proofs.Gathered.{end_short, listed, shown_err}
 use Rattle.mseed.proofs.show.show.Goals as goal
 
 pub returns-in_err-write_out : goal.returns-in_err-write_out
@@ -16,8 +16,8 @@ pub returns : goal.returns
 returns g c =
     let gathered = c.in_ok-records.ensures in
     let first : Said = g.W.Sink.said c.args.output.now in
-    let new : Said = g.W.Sink.said c.write_out.new.output in
-    let write = c.in_ok-write_out.ensures in (
+    let old : Said = g.W.Sink.said c.list.new.output in
+    let new : Said = g.W.Sink.said c.write_out.new.output in (
       gathered.0,
-      (gathered.1.0, end_listed c.in_ok-records.records c.in_ok-records.end _ first _ new _ _ gathered.0 gathered.1.0 gathered.1.1 c.in_ok-push_end.ensures.ok write.ok write.fine),
+      (gathered.1.0, listed c.in_ok-records.records c.in_ok-records.end _ first old new _ _ gathered.0 gathered.1.0 gathered.1.1 c.in_ok-push_end.ensures.ok c.in_ok-write_out.ensures.ok c.in_ok-write_out.ensures.fine),
     )

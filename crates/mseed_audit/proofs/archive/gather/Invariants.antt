@@ -1,7 +1,7 @@
 use Rattle.std.proofs.Common.{◌≡◌, ◌+◌, ◌-◌, ◌^◌, ◌≤◌, List, None}
 use Rattle.mseed_record.specs.View.{View}
 use Rattle.mseed_stream.specs.Cutting.{IsAlong}
-use Rattle.mseed_audit.specs.Archive.{AreViews}
+use Rattle.mseed_stream.specs.Walk.{AreViews}
 use Rattle.mseed_audit.specs.Channels.{added_from}
 use Rattle.mseed_audit.specs.Audit.{IsAuditOf}
 use Rattle.mseed_audit.proofs.archive.gather.Given as goal
