@@ -9,7 +9,7 @@ FILE ?= samples/two_records.mseed
 .PHONY: audit bench build test
 
 audit: build
-	@$(MSEED) audit < "$(FILE)"
+	@$(MSEED) audit < "$(FILE)"; echo "status $$?"
 
 # Proves every crate that the program stands on, builds it, and runs it once: what isn't proved isn't built.
 build:

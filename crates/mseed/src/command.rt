@@ -14,7 +14,7 @@ ghost use Rattle.mseed.specs.declared.request.Request.{Request};
 ghost use Rattle.clap.specs.declared.error.kind.ErrorKind.{ErrorKind};
 
 use crate::ending::ShowFault;
-use crate::outcome::Run;
+use crate::outcome::{BAD_COMMAND, BROKEN, DONE, FAULT, Run};
 use crate::request::Request;
 use crate::show::show;
 use crate::words;
@@ -113,9 +113,11 @@ fn summary_status(summary: Summary) -> u8
     ensures { result ≡ summary_status summary }
 {
     if summary.fault {
-        2
+        FAULT
+    } else if summary.broken > 0 {
+        BROKEN
     } else {
-        u8::from(summary.broken > 0)
+        DONE
     }
 }
 
@@ -127,12 +129,13 @@ fn run_show<A: Allocator + Copy, R: Source, W: Sink, E: Sink>(
     errors: &mut E,
 ) -> Run
     requires { R.heard input.old ≡ nothing_heard }
-    ensures { (outcome : Result (Option StreamFault) ShowFault) × IsShowRun outcome (status_in result) (R.heard input.new)
+    ensures { (outcome : Result (Option StreamFault) ShowFault)
+        × IsShowRun outcome (status_in result) (R.heard input.new)
         (W.said output.old) (W.said output.new) (E.said errors.old) (E.said errors.new) }
 {
     match show(alloc, input, output) {
-        Ok(None) => Run::Status(0),
-        Ok(Some(_)) => Run::Status(2),
+        Ok(None) => Run::Status(DONE),
+        Ok(Some(_)) => Run::Status(FAULT),
         Err(ShowFault::Write) => write_failed(errors),
         Err(ShowFault::Memory) => refuse_memory(errors),
     }
@@ -144,13 +147,15 @@ fn write_failed<E: Sink>(errors: &mut E) -> Run
     ensures told { Tells (codes "mseed: write failed\n") (E.said errors.old) (E.said errors.new) }
 {
     tell(errors, b"mseed: write failed\n");
-    Run::Status(2)
+    Run::Status(FAULT)
 }
 
 /// Says why `clap` refuses the words, in its own text.
 fn refuse<E: Sink>(alloc: Global, errors: &mut E, error: &Error) -> Run
-    ensures memory { kind_of error.now ≡ ErrorKind.OutOfMemory → (status_in result ≡ 2) × Tells (codes "mseed: no memory\n") (E.said errors.old) (E.said errors.new) }
-    ensures either { (status_in result ≡ 3) ⊎ ((status_in result ≡ 2) × Tells (codes "mseed: no memory\n") (E.said errors.old) (E.said errors.new)) }
+    ensures memory { kind_of error.now ≡ ErrorKind.OutOfMemory
+        → (status_in result ≡ 2) × Tells (codes "mseed: no memory\n") (E.said errors.old) (E.said errors.new) }
+    ensures either { (status_in result ≡ 3)
+        ⊎ ((status_in result ≡ 2) × Tells (codes "mseed: no memory\n") (E.said errors.old) (E.said errors.new)) }
 {
     if error.kind() == ErrorKind::OutOfMemory {
         return refuse_memory(errors);
@@ -158,7 +163,7 @@ fn refuse<E: Sink>(alloc: Global, errors: &mut E, error: &Error) -> Run
     match error.to_string(alloc) {
         Ok(text) => {
             tell(errors, text.as_bytes());
-            Run::Status(3)
+            Run::Status(BAD_COMMAND)
         }
         Err(_) => refuse_memory(errors),
     }
@@ -170,7 +175,7 @@ pub fn refuse_words<E: Sink>(errors: &mut E) -> Run
     ensures told { Tells (codes "mseed: bad value\n") (E.said errors.old) (E.said errors.new) }
 {
     tell(errors, b"mseed: bad value\n");
-    Run::Status(3)
+    Run::Status(BAD_COMMAND)
 }
 
 /// Says that there was no memory for the words of the command line.
@@ -179,7 +184,7 @@ pub fn refuse_memory<E: Sink>(errors: &mut E) -> Run
     ensures told { Tells (codes "mseed: no memory\n") (E.said errors.old) (E.said errors.new) }
 {
     tell(errors, b"mseed: no memory\n");
-    Run::Status(2)
+    Run::Status(FAULT)
 }
 
 /// Writes a line. A device that fails is left as it is: there is nowhere else to say so.

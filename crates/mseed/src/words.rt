@@ -6,7 +6,8 @@ ghost use Rattle.clap.specs.Simple.{app_of, with_rule};
 ghost use Rattle.clap.specs.Kinds.{HasKind};
 ghost use Rattle.clap.specs.declared.builder.value_parser.ValueParser.TheVariants.{Signed};
 ghost use Rattle.mseed.specs.Words.{faults_in, entries_in, request_of, request_named};
-ghost use Rattle.mseed.specs.Options.{bare_command, the_command, word_rule, places_rule, packing_rules, feed_rules, number_rules, option_rule, number_rule, with_rules};
+ghost use Rattle.mseed.specs.Options.{bare_command, the_command, word_rule, places_rule, packing_rules, feed_rules};
+ghost use Rattle.mseed.specs.Options.{number_rules, option_rule, number_rule, with_rules};
 
 use crate::request::Request;
 use clap::builder::ValueParser;
@@ -21,7 +22,8 @@ use std::alloc::{AllocError, Global};
 /// That of `clap`, whose text is for the user.
 pub fn read<'a>(alloc: Global, words: &'a [&'a str]) -> Result<Option<Request>, Error>
     ensures taken { OnOk result (faults_in (map (λ word. word.now) words.entry.now) ≡ []) }
-    ensures request { IfOk result (λ request. request ≡ request_of (entries_in (map (λ word. word.now) words.entry.now))) }
+    ensures request { IfOk result (λ request. request
+        ≡ request_of (entries_in (map (λ word. word.now) words.entry.now))) }
     ensures refused { IfErr result (λ e. HasKind (faults_in (map (λ word. word.now) words.entry.now)) e) }
 {
     let matches = command(alloc)?.try_get_matches_from(words)?;
@@ -88,14 +90,15 @@ fn with_word<'a>(alloc: Global, command: Command<'a>) -> Result<Command<'a>, All
     command.arg(Arg::new(alloc, "command").help("audit or show"))
 }
 
-/// With further places.
+/// With further places. Help leaves out what no command takes yet: these, and all options.
 fn with_places<'a>(alloc: Global, command: Command<'a>) -> Result<Command<'a>, AllocError>
     ensures { IfOk result (λ c. app_of c ≡ with_rule (app_of command.entry) places_rule) }
 {
     command.arg(
         Arg::new(alloc, "place")
             .action(ArgAction::Append)
-            .help("further places of a feed"),
+            .help("further places of a feed")
+            .hide(true),
     )
 }
 
@@ -183,7 +186,7 @@ fn with_option<'a>(
 ) -> Result<Command<'a>, AllocError>
     ensures { IfOk result (λ c. app_of c ≡ with_rule (app_of command.entry) (option_rule name.entry.now)) }
 {
-    command.arg(Arg::new(alloc, name).long(name).help(help))
+    command.arg(Arg::new(alloc, name).long(name).help(help).hide(true))
 }
 
 /// With an option that takes a number.
@@ -194,12 +197,14 @@ fn with_number<'a>(
     numbers: ValueParser<'a>,
     help: &'a str,
 ) -> Result<Command<'a>, AllocError>
-    ensures { IfOk result (λ c. app_of c ≡ with_rule (app_of command.entry) (number_rule name.entry.now numbers.entry)) }
+    ensures { IfOk result (λ c. app_of c
+        ≡ with_rule (app_of command.entry) (number_rule name.entry.now numbers.entry)) }
 {
     command.arg(
         Arg::new(alloc, name)
             .long(name)
             .value_parser(numbers)
-            .help(help),
+            .help(help)
+            .hide(true),
     )
 }
