@@ -33,6 +33,9 @@ code_in-filled width code h = take_at code (replicate (width - length code) 32) 
 pub fills : (width : ℕ) (code : List ℕ) → IsCode width code → IsField width (filled width code)
 fills width code h = (subst (IsCode width) (sym (code_in-filled width code h)) h, ap (filled width) (code_in-filled width code h))
 
+pub field_of : (width : ℕ) (field code : List ℕ) → code ≡ code_in field → IsCode width code → filled width code ≡ field → IsField width field
+field_of width field code is p q = (subst (IsCode width) is p, ap (filled width) (sym is) ∙ q)
+
 -- a text spells the place of its parts around the first underscore, or none
 spelled_parts : (text sta net : List ℕ) → text ≡ net ++ 95 ∷ sta → Lacks 95 net → (p : Fields) → SpellsPlace text p → IsCode 5 sta × IsCode 2 net × (p ≡ fields_of sta net)
 spelled_parts text sta net e lacks p h =

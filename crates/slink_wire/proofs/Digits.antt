@@ -35,6 +35,9 @@ digit_rows d = elim (leb_tells (suc d) 10) [
   | inr high ↦ inr (omega (arith, high.1), ap (λ t. if t then 48 + d else 55 + d) high.0)
 ]
 
+pub digit_above : (d : ℕ) → 48 ≤ digit_byte d
+digit_above d = elim (digit_rows d) [ inl p ↦ omega (arith, p) | inr p ↦ omega (arith, p) ]
+
 one_digit : (d e : ℕ) → d < 16 → e < 16 → digit_byte d ≡ digit_byte e → d ≡ e
 one_digit d e hd he same = elim (digit_rows d) [
   | inl p ↦ elim (digit_rows e) [ inl q ↦ omega (arith, p, q, same) | inr q ↦ omega (arith, p, q, same) ]

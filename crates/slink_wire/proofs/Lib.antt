@@ -9,3 +9,4 @@ pub mod Keywords
 pub mod Said
 pub mod Worded
 pub mod Calls
+pub mod Requests

@@ -6,7 +6,7 @@ use Rattle.slink_wire.specs.Hexadecimal.{SaysNumber, hexadecimal}
 use Rattle.slink_wire.specs.Packet.{IsPacket, packet_bytes}
 use Rattle.slink_wire.proofs.Digits.{hexadecimal_stays, length-hexadecimal, says_one}
 
-says_itself : (n : ℕ) → n < 2 ^ 24 → SaysNumber (hexadecimal 6 n) n
+pub says_itself : (n : ℕ) → n < 2 ^ 24 → SaysNumber (hexadecimal 6 n) n
 says_itself n h = subst (λ k. (n < 16 ^ k) × (map to_ascii_uppercase (hexadecimal 6 n) ≡ hexadecimal k n)) (sym (length-hexadecimal 6 n)) (omega arith, hexadecimal_stays 6 n)
 
 pub read_back : (n : ℕ) (r : List ℕ) → n < 2 ^ 24 → IsPacket (packet_bytes n r) n r

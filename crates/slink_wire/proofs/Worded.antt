@@ -1,13 +1,13 @@
 -- The first word of a line.
-use Rattle.std.proofs.Common.{◌≡◌, ℕ, ◌+◌, ◌-◌, ◌<◌, ◌≤◌, suc, inl, inr, refl, sym, ap, ◌∙◌, arith, true, not, cond, ◌==◌, List, [], ◌∷◌, length, take, drop, get_or, length-take-le}
+use Rattle.std.proofs.Common.{◌≡◌, ℕ, ◌+◌, ◌-◌, ◌<◌, ◌≤◌, suc, inl, inr, refl, sym, ap, ◌∙◌, arith, true, not, cond, ◌==◌, List, [], ◌∷◌, length, take, drop, get_or, length-take-le, ◌++◌}
 use Rattle.std.specs.List.{filter, slice_split, position_or_len}
 use Rattle.std.proofs.Math.Numerals.{one-add}
 use Rattle.std.proofs.lemmas.Bool.Decides.{eqb_tells, leb_tells}
-use Rattle.std.proofs.lemmas.List.{drop_more, drop_all, take_all, take_rest}
+use Rattle.std.proofs.lemmas.List.{drop_more, drop_all, drop_at, take_all, take_at, take_rest}
 use Rattle.std.proofs.lemmas.List.Sums.{fails_before_first, passes_at_first}
 use Rattle.std.proofs.lemmas.List.Splits.{slice_split_first, slice_split_none}
 use Rattle.slink_wire.specs.Command.{words}
-use Rattle.slink_wire.proofs.Cuts.{byte_at, place_bound}
+use Rattle.slink_wire.proofs.Cuts.{Lacks, byte_at, first_at, none_at, place_bound}
 
 abbrev keeps : List (List ℕ) → List (List ℕ)
 keeps ws = filter (λ w. not (length w == 0)) ws
@@ -73,3 +73,17 @@ first_is line rest start end at lt is upto =
     let whole : rest ≡ drop start line = is ∙ take_rest line start in
     let some : 1 ≤ end = omega (arith, upto, ap (position_or_len (λ b. b == 32)) whole, begins line start at lt) in
     sym (words_spaces line) ∙ (ap (λ k. words (drop k line)) (sym at) ∙ (ap words (sym whole) ∙ (words_word rest end upto some ∙ ap (λ r. take end rest ∷ words r) (sym (take_rest rest end)))))
+
+-- a word up to a space, and a last one
+pub words_then : (w rest : List ℕ) → 1 ≤ length w → Lacks 32 w → words (w ++ 32 ∷ rest) ≡ w ∷ words rest
+words_then w rest h lacks =
+    let at : length w ≡ position_or_len (λ b. b == 32) (w ++ 32 ∷ rest) = sym (first_at (λ b. b == 32) w 32 rest lacks refl) in
+    words_word (w ++ 32 ∷ rest) (length w) at h
+    ∙ (ap (λ x. x ∷ words (drop (length w) (w ++ 32 ∷ rest))) (take_at w (32 ∷ rest) (length w) refl)
+    ∙ (ap (λ x. w ∷ words x) (drop_at w (32 ∷ rest) (length w) refl) ∙ ap (λ ws. w ∷ ws) (words_space rest)))
+
+pub words_last : (w : List ℕ) → 1 ≤ length w → Lacks 32 w → words w ≡ w ∷ []
+words_last w h lacks =
+    words_word w (length w) (sym (none_at (λ b. b == 32) w lacks)) h
+    ∙ (ap (λ x. x ∷ words (drop (length w) w)) (take_all (length w) w (omega arith))
+    ∙ ap (λ ws. w ∷ ws) (ap words (drop_all (length w) w (omega arith)) ∙ words_none))

@@ -7,3 +7,4 @@ pub mod Steps
 pub mod Command
 pub mod Parsing
 pub mod Reply
+pub mod Request

@@ -10,6 +10,7 @@ mod lines;
 mod packet;
 mod place;
 mod reply;
+mod request;
 #[cfg(test)]
 mod tests;
 mod words;
@@ -20,3 +21,4 @@ pub use lines::{Lines, Took, What};
 pub use packet::{NotPacket, Packet};
 pub use place::{BadPlace, Place};
 pub use reply::Reply;
+pub use request::Request;

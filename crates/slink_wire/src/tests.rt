@@ -3,7 +3,8 @@
 
 mod stream;
 
-use crate::{Command, Lines, Packet, Place, Reply, What};
+use crate::{Command, Lines, Packet, Place, Reply, Request, What};
+use std::test::Fail;
 
 /// A packet, or what may be taken for one.
 fn with_header(header: &[u8; 8]) -> [u8; 520] {
@@ -151,6 +152,22 @@ fn reads_commands(rt: HostRuntime) {
     for (line, wanted) in cases {
         assert_eq!(rt; Command::read(line), wanted, "{line:?}");
     }
+}
+
+#[test]
+fn writes_requests(rt: HostRuntime) -> Result<(), Fail> {
+    let place = Place::new(b"STA", b"X").map_err(|_| "a place")?;
+    let cases: [(Request, &[u8]); 5] = [
+        (Request::Station(place), b"STATION STA X\r\n"),
+        (Request::Data(Some(0)), b"DATA 000000\r\n"),
+        (Request::Fetch(Some(11_259_375)), b"FETCH ABCDEF\r\n"),
+        (Request::Fetch(None), b"FETCH\r\n"),
+        (Request::End, b"END\r\n"),
+    ];
+    for (request, wanted) in cases {
+        assert_eq!(rt; request.bytes().as_slice(), wanted);
+    }
+    Ok(())
 }
 
 #[test]
