@@ -24,3 +24,12 @@ pub mod FrameOne
 pub mod Far
 pub mod FrameNear
 pub mod FrameItems
+pub mod Rows
+pub mod Widths
+pub mod Joins
+pub mod Fullest
+pub mod Packs
+pub mod Fewest
+pub mod Written
+pub mod Filling
+pub mod OnePacking

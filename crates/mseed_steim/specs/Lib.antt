@@ -12,3 +12,5 @@ pub mod Moves
 pub mod Samples
 pub mod Sums
 pub mod Reading
+pub mod Packing
+pub mod Rows

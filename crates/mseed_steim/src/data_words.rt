@@ -9,7 +9,7 @@ use byteorder::{BigEndian, ByteOrder};
 use std::marker::Model;
 
 /// Bytes of a word.
-const WORD: usize = 4;
+pub(crate) const WORD: usize = 4;
 
 /// Words of a frame.
 pub(crate) const FRAME: usize = 16;

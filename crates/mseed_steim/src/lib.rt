@@ -11,10 +11,13 @@ mod frame;
 mod group;
 mod lanes;
 mod law;
+mod pack;
+mod packing;
 mod put;
 mod read;
 #[cfg(test)]
 mod reference;
+mod row;
 mod scheme;
 mod sum;
 #[cfg(test)]
@@ -26,6 +29,8 @@ pub use check::check_samples;
 pub use differences::{BadWordAt, Differences};
 pub use fault::{Ends, ReadFault};
 pub use law::{one_fault, one_reading, reading_has_count};
+pub use pack::{Packed, TooLarge, TooLargeAt, least_words, pack_word, pack_words};
+pub use packing::{one_fewest, one_packing};
 pub use read::read_samples;
 pub use scheme::Scheme;
 pub use word::{BadWord, unpack_word};

@@ -3,6 +3,7 @@
 
 mod integers;
 mod memory;
+mod packed;
 mod record;
 mod steim;
 mod words;

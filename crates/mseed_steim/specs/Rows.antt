@@ -1,0 +1,37 @@
+-- The rows of the table of groups, by how many differences they have. What a word spells is said in Spelling.
+use Rattle.std.specs.Prelude.{◌≡◌, ℕ, ◌<◌, ◌≤◌, ◌==◌, if◌then◌else◌, List, take, ℤ, Option, Some, None, All}
+use Rattle.mseed_steim.specs.declared.scheme.Scheme.{Scheme}
+use Rattle.mseed_steim.specs.declared.scheme.Scheme.TheVariants.{One, Two}
+use Rattle.mseed_steim.specs.declared.row.Row.{Row}
+use Rattle.mseed_steim.specs.Spelling.{IsWithin}
+use Rattle.mseed_steim.specs.Packing.{CanSpell}
+
+abbrev pub row_with : ℕ → ℕ → ℕ → ℕ → Row
+row_with code dnib count width = record { code = code; dnib = dnib; count = count; width = width }
+
+-- the row of so many differences
+abbrev pub row_for : Scheme → ℕ → Option Row
+row_for One count =
+    if count == 1 then Some (row_with 3 0 1 32)
+    else if count == 2 then Some (row_with 2 0 2 16)
+    else if count == 4 then Some (row_with 1 0 4 8)
+    else None
+row_for Two count =
+    if count == 1 then Some (row_with 2 1 1 30)
+    else if count == 2 then Some (row_with 2 2 2 15)
+    else if count == 3 then Some (row_with 2 3 3 10)
+    else if count == 4 then Some (row_with 1 0 4 8)
+    else if count == 5 then Some (row_with 3 0 5 6)
+    else if count == 6 then Some (row_with 3 1 6 5)
+    else if count == 7 then Some (row_with 3 2 7 4)
+    else None
+
+-- no word spells a front of more than `low` and at most `high` of the differences
+abbrev pub NoneSpelled : Scheme → List ℤ → ℕ → ℕ → Type 0
+NoneSpelled scheme ds low high = (k : ℕ) → low < k → k ≤ high → ¬ (CanSpell scheme (take k ds))
+
+-- the row that takes the largest number of the first `high` differences, or none where no word spells the first
+abbrev pub IsBestRow : Scheme → List ℤ → ℕ → Option Row → Type 0
+IsBestRow scheme ds high None = NoneSpelled scheme ds 0 high
+IsBestRow scheme ds high (Some row) =
+    (row_for scheme row.count ≡ Some row) × (row.count ≤ high) × All (IsWithin row.width) (take row.count ds) × NoneSpelled scheme ds row.count high

@@ -1,0 +1,133 @@
+//! Differences packed into words that are as full as words can be.
+
+ghost use Rattle.std.specs.Prelude.{◌≡◌, ◌≢◌, ◌⊎◌, ◌↔◌, ℕ, ◌+◌, ◌*◌, ◌%◌, ◌<◌, ◌≤◌, ◌==◌, if◌then◌else◌, Err, IfOk, MatchResult, length, take, drop};
+ghost use Rattle.std.specs.List.{AllByRecursion};
+ghost use Rattle.mseed_steim.specs.declared.scheme.Scheme.TheVariants.{Two};
+ghost use Rattle.mseed_steim.specs.Frames.{code_at, data_words, word_at, word_count};
+ghost use Rattle.mseed_steim.specs.Packing.{IsEmptyWord, IsFarthest, IsFewest, IsFirstTooLarge, IsFullest, IsTooLargeAt, LeavesRoom, PacksRun};
+ghost use Rattle.mseed_steim.specs.Runs.{SpellsRun};
+
+use crate::data_words::{FRAME, WORD, read_word};
+use crate::row::{fullest_row, word_of};
+use crate::scheme::Scheme;
+use byteorder::{BigEndian, ByteOrder};
+
+/// A difference that no word of Steim-2 holds: it doesn't fit 30 bits.
+#[derive(Clone, Copy, Debug, PartialEq, Eq)]
+pub struct TooLarge;
+
+/// Where the first such difference stands.
+#[derive(Clone, Copy, Debug, PartialEq, Eq)]
+pub struct TooLargeAt {
+    pub index: usize,
+}
+
+/// How many differences were packed, and into how many data words.
+#[derive(Clone, Copy, Debug, PartialEq, Eq)]
+pub struct Packed {
+    pub used: usize,
+    pub words: usize,
+}
+
+/// The word that takes the largest number of the differences, from the first on: its code, its bits and
+/// how many it takes. The error comes exactly where no word holds the first.
+pub fn pack_word(scheme: Scheme, diffs: &[i32]) -> Result<(u8, u32, usize), TooLarge>
+    requires { 0 < length diffs.now }
+    // No word spells a longer front than this one does.
+    ensures fullest { IfOk result (λ word. IsFullest scheme diffs.now word.0 word.1 word.2) }
+    // It's refused exactly where the first difference is too large for Steim-2.
+    ensures refused { MatchResult result (λ _. ¬ (IsTooLargeAt scheme diffs.now 0)) (λ _. IsTooLargeAt scheme diffs.now 0) }
+{
+    match fullest_row(scheme, diffs) {
+        Some(row) => Ok((row.code, word_of(row, &diffs[..row.count]), row.count)),
+        None => Err(TooLarge),
+    }
+}
+
+/// Writes the bits of a word of the frames.
+fn write_word(frames: &mut [u8], index: usize, word: u32)
+    requires { 4 * (index + 1) ≤ length frames.old }
+    ensures { (k : ℕ) → word_at frames.new k ≡ (if k == index then word else word_at frames.old k) }
+{
+    BigEndian::write_u32(&mut frames[WORD * index..], word);
+}
+
+/// Writes a data word, and its code into the first word of its frame.
+fn put_word(frames: &mut [u8], index: usize, code: u8, word: u32)
+    requires inside { index < word_count frames.old }
+    requires data { index % 16 ≢ 0 }
+    requires code { code < 4 }
+    requires empty { code_at frames.old index ≡ 0 }
+    ensures words { (k : ℕ) → k % 16 ≢ 0 → word_at frames.new k ≡ (if k == index then word else word_at frames.old k) }
+    ensures codes { (k : ℕ) → code_at frames.new k ≡ (if k == index then code else code_at frames.old k) }
+{
+    let first = index / FRAME * FRAME;
+    let codes = read_word(frames, first) | u32::from(code) << (30 - 2 * (index % FRAME));
+    write_word(frames, first, codes);
+    write_word(frames, index, word);
+}
+
+/// Packs differences into frames, from the first on: each data word in turn takes the largest number of
+/// those that are left, until no difference or no word is left. X0 and Xn and all words behind are 0. The
+/// error comes exactly where a difference is too large for Steim-2 and a word is left for it once those
+/// before it are packed; what the frames hold is then open.
+pub fn pack_words(scheme: Scheme, diffs: &[i32], frames: &mut [u8]) -> Result<Packed, TooLargeAt>
+    requires some { 0 < length frames.old }
+    requires whole { length frames.old % 64 ≡ 0 }
+    // The words in use hold the first `used` differences, each as many as any word can.
+    ensures packed { IfOk result (λ p. PacksRun scheme (take p.words (data_words frames.new)) diffs.now (drop p.used diffs.now)) }
+    ensures spelled { IfOk result (λ p. SpellsRun scheme (take p.words (data_words frames.new)) (take p.used diffs.now)) }
+    ensures inside { IfOk result (λ p. (p.used ≤ length diffs.now) × (p.words ≤ length (data_words frames.new))) }
+    // All differences are used, or all words.
+    ensures whole { IfOk result (λ p. (p.used ≡ length diffs.now) ⊎ (p.words ≡ length (data_words frames.new))) }
+    // All else is 0: the words behind, X0 and Xn, and the codes of words that hold no differences.
+    ensures behind { IfOk result (λ p. AllByRecursion IsEmptyWord (drop p.words (data_words frames.new))) }
+    ensures constants { IfOk result (λ _. (word_at frames.new 1 ≡ 0) × (word_at frames.new 2 ≡ 0)) }
+    ensures codes { IfOk result (λ _. (k : ℕ) → k < word_count frames.new → (k < 3) ⊎ (k % 16 ≡ 0) → code_at frames.new k ≡ 0) }
+    // In Steim-2 no fewer words spell those that are used, and no list of as many words comes further.
+    ensures fewest { IfOk result (λ p. scheme ≡ Two → IsFewest (take p.used diffs.now) p.words) }
+    ensures farthest { IfOk result (λ p. scheme ≡ Two → IsFarthest diffs.now p.words p.used) }
+    // It's refused exactly where a word is left for a difference that no word holds.
+    ensures refused { (i : ℕ) → (result ≡ Err (record { index = i })) ↔ (IsFirstTooLarge scheme diffs.now i × LeavesRoom scheme (take i diffs.now) (length (data_words frames.new))) }
+{
+    frames.fill(0);
+    let mut used = 0;
+    let mut words = 0;
+    for index in 3..frames.len() / WORD {
+        if used == diffs.len() {
+            break;
+        }
+        if index % FRAME == 0 {
+            continue;
+        }
+        match pack_word(scheme, &diffs[used..]) {
+            Ok((code, word, count)) => {
+                put_word(frames, index, code, word);
+                used += count;
+                words += 1;
+            }
+            Err(_) => return Err(TooLargeAt { index: used }),
+        }
+    }
+    Ok(Packed { used, words })
+}
+
+/// The fewest words of Steim-2 that hold the differences, 0 where there are none. The error comes exactly
+/// where one of them is too large.
+pub fn least_words(diffs: &[i32]) -> Result<u64, TooLargeAt>
+    ensures fewest { IfOk result (λ words. IsFewest diffs.now words) }
+    ensures refused { (i : ℕ) → (result ≡ Err (record { index = i })) ↔ IsFirstTooLarge Two diffs.now i }
+{
+    let mut used = 0;
+    let mut words = 0;
+    while used < diffs.len() {
+        match fullest_row(Scheme::Two, &diffs[used..]) {
+            Some(row) => {
+                used += row.count;
+                words += 1;
+            }
+            None => return Err(TooLargeAt { index: used }),
+        }
+    }
+    Ok(words)
+}

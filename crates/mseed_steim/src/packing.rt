@@ -1,0 +1,18 @@
+//! Laws of packing.
+
+ghost use Rattle.std.specs.Prelude.{◌≡◌, ℕ, List, length, ℤ};
+ghost use Rattle.mseed_steim.specs.declared.scheme.Scheme.{Scheme};
+ghost use Rattle.mseed_steim.specs.Frames.{DataWord};
+ghost use Rattle.mseed_steim.specs.Packing.{IsFewest, IsFullest, PacksRun, contents};
+
+/// One word takes the largest number of some differences; and as many words that do so in turn are the
+/// same words, wherever they stand, and leave the same differences.
+pub fn one_packing()
+    ensures word { (s : Scheme) (ds : List ℤ) (c w u d v t : ℕ) → IsFullest s ds c w u → IsFullest s ds d v t → (c ≡ d) × (w ≡ v) × (u ≡ t) }
+    ensures run { (s : Scheme) (ws vs : List DataWord) (ds rest more : List ℤ) → PacksRun s ws ds rest → PacksRun s vs ds more → length ws ≡ length vs → (contents ws ≡ contents vs) × (rest ≡ more) }
+{}
+
+/// One number of words is the fewest of some differences.
+pub fn one_fewest()
+    ensures { (ds : List ℤ) (m n : ℕ) → IsFewest ds m → IsFewest ds n → m ≡ n }
+{}

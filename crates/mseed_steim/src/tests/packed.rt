@@ -1,0 +1,72 @@
+//! Packed words, worked by hand from the manual's tables.
+
+use crate::{Packed, Scheme, TooLargeAt, least_words, pack_word, pack_words};
+
+const DIFFERENCES: [i32; 5] = [300, 1, 1, 1, 1];
+
+#[test]
+fn packs_worked_words(rt: HostRuntime) {
+    let cases: [(Scheme, usize, (u8, u32, usize)); 5] = [
+        (Scheme::Two, 0, (2, 0xD2C0_0401, 3)),
+        (Scheme::Two, 3, (2, 0x8000_8001, 2)),
+        (Scheme::One, 0, (2, 0x012C_0001, 2)),
+        (Scheme::One, 2, (2, 0x0001_0001, 2)),
+        (Scheme::One, 4, (3, 0x0000_0001, 1)),
+    ];
+    for (scheme, from, wanted) in cases {
+        if from < DIFFERENCES.len() {
+            assert_eq!(rt; pack_word(scheme, &DIFFERENCES[from..]), Ok(wanted));
+        }
+    }
+}
+
+#[test]
+fn packs_worked_frames(rt: HostRuntime) {
+    let cases: [(Scheme, usize, &[u32]); 2] = [
+        (
+            Scheme::Two,
+            2,
+            &[0x0280_0000, 0, 0, 0xD2C0_0401, 0x8000_8001],
+        ),
+        (
+            Scheme::One,
+            3,
+            &[0x02B0_0000, 0, 0, 0x012C_0001, 0x0001_0001, 1],
+        ),
+    ];
+    for (scheme, words, wanted) in cases {
+        let mut frame = [255; 64];
+        assert_eq!(rt;
+            pack_words(scheme, &DIFFERENCES, &mut frame),
+            Ok(Packed { used: 5, words })
+        );
+        for (at, bytes) in frame.as_chunks::<4>().0.iter().enumerate() {
+            let word = if at < wanted.len() { wanted[at] } else { 0 };
+            assert_eq!(rt; u32::from_be_bytes(*bytes), word, "word {at}");
+        }
+    }
+}
+
+#[test]
+fn counts_the_fewest_words(rt: HostRuntime) {
+    let zeros = [0; 722];
+    let mut zeros_and_200 = [0; 7];
+    zeros_and_200[6] = 200;
+    let cases: [(&[i32], Result<u64, TooLargeAt>); 7] = [
+        (&[], Ok(0)),
+        (&DIFFERENCES, Ok(2)),
+        (&[8; 7], Ok(2)),
+        (&zeros_and_200, Ok(2)),
+        (&[40; 6], Ok(2)),
+        (&zeros, Ok(104)),
+        (&[0, 536_870_912], Err(TooLargeAt { index: 1 })),
+    ];
+    for (differences, wanted) in cases {
+        assert_eq!(rt; least_words(differences), wanted);
+    }
+    let mut frame = [0; 64];
+    assert_eq!(rt;
+        pack_words(Scheme::Two, &[0, 536_870_912], &mut frame),
+        Err(TooLargeAt { index: 1 })
+    );
+}
