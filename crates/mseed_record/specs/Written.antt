@@ -6,7 +6,7 @@ use Rattle.std.specs.List.{list_all}
 use Rattle.byteorder.specs.Endian.{big_bytes}
 use Rattle.mseed_time.specs.declared.order.Order.TheVariants.{Big}
 use Rattle.mseed_time.specs.Btime.{Parts, microsecond_of}
-use Rattle.mseed_time.specs.Text.{digits}
+use Rattle.mseed_time.specs.Text.{padded_decimal}
 use Rattle.mseed_record.specs.declared.naming.CodeField.{CodeField}
 use Rattle.mseed_record.specs.declared.naming.CodeField.TheVariants.{Network, Station, Location, Channel}
 use Rattle.mseed_record.specs.Header.{key_at, time_at, samples_at, factor_at, multiplier_at, activity_at}
@@ -57,7 +57,7 @@ time_bytes t =
 -- the bytes before the start: the sequence number in six digits, the quality D, a space, and the codes
 abbrev pub name_bytes : Header → List ℕ
 name_bytes h =
-    digits 6 h.sequence ++ codes "D "
+    padded_decimal 6 h.sequence ++ codes "D "
     ++ slice_range h.key 2 7 ++ slice_range h.key 7 9 ++ slice_range h.key 9 12 ++ slice_range h.key 0 2
 
 -- the bytes behind the start: the samples, the rate, the activity flags, no other flag, two blockettes, the

@@ -1,7 +1,7 @@
 //! Writing a header.
 ghost use Rattle.std.specs.Prelude.{◌≡◌, ◌↔◌, ◌<◌, ◌≤◌, ◌+◌, ◌/◌, ◌%◌, ◌^◌, ◌++◌, ℕ, List, length, take, drop, FitsSigned, IsErr, OnErr, OnOk};
 ghost use Rattle.std.specs.Int.{w8, w16};
-ghost use Rattle.mseed_time.specs.Text.{digits};
+ghost use Rattle.mseed_time.specs.Text.{padded_decimal};
 ghost use Rattle.mseed_record.specs.Fields.{header_of};
 ghost use Rattle.mseed_record.specs.Written.{IsHeaded, ReadsBack, header_bytes, name_bytes, count_bytes, blockette_1000, blockette_1001};
 
@@ -43,7 +43,7 @@ fn put_names(out: &mut [u8], fields: &Fields)
     ensures bytes { out.new ≡ name_bytes (header_of fields.now) ++ drop 20 out.old }
     ensures key { length fields.now.codes ≡ 12 }
 {
-    put(out, 0, &digits(fields.sequence));
+    put(out, 0, &sequence_digits(fields.sequence));
     put(out, 6, b"D ");
     let key = fields.codes.key();
     put(out, 8, &key[2..7]);
@@ -90,8 +90,8 @@ fn put(out: &mut [u8], offset: usize, bytes: &[u8])
 }
 
 /// The six digits of a sequence number.
-fn digits(number: u32) -> [u8; 6]
-    ensures { result ≡ digits 6 number }
+fn sequence_digits(number: u32) -> [u8; 6]
+    ensures { result ≡ padded_decimal 6 number }
 {
     [
         digit(number, 100_000),

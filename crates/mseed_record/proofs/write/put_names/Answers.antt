@@ -5,11 +5,11 @@ use Rattle.mseed_record.proofs.write.put_names.Goals as goal
 pub returns-clause-bytes : goal.returns-clause-bytes
 returns-clause-bytes c =
     let old : List ℕ = c.args.out.now in
-    let number = c.digits.ensures in
+    let number = c.sequence_digits.ensures in
     let key = c.key-key.ensures in
     let long : length c.key-key.result.now ≡ 12 = search rules in
-    let six : 0 + length c.digits.result ≡ 6 = omega (arith, ap (λ (xs : List ℕ). length xs) number) in
-    let one = put_next old old c.put.new.out [] c.digits.result 0 6 six (record { bytes = refl; size = refl }) c.put.ensures in
+    let six : 0 + length c.sequence_digits.result ≡ 6 = omega (arith, ap (λ (xs : List ℕ). length xs) number) in
+    let one = put_next old old c.put.new.out [] c.sequence_digits.result 0 6 six (record { bytes = refl; size = refl }) c.put.ensures in
     let two = put_next old c.put.new.out c.put-2.new.out _ (codes "D ") 6 8 refl one c.put-2.ensures in
     let three = put_next old c.put-2.new.out c.put-3.new.out _ (slice_range c.key-key.result.now 2 7) 8 13 (simp (length-take, length-drop) (omega arith)) two c.put-3.ensures in
     let four = put_next old c.put-3.new.out c.put-4.new.out _ (slice_range c.key-key.result.now 7 9) 13 15 (simp (length-take, length-drop) (omega arith)) three c.put-4.ensures in
