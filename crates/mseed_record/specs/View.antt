@@ -4,6 +4,8 @@ use Rattle.std.specs.Int.{bit_at}
 use Rattle.byteorder.specs.Endian.{twos_complement}
 use Rattle.mseed_time.specs.declared.order.Order.{Order}
 use Rattle.mseed_time.specs.declared.order.Order.TheVariants.{Big, Little}
+use Rattle.mseed_time.specs.declared.outcome.LeapStep.{LeapStep}
+use Rattle.mseed_time.specs.declared.outcome.LeapStep.TheVariants.{Plus, Minus}
 use Rattle.mseed_time.specs.Btime.{instant_of}
 use Rattle.mseed_record.specs.declared.frame.Leap.{Leap}
 use Rattle.mseed_record.specs.declared.frame.Leap.TheVariants.{None as NoLeap, Positive, Negative, Both}
@@ -51,6 +53,13 @@ abbrev pub leap_of : List ℕ → Leap
 leap_of b =
     if bit_at (activity_at b) 4 == 1 then (if bit_at (activity_at b) 5 == 1 then Both else Positive)
     else if bit_at (activity_at b) 5 == 1 then Negative else NoLeap
+
+-- the leap second at the record's end; with both flags nobody can say
+abbrev pub step_in : Leap → Option LeapStep
+step_in NoLeap = None
+step_in Positive = Some Plus
+step_in Negative = Some Minus
+step_in Both = None
 
 -- the data begin behind the header, and within the record or at its end
 pub record HasPayload (v : View) : Type 0 where

@@ -19,7 +19,9 @@ pub(crate) struct Blockettes {
 /// Goes along the whole chain of a record, once.
 pub(crate) fn blockettes_of(bytes: &[u8], order: Order) -> Blockettes
     requires { (os : List ℕ) × ((last : ℕ) × IsRecordBy order os last bytes.now) }
-    ensures found { (os : List ℕ) × ((last : ℕ) × ((rest : List ℕ) × (IsRecordBy order os last bytes.now × IsWholeChain order bytes.now os last rest × AreBlockettes order bytes.now (os ++ last ∷ rest) result × (result.first_1000 ≡ Some last)))) }
+    ensures found { (os : List ℕ) × ((last : ℕ) × ((rest : List ℕ) × (IsRecordBy order os last bytes.now
+        × IsWholeChain order bytes.now os last rest × AreBlockettes order bytes.now (os ++ last ∷ rest) result
+        × (result.first_1000 ≡ Some last)))) }
     ensures within { IfSome result.first_1001 (λ o. o + 8 ≤ length bytes.now) }
 {
     let mut found = Blockettes {
@@ -40,8 +42,10 @@ pub(crate) fn blockettes_of(bytes: &[u8], order: Order) -> Blockettes
 impl Blockettes {
     /// With one more blockette.
     fn and(self, kind: u16, offset: usize) -> Blockettes
-        ensures first_1000 { result.first_1000 ≡ option_or self.first_1000 (if kind == 1000 then Some offset else None) }
-        ensures first_1001 { result.first_1001 ≡ option_or self.first_1001 (if kind == 1001 then Some offset else None) }
+        ensures first_1000 { result.first_1000 ≡ option_or self.first_1000
+            (if kind == 1000 then Some offset else None) }
+        ensures first_1001 { result.first_1001 ≡ option_or self.first_1001
+            (if kind == 1001 then Some offset else None) }
         ensures has_100 { result.has_100 ≡ (self.has_100 || (kind == 100)) }
     {
         let here = |wanted| if kind == wanted { Some(offset) } else { None };

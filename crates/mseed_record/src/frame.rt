@@ -1,4 +1,7 @@
-//! What framing answers.
+//! What framing answers, and the leap seconds of a record.
+ghost use Rattle.std.specs.Prelude.{◌≡◌};
+
+use mseed_time::LeapStep;
 
 /// Why the bytes at the front of an input begin no record, by the first framing step that applies. No
 /// bytes that may come can make one of them.
@@ -51,6 +54,21 @@ pub enum Leap {
     Negative,
     /// Both flags are set, which says nothing.
     Both,
+}
+
+impl Leap {
+    ghost use Rattle.mseed_record.specs.View.{step_in};
+
+    /// The leap second at the record's end, if there is one; with both flags nobody can say.
+    pub fn step(self) -> Option<LeapStep>
+        ensures { result ≡ step_in self }
+    {
+        match self {
+            Leap::None | Leap::Both => None,
+            Leap::Positive => Some(LeapStep::Plus),
+            Leap::Negative => Some(LeapStep::Minus),
+        }
+    }
 }
 
 /// The beginning of data lies within the header, or behind the record's end.

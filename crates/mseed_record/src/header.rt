@@ -91,8 +91,8 @@ fn is_quality(byte: u8) -> bool
     matches!(byte, b'D' | b'R' | b'Q' | b'M')
 }
 
-/// Whether a byte is a space or NUL.
-fn is_blank(byte: u8) -> bool
+/// Whether a byte is blank: a space or NUL, by which fields are filled.
+pub fn is_blank(byte: u8) -> bool
     ensures { result ≡ is_blank byte }
 {
     byte == b' ' || byte == 0

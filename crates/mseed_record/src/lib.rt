@@ -20,6 +20,7 @@ pub use fields::Fields;
 pub use frame::{DataOffset, FrameFault, Leap, Scan, ViewFault};
 pub use framer::Framer;
 pub use framing::scan;
+pub use header::is_blank;
 pub use naming::{BadCode, CodeField};
 pub use view::RecordView;
 pub use write::{TooShort, write_header};

@@ -35,8 +35,10 @@ impl Codes {
         channel: &[u8],
     ) -> Result<Codes, BadCode>
         ensures ok { IsOk result ↔ (first_bad_code network.now station.now location.now channel.now ≡ None) }
-        ensures key { IfOk result (λ c. c ≡ filled 2 network.now ++ filled 5 station.now ++ filled 2 location.now ++ filled 3 channel.now) }
-        ensures field { IfErr result (λ e. first_bad_code network.now station.now location.now channel.now ≡ Some e.field) }
+        ensures key { IfOk result (λ c. c ≡ filled 2 network.now ++ filled 5 station.now ++ filled 2 location.now
+            ++ filled 3 channel.now) }
+        ensures field { IfErr result (λ e. first_bad_code network.now station.now location.now channel.now
+            ≡ Some e.field) }
     {
         let n: [u8; 2] = filled(network, CodeField::Network)?;
         let s: [u8; 5] = filled(station, CodeField::Station)?;

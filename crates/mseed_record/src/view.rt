@@ -149,9 +149,11 @@ impl<'a> RecordView<'a> {
     ///
     /// `NoRate` where the factor or the multiplier is 0.
     pub fn rate(&self) -> Result<Rate, NoRate>
-        ensures ok { IsOk result ↔ IsSome (rate_of (factor_at (view_of self.now).order (view_of self.now).bytes) (multiplier_at (view_of self.now).order (view_of self.now).bytes)) }
+        ensures ok { IsOk result ↔ IsSome (rate_of (factor_at (view_of self.now).order (view_of self.now).bytes)
+            (multiplier_at (view_of self.now).order (view_of self.now).bytes)) }
         ensures factor { IfOk result (λ r. r.factor ≡ factor_at (view_of self.now).order (view_of self.now).bytes) }
-        ensures multiplier { IfOk result (λ r. r.multiplier ≡ multiplier_at (view_of self.now).order (view_of self.now).bytes) }
+        ensures multiplier { IfOk result (λ r. r.multiplier ≡ multiplier_at (view_of self.now).order
+            (view_of self.now).bytes) }
     {
         Rate::of(
             i16_at(self.bytes, 32, self.order),

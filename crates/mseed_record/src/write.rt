@@ -25,7 +25,8 @@ pub fn write_header(out: &mut [u8], fields: &Fields) -> Result<(), TooShort>
     ensures too_short { IsErr result ↔ (length out.old < 64) }
     ensures bytes { OnOk result (out.new ≡ header_bytes (header_of fields.now) ++ drop 64 out.old) }
     ensures unchanged { OnErr result (out.new ≡ out.old) }
-    ensures reads_back { OnOk result ((b : List ℕ) → IsHeaded (header_of fields.now) b → ReadsBack (header_of fields.now) b) }
+    ensures reads_back { OnOk result ((b : List ℕ) → IsHeaded (header_of fields.now) b
+        → ReadsBack (header_of fields.now) b) }
 {
     if out.len() < WRITTEN {
         return Err(TooShort);

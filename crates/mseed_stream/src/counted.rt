@@ -1,4 +1,4 @@
-// The one maker of sources and sinks.
+//! The one maker of sources and sinks.
 ghost use Rattle.std.specs.Prelude.{◌≡◌};
 ghost use Rattle.mseed_stream.specs.Device.{nothing_heard, nothing_said};
 

@@ -137,26 +137,70 @@ impl<A: Allocator> Cutter<A> {
     /// further call goes on.
     pub fn next<R: Source>(&mut self, source: &mut R) -> Result<Option<RecordView<'_>>, StreamFault>
         requires { IsAlong (R.heard source.old) self.old }
-        ensures more { TellsMore (R.heard source.old) (R.heard source.new) (R.remaining source.old) (R.remaining source.new) }
-        ensures record { IfOk result (λ o. IfSome o (λ r. IsView (view_of r) × ((view_of r).bytes ≡ told_from self.old.offset (R.heard source.new)))) }
+
+        // What the source told is kept, and what it is known to have left is what it told.
+        ensures more { TellsMore (R.heard source.old) (R.heard source.new) (R.remaining source.old)
+            (R.remaining source.new) }
+
+        // A record is lent as its view: the bytes told from the offset on.
+        ensures record { IfOk result (λ o. IfSome o (λ r. IsView (view_of r)
+            × ((view_of r).bytes ≡ told_from self.old.offset (R.heard source.new)))) }
+
+        // There is no further record where the input ended behind the last.
         ensures end { result ≡ Ok None → IsCleanEnd self.old.offset (R.heard source.new) }
+
+        // A fault is what became of the input, at the offset.
         ensures fault { IfErr result (λ e. IsCutFault e self.old.offset (R.heard source.new)) }
+
+        // A record that is lent is the next of the archive.
         ensures records { (records : List (List ℕ)) → HasRecords (R.heard source.old).bytes self.old.offset records
-            → HasRecords (R.heard source.new).bytes (self.old.offset + moves_by result (told_from self.old.offset (R.heard source.new))) (records ++ handed_by result (told_from self.old.offset (R.heard source.new))) }
+            → HasRecords (R.heard source.new).bytes (self.old.offset + moves_by result (told_from self.old.offset
+            (R.heard source.new))) (records ++ handed_by result (told_from self.old.offset (R.heard source.new))) }
+
+        // Where there is no further record, those so far and the rest are the archive.
         ensures archive { (records : List (List ℕ)) → HasRecords (R.heard source.old).bytes self.old.offset records
-            → IfEnds result (IsArchive (R.heard source.new).bytes records (told_from self.old.offset (R.heard source.new))) }
+            → IfEnds result (IsArchive (R.heard source.new).bytes records (told_from self.old.offset
+            (R.heard source.new))) }
+
+        // Where there is no further record, those so far are all of the input's.
         ensures all { (views : List View) → HasHandedOut (R.heard source.old) self.old views
             → IfEnds result (AreAllViews (R.heard source.new) views (end_of result)) }
-        ensures memory { result ≡ Err StreamFault.Memory → NeedsRoom self.old.room (told_from self.old.offset (R.heard source.new)) }
-        ensures read_to { self.old.answer ≡ None → IsReadTo (told_from self.old.offset (R.heard source.new)) (is_short result (R.heard source.new).is_at_end) }
+
+        // Memory is wanted only where framing asked for more than the buffer ever had.
+        ensures memory { result ≡ Err StreamFault.Memory
+            → NeedsRoom self.old.room (told_from self.old.offset (R.heard source.new)) }
+
+        // No more is read than framing asks for, and less only at the end, a failed read or the last turn.
+        ensures read_to { self.old.answer ≡ None
+            → IsReadTo (told_from self.old.offset (R.heard source.new)) (is_short result
+            (R.heard source.new).is_at_end) }
+
+        // A record asks the source.
         ensures asked { IfOk result (λ o. IfSome o (λ r. (R.heard source.old).calls < (R.heard source.new).calls)) }
-        ensures failed { self.old.answer ≡ None → (R.heard source.new).failures ≡ (R.heard source.old).failures + failed_by result }
-        ensures repeats { IfSome self.old.answer (λ e. (result ≡ answer_of e) × (R.heard source.new ≡ R.heard source.old)) }
+
+        // A read failed exactly where the answer says so.
+        ensures failed { self.old.answer ≡ None
+            → (R.heard source.new).failures ≡ (R.heard source.old).failures + failed_by result }
+
+        // The answer for ever is given again, and the source is not asked.
+        ensures repeats { IfSome self.old.answer (λ e. (result ≡ answer_of e)
+            × (R.heard source.new ≡ R.heard source.old)) }
+
+        // No more bytes are held than the longest record has.
         ensures most { length (R.heard source.new).bytes ≤ self.old.offset + 2 ^ 20 }
-        ensures known { self.old.answer ≡ None → (R.heard source.new).is_at_end ≡ true → IsAtEnd (R.remaining source.new) }
+
+        // The input's end is that of the bytes that the source is known to have.
+        ensures known { self.old.answer ≡ None → (R.heard source.new).is_at_end ≡ true
+            → IsAtEnd (R.remaining source.new) }
+
+        // What the source takes stays as it was.
         ensures beside { R.beside source.new ≡ R.beside source.old }
-        ensures* after { sem 𝓛 (follows_so (the_row A.row A.Allocator) (the_row A.row A.Allocator) self.entry.ghost_name none (λ _ _. ⊤)
-            (λ c. IsAlong (R.heard source.new) c × (c.offset ≡ self.old.offset + moves_by result (told_from self.old.offset (R.heard source.new)))
+
+        // Then the cutter stands behind the record, goes on or has its answer for ever, and keeps its buffer.
+        ensures* after { sem 𝓛 (follows_so (the_row A.row A.Allocator)
+            (the_row A.row A.Allocator) self.entry.ghost_name none (λ _ _. ⊤)
+            (λ c. IsAlong (R.heard source.new) c
+            × (c.offset ≡ self.old.offset + moves_by result (told_from self.old.offset (R.heard source.new)))
             × (c.answer ≡ kept_of result) × (self.old.room ≤ c.room)
             × ((views : List View) → HasHandedOut (R.heard source.old) self.old views
             → IfGoesOn result (λ more. HasHandedOut (R.heard source.new) c (views ++ more))))) }
@@ -171,24 +215,35 @@ impl<A: Allocator> Cutter<A> {
     fn advance<R: Source>(&mut self, source: &mut R) -> Result<Option<usize>, StreamFault>
         requires { IsAlong (R.heard source.old) self.old }
         ensures along { IsAlong (R.heard source.new) self.new }
-        ensures more { TellsMore (R.heard source.old) (R.heard source.new) (R.remaining source.old) (R.remaining source.new) }
-        ensures record { IfOk result (λ o. IfSome o (λ n. (n ≡ length self.new.front) × IsRecord self.new.front × (self.new.front ≡ told_from self.old.offset (R.heard source.new)))) }
+        ensures more { TellsMore (R.heard source.old) (R.heard source.new) (R.remaining source.old)
+            (R.remaining source.new) }
+        ensures record { IfOk result (λ o. IfSome o (λ n. (n ≡ length self.new.front) × IsRecord self.new.front
+            × (self.new.front ≡ told_from self.old.offset (R.heard source.new)))) }
         ensures offset { self.new.offset ≡ self.old.offset + moves_by result self.new.front }
         ensures end { result ≡ Ok None → IsCleanEnd self.old.offset (R.heard source.new) }
         ensures fault { IfErr result (λ e. IsCutFault e self.old.offset (R.heard source.new)) }
         ensures records { (records : List (List ℕ)) → HasRecords (R.heard source.old).bytes self.old.offset records
-            → HasRecords (R.heard source.new).bytes (self.old.offset + moves_by result (told_from self.old.offset (R.heard source.new))) (records ++ handed_by result (told_from self.old.offset (R.heard source.new))) }
+            → HasRecords (R.heard source.new).bytes (self.old.offset + moves_by result (told_from self.old.offset
+            (R.heard source.new))) (records ++ handed_by result (told_from self.old.offset (R.heard source.new))) }
         ensures archive { (records : List (List ℕ)) → HasRecords (R.heard source.old).bytes self.old.offset records
-            → IfEnds result (IsArchive (R.heard source.new).bytes records (told_from self.old.offset (R.heard source.new))) }
-        ensures memory { result ≡ Err StreamFault.Memory → NeedsRoom self.old.room (told_from self.old.offset (R.heard source.new)) }
-        ensures read_to { self.old.answer ≡ None → IsReadTo (told_from self.old.offset (R.heard source.new)) (is_short result (R.heard source.new).is_at_end) }
-        ensures asked { (R.heard source.old).calls + 2 * count_of result + asks_of (held_of self.new) ≤ (R.heard source.new).calls + asks_of (held_of self.old) }
-        ensures failed { self.old.answer ≡ None → (R.heard source.new).failures ≡ (R.heard source.old).failures + failed_by result }
-        ensures repeats { IfSome self.old.answer (λ e. (result ≡ answer_of e) × (R.heard source.new ≡ R.heard source.old)) }
+            → IfEnds result (IsArchive (R.heard source.new).bytes records (told_from self.old.offset
+            (R.heard source.new))) }
+        ensures memory { result ≡ Err StreamFault.Memory
+            → NeedsRoom self.old.room (told_from self.old.offset (R.heard source.new)) }
+        ensures read_to { self.old.answer ≡ None
+            → IsReadTo (told_from self.old.offset (R.heard source.new)) (is_short result
+            (R.heard source.new).is_at_end) }
+        ensures asked { (R.heard source.old).calls + 2 * count_of result + asks_of (held_of self.new) ≤
+            (R.heard source.new).calls + asks_of (held_of self.old) }
+        ensures failed { self.old.answer ≡ None
+            → (R.heard source.new).failures ≡ (R.heard source.old).failures + failed_by result }
+        ensures repeats { IfSome self.old.answer (λ e. (result ≡ answer_of e)
+            × (R.heard source.new ≡ R.heard source.old)) }
         ensures kept { self.new.answer ≡ kept_of result }
         ensures room { self.old.room ≤ self.new.room }
         ensures most { length (R.heard source.new).bytes ≤ self.old.offset + 2 ^ 20 }
-        ensures known { self.old.answer ≡ None → (R.heard source.new).is_at_end ≡ true → IsAtEnd (R.remaining source.new) }
+        ensures known { self.old.answer ≡ None → (R.heard source.new).is_at_end ≡ true
+            → IsAtEnd (R.remaining source.new) }
         ensures beside { R.beside source.new ≡ R.beside source.old }
     {
         if let Some(ending) = self.ending {
@@ -242,16 +297,21 @@ impl<A: Allocator> Cutter<A> {
         requires asks { (k : ℕ) × Decides self.old.front (Need k) }
         requires going_on { (R.heard source.old).is_at_end ≡ false }
         ensures heard { IsHeard (R.heard source.new) self.new }
-        ensures more { TellsMore (R.heard source.old) (R.heard source.new) (R.remaining source.old) (R.remaining source.new) }
-        ensures stays { (self.new.offset ≡ self.old.offset) × (self.new.is_lent ≡ false) × (self.new.answer ≡ self.old.answer) }
+        ensures more { TellsMore (R.heard source.old) (R.heard source.new) (R.remaining source.old)
+            (R.remaining source.new) }
+        ensures stays { (self.new.offset ≡ self.old.offset) × (self.new.is_lent ≡ false)
+            × (self.new.answer ≡ self.old.answer) }
         ensures room { self.old.room ≤ self.new.room }
         ensures stop { IsReadTo self.new.front (is_short result (R.heard source.new).is_at_end) }
         ensures found { result ≡ Ok true → IsRecord self.new.front × (R.heard source.new).is_at_end ≡ false }
-        ensures asked { result ≡ Ok true → (R.heard source.old).calls + 2 ≤ (R.heard source.new).calls + asks_of self.old.front }
-        ensures quiet { ((R.heard source.new).calls ≤ (R.heard source.old).calls → self.new.front ≡ self.old.front) × ((R.heard source.old).calls ≤ (R.heard source.new).calls) }
+        ensures asked { result ≡ Ok true
+            → (R.heard source.old).calls + 2 ≤ (R.heard source.new).calls + asks_of self.old.front }
+        ensures quiet { ((R.heard source.new).calls ≤ (R.heard source.old).calls → self.new.front ≡ self.old.front)
+            × ((R.heard source.old).calls ≤ (R.heard source.new).calls) }
         ensures ended { result ≡ Ok false → (self.new.front ≡ []) × ((R.heard source.new).is_at_end ≡ true) }
         ensures fine { OnOk result ((R.heard source.new).failures ≡ (R.heard source.old).failures) }
-        ensures fault { IfErr result (λ e. IsCuttingFault e self.old self.new (R.heard source.old) (R.heard source.new)) }
+        ensures fault { IfErr result (λ e. IsCuttingFault e self.old self.new (R.heard source.old)
+            (R.heard source.new)) }
         ensures known { (R.heard source.new).is_at_end ≡ true → IsAtEnd (R.remaining source.new) }
         ensures beside { R.beside source.new ≡ R.beside source.old }
     {
@@ -310,17 +370,23 @@ impl<A: Allocator> Cutter<A> {
         requires most { needed ≤ 2 ^ 20 }
         requires going_on { (R.heard source.old).is_at_end ≡ false }
         ensures heard { IsHeard (R.heard source.new) self.new }
-        ensures more { TellsMore (R.heard source.old) (R.heard source.new) (R.remaining source.old) (R.remaining source.new) }
-        ensures stays { (self.new.offset ≡ self.old.offset) × (self.new.is_lent ≡ false) × (self.new.answer ≡ self.old.answer) }
+        ensures more { TellsMore (R.heard source.old) (R.heard source.new) (R.remaining source.old)
+            (R.remaining source.new) }
+        ensures stays { (self.new.offset ≡ self.old.offset) × (self.new.is_lent ≡ false)
+            × (self.new.answer ≡ self.old.answer) }
         ensures room { self.old.room ≤ self.new.room }
-        ensures whole { result ≡ Ok false → (length self.new.front ≡ needed) × ((R.heard source.new).is_at_end ≡ false) }
-        ensures ended { result ≡ Ok true → (length self.new.front < needed) × ((R.heard source.new).is_at_end ≡ true) × IsAtEnd (R.remaining source.new) }
+        ensures whole { result ≡ Ok false → (length self.new.front ≡ needed)
+            × ((R.heard source.new).is_at_end ≡ false) }
+        ensures ended { result ≡ Ok true → (length self.new.front < needed)
+            × ((R.heard source.new).is_at_end ≡ true) × IsAtEnd (R.remaining source.new) }
         ensures fine { OnOk result ((R.heard source.new).failures ≡ (R.heard source.old).failures) }
-        ensures fault { IfErr result (λ e. IsFillFault e self.old.offset self.old.room needed (R.heard source.old) (R.heard source.new)) }
+        ensures fault { IfErr result (λ e. IsFillFault e self.old.offset self.old.room needed (R.heard source.old)
+            (R.heard source.new)) }
         ensures short { OnErr result (length self.new.front < needed) }
         ensures asked { OnOk result ((R.heard source.old).calls < (R.heard source.new).calls) }
         ensures calls { (R.heard source.old).calls ≤ (R.heard source.new).calls }
-        ensures quiet { length self.old.front < length self.new.front → (R.heard source.old).calls < (R.heard source.new).calls }
+        ensures quiet { length self.old.front < length self.new.front
+            → (R.heard source.old).calls < (R.heard source.new).calls }
         ensures beside { R.beside source.new ≡ R.beside source.old }
     {
         self.make_room(needed)?;
@@ -351,7 +417,8 @@ fn pull_between<R: Source>(
     ensures bound { IfOk result (λ n. begin + n ≤ end) }
     ensures before { take begin held.new ≡ take begin held.old }
     ensures heard { R.heard source.new ≡ heard_also (R.heard source.old) result (slice_range held.new begin end) }
-    ensures known { ReadConsumes (R.remaining source.old) (R.remaining source.new) result (slice_range held.new begin end) }
+    ensures known { ReadConsumes (R.remaining source.old) (R.remaining source.new) result
+        (slice_range held.new begin end) }
     ensures beside { R.beside source.new ≡ R.beside source.old }
 {
     source.pull(&mut held[begin..end])

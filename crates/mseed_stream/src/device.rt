@@ -1,4 +1,4 @@
-// Where bytes come from, and where they go to.
+//! Where bytes come from, and where they go to.
 ghost use Rattle.std.specs.Prelude.{◌≡◌, List, ℕ, IsTrue, ◌<◌, ◌≤◌, length, IfOk, Option, None};
 ghost use Rattle.std.specs.Io.KnownBytes.{ReadConsumes, WriteAppends};
 ghost use Rattle.mseed_stream.specs.Device.{Heard, Said, nothing_heard, nothing_said, heard_also, said_also};

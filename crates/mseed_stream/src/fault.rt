@@ -1,4 +1,4 @@
-// Why a stream wasn't read to its end.
+//! Why a stream wasn't read to its end.
 use mseed_record::FrameFault;
 
 /// Why an input wasn't read to its end.

@@ -13,5 +13,6 @@ pub fn one_input()
         → AreAllViews h views end → AreAllViews h others other → (views ≡ others) × (end ≡ other) }
     ensures views { (bytes : List ℕ) (offset : ℕ) (views others : List View)
         → AreViews bytes offset views → AreViews bytes offset others → views ≡ others }
-    ensures stop { (bytes : List ℕ) (n m : ℕ) → IsStop bytes n → IsStop bytes m → length bytes < n → length bytes < m → n ≡ m }
+    ensures stop { (bytes : List ℕ) (n m : ℕ) → IsStop bytes n → IsStop bytes m → length bytes < n
+        → length bytes < m → n ≡ m }
 {}

@@ -1,4 +1,4 @@
-// Small devices that tell, take and fail by turns.
+//! Small devices that tell, take and fail by turns.
 ghost use Rattle.std.specs.Prelude.{◌≡◌, IfOk, IfSome};
 ghost use Rattle.mseed_stream.specs.Device.{nothing_heard, nothing_said};
 
@@ -162,17 +162,6 @@ fn writes_what_there_is_room_for(rt: HostRuntime) {
 }
 
 #[test]
-fn takes_no_answer_of_0_for_a_write(rt: HostRuntime) {
-    let mut sink = Counted::new(Filling {
-        taken: Vec::new(rt.alloc()),
-        room: 0,
-        fails: false,
-    });
-    assert_eq!(rt; sink.put(b"h"), Err(Failed));
-    assert_eq!(rt; sink.put(b""), Ok(0));
-}
-
-#[test]
 fn answers_memory_where_a_growth_is_refused(rt: HostRuntime) -> Result<(), Fail> {
     let told = [7; 600];
     let mut was_refused = false;
@@ -192,4 +181,31 @@ fn answers_memory_where_a_growth_is_refused(rt: HostRuntime) -> Result<(), Fail>
     }
     assert!(rt; was_refused && was_read);
     Ok(())
+}
+
+/// Fails at its first write, and takes all bytes from then on.
+#[derive(Drop)]
+struct Stumbling {
+    has_failed: bool,
+}
+
+impl Write for Stumbling {
+    fn write(&mut self, bytes: &[u8]) -> io::Result<usize> {
+        if self.has_failed {
+            return Ok(bytes.len());
+        }
+        self.has_failed = true;
+        Err(io::ErrorKind::Interrupted.into())
+    }
+
+    fn flush(&mut self) -> io::Result<()> {
+        Ok(())
+    }
+}
+
+#[test]
+fn asks_a_writer_once_a_call(rt: HostRuntime) {
+    let mut sink = Counted::new(Stumbling { has_failed: false });
+    assert_eq!(rt; sink.put(b"h"), Err(Failed));
+    assert_eq!(rt; sink.put(b"h"), Ok(1));
 }

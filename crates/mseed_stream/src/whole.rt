@@ -1,4 +1,4 @@
-// All that a source tells, and all of a slice to a sink.
+//! All that a source tells, and all of a slice to a sink.
 ghost use Rattle.std.specs.Prelude.{◌≡◌, IsTrue, ◌+◌, ◌++◌, ◌<◌, length, take, IfOk, OnOk, IfErr, OnErr, IfSome, MatchResult};
 ghost use Rattle.std.specs.Io.KnownBytes.{Appends};
 ghost use Rattle.mseed_stream.specs.Device.{IsFrontOf};

@@ -2,9 +2,8 @@
 
 use super::framing::with_parts;
 use super::{FIRST, NEW_YEAR};
-use crate::{DataOffset, FrameFault, Leap, RecordView, ViewFault};
-use mseed_time::{NoRate, Order, TimeFault};
-use std::test::Fail;
+use crate::{Leap, RecordView};
+use mseed_time::Order;
 
 /// The first record with other bytes at some places.
 type Parts = &'static [(usize, &'static [u8])];
@@ -55,23 +54,6 @@ fn reads_a_little_endian_header(rt: HostRuntime) {
 }
 
 #[test]
-fn takes_its_own_bytes_alone(rt: HostRuntime) {
-    let mut longer = [7; 300];
-    longer[..128].copy_from_slice(&FIRST);
-    for len in [128, 129, 300] {
-        let view = RecordView::of(&longer[..len]).expect(&rt, "a record");
-        assert_eq!(rt; view.bytes(), FIRST.as_slice(), "{len}");
-    }
-    let rows = [(0, 48), (47, 48), (48, 52), (52, 56), (56, 128), (127, 128)];
-    for (len, need) in rows {
-        let fault = RecordView::of(&longer[..len]).err();
-        assert!(rt; fault == Some(ViewFault::Short(need)), "{len}");
-    }
-    let fault = RecordView::of(&longer[1..]).err();
-    assert!(rt; fault == Some(ViewFault::Not(FrameFault::NotData)));
-}
-
-#[test]
 fn adds_to_the_start(rt: HostRuntime) {
     // Activity, correction and microseconds, and the instant: the BTIME's is NEW_YEAR.
     let rows: [(u8, i32, i8, i64); 9] = [
@@ -94,66 +76,6 @@ fn adds_to_the_start(rt: HostRuntime) {
         let view = RecordView::of(&record).expect(&rt, "a record");
         let start = view.start().map(|start| start.get());
         assert_eq!(rt; start, Ok(instant), "{activity} {correction}");
-    }
-}
-
-#[test]
-fn refuses_starts_and_rates(rt: HostRuntime) {
-    let rows: [(usize, &[u8], TimeFault); 6] = [
-        (20, &[7, 231, 1, 110], TimeFault::Day), // day 366 of 2023
-        (24, &[24], TimeFault::Hour),
-        (25, &[60], TimeFault::Minute),
-        (26, &[61], TimeFault::Second),
-        (28, &[39, 16], TimeFault::Fraction), // 10,000
-        (24, &[24, 60, 61], TimeFault::Hour),
-    ];
-    for (offset, bytes, fault) in rows {
-        let record = with_parts(&[(offset, bytes)]);
-        let view = RecordView::of(&record).expect(&rt, "a record");
-        assert_eq!(rt; view.start().err(), Some(fault), "{offset}");
-    }
-    for offset in [32, 34] {
-        let record = with_parts(&[(offset, &[0, 0])]);
-        let view = RecordView::of(&record).expect(&rt, "a record");
-        assert_eq!(rt; view.rate().err(), Some(NoRate), "{offset}");
-    }
-}
-
-#[test]
-fn reads_leap_flags(rt: HostRuntime) {
-    let rows = [
-        (0, Leap::None),
-        (16, Leap::Positive),
-        (32, Leap::Negative),
-        (48, Leap::Both),
-        (207, Leap::None),
-        (255, Leap::Both),
-    ];
-    for (activity, leap) in rows {
-        let record = with_parts(&[(36, &[activity])]);
-        let view = RecordView::of(&record).expect(&rt, "a record");
-        assert_eq!(rt; view.leap(), leap, "{activity}");
-    }
-}
-
-#[test]
-fn lends_the_payload(rt: HostRuntime) {
-    let rows: [(&[u8; 2], Option<usize>); 7] = [
-        (&[0, 0], None),
-        (&[0, 47], None),
-        (&[0, 48], Some(48)),
-        (&[0, 127], Some(127)),
-        (&[0, 128], Some(128)),
-        (&[0, 129], None),
-        (&[255, 255], None),
-    ];
-    for (begin, expected) in rows {
-        let record = with_parts(&[(44, begin)]);
-        let view = RecordView::of(&record).expect(&rt, "a record");
-        match expected {
-            Some(begin) => assert_eq!(rt; view.payload(), Ok(&record[begin..128]), "{begin}"),
-            None => assert_eq!(rt; view.payload(), Err(DataOffset)),
-        }
     }
 }
 
@@ -221,37 +143,4 @@ fn goes_along_the_whole_chain(rt: HostRuntime) {
     let last = with_parts(&[(50, &[0, 120]), (120, &[3, 233, 0, 0, 0, 8, 0, 0])]);
     let view = RecordView::of(&last).expect(&rt, "a record");
     assert_eq!(rt; view.start().map(|start| start.get()), Ok(NEW_YEAR + 8));
-}
-
-#[test]
-fn reads_the_word_order(rt: HostRuntime) {
-    for (byte, order) in [
-        (0, Order::Little),
-        (1, Order::Big),
-        (2, Order::Big),
-        (255, Order::Big),
-    ] {
-        let record = with_parts(&[(53, &[byte])]);
-        let view = RecordView::of(&record).expect(&rt, "a record");
-        assert_eq!(rt; view.payload_order(), order, "{byte}");
-    }
-}
-
-/// A record of 65,536 bytes whose chain has a blockette at each fourth byte: a 1000, then others, the last of
-/// them a 100.
-#[test]
-fn walks_the_longest_whole_chain(rt: HostRuntime) -> Result<(), Fail> {
-    let mut bytes: Vec<u8> = Vec::new(rt.alloc());
-    bytes.extend_from_slice(&FIRST[..48])?;
-    bytes.extend_from_slice(&[3, 232, 0, 56, 3, 1, 16, 0])?;
-    for offset in (56..65532_u16).step_by(4) {
-        let [high, low] = (offset + 4).to_be_bytes();
-        bytes.extend_from_slice(&[1, 244, high, low])?;
-    }
-    assert!(rt; RecordView::of(&bytes).err() == Some(ViewFault::Short(65536)));
-    bytes.extend_from_slice(&[0, 100, 0, 0])?;
-    let view = RecordView::of(&bytes).expect(&rt, "a record");
-    assert_eq!(rt; view.bytes().len(), 65536);
-    assert!(rt; view.has_rate_blockette());
-    Ok(())
 }

@@ -1,4 +1,4 @@
-// Records cut out of small readers: lengths, places and ends are those of the header's fields and of
+//! Records cut out of small readers: lengths, places and ends are those of the header's fields and of
 // blockette 1000.
 ghost use Rattle.std.specs.Prelude.{◌≡◌};
 ghost use Rattle.mseed_stream.specs.Counted.{heard_by};
@@ -7,7 +7,6 @@ ghost use Rattle.mseed_stream.specs.Device.{nothing_heard};
 
 use crate::{Counted, Cutter, Source, StreamFault, split, split_in};
 use linked_list_allocator::LocalHeap;
-use mseed_record::FrameFault;
 use std::alloc::{AllocError, Allocator, Global};
 use std::io;
 use std::io::Read;
@@ -150,42 +149,6 @@ fn cuts_records_in_any_pieces(rt: HostRuntime) -> Result<(), Fail> {
 }
 
 #[test]
-fn says_how_the_input_ends(rt: HostRuntime) -> Result<(), Fail> {
-    let truncated = |have| Answer::Fault(StreamFault::Truncated(256, have));
-    let frame = |fault| Answer::Fault(StreamFault::Frame(256, fault));
-    let mut far = HEAD;
-    far[47] = 250;
-    let mut low = HEAD;
-    low[47] = 47;
-    let rows: [(&[u8], Answer); 12] = [
-        (b"", Answer::End),
-        (&HEAD[..1], truncated(1)),
-        (&HEAD[..47], truncated(47)),
-        (&HEAD[..48], truncated(48)),
-        (&HEAD[..52], truncated(52)),
-        (&HEAD[..56], truncated(56)),
-        (&HEAD, truncated(64)),
-        (&far, truncated(64)),
-        (&low, frame(FrameFault::Chain)),
-        (b"MS\x03", frame(FrameFault::Version3)),
-        (b"MS", truncated(2)),
-        (&[b'x'; 48], frame(FrameFault::NotData)),
-    ];
-    for (rest, wanted) in rows {
-        let mut bytes = records(rt.alloc(), &[8])?;
-        bytes.extend_from_slice(rest)?;
-        for most in [1, 7, 1000] {
-            let found = answers(rt.alloc(), &mut in_pieces(&bytes, most));
-            assert_eq!(rt; found, [Answer::Record(0, 256), wanted, wanted, wanted]);
-        }
-        let whole = split(rt.alloc(), &bytes);
-        let end = whole.map_or_else(Answer::Fault, |_| Answer::End);
-        assert_eq!(rt; end, wanted);
-    }
-    Ok(())
-}
-
-#[test]
 fn keeps_the_fault_of_a_read(rt: HostRuntime) -> Result<(), Fail> {
     let bytes = records(rt.alloc(), &[7, 7])?;
     let fault = Answer::Fault(StreamFault::Read(128));
@@ -197,36 +160,6 @@ fn keeps_the_fault_of_a_read(rt: HostRuntime) -> Result<(), Fail> {
     let wanted = [Answer::Record(0, 128), fault, fault, fault];
     assert_eq!(rt; answers(rt.alloc(), &mut source), wanted);
     assert_eq!(rt; source.get_ref().rest.len(), 56, "the reader would go on");
-    Ok(())
-}
-
-#[test]
-fn loses_nothing_to_want_of_memory(rt: HostRuntime) -> Result<(), Fail> {
-    let bytes = records(rt.alloc(), &[9, 7])?;
-    let mut refusals = 0_u8;
-    for size in 0..64 {
-        let heap = LocalHeap::new(rt.alloc(), 4096)?;
-        let mut cutter = Cutter::new(&heap);
-        let mut source = in_pieces(&bytes, 100);
-        let Ok(blocker) = Vec::<u8, _>::with_capacity(&heap, size * 64) else {
-            break;
-        };
-        let mut first = next_answer(&mut cutter, &mut source);
-        drop(blocker);
-        if first == Answer::Fault(StreamFault::Memory) {
-            refusals = refusals.saturating_add(1);
-            assert_eq!(rt; cutter.offset(), 0);
-            first = next_answer(&mut cutter, &mut source);
-        }
-        assert_eq!(rt; first, Answer::Record(0, 512), "{size}");
-        assert_eq!(rt;
-            next_answer(&mut cutter, &mut source),
-            Answer::Record(512, 128)
-        );
-        assert_eq!(rt; cutter.room(), 512, "the room stays");
-        assert_eq!(rt; next_answer(&mut cutter, &mut source), Answer::End);
-    }
-    assert!(rt; refusals > 3);
     Ok(())
 }
 
@@ -267,6 +200,7 @@ fn answers_memory_of_a_slice(rt: HostRuntime) -> Result<(), Fail> {
         }
     }
     assert!(rt; was_split);
+    assert_eq!(rt; split(rt.alloc(), &bytes)?.len(), 20);
     Ok(())
 }
 
