@@ -3,38 +3,10 @@
 # with what they must be, byte for byte. MSEED names the program.
 . "$(dirname "$0")/judge.bash"
 
-python3 - <<'PYTHON' || exit 2
+PYTHONPATH=$root/tests PYTHONDONTWRITEBYTECODE=1 python3 - <<'PYTHON' || exit 2
 import struct
 
-INTEGERS = b"".join(struct.pack(">i", i) for i in range(16))
-
-
-def blockette_1000(next=56, encoding=3, word_order=1, exponent=7):
-    return struct.pack(">HHBBBB", 1000, next, encoding, word_order, exponent, 0)
-
-
-# 16 integers at 20 a second from the first instant of 2024, in 128 bytes, but for what is named.
-def record(codes=b"STA    BHZXX", quality=b"D", year=2024, day=1, hour=0, minute=0, second=0, fraction=0,
-           samples=16, factor=20, multiplier=1, activity=0, correction=0, encoding=3, word_order=1, exponent=7,
-           micros=0, next=0, order=">", blockettes=None, data=INTEGERS):
-    bytes = b"000001" + quality + b" " + codes
-    bytes += struct.pack(order + "HHBBBBH", year, day, hour, minute, second, 0, fraction)
-    bytes += struct.pack(order + "Hhh", samples, factor, multiplier)
-    bytes += struct.pack(order + "BBBBiHH", activity, 0, 0, 2, correction, 64, 48)
-    if blockettes is None:
-        blockettes = struct.pack(order + "HHBBBB", 1000, 56, encoding, word_order, exponent, 0)
-        blockettes += struct.pack(order + "HHBbBB", 1001, next, 0, micros, 0, 0)
-    return (bytes + blockettes + data).ljust(2**exponent, b"\0")
-
-
-# The one that follows it.
-def next_record(**changes):
-    return record(**{"fraction": 8000, **changes})
-
-
-# A record of one frame, of which these are the first words; the rest are 0.
-def frame(words, samples, encoding=10, **changes):
-    return record(samples=samples, encoding=encoding, data=bytes.fromhex(words).ljust(64, b"\0"), **changes)
+from records import blockette_1000, frame, next_record, record, write_all
 
 
 # The last ten seconds of 2016, and six more samples; and what comes so many seconds into the next year.
@@ -117,11 +89,9 @@ archives = {
 }
 for cut in range(257):
     archives[f"cut_{cut}"] = [(FIRST + NEXT)[:cut]]
-for place in range(128):
-    archives[f"byte_{place}"] = [FIRST, NEXT[:place], b"\xff", NEXT[place + 1 :]]
-for name, parts in archives.items():
-    with open(name, "wb") as file:
-        file.write(b"".join(parts))
+for offset in range(128):
+    archives[f"byte_{offset}"] = [FIRST, NEXT[:offset], b"\xff", NEXT[offset + 1 :]]
+write_all(archives)
 PYTHON
 
 start=2024-01-01T00:00:00.000000

@@ -3,56 +3,43 @@
 # with what they must be, byte for byte. MSEED names the program.
 . "$(dirname "$0")/judge.bash"
 
-python3 - <<'PYTHON' || exit 2
+PYTHONPATH=$root/tests PYTHONDONTWRITEBYTECODE=1 python3 - <<'PYTHON' || exit 2
 import struct
 
-
-def header(order, samples, first, date=(2024, 1), quality=b"D", factor=20, multiplier=1, activity=0, correction=0, data=64):
-    bytes = b"000001" + quality + b" STA    BHZXX"
-    bytes += struct.pack(order + "HHBBBBH", *date, 0, 0, 0, 0, 0)
-    bytes += struct.pack(order + "Hhh", samples, factor, multiplier)
-    return bytes + struct.pack(order + "BBBBiHH", activity, 0, 0, 2, correction, data, first)
+from records import blockette_1000, blockette_1001, record, write_all
 
 
-def blockette_1000(order, next, encoding, word_order, exponent):
-    return struct.pack(order + "HHBBBB", 1000, next, encoding, word_order, exponent, 0)
+# A record of one sample and no data, with these blockettes.
+def chained(blockettes, **changes):
+    return record(samples=1, blockettes=blockettes, data=b"", **changes)
 
 
-def blockette_1001(order, next, micros):
-    return struct.pack(order + "HHBbBB", 1001, next, 0, micros, 0, 0)
+LONGER = record(samples=48, exponent=8, data=b"")
+STEIM = blockette_1000(next=0, encoding=10)
+HEADER = chained(b"")[:48]
 
-
-def padded(bytes, length):
-    return bytes + b"\0" * (length - len(bytes))
-
-
-def write(name, *parts):
-    with open(name, "wb") as file:
-        file.write(b"".join(parts))
-
-
-longer = padded(header(">", 48, 48) + blockette_1000(">", 56, 3, 1, 8) + blockette_1001(">", 0, 0), 256)
-write("nothing")
-write("longer", longer, longer)
-write("cut", (longer + longer)[:300])
-little = padded(header("<", 300, 48, quality=b"R", factor=-10, activity=2, correction=7)
-    + blockette_1000("<", 56, 11, 0, 9) + blockette_1001("<", 0, -10), 512)
-write("mixed", longer, little, longer)
-write("swapped", padded(header(">", 1, 48) + blockette_1001(">", 56, 49) + blockette_1000(">", 0, 10, 1, 7), 128))
-write("other_rate", padded(header(">", 1, 48) + struct.pack(">HH", 100, 60) + b"\0" * 8 + blockette_1000(">", 0, 10, 1, 7), 128))
-write("points_back", padded(header(">", 1, 48) + blockette_1000(">", 56, 10, 1, 7) + blockette_1001(">", 48, 1), 128))
-write("no_rate", padded(header(">", 1, 48, factor=0) + blockette_1000(">", 0, 10, 1, 7), 128))
-write("no_day", padded(header(">", 1, 48, date=(2023, 366)) + blockette_1000(">", 0, 10, 1, 7), 128))
-write("no_order", padded(header(">", 1, 48, date=(1899, 1)) + blockette_1000(">", 0, 10, 1, 7), 128))
-write("year_2056", padded(header("<", 1, 48, date=(2056, 10)) + blockette_1000("<", 0, 10, 1, 7), 128))
-write("version_3", longer, b"MS\x03" + b"\0" * 40)
-write("not_data", longer, b"x" * 48)
-write("outside", padded(header(">", 1, 124), 124) + blockette_1000(">", 0, 10, 1, 7))
-write("length_6", padded(header(">", 1, 48) + blockette_1000(">", 0, 10, 1, 6), 128))
-write("no_1000", header(">", 1, 48) + b"".join(struct.pack(">HH", 500, o + 4) for o in range(48, 65532, 4)) + struct.pack(">HH", 500, 0))
-write("chain", padded(header(">", 1, 48) + struct.pack(">HH", 500, 51), 128))
-write("longest", padded(header(">", 65535, 48) + blockette_1000(">", 0, 3, 1, 20), 1 << 20))
-write("many", *[longer] * 3000)
+write_all({
+    "nothing": [],
+    "longer": [LONGER, LONGER],
+    "cut": [(LONGER + LONGER)[:300]],
+    "mixed": [LONGER, record(order="<", samples=300, quality=b"R", factor=-10, activity=2, correction=7, encoding=11,
+                             word_order=0, exponent=9, micros=-10, data=b""), LONGER],
+    "swapped": [chained(blockette_1001(next=56, micros=49) + STEIM)],
+    "other_rate": [chained(struct.pack(">HH", 100, 60) + b"\0" * 8 + STEIM)],
+    "points_back": [chained(blockette_1000(encoding=10) + blockette_1001(next=48, micros=1))],
+    "no_rate": [chained(STEIM, factor=0)],
+    "no_day": [chained(STEIM, year=2023, day=366)],
+    "no_order": [chained(STEIM, year=1899)],
+    "year_2056": [chained(blockette_1000(next=0, encoding=10, order="<"), order="<", year=2056, day=10)],
+    "version_3": [LONGER, b"MS\x03" + b"\0" * 40],
+    "not_data": [LONGER, b"x" * 48],
+    "outside": [chained(b"\0" * 76 + STEIM, first=124)],
+    "length_6": [chained(blockette_1000(next=0, encoding=10, exponent=6))],
+    "no_1000": [HEADER] + [struct.pack(">HH", 500, o + 4) for o in range(48, 65532, 4)] + [struct.pack(">HH", 500, 0)],
+    "chain": [chained(struct.pack(">HH", 500, 51))],
+    "longest": [record(samples=65535, exponent=20, blockettes=blockette_1000(next=0, exponent=20), data=b"")],
+    "many": [LONGER] * 3000,
+})
 with open("many.text", "w") as file:
     for i in range(3000):
         file.write(f"{256 * i} XX_STA__BHZ D length 256 samples 48 start 2024-01-01T00:00:00.000000 rate 20/1 encoding 3 big\n")
