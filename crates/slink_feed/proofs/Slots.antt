@@ -1,5 +1,5 @@
 -- Slots of which none is empty, as the list of what stands in them.
-use Rattle.std.proofs.Common.{◌≡◌, ℕ, ◌+◌, ◌<◌, ◌∙◌, zero, suc, ap, refl, sym, arith, List, [], ◌∷◌, ◌++◌, length, length-set, get_or, set, take, take_all, drop_of_length-le, append-nil, subst, Option, Some, None, option_map, slice_get, IsSomeAnd}
+use Rattle.std.proofs.Common.{◌≡◌, ℕ, ◌<◌, ◌∙◌, zero, suc, ap, refl, sym, arith, List, [], ◌∷◌, ◌++◌, length, length-set, get_or, set, take, take_all, drop_of_length-le, append-nil, subst, Option, Some, None, option_map, slice_get}
 use Rattle.std.specs.List.{refill}
 use Rattle.slink_feed.specs.Rings.{AreFilled, filled_of}
 

@@ -1,6 +1,7 @@
 -- The rings of a feed.
-use Rattle.std.specs.Prelude.{◌≡◌, ◌≢◌, ℕ, ◌<◌, ◌⊎◌, List, [], ◌∷◌, length, Option, Some, None}
-use Rattle.slink_wire.specs.Place.{Fields}
+use Rattle.std.specs.Prelude.{◌≡◌, ◌≢◌, ℕ, ◌⊎◌, List, [], ◌∷◌, Option, Some, None}
+use Rattle.std.specs.List.{position_from}
+use Rattle.slink_wire.specs.Place.{Fields, matches}
 use Rattle.slink_feed.specs.Window.{Window}
 
 -- One of the rings is of this place.
@@ -12,6 +13,10 @@ HasPlace (w ∷ ws) place = (w.place ≡ place) ⊎ HasPlace ws place
 abbrev pub LacksPlace : List Window → Fields → Type 0
 LacksPlace [] place = Unit {0}
 LacksPlace (w ∷ ws) place = (w.place ≢ place) × LacksPlace ws place
+
+-- the index of the first ring whose place has this station, in this network or in any
+abbrev pub station_at : List Window → List ℕ → Option (List ℕ) → Option ℕ
+station_at feed sta net = position_from (λ w. matches w.place sta net) 0 feed
 
 module _ {X : Type 0} where
   -- what stands in slots

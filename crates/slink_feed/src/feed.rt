@@ -1,10 +1,11 @@
 //! The rings of one feed.
-ghost use Rattle.std.specs.Prelude.{◌≡◌, ◌^◌, ◌<◌, ◌≤◌, ◌↔◌, [], ◌∷◌, ◌++◌, Some, length, slice_get, slice_set, IfErr, IsErrAnd, IsOk, IsTrue, OnOk, OnErr, IsSomeAnd, option_map};
+ghost use Rattle.std.specs.Prelude.{◌≡◌, ◌^◌, ◌<◌, ◌≤◌, [], ◌∷◌, ◌++◌, Some, length, slice_get, slice_set, IfErr, IfSome, OnOk, OnErr, IsSomeAnd, option_map};
 ghost use Rattle.std.specs.Option.{ForSome};
 ghost use Rattle.std.specs.Bool.{OnFalse, OnTrue};
 ghost use Rattle.slink_wire.specs.Place.{Bears};
 ghost use Rattle.slink_feed.specs.Fault.{IsFeedFault};
-ghost use Rattle.slink_feed.specs.Rings.{HasPlace, LacksPlace};
+ghost use Rattle.slink_feed.specs.Rings.{HasPlace, LacksPlace, station_at};
+ghost use Rattle.slink_feed.specs.Session.{Fits, State};
 ghost use Rattle.slink_feed.specs.Window.{Window, with_record};
 
 use crate::ring::Ring;
@@ -92,7 +93,8 @@ impl<A: Allocator> Feed<A> {
     /// The ring at an index, counting from 0 in the order in which they were added.
     pub fn ring(&self, k: usize) -> &Ring<A>
         requires { k < length self.now }
-        ensures { slice_get self.now k ≡ Some result.now }
+        ensures ring { slice_get self.now k ≡ Some result.now }
+        ensures most { k < 16 }
     {
         match &self.rings.as_slice()[k] {
             Some(ring) => ring,
@@ -105,13 +107,29 @@ impl<A: Allocator> Feed<A> {
         requires in_range { k < length self.old }
         requires bears { ForSome (slice_get self.old k) (λ w. Bears bytes.now w.place) }
         requires room { ForSome (slice_get self.old k) (λ w. w.next < 2 ^ 63) }
-        ensures { ForSome (slice_get self.old k) (λ w. self.new ≡ slice_set self.old k (with_record w bytes.now)) }
+        ensures pushed { ForSome (slice_get self.old k) (λ w. self.new ≡ slice_set self.old k (with_record w bytes.now)) }
+        // A session that this feed serves is served on.
+        ensures fits { (s : State) → Fits self.old s → Fits self.new s }
     {
         let slots = self.rings.as_mut_slice();
         if k >= slots.len() {
             unreachable!();
         }
         push_slot(&mut slots[k], bytes);
+    }
+
+    /// The index of the first ring whose place has this station, in this network or in any.
+    pub(crate) fn find(&self, sta: &[u8; 5], net: Option<[u8; 2]>) -> Option<usize>
+        ensures value { result ≡ station_at self.now sta.now net }
+        ensures within { IfSome result (λ k. k < length self.now) }
+        ensures most { IfSome result (λ k. k < 16) }
+    {
+        for k in 0..self.len() {
+            if self.ring(k).place().matches(sta, net) {
+                return Some(k);
+            }
+        }
+        None
     }
 
     /// Whether a ring is of this place.

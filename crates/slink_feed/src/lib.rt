@@ -3,7 +3,11 @@
 #![tactic(auto)]
 
 mod feed;
+mod grant;
 mod ring;
+mod session;
 
 pub use feed::{Feed, FeedFault};
+pub use grant::{Grant, Mode};
 pub use ring::{Ring, RingFault};
+pub use session::{Phase, Sent, Session};

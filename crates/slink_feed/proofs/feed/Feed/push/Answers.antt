@@ -1,6 +1,8 @@
 use Rattle.std.proofs.Common.{◌≡◌, arith, ap, length, sym, ◌∙◌, subst, ◌<◌, ◌^◌, Option, Some, IsSomeAnd, slice_get, option_map}
 use Rattle.slink_wire.specs.Place.{Bears}
 use Rattle.slink_feed.specs.Window.{Window, with_record}
+use Rattle.slink_feed.proofs.Done.{some_at}
+use Rattle.slink_feed.proofs.Fitting.{fits_pushed}
 use Rattle.slink_feed.proofs.Slots.{same_length, slot_at, slot_written}
 use Rattle.slink_feed.proofs.feed.Feed.push.Goals as goal
 
@@ -18,6 +20,11 @@ pub invariant_of-self : goal.invariant_of-self
 invariant_of-self g c = (slot_written c.self.inside.rings.items c.as_mut_slice-slots.result.now c.args.self.now c.args.k c.index-slots-k.result c.push_slot.new.slot (λ w. with_record w c.args.bytes.now)
     c.self.invariant c.self.view_is c.as_mut_slice-slots.ensures.value c.index-slots-k.is c.requires.in_range (c.push_slot.ensures ∙ ap (option_map (λ w. with_record w c.args.bytes.now)) (sym c.index-slots-k.is))).0
 
-pub returns : goal.returns
-returns g c = (slot_written c.self.inside.rings.items c.as_mut_slice-slots.result.now c.args.self.now c.args.k c.index-slots-k.result c.push_slot.new.slot (λ w. with_record w c.args.bytes.now)
+pub returns-clause-pushed : goal.returns-clause-pushed
+returns-clause-pushed g c = (slot_written c.self.inside.rings.items c.as_mut_slice-slots.result.now c.args.self.now c.args.k c.index-slots-k.result c.push_slot.new.slot (λ w. with_record w c.args.bytes.now)
     c.self.invariant c.self.view_is c.as_mut_slice-slots.ensures.value c.index-slots-k.is c.requires.in_range (c.push_slot.ensures ∙ ap (option_map (λ w. with_record w c.args.bytes.now)) (sym c.index-slots-k.is))).1
+
+pub returns-clause-fits : goal.returns-clause-fits
+returns-clause-fits g c s fits =
+    let at : (w : Window) × (slice_get c.args.self.now c.args.k ≡ Some w) = some_at c.args.self.now c.args.k c.requires.in_range in
+    fits_pushed c.args.self.now _ c.args.k at.0 c.args.bytes.now s at.1 (returns-clause-pushed g c at.0 at.1) fits
