@@ -1,0 +1,92 @@
+//! Frames that are added up at once, compared with the reference over made payloads: words of every row and
+//! damaged ones, few samples and many, and first samples within a frame's reach of both limits.
+
+use crate::walk::add_frames;
+use crate::{Scheme, reference};
+use std::process::Abort;
+
+/// Payloads of each scheme.
+const ROUNDS: u32 = 50_000;
+
+/// The next of a sequence of numbers that look like random ones (xorshift, by Marsaglia).
+fn next_number(number: u64) -> u64 {
+    let number = number ^ (number << 13);
+    let number = number ^ (number >> 7);
+    number ^ (number << 17)
+}
+
+/// A code, and a word of it that has narrow differences in this scheme.
+fn tame(scheme: Scheme, code: u32, word: u32) -> (u32, u32) {
+    let bits = word & 0x3FFF_FFFF;
+    match (scheme, code) {
+        (Scheme::One, 3) => (1, word),
+        (Scheme::Two, 2) => (2, bits | (2 + word % 2) << 30),
+        (Scheme::Two, 3) => (3, bits | (word % 3) << 30),
+        _ => (code, word),
+    }
+}
+
+/// Fills three frames by numbers from this one on, tame words or any, and gives the number after them.
+fn fill(payload: &mut [u8; 192], scheme: Scheme, is_tame: bool, number: u64) -> u64 {
+    let mut number = number;
+    for frame in 0..3usize {
+        let mut codes = 0u32;
+        for place in 1..16usize {
+            number = next_number(number);
+            let word = (number >> 32) as u32;
+            let code = (number >> 8 & 3) as u32;
+            let (code, word) = if is_tame {
+                tame(scheme, code, word)
+            } else {
+                (code, word)
+            };
+            codes |= (code & 3) << (30 - 2 * place);
+            let at = 64 * frame + 4 * place;
+            payload[at..at + 4].copy_from_slice(&word.to_be_bytes());
+        }
+        payload[64 * frame..64 * frame + 4].copy_from_slice(&codes.to_be_bytes());
+    }
+    number
+}
+
+/// A first sample: near a limit, near where a frame's reach to it ends, or anywhere.
+fn first_by(number: u64) -> i32 {
+    let some = (number >> 40 & 0xFFFF) as i32;
+    match number % 5 {
+        0 => i32::MAX - some,
+        1 => i32::MIN + some,
+        2 => i32::MAX - (1 << 20) - 0x8000 + some,
+        3 => i32::MIN + (1 << 20) + 0x8000 - some,
+        _ => ((number >> 16 & 0xFFFF_FFFF) as u32).cast_signed(),
+    }
+}
+
+/// Compares both sums of a payload.
+fn assert_same(rt: &impl Abort, payload: &[u8; 192], scheme: Scheme, samples: usize, first: i32) {
+    let mut kept = [0; 320];
+    if 320 < samples {
+        assert!(rt; false, "{samples} samples");
+        return;
+    }
+    let found = add_frames(scheme, payload, samples, first);
+    let wanted = reference::put_words(payload, scheme, samples, first, &mut kept[..samples]);
+    assert_eq!(rt;
+        found.map(|sum| (sum.met, sum.last)),
+        wanted.map(|sum| (sum.met, sum.last)),
+        "{scheme:?}, {samples} samples from {first}"
+    );
+}
+
+#[test]
+fn adds_frames_as_the_reference(rt: HostRuntime) {
+    let mut payload = [0; 192];
+    let mut number = 0x2545_F491_4F6C_DD1D;
+    for scheme in [Scheme::One, Scheme::Two] {
+        for round in 0..ROUNDS {
+            number = fill(&mut payload, scheme, round % 8 != 0, number);
+            number = next_number(number);
+            let samples = 1 + (number >> 48) as usize % 300;
+            assert_same(&rt, &payload, scheme, samples, first_by(number));
+        }
+    }
+}
