@@ -33,3 +33,4 @@ pub mod Fewest
 pub mod Written
 pub mod Filling
 pub mod OnePacking
+pub mod Widened

@@ -23,6 +23,7 @@ mod sum;
 #[cfg(test)]
 mod tests;
 mod walk;
+mod widen;
 mod word;
 
 pub use check::check_samples;
@@ -33,4 +34,5 @@ pub use pack::{Packed, TooLarge, TooLargeAt, least_words, pack_word, pack_words}
 pub use packing::{one_fewest, one_packing};
 pub use read::read_samples;
 pub use scheme::Scheme;
+pub use widen::widen_bytes;
 pub use word::{BadWord, unpack_word};

@@ -7,6 +7,7 @@ mod memory;
 mod packed;
 mod record;
 mod steim;
+mod widen;
 mod words;
 
 use crate::{BadWord, Scheme, unpack_word};
