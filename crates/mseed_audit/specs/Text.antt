@@ -4,9 +4,7 @@ use Rattle.std.specs.Fmt.{signed_decimal}
 use Rattle.std.specs.List.{list_all}
 use Rattle.mseed_time.specs.Rate.{Ratio}
 use Rattle.mseed_time.specs.Ratios.{ratio_of}
-use Rattle.mseed_time.specs.Text.{time_text}
-use Rattle.mseed_time.specs.declared.fault.TimeFault.{TimeFault}
-use Rattle.mseed_time.specs.declared.fault.TimeFault.TheVariants.{Year, Day, Hour, Minute, Second, Fraction}
+use Rattle.mseed_time.specs.Text.{fault_word, time_text}
 use Rattle.mseed_record.specs.Header.{is_blank}
 use Rattle.mseed_record.specs.declared.frame.FrameFault.{FrameFault}
 use Rattle.mseed_record.specs.declared.frame.FrameFault.TheVariants.{NotData, Order as NoOrder, Chain, No1000, Length, Outside, Version3}
@@ -39,15 +37,6 @@ name_text key =
     code_text (slice_range key 0 2) ++ codes "_" ++ code_text (slice_range key 2 7) ++ codes "_"
     ++ code_text (slice_range key 7 9) ++ codes "_" ++ code_text (slice_range key 9 12)
 
--- the words of a start that is no time
-abbrev pub time_text_of : TimeFault → List ℕ
-time_text_of Year = codes "time year"
-time_text_of Day = codes "time day"
-time_text_of Hour = codes "time hour"
-time_text_of Minute = codes "time minute"
-time_text_of Second = codes "time second"
-time_text_of Fraction = codes "time fraction"
-
 -- the words of samples that can't be read; a want of memory is no finding
 abbrev pub read_text : ReadFault → List ℕ
 read_text Blockette100 = codes "blockette100"
@@ -61,7 +50,7 @@ read_text (LastDiffers found constant) = codes "lastdiffers " ++ signed_decimal 
 read_text NoMemory = []
 
 abbrev pub why_text : Why → List ℕ
-why_text (Time fault) = time_text_of fault
+why_text (Time fault) = codes "time " ++ fault_word fault
 why_text Rate = codes "norate"
 why_text (ReadFailed fault) = read_text fault
 why_text RateChange = codes "ratechange"

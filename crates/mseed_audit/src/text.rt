@@ -3,7 +3,7 @@ ghost use Rattle.std.specs.Prelude.{◌≡◌, ◌++◌, OnOk};
 ghost use Rattle.mseed_time.specs.Ratios.{ratio_of};
 ghost use Rattle.mseed_stream.specs.Device.{IsFrontOf};
 ghost use Rattle.mseed_audit.specs.Text.{audit_text, verdict_lines, verdict_line, continuous_words};
-ghost use Rattle.mseed_audit.specs.Text.{broken_words, total_line, why_text, read_text, time_text_of};
+ghost use Rattle.mseed_audit.specs.Text.{broken_words, total_line, why_text, read_text};
 ghost use Rattle.mseed_audit.specs.Text.{fault_line, frame_words};
 ghost use Rattle.mseed_stream.specs.declared.fault.StreamFault.{StreamFault};
 
@@ -15,7 +15,7 @@ use crate::verdict::Verdict;
 use mseed_record::{Codes, FrameFault};
 use mseed_steim::ReadFault;
 use mseed_stream::StreamFault;
-use mseed_time::{Micros, Rate, TimeFault, show_time};
+use mseed_time::{Micros, Rate, show_time};
 use std::alloc::{AllocError, Allocator};
 
 /// Adds the text of an audit: a line for each verdict, the numbers of records and of channels, and the line of
@@ -227,27 +227,13 @@ fn push_why<A: Allocator>(text: &mut Vec<u8, A>, why: &Why) -> Result<(), AllocE
     ensures front { IsFrontOf text.old.items text.new.items }
 {
     match why {
-        Why::Time(fault) => push_parts(text, &[Words(time_words(*fault))]),
+        Why::Time(fault) => { push_parts(text, &[Words(b"time "), Words(fault.word().as_bytes())]) }
         Why::Rate => push_parts(text, &[Words(b"norate")]),
         Why::Read(fault) => push_read_fault(text, fault),
         Why::RateChange => push_parts(text, &[Words(b"ratechange")]),
         Why::Leap => push_parts(text, &[Words(b"leap")]),
         Why::Gap(micros) => push_parts(text, &[Words(b"gap "), Wide(*micros)]),
         Why::Overlap(micros) => push_parts(text, &[Words(b"overlap "), Wide(*micros)]),
-    }
-}
-
-/// The words of a start that is no time.
-fn time_words(fault: TimeFault) -> &'static [u8]
-    ensures { result.now ≡ time_text_of fault }
-{
-    match fault {
-        TimeFault::Year => b"time year",
-        TimeFault::Day => b"time day",
-        TimeFault::Hour => b"time hour",
-        TimeFault::Minute => b"time minute",
-        TimeFault::Second => b"time second",
-        TimeFault::Fraction => b"time fraction",
     }
 }
 
