@@ -1,5 +1,5 @@
 //! A text in parts: words and numbers, one behind another.
-ghost use Rattle.std.specs.Prelude.{◌≡◌, ◌++◌, OnOk};
+ghost use Rattle.std.specs.Prelude.{◌≡◌, ◌++◌, OnOk, decimal};
 ghost use Rattle.mseed_stream.specs.Device.{IsFrontOf};
 ghost use Rattle.mseed_audit.specs.Parts.{part_text, parts_text};
 
@@ -20,6 +20,7 @@ pub enum Part<'a> {
 }
 
 /// Adds the parts. Where memory is refused, some of them may have been added.
+#[inline(always)]
 pub fn push_parts<A: Allocator>(text: &mut Vec<u8, A>, parts: &[Part<'_>]) -> Result<(), AllocError>
     ensures ok { OnOk result (text.new.items ≡ text.old.items ++ parts_text parts.now) }
     ensures front { IsFrontOf text.old.items text.new.items }
@@ -31,15 +32,23 @@ pub fn push_parts<A: Allocator>(text: &mut Vec<u8, A>, parts: &[Part<'_>]) -> Re
 }
 
 /// Adds a part.
+#[inline(always)]
 fn push_part<A: Allocator>(text: &mut Vec<u8, A>, part: Part<'_>) -> Result<(), AllocError>
     ensures ok { OnOk result (text.new.items ≡ text.old.items ++ part_text part.entry) }
     ensures front { IsFrontOf text.old.items text.new.items }
 {
-    let mut buffer = Buffer::new();
     match part {
         Part::Words(words) => text.extend_from_slice(words),
-        Part::Count(count) => text.extend_from_slice(buffer.format(count).as_bytes()),
-        Part::Wide(count) => text.extend_from_slice(buffer.format(count).as_bytes()),
-        Part::Signed(number) => text.extend_from_slice(buffer.format(number).as_bytes()),
+        Part::Count(count) => push_count(text, count),
+        Part::Wide(count) => text.extend_from_slice(Buffer::new().format(count).as_bytes()),
+        Part::Signed(number) => text.extend_from_slice(Buffer::new().format(number).as_bytes()),
     }
+}
+
+/// Adds the decimal digits of a number.
+fn push_count<A: Allocator>(text: &mut Vec<u8, A>, count: u64) -> Result<(), AllocError>
+    ensures ok { OnOk result (text.new.items ≡ text.old.items ++ decimal count) }
+    ensures front { IsFrontOf text.old.items text.new.items }
+{
+    text.extend_from_slice(Buffer::new().format(count).as_bytes())
 }
