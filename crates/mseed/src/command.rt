@@ -178,7 +178,7 @@ pub fn refuse_words<E: Sink>(errors: &mut E) -> Run
     Run::Status(BAD_COMMAND)
 }
 
-/// Says that there was no memory for the words of the command line.
+/// Says that memory was refused: to a command, to `clap`, or to `main` for the words of the command line.
 pub fn refuse_memory<E: Sink>(errors: &mut E) -> Run
     ensures status { status_in result ≡ 2 }
     ensures told { Tells (codes "mseed: no memory\n") (E.said errors.old) (E.said errors.new) }

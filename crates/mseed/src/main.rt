@@ -30,7 +30,9 @@ fn main(rt: HostRuntime) -> ExitCode {
     ExitCode::from(status)
 }
 
-/// Runs the command over the standard streams with the words of the command line.
+/// Runs the command over the standard streams with the words of the command line. It takes all that `main`
+/// needs memory for, so that `main` has one place to say that there was none. No clause says what the system
+/// gives: this is only tested.
 ///
 /// # Errors
 ///
