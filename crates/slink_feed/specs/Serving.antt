@@ -25,3 +25,7 @@ IsAnswer feed s TooLong new reply = ended s ≡ (new, reply)
 -- The answer to what the one stream tells beyond the other.
 abbrev pub Answers : List Window → State → List ℕ → List ℕ → State → Reply → Type 0
 Answers feed s before after new reply = (what : What) × Tells what before after × IsAnswer feed s what new reply
+
+-- So many bytes of these were taken: all of them, unless a line ended or is too long.
+abbrev pub TakesWhole : List ℕ → List ℕ → ℕ → ℕ → Type 0
+TakesWhole before after used count = (what : What) × Tells what before after × (what ≡ More → used ≡ count)

@@ -3,7 +3,7 @@ ghost use Rattle.std.specs.Prelude.{◌≡◌, ◌≢◌, ◌⊎◌, ◌≤◌, 
 ghost use Rattle.std.specs.Option.{ForSome};
 ghost use Rattle.slink_wire.specs.Lines.{Held, IsHeld, TellsNothing};
 ghost use Rattle.slink_feed.specs.Window.{Window};
-ghost use Rattle.slink_feed.specs.Serving.{Answers, IsAnswer};
+ghost use Rattle.slink_feed.specs.Serving.{Answers, IsAnswer, TakesWhole};
 ghost use Rattle.slink_feed.specs.Session.{AreReached, Fits, all_done, answered, asked, at, at_next, chosen, ended, grant_at, in_chosen, in_fresh, in_granted, in_streaming, is_done, sent, sent_from};
 
 use crate::feed::Feed;
@@ -85,6 +85,9 @@ impl Session {
         // The answer is to what these bytes add to the lines of the stream.
         ensures answers { (stream : List ℕ) → self.old.state.phase ≢ Phase.Closed → IsHeld self.old.held stream
             → Answers feed.now self.old.state stream (stream ++ take result.0 bytes.now) self.new.state result.1 }
+        // All bytes are taken, unless a line ends or is too long.
+        ensures whole { (stream : List ℕ) → self.old.state.phase ≢ Phase.Closed → IsHeld self.old.held stream
+            → TakesWhole stream (stream ++ take result.0 bytes.now) result.0 (length bytes.now) }
         // Fewer of them add nothing.
         ensures first { (stream : List ℕ) (n : ℕ) → self.old.state.phase ≢ Phase.Closed → IsHeld self.old.held stream
             → n < result.0 → TellsNothing stream (stream ++ take n bytes.now) }

@@ -1,4 +1,5 @@
-use Rattle.std.proofs.Common.{ap, take, ◌++◌}
+use Rattle.std.proofs.Common.{ap, subst, sym, take, ◌++◌}
+use Rattle.slink_wire.specs.Lines.{Held, IsHeld}
 use Rattle.slink_feed.specs.Serving.{Standing}
 use Rattle.slink_feed.specs.Session.{at}
 use Rattle.slink_feed.proofs.Answered.{answer_told}
@@ -9,3 +10,11 @@ returns-in_default-clause-answers g c stream runs held =
     answer_told c.args.feed.now c.args.self.now.state (at c.self.inside.phase c.self.inside.grants) c.args.self.now.held c.self.inside.lines stream (stream ++ take c.take-used.result.used c.args.bytes.now)
     c.take-used.result.what c.answer_to.new.self.state c.answer_to.result (ap (λ (s : Standing). s.state) c.self.view_is) (ap (λ (s : Standing). s.held) c.self.view_is)
     (λ h. c.take-used.ensures.told stream h) c.answer_to.ensures.answer held
+
+pub returns-in_default-clause-whole : goal.returns-in_default-clause-whole
+returns-in_default-clause-whole g c stream runs held =
+    let same = ap (λ (s : Standing). s.held) c.self.view_is in (
+      c.take-used.result.what,
+      c.take-used.ensures.told stream (subst (λ (h : Held). IsHeld h stream) (sym same) held),
+      c.take-used.ensures.whole,
+    )
