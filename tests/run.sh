@@ -27,8 +27,11 @@ count() {
     fi
 }
 
+# The gate leaves the program that it proved and built, which the scripts run; where it left none, it is built by itself.
+program=crates/mseed/out/mseed
+rm -f "$program"
 count rt ci
-if make --silent build; then
+if [ -x "$program" ] || make --silent build; then
     for script in tests/*.sh; do
         [ "$script" = tests/run.sh ] || count bash "$script"
     done
