@@ -1,0 +1,24 @@
+-- What is kept of a series' leap seconds while its samples are gone through.
+use Rattle.std.specs.Prelude.{◌≡◌, ℕ, ◌*◌, ◌^◌, ◌≤◌, List, [], ◌∷◌, ◌++◌, length, nat_abs}
+use Rattle.std.specs.List.{AllByRecursion}
+use Rattle.mseed_time.specs.declared.outcome.LeapStep.{LeapStep}
+use Rattle.mseed_audit.specs.Series.{AreStepsFrom}
+use Rattle.mseed_pack.specs.declared.stretch.Stretch.{Stretch}
+use Rattle.mseed_pack.specs.Clock.{added_before}
+
+-- how many samples stand before the first of these leap seconds; all, where there's none
+abbrev pub end_by : List (ℕ × LeapStep) → ℕ → ℕ
+end_by [] size = size
+end_by (step ∷ steps) size = step.0
+
+-- the stretch lies between the leap seconds that were passed and those that are left
+pub record IsStretch (steps : List (ℕ × LeapStep)) (size : ℕ) (stretch : Stretch) : Type 0 where
+  pub passed : List (ℕ × LeapStep)
+  pub left : List (ℕ × LeapStep)
+  pub parts : steps ≡ passed ++ left
+  pub count : length passed ≡ stretch.passed
+  pub before : AllByRecursion (λ (step : ℕ × LeapStep). step.0 ≤ stretch.begin) passed
+  pub behind : AreStepsFrom stretch.begin size left
+  pub end_is : stretch.end ≡ end_by left size
+  pub added_is : stretch.added ≡ added_before passed stretch.begin
+  pub added_bound : nat_abs stretch.added ≤ 10 ^ 6 * stretch.passed

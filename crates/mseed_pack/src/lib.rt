@@ -1,0 +1,12 @@
+//! Packing a series into miniSEED records (SEED Reference Manual 2.4, chapter 8 and appendix B).
+//!
+//! What is packed is one list of records, byte for byte: which one is said in `specs/Packing`.
+#![tactic(auto)]
+
+mod clock;
+mod fault;
+mod options;
+mod stretch;
+
+pub use fault::PackFault;
+pub use options::{BadOption, Encoding, Options};
