@@ -5,6 +5,7 @@
 mod btime;
 mod fault;
 mod joins;
+mod law;
 mod micros;
 mod order;
 mod outcome;
@@ -16,6 +17,7 @@ mod tests;
 pub use btime::Btime;
 pub use fault::{OutOfRange, TimeFault};
 pub use joins::join;
+pub use law::one_name;
 pub use micros::Micros;
 pub use order::Order;
 pub use outcome::{Join, LeapStep};
