@@ -15,18 +15,9 @@ use Rattle.mseed_record.specs.Order.{order_of, is_dated}
 use Rattle.mseed_record.specs.Chain.{type_at, next_at, goes_on, first_of, has_type, IsChain, IsWholeChain}
 use Rattle.mseed_record.specs.Record.{IsRecordBy, exponent_at}
 use Rattle.mseed_record.specs.View.{IsViewBy, microseconds_at, start_of}
-use Rattle.mseed_record.specs.Written.{Header, header_bytes, name_bytes, time_bytes, IsHeaded, ReadsBack, headed_view}
+use Rattle.mseed_record.specs.Written.{Header, header_bytes, name_bytes, time_bytes, IsWritable, IsHeaded, ReadsBack, headed_view}
 use Rattle.mseed_record.proofs.Bytes.{bytes_from}
 use Rattle.mseed_record.proofs.Puts.{each_byte}
-
--- what the types of a header's fields say
-pub record IsWritable (h : Header) : Type 0 where
-  pub key : length h.key ≡ 12
-  pub time : IsTime h.start
-  pub samples : h.samples < 2 ^ 16
-  pub factor : FitsSigned w16 h.factor
-  pub multiplier : FitsSigned w16 h.multiplier
-  pub microseconds : FitsSigned w8 h.microseconds
 
 key_bytes : (ks : List ℕ) → length ks ≡ 12 → ks ≡ bytes_from ks 0 12
 key_bytes ks h = sym (each_byte ks 12 h)

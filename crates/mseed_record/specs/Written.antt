@@ -1,11 +1,11 @@
 -- The header that this project writes: a big-endian fixed section, then a blockette 1000 and a blockette
 -- 1001, 64 bytes (SEED manual, chapter 8).
-use Rattle.std.specs.Prelude.{◌≡◌, ℕ, ◌-◌, ◌^◌, ◌≤◌, ◌<◌, ◌&&◌, nat_le, not, Bool, false, if◌then◌else◌, replicate, List, [], ◌∷◌, ◌++◌, length, take, drop, slice_index, slice_range, codes, Option, Some, None, ℤ, ◌+ℤ◌}
+use Rattle.std.specs.Prelude.{◌≡◌, ℕ, ◌-◌, ◌^◌, ◌≤◌, ◌<◌, ◌&&◌, nat_le, not, Bool, false, if◌then◌else◌, replicate, List, [], ◌∷◌, ◌++◌, length, take, drop, slice_index, slice_range, codes, Option, Some, None, ℤ, ◌+ℤ◌, FitsSigned}
 use Rattle.std.specs.Int.{w8, w16, cast_unsigned}
 use Rattle.std.specs.List.{list_all}
 use Rattle.byteorder.specs.Endian.{big_bytes}
 use Rattle.mseed_time.specs.declared.order.Order.TheVariants.{Big}
-use Rattle.mseed_time.specs.Btime.{Parts, microsecond_of}
+use Rattle.mseed_time.specs.Btime.{Parts, IsTime, microsecond_of}
 use Rattle.mseed_time.specs.Text.{padded_decimal}
 use Rattle.mseed_record.specs.declared.naming.CodeField.{CodeField}
 use Rattle.mseed_record.specs.declared.naming.CodeField.TheVariants.{Network, Station, Location, Channel}
@@ -48,6 +48,15 @@ pub record Header : Type 0 where
   pub exponent : ℕ
   pub frames : ℕ
   pub activity : ℕ
+
+-- the fields of a header hold what they say
+pub record IsWritable (h : Header) : Type 0 where
+  pub key : length h.key ≡ 12
+  pub time : IsTime h.start
+  pub samples : h.samples < 2 ^ 16
+  pub factor : FitsSigned w16 h.factor
+  pub multiplier : FitsSigned w16 h.multiplier
+  pub microseconds : FitsSigned w8 h.microseconds
 
 -- a time as BTIME's 10 bytes, the unused one 0
 abbrev pub time_bytes : Parts → List ℕ

@@ -9,6 +9,7 @@ mod frame;
 mod framer;
 mod framing;
 mod header;
+mod law;
 mod naming;
 #[cfg(test)]
 mod tests;
@@ -21,6 +22,7 @@ pub use frame::{DataOffset, FrameFault, Leap, Scan, ViewFault};
 pub use framer::Framer;
 pub use framing::scan;
 pub use header::is_blank;
+pub use law::header_reads_back;
 pub use naming::{BadCode, CodeField};
 pub use view::RecordView;
 pub use write::{TooShort, write_header};
