@@ -31,7 +31,7 @@ pub use differences::{BadWordAt, Differences};
 pub use fault::{Ends, ReadFault};
 pub use law::{one_fault, one_reading, reading_has_count};
 pub use pack::{Packed, TooLarge, TooLargeAt, least_words, pack_word, pack_words};
-pub use packing::{one_fewest, one_packing};
+pub use packing::{one_fewest, one_packing, packed_spells};
 pub use read::read_samples;
 pub use scheme::Scheme;
 pub use widen::widen_bytes;

@@ -1,9 +1,11 @@
 //! Laws of packing.
 
-ghost use Rattle.std.specs.Prelude.{◌≡◌, ℕ, List, length, ℤ};
+ghost use Rattle.std.specs.Prelude.{◌≡◌, ℕ, List, drop, length, take, ℤ};
 ghost use Rattle.mseed_steim.specs.declared.scheme.Scheme.{Scheme};
+ghost use Rattle.mseed_steim.specs.declared.scheme.Scheme.TheVariants.{Two};
 ghost use Rattle.mseed_steim.specs.Frames.{DataWord};
 ghost use Rattle.mseed_steim.specs.Packing.{IsFewest, IsFullest, PacksRun, contents};
+ghost use Rattle.mseed_steim.specs.Runs.{SpellsRun};
 
 /// One word takes the largest number of some differences; and as many words that do so in turn are the
 /// same words, wherever they stand, and leave the same differences.
@@ -15,4 +17,10 @@ pub fn one_packing()
 /// One number of words is the fewest of some differences.
 pub fn one_fewest()
     ensures { (ds : List ℤ) (m n : ℕ) → IsFewest ds m → IsFewest ds n → m ≡ n }
+{}
+
+/// Words that take the largest number in turn spell what they take; and in Steim-2 no fewer words do.
+pub fn packed_spells()
+    ensures spelled { (s : Scheme) (ws : List DataWord) (ds : List ℤ) (used : ℕ) → PacksRun s ws ds (drop used ds) → SpellsRun s ws (take used ds) }
+    ensures fewest { (ws : List DataWord) (ds : List ℤ) (used : ℕ) → PacksRun Two ws ds (drop used ds) → IsFewest (take used ds) (length ws) }
 {}
