@@ -14,7 +14,7 @@ abs_sum (pos a) (negsuc b) = omega (arith, ints)
 abs_sum (negsuc a) (pos b) = omega (arith, ints)
 abs_sum (negsuc a) (negsuc b) = omega arith
 
-near_fits : (z : ℤ) → nat_abs z < 2 ^ 31 → fits z ≡ true
+pub near_fits : (z : ℤ) → nat_abs z < 2 ^ 31 → fits z ≡ true
 near_fits (pos n) h = lt-ltb n (2 ^ 31) (omega (arith, h))
 near_fits (negsuc n) h = lt-ltb n (2 ^ 31) (omega (arith, h))
 

@@ -1,11 +1,11 @@
 -- One item after another: how a walk goes on.
-use Rattle.std.proofs.Common.{◌≡◌, ◌≢◌, ℕ, ◌<◌, ◌^◌, List, [], ◌∷◌, ◌∙◌, ℤ, pos, negsuc, ◌+ℤ◌, arith, refl, eqb, false, true, Result, Ok, Err, w32, FitsSigned}
+use Rattle.std.proofs.Common.{◌≡◌, ◌≢◌, ℕ, ◌<◌, ◌^◌, List, [], ◌∷◌, ◌++◌, take, ◌∙◌, ℤ, pos, negsuc, ◌+ℤ◌, arith, refl, eqb, false, true, Result, Ok, Err, w32, FitsSigned}
 use Rattle.std.proofs.lemmas.Bool.{ne_eqb, eq-eqb, lt-ltb, le-ltb}
 use Rattle.mseed_steim.specs.declared.differences.BadWordAt.{BadWordAt}
 use Rattle.mseed_steim.specs.declared.fault.ReadFault.{ReadFault}
 use Rattle.mseed_steim.specs.declared.fault.ReadFault.TheVariants.{Short, BadWord, Overflow}
 use Rattle.mseed_steim.specs.declared.sum.Sum.{Sum}
-use Rattle.mseed_steim.specs.Sums.{GoesOn, fits, fold, one_more}
+use Rattle.mseed_steim.specs.Sums.{GoesOn, Keeps, fits, fold, met_in, one_more}
 
 pub fold_enough : (n : ℕ) (s : Sum) (items : List (Result ℤ BadWordAt)) → s.met ≡ n → fold n s items ≡ Ok s
 unfolding fold
@@ -55,3 +55,8 @@ fold_short n s h = rw (ne_eqb s.met n h) refl
 pub goes_from : (n : ℕ) (s t : Sum) (items later behind : List (Result ℤ BadWordAt)) (r : Result Sum ReadFault) → fold n s items ≡ fold n t later → GoesOn n t later behind r → GoesOn n s items behind r
 goes_from n s t items later behind (Ok next) e h = e ∙ h
 goes_from n s t items later behind (Err fault) e h = e ∙ h
+
+pub keeps_from : (n : ℕ) (s t : Sum) (before between after : List ℤ) (items later behind : List (Result ℤ BadWordAt)) (r : Result Sum ReadFault) → take t.met between ++ met_in n t later ≡ take s.met before ++ met_in n s items
+    → Keeps n t between later behind after r → Keeps n s before items behind after r
+keeps_from n s t before between after items later behind (Ok next) e h = h ∙ e
+keeps_from n s t before between after items later behind (Err fault) e h = tt

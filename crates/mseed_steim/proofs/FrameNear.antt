@@ -9,7 +9,7 @@ use Rattle.mseed_steim.specs.Lanes.{words, word_at, row_at, counts_two, widths_t
 use Rattle.mseed_steim.proofs.LaneSums.{long_words}
 use Rattle.mseed_steim.proofs.FrameSums.{row_small}
 
-near : (p q x : ℕ) → q ≡ 2 * p → x < q → nat_abs (if nat_lt x p then pos x else negsuc (q - 1 - x)) ≤ p
+pub near : (p q x : ℕ) → q ≡ 2 * p → x < q → nat_abs (if nat_lt x p then pos x else negsuc (q - 1 - x)) ≤ p
 near p q x e lt = ⊎_elim
     (λ (low : x < p). rw (lt-ltb x p low) (omega (arith, low)))
     (λ (high : p ≤ x). rw (le-ltb x p high) (omega (arith, e, lt, high)))

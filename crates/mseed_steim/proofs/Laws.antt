@@ -1,5 +1,5 @@
 -- A record has one reading at most, or one fault.
-use Rattle.std.proofs.Common.{◌≡◌, ◌≢◌, ℕ, ◌+◌, ◌-◌, ◌*◌, ◌/◌, ◌<◌, ◌≤◌, List, [], ◌∷◌, ◌++◌, length, ℤ, arith, refl, ap, sym, ◌∙◌, subst, slice_get, true, false, Some, Result, Ok, Err, IsOkAnd, IfOk, IfErr, MatchResult, inl, inr, ◌↔◌, All}
+use Rattle.std.proofs.Common.{◌≡◌, ◌≢◌, ℕ, ◌+◌, ◌-◌, ◌*◌, ◌/◌, ◌<◌, ◌≤◌, List, [], ◌∷◌, ◌++◌, length, ℤ, arith, refl, ap, sym, ◌∙◌, subst, slice_get, true, false, Some, Result, Ok, Err, IsOk, IsOkAnd, IfOk, IfErr, MatchResult, inl, inr, ◌↔◌, All}
 use Rattle.std.proofs.Math.Nat.{mul-suc}
 use Rattle.mseed_time.specs.declared.order.Order.{Order}
 use Rattle.mseed_time.specs.declared.order.Order.TheVariants.{Big, Little}
@@ -239,3 +239,16 @@ read_whole v items (Err f) h = tt
 pub read_refused : {X : Type 0} (v : View) (items : X → List ℤ) (r : Result X ReadFault) → MatchResult r (λ x. IsWhole v (items x)) (λ f. IsRefusal v f) → IfErr r (λ f. IsRefusal v f)
 read_refused v items (Ok x) h = tt
 read_refused v items (Err f) h = h
+
+-- what the answer of a fill means
+pub filled_only : (v : View) (out : List ℤ) (r : Result (Unit {0}) ReadFault) → 0 < count_of v → MatchResult r (λ _. IsWhole v out) (λ f. IsFault v f) → (s : List ℤ) → IsWhole v s → IsOk r × (out ≡ s)
+filled_only v out (Ok done) some h s w = (refl, reading_one v out s h.0 w.0)
+filled_only v out (Err f) some h s w = absurd (denied v f s (fault_denies v f some h) w.0 w.1)
+
+pub filled_fault : (v : View) (out : List ℤ) (r : Result (Unit {0}) ReadFault) → 0 < count_of v → MatchResult r (λ _. IsWhole v out) (λ f. IsFault v f) → (f : ReadFault) → (r ≡ Err f) ↔ IsFault v f
+filled_fault v out (Ok done) some h f = ((λ e. cc), (λ q. absurd (denied v f out (fault_denies v f some q) h.0 h.1)))
+filled_fault v out (Err g) some h f = ((λ e. let same : g ≡ f = cc in subst (λ (x : ReadFault). IsFault v x) same h), (λ q. ap Err (record_fault_one v g f h q)))
+
+pub filled_denies : (v : View) (out : List ℤ) (r : Result (Unit {0}) ReadFault) → 0 < count_of v → MatchResult r (λ _. IsWhole v out) (λ f. IsFault v f) → IfErr r (λ f. Denies v f)
+filled_denies v out (Ok done) some h = tt
+filled_denies v out (Err f) some h = fault_denies v f some h

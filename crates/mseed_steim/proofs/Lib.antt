@@ -23,6 +23,7 @@ pub mod FrameSums
 pub mod FrameOne
 pub mod Far
 pub mod FrameNear
+pub mod Near
 pub mod FrameItems
 pub mod Rows
 pub mod Widths

@@ -1,5 +1,5 @@
 -- Bytes that are widened in lanes.
-use Rattle.std.proofs.Common.{◌≡◌, ℕ, zero, suc, ◌+◌, ◌*◌, ◌<◌, ◌≤◌, List, [], ◌∷◌, ◌++◌, map, length, take, drop, get_or, ℤ, arith, refl, ap, sym, ◌∙◌, w32, to_z, cond, Bool}
+use Rattle.std.proofs.Common.{◌≡◌, ℕ, zero, suc, ◌+◌, ◌<◌, ◌≤◌, List, [], ◌∷◌, ◌++◌, map, length, take, ℤ, arith, refl, ap, sym, ◌∙◌, w32, to_z, cond}
 use Rattle.byteorder.specs.Endian.{twos_complement}
 use Rattle.std.proofs.lemmas.List.{length-map, map-append}
 use Rattle.std.proofs.lemmas.Simd.{length-chunk, take_more_put_chunk}

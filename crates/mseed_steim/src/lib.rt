@@ -32,7 +32,7 @@ pub use fault::{Ends, ReadFault};
 pub use law::{one_fault, one_reading, reading_has_count};
 pub use pack::{Packed, TooLarge, TooLargeAt, least_words, pack_word, pack_words};
 pub use packing::{one_fewest, one_packing, packed_spells};
-pub use read::read_samples;
+pub use read::{fill_samples, read_samples};
 pub use scheme::Scheme;
 pub use widen::widen_bytes;
 pub use word::{BadWord, unpack_word};

@@ -1,6 +1,6 @@
 //! Samples that are kept.
 
-ghost use Rattle.std.specs.Prelude.{◌≡◌, ◌≢◌, ◌<◌, List, ℤ, Err, IfOk, IfErr, MatchResult, length};
+ghost use Rattle.std.specs.Prelude.{◌≡◌, ◌≢◌, ◌↔◌, ◌<◌, List, ℤ, Err, IsOk, IfOk, IfErr, OnOk, MatchResult, length};
 ghost use Rattle.mseed_time.specs.declared.order.Order.TheVariants.{Big};
 ghost use Rattle.mseed_record.specs.Viewing.{view_of};
 ghost use Rattle.mseed_steim.specs.declared.form.Form.TheVariants.{Integers, Frames};
@@ -85,6 +85,28 @@ fn fill_record(view: &RecordView<'_>, out: &mut [i32]) -> Result<(), ReadFault>
         Form::Integers(width) => fill_integers(payload, width, view.payload_order(), samples, out),
         Form::Frames(scheme) => fill_frames(payload, scheme, samples, out),
     }
+}
+
+/// Fills in a record's samples: those of its one reading, where it ends on the payload's constant. The record
+/// has at least one sample, and there are as many places as it has.
+///
+/// # Errors
+///
+/// The first reason, in the order of [`ReadFault`], why the record has no such reading. What the places hold is
+/// then open.
+pub fn fill_samples(view: &RecordView<'_>, out: &mut [i32]) -> Result<(), ReadFault>
+    requires some { 0 < count_of (view_of view.now) }
+    requires places { length out.old ≡ count_of (view_of view.now) }
+    // What is filled in is a reading that ends on its constants.
+    ensures reading { OnOk result (IsWhole (view_of view.now) out.new) }
+    // There's no other, and where there is one, it's filled in.
+    ensures only { (s : List ℤ) → IsWhole (view_of view.now) s → IsOk result × (out.new ≡ s) }
+    // A fault is answered exactly where it is the first.
+    ensures fault { (f : ReadFault) → (result ≡ Err f) ↔ IsFault (view_of view.now) f }
+    // A fault says that there's no reading, or that the only one ends elsewhere.
+    ensures denied { IfErr result (λ fault. Denies (view_of view.now) fault) }
+{
+    fill_record(view, out)
 }
 
 /// So many zeros.

@@ -1,9 +1,9 @@
 //! Differences that are added up, word by word.
 
-ghost use Rattle.std.specs.Prelude.{◌≡◌, ◌+◌, ◌≤◌, ◌<◌, List, ◌∷◌, ◌++◌, map, ℤ, Result, Ok, IfOk};
+ghost use Rattle.std.specs.Prelude.{◌≡◌, ◌+◌, ◌^◌, ◌≤◌, ◌<◌, List, ◌∷◌, ◌++◌, map, ℤ, ◌+ℤ◌, nat_abs, Result, Ok, IfOk};
 ghost use Rattle.mseed_steim.specs.declared.differences.BadWordAt.{BadWordAt};
 ghost use Rattle.mseed_steim.specs.Digits.{digits};
-ghost use Rattle.mseed_steim.specs.Sums.{GoesOn, met_in};
+ghost use Rattle.mseed_steim.specs.Sums.{GoesOn, fold, met_in};
 
 use crate::fault::ReadFault;
 use crate::group::Group;
@@ -32,6 +32,23 @@ pub(crate) fn add_difference(difference: i32, samples: usize, sum: Sum) -> Resul
             last,
         }),
         None => Err(ReadFault::Overflow(sum.met)),
+    }
+}
+
+/// One difference more, which isn't the first, where the limits of 32 bits are out of its reach.
+#[inline(always)]
+pub(crate) fn add_near(difference: i32, samples: usize, sum: Sum) -> Sum
+    requires some { 0 < sum.met }
+    requires left { sum.met < samples }
+    requires near { nat_abs sum.last + nat_abs difference < 2 ^ 31 }
+    ensures goes_on { (more : List (Result ℤ BadWordAt)) → fold samples sum (Ok difference ∷ more) ≡ fold samples result more }
+    ensures kept { (more : List (Result ℤ BadWordAt)) → met_in samples sum (Ok difference ∷ more) ≡ result.last ∷ met_in samples result more }
+    ensures met { result.met ≡ sum.met + 1 }
+    ensures last { result.last ≡ sum.last +ℤ difference }
+{
+    Sum {
+        met: sum.met + 1,
+        last: sum.last.wrapping_add(difference),
     }
 }
 

@@ -1,4 +1,4 @@
-use Rattle.std.proofs.Common.{◌≡◌, ℕ, ◌%◌, ◌^◌, pos, cond, to_z, ⊎_elim, ◌+◌, ◌*◌, ◌<◌, ◌≤◌, map, take, length, arith, rules, refl, w8, w32}
+use Rattle.std.proofs.Common.{◌≡◌, ℕ, ◌%◌, ◌^◌, pos, cond, to_z, ⊎_elim, ◌+◌, ◌*◌, ◌<◌, ◌≤◌, length, arith, rules, refl, w8, w32}
 use borrow.Rule.Simd.Lanes.{act1, act2}
 use borrow.Table.Row.{s_int}
 use mir.Syntax.{mask, lt, signed, unsigned, cast, wrap_sub}

@@ -2,7 +2,7 @@ use Rattle.std.proofs.Common.{◌≡◌, ◌-◌, ◌≤◌, ◌++◌, map, take
 use Rattle.mseed_steim.specs.declared.differences.BadWordAt.{BadWordAt}
 use Rattle.mseed_steim.specs.Digits.{digits}
 use Rattle.mseed_steim.specs.Sums.{fold, met_in}
-use Rattle.mseed_steim.proofs.put.put_group.Given as goal
+use Rattle.mseed_steim.proofs.put.put_each.Given as goal
 
 abbrev pub invariant-loop-i : goal.invariant-loop-i
 invariant-loop-i l = record {

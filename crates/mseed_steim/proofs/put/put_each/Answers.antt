@@ -6,7 +6,7 @@ use Rattle.mseed_steim.proofs.Shifts.{room_at}
 use Rattle.mseed_steim.proofs.Spelled.{digits_step, digits_over}
 use Rattle.mseed_steim.proofs.Folds.{fold_enough}
 use Rattle.mseed_steim.proofs.Folded.{met_enough, take_put}
-use Rattle.mseed_steim.proofs.put.put_group.Goals as goal
+use Rattle.mseed_steim.proofs.put.put_each.Goals as goal
 
 pub returns-then-sum-samples-clause-goes_on : goal.returns-then-sum-samples-clause-goes_on
 returns-then-sum-samples-clause-goes_on c = λ more.

@@ -1,0 +1,14 @@
+use Rattle.std.proofs.Common.{◌≡◌, ◌+◌, ◌-◌, ◌*◌, ◌^◌, ◌≤◌, ◌++◌, map, take, length, List, ℤ, nat_abs, Result, Ok}
+use Rattle.mseed_steim.specs.declared.differences.BadWordAt.{BadWordAt}
+use Rattle.mseed_steim.specs.Digits.{digits}
+use Rattle.mseed_steim.specs.Sums.{fold, met_in}
+use Rattle.mseed_steim.proofs.put.put_all.Given as goal
+
+abbrev pub invariant-loop-i : goal.invariant-loop-i
+invariant-loop-i l = record {
+  places : length l.out ≡ l.samples;
+  met : l.sum.met ≡ l.fn.sum.met + l.i;
+  near : nat_abs l.sum.last ≤ nat_abs l.fn.sum.last + 2 ^ 15 * l.i;
+  same : (more : List (Result ℤ BadWordAt)) → fold l.samples l.fn.sum (map Ok (digits l.width l.word l.count) ++ more) ≡ fold l.samples l.sum (map Ok (digits l.width l.word (l.count - l.i)) ++ more);
+  kept : (more : List (Result ℤ BadWordAt)) → take l.sum.met l.out ++ met_in l.samples l.sum (map Ok (digits l.width l.word (l.count - l.i)) ++ more) ≡ take l.fn.sum.met l.fn.out ++ met_in l.samples l.fn.sum (map Ok (digits l.width l.word l.count) ++ more);
+}
