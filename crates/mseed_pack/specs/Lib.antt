@@ -5,3 +5,4 @@ pub mod Standing
 pub mod Packing
 pub mod Fitting
 pub mod Outcome
+pub mod ReadBack

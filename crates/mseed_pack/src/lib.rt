@@ -5,8 +5,10 @@
 
 mod clock;
 mod fault;
+mod law;
 mod options;
 mod stretch;
 
 pub use fault::PackFault;
+pub use law::reads_back;
 pub use options::{BadOption, Encoding, Options};

@@ -1,0 +1,261 @@
+-- A packed record's bytes are a record, and its view says what was packed.
+use Rattle.std.proofs.Common.{◌≡◌, ◌≢◌, ℕ, zero, suc, ◌+◌, ◌-◌, ◌^◌, ◌<◌, ◌≤◌, ◌==◌, cond, List, [], ◌∷◌, length, take, drop, refl, sym, ap, subst, ◌∙◌, arith, ℤ, pos, negsuc, neg_ℤ, ◌≤ℤ◌, All, Option, Some, None, unwrap_or, length-append, FitsSigned, w8}
+use Rattle.std.specs.Prelude.{slice_get}
+use Rattle.std.specs.Int.{bit_at}
+use Rattle.std.proofs.Math.Pow.{pow_mono}
+use Rattle.std.proofs.lemmas.Bool.Decides.{nat_tests}
+use Rattle.std.proofs.lemmas.Int.{ints}
+use Rattle.std.proofs.lemmas.List.{length-drop, length-take-le, length-take, take-take, take-append-drop}
+use Rattle.std.proofs.lemmas.List.Elements.{All-take, All-drop}
+use Rattle.mseed_time.specs.declared.order.Order.TheVariants.{Big}
+use Rattle.mseed_time.specs.declared.outcome.LeapStep.{LeapStep}
+use Rattle.mseed_time.specs.declared.outcome.LeapStep.TheVariants.{Plus, Minus}
+use Rattle.mseed_time.specs.declared.fault.TimeFault.{TimeFault}
+use Rattle.mseed_time.specs.Btime.{Parts, IsTime, first_fault}
+use Rattle.mseed_time.specs.Rate.{Ratio, rate_of}
+use Rattle.mseed_time.specs.Ratios.{ratio_of}
+use Rattle.mseed_record.specs.declared.frame.Leap.{Leap}
+use Rattle.mseed_record.specs.declared.frame.Leap.TheVariants.{None as NoLeap, Positive, Negative, Both}
+use Rattle.mseed_record.specs.Header.{key_at, time_at, factor_at, multiplier_at, activity_at}
+use Rattle.mseed_record.specs.View.{View, IsView, start_of, leap_of, payload_of}
+use Rattle.mseed_record.specs.Written.{Header, IsWritable, IsHeaded, ReadsBack, headed_view}
+use Rattle.mseed_steim.specs.declared.scheme.Scheme.{Scheme}
+use Rattle.mseed_steim.specs.declared.scheme.Scheme.TheVariants.{One as Steim1s, Two as Steim2s}
+use Rattle.mseed_steim.specs.declared.form.Width.TheVariants.{Two, Four}
+use Rattle.mseed_steim.specs.declared.form.Form.{Form}
+use Rattle.mseed_steim.specs.declared.form.Form.TheVariants.{Integers, Frames}
+use Rattle.mseed_steim.specs.Frames.{DataWord, data_words, first_constant}
+use Rattle.mseed_steim.specs.Runs.{SpellsRun}
+use Rattle.mseed_steim.specs.Packing.{PacksRun}
+use Rattle.mseed_steim.specs.Samples.{form_of, IsSample, StartsAndAdds, IsPayloadReading, EndsOnConstant}
+use Rattle.mseed_steim.specs.Reading.{count_of, IsWhole}
+use Rattle.mseed_audit.specs.Judging.{step_in, known_rate, rate_unless}
+use Rattle.mseed_audit.specs.Series.{Trace}
+use Rattle.mseed_pack.specs.declared.options.Encoding.{Encoding}
+use Rattle.mseed_pack.specs.declared.options.Encoding.TheVariants.{Int16, Int32, Steim1, Steim2}
+use Rattle.mseed_pack.specs.declared.options.Options.{Options}
+use Rattle.mseed_pack.specs.Options.{code_of}
+use Rattle.mseed_pack.specs.Clock.{instant_at}
+use Rattle.mseed_pack.specs.Fitting.{IsSampleOf, Fits}
+use Rattle.mseed_pack.specs.Outcome.{IsTrace}
+use Rattle.mseed_pack.specs.Packing.{Piece, HoldsFrames, HoldsSamples, IsPacked}
+use Rattle.mseed_pack.specs.Stretches.{differences, stretch_end, left_of, flags_of, step_behind}
+use Rattle.mseed_pack.proofs.Counted.{few_words, run_seven}
+use Rattle.mseed_pack.proofs.Integers.{begins, length-all}
+use Rattle.mseed_pack.proofs.Leaps.{end_in}
+use Rattle.mseed_pack.proofs.Sums.{starts}
+
+-- what the layers below say: a written header reads back, and packed words spell what they take
+abbrev pub HeadersReadBack : Type 0
+HeadersReadBack = (h : Header) (b : List ℕ) → IsWritable h → IsHeaded h b → ReadsBack h b
+
+abbrev pub PackedSpells : Type 0
+PackedSpells = (s : Scheme) (ws : List DataWord) (ds : List ℤ) (used : ℕ) → PacksRun s ws ds (drop used ds) → SpellsRun s ws (take used ds)
+
+-- how an encoding holds samples
+abbrev form_in : Encoding → Form
+form_in Int16 = Integers Two
+form_in Int32 = Integers Four
+form_in Steim1 = Frames Steim1s
+form_in Steim2 = Frames Steim2s
+
+form_is : (e : Encoding) → form_of (code_of e) ≡ Some (form_in e)
+form_is Int16 = refl
+form_is Int32 = refl
+form_is Steim1 = refl
+form_is Steim2 = refl
+
+-- what is known of a record's samples and of the differences that are left at its first
+record Slice (e : Encoding) (left samples : List ℤ) : Type 0 where
+  some : 0 < length samples
+  within : length samples ≤ length left
+  sums : (first : ℤ) → slice_get samples 0 ≡ Some first → StartsAndAdds first (take (length samples) left) samples
+  small : All IsSample samples
+  fit : All (IsSampleOf e) samples
+
+abbrev IsHeld : Form → List ℕ → List ℤ → Type 0
+IsHeld form payload samples = IsPayloadReading form Big payload (length samples) samples × EndsOnConstant form payload samples
+
+framed : PackedSpells → (e : Encoding) (scheme : Scheme) (left samples : List ℤ) (frames : ℕ) (payload : List ℕ) → Slice e left samples → HoldsFrames scheme left samples frames payload → IsHeld (Frames scheme) payload samples
+framed spells e scheme left samples frames payload slice h =
+    let ws = data_words payload in (
+      (
+        refl,
+        record {
+          count = refl;
+          front = take h.words ws;
+          rest = drop h.words ws;
+          cut = sym (take-append-drop h.words ws);
+          differences = take (length samples) left;
+          spelled = spells scheme (take h.words ws) left (length samples) h.packed;
+          enough = let size = length-take-le (length samples) left slice.within in omega (arith, size);
+          sums = slice.sums (first_constant payload) h.first_is;
+        },
+        slice.small,
+      ),
+      h.last_is,
+    )
+
+-- the payload is the samples' reading, and ends on its constants
+held : PackedSpells → (e : Encoding) (left samples : List ℤ) (frames : ℕ) (payload : List ℕ) → Slice e left samples → HoldsSamples e left samples frames payload → IsHeld (form_in e) payload samples
+held spells Int16 left samples frames payload slice h = ((refl, begins 2 samples [] _ payload 0 h.bytes refl slice.fit), tt)
+held spells Int32 left samples frames payload slice h = ((refl, begins 4 samples [] _ payload 0 h.bytes refl slice.small), tt)
+held spells Steim1 left samples frames payload slice h = framed spells Steim1 Steim1s left samples frames payload slice h
+held spells Steim2 left samples frames payload slice h = framed spells Steim2 Steim2s left samples frames payload slice h
+
+-- a record of 4096 bytes at the most has fewer than 2^16 samples
+few_integers : (width : ℕ) (left : ℕ) (samples : List ℤ) (zeros payload : List ℕ) → 0 < width → payload ≡ zeros → length samples ≤ length zeros → length payload ≤ 4096 → length samples < 2 ^ 16
+few_integers width left samples zeros payload some e h few = let same = ap (λ (xs : List ℕ). length xs) e in omega (arith, same, h, few)
+
+few_frames : (scheme : Scheme) (left samples : List ℤ) (frames : ℕ) (payload : List ℕ) → length samples ≤ length left → HoldsFrames scheme left samples frames payload → length payload ≤ 4096 → length samples < 2 ^ 16
+few_frames scheme left samples frames payload within h few =
+    let ws = data_words payload in
+    let most = run_seven scheme (take h.words ws) left (drop (length samples) left) h.packed in
+    let words : length (take h.words ws) ≡ h.words = length-take-le h.words ws h.inside in
+    let all = few_words payload in
+    let used = h.inside in
+    omega (arith, most, words, all, used, few, within, length-drop (length samples) left)
+
+few_samples : (e : Encoding) (left samples : List ℤ) (frames : ℕ) (payload : List ℕ) → length samples ≤ length left → HoldsSamples e left samples frames payload → length payload ≤ 4096 → length samples < 2 ^ 16
+few_samples Int16 left samples frames payload within h few =
+    let size = ap (λ (xs : List ℕ). length xs) h.bytes in omega (arith, size, few, simp (length-append, length-all) at size)
+few_samples Int32 left samples frames payload within h few =
+    let size = ap (λ (xs : List ℕ). length xs) h.bytes in omega (arith, size, few, simp (length-append, length-all) at size)
+few_samples Steim1 left samples frames payload within h few = few_frames Steim1s left samples frames payload within h few
+few_samples Steim2 left samples frames payload within h few = few_frames Steim2s left samples frames payload within h few
+
+-- the leap second that the flags tell
+abbrev leap_by : ℕ → Leap
+leap_by flags =
+    cond (bit_at flags 4 == 1) (cond (bit_at flags 5 == 1) Both Positive) (cond (bit_at flags 5 == 1) Negative NoLeap)
+
+told : (o : Option LeapStep) → (step_in (leap_by (flags_of o)) ≡ o) × (leap_by (flags_of o) ≢ Both)
+told None = (refl, λ e. cc)
+told (Some Plus) = (refl, λ e. cc)
+told (Some Minus) = (refl, λ e. cc)
+
+no_fault : (t : Parts) → IsTime t → first_fault t ≡ None
+no_fault t h = grind (arith, nat_tests)
+
+-- a rate that isn't 0 has its ratio
+has_ratio : (f m : ℤ) → f ≢ pos 0 → m ≢ pos 0 → rate_of f m ≡ Some (unwrap_or (rate_of f m) (record { num = 0; den = 0 }))
+has_ratio (pos zero) m f_counts m_counts = absurd (f_counts refl)
+has_ratio (pos (suc f)) (pos zero) f_counts m_counts = absurd (m_counts refl)
+has_ratio (pos (suc f)) (pos (suc m)) f_counts m_counts = refl
+has_ratio (pos (suc f)) (negsuc m) f_counts m_counts = refl
+has_ratio (negsuc f) (pos zero) f_counts m_counts = absurd (m_counts refl)
+has_ratio (negsuc f) (pos (suc m)) f_counts m_counts = refl
+has_ratio (negsuc f) (negsuc m) f_counts m_counts = refl
+
+small_micros : (u : ℤ) → neg_ℤ (pos 50) ≤ℤ u → u ≤ℤ pos 49 → FitsSigned w8 u
+small_micros (pos n) low high = record { sfits = omega (arith, ints) }
+small_micros (negsuc n) low high = record { sfits = omega (arith, ints) }
+
+-- What the view of a record says that holds these samples of the series, with so many before them.
+pub record IsAt (s : Trace) (first : ℕ) (v : View) (samples : List ℤ) : Type 0 where
+  pub is_view : IsView v
+  pub some : 0 < length samples
+  pub within : first + length samples ≤ end_in s.steps (length s.samples) first
+  pub key : key_at v.bytes ≡ s.codes
+  pub factor : factor_at v.order v.bytes ≡ s.rate.factor
+  pub multiplier : multiplier_at v.order v.bytes ≡ s.rate.multiplier
+  pub rate : known_rate v ≡ Some (ratio_of s.rate)
+  pub start : start_of v ≡ instant_at s first
+  pub count : count_of v ≡ length samples
+  pub step : step_in (leap_of v.bytes) ≡ step_behind s (first + length samples)
+  pub told : leap_of v.bytes ≢ Both
+  pub whole : IsWhole v samples
+
+known : (v : View) (t : Parts) (f m : ℤ) (r : Ratio) → time_at v.order v.bytes ≡ t → first_fault t ≡ None → factor_at v.order v.bytes ≡ f → multiplier_at v.order v.bytes ≡ m → rate_of f m ≡ Some r → known_rate v ≡ Some r
+known v t f m r time valid factor multiplier rate =
+    ap (λ (x : Parts). rate_unless (first_fault x) (rate_of (factor_at v.order v.bytes) (multiplier_at v.order v.bytes))) time
+    ∙ ap (λ (o : Option TimeFault). rate_unless o (rate_of (factor_at v.order v.bytes) (multiplier_at v.order v.bytes))) valid
+    ∙ ap (λ (z : ℤ). rate_of z (multiplier_at v.order v.bytes)) factor ∙ ap (λ (z : ℤ). rate_of f z) multiplier ∙ rate
+
+first_take : (n : ℕ) (xs : List ℤ) (x : ℤ) → slice_get (take n xs) 0 ≡ Some x → slice_get xs 0 ≡ Some x
+first_take zero xs x e = cc
+first_take (suc n) [] x e = cc
+first_take (suc n) (y ∷ ys) x e = e
+
+-- no sample stands behind the next leap second
+short : (s : Trace) (p : Piece) → length p.samples ≤ length (left_of s p.first) → length p.samples ≤ stretch_end s p.first - p.first
+short s p h = omega (arith, h, length-take (stretch_end s p.first - p.first) (drop p.first (differences s.samples)))
+
+-- the record's own samples and differences
+slice_of : (s : Trace) (o : Options) (p : Piece) → IsTrace s → Fits s o → p.samples ≡ take (length p.samples) (drop p.first s.samples) → IsPacked s o p → Slice o.encoding (left_of s p.first) p.samples
+slice_of s o p trace fits here k =
+    let n = length p.samples in
+    let left : take n (left_of s p.first) ≡ take n (drop p.first (differences s.samples)) = take-take n (stretch_end s p.first - p.first) (drop p.first (differences s.samples)) (short s p k.within) in
+    record {
+      some = k.some;
+      within = k.within;
+      sums = λ first e. subst (λ (ds : List ℤ). StartsAndAdds first ds p.samples) (sym left)
+          (subst (λ (xs : List ℤ). StartsAndAdds first (take n (drop p.first (differences s.samples))) xs) (sym here)
+          (starts s.samples p.first n first (first_take n (drop p.first s.samples) first (subst (λ (xs : List ℤ). slice_get xs 0 ≡ Some first) here e))));
+      small = subst (λ (xs : List ℤ). All IsSample xs) (sym here) (All-take IsSample n (drop p.first s.samples) (All-drop IsSample p.first s.samples trace.samples));
+      fit = subst (λ (xs : List ℤ). All (IsSampleOf o.encoding) xs) (sym here) (All-take (IsSampleOf o.encoding) n (drop p.first s.samples) (All-drop (IsSampleOf o.encoding) p.first s.samples fits.samples));
+    }
+
+-- what the header says fits its fields
+writable : (s : Trace) (o : Options) (p : Piece) → IsTrace s → (k : IsPacked s o p) → IsWritable k.header
+writable s o p trace k =
+    let size : length p.bytes ≡ 2 ^ k.header.exponent = k.headed.size in
+    let exponent : k.header.exponent ≤ 12 = rw k.fields.exponent o.short in
+    let long : 2 ^ k.header.exponent ≤ 4096 = pow_mono {i = k.header.exponent} {j = 12} exponent in
+    let payload : length (drop 64 p.bytes) ≤ 4096 = omega (arith, size, long, length-drop 64 p.bytes) in
+    let few = few_samples o.encoding (left_of s p.first) p.samples k.frames (drop 64 p.bytes) k.within k.payload payload in
+    record {
+      key = ap (λ (xs : List ℕ). length xs) k.fields.key ∙ trace.key;
+      time = k.fields.start.valid;
+      samples = rw k.fields.samples few;
+      factor = rw k.fields.factor trace.factor;
+      multiplier = rw k.fields.multiplier trace.multiplier;
+      microseconds = small_micros k.header.microseconds k.fields.start.low k.fields.start.high;
+    }
+
+whole_of : PackedSpells → (s : Trace) (o : Options) (p : Piece) (k : IsPacked s o p) → Slice o.encoding (left_of s p.first) p.samples → ReadsBack k.header p.bytes → IsWhole (headed_view k.header p.bytes) p.samples
+whole_of spells s o p k slice back =
+    let v = headed_view k.header p.bytes in
+    let form : form_of v.encoding ≡ Some (form_in o.encoding) = ap form_of k.fields.encoding ∙ form_is o.encoding in
+    let payload : payload_of v ≡ drop 64 p.bytes = back.payload in
+    let count : count_of v ≡ length p.samples = back.samples ∙ k.fields.samples in
+    let both = held spells o.encoding (left_of s p.first) p.samples k.frames (drop 64 p.bytes) slice k.payload in (
+      record {
+        some = rw count k.some;
+        one_rate = refl;
+        form = form_in o.encoding;
+        encoding = form;
+        payload = back.has_payload;
+        spelled = rw (payload, count) both.0;
+      },
+      λ other e.
+          let same : form_in o.encoding ≡ other = cc (form, e) in
+          subst (λ (f : Form). EndsOnConstant f (payload_of v) p.samples) same (rw payload both.1),
+    )
+
+pub at : HeadersReadBack → PackedSpells → (s : Trace) (o : Options) (p : Piece) → IsTrace s → Fits s o → p.samples ≡ take (length p.samples) (drop p.first s.samples) → (k : IsPacked s o p) → IsAt s p.first (headed_view k.header p.bytes) p.samples
+at headers spells s o p trace fits here k =
+    let v = headed_view k.header p.bytes in
+    let back = headers k.header p.bytes (writable s o p trace k) k.headed in
+    let slice = slice_of s o p trace fits here k in
+    let factor : factor_at v.order v.bytes ≡ s.rate.factor = back.factor ∙ k.fields.factor in
+    let multiplier : multiplier_at v.order v.bytes ≡ s.rate.multiplier = back.multiplier ∙ k.fields.multiplier in
+    let flags : activity_at v.bytes ≡ flags_of (step_behind s (p.first + length p.samples)) = back.activity ∙ k.fields.activity in
+    let leap : leap_of v.bytes ≡ leap_by (flags_of (step_behind s (p.first + length p.samples))) = ap leap_by flags in
+    let tells = told (step_behind s (p.first + length p.samples)) in
+    let within = short s p k.within in
+    let some = k.some in
+    record {
+      is_view = back.is_view;
+      some = some;
+      within = omega (arith, within, some);
+      key = back.key ∙ k.fields.key;
+      factor = factor;
+      multiplier = multiplier;
+      rate = known v k.header.start s.rate.factor s.rate.multiplier (ratio_of s.rate) back.time (no_fault k.header.start k.fields.start.valid) factor multiplier (has_ratio s.rate.factor s.rate.multiplier trace.factor_counts trace.multiplier_counts);
+      start = back.start ∙ k.fields.start.value;
+      count = back.samples ∙ k.fields.samples;
+      step = ap step_in leap ∙ tells.0;
+      told = λ e. tells.1 (sym leap ∙ e);
+      whole = whole_of spells s o p k slice back;
+    }

@@ -1,0 +1,24 @@
+//! Laws of packing.
+ghost use Rattle.std.specs.Prelude.{ℕ, List};
+ghost use Rattle.mseed_audit.specs.Series.{Trace};
+ghost use Rattle.mseed_pack.specs.declared.options.Options.{Options};
+ghost use Rattle.mseed_pack.specs.Fitting.{Fits};
+ghost use Rattle.mseed_pack.specs.Outcome.{IsTrace};
+ghost use Rattle.mseed_pack.specs.Packing.{IsPacking};
+ghost use Rattle.mseed_pack.specs.ReadBack.{ReadsAs};
+
+use mseed_record::header_reads_back;
+use mseed_steim::{one_reading, packed_spells};
+use mseed_stream::one_input;
+
+/// The records that a series is packed into read back as the series: they are a continuous channel, and its
+/// series is this one, leap seconds and rate pair included.
+pub fn reads_back()
+    ensures { (s : Trace) (o : Options) (records : List (List ℕ)) → IsTrace s → Fits s o → IsPacking s o records
+        → ReadsAs s records }
+{
+    header_reads_back();
+    packed_spells();
+    one_reading();
+    one_input();
+}
