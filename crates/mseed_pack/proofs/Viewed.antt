@@ -178,7 +178,7 @@ first_take (suc n) [] x e = cc
 first_take (suc n) (y ∷ ys) x e = e
 
 -- no sample stands behind the next leap second
-short : (s : Trace) (p : Piece) → length p.samples ≤ length (left_of s p.first) → length p.samples ≤ stretch_end s p.first - p.first
+pub short : (s : Trace) (p : Piece) → length p.samples ≤ length (left_of s p.first) → length p.samples ≤ stretch_end s p.first - p.first
 short s p h = omega (arith, h, length-take (stretch_end s p.first - p.first) (drop p.first (differences s.samples)))
 
 -- the record's own samples and differences

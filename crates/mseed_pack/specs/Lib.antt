@@ -6,3 +6,4 @@ pub mod Packing
 pub mod Fitting
 pub mod Outcome
 pub mod ReadBack
+pub mod FewestWords

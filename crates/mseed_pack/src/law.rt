@@ -1,7 +1,10 @@
 //! Laws of packing.
-ghost use Rattle.std.specs.Prelude.{ℕ, List};
+ghost use Rattle.std.specs.Prelude.{◌≡◌, ℕ, List};
+ghost use Rattle.std.specs.List.{AllByRecursion};
 ghost use Rattle.mseed_audit.specs.Series.{Trace};
 ghost use Rattle.mseed_pack.specs.declared.options.Options.{Options};
+ghost use Rattle.mseed_pack.specs.declared.options.Encoding.TheVariants.{Steim2};
+ghost use Rattle.mseed_pack.specs.FewestWords.{HasFewestWords};
 ghost use Rattle.mseed_pack.specs.Fitting.{Fits};
 ghost use Rattle.mseed_pack.specs.Outcome.{IsTrace};
 ghost use Rattle.mseed_pack.specs.Packing.{IsPacking};
@@ -21,4 +24,13 @@ pub fn reads_back()
     packed_spells();
     one_reading();
     one_input();
+}
+
+/// Each record of a Steim-2 packing has as few data words in use as hold the differences of its samples
+/// (SEED manual, appendix B).
+pub fn fewest_words()
+    ensures { (s : Trace) (o : Options) (records : List (List ℕ)) (packing : IsPacking s o records)
+        → o.encoding ≡ Steim2 → AllByRecursion (HasFewestWords s) packing.pieces }
+{
+    packed_spells();
 }
