@@ -11,8 +11,18 @@ ghost use Rattle.mseed_pack.specs.Packing.{IsPacking};
 ghost use Rattle.mseed_pack.specs.ReadBack.{ReadsAs};
 
 use mseed_record::header_reads_back;
-use mseed_steim::{one_reading, packed_spells};
+use mseed_steim::{one_packing as one_run, one_reading, packed_spells};
 use mseed_stream::one_input;
+use mseed_time::one_name;
+
+/// A series is packed into one list of records, byte for byte.
+pub fn one_packing()
+    ensures { (s : Trace) (o : Options) (records others : List (List ℕ)) → IsPacking s o records
+        → IsPacking s o others → records ≡ others }
+{
+    one_run();
+    one_name();
+}
 
 /// The records that a series is packed into read back as the series: they are a continuous channel, and its
 /// series is this one, leap seconds and rate pair included.

@@ -10,5 +10,5 @@ mod options;
 mod stretch;
 
 pub use fault::PackFault;
-pub use law::{fewest_words, reads_back};
+pub use law::{fewest_words, one_packing, reads_back};
 pub use options::{BadOption, Encoding, Options};
