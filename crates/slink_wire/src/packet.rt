@@ -1,6 +1,6 @@
 //! Packets, 520 bytes each.
-ghost use Rattle.std.specs.Prelude.{◌≡◌, ℕ, ◌^◌, ◌<◌, ◌≤◌, IsOkAnd, IfOk, OnErr, List, length};
-ghost use Rattle.slink_wire.specs.Packet.{IsPacket, in_capitals, packet_bytes};
+ghost use Rattle.std.specs.Prelude.{◌≡◌, ℕ, ◌^◌, ◌<◌, ◌≤◌, IsOkAnd, IfOk, IfNone, IfSome, OnErr, List, length};
+ghost use Rattle.slink_wire.specs.Packet.{HasHead, IsPacket, in_capitals, packet_bytes};
 
 use crate::hexadecimal::{header, number_of};
 
@@ -24,6 +24,18 @@ impl Packet {
         head.copy_from_slice(&header(number));
         body.copy_from_slice(bytes);
         packet
+    }
+
+    /// The number of the record, from the first eight bytes of a packet: its digits may stand in either case.
+    pub fn number(bytes: &[u8]) -> Option<u32>
+        requires { 8 ≤ length bytes.now }
+        ensures number { IfSome result (HasHead bytes.now) }
+        ensures none { IfNone result ((n : ℕ) → ¬ (HasHead bytes.now n)) }
+    {
+        if !bytes.starts_with(b"SL") {
+            return None;
+        }
+        number_of(&bytes[2..8])
     }
 
     /// The number and the record of a packet, whose digits may stand in either case.
