@@ -1,6 +1,11 @@
 pub mod Answered
 pub mod Done
 pub mod Fitting
+pub mod Fronts
+pub mod Heads
+pub mod Heard
 pub mod Places
 pub mod Reached
+pub mod Replies
 pub mod Slots
+pub mod Wanting

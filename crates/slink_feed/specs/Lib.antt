@@ -4,3 +4,6 @@ pub mod Rings
 pub mod Grant
 pub mod Session
 pub mod Serving
+pub mod Dialogue
+pub mod Cutting
+pub mod Listening

@@ -2,11 +2,16 @@
 //! serves them to one connection, and the client that fetches them.
 #![tactic(auto)]
 
+mod client;
+mod cutting;
+mod dialogue;
 mod feed;
 mod grant;
 mod ring;
 mod session;
 
+pub use client::Client;
+pub use dialogue::{Bytes, Ending, Event, Stage, Wanted};
 pub use feed::{Feed, FeedFault};
 pub use grant::{Grant, Mode};
 pub use ring::{Ring, RingFault};

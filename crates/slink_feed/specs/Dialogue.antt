@@ -1,0 +1,149 @@
+-- What a client says over a link, and what it makes of what the link brings.
+use Rattle.std.specs.Prelude.{◌≡◌, ℕ, Bool, true, false, ◌+◌, ◌-◌, ◌%◌, ◌^◌, ◌<◌, ◌==◌, ◌&&◌, List, ◌++◌, length, map, replicate, bytes_eq, codes, Option, Some, None, IfSome, All, nat_eq, unwrap_or, position, slice_get, slice_range, slice_set, if◌then◌else◌}
+use Rattle.std.specs.List.{starts_with}
+use Rattle.std.specs.Option.{option_and_then}
+use Rattle.slink_wire.specs.declared.request.Request.{Request}
+use Rattle.slink_wire.specs.declared.request.Request.TheVariants as requests
+use Rattle.slink_wire.specs.Place.{Fields}
+use Rattle.slink_wire.specs.Request.{request_bytes}
+use Rattle.slink_feed.specs.declared.grant.Mode.{Mode}
+use Rattle.slink_feed.specs.declared.grant.Mode.TheVariants as modes
+use Rattle.slink_feed.specs.declared.dialogue.Answer.{Answer}
+use Rattle.slink_feed.specs.declared.dialogue.Answer.TheVariants.{Granted, Refusal, Neither}
+use Rattle.slink_feed.specs.declared.dialogue.Ending.{Ending}
+use Rattle.slink_feed.specs.declared.dialogue.Ending.TheVariants as endings
+use Rattle.slink_feed.specs.declared.dialogue.Event.{Event}
+use Rattle.slink_feed.specs.declared.dialogue.Event.TheVariants as events
+use Rattle.slink_feed.specs.declared.dialogue.Stage.{Stage}
+use Rattle.slink_feed.specs.declared.dialogue.Stage.TheVariants.{Unlinked, Station, Number, Packets, Ended}
+use Rattle.slink_feed.specs.declared.dialogue.Wanted.{Wanted}
+
+-- the places that are asked for, in their order, and the number that each wants next
+abbrev pub Wants : Type 0
+Wants = List (Option Wanted)
+
+-- each of sixteen places that there is
+abbrev pub wanted_of : Fields × Option ℕ → Option Wanted
+wanted_of p = Some (record { place = p.0; next = p.1 })
+
+abbrev pub wants_of : List (Fields × Option ℕ) → Wants
+wants_of places = map wanted_of places ++ replicate (16 - length places) None
+
+-- Numbers are told modulo 2^24.
+abbrev pub AreNumbers : List (Fields × Option ℕ) → Type 0
+AreNumbers places = All (λ p. IfSome p.1 (λ n. n < 2 ^ 24)) places
+
+-- the place at an index, and the number that it wants next
+abbrev pub want_at : Wants → ℕ → Option Wanted
+want_at wants k = unwrap_or (slice_get wants k) None
+
+abbrev pub next_at : Wants → ℕ → Option ℕ
+next_at wants k = option_and_then (λ w. w.next) (want_at wants k)
+
+abbrev pub AreShort : Wants → Type 0
+AreShort wants = (k n : ℕ) → next_at wants k ≡ Some n → n < 2 ^ 24
+
+-- a place of sixteen is asked for
+abbrev pub IsStage : Stage → Type 0
+IsStage Unlinked = Unit {0}
+IsStage (Station k) = k < 16
+IsStage (Number k) = k < 16
+IsStage Packets = Unit {0}
+IsStage (Ended ending) = Unit {0}
+
+-- what a client has come to
+pub record Talk : Type 0 where
+  pub mode : Mode
+  pub wants : List (Option Wanted)
+  pub stage : Stage
+
+-- what a link brings, in one whole
+pub data Whole : Type 0 where
+  Reply : List ℕ → Whole
+  Packet : ℕ → List ℕ → Whole
+  End : Whole
+  Garbage : Whole
+
+-- the event that tells of an ending
+abbrev pub event_of : Ending → Event
+event_of endings.End = events.End
+event_of (endings.Refused k) = events.Refused k
+event_of (endings.Gap k want got) = events.Gap k want got
+event_of endings.Garbage = events.Garbage
+event_of endings.Foreign = events.Foreign
+
+abbrev pub ended : Ending → Talk → Talk × Event
+ended ending t = (record t { stage = Ended ending }, event_of ending)
+
+-- a line is said
+abbrev pub says : Talk → Stage → Request → Talk × Event
+says t stage request = (record t { stage = stage }, events.Say (record { items = request_bytes request }))
+
+-- the STATION of a place; behind the last place, the END
+abbrev pub to_place : Option Wanted → ℕ → Talk → Talk × Event
+to_place (Some w) k t = says t (Station k) (requests.Station w.place)
+to_place None k t = says t Packets requests.End
+
+abbrev pub says_place : ℕ → Talk → Talk × Event
+says_place k t = to_place (want_at t.wants k) k t
+
+-- the DATA or FETCH of a place, with the number that it wants next, where it has one
+abbrev pub numbered : Mode → Option ℕ → Request
+numbered modes.Data number = requests.Data number
+numbered modes.Fetch number = requests.Fetch number
+
+abbrev pub says_number : ℕ → Talk → Talk × Event
+says_number k t = says t (Number k) (numbered t.mode (next_at t.wants k))
+
+-- a reply: `OK`, or what begins with `ERROR`
+abbrev pub answer_of : List ℕ → Answer
+answer_of line = if bytes_eq line (codes "OK") then Granted else if starts_with nat_eq line (codes "ERROR") then Refusal else Neither
+
+abbrev pub to_answer : Answer → ℕ → Talk × Event → Talk → Talk × Event
+to_answer Granted k next t = next
+to_answer Refusal k next t = ended (endings.Refused k) t
+to_answer Neither k next t = ended endings.Garbage t
+
+-- whether a record's header has the station and network of a place
+abbrev pub is_borne : List ℕ → Option Wanted → Bool
+is_borne bytes None = false
+is_borne bytes (Some w) = bytes_eq (slice_range bytes 8 13) w.place.station && bytes_eq (slice_range bytes 18 20) w.place.network
+
+-- the first place that a record bears
+abbrev pub bearer : Wants → List ℕ → Option ℕ
+bearer wants bytes = position (is_borne bytes) wants
+
+-- A record is told, and the next number is wanted of its place.
+abbrev pub next_set : Option Wanted → Wants → ℕ → ℕ → Wants
+next_set None wants k n = wants
+next_set (Some w) wants k n = slice_set wants k (Some (record { place = w.place; next = Some n }))
+
+abbrev pub with_next : Wants → ℕ → ℕ → Wants
+with_next wants k n = next_set (want_at wants k) wants k n
+
+abbrev pub told : ℕ → ℕ → List ℕ → Talk → Talk × Event
+told k number bytes t = (record t { wants = with_next t.wants k ((number + 1) % 2 ^ 24) }, events.Record k number bytes)
+
+-- unless another number is wanted
+abbrev pub if_wanted : Option ℕ → ℕ → ℕ → List ℕ → Talk → Talk × Event
+if_wanted None k number bytes t = told k number bytes t
+if_wanted (Some want) k number bytes t = if number == want then told k number bytes t else ended (endings.Gap k want number) t
+
+-- a packet: its place is sought first
+abbrev pub at_packet : Option ℕ → ℕ → List ℕ → Talk → Talk × Event
+at_packet None number bytes t = ended endings.Foreign t
+at_packet (Some k) number bytes t = if_wanted (next_at t.wants k) k number bytes t
+
+-- The client's table: what it does with what has come, by what it waits for.
+abbrev pub heard_at : Stage → Talk → Whole → Talk × Event
+heard_at (Station k) t (Reply line) = to_answer (answer_of line) k (says_number k t) t
+heard_at (Station k) t Garbage = ended endings.Garbage t
+heard_at (Number k) t (Reply line) = to_answer (answer_of line) k (says_place (k + 1) t) t
+heard_at (Number k) t Garbage = ended endings.Garbage t
+heard_at Packets t (Packet number bytes) = at_packet (bearer t.wants bytes) number bytes t
+heard_at Packets t End = ended endings.End t
+heard_at Packets t Garbage = ended endings.Garbage t
+heard_at stage t whole = (t, events.None)
+
+abbrev pub heard : Talk → Whole → Talk × Event
+heard t whole = heard_at t.stage t whole

@@ -1,0 +1,79 @@
+-- A client over the stream of bytes that its link brought so far.
+use Rattle.std.specs.Prelude.{◌≡◌, ◌≢◌, ℕ, List, [], ◌∷◌, ◌++◌}
+use Rattle.slink_feed.specs.declared.dialogue.Event.{Event}
+use Rattle.slink_feed.specs.declared.dialogue.Event.TheVariants as events
+use Rattle.slink_feed.specs.declared.dialogue.Stage.{Stage}
+use Rattle.slink_feed.specs.declared.dialogue.Stage.TheVariants.{Unlinked, Station, Number, Packets, Ended}
+use Rattle.slink_feed.specs.Cutting.{IsBegun, IsWhole}
+use Rattle.slink_feed.specs.Dialogue.{Talk, Whole, heard}
+
+-- what a client has come to, and the bytes of a whole that is begun
+pub record Listening : Type 0 where
+  pub talk : Talk
+  pub kept : List ℕ
+
+-- A reply is awaited.
+abbrev pub AwaitsReply : Stage → Type 0
+AwaitsReply Unlinked = ⊥
+AwaitsReply (Station k) = Unit {0}
+AwaitsReply (Number k) = Unit {0}
+AwaitsReply Packets = ⊥
+AwaitsReply (Ended ending) = ⊥
+
+-- There is a link, of which more is taken.
+abbrev pub IsLinked : Stage → Type 0
+IsLinked Unlinked = ⊥
+IsLinked (Station k) = Unit {0}
+IsLinked (Number k) = Unit {0}
+IsLinked Packets = Unit {0}
+IsLinked (Ended ending) = ⊥
+
+-- What comes of bytes that are there since the last whole: they are one, which is heard, and nothing is kept; or they
+-- are kept, and more are awaited.
+pub data Brings (talk : Talk) (bytes : List ℕ) (new : Listening) (event : Event) : Type 0 where
+  whole : (w : Whole) → IsWhole talk.stage bytes w → heard talk w ≡ (new.talk, event) → new.kept ≡ [] → Brings talk bytes new event
+  begun : IsBegun talk.stage bytes → new ≡ record { talk = talk; kept = bytes } → event ≡ events.None → Brings talk bytes new event
+
+-- an event, where there is one
+abbrev pub telling : Event → List Event
+telling events.None = []
+telling (events.Say bytes) = events.Say bytes ∷ []
+telling (events.Record k number bytes) = events.Record k number bytes ∷ []
+telling events.End = events.End ∷ []
+telling (events.Refused k) = events.Refused k ∷ []
+telling (events.Gap k want got) = events.Gap k want got ∷ []
+telling events.Garbage = events.Garbage ∷ []
+telling events.Foreign = events.Foreign ∷ []
+
+-- a whole, with its bytes
+pub record Brought : Type 0 where
+  pub bytes : List ℕ
+  pub whole : Whole
+
+-- each is a whole of what is awaited once those before it were heard
+abbrev pub AreBrought : Talk → List Brought → Type 0
+AreBrought talk [] = Unit {0}
+AreBrought talk (b ∷ bs) = IsWhole talk.stage b.bytes b.whole × AreBrought (heard talk b.whole).0 bs
+
+-- what the client has come to once all were heard
+abbrev pub talk_after : Talk → List Brought → Talk
+talk_after talk [] = talk
+talk_after talk (b ∷ bs) = talk_after (heard talk b.whole).0 bs
+
+-- the events that tell of them
+abbrev pub events_of : Talk → List Brought → List Event
+events_of talk [] = []
+events_of talk (b ∷ bs) = telling (heard talk b.whole).1 ++ events_of (heard talk b.whole).0 bs
+
+abbrev pub bytes_of : List Brought → List ℕ
+bytes_of [] = []
+bytes_of (b ∷ bs) = b.bytes ++ bytes_of bs
+
+-- A stream of bytes reads as wholes, of which these events tell, and as bytes of one that is begun.
+pub record Reads (start : Talk) (stream : List ℕ) (events : List Event) (now : Listening) : Type 0 where
+  pub brought : List Brought
+  pub are_brought : AreBrought start brought
+  pub bytes : stream ≡ bytes_of brought ++ now.kept
+  pub events_are : events ≡ events_of start brought
+  pub talk : now.talk ≡ talk_after start brought
+  pub is_begun : IsBegun now.talk.stage now.kept

@@ -1,0 +1,162 @@
+//! The client of one feed.
+ghost use Rattle.std.specs.Prelude.{◌≡◌, ◌≢◌, ◌++◌, ◌≤◌, ◌<◌, ◌^◌, ℕ, List, [], IfSome, length, take};
+ghost use Rattle.slink_wire.specs.Packet.{HasHead, IsPacket};
+ghost use Rattle.slink_feed.specs.Cutting.{IsPacketPart, IsReply, IsReplyPart};
+ghost use Rattle.slink_feed.specs.declared.dialogue.Ending.{Ending};
+ghost use Rattle.slink_feed.specs.declared.dialogue.Event.{Event};
+ghost use Rattle.slink_feed.specs.Dialogue.{AreNumbers, Talk, at_packet, bearer, event_of, next_at, says_place, wants_of};
+ghost use Rattle.slink_feed.specs.Listening.{AwaitsReply, Brings, IsLinked, Reads, telling};
+
+use crate::cutting::{Part, take_packet, take_reply};
+use crate::dialogue::{Bytes, Dialogue, Ending, Event, Stage};
+use crate::grant::Mode;
+use arrayvec::ArrayVec;
+use slink_wire::{Packet, Place};
+use std::marker::Model;
+
+/// A client that asks for the records of up to sixteen places over one link, and over another once that is lost.
+///
+/// It takes no memory. A record is wanted once: the number that a place wants next moves by each record that is told of
+/// it, and by nothing else, so that each link goes on behind the last record of the one before.
+#[derive(Drop)]
+pub struct Client {
+    dialogue: Dialogue,
+    kept: ArrayVec<u8, 520>,
+}
+
+impl Model for Client {
+    ghost use Rattle.slink_feed.specs.Cutting.{IsBegun};
+    ghost use Rattle.slink_feed.specs.Listening.{Listening};
+
+    ghost Value = { Listening };
+
+    ghost view = { λ c. record { talk = c.dialogue; kept = c.kept.items } };
+
+    ghost invariant = { λ c. IsBegun c.dialogue.stage c.kept.items };
+}
+
+impl Client {
+    /// A client of up to sixteen different places, each with the number below 2^24 that it wants first, or none.
+    pub fn new(places: &[(Place, Option<u32>)], mode: Mode) -> Client
+        requires count { length places.now ≤ 16 }
+        requires numbers { AreNumbers places.now }
+        ensures talk { result.talk ≡ record { mode = mode; wants = wants_of places.now; stage = Stage.Unlinked } }
+        ensures kept { result.kept ≡ [] }
+    {
+        Client {
+            dialogue: Dialogue::new(places, mode),
+            kept: ArrayVec::new(),
+        }
+    }
+
+    /// The number that the place at an index wants next, modulo 2^24, where one was named or came.
+    pub fn next(&self, k: usize) -> Option<u32>
+        ensures value { result ≡ next_at self.now.talk.wants k }
+        ensures short { IfSome result (λ n. n < 2 ^ 24) }
+    {
+        self.dialogue.next(k)
+    }
+
+    /// Begins on a new link, to which these bytes are to be written. What was kept of the one before is dropped.
+    pub fn connect(&mut self) -> Bytes
+        ensures said { says_place 0 self.old.talk ≡ (self.new.talk, Event.Say result) }
+        ensures dropped { self.new.kept ≡ [] }
+        // The new link has brought nothing.
+        ensures reads { Reads self.new.talk [] [] self.new }
+    {
+        self.kept.clear();
+        self.dialogue.say_place(0)
+    }
+
+    /// Takes bytes of the link up to the first event, or all.
+    ///
+    /// The bytes that a link brought read as replies, packets and the end in one way, so that the pieces make no difference.
+    pub fn take(&mut self, bytes: &[u8]) -> (usize, Event)
+        // With those that were kept they are a whole, which is heard; or they are kept.
+        ensures brings { IsLinked self.old.talk.stage
+            → Brings self.old.talk (self.old.kept ++ take result.0 bytes.now) self.new result.1 }
+        // The client goes on to stand for all that the link brought, and the events for what it reads as.
+        ensures reads { (start : Talk) (stream : List ℕ) (events : List Event) → IsLinked self.old.talk.stage
+            → Reads start stream events self.old
+            → Reads start (stream ++ take result.0 bytes.now) (events ++ telling result.1) self.new }
+        ensures whole { result.1 ≡ Event.None → result.0 ≡ length bytes.now }
+        ensures bound { result.0 ≤ length bytes.now }
+        // Before the first link all bytes are dropped.
+        ensures unlinked { self.old.talk.stage ≡ Stage.Unlinked
+            → (result.0 ≡ length bytes.now) × (result.1 ≡ Event.None) × (self.new ≡ self.old) }
+        // Behind the last event of a link nothing is taken, and it is told again.
+        ensures ended { (ending : Ending) → self.old.talk.stage ≡ Stage.Ended ending
+            → (result.0 ≡ 0) × (result.1 ≡ event_of ending) × (self.new ≡ self.old) }
+    {
+        match self.dialogue.stage() {
+            Stage::Unlinked => (bytes.len(), Event::None),
+            Stage::Station(_) | Stage::Number(_) => {
+                let (used, part) = take_reply(&mut self.kept, bytes);
+                (used, hear_reply(&mut self.dialogue, &mut self.kept, part))
+            }
+            Stage::Packets => {
+                let (used, part) = take_packet(&mut self.kept, bytes);
+                (used, hear_packets(&mut self.dialogue, &mut self.kept, part))
+            }
+            Stage::Ended(ending) => (0, ending.event()),
+        }
+    }
+}
+
+/// The line of a reply.
+fn line_of(bytes: &[u8]) -> &[u8]
+    requires { (line : List ℕ) × IsReply bytes.now line }
+    ensures { IsReply bytes.now result.now }
+{
+    &bytes[..bytes.len() - 2]
+}
+
+/// Hears what the bytes of a reply have come to.
+fn hear_reply(dialogue: &mut Dialogue, kept: &mut ArrayVec<u8, 520>, part: Part) -> Event
+    requires stage { AwaitsReply dialogue.old.stage }
+    requires part { IsReplyPart kept.old.items part }
+    ensures brings { Brings dialogue.old kept.old.items (record { talk = dialogue.new; kept = kept.new.items }) result }
+    ensures begun { result ≡ Event.None → part ≡ Part.Begun }
+{
+    let event = match part {
+        Part::Begun => return Event::None,
+        Part::Whole => dialogue.hear_reply(line_of(kept.as_slice())),
+        Part::End => unreachable!(),
+        Part::Garbage => dialogue.end(Ending::Garbage),
+    };
+    kept.clear();
+    event
+}
+
+/// Hears what the bytes of a packet have come to.
+fn hear_packets(dialogue: &mut Dialogue, kept: &mut ArrayVec<u8, 520>, part: Part) -> Event
+    requires stage { dialogue.old.stage ≡ Stage.Packets }
+    requires part { IsPacketPart kept.old.items part }
+    ensures brings { Brings dialogue.old kept.old.items (record { talk = dialogue.new; kept = kept.new.items }) result }
+    ensures begun { result ≡ Event.None → part ≡ Part.Begun }
+{
+    let event = match part {
+        Part::Begun => return Event::None,
+        Part::Whole => hear_packet(dialogue, kept.as_slice()),
+        Part::End => dialogue.end(Ending::End),
+        Part::Garbage => dialogue.end(Ending::Garbage),
+    };
+    kept.clear();
+    event
+}
+
+/// Hears a packet.
+fn hear_packet(dialogue: &mut Dialogue, bytes: &[u8]) -> Event
+    requires { (n : ℕ) × HasHead bytes.now n × (length bytes.now ≡ 520) }
+    ensures heard { (n : ℕ) × (r : List ℕ) × IsPacket bytes.now n r
+        × (at_packet (bearer dialogue.old.wants r) n r dialogue.old ≡ (dialogue.new, result)) }
+    ensures told { result ≢ Event.None }
+{
+    let Some(packet) = bytes.first_chunk() else {
+        unreachable!();
+    };
+    match Packet::read(packet) {
+        Ok((number, record)) => dialogue.hear_packet(number, record),
+        Err(_) => unreachable!(),
+    }
+}

@@ -1,0 +1,338 @@
+//! What a client says over a link, and what it makes of what the link brings.
+ghost use Rattle.std.specs.Prelude.{◌≡◌, ◌≢◌, ◌+◌, ◌^◌, ◌<◌, ◌≤◌, IfSome, length};
+ghost use Rattle.slink_wire.specs.Request.{IsSpelled};
+ghost use Rattle.slink_feed.specs.Dialogue.{AreNumbers, IsStage, Reply, answer_of, at_packet, bearer, ended, event_of, heard, if_wanted, is_borne, next_at, says, says_number, says_place, to_answer, want_at, wants_of, with_next};
+ghost use Rattle.slink_feed.specs.Listening.{AwaitsReply};
+
+use crate::grant::Mode;
+use crate::ring::SPAN;
+use arrayvec::ArrayVec;
+use slink_wire::{Place, Request};
+use std::marker::Model;
+
+/// The most places that a client asks for.
+const MOST: usize = 16;
+
+/// A line that a client says.
+pub type Bytes = ArrayVec<u8, 32>;
+
+/// A place that is asked for.
+#[derive(Clone, Copy)]
+pub struct Wanted {
+    pub place: Place,
+    /// The number of the record that is wanted next, modulo 2^24, where one was named or came.
+    pub next: Option<u32>,
+}
+
+/// What a client waits for. The places are told by their indices.
+#[derive(Clone, Copy)]
+pub enum Stage {
+    /// A link.
+    Unlinked,
+    /// The reply to the STATION of this place.
+    Station(usize),
+    /// The reply to the DATA or FETCH of this place.
+    Number(usize),
+    /// Packets, and the end.
+    Packets,
+    /// Another link.
+    Ended(Ending),
+}
+
+/// Why nothing more of a link is taken.
+#[derive(Clone, Copy)]
+pub enum Ending {
+    /// The server has sent all that was asked for.
+    End,
+    /// The server refused this place.
+    Refused(usize),
+    /// The packet of another record than the one that is wanted next of a place.
+    Gap { place: usize, want: u32, got: u32 },
+    /// No reply, packet or end.
+    Garbage,
+    /// The packet of a record of none of the places.
+    Foreign,
+}
+
+/// What a client tells of the bytes that it took.
+#[derive(Drop)]
+pub enum Event {
+    /// Nothing yet.
+    None,
+    /// These bytes are to be written to the link.
+    Say(Bytes),
+    /// A record of the place at this index, with its number modulo 2^24.
+    Record(usize, u32, [u8; 512]),
+    /// The server has sent all that was asked for.
+    End,
+    /// The server refused the place at this index.
+    Refused(usize),
+    /// The packet of another record than the one that is wanted next of a place.
+    Gap { place: usize, want: u32, got: u32 },
+    /// No reply, packet or end.
+    Garbage,
+    /// The packet of a record of none of the places.
+    Foreign,
+}
+
+impl Ending {
+    /// The event that tells it.
+    pub(crate) fn event(self) -> Event
+        ensures { result ≡ event_of self }
+    {
+        match self {
+            Ending::End => Event::End,
+            Ending::Refused(k) => Event::Refused(k),
+            Ending::Gap { place, want, got } => Event::Gap { place, want, got },
+            Ending::Garbage => Event::Garbage,
+            Ending::Foreign => Event::Foreign,
+        }
+    }
+}
+
+/// What a reply says.
+#[derive(Clone, Copy)]
+pub(crate) enum Answer {
+    /// `OK`.
+    Granted,
+    /// It begins with `ERROR`.
+    Refusal,
+    /// Anything else.
+    Neither,
+}
+
+/// What a reply says, from its line.
+pub(crate) fn answer_of(line: &[u8]) -> Answer
+    ensures { result ≡ answer_of line.now }
+{
+    if line == &b"OK"[..] {
+        Answer::Granted
+    } else if line.starts_with(b"ERROR") {
+        Answer::Refusal
+    } else {
+        Answer::Neither
+    }
+}
+
+/// What a client has come to in what it says and hears.
+#[derive(Drop)]
+pub(crate) struct Dialogue {
+    mode: Mode,
+    wants: [Option<Wanted>; 16],
+    stage: Stage,
+}
+
+impl Model for Dialogue {
+    ghost use Rattle.slink_feed.specs.Dialogue.{AreShort, IsStage, Talk};
+
+    ghost Value = { Talk };
+
+    ghost view = { λ d. record { mode = d.mode; wants = d.wants; stage = d.stage } };
+
+    ghost invariant = { λ d. AreShort d.wants × IsStage d.stage };
+}
+
+/// Whether a record bears a place.
+fn is_borne(bytes: &[u8; 512], want: &Option<Wanted>) -> bool
+    ensures { result ≡ is_borne bytes.now want.now }
+{
+    match want {
+        Some(wanted) => wanted.place.bears(bytes),
+        None => false,
+    }
+}
+
+/// The places that are asked for, in their order.
+fn wants_of(places: &[(Place, Option<u32>)]) -> [Option<Wanted>; 16]
+    requires { length places.now ≤ 16 }
+    ensures { result ≡ wants_of places.now }
+{
+    let mut wants = [None; 16];
+    for (k, (place, next)) in places.iter().enumerate() {
+        wants[k] = Some(Wanted {
+            place: *place,
+            next: *next,
+        });
+    }
+    wants
+}
+
+impl Dialogue {
+    /// Before the first link.
+    pub(crate) fn new(places: &[(Place, Option<u32>)], mode: Mode) -> Dialogue
+        requires count { length places.now ≤ 16 }
+        requires numbers { AreNumbers places.now }
+        ensures { result ≡ record { mode = mode; wants = wants_of places.now; stage = Stage.Unlinked } }
+    {
+        Dialogue {
+            mode,
+            wants: wants_of(places),
+            stage: Stage::Unlinked,
+        }
+    }
+
+    /// What it waits for.
+    pub(crate) fn stage(&self) -> Stage
+        ensures { result ≡ self.now.stage }
+    {
+        self.stage
+    }
+
+    /// The number that is wanted next of a place.
+    pub(crate) fn next(&self, k: usize) -> Option<u32>
+        ensures value { result ≡ next_at self.now.wants k }
+        ensures short { IfSome result (λ n. n < 2 ^ 24) }
+    {
+        let _ = &self.wants;
+        match self.want(k) {
+            Some(wanted) => wanted.next,
+            None => None,
+        }
+    }
+
+    /// The place at an index, with the number that it wants next.
+    fn want(&self, k: usize) -> Option<Wanted>
+        ensures value { result ≡ want_at self.now.wants k }
+        ensures within { IfSome result (λ _. k < 16) }
+    {
+        match self.wants.get(k) {
+            Some(want) => *want,
+            None => None,
+        }
+    }
+
+    /// Says a request, and waits for what comes of it.
+    fn say(&mut self, stage: Stage, request: Request) -> Bytes
+        requires request { IsSpelled request }
+        requires stage { IsStage stage }
+        ensures { says self.old stage request ≡ (self.new, Event.Say result) }
+    {
+        self.stage = stage;
+        request.bytes()
+    }
+
+    /// Says the STATION of the place at an index; behind the last place, the END.
+    pub(crate) fn say_place(&mut self, k: usize) -> Bytes
+        ensures { says_place k self.old ≡ (self.new, Event.Say result) }
+    {
+        match self.want(k) {
+            Some(wanted) => self.say(Stage::Station(k), Request::Station(wanted.place)),
+            None => self.say(Stage::Packets, Request::End),
+        }
+    }
+
+    /// Says the DATA or FETCH of a place.
+    fn say_number(&mut self, k: usize) -> Bytes
+        requires { k < 16 }
+        ensures { says_number k self.old ≡ (self.new, Event.Say result) }
+    {
+        let number = self.next(k);
+        let request = match self.mode {
+            Mode::Data => Request::Data(number),
+            Mode::Fetch => Request::Fetch(number),
+        };
+        self.say(Stage::Number(k), request)
+    }
+
+    /// Hears a reply.
+    pub(crate) fn hear_reply(&mut self, line: &[u8]) -> Event
+        requires { AwaitsReply self.old.stage }
+        ensures heard { heard self.old (Reply line.now) ≡ (self.new, result) }
+        ensures told { result ≢ Event.None }
+    {
+        match self.stage {
+            Stage::Station(k) => self.hear_station(k, answer_of(line)),
+            Stage::Number(k) => self.hear_number(k, answer_of(line)),
+            Stage::Unlinked | Stage::Packets | Stage::Ended(_) => unreachable!(),
+        }
+    }
+
+    /// Hears the reply to the STATION of a place.
+    fn hear_station(&mut self, k: usize, answer: Answer) -> Event
+        requires { k < 16 }
+        ensures heard { to_answer answer k (says_number k self.old) self.old ≡ (self.new, result) }
+        ensures told { result ≢ Event.None }
+    {
+        match answer {
+            Answer::Granted => Event::Say(self.say_number(k)),
+            Answer::Refusal => self.end(Ending::Refused(k)),
+            Answer::Neither => self.end(Ending::Garbage),
+        }
+    }
+
+    /// Hears the reply to the DATA or FETCH of a place.
+    fn hear_number(&mut self, k: usize, answer: Answer) -> Event
+        requires { k < 16 }
+        ensures heard { to_answer answer k (says_place (k + 1) self.old) self.old ≡ (self.new, result) }
+        ensures told { result ≢ Event.None }
+    {
+        match answer {
+            Answer::Granted => Event::Say(self.say_place(k + 1)),
+            Answer::Refusal => self.end(Ending::Refused(k)),
+            Answer::Neither => self.end(Ending::Garbage),
+        }
+    }
+
+    /// Hears a packet.
+    pub(crate) fn hear_packet(&mut self, number: u32, bytes: &[u8; 512]) -> Event
+        requires { number < 2 ^ 24 }
+        ensures heard { at_packet (bearer self.old.wants bytes.now) number bytes.now self.old ≡ (self.new, result) }
+        ensures told { result ≢ Event.None }
+    {
+        match self.bearer(bytes) {
+            Some(k) => self.hear_record(k, number, bytes),
+            None => self.end(Ending::Foreign),
+        }
+    }
+
+    /// Hears a record of a place.
+    fn hear_record(&mut self, k: usize, number: u32, bytes: &[u8; 512]) -> Event
+        requires place { k < 16 }
+        requires number { number < 2 ^ 24 }
+        ensures heard { if_wanted (next_at self.old.wants k) k number bytes.now self.old ≡ (self.new, result) }
+        ensures told { result ≢ Event.None }
+    {
+        match self.next(k) {
+            Some(want) if want != number => self.end(Ending::Gap {
+                place: k,
+                want,
+                got: number,
+            }),
+            _ => {
+                self.want_next(k, (number + 1) % SPAN as u32);
+                Event::Record(k, number, *bytes)
+            }
+        }
+    }
+
+    /// Wants this number next of a place.
+    fn want_next(&mut self, k: usize, number: u32)
+        requires place { k < 16 }
+        requires number { number < 2 ^ 24 }
+        ensures { self.new ≡ record self.old { wants = with_next self.old.wants k number } }
+    {
+        if let Some(wanted) = self.want(k) {
+            self.wants[k] = Some(Wanted {
+                place: wanted.place,
+                next: Some(number),
+            });
+        }
+    }
+
+    /// The first place that a record bears.
+    fn bearer(&self, bytes: &[u8; 512]) -> Option<usize>
+        ensures value { result ≡ bearer self.now.wants bytes.now }
+        ensures most { IfSome result (λ k. k < 16) }
+    {
+        self.wants.iter().position(|want| is_borne(bytes, want))
+    }
+
+    /// Takes nothing more of the link.
+    pub(crate) fn end(&mut self, ending: Ending) -> Event
+        ensures heard { ended ending self.old ≡ (self.new, result) }
+        ensures told { result ≢ Event.None }
+    {
+        self.stage = Stage::Ended(ending);
+        ending.event()
+    }
+}
