@@ -11,7 +11,7 @@ mod show;
 mod tests;
 mod words;
 
-use mseed_stream::{Counted, Sink};
+use mseed_stream::{Buffered, Counted, Sink};
 use outcome::Run;
 use std::io::{BufReader, ErrorKind};
 use std::process::ExitCode;
@@ -47,7 +47,7 @@ fn run_with_words<E: Sink>(rt: &HostRuntime, errors: &mut E) -> io::Result<Run> 
     for word in &words {
         lent.push(word.as_str())?;
     }
-    let mut input = Counted::new(BufReader::with_capacity(rt.alloc(), ROOM, rt.reader())?);
+    let mut input = Buffered::new(BufReader::with_capacity(rt.alloc(), ROOM, rt.reader())?);
     let mut output = Counted::new(io::writer(rt));
     Ok(command::run(rt.alloc(), &lent, &mut input, &mut output, errors))
 }

@@ -1,5 +1,5 @@
 -- What one more read adds to what a cutter holds.
-use Rattle.std.proofs.Common.{◌≡◌, ℕ, ◌+◌, ◌-◌, ◌^◌, ◌<◌, ◌≤◌, ◌++◌, List, length, take, drop, false, sym, ap, ◌∙◌, arith, length-append}
+use Rattle.std.proofs.Common.{◌≡◌, ℕ, ◌+◌, ◌-◌, ◌^◌, ◌<◌, ◌≤◌, ◌++◌, List, [], length, take, drop, false, sym, ap, subst, ◌∙◌, arith, length-append}
 use Rattle.std.proofs.lemmas.List.{take-take, drop-append-le}
 use Rattle.std.proofs.Math.Seq.{take-add, take-append_seam}
 use Rattle.std.specs.Prelude.{slice_range}
@@ -41,6 +41,36 @@ heard_more h now c after more is lent lent_after offset front bytes calls reads 
       within = within;
       small = small;
     }
+
+-- where nothing was held, as many bytes told by two reads
+pub heard_whole : (h now : Heard) (c middle after : Standing) (room : ℕ) (bytes : List ℕ) → IsHeard h c → c.is_lent ≡ false → c.front ≡ [] → middle ≡ record c { room = room } → room ≤ 2 ^ 20
+    → after ≡ record middle { front = bytes; reads = middle.reads + 2 } → now.bytes ≡ h.bytes ++ bytes → now.calls ≡ h.calls + 2 → c.reads + 2 ≤ 2 ^ 40 → length bytes ≤ room → IsHeard now after
+heard_whole h now c middle after room bytes is lent none middle_is small after_is told calls few fits =
+    let target : Standing = record { offset = c.offset; front = bytes; is_lent = c.is_lent; room = room; reads = c.reads + 2; answer = c.answer } in
+    let same : after ≡ target = after_is ∙ ap (λ (m : Standing). let n : Standing = record m { front = bytes; reads = m.reads + 2 } in n) middle_is in
+    let held : held_of c ≡ [] = held_is c lent ∙ none in
+    let held_after : held_of target ≡ bytes = held_is target lent in
+    let size : length h.bytes ≡ c.offset + 0 = is.told ∙ ap (λ (xs : List ℕ). c.offset + length xs) held in
+    let size_now : length now.bytes ≡ length h.bytes + length bytes = ap (λ (xs : List ℕ). length xs) told ∙ length-append h.bytes bytes in
+    let size_held : length (held_of target) ≡ length bytes = ap (λ (xs : List ℕ). length xs) held_after in
+    let bounded = is.few_bytes in
+    let asked = is.reads in
+    let heard : IsHeard now target = record {
+      told = omega arith;
+      held = ap (λ (xs : List ℕ). drop c.offset xs) told ∙ (drop-append-le c.offset h.bytes bytes (omega arith) ∙ (ap (λ (xs : List ℕ). xs ++ bytes) (is.held ∙ held) ∙ sym held_after));
+      reads = calls ∙ ap (λ (n : ℕ). n + 2) asked;
+      few_reads = few;
+      few_bytes = omega arith;
+      within = fits;
+      small = small;
+    } in
+    subst (λ (s : Standing). IsHeard now s) (sym same) heard
+
+-- the header, and then the rest, are all of them
+pub two_parts : (bytes : List ℕ) (m n : ℕ) → m ≤ n → take n bytes ≡ take m bytes ++ take (n - m) (drop m bytes)
+two_parts bytes m n l =
+    let all : m + (n - m) ≡ n = omega arith in
+    ap (λ (k : ℕ). take k bytes) (sym all) ∙ take-add m (n - m) bytes
 
 -- what is held grows by what is told
 pub held_grows : (h now : Heard) (c after : Standing) (more : List ℕ) → IsHeard h c → IsHeard now after → c.is_lent ≡ false → after.is_lent ≡ false → after.offset ≡ c.offset → now.bytes ≡ h.bytes ++ more → after.front ≡ c.front ++ more

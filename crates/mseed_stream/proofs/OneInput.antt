@@ -1,19 +1,18 @@
 -- What was heard of an input has one list of records, and one end behind them.
-use Rattle.std.proofs.Common.{◌≡◌, ℕ, suc, ◌+◌, ◌<◌, ◌≤◌, ◌++◌, Bool, true, false, List, [], ◌∷◌, length, take, drop, map, Option, Some, None, refl, sym, ap, subst, ◌∙◌, arith, ⊎_elim, append-nil, length-take}
+use Rattle.std.proofs.Common.{◌≡◌, ℕ, suc, ◌<◌, ◌≤◌, ◌++◌, Bool, true, false, List, [], ◌∷◌, length, take, drop, Option, Some, None, refl, sym, ap, subst, ◌∙◌, arith, ⊎_elim, append-nil, length-take}
 use Rattle.std.proofs.lemmas.Bool.{cases_lt, false≢true}
 use Rattle.std.proofs.lemmas.List.{take-append-drop}
 use Rattle.std.proofs.Math.Seq.{take-length}
 use Rattle.std.specs.List.{concat, AllByRecursion}
 use Rattle.mseed_record.specs.declared.frame.Scan.TheVariants.{Need, Not}
 use Rattle.mseed_record.specs.declared.frame.FrameFault.{FrameFault}
-use Rattle.mseed_record.specs.Record.{IsRecord}
 use Rattle.mseed_record.specs.Scan.{Decides}
 use Rattle.mseed_record.specs.View.{View, IsView}
 use Rattle.mseed_record.proofs.Asked.{record_long}
 use Rattle.mseed_record.proofs.OneAnswer.{one_answer}
 use Rattle.mseed_record.proofs.Viewed.{view_once}
 use Rattle.mseed_stream.specs.Device.{Heard}
-use Rattle.mseed_stream.specs.Archive.{HasNoFurther, IsArchive, HasRecords, End, clean, frame, truncated, IsEndOf, is_frame}
+use Rattle.mseed_stream.specs.Archive.{HasNoFurther, IsArchive, End, clean, frame, truncated, IsEndOf, is_frame}
 use Rattle.mseed_stream.specs.Cutting.{IsStop, at_start, asked_for, FallsShort, IsReadTo, told_from}
 use Rattle.mseed_stream.specs.Walk.{bytes_in, AreViews, IsEnd, AreAllViews}
 use Rattle.mseed_stream.specs.declared.fault.StreamFault.{StreamFault}

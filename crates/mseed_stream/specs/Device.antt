@@ -46,6 +46,20 @@ heard_also h r buf = record {
   is_at_end = h.is_at_end || is_end r (length buf);
 }
 
+-- so many bytes more, told by one call
+abbrev pub told_also : Heard → List ℕ → Heard
+told_also h more = record {
+  bytes = h.bytes ++ more;
+  calls = h.calls + 1;
+  failures = h.failures;
+  is_at_end = h.is_at_end;
+}
+
+-- what was held comes first: the bytes that are read begin with it, or are a front of it, and no read fails
+abbrev pub ComesFirst : {E : Type 0} → List ℕ → Result ℕ E → List ℕ → Type 0
+ComesFirst lent (Ok n) buf = take n lent ≡ take (length lent) (take n buf)
+ComesFirst lent (Err e) buf = lent ≡ []
+
 -- one more write, by its answer
 abbrev pub said_also : {E : Type 0} → Said → Result ℕ E → List ℕ → Said
 said_also s r bytes = record {

@@ -1,4 +1,5 @@
 pub mod Archive
+pub mod Buffered
 pub mod Counted
 pub mod Cutting
 pub mod Device

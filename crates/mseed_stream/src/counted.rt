@@ -6,16 +6,16 @@ use crate::device::{Failed, Sink, Source};
 use crate::tally::Tally;
 use std::io::{Read, Write};
 
-/// A reader or writer as a [`Source`] or [`Sink`]: it counts what goes through.
+/// A reader or writer as a [`Source`] or [`Sink`]: it counts what goes through. It lends nothing.
 ///
 /// One that both reads and writes is both. A reader that said 0 for a slice that isn't empty is
 /// at its end, and isn't asked again. An error of any kind counts as a failure, and is not tried
 /// again here.
 #[derive(Drop)]
 pub struct Counted<T> {
-    inner: T,
-    is_at_end: bool,
-    reads: Tally,
+    pub(crate) inner: T,
+    pub(crate) is_at_end: bool,
+    pub(crate) reads: Tally,
     writes: Tally,
 }
 
@@ -76,6 +76,14 @@ impl<T: Read> Source for Counted<T> {
                 Err(Failed)
             }
         }
+    }
+
+    fn lend(&self) -> &[u8] {
+        &[]
+    }
+
+    fn consume(&mut self, _amount: usize) {
+        self.reads.record(&[], false);
     }
 }
 

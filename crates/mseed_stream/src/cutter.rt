@@ -1,6 +1,6 @@
 //! Cuts what a source tells into records.
 ghost use Rattle.std.specs.Prelude.{◌≡◌, ◌≢◌, ◌+◌, ◌*◌, ◌^◌, ◌<◌, ◌≤◌, length, take, drop, true, false, IfOk, IfErr, OnErr, OnOk, IsTrue, Ok, slice_range, [], ℕ, IfSome, Some, None, Err, ⊤, List, ◌∷◌, ◌++◌};
-ghost use Rattle.std.specs.Io.KnownBytes.{IsAtEnd, ReadConsumes};
+ghost use Rattle.std.specs.Io.KnownBytes.{IsAtEnd, Consumes, ReadConsumes};
 ghost use Rattle.mseed_record.specs.Record.{IsRecord};
 ghost use Rattle.mseed_record.specs.Scan.{Decides};
 ghost use Rattle.mseed_record.specs.View.{View, IsView};
@@ -14,12 +14,15 @@ ghost use Rattle.mseed_stream.specs.Steps.{IsFillFault, IsAnswerAtEnd, IsCutting
 
 use crate::device::{Failed, Sink, Source};
 use crate::fault::StreamFault;
-use mseed_record::{Framer, RecordView, Scan};
+use mseed_record::{Framer, RecordView, Scan, scan};
 use std::alloc::{Allocator, Global};
 use std::marker::Model;
 
 /// At most so many reads of one input.
 const TURNS: u64 = 1 << 40;
+
+/// So many bytes has the header, which framing asks for first.
+const HEADER: usize = 48;
 
 /// How a cutter ended, for ever.
 #[derive(Debug, Clone, Copy)]
@@ -315,6 +318,83 @@ impl<A: Allocator> Cutter<A> {
         ensures known { (R.heard source.new).is_at_end ≡ true → IsAtEnd (R.remaining source.new) }
         ensures beside { R.beside source.new ≡ R.beside source.old }
     {
+        if let Some(size) = self.foresee(source) {
+            if self.make_room(size).is_ok() {
+                self.take_whole(source, size);
+                return Ok(true);
+            }
+        }
+        self.cut_by_stops(source)
+    }
+
+    /// The length of the next record, where nothing of it is held here and the source holds it whole.
+    fn foresee<R: Source>(&self, source: &R) -> Option<usize>
+        ensures none { IfSome result (λ n. self.now.front ≡ []) }
+        ensures turns { IfSome result (λ n. self.now.reads + 2 ≤ 2 ^ 40) }
+        ensures size { IfSome result (λ n. (48 ≤ n) × (n ≤ 2 ^ 20)) }
+        ensures whole { IfSome result (λ n. (n ≤ length (R.lent source.now)) × IsRecord (take n (R.lent source.now))) }
+    {
+        if self.have > 0 || self.reads > TURNS - 2 {
+            return None;
+        }
+        match scan(source.lend()) {
+            Scan::Record(size) => Some(size),
+            _ => None,
+        }
+    }
+
+    /// Takes so many of the bytes that the source holds, as framing asks for them: the header, and then the rest.
+    fn take_whole<R: Source>(&mut self, source: &mut R, size: usize)
+        requires none { self.old.front ≡ [] }
+        requires turns { self.old.reads + 2 ≤ 2 ^ 40 }
+        requires header { 48 ≤ size }
+        requires room { size ≤ self.old.room }
+        requires whole { size ≤ length (R.lent source.old) }
+        ensures stays { self.new ≡ record self.old {
+          front = take size (R.lent source.old);
+          reads = self.old.reads + 2;
+        } }
+        ensures bytes { (R.heard source.new).bytes ≡ (R.heard source.old).bytes ++ take size (R.lent source.old) }
+        ensures calls { (R.heard source.new).calls ≡ (R.heard source.old).calls + 2 }
+        ensures failures { (R.heard source.new).failures ≡ (R.heard source.old).failures }
+        ensures going_on { (R.heard source.new).is_at_end ≡ (R.heard source.old).is_at_end }
+        ensures known { Consumes (R.remaining source.old) (R.remaining source.new) (take size (R.lent source.old)) }
+        ensures beside { R.beside source.new ≡ R.beside source.old }
+    {
+        copy_front(&mut self.held, source.lend(), size);
+        source.consume(HEADER);
+        source.consume(size - HEADER);
+        self.reads += 2;
+        self.have = size;
+        self.framer = Framer::new();
+    }
+
+    /// Reads from stop to stop up to the next record's end, or answers that the input ended where a record ended.
+    fn cut_by_stops<R: Source>(&mut self, source: &mut R) -> Result<bool, StreamFault>
+        requires heard { IsHeard (R.heard source.old) self.old }
+        requires not_lent { self.old.is_lent ≡ false }
+        requires stop { IsStop self.old.front (length self.old.front) }
+        requires asks { (k : ℕ) × Decides self.old.front (Need k) }
+        requires going_on { (R.heard source.old).is_at_end ≡ false }
+        ensures heard { IsHeard (R.heard source.new) self.new }
+        ensures more { TellsMore (R.heard source.old) (R.heard source.new) (R.remaining source.old)
+            (R.remaining source.new) }
+        ensures stays { (self.new.offset ≡ self.old.offset) × (self.new.is_lent ≡ false)
+            × (self.new.answer ≡ self.old.answer) }
+        ensures room { self.old.room ≤ self.new.room }
+        ensures stop { IsReadTo self.new.front (is_short result (R.heard source.new).is_at_end) }
+        ensures found { result ≡ Ok true → IsRecord self.new.front × (R.heard source.new).is_at_end ≡ false }
+        ensures asked { result ≡ Ok true
+            → (R.heard source.old).calls + 2 ≤ (R.heard source.new).calls + asks_of self.old.front }
+        ensures quiet { ((R.heard source.new).calls ≤ (R.heard source.old).calls → self.new.front ≡ self.old.front)
+            × ((R.heard source.old).calls ≤ (R.heard source.new).calls) }
+        ensures ended { result ≡ Ok false → (self.new.front ≡ []) × ((R.heard source.new).is_at_end ≡ true) }
+        ensures fine { OnOk result ((R.heard source.new).failures ≡ (R.heard source.old).failures) }
+        ensures fault { IfErr result (λ e. IsCuttingFault e self.old self.new (R.heard source.old)
+            (R.heard source.new)) }
+        ensures known { (R.heard source.new).is_at_end ≡ true → IsAtEnd (R.remaining source.new) }
+        ensures beside { R.beside source.new ≡ R.beside source.old }
+    {
         let mut is_at_end = false;
         'stops: loop {
             match self.look() {
@@ -403,6 +483,15 @@ impl<A: Allocator> Cutter<A> {
         }
         Ok(false)
     }
+}
+
+/// Copies the front of the bytes, so many of them.
+fn copy_front(held: &mut [u8], bytes: &[u8], size: usize)
+    requires room { size ≤ length held.old }
+    requires whole { size ≤ length bytes.now }
+    ensures { take size held.new ≡ take size bytes.now }
+{
+    held[..size].copy_from_slice(&bytes[..size]);
 }
 
 /// Reads once, into the bytes from `begin` to `end`.

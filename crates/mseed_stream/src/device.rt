@@ -1,7 +1,8 @@
 //! Where bytes come from, and where they go to.
-ghost use Rattle.std.specs.Prelude.{◌≡◌, List, ℕ, IsTrue, ◌<◌, ◌≤◌, length, IfOk, Option, None};
-ghost use Rattle.std.specs.Io.KnownBytes.{ReadConsumes, WriteAppends};
-ghost use Rattle.mseed_stream.specs.Device.{Heard, Said, nothing_heard, nothing_said, heard_also, said_also};
+ghost use Rattle.std.specs.Prelude.{◌≡◌, List, ℕ, IsTrue, ◌<◌, ◌≤◌, [], length, take, drop, IfOk, IfSome, Option, None};
+ghost use Rattle.std.specs.Io.{StartsWith};
+ghost use Rattle.std.specs.Io.KnownBytes.{Consumes, ReadConsumes, WriteAppends};
+ghost use Rattle.mseed_stream.specs.Device.{Heard, Said, nothing_heard, nothing_said, heard_also, told_also, said_also, ComesFirst};
 
 /// A device failed at a call, for whatever cause. By that call no byte went through.
 #[derive(Debug, Clone, Copy, PartialEq, Eq)]
@@ -9,15 +10,18 @@ pub struct Failed;
 
 /// Where bytes come from.
 ///
-/// Contracts name three things of a source: `heard`, the record of what it told so far;
-/// `remaining`, the bytes that it has left, where they are known; and `beside`, what it took
-/// meanwhile, where it is a sink as well.
+/// Contracts name four things of a source: `heard`, the record of what it told so far;
+/// `remaining`, the bytes that it has left, where they are known; `lent`, those of them that it
+/// holds already; and `beside`, what it took meanwhile, where it is a sink as well.
 pub trait Source {
     // What it told so far.
     ghost heard: { Self → Heard };
 
     // The bytes that it will tell from here on, where they are known.
     ghost remaining: { Self → Option (List ℕ) } = { λ _. None };
+
+    // The bytes that it holds already, and tells next.
+    ghost lent: { Self → List ℕ } = { λ _. [] };
 
     // What it took so far, where it is a sink as well. A read leaves it as it was.
     ghost beside: { Self → Said } = { λ _. nothing_said };
@@ -36,6 +40,20 @@ pub trait Source {
         ensures heard { heard self.new ≡ heard_also (heard self.old) result buf.new }
         ensures silent { IsTrue (heard self.old).is_at_end → result ≡ Ok 0 }
         ensures known { ReadConsumes (remaining self.old) (remaining self.new) result buf.new }
+        ensures first { ComesFirst (lent self.old) result buf.new }
+        ensures beside { beside self.new ≡ beside self.old };
+
+    /// The bytes that it holds already, and tells next: nothing, where it holds none. It isn't asked.
+    fn lend(&self) -> &[u8]
+        ensures bytes { result.now ≡ lent self.now }
+        ensures known { IfSome (remaining self.now) (λ left. StartsWith left (lent self.now)) };
+
+    /// Tells so many of the bytes that it holds, in one call, which can't fail.
+    fn consume(&mut self, amount: usize)
+        requires { amount ≤ length (lent self.old) }
+        ensures heard { heard self.new ≡ told_also (heard self.old) (take amount (lent self.old)) }
+        ensures rest { lent self.new ≡ drop amount (lent self.old) }
+        ensures known { Consumes (remaining self.old) (remaining self.new) (take amount (lent self.old)) }
         ensures beside { beside self.new ≡ beside self.old };
 }
 

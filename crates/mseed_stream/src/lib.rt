@@ -9,6 +9,7 @@
 //! slice. [`read_all`] and [`write_all_of`] are the plain loops over devices.
 #![tactic(auto)]
 
+mod buffered;
 mod counted;
 mod cutter;
 mod device;
@@ -18,6 +19,7 @@ mod slices;
 mod tally;
 mod whole;
 
+pub use buffered::Buffered;
 pub use counted::Counted;
 pub use cutter::Cutter;
 pub use device::{Failed, Sink, Source};

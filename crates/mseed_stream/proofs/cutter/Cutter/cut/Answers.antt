@@ -1,124 +1,24 @@
-use Rattle.std.proofs.Common.{◌≡◌, ◌<◌, ◌≤◌, ◌++◌, length, true, false, Bool, Ok, Err, IfErr, Result, ℕ, List, sym, ap, subst, ◌∙◌, append_assoc, arith, rules, ⊎_elim}
-use Rattle.std.proofs.lemmas.Bool.{cases_lt}
-use Rattle.mseed_record.proofs.Answered.{answered}
-use Rattle.std.proofs.KnownBytes.{Consumes-trans}
-use Rattle.mseed_record.specs.declared.frame.Scan.{Scan}
-use Rattle.mseed_record.specs.declared.frame.Scan.TheVariants.{Need}
-use Rattle.mseed_record.specs.Scan.{Decides}
-use Rattle.mseed_stream.specs.Archive.{is_frame}
-use Rattle.mseed_stream.specs.Device.{Heard}
+use Rattle.std.proofs.Common.{◌≡◌, ◌≤◌, ℕ, List, length, take, ap, ◌∙◌, arith, rules}
+use Rattle.std.proofs.lemmas.List.{length-take-le}
 use Rattle.mseed_stream.specs.Standing.{Standing}
-use Rattle.mseed_stream.specs.Cutting.{IsStop, IsReadTo, is_short}
-use Rattle.mseed_stream.specs.Steps.{IsCuttingFault}
-use Rattle.mseed_stream.specs.declared.fault.StreamFault.{StreamFault}
-use Rattle.mseed_stream.proofs.Stops.{stop_grows, stop_next}
-use Rattle.mseed_stream.proofs.Filled.{held_grows, held_stays}
-use Rattle.mseed_stream.proofs.Cuts.{found, fault_at_end, cutting_err, read_to_err, stops_again, same_end, stop_here, asked_twice, first_fill}
+use Rattle.mseed_stream.proofs.Ahead.{read_to_record}
+use Rattle.mseed_stream.proofs.Filled.{heard_whole}
 use Rattle.mseed_stream.proofs.cutter.Cutter.cut.Goals as goal
 
-pub returns-in-Record-clause-found : goal.returns-in-Record-clause-found
-returns-in-Record-clause-found g c _ =
-    let inv = c.stops.invariant in
-    let record_at = c.look.ensures.record c.in-Record.field-0 c.in-Record.is in
-    let it = found c.stops.self.front c.stops.is_at_end c.in-Record.field-0 inv.stop record_at.0 record_at.1 in
-    (rw c.look.ensures.stays it.0, inv.end ∙ it.1)
+pub returns-then-is_ok-clause-heard : goal.returns-then-is_ok-clause-heard
+returns-then-is_ok-clause-heard g c =
+    let lent : List ℕ = g.R.Source.lent c.args.source.now in
+    let size : ℕ = c.in-Some.size in
+    let taken = c.take_whole.ensures in
+    let before : Standing = c.make_room.new.self in
+    let bytes : List ℕ = take size lent in
+    let long : length bytes ≡ size = length-take-le size lent c.in-Some.ensures.whole.0 in
+    let fits : size ≤ before.room = search rules in
+    heard_whole (g.R.Source.heard c.args.source.now) (g.R.Source.heard c.take_whole.new.source) c.args.self.now before c.take_whole.new.self before.room bytes c.requires.heard c.requires.not_lent
+    c.in-Some.ensures.none c.make_room.ensures.stays c.make_room.ensures.small taken.stays taken.bytes taken.calls c.in-Some.ensures.turns (omega arith)
 
-pub returns-in-Record-clause-asked : goal.returns-in-Record-clause-asked
-returns-in-Record-clause-asked g c _ =
-    let inv = c.stops.invariant in
-    let k : ℕ = c.in-Record.field-0 in
-    let n : ℕ = c.requires.asks.0 in
-    let old : ℕ = (g.R.Source.heard c.args.source.now).calls in
-    let new : ℕ = (g.R.Source.heard c.stops.source).calls in
-    let record_at = c.look.ensures.record k c.in-Record.is in
-    let it = found c.stops.self.front c.stops.is_at_end k inv.stop record_at.0 record_at.1 in
-    let more : old < new = ⊎_elim (λ (less : old < new). less)
-    (λ (none : new ≤ old).
-    let asks = subst (λ (xs : List ℕ). Decides xs (Need n)) (sym (inv.asked none)) c.requires.asks.1 in
-    absurd (cc (answered c.stops.self.front k (Need n) asks record_at.0 record_at.1)))
-    (cases_lt old new) in
-    asked_twice c.args.self.now.front c.stops.self.front old new more inv.header it.0
-
-pub returns-in-Not-clause-fault : goal.returns-in-Not-clause-fault
-returns-in-Not-clause-fault g c =
-    let inv = c.stops.invariant in
-    let decides = subst (λ (a : Scan). Decides c.stops.self.front a) c.in-Not.is c.look.ensures.decides in
-    let same = c.look.ensures.stays in
-    (ap (λ (s : Standing). s.offset) (c.self.view_is ∙ same) ∙ inv.offset, inv.failures, rw same (is_frame c.in-Not.fault decides), rw (same, inv.end) inv.stop)
-
-pub returns-in-Need-clause-fault : goal.returns-in-Need-clause-fault
-returns-in-Need-clause-fault g c =
-    let inv = c.stops.invariant in
-    let same = c.look.ensures.stays in
-    let decides = subst (λ (a : Scan). Decides c.stops.self.front a) c.in-Need.is c.look.ensures.decides in
-    fault_at_end c.end.result c.in-Need.field-0 c.args.self.now c.look.new.self (g.R.Source.heard c.args.source.now) (g.R.Source.heard c.stops.source) c.end.ensures (ap (λ (s : Standing). s.offset) same ∙ inv.offset) inv.failures (inv.end ∙ c.if-is_at_end.true) (rw same decides)
-
-pub returns-in_err-is_at_end-in-Need-2-clause-stop : goal.returns-in_err-is_at_end-in-Need-2-clause-stop
-returns-in_err-is_at_end-in-Need-2-clause-stop g c =
-    let inv = c.stops.invariant in
-    let err = rw c.look.ensures.stays at c.in_err-is_at_end-in-Need-2.ensures in
-    let fault : StreamFault = c.in_err-is_at_end-in-Need-2.field-0.0 in
-    let needed : ℕ = c.in-Need.field-0 in
-    let before : List ℕ = c.stops.self.front in
-    let after : List ℕ = c.fill.new.self.front in
-    let old : Heard = g.R.Source.heard c.stops.source in
-    let new : Heard = g.R.Source.heard c.fill.new.source in
-    let decides = subst (λ (a : Scan). Decides before a) c.in-Need.is c.look.ensures.decides in
-    let here = stop_here before c.stops.is_at_end inv.stop c.if-is_at_end.false in
-    let grown : after ≡ before ++ err.more.0 = held_grows old new c.stops.self c.fill.new.self err.more.0 inv.heard err.heard inv.not_lent err.stays.1 err.stays.0 err.more.1 in
-    let stop = subst (λ (xs : List ℕ). IsStop xs needed) (sym grown) (stop_grows before err.more.0 needed (stop_next before needed here decides)) in
-    let held = λ (same : new ≡ old). subst (λ (xs : List ℕ). IsStop xs (length xs)) (sym (held_stays old new c.stops.self c.fill.new.self inv.heard err.heard inv.not_lent err.stays.1 err.stays.0 same)) here in
-    let same : c.from_residual.result ≡ Err fault = search rules in
-    subst (λ (r : Result Bool StreamFault). IsReadTo after (is_short r new.is_at_end)) (sym same) (read_to_err fault after needed c.stops.self.offset c.stops.self.room old new err.fault stop err.short held)
-
-pub returns-in_err-is_at_end-in-Need-2-clause-fault : goal.returns-in_err-is_at_end-in-Need-2-clause-fault
-returns-in_err-is_at_end-in-Need-2-clause-fault g c =
-    let inv = c.stops.invariant in
-    let err = rw c.look.ensures.stays at c.in_err-is_at_end-in-Need-2.ensures in
-    let fault : StreamFault = c.in_err-is_at_end-in-Need-2.field-0.0 in
-    let needed : ℕ = c.in-Need.field-0 in
-    let before : List ℕ = c.stops.self.front in
-    let after : Standing = c.fill.new.self in
-    let first : Heard = g.R.Source.heard c.args.source.now in
-    let old : Heard = g.R.Source.heard c.stops.source in
-    let new : Heard = g.R.Source.heard c.fill.new.source in
-    let decides = subst (λ (a : Scan). Decides before a) c.in-Need.is c.look.ensures.decides in
-    let here = stop_here before c.stops.is_at_end inv.stop c.if-is_at_end.false in
-    let grown : after.front ≡ before ++ err.more.0 = held_grows old new c.stops.self after err.more.0 inv.heard err.heard inv.not_lent err.stays.1 err.stays.0 err.more.1 in
-    let stop = subst (λ (xs : List ℕ). IsStop xs needed) (sym grown) (stop_grows before err.more.0 needed (stop_next before needed here decides)) in
-    let asks = λ (same : new ≡ old). subst (λ (xs : List ℕ). Decides xs (Need needed)) (sym (held_stays old new c.stops.self after inv.heard err.heard inv.not_lent err.stays.1 err.stays.0 same)) decides in
-    let same : c.from_residual.result ≡ Err fault = search rules in
-    subst (λ (r : Result Bool StreamFault). IfErr r (λ e. IsCuttingFault e c.args.self.now after first new)) (sym same)
-    (cutting_err fault c.args.self.now c.stops.self after first old new needed err.fault inv.offset inv.room inv.failures (inv.end ∙ c.if-is_at_end.false) stop err.short asks)
-
-pub stops-preserved : goal.stops-preserved
-stops-preserved g c =
-    let inv = c.stops.invariant in
-    let ok = rw c.look.ensures.stays at c.in_ok-is_at_end-in-Need-2.ensures in
-    let needed : ℕ = c.in-Need.field-0 in
-    let before : List ℕ = c.stops.self.front in
-    let after : List ℕ = c.fill.new.self.front in
-    let old : Heard = g.R.Source.heard c.stops.source in
-    let new : Heard = g.R.Source.heard c.fill.new.source in
-    let at_end : Bool = c.in_ok-is_at_end-in-Need-2.is_at_end in
-    let decides = subst (λ (a : Scan). Decides before a) c.in-Need.is c.look.ensures.decides in
-    let here = stop_here before c.stops.is_at_end inv.stop c.if-is_at_end.false in
-    let grown : after ≡ before ++ ok.more.0 = held_grows old new c.stops.self c.fill.new.self ok.more.0 inv.heard ok.heard inv.not_lent ok.stays.1 ok.stays.0 ok.more.1 in
-    let stop = subst (λ (xs : List ℕ). IsStop xs needed) (sym grown) (stop_grows before ok.more.0 needed (stop_next before needed here decides)) in
-    let answer = λ (b : Bool) (e : at_end ≡ b). ap (λ (x : Bool). let r : Result Bool StreamFault = Ok x in r) e in
-    record {
-      heard = ok.heard;
-      not_lent = ok.stays.1;
-      more = (inv.more.0 ++ ok.more.0, ok.more.1 ∙ (ap (λ (xs : List ℕ). xs ++ ok.more.0) inv.more.1 ∙ append_assoc (g.R.Source.heard c.args.source.now).bytes inv.more.0 ok.more.0), Consumes-trans _ _ _ _ _ inv.more.2 ok.more.2);
-      offset = ok.stays.0 ∙ inv.offset;
-      answer = ok.stays.2 ∙ inv.answer;
-      room = omega (arith, inv.room, ok.room);
-      stop = stops_again after needed at_end stop (λ e. (ok.whole (answer false e)).0) (λ e. (ok.ended (answer true e)).0);
-      end = same_end new.is_at_end at_end (λ e. (ok.whole (answer false e)).1) (λ e. (ok.ended (answer true e)).1);
-      known = λ e. (ok.ended (answer true e)).2;
-      calls = omega (arith, ok.asked, inv.calls);
-      asked = λ none. absurd (omega (arith, ok.asked, inv.calls));
-      header = λ none few. first_fill before after needed at_end (inv.asked (omega (arith, ok.asked)) ∙ none) decides (λ e. (ok.whole (answer false e)).0) (λ e. (ok.ended (answer true e)).0);
-      failures = ok.fine ∙ inv.failures;
-      beside = ok.beside ∙ inv.beside;
-    }
+pub returns-then-is_ok-clause-stop : goal.returns-then-is_ok-clause-stop
+returns-then-is_ok-clause-stop g c =
+    let lent : List ℕ = g.R.Source.lent c.args.source.now in
+    let taken = c.take_whole.ensures in
+    read_to_record c.take_whole.new.self.front (take c.in-Some.size lent) (g.R.Source.heard c.take_whole.new.source).is_at_end (ap (λ (s : Standing). s.front) taken.stays) c.in-Some.ensures.whole.1 (taken.going_on ∙ c.requires.going_on)

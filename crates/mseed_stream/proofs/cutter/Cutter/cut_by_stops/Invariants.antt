@@ -1,7 +1,7 @@
 use Rattle.std.proofs.Common.{◌≡◌, ◌+◌, ◌-◌, ◌≤◌, ◌^◌, [], length, true, false, if◌then◌else◌}
 use Rattle.std.specs.Io.KnownBytes.{IsAtEnd}
 use Rattle.mseed_stream.specs.Cutting.{IsHeard, IsReadTo, TellsMore}
-use Rattle.mseed_stream.proofs.cutter.Cutter.cut.Given as goal
+use Rattle.mseed_stream.proofs.cutter.Cutter.cut_by_stops.Given as goal
 
 abbrev pub invariant-stops : goal.invariant-stops
 invariant-stops g l = record {

@@ -1,0 +1,18 @@
+-- What a contract reads of a `Buffered`.
+use Rattle.std.specs.Prelude.{ℕ, List, [], Option, if◌then◌else◌}
+use Rattle.std.specs.Io.Buffered.{reader_buffer, reader_remaining}
+use Rattle.mseed_stream.specs.Counted.{heard_by, remaining_of}
+use Rattle.mseed_stream.specs.Device.{Heard}
+use Rattle.mseed_stream.specs.declared.buffered.Buffered.{Buffered}
+
+-- what it told so far
+abbrev pub told_by : {T A : Type 0} → Buffered T A → Heard
+told_by b = heard_by b.counted
+
+-- what it will tell, where its reader is known to have it left: what stands in the buffer comes first
+abbrev pub left_of : {T A : Type 0} → (T → Option (List ℕ)) → Buffered T A → Option (List ℕ)
+left_of remaining b = remaining_of (reader_remaining remaining) b.counted
+
+-- what it holds: what stands in the buffer, and nothing once it is at its end
+abbrev pub lent_by : {T A : Type 0} → Buffered T A → List ℕ
+lent_by b = if b.counted.is_at_end then [] else reader_buffer b.counted.inner

@@ -1,0 +1,64 @@
+//! The maker of sources that lend what they hold.
+ghost use Rattle.std.specs.Prelude.{◌≡◌};
+ghost use Rattle.mseed_stream.specs.Device.{nothing_heard};
+
+use crate::counted::Counted;
+use crate::device::{Failed, Source};
+use std::alloc::{Allocator, Global};
+use std::io::{BufRead, BufReader, Read};
+
+/// A buffered reader as a [`Source`] that lends what stands in the buffer. Its ends and failures are those of
+/// a [`Counted`] reader.
+#[derive(Drop)]
+pub struct Buffered<T, A: Allocator = Global> {
+    counted: Counted<BufReader<T, A>>,
+}
+
+impl<T: Read, A: Allocator> Buffered<T, A> {
+    ghost use Rattle.mseed_stream.specs.Buffered.{told_by};
+
+    /// The reader, of which nothing was asked yet.
+    pub fn new(reader: BufReader<T, A>) -> Buffered<T, A>
+        ensures { told_by result ≡ nothing_heard }
+    {
+        Buffered {
+            counted: Counted::new(reader),
+        }
+    }
+}
+
+impl<T: Read, A: Allocator> Source for Buffered<T, A> {
+    ghost use Rattle.mseed_stream.specs.Buffered.{told_by, left_of, lent_by};
+
+    ghost heard = { told_by };
+
+    ghost remaining = { left_of T.remaining };
+
+    ghost lent = { lent_by };
+
+    fn pull(&mut self, buf: &mut [u8]) -> Result<usize, Failed> {
+        let held = self.lend();
+        if held.is_empty() {
+            return self.counted.pull(buf);
+        }
+        let n = held.len().min(buf.len());
+        buf[..n].copy_from_slice(&held[..n]);
+        self.consume(n);
+        Ok(n)
+    }
+
+    fn lend(&self) -> &[u8] {
+        if self.counted.is_at_end {
+            &[]
+        } else {
+            self.counted.inner.buffer()
+        }
+    }
+
+    fn consume(&mut self, amount: usize) {
+        self.counted
+            .reads
+            .record(&self.counted.inner.buffer()[..amount], false);
+        self.counted.inner.consume(amount);
+    }
+}
