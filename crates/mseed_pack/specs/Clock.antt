@@ -16,7 +16,11 @@ added_before (step ∷ steps) place =
 abbrev pub periods : Ratio → ℕ → ℕ
 periods rate n = n * rate.den * 10 ^ 6 / rate.num
 
--- The instant of a sample, which has so many before it, as the clock reads it: the series' start, the periods
+-- The instant of a sample, which has so many before it, as the clock reads it: the first sample's instant, the periods
 -- since then rounded down, and a second less for each leap second that was inserted, more for each left out.
+abbrev pub reading_at : ℤ → Ratio → List (ℕ × LeapStep) → ℕ → ℤ
+reading_at start rate steps place = start +ℤ pos (periods rate place) -ℤ added_before steps place
+
+-- the instant of a sample of a series
 abbrev pub instant_at : Trace → ℕ → ℤ
-instant_at s place = s.start +ℤ pos (periods (ratio_of s.rate) place) -ℤ added_before s.steps place
+instant_at s place = reading_at s.start (ratio_of s.rate) s.steps place

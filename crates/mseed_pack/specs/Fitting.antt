@@ -20,12 +20,12 @@ IsTooFast s = 500_000 * (ratio_of s.rate).den < (ratio_of s.rate).num
 abbrev pub HasTimeOutside : Trace → Type 0
 HasTimeOutside s = (i : ℕ) × ((i < length s.samples) × IsOutside (instant_at s i))
 
--- the encoding holds the number as a sample
+-- the encoding holds the number as a sample: the first and the last one of Steim frames have 32 bits too
 abbrev pub IsSampleOf : Encoding → ℤ → Type 0
 IsSampleOf Int16 z = IsWithin 16 z
-IsSampleOf Int32 z = ⊤
-IsSampleOf Steim1 z = ⊤
-IsSampleOf Steim2 z = ⊤
+IsSampleOf Int32 z = IsWithin 32 z
+IsSampleOf Steim1 z = IsWithin 32 z
+IsSampleOf Steim2 z = IsWithin 32 z
 
 -- the encoding holds the number as a difference: the widest of Steim-1 has 32 bits, that of Steim-2 has 30
 abbrev pub IsDifferenceOf : Encoding → ℤ → Type 0

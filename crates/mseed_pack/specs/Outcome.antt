@@ -1,9 +1,8 @@
 -- What packing leaves behind.
-use Rattle.std.specs.Prelude.{◌≡◌, ◌≢◌, ℕ, ◌+◌, ◌<◌, ◌≤◌, List, [], ◌∷◌, ◌++◌, length, take, slice_index, ℤ, pos, Result, Ok, Err, All, FitsSigned}
+use Rattle.std.specs.Prelude.{◌≡◌, ◌≢◌, ℕ, ◌+◌, ◌<◌, ◌≤◌, List, [], ◌∷◌, ◌++◌, length, take, ℤ, pos, Result, Ok, Err, FitsSigned}
 use Rattle.std.specs.Int.{w16}
 use Rattle.std.specs.List.{concat}
 use Rattle.mseed_time.specs.Btime.{IsInstant}
-use Rattle.mseed_steim.specs.Samples.{IsSample}
 use Rattle.mseed_stream.specs.Device.{Said}
 use Rattle.mseed_audit.specs.Series.{Trace, AreSteps}
 use Rattle.mseed_pack.specs.declared.options.Options.{Options}
@@ -15,13 +14,11 @@ use Rattle.mseed_pack.specs.Fitting.{Fits, IsMisfit}
 -- what is so of the trace of every series, by the types of its parts
 pub record IsTrace (s : Trace) : Type 0 where
   pub key : length s.codes ≡ 12
-  pub octets : (i : ℕ) → slice_index s.codes i < 256
   pub start : IsInstant s.start
   pub factor : FitsSigned w16 s.rate.factor
   pub factor_counts : s.rate.factor ≢ pos 0
   pub multiplier : FitsSigned w16 s.rate.multiplier
   pub multiplier_counts : s.rate.multiplier ≢ pos 0
-  pub samples : All IsSample s.samples
   pub steps : AreSteps (length s.samples) s.steps
 
 -- the sink took the records that the series is packed into, so many, and none of its calls failed

@@ -1,22 +1,39 @@
 //! What the clock reads at a sample.
-ghost use Rattle.std.specs.Prelude.{◌≡◌, ◌↔◌, ◌*◌, ◌^◌, ◌≤◌, nat_abs, pos, ◌+ℤ◌, ◌-ℤ◌, IsNone, IfSome, IsSome, None};
+ghost use Rattle.std.specs.Prelude.{◌≡◌, ◌↔◌, ◌*◌, ◌^◌, ◌≤◌, nat_abs, pos, ◌+ℤ◌, ◌-ℤ◌, IfSome, None};
 ghost use Rattle.mseed_time.specs.Naming.{IsOutside, Names};
 ghost use Rattle.mseed_time.specs.Parts.{parts_of};
 ghost use Rattle.mseed_time.specs.Ratios.{ratio_of};
 ghost use Rattle.mseed_pack.specs.Clock.{periods};
 
+use crate::stretch::Stretch;
 use mseed_time::{Btime, Micros, Rate};
 
 /// Microseconds in a second.
 const SECOND: u128 = 1_000_000;
 
-/// The instant of the sample at an index, where leap seconds before it added so many microseconds.
-pub(crate) fn instant_at(start: Micros, rate: Rate, index: usize, added: i128) -> i128
-    requires { nat_abs added ≤ 10 ^ 6 * 2 ^ 64 }
-    ensures { result ≡ start +ℤ pos (periods (ratio_of rate) index) -ℤ added }
+/// The time that is written for the sample at an index of a stretch: a BTIME, and the microseconds of blockette 1001.
+pub(crate) fn time_at(
+    start: Micros,
+    rate: Rate,
+    stretch: Stretch,
+    index: usize,
+) -> Option<(Btime, i8)>
+    requires { nat_abs stretch.added ≤ 10 ^ 6 * 2 ^ 64 }
+    ensures none { (result ≡ None) ↔ IsOutside (start +ℤ pos (periods (ratio_of rate) index) -ℤ stretch.added) }
+    ensures names { IfSome result (λ time. Names (start +ℤ pos (periods (ratio_of rate) index) -ℤ stretch.added)
+        (parts_of time.0) time.1) }
+{
+    let instant = instant_at(start, rate, stretch, index);
+    time_of(instant)
+}
+
+/// The instant of that sample.
+fn instant_at(start: Micros, rate: Rate, stretch: Stretch, index: usize) -> i128
+    requires { nat_abs stretch.added ≤ 10 ^ 6 * 2 ^ 64 }
+    ensures { result ≡ start +ℤ pos (periods (ratio_of rate) index) -ℤ stretch.added }
 {
     let elapsed = elapsed_at(rate, index);
-    i128::from(start.get()) + elapsed as i128 - added
+    i128::from(start.get()) + elapsed as i128 - stretch.added
 }
 
 /// The whole microseconds in so many sample periods.
@@ -27,8 +44,8 @@ fn elapsed_at(rate: Rate, index: usize) -> u128
     index as u128 * u128::from(rate.den()) * SECOND / u128::from(rate.num())
 }
 
-/// The time that is written for an instant: a BTIME, and the microseconds of blockette 1001.
-pub(crate) fn time_of(instant: i128) -> Option<(Btime, i8)>
+/// The time that is written for an instant.
+fn time_of(instant: i128) -> Option<(Btime, i8)>
     ensures none { (result ≡ None) ↔ IsOutside instant }
     ensures names { IfSome result (λ time. Names instant (parts_of time.0) time.1) }
 {

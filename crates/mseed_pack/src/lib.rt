@@ -6,9 +6,11 @@
 mod clock;
 mod fault;
 mod law;
+mod fitting;
 mod options;
 mod stretch;
 
 pub use fault::PackFault;
 pub use law::{fewest_words, one_packing, reads_back};
+pub use fitting::fit;
 pub use options::{BadOption, Encoding, Options};

@@ -1,0 +1,45 @@
+-- The instants of a stretch rise.
+use Rattle.std.proofs.Common.{◌≡◌, ℕ, zero, suc, ◌+◌, ◌*◌, ◌/◌, ◌^◌, ◌<◌, ◌≤◌, inl, inr, List, subst, sym, ap, arith, ℤ, pos, ◌+ℤ◌, ◌-ℤ◌, ◌≤ℤ◌}
+use Rattle.std.proofs.lemmas.Int.{ints}
+use Rattle.std.proofs.lemmas.Nat.{le-div}
+use Rattle.std.proofs.Math.Nat.{div-mul-le_self, mul-le-mul_left}
+use Rattle.mseed_time.specs.Naming.{IsOutside}
+use Rattle.mseed_time.specs.Rate.{Ratio}
+use Rattle.mseed_time.specs.declared.outcome.LeapStep.{LeapStep}
+use Rattle.mseed_pack.specs.declared.stretch.Stretch.{Stretch}
+use Rattle.mseed_pack.specs.Clock.{periods, reading_at}
+use Rattle.mseed_pack.specs.Standing.{IsStretch}
+use Rattle.mseed_pack.proofs.Steps.{added_at}
+
+div_rise : (a b k : ℕ) → a ≤ b → a / k ≤ b / k
+div_rise a b zero h = omega (arith, h)
+div_rise a b (suc k) h =
+    let low : a / suc k * suc k ≤ a = div-mul-le_self a (suc k) in
+    le-div (a / suc k) b (suc k) (omega arith) (omega (arith, low, h))
+
+times_rise : (a b d : ℕ) → a ≤ b → a * d * 10 ^ 6 ≤ b * d * 10 ^ 6
+times_rise a b d h = let more : d * a ≤ d * b = mul-le-mul_left d h in omega (arith, more)
+
+pub periods_rise : (rate : Ratio) (i j : ℕ) → i ≤ j → periods rate i ≤ periods rate j
+periods_rise rate i j h = div_rise (i * rate.den * 10 ^ 6) (j * rate.den * 10 ^ 6) rate.num (times_rise i j rate.den h)
+
+pub between : (a b c : ℤ) → a ≤ℤ b → b ≤ℤ c → ¬ (IsOutside a) → ¬ (IsOutside c) → ¬ (IsOutside b)
+between a b c low high first last (inl early) = first (inl (omega (arith, ints, low, early)))
+between a b c low high first last (inr late) = last (inr (omega (arith, ints, high, late)))
+
+-- the instant of a sample of a stretch
+pub reading_in : (start : ℤ) (rate : Ratio) (steps : List (ℕ × LeapStep)) (size : ℕ) (stretch : Stretch) (i : ℕ) → IsStretch steps size stretch → stretch.begin ≤ i → i < stretch.end
+    → start +ℤ pos (periods rate i) -ℤ stretch.added ≡ reading_at start rate steps i
+reading_in start rate steps size stretch i h low high =
+    ap (λ (added : ℤ). start +ℤ pos (periods rate i) -ℤ added) (sym (added_at steps size stretch i h low high))
+
+pub stretch_timed : (start : ℤ) (rate : Ratio) (steps : List (ℕ × LeapStep)) (size : ℕ) (stretch : Stretch) (last : ℕ) → IsStretch steps size stretch → last + 1 ≡ stretch.end → stretch.begin ≤ last
+    → ¬ (IsOutside (start +ℤ pos (periods rate stretch.begin) -ℤ stretch.added)) → ¬ (IsOutside (start +ℤ pos (periods rate last) -ℤ stretch.added))
+    → (i : ℕ) → stretch.begin ≤ i → i < stretch.end → ¬ (IsOutside (reading_at start rate steps i))
+stretch_timed start rate steps size stretch last h e some first not_last i low high =
+    let b = reading_in start rate steps size stretch i h low high in
+    let early : periods rate stretch.begin ≤ periods rate i = periods_rise rate stretch.begin i low in
+    let late : periods rate i ≤ periods rate last = periods_rise rate i last (omega (arith, e, high)) in
+    let rise : (start +ℤ pos (periods rate stretch.begin) -ℤ stretch.added) ≤ℤ (start +ℤ pos (periods rate i) -ℤ stretch.added) = omega (arith, ints, early) in
+    let rise_on : (start +ℤ pos (periods rate i) -ℤ stretch.added) ≤ℤ (start +ℤ pos (periods rate last) -ℤ stretch.added) = omega (arith, ints, late) in
+    subst (λ (t : ℤ). ¬ (IsOutside t)) b (between _ _ _ rise rise_on first not_last)

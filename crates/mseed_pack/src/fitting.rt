@@ -1,0 +1,195 @@
+//! Whether a series can be packed.
+ghost use Rattle.std.specs.Prelude.{◌≡◌, ◌↔◌, ◌<◌, ◌≤◌, ◌*◌, ℕ, IsTrue, OnOk, IfErr, IfSome, IfNone, None, All, length, pos, slice_index_or, ◌^◌, nat_abs, ◌+ℤ◌, ◌-ℤ◌, ◌≢◌, FitsSigned};
+ghost use Rattle.std.specs.Int.{w16};
+ghost use Rattle.mseed_time.specs.Btime.{IsInstant};
+ghost use Rattle.mseed_time.specs.Naming.{IsOutside};
+ghost use Rattle.mseed_time.specs.Ratios.{ratio_of};
+ghost use Rattle.mseed_audit.specs.Series.{AreSteps};
+ghost use Rattle.mseed_pack.specs.Clock.{periods, reading_at};
+ghost use Rattle.mseed_pack.specs.Stretches.{differences};
+ghost use Rattle.mseed_pack.specs.Fitting.{Fits, HasTimeOutside, IsDifferenceOf, IsFirstNot, IsMisfit, IsSampleOf, IsTooFast};
+ghost use Rattle.mseed_pack.specs.Outcome.{IsTrace};
+
+use crate::clock::time_at;
+use crate::fault::PackFault;
+use crate::options::{Encoding, Options};
+use crate::stretch::{Stretch, first_stretch, next_stretch};
+use mseed_audit::Series;
+use mseed_time::{LeapStep, Micros, Rate};
+use std::alloc::Allocator;
+
+/// The most samples a second, at which half a period is a microsecond.
+const FASTEST: u64 = 500_000;
+
+/// Whether a series can be packed with these options.
+///
+/// # Errors
+///
+/// The first reason why it can't: it's empty; its rate is too high; an instant of a sample can't be written; a
+/// sample or a difference is too large for the encoding, the first of those.
+pub fn fit<A: Allocator + Copy>(series: &Series<A>, options: &Options) -> Result<(), PackFault>
+    ensures fits { OnOk result (Fits series.now options.now) }
+    ensures fault { IfErr result (λ fault. IsMisfit series.now options.now fault) }
+    // What the types of its parts say of each series.
+    ensures trace { IsTrace series.now }
+{
+    know(series);
+    match misfit(series, options) {
+        Some(fault) => Err(fault),
+        None => Ok(()),
+    }
+}
+
+/// What the types of its parts say of each series.
+fn know<A: Allocator + Copy>(series: &Series<A>)
+    ensures { IsTrace series.now }
+{
+    know_key(series.codes().key());
+    know_start(series.start());
+    know_rate(series.rate());
+    let _steps = series.steps();
+}
+
+/// A key is 12 bytes.
+fn know_key(key: &[u8; 12])
+    ensures { length key.now ≡ 12 }
+{}
+
+/// An instant lies in the years 1800 to 2199.
+fn know_start(start: Micros)
+    ensures { IsInstant start }
+{
+    let _micros = start.get();
+}
+
+/// A rate's factor and multiplier have 16 bits, and aren't 0.
+fn know_rate(rate: Rate)
+    ensures factor { FitsSigned w16 rate.factor }
+    ensures factor_counts { rate.factor ≢ pos 0 }
+    ensures multiplier { FitsSigned w16 rate.multiplier }
+    ensures multiplier_counts { rate.multiplier ≢ pos 0 }
+{}
+
+/// The first reason why a series can't be packed.
+fn misfit<A: Allocator + Copy>(series: &Series<A>, options: &Options) -> Option<PackFault>
+    ensures none { IfNone result (Fits series.now options.now) }
+    ensures some { IfSome result (λ fault. IsMisfit series.now options.now fault) }
+{
+    let samples = series.samples();
+    if samples.is_empty() {
+        return Some(PackFault::Empty);
+    }
+    if is_too_fast(series.rate()) {
+        return Some(PackFault::RateTooHigh);
+    }
+    if has_time_outside(series.start(), series.rate(), series.steps(), samples.len()) {
+        return Some(PackFault::TimeOutOfRange);
+    }
+    if let Some(index) = first_large_sample(samples, options.encoding) {
+        return Some(PackFault::SampleTooLarge(index));
+    }
+    if let Some(index) = first_large_difference(samples, options.encoding) {
+        return Some(PackFault::DifferenceTooLarge(index));
+    }
+    None
+}
+
+/// Whether half a period is less than a microsecond.
+fn is_too_fast(rate: Rate) -> bool
+    ensures { IsTrue result ↔ (500_000 * (ratio_of rate).den < (ratio_of rate).num) }
+{
+    FASTEST * u64::from(rate.den()) < u64::from(rate.num())
+}
+
+/// Whether the instant of one of so many samples can't be written. Between leap seconds the instants rise, so that
+/// the first and the last one tell.
+fn has_time_outside(start: Micros, rate: Rate, steps: &[(u64, LeapStep)], size: usize) -> bool
+    requires { AreSteps size steps.now }
+    ensures { IsTrue result
+        ↔ ((i : ℕ) × ((i < size) × IsOutside (reading_at start (ratio_of rate) steps.now i))) }
+{
+    let mut stretch = first_stretch(steps, size);
+    while stretch.begin < size {
+        let early = is_outside_at(start, rate, stretch, stretch.begin);
+        if early {
+            return true;
+        }
+        let late = is_outside_at(start, rate, stretch, stretch.end - 1);
+        if late {
+            return true;
+        }
+        if stretch.end == size {
+            return false;
+        }
+        stretch = next_stretch(steps, size, stretch);
+    }
+    false
+}
+
+/// Whether the instant of the sample at an index of a stretch can't be written.
+fn is_outside_at(start: Micros, rate: Rate, stretch: Stretch, index: usize) -> bool
+    requires { nat_abs stretch.added ≤ 10 ^ 6 * 2 ^ 64 }
+    ensures { IsTrue result
+        ↔ IsOutside (start +ℤ pos (periods (ratio_of rate) index) -ℤ stretch.added) }
+{
+    match time_at(start, rate, stretch, index) {
+        Some(_) => false,
+        None => true,
+    }
+}
+
+/// The first sample that the encoding doesn't hold.
+fn first_large_sample(samples: &[i32], encoding: Encoding) -> Option<usize>
+    ensures none { IfNone result (All (IsSampleOf encoding) samples.now) }
+    ensures some { IfSome result (λ index. IsFirstNot (IsSampleOf encoding) samples.now index) }
+{
+    for (index, sample) in samples.iter().enumerate() {
+        if !is_sample(encoding, *sample) {
+            return Some(index);
+        }
+    }
+    None
+}
+
+/// Whether the encoding holds a number as a sample.
+fn is_sample(encoding: Encoding, number: i32) -> bool
+    ensures { IsTrue result ↔ IsSampleOf encoding number }
+{
+    match encoding {
+        Encoding::Int16 => -0x8000 <= number && number < 0x8000,
+        Encoding::Int32 | Encoding::Steim1 | Encoding::Steim2 => true,
+    }
+}
+
+/// The first sample whose difference the encoding doesn't hold.
+fn first_large_difference(samples: &[i32], encoding: Encoding) -> Option<usize>
+    ensures none { IfNone result (All (IsDifferenceOf encoding) (differences samples.now)) }
+    ensures some { IfSome result (λ index. IsFirstNot (IsDifferenceOf encoding) (differences samples.now) index) }
+{
+    for index in 1..samples.len() {
+        if !is_difference(encoding, difference_at(samples, index)) {
+            return Some(index);
+        }
+    }
+    None
+}
+
+/// The difference of a sample from the one before it.
+fn difference_at(samples: &[i32], index: usize) -> i64
+    requires some { 0 < index }
+    requires inside { index < length samples.now }
+    ensures { result ≡ slice_index_or (differences samples.now) index (pos 0) }
+{
+    i64::from(samples[index]) - i64::from(samples[index - 1])
+}
+
+/// Whether the encoding holds a number as a difference.
+fn is_difference(encoding: Encoding, number: i64) -> bool
+    ensures { IsTrue result ↔ IsDifferenceOf encoding number }
+{
+    match encoding {
+        Encoding::Int16 | Encoding::Int32 => true,
+        Encoding::Steim1 => -0x8000_0000 <= number && number < 0x8000_0000,
+        Encoding::Steim2 => -0x2000_0000 <= number && number < 0x2000_0000,
+    }
+}
