@@ -1,15 +1,20 @@
 //! Laws of packing.
-ghost use Rattle.std.specs.Prelude.{◌≡◌, ℕ, List};
+ghost use Rattle.std.specs.Prelude.{◌≡◌, ◌⊎◌, ℕ, List, IsTrue, Result, Ok, Err};
 ghost use Rattle.std.specs.List.{AllByRecursion};
-ghost use Rattle.mseed_audit.specs.Series.{Trace};
+ghost use Rattle.mseed_audit.specs.declared.assembly.NotContinuous.{NotContinuous};
+ghost use Rattle.mseed_audit.specs.declared.verdict.Verdict.{Verdict};
+ghost use Rattle.mseed_audit.specs.Channels.{Placed, views_in};
+ghost use Rattle.mseed_audit.specs.Series.{Trace, IsSeries};
+ghost use Rattle.mseed_audit.specs.Verdict.{IsVerdict, says_continuous};
 ghost use Rattle.mseed_pack.specs.declared.options.Options.{Options};
 ghost use Rattle.mseed_pack.specs.declared.options.Encoding.TheVariants.{Steim2};
 ghost use Rattle.mseed_pack.specs.FewestWords.{HasFewestWords};
 ghost use Rattle.mseed_pack.specs.Fitting.{Fits};
 ghost use Rattle.mseed_pack.specs.Outcome.{IsTrace};
 ghost use Rattle.mseed_pack.specs.Packing.{IsPacking};
-ghost use Rattle.mseed_pack.specs.ReadBack.{ReadsAs};
+ghost use Rattle.mseed_pack.specs.ReadBack.{AreViewsOf, ReadsAs};
 
+use mseed_audit::{continuous_exactly, one_series};
 use mseed_record::header_reads_back;
 use mseed_steim::{one_packing as one_run, one_reading, packed_spells};
 use mseed_stream::one_input;
@@ -34,6 +39,20 @@ pub fn reads_back()
     packed_spells();
     one_reading();
     one_input();
+}
+
+/// Where an audit judges the records that a series is packed into, wherever they stand in an archive, it calls
+/// their channel continuous; and what is assembled of them is the series, or there was no memory for it.
+pub fn called_continuous()
+    ensures verdict { (s : Trace) (records : List (List ℕ)) (ps : List Placed) (verdict : Verdict)
+        → ReadsAs s records → AreViewsOf records (views_in ps) → IsVerdict verdict ps
+        → IsTrue (says_continuous verdict) }
+    ensures series { (s : Trace) (records : List (List ℕ)) (ps : List Placed) (answer : Result Trace NotContinuous)
+        → ReadsAs s records → AreViewsOf records (views_in ps) → IsSeries answer ps
+        → (answer ≡ Ok s) ⊎ (answer ≡ Err NotContinuous.Memory) }
+{
+    continuous_exactly();
+    one_series();
 }
 
 /// Each record of a Steim-2 packing has as few data words in use as hold the differences of its samples

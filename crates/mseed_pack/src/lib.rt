@@ -5,12 +5,12 @@
 
 mod clock;
 mod fault;
-mod law;
 mod fitting;
+mod law;
 mod options;
 mod stretch;
 
 pub use fault::PackFault;
-pub use law::{fewest_words, one_packing, reads_back};
 pub use fitting::fit;
+pub use law::{called_continuous, fewest_words, one_packing, reads_back};
 pub use options::{BadOption, Encoding, Options};
