@@ -22,7 +22,7 @@ head_before xs ys n long has = (
   subst (λ ds. SaysNumber ds n) (ap (take 6) (drop-append-le 2 xs ys (omega (arith, long))) ∙ take-append-le 6 (drop 2 xs) ys (omega (arith, long, length-drop 2 xs))) has.1,
 )
 
-one_begins : (xs : List ℕ) (a b : ℕ) → Begins xs a → Begins xs b → a ≡ b
+pub one_begins : (xs : List ℕ) (a b : ℕ) → Begins xs a → Begins xs b → a ≡ b
 one_begins xs a b p q = let both : Some a ≡ Some b = sym p ∙ q in cc both
 
 -- behind eight bytes of a packet that is begun, up to its end

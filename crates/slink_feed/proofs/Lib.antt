@@ -4,8 +4,10 @@ pub mod Fitting
 pub mod Fronts
 pub mod Heads
 pub mod Heard
+pub mod OneReading
 pub mod Places
 pub mod Reached
 pub mod Replies
 pub mod Slots
 pub mod Wanting
+pub mod Wholes

@@ -7,6 +7,7 @@ mod cutting;
 mod dialogue;
 mod feed;
 mod grant;
+mod law;
 mod ring;
 mod session;
 
@@ -14,5 +15,6 @@ pub use client::Client;
 pub use dialogue::{Bytes, Ending, Event, Stage, Wanted};
 pub use feed::{Feed, FeedFault};
 pub use grant::{Grant, Mode};
+pub use law::one_reading;
 pub use ring::{Ring, RingFault};
 pub use session::{Phase, Sent, Session};

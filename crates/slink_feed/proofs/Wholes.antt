@@ -1,0 +1,204 @@
+-- No front of a whole is another, and bytes are one whole at most.
+use Rattle.std.proofs.Common.{◌≡◌, ◌≢◌, ℕ, ◌+◌, ◌<◌, ◌≤◌, ◌⊎◌, inl, inr, zero, suc, refl, sym, ap, subst, ◌∙◌, arith, List, [], ◌∷◌, ◌++◌, append_assoc, append-nil, length, length-append, Option, Some, None, slice_get, codes}
+use Rattle.std.proofs.lemmas.Bool.{cases_lt}
+use Rattle.std.proofs.lemmas.List.{append_cancel_right}
+use Rattle.std.proofs.lemmas.Option.{slice_get_within}
+use Rattle.slink_wire.specs.Packet.{HasHead, IsPacket}
+use Rattle.slink_wire.specs.Reply.{line_end}
+use Rattle.slink_wire.proofs.Packets.{one_packet}
+use Rattle.slink_feed.specs.declared.dialogue.Stage.{Stage}
+use Rattle.slink_feed.specs.declared.dialogue.Stage.TheVariants.{Unlinked, Station, Number, Packets, Ended}
+use Rattle.slink_feed.specs.Cutting.{Begins, IsBegun, IsNoPacket, IsNoReply, IsPacketBegun, IsReply, IsReplyBegun, IsWhole, IsWholePacket, IsWholeReply, LacksEnd, no_first, no_end, no_head, nothing, end_begun, head_begun, record_begun}
+use Rattle.slink_feed.specs.Dialogue.{Whole, Reply, Packet, End, Garbage}
+use Rattle.slink_feed.proofs.Fronts.{get_left, get_here}
+use Rattle.slink_feed.proofs.Heads.{head_before, one_begins}
+
+-- the first byte of a front
+begins_front : (a z : List ℕ) (b : ℕ) → Begins a b → Begins (a ++ z) b
+begins_front a z b is = get_left a z 0 (slice_get_within a 0 b is) ∙ is
+
+front_begins : (a z : List ℕ) (b : ℕ) → 0 < length a → Begins (a ++ z) b → Begins a b
+front_begins a z b some is = sym (get_left a z 0 some) ∙ is
+
+other_begins : (xs : List ℕ) (b : ℕ) → Begins xs b → b ≢ 83 → Begins xs 83 → ⊥
+other_begins xs b is other it = other (one_begins xs b 83 is it)
+
+not_both : (xs : List ℕ) → Begins xs 69 → Begins xs 83 → ⊥
+not_both xs e s = let bad : 69 ≡ 83 = one_begins xs 69 83 e s in omega (arith, bad)
+
+end_begins : (bytes : List ℕ) → bytes ≡ codes "END" → (Begins bytes 69) × (length bytes ≡ 3)
+end_begins bytes is = (ap (λ (xs : List ℕ). slice_get xs 0) is, ap length is)
+
+packet_begins : (bytes r : List ℕ) (n : ℕ) → IsPacket bytes n r → Begins bytes 83
+packet_begins [] r n is = absurd (let bad : [] ≡ codes "SL" = is.0 in cc bad)
+packet_begins (x ∷ []) r n is = absurd (let bad : x ∷ [] ≡ codes "SL" = is.0 in cc bad)
+packet_begins (x ∷ y ∷ xs) r n is = let both : x ∷ y ∷ [] ≡ 83 ∷ 76 ∷ [] = is.0 in let one : x ≡ 83 = cc both in ap (λ z. Some z) one
+
+-- A CR LF ends the bytes of a reply.
+reply_end : (a z line : List ℕ) → a ≡ line ++ line_end → LacksEnd (a ++ z) → ⊥
+reply_end a z line is lacks =
+    let long : length a ≡ length line + 2 = ap length is ∙ length-append line line_end in
+    let cr : slice_get a (length line) ≡ Some 13 = ap (λ (xs : List ℕ). slice_get xs (length line)) is ∙ get_here line (10 ∷ []) 13 in
+    let split : line ++ line_end ≡ (line ++ 13 ∷ []) ++ 10 ∷ [] = sym (append_assoc line (13 ∷ []) (10 ∷ [])) in
+    let at : length (line ++ 13 ∷ []) ≡ length line + 1 = length-append line (13 ∷ []) in
+    let lf : slice_get a (length line + 1) ≡ Some 10 = ap (λ (xs : List ℕ). slice_get xs (length line + 1)) (is ∙ split) ∙ (ap (slice_get ((line ++ 13 ∷ []) ++ 10 ∷ [])) (sym at) ∙ get_here (line ++ 13 ∷ []) [] 10) in
+    lacks (length line) (get_left a z (length line) (omega (arith, long)) ∙ cr) (get_left a z (length line + 1) (omega (arith, long)) ∙ lf)
+
+lacks_front : (a z : List ℕ) → LacksEnd (a ++ z) → LacksEnd a
+lacks_front a z lacks i cr lf = lacks i (get_left a z i (slice_get_within a i 13 cr) ∙ cr) (get_left a z (i + 1) (slice_get_within a (i + 1) 10 lf) ∙ lf)
+
+-- a front of a reply without its last byte
+lacks_before : (a z line : List ℕ) → a ++ z ≡ line ++ line_end → 0 < length z → LacksEnd (line ++ 13 ∷ []) → LacksEnd a
+lacks_before a z line is some lacks i cr lf =
+    let split : a ++ z ≡ (line ++ 13 ∷ []) ++ 10 ∷ [] = is ∙ sym (append_assoc line (13 ∷ []) (10 ∷ [])) in
+    let within : i + 1 < length a = slice_get_within a (i + 1) 10 lf in
+    let long : length a + length z ≡ length (line ++ 13 ∷ []) + 1 = sym (length-append a z) ∙ (ap length split ∙ length-append (line ++ 13 ∷ []) (10 ∷ [])) in
+    let here : (j : ℕ) → j < length a → slice_get (line ++ 13 ∷ []) j ≡ slice_get a j = λ j lt.
+    sym (get_left (line ++ 13 ∷ []) (10 ∷ []) j (omega (arith, lt, long, some))) ∙ (ap (λ (xs : List ℕ). slice_get xs j) (sym split) ∙ get_left a z j lt) in
+    lacks i (here i (omega (arith, within)) ∙ cr) (here (i + 1) within ∙ lf)
+
+-- bytes that are begun have no whole in front
+reply_begun_no : (a z : List ℕ) (w : Whole) → IsReplyBegun (a ++ z) → IsWholeReply a w → ⊥
+reply_begun_no a z (Reply line) begun is = reply_end a z line is.0 begun.0
+reply_begun_no a z (Packet n r) begun is = is
+reply_begun_no a z End begun is = is
+reply_begun_no a z Garbage begun is = omega (arith, begun.1, is.1, length-append a z)
+
+-- a front of a whole is begun
+reply_front : (a z : List ℕ) (w : Whole) → 0 < length z → IsWholeReply (a ++ z) w → IsReplyBegun a
+reply_front a z (Reply line) some is = (lacks_before a z line is.0 some is.1, omega (arith, is.2, some, length-append a z))
+reply_front a z (Packet n r) some is = absurd is
+reply_front a z End some is = absurd is
+reply_front a z Garbage some is = (lacks_front a z is.0, omega (arith, is.1, some, length-append a z))
+
+no_more : (a line : List ℕ) → IsReply a line → LacksEnd a → ⊥
+no_more a line is lacks = reply_end a [] line is.0 (subst LacksEnd (sym (append-nil a)) lacks)
+
+one_reply : (a : List ℕ) (w v : Whole) → IsWholeReply a w → IsWholeReply a v → w ≡ v
+one_reply a (Reply l) (Reply m) p q = ap (λ x. Reply x) (append_cancel_right l m line_end (sym p.0 ∙ q.0))
+one_reply a (Reply l) Garbage p q = absurd (no_more a l p q.0)
+one_reply a Garbage (Reply m) p q = absurd (no_more a m q p.0)
+one_reply a Garbage Garbage p q = refl
+one_reply a (Packet n r) v p q = absurd p
+one_reply a End v p q = absurd p
+one_reply a (Reply l) (Packet n r) p q = absurd q
+one_reply a (Reply l) End p q = absurd q
+one_reply a Garbage (Packet n r) p q = absurd q
+one_reply a Garbage End p q = absurd q
+
+-- the same of packets
+begun_no_garbage : (a z : List ℕ) → IsPacketBegun (a ++ z) → IsNoPacket a → ⊥
+begun_no_garbage a z (nothing e) (no_first b is s t one) = omega (arith, e, one, length-append a z)
+begun_no_garbage a z (nothing e) (no_end is three other) = omega (arith, e, three, length-append a z)
+begun_no_garbage a z (nothing e) (no_head is eight lacks) = omega (arith, e, eight, length-append a z)
+begun_no_garbage a z (end_begun e short) (no_first b is s t one) = t (one_begins (a ++ z) b 69 (begins_front a z b is) e)
+begun_no_garbage a z (end_begun e short) (no_end is three other) = omega (arith, short, three, length-append a z)
+begun_no_garbage a z (end_begun e short) (no_head is eight lacks) = omega (arith, short, eight, length-append a z)
+begun_no_garbage a z (head_begun e short) (no_first b is s t one) = s (one_begins (a ++ z) b 83 (begins_front a z b is) e)
+begun_no_garbage a z (head_begun e short) (no_end is three other) = not_both (a ++ z) (begins_front a z 69 is) e
+begun_no_garbage a z (head_begun e short) (no_head is eight lacks) = omega (arith, short, eight, length-append a z)
+begun_no_garbage a z (record_begun n e has long short) (no_first b is s t one) = s (one_begins (a ++ z) b 83 (begins_front a z b is) e)
+begun_no_garbage a z (record_begun n e has long short) (no_end is three other) = not_both (a ++ z) (begins_front a z 69 is) e
+begun_no_garbage a z (record_begun n e has long short) (no_head is eight lacks) = lacks n (head_before a z n (omega (arith, eight)) has)
+
+begun_no_end : (a z : List ℕ) → IsPacketBegun (a ++ z) → Begins a 69 → length a ≡ 3 → ⊥
+begun_no_end a z (nothing e) is three = omega (arith, e, three, length-append a z)
+begun_no_end a z (end_begun e short) is three = omega (arith, short, three, length-append a z)
+begun_no_end a z (head_begun e short) is three = not_both (a ++ z) (begins_front a z 69 is) e
+begun_no_end a z (record_begun n e has long short) is three = not_both (a ++ z) (begins_front a z 69 is) e
+
+begun_short : (a : List ℕ) → IsPacketBegun a → length a < 520
+begun_short a (nothing e) = omega (arith, e)
+begun_short a (end_begun e short) = omega (arith, short)
+begun_short a (head_begun e short) = omega (arith, short)
+begun_short a (record_begun n e has long short) = short
+
+packet_begun_no : (a z : List ℕ) (w : Whole) → IsPacketBegun (a ++ z) → IsWholePacket a w → ⊥
+packet_begun_no a z (Reply line) begun is = is
+packet_begun_no a z (Packet n r) begun is = omega (arith, begun_short (a ++ z) begun, is.1, length-append a z)
+packet_begun_no a z End begun is = let e : (Begins a 69) × (length a ≡ 3) = end_begins a is in begun_no_end a z begun e.0 e.1
+packet_begun_no a z Garbage begun is = begun_no_garbage a z begun is
+
+garbage_front : (a z : List ℕ) → 0 < length z → IsNoPacket (a ++ z) → IsPacketBegun a
+garbage_front a z some (no_first b is s t one) = nothing (omega (arith, one, some, length-append a z))
+garbage_front a z some (no_end is three other) = elim (cases_lt 0 (length a)) [
+  | inl front ↦ end_begun (front_begins a z 69 front is) (omega (arith, three, some, length-append a z))
+  | inr none ↦ nothing (omega (arith, none))
+]
+garbage_front a z some (no_head is eight lacks) = elim (cases_lt 0 (length a)) [
+  | inl front ↦ head_begun (front_begins a z 83 front is) (omega (arith, eight, some, length-append a z))
+  | inr none ↦ nothing (omega (arith, none))
+]
+
+record_front : (a z r : List ℕ) (n : ℕ) → 0 < length z → IsPacket (a ++ z) n r → length (a ++ z) ≡ 520 → IsPacketBegun a
+record_front a z r n some is long = elim (cases_lt 0 (length a)) [
+  | inl front ↦ elim (cases_lt (length a) 8) [
+    | inl short ↦ head_begun (front_begins a z 83 front (packet_begins (a ++ z) r n is)) short
+    | inr head ↦ record_begun n (front_begins a z 83 front (packet_begins (a ++ z) r n is)) (head_before a z n head (is.0, is.1)) head (omega (arith, long, some, length-append a z))
+  ]
+  | inr none ↦ nothing (omega (arith, none))
+]
+
+end_front : (a z : List ℕ) → 0 < length z → a ++ z ≡ codes "END" → IsPacketBegun a
+end_front a z some is =
+    let e : (Begins (a ++ z) 69) × (length (a ++ z) ≡ 3) = end_begins (a ++ z) is in
+    elim (cases_lt 0 (length a)) [
+      | inl front ↦ end_begun (front_begins a z 69 front e.0) (omega (arith, e.1, some, length-append a z))
+      | inr none ↦ nothing (omega (arith, none))
+    ]
+
+packet_front : (a z : List ℕ) (w : Whole) → 0 < length z → IsWholePacket (a ++ z) w → IsPacketBegun a
+packet_front a z (Reply line) some is = absurd is
+packet_front a z (Packet n r) some is = record_front a z r n some is.0 is.1
+packet_front a z End some is = end_front a z some is
+packet_front a z Garbage some is = garbage_front a z some is
+
+packet_no_garbage : (a r : List ℕ) (n : ℕ) → IsPacket a n r → length a ≡ 520 → IsNoPacket a → ⊥
+packet_no_garbage a r n is long (no_first b begins s t one) = omega (arith, long, one)
+packet_no_garbage a r n is long (no_end begins three other) = omega (arith, long, three)
+packet_no_garbage a r n is long (no_head begins eight lacks) = omega (arith, long, eight)
+
+end_no_garbage : (a : List ℕ) → a ≡ codes "END" → IsNoPacket a → ⊥
+end_no_garbage a is (no_first b begins s t one) = omega (arith, (end_begins a is).1, one)
+end_no_garbage a is (no_end begins three other) = other is
+end_no_garbage a is (no_head begins eight lacks) = omega (arith, (end_begins a is).1, eight)
+
+packets_same : (n m : ℕ) (r s : List ℕ) → n ≡ m → r ≡ s → Packet n r ≡ Packet m s
+packets_same n m r s p q = cc
+
+one_of_packets : (a : List ℕ) (w v : Whole) → IsWholePacket a w → IsWholePacket a v → w ≡ v
+one_of_packets a (Packet n r) (Packet m s) p q = let same : (n ≡ m) × (r ≡ s) = one_packet a n m r s p.0 q.0 in packets_same n m r s same.0 same.1
+one_of_packets a (Packet n r) End p q = absurd (let three : length a ≡ 3 = (end_begins a q).1 in omega (arith, p.1, three))
+one_of_packets a (Packet n r) Garbage p q = absurd (packet_no_garbage a r n p.0 p.1 q)
+one_of_packets a End (Packet m s) p q = absurd (let three : length a ≡ 3 = (end_begins a p).1 in omega (arith, q.1, three))
+one_of_packets a End End p q = refl
+one_of_packets a End Garbage p q = absurd (end_no_garbage a p q)
+one_of_packets a Garbage (Packet m s) p q = absurd (packet_no_garbage a s m q.0 q.1 p)
+one_of_packets a Garbage End p q = absurd (end_no_garbage a q p)
+one_of_packets a Garbage Garbage p q = refl
+one_of_packets a (Reply l) v p q = absurd p
+one_of_packets a (Packet n r) (Reply l) p q = absurd q
+one_of_packets a End (Reply l) p q = absurd q
+one_of_packets a Garbage (Reply l) p q = absurd q
+
+-- at each stage
+pub begun_no_whole : (stage : Stage) (a z : List ℕ) (w : Whole) → IsBegun stage (a ++ z) → IsWhole stage a w → ⊥
+begun_no_whole Unlinked a z w begun is = is
+begun_no_whole (Station k) a z w begun is = reply_begun_no a z w begun is
+begun_no_whole (Number k) a z w begun is = reply_begun_no a z w begun is
+begun_no_whole Packets a z w begun is = packet_begun_no a z w begun is
+begun_no_whole (Ended ending) a z w begun is = is
+
+pub front_begun : (stage : Stage) (a z : List ℕ) (w : Whole) → 0 < length z → IsWhole stage (a ++ z) w → IsBegun stage a
+front_begun Unlinked a z w some is = absurd is
+front_begun (Station k) a z w some is = reply_front a z w some is
+front_begun (Number k) a z w some is = reply_front a z w some is
+front_begun Packets a z w some is = packet_front a z w some is
+front_begun (Ended ending) a z w some is = absurd is
+
+pub one_whole : (stage : Stage) (a : List ℕ) (w v : Whole) → IsWhole stage a w → IsWhole stage a v → w ≡ v
+one_whole Unlinked a w v p q = absurd p
+one_whole (Station k) a w v p q = one_reply a w v p q
+one_whole (Number k) a w v p q = one_reply a w v p q
+one_whole Packets a w v p q = one_of_packets a w v p q
+one_whole (Ended ending) a w v p q = absurd p
