@@ -35,3 +35,5 @@ pub mod Written
 pub mod Filling
 pub mod OnePacking
 pub mod Widened
+pub mod ByteRun
+pub mod Unpacking

@@ -36,7 +36,7 @@ pub no_items : (s : Scheme) (before : List DataWord) → before ≡ [] → items
 unfolding items_of
 no_items s before e = rw e refl
 
-is_head : (k : ℕ) → (k % 16 ≡ 0) ⊎ (k % 16 ≢ 0)
+pub is_head : (k : ℕ) → (k % 16 ≡ 0) ⊎ (k % 16 ≢ 0)
 is_head k = ⊎_elim (λ (some : 0 < k % 16). inr (λ e. omega arith)) (λ (none : k % 16 ≤ 0). inl (omega arith)) (cases_lt 0 (k % 16))
 
 -- how many data words there are: all but the first of each frame

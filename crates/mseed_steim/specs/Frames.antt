@@ -1,6 +1,6 @@
 -- The frames of a Steim payload (SEED manual, appendix B): 64 bytes, 16 words of 32 bits, the highest byte
 -- first. The payload's words are counted from 0, so word k is word k % 16 of frame k / 16.
-use Rattle.std.specs.Prelude.{ℕ, ◌-◌, ◌*◌, ◌/◌, ◌%◌, ◌^◌, ◌==◌, not, Bool, List, length, drop, map, ℤ}
+use Rattle.std.specs.Prelude.{ℕ, ◌-◌, ◌*◌, ◌/◌, ◌%◌, ◌^◌, ◌<◌, ◌==◌, not, Bool, List, length, drop, map, slice_index_or, ℤ}
 use Rattle.std.specs.List.{filter, range_with_len}
 use Rattle.byteorder.specs.Endian.{big_number, twos_complement}
 
@@ -10,6 +10,10 @@ pub record DataWord : Type 0 where
   pub place : ℕ
   pub code : ℕ
   pub bits : ℕ
+
+-- the numbers are bytes
+abbrev pub AreOctets : List ℕ → Type 0
+AreOctets bytes = (i : ℕ) → slice_index_or bytes i 0 < 256
 
 -- the bits of word k
 abbrev pub word_at : List ℕ → ℕ → ℕ

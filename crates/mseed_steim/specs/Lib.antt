@@ -3,6 +3,7 @@ pub mod Spelling
 pub mod Digits
 pub mod Frames
 pub mod Runs
+pub mod ByteRuns
 pub mod Items
 pub mod Reads
 pub mod Left

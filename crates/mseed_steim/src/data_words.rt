@@ -1,9 +1,14 @@
 //! The data words of a payload's frames.
 
-ghost use Rattle.std.specs.Prelude.{◌≡◌, ◌≢◌, ◌≤◌, ◌<◌, ◌+◌, ◌-◌, ◌*◌, ◌/◌, ◌%◌, ◌^◌, List, [], length};
+ghost use Rattle.std.specs.Prelude.{◌≡◌, ◌≢◌, ◌≤◌, ◌<◌, ◌+◌, ◌-◌, ◌*◌, ◌/◌, ◌%◌, ◌^◌, ℕ, List, [], ◌++◌, length, map, Ok};
 ghost use Rattle.std.specs.Iterator.{YieldsFirstBy, item_count};
-ghost use Rattle.mseed_steim.specs.Frames.{DataWord, word_at, words_from, data_words};
+ghost use Rattle.mseed_steim.specs.Frames.{AreOctets, DataWord, word_at, words_from, data_words};
+ghost use Rattle.byteorder.specs.Endian.{twos_complement};
+ghost use Rattle.mseed_steim.specs.declared.scheme.Scheme.{Scheme};
+ghost use Rattle.mseed_steim.specs.ByteRuns.{begins_empty, byte_run};
+ghost use Rattle.mseed_steim.specs.Items.{items_of};
 ghost use Rattle.mseed_steim.specs.Reads.{as_data};
+ghost use Rattle.mseed_steim.specs.Runs.{SpellsRun};
 
 use byteorder::{BigEndian, ByteOrder};
 use std::marker::Model;
@@ -38,7 +43,7 @@ pub(crate) struct Words<'a> {
     /// The word that is next, and the end of the words.
     next: usize,
     end: usize,
-    /// The codes of the frame in which the next word stands, once they have been read.
+    /// The codes of the frame in which the next word stands.
     codes: u32,
 }
 
@@ -47,7 +52,31 @@ impl<'a> Model for Words<'a> {
 
     ghost view = { λ w. words_from w.payload.now w.next (w.end - w.next) };
 
-    ghost invariant = { λ w. (w.next ≤ w.end) × (w.end % 16 ≡ 0) × (4 * w.end ≤ length w.payload.now) × (w.next % 16 ≢ 0 → w.codes ≡ word_at w.payload.now (16 * (w.next / 16))) };
+    ghost invariant = { λ w. (w.next ≤ w.end) × (w.end % 16 ≡ 0) × (4 * w.end ≤ length w.payload.now) × (w.next < w.end → (w.next % 16 ≢ 0) × (w.codes ≡ word_at w.payload.now (16 * (w.next / 16)))) × AreOctets w.payload.now };
+}
+
+/// The code of a word, by its frame's codes.
+fn code_in(codes: u32, index: usize) -> u8
+    ensures value { result ≡ codes / 2 ^ (30 - 2 * (index % 16)) % 4 }
+    ensures small { result < 4 }
+{
+    (codes >> (30 - 2 * (index % FRAME)) & 3) as u8
+}
+
+/// The first of some words whose code isn't 01; their end, where there's none.
+fn run_end(codes: u32, from: usize, end: usize) -> usize
+    requires { from ≤ end }
+    ensures low { from ≤ result }
+    ensures high { result ≤ end }
+    ensures run { (k : ℕ) → from ≤ k → k < result → codes / 2 ^ (30 - 2 * (k % 16)) % 4 ≡ 1 }
+    ensures stop { result < end → codes / 2 ^ (30 - 2 * (result % 16)) % 4 ≢ 1 }
+{
+    for index in from..end {
+        if code_in(codes, index) != 1 {
+            return index;
+        }
+    }
+    end
 }
 
 impl<'a> Words<'a> {
@@ -72,6 +101,26 @@ impl<'a> Words<'a> {
         } else {
             0
         };
+        Words::after(payload, from, end, codes)
+    }
+
+    /// Those from a word on, up to a frame's end; these are the codes of its frame, unless it's the first there.
+    #[inline(always)]
+    fn after(payload: &'a [u8], from: usize, end: usize, codes: u32) -> Self
+        requires order { from ≤ end }
+        requires whole { end % 16 ≡ 0 }
+        requires inside { 4 * end ≤ length payload.now }
+        requires codes { from < end → from % 16 ≢ 0 → codes ≡ word_at payload.now (16 * (from / 16)) }
+        ensures { result ≡ words_from payload.now from (end - from) }
+    {
+        if from < end && from % FRAME == 0 {
+            return Words {
+                payload,
+                next: from + 1,
+                end,
+                codes: read_word(payload, from),
+            };
+        }
         Words {
             payload,
             next: from,
@@ -95,6 +144,30 @@ impl<'a> Words<'a> {
     {
         self.next = self.end;
     }
+
+    /// Whether a word of code 00 is next.
+    pub(crate) fn begins_empty(&self) -> bool
+        ensures { result ≡ begins_empty self.now }
+    {
+        self.next < self.end && code_in(self.codes, self.next) == 0
+    }
+
+    /// Takes the words of code 01 that are next, as far as they stand in one frame: their bytes.
+    pub(crate) fn take_bytes(&mut self) -> &'a [u8]
+        // What is left are the words behind them.
+        ensures cut { self.old ≡ byte_run self.old ++ self.new }
+        // The bytes are what they spell, in each scheme.
+        ensures spelled { (scheme : Scheme) → SpellsRun scheme (byte_run self.old) (map (λ byte. twos_complement 1 byte) result.now) }
+        ensures items { (scheme : Scheme) → items_of scheme self.old ≡ map Ok (map (λ byte. twos_complement 1 byte) result.now) ++ items_of scheme self.new }
+        ensures count { length result.now ≡ 4 * length (byte_run self.old) }
+        ensures few { length result.now ≤ 60 }
+    {
+        let frame_end = (self.next / FRAME + 1) * FRAME;
+        let to = run_end(self.codes, self.next, frame_end.min(self.end));
+        let bytes = &self.payload[WORD * self.next..WORD * to];
+        *self = Words::after(self.payload, to, self.end, self.codes);
+        bytes
+    }
 }
 
 impl<'a> Iterator for Words<'a> {
@@ -109,19 +182,13 @@ impl<'a> Iterator for Words<'a> {
         if self.next == self.end {
             return None;
         }
-        if self.next % FRAME == 0 {
-            self.codes = read_word(self.payload, self.next);
-            self.next += 1;
-        }
-        let (frame, place) = (self.next / FRAME, self.next % FRAME);
-        let code = (self.codes >> (30 - 2 * place) & 3) as u8;
-        let bits = read_word(self.payload, self.next);
-        self.next += 1;
-        Some(Word {
-            frame,
-            place,
-            code,
-            bits,
-        })
+        let word = Word {
+            frame: self.next / FRAME,
+            place: self.next % FRAME,
+            code: code_in(self.codes, self.next),
+            bits: read_word(self.payload, self.next),
+        };
+        *self = Words::after(self.payload, self.next + 1, self.end, self.codes);
+        Some(word)
     }
 }

@@ -1,18 +1,20 @@
 //! The differences of a payload, one by one.
 
-ghost use Rattle.std.specs.Prelude.{◌≡◌, ◌≤◌, ◌<◌, ◌*◌, ⊤, [], Some, IfSome, length};
+ghost use Rattle.std.specs.Prelude.{◌≡◌, ◌≤◌, ◌<◌, ◌*◌, ⊤, ℕ, [], Some, IfSome, length};
 ghost use Rattle.std.specs.Iterator.{UpTo, YieldsFirst, MakesProgress, at_most, item_count};
 ghost use Rattle.std.specs.Iterator.SizeHint.{IsWithinCount};
+ghost use Rattle.mseed_steim.specs.declared.scheme.Scheme.{Scheme};
+ghost use Rattle.mseed_steim.specs.ByteRuns.{UnpacksRun, past_empty};
 ghost use Rattle.mseed_steim.specs.Frames.{data_words};
+ghost use Rattle.mseed_steim.specs.Items.{items_of};
 ghost use Rattle.mseed_steim.specs.Left.{most_left};
 ghost use Rattle.mseed_steim.specs.Runs.{Gives};
 ghost use Rattle.mseed_steim.specs.Steps.{IsStep};
 
 use crate::data_words::Words;
 use crate::group::group_of;
+use crate::ready::Ready;
 use crate::scheme::Scheme;
-use crate::word::differences_in;
-use arrayvec::ArrayVec;
 use std::marker::Model;
 
 /// Where a bad word stands: its frame, from 0, and its word in it, from 1 to 15.
@@ -29,44 +31,63 @@ pub struct Differences<'a> {
     scheme: Scheme,
     /// The words that aren't unpacked yet.
     words: Words<'a>,
-    /// A word's differences, and how many of them have been given.
-    group: ArrayVec<i32, 7>,
-    given: usize,
+    ready: Ready,
 }
 
 impl<'a> Model for Differences<'a> {
-    ghost use Rattle.std.specs.Prelude.{◌≤◌, ◌++◌, map, drop, length, Ok};
+    ghost use Rattle.std.specs.Prelude.{◌++◌, map, Ok};
     ghost use Rattle.mseed_steim.specs.Items.{items_of};
     ghost use Rattle.mseed_steim.specs.Left.{Left};
 
     ghost Value = { Left };
 
-    ghost view = { λ d. record { items = map Ok (drop d.given d.group.items) ++ items_of d.scheme d.words; ready = drop d.given d.group.items; words = d.words } };
-
-    ghost invariant = { λ d. d.given ≤ length d.group.items };
+    ghost view = { λ d. record { items = map Ok d.ready ++ items_of d.scheme d.words; ready = d.ready; words = d.words } };
 }
 
-/// What comes next among data words: the differences of a word, at least one, or the place of a bad word.
-fn next_group(words: &mut Words<'_>, scheme: Scheme) -> Option<Result<ArrayVec<i32, 7>, BadWordAt>>
-    ensures { IsStep scheme words.old result words.new }
+/// Passes over the words of code 00 that are next.
+fn pass_empty(words: &mut Words<'_>)
+    ensures past { words.new ≡ past_empty words.old }
+    ensures items { (scheme : Scheme) → items_of scheme words.old ≡ items_of scheme words.new }
+    ensures fewer { length words.new ≤ length words.old }
 {
-    while let Some(word) = words.next() {
-        match group_of(scheme, word.code, word.bits) {
-            Some(group) => {
-                if group.count > 0 {
-                    return Some(Ok(differences_in(word.bits, group)));
-                }
-            }
-            None => {
-                words.pass_all();
-                return Some(Err(BadWordAt {
-                    frame: word.frame,
-                    word: word.place,
-                }));
-            }
+    'empty: while words.begins_empty() {
+        if words.next().is_none() {
+            return;
         }
     }
-    None
+}
+
+/// The first difference of what comes next among data words, which is unpacked at once: a run of words of code
+/// 01 in one frame, or another word; or the place of a bad word.
+fn unpack_next(
+    words: &mut Words<'_>,
+    scheme: Scheme,
+    ready: &mut Ready,
+) -> Option<Result<i32, BadWordAt>>
+    requires { ready.old ≡ [] }
+    ensures step { IsStep scheme words.old result words.new ready.new }
+    ensures run { IfSome result (λ item. UnpacksRun words.old item ready.new) }
+{
+    pass_empty(words);
+    let bytes = words.take_bytes();
+    if !bytes.is_empty() {
+        ready.set_bytes(bytes);
+        return Some(Ok(ready.next()?));
+    }
+    let word = words.next()?;
+    match group_of(scheme, word.code, word.bits) {
+        Some(group) => {
+            ready.set_group(word.bits, group);
+            Some(Ok(ready.next()?))
+        }
+        None => {
+            words.pass_all();
+            Some(Err(BadWordAt {
+                frame: word.frame,
+                word: word.place,
+            }))
+        }
+    }
 }
 
 impl<'a> Differences<'a> {
@@ -84,9 +105,15 @@ impl<'a> Differences<'a> {
         Differences {
             scheme,
             words: Words::of(payload),
-            group: ArrayVec::new(),
-            given: 0,
+            ready: Ready::new(),
         }
+    }
+
+    /// What is unpacked and not yet given.
+    pub fn ready(&self) -> &[i32]
+        ensures { result.now ≡ self.now.ready }
+    {
+        self.ready.as_slice()
     }
 }
 
@@ -102,19 +129,13 @@ impl<'a> Iterator for Differences<'a> {
         ensures goes { MakesProgress (λ _. ⊤) (item_count (λ left. left.items)) self.old result self.new }
         // Each item lowers the bound.
         ensures falls { IfSome result (λ _. most_left self.new < most_left self.old) }
+        // A run of words of code 01 in one frame is unpacked at once: after its first difference the rest is ready.
+        ensures run { IfSome result (λ item. self.old.ready ≡ [] → UnpacksRun self.old.words item self.new.ready) }
     {
-        if self.given == self.group.len() {
-            match next_group(&mut self.words, self.scheme)? {
-                Ok(group) => {
-                    self.group = group;
-                    self.given = 0;
-                }
-                Err(at) => return Some(Err(at)),
-            }
+        match self.ready.next() {
+            Some(difference) => Some(Ok(difference)),
+            None => unpack_next(&mut self.words, self.scheme, &mut self.ready),
         }
-        let difference = self.group.as_slice()[self.given];
-        self.given += 1;
-        Some(Ok(difference))
     }
 
     /// The differences that are unpacked, and seven more for each word that isn't at the most.
@@ -125,7 +146,7 @@ impl<'a> Iterator for Differences<'a> {
         // There's always an upper bound: the one that each item lowers.
         ensures bounded { result.1 ≡ Some (most_left self.now) }
     {
-        let ready = self.group.len() - self.given;
+        let ready = self.ready.as_slice().len();
         (ready, Some(ready + 7 * self.words.count_left()))
     }
 }

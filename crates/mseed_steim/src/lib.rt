@@ -15,6 +15,7 @@ mod pack;
 mod packing;
 mod put;
 mod read;
+mod ready;
 #[cfg(test)]
 mod reference;
 mod row;
