@@ -1,11 +1,10 @@
 //! The lines of a listing.
-ghost use Rattle.std.specs.Prelude.{◌≡◌, ◌++◌, OnOk, codes};
+ghost use Rattle.std.specs.Prelude.{◌≡◌, ◌++◌, OnOk, codes, decimal};
 ghost use Rattle.mseed_record.specs.Viewing.{view_of};
 ghost use Rattle.mseed.specs.Listing.{record_line, offset_words, size_words, time_words, payload_words, count_line};
 ghost use Rattle.mseed.specs.Listing.{start_text, rate_text, time_fault_words, order_word, last_words};
 
-use mseed_audit::Part::{Count, Words};
-use mseed_audit::{push_name, push_parts};
+use mseed_audit::{push_count, push_name};
 use mseed_record::RecordView;
 use mseed_time::{NoRate, Order, TimeFault, show_time};
 use std::alloc::{AllocError, Allocator};
@@ -28,7 +27,8 @@ pub fn push_record_line<A: Allocator>(
 pub fn push_count_line<A: Allocator>(text: &mut Vec<u8, A>, records: u64) -> Result<(), AllocError>
     ensures { OnOk result (text.new.items ≡ text.old.items ++ count_line records) }
 {
-    push_parts(text, &[Words(b"records "), Count(records), Words(b"\n")])
+    push_counted(text, b"records ", records)?;
+    text.extend_from_slice(b"\n")
 }
 
 /// Adds where a record begins, and its channel's name.
@@ -39,7 +39,8 @@ fn push_offset<A: Allocator>(
 ) -> Result<(), AllocError>
     ensures { OnOk result (text.new.items ≡ text.old.items ++ offset_words offset (view_of view.now)) }
 {
-    push_parts(text, &[Count(offset), Words(b" ")])?;
+    push_count(text, offset)?;
+    text.extend_from_slice(b" ")?;
     push_name(text, &view.codes())
 }
 
@@ -47,16 +48,9 @@ fn push_offset<A: Allocator>(
 fn push_size<A: Allocator>(text: &mut Vec<u8, A>, view: &RecordView) -> Result<(), AllocError>
     ensures { OnOk result (text.new.items ≡ text.old.items ++ size_words (view_of view.now)) }
 {
-    push_parts(
-        text,
-        &[
-            Words(&[b' ', view.quality()]),
-            Words(b" length "),
-            Count(view.bytes().len() as u64),
-            Words(b" samples "),
-            Count(u64::from(view.samples())),
-        ],
-    )
+    text.extend_from_slice(&[b' ', view.quality()])?;
+    push_counted(text, b" length ", view.bytes().len() as u64)?;
+    push_counted(text, b" samples ", u64::from(view.samples()))
 }
 
 /// Adds a record's start and rate.
@@ -71,9 +65,10 @@ fn push_times<A: Allocator>(text: &mut Vec<u8, A>, view: &RecordView) -> Result<
 fn push_start<A: Allocator>(text: &mut Vec<u8, A>, view: &RecordView) -> Result<(), AllocError>
     ensures { OnOk result (text.new.items ≡ text.old.items ++ codes " start " ++ start_text (view_of view.now)) }
 {
+    text.extend_from_slice(b" start ")?;
     match view.start() {
-        Ok(start) => push_parts(text, &[Words(b" start "), Words(&show_time(start))]),
-        Err(fault) => push_parts(text, &[Words(b" start "), Words(time_fault_words(fault))]),
+        Ok(start) => text.extend_from_slice(&show_time(start)),
+        Err(fault) => text.extend_from_slice(time_fault_words(fault)),
     }
 }
 
@@ -81,17 +76,13 @@ fn push_start<A: Allocator>(text: &mut Vec<u8, A>, view: &RecordView) -> Result<
 fn push_rate<A: Allocator>(text: &mut Vec<u8, A>, view: &RecordView) -> Result<(), AllocError>
     ensures { OnOk result (text.new.items ≡ text.old.items ++ codes " rate " ++ rate_text (view_of view.now)) }
 {
+    text.extend_from_slice(b" rate ")?;
     match view.rate() {
-        Ok(rate) => push_parts(
-            text,
-            &[
-                Words(b" rate "),
-                Count(u64::from(rate.num())),
-                Words(b"/"),
-                Count(u64::from(rate.den())),
-            ],
-        ),
-        Err(NoRate) => push_parts(text, &[Words(b" rate none")]),
+        Ok(rate) => {
+            push_count(text, u64::from(rate.num()))?;
+            push_counted(text, b"/", u64::from(rate.den()))
+        }
+        Err(NoRate) => text.extend_from_slice(b"none"),
     }
 }
 
@@ -99,15 +90,22 @@ fn push_rate<A: Allocator>(text: &mut Vec<u8, A>, view: &RecordView) -> Result<(
 fn push_payload<A: Allocator>(text: &mut Vec<u8, A>, view: &RecordView) -> Result<(), AllocError>
     ensures { OnOk result (text.new.items ≡ text.old.items ++ payload_words (view_of view.now)) }
 {
-    push_parts(
-        text,
-        &[
-            Words(b" encoding "),
-            Count(u64::from(view.encoding())),
-            Words(order_word(view.payload_order())),
-            Words(last_words(view.has_rate_blockette())),
-        ],
-    )
+    push_counted(text, b" encoding ", u64::from(view.encoding()))?;
+    text.extend_from_slice(order_word(view.payload_order()))?;
+    text.extend_from_slice(last_words(view.has_rate_blockette()))
+}
+
+/// Adds words and the digits of a number. The words' length is known where this stands.
+#[inline(always)]
+fn push_counted<A: Allocator>(
+    text: &mut Vec<u8, A>,
+    words: &[u8],
+    count: u64,
+) -> Result<(), AllocError>
+    ensures { OnOk result (text.new.items ≡ text.old.items ++ (words.now ++ decimal count)) }
+{
+    text.extend_from_slice(words)?;
+    push_count(text, count)
 }
 
 /// The words of a start that is refused.

@@ -24,6 +24,6 @@ pub use law::{
     one_verdict,
 };
 pub use name::push_name;
-pub use parts::{Part, push_parts};
+pub use parts::{Part, push_count, push_parts};
 pub use text::push_fault_line;
 pub use verdict::Verdict;

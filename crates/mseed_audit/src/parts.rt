@@ -45,8 +45,8 @@ fn push_part<A: Allocator>(text: &mut Vec<u8, A>, part: Part<'_>) -> Result<(), 
     }
 }
 
-/// Adds the decimal digits of a number.
-fn push_count<A: Allocator>(text: &mut Vec<u8, A>, count: u64) -> Result<(), AllocError>
+/// Adds the decimal digits of a number. Where memory is refused, the text is as it was.
+pub fn push_count<A: Allocator>(text: &mut Vec<u8, A>, count: u64) -> Result<(), AllocError>
     ensures ok { OnOk result (text.new.items ≡ text.old.items ++ decimal count) }
     ensures front { IsFrontOf text.old.items text.new.items }
 {
