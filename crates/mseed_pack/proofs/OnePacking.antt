@@ -20,7 +20,7 @@ use Rattle.mseed_pack.specs.Packing.{Piece, ArePlaced, IsHeaderOf, HoldsIntegers
 use Rattle.mseed_pack.specs.Clock.{instant_at}
 use Rattle.mseed_pack.specs.Stretches.{left_of, flags_of, step_behind}
 use Rattle.mseed_pack.proofs.Followed.{samples_in}
-use Rattle.mseed_pack.proofs.Integers.{bytes_of, length-all}
+use Rattle.mseed_pack.proofs.Spellings.{bytes_of, length-all}
 use Rattle.mseed_pack.proofs.SamePayload.{Octets, same_payload}
 
 -- what the layers below say: one word takes the largest number, and an instant has one name

@@ -41,7 +41,7 @@ use Rattle.mseed_pack.specs.Outcome.{IsTrace}
 use Rattle.mseed_pack.specs.Packing.{Piece, HoldsFrames, HoldsSamples, IsPacked}
 use Rattle.mseed_pack.specs.Stretches.{differences, stretch_end, left_of, flags_of, step_behind}
 use Rattle.mseed_pack.proofs.Counted.{few_words, run_seven}
-use Rattle.mseed_pack.proofs.Integers.{begins, length-all}
+use Rattle.mseed_pack.proofs.Spellings.{begins, length-all}
 use Rattle.mseed_pack.proofs.Leaps.{end_in}
 use Rattle.mseed_pack.proofs.Sums.{starts}
 
@@ -70,14 +70,13 @@ record Slice (e : Encoding) (left samples : List ℤ) : Type 0 where
   some : 0 < length samples
   within : length samples ≤ length left
   sums : (first : ℤ) → slice_get samples 0 ≡ Some first → StartsAndAdds first (take (length samples) left) samples
-  small : All IsSample samples
   fit : All (IsSampleOf e) samples
 
 abbrev IsHeld : Form → List ℕ → List ℤ → Type 0
 IsHeld form payload samples = IsPayloadReading form Big payload (length samples) samples × EndsOnConstant form payload samples
 
-framed : PackedSpells → (e : Encoding) (scheme : Scheme) (left samples : List ℤ) (frames : ℕ) (payload : List ℕ) → Slice e left samples → HoldsFrames scheme left samples frames payload → IsHeld (Frames scheme) payload samples
-framed spells e scheme left samples frames payload slice h =
+framed : PackedSpells → (e : Encoding) (scheme : Scheme) (left samples : List ℤ) (frames : ℕ) (payload : List ℕ) → Slice e left samples → All IsSample samples → HoldsFrames scheme left samples frames payload → IsHeld (Frames scheme) payload samples
+framed spells e scheme left samples frames payload slice small h =
     let ws = data_words payload in (
       (
         refl,
@@ -91,7 +90,7 @@ framed spells e scheme left samples frames payload slice h =
           enough = let size = length-take-le (length samples) left slice.within in omega (arith, size);
           sums = slice.sums (first_constant payload) h.first_is;
         },
-        slice.small,
+        small,
       ),
       h.last_is,
     )
@@ -99,9 +98,9 @@ framed spells e scheme left samples frames payload slice h =
 -- the payload is the samples' reading, and ends on its constants
 held : PackedSpells → (e : Encoding) (left samples : List ℤ) (frames : ℕ) (payload : List ℕ) → Slice e left samples → HoldsSamples e left samples frames payload → IsHeld (form_in e) payload samples
 held spells Int16 left samples frames payload slice h = ((refl, begins 2 samples [] _ payload 0 h.bytes refl slice.fit), tt)
-held spells Int32 left samples frames payload slice h = ((refl, begins 4 samples [] _ payload 0 h.bytes refl slice.small), tt)
-held spells Steim1 left samples frames payload slice h = framed spells Steim1 Steim1s left samples frames payload slice h
-held spells Steim2 left samples frames payload slice h = framed spells Steim2 Steim2s left samples frames payload slice h
+held spells Int32 left samples frames payload slice h = ((refl, begins 4 samples [] _ payload 0 h.bytes refl slice.fit), tt)
+held spells Steim1 left samples frames payload slice h = framed spells Steim1 Steim1s left samples frames payload slice slice.fit h
+held spells Steim2 left samples frames payload slice h = framed spells Steim2 Steim2s left samples frames payload slice slice.fit h
 
 -- a record of 4096 bytes at the most has fewer than 2^16 samples
 few_integers : (width : ℕ) (left : ℕ) (samples : List ℤ) (zeros payload : List ℕ) → 0 < width → payload ≡ zeros → length samples ≤ length zeros → length payload ≤ 4096 → length samples < 2 ^ 16
@@ -182,8 +181,8 @@ pub short : (s : Trace) (p : Piece) → length p.samples ≤ length (left_of s p
 short s p h = omega (arith, h, length-take (stretch_end s p.first - p.first) (drop p.first (differences s.samples)))
 
 -- the record's own samples and differences
-slice_of : (s : Trace) (o : Options) (p : Piece) → IsTrace s → Fits s o → p.samples ≡ take (length p.samples) (drop p.first s.samples) → IsPacked s o p → Slice o.encoding (left_of s p.first) p.samples
-slice_of s o p trace fits here k =
+slice_of : (s : Trace) (o : Options) (p : Piece) → Fits s o → p.samples ≡ take (length p.samples) (drop p.first s.samples) → IsPacked s o p → Slice o.encoding (left_of s p.first) p.samples
+slice_of s o p fits here k =
     let n = length p.samples in
     let left : take n (left_of s p.first) ≡ take n (drop p.first (differences s.samples)) = take-take n (stretch_end s p.first - p.first) (drop p.first (differences s.samples)) (short s p k.within) in
     record {
@@ -192,7 +191,6 @@ slice_of s o p trace fits here k =
       sums = λ first e. subst (λ (ds : List ℤ). StartsAndAdds first ds p.samples) (sym left)
           (subst (λ (xs : List ℤ). StartsAndAdds first (take n (drop p.first (differences s.samples))) xs) (sym here)
           (starts s.samples p.first n first (first_take n (drop p.first s.samples) first (subst (λ (xs : List ℤ). slice_get xs 0 ≡ Some first) here e))));
-      small = subst (λ (xs : List ℤ). All IsSample xs) (sym here) (All-take IsSample n (drop p.first s.samples) (All-drop IsSample p.first s.samples trace.samples));
       fit = subst (λ (xs : List ℤ). All (IsSampleOf o.encoding) xs) (sym here) (All-take (IsSampleOf o.encoding) n (drop p.first s.samples) (All-drop (IsSampleOf o.encoding) p.first s.samples fits.samples));
     }
 
@@ -237,7 +235,7 @@ pub at : HeadersReadBack → PackedSpells → (s : Trace) (o : Options) (p : Pie
 at headers spells s o p trace fits here k =
     let v = headed_view k.header p.bytes in
     let back = headers k.header p.bytes (writable s o p trace k) k.headed in
-    let slice = slice_of s o p trace fits here k in
+    let slice = slice_of s o p fits here k in
     let factor : factor_at v.order v.bytes ≡ s.rate.factor = back.factor ∙ k.fields.factor in
     let multiplier : multiplier_at v.order v.bytes ≡ s.rate.multiplier = back.multiplier ∙ k.fields.multiplier in
     let flags : activity_at v.bytes ≡ flags_of (step_behind s (p.first + length p.samples)) = back.activity ∙ k.fields.activity in
