@@ -8,6 +8,7 @@ pub mod OneReading
 pub mod Places
 pub mod Reached
 pub mod Replies
+pub mod Sendings
 pub mod Slots
 pub mod Wanting
 pub mod Wholes

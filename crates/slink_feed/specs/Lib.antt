@@ -7,3 +7,4 @@ pub mod Serving
 pub mod Dialogue
 pub mod Cutting
 pub mod Listening
+pub mod Sending

@@ -55,7 +55,7 @@ pub enum Ending {
 }
 
 /// What a client tells of the bytes that it took.
-#[derive(Drop)]
+#[derive(Debug, PartialEq, Eq, Drop)]
 pub enum Event {
     /// Nothing yet.
     None,

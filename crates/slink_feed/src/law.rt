@@ -1,12 +1,32 @@
-//! The law of what a link brings.
-ghost use Rattle.std.specs.Prelude.{◌≡◌, ℕ, List};
+//! The laws of what a session sends, and of what a client takes.
+ghost use Rattle.std.specs.Prelude.{◌≡◌, ℕ, List, Some};
+ghost use Rattle.slink_wire.specs.declared.lines.What.{What};
+ghost use Rattle.slink_wire.specs.declared.reply.Reply.{Reply};
 ghost use Rattle.slink_feed.specs.declared.dialogue.Event.{Event};
+ghost use Rattle.slink_feed.specs.declared.grant.Grant.{Grant};
 ghost use Rattle.slink_feed.specs.Dialogue.{Talk};
 ghost use Rattle.slink_feed.specs.Listening.{Listening, Reads};
+ghost use Rattle.slink_feed.specs.Sending.{AreAsked, AreShown, Asked, IsHeardFrom, IsStretch, packets_of};
+ghost use Rattle.slink_feed.specs.Serving.{IsAnswer};
+ghost use Rattle.slink_feed.specs.Session.{State, grant_at};
+ghost use Rattle.slink_feed.specs.Window.{Window};
+
+use crate::session::Phase;
 
 /// The bytes of a link read as replies, packets and the end in one way: however they are cut into the pieces that a
 /// client takes, it tells the same events, and comes to the same.
 pub fn one_reading()
     ensures { (start : Talk) (stream : List ℕ) (a b : List Event) (m n : Listening)
         → Reads start stream a m → Reads start stream b n → (a ≡ b) × (m ≡ n) }
+{}
+
+/// What one session sends of a place is a stretch of the records that were pushed there, from its grant on: whatever is
+/// pushed, said and asked for meanwhile.
+pub fn a_stretch_is_sent()
+    ensures stretch { (k first : ℕ) (pushed : List (List ℕ)) (asked : List Asked) (s : State) (g : Grant)
+        → s.phase ≡ Phase.Streaming → grant_at s.grants k ≡ Some g
+        → AreAsked s asked → AreShown k first pushed asked → IsStretch first pushed g.position (packets_of k asked) }
+    // Lines leave a session that streams as it is, or close it.
+    ensures lines { (feed : List Window) (s new : State) (what : What) (reply : Reply)
+        → s.phase ≡ Phase.Streaming → IsAnswer feed s what new reply → IsHeardFrom s new }
 {}

@@ -1,0 +1,51 @@
+-- What one session sends of a place.
+use Rattle.std.specs.Prelude.{◌≡◌, ℕ, ◌+◌, ◌-◌, ◌%◌, ◌^◌, ◌==◌, ◌⊎◌, List, [], ◌∷◌, ◌++◌, length, take, drop, if◌then◌else◌, Some, slice_get}
+use Rattle.slink_wire.specs.Packet.{packet_bytes}
+use Rattle.slink_feed.specs.declared.grant.Grant.{Grant}
+use Rattle.slink_feed.specs.declared.session.Phase.TheVariants.{Closed, Streaming}
+use Rattle.slink_feed.specs.declared.session.Sent.{Sent}
+use Rattle.slink_feed.specs.declared.session.Sent.TheVariants as Sents
+use Rattle.slink_feed.specs.Session.{State, at, sent}
+use Rattle.slink_feed.specs.Window.{Shows, Window}
+
+-- A session that streams was asked for a packet of a place: the feed as it stood, the place, and what was sent.
+pub record Asked : Type 0 where
+  pub feed : List Window
+  pub place : ℕ
+  pub answer : Sent
+
+-- The session is as it was, or closed: so a line leaves it while it streams.
+abbrev pub IsHeardFrom : State → State → Type 0
+IsHeardFrom s new = (new ≡ s) ⊎ (new ≡ at Closed s.grants)
+
+-- It was asked again and again, with any lines in between.
+abbrev pub AreAsked : State → List Asked → Type 0
+AreAsked s [] = Unit {0}
+AreAsked s (a ∷ more) = (t : State) × IsHeardFrom s t × ((sent a.feed t a.place).1 ≡ a.answer) × AreAsked (sent a.feed t a.place).0 more
+
+-- the packets that were sent of a place
+abbrev pub packet_in : Sent → List (List ℕ)
+packet_in (Sents.Packet bytes) = bytes ∷ []
+packet_in Sents.Wait = []
+packet_in Sents.Done = []
+packet_in Sents.Overrun = []
+packet_in Sents.Closed = []
+
+abbrev pub packets_of : ℕ → List Asked → List (List ℕ)
+packets_of k [] = []
+packets_of k (a ∷ more) = (if a.place == k then packet_in a.answer else []) ++ packets_of k more
+
+-- the ring of the place shows the last of the records that were pushed so far, which are a front of these
+abbrev pub AreShown : ℕ → ℕ → List (List ℕ) → List Asked → Type 0
+AreShown k first pushed [] = Unit {0}
+AreShown k first pushed (a ∷ more) =
+    ((w : Window) × (n : ℕ) × (slice_get a.feed k ≡ Some w) × Shows w first (take n pushed)) × AreShown k first pushed more
+
+-- records with their numbers from one on, as packets
+abbrev pub packets_from : ℕ → List (List ℕ) → List (List ℕ)
+packets_from number [] = []
+packets_from number (r ∷ rs) = packet_bytes (number % 2 ^ 24) r ∷ packets_from (number + 1) rs
+
+-- The packets are those of a stretch of the pushed records that begins at a number, one after another.
+abbrev pub IsStretch : ℕ → List (List ℕ) → ℕ → List (List ℕ) → Type 0
+IsStretch first pushed number packets = packets ≡ packets_from number (take (length packets) (drop (number - first) pushed))
