@@ -70,7 +70,8 @@ impl Client {
 
     /// Takes bytes of the link up to the first event, or all.
     ///
-    /// The bytes that a link brought read as replies, packets and the end in one way, so that the pieces make no difference.
+    /// The bytes that a link brought read as replies, packets and the end in one way, so that the pieces make no
+    /// difference.
     pub fn take(&mut self, bytes: &[u8]) -> (usize, Event)
         // With those that were kept they are a whole, which is heard; or they are kept.
         ensures brings { IsLinked self.old.talk.stage
@@ -80,6 +81,7 @@ impl Client {
             → Reads start stream events self.old
             → Reads start (stream ++ take result.0 bytes.now) (events ++ telling result.1) self.new }
         ensures whole { result.1 ≡ Event.None → result.0 ≡ length bytes.now }
+        ensures some { IsLinked self.old.talk.stage → 0 < length bytes.now → 0 < result.0 }
         ensures bound { result.0 ≤ length bytes.now }
         // Before the first link all bytes are dropped.
         ensures unlinked { self.old.talk.stage ≡ Stage.Unlinked

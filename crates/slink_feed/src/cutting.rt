@@ -70,6 +70,7 @@ pub(crate) fn take_reply(kept: &mut ArrayVec<u8, 520>, bytes: &[u8]) -> (usize, 
     ensures kept { kept.new.items ≡ kept.old.items ++ take result.0 bytes.now }
     ensures part { IsReplyPart kept.new.items result.1 }
     ensures whole { result.1 ≡ Part.Begun → result.0 ≡ length bytes.now }
+    ensures some { 0 < length bytes.now → 0 < result.0 }
     ensures bound { result.0 ≤ length bytes.now }
 {
     for (i, byte) in bytes.iter().enumerate() {
@@ -160,6 +161,7 @@ pub(crate) fn take_packet(kept: &mut ArrayVec<u8, 520>, bytes: &[u8]) -> (usize,
     ensures kept { kept.new.items ≡ kept.old.items ++ take result.0 bytes.now }
     ensures part { IsPacketPart kept.new.items result.1 }
     ensures whole { result.1 ≡ Part.Begun → result.0 ≡ length bytes.now }
+    ensures some { 0 < length bytes.now → 0 < result.0 }
     ensures bound { result.0 ≤ length bytes.now }
 {
     let mut used = 0;

@@ -1,4 +1,4 @@
-use Rattle.std.proofs.Common.{◌≡◌, ◌-◌, ap, subst, arith, take, drop, length}
+use Rattle.std.proofs.Common.{◌≡◌, ◌-◌, ◌<◌, ap, subst, arith, take, drop, length}
 use Rattle.std.proofs.lemmas.List.{length-drop, length-take}
 use Rattle.slink_feed.specs.Cutting.{IsPacketPart}
 use Rattle.slink_feed.specs.declared.cutting.Part.{Part}
@@ -17,5 +17,9 @@ returns-in_default c = record {
   kept = took_more c.args.kept.now.items c.loop-used.kept.items c.take_part-more.new.kept.items c.args.bytes.now c.loop-used.used c.take_part-more.result.0 c.loop-used.invariant.kept c.take_part-more.ensures.kept;
   part = c.take_part-more.ensures.part;
   whole = λ e. absurd (c.in_default.not-Begun e);
+  some = λ _.
+      let left : 0 < length (take (length c.args.bytes.now - c.loop-used.used) (drop c.loop-used.used c.args.bytes.now)) =
+      omega (arith, length-take (length c.args.bytes.now - c.loop-used.used) (drop c.loop-used.used c.args.bytes.now), length-drop c.loop-used.used c.args.bytes.now, c.loop-used-test.true) in
+      omega (arith, c.take_part-more.ensures.some left);
   bound = omega (arith, c.take_part-more.ensures.bound, length-take (length c.args.bytes.now - c.loop-used.used) (drop c.loop-used.used c.args.bytes.now), length-drop c.loop-used.used c.args.bytes.now, c.loop-used.invariant.within);
 }
