@@ -1,6 +1,8 @@
-//! Frames that are added up at once, compared with the reference over made payloads: words of every row and
-//! damaged ones, few samples and many, and first samples within a frame's reach of both limits.
+//! Frames that are added up at once, and words that are kept without a look at each sum, compared with the
+//! reference over made payloads: words of every row and damaged ones, few samples and many, and first samples
+//! within a frame's reach of both limits.
 
+use crate::put::put_words;
 use crate::walk::add_frames;
 use crate::{Scheme, reference};
 use std::process::Abort;
@@ -61,9 +63,10 @@ fn first_by(number: u64) -> i32 {
     }
 }
 
-/// Compares both sums of a payload.
+/// Compares the sums of a payload, and what is kept of it where it has all samples.
 fn assert_same(rt: &impl Abort, payload: &[u8; 192], scheme: Scheme, samples: usize, first: i32) {
     let mut kept = [0; 320];
+    let mut put = [0; 320];
     if 320 < samples {
         assert!(rt; false, "{samples} samples");
         return;
@@ -75,6 +78,18 @@ fn assert_same(rt: &impl Abort, payload: &[u8; 192], scheme: Scheme, samples: us
         wanted.map(|sum| (sum.met, sum.last)),
         "{scheme:?}, {samples} samples from {first}"
     );
+    let filled = put_words(payload, scheme, samples, first, &mut put[..samples]);
+    assert_eq!(rt;
+        filled.map(|sum| (sum.met, sum.last)),
+        wanted.map(|sum| (sum.met, sum.last)),
+        "{scheme:?}, {samples} samples from {first} kept"
+    );
+    if wanted.is_ok() {
+        assert!(rt;
+            put == kept,
+            "{scheme:?}, {samples} samples from {first} kept"
+        );
+    }
 }
 
 #[test]

@@ -1,6 +1,6 @@
 //! Records of 256 bytes, made of the parts that their samples hang on.
 
-use crate::{Ends, ReadFault, check_samples, read_samples};
+use crate::{Ends, ReadFault, check_samples, fill_samples, read_samples};
 use mseed_record::RecordView;
 use std::alloc::Global;
 use std::process::Abort;
@@ -60,7 +60,26 @@ pub fn record(row: &Row) -> [u8; 256] {
     bytes
 }
 
-/// Checks what both calls say of a record.
+/// Checks what is filled in of a record of 64 samples or fewer.
+fn assert_filled(
+    rt: &impl Abort,
+    name: &str,
+    view: &RecordView<'_>,
+    wanted: Result<&[i32], ReadFault>,
+) {
+    let samples = usize::from(view.samples());
+    let mut places = [0; 64];
+    if samples == 0 || places.len() < samples {
+        assert!(rt; false, "{name}: {samples} samples");
+        return;
+    }
+    match fill_samples(view, &mut places[..samples]) {
+        Ok(()) => assert_eq!(rt; Ok(&places[..samples]), wanted, "{name}"),
+        Err(fault) => assert_eq!(rt; Err(fault), wanted, "{name}"),
+    }
+}
+
+/// Checks what all calls say of a record.
 pub fn assert_record(
     rt: &impl Abort,
     alloc: Global,
@@ -76,6 +95,7 @@ pub fn assert_record(
         assert!(rt; false, "{name}: no samples");
         return;
     }
+    assert_filled(rt, name, &view, wanted);
     let ends = check_samples(&view);
     match read_samples(alloc, &view) {
         Ok(samples) => {

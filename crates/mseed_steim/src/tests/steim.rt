@@ -1,8 +1,7 @@
 //! Samples of Steim frames, worked by hand from the words.
 
 use super::record::{Row, STEIM_1, assert_record, record};
-use crate::{BadWordAt, Differences, ReadFault, Scheme, put, reference};
-use std::process::Abort;
+use crate::{BadWordAt, Differences, ReadFault, Scheme};
 
 /// A row of a table: its name, its scheme, its samples, its frames, and what is read.
 type Case = (
@@ -170,40 +169,6 @@ fn reads_steim(rt: HostRuntime) {
     }
 }
 
-/// Checks that a payload's samples are kept as the reference keeps them.
-fn assert_as_reference(
-    rt: &impl Abort,
-    name: &str,
-    payload: &[u8],
-    scheme: Scheme,
-    samples: usize,
-) {
-    let mut kept = [0; 8];
-    let mut wanted = [0; 8];
-    if 8 < samples {
-        assert!(rt; false, "{name}: {samples} samples");
-        return;
-    }
-    let found = put::put_words(payload, scheme, samples, -7, &mut kept[..samples]);
-    let expected = reference::put_words(payload, scheme, samples, -7, &mut wanted[..samples]);
-    assert_eq!(rt;
-        found.map(|sum| (sum.met, sum.last)),
-        expected.map(|sum| (sum.met, sum.last)),
-        "{name}"
-    );
-    assert_eq!(rt; kept, wanted, "{name}");
-}
-
-#[test]
-fn keeps_what_the_reference_keeps(rt: HostRuntime) {
-    for case in CASES {
-        let bytes = record(&row_of(case));
-        for scheme in [Scheme::One, Scheme::Two] {
-            assert_as_reference(&rt, case.0, &bytes[64..], scheme, usize::from(case.2));
-        }
-    }
-}
-
 #[test]
 fn refuses_what_is_no_payload(rt: HostRuntime) {
     let cases: [(&str, Row, ReadFault); 3] = [
@@ -235,6 +200,48 @@ fn refuses_what_is_no_payload(rt: HostRuntime) {
     for (name, row, wanted) in cases {
         assert_record(&rt, rt.alloc(), name, &record(&row), Err(wanted));
     }
+}
+
+/// A frame of fifteen words of code 01, behind one that holds the constants alone.
+const BYTES: [u32; 16] = [
+    0x1555_5555,
+    0x0101_0101,
+    0x0101_0101,
+    0x0101_0101,
+    0x0101_0101,
+    0x0101_0101,
+    0x0101_0101,
+    0x0101_0101,
+    0x0101_0101,
+    0x0101_0101,
+    0x0101_0101,
+    0x0101_0101,
+    0x0101_0101,
+    0x0101_0101,
+    0x0101_0101,
+    0x0101_01FF,
+];
+
+#[test]
+fn unpacks_a_run_of_bytes(rt: HostRuntime) {
+    let row = Row {
+        samples: 29,
+        frames: &[&[0, 5, 33], &BYTES],
+        ..STEIM_1
+    };
+    let mut samples = [0; 29];
+    for i in 0..29 {
+        samples[i] = 5 + i as i32;
+    }
+    let bytes = record(&row);
+    assert_record(&rt, rt.alloc(), "29 of 60", &bytes, Ok(&samples));
+    let mut rest = [1; 59];
+    rest[58] = -1;
+    let mut items = Differences::over(&bytes[64..192], Scheme::Two);
+    assert!(rt; items.ready().is_empty());
+    assert_eq!(rt; items.next(), Some(Ok(1)));
+    assert_eq!(rt; items.ready(), rest.as_slice());
+    assert_eq!(rt; items.count(), 59);
 }
 
 #[test]
