@@ -1,5 +1,5 @@
 -- The samples and leap seconds of records, with one more.
-use Rattle.std.proofs.Common.{◌≡◌, ℕ, ℤ, ◌+◌, List, [], ◌∷◌, ◌++◌, Option, length, refl, sym, ap, subst, ◌∙◌, append_assoc, append-nil, arith}
+use Rattle.std.proofs.Common.{◌≡◌, ℕ, ℤ, ◌+◌, ◌<◌, List, [], ◌∷◌, ◌++◌, Option, Some, length, refl, sym, ap, subst, ◌∙◌, append_assoc, append-nil, arith}
 use Rattle.std.proofs.lemmas.List.{length-append}
 use Rattle.mseed_time.specs.declared.order.Order.{Order}
 use Rattle.mseed_time.specs.declared.outcome.LeapStep.{LeapStep}
@@ -17,8 +17,16 @@ counted (Integers width) order payload n samples h = h.0
 counted (Frames scheme) order payload n samples h = h.1.count
 
 -- a reading has as many samples as the record says
-count_is : (v : View) (samples : List ℤ) → IsWhole v samples → length samples ≡ count_of v
+pub count_is : (v : View) (samples : List ℤ) → IsWhole v samples → length samples ≡ count_of v
 count_is v samples h = counted h.0.form v.payload_order _ (count_of v) samples h.0.spelled
+
+-- and they are some
+pub some_more : (v : View) (old more new : List ℤ) → IsWhole v more → new ≡ old ++ more → length old < length new
+some_more v old more new whole e =
+    let count = count_is v more whole in
+    let some = whole.0.some in
+    let size = ap (λ (xs : List ℤ). length xs) e ∙ length-append old more in
+    omega (arith, count, some, size)
 
 joined_more : (vs : List View) (samples : List ℤ) (v : View) (more : List ℤ) → AreJoined vs samples → IsWhole v more → AreJoined (vs ++ v ∷ []) (samples ++ more)
 joined_more [] [] v more none h = subst (λ (xs : List ℤ). AreJoined (v ∷ []) xs) (append-nil more) (one v [] more [] h none)
@@ -76,3 +84,10 @@ holds_none codes start rate samples s empty e =
 pub holds_same : (codes : List ℕ) (start : ℤ) (rate : Rate) (vs ws : List View) (s t : Trace) → ws ≡ vs → t ≡ s → HoldsAll codes start rate vs s → HoldsAll codes start rate ws t
 holds_same codes start rate vs ws s t e f h =
     subst (λ (us : List View). HoldsAll codes start rate us t) (sym e) (subst (λ (u : Trace). HoldsAll codes start rate vs u) (sym f) h)
+
+-- a series with more samples, and a leap second behind them
+pub pushed : (old : Trace) (samples more : List ℤ) (steps : List (ℕ × LeapStep)) (place : ℕ) (step : LeapStep) → samples ≡ old.samples ++ more → place ≡ length samples → steps ≡ old.steps ++ (place, step) ∷ []
+    → record old { samples = samples; steps = steps } ≡ record old { samples = old.samples ++ more; steps = old.steps ++ step_at (length old.samples + length more) (Some step) }
+pushed old samples more steps place step e at f =
+    let behind : place ≡ length old.samples + length more = at ∙ ap (λ (xs : List ℤ). length xs) e ∙ length-append old.samples more in
+    rw (e, f, behind) refl

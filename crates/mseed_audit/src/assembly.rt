@@ -19,7 +19,6 @@ use crate::finding::Finding;
 use crate::law::continuous_exactly;
 use crate::verdict::Verdict;
 use mseed_record::{Codes, Leap, RecordView};
-use mseed_steim::read_samples;
 use mseed_time::{LeapStep, Micros, Rate};
 use std::alloc::Allocator;
 
@@ -134,7 +133,7 @@ fn assemble<A: Allocator + Copy>(
     let mut series = Series::new(alloc, *codes, start, rate, samples);
     for view in views {
         if is_of(codes, view) {
-            append_record(alloc, &mut series, view)?;
+            append_record(&mut series, view)?;
         }
     }
     Ok(series)
@@ -142,7 +141,6 @@ fn assemble<A: Allocator + Copy>(
 
 /// Adds the samples of a sound record behind those that are there, and the leap second that it bears.
 fn append_record<A: Allocator + Copy>(
-    alloc: A,
     series: &mut Series<A>,
     view: &RecordView,
 ) -> Result<(), NotContinuous>
@@ -152,12 +150,7 @@ fn append_record<A: Allocator + Copy>(
         → OnOk result (HoldsAll codes start rate (vs ++ view_of view.now ∷ []) series.new) }
     ensures memory { IfErr result (λ e. e ≡ Memory) }
 {
-    // A sound record has a reading, so that nothing but memory can lack.
-    let samples = match read_samples(alloc, view) {
-        Ok(samples) => samples,
-        Err(_) => return Err(NotContinuous::Memory),
-    };
-    match series.push(&samples, step_in(view.leap())) {
+    match series.push(view, step_in(view.leap())) {
         Ok(()) => Ok(()),
         Err(_) => Err(NotContinuous::Memory),
     }

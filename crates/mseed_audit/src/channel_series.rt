@@ -1,8 +1,12 @@
 //! The series of a channel: its samples, one behind another.
-ghost use Rattle.std.specs.Prelude.{◌≡◌, ◌↔◌, ◌<◌, ◌≤◌, ◌+◌, ◌++◌, IsTrue, OnOk, IfErr, IfSome, IsOk, None, [], length};
+ghost use Rattle.std.specs.Prelude.{◌≡◌, ◌↔◌, ◌<◌, ◌≤◌, ◌+◌, ◌++◌, ℤ, List, IsTrue, OnOk, IfErr, IfSome, IsOk, None, [], length};
+ghost use Rattle.mseed_record.specs.Viewing.{view_of};
+ghost use Rattle.mseed_steim.specs.Reading.{IsWhole};
+ghost use Rattle.mseed_audit.specs.Follows.{IsSound};
 ghost use Rattle.mseed_audit.specs.Series.{AreSteps, IsBadStep, step_at};
 
-use mseed_record::Codes;
+use mseed_record::{Codes, RecordView};
+use mseed_steim::fill_samples;
 use mseed_time::{LeapStep, Micros, Rate};
 use std::alloc::{AllocError, Allocator, Global};
 use std::marker::Model;
@@ -93,17 +97,22 @@ impl<A: Allocator + Copy> Series<A> {
         &self.steps
     }
 
-    /// Adds samples, of which there are some, and the leap second behind them. Where memory is refused, a
-    /// part of them may have been added.
-    pub(crate) fn push(&mut self, samples: &[i32], step: Option<LeapStep>) -> Result<(), AllocError>
-        requires { 0 < length samples.now }
-        ensures { OnOk result (self.new
+    /// Adds the samples of a sound record, and the leap second behind them. Where memory is refused, a part of
+    /// them may have been added.
+    pub(crate) fn push(
+        &mut self,
+        view: &RecordView<'_>,
+        step: Option<LeapStep>,
+    ) -> Result<(), AllocError>
+        requires { IsSound (view_of view.now) }
+        ensures { OnOk result ((s : List ℤ) × (IsWhole (view_of view.now) s
+            × (self.new
             ≡ record self.old {
-              samples = self.old.samples ++ samples.now;
-              steps = self.old.steps ++ step_at (length self.old.samples + length samples.now) step;
-            }) }
+              samples = self.old.samples ++ s;
+              steps = self.old.steps ++ step_at (length self.old.samples + length s) step;
+            }))) }
     {
-        self.samples.extend_from_slice(samples)?;
+        append_samples(&mut self.samples, view)?;
         if let Some(step) = step {
             self.steps.push((self.samples.len() as u64, step))?;
         }
@@ -128,6 +137,25 @@ impl<A: Allocator + Copy> Series<A> {
         }
         self.steps = steps;
         Ok(())
+    }
+}
+
+/// Adds the samples of a sound record to a list. Where memory is refused, the list is as it was.
+fn append_samples<A: Allocator>(
+    samples: &mut Vec<i32, A>,
+    view: &RecordView<'_>,
+) -> Result<(), AllocError>
+    requires { IsSound (view_of view.now) }
+    ensures added { OnOk result ((s : List ℤ) × (IsWhole (view_of view.now) s
+        × (samples.new.items ≡ samples.old.items ++ s))) }
+    ensures refused { IfErr result (λ e. samples.new.items ≡ samples.old.items) }
+{
+    let before = samples.len();
+    samples.resize(before + usize::from(view.samples()), 0)?;
+    // A sound record has a reading.
+    match fill_samples(view, &mut samples[before..]) {
+        Ok(()) => Ok(()),
+        Err(_) => unreachable!(),
     }
 }
 
