@@ -6,7 +6,7 @@
 Each program does the same work over the same archive in turn, round after round, so that load from
 elsewhere falls on all alike; every other round goes in reverse. What counts is user and system time. The
 ratio, libmseed / mseed, is above 1 where mseed is faster; it is the median of the rounds' ratios. With
---count the instructions a record of one run are counted too, by valgrind over a megabyte.
+--count the instructions a record of one run are counted too, by valgrind over eight megabytes.
 
 Wants a C compiler and Debian's libmseed-dev. What it builds and the archives go to a temporary folder.
 """
@@ -83,7 +83,7 @@ def compare(mseed, command, name, options):
     speed = {who: os.path.getsize(archive) / statistics.median(seconds[who]) / 1e6 for who in calls}
     line = f"{command:7} {name:12} {ratio:5.2f}" + "".join(f" {speed[who]:8.0f} {peak[who]:7.1f}" for who in calls)
     if options.count and shutil.which("valgrind"):
-        small = make_archive(name, 1)
+        small = make_archive(name, 8)
         records = os.path.getsize(small) // int(name.split("_")[1])
         line += "".join(f" {instructions(calls[who], small, records):9}" for who in calls)
     print(line, flush=True)

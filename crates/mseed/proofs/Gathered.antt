@@ -1,10 +1,9 @@
 -- The lines of a listing, record after record.
-use Rattle.std.proofs.Common.{◌≡◌, ℕ, ◌+◌, ◌++◌, List, [], ◌∷◌, length, take, drop, map, refl, sym, ap, ◌∙◌, subst, append_assoc, arith, inl, inr, Option, Result, Ok, Err}
+use Rattle.std.proofs.Common.{◌≡◌, ℕ, ◌+◌, ◌++◌, List, [], ◌∷◌, length, take, drop, map, sym, ap, ◌∙◌, subst, append_assoc, arith, inl, inr, Option, Result, Ok, Err}
 use Rattle.std.proofs.lemmas.List.{take-append-drop, append-nil, length-append}
-use Rattle.std.specs.List.{concat, AllByRecursion}
-use Rattle.mseed_record.specs.View.{View, IsView}
+use Rattle.std.specs.List.{concat}
+use Rattle.mseed_record.specs.View.{View}
 use Rattle.mseed_stream.specs.Device.{Heard, Said, IsFrontOf}
-use Rattle.mseed_stream.specs.Archive.{HasRecords}
 use Rattle.mseed_stream.specs.declared.fault.StreamFault.{StreamFault}
 use Rattle.mseed.specs.Listing.{record_line, record_lines, count_line}
 use Rattle.mseed_stream.specs.Walk.{AreViews}
@@ -50,34 +49,33 @@ whole_text : (old text first lines tail : List ℕ) → old ++ text ≡ first ++
 whole_text old text first lines tail e = sym (append_assoc old text tail) ∙ ap (λ (xs : List ℕ). xs ++ tail) e ∙ append_assoc first lines tail
 
 -- what is left to be written ends the whole text
-whole_is : (records : ℕ) (end : Option StreamFault) (h : Heard) (first old : Said) (text whole : List ℕ) (offset : ℕ) (views : List View) → HasLines records end h first old text offset views
+whole_is : (records : ℕ) (end : Option StreamFault) (h : Heard) (first old : Said) (text whole : List ℕ) (views : List View) → HasLines records end h first old text views
     → whole ≡ text ++ count_line records ++ end_line end → old.bytes ++ whole ≡ first.bytes ++ show_text views end
-whole_is records end h first old text whole offset views gathered e =
+whole_is records end h first old text whole views gathered e =
     let number : whole ≡ text ++ count_line (length views) ++ end_line end = e ∙ ap (λ (n : ℕ). text ++ count_line n ++ end_line end) gathered.number in
     let lines = whole_text old.bytes text first.bytes (record_lines 0 views) (count_line (length views)) gathered.lines in
     ap (λ (xs : List ℕ). old.bytes ++ xs) number
     ∙ whole_text old.bytes (text ++ count_line (length views)) first.bytes (record_lines 0 views ++ count_line (length views)) (end_line end) lines
 
 -- the whole text was written
-pub listed : (records : ℕ) (end : Option StreamFault) (h : Heard) (first old new : Said) (text whole : List ℕ) (offset : ℕ) (views : List View) → HasLines records end h first old text offset views
-    → whole ≡ text ++ count_line records ++ end_line end → new.bytes ≡ old.bytes ++ whole → new.failures ≡ old.failures → IsListed end h first new offset views
-listed records end h first old new text whole offset views gathered e bytes fine = record {
-  shown = gathered.shown;
-  ends = gathered.ends;
-  text = bytes ∙ whole_is records end h first old text whole offset views gathered e;
+pub listed : (records : ℕ) (end : Option StreamFault) (h : Heard) (first old new : Said) (text whole : List ℕ) (views : List View) → HasLines records end h first old text views
+    → whole ≡ text ++ count_line records ++ end_line end → new.bytes ≡ old.bytes ++ whole → new.failures ≡ old.failures → IsListed end h first new views
+listed records end h first old new text whole views gathered e bytes fine = record {
+  all = gathered.all;
+  text = bytes ∙ whole_is records end h first old text whole views gathered e;
   fine = fine ∙ gathered.fine;
 }
 
 -- a fault before which a front of the whole text was written
-pub end_short : (fault : ShowFault) (records : ℕ) (end : Option StreamFault) (h : Heard) (first old new : Said) (text whole : List ℕ) (offset : ℕ) (views : List View) → HasLines records end h first old text offset views
+pub end_short : (fault : ShowFault) (records : ℕ) (end : Option StreamFault) (h : Heard) (first old new : Said) (text whole : List ℕ) (views : List View) → HasLines records end h first old text views
     → whole ≡ text ++ count_line records ++ end_line end → IsFrontWritten fault old new whole → IsShown (Err fault) h first new
-end_short fault records end h first old new text whole offset views gathered e written =
-    let same : old.bytes ++ whole ≡ first.bytes ++ show_text views end = whole_is records end h first old text whole offset views gathered e in
+end_short fault records end h first old new text whole views gathered e written =
+    let same : old.bytes ++ whole ≡ first.bytes ++ show_text views end = whole_is records end h first old text whole views gathered e in
     go fault written same
   where
     go : (f : ShowFault) → IsFrontWritten f old new whole → old.bytes ++ whole ≡ first.bytes ++ show_text views end → IsShown (Err f) h first new
-    go Write w s = (omega (arith, gathered.fine, w.0), (offset, (views, record { shown = gathered.shown; front = inr (end, (gathered.ends, subst (λ (xs : List ℕ). IsFrontOf new.bytes xs) s w.1)) })))
-    go Memory w s = (w.0 ∙ gathered.fine, (offset, (views, record { shown = gathered.shown; front = inr (end, (gathered.ends, subst (λ (xs : List ℕ). IsFrontOf new.bytes xs) s w.1)) })))
+    go Write w s = (omega (arith, gathered.fine, w.0), (gathered.all.offset, (views, record { shown = gathered.all.records; front = inr (end, (gathered.all, subst (λ (xs : List ℕ). IsFrontOf new.bytes xs) s w.1)) })))
+    go Memory w s = (w.0 ∙ gathered.fine, (gathered.all.offset, (views, record { shown = gathered.all.records; front = inr (end, (gathered.all, subst (λ (xs : List ℕ). IsFrontOf new.bytes xs) s w.1)) })))
 
 pub shown_err : (r : Result (Option StreamFault) ShowFault) (Q : ShowFault → Type 0) (fault : ShowFault) (h : Heard) (old new : Said) → IsErrAnd r Q → ((e : ShowFault) → Q e → e ≡ fault) → IsShown (Err fault) h old new → IsShown r h old new
 shown_err (Ok x) Q fault h old new is q shown = absurd is

@@ -4,7 +4,7 @@ use Rattle.mseed_record.specs.View.{View}
 use Rattle.mseed_stream.specs.Device.{Heard, Said, IsFrontOf}
 use Rattle.mseed_stream.specs.declared.fault.StreamFault.{StreamFault}
 use Rattle.mseed.specs.Listing.{record_lines}
-use Rattle.mseed_stream.specs.Walk.{AreViews, IsEnd}
+use Rattle.mseed_stream.specs.Walk.{AreAllViews}
 use Rattle.mseed.specs.Show.{IsShown}
 use Rattle.mseed.specs.declared.ending.ShowFault.{ShowFault}
 use Rattle.mseed.specs.declared.ending.ShowFault.TheVariants.{Write, Memory}
@@ -15,13 +15,12 @@ IsFrontWritten Write old new text = (old.failures < new.failures) × IsFrontOf n
 IsFrontWritten Memory old new text = (new.failures ≡ old.failures) × IsFrontOf new.bytes (old.bytes ++ text)
 
 -- the lines of the records up to the end were written or are gathered
-pub record HasLines (records : ℕ) (end : Option StreamFault) (h : Heard) (old new : Said) (text : List ℕ) (offset : ℕ) (views : List View) : Type 0 where
-  pub shown : AreViews h.bytes offset views
-  pub ends : IsEnd end offset h
+pub record HasLines (records : ℕ) (end : Option StreamFault) (h : Heard) (old new : Said) (text : List ℕ) (views : List View) : Type 0 where
+  pub all : AreAllViews h views end
   pub lines : new.bytes ++ text ≡ old.bytes ++ record_lines 0 views
   pub fine : new.failures ≡ old.failures
   pub number : records ≡ length views
 
 abbrev pub IsListing : Result (ℕ × Option StreamFault) ShowFault → Heard → Said → Said → List ℕ → Type 0
-IsListing (Ok found) h old new text = (offset : ℕ) × ((views : List View) × HasLines found.0 found.1 h old new text offset views)
+IsListing (Ok found) h old new text = (views : List View) × HasLines found.0 found.1 h old new text views
 IsListing (Err fault) h old new text = IsShown (Err fault) h old new

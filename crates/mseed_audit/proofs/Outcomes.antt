@@ -17,17 +17,16 @@ added_length offset (v ∷ views) = ap suc (added_length (offset + length v.byte
 
 -- what was gathered, and the verdicts on it
 pub record HasVerdicts (held : Held) (end : Option StreamFault) (h : Heard) (verdicts : List (List ℕ × Verdict)) : Type 0 where
-  pub offset : ℕ
   pub views : List View
-  pub gathered : IsGathered held end h offset views
+  pub gathered : IsGathered held end h views
   pub are_verdicts : AreVerdicts (added_from 0 views) verdicts
 
-pub with_verdicts : (held : Held) (end : Option StreamFault) (h : Heard) (verdicts : List (List ℕ × Verdict)) → (offset : ℕ) × ((views : List View) × IsGathered held end h offset views)
+pub with_verdicts : (held : Held) (end : Option StreamFault) (h : Heard) (verdicts : List (List ℕ × Verdict)) → (views : List View) × IsGathered held end h views
     → ((added : List Added) → IsAuditOf held added → AreVerdicts added verdicts) → HasVerdicts held end h verdicts
-with_verdicts held end h verdicts found are = record { offset = found.0; views = found.1.0; gathered = found.1.1; are_verdicts = are (added_from 0 found.1.0) found.1.1.audit }
+with_verdicts held end h verdicts found are = record { views = found.0; gathered = found.1; are_verdicts = are (added_from 0 found.0) found.1.audit }
 
 abbrev pub audited : (held : Held) (end : Option StreamFault) (h : Heard) (verdicts : List (List ℕ × Verdict)) → HasVerdicts held end h verdicts → Audited h
-audited held end h verdicts f = record { offset = f.offset; views = f.views; end = end; verdicts = verdicts; records = f.gathered.records; ends = f.gathered.ends; are_verdicts = f.are_verdicts }
+audited held end h verdicts f = record { views = f.views; end = end; verdicts = verdicts; all = f.gathered.all; are_verdicts = f.are_verdicts }
 
 count_is : (held : Held) (end : Option StreamFault) (h : Heard) (verdicts : List (List ℕ × Verdict)) (f : HasVerdicts held end h verdicts) → held.added ≡ length f.views
 count_is held end h verdicts f = f.gathered.audit.number ∙ added_length 0 f.views

@@ -1,9 +1,8 @@
 -- The records of an archive with one more, as they are added.
-use Rattle.std.proofs.Common.{◌≡◌, ℕ, ◌+◌, ◌++◌, List, [], ◌∷◌, length, map, refl, sym, ap, ◌∙◌, subst, arith}
+use Rattle.std.proofs.Common.{◌≡◌, ℕ, ◌+◌, ◌++◌, List, [], ◌∷◌, length, map, ap, arith}
 use Rattle.std.proofs.lemmas.List.{length-append}
-use Rattle.std.specs.List.{concat, AllByRecursion}
-use Rattle.mseed_record.specs.View.{View, IsView}
-use Rattle.mseed_stream.specs.Archive.{HasRecords}
+use Rattle.std.specs.List.{concat}
+use Rattle.mseed_record.specs.View.{View}
 use Rattle.mseed_stream.specs.Walk.{AreViews}
 use Rattle.mseed_audit.specs.Channels.{Added, added_from}
 

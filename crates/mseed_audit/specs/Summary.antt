@@ -8,7 +8,7 @@ use Rattle.mseed_audit.specs.declared.verdict.Verdict.TheVariants.{Continuous, B
 use Rattle.mseed_audit.specs.declared.archive.Summary.{Summary}
 use Rattle.mseed_audit.specs.declared.archive.AuditFault.{AuditFault}
 use Rattle.mseed_audit.specs.declared.archive.AuditFault.TheVariants.{Write, Memory}
-use Rattle.mseed_stream.specs.Walk.{AreViews, IsEnd}
+use Rattle.mseed_stream.specs.Walk.{AreAllViews}
 use Rattle.mseed_audit.specs.Channels.{added_from}
 use Rattle.mseed_audit.specs.Verdict.{AreVerdicts}
 use Rattle.mseed_audit.specs.Audit.{Held, IsAuditOf}
@@ -16,12 +16,10 @@ use Rattle.mseed_audit.specs.Text.{audit_text}
 
 -- what was heard is these records and this end behind them, and these are the verdicts on the channels
 pub record Audited (h : Heard) : Type 0 where
-  pub offset : ℕ
   pub views : List View
   pub end : Option StreamFault
   pub verdicts : List (List ℕ × Verdict)
-  pub records : AreViews h.bytes offset views
-  pub ends : IsEnd end offset h
+  pub all : AreAllViews h views end
   pub are_verdicts : AreVerdicts (added_from 0 views) verdicts
 
 abbrev pub text_of : {h : Heard} → Audited h → List ℕ
@@ -57,8 +55,7 @@ IsOutcome (Ok summary) h old new = (a : Audited h) × IsWritten summary a old ne
 IsOutcome (Err (Write taken)) h old new = (a : Audited h) × IsCutOff taken a old new
 IsOutcome (Err Memory) h old new = new ≡ old
 
--- the records up to the end were added
-pub record IsGathered (held : Held) (end : Option StreamFault) (h : Heard) (offset : ℕ) (views : List View) : Type 0 where
-  pub records : AreViews h.bytes offset views
-  pub ends : IsEnd end offset h
+-- all records up to the end were added
+pub record IsGathered (held : Held) (end : Option StreamFault) (h : Heard) (views : List View) : Type 0 where
+  pub all : AreAllViews h views end
   pub audit : IsAuditOf held (added_from 0 views)

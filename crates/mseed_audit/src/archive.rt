@@ -79,8 +79,8 @@ fn gather<A: Allocator + Copy, R: Source>(
     source: &mut R,
 ) -> Result<(Audit<A>, Option<StreamFault>), Memory>
     requires { R.heard source.old ≡ nothing_heard }
-    ensures { IfOk result (λ found. (offset : ℕ)
-        × ((views : List View) × IsGathered found.0 found.1 (R.heard source.new) offset views)) }
+    ensures { IfOk result (λ found. (views : List View)
+        × IsGathered found.0 found.1 (R.heard source.new) views) }
 {
     let mut cutter = Cutter::new(alloc);
     let mut audit = Audit::new(alloc);

@@ -1,5 +1,5 @@
 //! Laws: what the definitions determine, they determine once.
-ghost use Rattle.std.specs.Prelude.{◌≡◌, ◌↔◌, ◌<◌, ◌^◌, List, ℕ, ℤ, Option, IsTrue};
+ghost use Rattle.std.specs.Prelude.{◌≡◌, ◌↔◌, List, ℕ, ℤ, Option, IsTrue};
 ghost use Rattle.mseed_record.specs.View.{View};
 ghost use Rattle.mseed_time.specs.declared.outcome.LeapStep.{LeapStep};
 ghost use Rattle.mseed_audit.specs.declared.finding.Why.{Why};
@@ -15,6 +15,7 @@ ghost use Rattle.mseed_audit.specs.Summary.{Audited, IsSummary, text_of};
 ghost use Rattle.mseed_audit.specs.Verdict.{AreFindings, AreVerdicts, IsVerdict, says_continuous};
 
 use mseed_steim::{one_fault, one_reading};
+use mseed_stream::one_input;
 
 /// A channel's verdict says that it is continuous exactly where it is.
 pub fn continuous_exactly()
@@ -50,14 +51,13 @@ pub fn one_list_of_verdicts()
     one_fault();
 }
 
-/// What was heard has one audit: one text and one summary. It is of fewer than 2^40 reads, after which a text may
-/// end with `turns` in place of another fault.
+/// What was heard has one audit: one text and one summary.
 pub fn one_audit()
-    ensures text { (h : Heard) (a b : Audited h) → h.calls < 2 ^ 40 → text_of a ≡ text_of b }
-    ensures summary { (h : Heard) (a b : Audited h) (s t : Summary) → h.calls < 2 ^ 40
-        → IsSummary s a → IsSummary t b → s ≡ t }
+    ensures text { (h : Heard) (a b : Audited h) → text_of a ≡ text_of b }
+    ensures summary { (h : Heard) (a b : Audited h) (s t : Summary) → IsSummary s a → IsSummary t b → s ≡ t }
 {
     one_fault();
+    one_input();
 }
 
 /// A channel has one series at most.

@@ -103,3 +103,11 @@ all_views r h now c views more before told end fault failed =
     go (Err (Truncated m have)) e f n s w = fault_all (Truncated m have) (λ same. cc) f n s w
     go (Err (Read m)) e f n s w = fault_all (Read m) (λ same. cc) f n s w
     go (Err (Turns m)) e f n s w = fault_all (Turns m) (λ same. cc) f n s w
+
+-- all but a want of memory end the input
+pub all_at_fault : (X : Type 0) (fault : StreamFault) (h : Heard) (views : List View) → fault ≢ Memory → IfEnds {X = X} (Err fault) (AreAllViews h views (Some fault)) → AreAllViews h views (Some fault)
+all_at_fault X (Frame n f) h views other all = all
+all_at_fault X (Truncated n have) h views other all = all
+all_at_fault X (Read n) h views other all = all
+all_at_fault X (Turns n) h views other all = all
+all_at_fault X Memory h views other all = absurd (other refl)

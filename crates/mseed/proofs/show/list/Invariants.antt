@@ -1,15 +1,14 @@
-use Rattle.std.proofs.Common.{◌≡◌, ◌+◌, ◌-◌, ◌^◌, ◌≤◌, ◌++◌, List, length, None}
+use Rattle.std.proofs.Common.{◌≡◌, ◌+◌, ◌-◌, ◌^◌, ◌≤◌, ◌++◌, List, length}
 use Rattle.mseed_record.specs.View.{View}
 use Rattle.mseed_stream.specs.Cutting.{IsAlong}
+use Rattle.mseed_stream.specs.Walk.{HasHandedOut}
 use Rattle.mseed.specs.Listing.{record_lines}
-use Rattle.mseed_stream.specs.Walk.{AreViews}
 use Rattle.mseed.proofs.show.list.Given as goal
 
 abbrev pub invariant-records : goal.invariant-records
 invariant-records g l = IsAlong (g.R.Source.heard l.input) l.cutter × (l.records ≤ (g.R.Source.heard l.input).calls)
-    × (l.cutter.answer ≡ None) × ((g.R.Source.heard l.input).failures ≡ 0)
     × ((g.W.Sink.said l.output).failures ≡ (g.W.Sink.said l.fn.output).failures)
-    × ((views : List View) × (AreViews (g.R.Source.heard l.input).bytes l.cutter.offset views
+    × ((views : List View) × (HasHandedOut (g.R.Source.heard l.input) l.cutter views
     × ((g.W.Sink.said l.output).bytes ++ l.text.items ≡ (g.W.Sink.said l.fn.output).bytes ++ record_lines 0 views)
     × (l.records ≡ length views)))
 

@@ -9,7 +9,7 @@ returns-in_err-write_out g c =
     let fault : ShowFault = c.in_err-write_out.field-0.0 in
     let first : Said = g.W.Sink.said c.args.output.now in
     let new : Said = g.W.Sink.said c.write_out.new.output in
-    let ends = end_short fault c.in_ok-records.records c.in_ok-records.end _ first _ new _ _ gathered.0 gathered.1.0 gathered.1.1 c.in_ok-push_end.ensures.ok c.in_err-write_out.ensures.err in
+    let ends = end_short fault c.in_ok-records.records c.in_ok-records.end _ first _ new _ _ gathered.0 gathered.1 c.in_ok-push_end.ensures.ok c.in_err-write_out.ensures.err in
     shown_err c.from_residual-in_err-write_out.result _ fault _ first new c.from_residual-in_err-write_out.ensures.1 (λ e q. q) ends
 
 pub returns : goal.returns
@@ -17,7 +17,5 @@ returns g c =
     let gathered = c.in_ok-records.ensures in
     let first : Said = g.W.Sink.said c.args.output.now in
     let old : Said = g.W.Sink.said c.list.new.output in
-    let new : Said = g.W.Sink.said c.write_out.new.output in (
-      gathered.0,
-      (gathered.1.0, listed c.in_ok-records.records c.in_ok-records.end _ first old new _ _ gathered.0 gathered.1.0 gathered.1.1 c.in_ok-push_end.ensures.ok c.in_ok-write_out.ensures.ok c.in_ok-write_out.ensures.fine),
-    )
+    let new : Said = g.W.Sink.said c.write_out.new.output in
+    (gathered.0, listed c.in_ok-records.records c.in_ok-records.end _ first old new _ _ gathered.0 gathered.1 c.in_ok-push_end.ensures.ok c.in_ok-write_out.ensures.ok c.in_ok-write_out.ensures.fine)

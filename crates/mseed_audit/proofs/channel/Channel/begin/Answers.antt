@@ -1,4 +1,4 @@
-use Rattle.std.proofs.Common.{◌∷◌, [], None, Some, refl}
+use Rattle.std.proofs.Common.{[], None, Some, refl}
 use Rattle.mseed_record.specs.View.{View}
 use Rattle.mseed_record.specs.Viewing.{view_of}
 use Rattle.mseed_audit.specs.Channels.{Placed}
