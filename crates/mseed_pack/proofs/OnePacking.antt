@@ -1,5 +1,5 @@
 -- A series is packed into one list of records.
-use Rattle.std.proofs.Common.{◌≡◌, ℕ, ◌+◌, ◌-◌, ◌*◌, ◌/◌, ◌%◌, ◌^◌, ◌<◌, ◌≤◌, List, [], ◌∷◌, ◌++◌, length, map, take, drop, replicate, slice_get, refl, sym, ap, subst, ◌∙◌, arith, ℤ, Some, ⊎_elim, append-nil, length-append}
+use Rattle.std.proofs.Common.{◌≡◌, ℕ, ◌+◌, ◌-◌, ◌*◌, ◌/◌, ◌%◌, ◌^◌, ◌<◌, ◌≤◌, List, [], ◌∷◌, ◌++◌, length, map, take, drop, replicate, slice_get, refl, sym, ap, subst, ◌∙◌, arith, ℤ, Some, ⊎_elim, append-nil, append_assoc, length-append}
 use Rattle.std.specs.List.{AllByRecursion, flat_map, filter, range_with_len}
 use Rattle.std.proofs.Math.Nat.{mul-le-mul_left}
 use Rattle.std.proofs.lemmas.Nat.{pow-add}
@@ -16,7 +16,7 @@ use Rattle.mseed_audit.specs.Series.{Trace}
 use Rattle.mseed_pack.specs.declared.options.Encoding.{Encoding}
 use Rattle.mseed_pack.specs.declared.options.Encoding.TheVariants.{Int16, Int32, Steim1, Steim2}
 use Rattle.mseed_pack.specs.declared.options.Options.{Options}
-use Rattle.mseed_pack.specs.Packing.{Piece, ArePlaced, IsHeaderOf, HoldsIntegers, HoldsFrames, HoldsSamples, IsPacked, IsPacking}
+use Rattle.mseed_pack.specs.Packing.{Piece, ArePlaced, IsHeaderOf, HoldsIntegers, HoldsFrames, HoldsSamples, IsPacked, PacksUpTo, IsPacking}
 use Rattle.mseed_pack.specs.Clock.{instant_at}
 use Rattle.mseed_pack.specs.Stretches.{left_of, flags_of, step_behind}
 use Rattle.mseed_pack.proofs.Followed.{samples_in}
@@ -253,3 +253,28 @@ pub one_list : OneRun → OneName → (s : Trace) (o : Options) (xs ys : List (L
 one_list one name s o xs ys h k =
     let joined : samples_in h.pieces ≡ samples_in k.pieces = sym (append-nil (samples_in h.pieces)) ∙ h.joined ∙ sym k.joined ∙ append-nil (samples_in k.pieces) in
     sym h.bytes ∙ same_records one name s o 0 0 h.pieces k.pieces joined h.placed k.placed h.each k.each ∙ k.bytes
+
+-- what is packed of the series so far is a front of all
+front_records : OneRun → OneName → (s : Trace) (o : Options) (number first : ℕ) (ps qs : List Piece) (left : List ℤ) → samples_in ps ++ left ≡ samples_in qs → ArePlaced number first ps → ArePlaced number first qs
+    → AllByRecursion (IsPacked s o) ps → AllByRecursion (IsPacked s o) qs → (rest : List (List ℕ)) × (map (λ (q : Piece). q.bytes) qs ≡ map (λ (p : Piece). p.bytes) ps ++ rest)
+front_records one name s o number first [] qs left joined a b h k = (map (λ (q : Piece). q.bytes) qs, refl)
+front_records one name s o number first (p ∷ ps) [] left joined a b h k =
+    absurd (nothing_left p (samples_in ps ++ left) h.0.some (sym joined ∙ append_assoc p.samples (samples_in ps) left))
+front_records one name s o number first (p ∷ ps) (q ∷ qs) left joined a b h k =
+    let same = same_piece one name s o p q (a.0 ∙ sym b.0) (a.1 ∙ sym b.1) h.0 k.0 in
+    let n = length p.samples in
+    let whole : p.samples ++ (samples_in ps ++ left) ≡ q.samples ++ samples_in qs = sym (append_assoc p.samples (samples_in ps) left) ∙ joined in
+    let samples : p.samples ≡ q.samples =
+    sym (take_at p.samples (samples_in ps ++ left) n refl) ∙ ap (λ (xs : List ℤ). take n xs) whole ∙ take_at q.samples (samples_in qs) n (sym same.count) in
+    let rest : samples_in ps ++ left ≡ samples_in qs =
+    sym (drop_at p.samples (samples_in ps ++ left) n refl) ∙ ap (λ (xs : List ℤ). drop n xs) whole ∙ drop_at q.samples (samples_in qs) n (sym same.count) in
+    let placed : ArePlaced (number + 1) (first + n) qs = subst (λ (m : ℕ). ArePlaced (number + 1) (first + m) qs) (sym same.count) b.2 in
+    let here = sym (same.bytes samples) in
+    let behind = front_records one name s o (number + 1) (first + n) ps qs left rest a.2 placed h.1 k.1 in
+    (behind.0, λ i. here i ∷ behind.1 i)
+
+pub one_front : OneRun → OneName → (s : Trace) (o : Options) (front records : List (List ℕ)) (left : List ℤ) → PacksUpTo s o front left → IsPacking s o records → (rest : List (List ℕ)) × (records ≡ front ++ rest)
+one_front one name s o front records left h k =
+    let joined : samples_in h.pieces ++ left ≡ samples_in k.pieces = h.joined ∙ sym k.joined ∙ append-nil (samples_in k.pieces) in
+    let found = front_records one name s o 0 0 h.pieces k.pieces left joined h.placed k.placed h.each k.each in
+    (found.0, sym k.bytes ∙ found.1 ∙ ap (λ (bs : List (List ℕ)). bs ++ found.0) h.bytes)

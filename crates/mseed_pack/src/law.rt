@@ -1,17 +1,18 @@
 //! Laws of packing.
-ghost use Rattle.std.specs.Prelude.{◌≡◌, ◌⊎◌, ℕ, List, IsTrue, Result, Ok, Err};
+ghost use Rattle.std.specs.Prelude.{◌≡◌, ◌⊎◌, ◌++◌, ℕ, ℤ, List, IsTrue, Result, Ok, Err};
 ghost use Rattle.std.specs.List.{AllByRecursion};
 ghost use Rattle.mseed_audit.specs.declared.assembly.NotContinuous.{NotContinuous};
 ghost use Rattle.mseed_audit.specs.declared.verdict.Verdict.{Verdict};
 ghost use Rattle.mseed_audit.specs.Channels.{Placed, views_in};
 ghost use Rattle.mseed_audit.specs.Series.{Trace, IsSeries};
 ghost use Rattle.mseed_audit.specs.Verdict.{IsVerdict, says_continuous};
+ghost use Rattle.mseed_pack.specs.declared.fault.PackFault.{PackFault};
 ghost use Rattle.mseed_pack.specs.declared.options.Options.{Options};
 ghost use Rattle.mseed_pack.specs.declared.options.Encoding.TheVariants.{Steim2};
 ghost use Rattle.mseed_pack.specs.FewestWords.{HasFewestWords};
-ghost use Rattle.mseed_pack.specs.Fitting.{Fits};
+ghost use Rattle.mseed_pack.specs.Fitting.{Fits, IsMisfit};
 ghost use Rattle.mseed_pack.specs.Outcome.{IsTrace};
-ghost use Rattle.mseed_pack.specs.Packing.{IsPacking};
+ghost use Rattle.mseed_pack.specs.Packing.{PacksUpTo, IsPacking};
 ghost use Rattle.mseed_pack.specs.ReadBack.{AreViewsOf, ReadsAs};
 
 use mseed_audit::{continuous_exactly, one_series};
@@ -20,14 +21,24 @@ use mseed_steim::{one_packing as one_run, one_reading, packed_spells};
 use mseed_stream::one_input;
 use mseed_time::one_name;
 
-/// A series is packed into one list of records, byte for byte.
+/// A series is packed into one list of records, byte for byte; and records that it is packed into up to some samples
+/// that are left are a front of them.
 pub fn one_packing()
-    ensures { (s : Trace) (o : Options) (records others : List (List ℕ)) → IsPacking s o records
+    ensures whole { (s : Trace) (o : Options) (records others : List (List ℕ)) → IsPacking s o records
         → IsPacking s o others → records ≡ others }
+    ensures front { (s : Trace) (o : Options) (front records : List (List ℕ)) (left : List ℤ)
+        → PacksUpTo s o front left → IsPacking s o records
+        → (rest : List (List ℕ)) × (records ≡ front ++ rest) }
 {
     one_run();
     one_name();
 }
+
+/// A series has one reason at most why it isn't packed, and none where it fits.
+pub fn one_misfit()
+    ensures one { (s : Trace) (o : Options) (f g : PackFault) → IsMisfit s o f → IsMisfit s o g → f ≡ g }
+    ensures none { (s : Trace) (o : Options) (f : PackFault) → Fits s o → ¬ (IsMisfit s o f) }
+{}
 
 /// The records that a series is packed into read back as the series: they are a continuous channel, and its
 /// series is this one, leap seconds and rate pair included.
