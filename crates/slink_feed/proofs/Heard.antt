@@ -1,6 +1,5 @@
 -- What a client hears, and what it goes on to stand for.
 use Rattle.std.proofs.Common.{◌≡◌, ℕ, ◌<◌, ◌^◌, refl, sym, ap, subst, ◌∙◌, arith, List, [], ◌∷◌, ◌++◌, append_assoc, append-nil, length, length-drop, take, drop, Some, None}
-use Rattle.std.specs.Array.{IsFirstChunk}
 use Rattle.std.proofs.lemmas.List.{length-take-le, take_all}
 use Rattle.slink_wire.specs.Packet.{HasHead, IsPacket}
 use Rattle.slink_feed.specs.declared.cutting.Part.{Part}
@@ -10,7 +9,7 @@ use Rattle.slink_feed.specs.declared.dialogue.Event.{Event}
 use Rattle.slink_feed.specs.declared.dialogue.Event.TheVariants as events
 use Rattle.slink_feed.specs.declared.dialogue.Stage.{Stage}
 use Rattle.slink_feed.specs.declared.dialogue.Stage.TheVariants.{Unlinked, Station, Number, Packets, Ended}
-use Rattle.slink_feed.specs.Cutting.{IsBegun, IsNoPacket, IsNoReply, IsPacketPart, IsReply, IsReplyPart, IsWhole, IsWholePacket, IsWholeReply, nothing}
+use Rattle.slink_feed.specs.Cutting.{IsBegun, IsPacketPart, IsReply, IsReplyPart, IsWhole, IsWholePacket, IsWholeReply, nothing}
 use Rattle.slink_feed.specs.Dialogue.{Talk, Whole, Reply, Packet, End, Garbage, at_packet, bearer, ended, heard, heard_at}
 use Rattle.slink_feed.specs.Listening.{AreBrought, AwaitsReply, Brings, Brought, Listening, Reads, begun, bytes_of, events_of, talk_after, telling, whole}
 

@@ -4,6 +4,7 @@ pub mod Fitting
 pub mod Fronts
 pub mod Heads
 pub mod Heard
+pub mod Numbers
 pub mod OneReading
 pub mod Places
 pub mod Reached

@@ -1,5 +1,5 @@
 -- What one session sends of a place is a stretch of its pushed records.
-use Rattle.std.proofs.Common.{◌≡◌, ◌≢◌, ℕ, ◌+◌, ◌-◌, ◌%◌, ◌^◌, ◌<◌, ◌≤◌, ◌⊎◌, inl, inr, zero, suc, refl, sym, ap, subst, ◌∙◌, arith, add-one, Bool, true, false, ◌==◌, if◌then◌else◌, List, [], ◌∷◌, ◌++◌, length, length-drop, take, drop, set, Option, Some, None, slice_get}
+use Rattle.std.proofs.Common.{◌≡◌, ◌≢◌, ℕ, ◌+◌, ◌-◌, ◌%◌, ◌^◌, ◌≤◌, ◌⊎◌, inl, inr, zero, suc, refl, sym, ap, subst, ◌∙◌, arith, Bool, true, false, ◌==◌, if◌then◌else◌, List, [], ◌∷◌, ◌++◌, length, length-drop, take, drop, set, Option, Some, None, slice_get}
 use Rattle.std.proofs.lemmas.Bool.Decides.{eqb_tells, leb_tells}
 use Rattle.slink_wire.specs.Packet.{packet_bytes}
 use Rattle.slink_wire.specs.declared.command.Command.{Command}
@@ -9,13 +9,13 @@ use Rattle.slink_wire.specs.declared.lines.What.TheVariants.{More, Line, TooLong
 use Rattle.slink_wire.specs.declared.reply.Reply.{Reply}
 use Rattle.slink_feed.specs.declared.grant.Grant.{Grant}
 use Rattle.slink_feed.specs.declared.session.Phase.{Phase}
-use Rattle.slink_feed.specs.declared.session.Phase.TheVariants.{Fresh, Chosen, Granted, Streaming, Closed}
+use Rattle.slink_feed.specs.declared.session.Phase.TheVariants.{Streaming, Closed}
 use Rattle.slink_feed.specs.declared.session.Sent.{Sent}
 use Rattle.slink_feed.specs.declared.session.Sent.TheVariants as Sents
 use Rattle.slink_feed.specs.Serving.{IsAnswer}
-use Rattle.slink_feed.specs.Session.{Grants, State, all_done, answered, answered_in, at, at_next, grant_at, in_streaming, packet_at, sent, sent_from, sent_in, sent_of}
+use Rattle.slink_feed.specs.Session.{Grants, State, all_done, answered_in, at_next, grant_at, in_streaming, packet_at, sent, sent_in, sent_of}
 use Rattle.slink_feed.specs.Sending.{AreAsked, AreShown, Asked, IsHeardFrom, IsStretch, packet_in, packets_from, packets_of}
-use Rattle.slink_feed.specs.Window.{Shows, Window, oldest_of, record_at, window}
+use Rattle.slink_feed.specs.Window.{Shows, Window, oldest_of, record_at}
 
 -- the records that a window shows, by their numbers
 get_dropped : (xs : List (List ℕ)) (d i j : ℕ) (x : List ℕ) → j ≡ d + i → slice_get (drop d xs) i ≡ Some x → slice_get xs j ≡ Some x

@@ -1,14 +1,14 @@
 -- No front of a whole is another, and bytes are one whole at most.
-use Rattle.std.proofs.Common.{◌≡◌, ◌≢◌, ℕ, ◌+◌, ◌<◌, ◌≤◌, ◌⊎◌, inl, inr, zero, suc, refl, sym, ap, subst, ◌∙◌, arith, List, [], ◌∷◌, ◌++◌, append_assoc, append-nil, length, length-append, Option, Some, None, slice_get, codes}
+use Rattle.std.proofs.Common.{◌≡◌, ◌≢◌, ℕ, ◌+◌, ◌<◌, inl, inr, refl, sym, ap, subst, ◌∙◌, arith, List, [], ◌∷◌, ◌++◌, append_assoc, append-nil, length, length-append, Some, slice_get, codes}
 use Rattle.std.proofs.lemmas.Bool.{cases_lt}
 use Rattle.std.proofs.lemmas.List.{append_cancel_right}
 use Rattle.std.proofs.lemmas.Option.{slice_get_within}
-use Rattle.slink_wire.specs.Packet.{HasHead, IsPacket}
+use Rattle.slink_wire.specs.Packet.{IsPacket}
 use Rattle.slink_wire.specs.Reply.{line_end}
 use Rattle.slink_wire.proofs.Packets.{one_packet}
 use Rattle.slink_feed.specs.declared.dialogue.Stage.{Stage}
 use Rattle.slink_feed.specs.declared.dialogue.Stage.TheVariants.{Unlinked, Station, Number, Packets, Ended}
-use Rattle.slink_feed.specs.Cutting.{Begins, IsBegun, IsNoPacket, IsNoReply, IsPacketBegun, IsReply, IsReplyBegun, IsWhole, IsWholePacket, IsWholeReply, LacksEnd, no_first, no_end, no_head, nothing, end_begun, head_begun, record_begun}
+use Rattle.slink_feed.specs.Cutting.{Begins, IsBegun, IsNoPacket, IsPacketBegun, IsReply, IsReplyBegun, IsWhole, IsWholePacket, IsWholeReply, LacksEnd, no_first, no_end, no_head, nothing, end_begun, head_begun, record_begun}
 use Rattle.slink_feed.specs.Dialogue.{Whole, Reply, Packet, End, Garbage}
 use Rattle.slink_feed.proofs.Fronts.{get_left, get_here}
 use Rattle.slink_feed.proofs.Heads.{head_before, one_begins}

@@ -7,4 +7,5 @@ pub mod Serving
 pub mod Dialogue
 pub mod Cutting
 pub mod Listening
+pub mod Holding
 pub mod Sending

@@ -4,7 +4,8 @@ ghost use Rattle.slink_wire.specs.declared.lines.What.{What};
 ghost use Rattle.slink_wire.specs.declared.reply.Reply.{Reply};
 ghost use Rattle.slink_feed.specs.declared.dialogue.Event.{Event};
 ghost use Rattle.slink_feed.specs.declared.grant.Grant.{Grant};
-ghost use Rattle.slink_feed.specs.Dialogue.{Talk};
+ghost use Rattle.slink_feed.specs.Dialogue.{Talk, next_at};
+ghost use Rattle.slink_feed.specs.Holding.{GoOn, Turn, numbers_of, talk_behind};
 ghost use Rattle.slink_feed.specs.Listening.{Listening, Reads};
 ghost use Rattle.slink_feed.specs.Sending.{AreAsked, AreShown, Asked, IsHeardFrom, IsStretch, packets_of};
 ghost use Rattle.slink_feed.specs.Serving.{IsAnswer};
@@ -29,4 +30,11 @@ pub fn a_stretch_is_sent()
     // Lines leave a session that streams as it is, or close it.
     ensures lines { (feed : List Window) (s new : State) (what : What) (reply : Reply)
         → s.phase ≡ Phase.Streaming → IsAnswer feed s what new reply → IsHeardFrom s new }
+{}
+
+/// A client tells each record once and in order, over any links and whatever they bring: the numbers of the records of a
+/// place go up one by one, modulo 2^24, from the one that it wants, if any, to the one before the next that it wants.
+pub fn each_record_once()
+    ensures { (k : ℕ) (t : Talk) (turns : List Turn)
+        → GoOn (next_at t.wants k) (numbers_of k t turns) (next_at (talk_behind t turns).wants k) }
 {}

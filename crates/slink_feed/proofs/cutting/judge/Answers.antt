@@ -1,4 +1,4 @@
-use Rattle.std.proofs.Common.{◌≡◌, sym}
+use Rattle.std.proofs.Common.{sym}
 use Rattle.slink_feed.specs.Cutting.{Begins}
 use Rattle.slink_feed.specs.Cutting.{no_first}
 use Rattle.slink_feed.proofs.cutting.judge.Goals as goal

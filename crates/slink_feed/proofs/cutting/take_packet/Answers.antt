@@ -1,4 +1,4 @@
-use Rattle.std.proofs.Common.{◌≡◌, ◌-◌, ◌<◌, ap, subst, arith, take, drop, length}
+use Rattle.std.proofs.Common.{◌-◌, ◌<◌, subst, arith, take, drop, length}
 use Rattle.std.proofs.lemmas.List.{length-drop, length-take}
 use Rattle.slink_feed.specs.Cutting.{IsPacketPart}
 use Rattle.slink_feed.specs.declared.cutting.Part.{Part}

@@ -1,4 +1,4 @@
-use Rattle.std.proofs.Common.{◌≡◌, ℕ, ap, sym, subst, ◌∙◌, arith, List, ◌++◌, [], ◌∷◌, length-append}
+use Rattle.std.proofs.Common.{ℕ, ap, sym, subst, ◌∙◌, arith, List}
 use Rattle.slink_feed.specs.Cutting.{IsReply, LacksEnd, ends_reply}
 use Rattle.slink_feed.proofs.Replies.{lacks_more, whole_reply}
 use Rattle.slink_feed.proofs.cutting.take_reply_byte.Goals as goal
