@@ -10,6 +10,8 @@ mod grant;
 mod law;
 mod ring;
 mod session;
+#[cfg(test)]
+mod tests;
 
 pub use client::Client;
 pub use dialogue::{Bytes, Ending, Event, Stage, Wanted};
