@@ -1,8 +1,8 @@
 -- What records say that a series is packed into.
-use Rattle.std.specs.Prelude.{◌≡◌, ℕ, List, map, IsTrue}
-use Rattle.std.specs.List.{AllByRecursion}
+use Rattle.std.specs.Prelude.{⊤, ◌≡◌, ◌≢◌, ℕ, List, [], ◌∷◌, map, IsTrue}
+use Rattle.std.specs.List.{AllByRecursion, flat_map}
 use Rattle.mseed_record.specs.View.{View, IsView}
-use Rattle.mseed_audit.specs.Channels.{is_of}
+use Rattle.mseed_audit.specs.Channels.{added_from, is_of, records_of, views_in}
 use Rattle.mseed_audit.specs.Follows.{IsContinuous}
 use Rattle.mseed_audit.specs.Series.{Trace, IsSeriesOf}
 
@@ -20,3 +20,21 @@ pub record ReadsAs (s : Trace) (records : List (List ℕ)) : Type 0 where
   pub channel : AllByRecursion (λ (v : View). IsTrue (is_of s.codes v)) views
   pub continuous : IsContinuous views
   pub series : IsSeriesOf s views
+
+-- a series, and the records that it is packed into
+pub record Packed : Type 0 where
+  pub series : Trace
+  pub records : List (List ℕ)
+
+-- the records of all, one series' behind another's
+abbrev pub records_of_all : List Packed → List (List ℕ)
+records_of_all packed = flat_map (λ (p : Packed). p.records) packed
+
+-- no two are of one channel
+abbrev pub AreApart : List Packed → Type 0
+AreApart [] = ⊤
+AreApart (p ∷ ps) = AllByRecursion (λ (q : Packed). q.series.codes ≢ p.series.codes) ps × AreApart ps
+
+-- the records of the series' channel, among all of an archive, are those that it is packed into
+abbrev pub StandsIn : List View → Packed → Type 0
+StandsIn views p = AreViewsOf p.records (views_in (records_of p.series.codes (added_from 0 views)))

@@ -1,6 +1,7 @@
 //! Laws of packing.
 ghost use Rattle.std.specs.Prelude.{◌≡◌, ◌⊎◌, ◌++◌, ℕ, ℤ, List, IsTrue, Result, Ok, Err};
 ghost use Rattle.std.specs.List.{AllByRecursion};
+ghost use Rattle.mseed_record.specs.View.{View};
 ghost use Rattle.mseed_audit.specs.declared.assembly.NotContinuous.{NotContinuous};
 ghost use Rattle.mseed_audit.specs.declared.verdict.Verdict.{Verdict};
 ghost use Rattle.mseed_audit.specs.Channels.{Placed, views_in};
@@ -13,7 +14,7 @@ ghost use Rattle.mseed_pack.specs.FewestWords.{HasFewestWords};
 ghost use Rattle.mseed_pack.specs.Fitting.{Fits, IsMisfit};
 ghost use Rattle.mseed_pack.specs.Outcome.{IsTrace};
 ghost use Rattle.mseed_pack.specs.Packing.{PacksUpTo, IsPacking};
-ghost use Rattle.mseed_pack.specs.ReadBack.{AreViewsOf, ReadsAs};
+ghost use Rattle.mseed_pack.specs.ReadBack.{AreApart, AreViewsOf, Packed, ReadsAs, StandsIn, records_of_all};
 
 use mseed_audit::{continuous_exactly, one_series};
 use mseed_record::header_reads_back;
@@ -65,6 +66,14 @@ pub fn called_continuous()
     continuous_exactly();
     one_series();
 }
+
+/// Where the records of several series stand one behind another, no two of one channel, the records of each
+/// channel are those that its series is packed into.
+pub fn archive_reads_back()
+    ensures { (packed : List Packed) (views : List View)
+        → AllByRecursion (λ (p : Packed). ReadsAs p.series p.records) packed → AreApart packed
+        → AreViewsOf (records_of_all packed) views → AllByRecursion (StandsIn views) packed }
+{}
 
 /// Each record of a Steim-2 packing has as few data words in use as hold the differences of its samples
 /// (SEED manual, appendix B).

@@ -12,5 +12,7 @@ mod stretch;
 
 pub use fault::PackFault;
 pub use fitting::fit;
-pub use law::{called_continuous, fewest_words, one_misfit, one_packing, reads_back};
+pub use law::{
+    archive_reads_back, called_continuous, fewest_words, one_misfit, one_packing, reads_back,
+};
 pub use options::{BadOption, Encoding, Options};

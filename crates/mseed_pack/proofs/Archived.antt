@@ -1,0 +1,133 @@
+-- Among the records of several packed series each channel's are its series' own.
+use Rattle.std.proofs.Common.{◌≡◌, ◌≢◌, ℕ, ◌+◌, nat_lt, Bool, true, false, cond, List, [], ◌∷◌, ◌++◌, length, IsTrue, refl, sym, ap, subst, ◌∙◌, append_assoc, append-nil}
+use Rattle.std.specs.List.{AllByRecursion, filter}
+use Rattle.std.specs.Ordering.{nat_cmp, is_eq}
+use Rattle.std.specs.Cmp.Lexicographic.{slice_cmp}
+use Rattle.std.specs.declared.cmp.Ordering.{Ordering}
+use Rattle.std.specs.declared.cmp.Ordering.TheVariants.{Less, Equal, Greater}
+use Rattle.std.proofs.lemmas.Bool.{false≢true, and_parts}
+use Rattle.std.proofs.lemmas.List.Elements.{filter-append}
+use Rattle.std.proofs.lemmas.Map.Lookups.{exact_bytes}
+use Rattle.mseed_record.specs.Header.{key_at}
+use Rattle.mseed_record.specs.View.{View, IsView}
+use Rattle.mseed_steim.specs.Reading.{count_of}
+use Rattle.mseed_audit.specs.Channels.{Placed, added_from, is_of, numbered, same_key, views_in}
+use Rattle.mseed_pack.specs.ReadBack.{AreApart, AreViewsOf, Packed, ReadsAs, StandsIn, records_of_all}
+use Rattle.mseed_pack.proofs.Followed.{bytes_in}
+
+equal_from : (o : Ordering) → is_eq o ≡ true → o ≡ Equal
+equal_from Less e = absurd (false≢true e)
+equal_from Equal e = refl
+equal_from Greater e = absurd (false≢true e)
+
+same_is : (key other : List ℕ) → same_key key other ≡ true → key ≡ other
+same_is key other e = exact_bytes key other (equal_from (slice_cmp nat_cmp key other) e)
+
+-- a record is of one channel at most
+key_of : (key : List ℕ) (v : View) → is_of key v ≡ true → key ≡ key_at v.bytes
+key_of key v e = same_is key (key_at v.bytes) (and_parts (nat_lt 0 (count_of v)) (same_key key (key_at v.bytes)) e).1
+
+not_of : (key other : List ℕ) (v : View) → key ≢ other → is_of key v ≡ true → is_of other v ≡ false
+not_of key other v apart e = by (is_of other v) refl
+  where
+    by : (b : Bool) → is_of other v ≡ b → is_of other v ≡ false
+    by true f = absurd (apart (key_of key v e ∙ sym (key_of other v f)))
+    by false f = f
+
+-- the channel's records by their views
+views_filtered : (key : List ℕ) (n offset : ℕ) (vs : List View) → views_in (filter (λ (p : Placed). is_of key p.view) (numbered n (added_from offset vs))) ≡ filter (is_of key) vs
+views_filtered key n offset [] = refl
+views_filtered key n offset (v ∷ vs) = by (is_of key v) (views_filtered key (n + 1) (offset + length v.bytes) vs)
+  where
+    by : (b : Bool) → views_in (filter (λ (p : Placed). is_of key p.view) (numbered (n + 1) (added_from (offset + length v.bytes) vs))) ≡ filter (is_of key) vs
+        → views_in (cond b (record { view = v; offset = offset; number = n } ∷ filter (λ (p : Placed). is_of key p.view) (numbered (n + 1) (added_from (offset + length v.bytes) vs))) (filter (λ (p : Placed). is_of key p.view) (numbered (n + 1) (added_from (offset + length v.bytes) vs))))
+        ≡ cond b (v ∷ filter (is_of key) vs) (filter (is_of key) vs)
+    by true rest = ap (λ (us : List View). v ∷ us) rest
+    by false rest = rest
+
+all_kept : (key : List ℕ) (vs : List View) → AllByRecursion (λ (v : View). IsTrue (is_of key v)) vs → filter (is_of key) vs ≡ vs
+all_kept key [] h = refl
+all_kept key (v ∷ vs) h = let here : is_of key v ≡ true = h.0 in rw here (ap (λ (us : List View). v ∷ us) (all_kept key vs h.1))
+
+none_kept : (key other : List ℕ) (vs : List View) → key ≢ other → AllByRecursion (λ (v : View). IsTrue (is_of key v)) vs → filter (is_of other) vs ≡ []
+none_kept key other [] apart h = refl
+none_kept key other (v ∷ vs) apart h = let here : is_of other v ≡ false = not_of key other v apart h.0 in rw here (none_kept key other vs apart h.1)
+
+-- views are cut where their records are
+record Halves (xs ys : List (List ℕ)) (vs : List View) : Type 0 where
+  front : List View
+  back : List View
+  parts : vs ≡ front ++ back
+  first : AreViewsOf xs front
+  second : AreViewsOf ys back
+
+halves : (xs ys : List (List ℕ)) (vs : List View) → bytes_in vs ≡ xs ++ ys → AllByRecursion IsView vs → Halves xs ys vs
+halves [] ys vs e h = record { front = []; back = vs; parts = refl; first = record { bytes = refl; each = tt }; second = record { bytes = e; each = h } }
+halves (x ∷ xs) ys [] e h = cc
+halves (x ∷ xs) ys (v ∷ vs) e h =
+    let here : v.bytes ≡ x = cc in
+    let rest : bytes_in vs ≡ xs ++ ys = cc in
+    let later = halves xs ys vs rest h.1 in
+    record {
+      front = v ∷ later.front;
+      back = later.back;
+      parts = λ i. v ∷ later.parts i;
+      first = record { bytes = λ i. here i ∷ later.first.bytes i; each = (h.0, later.first.each) };
+      second = later.second;
+    }
+
+-- the records of a packed series are of its channel
+of_channel : (p : Packed) (vs : List View) → ReadsAs p.series p.records → AreViewsOf p.records vs → AllByRecursion (λ (v : View). IsTrue (is_of p.series.codes v)) vs
+of_channel p vs reads are = subst (λ (us : List View). AllByRecursion (λ (v : View). IsTrue (is_of p.series.codes v)) us) (sym (reads.only vs are)) reads.channel
+
+-- none of those of others is of another channel
+others_gone : (key : List ℕ) (packed : List Packed) (vs : List View) → AllByRecursion (λ (p : Packed). ReadsAs p.series p.records) packed → AllByRecursion (λ (q : Packed). q.series.codes ≢ key) packed → AreViewsOf (records_of_all packed) vs → filter (is_of key) vs ≡ []
+others_gone key [] [] reads apart are = refl
+others_gone key [] (v ∷ vs) reads apart are = let e = are.bytes in cc
+others_gone key (p ∷ ps) vs reads apart are =
+    let cut = halves p.records (records_of_all ps) vs are.bytes are.each in
+    let first = none_kept p.series.codes key cut.front apart.0 (of_channel p cut.front reads.0 cut.first) in
+    let second = others_gone key ps cut.back reads.1 apart.1 cut.second in
+    ap (λ (us : List View). filter (is_of key) us) cut.parts ∙ filter-append (is_of key) cut.front cut.back ∙ (λ i. first i ++ second i)
+
+-- where nothing in front is of these channels
+abbrev Gone : List View → List Packed → Type 0
+Gone front packed = AllByRecursion (λ (p : Packed). filter (is_of p.series.codes) front ≡ []) packed
+
+gone_more : (key : List ℕ) (front more : List View) (packed : List Packed) → Gone front packed → AllByRecursion (λ (v : View). IsTrue (is_of key v)) more → AllByRecursion (λ (q : Packed). q.series.codes ≢ key) packed → Gone (front ++ more) packed
+gone_more key front more [] gone of_key apart = tt
+gone_more key front more (q ∷ qs) gone of_key apart =
+    let second = none_kept key q.series.codes more (λ e. apart.0 (sym e)) of_key in
+    let first = gone.0 in
+    (filter-append (is_of q.series.codes) front more ∙ (λ i. first i ++ second i), gone_more key front more qs gone.1 of_key apart.1)
+
+stand : (front : List View) (packed : List Packed) (vs : List View) → Gone front packed → AllByRecursion (λ (p : Packed). ReadsAs p.series p.records) packed → AreApart packed → AreViewsOf (records_of_all packed) vs
+    → AllByRecursion (λ (p : Packed). AreViewsOf p.records (filter (is_of p.series.codes) (front ++ vs))) packed
+stand front [] vs gone reads apart are = tt
+stand front (p ∷ ps) vs gone reads apart are =
+    let key = p.series.codes in
+    let cut = halves p.records (records_of_all ps) vs are.bytes are.each in
+    let of_key = of_channel p cut.front reads.0 cut.first in
+    let kept = all_kept key cut.front of_key in
+    let others = others_gone key ps cut.back reads.1 apart.0 cut.second in
+    let first = gone.0 in
+    let own : filter (is_of key) (front ++ vs) ≡ cut.front =
+    filter-append (is_of key) front vs ∙ ap (λ (us : List View). filter (is_of key) front ++ filter (is_of key) us) cut.parts
+    ∙ ap (λ (us : List View). filter (is_of key) front ++ us) (filter-append (is_of key) cut.front cut.back)
+    ∙ (λ i. first i ++ (kept i ++ others i)) ∙ append-nil cut.front in
+    let rest = stand (front ++ cut.front) ps cut.back (gone_more key front cut.front ps gone.1 of_key apart.0) reads.1 apart.1 cut.second in
+    let whole : (front ++ cut.front) ++ cut.back ≡ front ++ vs = append_assoc front cut.front cut.back ∙ ap (λ (us : List View). front ++ us) (sym cut.parts) in (
+      subst (λ (us : List View). AreViewsOf p.records us) (sym own) cut.first,
+      subst (λ (us : List View). AllByRecursion (λ (q : Packed). AreViewsOf q.records (filter (is_of q.series.codes) us)) ps) whole rest,
+    )
+
+nothing_in_front : (packed : List Packed) → Gone [] packed
+nothing_in_front [] = tt
+nothing_in_front (p ∷ ps) = (refl, nothing_in_front ps)
+
+placed : (packed : List Packed) (vs : List View) → AllByRecursion (λ (p : Packed). AreViewsOf p.records (filter (is_of p.series.codes) vs)) packed → AllByRecursion (StandsIn vs) packed
+placed [] vs h = tt
+placed (p ∷ ps) vs h = (subst (λ (us : List View). AreViewsOf p.records us) (sym (views_filtered p.series.codes 1 0 vs)) h.0, placed ps vs h.1)
+
+pub archived : (packed : List Packed) (vs : List View) → AllByRecursion (λ (p : Packed). ReadsAs p.series p.records) packed → AreApart packed → AreViewsOf (records_of_all packed) vs → AllByRecursion (StandsIn vs) packed
+archived packed vs reads apart are = placed packed vs (stand [] packed vs (nothing_in_front packed) reads apart are)
