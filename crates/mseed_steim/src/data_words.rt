@@ -43,7 +43,7 @@ pub(crate) struct Words<'a> {
     /// The word that is next, and the end of the words.
     next: usize,
     end: usize,
-    /// The codes of the frame in which the next word stands.
+    /// The codes of the frame in which the next word stands, once they have been read.
     codes: u32,
 }
 
@@ -52,7 +52,7 @@ impl<'a> Model for Words<'a> {
 
     ghost view = { λ w. words_from w.payload.now w.next (w.end - w.next) };
 
-    ghost invariant = { λ w. (w.next ≤ w.end) × (w.end % 16 ≡ 0) × (4 * w.end ≤ length w.payload.now) × (w.next < w.end → (w.next % 16 ≢ 0) × (w.codes ≡ word_at w.payload.now (16 * (w.next / 16)))) × AreOctets w.payload.now };
+    ghost invariant = { λ w. (w.next ≤ w.end) × (w.end % 16 ≡ 0) × (4 * w.end ≤ length w.payload.now) × (w.next % 16 ≢ 0 → w.codes ≡ word_at w.payload.now (16 * (w.next / 16))) × AreOctets w.payload.now };
 }
 
 /// The code of a word, by its frame's codes.
@@ -61,6 +61,23 @@ fn code_in(codes: u32, index: usize) -> u8
     ensures small { result < 4 }
 {
     (codes >> (30 - 2 * (index % FRAME)) & 3) as u8
+}
+
+/// The first data word from a word on, up to a frame's end, and its frame's codes; these are known unless the word
+/// is the frame's first.
+fn front_of(payload: &[u8], from: usize, end: usize, codes: u32) -> (usize, u32)
+    requires order { from ≤ end }
+    requires whole { end % 16 ≡ 0 }
+    requires inside { 4 * end ≤ length payload.now }
+    requires codes { from % 16 ≢ 0 → codes ≡ word_at payload.now (16 * (from / 16)) }
+    ensures same { words_from payload.now from (end - from) ≡ words_from payload.now result.0 (end - result.0) }
+    ensures order { result.0 ≤ end }
+    ensures at { result.0 < end → (result.0 % 16 ≢ 0) × (result.1 ≡ word_at payload.now (16 * (result.0 / 16))) }
+{
+    if from < end && from % FRAME == 0 {
+        return (from + 1, read_word(payload, from));
+    }
+    (from, codes)
 }
 
 /// The first of some words whose code isn't 01; their end, where there's none.
@@ -101,26 +118,6 @@ impl<'a> Words<'a> {
         } else {
             0
         };
-        Words::after(payload, from, end, codes)
-    }
-
-    /// Those from a word on, up to a frame's end; these are the codes of its frame, unless it's the first there.
-    #[inline(always)]
-    fn after(payload: &'a [u8], from: usize, end: usize, codes: u32) -> Self
-        requires order { from ≤ end }
-        requires whole { end % 16 ≡ 0 }
-        requires inside { 4 * end ≤ length payload.now }
-        requires codes { from < end → from % 16 ≢ 0 → codes ≡ word_at payload.now (16 * (from / 16)) }
-        ensures { result ≡ words_from payload.now from (end - from) }
-    {
-        if from < end && from % FRAME == 0 {
-            return Words {
-                payload,
-                next: from + 1,
-                end,
-                codes: read_word(payload, from),
-            };
-        }
         Words {
             payload,
             next: from,
@@ -149,7 +146,8 @@ impl<'a> Words<'a> {
     pub(crate) fn begins_empty(&self) -> bool
         ensures { result ≡ begins_empty self.now }
     {
-        self.next < self.end && code_in(self.codes, self.next) == 0
+        let (next, codes) = front_of(self.payload, self.next, self.end, self.codes);
+        next < self.end && code_in(codes, next) == 0
     }
 
     /// Takes the words of code 01 that are next, as far as they stand in one frame: their bytes.
@@ -162,10 +160,12 @@ impl<'a> Words<'a> {
         ensures count { length result.now ≡ 4 * length (byte_run self.old) }
         ensures few { length result.now ≤ 60 }
     {
-        let frame_end = (self.next / FRAME + 1) * FRAME;
-        let to = run_end(self.codes, self.next, frame_end.min(self.end));
-        let bytes = &self.payload[WORD * self.next..WORD * to];
-        *self = Words::after(self.payload, to, self.end, self.codes);
+        let (from, codes) = front_of(self.payload, self.next, self.end, self.codes);
+        let frame_end = (from / FRAME + 1) * FRAME;
+        let to = run_end(codes, from, frame_end.min(self.end));
+        let bytes = &self.payload[WORD * from..WORD * to];
+        self.next = to;
+        self.codes = codes;
         bytes
     }
 }
@@ -182,13 +182,19 @@ impl<'a> Iterator for Words<'a> {
         if self.next == self.end {
             return None;
         }
-        let word = Word {
-            frame: self.next / FRAME,
-            place: self.next % FRAME,
-            code: code_in(self.codes, self.next),
-            bits: read_word(self.payload, self.next),
-        };
-        *self = Words::after(self.payload, self.next + 1, self.end, self.codes);
-        Some(word)
+        if self.next % FRAME == 0 {
+            self.codes = read_word(self.payload, self.next);
+            self.next += 1;
+        }
+        let (frame, place) = (self.next / FRAME, self.next % FRAME);
+        let code = (self.codes >> (30 - 2 * place) & 3) as u8;
+        let bits = read_word(self.payload, self.next);
+        self.next += 1;
+        Some(Word {
+            frame,
+            place,
+            code,
+            bits,
+        })
     }
 }

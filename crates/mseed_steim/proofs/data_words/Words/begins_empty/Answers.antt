@@ -5,15 +5,16 @@ use Rattle.mseed_steim.proofs.Walking.{words_none}
 use Rattle.mseed_steim.proofs.ByteRun.{front}
 use Rattle.mseed_steim.proofs.data_words.Words.begins_empty.Goals as goal
 
-pub returns-then-self : goal.returns-then-self
-returns-then-self c =
-    let i = c.self.inside in
-    let at = c.self.invariant.3 c.if-self.true in
-    let code : c.code_in.result ≡ code_at i.payload.now i.next = c.code_in.ensures.value ∙ ap (λ (w : ℕ). w / 2 ^ (30 - 2 * (i.next % 16)) % 4) at.1 in
-    rw (← c.self.view_is, front i.payload.now i.next i.end c.if-self.true at.0, code) refl
+pub returns-then-next-self : goal.returns-then-next-self
+returns-then-next-self c =
+    let p = c.self.inside.payload.now in
+    let next = c.front_of-next.result.0 in
+    let at = c.front_of-next.ensures.at c.if-next-self.true in
+    let code : c.code_in.result ≡ code_at p next = c.code_in.ensures.value ∙ ap (λ (w : ℕ). w / 2 ^ (30 - 2 * (next % 16)) % 4) at.1 in
+    rw (← c.self.view_is, c.front_of-next.ensures.same, front p next c.self.inside.end c.if-next-self.true at.0, code) refl
 
-pub returns-else-self : goal.returns-else-self
-returns-else-self c =
-    let i = c.self.inside in
-    let over : i.end - i.next ≡ 0 = omega arith in
-    rw (← c.self.view_is, over, words_none i.payload.now i.next, le-ltb i.next i.end c.if-self.false) refl
+pub returns-else-next-self : goal.returns-else-next-self
+returns-else-next-self c =
+    let next = c.front_of-next.result.0 in
+    let over : c.self.inside.end - next ≡ 0 = omega arith in
+    rw (← c.self.view_is, c.front_of-next.ensures.same, over, words_none c.self.inside.payload.now next, le-ltb next c.self.inside.end c.if-next-self.false) refl
