@@ -194,3 +194,27 @@ end_inside steps size stretch h l = ended h.left size stretch.begin stretch.end 
     ended : (left : List (ℕ × LeapStep)) (size begin end : ℕ) → AreStepsFrom begin size left → end ≡ end_by left size → begin < size → (begin < end) × (end ≤ size)
     ended [] size begin end b e l = (omega (arith, e, l), omega (arith, e))
     ended (x ∷ left) size begin end b e l = (omega (arith, b.0, e), omega (arith, b.1, e))
+
+-- the leap second that comes next is the first of those that are left
+kind_of : (passed left : List (ℕ × LeapStep)) (d : ℕ × LeapStep) → (length passed < length (passed ++ left) → kind_by left ≡ Some (get_or (passed ++ left) (length passed) d).1) × (length (passed ++ left) ≤ length passed → kind_by left ≡ None)
+kind_of passed [] d = (λ h. absurd (omega (arith, h, length-append passed ([]))), λ h. refl)
+kind_of passed (x ∷ left) d = (λ h. ap (λ (y : ℕ × LeapStep). Some y.1) (sym (get_or-append_seam passed x left d)), λ h. absurd (omega (arith, h, length-append passed (x ∷ left))))
+
+pub kind_some : (steps : List (ℕ × LeapStep)) (size : ℕ) (stretch : Stretch) (d : ℕ × LeapStep) → (h : IsStretch steps size stretch) → stretch.passed < length steps → kind_by h.left ≡ Some (get_or steps stretch.passed d).1
+kind_some steps size stretch d h l =
+    let same : length steps ≡ length (h.passed ++ h.left) = ap (λ (xs : List (ℕ × LeapStep)). length xs) h.parts in
+    (kind_of h.passed h.left d).0 (omega (arith, l, same, h.count))
+    ∙ ap (λ (n : ℕ). Some (get_or (h.passed ++ h.left) n d).1) h.count ∙ ap (λ (xs : List (ℕ × LeapStep)). Some (get_or xs stretch.passed d).1) (sym h.parts)
+
+pub kind_none : (steps : List (ℕ × LeapStep)) (size : ℕ) (stretch : Stretch) → (h : IsStretch steps size stretch) → length steps ≤ stretch.passed → kind_by h.left ≡ None
+kind_none steps size stretch h l =
+    let same : length steps ≡ length (h.passed ++ h.left) = ap (λ (xs : List (ℕ × LeapStep)). length xs) h.parts in
+    (kind_of h.passed h.left (0, Plus)).1 (omega (arith, l, same, h.count))
+
+-- a stretch ends within all
+pub end_most : (steps : List (ℕ × LeapStep)) (size : ℕ) (stretch : Stretch) → IsStretch steps size stretch → stretch.end ≤ size
+end_most steps size stretch h = most h.left size stretch.begin stretch.end h.behind h.end_is
+  where
+    most : (left : List (ℕ × LeapStep)) (size begin end : ℕ) → AreStepsFrom begin size left → end ≡ end_by left size → end ≤ size
+    most [] size begin end b e = omega (arith, e)
+    most (x ∷ left) size begin end b e = omega (arith, b.1, e)

@@ -2,6 +2,8 @@ pub mod Options
 pub mod Clock
 pub mod Stretches
 pub mod Standing
+pub mod Parts
+pub mod Filling
 pub mod Packing
 pub mod Fitting
 pub mod Outcome

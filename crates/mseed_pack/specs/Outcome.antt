@@ -1,5 +1,5 @@
 -- What packing leaves behind.
-use Rattle.std.specs.Prelude.{◌≡◌, ◌≢◌, ℕ, ◌+◌, ◌<◌, ◌≤◌, List, [], ◌∷◌, ◌++◌, length, take, ℤ, pos, Result, Ok, Err, FitsSigned}
+use Rattle.std.specs.Prelude.{◌≡◌, ◌≢◌, ℕ, ◌+◌, ◌*◌, ◌^◌, ◌<◌, ◌≤◌, List, [], ◌∷◌, ◌++◌, length, take, drop, ℤ, pos, Result, Ok, Err, FitsSigned}
 use Rattle.std.specs.Int.{w16}
 use Rattle.std.specs.List.{concat}
 use Rattle.mseed_time.specs.Btime.{IsInstant}
@@ -20,6 +20,15 @@ pub record IsTrace (s : Trace) : Type 0 where
   pub multiplier : FitsSigned w16 s.rate.multiplier
   pub multiplier_counts : s.rate.multiplier ≢ pos 0
   pub steps : AreSteps (length s.samples) s.steps
+
+-- so far the sink took so many records, that hold so many samples of the series, and none of its calls failed
+pub record TookSo (s : Trace) (o : Options) (number first : ℕ) (old new : Said) : Type 0 where
+  pub records : List (List ℕ)
+  pub packing : PacksUpTo s o records (drop first s.samples)
+  pub count_is : number ≡ length records
+  pub long : length (concat records) ≡ number * 2 ^ o.exponent
+  pub bytes : new.bytes ≡ old.bytes ++ concat records
+  pub failures : new.failures ≡ old.failures
 
 -- the sink took the records that the series is packed into, so many, and none of its calls failed
 pub record TookAll (s : Trace) (o : Options) (count : ℕ) (old new : Said) : Type 0 where

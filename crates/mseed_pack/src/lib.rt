@@ -7,7 +7,13 @@ mod clock;
 mod fault;
 mod fitting;
 mod law;
+mod frames;
+mod integers;
 mod options;
+mod packing;
+mod parts;
+mod payload;
+mod record;
 mod stretch;
 
 pub use fault::PackFault;
@@ -16,3 +22,4 @@ pub use law::{
     archive_reads_back, called_continuous, fewest_words, one_misfit, one_packing, reads_back,
 };
 pub use options::{BadOption, Encoding, Options};
+pub use packing::pack;

@@ -1,0 +1,30 @@
+-- Steps of filling a payload.
+use Rattle.std.specs.Prelude.{◌≡◌, ℕ, ◌*◌, ◌^◌, List, ℤ}
+use Rattle.byteorder.specs.Endian.{big_bytes}
+use Rattle.mseed_steim.specs.Spelling.{residue}
+use Rattle.mseed_pack.specs.declared.integers.Width.{Width}
+use Rattle.mseed_pack.specs.declared.integers.Width.TheVariants.{Two as Short, Four as Long}
+use Rattle.mseed_steim.specs.declared.scheme.Scheme.{Scheme}
+use Rattle.mseed_steim.specs.declared.scheme.Scheme.TheVariants.{One, Two}
+use Rattle.mseed_steim.specs.Frames.{code_at, data_words, first_constant, last_constant}
+
+-- in frames q that were p, the words 1 and 2 were made the first and the last sample, and nothing else changed
+pub record AreSet (p q : List ℕ) (first last : ℤ) : Type 0 where
+  pub words : data_words q ≡ data_words p
+  pub codes : (k : ℕ) → code_at q k ≡ code_at p k
+  pub first_is : first_constant q ≡ first
+  pub last_is : last_constant q ≡ last
+
+-- the widest difference of a scheme
+abbrev pub width_of : Scheme → ℕ
+width_of One = 32
+width_of Two = 30
+
+-- the bytes of an integer of a width
+abbrev pub bytes_in : Width → ℕ
+bytes_in Short = 2
+bytes_in Long = 4
+
+-- an integer in big-endian two's complement of so many bytes
+abbrev pub integer_bytes : ℕ → ℤ → List ℕ
+integer_bytes width z = big_bytes width (residue (2 ^ (8 * width)) z)

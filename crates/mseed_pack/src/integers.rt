@@ -1,0 +1,70 @@
+//! Samples as integers.
+ghost use Rattle.std.specs.Prelude.{◌≡◌, ◌+◌, ◌-◌, ◌*◌, ◌^◌, ◌<◌, ◌≤◌, ◌++◌, length, All, pos, slice_index_or, slice_range, drop};
+ghost use Rattle.mseed_steim.specs.Spelling.{IsWithin};
+ghost use Rattle.mseed_pack.specs.Filling.{bytes_in, integer_bytes};
+ghost use Rattle.mseed_pack.specs.Packing.{HoldsIntegers};
+
+use crate::payload::Filled;
+use byteorder::{BigEndian, ByteOrder};
+
+/// How wide an integer is, in bytes.
+#[derive(Clone, Copy)]
+pub(crate) enum Width {
+    Two,
+    Four,
+}
+
+/// How many bytes that are.
+fn bytes_in(width: Width) -> usize
+    ensures { result ≡ bytes_in width }
+{
+    match width {
+        Width::Two => 2,
+        Width::Four => 4,
+    }
+}
+
+/// Writes the samples from one on, as many as there is room for, as big-endian integers, and zeros behind them.
+pub(crate) fn fill_integers(
+    width: Width,
+    samples: &[i32],
+    first: usize,
+    end: usize,
+    payload: &mut [u8],
+) -> Filled
+    requires some { first < end }
+    requires inside { end ≤ length samples.now }
+    requires long { 64 ≤ length payload.old }
+    requires short { length payload.old ≤ 4032 }
+    requires fits { All (IsWithin (8 * bytes_in width)) samples.now }
+    ensures holds { HoldsIntegers (bytes_in width) (end - first) (slice_range samples.now first (first + result.samples))
+        result.frames payload.new }
+    ensures some { 0 < result.samples }
+    ensures within { first + result.samples ≤ end }
+    ensures few { result.samples < 2 ^ 16 }
+{
+    payload.fill(0);
+    let bytes = bytes_in(width);
+    let count = (end - first).min(payload.len() / bytes);
+    for index in 0..count {
+        put_sample(width, samples, first + index, &mut payload[bytes * index..]);
+    }
+    Filled {
+        samples: count,
+        frames: 0,
+    }
+}
+
+/// Writes the sample at an index.
+fn put_sample(width: Width, samples: &[i32], index: usize, out: &mut [u8])
+    requires inside { index < length samples.now }
+    requires room { bytes_in width ≤ length out.old }
+    requires fits { IsWithin (8 * bytes_in width) (slice_index_or samples.now index (pos 0)) }
+    ensures { out.new ≡ integer_bytes (bytes_in width) (slice_index_or samples.now index (pos 0))
+        ++ drop (bytes_in width) out.old }
+{
+    match width {
+        Width::Two => BigEndian::write_i16(out, samples[index] as i16),
+        Width::Four => BigEndian::write_i32(out, samples[index]),
+    }
+}

@@ -1,0 +1,162 @@
+//! One record of a packing.
+ghost use Rattle.std.specs.Prelude.{◌≡◌, ◌+◌, ◌-◌, ◌^◌, ◌%◌, ◌<◌, ◌≤◌, length, slice_range, All, List, ℕ, ℤ, IsSome, IfSome};
+ghost use Rattle.mseed_record.specs.Fields.{header_of};
+ghost use Rattle.mseed_pack.specs.Fitting.{Fits, HasTimeOutside, IsDifferenceOf, IsSampleOf};
+ghost use Rattle.mseed_pack.specs.Packing.{HoldsSamples, IsHeaderOf, IsPacked};
+ghost use Rattle.mseed_pack.specs.Parts.{trace_of};
+ghost use Rattle.mseed_pack.specs.Standing.{IsStretch};
+ghost use Rattle.mseed_pack.specs.Stretches.{differences, flags_of, step_behind};
+
+use crate::clock::time_at;
+use crate::frames::{ROOM, fill_frames};
+use crate::integers::{Width, fill_integers};
+use crate::options::{Encoding, Options};
+use crate::parts::Parts;
+use crate::payload::Filled;
+use crate::stretch::Stretch;
+use mseed_record::{Fields, write_header};
+use mseed_steim::Scheme;
+use mseed_time::LeapStep;
+
+/// The bytes of a header with its two blockettes.
+const HEADER: usize = 64;
+
+/// Writes the samples from one on, as many as there is room for, as the encoding has them.
+fn fill(
+    encoding: Encoding,
+    samples: &[i32],
+    first: usize,
+    end: usize,
+    room: &mut [i32; ROOM],
+    payload: &mut [u8],
+) -> Filled
+    requires some { first < end }
+    requires inside { end ≤ length samples.now }
+    requires long { 64 ≤ length payload.old }
+    requires short { length payload.old ≤ 4032 }
+    requires whole { length payload.old % 64 ≡ 0 }
+    requires samples_fit { All (IsSampleOf encoding) samples.now }
+    requires differences_fit { All (IsDifferenceOf encoding) (differences samples.now) }
+    ensures holds { HoldsSamples encoding (slice_range (differences samples.now) first end)
+        (slice_range samples.now first (first + result.samples)) result.frames payload.new }
+    ensures some { 0 < result.samples }
+    ensures within { first + result.samples ≤ end }
+    ensures few { result.samples < 2 ^ 16 }
+{
+    match encoding {
+        Encoding::Int16 => fill_integers(Width::Two, samples, first, end, payload),
+        Encoding::Int32 => fill_integers(Width::Four, samples, first, end, payload),
+        Encoding::Steim1 => fill_frames(Scheme::One, samples, first, end, room, payload),
+        Encoding::Steim2 => fill_frames(Scheme::Two, samples, first, end, room, payload),
+    }
+}
+
+/// The activity flags of a record of a stretch, which ends behind so many samples: the leap second at its end.
+fn flags_at(parts: &Parts, stretch: Stretch, end: usize) -> u8
+    requires standing { IsStretch parts.now.steps.now (length parts.now.samples.now) stretch }
+    requires begin { stretch.begin < end }
+    requires within { end ≤ stretch.end }
+    ensures { result ≡ flags_of (step_behind (trace_of parts.now) end) }
+{
+    if end < stretch.end {
+        return 0;
+    }
+    if stretch.passed >= parts.steps.len() {
+        return 0;
+    }
+    match parts.steps[stretch.passed].1 {
+        LeapStep::Plus => 16,
+        LeapStep::Minus => 32,
+    }
+}
+
+/// What the header of a record says that holds so many samples from one on.
+fn fields_at(
+    parts: &Parts,
+    options: &Options,
+    stretch: Stretch,
+    number: u64,
+    first: usize,
+    filled: Filled,
+) -> Option<Fields>
+    requires timed { ¬ (HasTimeOutside (trace_of parts.now)) }
+    requires standing { IsStretch parts.now.steps.now (length parts.now.samples.now) stretch }
+    requires begin { stretch.begin ≤ first }
+    requires some { 0 < filled.samples }
+    requires within { first + filled.samples ≤ stretch.end }
+    requires few { filled.samples < 2 ^ 16 }
+    requires numbered { number < 2 ^ 63 }
+    ensures some { IsSome result }
+    ensures fields { IfSome result (λ fields. (samples : List ℤ) (bytes : List ℕ) → length samples ≡ filled.samples
+        → IsHeaderOf (trace_of parts.now) options.now (record { number = number; first = first; samples = samples; bytes = bytes })
+        filled.frames (header_of fields)) }
+{
+    let Some((start, usec)) = time_at(parts.start, parts.rate, stretch, first) else {
+        return None;
+    };
+    let sequence = (u64::from(options.first_sequence) + number) % 1_000_000;
+    let activity = flags_at(parts, stretch, first + filled.samples);
+    Some(Fields {
+        sequence: sequence as u32,
+        codes: parts.codes,
+        start,
+        usec,
+        samples: filled.samples as u16,
+        rate: parts.rate,
+        encoding: options.encoding.code(),
+        exponent: options.exponent,
+        frames: filled.frames,
+        activity,
+    })
+}
+
+/// Writes a record of a stretch, from one sample on, and answers how many it holds. In `room` differences stand
+/// meanwhile.
+pub(crate) fn write_record(
+    parts: &Parts,
+    options: &Options,
+    stretch: Stretch,
+    number: u64,
+    first: usize,
+    room: &mut [i32; ROOM],
+    out: &mut [u8],
+) -> usize
+    requires fits { Fits (trace_of parts.now) options.now }
+    requires standing { IsStretch parts.now.steps.now (length parts.now.samples.now) stretch }
+    requires begin { stretch.begin ≤ first }
+    requires end { first < stretch.end }
+    requires inside { stretch.end ≤ length parts.now.samples.now }
+    requires size { length out.old ≡ 2 ^ options.now.exponent }
+    requires long { 128 ≤ length out.old }
+    requires short { length out.old ≤ 4096 }
+    requires whole { length out.old % 64 ≡ 0 }
+    requires numbered { number < 2 ^ 63 }
+    ensures packed { IsPacked (trace_of parts.now) options.now (record {
+      number = number;
+      first = first;
+      samples = slice_range parts.now.samples.now first (first + result);
+      bytes = out.new;
+    }) }
+    ensures some { 0 < result }
+    ensures within { first + result ≤ stretch.end }
+{
+    let encoding = options.encoding;
+    let filled = fill(
+        encoding,
+        parts.samples,
+        first,
+        stretch.end,
+        room,
+        &mut out[HEADER..],
+    );
+    let fields = match fields_at(parts, options, stretch, number, first, filled) {
+        Some(fields) => fields,
+        // Each instant can be written.
+        None => return 0,
+    };
+    match write_header(out, &fields) {
+        Ok(()) => filled.samples,
+        // A record is longer than its header.
+        Err(_) => 0,
+    }
+}
