@@ -1,5 +1,5 @@
 -- The first and the last sample, written into Steim frames in which differences are packed.
-use Rattle.std.proofs.Common.{◌≡◌, ◌≢◌, ℕ, zero, suc, ◌+◌, ◌-◌, ◌*◌, ◌/◌, ◌%◌, ◌^◌, ◌<◌, ◌≤◌, List, [], ◌∷◌, ◌++◌, length, take, drop, get_or, arith, refl, ap, sym, ◌∙◌, ⊎_elim, cond, eqb, length-append, lit<, ◌⊎◌, inl, inr, ℤ, pos, negsuc, FitsSigned, w32, of_z}
+use Rattle.std.proofs.Common.{◌≡◌, ◌≢◌, ℕ, zero, suc, ◌+◌, ◌-◌, ◌*◌, ◌/◌, ◌%◌, ◌^◌, ◌<◌, ◌≤◌, List, [], ◌∷◌, ◌++◌, length, take, drop, get_or, arith, refl, ap, sym, ◌∙◌, ⊎_elim, cond, eqb, length-append, ℤ, pos, negsuc, FitsSigned, w32, of_z}
 use borrow.Rule.Slice.PartMut.{put_mid, post_of}
 use Rattle.std.proofs.lemmas.Bool.{cases_lt, cases_eq, ne_eqb, eq-eqb}
 use Rattle.std.proofs.lemmas.Bool.Decides.{nat_tests}
@@ -7,7 +7,7 @@ use Rattle.std.proofs.lemmas.Int.{ints}
 use Rattle.std.proofs.lemmas.List.{length-take-le, length-drop, drop-drop, drop_at, drop_all, get_or-drop, get_or-take, get_or_append_left, append_assoc, append-nil}
 use Rattle.byteorder.specs.Endian.{big_number, big_bytes, twos_complement}
 use Rattle.byteorder.specs.Numbers.{big_number-reads_back, length-bytes_high_first}
-use Rattle.mseed_steim.specs.Frames.{DataWord, data_word, words_from, data_words, word_at, code_at, word_count, first_constant, last_constant}
+use Rattle.mseed_steim.specs.Frames.{data_word, words_from, word_at, code_at, word_count}
 use Rattle.mseed_pack.specs.Filling.{AreSet}
 
 same_number : (xs ys : List ℕ) → ((i : ℕ) → i < 4 → get_or xs i 0 ≡ get_or ys i 0) → big_number 4 xs ≡ big_number 4 ys

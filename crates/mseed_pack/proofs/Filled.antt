@@ -1,5 +1,5 @@
 -- Steim frames that hold the differences that are left, as far as there is room.
-use Rattle.std.proofs.Common.{◌≡◌, ◌≢◌, ℕ, zero, suc, ◌+◌, ◌-◌, ◌*◌, ◌/◌, ◌%◌, ◌<◌, ◌≤◌, List, [], ◌∷◌, length, take, drop, get_or, refl, sym, ap, subst, ◌∙◌, arith, ℤ, pos, ◌⊎◌, inl, inr, ⊎_elim, Some, All, min}
+use Rattle.std.proofs.Common.{◌≡◌, ℕ, suc, ◌+◌, ◌-◌, ◌*◌, ◌/◌, ◌%◌, ◌<◌, ◌≤◌, List, ◌∷◌, length, take, drop, get_or, sym, ap, subst, ◌∙◌, arith, ℤ, pos, ◌⊎◌, inl, inr, ⊎_elim, Some, All, min}
 use Rattle.std.specs.Prelude.{slice_range, slice_get}
 use Rattle.std.specs.List.{AllByRecursion}
 use Rattle.std.proofs.lemmas.List.{length-drop, length-take-le, take-take, get_or-take, get_or-drop}
@@ -9,14 +9,14 @@ use Rattle.std.proofs.lemmas.Bool.{cases_lt}
 use Rattle.mseed_steim.specs.declared.scheme.Scheme.{Scheme}
 use Rattle.mseed_steim.specs.declared.scheme.Scheme.TheVariants.{Two}
 use Rattle.mseed_steim.specs.Spelling.{IsWithin}
-use Rattle.mseed_steim.specs.Frames.{DataWord, data_word, data_words, words_from, word_count, code_at, first_constant, last_constant}
+use Rattle.mseed_steim.specs.Frames.{DataWord, data_word, data_words, words_from, word_count, code_at}
 use Rattle.mseed_steim.specs.Packing.{IsEmptyWord, PacksRun}
 use Rattle.mseed_pack.specs.Filling.{AreSet, width_of}
 use Rattle.mseed_pack.specs.Packing.{HoldsFrames}
 use Rattle.mseed_pack.specs.Stretches.{differences}
 use Rattle.mseed_pack.proofs.Constants.{words_step}
 use Rattle.mseed_pack.proofs.Differences.{length-differences}
-use Rattle.mseed_pack.proofs.Room.{PacksOn, packs_on, used_is, some_used, words_fit}
+use Rattle.mseed_pack.proofs.Room.{packs_on, used_is, some_used, words_fit}
 
 -- a part of a list
 pub length_part : {X : Type 0} (xs : List X) (i j : ℕ) → i ≤ j → j ≤ length xs → length (slice_range xs i j) ≡ j - i

@@ -1,10 +1,10 @@
 -- Integers that are written one behind another.
-use Rattle.std.proofs.Common.{◌≡◌, ℕ, zero, suc, ◌+◌, ◌-◌, ◌*◌, ◌/◌, ◌%◌, ◌^◌, ◌<◌, ◌≤◌, List, [], ◌∷◌, ◌++◌, length, take, drop, get_or, refl, sym, ap, subst, ◌∙◌, arith, ℤ, pos, negsuc, replicate, length-append, append_assoc, of_z, w16, w32}
+use Rattle.std.proofs.Common.{◌≡◌, ℕ, ◌+◌, ◌-◌, ◌*◌, ◌^◌, ◌<◌, ◌≤◌, List, [], ◌∷◌, ◌++◌, length, take, drop, get_or, sym, ap, ◌∙◌, arith, ℤ, pos, negsuc, replicate, length-append, append_assoc, of_z, w16, w32}
 use Rattle.std.specs.List.{flat_map}
 use Rattle.std.specs.Prelude.{slice_range}
 use borrow.Rule.Slice.PartMut.{put_mid, post_of}
 use Rattle.std.proofs.lemmas.Int.{ints}
-use Rattle.std.proofs.lemmas.List.{length-drop, length-take-le, take_at, drop_at, drop_all, append-nil, take_more, drop-drop, get_or-drop, drop-replicate}
+use Rattle.std.proofs.lemmas.List.{length-drop, take_at, drop_at, drop_all, append-nil, take_more, get_or-drop, drop-replicate}
 use Rattle.mseed_steim.specs.Spelling.{residue, IsWithin}
 use Rattle.byteorder.specs.Numbers.{length-bytes_high_first}
 use Rattle.mseed_pack.specs.Filling.{integer_bytes}

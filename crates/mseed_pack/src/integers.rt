@@ -1,5 +1,6 @@
 //! Samples as integers.
-ghost use Rattle.std.specs.Prelude.{◌≡◌, ◌+◌, ◌-◌, ◌*◌, ◌^◌, ◌<◌, ◌≤◌, ◌++◌, length, All, pos, slice_index_or, slice_range, drop};
+ghost use Rattle.std.specs.Prelude.{◌≡◌, ◌+◌, ◌-◌, ◌*◌, ◌^◌, ◌<◌, ◌≤◌, ◌++◌, length, All, pos, slice_index_or};
+ghost use Rattle.std.specs.Prelude.{slice_range, drop};
 ghost use Rattle.mseed_steim.specs.Spelling.{IsWithin};
 ghost use Rattle.mseed_pack.specs.Filling.{bytes_in, integer_bytes};
 ghost use Rattle.mseed_pack.specs.Packing.{HoldsIntegers};
@@ -37,8 +38,8 @@ pub(crate) fn fill_integers(
     requires long { 64 ≤ length payload.old }
     requires short { length payload.old ≤ 4032 }
     requires fits { All (IsWithin (8 * bytes_in width)) samples.now }
-    ensures holds { HoldsIntegers (bytes_in width) (end - first) (slice_range samples.now first (first + result.samples))
-        result.frames payload.new }
+    ensures holds { HoldsIntegers (bytes_in width) (end - first)
+        (slice_range samples.now first (first + result.samples)) result.frames payload.new }
     ensures some { 0 < result.samples }
     ensures within { first + result.samples ≤ end }
     ensures few { result.samples < 2 ^ 16 }

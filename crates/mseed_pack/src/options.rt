@@ -1,5 +1,5 @@
 //! How a series is packed.
-ghost use Rattle.std.specs.Prelude.{◌≡◌, ◌≤◌, ◌<◌, IfOk, IfSome, IsSome, IsOk, ◌↔◌, None};
+ghost use Rattle.std.specs.Prelude.{◌≡◌, ◌≤◌, ◌<◌, IfOk, None};
 ghost use Rattle.std.specs.Result.{result_err};
 ghost use Rattle.mseed_pack.specs.Options.{code_of, encoding_of, first_bad_option};
 

@@ -53,8 +53,10 @@ pub fn pack<A: Allocator + Copy, W: Sink>(
 fn pack_parts<W: Sink>(parts: &Parts, options: &Options, sink: &mut W) -> Result<u64, u128>
     requires fits { Fits (trace_of parts.now) options.now }
     requires steps { AreSteps (length parts.now.samples.now) parts.now.steps.now }
-    ensures ok { IfOk result (λ count. TookAll (trace_of parts.now) options.now count (W.said sink.old) (W.said sink.new)) }
-    ensures err { IfErr result (λ taken. TookFront (trace_of parts.now) options.now taken (W.said sink.old) (W.said sink.new)) }
+    ensures ok { IfOk result (λ count.
+        TookAll (trace_of parts.now) options.now count (W.said sink.old) (W.said sink.new)) }
+    ensures err { IfErr result (λ taken.
+        TookFront (trace_of parts.now) options.now taken (W.said sink.old) (W.said sink.new)) }
     ensures beside { W.beside sink.new ≡ W.beside sink.old }
 {
     let mut record = [0; LONGEST];
@@ -85,8 +87,10 @@ fn pack_through<W: Sink>(
     requires long { 128 ≤ length out.old }
     requires short { length out.old ≤ 4096 }
     requires whole { length out.old % 64 ≡ 0 }
-    ensures ok { IfOk result (λ count. TookAll (trace_of parts.now) options.now count (W.said sink.old) (W.said sink.new)) }
-    ensures err { IfErr result (λ taken. TookFront (trace_of parts.now) options.now taken (W.said sink.old) (W.said sink.new)) }
+    ensures ok { IfOk result (λ count.
+        TookAll (trace_of parts.now) options.now count (W.said sink.old) (W.said sink.new)) }
+    ensures err { IfErr result (λ taken.
+        TookFront (trace_of parts.now) options.now taken (W.said sink.old) (W.said sink.new)) }
     ensures beside { W.beside sink.new ≡ W.beside sink.old }
 {
     let mut room = [0; ROOM];

@@ -1,5 +1,6 @@
 //! One record of a packing.
-ghost use Rattle.std.specs.Prelude.{◌≡◌, ◌+◌, ◌-◌, ◌^◌, ◌%◌, ◌<◌, ◌≤◌, length, slice_range, All, List, ℕ, ℤ, IsSome, IfSome};
+ghost use Rattle.std.specs.Prelude.{◌≡◌, ◌+◌, ◌-◌, ◌^◌, ◌%◌, ◌<◌, ◌≤◌, length, slice_range, All, List, ℕ, ℤ, IsSome};
+ghost use Rattle.std.specs.Prelude.{IfSome};
 ghost use Rattle.mseed_record.specs.Fields.{header_of};
 ghost use Rattle.mseed_pack.specs.Fitting.{Fits, HasTimeOutside, IsDifferenceOf, IsSampleOf};
 ghost use Rattle.mseed_pack.specs.Packing.{HoldsSamples, IsHeaderOf, IsPacked};
@@ -88,7 +89,8 @@ fn fields_at(
     requires numbered { number < 2 ^ 63 }
     ensures some { IsSome result }
     ensures fields { IfSome result (λ fields. (samples : List ℤ) (bytes : List ℕ) → length samples ≡ filled.samples
-        → IsHeaderOf (trace_of parts.now) options.now (record { number = number; first = first; samples = samples; bytes = bytes })
+        → IsHeaderOf (trace_of parts.now) options.now
+        (record { number = number; first = first; samples = samples; bytes = bytes })
         filled.frames (header_of fields)) }
 {
     let Some((start, usec)) = time_at(parts.start, parts.rate, stretch, first) else {

@@ -1,4 +1,4 @@
-use Rattle.std.proofs.Common.{◌≡◌, ◌∙◌, ap, sym, ℕ, ℤ, cond, eqb, rules, w32, of_z, to_z}
+use Rattle.std.proofs.Common.{◌∙◌, ap, ℕ, ℤ, cond, eqb, rules, w32, of_z}
 use Rattle.std.proofs.lemmas.Int.{to_z-of_z}
 use Rattle.mseed_steim.specs.Frames.{word_at}
 use Rattle.mseed_pack.proofs.Constants.{are_set}

@@ -1,4 +1,4 @@
-use Rattle.std.proofs.Common.{◌≡◌, ◌<◌, ◌≤◌, ◌+◌, ◌-◌, ◌*◌, ◌/◌, ◌++◌, ℕ, ℤ, pos, List, length, take, drop, get_or, ap, sym, subst, ◌∙◌, arith, rules, replicate}
+use Rattle.std.proofs.Common.{◌≡◌, ◌<◌, ◌≤◌, ◌+◌, ◌-◌, ◌*◌, ◌/◌, ◌++◌, ℕ, ℤ, pos, List, length, take, drop, get_or, ap, sym, ◌∙◌, arith, rules, replicate}
 use Rattle.std.specs.List.{flat_map}
 use Rattle.std.specs.Prelude.{slice_range}
 use Rattle.std.proofs.Math.Nat.{mul-div-le, mul-le-mul_left}

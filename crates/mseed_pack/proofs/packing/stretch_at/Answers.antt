@@ -1,4 +1,4 @@
-use Rattle.std.proofs.Common.{◌≡◌, ◌<◌, ◌≤◌, arith, length}
+use Rattle.std.proofs.Common.{arith, length}
 use Rattle.mseed_pack.proofs.Steps.{end_inside, end_most}
 use Rattle.mseed_pack.proofs.packing.stretch_at.Goals as goal
 

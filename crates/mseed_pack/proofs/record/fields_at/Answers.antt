@@ -1,9 +1,9 @@
-use Rattle.std.proofs.Common.{◌≡◌, ◌+◌, ◌%◌, ◌<◌, ℕ, ℤ, pos, ◌+ℤ◌, ◌-ℤ◌, refl, sym, ap, subst, ◌∙◌, arith, length, rules, w8, to_z, of_z}
+use Rattle.std.proofs.Common.{◌≡◌, ◌+◌, ◌%◌, ◌<◌, ℕ, ℤ, refl, sym, ap, subst, ◌∙◌, arith, length, rules, w8, to_z, of_z}
 use Rattle.std.proofs.lemmas.Int.{to_z-of_z}
 use Rattle.mseed_time.specs.Naming.{IsOutside, Names}
 use Rattle.mseed_time.specs.Parts.{parts_of}
 use Rattle.mseed_time.specs.Ratios.{ratio_of}
-use Rattle.mseed_pack.specs.Clock.{periods, reading_at, instant_at}
+use Rattle.mseed_pack.specs.Clock.{instant_at}
 use Rattle.mseed_pack.specs.Parts.{trace_of}
 use Rattle.mseed_pack.specs.Stretches.{flags_of, step_behind}
 use Rattle.mseed_pack.proofs.Steps.{end_most}

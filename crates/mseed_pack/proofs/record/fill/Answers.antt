@@ -1,4 +1,4 @@
-use Rattle.std.proofs.Common.{◌≡◌, ◌-◌, ℕ, sym, subst, ◌+◌, arith, length}
+use Rattle.std.proofs.Common.{ℕ, sym, subst, ◌+◌, arith}
 use Rattle.std.specs.Prelude.{slice_range}
 use Rattle.mseed_pack.specs.declared.options.Encoding.{Encoding}
 use Rattle.mseed_pack.specs.Packing.{HoldsIntegers, HoldsSamples}

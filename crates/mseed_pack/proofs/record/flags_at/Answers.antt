@@ -1,4 +1,4 @@
-use Rattle.std.proofs.Common.{◌≡◌, ℕ, sym, ap, ◌∙◌, arith, length, Option, Some}
+use Rattle.std.proofs.Common.{sym, ap, ◌∙◌, arith, length, Option, Some}
 use Rattle.mseed_time.specs.declared.outcome.LeapStep.{LeapStep}
 use Rattle.mseed_time.specs.declared.outcome.LeapStep.TheVariants.{Plus}
 use Rattle.mseed_pack.specs.Parts.{trace_of}

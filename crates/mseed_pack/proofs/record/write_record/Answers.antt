@@ -1,6 +1,5 @@
-use Rattle.std.proofs.Common.{◌≡◌, ◌+◌, ◌-◌, ◌≤◌, ◌^◌, ℕ, ℤ, List, rules, arith, refl, sym, ap, subst, ◌∙◌, length, drop}
+use Rattle.std.proofs.Common.{◌≡◌, ◌+◌, ◌-◌, ◌^◌, ℕ, ℤ, List, rules, arith, refl, sym, ap, subst, ◌∙◌, length}
 use Rattle.std.specs.Prelude.{slice_range}
-use borrow.Rule.Slice.PartMut.{put_mid}
 use Rattle.mseed_record.specs.Fields.{header_of}
 use Rattle.mseed_record.specs.Written.{header_bytes}
 use Rattle.mseed_pack.specs.Packing.{HoldsSamples}
