@@ -1,6 +1,7 @@
 pub mod Answered
 pub mod Done
 pub mod Fitting
+pub mod Fronted
 pub mod Fronts
 pub mod Heads
 pub mod Heard

@@ -7,5 +7,6 @@ pub mod Serving
 pub mod Dialogue
 pub mod Cutting
 pub mod Listening
+pub mod Delivered
 pub mod Holding
 pub mod Sending

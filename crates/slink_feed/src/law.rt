@@ -1,9 +1,10 @@
 //! The laws of what a session sends, and of what a client takes.
-ghost use Rattle.std.specs.Prelude.{◌≡◌, ℕ, List, Some};
+ghost use Rattle.std.specs.Prelude.{◌≡◌, ◌≤◌, ◌/◌, ℕ, List, Some, length, take};
 ghost use Rattle.slink_wire.specs.declared.lines.What.{What};
 ghost use Rattle.slink_wire.specs.declared.reply.Reply.{Reply};
 ghost use Rattle.slink_feed.specs.declared.dialogue.Event.{Event};
 ghost use Rattle.slink_feed.specs.declared.grant.Grant.{Grant};
+ghost use Rattle.slink_feed.specs.Delivered.{AreWanted, Numbered, all_packets, record_events};
 ghost use Rattle.slink_feed.specs.Dialogue.{Talk, next_at};
 ghost use Rattle.slink_feed.specs.Holding.{GoOn, Turn, numbers_of, talk_behind};
 ghost use Rattle.slink_feed.specs.Listening.{Listening, Reads};
@@ -12,6 +13,7 @@ ghost use Rattle.slink_feed.specs.Serving.{IsAnswer};
 ghost use Rattle.slink_feed.specs.Session.{State, grant_at};
 ghost use Rattle.slink_feed.specs.Window.{Window};
 
+use crate::dialogue::Stage;
 use crate::session::Phase;
 
 /// The bytes of a link read as replies, packets and the end in one way: however they are cut into the pieces that a
@@ -37,4 +39,13 @@ pub fn a_stretch_is_sent()
 pub fn each_record_once()
     ensures { (k : ℕ) (t : Talk) (turns : List Turn)
         → GoOn (next_at t.wants k) (numbers_of k t turns) (next_at (talk_behind t turns).wants k) }
+{}
+
+/// Of the packets of a link that is cut off at any byte, a client that wants their records tells of those that were
+/// delivered whole, one after another, and of no other.
+pub fn whole_packets_are_told()
+    ensures { (records : List Numbered) (t : Talk) (delivered : ℕ)
+        → t.stage ≡ Stage.Packets → AreWanted t records → delivered ≤ length (all_packets records)
+        → (now : Listening) × Reads t (take delivered (all_packets records))
+        (record_events (take (delivered / 520) records)) now }
 {}

@@ -100,6 +100,19 @@ fn serves_a_transcript(rt: HostRuntime) -> Result<(), Fail> {
 #[test]
 fn ends_where_a_record_is_lost(rt: HostRuntime) -> Result<(), Fail> {
     let mut feed = three_pushed(rt.alloc(), 0xFF_FFFE)?;
+    if feed.len() > 0 {
+        let ring = feed.ring(0);
+        assert_eq!(rt; (ring.oldest(), ring.next()), (16_777_215, 16_777_217));
+        let cases = [
+            (0xFF_FFFE, None),
+            (0xFF_FFFF, Some(16_777_215)),
+            (0, Some(16_777_216)),
+            (1, Some(16_777_217)),
+        ];
+        for (number, wanted) in cases {
+            assert_eq!(rt; ring.resolve(number), wanted);
+        }
+    }
     let mut session = Session::new();
     session.take(&feed, b"STATION STA\r");
     session.take(&feed, b"DATA FFFFFF\r");

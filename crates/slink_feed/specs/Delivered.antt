@@ -1,0 +1,28 @@
+-- The packets of a link that is cut off at any byte.
+use Rattle.std.specs.Prelude.{◌≡◌, ℕ, ◌+◌, ◌%◌, ◌^◌, ◌<◌, List, [], ◌∷◌, ◌++◌, length, Some, IfSome}
+use Rattle.slink_wire.specs.Packet.{packet_bytes}
+use Rattle.slink_feed.specs.declared.dialogue.Event.{Event}
+use Rattle.slink_feed.specs.declared.dialogue.Event.TheVariants as events
+use Rattle.slink_feed.specs.Dialogue.{Talk, bearer, next_at, told}
+
+-- a record of the place at an index, with its number modulo 2^24
+pub record Numbered : Type 0 where
+  pub place : ℕ
+  pub number : ℕ
+  pub bytes : List ℕ
+
+-- Each is a record of the place that it bears, and of the number that this place then wants, if it wants one.
+abbrev pub AreWanted : Talk → List Numbered → Type 0
+AreWanted t [] = Unit {0}
+AreWanted t (r ∷ rs) = (length r.bytes ≡ 512) × (r.number < 2 ^ 24) × (bearer t.wants r.bytes ≡ Some r.place) × IfSome (next_at t.wants r.place) (λ want. r.number ≡ want)
+    × AreWanted (told r.place r.number r.bytes t).0 rs
+
+-- the bytes of their packets, one after another
+abbrev pub all_packets : List Numbered → List ℕ
+all_packets [] = []
+all_packets (r ∷ rs) = packet_bytes r.number r.bytes ++ all_packets rs
+
+-- the events that tell of them
+abbrev pub record_events : List Numbered → List Event
+record_events [] = []
+record_events (r ∷ rs) = events.Record r.place r.number r.bytes ∷ record_events rs
