@@ -1,4 +1,5 @@
 pub mod Answered
+pub mod Behind
 pub mod Done
 pub mod Fitting
 pub mod Fronted

@@ -1,17 +1,19 @@
 //! The laws of what a session sends, and of what a client takes.
-ghost use Rattle.std.specs.Prelude.{◌≡◌, ◌≤◌, ◌/◌, ℕ, List, Some, length, take};
+ghost use Rattle.std.specs.Prelude.{◌≡◌, ◌+◌, ◌^◌, ◌<◌, ◌≤◌, ◌/◌, ◌%◌, ℕ, List, None, Some, length, take};
 ghost use Rattle.slink_wire.specs.declared.lines.What.{What};
 ghost use Rattle.slink_wire.specs.declared.reply.Reply.{Reply};
 ghost use Rattle.slink_feed.specs.declared.dialogue.Event.{Event};
 ghost use Rattle.slink_feed.specs.declared.grant.Grant.{Grant};
 ghost use Rattle.slink_feed.specs.Delivered.{AreWanted, Numbered, all_packets, record_events};
 ghost use Rattle.slink_feed.specs.Dialogue.{Talk, next_at};
+ghost use Rattle.slink_feed.specs.declared.grant.Mode.{Mode};
+ghost use Rattle.slink_feed.specs.Grant.{grant_of};
 ghost use Rattle.slink_feed.specs.Holding.{GoOn, Turn, numbers_of, talk_behind};
 ghost use Rattle.slink_feed.specs.Listening.{Listening, Reads};
 ghost use Rattle.slink_feed.specs.Sending.{AreAsked, AreShown, Asked, IsHeardFrom, IsStretch, packets_of};
 ghost use Rattle.slink_feed.specs.Serving.{IsAnswer};
 ghost use Rattle.slink_feed.specs.Session.{State, grant_at};
-ghost use Rattle.slink_feed.specs.Window.{Window};
+ghost use Rattle.slink_feed.specs.Window.{Window, oldest_of};
 
 use crate::dialogue::Stage;
 use crate::session::Phase;
@@ -21,6 +23,16 @@ use crate::session::Phase;
 pub fn one_reading()
     ensures { (start : Talk) (stream : List ℕ) (a b : List Event) (m n : Listening)
         → Reads start stream a m → Reads start stream b n → (a ≡ b) × (m ≡ n) }
+{}
+
+/// A client that asks for the record behind its last one, and lacks fewer than 2^24 of those that were pushed, is granted
+/// this number exactly where its record is still in the ring or is the next one; else it is granted none, and no other.
+pub fn granted_behind_the_last()
+    ensures there { (mode : Mode) (w : Window) (number : ℕ)
+        → length w.records ≤ 1000000 → number ≤ w.next → oldest_of w ≤ number
+        → grant_of mode (Some (number % 2 ^ 24)) w ≡ Some number }
+    ensures lost { (mode : Mode) (w : Window) (number : ℕ)
+        → w.next < number + 2 ^ 24 → number < oldest_of w → grant_of mode (Some (number % 2 ^ 24)) w ≡ None }
 {}
 
 /// What one session sends of a place is a stretch of the records that were pushed there, from its grant on: whatever is

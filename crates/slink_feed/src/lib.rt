@@ -17,6 +17,9 @@ pub use client::Client;
 pub use dialogue::{Bytes, Ending, Event, Stage, Wanted};
 pub use feed::{Feed, FeedFault};
 pub use grant::{Grant, Mode};
-pub use law::{a_stretch_is_sent, each_record_once, one_reading, whole_packets_are_told};
+pub use law::{
+    a_stretch_is_sent, each_record_once, granted_behind_the_last, one_reading,
+    whole_packets_are_told,
+};
 pub use ring::{Ring, RingFault};
 pub use session::{Phase, Sent, Session};
