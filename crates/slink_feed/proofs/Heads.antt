@@ -5,7 +5,8 @@ use Rattle.std.proofs.lemmas.List.{take-append-le, drop-append-le}
 use Rattle.std.proofs.Common.{length-drop}
 use Rattle.slink_wire.specs.Hexadecimal.{SaysNumber}
 use Rattle.slink_wire.specs.Packet.{HasHead}
-use Rattle.slink_feed.specs.Cutting.{Begins, IsDue, IsNoPacket, IsPacketBegun, no_head, nothing, end_begun, head_begun, record_begun}
+use Rattle.slink_feed.specs.Cutting.{Begins, IsNoPacket, IsPacketBegun, no_head, nothing, end_begun, head_begun, record_begun}
+use Rattle.slink_feed.specs.Parts.{IsDue}
 use Rattle.slink_feed.proofs.Fronts.{get_left}
 
 -- bytes behind the first eight change nothing of them

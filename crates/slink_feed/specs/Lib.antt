@@ -6,6 +6,7 @@ pub mod Session
 pub mod Serving
 pub mod Dialogue
 pub mod Cutting
+pub mod Parts
 pub mod Listening
 pub mod Delivered
 pub mod Holding

@@ -1,7 +1,8 @@
 //! The client of one feed.
 ghost use Rattle.std.specs.Prelude.{◌≡◌, ◌≢◌, ◌++◌, ◌≤◌, ◌<◌, ◌^◌, ℕ, List, [], IfSome, length, take};
 ghost use Rattle.slink_wire.specs.Packet.{HasHead, IsPacket};
-ghost use Rattle.slink_feed.specs.Cutting.{IsPacketPart, IsReply, IsReplyPart};
+ghost use Rattle.slink_feed.specs.Cutting.{IsReply};
+ghost use Rattle.slink_feed.specs.Parts.{IsPacketPart, IsReplyPart};
 ghost use Rattle.slink_feed.specs.declared.dialogue.Ending.{Ending};
 ghost use Rattle.slink_feed.specs.declared.dialogue.Event.{Event};
 ghost use Rattle.slink_feed.specs.Dialogue.{AreNumbers, Talk, at_packet, bearer, event_of, next_at, says_place, wants_of};

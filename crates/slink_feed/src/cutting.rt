@@ -1,7 +1,8 @@
 //! How the bytes that a link brings are cut.
 ghost use Rattle.std.specs.Prelude.{◌≡◌, ℕ, ◌+◌, ◌<◌, ◌≤◌, List, [], ◌∷◌, ◌++◌, IfOk, length, take};
 ghost use Rattle.slink_wire.specs.Packet.{HasHead};
-ghost use Rattle.slink_feed.specs.Cutting.{Begins, IsDue, IsPacketBegun, IsPacketPart, IsReplyBegun, IsReplyPart, ends_reply};
+ghost use Rattle.slink_feed.specs.Cutting.{Begins, IsPacketBegun, IsReplyBegun};
+ghost use Rattle.slink_feed.specs.Parts.{IsDue, IsPacketPart, IsReplyPart, ends_reply};
 
 use arrayvec::ArrayVec;
 use slink_wire::Packet;
