@@ -3,8 +3,6 @@ use Rattle.std.specs.Prelude.{◌≡◌, ◌*◌, ◌==◌, if◌then◌else◌,
 use Rattle.mseed_time.specs.declared.fault.TimeFault.{TimeFault}
 use Rattle.mseed_time.specs.declared.outcome.Join.{Join}
 use Rattle.mseed_time.specs.declared.outcome.Join.TheVariants.{Meets, Late, Early}
-use Rattle.mseed_time.specs.declared.outcome.LeapStep.{LeapStep}
-use Rattle.mseed_time.specs.declared.outcome.LeapStep.TheVariants.{Plus, Minus}
 use Rattle.mseed_time.specs.Btime.{first_fault}
 use Rattle.mseed_time.specs.Join.{join_of}
 use Rattle.mseed_time.specs.Rate.{Ratio, rate_of}
@@ -12,6 +10,7 @@ use Rattle.mseed_record.specs.declared.frame.Leap.{Leap}
 use Rattle.mseed_record.specs.declared.frame.Leap.TheVariants.{None as NoLeap, Positive, Negative, Both}
 use Rattle.mseed_record.specs.Header.{time_at, factor_at, multiplier_at}
 use Rattle.mseed_record.specs.View.{View, start_of, leap_of}
+pub use Rattle.mseed_record.specs.View.{step_in}
 use Rattle.mseed_steim.specs.declared.fault.ReadFault.{ReadFault}
 use Rattle.mseed_steim.specs.Reading.{count_of, IsFault, IsWhole}
 use Rattle.mseed_audit.specs.declared.finding.Why.{Why}
@@ -32,13 +31,6 @@ rate_unless (Some fault) rate = None
 -- the sample rate of a record whose start has a valid time; else nobody can say where the record ends
 abbrev pub known_rate : View → Option Ratio
 known_rate v = rate_unless (time_fault_of v) (rate_in v)
-
--- the leap second at the record's end; with both flags nobody can say, which is asked first
-abbrev pub step_in : Leap → Option LeapStep
-step_in NoLeap = None
-step_in Positive = Some Plus
-step_in Negative = Some Minus
-step_in Both = None
 
 -- a next record that is late leaves a gap, one that is early overlaps
 abbrev pub why_of : Join → Option Why

@@ -7,7 +7,6 @@ ghost use Rattle.mseed_record.specs.View.{View};
 ghost use Rattle.mseed_record.specs.Viewing.{view_of};
 ghost use Rattle.mseed_audit.specs.declared.assembly.NotContinuous.TheVariants.{Memory};
 ghost use Rattle.mseed_audit.specs.Channels.{Placed, added_from, is_of, records_of, with_record};
-ghost use Rattle.mseed_audit.specs.Judging.{step_in};
 ghost use Rattle.mseed_audit.specs.Audit.{StandsAt};
 ghost use Rattle.mseed_audit.specs.Kept.{IsBounded};
 ghost use Rattle.mseed_audit.specs.Series.{HoldsAll, IsSeries};
@@ -18,8 +17,8 @@ use crate::channel_series::Series;
 use crate::finding::Finding;
 use crate::law::continuous_exactly;
 use crate::verdict::Verdict;
-use mseed_record::{Codes, Leap, RecordView};
-use mseed_time::{LeapStep, Micros, Rate};
+use mseed_record::{Codes, RecordView};
+use mseed_time::{Micros, Rate};
 use std::alloc::Allocator;
 
 /// Why records give no series of a channel.
@@ -150,19 +149,8 @@ fn append_record<A: Allocator + Copy>(
         → OnOk result (HoldsAll codes start rate (vs ++ view_of view.now ∷ []) series.new) }
     ensures memory { IfErr result (λ e. e ≡ Memory) }
 {
-    match series.push(view, step_in(view.leap())) {
+    match series.push(view, view.leap().step()) {
         Ok(()) => Ok(()),
         Err(_) => Err(NotContinuous::Memory),
-    }
-}
-
-/// The leap second at a record's end; with both flags nobody can say.
-fn step_in(leap: Leap) -> Option<LeapStep>
-    ensures { result ≡ step_in leap }
-{
-    match leap {
-        Leap::None | Leap::Both => None,
-        Leap::Positive => Some(LeapStep::Plus),
-        Leap::Negative => Some(LeapStep::Minus),
     }
 }

@@ -2,11 +2,10 @@
 ghost use Rattle.std.specs.Prelude.{◌≡◌, ◌++◌, OnOk};
 ghost use Rattle.mseed_stream.specs.Device.{IsFrontOf};
 ghost use Rattle.mseed_audit.specs.Text.{name_text, code_text, printed, trimmed};
-ghost use Rattle.mseed_record.specs.Header.{is_blank};
 
 use crate::parts::Part::Words;
 use crate::parts::push_parts;
-use mseed_record::Codes;
+use mseed_record::{Codes, is_blank};
 use std::alloc::{AllocError, Allocator};
 
 /// Adds a channel's name: network, station, location and channel, each without its trailing spaces and
@@ -48,13 +47,6 @@ fn trimmed(code: &[u8]) -> &[u8]
         end -= 1;
     }
     &code[..0]
-}
-
-/// Whether a byte is a space or NUL.
-fn is_blank(byte: u8) -> bool
-    ensures { result ≡ is_blank byte }
-{
-    byte == b' ' || byte == 0
 }
 
 /// A byte of a name as it is printed.
