@@ -13,5 +13,6 @@ pub mod Reached
 pub mod Replies
 pub mod Sendings
 pub mod Slots
+pub mod Stretched
 pub mod Wanting
 pub mod Wholes

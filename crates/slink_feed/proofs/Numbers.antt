@@ -54,7 +54,7 @@ set_other (x ∷ xs) zero (suc k) o other = refl
 set_other (x ∷ xs) (suc j) zero o other = refl
 set_other (x ∷ xs) (suc j) (suc k) o other = set_other xs j k o (λ e. other (ap suc e))
 
-next_here : (wants : Wants) (k n : ℕ) (o : Option Wanted) (w : Wanted) → want_at wants k ≡ o → o ≡ Some w → next_at (next_set o wants k n) k ≡ Some n
+pub next_here : (wants : Wants) (k n : ℕ) (o : Option Wanted) (w : Wanted) → want_at wants k ≡ o → o ≡ Some w → next_at (next_set o wants k n) k ≡ Some n
 next_here wants k n None w at is = absurd (let bad : None ≡ Some w = is in cc bad)
 next_here wants k n (Some v) w at is = ap (option_and_then (λ (x : Wanted). x.next)) (set_here wants k (Some (record { place = v.place; next = Some n })) v at)
 
@@ -91,7 +91,7 @@ get_want [] k = refl
 get_want (x ∷ xs) zero = refl
 get_want (x ∷ xs) (suc k) = get_want xs k
 
-bearer_some : (wants : Wants) (bytes : List ℕ) (j : ℕ) → bearer wants bytes ≡ Some j → (w : Wanted) × (want_at wants j ≡ Some w)
+pub bearer_some : (wants : Wants) (bytes : List ℕ) (j : ℕ) → bearer wants bytes ≡ Some j → (w : Wanted) × (want_at wants j ≡ Some w)
 bearer_some wants bytes j h =
     let first : ℕ = position_or_len (is_borne bytes) wants in
     elim (leb_tells (suc first) (length wants)) [

@@ -3,7 +3,7 @@ use Rattle.std.specs.Prelude.{◌≡◌, ℕ, ◌+◌, ◌%◌, ◌^◌, ◌<◌
 use Rattle.slink_wire.specs.Packet.{packet_bytes}
 use Rattle.slink_feed.specs.declared.dialogue.Event.{Event}
 use Rattle.slink_feed.specs.declared.dialogue.Event.TheVariants as events
-use Rattle.slink_feed.specs.Dialogue.{Talk, bearer, next_at, told}
+use Rattle.slink_feed.specs.Dialogue.{Talk, Wants, bearer, next_at, told}
 
 -- a record of the place at an index, with its number modulo 2^24
 pub record Numbered : Type 0 where
@@ -26,3 +26,18 @@ all_packets (r ∷ rs) = packet_bytes r.number r.bytes ++ all_packets rs
 abbrev pub record_events : List Numbered → List Event
 record_events [] = []
 record_events (r ∷ rs) = events.Record r.place r.number r.bytes ∷ record_events rs
+
+-- records of a place, the first of which has this number
+abbrev pub numbered : ℕ → ℕ → List (List ℕ) → List Numbered
+numbered k number [] = []
+numbered k number (r ∷ rs) = record { place = k; number = number % 2 ^ 24; bytes = r } ∷ numbered k (number + 1) rs
+
+-- Each has 512 bytes, and bears this place as the first of those that are asked for.
+abbrev pub AreBorne : Wants → ℕ → List (List ℕ) → Type 0
+AreBorne wants k [] = Unit {0}
+AreBorne wants k (r ∷ rs) = (length r ≡ 512) × (bearer wants r ≡ Some k) × AreBorne wants k rs
+
+-- packets, one after another
+abbrev pub joined : List (List ℕ) → List ℕ
+joined [] = []
+joined (p ∷ ps) = p ++ joined ps

@@ -1,16 +1,16 @@
 //! The laws of what a session sends, and of what a client takes.
-ghost use Rattle.std.specs.Prelude.{◌≡◌, ◌+◌, ◌^◌, ◌<◌, ◌≤◌, ◌/◌, ◌%◌, ℕ, List, None, Some, length, take};
+ghost use Rattle.std.specs.Prelude.{◌≡◌, ◌+◌, ◌^◌, ◌<◌, ◌≤◌, ◌/◌, ◌%◌, ℕ, IfSome, List, None, Some, length, take};
 ghost use Rattle.slink_wire.specs.declared.lines.What.{What};
 ghost use Rattle.slink_wire.specs.declared.reply.Reply.{Reply};
 ghost use Rattle.slink_feed.specs.declared.dialogue.Event.{Event};
 ghost use Rattle.slink_feed.specs.declared.grant.Grant.{Grant};
-ghost use Rattle.slink_feed.specs.Delivered.{AreWanted, Numbered, all_packets, record_events};
+ghost use Rattle.slink_feed.specs.Delivered.{AreBorne, AreWanted, Numbered, all_packets, joined, numbered, record_events};
 ghost use Rattle.slink_feed.specs.Dialogue.{Talk, next_at};
 ghost use Rattle.slink_feed.specs.declared.grant.Mode.{Mode};
 ghost use Rattle.slink_feed.specs.Grant.{grant_of};
 ghost use Rattle.slink_feed.specs.Holding.{GoOn, Turn, numbers_of, talk_behind};
 ghost use Rattle.slink_feed.specs.Listening.{Listening, Reads};
-ghost use Rattle.slink_feed.specs.Sending.{AreAsked, AreShown, Asked, IsHeardFrom, IsStretch, packets_of};
+ghost use Rattle.slink_feed.specs.Sending.{AreAsked, AreShown, Asked, IsHeardFrom, IsStretch, packets_from, packets_of};
 ghost use Rattle.slink_feed.specs.Serving.{IsAnswer};
 ghost use Rattle.slink_feed.specs.Session.{State, grant_at};
 ghost use Rattle.slink_feed.specs.Window.{Window, oldest_of};
@@ -60,4 +60,14 @@ pub fn whole_packets_are_told()
         → t.stage ≡ Stage.Packets → AreWanted t records → delivered ≤ length (all_packets records)
         → (now : Listening) × Reads t (take delivered (all_packets records))
         (record_events (take (delivered / 520) records)) now }
+{}
+
+/// A stretch of a place's records is wanted where it begins with the number that the place wants, or the place wants
+/// none: so of what a session sends to such a client, on a link that is cut off at any byte, the whole packets are told.
+pub fn a_stretch_is_wanted()
+    ensures wanted { (k number : ℕ) (records : List (List ℕ)) (t : Talk)
+        → AreBorne t.wants k records → IfSome (next_at t.wants k) (λ want. number % 2 ^ 24 ≡ want)
+        → AreWanted t (numbered k number records) }
+    ensures packets { (k number : ℕ) (records : List (List ℕ))
+        → all_packets (numbered k number records) ≡ joined (packets_from number records) }
 {}

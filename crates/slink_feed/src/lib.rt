@@ -18,7 +18,7 @@ pub use dialogue::{Bytes, Ending, Event, Stage, Wanted};
 pub use feed::{Feed, FeedFault};
 pub use grant::{Grant, Mode};
 pub use law::{
-    a_stretch_is_sent, each_record_once, granted_behind_the_last, one_reading,
+    a_stretch_is_sent, a_stretch_is_wanted, each_record_once, granted_behind_the_last, one_reading,
     whole_packets_are_told,
 };
 pub use ring::{Ring, RingFault};
