@@ -107,7 +107,8 @@ impl<A: Allocator> Feed<A> {
         requires in_range { k < length self.old }
         requires bears { ForSome (slice_get self.old k) (λ w. Bears bytes.now w.place) }
         requires room { ForSome (slice_get self.old k) (λ w. w.next < 2 ^ 63) }
-        ensures pushed { ForSome (slice_get self.old k) (λ w. self.new ≡ slice_set self.old k (with_record w bytes.now)) }
+        ensures pushed { ForSome (slice_get self.old k)
+            (λ w. self.new ≡ slice_set self.old k (with_record w bytes.now)) }
         // A session that this feed serves is served on.
         ensures fits { (s : State) → Fits self.old s → Fits self.new s }
     {

@@ -25,8 +25,9 @@ pub fn one_reading()
         → Reads start stream a m → Reads start stream b n → (a ≡ b) × (m ≡ n) }
 {}
 
-/// A client that asks for the record behind its last one, and lacks fewer than 2^24 of those that were pushed, is granted
-/// this number exactly where its record is still in the ring or is the next one; else it is granted none, and no other.
+/// A client that asks for the record behind its last one, and lacks fewer than 2^24 of those that were pushed, is
+/// granted this number exactly where its record is still in the ring or is the next one; else it is granted none, and
+/// no other.
 pub fn granted_behind_the_last()
     ensures there { (mode : Mode) (w : Window) (number : ℕ)
         → length w.records ≤ 1000000 → number ≤ w.next → oldest_of w ≤ number
@@ -46,8 +47,8 @@ pub fn a_stretch_is_sent()
         → s.phase ≡ Phase.Streaming → IsAnswer feed s what new reply → IsHeardFrom s new }
 {}
 
-/// A client tells each record once and in order, over any links and whatever they bring: the numbers of the records of a
-/// place go up one by one, modulo 2^24, from the one that it wants, if any, to the one before the next that it wants.
+/// A client tells each record once and in order, over any links and whatever they bring: the numbers of the records of
+/// a place go up one by one, modulo 2^24, from the one that it wants, if any, to the one before the next that it wants.
 pub fn each_record_once()
     ensures { (k : ℕ) (t : Talk) (turns : List Turn)
         → GoOn (next_at t.wants k) (numbers_of k t turns) (next_at (talk_behind t turns).wants k) }
@@ -63,7 +64,8 @@ pub fn whole_packets_are_told()
 {}
 
 /// A stretch of a place's records is wanted where it begins with the number that the place wants, or the place wants
-/// none: so of what a session sends to such a client, on a link that is cut off at any byte, the whole packets are told.
+/// none: so of what a session sends to such a client, on a link that is cut off at any byte, the whole packets are
+/// told.
 pub fn a_stretch_is_wanted()
     ensures wanted { (k number : ℕ) (records : List (List ℕ)) (t : Talk)
         → AreBorne t.wants k records → IfSome (next_at t.wants k) (λ want. number % 2 ^ 24 ≡ want)

@@ -40,7 +40,12 @@ impl<A: Allocator> Model for Ring<A> {
 
     ghost Value = { Window };
 
-    ghost view = { λ r. record { place = r.place; capacity = r.records.capacity; records = r.records.items; next = r.next } };
+    ghost view = { λ r. record {
+      place = r.place;
+      capacity = r.records.capacity;
+      records = r.records.items;
+      next = r.next;
+    } };
 
     ghost invariant = { λ r. (0 < r.records.capacity) × (r.records.capacity ≤ 1000000)
         × (length r.records.items ≤ r.records.capacity) × (length r.records.items ≤ r.next) × (r.next ≤ 2 ^ 63) };
@@ -50,7 +55,8 @@ impl<A: Allocator> Ring<A> {
     /// An empty ring of a place: its capacity is from 1 to 1,000,000 records, and its first record's number is below
     /// 2^24.
     pub fn new(alloc: A, place: Place, capacity: usize, first: u32) -> Result<Self, RingFault>
-        ensures empty { IfOk result (λ r. r ≡ record { place = place; capacity = capacity; records = []; next = first }) }
+        ensures empty { IfOk result
+            (λ r. r ≡ record { place = place; capacity = capacity; records = []; next = first }) }
         ensures shows { IfOk result (λ r. Shows r first []) }
         ensures range { IfOk result (λ _. IsCapacity capacity × (first < 2 ^ 24)) }
         ensures fault { IfErr result (λ e. IsRingFault e capacity first) }

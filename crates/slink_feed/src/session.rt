@@ -130,7 +130,8 @@ impl Session {
         requires in_range { k < length feed.now }
         requires phase { self.old.state.phase ≡ Phase.Streaming }
         requires fits { AreReached feed.now self.old.state.grants }
-        ensures sent { ForSome (slice_get feed.now k) (λ w. sent_from feed.now self.old.state k grant w ≡ (self.new.state, result)) }
+        ensures sent { ForSome (slice_get feed.now k)
+            (λ w. sent_from feed.now self.old.state k grant w ≡ (self.new.state, result)) }
         ensures held { self.new.held ≡ self.old.held }
         ensures fits { Fits feed.now self.new.state }
     {
