@@ -11,3 +11,5 @@ pub mod Listening
 pub mod Delivered
 pub mod Holding
 pub mod Sending
+pub mod World
+pub mod Running

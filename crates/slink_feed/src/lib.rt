@@ -2,6 +2,7 @@
 //! serves them to one connection, and the client that fetches them.
 #![tactic(auto)]
 
+mod carry;
 mod client;
 mod cutting;
 mod dialogue;
@@ -9,9 +10,11 @@ mod feed;
 mod grant;
 mod law;
 mod ring;
+mod schedule;
 mod session;
 #[cfg(test)]
 mod tests;
+mod world;
 
 pub use client::Client;
 pub use dialogue::{Bytes, Ending, Event, Stage, Wanted};
@@ -22,4 +25,6 @@ pub use law::{
     whole_packets_are_told,
 };
 pub use ring::{Ring, RingFault};
+pub use schedule::run_schedule;
 pub use session::{Phase, Sent, Session};
+pub use world::{Link, Memory, Setup, Step, World};

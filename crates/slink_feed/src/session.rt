@@ -1,7 +1,8 @@
 //! The session that serves one connection.
-ghost use Rattle.std.specs.Prelude.{◌≡◌, ◌≢◌, ◌⊎◌, ◌≤◌, ◌<◌, ◌++◌, List, ℕ, [], None, IfSome, length, replicate, slice_get, slice_set, take};
+ghost use Rattle.std.specs.Prelude.{◌≡◌, ◌≢◌, ◌⊎◌, ◌≤◌, ◌<◌, ◌++◌, List, ℕ, [], None, IfSome, length, option_map, replicate, slice_get, slice_set, take};
 ghost use Rattle.std.specs.Option.{ForSome};
 ghost use Rattle.slink_wire.specs.Lines.{Held, IsHeld, TellsNothing};
+ghost use Rattle.slink_feed.specs.declared.grant.Grant.{Grant};
 ghost use Rattle.slink_feed.specs.Window.{Window};
 ghost use Rattle.slink_feed.specs.Serving.{Answers, IsAnswer, TakesWhole};
 ghost use Rattle.slink_feed.specs.Session.{AreReached, Fits, all_done, answered, asked, at, at_next, chosen, ended, grant_at, in_chosen, in_fresh, in_granted, in_streaming, is_done, sent, sent_from};
@@ -188,6 +189,16 @@ impl Session {
         match self.grant_of(k) {
             Some(grant) => grant.is_fetched(feed.ring(k).next()),
             None => true,
+        }
+    }
+
+    /// The number of the record that is sent next of a place that has a grant.
+    pub(crate) fn position(&self, k: usize) -> Option<u64>
+        ensures { result ≡ option_map (λ (g : Grant). g.position) (grant_at self.now.state.grants k) }
+    {
+        match self.grant_of(k) {
+            Some(grant) => Some(grant.position),
+            None => None,
         }
     }
 

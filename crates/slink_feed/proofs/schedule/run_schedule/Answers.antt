@@ -1,0 +1,29 @@
+use Rattle.std.proofs.Common.{◌≡◌, ◌+◌, ◌^◌, arith, ap, sym, subst, get_or, []}
+use Rattle.slink_feed.specs.declared.world.Step.TheVariants.{Append}
+use Rattle.slink_feed.specs.Running.{AreRings}
+use Rattle.slink_feed.specs.World.{AllHappen, WorldState, seen}
+use Rattle.slink_feed.proofs.Stepping.{happens_more, opening_rings, possible, rings_on}
+use Rattle.slink_feed.proofs.schedule.run_schedule.Goals as goal
+
+pub loop-step-init : goal.loop-step-init
+loop-step-init c = record {
+  running = c.in_ok-world.ensures.running;
+  rings = subst (AreRings c.args.setup.now.places.items (2 ^ 24)) (sym (ap (λ (w : WorldState). w.windows) c.in_ok-world.ensures.opening))
+      (opening_rings c.args.setup.now c.args.setup.now.places.items c.requires.first);
+  rest = λ last more. subst (λ (w : WorldState). AllHappen w c.args.steps.now last) c.in_ok-world.ensures.opening more;
+}
+
+pub step-requires-clause-possible : goal.step-requires-clause-possible
+step-requires-clause-possible c =
+    possible c.args.setup.now.places.items (2 ^ 24 + c.loop-step.step-index) c.loop-step.world.feed (get_or c.args.steps.now c.loop-step.step-index (Append 0 [])) c.loop-step.invariant.rings
+    (omega (arith, c.loop-step-test.true, c.requires.few)) (c.requires.steps c.loop-step.step-index (Append 0 []) (omega (arith, c.loop-step-test.true)))
+
+pub loop-step-preserved : goal.loop-step-preserved
+loop-step-preserved c =
+    let more : (2 ^ 24 + c.loop-step.step-index) + 1 ≡ 2 ^ 24 + (c.loop-step.step-index + 1) = omega arith in record {
+      running = c.in_ok-step.ensures.running;
+      rings = subst (λ n. AreRings c.args.setup.now.places.items n c.step.new.self.feed) more
+          (rings_on c.args.setup.now.places.items (2 ^ 24 + c.loop-step.step-index) (seen c.loop-step.world) (seen c.step.new.self) (get_or c.args.steps.now c.loop-step.step-index (Append 0 [])) c.loop-step.invariant.rings c.in_ok-step.ensures.happens);
+      rest = λ last rest. c.loop-step.invariant.rest last
+          (happens_more (seen c.loop-step.world) (seen c.step.new.self) last c.args.steps.now c.loop-step.step-index (Append 0 []) (omega (arith, c.loop-step-test.true)) c.in_ok-step.ensures.happens rest);
+    }

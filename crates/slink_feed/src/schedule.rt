@@ -1,0 +1,105 @@
+//! Schedules: pushes, deliveries, cuts and reconnections in any order.
+ghost use Rattle.std.specs.Prelude.{◌≡◌, ◌^◌, ◌<◌, ◌++◌, [], ◌∷◌, All, IfOk, None, length, map};
+ghost use Rattle.slink_feed.specs.Dialogue.{AreNumbers};
+ghost use Rattle.slink_feed.specs.Fault.{IsCapacity};
+ghost use Rattle.slink_feed.specs.Rings.{HasPlace};
+ghost use Rattle.slink_feed.specs.Running.{IsRunning};
+ghost use Rattle.slink_feed.specs.World.{AllHappen, Differ, IsOf, empty_window, lists_of, opening, seen};
+
+use crate::client::Client;
+use crate::feed::{Feed, FeedFault};
+use crate::ring::Ring;
+use crate::world::{Memory, Setup, Step, World};
+use std::alloc::Global;
+
+/// Adds the ring of another place.
+fn add(feed: &mut Feed, ring: Ring)
+    requires room { length feed.old < 16 }
+    requires differs { ¬ (HasPlace feed.old ring.place) }
+    ensures { feed.new ≡ feed.old ++ ring ∷ [] }
+{
+    match feed.add(ring) {
+        Ok(()) => {}
+        Err(FeedFault::Full(_) | FeedFault::Double(_)) => unreachable!(),
+    }
+}
+
+/// The empty rings of the places.
+fn feed_of(alloc: Global, setup: &Setup) -> Result<Feed, Memory>
+    requires capacity { IsCapacity setup.now.capacity }
+    requires first { setup.now.first < 2 ^ 24 }
+    requires differ { Differ setup.now.places.items }
+    ensures { IfOk result (λ f. f ≡ map (empty_window setup.now) setup.now.places.items) }
+{
+    let mut feed = Feed::new();
+    for (place, _) in setup.places.as_slice() {
+        let Ok(ring) = Ring::new(alloc, *place, setup.capacity, setup.first) else {
+            return Err(Memory);
+        };
+        add(&mut feed, ring);
+    }
+    Ok(feed)
+}
+
+/// An empty list for each place.
+fn lists(alloc: Global, setup: &Setup) -> Result<Vec<Vec<[u8; 512]>>, Memory>
+    ensures { IfOk result (λ v. lists_of v ≡ map (λ p. []) setup.now.places.items) }
+{
+    let mut lists = Vec::new(alloc);
+    for _ in setup.places.as_slice() {
+        lists.push(Vec::new(alloc)).map_err(|_| Memory)?;
+    }
+    Ok(lists)
+}
+
+/// No number for each place.
+fn numbers(alloc: Global, setup: &Setup) -> Result<Vec<Option<u64>>, Memory>
+    ensures { IfOk result (λ v. v.items ≡ map (λ p. None) setup.now.places.items) }
+{
+    let mut numbers = Vec::new(alloc);
+    for _ in setup.places.as_slice() {
+        numbers.push(None).map_err(|_| Memory)?;
+    }
+    Ok(numbers)
+}
+
+/// The world before the first step.
+fn open(alloc: Global, setup: &Setup) -> Result<World, Memory>
+    requires capacity { IsCapacity setup.now.capacity }
+    requires first { setup.now.first < 2 ^ 24 }
+    requires numbers { AreNumbers setup.now.places.items }
+    requires differ { Differ setup.now.places.items }
+    ensures opening { IfOk result (λ w. seen w ≡ opening setup.now) }
+    ensures running { IfOk result (λ w. IsRunning (seen w)) }
+{
+    Ok(World {
+        feed: feed_of(alloc, setup)?,
+        pushed: lists(alloc, setup)?,
+        client: Client::new(setup.places.as_slice(), setup.mode),
+        held: lists(alloc, setup)?,
+        start: numbers(alloc, setup)?,
+        link: None,
+    })
+}
+
+/// Carries out a schedule: pushes, deliveries, cuts and reconnections in any order.
+///
+/// The places are up to sixteen different ones. The capacity is from 1 to 1,000,000 records, the first number and those
+/// that the client wants first are below 2^24. A step names one of the places, whose station and network a record that is
+/// pushed bears.
+pub fn run_schedule(alloc: Global, setup: &Setup, steps: &[Step]) -> Result<World, Memory>
+    requires capacity { IsCapacity setup.now.capacity }
+    requires first { setup.now.first < 2 ^ 24 }
+    requires numbers { AreNumbers setup.now.places.items }
+    requires differ { Differ setup.now.places.items }
+    requires few { length steps.now < 2 ^ 40 }
+    requires steps { All (IsOf setup.now.places.items) steps.now }
+    // The world is what the steps make of the opening.
+    ensures happen { IfOk result (λ w. AllHappen (opening setup.now) steps.now (seen w)) }
+{
+    let mut world = open(alloc, setup)?;
+    for step in steps {
+        world.step(alloc, step)?;
+    }
+    Ok(world)
+}
