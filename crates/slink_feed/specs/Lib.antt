@@ -13,3 +13,5 @@ pub mod Holding
 pub mod Sending
 pub mod World
 pub mod Running
+pub mod Ties
+pub mod Stretch

@@ -12,6 +12,7 @@ mod law;
 mod ring;
 mod schedule;
 mod session;
+mod stretch;
 #[cfg(test)]
 mod tests;
 mod world;
@@ -27,4 +28,5 @@ pub use law::{
 pub use ring::{Ring, RingFault};
 pub use schedule::run_schedule;
 pub use session::{Phase, Sent, Session};
+pub use stretch::{carries_a_stretch, holds_one_slice, resumes_behind_the_last};
 pub use world::{Link, Memory, Setup, Step, World};

@@ -1,0 +1,164 @@
+-- What is on its way, item by item.
+use Rattle.std.proofs.Common.{◌≡◌, ◌≢◌, ℕ, ◌+◌, ◌-◌, ◌<◌, ◌≤◌, ◌⊎◌, inl, inr, zero, suc, refl, sym, ap, ◌∙◌, arith, Bool, true, false, ◌==◌, List, [], ◌∷◌, ◌++◌, append_assoc, append-nil, length, length-append, length-drop, drop, set, get_or, Option, Some, None, slice_get, if◌then◌else◌, nat_lt, unwrap_or}
+use Rattle.std.proofs.lemmas.Bool.Decides.{eqb_tells, nat_tests}
+use Rattle.std.proofs.lemmas.Option.{unwrap_or-slice_get}
+use Rattle.std.proofs.lemmas.List.{get_or-set_other, get_or-set_same}
+use Rattle.slink_wire.specs.declared.reply.Reply.{Reply}
+use Rattle.slink_wire.specs.declared.reply.Reply.TheVariants as replies
+use Rattle.slink_wire.specs.Reply.{reply_bytes}
+use Rattle.slink_feed.specs.Ties.{AreWhole, Item, Accepted, Refused, Greeted, Carried, Finished, Holds, carried_of, item_bytes, items_of, of_place, way_bytes}
+use Rattle.slink_feed.specs.Window.{Shows, Window, oldest_of, record_at, window, with_record}
+
+pub way_more : (xs ys : List Item) → way_bytes (xs ++ ys) ≡ way_bytes xs ++ way_bytes ys
+way_more [] ys = refl
+way_more (x ∷ xs) ys = ap (λ b. item_bytes x ++ b) (way_more xs ys) ∙ sym (append_assoc (item_bytes x) (way_bytes xs) (way_bytes ys))
+
+pub of_more : (k : ℕ) (xs ys : List Item) → of_place k (xs ++ ys) ≡ of_place k xs ++ of_place k ys
+of_more k [] ys = refl
+of_more k (x ∷ xs) ys = ap (λ b. carried_of k x ++ b) (of_more k xs ys) ∙ sym (append_assoc (carried_of k x) (of_place k xs) (of_place k ys))
+
+pub whole_more : (xs ys : List Item) → AreWhole xs → AreWhole ys → AreWhole (xs ++ ys)
+whole_more [] ys a b = b
+whole_more (Accepted ∷ xs) ys a b = whole_more xs ys a b
+whole_more (Refused ∷ xs) ys a b = whole_more xs ys a b
+whole_more (Greeted ∷ xs) ys a b = whole_more xs ys a b
+whole_more (Carried k n r ∷ xs) ys a b = (a.0, whole_more xs ys a.1 b)
+whole_more (Finished ∷ xs) ys a b = whole_more xs ys a b
+
+-- what is sent goes behind what is on its way
+pub flow_more : (kept way bytes : List ℕ) (xs ys : List Item) → bytes ≡ way_bytes ys → kept ++ way ≡ way_bytes xs → kept ++ (way ++ bytes) ≡ way_bytes (xs ++ ys)
+flow_more kept way bytes xs ys more flow = sym (append_assoc kept way bytes) ∙ (ap (λ b. b ++ bytes) flow ∙ (ap (λ b. way_bytes xs ++ b) more ∙ sym (way_more xs ys)))
+
+pub reply_items : (reply : Reply) → reply_bytes reply ≡ way_bytes (items_of reply)
+reply_items replies.Nothing = refl
+reply_items replies.Ok = refl
+reply_items replies.Error = refl
+reply_items replies.Hello = refl
+
+pub reply_whole : (reply : Reply) → AreWhole (items_of reply)
+reply_whole replies.Nothing = tt
+reply_whole replies.Ok = tt
+reply_whole replies.Error = tt
+reply_whole replies.Hello = tt
+
+pub reply_carries : (k : ℕ) (reply : Reply) → of_place k (items_of reply) ≡ []
+reply_carries k replies.Nothing = refl
+reply_carries k replies.Ok = refl
+reply_carries k replies.Error = refl
+reply_carries k replies.Hello = refl
+
+pub carries_none : (k : ℕ) (xs ys : List Item) → of_place k ys ≡ [] → of_place k (xs ++ ys) ≡ of_place k xs
+carries_none k xs ys none = of_more k xs ys ∙ (ap (λ b. of_place k xs ++ b) none ∙ append-nil (of_place k xs))
+
+choice_here : (k : ℕ) (x y : List (ℕ × List ℕ)) → (if k == k then x else y) ≡ x
+choice_here k x y = elim (eqb_tells k k) [ inl same ↦ ap (λ t. if t then x else y) same.0 | inr other ↦ absurd (other.1 refl) ]
+
+choice_there : (j k : ℕ) (x y : List (ℕ × List ℕ)) → j ≢ k → (if j == k then x else y) ≡ y
+choice_there j k x y ne = elim (eqb_tells j k) [ inl same ↦ absurd (ne same.1) | inr other ↦ ap (λ t. if t then x else y) other.0 ]
+
+pub carried_here : (k n : ℕ) (r : List ℕ) → carried_of k (Carried k n r) ≡ (n, r) ∷ []
+carried_here k n r = choice_here k ((n, r) ∷ []) []
+
+pub carried_there : (j k n : ℕ) (r : List ℕ) → j ≢ k → carried_of k (Carried j n r) ≡ []
+carried_there j k n r ne = choice_there j k ((n, r) ∷ []) [] ne
+
+-- what is set at an index, and elsewhere
+module _ {X : Type 0} where
+  pub set_here : (xs : List X) (k : ℕ) (x d : X) → k < length xs → get_or (set xs k x) k d ≡ x
+  set_here xs k x d lt = get_or-set_same xs k x d lt
+
+  pub set_there : (xs : List X) (k j : ℕ) (x d : X) → j ≢ k → get_or (set xs k x) j d ≡ get_or xs j d
+  set_there xs k j x d ne = get_or-set_other xs k j x d ne
+
+  pub put_here : (xs : List X) (k : ℕ) (x d : X) → k < length xs → unwrap_or (slice_get (set xs k x) k) d ≡ x
+  put_here xs k x d lt = unwrap_or-slice_get (set xs k x) k d ∙ get_or-set_same xs k x d lt
+
+  pub put_there : (xs : List X) (k j : ℕ) (x d : X) → j ≢ k → unwrap_or (slice_get (set xs k x) j) d ≡ unwrap_or (slice_get xs j) d
+  put_there xs k j x d ne = unwrap_or-slice_get (set xs k x) j d ∙ (get_or-set_other xs k j x d ne ∙ sym (unwrap_or-slice_get xs j d))
+
+  pub get_here : (xs : List X) (k : ℕ) (x : X) → k < length xs → slice_get (set xs k x) k ≡ Some x
+  get_here [] k x lt = absurd (omega (arith, lt))
+  get_here (y ∷ xs) zero x lt = refl
+  get_here (y ∷ xs) (suc k) x lt = get_here xs k x (omega (arith, lt))
+
+  pub get_there : (xs : List X) (k j : ℕ) (x : X) → j ≢ k → slice_get (set xs k x) j ≡ slice_get xs j
+  get_there [] k j x ne = refl
+  get_there (y ∷ xs) zero zero x ne = absurd (ne refl)
+  get_there (y ∷ xs) zero (suc j) x ne = refl
+  get_there (y ∷ xs) (suc k) zero x ne = refl
+  get_there (y ∷ xs) (suc k) (suc j) x ne = get_there xs k j x (λ e. ne (ap suc e))
+
+  pub is_within : (xs : List X) (k : ℕ) (x : X) → slice_get xs k ≡ Some x → k < length xs
+  is_within [] k x h = absurd (let bad : None ≡ Some x = h in cc bad)
+  is_within (y ∷ xs) zero x h = omega arith
+  is_within (y ∷ xs) (suc k) x h = let more : k < length xs = is_within xs k x h in omega (arith, more)
+
+  pub within_is : (xs : List X) (k : ℕ) → k < length xs → (x : X) × (slice_get xs k ≡ Some x)
+  within_is [] k lt = absurd (omega (arith, lt))
+  within_is (y ∷ xs) zero lt = (y, refl)
+  within_is (y ∷ xs) (suc k) lt = within_is xs k (omega (arith, lt))
+
+  pub one_value : (o : Option X) (x y : X) → o ≡ Some x → o ≡ Some y → x ≡ y
+  one_value o x y p q = let both : Some x ≡ Some y = sym p ∙ q in cc both
+
+-- two indices are one, or not
+pub same_or_not : (j k : ℕ) → (j ≡ k) ⊎ (j ≢ k)
+same_or_not j k = elim (eqb_tells j k) [ inl same ↦ inl same.1 | inr other ↦ inr other.1 ]
+
+-- the window begins where the last records begin
+pub oldest_is : (w : Window) (first : ℕ) (F : List (List ℕ)) → Shows w first F → oldest_of w ≡ first + (length F - w.capacity)
+oldest_is w first F h = omega (arith, h.next, ap length h.records, length-drop (length F - w.capacity) F)
+
+got_past : (t : Bool) (o : Option (List ℕ)) (r : List ℕ) → (if t then None else o) ≡ Some r → (t ≡ false) × (o ≡ Some r)
+got_past true o r h = absurd (let bad : None ≡ Some r = h in cc bad)
+got_past false o r h = (refl, h)
+
+lt_false : (m n : ℕ) → nat_lt m n ≡ false → n ≤ m
+lt_false m n h = grind (arith, nat_tests)
+
+get_drop : (d : ℕ) (xs : List (List ℕ)) (i : ℕ) → slice_get (drop d xs) i ≡ slice_get xs (d + i)
+get_drop zero xs i = ap (slice_get xs) (let e : i ≡ 0 + i = omega arith in e)
+get_drop (suc d) [] i = refl
+get_drop (suc d) (x ∷ xs) i = get_drop d xs i ∙ sym (let e : suc d + i ≡ suc (d + i) = omega arith in ap (slice_get (x ∷ xs)) e)
+
+-- a record of the window is that of the list
+pub at_number : (w : Window) (first : ℕ) (F : List (List ℕ)) (p : ℕ) (r : List ℕ) → Shows w first F → record_at w p ≡ Some r → slice_get F (p - first) ≡ Some r
+at_number w first F p r h e =
+    let d : ℕ = length F - w.capacity in
+    let got : (nat_lt p (oldest_of w) ≡ false) × (slice_get w.records (p - oldest_of w) ≡ Some r) = got_past (nat_lt p (oldest_of w)) (slice_get w.records (p - oldest_of w)) r e in
+    let from : oldest_of w ≤ p = lt_false p (oldest_of w) got.0 in
+    let o : oldest_of w ≡ first + d = oldest_is w first F h in
+    let at : d + (p - oldest_of w) ≡ p - first = omega (arith, o, from) in
+    ap (slice_get F) (sym at) ∙ (sym (get_drop d F (p - oldest_of w)) ∙ (ap (λ xs. slice_get xs (p - oldest_of w)) (sym h.records) ∙ got.1))
+
+drop_front : (d : ℕ) (xs ys : List (List ℕ)) → d ≤ length xs → drop d (xs ++ ys) ≡ drop d xs ++ ys
+drop_front zero xs ys le = refl
+drop_front (suc d) [] ys le = absurd (omega (arith, le))
+drop_front (suc d) (x ∷ xs) ys le = drop_front d xs ys (omega (arith, le))
+
+drop_none : (n : ℕ) → ◌≡◌ {A = List (List ℕ)} (drop n []) []
+drop_none zero = refl
+drop_none (suc n) = refl
+
+drop_twice : (m d : ℕ) (xs : List (List ℕ)) → drop m (drop d xs) ≡ drop (d + m) xs
+drop_twice m zero xs = ap (λ k. drop k xs) (let e : m ≡ 0 + m = omega arith in e)
+drop_twice m (suc d) [] = drop_none m ∙ sym (drop_none (suc d + m))
+drop_twice m (suc d) (x ∷ xs) = drop_twice m d xs ∙ sym (let e : suc d + m ≡ suc (d + m) = omega arith in ap (λ k. drop k (x ∷ xs)) e)
+
+keep_more : (n : ℕ) (xs : List (List ℕ)) (r : List ℕ) → window n (window n xs ++ r ∷ []) ≡ window n (xs ++ r ∷ [])
+keep_more n xs r =
+    let d : ℕ = length xs - n in
+    let front : drop d xs ++ r ∷ [] ≡ drop d (xs ++ r ∷ []) = sym (drop_front d xs (r ∷ []) (omega arith)) in
+    let long : d + (length (drop d xs ++ r ∷ []) - n) ≡ length (xs ++ r ∷ []) - n = omega (arith, length-append (drop d xs) (r ∷ []), length-append xs (r ∷ []), length-drop d xs) in
+    ap (λ l. drop (length (drop d xs ++ r ∷ []) - n) l) front ∙ (drop_twice (length (drop d xs ++ r ∷ []) - n) d (xs ++ r ∷ []) ∙ ap (λ k. drop k (xs ++ r ∷ [])) long)
+
+-- the ring shows one record more
+pub shows_more : (w : Window) (first : ℕ) (F : List (List ℕ)) (r : List ℕ) → Shows w first F → Shows (with_record w r) first (F ++ r ∷ [])
+shows_more w first F r h = record {
+  records = ap (λ xs. window w.capacity (xs ++ r ∷ [])) h.records ∙ keep_more w.capacity F r;
+  next = omega (arith, h.next, length-append F (r ∷ []));
+}
+
+-- what is held isn't past the last record
+pub held_to : (first s : ℕ) (F : List (List ℕ)) (next : Option ℕ) (held : List (List ℕ)) → Holds first F next held (Some s) → s + length held ≤ first + length F
+held_to first s F next held h = omega (arith, h.3, ap length h.2, length-append h.0 (held ++ h.1), length-append held h.1)
