@@ -1,5 +1,7 @@
 //! Cuts what a source tells into records.
-ghost use Rattle.std.specs.Prelude.{◌≡◌, ◌≢◌, ◌+◌, ◌*◌, ◌^◌, ◌<◌, ◌≤◌, length, take, drop, true, false, IfOk, IfErr, OnErr, OnOk, IsTrue, Ok, slice_range, [], ℕ, IfSome, Some, None, Err, ⊤, List, ◌∷◌, ◌++◌};
+ghost use Rattle.std.specs.Prelude.{◌≡◌, ◌≢◌, ◌+◌, ◌*◌, ◌^◌, ◌<◌, ◌≤◌, length, take, drop, true, false, IfOk};
+ghost use Rattle.std.specs.Prelude.{IfErr, OnErr, OnOk, IsTrue, Ok, slice_range, [], ℕ, IfSome, Some, None};
+ghost use Rattle.std.specs.Prelude.{Err, ⊤, List, ◌∷◌, ◌++◌};
 ghost use Rattle.std.specs.Io.KnownBytes.{IsAtEnd, Consumes, ReadConsumes};
 ghost use Rattle.mseed_record.specs.Record.{IsRecord};
 ghost use Rattle.mseed_record.specs.Scan.{Decides};
@@ -8,7 +10,10 @@ ghost use Rattle.mseed_record.specs.Viewing.{view_of};
 ghost use Rattle.mseed_record.specs.declared.frame.Scan.TheVariants.{Need, Record};
 ghost use Rattle.mseed_stream.specs.Device.{heard_also, nothing_heard};
 ghost use Rattle.mseed_stream.specs.Archive.{HasRecords, IsArchive};
-ghost use Rattle.mseed_stream.specs.Cutting.{IsHeard, IsAlong, IsStop, TellsMore, IsReadTo, is_short, asks_of, count_of, IsCutFault, IsCleanEnd, NeedsRoom, held_of, told_from, moves_by, failed_by, answer_of, kept_of, handed_by, IfEnds};
+ghost use Rattle.mseed_stream.specs.Cutting.{IsHeard, IsAlong, IsStop, TellsMore, IsReadTo, is_short};
+ghost use Rattle.mseed_stream.specs.Cutting.{asks_of, count_of, IsCutFault, IsCleanEnd, NeedsRoom, held_of};
+ghost use Rattle.mseed_stream.specs.Cutting.{told_from, moves_by, failed_by, answer_of, kept_of, handed_by};
+ghost use Rattle.mseed_stream.specs.Cutting.{IfEnds};
 ghost use Rattle.mseed_stream.specs.Walk.{HasHandedOut, AreAllViews, IfGoesOn, end_of};
 ghost use Rattle.mseed_stream.specs.Steps.{IsFillFault, IsAnswerAtEnd, IsCuttingFault, lent_of, settled};
 
@@ -78,9 +83,18 @@ impl<A: Allocator> Model for Cutter<A> {
 
     ghost Value = { Standing };
 
-    ghost view = { λ c. record { offset = c.offset; front = take c.have c.held.items; is_lent = c.is_lent; room = vec_len c.held; reads = c.reads; answer = c.ending } };
+    ghost view = { λ c. record {
+      offset = c.offset;
+      front = take c.have c.held.items;
+      is_lent = c.is_lent;
+      room = vec_len c.held;
+      reads = c.reads;
+      answer = c.ending;
+    } };
 
-    ghost invariant = { λ c. (c.have ≤ vec_len c.held) × (vec_len c.held ≤ 2 ^ 20) × (c.reads ≤ 2 ^ 40) × (c.offset + (if c.is_lent then 0 else c.have) ≤ 2 ^ 20 * c.reads) × IsFramerOf c.framer (take c.have c.held.items) };
+    ghost invariant = { λ c. (c.have ≤ vec_len c.held) × (vec_len c.held ≤ 2 ^ 20) × (c.reads ≤ 2 ^ 40)
+        × (c.offset + (if c.is_lent then 0 else c.have) ≤ 2 ^ 20 * c.reads)
+        × IsFramerOf c.framer (take c.have c.held.items) };
 }
 
 impl<A: Allocator> Cutter<A> {

@@ -2,7 +2,8 @@
 ghost use Rattle.std.specs.Prelude.{◌≡◌, List, ℕ, IsTrue, ◌<◌, ◌≤◌, [], length, take, drop, IfOk, IfSome, Option, None};
 ghost use Rattle.std.specs.Io.{StartsWith};
 ghost use Rattle.std.specs.Io.KnownBytes.{Consumes, ReadConsumes, WriteAppends};
-ghost use Rattle.mseed_stream.specs.Device.{Heard, Said, nothing_heard, nothing_said, heard_also, told_also, said_also, ComesFirst};
+ghost use Rattle.mseed_stream.specs.Device.{Heard, Said, nothing_heard, nothing_said, heard_also, told_also};
+ghost use Rattle.mseed_stream.specs.Device.{said_also, ComesFirst};
 
 /// A device failed at a call, for whatever cause. By that call no byte went through.
 #[derive(Debug, Clone, Copy, PartialEq, Eq)]

@@ -1,5 +1,6 @@
 //! All that a source tells, and all of a slice to a sink.
-ghost use Rattle.std.specs.Prelude.{◌≡◌, IsTrue, ◌+◌, ◌++◌, ◌<◌, length, take, IfOk, OnOk, IfErr, OnErr, IfSome, MatchResult};
+ghost use Rattle.std.specs.Prelude.{◌≡◌, IsTrue, ◌+◌, ◌++◌, ◌<◌, length, take, IfOk, OnOk, IfErr, OnErr};
+ghost use Rattle.std.specs.Prelude.{IfSome, MatchResult};
 ghost use Rattle.std.specs.Io.KnownBytes.{Appends};
 ghost use Rattle.mseed_stream.specs.Device.{IsFrontOf};
 ghost use Rattle.mseed_stream.specs.Fault.{IsStreamFault};
