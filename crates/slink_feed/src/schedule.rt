@@ -1,5 +1,5 @@
 //! Schedules: pushes, deliveries, cuts and reconnections in any order.
-ghost use Rattle.std.specs.Prelude.{◌≡◌, ◌^◌, ◌<◌, ◌++◌, [], ◌∷◌, All, IfOk, None, length, map};
+ghost use Rattle.std.specs.Prelude.{◌≡◌, ◌^◌, ◌<◌, ◌≤◌, ◌++◌, [], ◌∷◌, All, IfOk, None, length, map};
 ghost use Rattle.slink_feed.specs.Dialogue.{AreNumbers};
 ghost use Rattle.slink_feed.specs.Fault.{IsCapacity};
 ghost use Rattle.slink_feed.specs.Rings.{HasPlace};
@@ -28,6 +28,7 @@ fn add(feed: &mut Feed, ring: Ring)
 fn feed_of(alloc: Global, setup: &Setup) -> Result<Feed, Memory>
     requires capacity { IsCapacity setup.now.capacity }
     requires first { setup.now.first < 2 ^ 24 }
+    requires count { length setup.now.places.items ≤ 16 }
     requires differ { Differ setup.now.places.items }
     ensures { IfOk result (λ f. f ≡ map (empty_window setup.now) setup.now.places.items) }
 {
@@ -68,6 +69,7 @@ fn open(alloc: Global, setup: &Setup) -> Result<World, Memory>
     requires capacity { IsCapacity setup.now.capacity }
     requires first { setup.now.first < 2 ^ 24 }
     requires numbers { AreNumbers setup.now.places.items }
+    requires count { length setup.now.places.items ≤ 16 }
     requires differ { Differ setup.now.places.items }
     ensures opening { IfOk result (λ w. seen w ≡ opening setup.now) }
     ensures running { IfOk result (λ w. IsRunning (seen w)) }
@@ -84,13 +86,14 @@ fn open(alloc: Global, setup: &Setup) -> Result<World, Memory>
 
 /// Carries out a schedule: pushes, deliveries, cuts and reconnections in any order.
 ///
-/// The places are up to sixteen different ones. The capacity is from 1 to 1,000,000 records, the first number and those
-/// that the client wants first are below 2^24. A step names one of the places, whose station and network a record that is
-/// pushed bears.
+/// The places are different. The capacity is from 1 to 1,000,000 records, the first number and those that the client
+/// wants first are below 2^24. A step names one of the places, and a record that is pushed bears its place's station and
+/// network.
 pub fn run_schedule(alloc: Global, setup: &Setup, steps: &[Step]) -> Result<World, Memory>
     requires capacity { IsCapacity setup.now.capacity }
     requires first { setup.now.first < 2 ^ 24 }
     requires numbers { AreNumbers setup.now.places.items }
+    requires count { length setup.now.places.items ≤ 16 }
     requires differ { Differ setup.now.places.items }
     requires few { length steps.now < 2 ^ 40 }
     requires steps { All (IsOf setup.now.places.items) steps.now }

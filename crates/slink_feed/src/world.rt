@@ -8,7 +8,6 @@ use crate::client::Client;
 use crate::feed::Feed;
 use crate::grant::Mode;
 use crate::session::{Sent, Session};
-use arrayvec::ArrayVec;
 use slink_wire::Place;
 use std::alloc::Global;
 
@@ -19,8 +18,8 @@ pub struct Memory;
 /// What a schedule begins with.
 #[derive(Drop)]
 pub struct Setup {
-    /// The places of the feed, each with the number below 2^24 that the client wants first of it, or none.
-    pub places: ArrayVec<(Place, Option<u32>), 16>,
+    /// Up to sixteen places, each with the number below 2^24 that the client wants first of it, or none.
+    pub places: Vec<(Place, Option<u32>)>,
     /// The most records that each ring keeps.
     pub capacity: usize,
     /// The number of the first record of each place.
