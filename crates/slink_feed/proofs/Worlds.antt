@@ -1,6 +1,6 @@
 -- Each step keeps a world tied to all records that were pushed.
 use Rattle.std.proofs.Common.{◌≡◌, All, ◌≢◌, ℕ, ◌+◌, ◌-◌, ◌^◌, ◌<◌, ◌≤◌, ◌⊎◌, inl, inr, zero, suc, refl, sym, ap, subst, ◌∙◌, arith, List, [], ◌∷◌, ◌++◌, length, length-set, set, get_or, take, drop, take-append-drop, map, replicate, Option, Some, None, option_map, slice_get}
-use Rattle.std.proofs.lemmas.List.{length-map}
+use Rattle.std.proofs.lemmas.List.{get_or_default, length-map}
 use Rattle.std.proofs.lemmas.Option.{slice_get-map}
 use Rattle.slink_wire.specs.Place.{Bears, Fields}
 use Rattle.slink_feed.specs.declared.dialogue.Wanted.{Wanted}
@@ -307,6 +307,17 @@ each_of : (places : Places) (steps : List Step) → All (IsOf places) steps → 
 each_of places [] of sound = tt
 each_of places (step ∷ steps) of sound =
     (of 0 step (omega arith), sound 0 step (omega arith), each_of places steps (λ k d lt. of (suc k) d (omega (arith, lt))) (λ k d lt. sound (suc k) d (omega (arith, lt))))
+
+-- each record of a schedule has 512 bytes, one after another
+pub schedule_is : (setup : Setup) (steps : List Step) → length setup.places.items ≤ 16 → setup.capacity ≤ 1000000 → Differ setup.places.items → All (IsOf setup.places.items) steps
+    → ((k : ℕ) → k < length steps → IsSound (get_or steps k (Append 0 []))) → IsSchedule setup steps
+schedule_is setup steps few room differ of sound = record {
+  few_places = few;
+  capacity = room;
+  differ = differ;
+  of_places = of;
+  sound = λ k d lt. subst IsSound (get_or_default steps k (Append 0 []) d lt) (sound k lt);
+}
 
 module _ (setup : Setup) (steps : List Step) (now : WorldState) (run : AllHappen (opening setup) steps now) (is : IsSchedule setup steps) (lacks : LackFew setup.first (opening setup) steps now run) where
   pub ties_after : WorldTies setup.places.items setup.first now

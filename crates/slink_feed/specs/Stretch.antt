@@ -45,15 +45,16 @@ pub record IsSchedule (setup : Setup) (steps : List Step) : Type 0 where
 -- Of each place one stretch of its records is held; while none is, the number that was wanted first is wanted still.
 pub record HoldsStretches (places : List (Fields × Option ℕ)) (first : ℕ) (w : WorldState) : Type 0 where
   pub stretch : (k : ℕ) → k < length places
-      → Holds first (slice_index_or w.pushed k []) (next_at w.client.talk.wants k) (slice_index_or w.held k []) (number_at w.start k)
+      → Holds first (slice_index_or w.pushed k []) (next_at w.client.talk.wants k)
+      (slice_index_or w.held k []) (number_at w.start k)
   pub wanted : WantFirst places w.client.talk.wants w.start
 
 -- The record of this number is granted, where it is in the window or is the next one; else there is no grant.
 abbrev pub resumed : Window → ℕ → Option ℕ
 resumed w number = if nat_le (oldest_of w) number && nat_le number w.next then Some number else None
 
--- Where something is held of a place, and the number that is wanted next of it is asked for, the answer is the grant of the
--- record behind the last one held, where there is that grant, and else the refusal.
+-- Where something is held of a place, and the number that is wanted next of it is asked for, the answer is the grant of
+-- the record behind the last one held, where there is that grant, and else the refusal.
 abbrev pub Resumes : WorldState → Type 0
 Resumes w = (k start : ℕ) (ring : Window) (mode : Mode) (s : State) → number_at w.start k ≡ Some start
     → slice_get w.windows k ≡ Some ring

@@ -185,8 +185,8 @@ AllHold places first pushed wants held start = (k : ℕ) → k < length places
     → Holds first (slice_index_or pushed k []) (next_at wants k) (slice_index_or held k []) (number_at start k)
 
 -- a link, by what is on its way to the client
-pub record LinkTies (places : Places) (first : ℕ) (few : ℕ → ℕ → Type 0) (pushed : Lists) (client : Listening) (held : Lists)
-    (start : Numbers) (state : State) (first_sent : Numbers) (way : List ℕ) : Type 0 where
+pub record LinkTies (places : Places) (first : ℕ) (few : ℕ → ℕ → Type 0) (pushed : Lists) (client : Listening)
+    (held : Lists) (start : Numbers) (state : State) (first_sent : Numbers) (way : List ℕ) : Type 0 where
   pub items : List Item
   pub are_whole : AreWhole items
   pub flow : IsLinked client.talk.stage → client.kept ++ way ≡ way_bytes items

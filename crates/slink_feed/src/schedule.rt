@@ -1,10 +1,11 @@
 //! Schedules: pushes, deliveries, cuts and reconnections in any order.
-ghost use Rattle.std.specs.Prelude.{◌≡◌, ◌^◌, ◌<◌, ◌≤◌, ◌++◌, [], ◌∷◌, All, IfOk, None, length, map};
+ghost use Rattle.std.specs.Prelude.{◌≡◌, ◌^◌, ◌<◌, ◌≤◌, ◌++◌, [], ◌∷◌, All, IfOk, None, Some, length, map};
 ghost use Rattle.slink_feed.specs.Dialogue.{AreNumbers};
 ghost use Rattle.slink_feed.specs.Fault.{IsCapacity};
 ghost use Rattle.slink_feed.specs.Rings.{HasPlace};
 ghost use Rattle.slink_feed.specs.Running.{IsRunning};
-ghost use Rattle.slink_feed.specs.World.{AllHappen, Differ, IsOf, empty_window, lists_of, opening, seen};
+ghost use Rattle.slink_feed.specs.Stretch.{HoldsStretches, IsCarried, LackFew, Resumes};
+ghost use Rattle.slink_feed.specs.World.{AllHappen, Differ, IsOf, LinkState, empty_window, lists_of, opening, seen};
 
 use crate::client::Client;
 use crate::feed::{Feed, FeedFault};
@@ -87,8 +88,8 @@ fn open(alloc: Global, setup: &Setup) -> Result<World, Memory>
 /// Carries out a schedule: pushes, deliveries, cuts and reconnections in any order.
 ///
 /// The places are different. The capacity is from 1 to 1,000,000 records, the first number and those that the client
-/// wants first are below 2^24. A step names one of the places, and a record that is pushed bears its place's station and
-/// network.
+/// wants first are below 2^24. A step names one of the places, and a record that is pushed bears its place's station
+/// and network.
 pub fn run_schedule(alloc: Global, setup: &Setup, steps: &[Step]) -> Result<World, Memory>
     requires capacity { IsCapacity setup.now.capacity }
     requires first { setup.now.first < 2 ^ 24 }
@@ -99,6 +100,19 @@ pub fn run_schedule(alloc: Global, setup: &Setup, steps: &[Step]) -> Result<Worl
     requires steps { All (IsOf setup.now.places.items) steps.now }
     // The world is what the steps make of the opening.
     ensures happen { IfOk result (λ w. AllHappen (opening setup.now) steps.now (seen w)) }
+    // Of each place one slice of its records is held, in order and each once, where at no moment 2^24 of them or more
+    // are lacking.
+    ensures slices { IfOk result (λ w. (run : AllHappen (opening setup.now) steps.now (seen w))
+        → LackFew setup.now.first (opening setup.now) steps.now (seen w) run
+        → HoldsStretches setup.now.places.items setup.now.first (seen w)) }
+    // A client that comes again is then granted the record behind the last one held exactly where it can be, and no
+    // other.
+    ensures resumes { IfOk result (λ w. (run : AllHappen (opening setup.now) steps.now (seen w))
+        → LackFew setup.now.first (opening setup.now) steps.now (seen w) run → Resumes (seen w)) }
+    // What is on its way of a place is then a stretch of its records, up to the position of its grant.
+    ensures carried { IfOk result (λ w. (run : AllHappen (opening setup.now) steps.now (seen w))
+        → LackFew setup.now.first (opening setup.now) steps.now (seen w) run → (l : LinkState) → (seen w).link ≡ Some l
+        → IsCarried setup.now.places.items setup.now.first (seen w) l) }
 {
     let mut world = open(alloc, setup)?;
     for step in steps {

@@ -25,8 +25,8 @@ pub fn resumes_behind_the_last()
         → IsSchedule setup steps → LackFew setup.first (opening setup) steps now run → Resumes now }
 {}
 
-/// After any steps of a schedule, what a link has on its way to the client are replies and packets, and the packets of a
-/// place are a stretch of its records, up to the position of its grant.
+/// After any steps of a schedule, what a link has on its way to the client are replies and packets, and the packets of
+/// a place are a stretch of its records, up to the position of its grant.
 #[tactic(auto, using(crate::proofs::Resumed::stretch_carried))]
 pub fn carries_a_stretch()
     ensures carried { (setup : Setup) (steps : List Step) (now : WorldState) (run : AllHappen (opening setup) steps now)

@@ -1,6 +1,7 @@
 //! A server and a client, and what lies between them.
 ghost use Rattle.std.specs.Prelude.{◌≡◌, ◌++◌, ◌≤◌, ◌<◌, OnOk, drop, length, take};
 ghost use Rattle.slink_feed.specs.Running.{IsPossible, IsRunning, IsServing, Keeps};
+ghost use Rattle.slink_feed.specs.Stretch.{IsSound};
 ghost use Rattle.slink_feed.specs.World.{Happens, Hears, IsServed, link_state, seen, sent_on, taken};
 
 use crate::carry::{add_bytes, add_record, hear_bytes, note_first, remove_front, serve_bytes};
@@ -144,6 +145,7 @@ impl World {
         requires running { IsRunning (seen self.old) }
         ensures happens { OnOk result (Happens (seen self.old) (Step.Append k bytes.now) (seen self.new)) }
         ensures running { IsRunning (seen self.new) }
+        ensures sound { length bytes.now ≡ 512 }
     {
         self.feed.push(k, bytes);
         add_record(&mut self.pushed, k, bytes)
@@ -219,6 +221,7 @@ impl World {
         requires running { IsRunning (seen self.old) }
         ensures happens { OnOk result (Happens (seen self.old) step.now (seen self.new)) }
         ensures running { OnOk result (IsRunning (seen self.new)) }
+        ensures sound { IsSound step.now }
     {
         match step {
             Step::Append(k, bytes) => self.append(*k, bytes),

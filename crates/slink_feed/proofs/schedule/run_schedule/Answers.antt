@@ -1,7 +1,11 @@
-use Rattle.std.proofs.Common.{◌≡◌, ◌+◌, ◌^◌, arith, ap, sym, subst, get_or, []}
+use Rattle.std.proofs.Common.{inl, inr, ◌≡◌, ◌+◌, ◌^◌, arith, ap, sym, subst, get_or, []}
 use Rattle.slink_feed.specs.declared.world.Step.TheVariants.{Append}
 use Rattle.slink_feed.specs.Running.{AreRings}
 use Rattle.slink_feed.specs.World.{AllHappen, WorldState, seen}
+use Rattle.slink_feed.specs.Stretch.{IsSound}
+use Rattle.slink_feed.proofs.Items.{same_or_not}
+use Rattle.slink_feed.proofs.Worlds.{schedule_is, stretch_held}
+use Rattle.slink_feed.proofs.Resumed.{resume_granted, stretch_carried}
 use Rattle.slink_feed.proofs.Stepping.{happens_more, opening_rings, possible, rings_on}
 use Rattle.slink_feed.proofs.schedule.run_schedule.Goals as goal
 
@@ -10,6 +14,7 @@ loop-step-init c = record {
   running = c.in_ok-world.ensures.running;
   rings = subst (AreRings c.args.setup.now.places.items (2 ^ 24)) (sym (ap (λ (w : WorldState). w.windows) c.in_ok-world.ensures.opening))
       (opening_rings c.args.setup.now c.args.setup.now.places.items c.requires.first);
+  sound = λ k lt. absurd (omega (arith, lt));
   rest = λ last more. subst (λ (w : WorldState). AllHappen w c.args.steps.now last) c.in_ok-world.ensures.opening more;
 }
 
@@ -24,6 +29,22 @@ loop-step-preserved c =
       running = c.in_ok-step.ensures.running;
       rings = subst (λ n. AreRings c.args.setup.now.places.items n c.step.new.self.feed) more
           (rings_on c.args.setup.now.places.items (2 ^ 24 + c.loop-step.step-index) (seen c.loop-step.world) (seen c.step.new.self) (get_or c.args.steps.now c.loop-step.step-index (Append 0 [])) c.loop-step.invariant.rings c.in_ok-step.ensures.happens);
+      sound = λ k lt. elim (same_or_not k c.loop-step.step-index) [
+        | inl here ↦ subst (λ i. IsSound (get_or c.args.steps.now i (Append 0 []))) (sym here) c.in_ok-step.ensures.sound
+        | inr other ↦ c.loop-step.invariant.sound k (omega (arith, lt, other))
+      ];
       rest = λ last rest. c.loop-step.invariant.rest last
           (happens_more (seen c.loop-step.world) (seen c.step.new.self) last c.args.steps.now c.loop-step.step-index (Append 0 []) (omega (arith, c.loop-step-test.true)) c.in_ok-step.ensures.happens rest);
     }
+
+pub returns-clause-slices : goal.returns-clause-slices
+returns-clause-slices c = λ run lacks. stretch_held c.args.setup.now c.args.steps.now (seen c.loop-step.world) run
+    (schedule_is c.args.setup.now c.args.steps.now c.requires.count c.requires.capacity.1 c.requires.differ c.requires.steps (λ k lt. c.loop-step.invariant.sound k (omega (arith, lt)))) lacks
+
+pub returns-clause-resumes : goal.returns-clause-resumes
+returns-clause-resumes c = λ run lacks. resume_granted c.args.setup.now c.args.steps.now (seen c.loop-step.world) run
+    (schedule_is c.args.setup.now c.args.steps.now c.requires.count c.requires.capacity.1 c.requires.differ c.requires.steps (λ k lt. c.loop-step.invariant.sound k (omega (arith, lt)))) lacks
+
+pub returns-clause-carried : goal.returns-clause-carried
+returns-clause-carried c = λ run lacks l is. stretch_carried c.args.setup.now c.args.steps.now (seen c.loop-step.world) run
+    (schedule_is c.args.setup.now c.args.steps.now c.requires.count c.requires.capacity.1 c.requires.differ c.requires.steps (λ k lt. c.loop-step.invariant.sound k (omega (arith, lt)))) lacks l is

@@ -1,5 +1,7 @@
-use Rattle.std.proofs.Common.{◌+◌, ◌^◌, drop}
+use Rattle.std.proofs.Common.{ℕ, ◌+◌, ◌^◌, ◌<◌, [], drop, get_or}
+use Rattle.slink_feed.specs.declared.world.Step.TheVariants.{Append}
 use Rattle.slink_feed.specs.Running.{AreRings, IsRunning}
+use Rattle.slink_feed.specs.Stretch.{IsSound}
 use Rattle.slink_feed.specs.World.{AllHappen, WorldState, opening, seen}
 use Rattle.slink_feed.proofs.schedule.run_schedule.Given as goal
 
@@ -8,5 +10,6 @@ abbrev pub invariant-loop-step : goal.invariant-loop-step
 invariant-loop-step l = record {
   running : IsRunning (seen l.world);
   rings : AreRings l.setup.places.items (2 ^ 24 + l.step-index) l.world.feed;
+  sound : (k : ℕ) → k < l.step-index → IsSound (get_or l.steps k (Append 0 []));
   rest : (last : WorldState) → AllHappen (seen l.world) (drop l.step-index l.steps) last → AllHappen (opening l.setup) l.steps last;
 }
