@@ -1,5 +1,6 @@
 //! The whole chain of blockettes of a record.
-ghost use Rattle.std.specs.Prelude.{◌≡◌, ◌≤◌, ◌+◌, ◌==◌, ◌||◌, ℕ, List, ◌∷◌, ◌++◌, length, IfSome, Option, Some, None, if◌then◌else◌};
+ghost use Rattle.std.specs.Prelude.{◌≡◌, ◌≤◌, ◌+◌, ◌==◌, ◌||◌, ℕ, List, ◌∷◌, ◌++◌, length, IfSome, Option, Some, None};
+ghost use Rattle.std.specs.Prelude.{if◌then◌else◌};
 ghost use Rattle.std.specs.Option.{option_or};
 ghost use Rattle.mseed_record.specs.Header.{blockette_at};
 ghost use Rattle.mseed_record.specs.Chain.{IsWholeChain, type_at, next_at, head_of, goes_on, first_of, has_type};

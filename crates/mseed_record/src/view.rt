@@ -1,13 +1,16 @@
 //! A record where it lies.
-ghost use Rattle.std.specs.Prelude.{◌≡◌, ◌↔◌, ◌≤◌, ℕ, List, length, take, slice_index, ◌+◌, ◌<◌, ◌==◌, IfOk, IfSome, IsOk, IsSome, IsTrue, Err};
+ghost use Rattle.std.specs.Prelude.{◌≡◌, ◌↔◌, ◌≤◌, ℕ, List, length, take, slice_index, ◌+◌, ◌<◌, ◌==◌, IfOk, IfSome};
+ghost use Rattle.std.specs.Prelude.{IsOk, IsSome, IsTrue, Err};
 ghost use Rattle.std.specs.Result.{result_err};
 ghost use Rattle.std.specs.Int.{bit_at};
 ghost use Rattle.mseed_time.specs.Btime.{first_fault};
 ghost use Rattle.mseed_time.specs.Rate.{rate_of};
 ghost use Rattle.mseed_record.specs.declared.frame.FrameFault.{FrameFault};
-ghost use Rattle.mseed_record.specs.Header.{key_at, quality_at, time_at, samples_at, factor_at, multiplier_at, activity_at, is_quality};
+ghost use Rattle.mseed_record.specs.Header.{key_at, quality_at, time_at, samples_at, factor_at, multiplier_at};
+ghost use Rattle.mseed_record.specs.Header.{activity_at, is_quality};
 ghost use Rattle.mseed_record.specs.Record.{IsRecord};
-ghost use Rattle.mseed_record.specs.View.{View, IsView, word_order_at, microseconds_at, start_of, leap_of, HasPayload, payload_of};
+ghost use Rattle.mseed_record.specs.View.{View, IsView, word_order_at, microseconds_at, start_of, leap_of, HasPayload};
+ghost use Rattle.mseed_record.specs.View.{payload_of};
 ghost use Rattle.mseed_record.specs.Scan.{Decides, HasNoRecord, Needs};
 
 use crate::chain::blockettes_of;

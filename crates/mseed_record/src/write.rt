@@ -1,9 +1,11 @@
 //! Writing a header.
-ghost use Rattle.std.specs.Prelude.{◌≡◌, ◌↔◌, ◌<◌, ◌≤◌, ◌+◌, ◌/◌, ◌%◌, ◌^◌, ◌++◌, ℕ, List, length, take, drop, FitsSigned, IsErr, OnErr, OnOk};
+ghost use Rattle.std.specs.Prelude.{◌≡◌, ◌↔◌, ◌<◌, ◌≤◌, ◌+◌, ◌/◌, ◌%◌, ◌^◌, ◌++◌, ℕ, List, length, take, drop};
+ghost use Rattle.std.specs.Prelude.{FitsSigned, IsErr, OnErr, OnOk};
 ghost use Rattle.std.specs.Int.{w8, w16};
 ghost use Rattle.mseed_time.specs.Text.{padded_decimal};
 ghost use Rattle.mseed_record.specs.Fields.{header_of};
-ghost use Rattle.mseed_record.specs.Written.{IsHeaded, ReadsBack, header_bytes, name_bytes, count_bytes, blockette_1000, blockette_1001};
+ghost use Rattle.mseed_record.specs.Written.{IsHeaded, ReadsBack, header_bytes, name_bytes, count_bytes};
+ghost use Rattle.mseed_record.specs.Written.{blockette_1000, blockette_1001};
 
 use crate::fields::Fields;
 use mseed_time::Order;

@@ -7,7 +7,8 @@ ghost use Rattle.mseed_steim.specs.declared.form.Form.TheVariants.{Integers, Fra
 ghost use Rattle.mseed_steim.specs.Frames.{first_constant, last_constant};
 ghost use Rattle.mseed_steim.specs.Samples.{IsChecked, AreEnds};
 ghost use Rattle.mseed_steim.specs.declared.fault.ReadFault.{ReadFault};
-ghost use Rattle.mseed_steim.specs.Reading.{count_of, IsReading, EndsOnConstants, IsFault, Denies, HoldsIn, IsAnswer, is_little_steim};
+ghost use Rattle.mseed_steim.specs.Reading.{count_of, IsReading, EndsOnConstants, IsFault, Denies, HoldsIn, IsAnswer};
+ghost use Rattle.mseed_steim.specs.Reading.{is_little_steim};
 
 use crate::data_words::read_word;
 use crate::fault::{Ends, ReadFault};
@@ -135,9 +136,11 @@ fn check_record(view: &RecordView<'_>) -> Result<Ends, ReadFault>
 pub fn check_samples(view: &RecordView<'_>) -> Result<Ends, ReadFault>
     requires { 0 < count_of (view_of view.now) }
     // What is answered are the ends of a reading.
-    ensures ends { IfOk result (λ ends. (s : List ℤ) × (IsReading (view_of view.now) s × EndsOnConstants (view_of view.now) s × AreEnds ends s)) }
+    ensures ends { IfOk result (λ ends. (s : List ℤ)
+        × (IsReading (view_of view.now) s × EndsOnConstants (view_of view.now) s × AreEnds ends s)) }
     // There's no other, and where there is one, its ends are answered.
-    ensures only { (s : List ℤ) → IsReading (view_of view.now) s → EndsOnConstants (view_of view.now) s → IsOkAnd result (λ ends. AreEnds ends s) }
+    ensures only { (s : List ℤ) → IsReading (view_of view.now) s → EndsOnConstants (view_of view.now) s
+        → IsOkAnd result (λ ends. AreEnds ends s) }
     // A fault is answered exactly where it is the first.
     ensures fault { (f : ReadFault) → (result ≡ Err f) ↔ IsFault (view_of view.now) f }
     // A fault says that there's no reading, or that the only one ends elsewhere.

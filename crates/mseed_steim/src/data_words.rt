@@ -1,6 +1,7 @@
 //! The data words of a payload's frames.
 
-ghost use Rattle.std.specs.Prelude.{◌≡◌, ◌≢◌, ◌≤◌, ◌<◌, ◌+◌, ◌-◌, ◌*◌, ◌/◌, ◌%◌, ◌^◌, ℕ, List, [], ◌++◌, length, map, Ok};
+ghost use Rattle.std.specs.Prelude.{◌≡◌, ◌≢◌, ◌≤◌, ◌<◌, ◌+◌, ◌-◌, ◌*◌, ◌/◌, ◌%◌, ◌^◌, ℕ, List, [], ◌++◌, length, map};
+ghost use Rattle.std.specs.Prelude.{Ok};
 ghost use Rattle.std.specs.Iterator.{YieldsFirstBy, item_count};
 ghost use Rattle.mseed_steim.specs.Frames.{AreOctets, DataWord, word_at, words_from, data_words};
 ghost use Rattle.byteorder.specs.Endian.{twos_complement};
@@ -52,7 +53,8 @@ impl<'a> Model for Words<'a> {
 
     ghost view = { λ w. words_from w.payload.now w.next (w.end - w.next) };
 
-    ghost invariant = { λ w. (w.next ≤ w.end) × (w.end % 16 ≡ 0) × (4 * w.end ≤ length w.payload.now) × (w.next % 16 ≢ 0 → w.codes ≡ word_at w.payload.now (16 * (w.next / 16))) × AreOctets w.payload.now };
+    ghost invariant = { λ w. (w.next ≤ w.end) × (w.end % 16 ≡ 0) × (4 * w.end ≤ length w.payload.now)
+        × (w.next % 16 ≢ 0 → w.codes ≡ word_at w.payload.now (16 * (w.next / 16))) × AreOctets w.payload.now };
 }
 
 /// The code of a word, by its frame's codes.
@@ -155,8 +157,11 @@ impl<'a> Words<'a> {
         // What is left are the words behind them.
         ensures cut { self.old ≡ byte_run self.old ++ self.new }
         // The bytes are what they spell, in each scheme.
-        ensures spelled { (scheme : Scheme) → SpellsRun scheme (byte_run self.old) (map (λ byte. twos_complement 1 byte) result.now) }
-        ensures items { (scheme : Scheme) → items_of scheme self.old ≡ map Ok (map (λ byte. twos_complement 1 byte) result.now) ++ items_of scheme self.new }
+        ensures spelled { (scheme : Scheme)
+            → SpellsRun scheme (byte_run self.old) (map (λ byte. twos_complement 1 byte) result.now) }
+        ensures items { (scheme : Scheme)
+            → items_of scheme self.old
+            ≡ map Ok (map (λ byte. twos_complement 1 byte) result.now) ++ items_of scheme self.new }
         ensures count { length result.now ≡ 4 * length (byte_run self.old) }
         ensures few { length result.now ≤ 60 }
     {

@@ -41,7 +41,11 @@ impl<'a> Model for Differences<'a> {
 
     ghost Value = { Left };
 
-    ghost view = { λ d. record { items = map Ok d.ready ++ items_of d.scheme d.words; ready = d.ready; words = d.words } };
+    ghost view = { λ d. record {
+      items = map Ok d.ready ++ items_of d.scheme d.words;
+      ready = d.ready;
+      words = d.words;
+    } };
 }
 
 /// Passes over the words of code 00 that are next.

@@ -2,7 +2,9 @@
 
 ghost use Rattle.std.specs.Prelude.{◌≡◌, ◌<◌, ◌≤◌, ◌+◌, ◌-◌, ◌*◌, ◌%◌, ℕ, List, map, take, drop, slice_index};
 ghost use Rattle.std.specs.Simd.Lanes.{Each1, sum_l};
-ghost use Rattle.mseed_steim.specs.Lanes.{words, row_at, spanned_two, spanned_one, Begins, fine_two, ones_two, coarse_two, counts_two, moved_two, sum_z, low_one, high_one, counts_one, moved_one};
+ghost use Rattle.mseed_steim.specs.Lanes.{words, row_at, spanned_two, spanned_one, Begins, fine_two, ones_two};
+ghost use Rattle.mseed_steim.specs.Lanes.{coarse_two, counts_two, moved_two, sum_z, low_one, high_one, counts_one};
+ghost use Rattle.mseed_steim.specs.Lanes.{moved_one};
 ghost use Rattle.mseed_steim.specs.Frames.{words_from};
 ghost use Rattle.mseed_steim.specs.Moves.{MovesBy};
 
@@ -45,7 +47,10 @@ pub(crate) const FROM_1: Rows = [
 #[inline(always)]
 fn fine_of(a: u8x16, b: u8x16, c: u8x16, d: u8x16, rows: u8x16) -> u32x4
     requires { Each1 (λ r. r < 16) rows }
-    ensures { (row byte_a byte_b byte_c byte_d : ℕ → ℕ) → rows ≡ map row words → a ≡ map byte_a words → b ≡ map byte_b words → c ≡ map byte_c words → d ≡ map byte_d words → sum_l result % 4294967296 ≡ sum_l (map (λ w. fine_two (row w) (byte_a w) (byte_b w) (byte_c w) (byte_d w)) words) % 4294967296 }
+    ensures { (row byte_a byte_b byte_c byte_d : ℕ → ℕ) → rows ≡ map row words → a ≡ map byte_a words
+        → b ≡ map byte_b words → c ≡ map byte_c words → d ≡ map byte_d words
+        → sum_l result % 4294967296
+        ≡ sum_l (map (λ w. fine_two (row w) (byte_a w) (byte_b w) (byte_c w) (byte_d w)) words) % 4294967296 }
 {
     let of_a = part_by(a, rows, rows_two!(0, 0, 0, 0, 0x3E, 0), 64);
     let of_b = part(
@@ -74,7 +79,10 @@ fn fine_of(a: u8x16, b: u8x16, c: u8x16, d: u8x16, rows: u8x16) -> u32x4
 #[inline(always)]
 fn ones_of(a: u8x16, b: u8x16, c: u8x16, d: u8x16, rows: u8x16) -> u32x4
     requires { Each1 (λ r. r < 16) rows }
-    ensures { (row byte_a byte_b byte_c byte_d : ℕ → ℕ) → rows ≡ map row words → a ≡ map byte_a words → b ≡ map byte_b words → c ≡ map byte_c words → d ≡ map byte_d words → sum_l result % 4294967296 ≡ sum_l (map (λ w. ones_two (row w) (byte_a w) (byte_b w) (byte_c w) (byte_d w)) words) % 4294967296 }
+    ensures { (row byte_a byte_b byte_c byte_d : ℕ → ℕ) → rows ≡ map row words → a ≡ map byte_a words
+        → b ≡ map byte_b words → c ≡ map byte_c words → d ≡ map byte_d words
+        → sum_l result % 4294967296
+        ≡ sum_l (map (λ w. ones_two (row w) (byte_a w) (byte_b w) (byte_c w) (byte_d w)) words) % 4294967296 }
 {
     let of_a = part(
         a,
@@ -102,7 +110,10 @@ fn ones_of(a: u8x16, b: u8x16, c: u8x16, d: u8x16, rows: u8x16) -> u32x4
 #[inline(always)]
 fn coarse_of(a: u8x16, c: u8x16, rows: u8x16) -> u32x4
     requires { Each1 (λ r. r < 16) rows }
-    ensures { (row byte_a byte_b byte_c byte_d : ℕ → ℕ) → rows ≡ map row words → a ≡ map byte_a words → c ≡ map byte_c words → sum_l result % 4294967296 ≡ sum_l (map (λ w. coarse_two (row w) (byte_a w) (byte_b w) (byte_c w) (byte_d w)) words) % 4294967296 }
+    ensures { (row byte_a byte_b byte_c byte_d : ℕ → ℕ) → rows ≡ map row words → a ≡ map byte_a words
+        → c ≡ map byte_c words
+        → sum_l result % 4294967296
+        ≡ sum_l (map (λ w. coarse_two (row w) (byte_a w) (byte_b w) (byte_c w) (byte_d w)) words) % 4294967296 }
 {
     let of_a = part_by(a, rows, rows_two!(0, 0x3F, 0, 0, 0, 0), 2);
     let of_c = part_by(c, rows, rows_two!(0, 0x7F, 0x03, 0, 0, 0), 1);
@@ -112,9 +123,12 @@ fn coarse_of(a: u8x16, c: u8x16, rows: u8x16) -> u32x4
 /// The differences of a Steim-2 frame.
 #[inline(always)]
 pub(crate) fn frame_two(frame: &[u8; 64], begin: Rows) -> Moved
-    ensures count { (from : ℕ) → Begins begin from → result.count ≡ sum_l (map (λ w. slice_index counts_two (row_at frame.now from w)) words) }
-    ensures by { (from : ℕ) → Begins begin from → result.count < 128 → result.by ≡ sum_z (map (moved_two frame.now from) words) }
-    ensures near { (from : ℕ) → Begins begin from → result.count < 128 → sum_l (map (spanned_two frame.now from) words) ≤ 1048576 }
+    ensures count { (from : ℕ) → Begins begin from
+        → result.count ≡ sum_l (map (λ w. slice_index counts_two (row_at frame.now from w)) words) }
+    ensures by { (from : ℕ) → Begins begin from → result.count < 128
+        → result.by ≡ sum_z (map (moved_two frame.now from) words) }
+    ensures near { (from : ℕ) → Begins begin from → result.count < 128
+        → sum_l (map (spanned_two frame.now from) words) ≤ 1048576 }
 {
     let (a, b, c, d) = planes(frame);
     let rows = rows_of(frame, a, begin);
@@ -154,7 +168,10 @@ const COUNT_ONE: Rows = [0, 0, 0, 0, 4, 4, 4, 4, 2, 2, 2, 2, 128, 128, 128, 128]
 #[inline(always)]
 fn low_of(a: u8x16, b: u8x16, c: u8x16, d: u8x16, rows: u8x16) -> u32x4
     requires { Each1 (λ r. r < 16) rows }
-    ensures { (row byte_a byte_b byte_c byte_d : ℕ → ℕ) → rows ≡ map row words → a ≡ map byte_a words → b ≡ map byte_b words → c ≡ map byte_c words → d ≡ map byte_d words → sum_l result % 4294967296 ≡ sum_l (map (λ w. low_one (row w) (byte_a w) (byte_b w) (byte_c w) (byte_d w)) words) % 4294967296 }
+    ensures { (row byte_a byte_b byte_c byte_d : ℕ → ℕ) → rows ≡ map row words → a ≡ map byte_a words
+        → b ≡ map byte_b words → c ≡ map byte_c words → d ≡ map byte_d words
+        → sum_l result % 4294967296
+        ≡ sum_l (map (λ w. low_one (row w) (byte_a w) (byte_b w) (byte_c w) (byte_d w)) words) % 4294967296 }
 {
     let of_a = part_by(a, rows, rows_one!(255, 0), 1);
     let of_b = part_by(b, rows, rows_one!(255, 255), 1);
@@ -167,7 +184,10 @@ fn low_of(a: u8x16, b: u8x16, c: u8x16, d: u8x16, rows: u8x16) -> u32x4
 #[inline(always)]
 fn high_of(a: u8x16, c: u8x16, rows: u8x16) -> u32x4
     requires { Each1 (λ r. r < 16) rows }
-    ensures { (row byte_a byte_b byte_c byte_d : ℕ → ℕ) → rows ≡ map row words → a ≡ map byte_a words → c ≡ map byte_c words → sum_l result % 4294967296 ≡ sum_l (map (λ w. high_one (row w) (byte_a w) (byte_b w) (byte_c w) (byte_d w)) words) % 4294967296 }
+    ensures { (row byte_a byte_b byte_c byte_d : ℕ → ℕ) → rows ≡ map row words → a ≡ map byte_a words
+        → c ≡ map byte_c words
+        → sum_l result % 4294967296
+        ≡ sum_l (map (λ w. high_one (row w) (byte_a w) (byte_b w) (byte_c w) (byte_d w)) words) % 4294967296 }
 {
     let of_a = part_by(a, rows, rows_one!(0, 255), 1);
     let of_c = part_by(c, rows, rows_one!(0, 255), 1);
@@ -177,9 +197,12 @@ fn high_of(a: u8x16, c: u8x16, rows: u8x16) -> u32x4
 /// The differences of a Steim-1 frame.
 #[inline(always)]
 pub(crate) fn frame_one(frame: &[u8; 64], begin: Rows) -> Moved
-    ensures count { (from : ℕ) → Begins begin from → result.count ≡ sum_l (map (λ w. slice_index counts_one (row_at frame.now from w)) words) }
-    ensures by { (from : ℕ) → Begins begin from → result.count < 128 → result.by ≡ sum_z (map (moved_one frame.now from) words) }
-    ensures near { (from : ℕ) → Begins begin from → result.count < 128 → sum_l (map (spanned_one frame.now from) words) ≤ 1048576 }
+    ensures count { (from : ℕ) → Begins begin from
+        → result.count ≡ sum_l (map (λ w. slice_index counts_one (row_at frame.now from w)) words) }
+    ensures by { (from : ℕ) → Begins begin from → result.count < 128
+        → result.by ≡ sum_z (map (moved_one frame.now from) words) }
+    ensures near { (from : ℕ) → Begins begin from → result.count < 128
+        → sum_l (map (spanned_one frame.now from) words) ≤ 1048576 }
 {
     let (a, b, c, d) = planes(frame);
     let rows = rows_of(frame, a, begin);
@@ -201,7 +224,8 @@ pub(crate) fn frame_one(frame: &[u8; 64], begin: Rows) -> Moved
 
 /// The differences of a frame's words from word 1 or word 4 on, by its scheme.
 pub(crate) fn move_of(scheme: Scheme, frame: &[u8; 64], begin: Rows) -> Moved
-    ensures { (p : List ℕ) (k from : ℕ) → Begins begin from → frame.now ≡ take 64 (drop (64 * k) p) → MovesBy scheme (words_from p (16 * k + from) (16 - from)) result }
+    ensures { (p : List ℕ) (k from : ℕ) → Begins begin from → frame.now ≡ take 64 (drop (64 * k) p)
+        → MovesBy scheme (words_from p (16 * k + from) (16 - from)) result }
 {
     match scheme {
         Scheme::One => frame_one(frame, begin),

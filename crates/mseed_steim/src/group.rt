@@ -33,7 +33,8 @@ fn row(count: u32, width: u32) -> Option<Group>
 /// 0, and none where they have no meaning in the scheme.
 #[inline(always)]
 pub(crate) fn group_of(scheme: Scheme, code: u8, word: u32) -> Option<Group>
-    ensures { MatchOption result (differences_of scheme code word ≡ None) (λ g. differences_of scheme code word ≡ Some (digits g.width word g.count)) }
+    ensures { MatchOption result (differences_of scheme code word ≡ None)
+        (λ g. differences_of scheme code word ≡ Some (digits g.width word g.count)) }
 {
     match (scheme, code, word >> 30) {
         (_, 0, _) => row(0, 1),

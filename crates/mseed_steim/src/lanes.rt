@@ -52,7 +52,8 @@ pub(crate) fn rows_of(frame: &[u8; 64], tops: u8x16, begin: Rows) -> u8x16
 #[inline(always)]
 pub(crate) fn turn(plane: u8x16, rows: u8x16, table: Rows) -> u8x16
     requires { Each1 (λ r. r < 16) rows }
-    ensures { (byte row : ℕ → ℕ) → plane ≡ map byte words → rows ≡ map row words → result ≡ map (λ w. turned table (row w) (byte w)) words }
+    ensures { (byte row : ℕ → ℕ) → plane ≡ map byte words → rows ≡ map row words
+        → result ≡ map (λ w. turned table (row w) (byte w)) words }
 {
     plane ^ look_up(table, rows)
 }
@@ -63,7 +64,8 @@ pub(crate) fn part(plane: u8x16, rows: u8x16, mask: Rows, weight: Rows) -> u32x4
     requires rows { Each1 (λ r. r < 16) rows }
     requires long { length weight ≡ 16 }
     requires weight { T (all_below 65 weight) }
-    ensures { (byte row : ℕ → ℕ) → plane ≡ map byte words → rows ≡ map row words → sum_l result ≡ sum_l (map (λ w. kept mask weight (row w) (byte w)) words) }
+    ensures { (byte row : ℕ → ℕ) → plane ≡ map byte words → rows ≡ map row words
+        → sum_l result ≡ sum_l (map (λ w. kept mask weight (row w) (byte w)) words) }
 {
     let kept = plane & look_up(mask, rows);
     kept.dot4(look_up(weight, rows))
@@ -74,7 +76,8 @@ pub(crate) fn part(plane: u8x16, rows: u8x16, mask: Rows, weight: Rows) -> u32x4
 pub(crate) fn part_by(plane: u8x16, rows: u8x16, mask: Rows, weight: u8) -> u32x4
     requires rows { Each1 (λ r. r < 16) rows }
     requires weight { weight ≤ 64 }
-    ensures { (byte row : ℕ → ℕ) → plane ≡ map byte words → rows ≡ map row words → sum_l result ≡ sum_l (map (λ w. kept_by mask weight (row w) (byte w)) words) }
+    ensures { (byte row : ℕ → ℕ) → plane ≡ map byte words → rows ≡ map row words
+        → sum_l result ≡ sum_l (map (λ w. kept_by mask weight (row w) (byte w)) words) }
 {
     let kept = plane & look_up(mask, rows);
     kept.dot4(u8x16::splat(weight))

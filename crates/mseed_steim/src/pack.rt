@@ -1,10 +1,12 @@
 //! Differences packed into words that are as full as words can be.
 
-ghost use Rattle.std.specs.Prelude.{◌≡◌, ◌≢◌, ◌⊎◌, ◌↔◌, ℕ, ◌+◌, ◌*◌, ◌%◌, ◌<◌, ◌≤◌, ◌==◌, if◌then◌else◌, Err, IfOk, MatchResult, length, take, drop};
+ghost use Rattle.std.specs.Prelude.{◌≡◌, ◌≢◌, ◌⊎◌, ◌↔◌, ℕ, ◌+◌, ◌*◌, ◌%◌, ◌<◌, ◌≤◌, ◌==◌, if◌then◌else◌, Err, IfOk};
+ghost use Rattle.std.specs.Prelude.{MatchResult, length, take, drop};
 ghost use Rattle.std.specs.List.{AllByRecursion};
 ghost use Rattle.mseed_steim.specs.declared.scheme.Scheme.TheVariants.{Two};
 ghost use Rattle.mseed_steim.specs.Frames.{code_at, data_words, word_at, word_count};
-ghost use Rattle.mseed_steim.specs.Packing.{IsEmptyWord, IsFarthest, IsFewest, IsFirstTooLarge, IsFullest, IsTooLargeAt, LeavesRoom, PacksRun};
+ghost use Rattle.mseed_steim.specs.Packing.{IsEmptyWord, IsFarthest, IsFewest, IsFirstTooLarge, IsFullest};
+ghost use Rattle.mseed_steim.specs.Packing.{IsTooLargeAt, LeavesRoom, PacksRun};
 ghost use Rattle.mseed_steim.specs.Runs.{SpellsRun};
 
 use crate::data_words::{FRAME, WORD, read_word};
@@ -36,7 +38,8 @@ pub fn pack_word(scheme: Scheme, diffs: &[i32]) -> Result<(u8, u32, usize), TooL
     // No word spells a longer front than this one does.
     ensures fullest { IfOk result (λ word. IsFullest scheme diffs.now word.0 word.1 word.2) }
     // It's refused exactly where the first difference is too large for Steim-2.
-    ensures refused { MatchResult result (λ _. ¬ (IsTooLargeAt scheme diffs.now 0)) (λ _. IsTooLargeAt scheme diffs.now 0) }
+    ensures refused { MatchResult result (λ _. ¬ (IsTooLargeAt scheme diffs.now 0))
+        (λ _. IsTooLargeAt scheme diffs.now 0) }
 {
     match fullest_row(scheme, diffs) {
         Some(row) => Ok((row.code, word_of(row, &diffs[..row.count]), row.count)),
@@ -75,20 +78,25 @@ pub fn pack_words(scheme: Scheme, diffs: &[i32], frames: &mut [u8]) -> Result<Pa
     requires some { 0 < length frames.old }
     requires whole { length frames.old % 64 ≡ 0 }
     // The words in use hold the first `used` differences, each as many as any word can.
-    ensures packed { IfOk result (λ p. PacksRun scheme (take p.words (data_words frames.new)) diffs.now (drop p.used diffs.now)) }
-    ensures spelled { IfOk result (λ p. SpellsRun scheme (take p.words (data_words frames.new)) (take p.used diffs.now)) }
+    ensures packed { IfOk result
+        (λ p. PacksRun scheme (take p.words (data_words frames.new)) diffs.now (drop p.used diffs.now)) }
+    ensures spelled { IfOk result
+        (λ p. SpellsRun scheme (take p.words (data_words frames.new)) (take p.used diffs.now)) }
     ensures inside { IfOk result (λ p. (p.used ≤ length diffs.now) × (p.words ≤ length (data_words frames.new))) }
     // All differences are used, or all words.
     ensures whole { IfOk result (λ p. (p.used ≡ length diffs.now) ⊎ (p.words ≡ length (data_words frames.new))) }
     // All else is 0: the words behind, X0 and Xn, and the codes of words that hold no differences.
     ensures behind { IfOk result (λ p. AllByRecursion IsEmptyWord (drop p.words (data_words frames.new))) }
     ensures constants { IfOk result (λ _. (word_at frames.new 1 ≡ 0) × (word_at frames.new 2 ≡ 0)) }
-    ensures codes { IfOk result (λ _. (k : ℕ) → k < word_count frames.new → (k < 3) ⊎ (k % 16 ≡ 0) → code_at frames.new k ≡ 0) }
+    ensures codes { IfOk result (λ _. (k : ℕ) → k < word_count frames.new → (k < 3) ⊎ (k % 16 ≡ 0)
+        → code_at frames.new k ≡ 0) }
     // In Steim-2 no fewer words spell those that are used, and no list of as many words comes further.
     ensures fewest { IfOk result (λ p. scheme ≡ Two → IsFewest (take p.used diffs.now) p.words) }
     ensures farthest { IfOk result (λ p. scheme ≡ Two → IsFarthest diffs.now p.words p.used) }
     // It's refused exactly where a word is left for a difference that no word holds.
-    ensures refused { (i : ℕ) → (result ≡ Err (record { index = i })) ↔ (IsFirstTooLarge scheme diffs.now i × LeavesRoom scheme (take i diffs.now) (length (data_words frames.new))) }
+    ensures refused { (i : ℕ)
+        → (result ≡ Err (record { index = i })) ↔ (IsFirstTooLarge scheme diffs.now i
+        × LeavesRoom scheme (take i diffs.now) (length (data_words frames.new))) }
 {
     frames.fill(0);
     let mut used = 0;

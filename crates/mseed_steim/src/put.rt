@@ -1,6 +1,7 @@
 //! Differences that are added up word by word, with each sample put in its place.
 
-ghost use Rattle.std.specs.Prelude.{◌≡◌, ◌+◌, ◌*◌, ◌^◌, ◌≤◌, ◌<◌, ◌∷◌, ◌++◌, List, ℤ, nat_abs, Result, Ok, IfOk, OnOk, map, take, length};
+ghost use Rattle.std.specs.Prelude.{◌≡◌, ◌+◌, ◌*◌, ◌^◌, ◌≤◌, ◌<◌, ◌∷◌, ◌++◌, List, ℤ, nat_abs, Result, Ok, IfOk, OnOk};
+ghost use Rattle.std.specs.Prelude.{map, take, length};
 ghost use Rattle.mseed_steim.specs.declared.differences.BadWordAt.{BadWordAt};
 ghost use Rattle.mseed_steim.specs.Digits.{digits};
 ghost use Rattle.mseed_steim.specs.Frames.{DataWord, data_words};
@@ -34,8 +35,11 @@ fn put_all(word: u32, count: u32, width: u32, samples: usize, sum: Sum, out: &mu
     requires narrow { width ≤ 16 }
     requires fits { width * count ≤ 32 }
     requires near { nat_abs sum.last + 2 ^ 15 * count < 2 ^ 31 }
-    ensures goes_on { (more : List (Result ℤ BadWordAt)) → fold samples sum (map Ok (digits width word count) ++ more) ≡ fold samples result more }
-    ensures kept { (more : List (Result ℤ BadWordAt)) → take result.met out.new ++ met_in samples result more ≡ take sum.met out.old ++ met_in samples sum (map Ok (digits width word count) ++ more) }
+    ensures goes_on { (more : List (Result ℤ BadWordAt))
+        → fold samples sum (map Ok (digits width word count) ++ more) ≡ fold samples result more }
+    ensures kept { (more : List (Result ℤ BadWordAt))
+        → take result.met out.new ++ met_in samples result more
+        ≡ take sum.met out.old ++ met_in samples sum (map Ok (digits width word count) ++ more) }
     ensures met { result.met ≡ sum.met + count }
     ensures near { nat_abs result.last ≤ nat_abs sum.last + 2 ^ 15 * count }
     ensures places { length out.new ≡ samples }
@@ -57,8 +61,11 @@ fn put_row(word: u32, group: Group, samples: usize, sum: Sum, out: &mut [i32]) -
     requires left { sum.met + group.count ≤ samples }
     requires narrow { group.width ≤ 16 }
     requires near { nat_abs sum.last + 2 ^ 15 * group.count < 2 ^ 31 }
-    ensures goes_on { (more : List (Result ℤ BadWordAt)) → fold samples sum (map Ok (digits group.width word group.count) ++ more) ≡ fold samples result more }
-    ensures kept { (more : List (Result ℤ BadWordAt)) → take result.met out.new ++ met_in samples result more ≡ take sum.met out.old ++ met_in samples sum (map Ok (digits group.width word group.count) ++ more) }
+    ensures goes_on { (more : List (Result ℤ BadWordAt))
+        → fold samples sum (map Ok (digits group.width word group.count) ++ more) ≡ fold samples result more }
+    ensures kept { (more : List (Result ℤ BadWordAt))
+        → take result.met out.new ++ met_in samples result more
+        ≡ take sum.met out.old ++ met_in samples sum (map Ok (digits group.width word group.count) ++ more) }
     ensures met { result.met ≡ sum.met + group.count }
     ensures near { nat_abs result.last ≤ nat_abs sum.last + 2 ^ 15 * group.count }
     ensures places { length out.new ≡ samples }
@@ -86,10 +93,12 @@ fn put_each(
 ) -> Result<Sum, ReadFault>
     requires places { length out.old ≡ samples }
     requires met { sum.met ≤ samples }
-    ensures goes_on { (more : List (Result ℤ BadWordAt)) → GoesOn samples sum (map Ok (digits group.width word group.count) ++ more) more result }
+    ensures goes_on { (more : List (Result ℤ BadWordAt))
+        → GoesOn samples sum (map Ok (digits group.width word group.count) ++ more) more result }
     ensures met { IfOk result (λ next. next.met ≤ samples) }
     ensures places { length out.new ≡ samples }
-    ensures kept { (more : List (Result ℤ BadWordAt)) → Keeps samples sum out.old (map Ok (digits group.width word group.count) ++ more) more out.new result }
+    ensures kept { (more : List (Result ℤ BadWordAt))
+        → Keeps samples sum out.old (map Ok (digits group.width word group.count) ++ more) more out.new result }
 {
     let mut sum = sum;
     for i in 0..group.count {
@@ -118,8 +127,10 @@ fn put_word(
 ) -> Result<Sum, ReadFault>
     requires places { length out.old ≡ samples }
     requires met { sum.met ≤ samples }
-    ensures goes_on { (rest : List DataWord) → GoesOn samples sum (items_of scheme (as_data word ∷ rest)) (items_of scheme rest) result }
-    ensures kept { (rest : List DataWord) → Keeps samples sum out.old (items_of scheme (as_data word ∷ rest)) (items_of scheme rest) out.new result }
+    ensures goes_on { (rest : List DataWord)
+        → GoesOn samples sum (items_of scheme (as_data word ∷ rest)) (items_of scheme rest) result }
+    ensures kept { (rest : List DataWord)
+        → Keeps samples sum out.old (items_of scheme (as_data word ∷ rest)) (items_of scheme rest) out.new result }
     ensures met { IfOk result (λ next. next.met ≤ samples) }
     ensures places { length out.new ≡ samples }
 {
@@ -147,8 +158,11 @@ fn put_run(
     requires some { 0 < sum.met }
     requires met { sum.met ≤ samples }
     requires near { nat_abs sum.last + 2 ^ 18 * most ≤ 2 ^ 31 }
-    ensures goes_on { fold samples sum (items_of scheme words.old) ≡ fold samples result.0 (items_of scheme (with_first result.1 words.new)) }
-    ensures kept { take result.0.met out.new ++ met_in samples result.0 (items_of scheme (with_first result.1 words.new)) ≡ take sum.met out.old ++ met_in samples sum (items_of scheme words.old) }
+    ensures goes_on { fold samples sum (items_of scheme words.old)
+        ≡ fold samples result.0 (items_of scheme (with_first result.1 words.new)) }
+    ensures kept { take result.0.met out.new
+        ++ met_in samples result.0 (items_of scheme (with_first result.1 words.new))
+        ≡ take sum.met out.old ++ met_in samples sum (items_of scheme words.old) }
     ensures met { result.0.met ≤ samples }
     ensures places { length out.new ≡ samples }
     ensures fewer { length words.new ≤ length words.old }
@@ -216,8 +230,10 @@ pub(crate) fn put_words(
     out: &mut [i32],
 ) -> Result<Sum, ReadFault>
     requires { length out.old ≡ samples }
-    ensures folded { result ≡ fold samples (record { met = 0; last = first }) (items_of scheme (data_words payload.now)) }
-    ensures kept { OnOk result (out.new ≡ met_in samples (record { met = 0; last = first }) (items_of scheme (data_words payload.now))) }
+    ensures folded { result
+        ≡ fold samples (record { met = 0; last = first }) (items_of scheme (data_words payload.now)) }
+    ensures kept { OnOk result (out.new
+        ≡ met_in samples (record { met = 0; last = first }) (items_of scheme (data_words payload.now))) }
 {
     let mut sum = Sum {
         met: 0,

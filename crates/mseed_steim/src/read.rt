@@ -122,7 +122,8 @@ fn read_record<A: Allocator + Drop>(
     view: &RecordView<'_>,
 ) -> Result<Vec<i32, A>, ReadFault>
     requires { 0 < count_of (view_of view.now) }
-    ensures { MatchResult result (λ samples. IsWhole (view_of view.now) samples.items) (λ fault. IsRefusal (view_of view.now) fault) }
+    ensures { MatchResult result (λ samples. IsWhole (view_of view.now) samples.items)
+        (λ fault. IsRefusal (view_of view.now) fault) }
 {
     let samples = usize::from(view.samples());
     let mut out = match zeros(alloc, samples) {
@@ -155,7 +156,8 @@ pub fn read_samples<A: Allocator + Drop>(
     // What is answered is a reading that ends on its constants.
     ensures reading { IfOk result (λ samples. IsWhole (view_of view.now) samples.items) }
     // There's no other, and where there is one, it's answered unless memory lacks.
-    ensures only { (s : List ℤ) → IsWhole (view_of view.now) s → MatchResult result (λ samples. samples.items ≡ s) (λ fault. fault ≡ Memory) }
+    ensures only { (s : List ℤ) → IsWhole (view_of view.now) s
+        → MatchResult result (λ samples. samples.items ≡ s) (λ fault. fault ≡ Memory) }
     // A fault is answered where it is the first, and no other; memory lacks only where there's a reading.
     ensures fault { (f : ReadFault) → IsFault (view_of view.now) f → result ≡ Err f }
     ensures refused { IfErr result (λ fault. IsRefusal (view_of view.now) fault) }

@@ -52,7 +52,8 @@ impl Ready {
 
     /// Gives the next.
     pub(crate) fn next(&mut self) -> Option<i32>
-        ensures { MatchOption result ((self.old ≡ []) × (self.new ≡ [])) (λ difference. self.old ≡ difference ∷ self.new) }
+        ensures { MatchOption result ((self.old ≡ [])
+            × (self.new ≡ [])) (λ difference. self.old ≡ difference ∷ self.new) }
     {
         if self.given == self.count {
             return None;

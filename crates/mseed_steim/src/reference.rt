@@ -17,9 +17,12 @@ use crate::word::differences_in;
 fn put_all(differences: &[i32], samples: usize, sum: Sum, out: &mut [i32]) -> Result<Sum, ReadFault>
     requires room { length out.old ≡ samples }
     requires met { sum.met ≤ samples }
-    ensures goes_on { (more : List (Result ℤ BadWordAt)) → GoesOn samples sum (map Ok differences.now ++ more) more result }
+    ensures goes_on { (more : List (Result ℤ BadWordAt))
+        → GoesOn samples sum (map Ok differences.now ++ more) more result }
     ensures met { IfOk result (λ next. next.met ≤ samples) }
-    ensures kept { IfOk result (λ next. (more : List (Result ℤ BadWordAt)) → take next.met out.new ++ met_in samples next more ≡ take sum.met out.old ++ met_in samples sum (map Ok differences.now ++ more)) }
+    ensures kept { IfOk result (λ next. (more : List (Result ℤ BadWordAt))
+        → take next.met out.new ++ met_in samples next more
+        ≡ take sum.met out.old ++ met_in samples sum (map Ok differences.now ++ more)) }
 {
     let mut sum = sum;
     for i in 0..differences.len() {
@@ -47,8 +50,10 @@ pub(crate) fn put_words(
     out: &mut [i32],
 ) -> Result<Sum, ReadFault>
     requires { length out.old ≡ samples }
-    ensures folded { result ≡ fold samples (record { met = 0; last = first }) (items_of scheme (data_words payload.now)) }
-    ensures kept { OnOk result (out.new ≡ met_in samples (record { met = 0; last = first }) (items_of scheme (data_words payload.now))) }
+    ensures folded { result
+        ≡ fold samples (record { met = 0; last = first }) (items_of scheme (data_words payload.now)) }
+    ensures kept { OnOk result (out.new
+        ≡ met_in samples (record { met = 0; last = first }) (items_of scheme (data_words payload.now))) }
 {
     let mut sum = Sum {
         met: 0,

@@ -21,7 +21,8 @@ pub(crate) fn add_difference(difference: i32, samples: usize, sum: Sum) -> Resul
     requires { sum.met < samples }
     ensures goes_on { (more : List (Result ℤ BadWordAt)) → GoesOn samples sum (Ok difference ∷ more) more result }
     ensures met { IfOk result (λ next. next.met ≡ sum.met + 1) }
-    ensures kept { IfOk result (λ next. (more : List (Result ℤ BadWordAt)) → met_in samples sum (Ok difference ∷ more) ≡ next.last ∷ met_in samples next more) }
+    ensures kept { IfOk result (λ next. (more : List (Result ℤ BadWordAt))
+        → met_in samples sum (Ok difference ∷ more) ≡ next.last ∷ met_in samples next more) }
 {
     if sum.met == 0 {
         return Ok(Sum { met: 1, ..sum });
@@ -41,8 +42,10 @@ pub(crate) fn add_near(difference: i32, samples: usize, sum: Sum) -> Sum
     requires some { 0 < sum.met }
     requires left { sum.met < samples }
     requires near { nat_abs sum.last + nat_abs difference < 2 ^ 31 }
-    ensures goes_on { (more : List (Result ℤ BadWordAt)) → fold samples sum (Ok difference ∷ more) ≡ fold samples result more }
-    ensures kept { (more : List (Result ℤ BadWordAt)) → met_in samples sum (Ok difference ∷ more) ≡ result.last ∷ met_in samples result more }
+    ensures goes_on { (more : List (Result ℤ BadWordAt))
+        → fold samples sum (Ok difference ∷ more) ≡ fold samples result more }
+    ensures kept { (more : List (Result ℤ BadWordAt))
+        → met_in samples sum (Ok difference ∷ more) ≡ result.last ∷ met_in samples result more }
     ensures met { result.met ≡ sum.met + 1 }
     ensures last { result.last ≡ sum.last +ℤ difference }
 {
@@ -55,7 +58,8 @@ pub(crate) fn add_near(difference: i32, samples: usize, sum: Sum) -> Sum
 /// The differences of a group in the low bits of a word, as far as they are needed.
 pub(crate) fn add_group(word: u32, group: Group, samples: usize, sum: Sum) -> Result<Sum, ReadFault>
     requires { sum.met ≤ samples }
-    ensures goes_on { (more : List (Result ℤ BadWordAt)) → GoesOn samples sum (map Ok (digits group.width word group.count) ++ more) more result }
+    ensures goes_on { (more : List (Result ℤ BadWordAt))
+        → GoesOn samples sum (map Ok (digits group.width word group.count) ++ more) more result }
     ensures met { IfOk result (λ next. next.met ≤ samples) }
 {
     let mut sum = sum;

@@ -1,6 +1,7 @@
 //! Walks over a payload's frames.
 
-ghost use Rattle.std.specs.Prelude.{◌≡◌, ◌≤◌, ◌<◌, ◌+◌, ◌*◌, List, ◌∷◌, ◌++◌, ℤ, Result, Ok, IfOk, IfSome, map, take, drop, length};
+ghost use Rattle.std.specs.Prelude.{◌≡◌, ◌≤◌, ◌<◌, ◌+◌, ◌*◌, List, ◌∷◌, ◌++◌, ℤ, Result, Ok, IfOk, IfSome, map, take};
+ghost use Rattle.std.specs.Prelude.{drop, length};
 ghost use Rattle.mseed_steim.specs.declared.differences.BadWordAt.{BadWordAt};
 ghost use Rattle.mseed_steim.specs.Frames.{DataWord, data_words, words_from};
 ghost use Rattle.mseed_steim.specs.Items.{items_of};
@@ -21,7 +22,8 @@ const REACH: u32 = 1 << 20;
 /// The differences of a word, as far as they are needed.
 fn add_word(scheme: Scheme, word: Word, samples: usize, sum: Sum) -> Result<Sum, ReadFault>
     requires { sum.met ≤ samples }
-    ensures goes_on { (rest : List DataWord) → GoesOn samples sum (items_of scheme (as_data word ∷ rest)) (items_of scheme rest) result }
+    ensures goes_on { (rest : List DataWord)
+        → GoesOn samples sum (items_of scheme (as_data word ∷ rest)) (items_of scheme rest) result }
     ensures met { IfOk result (λ next. next.met ≤ samples) }
 {
     if samples <= sum.met {
@@ -37,7 +39,8 @@ fn add_word(scheme: Scheme, word: Word, samples: usize, sum: Sum) -> Result<Sum,
 #[cold]
 fn add_words(scheme: Scheme, words: Words<'_>, samples: usize, sum: Sum) -> Result<Sum, ReadFault>
     requires { sum.met ≤ samples }
-    ensures goes_on { (rest : List DataWord) → GoesOn samples sum (items_of scheme (words.entry ++ rest)) (items_of scheme rest) result }
+    ensures goes_on { (rest : List DataWord)
+        → GoesOn samples sum (items_of scheme (words.entry ++ rest)) (items_of scheme rest) result }
     ensures met { IfOk result (λ next. next.met ≤ samples) }
 {
     let mut sum = sum;
@@ -57,7 +60,8 @@ fn add_words(scheme: Scheme, words: Words<'_>, samples: usize, sum: Sum) -> Resu
 fn add_at_once(moved: Moved, samples: usize, sum: Sum) -> Option<Sum>
     requires { sum.met ≤ samples }
     ensures few { IfSome result (λ _. moved.count < 128) }
-    ensures goes_on { IfSome result (λ next. (ds : List ℤ) (more : List (Result ℤ BadWordAt)) → Moves moved ds → fold samples sum (map Ok ds ++ more) ≡ fold samples next more) }
+    ensures goes_on { IfSome result (λ next. (ds : List ℤ) (more : List (Result ℤ BadWordAt)) → Moves moved ds
+        → fold samples sum (map Ok ds ++ more) ≡ fold samples next more) }
     ensures met { IfSome result (λ next. next.met ≤ samples) }
 {
     let count = moved.count as usize;
@@ -84,7 +88,9 @@ fn add_first_frame(
 ) -> Result<Sum, ReadFault>
     requires inside { 64 ≤ length payload.now }
     requires front { frame.now ≡ take 64 payload.now }
-    ensures goes_on { (rest : List DataWord) → GoesOn samples (record { met = 0; last = first }) (items_of scheme (words_from payload.now 3 13 ++ rest)) (items_of scheme rest) result }
+    ensures goes_on { (rest : List DataWord)
+        → GoesOn samples (record { met = 0; last = first })
+        (items_of scheme (words_from payload.now 3 13 ++ rest)) (items_of scheme rest) result }
     ensures met { IfOk result (λ next. next.met ≤ samples) }
 {
     let none = Sum {
@@ -117,7 +123,9 @@ fn add_frame(
     requires inside { 64 * (index + 1) ≤ length payload.now }
     requires at { frame.now ≡ take 64 (drop (64 * index) payload.now) }
     requires met { sum.met ≤ samples }
-    ensures goes_on { (rest : List DataWord) → GoesOn samples sum (items_of scheme (words_from payload.now (16 * index) 16 ++ rest)) (items_of scheme rest) result }
+    ensures goes_on { (rest : List DataWord)
+        → GoesOn samples sum
+        (items_of scheme (words_from payload.now (16 * index) 16 ++ rest)) (items_of scheme rest) result }
     ensures met { IfOk result (λ next. next.met ≤ samples) }
 {
     match add_at_once(move_of(scheme, frame, FROM_1), samples, sum) {

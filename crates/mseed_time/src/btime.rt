@@ -37,7 +37,14 @@ pub struct Btime {
     pub second: u8,
     /// Ten-thousandths of a second.
     pub fraction: u16,
-    pub ghost valid: { IsTime (record { year = year; day = day; hour = hour; minute = minute; second = second; fraction = fraction }) },
+    pub ghost valid: { IsTime (record {
+      year = year;
+      day = day;
+      hour = hour;
+      minute = minute;
+      second = second;
+      fraction = fraction;
+    }) },
 }
 
 impl Btime {

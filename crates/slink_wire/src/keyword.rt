@@ -19,7 +19,8 @@ pub(crate) enum Keyword {
 /// The keyword that a word is, in either case.
 #[tactic(auto, using(crate::proofs::Keywords::no_keyword))]
 pub(crate) fn keyword_of(word: &[u8]) -> Option<Keyword>
-    ensures { MatchOption result ((k : Keyword) → in_small_letters word.now ≢ text_of k) (λ k. in_small_letters word.now ≡ text_of k) }
+    ensures { MatchOption result ((k : Keyword) → in_small_letters word.now ≢ text_of k)
+        (λ k. in_small_letters word.now ≡ text_of k) }
 {
     if word.eq_ignore_ascii_case(b"hello") {
         Some(Keyword::Hello)

@@ -7,5 +7,6 @@ ghost use Rattle.slink_wire.specs.Taking.{AreCalls, Call, bytes_in, lines_in};
 #[tactic(auto, using(crate::proofs::Calls::calls_tell, crate::proofs::Calls::calls_alike))]
 pub fn any_pieces()
     ensures lines { (calls : List Call) → AreCalls [] calls → lines_in calls ≡ (lines_of (bytes_in calls)).lines }
-    ensures alike { (a b : List Call) → AreCalls [] a → AreCalls [] b → bytes_in a ≡ bytes_in b → lines_in a ≡ lines_in b }
+    ensures alike { (a b : List Call) → AreCalls [] a → AreCalls [] b → bytes_in a ≡ bytes_in b
+        → lines_in a ≡ lines_in b }
 {}

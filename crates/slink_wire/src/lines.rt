@@ -85,7 +85,8 @@ impl Lines {
     /// lines, so that the pieces make no difference.
     pub fn take(&mut self, piece: &[u8]) -> Took
         // What is held goes on to stand for the bytes taken.
-        ensures held { (stream : List ℕ) → IsHeld self.old stream → IsHeld self.new (stream ++ take result.used piece.now) }
+        ensures held { (stream : List ℕ) → IsHeld self.old stream
+            → IsHeld self.new (stream ++ take result.used piece.now) }
         // The answer is what these bytes add to what the stream spells.
         ensures told { (stream : List ℕ) → IsHeld self.old stream
             → Tells result.what stream (stream ++ take result.used piece.now) }
@@ -94,7 +95,8 @@ impl Lines {
             → TellsNothing stream (stream ++ take k piece.now) }
         ensures whole { result.what ≡ What.More → result.used ≡ length piece.now }
         ensures bound { result.used ≤ length piece.now }
-        ensures repeats { self.old.is_too_long ≡ true → (result ≡ record { used = 0; what = What.TooLong }) × (self.new ≡ self.old) }
+        ensures repeats { self.old.is_too_long ≡ true
+            → (result ≡ record { used = 0; what = What.TooLong }) × (self.new ≡ self.old) }
     {
         if self.is_too_long {
             return Took {
