@@ -1,5 +1,6 @@
 pub mod Answered
 pub mod Behind
+pub mod Briefly
 pub mod Commanded
 pub mod Done
 pub mod Fitting

@@ -37,7 +37,7 @@ sound_more place xs b long bears sound i r h = elim (get_last xs b i r h) [
 ]
 
 -- one step after another
-abbrev AreOf : Places → List Step → Type 0
+abbrev pub AreOf : Places → List Step → Type 0
 AreOf places [] = Unit {0}
 AreOf places (step ∷ steps) = IsOf places step × IsSound step × AreOf places steps
 
@@ -235,7 +235,7 @@ module _ (places : Places) (first : ℕ) where
   delivered_ties w v n (Some l) None differ lacks windows pushed was is s unlinked t = absurd s
   delivered_ties w v n (Some l) (Some m) differ lacks windows pushed was is s unlinked t = heard_ties w v n l m differ lacks windows pushed is s t (subst (IsLinkTied places first w) was t.link)
 
-  step_ties : (w v : WorldState) (step : Step) → length places ≤ 16 → Differ places → IsOf places step → IsSound step → LacksFew first w → Happens w step v → WorldTies places first w → WorldTies places first v
+  pub step_ties : (w v : WorldState) (step : Step) → length places ≤ 16 → Differ places → IsOf places step → IsSound step → LacksFew first w → Happens w step v → WorldTies places first w → WorldTies places first v
   step_ties w v (Append k b) most differ of sound lacks h t = subst (WorldTies places first) (sym h) (append_ties w k b of sound t)
   step_ties w v Connect most differ of sound lacks h t = connect_ties w v h t
   step_ties w v (ToServer n) most differ of sound lacks h t = subst (WorldTies places first) (sym h.0) (linked_ties w v.link t (served_tied w n w.link v.link t t.link h.1))
@@ -279,7 +279,7 @@ none_number [] k = refl
 none_number (p ∷ ps) zero = refl
 none_number (p ∷ ps) (suc k) = none_number ps k
 
-nothing_at : (ps : Places) (k : ℕ) → ◌≡◌ {A = List (List ℕ)} (get_or (map (λ _. []) ps) k []) []
+pub nothing_at : (ps : Places) (k : ℕ) → ◌≡◌ {A = List (List ℕ)} (get_or (map (λ _. []) ps) k []) []
 nothing_at [] k = refl
 nothing_at (p ∷ ps) zero = refl
 nothing_at (p ∷ ps) (suc k) = nothing_at ps k
@@ -303,7 +303,7 @@ opening_ties setup room =
       link = tt;
     }
 
-each_of : (places : Places) (steps : List Step) → All (IsOf places) steps → All IsSound steps → AreOf places steps
+pub each_of : (places : Places) (steps : List Step) → All (IsOf places) steps → All IsSound steps → AreOf places steps
 each_of places [] of sound = tt
 each_of places (step ∷ steps) of sound =
     (of 0 step (omega arith), sound 0 step (omega arith), each_of places steps (λ k d lt. of (suc k) d (omega (arith, lt))) (λ k d lt. sound (suc k) d (omega (arith, lt))))

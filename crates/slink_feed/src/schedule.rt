@@ -105,6 +105,9 @@ pub fn run_schedule(alloc: Global, setup: &Setup, steps: &[Step]) -> Result<Worl
     ensures slices { IfOk result (λ w. (run : AllHappen (opening setup.now) steps.now (seen w))
         → LackFew setup.now.first (opening setup.now) steps.now (seen w) run
         → HoldsStretches setup.now.places.items setup.now.first (seen w)) }
+    // So it is after fewer than 2^24 steps.
+    ensures brief { IfOk result (λ w. AllHappen (opening setup.now) steps.now (seen w) → length steps.now < 2 ^ 24
+        → HoldsStretches setup.now.places.items setup.now.first (seen w)) }
     // A client that comes again is then granted the record behind the last one held exactly where it can be, and no
     // other.
     ensures resumes { IfOk result (λ w. (run : AllHappen (opening setup.now) steps.now (seen w))

@@ -3,6 +3,7 @@ use Rattle.slink_feed.specs.declared.world.Step.TheVariants.{Append}
 use Rattle.slink_feed.specs.Running.{AreRings}
 use Rattle.slink_feed.specs.World.{AllHappen, WorldState, seen}
 use Rattle.slink_feed.specs.Stretch.{IsSound}
+use Rattle.slink_feed.proofs.Briefly.{brief_held}
 use Rattle.slink_feed.proofs.Items.{same_or_not}
 use Rattle.slink_feed.proofs.Worlds.{schedule_is, stretch_held}
 use Rattle.slink_feed.proofs.Resumed.{resume_granted, stretch_carried}
@@ -48,3 +49,7 @@ returns-clause-resumes c = λ run lacks. resume_granted c.args.setup.now c.args.
 pub returns-clause-carried : goal.returns-clause-carried
 returns-clause-carried c = λ run lacks l is. stretch_carried c.args.setup.now c.args.steps.now (seen c.loop-step.world) run
     (schedule_is c.args.setup.now c.args.steps.now c.requires.count c.requires.capacity.1 c.requires.differ c.requires.steps (λ k lt. c.loop-step.invariant.sound k (omega (arith, lt)))) lacks l is
+
+pub returns-clause-brief : goal.returns-clause-brief
+returns-clause-brief c = λ run brief. brief_held c.args.setup.now c.args.steps.now (seen c.loop-step.world) run
+    (schedule_is c.args.setup.now c.args.steps.now c.requires.count c.requires.capacity.1 c.requires.differ c.requires.steps (λ k lt. c.loop-step.invariant.sound k (omega (arith, lt)))) brief
