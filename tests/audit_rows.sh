@@ -267,7 +267,7 @@ byte_faults 'length 255' 54
 byte 0 "$two" 27 29 36 37 38 39 50 51 53 {55..127}
 
 check 'no word' 3 '' 'mseed: bad value\n' two
-check 'another word' 3 '' 'mseed: bad value\n' two repack
+check 'another word' 3 '' 'mseed: bad value\n' two unpack
 check 'an option of another command' 3 '' 'mseed: bad value\n' two audit --port 18000
 check 'two words' 3 '' 'mseed: bad value\n' two audit audit
 check 'an empty word' 3 '' 'mseed: bad value\n' two ''

@@ -1,3 +1,6 @@
 pub mod Written
 pub mod Taken
 pub mod Gathered
+pub mod Repacks
+pub mod Wholes
+pub mod Asked

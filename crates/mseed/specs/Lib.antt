@@ -6,3 +6,6 @@ pub mod Listing
 pub mod Show
 pub mod Gathering
 pub mod Done
+pub mod Repack
+pub mod Repacking
+pub mod Repacked

@@ -1,13 +1,17 @@
 -- What the words of the command line ask for.
-use Rattle.std.specs.Prelude.{◌≡◌, ◌≢◌, ◌==◌, List, [], length, if◌then◌else◌, Option, Some, None, codes}
+use Rattle.std.specs.Prelude.{⊤, ◌≡◌, ◌≢◌, ◌≤◌, ◌==◌, ◌+◌, ◌-◌, ◌*◌, ◌^◌, ◌&&◌, ◌||◌, not, nat_le, ℕ, Bool, List, [], ◌∷◌, length, map, if◌then◌else◌}
+use Rattle.std.specs.Prelude.{Option, Some, None, option_and_then, codes}
+use Rattle.std.specs.List.{list_all}
 use Rattle.std.specs.Str.{bytes_eq}
 use Rattle.clap.specs.Walk.{Row, Text, first_of}
 use Rattle.clap.specs.Simple.{matches_of}
 use Rattle.clap.specs.Kinds.{Kinds}
 use Rattle.clap.specs.Faults.{fault_of}
+use Rattle.mseed_pack.specs.declared.options.Encoding.{Encoding}
+use Rattle.mseed_pack.specs.declared.options.Encoding.TheVariants.{Int16, Int32, Steim1, Steim2}
 use Rattle.mseed.specs.Options.{the_command}
 use Rattle.mseed.specs.declared.request.Request.{Request}
-use Rattle.mseed.specs.declared.request.Request.TheVariants.{Audit, Show}
+use Rattle.mseed.specs.declared.request.Request.TheVariants.{Audit, Show, Repack}
 
 -- why `clap` refuses the words, a call for help included; none where it takes them
 abbrev pub faults_in : List Text → Kinds
@@ -17,19 +21,79 @@ faults_in words = fault_of the_command words
 abbrev pub entries_in : List Text → List Row
 entries_in words = matches_of the_command words
 
+-- decimal digits as a number, the highest first
+abbrev pub value_of : Text → ℕ
+value_of [] = 0
+value_of (c ∷ cs) = (c - 48) * 10 ^ length cs + value_of cs
+
+abbrev pub is_digit : ℕ → Bool
+is_digit c = nat_le 48 c && nat_le c 57
+
+-- a length: one to seven digits, which may begin with zeros
+abbrev pub number_in : Text → Option ℕ
+number_in text =
+    if not (length text == 0) && nat_le (length text) 7 && list_all is_digit text then Some (value_of text) else None
+
+-- the power of two that a record's length is
+abbrev pub exponent_by : ℕ → Option ℕ
+exponent_by n =
+    if n == 2 ^ 7 then Some 7 else if n == 2 ^ 8 then Some 8 else if n == 2 ^ 9 then Some 9
+    else if n == 2 ^ 10 then Some 10 else if n == 2 ^ 11 then Some 11 else if n == 2 ^ 12 then Some 12 else None
+
+-- records of 512 bytes where no length is said
+abbrev pub exponent_in : Option Text → Option ℕ
+exponent_in None = Some 9
+exponent_in (Some text) = option_and_then exponent_by (number_in text)
+
+-- the encoding that a word names
+abbrev pub encoding_named : Text → Option Encoding
+encoding_named word =
+    if bytes_eq word (codes "int16") then Some Int16 else if bytes_eq word (codes "int32") then Some Int32
+    else if bytes_eq word (codes "steim1") then Some Steim1 else if bytes_eq word (codes "steim2") then Some Steim2 else None
+
+-- Steim-2 where no encoding is said
+abbrev pub encoding_in : Option Text → Option Encoding
+encoding_in None = Some Steim2
+encoding_in (Some word) = encoding_named word
+
+-- what packing anew takes: its word, a length and an encoding
+abbrev pub is_of_packing : Text → Bool
+is_of_packing id = bytes_eq id (codes "command") || (bytes_eq id (codes "length") || bytes_eq id (codes "encoding"))
+
+abbrev pub packing_with : Option ℕ → Option Encoding → Option Request
+packing_with None encoding = None
+packing_with (Some exponent) None = None
+packing_with (Some exponent) (Some encoding) = Some (Repack (record { exponent = exponent; encoding = encoding }))
+
+abbrev pub packing_of : List Row → Option Request
+packing_of rows =
+    if list_all is_of_packing (map (λ r. r.id) rows)
+    then packing_with (exponent_in (first_of (codes "length") rows)) (encoding_in (first_of (codes "encoding") rows))
+    else None
+
+-- a command that takes its word alone
+abbrev pub alone : Request → List Row → Option Request
+alone request rows = if length rows == 1 then Some request else None
+
 -- what a command's word asks for
-abbrev pub request_named : Text → Option Request
-request_named word =
-    if bytes_eq word (codes "audit") then Some Audit
-    else if bytes_eq word (codes "show") then Some Show else None
+abbrev pub request_named : Text → List Row → Option Request
+request_named word rows =
+    if bytes_eq word (codes "audit") then alone Audit rows
+    else if bytes_eq word (codes "show") then alone Show rows
+    else if bytes_eq word (codes "repack") then packing_of rows else None
 
-abbrev pub request_by : Option Text → Option Request
-request_by None = None
-request_by (Some word) = request_named word
+abbrev pub request_by : Option Text → List Row → Option Request
+request_by None rows = None
+request_by (Some word) rows = request_named word rows
 
--- these commands take their word alone
 abbrev pub request_of : List Row → Option Request
-request_of rows = if length rows == 1 then request_by (first_of (codes "command") rows) else None
+request_of rows = request_by (first_of (codes "command") rows) rows
+
+-- records of 128 to 4096 bytes
+abbrev pub CanBeAsked : Request → Type 0
+CanBeAsked Audit = ⊤
+CanBeAsked Show = ⊤
+CanBeAsked (Repack packing) = (7 ≤ packing.exponent) × (packing.exponent ≤ 12)
 
 -- the words ask for this
 pub record AsksFor (words : List Text) (request : Request) : Type 0 where

@@ -5,22 +5,29 @@ ghost use Rattle.mseed_audit.specs.declared.archive.AuditFault.{AuditFault};
 ghost use Rattle.mseed_audit.specs.declared.archive.Summary.{Summary};
 ghost use Rattle.mseed.specs.Outcome.{IsAuditRun, IsBadRun, Tells, summary_status};
 ghost use Rattle.mseed.specs.Run.{status_in};
-ghost use Rattle.mseed.specs.Words.{AsksFor, AsksForNothing, AreRefused};
+ghost use Rattle.mseed.specs.Words.{AsksFor, AsksForNothing, AreRefused, CanBeAsked};
 ghost use Rattle.mseed.specs.Done.{IsShowRun, IsMemoryRun, IsRefusedRun};
+ghost use Rattle.mseed.specs.Repacked.{IsRepackRun, IsRefusedRepack, refusal_status};
 ghost use Rattle.clap.specs.Values.{kind_of};
 ghost use Rattle.mseed_stream.specs.declared.fault.StreamFault.{StreamFault};
 ghost use Rattle.mseed.specs.declared.ending.ShowFault.{ShowFault};
 ghost use Rattle.mseed.specs.declared.request.Request.{Request};
 ghost use Rattle.clap.specs.declared.error.kind.ErrorKind.{ErrorKind};
+ghost use Rattle.mseed.specs.declared.request.Packing.{Packing};
+ghost use Rattle.mseed_pack.specs.Options.{code_of};
 
 use crate::ending::ShowFault;
 use crate::outcome::{BAD_COMMAND, BROKEN, DONE, FAULT, Run};
-use crate::request::Request;
+use crate::refusal::push_refusal;
+use crate::repack::repack;
+use crate::repack_fault::RepackFault;
+use crate::request::{Packing, Request};
 use crate::show::show;
 use crate::words;
 use clap::Error;
 use clap::error::ErrorKind;
 use mseed_audit::{AuditFault, Summary, audit};
+use mseed_pack::Options;
 use mseed_stream::{Sink, Source, write_all_of};
 use std::alloc::{Allocator, Global};
 
@@ -29,8 +36,10 @@ use std::alloc::{Allocator, Global};
 /// `audit` writes the audit of the records of `input` to `output`: status 0 where every channel is
 /// continuous, 1 where one is broken, and 2 where the input ended with a fault, which the text names, or
 /// where the text couldn't be written whole. `show` lists the records: status 0, or 2 where the input ended
-/// with a fault, which the listing names, or where it couldn't be written whole. Other words are a bad
-/// command line: status 3. Where there was no memory for the words, status 2. The input is one of which
+/// with a fault, which the listing names, or where it couldn't be written whole. `repack` packs the archive
+/// anew: status 0, 1 where a channel is broken, and 2 where the input is no whole archive, where a channel can't
+/// be packed, or where the output failed; `errors` takes a line that says so. Other words are a bad command
+/// line: status 3. Where there was no memory for the words, status 2. The input is one of which
 /// nothing was read yet.
 pub fn run<R: Source, W: Sink, E: Sink>(
     alloc: Global,
@@ -48,6 +57,11 @@ pub fn run<R: Source, W: Sink, E: Sink>(
     ensures show { AsksFor (map (λ word. word.now) words.now) Request.Show
         → ((outcome : Result (Option StreamFault) ShowFault) × IsShowRun outcome (status_in result) (R.heard input.new)
         (W.said output.old) (W.said output.new) (E.said errors.old) (E.said errors.new))
+        ⊎ IsMemoryRun (status_in result) (R.heard input.old) (R.heard input.new)
+        (W.said output.old) (W.said output.new) (E.said errors.old) (E.said errors.new) }
+    ensures repack { (packing : Packing) → AsksFor (map (λ word. word.now) words.now) (Request.Repack packing)
+        → IsRepackRun packing (status_in result) (R.heard input.new)
+        (W.said output.old) (W.said output.new) (E.said errors.old) (E.said errors.new)
         ⊎ IsMemoryRun (status_in result) (R.heard input.old) (R.heard input.new)
         (W.said output.old) (W.said output.new) (E.said errors.old) (E.said errors.new) }
     ensures bad { AsksForNothing (map (λ word. word.now) words.now)
@@ -76,17 +90,22 @@ pub fn carry_out<A: Allocator + Copy, R: Source, W: Sink, E: Sink>(
     output: &mut W,
     errors: &mut E,
 ) -> Run
-    requires { R.heard input.old ≡ nothing_heard }
+    requires unread { R.heard input.old ≡ nothing_heard }
+    requires asked { CanBeAsked request }
     ensures audit { request ≡ Request.Audit
         → (outcome : Result Summary AuditFault) × IsAuditRun outcome (status_in result) (R.heard input.new)
         (W.said output.old) (W.said output.new) (E.said errors.old) (E.said errors.new) }
     ensures show { request ≡ Request.Show
         → (outcome : Result (Option StreamFault) ShowFault) × IsShowRun outcome (status_in result) (R.heard input.new)
         (W.said output.old) (W.said output.new) (E.said errors.old) (E.said errors.new) }
+    ensures repack { (packing : Packing) → request ≡ Request.Repack packing
+        → IsRepackRun packing (status_in result) (R.heard input.new)
+        (W.said output.old) (W.said output.new) (E.said errors.old) (E.said errors.new) }
 {
     match request {
         Request::Audit => run_audit(alloc, input, output, errors),
         Request::Show => run_show(alloc, input, output, errors),
+        Request::Repack(packing) => run_repack(alloc, packing, input, output, errors),
     }
 }
 
@@ -138,6 +157,60 @@ fn run_show<A: Allocator + Copy, R: Source, W: Sink, E: Sink>(
         Ok(Some(_)) => Run::Status(FAULT),
         Err(ShowFault::Write) => write_failed(errors),
         Err(ShowFault::Memory) => refuse_memory(errors),
+    }
+}
+
+/// Packs anew, and says on `errors` why it didn't.
+fn run_repack<A: Allocator + Copy, R: Source, W: Sink, E: Sink>(
+    alloc: A,
+    packing: Packing,
+    input: &mut R,
+    output: &mut W,
+    errors: &mut E,
+) -> Run
+    requires unread { R.heard input.old ≡ nothing_heard }
+    requires asked { CanBeAsked (Request.Repack packing) }
+    ensures { IsRepackRun packing (status_in result) (R.heard input.new)
+        (W.said output.old) (W.said output.new) (E.said errors.old) (E.said errors.new) }
+{
+    let options = match Options::new(packing.exponent, packing.encoding.code(), 1) {
+        Ok(options) => options,
+        Err(_) => unreachable!(),
+    };
+    match repack(alloc, &options, input, output) {
+        Ok(()) => Run::Status(DONE),
+        Err(fault) => refuse_to_repack(alloc, errors, &fault),
+    }
+}
+
+/// Says why an archive wasn't packed anew.
+fn refuse_to_repack<A: Allocator + Copy, E: Sink>(
+    alloc: A,
+    errors: &mut E,
+    fault: &RepackFault,
+) -> Run
+    ensures { IsRefusedRepack fault.now (status_in result) (E.said errors.old) (E.said errors.new) }
+{
+    let mut line = Vec::new(alloc);
+    match push_refusal(&mut line, fault) {
+        Ok(()) => {
+            tell(errors, &line);
+            Run::Status(refusal_status(fault))
+        }
+        Err(_) => refuse_memory(errors),
+    }
+}
+
+/// The exit status of a fault: a broken channel is none of the program's.
+fn refusal_status(fault: &RepackFault) -> u8
+    ensures { result ≡ refusal_status fault.now }
+{
+    match fault {
+        RepackFault::Broken(_) => BROKEN,
+        RepackFault::Stream(_)
+        | RepackFault::Misfit(_, _)
+        | RepackFault::Write
+        | RepackFault::Memory => FAULT,
     }
 }
 

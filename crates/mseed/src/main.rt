@@ -1,10 +1,13 @@
-//! `mseed`, the command: audits and lists archives of seismic waveforms in miniSEED.
+//! `mseed`, the command: audits, lists and packs archives of seismic waveforms in miniSEED.
 #![tactic(auto)]
 
 mod command;
 mod ending;
 mod listing;
 mod outcome;
+mod refusal;
+mod repack;
+mod repack_fault;
 mod request;
 mod show;
 #[cfg(test)]

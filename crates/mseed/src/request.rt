@@ -1,4 +1,5 @@
 //! What the program does.
+use mseed_pack::Encoding;
 
 /// What the program is asked to do.
 #[derive(Clone, Copy, Debug, PartialEq, Eq)]
@@ -7,4 +8,14 @@ pub enum Request {
     Audit,
     /// List the records on standard input.
     Show,
+    /// Pack the archive on standard input anew.
+    Repack(Packing),
+}
+
+/// What records an archive is packed into.
+#[derive(Clone, Copy, Debug, PartialEq, Eq)]
+pub struct Packing {
+    /// They have 2 to the power of this many bytes.
+    pub exponent: u8,
+    pub encoding: Encoding,
 }

@@ -227,7 +227,7 @@ fn prints_codes_without_their_padding(rt: HostRuntime) -> Result<(), Fail> {
 fn reads_nothing_for_other_words(rt: HostRuntime) {
     let rows: [&[&str]; 9] = [
         &[],
-        &["repack"],
+        &["unpack"],
         &["show", "show"],
         &["audit", "--port", "18000"],
         &["--length=512"],

@@ -1,17 +1,20 @@
 //! What the words of the command line ask for.
-ghost use Rattle.std.specs.Prelude.{◌≡◌, ◌<◌, ℕ, IfOk, IfErr, OnOk, map, pos, length, ◌==◌, [], codes};
+ghost use Rattle.std.specs.Prelude.{◌≡◌, ◌<◌, ℕ, IfOk, IfErr, OnOk, map, pos, length, ◌==◌, [], codes, option_map, ◌≤◌, IfSome};
+ghost use Rattle.std.specs.List.{list_all};
 ghost use Rattle.clap.specs.Matches.{found_of};
 ghost use Rattle.clap.specs.Walk.{rows_of};
 ghost use Rattle.clap.specs.Simple.{app_of, with_rule};
 ghost use Rattle.clap.specs.Kinds.{HasKind};
 ghost use Rattle.clap.specs.declared.builder.value_parser.ValueParser.TheVariants.{Signed};
-ghost use Rattle.mseed.specs.Words.{faults_in, entries_in, request_of, request_named};
+ghost use Rattle.mseed.specs.Words.{faults_in, entries_in, request_of, request_named, alone, packing_of, packing_with, CanBeAsked};
+ghost use Rattle.mseed.specs.Words.{is_of_packing, exponent_in, exponent_by, number_in, is_digit, encoding_in, encoding_named};
 ghost use Rattle.mseed.specs.Options.{bare_command, the_command, word_rule, places_rule, packing_rules, feed_rules};
 ghost use Rattle.mseed.specs.Options.{number_rules, option_rule, number_rule, with_rules};
 
-use crate::request::Request;
+use crate::request::{Packing, Request};
 use clap::builder::ValueParser;
 use clap::{Arg, ArgAction, ArgMatches, Command, Error, value_parser};
+use mseed_pack::Encoding;
 use std::alloc::{AllocError, Global};
 
 /// Reads the words, those after the program's name. `None` where `clap` takes them, but they ask for
@@ -24,22 +27,47 @@ pub fn read<'a>(alloc: Global, words: &'a [&'a str]) -> Result<Option<Request>, 
     ensures taken { OnOk result (faults_in (map (λ word. word.now) words.entry.now) ≡ []) }
     ensures request { IfOk result (λ request. request
         ≡ request_of (entries_in (map (λ word. word.now) words.entry.now))) }
+    ensures range { IfOk result (λ request. IfSome request CanBeAsked) }
     ensures refused { IfErr result (λ e. HasKind (faults_in (map (λ word. word.now) words.entry.now)) e) }
 {
     let matches = command(alloc)?.try_get_matches_from(words)?;
     Ok(request_of(&matches))
 }
 
-/// What was read asks for. A command that has no places and options takes its word alone.
+/// What was read asks for.
 fn request_of(matches: &ArgMatches<'_>) -> Option<Request>
-    ensures { result ≡ request_of (rows_of (found_of matches.now)) }
+    ensures value { result ≡ request_of (rows_of (found_of matches.now)) }
+    ensures range { IfSome result CanBeAsked }
 {
-    if !has_one_entry(matches) {
-        return None;
-    }
     match matches.get_str("command") {
-        Some(word) => request_named(word),
+        Some(word) => request_named(word, matches),
         None => None,
+    }
+}
+
+/// What a command's word asks for.
+fn request_named(word: &str, matches: &ArgMatches<'_>) -> Option<Request>
+    ensures value { result ≡ request_named word.now (rows_of (found_of matches.now)) }
+    ensures range { IfSome result CanBeAsked }
+{
+    match word {
+        "audit" => alone(Request::Audit, matches),
+        "show" => alone(Request::Show, matches),
+        "repack" => packing_of(matches),
+        _ => None,
+    }
+}
+
+/// A command that has no places and options takes its word alone.
+fn alone(request: Request, matches: &ArgMatches<'_>) -> Option<Request>
+    requires { CanBeAsked request }
+    ensures value { result ≡ alone request (rows_of (found_of matches.now)) }
+    ensures range { IfSome result CanBeAsked }
+{
+    if has_one_entry(matches) {
+        Some(request)
+    } else {
+        None
     }
 }
 
@@ -52,13 +80,123 @@ fn has_one_entry(matches: &ArgMatches<'_>) -> bool
     first.is_some() && second.is_none()
 }
 
-/// What a command's word asks for.
-fn request_named(word: &str) -> Option<Request>
-    ensures { result ≡ request_named word.now }
+/// What the command that packs anew is asked for, by its options.
+fn packing_of(matches: &ArgMatches<'_>) -> Option<Request>
+    ensures value { result ≡ packing_of (rows_of (found_of matches.now)) }
+    ensures range { IfSome result CanBeAsked }
+{
+    if !has_packing_alone(matches) {
+        return None;
+    }
+    packing_with(
+        exponent_in(matches.get_str("length")),
+        encoding_in(matches.get_str("encoding")),
+    )
+}
+
+/// Packing anew, where the length and the encoding are some that there are.
+fn packing_with(exponent: Option<u8>, encoding: Option<Encoding>) -> Option<Request>
+    requires { IfSome exponent (λ e. (7 ≤ e) × (e ≤ 12)) }
+    ensures value { result ≡ packing_with exponent encoding }
+    ensures range { IfSome result CanBeAsked }
+{
+    match (exponent, encoding) {
+        (Some(exponent), Some(encoding)) => Some(Request::Repack(Packing { exponent, encoding })),
+        _ => None,
+    }
+}
+
+/// Whether the words gave nothing but what packing anew takes.
+fn has_packing_alone(matches: &ArgMatches<'_>) -> bool
+    ensures { result ≡ list_all is_of_packing (map (λ r. r.id) (rows_of (found_of matches.now))) }
+{
+    let mut ids = matches.ids();
+    while let Some(id) = ids.next() {
+        if !is_of_packing(id) {
+            return false;
+        }
+    }
+    true
+}
+
+/// Whether packing anew takes what is called so.
+fn is_of_packing(id: &str) -> bool
+    ensures { result ≡ is_of_packing id.now }
+{
+    matches!(id, "command" | "length" | "encoding")
+}
+
+/// The power of two that a record's length is: of 512 bytes where none is said.
+fn exponent_in(text: Option<&str>) -> Option<u8>
+    ensures value { result ≡ exponent_in (option_map (λ t. t.now) text.entry) }
+    ensures range { IfSome result (λ e. (7 ≤ e) × (e ≤ 12)) }
+{
+    match text {
+        None => Some(9),
+        Some(text) => exponent_by(number_in(text)?),
+    }
+}
+
+/// The power of two that a length of 128 to 4096 bytes is.
+fn exponent_by(length: u32) -> Option<u8>
+    ensures value { result ≡ exponent_by length }
+    ensures range { IfSome result (λ e. (7 ≤ e) × (e ≤ 12)) }
+{
+    match length {
+        128 => Some(7),
+        256 => Some(8),
+        512 => Some(9),
+        1024 => Some(10),
+        2048 => Some(11),
+        4096 => Some(12),
+        _ => None,
+    }
+}
+
+/// The number that one to seven decimal digits say.
+fn number_in(text: &str) -> Option<u32>
+    ensures { result ≡ number_in text.now }
+{
+    let digits = text.as_bytes();
+    if digits.is_empty() || digits.len() > 7 {
+        return None;
+    }
+    let mut number = 0;
+    for digit in digits {
+        if !is_digit(*digit) {
+            return None;
+        }
+        number = number * 10 + u32::from(*digit - b'0');
+    }
+    Some(number)
+}
+
+/// Whether a byte is a decimal digit.
+fn is_digit(byte: u8) -> bool
+    ensures { result ≡ is_digit byte }
+{
+    b'0' <= byte && byte <= b'9'
+}
+
+/// The encoding of packed records: Steim-2 where none is said.
+fn encoding_in(word: Option<&str>) -> Option<Encoding>
+    ensures { result ≡ encoding_in (option_map (λ w. w.now) word.entry) }
 {
     match word {
-        "audit" => Some(Request::Audit),
-        "show" => Some(Request::Show),
+        None => Some(Encoding::Steim2),
+        Some(word) => encoding_named(word),
+    }
+}
+
+/// The encoding that a word names.
+fn encoding_named(word: &str) -> Option<Encoding>
+    ensures { result ≡ encoding_named word.now }
+{
+    match word {
+        "int16" => Some(Encoding::Int16),
+        "int32" => Some(Encoding::Int32),
+        "steim1" => Some(Encoding::Steim1),
+        "steim2" => Some(Encoding::Steim2),
         _ => None,
     }
 }

@@ -18,4 +18,4 @@ pub returns-clause-taken : goal.returns-clause-taken
 returns-clause-taken c = fails_by (app_of c.in_ok-command.field-0) (map (λ word. word.now) c.args.words.now) (Ok c.in_ok-matches.matches) c.in_ok-command.ensures c.in_ok-matches.ensures.kinds
 
 pub returns-clause-request : goal.returns-clause-request
-returns-clause-request c = c.request_of.ensures ∙ ap (λ (rows : List Row). request_of rows) (entries_by (app_of c.in_ok-command.field-0) (map (λ word. word.now) c.args.words.now) c.in_ok-matches.matches c.in_ok-command.ensures c.in_ok-matches.ensures.matches)
+returns-clause-request c = c.request_of.ensures.value ∙ ap (λ (rows : List Row). request_of rows) (entries_by (app_of c.in_ok-command.field-0) (map (λ word. word.now) c.args.words.now) c.in_ok-matches.matches c.in_ok-command.ensures c.in_ok-matches.ensures.matches)

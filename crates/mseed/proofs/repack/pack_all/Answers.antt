@@ -1,0 +1,39 @@
+use Rattle.std.proofs.Common.{List, map, sym, subst}
+use Rattle.mseed_record.specs.View.{View}
+use Rattle.mseed_record.specs.Viewing.{view_of}
+use Rattle.mseed_stream.specs.Device.{Said}
+use Rattle.mseed_audit.specs.Follows.{IsContinuous}
+use Rattle.mseed.specs.Repack.{CanBePacked, records_in}
+use Rattle.mseed.specs.Repacking.{FailsToPack}
+use Rattle.mseed.specs.declared.repack_fault.RepackFault.{RepackFault}
+use Rattle.mseed.proofs.Repacks.{fails_next, of_each, wrote_next, wrote_none}
+use Rattle.mseed.proofs.Taken.{errs_by}
+use Rattle.mseed.proofs.repack.pack_all.Goals as goal
+
+pub loop-channel-init : goal.loop-channel-init
+loop-channel-init g c = wrote_none c.args.options.now (map view_of c.args.views.now) c.args.channels.now (g.W.Sink.said c.args.output.now)
+
+pub pack_channel-requires-clause-continuous : goal.pack_channel-requires-clause-continuous
+pack_channel-requires-clause-continuous g c =
+    of_each (λ k. IsContinuous (records_in (map view_of c.args.views.now) k)) c.args.channels.now c.loop-channel.channel-index c.channel-item.result c.loop-channel-test.true c.channel-item.is c.requires.continuous
+
+pub pack_channel-requires-clause-fit : goal.pack_channel-requires-clause-fit
+pack_channel-requires-clause-fit g c =
+    of_each (λ k. CanBePacked c.args.options.now (map view_of c.args.views.now) k) c.args.channels.now c.loop-channel.channel-index c.channel-item.result c.loop-channel-test.true c.channel-item.is c.requires.fit
+
+pub returns-in_err-pack_channel-clause-err : goal.returns-in_err-pack_channel-clause-err
+returns-in_err-pack_channel-clause-err g c =
+    let views : List View = map view_of c.args.views.now in
+    let first : Said = g.W.Sink.said c.args.output.now in
+    let new : Said = g.W.Sink.said c.pack_channel.new.output in
+    let fault : RepackFault = c.in_err-pack_channel.field-0.0 in
+    let fails : FailsToPack c.args.options.now views c.args.channels.now first new fault =
+    fails_next c.args.options.now views c.args.channels.now c.loop-channel.channel-index c.channel-item.result first (g.W.Sink.said c.loop-channel.output) new fault c.loop-channel-test.true
+    c.channel-item.is c.loop-channel.invariant c.in_err-pack_channel.ensures.err in
+    errs_by c.from_residual.result _ (FailsToPack c.args.options.now views c.args.channels.now first new) c.from_residual.ensures.1
+    (λ e same. subst (λ (f : RepackFault). FailsToPack c.args.options.now views c.args.channels.now first new f) (sym same) fails)
+
+pub loop-channel-preserved : goal.loop-channel-preserved
+loop-channel-preserved g c =
+    wrote_next c.args.options.now (map view_of c.args.views.now) c.args.channels.now c.loop-channel.channel-index c.channel-item.result (g.W.Sink.said c.args.output.now) (g.W.Sink.said c.loop-channel.output)
+    (g.W.Sink.said c.pack_channel.new.output) c.loop-channel-test.true c.channel-item.is c.loop-channel.invariant c.in_ok-pack_channel.ensures.ok

@@ -1,0 +1,67 @@
+-- What packing anew says, and its exit status.
+use Rattle.std.specs.Prelude.{⊤, ◌≡◌, ◌⊎◌, ℕ, List, ◌++◌, Result, Ok, Err, codes, decimal}
+use Rattle.mseed_stream.specs.Device.{Heard, Said}
+use Rattle.mseed_audit.specs.Text.{name_text, fault_line}
+use Rattle.mseed_pack.specs.declared.fault.PackFault.{PackFault}
+use Rattle.mseed_pack.specs.declared.fault.PackFault.TheVariants.{Empty, RateTooHigh, TimeOutOfRange, SampleTooLarge, DifferenceTooLarge, Write as WriteFailed}
+use Rattle.mseed_pack.specs.declared.options.Options.{Options}
+use Rattle.mseed.specs.Outcome.{Tells}
+use Rattle.mseed.specs.Repack.{IsRepacking}
+use Rattle.mseed.specs.declared.request.Packing.{Packing}
+use Rattle.mseed.specs.declared.repack_fault.RepackFault.{RepackFault}
+use Rattle.mseed.specs.declared.repack_fault.RepackFault.TheVariants.{Stream, Broken, Misfit, Write, Memory}
+
+-- why a series can't be packed, by its place among the reasons
+abbrev pub misfit_number : PackFault → ℕ
+misfit_number Empty = 1
+misfit_number RateTooHigh = 2
+misfit_number TimeOutOfRange = 3
+misfit_number (SampleTooLarge index) = 4
+misfit_number (DifferenceTooLarge index) = 5
+misfit_number (WriteFailed taken) = 6
+
+-- the lines about a channel
+abbrev pub broken_text : List ℕ → List ℕ
+broken_text key = codes "mseed: " ++ name_text key ++ codes " is broken\n"
+
+abbrev pub reason_text : PackFault → List ℕ
+reason_text fault = codes " does not fit " ++ decimal (misfit_number fault) ++ codes "\n"
+
+abbrev pub misfit_text : List ℕ → PackFault → List ℕ
+misfit_text key fault = codes "mseed: " ++ name_text key ++ reason_text fault
+
+-- the line of a fault
+abbrev pub refusal_text : RepackFault → List ℕ
+refusal_text (Stream fault) = codes "mseed: " ++ fault_line fault
+refusal_text (Broken key) = broken_text key
+refusal_text (Misfit key fault) = misfit_text key fault
+refusal_text Write = codes "mseed: write failed\n"
+refusal_text Memory = codes "mseed: no memory\n"
+
+-- its exit status
+abbrev pub refusal_status : RepackFault → ℕ
+refusal_status (Stream fault) = 2
+refusal_status (Broken key) = 1
+refusal_status (Misfit key fault) = 2
+refusal_status Write = 2
+refusal_status Memory = 2
+
+-- the status and the line on standard error; there may be no memory for the line
+pub record IsRefusedRepack (fault : RepackFault) (status : ℕ) (told_old told_new : Said) : Type 0 where
+  pub either : ((status ≡ refusal_status fault) × Tells (refusal_text fault) told_old told_new)
+      ⊎ ((status ≡ 2) × Tells (codes "mseed: no memory\n") told_old told_new)
+
+-- by the outcome: 0, and no line, where all was packed
+abbrev pub TellsOfRepack : {U : Type 0} → Result U RepackFault → ℕ → Said → Said → Type 0
+TellsOfRepack (Ok u) status old new = (status ≡ 0) × (new ≡ old)
+TellsOfRepack (Err fault) status old new = IsRefusedRepack fault status old new
+
+-- packing anew, with sequence numbers from 000001 on, its status and its line
+pub record IsRepackRun (packing : Packing) (status : ℕ) (heard : Heard) (said_old said_new told_old told_new : Said) : Type 0 where
+  pub options : Options
+  pub exponent : options.exponent ≡ packing.exponent
+  pub encoding : options.encoding ≡ packing.encoding
+  pub sequence : options.first_sequence ≡ 1
+  pub outcome : Result ⊤ RepackFault
+  pub packed : IsRepacking options outcome heard said_old said_new
+  pub told : TellsOfRepack outcome status told_old told_new

@@ -1,0 +1,59 @@
+-- How the steps of packing anew end.
+use Rattle.std.specs.Prelude.{⊤, ℤ, ◌≡◌, ℕ, List, take}
+use Rattle.std.specs.List.{concat}
+use Rattle.mseed_record.specs.View.{View}
+use Rattle.mseed_stream.specs.Device.{Said}
+use Rattle.mseed_audit.specs.Follows.{IsContinuous}
+use Rattle.mseed_audit.specs.Series.{Trace, IsSeriesOf}
+use Rattle.mseed_pack.specs.Packing.{PacksUpTo}
+use Rattle.mseed_pack.specs.declared.options.Options.{Options}
+use Rattle.mseed.specs.Repack.{Channel, CanBePacked, CantBePacked, IsFirst, IsFrontPacked, IsPackedInto, IsPartPacked, Wrote, records_in}
+use Rattle.mseed.specs.declared.repack_fault.RepackFault.{RepackFault}
+use Rattle.mseed.specs.declared.repack_fault.RepackFault.TheVariants.{Stream, Broken, Misfit, Write, Memory}
+
+-- the fault is the first broken channel
+abbrev pub IsFirstBroken : List View → List Channel → RepackFault → Type 0
+IsFirstBroken views channels (Stream fault) = ⊥
+IsFirstBroken views channels (Broken key) =
+    IsFirst (λ k. IsContinuous (records_in views k)) (λ k. ¬ (IsContinuous (records_in views k))) key channels
+IsFirstBroken views channels (Misfit key fault) = ⊥
+IsFirstBroken views channels Write = ⊥
+IsFirstBroken views channels Memory = ⊥
+
+-- the fault is the first channel that can't be packed; or memory was refused
+abbrev pub FailsToFit : Options → List View → List Channel → RepackFault → Type 0
+FailsToFit o views channels (Stream fault) = ⊥
+FailsToFit o views channels (Broken key) = ⊥
+FailsToFit o views channels (Misfit key fault) = IsFirst (CanBePacked o views) (CantBePacked o views fault) key channels
+FailsToFit o views channels Write = ⊥
+FailsToFit o views channels Memory = ⊤
+
+-- the text is the records that the channel's series is packed into
+abbrev pub IsPackedWhole : Options → List View → List ℕ → List ℕ → Type 0
+IsPackedWhole o views key text = (records : List (List ℕ)) × (IsPackedInto o views key records × (text ≡ concat records))
+
+-- the text is a part of them
+pub record IsPackedInPart (o : Options) (views : List View) (key : List ℕ) (text : List ℕ) : Type 0 where
+  pub trace : Trace
+  pub series : IsSeriesOf trace (records_in views key)
+  pub records : List (List ℕ)
+  pub left : List ℤ
+  pub packing : PacksUpTo trace o records left
+  pub taken : ℕ
+  pub text_is : text ≡ take taken (concat records)
+
+-- a part of a channel's records was written before the output failed, and none where memory was refused
+abbrev pub FailsToPackOne : Options → List View → List ℕ → Said → Said → RepackFault → Type 0
+FailsToPackOne o views key old new (Stream fault) = ⊥
+FailsToPackOne o views key old new (Broken k) = ⊥
+FailsToPackOne o views key old new (Misfit k fault) = ⊥
+FailsToPackOne o views key old new Write = Wrote (IsPackedInPart o views key) 1 old new
+FailsToPackOne o views key old new Memory = new ≡ old
+
+-- the same of all channels
+abbrev pub FailsToPack : Options → List View → List Channel → Said → Said → RepackFault → Type 0
+FailsToPack o views channels old new (Stream fault) = ⊥
+FailsToPack o views channels old new (Broken k) = ⊥
+FailsToPack o views channels old new (Misfit k fault) = ⊥
+FailsToPack o views channels old new Write = Wrote (IsPartPacked o views channels) 1 old new
+FailsToPack o views channels old new Memory = Wrote (IsFrontPacked o views channels) 0 old new
