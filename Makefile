@@ -1,12 +1,13 @@
 # make audit            proves and builds the program, and audits a sample archive
 # make audit FILE=..    the same for an archive of yours
 # make test             the whole gate, then every test script
+# make interop          what libmseed packs, packed anew and read by libmseed (wants libmseed-dev)
 # make bench            the program side by side with libmseed (wants libmseed-dev)
 
 MSEED := crates/mseed/out/mseed
 FILE ?= samples/two_records.mseed
 
-.PHONY: audit bench build test
+.PHONY: audit bench build interop test
 
 audit: build
 	@$(MSEED) audit < "$(FILE)"; echo "status $$?"
@@ -20,6 +21,9 @@ build:
 
 test:
 	@bash tests/run.sh
+
+interop: build
+	@bash tests/interop.sh
 
 bench: build
 	@python3 bench/bench.py $(MSEED)

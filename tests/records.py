@@ -9,21 +9,22 @@ def blockette_1000(next=56, encoding=3, word_order=1, exponent=7, order=">"):
     return struct.pack(order + "HHBBBB", 1000, next, encoding, word_order, exponent, 0)
 
 
-def blockette_1001(next=0, micros=0, order=">"):
-    return struct.pack(order + "HHBbBB", 1001, next, 0, micros, 0, 0)
+def blockette_1001(next=0, micros=0, order=">", frames=0):
+    return struct.pack(order + "HHBbBB", 1001, next, 0, micros, 0, frames)
 
 
 def record(codes=b"STA    BHZXX", quality=b"D", year=2024, day=1, hour=0, minute=0, second=0, fraction=0,
            samples=16, factor=20, multiplier=1, activity=0, correction=0, encoding=3, word_order=1, exponent=7,
-           micros=0, next=0, first=48, order=">", blockettes=None, data=INTEGERS):
+           micros=0, next=0, first=48, order=">", frames=0, sequence=1, blockettes=None, data=INTEGERS):
     """16 integers at 20 a second from the first instant of 2024, in 128 bytes, but for what is named. The first
     blockette is said to stand at `first`; the header and `blockettes` stand at the front, whatever it says."""
-    bytes = b"000001" + quality + b" " + codes
+    bytes = b"%06d" % sequence + quality + b" " + codes
     bytes += struct.pack(order + "HHBBBBH", year, day, hour, minute, second, 0, fraction)
     bytes += struct.pack(order + "Hhh", samples, factor, multiplier)
     bytes += struct.pack(order + "BBBBiHH", activity, 0, 0, 2, correction, 64, first)
     if blockettes is None:
-        blockettes = blockette_1000(56, encoding, word_order, exponent, order) + blockette_1001(next, micros, order)
+        blockettes = blockette_1000(56, encoding, word_order, exponent, order)
+        blockettes += blockette_1001(next, micros, order, frames)
     return (bytes + blockettes + data).ljust(2**exponent, b"\0")
 
 

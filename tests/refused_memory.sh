@@ -58,6 +58,9 @@ refuse() {
 }
 
 refuse 0 wrote_nothing two audit
+refuse 0 wrote_nothing two repack
+refuse 1 wrote_nothing four repack
+refuse 3 wrote_nothing two repack --length 500
 refuse 0 wrote_a_front two show
 refuse 3 wrote_nothing two show --bogus
 refuse 3 wrote_nothing two show show

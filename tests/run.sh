@@ -5,9 +5,10 @@ cd "$(dirname "$0")/.." || exit 1
 
 passed=0
 failed=0
+skipped=0
 
-# Runs a command, shows what it prints, and adds what its last line `N passed, M failed` says. One that
-# fails without such a line counts as one failure.
+# Runs a command, shows what it prints, and adds what its last line `N passed, M failed` says, with `, K skipped`
+# behind it where what a script wants isn't installed. One that fails without such a line counts as one failure.
 count() {
     local log status last
     log=$(mktemp)
@@ -15,9 +16,10 @@ count() {
     status=${PIPESTATUS[0]}
     last=$(grep -aE '^[0-9]+ passed, [0-9]+ failed' "$log" | tail -n 1)
     rm -f "$log"
-    if [[ $last =~ ^([0-9]+)\ passed,\ ([0-9]+)\ failed ]]; then
+    if [[ $last =~ ^([0-9]+)\ passed,\ ([0-9]+)\ failed(,\ ([0-9]+)\ skipped)? ]]; then
         passed=$((passed + BASH_REMATCH[1]))
         failed=$((failed + BASH_REMATCH[2]))
+        skipped=$((skipped + ${BASH_REMATCH[4]:-0}))
         if [ "$status" -ne 0 ] && [ "${BASH_REMATCH[2]}" -eq 0 ]; then
             failed=$((failed + 1))
         fi
@@ -40,5 +42,6 @@ else
     failed=$((failed + 1))
 fi
 
+[ "$skipped" -eq 0 ] || echo "$skipped skipped: what they want isn't installed"
 echo "$passed passed, $failed failed"
 [ "$failed" -eq 0 ]
