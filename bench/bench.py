@@ -101,7 +101,7 @@ def main():
     words.add_argument("mseed")
     words.add_argument("--rounds", type=int, default=11)
     words.add_argument("--megabytes", type=int, default=100)
-    words.add_argument("--commands", nargs="+", default=["audit", "show"])
+    words.add_argument("--commands", nargs="+", default=["audit", "show", "repack"])
     words.add_argument("--archives", nargs="+", default=ARCHIVES)
     words.add_argument("--count", action="store_true")
     options = words.parse_args()
