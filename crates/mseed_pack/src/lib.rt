@@ -6,9 +6,9 @@
 mod clock;
 mod fault;
 mod fitting;
-mod law;
 mod frames;
 mod integers;
+mod law;
 mod options;
 mod packing;
 mod parts;
