@@ -1,13 +1,16 @@
 //! What the words of the command line ask for.
-ghost use Rattle.std.specs.Prelude.{◌≡◌, ◌<◌, ℕ, IfOk, IfErr, OnOk, map, pos, length, ◌==◌, [], codes, option_map, ◌≤◌, IfSome};
+ghost use Rattle.std.specs.Prelude.{◌≡◌, ◌<◌, ℕ, IfOk, IfErr, OnOk, map, pos, length, ◌==◌, [], codes, option_map, ◌≤◌};
+ghost use Rattle.std.specs.Prelude.{IfSome};
 ghost use Rattle.std.specs.List.{list_all};
 ghost use Rattle.clap.specs.Matches.{found_of};
 ghost use Rattle.clap.specs.Walk.{rows_of};
 ghost use Rattle.clap.specs.Simple.{app_of, with_rule};
 ghost use Rattle.clap.specs.Kinds.{HasKind};
 ghost use Rattle.clap.specs.declared.builder.value_parser.ValueParser.TheVariants.{Signed};
-ghost use Rattle.mseed.specs.Words.{faults_in, entries_in, request_of, request_named, alone, packing_of, packing_with, CanBeAsked};
-ghost use Rattle.mseed.specs.Words.{is_of_packing, exponent_in, exponent_by, number_in, is_digit, encoding_in, encoding_named};
+ghost use Rattle.mseed.specs.Words.{faults_in, entries_in, request_of, request_named, alone, packing_of, packing_with};
+ghost use Rattle.mseed.specs.Words.{CanBeAsked};
+ghost use Rattle.mseed.specs.Words.{is_of_packing, exponent_in, exponent_by, number_in, is_digit, encoding_in};
+ghost use Rattle.mseed.specs.Words.{encoding_named};
 ghost use Rattle.mseed.specs.Options.{bare_command, the_command, word_rule, places_rule, packing_rules, feed_rules};
 ghost use Rattle.mseed.specs.Options.{number_rules, option_rule, number_rule, with_rules};
 
@@ -217,7 +220,7 @@ fn bare_command<'a>(alloc: Global) -> Command<'a>
     ensures { app_of result ≡ bare_command }
 {
     Command::new(alloc, "mseed")
-        .about("Audits and lists archives of seismic waveforms in miniSEED.")
+        .about("Audits, lists and repacks archives of seismic waveforms in miniSEED.")
         .no_binary_name(true)
 }
 
@@ -225,10 +228,10 @@ fn bare_command<'a>(alloc: Global) -> Command<'a>
 fn with_word<'a>(alloc: Global, command: Command<'a>) -> Result<Command<'a>, AllocError>
     ensures { IfOk result (λ c. app_of c ≡ with_rule (app_of command.entry) word_rule) }
 {
-    command.arg(Arg::new(alloc, "command").help("audit or show"))
+    command.arg(Arg::new(alloc, "command").help("audit, show or repack"))
 }
 
-/// With further places. Help leaves out what no command takes yet: these, and all options.
+/// With further places. Help leaves out what no command takes yet: these, and the options of a feed.
 fn with_places<'a>(alloc: Global, command: Command<'a>) -> Result<Command<'a>, AllocError>
     ensures { IfOk result (λ c. app_of c ≡ with_rule (app_of command.entry) places_rule) }
 {
@@ -249,34 +252,44 @@ fn with_packing<'a>(alloc: Global, command: Command<'a>) -> Result<Command<'a>, 
         alloc,
         command,
         "length",
-        "the length of packed records, in bytes",
+        "bytes of a packed record: 128, 256, .. 4096; 512 where none is given",
+        false,
     )?;
-    with_option(alloc, command, "encoding", "the encoding of packed records")
+    with_option(
+        alloc,
+        command,
+        "encoding",
+        "int16, int32, steim1 or steim2; the last where none is given",
+        false,
+    )
 }
 
 /// With the options of a feed that are texts for `clap`.
 fn with_feed<'a>(alloc: Global, command: Command<'a>) -> Result<Command<'a>, AllocError>
     ensures { IfOk result (λ c. app_of c ≡ with_rules (app_of command.entry) feed_rules) }
 {
-    let command = with_option(alloc, command, "station", "the station of the feed")?;
-    let command = with_option(alloc, command, "network", "its network")?;
+    let command = with_option(alloc, command, "station", "the station of the feed", true)?;
+    let command = with_option(alloc, command, "network", "its network", true)?;
     let command = with_option(
         alloc,
         command,
         "capacity",
         "how many records the ring keeps",
+        true,
     )?;
     let command = with_option(
         alloc,
         command,
         "first",
         "the first record's number, in hexadecimal",
+        true,
     )?;
     with_option(
         alloc,
         command,
         "from",
         "the number to begin from, in hexadecimal",
+        true,
     )
 }
 
@@ -315,16 +328,17 @@ fn counts<'a>() -> ValueParser<'a>
     value_parser!(u32).range(1..=1_000_000)
 }
 
-/// With an option that takes a value.
+/// With an option that takes a value; help leaves out one that is hidden.
 fn with_option<'a>(
     alloc: Global,
     command: Command<'a>,
     name: &'a str,
     help: &'a str,
+    hidden: bool,
 ) -> Result<Command<'a>, AllocError>
     ensures { IfOk result (λ c. app_of c ≡ with_rule (app_of command.entry) (option_rule name.entry.now)) }
 {
-    command.arg(Arg::new(alloc, name).long(name).help(help).hide(true))
+    command.arg(Arg::new(alloc, name).long(name).help(help).hide(hidden))
 }
 
 /// With an option that takes a number.
