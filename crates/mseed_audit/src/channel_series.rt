@@ -1,5 +1,6 @@
 //! The series of a channel: its samples, one behind another.
-ghost use Rattle.std.specs.Prelude.{◌≡◌, ◌↔◌, ◌<◌, ◌≤◌, ◌+◌, ◌++◌, ℤ, List, IsTrue, OnOk, IfErr, IfSome, IsOk, None, [], length};
+ghost use Rattle.std.specs.Prelude.{◌≡◌, ◌↔◌, ◌<◌, ◌≤◌, ◌+◌, ◌++◌, ℤ, List, IsTrue, OnOk, IfErr, IfSome, IsOk, None};
+ghost use Rattle.std.specs.Prelude.{[], length};
 ghost use Rattle.mseed_record.specs.Viewing.{view_of};
 ghost use Rattle.mseed_steim.specs.Reading.{IsWhole};
 ghost use Rattle.mseed_audit.specs.Follows.{IsSound};

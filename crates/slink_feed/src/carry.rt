@@ -3,7 +3,8 @@ ghost use Rattle.std.specs.Prelude.{◌≡◌, ◌++◌, ◌<◌, ◌≤◌, ℕ
 ghost use Rattle.slink_feed.specs.Listening.{IsLinked, Listening};
 ghost use Rattle.slink_feed.specs.Running.{Keeps, Stands};
 ghost use Rattle.slink_feed.specs.Session.{Fits};
-ghost use Rattle.slink_feed.specs.World.{Hears, Lists, Numbers, Serves, Takes, Taking, lists_of, noted, taken, with_client, number_at, with_first, with_one};
+ghost use Rattle.slink_feed.specs.World.{Hears, Lists, Numbers, Serves, Takes, Taking, lists_of, noted, taken};
+ghost use Rattle.slink_feed.specs.World.{with_client, number_at, with_first, with_one};
 
 use crate::client::Client;
 use crate::dialogue::Event;

@@ -5,7 +5,8 @@ ghost use Rattle.slink_feed.specs.Cutting.{IsReply};
 ghost use Rattle.slink_feed.specs.Parts.{IsPacketPart, IsReplyPart};
 ghost use Rattle.slink_feed.specs.declared.dialogue.Ending.{Ending};
 ghost use Rattle.slink_feed.specs.declared.dialogue.Event.{Event};
-ghost use Rattle.slink_feed.specs.Dialogue.{AreNumbers, Talk, at_packet, bearer, event_of, next_at, says_place, wants_of};
+ghost use Rattle.slink_feed.specs.Dialogue.{AreNumbers, Talk, at_packet, bearer, event_of, next_at, says_place};
+ghost use Rattle.slink_feed.specs.Dialogue.{wants_of};
 ghost use Rattle.slink_feed.specs.Listening.{AwaitsReply, Brings, IsLinked, Reads, telling};
 
 use crate::cutting::{Part, take_packet, take_reply};

@@ -1,7 +1,9 @@
 //! What a client says over a link, and what it makes of what the link brings.
 ghost use Rattle.std.specs.Prelude.{◌≡◌, ◌≢◌, ◌+◌, ◌^◌, ◌<◌, ◌≤◌, IfSome, length};
 ghost use Rattle.slink_wire.specs.Request.{IsSpelled};
-ghost use Rattle.slink_feed.specs.Dialogue.{AreNumbers, IsStage, Reply, answer_of, at_packet, bearer, ended, event_of, heard, if_wanted, is_borne, next_at, says, says_number, says_place, to_answer, want_at, wants_of, with_next};
+ghost use Rattle.slink_feed.specs.Dialogue.{AreNumbers, IsStage, Reply, answer_of, at_packet, bearer, ended, event_of};
+ghost use Rattle.slink_feed.specs.Dialogue.{heard, if_wanted, is_borne, next_at, says, says_number, says_place};
+ghost use Rattle.slink_feed.specs.Dialogue.{to_answer, want_at, wants_of, with_next};
 ghost use Rattle.slink_feed.specs.Listening.{AwaitsReply};
 
 use crate::grant::Mode;

@@ -1,5 +1,6 @@
 //! The ring of one station.
-ghost use Rattle.std.specs.Prelude.{◌≡◌, ℕ, ◌+◌, ◌^◌, ◌<◌, ◌≤◌, List, [], ◌∷◌, ◌++◌, length, IfOk, IfErr, IfSome, Some, option_copied};
+ghost use Rattle.std.specs.Prelude.{◌≡◌, ℕ, ◌+◌, ◌^◌, ◌<◌, ◌≤◌, List, [], ◌∷◌, ◌++◌, length, IfOk, IfErr, IfSome, Some};
+ghost use Rattle.std.specs.Prelude.{option_copied};
 ghost use Rattle.slink_wire.specs.Place.{Bears};
 ghost use Rattle.slink_feed.specs.Fault.{IsCapacity, IsRingFault};
 ghost use Rattle.slink_feed.specs.Window.{Resolves, Shows, oldest_of, record_at, resolve_of, with_record};

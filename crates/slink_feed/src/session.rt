@@ -1,11 +1,14 @@
 //! The session that serves one connection.
-ghost use Rattle.std.specs.Prelude.{◌≡◌, ◌≢◌, ◌⊎◌, ◌≤◌, ◌<◌, ◌++◌, List, ℕ, [], None, IfSome, length, option_map, replicate, slice_get, slice_set, take};
+ghost use Rattle.std.specs.Prelude.{◌≡◌, ◌≢◌, ◌⊎◌, ◌≤◌, ◌<◌, ◌++◌, List, ℕ, [], None, IfSome, length, option_map};
+ghost use Rattle.std.specs.Prelude.{replicate, slice_get, slice_set, take};
 ghost use Rattle.std.specs.Option.{ForSome};
 ghost use Rattle.slink_wire.specs.Lines.{Held, IsHeld, TellsNothing};
 ghost use Rattle.slink_feed.specs.declared.grant.Grant.{Grant};
 ghost use Rattle.slink_feed.specs.Window.{Window};
 ghost use Rattle.slink_feed.specs.Serving.{Answers, IsAnswer, TakesWhole};
-ghost use Rattle.slink_feed.specs.Session.{AreReached, Fits, all_done, answered, asked, at, at_next, chosen, ended, grant_at, in_chosen, in_fresh, in_granted, in_streaming, is_done, sent, sent_from};
+ghost use Rattle.slink_feed.specs.Session.{AreReached, Fits, all_done, answered, asked, at, at_next, chosen, ended};
+ghost use Rattle.slink_feed.specs.Session.{grant_at, in_chosen, in_fresh, in_granted, in_streaming, is_done, sent};
+ghost use Rattle.slink_feed.specs.Session.{sent_from};
 
 use crate::feed::Feed;
 use crate::grant::{Grant, Mode, first_granted};
