@@ -1,8 +1,8 @@
 //! The one maker of sources and sinks.
-ghost use Rattle.std.specs.Prelude.{◌≡◌};
+ghost use Rattle.std.specs.Prelude.{◌≡◌, refl};
 ghost use Rattle.mseed_stream.specs.Device.{nothing_heard, nothing_said};
 
-use crate::device::{Failed, Sink, Source};
+use crate::device::{Duplex, Failed, Sink, Source};
 use crate::tally::Tally;
 use std::io::{Read, Write};
 
@@ -108,4 +108,10 @@ impl<T: Write> Sink for Counted<T> {
             }
         }
     }
+}
+
+impl<T: Read + Write> Duplex for Counted<T> {
+    ghost reads_apart = { λ s. refl };
+
+    ghost writes_apart = { λ s. refl };
 }

@@ -87,3 +87,13 @@ pub trait Sink {
         ensures known { WriteAppends (contents self.old) (contents self.new) result bytes.now }
         ensures beside { beside self.new ≡ beside self.old };
 }
+
+/// A source and a sink in one, as a socket is, of which a read writes nothing and a write reads
+/// nothing.
+pub trait Duplex: Source + Sink {
+    // What a read leaves as it was is what it took.
+    ghost reads_apart: { (s : Self) → Self.Source.beside s ≡ Self.Sink.said s };
+
+    // What a write leaves as it was is what it told.
+    ghost writes_apart: { (s : Self) → Self.Sink.beside s ≡ Self.Source.heard s };
+}

@@ -3,7 +3,8 @@
 //! A [`Source`] tells bytes and a [`Sink`] takes them. Each has a record, for proofs alone, of all
 //! the bytes that went through it, of the calls that were made and of those that failed, so that a
 //! contract can speak of a whole run over a device. [`Counted`] makes either of any reader or
-//! writer of `std::io`.
+//! writer of `std::io`, and a [`Duplex`] of what does both. A [`Tally`] is such a record: whoever
+//! counts other calls for proofs keeps one too.
 //!
 //! A [`Cutter`] hands out the records of what a source tells, one by one, and [`split`] those of a
 //! slice. [`read_all`] and [`write_all_of`] are the plain loops over devices.
@@ -22,10 +23,11 @@ mod whole;
 pub use buffered::Buffered;
 pub use counted::Counted;
 pub use cutter::Cutter;
-pub use device::{Failed, Sink, Source};
+pub use device::{Duplex, Failed, Sink, Source};
 pub use fault::StreamFault;
 pub use law::one_input;
 pub use slices::{split, split_in};
+pub use tally::Tally;
 pub use whole::{read_all, read_all_in, write_all_of};
 
 #[cfg(test)]
