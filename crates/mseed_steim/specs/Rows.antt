@@ -1,5 +1,5 @@
 -- The rows of the table of groups, by how many differences they have. What a word spells is said in Spelling.
-use Rattle.std.specs.Prelude.{◌≡◌, ℕ, ◌<◌, ◌≤◌, ◌==◌, if◌then◌else◌, List, take, ℤ, Option, Some, None, All}
+use Rattle.std.specs.Prelude.{◌≡◌, ℕ, ◌-◌, ◌^◌, ◌<◌, ◌≤◌, ◌==◌, if◌then◌else◌, List, take, ℤ, Option, Some, None, All}
 use Rattle.mseed_steim.specs.declared.scheme.Scheme.{Scheme}
 use Rattle.mseed_steim.specs.declared.scheme.Scheme.TheVariants.{One, Two}
 use Rattle.mseed_steim.specs.declared.row.Row.{Row}
@@ -25,6 +25,11 @@ row_for Two count =
     else if count == 6 then Some (row_with 3 1 6 5)
     else if count == 7 then Some (row_with 3 2 7 4)
     else None
+
+-- half of what the bits of a row's differences tell apart: the sizes of those that fit are less; 0 where there's no row
+abbrev pub size_limit : Option Row → ℕ
+size_limit None = 0
+size_limit (Some row) = 2 ^ (row.width - 1)
 
 -- no word spells a front of more than `low` and at most `high` of the differences
 abbrev pub NoneSpelled : Scheme → List ℤ → ℕ → ℕ → Type 0

@@ -1,7 +1,7 @@
 //! The rows of the table of groups, by how many differences they have, and the fullest word.
 
-ghost use Rattle.std.specs.Prelude.{◌≡◌, ◌+◌, ◌*◌, ◌^◌, ◌<◌, ◌≤◌, ℕ, length, pos, slice_index_or};
-ghost use Rattle.mseed_steim.specs.Rows.{row_with, row_for, IsBestRow};
+ghost use Rattle.std.specs.Prelude.{◌≡◌, ◌↔◌, ◌+◌, ◌-◌, ◌*◌, ◌^◌, ◌<◌, ◌≤◌, ℕ, length, pos, slice_index_or};
+ghost use Rattle.mseed_steim.specs.Rows.{row_with, row_for, size_limit, IsBestRow};
 ghost use Rattle.mseed_steim.specs.Spelling.{IsWithin, positional};
 
 use crate::scheme::Scheme;
@@ -54,45 +54,69 @@ fn row_of(scheme: Scheme, count: usize) -> Option<Row>
     }
 }
 
-/// The bits that a difference takes in two's complement.
-fn width_of(difference: i32) -> u32
-    ensures some { 0 < result }
-    ensures most { result ≤ 32 }
-    ensures fits { (w : ℕ) → result ≤ w → IsWithin w difference }
-    ensures least { (w : ℕ) → 0 < w → IsWithin w difference → result ≤ w }
+/// The number, or the one below its opposite where it's negative: the bits that it takes but for its sign.
+#[inline(always)]
+fn size_of(difference: i32) -> u32
+    ensures { (w : ℕ) → (result < 2 ^ (w - 1)) ↔ IsWithin w difference }
 {
-    let magnitude = if difference < 0 {
+    if difference < 0 {
         !difference as u32
     } else {
         difference as u32
-    };
-    33 - magnitude.leading_zeros()
+    }
+}
+
+/// What the sizes of so many differences are less than where a word holds them; 0 where no row has so many.
+#[inline(always)]
+fn size_limit(scheme: Scheme, count: usize) -> u32
+    ensures { result ≡ size_limit (row_for scheme count) }
+{
+    match row_of(scheme, count) {
+        Some(row) => 1 << (row.width - 1),
+        None => 0,
+    }
+}
+
+/// The largest number of the differences, at most so many, that a word holds; 0 where none holds the first.
+#[inline(always)]
+fn most_held(scheme: Scheme, diffs: &[i32], high: usize) -> usize
+    requires { high ≤ length diffs.now }
+    ensures best { IsBestRow scheme diffs.now high (row_for scheme result) }
+    ensures fits { 0 < high → IsWithin 32 (slice_index_or diffs.now 0 (pos 0)) }
+{
+    let mut size = 0;
+    let mut count = 0;
+    for index in 0..high {
+        size = size.max(size_of(diffs[index]));
+        if size < size_limit(scheme, index + 1) {
+            count = index + 1;
+        }
+    }
+    count
 }
 
 /// The row that takes the largest number of the differences; none where no word spells the first.
+#[inline(always)]
 pub(crate) fn fullest_row(scheme: Scheme, diffs: &[i32]) -> Option<Row>
     ensures best { IsBestRow scheme diffs.now (length diffs.now) result }
     ensures fits { 0 < length diffs.now → IsWithin 32 (slice_index_or diffs.now 0 (pos 0)) }
 {
-    let mut widest = 0;
-    let mut fullest = None;
-    for index in 0..diffs.len().min(MOST) {
-        widest = widest.max(width_of(diffs[index]));
-        // Each row has 32 bits at the most for its differences.
-        if widest as usize * (index + 1) > 32 {
-            return fullest;
+    let count = if diffs.len() < MOST {
+        most_held(scheme, diffs, diffs.len())
+    } else {
+        // A body for each scheme, of a known number of turns.
+        match scheme {
+            Scheme::One => most_held(Scheme::One, diffs, MOST),
+            Scheme::Two => most_held(Scheme::Two, diffs, MOST),
         }
-        if let Some(row) = row_of(scheme, index + 1) {
-            if widest <= row.width {
-                fullest = Some(row);
-            }
-        }
-    }
-    fullest
+    };
+    row_of(scheme, count)
 }
 
-/// The differences side by side, each of `width` bits, the last one in the lowest bits.
-fn join_digits(diffs: &[i32], width: u32) -> u32
+/// So many differences side by side, each of `width` bits, the last one in the lowest bits.
+#[inline(always)]
+fn join_digits(diffs: &[i32], count: usize, width: u32) -> u32
+    requires all { count ≡ length diffs.now }
     requires room { width * length diffs.now ≤ 32 }
     requires positive { 0 < width }
     requires narrow { width ≤ 32 }
@@ -100,13 +124,34 @@ fn join_digits(diffs: &[i32], width: u32) -> u32
 {
     let mask = (1u64 << width) - 1;
     let mut word = 0;
-    for difference in diffs {
-        word = word << width | u64::from(difference.cast_unsigned()) & mask;
+    for index in 0..count {
+        word = word << width | u64::from(diffs[index].cast_unsigned()) & mask;
     }
     word as u32
 }
 
+/// The differences side by side, by a body for each row of the table.
+#[inline(always)]
+fn join_row(diffs: &[i32], width: u32) -> u32
+    requires room { width * length diffs.now ≤ 32 }
+    requires positive { 0 < width }
+    requires narrow { width ≤ 32 }
+    ensures { result ≡ positional width diffs.now }
+{
+    match (diffs.len(), width) {
+        (7, 4) => join_digits(diffs, 7, 4),
+        (6, 5) => join_digits(diffs, 6, 5),
+        (5, 6) => join_digits(diffs, 5, 6),
+        (4, 8) => join_digits(diffs, 4, 8),
+        (3, 10) => join_digits(diffs, 3, 10),
+        (2, 15) => join_digits(diffs, 2, 15),
+        (2, 16) => join_digits(diffs, 2, 16),
+        _ => join_digits(diffs, diffs.len(), width),
+    }
+}
+
 /// The word of a row with these differences.
+#[inline(always)]
 pub(crate) fn word_of(row: Row, diffs: &[i32]) -> u32
     requires room { row.width * length diffs.now ≤ 32 }
     requires positive { 0 < row.width }
@@ -115,5 +160,5 @@ pub(crate) fn word_of(row: Row, diffs: &[i32]) -> u32
     requires apart { 0 < row.dnib → row.width * length diffs.now ≤ 30 }
     ensures { result ≡ row.dnib * 2 ^ 30 + positional row.width diffs.now }
 {
-    row.dnib << 30 | join_digits(diffs, row.width)
+    row.dnib << 30 | join_row(diffs, row.width)
 }
