@@ -64,7 +64,7 @@ took_none s o said = record {
   failures = refl;
 }
 
-packed_length : (s : Trace) (o : Options) (p : Piece) → IsPacked s o p → length p.bytes ≡ 2 ^ o.exponent
+pub packed_length : (s : Trace) (o : Options) (p : Piece) → IsPacked s o p → length p.bytes ≡ 2 ^ o.exponent
 packed_length s o p one = one.headed.size ∙ ap (λ (e : ℕ). 2 ^ e) one.fields.exponent
 
 pub took_more : (s : Trace) (o : Options) (number first n : ℕ) (b : List ℕ) (old mid new : Said) → TookSo s o number first old mid → first + n ≤ length s.samples

@@ -1,53 +1,68 @@
--- What is asked of a series' parts is asked of the series.
-use Rattle.std.proofs.Common.{◌≡◌, ◌≢◌, ◌<◌, ◌*◌, ℕ, ℤ, List, [], length, true, false, eqb, sym, ap, subst, ◌∙◌}
+-- What is found of a series' samples.
+use Rattle.std.proofs.Common.{◌≡◌, ◌≢◌, ◌↔◌, ◌<◌, ◌+◌, ℕ, zero, suc, ℤ, ◌-ℤ◌, List, [], length, take, get_or, pos, Bool, true, false, eqb, sym, subst, ap, ◌∙◌, arith, refl, All}
 use Rattle.std.specs.Prelude.{IsTrue}
 use Rattle.std.proofs.lemmas.Bool.{false≢true, eq-eqb, eqb-true}
-use Rattle.std.proofs.lemmas.List.{nil_from_length}
-use Rattle.mseed_time.specs.declared.outcome.LeapStep.{LeapStep}
-use Rattle.mseed_time.specs.declared.rate.Rate.{Rate}
-use Rattle.mseed_time.specs.Naming.{IsOutside}
-use Rattle.mseed_time.specs.Ratios.{ratio_of}
-use Rattle.mseed_audit.specs.Series.{Trace}
-use Rattle.mseed_pack.specs.Clock.{reading_at}
-use Rattle.mseed_pack.specs.Fitting.{HasTimeOutside, IsTooFast}
+use Rattle.std.proofs.lemmas.Int.{ints}
+use Rattle.std.proofs.lemmas.List.{nil_from_length, length-take-le, take-take, get_or-take}
+use Rattle.std.proofs.lemmas.List.Elements.{All-from_get_or, All-get_or, All-more, All-take}
+use native.Mathlib.Numerals.{unary_clauses}
+use Rattle.mseed_steim.specs.Spelling.{IsWithin}
+use Rattle.mseed_pack.specs.Fitting.{IsDifferenceOf}
+use Rattle.mseed_pack.specs.Stretches.{differences}
+use Rattle.mseed_pack.specs.declared.options.Encoding.{Encoding}
+use Rattle.mseed_pack.specs.declared.options.Encoding.TheVariants.{Int16, Int32, Steim1, Steim2}
+use Rattle.mseed_pack.proofs.Differences.{difference_at, first_difference, length-differences}
 
-pub some_samples : (xs ys : List ℤ) → ys ≡ xs → false ≡ eqb (length ys) 0 → xs ≢ []
-some_samples xs ys e f none =
-    let long : length ys ≡ 0 = ap (λ (zs : List ℤ). length zs) (e ∙ none) in
-    false≢true (f ∙ eq-eqb (length ys) 0 long)
+pub some_samples : (xs : List ℤ) → false ≡ eqb (length xs) 0 → xs ≢ []
+some_samples xs f none =
+    let long : length xs ≡ 0 = ap (λ (zs : List ℤ). length zs) none in
+    false≢true (f ∙ eq-eqb (length xs) 0 long)
 
-pub empty_samples : (xs ys : List ℤ) → ys ≡ xs → true ≡ eqb (length ys) 0 → xs ≡ []
-empty_samples xs ys e none =
-    let long : length ys ≡ 0 = eqb-true (length ys) 0 (sym none) in
-    sym e ∙ nil_from_length ys long
+pub empty_samples : (xs : List ℤ) → true ≡ eqb (length xs) 0 → xs ≡ []
+empty_samples xs none = nil_from_length xs (eqb-true (length xs) 0 (sym none))
 
-pub not_fast : (s : Trace) (rate : Rate) → rate ≡ s.rate → (500_000 * (ratio_of rate).den < (ratio_of rate).num → IsTrue false) → ¬ (IsTooFast s)
-not_fast s rate e f h = false≢true (f (subst (λ (r : Rate). 500_000 * (ratio_of r).den < (ratio_of r).num) (sym e) h))
+-- what would be found isn't so
+pub not_so : {P : Type 0} → (P → IsTrue false) → ¬ P
+not_so {P} f p = false≢true (f p)
 
-abbrev pub IsOutsideBy : ℤ → Rate → List (ℕ × LeapStep) → List ℤ → Type 0
-IsOutsideBy start rate steps xs = (x : ℕ) × ((x < length xs) × IsOutside (reading_at start (ratio_of rate) steps x))
+pub zero_fits : (e : Encoding) → IsDifferenceOf e (pos 0)
+zero_fits Int16 = tt
+zero_fits Int32 = tt
+zero_fits Steim1 = (omega (arith, ints), omega (arith, ints))
+zero_fits Steim2 = (omega (arith, ints), omega (arith, ints))
 
-pub outside_by : (s : Trace) (start : ℤ) (rate : Rate) (steps : List (ℕ × LeapStep)) (xs : List ℤ) → start ≡ s.start → rate ≡ s.rate → steps ≡ s.steps → xs ≡ s.samples
-    → IsOutsideBy start rate steps xs → HasTimeOutside s
-outside_by s start rate steps xs a b c d h = (
-  h.0,
-  (
-    subst (λ (zs : List ℤ). h.0 < length zs) d h.1.0,
-    subst (λ (t : ℤ). IsOutside (reading_at t (ratio_of s.rate) s.steps h.0)) a
-        (subst (λ (r : Rate). IsOutside (reading_at start (ratio_of r) s.steps h.0)) b
-        (subst (λ (ss : List (ℕ × LeapStep)). IsOutside (reading_at start (ratio_of rate) ss h.0)) c h.1.1)),
-  ),
+near_fits : (e : Encoding) (x y : ℤ) → IsWithin 29 x → IsWithin 29 y → IsDifferenceOf e (y -ℤ x)
+near_fits Int16 x y h k = tt
+near_fits Int32 x y h k = tt
+near_fits Steim1 x y h k = (omega (arith, ints, h.0, h.1, k.0, k.1), omega (arith, ints, h.0, h.1, k.0, k.1))
+near_fits Steim2 x y h k = (omega (arith, ints, h.0, h.1, k.0, k.1), omega (arith, ints, h.0, h.1, k.0, k.1))
+
+near_at : (e : Encoding) (xs : List ℤ) → All (IsWithin 29) xs → (k : ℕ) → k < length xs → IsDifferenceOf e (get_or (differences xs) k (pos 0))
+near_at e xs near zero h = subst (λ (z : ℤ). IsDifferenceOf e z) (sym (first_difference xs)) (zero_fits e)
+near_at e xs near (suc i) h =
+    let inside : i + 1 < length xs = omega (arith, h) in
+    let here : i < length xs = omega (arith, h) in
+    let next : i + 1 ≡ suc i = simp unary_clauses refl in
+    let at : get_or (differences xs) (suc i) (pos 0) ≡ get_or xs (i + 1) (pos 0) -ℤ get_or xs i (pos 0) = ap (λ (n : ℕ). get_or (differences xs) n (pos 0)) (sym next) ∙ difference_at xs i inside in
+    subst (λ (z : ℤ). IsDifferenceOf e z) (sym at) (near_fits e (get_or xs i (pos 0)) (get_or xs (i + 1) (pos 0)) (All-get_or (IsWithin 29) xs i (pos 0) here near) (All-get_or (IsWithin 29) xs (i + 1) (pos 0) inside near))
+
+-- samples of 29 bits aren't too far apart for any encoding
+pub near_differences : (e : Encoding) (xs : List ℤ) → All (IsWithin 29) xs → All (IsDifferenceOf e) (differences xs)
+near_differences e xs near =
+    All-from_get_or (IsDifferenceOf e) (differences xs) (pos 0) (λ k h. near_at e xs near k (omega (arith, h, length-differences xs)))
+
+-- whether all samples so far are such ones, with one more that isn't
+pub near_not : (xs : List ℤ) (i : ℕ) → i < length xs → ¬ (IsWithin 29 (get_or xs i (pos 0))) → IsTrue false ↔ All (IsWithin 29) (take (i + 1) xs)
+near_not xs i h far = (
+  λ e. absurd (false≢true e),
+  λ all.
+      let long : i < length (take (i + 1) xs) = rw (length-take-le (i + 1) xs (omega (arith, h))) (omega arith) in
+      absurd (far (rw (get_or-take (i + 1) xs i (pos 0) (omega arith)) at (All-get_or (IsWithin 29) (take (i + 1) xs) i (pos 0) long all))),
 )
 
-pub none_outside : (s : Trace) (start : ℤ) (rate : Rate) (steps : List (ℕ × LeapStep)) (xs : List ℤ) → start ≡ s.start → rate ≡ s.rate → steps ≡ s.steps → xs ≡ s.samples
-    → (IsOutsideBy start rate steps xs → IsTrue false) → ¬ (HasTimeOutside s)
-none_outside s start rate steps xs a b c d f h =
-    false≢true (f (
-      h.0,
-      (
-        subst (λ (zs : List ℤ). h.0 < length zs) (sym d) h.1.0,
-        subst (λ (t : ℤ). IsOutside (reading_at t (ratio_of rate) steps h.0)) (sym a)
-            (subst (λ (r : Rate). IsOutside (reading_at s.start (ratio_of r) steps h.0)) (sym b)
-            (subst (λ (ss : List (ℕ × LeapStep)). IsOutside (reading_at s.start (ratio_of s.rate) ss h.0)) (sym c) h.1.1)),
-      ),
-    ))
+-- or that is
+pub near_more : (near : Bool) (xs : List ℤ) (i : ℕ) → i < length xs → IsWithin 29 (get_or xs i (pos 0)) → IsTrue near ↔ All (IsWithin 29) (take i xs) → IsTrue near ↔ All (IsWithin 29) (take (i + 1) xs)
+near_more near xs i h one before = (
+  λ e. All-more (IsWithin 29) xs i (pos 0) h (before.0 e) one,
+  λ all. before.1 (rw (take-take i (i + 1) xs (omega arith)) at (All-take (IsWithin 29) i (take (i + 1) xs) all)),
+)

@@ -2,7 +2,7 @@ pub mod Options
 pub mod Clock
 pub mod Stretches
 pub mod Standing
-pub mod Parts
+pub mod Traces
 pub mod Filling
 pub mod Packing
 pub mod Fitting

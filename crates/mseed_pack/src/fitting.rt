@@ -10,10 +10,13 @@ ghost use Rattle.mseed_pack.specs.Clock.{periods, reading_at};
 ghost use Rattle.mseed_pack.specs.Stretches.{differences};
 ghost use Rattle.mseed_pack.specs.Fitting.{Fits, IsDifferenceOf, IsFirstNot, IsMisfit, IsSampleOf};
 ghost use Rattle.mseed_pack.specs.Outcome.{IsTrace};
+ghost use Rattle.mseed_pack.specs.Traces.{trace_of};
+ghost use Rattle.mseed_steim.specs.Spelling.{IsWithin};
 
 use crate::clock::time_at;
 use crate::fault::PackFault;
 use crate::options::{Encoding, Options};
+use crate::series_view::SeriesView;
 use crate::stretch::{Stretch, first_stretch, next_stretch};
 use mseed_audit::Series;
 use mseed_time::{LeapStep, Micros, Rate};
@@ -34,6 +37,22 @@ pub fn fit<A: Allocator + Copy>(series: &Series<A>, options: &Options) -> Result
     // What the types of its parts say of each series.
     ensures trace { IsTrace series.now }
 {
+    let view = SeriesView::of(series);
+    fit_view(&view, options)
+}
+
+/// [`fit`] of a series where it lies.
+///
+/// # Errors
+///
+/// Those of [`fit`].
+pub fn fit_view(series: &SeriesView, options: &Options) -> Result<(), PackFault>
+    requires steps { AreSteps (length series.now.samples.now) series.now.steps.now }
+    ensures fits { OnOk result (Fits (trace_of series.now) options.now) }
+    ensures fault { IfErr result (λ fault. IsMisfit (trace_of series.now) options.now fault) }
+    // What the types of its parts say of each series.
+    ensures trace { IsTrace (trace_of series.now) }
+{
     know(series);
     match misfit(series, options) {
         Some(fault) => Err(fault),
@@ -42,13 +61,13 @@ pub fn fit<A: Allocator + Copy>(series: &Series<A>, options: &Options) -> Result
 }
 
 /// What the types of its parts say of each series.
-fn know<A: Allocator + Copy>(series: &Series<A>)
-    ensures { IsTrace series.now }
+fn know(series: &SeriesView)
+    requires { AreSteps (length series.now.samples.now) series.now.steps.now }
+    ensures { IsTrace (trace_of series.now) }
 {
-    know_key(series.codes().key());
-    know_start(series.start());
-    know_rate(series.rate());
-    let _steps = series.steps();
+    know_key(series.codes.key());
+    know_start(series.start);
+    know_rate(series.rate);
 }
 
 /// A key is 12 bytes.
@@ -72,18 +91,19 @@ fn know_rate(rate: Rate)
 {}
 
 /// The first reason why a series can't be packed.
-fn misfit<A: Allocator + Copy>(series: &Series<A>, options: &Options) -> Option<PackFault>
-    ensures none { IfNone result (Fits series.now options.now) }
-    ensures some { IfSome result (λ fault. IsMisfit series.now options.now fault) }
+fn misfit(series: &SeriesView, options: &Options) -> Option<PackFault>
+    requires { AreSteps (length series.now.samples.now) series.now.steps.now }
+    ensures none { IfNone result (Fits (trace_of series.now) options.now) }
+    ensures some { IfSome result (λ fault. IsMisfit (trace_of series.now) options.now fault) }
 {
-    let samples = series.samples();
+    let samples = series.samples;
     if samples.is_empty() {
         return Some(PackFault::Empty);
     }
-    if is_too_fast(series.rate()) {
+    if is_too_fast(series.rate) {
         return Some(PackFault::RateTooHigh);
     }
-    if has_time_outside(series.start(), series.rate(), series.steps(), samples.len()) {
+    if has_time_outside(series.start, series.rate, series.steps, samples.len()) {
         return Some(PackFault::TimeOutOfRange);
     }
     if let Some(index) = first_large_sample(samples, options.encoding) {
@@ -164,6 +184,38 @@ fn is_sample(encoding: Encoding, number: i32) -> bool
 
 /// The first sample whose difference the encoding doesn't hold.
 fn first_large_difference(samples: &[i32], encoding: Encoding) -> Option<usize>
+    ensures none { IfNone result (All (IsDifferenceOf encoding) (differences samples.now)) }
+    ensures some { IfSome result (λ index. IsFirstNot (IsDifferenceOf encoding) (differences samples.now) index) }
+{
+    // No two of such samples are too far apart for any encoding.
+    if are_near(samples) {
+        return None;
+    }
+    find_large_difference(samples, encoding)
+}
+
+/// Whether each sample has 29 bits at the most.
+fn are_near(samples: &[i32]) -> bool
+    ensures { IsTrue result ↔ All (IsWithin 29) samples.now }
+{
+    let mut near = true;
+    for sample in samples {
+        if !is_near(*sample) {
+            near = false;
+        }
+    }
+    near
+}
+
+/// Whether a sample has 29 bits at the most.
+fn is_near(sample: i32) -> bool
+    ensures { IsTrue result ↔ IsWithin 29 sample }
+{
+    -0x1000_0000 <= sample && sample < 0x1000_0000
+}
+
+/// The same, sample by sample.
+fn find_large_difference(samples: &[i32], encoding: Encoding) -> Option<usize>
     ensures none { IfNone result (All (IsDifferenceOf encoding) (differences samples.now)) }
     ensures some { IfSome result (λ index. IsFirstNot (IsDifferenceOf encoding) (differences samples.now) index) }
 {

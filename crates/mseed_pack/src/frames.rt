@@ -85,12 +85,16 @@ fn put_differences(samples: &[i32], first: usize, out: &mut [i32])
     requires fits { All (IsWithin 32) (differences samples.now) }
     ensures { out.new ≡ slice_range (differences samples.now) first (first + length out.old) }
 {
-    for index in 0..out.len() {
-        out[index] = difference_at(samples, first + index);
+    if out.is_empty() {
+        return;
+    }
+    out[0] = difference_at(samples, first);
+    for index in 1..out.len() {
+        out[index] = difference_behind(samples, first + index);
     }
 }
 
-/// The difference of a sample from the one before it.
+/// The difference of a sample from the one before it; of the first one, 0.
 fn difference_at(samples: &[i32], index: usize) -> i32
     requires inside { index < length samples.now }
     requires fits { IsWithin 32 (slice_index_or (differences samples.now) index (pos 0)) }
@@ -99,8 +103,18 @@ fn difference_at(samples: &[i32], index: usize) -> i32
     if index == 0 {
         0
     } else {
-        samples[index] - samples[index - 1]
+        difference_behind(samples, index)
     }
+}
+
+/// The difference of a sample from the one that stands before it.
+fn difference_behind(samples: &[i32], index: usize) -> i32
+    requires some { 0 < index }
+    requires inside { index < length samples.now }
+    requires fits { IsWithin 32 (slice_index_or (differences samples.now) index (pos 0)) }
+    ensures { result ≡ slice_index_or (differences samples.now) index (pos 0) }
+{
+    samples[index] - samples[index - 1]
 }
 
 /// Writes the first and the last sample into the words 1 and 2 of some frames.

@@ -1,11 +1,13 @@
 //! Laws of packing.
-ghost use Rattle.std.specs.Prelude.{◌≡◌, ◌⊎◌, ◌++◌, ℕ, ℤ, List, IsTrue, Result, Ok, Err};
+ghost use Rattle.std.specs.Prelude.{◌≡◌, ◌≢◌, ◌⊎◌, ◌++◌, ◌^◌, ℕ, ℤ, List, [], length, IsTrue, Result, Ok, Err};
 ghost use Rattle.std.specs.List.{AllByRecursion};
+ghost use Rattle.mseed_record.specs.Header.{key_at};
 ghost use Rattle.mseed_record.specs.View.{View};
 ghost use Rattle.mseed_audit.specs.declared.assembly.NotContinuous.{NotContinuous};
 ghost use Rattle.mseed_audit.specs.declared.verdict.Verdict.{Verdict};
-ghost use Rattle.mseed_audit.specs.Channels.{Placed, views_in};
-ghost use Rattle.mseed_audit.specs.Series.{Trace, IsSeries};
+ghost use Rattle.mseed_audit.specs.Channels.{Placed, added_from, records_of, views_in};
+ghost use Rattle.mseed_audit.specs.Follows.{IsContinuous};
+ghost use Rattle.mseed_audit.specs.Series.{Trace, IsSeries, IsSeriesOf};
 ghost use Rattle.mseed_audit.specs.Verdict.{IsVerdict, says_continuous};
 ghost use Rattle.mseed_pack.specs.declared.fault.PackFault.{PackFault};
 ghost use Rattle.mseed_pack.specs.declared.options.Options.{Options};
@@ -14,7 +16,7 @@ ghost use Rattle.mseed_pack.specs.FewestWords.{HasFewestWords};
 ghost use Rattle.mseed_pack.specs.Fitting.{Fits, IsMisfit};
 ghost use Rattle.mseed_pack.specs.Outcome.{IsTrace};
 ghost use Rattle.mseed_pack.specs.Packing.{PacksUpTo, IsPacking};
-ghost use Rattle.mseed_pack.specs.ReadBack.{AreApart, AreViewsOf, Packed, ReadsAs, StandsIn, records_of_all};
+ghost use Rattle.mseed_pack.specs.ReadBack.{AreApart, AreViewsOf, IsAssembled, IsPartOf, Packed, ReadsAs, StandsIn, records_of_all};
 
 use mseed_audit::{continuous_exactly, one_series};
 use mseed_record::header_reads_back;
@@ -39,6 +41,12 @@ pub fn one_packing()
 pub fn one_misfit()
     ensures one { (s : Trace) (o : Options) (f g : PackFault) → IsMisfit s o f → IsMisfit s o g → f ≡ g }
     ensures none { (s : Trace) (o : Options) (f : PackFault) → Fits s o → ¬ (IsMisfit s o f) }
+{}
+
+/// The records that a series is packed into are all of the length that the options say.
+pub fn one_length()
+    ensures { (s : Trace) (o : Options) (records : List (List ℕ)) → IsPacking s o records
+        → AllByRecursion (λ (r : List ℕ). length r ≡ 2 ^ o.exponent) records }
 {}
 
 /// The records that a series is packed into read back as the series: they are a continuous channel, and its
@@ -74,6 +82,26 @@ pub fn archive_reads_back()
         → AllByRecursion (λ (p : Packed). ReadsAs p.series p.records) packed → AreApart packed
         → AreViewsOf (records_of_all packed) views → AllByRecursion (StandsIn views) packed }
 {}
+
+/// Some records that stand one behind another, of those that a series is packed into, are a continuous channel as well,
+/// and their series is the part of it that they were packed from.
+pub fn a_stretch_reads_back()
+    ensures views { (s : Trace) (before held after : List (List ℕ)) → ReadsAs s (before ++ (held ++ after))
+        → (views : List View) × AreViewsOf held views }
+    ensures channel { (s : Trace) (before held after : List (List ℕ)) (views : List View)
+        → ReadsAs s (before ++ (held ++ after)) → AreViewsOf held views
+        → AllByRecursion (λ (v : View). key_at v.bytes ≡ s.codes) views }
+    ensures continuous { (s : Trace) (before held after : List (List ℕ)) (views : List View)
+        → ReadsAs s (before ++ (held ++ after)) → AreViewsOf held views → held ≢ [] → IsContinuous views }
+    ensures part { (s part : Trace) (before held after : List (List ℕ)) (views : List View)
+        → ReadsAs s (before ++ (held ++ after)) → AreViewsOf held views → IsSeriesOf part views
+        → IsPartOf s before after part }
+    ensures assembled { (s : Trace) (before held after : List (List ℕ)) (views : List View)
+        (answer : Result Trace NotContinuous) → ReadsAs s (before ++ (held ++ after)) → AreViewsOf held views
+        → held ≢ [] → IsSeries answer (records_of s.codes (added_from 0 views)) → IsAssembled answer views }
+{
+    one_series();
+}
 
 /// Each record of a Steim-2 packing has as few data words in use as hold the differences of its samples
 /// (SEED manual, appendix B).

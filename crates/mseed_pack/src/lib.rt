@@ -11,15 +11,17 @@ mod integers;
 mod law;
 mod options;
 mod packing;
-mod parts;
 mod payload;
 mod record;
+mod series_view;
 mod stretch;
 
 pub use fault::PackFault;
-pub use fitting::fit;
+pub use fitting::{fit, fit_view};
 pub use law::{
-    archive_reads_back, called_continuous, fewest_words, one_misfit, one_packing, reads_back,
+    a_stretch_reads_back, archive_reads_back, called_continuous, fewest_words, one_length,
+    one_misfit, one_packing, reads_back,
 };
 pub use options::{BadOption, Encoding, Options};
-pub use packing::pack;
+pub use packing::{pack, pack_view};
+pub use series_view::SeriesView;

@@ -4,7 +4,7 @@ ghost use Rattle.std.specs.Prelude.{IfSome};
 ghost use Rattle.mseed_record.specs.Fields.{header_of};
 ghost use Rattle.mseed_pack.specs.Fitting.{Fits, HasTimeOutside, IsDifferenceOf, IsSampleOf};
 ghost use Rattle.mseed_pack.specs.Packing.{HoldsSamples, IsHeaderOf, IsPacked};
-ghost use Rattle.mseed_pack.specs.Parts.{trace_of};
+ghost use Rattle.mseed_pack.specs.Traces.{trace_of};
 ghost use Rattle.mseed_pack.specs.Standing.{IsStretch};
 ghost use Rattle.mseed_pack.specs.Stretches.{differences, flags_of, step_behind};
 
@@ -12,8 +12,8 @@ use crate::clock::time_at;
 use crate::frames::{ROOM, fill_frames};
 use crate::integers::{Width, fill_integers};
 use crate::options::{Encoding, Options};
-use crate::parts::Parts;
 use crate::payload::Filled;
+use crate::series_view::SeriesView;
 use crate::stretch::Stretch;
 use mseed_record::{Fields, write_header};
 use mseed_steim::Scheme;
@@ -53,19 +53,19 @@ fn fill(
 }
 
 /// The activity flags of a record of a stretch, which ends behind so many samples: the leap second at its end.
-fn flags_at(parts: &Parts, stretch: Stretch, end: usize) -> u8
-    requires standing { IsStretch parts.now.steps.now (length parts.now.samples.now) stretch }
+fn flags_at(series: &SeriesView, stretch: Stretch, end: usize) -> u8
+    requires standing { IsStretch series.now.steps.now (length series.now.samples.now) stretch }
     requires begin { stretch.begin < end }
     requires within { end ≤ stretch.end }
-    ensures { result ≡ flags_of (step_behind (trace_of parts.now) end) }
+    ensures { result ≡ flags_of (step_behind (trace_of series.now) end) }
 {
     if end < stretch.end {
         return 0;
     }
-    if stretch.passed >= parts.steps.len() {
+    if stretch.passed >= series.steps.len() {
         return 0;
     }
-    match parts.steps[stretch.passed].1 {
+    match series.steps[stretch.passed].1 {
         LeapStep::Plus => 16,
         LeapStep::Minus => 32,
     }
@@ -73,15 +73,15 @@ fn flags_at(parts: &Parts, stretch: Stretch, end: usize) -> u8
 
 /// What the header of a record says that holds so many samples from one on.
 fn fields_at(
-    parts: &Parts,
+    series: &SeriesView,
     options: &Options,
     stretch: Stretch,
     number: u64,
     first: usize,
     filled: Filled,
 ) -> Option<Fields>
-    requires timed { ¬ (HasTimeOutside (trace_of parts.now)) }
-    requires standing { IsStretch parts.now.steps.now (length parts.now.samples.now) stretch }
+    requires timed { ¬ (HasTimeOutside (trace_of series.now)) }
+    requires standing { IsStretch series.now.steps.now (length series.now.samples.now) stretch }
     requires begin { stretch.begin ≤ first }
     requires some { 0 < filled.samples }
     requires within { first + filled.samples ≤ stretch.end }
@@ -89,22 +89,22 @@ fn fields_at(
     requires numbered { number < 2 ^ 63 }
     ensures some { IsSome result }
     ensures fields { IfSome result (λ fields. (samples : List ℤ) (bytes : List ℕ) → length samples ≡ filled.samples
-        → IsHeaderOf (trace_of parts.now) options.now
+        → IsHeaderOf (trace_of series.now) options.now
         (record { number = number; first = first; samples = samples; bytes = bytes })
         filled.frames (header_of fields)) }
 {
-    let Some((start, usec)) = time_at(parts.start, parts.rate, stretch, first) else {
+    let Some((start, usec)) = time_at(series.start, series.rate, stretch, first) else {
         return None;
     };
     let sequence = (u64::from(options.first_sequence) + number) % 1_000_000;
-    let activity = flags_at(parts, stretch, first + filled.samples);
+    let activity = flags_at(series, stretch, first + filled.samples);
     Some(Fields {
         sequence: sequence as u32,
-        codes: parts.codes,
+        codes: series.codes,
         start,
         usec,
         samples: filled.samples as u16,
-        rate: parts.rate,
+        rate: series.rate,
         encoding: options.encoding.code(),
         exponent: options.exponent,
         frames: filled.frames,
@@ -115,7 +115,7 @@ fn fields_at(
 /// Writes a record of a stretch, from one sample on, and answers how many it holds. In `room` differences stand
 /// meanwhile.
 pub(crate) fn write_record(
-    parts: &Parts,
+    series: &SeriesView,
     options: &Options,
     stretch: Stretch,
     number: u64,
@@ -123,20 +123,20 @@ pub(crate) fn write_record(
     room: &mut [i32; ROOM],
     out: &mut [u8],
 ) -> usize
-    requires fits { Fits (trace_of parts.now) options.now }
-    requires standing { IsStretch parts.now.steps.now (length parts.now.samples.now) stretch }
+    requires fits { Fits (trace_of series.now) options.now }
+    requires standing { IsStretch series.now.steps.now (length series.now.samples.now) stretch }
     requires begin { stretch.begin ≤ first }
     requires end { first < stretch.end }
-    requires inside { stretch.end ≤ length parts.now.samples.now }
+    requires inside { stretch.end ≤ length series.now.samples.now }
     requires size { length out.old ≡ 2 ^ options.now.exponent }
     requires long { 128 ≤ length out.old }
     requires short { length out.old ≤ 4096 }
     requires whole { length out.old % 64 ≡ 0 }
     requires numbered { number < 2 ^ 63 }
-    ensures packed { IsPacked (trace_of parts.now) options.now (record {
+    ensures packed { IsPacked (trace_of series.now) options.now (record {
       number = number;
       first = first;
-      samples = slice_range parts.now.samples.now first (first + result);
+      samples = slice_range series.now.samples.now first (first + result);
       bytes = out.new;
     }) }
     ensures some { 0 < result }
@@ -145,13 +145,13 @@ pub(crate) fn write_record(
     let encoding = options.encoding;
     let filled = fill(
         encoding,
-        parts.samples,
+        series.samples,
         first,
         stretch.end,
         room,
         &mut out[HEADER..],
     );
-    let fields = match fields_at(parts, options, stretch, number, first, filled) {
+    let fields = match fields_at(series, options, stretch, number, first, filled) {
         Some(fields) => fields,
         // Each instant can be written.
         None => return 0,

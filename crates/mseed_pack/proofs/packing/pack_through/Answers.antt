@@ -1,12 +1,12 @@
 use Rattle.std.proofs.Common.{◌≡◌, ◌+◌, ◌*◌, ◌^◌, ◌≤◌, ℕ, arith, sym, ap, subst, ◌∙◌, rules, length}
 use Rattle.mseed_pack.specs.Outcome.{TookFront}
-use Rattle.mseed_pack.specs.Parts.{trace_of}
+use Rattle.mseed_pack.specs.Traces.{trace_of}
 use Rattle.mseed_pack.proofs.Growing.{took_more, took_front}
 use Rattle.mseed_pack.proofs.packing.pack_through.Goals as goal
 
 pub returns-in-Err-clause-err : goal.returns-in-Err-clause-err
 returns-in-Err-clause-err g c =
-    let s = trace_of c.args.parts.now in
+    let s = trace_of c.args.series.now in
     let o = c.args.options.now in
     let n = c.write_record-count.result in
     let b = c.write_record-count.new.out in
@@ -20,7 +20,7 @@ returns-in-Err-clause-err g c =
 
 pub loop-first-preserved : goal.loop-first-preserved
 loop-first-preserved g c =
-    let s = trace_of c.args.parts.now in
+    let s = trace_of c.args.series.now in
     let o = c.args.options.now in
     let n = c.write_record-count.result in
     let b = c.write_record-count.new.out in

@@ -4,7 +4,7 @@ use Rattle.mseed_time.specs.Naming.{IsOutside, Names}
 use Rattle.mseed_time.specs.Parts.{parts_of}
 use Rattle.mseed_time.specs.Ratios.{ratio_of}
 use Rattle.mseed_pack.specs.Clock.{instant_at}
-use Rattle.mseed_pack.specs.Parts.{trace_of}
+use Rattle.mseed_pack.specs.Traces.{trace_of}
 use Rattle.mseed_pack.specs.Stretches.{flags_of, step_behind}
 use Rattle.mseed_pack.proofs.Steps.{end_most}
 use Rattle.mseed_pack.proofs.Times.{reading_in}
@@ -12,7 +12,7 @@ use Rattle.mseed_pack.proofs.record.fields_at.Goals as goal
 
 pub returns-in_default-clause-some : goal.returns-in_default-clause-some
 returns-in_default-clause-some c =
-    let p = c.args.parts.now in
+    let p = c.args.series.now in
     let size = length p.samples.now in
     let most = end_most p.steps.now size c.args.stretch c.requires.standing in
     let before : c.args.first < c.args.stretch.end = omega (arith, c.requires.some, c.requires.within) in
@@ -21,7 +21,7 @@ returns-in_default-clause-some c =
 
 pub returns-clause-fields : goal.returns-clause-fields
 returns-clause-fields c = λ samples bytes e.
-    let p = c.args.parts.now in
+    let p = c.args.series.now in
     let size = length p.samples.now in
     let before : c.args.first < c.args.stretch.end = omega (arith, c.requires.some, c.requires.within) in
     let at = reading_in p.start (ratio_of p.rate) p.steps.now size c.args.stretch c.args.first c.requires.standing c.requires.begin before in

@@ -3,7 +3,7 @@ use Rattle.std.specs.Prelude.{slice_range}
 use Rattle.mseed_record.specs.Fields.{header_of}
 use Rattle.mseed_record.specs.Written.{header_bytes}
 use Rattle.mseed_pack.specs.Packing.{HoldsSamples}
-use Rattle.mseed_pack.specs.Parts.{trace_of}
+use Rattle.mseed_pack.specs.Traces.{trace_of}
 use Rattle.mseed_pack.specs.Stretches.{differences, left_of}
 use Rattle.mseed_pack.proofs.Differences.{length-differences}
 use Rattle.mseed_pack.proofs.Filled.{length_part}
@@ -13,7 +13,7 @@ use Rattle.mseed_pack.proofs.record.write_record.Goals as goal
 
 pub returns-in-Ok-clause-packed : goal.returns-in-Ok-clause-packed
 returns-in-Ok-clause-packed c =
-    let p = c.args.parts.now in
+    let p = c.args.series.now in
     let xs = p.samples.now in
     let first = c.args.first in
     let filled = c.fill-filled.result in

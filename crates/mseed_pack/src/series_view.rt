@@ -1,0 +1,39 @@
+//! A series where it lies.
+
+use mseed_audit::Series;
+use mseed_record::Codes;
+use mseed_time::{LeapStep, Micros, Rate};
+use std::alloc::Allocator;
+
+/// A series, borrowed from the lists that hold it.
+#[derive(Clone, Copy, Debug)]
+pub struct SeriesView<'a> {
+    /// The channel.
+    pub codes: Codes,
+    /// The instant of the first sample.
+    pub start: Micros,
+    pub rate: Rate,
+    pub samples: &'a [i32],
+    /// The leap seconds: each with the number of samples before it, which rises strictly from 1 on.
+    pub steps: &'a [(u64, LeapStep)],
+}
+
+impl<'a> SeriesView<'a> {
+    ghost use Rattle.std.specs.Prelude.{◌≡◌, length};
+    ghost use Rattle.mseed_audit.specs.Series.{AreSteps};
+    ghost use Rattle.mseed_pack.specs.Traces.{trace_of};
+
+    /// The view of a series.
+    pub fn of<A: Allocator + Copy>(series: &'a Series<A>) -> SeriesView<'a>
+        ensures trace { trace_of result ≡ series.now }
+        ensures places { AreSteps (length result.samples.now) result.steps.now }
+    {
+        SeriesView {
+            codes: series.codes(),
+            start: series.start(),
+            rate: series.rate(),
+            samples: series.samples(),
+            steps: series.steps(),
+        }
+    }
+}
