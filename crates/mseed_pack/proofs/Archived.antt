@@ -24,7 +24,7 @@ same_is : (key other : List ℕ) → same_key key other ≡ true → key ≡ oth
 same_is key other e = exact_bytes key other (equal_from (slice_cmp nat_cmp key other) e)
 
 -- a record is of one channel at most
-key_of : (key : List ℕ) (v : View) → is_of key v ≡ true → key ≡ key_at v.bytes
+pub key_of : (key : List ℕ) (v : View) → is_of key v ≡ true → key ≡ key_at v.bytes
 key_of key v e = same_is key (key_at v.bytes) (and_parts (nat_lt 0 (count_of v)) (same_key key (key_at v.bytes)) e).1
 
 not_of : (key other : List ℕ) (v : View) → key ≢ other → is_of key v ≡ true → is_of other v ≡ false
@@ -35,7 +35,7 @@ not_of key other v apart e = by (is_of other v) refl
     by false f = f
 
 -- the channel's records by their views
-views_filtered : (key : List ℕ) (n offset : ℕ) (vs : List View) → views_in (filter (λ (p : Placed). is_of key p.view) (numbered n (added_from offset vs))) ≡ filter (is_of key) vs
+pub views_filtered : (key : List ℕ) (n offset : ℕ) (vs : List View) → views_in (filter (λ (p : Placed). is_of key p.view) (numbered n (added_from offset vs))) ≡ filter (is_of key) vs
 views_filtered key n offset [] = refl
 views_filtered key n offset (v ∷ vs) = by (is_of key v) (views_filtered key (n + 1) (offset + length v.bytes) vs)
   where
@@ -45,7 +45,7 @@ views_filtered key n offset (v ∷ vs) = by (is_of key v) (views_filtered key (n
     by true rest = ap (λ (us : List View). v ∷ us) rest
     by false rest = rest
 
-all_kept : (key : List ℕ) (vs : List View) → AllByRecursion (λ (v : View). IsTrue (is_of key v)) vs → filter (is_of key) vs ≡ vs
+pub all_kept : (key : List ℕ) (vs : List View) → AllByRecursion (λ (v : View). IsTrue (is_of key v)) vs → filter (is_of key) vs ≡ vs
 all_kept key [] h = refl
 all_kept key (v ∷ vs) h = let here : is_of key v ≡ true = h.0 in rw here (ap (λ (us : List View). v ∷ us) (all_kept key vs h.1))
 
@@ -54,14 +54,14 @@ none_kept key other [] apart h = refl
 none_kept key other (v ∷ vs) apart h = let here : is_of other v ≡ false = not_of key other v apart h.0 in rw here (none_kept key other vs apart h.1)
 
 -- views are cut where their records are
-record Halves (xs ys : List (List ℕ)) (vs : List View) : Type 0 where
-  front : List View
-  back : List View
-  parts : vs ≡ front ++ back
-  first : AreViewsOf xs front
-  second : AreViewsOf ys back
+pub record Halves (xs ys : List (List ℕ)) (vs : List View) : Type 0 where
+  pub front : List View
+  pub back : List View
+  pub parts : vs ≡ front ++ back
+  pub first : AreViewsOf xs front
+  pub second : AreViewsOf ys back
 
-halves : (xs ys : List (List ℕ)) (vs : List View) → bytes_in vs ≡ xs ++ ys → AllByRecursion IsView vs → Halves xs ys vs
+pub halves : (xs ys : List (List ℕ)) (vs : List View) → bytes_in vs ≡ xs ++ ys → AllByRecursion IsView vs → Halves xs ys vs
 halves [] ys vs e h = record { front = []; back = vs; parts = refl; first = record { bytes = refl; each = tt }; second = record { bytes = e; each = h } }
 halves (x ∷ xs) ys [] e h = cc
 halves (x ∷ xs) ys (v ∷ vs) e h =

@@ -1,10 +1,12 @@
 -- What records say that a series is packed into.
-use Rattle.std.specs.Prelude.{⊤, ◌≡◌, ◌≢◌, ℕ, List, [], ◌∷◌, map, IsTrue}
+use Rattle.std.specs.Prelude.{⊤, ◌≡◌, ◌≢◌, ℕ, ℤ, List, [], ◌∷◌, ◌++◌, map, IsTrue, Result, Ok, Err}
 use Rattle.std.specs.List.{AllByRecursion, flat_map}
 use Rattle.mseed_record.specs.View.{View, IsView}
+use Rattle.mseed_audit.specs.declared.assembly.NotContinuous.{NotContinuous}
+use Rattle.mseed_audit.specs.declared.assembly.NotContinuous.TheVariants.{Absent, Broken, Memory}
 use Rattle.mseed_audit.specs.Channels.{added_from, is_of, records_of, views_in}
 use Rattle.mseed_audit.specs.Follows.{IsContinuous}
-use Rattle.mseed_audit.specs.Series.{Trace, IsSeriesOf}
+use Rattle.mseed_audit.specs.Series.{Trace, AreJoined, IsSeriesOf}
 
 -- these are views of these records, in their order
 pub record AreViewsOf (records : List (List ℕ)) (views : List View) : Type 0 where
@@ -38,3 +40,23 @@ AreApart (p ∷ ps) = AllByRecursion (λ (q : Packed). q.series.codes ≢ p.seri
 -- the records of the series' channel, among all of an archive, are those that it is packed into
 abbrev pub StandsIn : List View → Packed → Type 0
 StandsIn views p = AreViewsOf p.records (views_in (records_of p.series.codes (added_from 0 views)))
+
+-- the samples of these records, joined
+abbrev pub HaveSamples : List (List ℕ) → List ℤ → Type 0
+HaveSamples records samples = (views : List View) × AreViewsOf records views × AreJoined views samples
+
+-- A series is the part of another one that some of its records have, where these stand before and behind them.
+pub record IsPartOf (s : Trace) (before after : List (List ℕ)) (part : Trace) : Type 0 where
+  pub older : List ℤ
+  pub later : List ℤ
+  pub samples : s.samples ≡ older ++ (part.samples ++ later)
+  pub before_it : HaveSamples before older
+  pub behind_it : HaveSamples after later
+  pub codes : part.codes ≡ s.codes
+
+-- the series of these records, or there was no memory for it
+abbrev pub IsAssembled : Result Trace NotContinuous → List View → Type 0
+IsAssembled (Ok s) views = IsContinuous views × IsSeriesOf s views
+IsAssembled (Err Absent) views = ⊥
+IsAssembled (Err (Broken first)) views = ⊥
+IsAssembled (Err Memory) views = ⊤
