@@ -12,6 +12,7 @@ use crate::feed::Feed;
 use crate::session::Session;
 use crate::world::Memory;
 use slink_wire::Reply;
+use std::alloc::Allocator;
 
 /// Takes the front of a queue away.
 pub(crate) fn remove_front(queue: &mut Vec<u8>, count: usize)
@@ -70,7 +71,11 @@ pub(crate) fn note_first(numbers: &mut [Option<u64>], k: usize, number: Option<u
 }
 
 /// Gives bytes to a session, up to the end of one line.
-fn serve_piece(feed: &Feed, session: &mut Session, bytes: &[u8]) -> (usize, Reply)
+pub(crate) fn serve_piece<A: Allocator>(
+    feed: &Feed<A>,
+    session: &mut Session,
+    bytes: &[u8],
+) -> (usize, Reply)
     requires some { 0 < length bytes.now }
     requires fits { Fits feed.now session.old.state }
     requires stands { Stands session.old }

@@ -1,5 +1,6 @@
 //! The client of one feed.
 ghost use Rattle.std.specs.Prelude.{◌≡◌, ◌≢◌, ◌++◌, ◌≤◌, ◌<◌, ◌^◌, ℕ, List, [], IfSome, length, take};
+ghost use Rattle.std.specs.Bool.{OnFalse, OnTrue};
 ghost use Rattle.slink_wire.specs.Packet.{HasHead, IsPacket};
 ghost use Rattle.slink_feed.specs.Cutting.{IsReply};
 ghost use Rattle.slink_feed.specs.Parts.{IsPacketPart, IsReplyPart};
@@ -7,11 +8,13 @@ ghost use Rattle.slink_feed.specs.declared.dialogue.Ending.{Ending};
 ghost use Rattle.slink_feed.specs.declared.dialogue.Event.{Event};
 ghost use Rattle.slink_feed.specs.Dialogue.{AreNumbers, Talk, at_packet, bearer, event_of, next_at, says_place};
 ghost use Rattle.slink_feed.specs.Dialogue.{wants_of};
+ghost use Rattle.slink_feed.specs.Fetching.{turn_at};
 ghost use Rattle.slink_feed.specs.Listening.{AwaitsReply, Brings, IsLinked, Reads, telling};
 
 use crate::cutting::{Part, take_packet, take_reply};
 use crate::dialogue::{Bytes, Dialogue, Ending, Event, Stage};
 use crate::grant::Mode;
+use crate::turn::Turn;
 use arrayvec::ArrayVec;
 use slink_wire::{Packet, Place};
 use std::marker::Model;
@@ -103,6 +106,28 @@ impl Client {
                 (used, hear_packets(&mut self.dialogue, &mut self.kept, part))
             }
             Stage::Ended(ending) => (0, ending.event()),
+        }
+    }
+
+    /// Whether there is a link of which more is taken.
+    pub(crate) fn is_linked(&self) -> bool
+        ensures yes { OnTrue result (IsLinked self.now.talk.stage) }
+        ensures no { OnFalse result (¬ (IsLinked self.now.talk.stage)) }
+    {
+        match self.dialogue.stage() {
+            Stage::Station(_) | Stage::Number(_) | Stage::Packets => true,
+            Stage::Unlinked | Stage::Ended(_) => false,
+        }
+    }
+
+    /// What a turn comes to in which the link told bytes.
+    pub(crate) fn turn(&self) -> Turn
+        ensures { result ≡ turn_at self.now.talk.stage }
+    {
+        match self.dialogue.stage() {
+            Stage::Ended(Ending::End) => Turn::Ended,
+            Stage::Ended(ending) => Turn::Stopped(ending.event()),
+            Stage::Unlinked | Stage::Station(_) | Stage::Number(_) | Stage::Packets => Turn::Goes,
         }
     }
 }

@@ -1,14 +1,17 @@
 //! The session that serves one connection.
 ghost use Rattle.std.specs.Prelude.{◌≡◌, ◌≢◌, ◌⊎◌, ◌≤◌, ◌<◌, ◌++◌, List, ℕ, [], None, IfSome, length, option_map};
 ghost use Rattle.std.specs.Prelude.{replicate, slice_get, slice_set, take};
+ghost use Rattle.std.specs.Bool.{OnFalse, OnTrue};
 ghost use Rattle.std.specs.Option.{ForSome};
 ghost use Rattle.slink_wire.specs.Lines.{Held, IsHeld, TellsNothing};
 ghost use Rattle.slink_feed.specs.declared.grant.Grant.{Grant};
 ghost use Rattle.slink_feed.specs.Window.{Window};
+ghost use Rattle.slink_feed.specs.Running.{Stands};
 ghost use Rattle.slink_feed.specs.Serving.{Answers, IsAnswer, TakesWhole};
 ghost use Rattle.slink_feed.specs.Session.{AreReached, Fits, all_done, answered, asked, at, at_next, chosen, ended};
 ghost use Rattle.slink_feed.specs.Session.{grant_at, in_chosen, in_fresh, in_granted, in_streaming, is_done, sent};
 ghost use Rattle.slink_feed.specs.Session.{sent_from};
+ghost use Rattle.slink_feed.specs.World.{sent_bytes};
 
 use crate::feed::Feed;
 use crate::grant::{Grant, Mode, first_granted};
@@ -47,6 +50,20 @@ pub enum Sent {
     Closed,
 }
 
+impl Sent {
+    /// The bytes that are to be written for it.
+    pub(crate) fn bytes(&self) -> &[u8]
+        ensures bytes { result.now ≡ sent_bytes self.now }
+        ensures few { length result.now ≤ 520 }
+    {
+        match self {
+            Sent::Packet(bytes) => bytes,
+            Sent::Done => b"END",
+            Sent::Wait | Sent::Overrun | Sent::Closed => b"",
+        }
+    }
+}
+
 /// The session of one connection.
 #[derive(Drop)]
 pub struct Session {
@@ -70,6 +87,7 @@ impl Session {
         ensures state { result.state ≡ at Phase.Fresh (replicate 16 None) }
         ensures fits { (feed : List Window) → Fits feed result.state }
         ensures held { IsHeld result.held [] }
+        ensures stands { Stands result }
     {
         Session {
             phase: Phase::Fresh,
@@ -118,6 +136,9 @@ impl Session {
         ensures sent { sent feed.now self.old.state k ≡ (self.new.state, result) }
         ensures held { self.new.held ≡ self.old.held }
         ensures fits { Fits feed.now self.new.state }
+        // The ring of a packet keeps at most 1,000,000 records.
+        ensures few { (bytes : List ℕ) → result ≡ Sent.Packet bytes
+            → ForSome (slice_get feed.now k) (λ w. length w.records ≤ 1000000) }
     {
         match self.phase {
             Phase::Fresh | Phase::Chosen(_) | Phase::Granted(_) => Sent::Wait,
@@ -138,6 +159,8 @@ impl Session {
             (λ w. sent_from feed.now self.old.state k grant w ≡ (self.new.state, result)) }
         ensures held { self.new.held ≡ self.old.held }
         ensures fits { Fits feed.now self.new.state }
+        ensures few { (bytes : List ℕ) → result ≡ Sent.Packet bytes
+            → ForSome (slice_get feed.now k) (λ w. length w.records ≤ 1000000) }
     {
         let ring = feed.ring(k);
         if grant.position == ring.next() {
@@ -164,6 +187,7 @@ impl Session {
         ensures held { self.new.held ≡ self.old.held }
         ensures grants { self.new.state.grants ≡ self.old.state.grants }
         ensures phase { (self.new.state.phase ≡ self.old.state.phase) ⊎ (self.new.state.phase ≡ Phase.Closed) }
+        ensures none { (bytes : List ℕ) → result ≢ Sent.Packet bytes }
     {
         if !self.is_done(feed) {
             return Sent::Wait;
@@ -192,6 +216,17 @@ impl Session {
         match self.grant_of(k) {
             Some(grant) => grant.is_fetched(feed.ring(k).next()),
             None => true,
+        }
+    }
+
+    /// Whether nothing more is answered or sent.
+    pub(crate) fn is_closed(&self) -> bool
+        ensures yes { OnTrue result (self.now.state.phase ≡ Phase.Closed) }
+        ensures no { OnFalse result (self.now.state.phase ≢ Phase.Closed) }
+    {
+        match self.phase {
+            Phase::Closed => true,
+            Phase::Fresh | Phase::Chosen(_) | Phase::Granted(_) | Phase::Streaming => false,
         }
     }
 

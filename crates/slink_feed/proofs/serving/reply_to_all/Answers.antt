@@ -1,0 +1,44 @@
+use Rattle.std.proofs.Common.{◌≡◌, ◌-◌, ◌∙◌, arith, refl, subst, List, ℕ, length, take, drop}
+use Rattle.std.proofs.lemmas.Result.{err_from_is_err_and}
+use Rattle.slink_wire.specs.Reply.{reply_bytes}
+use Rattle.slink_feed.specs.Attending.{attending}
+use Rattle.slink_feed.specs.Replying.{IsReplyFault, IsSaid, IsSayFault}
+use Rattle.slink_feed.specs.Rounds.{Attending}
+use Rattle.slink_feed.proofs.Deliveries.{piece_length}
+use Rattle.slink_feed.proofs.Sendoffs.{not_replied, nothing_replied, one_replied, passed_on}
+use Rattle.slink_feed.proofs.serving.reply_to_all.Goals as goal
+
+pub loop-start-init : goal.loop-start-init
+loop-start-init g c = record {
+  so_far = nothing_replied c.args.feed.now _ c.args.bytes.now c.args.before;
+  fits = c.requires.fits;
+  stands = c.requires.stands;
+  beside = refl;
+}
+
+pub loop-start-preserved : goal.loop-start-preserved
+loop-start-preserved g c =
+    let old : Attending = attending c.args.session.now (g.L.Sink.said c.args.link.now) in
+    let now : Attending = attending c.loop-start.session (g.L.Sink.said c.loop-start.link) in
+    let new : Attending = attending c.serve_piece-used.new.session (g.L.Sink.said c.say.new.link) in
+    let long : length (take (length c.args.bytes.now - c.loop-start.start) (drop c.loop-start.start c.args.bytes.now)) ≡ length c.args.bytes.now - c.loop-start.start = piece_length c.args.bytes.now c.loop-start.start in
+    let done : IsSaid (g.L.Sink.said c.loop-start.link) (g.L.Sink.said c.say.new.link) (reply_bytes c.serve_piece-used.result.1) c.loop-start.said c.in_ok-said.said =
+    subst (λ (bytes : List ℕ). IsSaid (g.L.Sink.said c.loop-start.link) (g.L.Sink.said c.say.new.link) bytes c.loop-start.said c.in_ok-said.said) c.bytes.ensures c.in_ok-said.ensures.ok in
+    record {
+      so_far = one_replied c.args.feed.now old now new c.args.bytes.now c.loop-start.start c.args.before c.loop-start.said c.serve_piece-used.result.0 c.serve_piece-used.result.1 c.loop-start.invariant.so_far c.serve_piece-used.ensures.takes c.in_ok-said.said
+          c.serve_piece-used.ensures.some (omega (arith, long, c.serve_piece-used.ensures.bound)) done;
+      fits = c.serve_piece-used.ensures.fits;
+      stands = c.serve_piece-used.ensures.stands;
+      beside = c.say.ensures.beside ∙ c.loop-start.invariant.beside;
+    }
+
+pub returns-in_err-said-clause-fault : goal.returns-in_err-said-clause-fault
+returns-in_err-said-clause-fault g c =
+    let old : Attending = attending c.args.session.now (g.L.Sink.said c.args.link.now) in
+    let now : Attending = attending c.loop-start.session (g.L.Sink.said c.loop-start.link) in
+    let new : Attending = attending c.serve_piece-used.new.session (g.L.Sink.said c.say.new.link) in
+    let cut : IsSayFault c.in_err-said.field-0.0 (g.L.Sink.said c.loop-start.link) (g.L.Sink.said c.say.new.link) (reply_bytes c.serve_piece-used.result.1) c.loop-start.said =
+    subst (λ (bytes : List ℕ). IsSayFault c.in_err-said.field-0.0 (g.L.Sink.said c.loop-start.link) (g.L.Sink.said c.say.new.link) bytes c.loop-start.said) c.bytes.ensures c.in_err-said.ensures.fault in
+    let fails : IsReplyFault c.in_err-said.field-0.0 c.args.feed.now old new c.args.bytes.now c.args.before =
+    not_replied c.args.feed.now old now new c.args.bytes.now c.loop-start.start c.args.before c.loop-start.said c.serve_piece-used.result.0 c.serve_piece-used.result.1 c.loop-start.invariant.so_far c.serve_piece-used.ensures.takes c.in_err-said.field-0.0 cut in
+    passed_on c.from_residual.result c.in_err-said.field-0.0 (λ fault. IsReplyFault fault c.args.feed.now old new c.args.bytes.now c.args.before) (err_from_is_err_and c.from_residual.result c.from_residual.ensures.1) fails

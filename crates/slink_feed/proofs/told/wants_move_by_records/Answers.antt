@@ -1,0 +1,11 @@
+use Rattle.slink_feed.proofs.Telling.{told_both, told_far, told_link}
+use Rattle.slink_feed.proofs.told.wants_move_by_records.Goals as goal
+
+pub returns-clause-link : goal.returns-clause-link
+returns-clause-link c = λ start stream events now reads. told_link start stream events now reads
+
+pub returns-clause-links : goal.returns-clause-links
+returns-clause-links c = λ old now new some more h too. told_both old now new some more h too
+
+pub returns-clause-moved : goal.returns-clause-moved
+returns-clause-moved c = λ old new records k n h short at. told_far old new records k n h short at

@@ -1,0 +1,58 @@
+-- A turn of a session with its link: what is due is sent, or else one read is answered.
+use Rattle.std.specs.Prelude.{◌≡◌, ◌≢◌, ℕ, ◌+◌, ◌≤◌, ◌<◌, ◌⊎◌, List, [], ◌++◌, length, take}
+use Rattle.mseed_stream.specs.Device.{Heard, Said}
+use Rattle.slink_wire.specs.declared.reply.Reply.{Reply}
+use Rattle.slink_wire.specs.Reply.{reply_bytes}
+use Rattle.slink_feed.specs.declared.session.Phase.TheVariants.{Closed}
+use Rattle.slink_feed.specs.declared.turn.LinkFault.{LinkFault}
+use Rattle.slink_feed.specs.declared.turn.LinkFault.TheVariants as faults
+use Rattle.slink_feed.specs.declared.turn.Turn.{Turn}
+use Rattle.slink_feed.specs.declared.turn.Turn.TheVariants as turns
+use Rattle.slink_feed.specs.Rounds.{Attending, FailsToSend, SendsAll}
+use Rattle.slink_feed.specs.Serving.{Standing}
+use Rattle.slink_feed.specs.Turns.{TookFront, failed_once, told_once}
+use Rattle.slink_feed.specs.Window.{Window}
+use Rattle.slink_feed.specs.World.{Serves, Takes}
+
+-- A session took all of these bytes, line by line, and each reply was written.
+pub record RepliesToAll (feed : List Window) (old new : Attending) (bytes : List ℕ) : Type 0 where
+  pub serves : Serves feed old.session bytes old.said.bytes new.session new.said.bytes
+  pub failures : new.said.failures ≡ old.said.failures
+
+-- The link failed within the reply to the piece behind a front of these bytes.
+pub record FailsToReply (feed : List Window) (old new : Attending) (bytes : List ℕ) : Type 0 where
+  pub front : List ℕ
+  pub piece : List ℕ
+  pub rest : List ℕ
+  pub bytes_are : bytes ≡ front ++ piece ++ rest
+  pub before : Attending
+  pub replies : RepliesToAll feed old before front
+  pub reply : Reply
+  pub takes : Takes feed before.session piece new.session reply
+  pub count : ℕ
+  pub said : TookFront before.said new.said (reply_bytes reply) count
+
+-- What is due was sent, and the session isn't closed by that.
+pub record GoesOn (feed : List Window) (old new : Attending) : Type 0 where
+  pub sends : SendsAll feed old new
+  pub open_still : new.session.state.phase ≢ Closed
+
+-- A turn: the session is closed, so that nothing is read; or the link is at its end; or the bytes that it told, at most
+-- 512, are answered.
+pub data Attends (feed : List Window) (old new : Attending) (before after : Heard) : Turn → Type 0 where
+  is_closed : SendsAll feed old new → new.session.state.phase ≡ Closed → after ≡ before → Attends feed old new before after turns.Closed
+  is_at_end : GoesOn feed old new → after ≡ told_once before [] → Attends feed old new before after turns.Closed
+  replies : (now : Attending) (bytes : List ℕ) → GoesOn feed old now → after ≡ told_once before bytes → 0 < length bytes → length bytes ≤ 512
+      → RepliesToAll feed now new bytes → Attends feed old new before after turns.Goes
+
+-- A turn in which the link failed: at a write of what was due, at the read, or at a write of a reply. The bytes that it
+-- took in the turn are counted.
+pub data IsServeFault (feed : List Window) (old new : Attending) (before after : Heard) : LinkFault → Type 0 where
+  at_send : (count : ℕ) → FailsToSend feed old new count → after ≡ before → IsServeFault feed old new before after (faults.Write count)
+  at_read : GoesOn feed old new → after ≡ failed_once before → IsServeFault feed old new before after faults.Read
+  at_reply : (count : ℕ) (now : Attending) (bytes : List ℕ) → GoesOn feed old now → after ≡ told_once before bytes → length bytes ≤ 512
+      → FailsToReply feed now new bytes → length new.said.bytes ≡ length old.said.bytes + count → IsServeFault feed old new before after (faults.Write count)
+
+-- a session with what its link took so far
+abbrev pub attending : Standing → Said → Attending
+attending session said = record { session = session; said = said }

@@ -1,0 +1,55 @@
+-- What a session sends that is asked for a packet of one place after another, round and round.
+use Rattle.std.specs.Prelude.{◌≡◌, ℕ, ◌+◌, ◌≤◌, ◌==◌, ◌⊎◌, List, [], ◌∷◌, ◌++◌, length, replicate, if◌then◌else◌}
+use Rattle.mseed_stream.specs.Device.{Said}
+use Rattle.slink_feed.specs.declared.session.Phase.TheVariants.{Closed}
+use Rattle.slink_feed.specs.declared.session.Sent.{Sent}
+use Rattle.slink_feed.specs.declared.session.Sent.TheVariants.{Wait}
+use Rattle.slink_feed.specs.Serving.{Standing}
+use Rattle.slink_feed.specs.Session.{State, sent}
+use Rattle.slink_feed.specs.Turns.{Took, TookFront}
+use Rattle.slink_feed.specs.Window.{Window}
+use Rattle.slink_feed.specs.World.{sent_bytes}
+
+-- the place behind another; behind the last place the first one
+abbrev pub place_behind : List Window → ℕ → ℕ
+place_behind feed k = if k + 1 == length feed then 0 else k + 1
+
+-- Asked for a packet of this place, then of the one behind it, and so on, a session gives these. It comes to the other
+-- place and state.
+abbrev pub Gives : List Window → ℕ → State → List Sent → ℕ → State → Type 0
+Gives feed k s [] last new = (last ≡ k) × (new ≡ s)
+Gives feed k s (a ∷ more) last new = ((sent feed s k).1 ≡ a) × Gives feed (place_behind feed k) (sent feed s k).0 more last new
+
+-- the bytes of all that is given
+abbrev pub all_sent : List Sent → List ℕ
+all_sent [] = []
+all_sent (a ∷ more) = sent_bytes a ++ all_sent more
+
+-- In the last so many asks there was nothing to give.
+abbrev pub HasWaited : ℕ → List Sent → Type 0
+HasWaited n given = (before : List Sent) × (given ≡ before ++ replicate n Wait)
+
+-- a session with what its link took so far
+pub record Attending : Type 0 where
+  pub session : Standing
+  pub said : Said
+
+-- A session was asked from the first place on, until it is closed or a whole round of the places gives nothing. All that
+-- it gave was written.
+pub record SendsAll (feed : List Window) (old new : Attending) : Type 0 where
+  pub given : List Sent
+  pub place : ℕ
+  pub gives : Gives feed 0 old.session.state given place new.session.state
+  pub ends : (new.session.state.phase ≡ Closed) ⊎ HasWaited (length feed) given
+  pub held : new.session.held ≡ old.session.held
+  pub said : Took old.said new.said (all_sent given)
+
+-- The link failed within the last that it gave, once it had taken so many bytes. The session stands behind that.
+pub record FailsToSend (feed : List Window) (old new : Attending) (count : ℕ) : Type 0 where
+  pub given : List Sent
+  pub last : Sent
+  pub place : ℕ
+  pub gives : Gives feed 0 old.session.state (given ++ last ∷ []) place new.session.state
+  pub held : new.session.held ≡ old.session.held
+  pub said : TookFront old.said new.said (all_sent (given ++ last ∷ [])) count
+  pub behind : length (all_sent given) ≤ count

@@ -1,0 +1,50 @@
+-- What a client tells of, over any links: the records of its places.
+use Rattle.std.specs.Prelude.{◌≡◌, ℕ, ◌==◌, List, [], ◌∷◌, ◌++◌, length, map, Option, Some, option_map, if◌then◌else◌}
+use Rattle.slink_wire.specs.Place.{Fields}
+use Rattle.slink_feed.specs.declared.dialogue.Event.{Event}
+use Rattle.slink_feed.specs.declared.dialogue.Event.TheVariants as events
+use Rattle.slink_feed.specs.Delivered.{Numbered}
+use Rattle.slink_feed.specs.Dialogue.{Wants, bearer, next_at}
+use Rattle.slink_feed.specs.Holding.{GoOn}
+
+-- the record that an event tells of, where it is one
+abbrev pub record_in : Event → List Numbered
+record_in events.None = []
+record_in (events.Say bytes) = []
+record_in (events.Record k number bytes) = record { place = k; number = number; bytes = bytes } ∷ []
+record_in events.End = []
+record_in (events.Refused k) = []
+record_in (events.Gap k want got) = []
+record_in events.Garbage = []
+record_in events.Foreign = []
+
+-- the records that events tell of, in their order
+abbrev pub records_told : List Event → List Numbered
+records_told [] = []
+records_told (e ∷ es) = record_in e ++ records_told es
+
+-- the numbers of the records of a place
+abbrev pub numbers_at : ℕ → List Numbered → List ℕ
+numbers_at k [] = []
+numbers_at k (r ∷ rs) = (if r.place == k then r.number ∷ [] else []) ++ numbers_at k rs
+
+-- the bytes of records, one after another
+abbrev pub bytes_in : List Numbered → List ℕ
+bytes_in [] = []
+bytes_in (r ∷ rs) = r.bytes ++ bytes_in rs
+
+-- Each has 512 bytes, and bears its place as the first of those that are asked for.
+abbrev pub AreOf : Wants → List Numbered → Type 0
+AreOf wants [] = Unit {0}
+AreOf wants (r ∷ rs) = (length r.bytes ≡ 512) × (bearer wants r.bytes ≡ Some r.place) × AreOf wants rs
+
+-- the places that are asked for
+abbrev pub places_of : Wants → List (Option Fields)
+places_of wants = map (option_map (λ w. w.place)) wants
+
+-- A client told of these records: each is a whole one of one of its places, which stay. The numbers of those of a place
+-- go up one by one, from the one that it wanted, if any, to the one before the next that it wants.
+pub record HasTold (old new : Wants) (records : List Numbered) : Type 0 where
+  pub places : places_of new ≡ places_of old
+  pub are_of : AreOf old records
+  pub go_on : (k : ℕ) → GoOn (next_at old k) (numbers_at k records) (next_at new k)

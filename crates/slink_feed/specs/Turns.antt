@@ -1,0 +1,31 @@
+-- What goes through the devices of a turn.
+use Rattle.std.specs.Prelude.{◌≡◌, ℕ, Bool, true, false, ◌+◌, ◌||◌, ◌++◌, ◌<◌, List, [], ◌∷◌, length, take}
+use Rattle.mseed_stream.specs.Device.{Heard, Said}
+
+abbrev pub is_empty : List ℕ → Bool
+is_empty [] = true
+is_empty (b ∷ bs) = false
+
+-- one read more, which told these bytes: none of them, where the link is at its end
+abbrev pub told_once : Heard → List ℕ → Heard
+told_once h told = record {
+  bytes = h.bytes ++ told;
+  calls = h.calls + 1;
+  failures = h.failures;
+  is_at_end = h.is_at_end || is_empty told;
+}
+
+-- one read more, which failed
+abbrev pub failed_once : Heard → Heard
+failed_once h = record { bytes = h.bytes; calls = h.calls + 1; failures = h.failures + 1; is_at_end = h.is_at_end }
+
+-- A sink took these bytes, and didn't fail.
+pub record Took (old new : Said) (more : List ℕ) : Type 0 where
+  pub bytes : new.bytes ≡ old.bytes ++ more
+  pub failures : new.failures ≡ old.failures
+
+-- A sink took so many of these bytes, and not all, and failed.
+pub record TookFront (old new : Said) (more : List ℕ) (count : ℕ) : Type 0 where
+  pub bytes : new.bytes ≡ old.bytes ++ take count more
+  pub part : count < length more
+  pub failures : new.failures ≡ old.failures + 1

@@ -1,0 +1,115 @@
+//! One turn of a client with its link.
+ghost use Rattle.std.specs.Prelude.{◌≡◌, ◌≤◌, ◌^◌, IfErr, IfOk, OnOk, length};
+ghost use Rattle.std.specs.Bool.{OnFalse, OnTrue};
+ghost use Rattle.slink_feed.specs.Fetching.{Delivers, FailsAt, Fetches, IsFetchFault, fetching};
+ghost use Rattle.slink_feed.specs.Delivery.{IsDelivered, IsUndelivered};
+
+use crate::client::Client;
+use crate::dialogue::Event;
+use crate::turn::{LinkFault, Turn};
+use mseed_stream::{Duplex, Failed, Sink, write_all_of};
+
+/// The most bytes that a turn reads.
+const ROOM: usize = 1024;
+
+/// How many bytes the link and the output took in a turn so far.
+#[derive(Clone, Copy)]
+pub(crate) struct Counts {
+    pub(crate) said: usize,
+    pub(crate) written: usize,
+}
+
+/// Takes a turn with a client's link: reads once, at most 1024 bytes, and takes what it told event by event. A line
+/// goes to the link, and the bytes of a record to the output.
+///
+/// # Errors
+///
+/// `Read`, `Write` or `Output` where that device failed. The line or the record that wasn't taken whole isn't written
+/// again, and what was read behind it is lost: the link is to be given up.
+pub fn fetch_turn<S: Duplex, W: Sink>(
+    client: &mut Client,
+    link: &mut S,
+    output: &mut W,
+) -> Result<Turn, LinkFault>
+    ensures ok { IfOk result (λ turn. Fetches (fetching client.old (S.said link.old) (W.said output.old))
+        (fetching client.new (S.said link.new) (W.said output.new)) (S.heard link.old) (S.heard link.new) turn) }
+    ensures fault { IfErr result (λ fault. IsFetchFault fault
+        (fetching client.old (S.said link.old) (W.said output.old))
+        (fetching client.new (S.said link.new) (W.said output.new)) (S.heard link.old) (S.heard link.new)) }
+{
+    let mut room = [0; ROOM];
+    let count = match link.pull(&mut room) {
+        Ok(count) => count,
+        Err(Failed) => return Err(LinkFault::Read),
+    };
+    if count == 0 {
+        return Ok(Turn::Closed);
+    }
+    hear(client, &room[..count], link, output)?;
+    Ok(client.turn())
+}
+
+/// Takes bytes of a link, and delivers what they tell.
+fn hear<L: Sink, W: Sink>(
+    client: &mut Client,
+    bytes: &[u8],
+    link: &mut L,
+    output: &mut W,
+) -> Result<(), LinkFault>
+    requires { length bytes.now ≤ 1024 }
+    ensures ok { OnOk result (Delivers (fetching client.old (L.said link.old) (W.said output.old))
+        (fetching client.new (L.said link.new) (W.said output.new)) bytes.now) }
+    ensures fault { IfErr result (λ fault. FailsAt fault (fetching client.old (L.said link.old) (W.said output.old))
+        (fetching client.new (L.said link.new) (W.said output.new)) bytes.now) }
+    ensures beside { L.beside link.new ≡ L.beside link.old }
+{
+    let mut offset = 0;
+    let mut counts = Counts {
+        said: 0,
+        written: 0,
+    };
+    while offset < bytes.len() {
+        if !client.is_linked() {
+            break;
+        }
+        let (used, event) = client.take(&bytes[offset..]);
+        counts = deliver(&event, link, output, counts)?;
+        offset += used;
+    }
+    Ok(())
+}
+
+/// Puts what an event tells where it belongs: a line to the link, and a record to the output.
+fn deliver<L: Sink, W: Sink>(
+    event: &Event,
+    link: &mut L,
+    output: &mut W,
+    counts: Counts,
+) -> Result<Counts, LinkFault>
+    requires said { counts.said ≤ 2 ^ 32 }
+    requires written { counts.written ≤ 2 ^ 32 }
+    ensures ok { IfOk result (λ after. IsDelivered event.now counts after (L.said link.old) (L.said link.new)
+        (W.said output.old) (W.said output.new)) }
+    ensures fault { IfErr result (λ fault. IsUndelivered fault event.now counts (L.said link.old) (L.said link.new)
+        (W.said output.old) (W.said output.new)) }
+    ensures beside { L.beside link.new ≡ L.beside link.old }
+{
+    match event {
+        Event::Say(line) => match write_all_of(link, line.as_slice()) {
+            Ok(()) => Ok(Counts {
+                said: counts.said + line.len(),
+                written: counts.written,
+            }),
+            Err(count) => Err(LinkFault::Write(counts.said + count)),
+        },
+        Event::Record(_, _, record) => match write_all_of(output, record) {
+            Ok(()) => Ok(Counts {
+                said: counts.said,
+                written: counts.written + record.len(),
+            }),
+            Err(count) => Err(LinkFault::Output(counts.written + count)),
+        },
+        Event::None | Event::End | Event::Refused(_) | Event::Gap { .. } => Ok(counts),
+        Event::Garbage | Event::Foreign => Ok(counts),
+    }
+}

@@ -1,0 +1,153 @@
+//! One turn of a session with its link.
+ghost use Rattle.std.specs.Prelude.{◌≡◌, ◌≤◌, ◌<◌, IfErr, IfOk, OnOk, length};
+ghost use Rattle.slink_feed.specs.Attending.{Attends, IsServeFault, RepliesToAll, attending};
+ghost use Rattle.slink_feed.specs.Replying.{HasSent, IsReplyFault, IsSaid, IsSayFault, IsSendFault, waits_after};
+ghost use Rattle.slink_feed.specs.Rounds.{place_behind};
+ghost use Rattle.slink_feed.specs.Running.{Stands};
+ghost use Rattle.slink_feed.specs.Session.{Fits};
+
+use crate::carry::serve_piece;
+use crate::feed::Feed;
+use crate::session::{Sent, Session};
+use crate::turn::{LinkFault, Turn};
+use mseed_stream::{Duplex, Failed, Sink, write_all_of};
+use std::alloc::Allocator;
+
+/// The most bytes that a turn reads.
+const ROOM: usize = 512;
+
+/// Takes a turn with a session's link: writes what is due, round and round of the places, one packet a place, until the
+/// session is closed or a whole round gives none. Unless it is closed then, it reads once, at most 512 bytes, and writes
+/// the reply to each line.
+///
+/// It is lent the same feed at every call, whose rings keep their indices.
+///
+/// # Errors
+///
+/// `Read` or `Write` where the link failed so. What wasn't taken whole isn't written again, and what was read is lost:
+/// the link is to be given up, and the session with it.
+pub fn serve_turn<A: Allocator, S: Duplex>(
+    session: &mut Session,
+    feed: &Feed<A>,
+    link: &mut S,
+) -> Result<Turn, LinkFault>
+    requires fits { Fits feed.now session.old.state }
+    requires stands { Stands session.old }
+    ensures ok { IfOk result (λ turn. Attends feed.now (attending session.old (S.said link.old))
+        (attending session.new (S.said link.new)) (S.heard link.old) (S.heard link.new) turn) }
+    ensures fault { IfErr result (λ fault. IsServeFault feed.now (attending session.old (S.said link.old))
+        (attending session.new (S.said link.new)) (S.heard link.old) (S.heard link.new) fault) }
+    ensures fits { Fits feed.now session.new.state }
+    ensures stands { Stands session.new }
+{
+    let said = send_all(session, feed, link)?;
+    if session.is_closed() {
+        return Ok(Turn::Closed);
+    }
+    let mut room = [0; ROOM];
+    let count = match link.pull(&mut room) {
+        Ok(count) => count,
+        Err(Failed) => return Err(LinkFault::Read),
+    };
+    if count == 0 {
+        return Ok(Turn::Closed);
+    }
+    reply_to_all(session, feed, &room[..count], link, said)?;
+    Ok(Turn::Goes)
+}
+
+/// Writes what is due, and counts its bytes.
+fn send_all<A: Allocator, L: Sink>(
+    session: &mut Session,
+    feed: &Feed<A>,
+    link: &mut L,
+) -> Result<usize, LinkFault>
+    requires fits { Fits feed.now session.old.state }
+    requires stands { Stands session.old }
+    ensures ok { IfOk result (λ said. HasSent feed.now (attending session.old (L.said link.old))
+        (attending session.new (L.said link.new)) said) }
+    ensures fault { IfErr result (λ fault. IsSendFault fault feed.now (attending session.old (L.said link.old))
+        (attending session.new (L.said link.new))) }
+    ensures fits { Fits feed.now session.new.state }
+    ensures stands { Stands session.new }
+    ensures beside { L.beside link.new ≡ L.beside link.old }
+{
+    let mut said = 0;
+    let mut k = 0;
+    let mut waits = 0;
+    while waits < feed.len() {
+        if session.is_closed() {
+            break;
+        }
+        let sent = session.packet(feed, k);
+        said = say(link, sent.bytes(), said)?;
+        waits = count_waits(&sent, waits);
+        k = next_place(feed, k);
+    }
+    Ok(said)
+}
+
+/// How often there was nothing to give, one after another.
+fn count_waits(sent: &Sent, waits: usize) -> usize
+    requires { waits < 16 }
+    ensures { result ≡ waits_after sent.now waits }
+{
+    match sent {
+        Sent::Wait => waits + 1,
+        Sent::Packet(_) | Sent::Done | Sent::Overrun | Sent::Closed => 0,
+    }
+}
+
+/// The place behind another; behind the last place the first one.
+fn next_place<A: Allocator>(feed: &Feed<A>, k: usize) -> usize
+    requires { k < length feed.now }
+    ensures { result ≡ place_behind feed.now k }
+{
+    let count = feed.len();
+    if k + 1 == count { 0 } else { k + 1 }
+}
+
+/// Takes bytes line by line, and writes the replies behind so many bytes.
+fn reply_to_all<A: Allocator, L: Sink>(
+    session: &mut Session,
+    feed: &Feed<A>,
+    bytes: &[u8],
+    link: &mut L,
+    before: usize,
+) -> Result<(), LinkFault>
+    requires fits { Fits feed.now session.old.state }
+    requires stands { Stands session.old }
+    requires few { length bytes.now ≤ 512 }
+    requires room { before ≤ 1099511627776 }
+    ensures ok { OnOk result (RepliesToAll feed.now (attending session.old (L.said link.old))
+        (attending session.new (L.said link.new)) bytes.now) }
+    ensures fault { IfErr result (λ fault. IsReplyFault fault feed.now (attending session.old (L.said link.old))
+        (attending session.new (L.said link.new)) bytes.now before) }
+    ensures fits { Fits feed.now session.new.state }
+    ensures stands { Stands session.new }
+    ensures beside { L.beside link.new ≡ L.beside link.old }
+{
+    let mut start = 0;
+    let mut said = before;
+    while start < bytes.len() {
+        let (used, reply) = serve_piece(feed, session, &bytes[start..]);
+        said = say(link, reply.bytes(), said)?;
+        start += used;
+    }
+    Ok(())
+}
+
+/// Writes bytes behind so many, and counts them.
+fn say<L: Sink>(link: &mut L, bytes: &[u8], before: usize) -> Result<usize, LinkFault>
+    requires room { before ≤ 2199023255552 }
+    requires few { length bytes.now ≤ 520 }
+    ensures ok { IfOk result (λ after. IsSaid (L.said link.old) (L.said link.new) bytes.now before after) }
+    ensures fault { IfErr result
+        (λ fault. IsSayFault fault (L.said link.old) (L.said link.new) bytes.now before) }
+    ensures beside { L.beside link.new ≡ L.beside link.old }
+{
+    match write_all_of(link, bytes) {
+        Ok(()) => Ok(before + bytes.len()),
+        Err(count) => Err(LinkFault::Write(before + count)),
+    }
+}

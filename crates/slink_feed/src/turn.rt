@@ -1,0 +1,31 @@
+//! What a turn with a link comes to.
+
+use crate::dialogue::Event;
+use thiserror::Error;
+
+/// What a turn comes to.
+#[derive(Debug, PartialEq, Eq, Drop)]
+pub enum Turn {
+    /// The next turn is to be taken.
+    Goes,
+    /// Nothing more comes of the link: it told its end, or the session is closed.
+    Closed,
+    /// The client has all that was asked for.
+    Ended,
+    /// The client takes nothing more of the link, for the reason that this event tells.
+    Stopped(Event),
+}
+
+/// Why a turn wasn't done: a device failed.
+#[derive(Clone, Copy, Debug, PartialEq, Eq, Error)]
+pub enum LinkFault {
+    /// The link failed at a read.
+    #[error("the link failed at a read")]
+    Read,
+    /// The link failed at a write, once it had taken so many bytes in the turn.
+    #[error("the link failed after {0} bytes")]
+    Write(usize),
+    /// The output failed, once it had taken so many bytes in the turn.
+    #[error("the output failed after {0} bytes")]
+    Output(usize),
+}
