@@ -1,10 +1,10 @@
 -- Of the packets of a link that is cut off, the whole ones are told.
-use Rattle.std.proofs.Common.{◌≡◌, ℕ, ◌+◌, ◌-◌, ◌*◌, ◌/◌, ◌%◌, ◌^◌, ◌<◌, ◌≤◌, inl, inr, zero, suc, refl, sym, ap, subst, ◌∙◌, arith, Bool, true, false, ◌==◌, if◌then◌else◌, List, [], ◌∷◌, ◌++◌, append_assoc, append-nil, length, length-append, take, drop, take-append-drop, Option, Some, None, IfSome, codes}
+use Rattle.std.proofs.Common.{◌≡◌, ℕ, ◌+◌, ◌-◌, ◌/◌, ◌^◌, ◌<◌, ◌≤◌, inl, inr, suc, refl, sym, ap, subst, ◌∙◌, arith, true, ◌==◌, if◌then◌else◌, List, [], ◌∷◌, ◌++◌, append_assoc, length, length-append, take, drop, take-append-drop, Option, Some, None, IfSome, codes}
 use Rattle.std.proofs.lemmas.Bool.{cases_lt}
 use Rattle.std.proofs.lemmas.Bool.Decides.{eqb_tells}
 use Rattle.std.proofs.lemmas.List.{length-drop, take-append-le}
 use Rattle.slink_wire.specs.Hexadecimal.{hexadecimal}
-use Rattle.slink_wire.specs.Packet.{IsPacket, packet_bytes}
+use Rattle.slink_wire.specs.Packet.{packet_bytes}
 use Rattle.slink_wire.proofs.Digits.{length-hexadecimal}
 use Rattle.slink_wire.proofs.Packets.{read_back}
 use Rattle.slink_feed.specs.declared.dialogue.Ending.TheVariants as endings
@@ -30,7 +30,7 @@ packet_whole t r at long small = subst (λ (s : Stage). IsWhole s (packet_bytes 
 same_here : (n m : ℕ) → n ≡ m → (n == m) ≡ true
 same_here n m e = elim (eqb_tells n m) [ inl same ↦ same.0 | inr other ↦ absurd (other.1 e) ]
 
-wanted_told : (o : Option ℕ) (k n : ℕ) (bytes : List ℕ) (t : Talk) → IfSome o (λ want. n ≡ want) → if_wanted o k n bytes t ≡ told k n bytes t
+pub wanted_told : (o : Option ℕ) (k n : ℕ) (bytes : List ℕ) (t : Talk) → IfSome o (λ want. n ≡ want) → if_wanted o k n bytes t ≡ told k n bytes t
 wanted_told None k n bytes t is = refl
 wanted_told (Some want) k n bytes t is = ap (λ b. if b then told k n bytes t else ended (endings.Gap k want n) t) (same_here n want is)
 

@@ -90,7 +90,7 @@ pub brings_seen : (talk : Talk) (kept all more : List ℕ) (now new : Listening)
 brings_seen talk kept all more now new e seen is brings =
     subst (λ (l : Listening). Brings l.talk (l.kept ++ more) new e) seen (subst (λ (b : List ℕ). Brings talk b new e) is brings)
 
-begun_after : (talk : Talk) (bytes : List ℕ) (new : Listening) (e : Event) → Brings talk bytes new e → IsBegun new.talk.stage new.kept
+pub begun_after : (talk : Talk) (bytes : List ℕ) (new : Listening) (e : Event) → Brings talk bytes new e → IsBegun new.talk.stage new.kept
 begun_after talk bytes new e (whole w is h none) = subst (IsBegun new.talk.stage) (sym none) (begun_none new.talk.stage)
 begun_after talk bytes new e (begun is same quiet) = subst (λ (l : Listening). IsBegun l.talk.stage l.kept) (sym same) is
 

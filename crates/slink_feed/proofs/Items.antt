@@ -116,7 +116,7 @@ got_past false o r h = (refl, h)
 lt_false : (m n : ℕ) → nat_lt m n ≡ false → n ≤ m
 lt_false m n h = grind (arith, nat_tests)
 
-get_drop : (d : ℕ) (xs : List (List ℕ)) (i : ℕ) → slice_get (drop d xs) i ≡ slice_get xs (d + i)
+pub get_drop : (d : ℕ) (xs : List (List ℕ)) (i : ℕ) → slice_get (drop d xs) i ≡ slice_get xs (d + i)
 get_drop zero xs i = ap (slice_get xs) (let e : i ≡ 0 + i = omega arith in e)
 get_drop (suc d) [] i = refl
 get_drop (suc d) (x ∷ xs) i = get_drop d xs i ∙ sym (let e : suc d + i ≡ suc (d + i) = omega arith in ap (slice_get (x ∷ xs)) e)

@@ -18,7 +18,7 @@ use Rattle.slink_feed.specs.Dialogue.{Talk, Wants, Whole, Reply, Packet, End, Ga
 use Rattle.slink_feed.specs.Holding.{GoOn, Turn, connects, brings, numbers_in, numbers_of, talk_behind, turned}
 
 -- what comes of a turn for a place: nothing is told of it; or a record, of the number that it wants, if any
-data Moved (k : ℕ) (t : Talk) (x : Talk × Event) : Type 0 where
+pub data Moved (k : ℕ) (t : Talk) (x : Talk × Event) : Type 0 where
   stays : numbers_in k x.1 ≡ [] → next_at x.0.wants k ≡ next_at t.wants k → Moved k t x
   moves : (n : ℕ) → numbers_in k x.1 ≡ n ∷ [] → IfSome (next_at t.wants k) (λ want. n ≡ want) → next_at x.0.wants k ≡ Some ((n + 1) % 2 ^ 24) → Moved k t x
 
@@ -62,7 +62,7 @@ next_other : (wants : Wants) (j k n : ℕ) (o : Option Wanted) → j ≢ k → n
 next_other wants j k n None other = refl
 next_other wants j k n (Some v) other = ap (option_and_then (λ (x : Wanted). x.next)) (set_other wants j k (Some (record { place = v.place; next = Some n })) other)
 
-moved_told : (k j n : ℕ) (bytes : List ℕ) (t : Talk) (w : Wanted) → want_at t.wants j ≡ Some w → IfSome (next_at t.wants j) (λ want. n ≡ want) → Moved k t (told j n bytes t)
+pub moved_told : (k j n : ℕ) (bytes : List ℕ) (t : Talk) (w : Wanted) → want_at t.wants j ≡ Some w → IfSome (next_at t.wants j) (λ want. n ≡ want) → Moved k t (told j n bytes t)
 moved_told k j n bytes t w at wanted = elim (eqb_tells j k) [
   | inl same ↦ moves n (ap (λ b. if b then n ∷ [] else []) same.0) (subst (λ i. IfSome (next_at t.wants i) (λ want. n ≡ want)) same.1 wanted)
       (ap (next_at (with_next t.wants j ((n + 1) % 2 ^ 24))) (sym same.1) ∙ next_here t.wants j ((n + 1) % 2 ^ 24) (want_at t.wants j) w refl at)
@@ -74,7 +74,7 @@ moved_if : (k j n : ℕ) (bytes : List ℕ) (t : Talk) (w : Wanted) (b : Bool) (
 moved_if k j n bytes t w true want at is same = moved_told k j n bytes t w at (subst (λ o. IfSome o (λ x. n ≡ x)) (sym is) (same refl))
 moved_if k j n bytes t w false want at is same = moved_end k t (endings.Gap j want n)
 
-same_number : (n want : ℕ) → (n == want) ≡ true → n ≡ want
+pub same_number : (n want : ℕ) → (n == want) ≡ true → n ≡ want
 same_number n want h = elim (eqb_tells n want) [ inl same ↦ same.1 | inr other ↦ absurd (let bad : true ≡ false = sym h ∙ other.0 in cc bad) ]
 
 moved_wanted : (k j n : ℕ) (bytes : List ℕ) (t : Talk) (w : Wanted) (o : Option ℕ) → want_at t.wants j ≡ Some w → next_at t.wants j ≡ o → Moved k t (if_wanted o j n bytes t)
@@ -86,7 +86,7 @@ borne_some : (bytes : List ℕ) (o : Option Wanted) → is_borne bytes o ≡ tru
 borne_some bytes None h = absurd (let bad : false ≡ true = h in cc bad)
 borne_some bytes (Some w) h = (w, refl)
 
-get_want : (wants : Wants) (k : ℕ) → get_or wants k None ≡ want_at wants k
+pub get_want : (wants : Wants) (k : ℕ) → get_or wants k None ≡ want_at wants k
 get_want [] k = refl
 get_want (x ∷ xs) zero = refl
 get_want (x ∷ xs) (suc k) = get_want xs k
@@ -132,7 +132,7 @@ moved_turn : (k : ℕ) (t : Talk) (turn : Turn) → Moved k t (turned t turn)
 moved_turn k t connects = moved_place k 0 t (want_at t.wants 0)
 moved_turn k t (brings w) = moved_heard k t t.stage w
 
-go_on_more : (want last : Option ℕ) (n : ℕ) (ns : List ℕ) → IfSome want (λ x. n ≡ x) → GoOn (Some ((n + 1) % 2 ^ 24)) ns last → GoOn want (n ∷ ns) last
+pub go_on_more : (want last : Option ℕ) (n : ℕ) (ns : List ℕ) → IfSome want (λ x. n ≡ x) → GoOn (Some ((n + 1) % 2 ^ 24)) ns last → GoOn want (n ∷ ns) last
 go_on_more None last n ns is rest = rest
 go_on_more (Some want) last n ns is rest = (is, rest)
 

@@ -31,20 +31,20 @@ quiet_ending endings.Garbage = refl
 quiet_ending endings.Foreign = refl
 
 -- two lists that are joined alike, cut at one place
-same_cut : (xs ys us vs : List ℕ) → length xs ≡ length us → xs ++ ys ≡ us ++ vs → (xs ≡ us) × (ys ≡ vs)
+pub same_cut : (xs ys us vs : List ℕ) → length xs ≡ length us → xs ++ ys ≡ us ++ vs → (xs ≡ us) × (ys ≡ vs)
 same_cut xs ys us vs l h = (
   sym (take_at xs ys (length us) l) ∙ (ap (take (length us)) h ∙ take_at us vs (length us) refl),
   sym (drop_at xs ys (length us) l) ∙ (ap (drop (length us)) h ∙ drop_at us vs (length us) refl),
 )
 
 -- one byte stands at an index
-one_byte : (xs ys : List ℕ) (i a b : ℕ) → xs ≡ ys → slice_get xs i ≡ Some a → slice_get ys i ≡ Some b → a ≡ b
+pub one_byte : (xs ys : List ℕ) (i a b : ℕ) → xs ≡ ys → slice_get xs i ≡ Some a → slice_get ys i ≡ Some b → a ≡ b
 one_byte xs ys i a b h left right = let both : Some a ≡ Some b = sym left ∙ (ap (λ zs. slice_get zs i) h ∙ right) in cc both
 
-no_byte : (xs ys : List ℕ) (i a : ℕ) → xs ≡ ys → slice_get xs i ≡ Some a → slice_get ys i ≡ None → ⊥
+pub no_byte : (xs ys : List ℕ) (i a : ℕ) → xs ≡ ys → slice_get xs i ≡ Some a → slice_get ys i ≡ None → ⊥
 no_byte xs ys i a h left right = let both : Some a ≡ None = sym left ∙ (ap (λ zs. slice_get zs i) h ∙ right) in cc both
 
-packet_length : (n : ℕ) (r : List ℕ) → length r ≡ 512 → length (packet_bytes n r) ≡ 520
+pub packet_length : (n : ℕ) (r : List ℕ) → length r ≡ 512 → length (packet_bytes n r) ≡ 520
 packet_length n r e = omega (arith, e, length-hexadecimal 6 n, length-append (hexadecimal 6 n) r)
 
 bytes_same : (xs ys : List ℕ) → bytes_eq xs ys ≡ true → xs ≡ ys

@@ -39,7 +39,7 @@ shown_in w first p pushed x shows above h =
       get_dropped pushed d (p - oldest_of w) (p - first) x (omega (arith, at, above)) (ap (λ (rs : List (List ℕ)). slice_get rs (p - oldest_of w)) (sym shows.records) ∙ h),
     )
 
-read_at : (w : Window) (p : ℕ) (x : List ℕ) → record_at w p ≡ Some x → (oldest_of w ≤ p) × (slice_get w.records (p - oldest_of w) ≡ Some x)
+pub read_at : (w : Window) (p : ℕ) (x : List ℕ) → record_at w p ≡ Some x → (oldest_of w ≤ p) × (slice_get w.records (p - oldest_of w) ≡ Some x)
 read_at w p x h = elim (leb_tells (suc p) (oldest_of w)) [
   | inl below ↦ absurd (let bad : None ≡ Some x = sym (ap (λ t. if t then None else slice_get w.records (p - oldest_of w)) below.0) ∙ h in cc bad)
   | inr above ↦ (omega (arith, above.1), sym (ap (λ t. if t then None else slice_get w.records (p - oldest_of w)) above.0) ∙ h)

@@ -1,10 +1,10 @@
 -- A stretch of a place's records, from the number on that it wants, is wanted.
-use Rattle.std.proofs.Common.{◌≡◌, ℕ, ◌+◌, ◌-◌, ◌%◌, ◌^◌, ◌<◌, ◌≤◌, zero, suc, refl, sym, ap, subst, ◌∙◌, arith, Bool, true, false, not, cond, nat_lt, List, [], ◌∷◌, ◌++◌, length, set, Option, Some, None, IfSome}
-use Rattle.std.specs.List.{position, position_or_len}
+use Rattle.std.proofs.Common.{◌≡◌, ℕ, ◌+◌, ◌%◌, ◌^◌, zero, suc, refl, sym, ap, subst, ◌∙◌, arith, Bool, not, cond, nat_lt, List, [], ◌∷◌, ◌++◌, length, set, Option, Some, None, IfSome}
+use Rattle.std.specs.List.{position_or_len}
 use Rattle.std.proofs.lemmas.List.{length-set}
 use Rattle.slink_wire.specs.Packet.{packet_bytes}
 use Rattle.slink_feed.specs.declared.dialogue.Wanted.{Wanted}
-use Rattle.slink_feed.specs.Delivered.{AreBorne, AreWanted, Numbered, all_packets, joined, numbered}
+use Rattle.slink_feed.specs.Delivered.{AreBorne, AreWanted, all_packets, joined, numbered}
 use Rattle.slink_feed.specs.Dialogue.{Talk, Wants, bearer, is_borne, next_at, next_set, told, want_at, with_next}
 use Rattle.slink_feed.specs.Sending.{packets_from}
 use Rattle.slink_feed.proofs.Numbers.{bearer_some, next_here}

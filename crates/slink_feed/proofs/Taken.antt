@@ -51,14 +51,14 @@ both_true : (p q : Bool) → (p && q) ≡ true → (p ≡ true) × (q ≡ true)
 both_true true q h = (refl, h)
 both_true false q h = absurd (let bad : false ≡ true = h in cc bad)
 
-borne_is : (r : List ℕ) (o : Option Wanted) → is_borne r o ≡ true → (w : Wanted) × (o ≡ Some w) × Bears r w.place
+pub borne_is : (r : List ℕ) (o : Option Wanted) → is_borne r o ≡ true → (w : Wanted) × (o ≡ Some w) × Bears r w.place
 borne_is r None h = absurd (let bad : false ≡ true = h in cc bad)
 borne_is r (Some w) h =
     let parts : (bytes_eq (slice_range r 8 13) w.place.station ≡ true) × (bytes_eq (slice_range r 18 20) w.place.network ≡ true) = both_true (bytes_eq (slice_range r 8 13) w.place.station) (bytes_eq (slice_range r 18 20) w.place.network) h in
     (w, refl, ((bytes_eq-Decides (slice_range r 8 13) w.place.station).0 parts.0, (bytes_eq-Decides (slice_range r 18 20) w.place.network).0 parts.1))
 
 -- a record bears one place
-one_place : (r : List ℕ) (p q : Fields) → Bears r p → Bears r q → p ≡ q
+pub one_place : (r : List ℕ) (p q : Fields) → Bears r p → Bears r q → p ≡ q
 one_place r p q a b =
     ap (λ s. record { station = s; network = p.network }) (sym a.0 ∙ b.0) ∙ ap (λ n. record { station = q.station; network = n }) (sym a.1 ∙ b.1)
 
@@ -79,7 +79,7 @@ quiet_held f (events.Gap k want got) t h = (refl, refl)
 quiet_held f events.Garbage t h = (refl, refl)
 quiet_held f events.Foreign t h = (refl, refl)
 
-same_client : (f : Numbers) (e : Event) (t : Taking) → (noted f e t).client ≡ t.client
+pub same_client : (f : Numbers) (e : Event) (t : Taking) → (noted f e t).client ≡ t.client
 same_client f events.None t = refl
 same_client f (events.Say bytes) t = refl
 same_client f (events.Record k n r) t = refl

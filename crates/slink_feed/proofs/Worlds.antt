@@ -30,7 +30,7 @@ get_last [] b (suc i) r h = absurd (let bad : None ≡ Some r = h in cc bad)
 get_last (x ∷ xs) b zero r h = inl h
 get_last (x ∷ xs) b (suc i) r h = get_last xs b i r h
 
-sound_more : (place : Fields) (xs : List (List ℕ)) (b : List ℕ) → length b ≡ 512 → Bears b place → AreSound place xs → AreSound place (xs ++ b ∷ [])
+pub sound_more : (place : Fields) (xs : List (List ℕ)) (b : List ℕ) → length b ≡ 512 → Bears b place → AreSound place xs → AreSound place (xs ++ b ∷ [])
 sound_more place xs b long bears sound i r h = elim (get_last xs b i r h) [
   | inl before ↦ sound i r before
   | inr last ↦ (sym (ap length last) ∙ long, subst (λ x. Bears x place) last bears)
@@ -117,7 +117,7 @@ module _ (places : Places) (first : ℕ) where
   linked_ties w (Some m) t l = record { shown = t.shown; sound = t.sound; wanted = t.wanted; holds = t.holds; want_first = t.want_first; long = t.long; link = l }
 
   -- Connect
-  none_granted : (n k : ℕ) → grant_at (replicate n None) k ≡ None
+  pub none_granted : (n k : ℕ) → grant_at (replicate n None) k ≡ None
   none_granted zero k = refl
   none_granted (suc n) zero = refl
   none_granted (suc n) (suc k) = none_granted n k
@@ -256,7 +256,7 @@ drop_none : (n : ℕ) → ◌≡◌ {A = List (List ℕ)} (drop n []) []
 drop_none zero = refl
 drop_none (suc n) = refl
 
-none_wanted : (m k : ℕ) → want_at (replicate m None) k ≡ None
+pub none_wanted : (m k : ℕ) → want_at (replicate m None) k ≡ None
 none_wanted zero k = refl
 none_wanted (suc m) zero = refl
 none_wanted (suc m) (suc k) = none_wanted m k

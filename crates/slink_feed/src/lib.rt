@@ -7,19 +7,24 @@ mod client;
 mod cutting;
 mod dialogue;
 mod feed;
+mod fetching;
 mod grant;
 mod law;
 mod ring;
 mod schedule;
+mod serving;
 mod session;
 mod stretch;
 #[cfg(test)]
 mod tests;
+mod told;
+mod turn;
 mod world;
 
 pub use client::Client;
 pub use dialogue::{Bytes, Ending, Event, Stage, Wanted};
 pub use feed::{Feed, FeedFault};
+pub use fetching::fetch_turn;
 pub use grant::{Grant, Mode};
 pub use law::{
     a_stretch_is_sent, a_stretch_is_wanted, each_record_once, granted_behind_the_last, one_reading,
@@ -27,6 +32,11 @@ pub use law::{
 };
 pub use ring::{Ring, RingFault};
 pub use schedule::run_schedule;
+pub use serving::serve_turn;
 pub use session::{Phase, Sent, Session};
-pub use stretch::{carries_a_stretch, holds_one_slice, resumes_behind_the_last};
+pub use stretch::{
+    answers_the_number_wanted, carries_a_stretch, goes_on_behind_the_last, holds_one_slice,
+    one_world, pushes_what_is_appended, resumes_behind_the_last, spares_the_client,
+};
+pub use turn::{LinkFault, Turn};
 pub use world::{Link, Memory, Setup, Step, World};

@@ -1,17 +1,41 @@
 //! Schedules: pushes, deliveries, cuts and reconnections in any order.
-ghost use Rattle.std.specs.Prelude.{◌≡◌, ◌^◌, ◌<◌, ◌≤◌, ◌++◌, [], ◌∷◌, All, IfOk, None, Some, length, map};
+ghost use Rattle.std.specs.Prelude.{◌≡◌, ◌^◌, ◌<◌, ◌≤◌, ◌++◌, ℕ, [], ◌∷◌, All, IfOk, None, Some, length, map};
+ghost use Rattle.slink_wire.specs.Place.{IsField};
+ghost use Rattle.slink_feed.specs.Calling.{AreAnswered};
 ghost use Rattle.slink_feed.specs.Dialogue.{AreNumbers};
 ghost use Rattle.slink_feed.specs.Fault.{IsCapacity};
+ghost use Rattle.slink_feed.specs.Going.{GoesOn};
+ghost use Rattle.slink_feed.specs.Listening.{IsLinked};
 ghost use Rattle.slink_feed.specs.Rings.{HasPlace};
 ghost use Rattle.slink_feed.specs.Running.{IsRunning};
+ghost use Rattle.slink_feed.specs.Spared.{HaveCodes, IsSpared};
 ghost use Rattle.slink_feed.specs.Stretch.{HoldsStretches, IsCarried, LackFew, Resumes};
-ghost use Rattle.slink_feed.specs.World.{AllHappen, Differ, IsOf, LinkState, empty_window, lists_of, opening, seen};
+ghost use Rattle.slink_feed.specs.World.{AllHappen, Differ, Happens, IsOf, LinkState, WorldState, empty_window};
+ghost use Rattle.slink_feed.specs.World.{lists_of, opening, seen};
 
 use crate::client::Client;
 use crate::feed::{Feed, FeedFault};
 use crate::ring::Ring;
 use crate::world::{Memory, Setup, Step, World};
+use slink_wire::Place;
 use std::alloc::Global;
+
+/// A place has codes for its station and network.
+fn has_codes(place: &Place)
+    ensures { IsField 5 place.now.station × IsField 2 place.now.network }
+{
+    let _station = place.station();
+    let _network = place.network();
+}
+
+/// Each place has them.
+fn have_codes(setup: &Setup)
+    ensures { HaveCodes setup.now.places.items }
+{
+    for (place, _) in setup.places.as_slice() {
+        has_codes(place);
+    }
+}
 
 /// Adds the ring of another place.
 fn add(feed: &mut Feed, ring: Ring)
@@ -116,7 +140,23 @@ pub fn run_schedule(alloc: Global, setup: &Setup, steps: &[Step]) -> Result<Worl
     ensures carried { IfOk result (λ w. (run : AllHappen (opening setup.now) steps.now (seen w))
         → LackFew setup.now.first (opening setup.now) steps.now (seen w) run → (l : LinkState) → (seen w).link ≡ Some l
         → IsCarried setup.now.places.items setup.now.first (seen w) l) }
+    // Bytes that come to the server next answer a client that awaits the grant of a place by the number that it wants.
+    ensures answers { IfOk result (λ w. (run : AllHappen (opening setup.now) steps.now (seen w))
+        → LackFew setup.now.first (opening setup.now) steps.now (seen w) run → 0 < length setup.now.places.items
+        → (n : ℕ) (next : WorldState) (l m : LinkState) → Happens (seen w) (Step.ToServer n) next
+        → (seen w).link ≡ Some l → next.link ≡ Some m → AreAnswered (seen w) l m) }
+    // The first packet of a place on its way is that of the record behind the last one held.
+    ensures goes_on { IfOk result (λ w. (run : AllHappen (opening setup.now) steps.now (seen w))
+        → LackFew setup.now.first (opening setup.now) steps.now (seen w) run → 0 < length setup.now.places.items
+        → (l : LinkState) → (seen w).link ≡ Some l → IsLinked (seen w).client.talk.stage
+        → GoesOn setup.now.places.items (seen w) l) }
+    // The client is told of no gap, and of nothing that it can't read, whatever is lacking.
+    ensures spared { IfOk result (λ w. 0 < length setup.now.places.items → IsSpared (seen w).client.talk.stage) }
+    // No other world comes of the steps.
+    ensures only { IfOk result (λ w. 0 < length setup.now.places.items
+        → (other : WorldState) → AllHappen (opening setup.now) steps.now other → other ≡ seen w) }
 {
+    have_codes(setup);
     let mut world = open(alloc, setup)?;
     for step in steps {
         world.step(alloc, step)?;

@@ -3,6 +3,7 @@ ghost use Rattle.slink_feed.specs.Session.{Fits, State};
 
 mod client;
 mod schedule;
+mod turns;
 
 use crate::{Feed, FeedFault, Ring, Sent, Session};
 use slink_wire::{Packet, Place, Reply};

@@ -1,8 +1,8 @@
 //! A server and a client, and what lies between them.
-ghost use Rattle.std.specs.Prelude.{◌≡◌, ◌++◌, ◌≤◌, ◌<◌, OnOk, drop, length, take};
+ghost use Rattle.std.specs.Prelude.{◌≡◌, ◌↔◌, ◌++◌, ◌≤◌, ◌<◌, All, IsTrue, OnOk, drop, length, take};
 ghost use Rattle.slink_feed.specs.Running.{IsPossible, IsRunning, IsServing, Keeps};
 ghost use Rattle.slink_feed.specs.Stretch.{IsSound};
-ghost use Rattle.slink_feed.specs.World.{Happens, Hears, IsServed, link_state, seen, sent_on, taken};
+ghost use Rattle.slink_feed.specs.World.{Happens, Hears, IsOf, IsServed, link_state, seen, sent_on, taken};
 
 use crate::carry::{add_bytes, add_record, hear_bytes, note_first, remove_front, serve_bytes};
 use crate::client::Client;
@@ -70,6 +70,34 @@ pub struct World {
     /// The number of the first record held of each place, where one is held.
     pub start: Vec<Option<u64>>,
     pub link: Option<Link>,
+}
+
+impl Setup {
+    /// Whether a step names one of the places, and a record that it pushes bears its place.
+    pub fn has_step(&self, step: &Step) -> bool
+        ensures { IsTrue result ↔ IsOf self.now.places.items step.now }
+    {
+        match step {
+            Step::Append(k, bytes) => match self.places.as_slice().get(*k) {
+                Some((place, _)) => place.bears(bytes),
+                None => false,
+            },
+            Step::Send(k) => *k < self.places.len(),
+            Step::Connect | Step::ToServer(_) | Step::ToClient(_) | Step::Cut => true,
+        }
+    }
+
+    /// Whether all steps do.
+    pub fn has_steps(&self, steps: &[Step]) -> bool
+        ensures { IsTrue result ↔ All (IsOf self.now.places.items) steps.now }
+    {
+        for step in steps {
+            if !self.has_step(step) {
+                return false;
+            }
+        }
+        true
+    }
 }
 
 impl Link {

@@ -1,8 +1,4 @@
 //! Worked rows of schedules.
-ghost use Rattle.std.specs.Prelude.{All, length, ◌<◌};
-ghost use Rattle.std.specs.Bool.{OnTrue};
-ghost use Rattle.slink_feed.specs.World.{IsOf};
-
 use super::{place, record};
 use crate::{Mode, Setup, Step, World, run_schedule};
 use std::alloc::Global;
@@ -17,32 +13,6 @@ const SHAKE: [Step; 6] = [
     Step::ToClient(64),
     Step::ToServer(64),
 ];
-
-/// Whether a step names one of the places, and its record bears that.
-fn is_of(setup: &Setup, step: &Step) -> bool
-    ensures { OnTrue result (IsOf setup.now.places.items step.now) }
-{
-    match step {
-        Step::Append(k, bytes) => match setup.places.as_slice().get(*k) {
-            Some((place, _)) => place.bears(bytes),
-            None => false,
-        },
-        Step::Send(k) => *k < setup.places.len(),
-        Step::Connect | Step::ToServer(_) | Step::ToClient(_) | Step::Cut => true,
-    }
-}
-
-/// Whether all do.
-fn are_of(setup: &Setup, steps: &[Step]) -> bool
-    ensures { OnTrue result (All (IsOf setup.now.places.items) steps.now) }
-{
-    for step in steps {
-        if !is_of(setup, step) {
-            return false;
-        }
-    }
-    true
-}
 
 /// The records in the first of these lists.
 fn first(lists: &[Vec<[u8; 512]>]) -> &[[u8; 512]] {
@@ -61,7 +31,7 @@ fn world_of(alloc: Global, steps: &[Step]) -> Result<World, Fail> {
         first: 0,
         mode: Mode::Data,
     };
-    if !are_of(&setup, steps) || steps.len() > 1000 {
+    if !setup.has_steps(steps) || steps.len() > 1000 {
         Err("no schedule of the place")?;
     }
     Ok(run_schedule(alloc, &setup, steps).map_err(|_| "no memory")?)
@@ -97,5 +67,55 @@ fn goes_on_behind_the_last_record(rt: HostRuntime) -> Result<(), Fail> {
     assert_eq!(rt; first(&world.pushed), &records[..]);
     assert_eq!(rt; world.client.next(0), Some(3));
     assert_eq!(rt; world.start.as_slice(), [Some(0)].as_slice());
+    Ok(())
+}
+
+/// What comes of the second link: so many bytes to the server, or else to the client, by turns.
+const TURNS: [(bool, usize); 6] = [
+    (true, 16),
+    (false, 4),
+    (true, 13),
+    (false, 4),
+    (true, 5),
+    (false, 1040),
+];
+
+/// The first so many bytes of these turns come, and the link is cut.
+fn cut_after(steps: &mut Vec<Step>, count: usize) -> Result<(), Fail> {
+    let mut left = count;
+    steps.push(Step::Connect)?;
+    for (to_server, length) in TURNS {
+        let some = left.min(length);
+        left -= some;
+        steps.extend_from_slice(&[Step::Send(0), Step::Send(0)])?;
+        steps.push(if to_server {
+            Step::ToServer(some)
+        } else {
+            Step::ToClient(some)
+        })?;
+    }
+    Ok(steps.push(Step::Cut)?)
+}
+
+#[test]
+fn goes_on_wherever_a_link_is_cut(rt: HostRuntime) -> Result<(), Fail> {
+    let records = [
+        record(b"STA  ", 0),
+        record(b"STA  ", 1),
+        record(b"STA  ", 2),
+    ];
+    for count in 0..1083 {
+        let mut steps = Vec::new(rt.alloc());
+        steps.push(Step::Append(0, records[0]))?;
+        steps.extend_from_slice(&SHAKE)?;
+        steps.extend_from_slice(&[Step::Send(0), Step::ToClient(520)])?;
+        steps.extend_from_slice(&[Step::Append(0, records[1]), Step::Append(0, records[2])])?;
+        cut_after(&mut steps, count)?;
+        steps.extend_from_slice(&SHAKE)?;
+        steps.extend_from_slice(&[Step::Send(0), Step::Send(0), Step::ToClient(1040)])?;
+        let world = world_of(rt.alloc(), &steps)?;
+        assert_eq!(rt; first(&world.held), &records[..]);
+        assert_eq!(rt; world.client.next(0), Some(3));
+    }
     Ok(())
 }

@@ -1,12 +1,18 @@
-use Rattle.std.proofs.Common.{inl, inr, ◌≡◌, ◌+◌, ◌^◌, arith, ap, sym, subst, get_or, []}
+use Rattle.std.proofs.Common.{inl, inr, refl, ◌≡◌, ℕ, ◌+◌, ◌^◌, ◌≤◌, List, arith, ap, sym, subst, drop, get_or, length, []}
+use Rattle.std.proofs.lemmas.List.{drop_all}
+use Rattle.slink_feed.specs.declared.world.Step.{Step}
 use Rattle.slink_feed.specs.declared.world.Step.TheVariants.{Append}
 use Rattle.slink_feed.specs.Running.{AreRings}
-use Rattle.slink_feed.specs.World.{AllHappen, WorldState, seen}
+use Rattle.slink_feed.specs.World.{AllHappen, WorldState, opening, seen}
 use Rattle.slink_feed.specs.Stretch.{IsSound}
 use Rattle.slink_feed.proofs.Briefly.{brief_held}
+use Rattle.slink_feed.proofs.Calling.{answered_after}
+use Rattle.slink_feed.proofs.Going.{goes_on_after}
 use Rattle.slink_feed.proofs.Items.{same_or_not}
 use Rattle.slink_feed.proofs.Worlds.{schedule_is, stretch_held}
+use Rattle.slink_feed.proofs.OneWorld.{one_world}
 use Rattle.slink_feed.proofs.Resumed.{resume_granted, stretch_carried}
+use Rattle.slink_feed.proofs.Sparing.{client_spared}
 use Rattle.slink_feed.proofs.Stepping.{happens_more, opening_rings, possible, rings_on}
 use Rattle.slink_feed.proofs.schedule.run_schedule.Goals as goal
 
@@ -53,3 +59,29 @@ returns-clause-carried c = λ run lacks l is. stretch_carried c.args.setup.now c
 pub returns-clause-brief : goal.returns-clause-brief
 returns-clause-brief c = λ run brief. brief_held c.args.setup.now c.args.steps.now (seen c.loop-step.world) run
     (schedule_is c.args.setup.now c.args.steps.now c.requires.count c.requires.capacity.1 c.requires.differ c.requires.steps (λ k lt. c.loop-step.invariant.sound k (omega (arith, lt)))) brief
+
+-- the steps led to the world
+happened : (steps : List Step) (n : ℕ) (opening now : WorldState) → length steps ≤ n → ((last : WorldState) → AllHappen now (drop n steps) last → AllHappen opening steps last) → AllHappen opening steps now
+happened steps n opening now past rest = rest now (subst (λ more. AllHappen now more now) (sym (drop_all n steps past)) refl)
+
+pub returns-clause-spared : goal.returns-clause-spared
+returns-clause-spared c = λ some. client_spared c.args.setup.now c.args.steps.now (seen c.loop-step.world)
+    (happened c.args.steps.now c.loop-step.step-index (opening c.args.setup.now) (seen c.loop-step.world) (omega (arith, c.loop-step-test.false)) c.loop-step.invariant.rest)
+    (schedule_is c.args.setup.now c.args.steps.now c.requires.count c.requires.capacity.1 c.requires.differ c.requires.steps (λ k lt. c.loop-step.invariant.sound k (omega (arith, lt))))
+    (record { some = some; codes = c.have_codes.ensures; numbers = c.requires.numbers })
+
+pub returns-clause-only : goal.returns-clause-only
+returns-clause-only c = λ some other run. one_world c.args.setup.now c.args.steps.now other (seen c.loop-step.world) run
+    (happened c.args.steps.now c.loop-step.step-index (opening c.args.setup.now) (seen c.loop-step.world) (omega (arith, c.loop-step-test.false)) c.loop-step.invariant.rest)
+    (schedule_is c.args.setup.now c.args.steps.now c.requires.count c.requires.capacity.1 c.requires.differ c.requires.steps (λ k lt. c.loop-step.invariant.sound k (omega (arith, lt))))
+    (record { some = some; codes = c.have_codes.ensures; numbers = c.requires.numbers })
+
+pub returns-clause-answers : goal.returns-clause-answers
+returns-clause-answers c = λ run lacks some n next l m happens was becomes. answered_after c.args.setup.now c.args.steps.now (seen c.loop-step.world) run
+    (schedule_is c.args.setup.now c.args.steps.now c.requires.count c.requires.capacity.1 c.requires.differ c.requires.steps (λ k lt. c.loop-step.invariant.sound k (omega (arith, lt))))
+    (record { some = some; codes = c.have_codes.ensures; numbers = c.requires.numbers }) lacks n next l m happens was becomes
+
+pub returns-clause-goes_on : goal.returns-clause-goes_on
+returns-clause-goes_on c = λ run lacks some l at linked. goes_on_after c.args.setup.now c.args.steps.now (seen c.loop-step.world) run
+    (schedule_is c.args.setup.now c.args.steps.now c.requires.count c.requires.capacity.1 c.requires.differ c.requires.steps (λ k lt. c.loop-step.invariant.sound k (omega (arith, lt))))
+    (record { some = some; codes = c.have_codes.ensures; numbers = c.requires.numbers }) lacks l at linked

@@ -1,0 +1,35 @@
+-- What a client is never told over the links of a schedule.
+use Rattle.std.specs.Prelude.{◌≡◌, ℕ, ◌<◌, List, length, Option, Some, slice_get}
+use Rattle.slink_wire.specs.Place.{Fields, IsField}
+use Rattle.slink_feed.specs.declared.dialogue.Ending.{Ending}
+use Rattle.slink_feed.specs.declared.dialogue.Ending.TheVariants.{End, Refused, Gap, Garbage, Foreign}
+use Rattle.slink_feed.specs.declared.dialogue.Stage.{Stage}
+use Rattle.slink_feed.specs.declared.dialogue.Stage.TheVariants.{Unlinked, Station, Number, Packets, Ended}
+use Rattle.slink_feed.specs.Dialogue.{AreNumbers}
+
+-- A link ends where all that was asked for was sent, or where a place is refused: not by the packet of another record
+-- than the one that is wanted, nor by that of a record of none of the places, nor by bytes that are no reply, packet or
+-- end.
+abbrev pub IsFair : Ending → Type 0
+IsFair End = Unit {0}
+IsFair (Refused k) = Unit {0}
+IsFair (Gap k want got) = ⊥
+IsFair Garbage = ⊥
+IsFair Foreign = ⊥
+
+abbrev pub IsSpared : Stage → Type 0
+IsSpared Unlinked = Unit {0}
+IsSpared (Station k) = Unit {0}
+IsSpared (Number k) = Unit {0}
+IsSpared Packets = Unit {0}
+IsSpared (Ended ending) = IsFair ending
+
+-- Each place has codes for its station and network.
+abbrev pub HaveCodes : List (Fields × Option ℕ) → Type 0
+HaveCodes places = (k : ℕ) (p : Fields × Option ℕ) → slice_get places k ≡ Some p → IsField 5 p.0.station × IsField 2 p.0.network
+
+-- There is a place, each has codes for its station and network, and a number that is wanted first is below 2^24.
+pub record AreAskable (places : List (Fields × Option ℕ)) : Type 0 where
+  pub some : 0 < length places
+  pub codes : HaveCodes places
+  pub numbers : AreNumbers places
