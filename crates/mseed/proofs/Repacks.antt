@@ -30,7 +30,7 @@ use Rattle.mseed_pack.specs.Outcome.{IsOutcome, TookAll, TookFront}
 use Rattle.mseed_pack.specs.declared.fault.PackFault.{PackFault}
 use Rattle.mseed_pack.specs.declared.fault.PackFault.TheVariants.{Empty, RateTooHigh, TimeOutOfRange, SampleTooLarge, DifferenceTooLarge, Write as WriteFailed}
 use Rattle.mseed_pack.specs.declared.options.Options.{Options}
-use Rattle.mseed.specs.Repack.{Channel, AreContinuous, ArePackedInto, CanBePacked, CantBePacked, IsFirst, IsFrontPacked, IsPartPacked, Wrote, more, none, records_in}
+use Rattle.mseed.specs.Repack.{Channel, AreContinuous, ArePackedInto, CanBePacked, CantBePacked, IsFirst, IsPartPacked, Wrote, more, none, records_in}
 use Rattle.mseed.specs.Repacking.{FailsToPack, FailsToPackOne, IsPackedInPart, IsPackedWhole}
 use Rattle.mseed.specs.declared.repack_fault.RepackFault.{RepackFault}
 use Rattle.mseed.specs.declared.repack_fault.RepackFault.TheVariants.{Stream, Broken, Misfit, Write, Memory}
@@ -46,7 +46,7 @@ past x whole (y ∷ ys) low h =
     let behind_x : List ℕ → Type 0 = λ k. slice_cmp nat_cmp x.0 k ≡ Less in
     (lookup_tail (same_key y.0) x whole (apart x.0 y.0 (All-head behind_x y.0 (keys_of ys) low)) ∙ h.0, past x whole ys (All-tail behind_x y.0 (keys_of ys) low) h.1)
 
-found : (cs : List Channel) → IsStrictlySortedBy (slice_cmp nat_cmp) (keys_of cs) → AllByRecursion (λ (c : Channel). lookup (same_key c.0) cs ≡ Some c.1) cs
+pub found : (cs : List Channel) → IsStrictlySortedBy (slice_cmp nat_cmp) (keys_of cs) → AllByRecursion (λ (c : Channel). lookup (same_key c.0) cs ≡ Some c.1) cs
 found [] s = tt
 found (x ∷ xs) s = (
   lookup_head (same_key x.0) x xs (same_itself x.0),
@@ -122,21 +122,6 @@ part_of_next o views cs i d first old new lt before one = record {
   failed = omega (arith, one.failed, before.failed);
 }
 
--- or nothing
-pub none_of_next : (o : Options) (views : List View) (cs : List Channel) (i : ℕ) (first old new : Said)
-    → Wrote (ArePackedInto o views (take i cs)) 0 first old → new ≡ old → Wrote (IsFrontPacked o views cs) 0 first new
-none_of_next o views cs i first old new before same = record {
-  text = before.text;
-  text_is = record {
-    front = take i cs;
-    back = drop i cs;
-    parts = sym (take-append-drop i cs);
-    packed = before.text_is;
-  };
-  bytes = ap (λ (s : Said). s.bytes) same ∙ before.bytes;
-  failed = ap (λ (s : Said). s.failures) same ∙ before.failed;
-}
-
 -- a record behind all others
 behind : (offset : ℕ) (vs : List View) (v : View) → added_from offset (vs ++ v ∷ []) ≡ added_from offset vs ++ record { view = v; offset = end_of offset vs } ∷ []
 behind offset [] v = refl
@@ -185,16 +170,14 @@ all_passed P cs i le all = subst (λ (ds : List Channel). All P ds) (take_all i 
 pub of_each : (P : List ℕ → Type 0) (cs : List Channel) (i : ℕ) (c : Channel) → i < length cs → c ≡ get_or cs i c → All (λ (d : Channel). P d.0) cs → P c.0
 of_each P cs i c lt is all = subst (λ (d : Channel). P d.0) (sym is) (all i c lt)
 
-pub fit_next : (o : Options) (views : List View) (cs : List Channel) (i : ℕ) (c : Channel) (s : Trace) → i < length cs → c ≡ get_or cs i c → IsSeriesOf s (records_in views c.0) → Fits s o
+pub fit_next : (o : Options) (views : List View) (cs : List Channel) (i : ℕ) (c : Channel) → i < length cs → c ≡ get_or cs i c → CanBePacked o views c.0
     → All (λ (d : Channel). CanBePacked o views d.0) (take i cs) → All (λ (d : Channel). CanBePacked o views d.0) (take (i + 1) cs)
-fit_next o views cs i c s lt is series fits before =
-    let can : CanBePacked o views c.0 = record { trace = s; series = series; fits = fits } in
+fit_next o views cs i c lt is can before =
     All-more (λ (d : Channel). CanBePacked o views d.0) cs i c lt before (subst (λ (d : Channel). CanBePacked o views d.0) is can)
 
-pub misfit_at : (o : Options) (views : List View) (cs : List Channel) (i : ℕ) (c : Channel) (s : Trace) (fault : PackFault) → i < length cs → c ≡ get_or cs i c → IsSeriesOf s (records_in views c.0)
-    → IsMisfit s o fault → All (λ (d : Channel). CanBePacked o views d.0) (take i cs) → IsFirst (CanBePacked o views) (CantBePacked o views fault) c.0 cs
-misfit_at o views cs i c s fault lt is series misfit before =
-    let cant : CantBePacked o views fault c.0 = record { trace = s; series = series; misfit = misfit } in
+pub misfit_at : (o : Options) (views : List View) (cs : List Channel) (i : ℕ) (c : Channel) (fault : PackFault) → i < length cs → c ≡ get_or cs i c → CantBePacked o views fault c.0
+    → All (λ (d : Channel). CanBePacked o views d.0) (take i cs) → IsFirst (CanBePacked o views) (CantBePacked o views fault) c.0 cs
+misfit_at o views cs i c fault lt is cant before =
     let there : CantBePacked o views fault (get_or cs i c).0 = subst (λ (d : Channel). CantBePacked o views fault d.0) is cant in
     subst (λ (key : List ℕ). IsFirst (CanBePacked o views) (CantBePacked o views fault) key cs) (sym (ap (λ (d : Channel). d.0) is))
     (first_at (CanBePacked o views) (CantBePacked o views fault) cs i c lt before there)
@@ -211,7 +194,7 @@ fails_next o views cs i c first old new (Broken k) lt is before one = one
 fails_next o views cs i c first old new (Misfit k f) lt is before one = one
 fails_next o views cs i c first old new Write lt is before one =
     part_of_next o views cs i c first old new lt before (subst (λ (d : Channel). Wrote (IsPackedInPart o views d.0) 1 old new) is one)
-fails_next o views cs i c first old new Memory lt is before one = none_of_next o views cs i first old new before one
+fails_next o views cs i c first old new Memory lt is before one = one
 
 -- nothing yet
 pub wrote_none : (o : Options) (views : List View) (cs : List Channel) (s : Said) → Wrote (ArePackedInto o views (take 0 cs)) 0 s s

@@ -86,14 +86,7 @@ pub data ArePackedInto (o : Options) (views : List View) : List Channel → List
   more : (cs : List Channel) (c : Channel) (text : List ℕ) (records : List (List ℕ)) → ArePackedInto o views cs text
       → IsPackedInto o views c.0 records → ArePackedInto o views (cs ++ c ∷ []) (text ++ concat records)
 
--- the records of the first channels
-pub record IsFrontPacked (o : Options) (views : List View) (channels : List Channel) (text : List ℕ) : Type 0 where
-  pub front : List Channel
-  pub back : List Channel
-  pub parts : channels ≡ front ++ back
-  pub packed : ArePackedInto o views front text
-
--- and of the next channel's records a part
+-- the records of the first channels, and of the next channel's a part
 pub record IsPartPacked (o : Options) (views : List View) (channels : List Channel) (text : List ℕ) : Type 0 where
   pub front : List Channel
   pub next : Channel
@@ -131,7 +124,7 @@ abbrev pub Exists : (List View → List Channel → Type 0) → Type 0
 Exists P = (views : List View) × ((channels : List Channel) × P views channels)
 
 -- What packing anew comes to. All is written where the input is a whole archive, each channel continuous, and each
--- series can be packed; a front of that where the output or memory failed; and nothing otherwise.
+-- series can be packed; a front of that where the output failed; and nothing otherwise, where memory was refused too.
 abbrev pub IsRepacking : {U : Type 0} → Options → Result U RepackFault → Heard → Said → Said → Type 0
 IsRepacking o (Ok u) h old new =
     Exists (λ views channels. IsFitFor o h views channels × Wrote (ArePackedInto o views channels) 0 old new)
@@ -144,5 +137,4 @@ IsRepacking o (Err (Misfit key fault)) h old new =
     × IsFirst (CanBePacked o views) (CantBePacked o views fault) key channels × (new ≡ old))
 IsRepacking o (Err Write) h old new =
     Exists (λ views channels. IsFitFor o h views channels × Wrote (IsPartPacked o views channels) 1 old new)
-IsRepacking o (Err Memory) h old new =
-    (new ≡ old) ⊎ Exists (λ views channels. IsFitFor o h views channels × Wrote (IsFrontPacked o views channels) 0 old new)
+IsRepacking o (Err Memory) h old new = new ≡ old

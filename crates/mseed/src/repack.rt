@@ -1,23 +1,27 @@
 //! Packing an archive anew.
-ghost use Rattle.std.specs.Prelude.{◌≡◌, ◌⊎◌, ◌<◌, ◌^◌, List, ℕ, length, map, All, IfErr, IfOk, OnOk};
+ghost use Rattle.std.specs.Prelude.{◌≡◌, ◌≤◌, ◌<◌, ◌^◌, List, length, map, All, IfErr, IfOk, IsTrue, OnOk};
 ghost use Rattle.mseed_record.specs.View.{View};
 ghost use Rattle.mseed_record.specs.Viewing.{view_of};
 ghost use Rattle.mseed_stream.specs.Device.{nothing_heard};
 ghost use Rattle.mseed_audit.specs.Channels.{added_from};
-ghost use Rattle.mseed_audit.specs.Follows.{IsContinuous};
 ghost use Rattle.mseed_audit.specs.Series.{IsSeriesOf};
-ghost use Rattle.mseed_audit.specs.Verdict.{AreVerdicts};
-ghost use Rattle.mseed.specs.Repack.{AreContinuous, ArePackedInto, CanBePacked, CantBePacked, IsFirst, IsFrontPacked};
-ghost use Rattle.mseed.specs.Repack.{IsPackedInto, IsPartPacked, IsRepacking, Wrote, records_in};
-ghost use Rattle.mseed.specs.Repacking.{FailsToFit, FailsToPack, FailsToPackOne, IsFirstBroken, IsPackedWhole};
+ghost use Rattle.mseed_audit.specs.Verdict.{AreVerdicts, says_continuous};
+ghost use Rattle.mseed_pack.specs.Traces.{trace_of};
+ghost use Rattle.mseed.specs.Reading.{AreOf, channel_in, samples_said, steps_of};
+ghost use Rattle.mseed.specs.Repack.{AreContinuous, ArePackedInto, CanBePacked, CantBePacked, IsRepacking, Wrote};
+ghost use Rattle.mseed.specs.Repack.{records_in};
+ghost use Rattle.mseed.specs.Repacking.{AreJudged, FailsToFit, FailsToPack, FailsToPackAnew, FailsToPackOne};
+ghost use Rattle.mseed.specs.Repacking.{IsFirstBroken, IsJudged, IsPackedAnew, IsPackedWhole};
 ghost use Rattle.mseed.specs.declared.repack_fault.RepackFault.{RepackFault};
 
+use crate::reading::{count_steps, read_channel};
 use crate::repack_fault::RepackFault;
-use mseed_audit::{Audit, Memory, NotContinuous, Series, Verdict, Verdicts, one_series, series};
-use mseed_pack::{Options, fit, pack};
+use mseed_audit::{Audit, Memory, Verdict, Verdicts, one_series};
+use mseed_pack::{Options, PackFault, SeriesView, fit_view, pack_view};
 use mseed_record::{Codes, RecordView};
 use mseed_stream::{Sink, Source, read_all_in, split_in};
-use std::alloc::Allocator;
+use mseed_time::LeapStep;
+use std::alloc::{AllocError, Allocator};
 
 /// Packs the archive that the input tells anew: the series of its channels, in the order of their keys. All
 /// are judged before the first byte is written.
@@ -41,8 +45,7 @@ pub fn repack<A: Allocator + Copy, R: Source, W: Sink>(
     let verdicts = judge(alloc, &views)?;
     let channels = verdicts.as_slice();
     refuse_broken(&views, channels)?;
-    fit_all(alloc, &views, channels, options)?;
-    pack_all(alloc, &views, channels, options, output)
+    repack_continuous(alloc, &views, channels, options, output)
 }
 
 /// The channels of an archive and what the audit says of each.
@@ -67,6 +70,7 @@ fn judge<A: Allocator + Copy>(alloc: A, views: &[RecordView]) -> Result<Verdicts
 fn refuse_broken(views: &[RecordView], channels: &[(Codes, Verdict)]) -> Result<(), RepackFault>
     requires { AreVerdicts (added_from 0 (map view_of views.now)) channels.now }
     ensures ok { OnOk result (AreContinuous (map view_of views.now) channels.now) }
+    ensures judged { OnOk result (AreJudged (map view_of views.now) channels.now) }
     ensures err { IfErr result (IsFirstBroken (map view_of views.now) channels.now) }
 {
     for channel in channels {
@@ -77,21 +81,109 @@ fn refuse_broken(views: &[RecordView], channels: &[(Codes, Verdict)]) -> Result<
     Ok(())
 }
 
-/// Refuses the first channel that can't be packed.
-fn fit_all<A: Allocator + Copy>(
+/// Packs the channels of an archive anew, each of which is continuous. All memory is asked for before anything is
+/// written.
+fn repack_continuous<A: Allocator + Copy, W: Sink>(
     alloc: A,
     views: &[RecordView],
     channels: &[(Codes, Verdict)],
     options: &Options,
+    output: &mut W,
 ) -> Result<(), RepackFault>
-    requires few { length views.now < 2 ^ 40 }
-    requires continuous { AreContinuous (map view_of views.now) channels.now }
+    requires judged { AreJudged (map view_of views.now) channels.now }
+    ensures ok { OnOk result (IsPackedAnew options.now (map view_of views.now) channels.now
+        (W.said output.old) (W.said output.new)) }
+    ensures err { IfErr result (FailsToPackAnew options.now (map view_of views.now) channels.now
+        (W.said output.old) (W.said output.new)) }
+{
+    let mut samples = match zeros(alloc, longest(channels)) {
+        Ok(samples) => samples,
+        Err(_) => return Err(RepackFault::Memory),
+    };
+    let mut steps = match blank_steps(alloc, count_steps(views)) {
+        Ok(steps) => steps,
+        Err(_) => return Err(RepackFault::Memory),
+    };
+    repack_within(views, channels, options, &mut samples, &mut steps, output)
+}
+
+/// So many samples.
+fn zeros<A: Allocator + Copy>(alloc: A, count: usize) -> Result<Vec<i32, A>, AllocError>
+    ensures { IfOk result (λ samples. length samples.items ≡ count) }
+{
+    Ok(vec![in alloc; 0; count]?)
+}
+
+/// So many leap seconds.
+fn blank_steps<A: Allocator + Copy>(
+    alloc: A,
+    count: usize,
+) -> Result<Vec<(u64, LeapStep), A>, AllocError>
+    ensures { IfOk result (λ steps. length steps.items ≡ count) }
+{
+    Ok(vec![in alloc; (0, LeapStep::Plus); count]?)
+}
+
+/// The most samples of a channel.
+fn longest(channels: &[(Codes, Verdict)]) -> usize
+    ensures { All (λ c. samples_said c.1 ≤ result) channels.now }
+{
+    let mut most = 0;
+    for channel in channels {
+        most = most.max(samples_said(&channel.1));
+    }
+    most
+}
+
+/// How many samples a verdict says that a channel has.
+fn samples_said(verdict: &Verdict) -> usize
+    ensures { result ≡ samples_said verdict.now }
+{
+    match *verdict {
+        Verdict::Continuous { samples, .. } => samples as usize,
+        Verdict::Broken { .. } => 0,
+    }
+}
+
+/// The same with lists that have room for what is read of each channel. It takes no memory.
+fn repack_within<W: Sink>(
+    views: &[RecordView],
+    channels: &[(Codes, Verdict)],
+    options: &Options,
+    samples: &mut [i32],
+    steps: &mut [(u64, LeapStep)],
+    output: &mut W,
+) -> Result<(), RepackFault>
+    requires judged { AreJudged (map view_of views.now) channels.now }
+    requires samples_fit { All (λ c. samples_said c.1 ≤ length samples.old) channels.now }
+    requires steps_fit { steps_of (map view_of views.now) ≤ length steps.old }
+    ensures ok { OnOk result (IsPackedAnew options.now (map view_of views.now) channels.now
+        (W.said output.old) (W.said output.new)) }
+    ensures err { IfErr result (FailsToPackAnew options.now (map view_of views.now) channels.now
+        (W.said output.old) (W.said output.new)) }
+{
+    match fit_all(views, channels, options, samples, steps) {
+        Ok(()) => pack_all(views, channels, options, samples, steps, output),
+        Err(fault) => Err(fault),
+    }
+}
+
+/// Refuses the first channel that can't be packed.
+fn fit_all(
+    views: &[RecordView],
+    channels: &[(Codes, Verdict)],
+    options: &Options,
+    samples: &mut [i32],
+    steps: &mut [(u64, LeapStep)],
+) -> Result<(), RepackFault>
+    requires judged { AreJudged (map view_of views.now) channels.now }
+    requires samples_fit { All (λ c. samples_said c.1 ≤ length samples.old) channels.now }
+    requires steps_fit { steps_of (map view_of views.now) ≤ length steps.old }
     ensures ok { OnOk result (All (λ c. CanBePacked options.now (map view_of views.now) c.0) channels.now) }
     ensures err { IfErr result (FailsToFit options.now (map view_of views.now) channels.now) }
 {
     for channel in channels {
-        let series = read_series(alloc, views, &channel.0)?;
-        match fit(&series, options) {
+        match fit_channel(views, channel, options, samples, steps) {
             Ok(()) => {}
             Err(fault) => return Err(RepackFault::Misfit(channel.0, fault)),
         }
@@ -99,16 +191,38 @@ fn fit_all<A: Allocator + Copy>(
     Ok(())
 }
 
+/// Whether a channel can be packed.
+fn fit_channel(
+    views: &[RecordView],
+    channel: &(Codes, Verdict),
+    options: &Options,
+    samples: &mut [i32],
+    steps: &mut [(u64, LeapStep)],
+) -> Result<(), PackFault>
+    requires judged { IsJudged (map view_of views.now) channel.now }
+    requires samples_fit { samples_said channel.now.1 ≤ length samples.old }
+    requires steps_fit { steps_of (map view_of views.now) ≤ length steps.old }
+    ensures ok { OnOk result (CanBePacked options.now (map view_of views.now) channel.now.0) }
+    ensures err { IfErr result (λ fault.
+        CantBePacked options.now (map view_of views.now) fault channel.now.0) }
+{
+    let read = read_channel(views, &channel.0, samples, steps);
+    let series = view_series(channel, &samples[..read.samples], &steps[..read.steps]);
+    fit_view(&series, options)
+}
+
 /// Writes the records of all channels.
-fn pack_all<A: Allocator + Copy, W: Sink>(
-    alloc: A,
+fn pack_all<W: Sink>(
     views: &[RecordView],
     channels: &[(Codes, Verdict)],
     options: &Options,
+    samples: &mut [i32],
+    steps: &mut [(u64, LeapStep)],
     output: &mut W,
 ) -> Result<(), RepackFault>
-    requires few { length views.now < 2 ^ 40 }
-    requires continuous { AreContinuous (map view_of views.now) channels.now }
+    requires judged { AreJudged (map view_of views.now) channels.now }
+    requires samples_fit { All (λ c. samples_said c.1 ≤ length samples.old) channels.now }
+    requires steps_fit { steps_of (map view_of views.now) ≤ length steps.old }
     requires fit { All (λ c. CanBePacked options.now (map view_of views.now) c.0) channels.now }
     ensures ok { OnOk result (Wrote (ArePackedInto options.now (map view_of views.now) channels.now) 0
         (W.said output.old) (W.said output.new)) }
@@ -116,51 +230,60 @@ fn pack_all<A: Allocator + Copy, W: Sink>(
         (W.said output.old) (W.said output.new)) }
 {
     for channel in channels {
-        pack_channel(alloc, views, &channel.0, options, output)?;
+        pack_channel(views, channel, options, samples, steps, output)?;
     }
     Ok(())
 }
 
 /// Writes the records of a channel.
-fn pack_channel<A: Allocator + Copy, W: Sink>(
-    alloc: A,
+fn pack_channel<W: Sink>(
     views: &[RecordView],
-    codes: &Codes,
+    channel: &(Codes, Verdict),
     options: &Options,
+    samples: &mut [i32],
+    steps: &mut [(u64, LeapStep)],
     output: &mut W,
 ) -> Result<(), RepackFault>
-    requires few { length views.now < 2 ^ 40 }
-    requires continuous { IsContinuous (records_in (map view_of views.now) codes.now) }
-    requires fit { CanBePacked options.now (map view_of views.now) codes.now }
-    ensures ok { OnOk result (Wrote (IsPackedWhole options.now (map view_of views.now) codes.now) 0
+    requires judged { IsJudged (map view_of views.now) channel.now }
+    requires samples_fit { samples_said channel.now.1 ≤ length samples.old }
+    requires steps_fit { steps_of (map view_of views.now) ≤ length steps.old }
+    requires fit { CanBePacked options.now (map view_of views.now) channel.now.0 }
+    ensures ok { OnOk result (Wrote (IsPackedWhole options.now (map view_of views.now) channel.now.0) 0
         (W.said output.old) (W.said output.new)) }
-    ensures err { IfErr result (FailsToPackOne options.now (map view_of views.now) codes.now
+    ensures err { IfErr result (FailsToPackOne options.now (map view_of views.now) channel.now.0
         (W.said output.old) (W.said output.new)) }
 {
     one_series();
-    let series = read_series(alloc, views, codes)?;
-    match pack(&series, options, output) {
+    let read = read_channel(views, &channel.0, samples, steps);
+    let series = view_series(channel, &samples[..read.samples], &steps[..read.steps]);
+    match pack_view(&series, options, output) {
         Ok(_) => Ok(()),
         // The series is the one that was found to fit, so that the output failed.
         Err(_) => Err(RepackFault::Write),
     }
 }
 
-/// The series of a channel that is continuous.
-fn read_series<A: Allocator + Copy>(
-    alloc: A,
-    views: &[RecordView],
-    codes: &Codes,
-) -> Result<Series<A>, RepackFault>
-    requires few { length views.now < 2 ^ 40 }
-    requires continuous { IsContinuous (records_in (map view_of views.now) codes.now) }
-    ensures ok { IfOk result (λ s. IsSeriesOf s (records_in (map view_of views.now) codes.now)) }
-    ensures err { IfErr result (λ fault. fault ≡ RepackFault.Memory) }
+/// The series of a channel that is continuous, of these samples and leap seconds.
+fn view_series<'a>(
+    channel: &(Codes, Verdict),
+    samples: &'a [i32],
+    steps: &'a [(u64, LeapStep)],
+) -> SeriesView<'a>
+    requires { IsTrue (says_continuous channel.now.1) }
+    ensures series { (views : List View) → IsJudged views channel.now
+        → AreOf channel.now.0 (channel_in channel.now.0 views) samples.now steps.now
+        → IsSeriesOf (trace_of result) (records_in views channel.now.0) }
+    ensures samples { result.samples.now ≡ samples.now }
+    ensures steps { result.steps.now ≡ steps.now }
 {
-    match series(alloc, views, codes) {
-        Ok(series) => Ok(series),
-        Err(NotContinuous::Memory) => Err(RepackFault::Memory),
-        // It is continuous.
-        Err(NotContinuous::Absent | NotContinuous::Broken(_)) => unreachable!(),
+    match channel.1 {
+        Verdict::Continuous { start, rate, .. } => SeriesView {
+            codes: channel.0,
+            start,
+            rate,
+            samples,
+            steps,
+        },
+        Verdict::Broken { .. } => unreachable!(),
     }
 }

@@ -4,7 +4,7 @@ use mseed_record::Codes;
 use mseed_stream::StreamFault;
 use std::alloc::AllocError;
 
-/// Why an archive wasn't packed anew. Nothing was written then, but for `Write` and `Memory`.
+/// Why an archive wasn't packed anew. Nothing was written then, but for `Write`.
 #[derive(Clone, Copy, Debug, PartialEq, Eq)]
 pub enum RepackFault {
     /// The input failed, or doesn't end where a record ends.

@@ -4,4 +4,4 @@ use Rattle.mseed.specs.Repack.{Channel, CanBePacked}
 use Rattle.mseed.proofs.repack.fit_all.Given as goal
 
 abbrev pub invariant-loop-channel : goal.invariant-loop-channel
-invariant-loop-channel g l = All (λ (c : Channel). CanBePacked l.options (map view_of l.views) c.0) (take l.channel-index l.channels)
+invariant-loop-channel l = All (λ (c : Channel). CanBePacked l.options (map view_of l.views) c.0) (take l.channel-index l.channels)

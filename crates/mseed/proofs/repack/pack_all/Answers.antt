@@ -1,11 +1,12 @@
-use Rattle.std.proofs.Common.{List, map, sym, subst}
+use Rattle.std.proofs.Common.{◌≤◌, List, arith, length, map, sym, subst}
 use Rattle.mseed_record.specs.View.{View}
 use Rattle.mseed_record.specs.Viewing.{view_of}
 use Rattle.mseed_stream.specs.Device.{Said}
-use Rattle.mseed_audit.specs.Follows.{IsContinuous}
-use Rattle.mseed.specs.Repack.{CanBePacked, records_in}
-use Rattle.mseed.specs.Repacking.{FailsToPack}
+use Rattle.mseed.specs.Reading.{samples_said}
+use Rattle.mseed.specs.Repack.{CanBePacked, Channel}
+use Rattle.mseed.specs.Repacking.{FailsToPack, IsJudged}
 use Rattle.mseed.specs.declared.repack_fault.RepackFault.{RepackFault}
+use Rattle.mseed.proofs.Judged.{at_each}
 use Rattle.mseed.proofs.Repacks.{fails_next, of_each, wrote_next, wrote_none}
 use Rattle.mseed.proofs.Taken.{errs_by}
 use Rattle.mseed.proofs.repack.pack_all.Goals as goal
@@ -13,9 +14,15 @@ use Rattle.mseed.proofs.repack.pack_all.Goals as goal
 pub loop-channel-init : goal.loop-channel-init
 loop-channel-init g c = wrote_none c.args.options.now (map view_of c.args.views.now) c.args.channels.now (g.W.Sink.said c.args.output.now)
 
-pub pack_channel-requires-clause-continuous : goal.pack_channel-requires-clause-continuous
-pack_channel-requires-clause-continuous g c =
-    of_each (λ k. IsContinuous (records_in (map view_of c.args.views.now) k)) c.args.channels.now c.loop-channel.channel-index c.channel-item.result c.loop-channel-test.true c.channel-item.is c.requires.continuous
+pub pack_channel-requires-clause-judged : goal.pack_channel-requires-clause-judged
+pack_channel-requires-clause-judged g c =
+    at_each (λ (d : Channel). IsJudged (map view_of c.args.views.now) d) c.args.channels.now c.loop-channel.channel-index c.channel-item.result c.loop-channel-test.true c.channel-item.is c.requires.judged
+
+pub pack_channel-requires-clause-samples_fit : goal.pack_channel-requires-clause-samples_fit
+pack_channel-requires-clause-samples_fit g c =
+    let fits : samples_said c.channel-item.result.1 ≤ length c.args.samples.now =
+    at_each (λ (d : Channel). samples_said d.1 ≤ length c.args.samples.now) c.args.channels.now c.loop-channel.channel-index c.channel-item.result c.loop-channel-test.true c.channel-item.is c.requires.samples_fit in
+    omega (arith, fits, c.loop-channel.auto.samples)
 
 pub pack_channel-requires-clause-fit : goal.pack_channel-requires-clause-fit
 pack_channel-requires-clause-fit g c =

@@ -4,7 +4,7 @@ use Rattle.mseed_record.specs.Viewing.{view_of}
 use Rattle.mseed_stream.specs.Device.{Heard, Said}
 use Rattle.mseed.specs.Repack.{Channel, IsArchiveOf}
 use Rattle.mseed.specs.declared.repack_fault.RepackFault.{RepackFault}
-use Rattle.mseed.proofs.Wholes.{archive_is, broken_ends, misfit_ends, packed_is}
+use Rattle.mseed.proofs.Wholes.{archive_is, broken_ends, packed_is}
 use Rattle.mseed.proofs.repack.repack.Goals as goal
 
 pub returns-in_err-refuse_broken : goal.returns-in_err-refuse_broken
@@ -23,31 +23,14 @@ returns-in_err-refuse_broken g c =
     let broken = rw c.deref-3.ensures.value at c.in_err-refuse_broken.ensures.err in
     broken_ends c.from_residual-in_err-refuse_broken.result _ c.args.options.now h s views cs fault c.from_residual-in_err-refuse_broken.ensures.1 (λ e q. q) archive broken
 
-pub returns-in_err-fit_all : goal.returns-in_err-fit_all
-returns-in_err-fit_all g c =
-    let h : Heard = g.R.Source.heard c.read_all_in.new.source in
-    let s : Said = g.W.Sink.said c.args.output.now in
-    let rs = c.in_ok-views.views.items in
-    let views : List View = map view_of rs in
-    let cs : List Channel = c.as_slice-channels.result.now in
-    let fault : RepackFault = c.in_err-fit_all.field-0.0 in
-    let bytes : h.bytes ≡ c.in_ok-archive.archive.items = rw c.requires at c.in_ok-archive.ensures.ok in
-    let split = rw c.deref.ensures.value at c.in_ok-views.ensures.archive in
-    let fine : h.failures ≡ 0 = c.in_ok-archive.ensures.fine ∙ ap (λ (x : Heard). x.failures) c.requires in
-    let judged = rw (c.deref-2.ensures.value, ← c.as_slice-channels.ensures) at c.in_ok-verdicts.ensures.ok in
-    let archive : IsArchiveOf h views cs = archive_is h c.in_ok-archive.archive.items rs cs bytes split c.in_ok-views.ensures.views c.in_ok-views.ensures.few c.in_ok-archive.ensures.end fine judged in
-    let continuous = rw c.deref-3.ensures.value at c.in_ok-refuse_broken.ensures.ok in
-    let misfit = rw c.deref-4.ensures.value at c.in_err-fit_all.ensures.err in
-    misfit_ends c.from_residual-in_err-fit_all.result _ c.args.options.now h s views cs fault c.from_residual-in_err-fit_all.ensures.1 (λ e q. q) archive continuous misfit
-
-pub pack_all-requires-clause-fit : goal.pack_all-requires-clause-fit
-pack_all-requires-clause-fit g c = rw (c.deref-4.ensures.value, ← c.deref-5.ensures.value) at c.in_ok-fit_all.ensures.ok
+pub repack_continuous-requires : goal.repack_continuous-requires
+repack_continuous-requires g c = record { judged = rw (c.deref-3.ensures.value, ← c.deref-4.ensures.value) at c.in_ok-refuse_broken.ensures.judged }
 
 pub returns : goal.returns
 returns g c =
     let h : Heard = g.R.Source.heard c.read_all_in.new.source in
     let old : Said = g.W.Sink.said c.args.output.now in
-    let new : Said = g.W.Sink.said c.pack_all.new.output in
+    let new : Said = g.W.Sink.said c.repack_continuous.new.output in
     let rs = c.in_ok-views.views.items in
     let views : List View = map view_of rs in
     let cs : List Channel = c.as_slice-channels.result.now in
@@ -57,7 +40,6 @@ returns g c =
     let judged = rw (c.deref-2.ensures.value, ← c.as_slice-channels.ensures) at c.in_ok-verdicts.ensures.ok in
     let archive : IsArchiveOf h views cs = archive_is h c.in_ok-archive.archive.items rs cs bytes split c.in_ok-views.ensures.views c.in_ok-views.ensures.few c.in_ok-archive.ensures.end fine judged in
     let continuous = rw c.deref-3.ensures.value at c.in_ok-refuse_broken.ensures.ok in
-    let fit = rw c.deref-4.ensures.value at c.in_ok-fit_all.ensures.ok in
-    let ok = rw c.deref-5.ensures.value at c.pack_all.ensures.ok in
-    let err = rw c.deref-5.ensures.value at c.pack_all.ensures.err in
-    packed_is c.pack_all.result c.args.options.now h old new views cs (record { archive = archive; continuous = continuous; fit = fit }) ok err
+    let ok = rw c.deref-4.ensures.value at c.repack_continuous.ensures.ok in
+    let err = rw c.deref-4.ensures.value at c.repack_continuous.ensures.err in
+    packed_is c.repack_continuous.result c.args.options.now h old new views cs archive continuous ok err

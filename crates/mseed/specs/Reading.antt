@@ -1,0 +1,40 @@
+-- A channel that is read into lists that are there.
+use Rattle.std.specs.Prelude.{ℕ, ◌+◌, ℤ, List, [], ◌∷◌, length}
+use Rattle.std.specs.List.{filter}
+use Rattle.mseed_time.specs.declared.outcome.LeapStep.{LeapStep}
+use Rattle.mseed_time.specs.declared.rate.Rate.{Rate}
+use Rattle.mseed_record.specs.View.{View, leap_of}
+use Rattle.mseed_steim.specs.Reading.{count_of}
+use Rattle.mseed_audit.specs.Channels.{is_of}
+use Rattle.mseed_audit.specs.Judging.{step_in}
+use Rattle.mseed_audit.specs.Series.{HoldsAll, step_at}
+use Rattle.mseed_audit.specs.declared.verdict.Verdict.{Verdict}
+use Rattle.mseed_audit.specs.declared.verdict.Verdict.TheVariants.{Continuous, Broken}
+
+-- how many samples records have
+abbrev pub samples_of : List View → ℕ
+samples_of [] = 0
+samples_of (v ∷ vs) = count_of v + samples_of vs
+
+-- how many leap seconds a record bears: one, or none
+abbrev pub step_count : View → ℕ
+step_count v = length (step_at 0 (step_in (leap_of v.bytes)))
+
+-- how many leap seconds records bear
+abbrev pub steps_of : List View → ℕ
+steps_of [] = 0
+steps_of (v ∷ vs) = step_count v + steps_of vs
+
+-- the records of the channel with this key
+abbrev pub channel_in : List ℕ → List View → List View
+channel_in key views = filter (is_of key) views
+
+-- the samples and leap seconds are those of the records, whatever the start and the rate are
+abbrev pub AreOf : List ℕ → List View → List ℤ → List (ℕ × LeapStep) → Type 0
+AreOf key vs samples steps =
+    (start : ℤ) (rate : Rate) → HoldsAll key start rate vs (record { codes = key; start = start; rate = rate; samples = samples; steps = steps })
+
+-- how many samples a verdict says that a channel has
+abbrev pub samples_said : Verdict → ℕ
+samples_said (Continuous start rate records samples) = samples
+samples_said (Broken first count) = 0
