@@ -1,7 +1,6 @@
 -- What the words of the command line ask for.
-use Rattle.std.specs.Prelude.{⊤, ◌≡◌, ◌≢◌, ◌≤◌, ◌==◌, ◌+◌, ◌-◌, ◌*◌, ◌^◌, ◌&&◌, ◌||◌, not, nat_le, ℕ, Bool, List, [], ◌∷◌, length, map, if◌then◌else◌}
-use Rattle.std.specs.Prelude.{Option, Some, None, option_and_then, codes}
-use Rattle.std.specs.List.{list_all}
+use Rattle.std.specs.Prelude.{⊤, ◌≡◌, ◌≢◌, ◌≤◌, ◌==◌, ◌^◌, ℕ, List, [], ◌∷◌, length, if◌then◌else◌}
+use Rattle.std.specs.Prelude.{Option, Some, None, option_and_then, option_map, codes}
 use Rattle.std.specs.Str.{bytes_eq}
 use Rattle.clap.specs.Walk.{Row, Text, first_of}
 use Rattle.clap.specs.Simple.{matches_of}
@@ -10,8 +9,11 @@ use Rattle.clap.specs.Faults.{fault_of}
 use Rattle.mseed_pack.specs.declared.options.Encoding.{Encoding}
 use Rattle.mseed_pack.specs.declared.options.Encoding.TheVariants.{Int16, Int32, Steim1, Steim2}
 use Rattle.mseed.specs.Options.{the_command}
+use Rattle.mseed.specs.Found.{has_only}
+use Rattle.mseed.specs.Numbers.{number_in}
+use Rattle.mseed.specs.FeedWords.{CanFetch, CanServe, fetching_of, serving_of}
 use Rattle.mseed.specs.declared.request.Request.{Request}
-use Rattle.mseed.specs.declared.request.Request.TheVariants.{Audit, Show, Repack}
+use Rattle.mseed.specs.declared.request.Request.TheVariants.{Audit, Show, Repack, Serve, Fetch}
 
 -- why `clap` refuses the words, a call for help included; none where it takes them
 abbrev pub faults_in : List Text → Kinds
@@ -20,19 +22,6 @@ faults_in words = fault_of the_command words
 -- what it reads from words that it takes
 abbrev pub entries_in : List Text → List Row
 entries_in words = matches_of the_command words
-
--- decimal digits as a number, the highest first
-abbrev pub value_of : Text → ℕ
-value_of [] = 0
-value_of (c ∷ cs) = (c - 48) * 10 ^ length cs + value_of cs
-
-abbrev pub is_digit : ℕ → Bool
-is_digit c = nat_le 48 c && nat_le c 57
-
--- a length: one to seven digits, which may begin with zeros
-abbrev pub number_in : Text → Option ℕ
-number_in text =
-    if not (length text == 0) && nat_le (length text) 7 && list_all is_digit text then Some (value_of text) else None
 
 -- the power of two that a record's length is
 abbrev pub exponent_by : ℕ → Option ℕ
@@ -57,8 +46,8 @@ encoding_in None = Some Steim2
 encoding_in (Some word) = encoding_named word
 
 -- what packing anew takes: its word, a length and an encoding
-abbrev pub is_of_packing : Text → Bool
-is_of_packing id = bytes_eq id (codes "command") || (bytes_eq id (codes "length") || bytes_eq id (codes "encoding"))
+abbrev pub packing_names : List Text
+packing_names = codes "command" ∷ codes "length" ∷ codes "encoding" ∷ []
 
 abbrev pub packing_with : Option ℕ → Option Encoding → Option Request
 packing_with None encoding = None
@@ -67,7 +56,7 @@ packing_with (Some exponent) (Some encoding) = Some (Repack (record { exponent =
 
 abbrev pub packing_of : List Row → Option Request
 packing_of rows =
-    if list_all is_of_packing (map (λ r. r.id) rows)
+    if has_only packing_names rows
     then packing_with (exponent_in (first_of (codes "length") rows)) (encoding_in (first_of (codes "encoding") rows))
     else None
 
@@ -80,7 +69,9 @@ abbrev pub request_named : Text → List Row → Option Request
 request_named word rows =
     if bytes_eq word (codes "audit") then alone Audit rows
     else if bytes_eq word (codes "show") then alone Show rows
-    else if bytes_eq word (codes "repack") then packing_of rows else None
+    else if bytes_eq word (codes "repack") then packing_of rows
+    else if bytes_eq word (codes "serve") then option_map Serve (serving_of rows)
+    else if bytes_eq word (codes "fetch") then option_map Fetch (fetching_of rows) else None
 
 abbrev pub request_by : Option Text → List Row → Option Request
 request_by None rows = None
@@ -89,11 +80,13 @@ request_by (Some word) rows = request_named word rows
 abbrev pub request_of : List Row → Option Request
 request_of rows = request_by (first_of (codes "command") rows) rows
 
--- records of 128 to 4096 bytes
+-- records of 128 to 4096 bytes; a feed that can be
 abbrev pub CanBeAsked : Request → Type 0
 CanBeAsked Audit = ⊤
 CanBeAsked Show = ⊤
 CanBeAsked (Repack packing) = (7 ≤ packing.exponent) × (packing.exponent ≤ 12)
+CanBeAsked (Serve serving) = CanServe serving
+CanBeAsked (Fetch fetching) = CanFetch fetching
 
 -- the words ask for this
 pub record AsksFor (words : List Text) (request : Request) : Type 0 where

@@ -4,20 +4,24 @@ ghost use Rattle.mseed_stream.specs.Device.{nothing_heard};
 ghost use Rattle.mseed_audit.specs.declared.archive.AuditFault.{AuditFault};
 ghost use Rattle.mseed_audit.specs.declared.archive.Summary.{Summary};
 ghost use Rattle.mseed.specs.Outcome.{IsAuditRun, IsBadRun, Tells, summary_status};
-ghost use Rattle.mseed.specs.Run.{status_in};
+ghost use Rattle.mseed.specs.Run.{IsStatusAnd};
 ghost use Rattle.mseed.specs.Words.{AsksFor, AsksForNothing, AreRefused, CanBeAsked};
 ghost use Rattle.mseed.specs.Done.{IsShowRun, IsMemoryRun, IsRefusedRun};
 ghost use Rattle.mseed.specs.Repacked.{IsRepackRun, IsRefusedRepack, refusal_status};
+ghost use Rattle.mseed.specs.Plans.{IsFetchRun, IsServeRun};
 ghost use Rattle.clap.specs.Values.{kind_of};
 ghost use Rattle.mseed_stream.specs.declared.fault.StreamFault.{StreamFault};
 ghost use Rattle.mseed.specs.declared.ending.ShowFault.{ShowFault};
 ghost use Rattle.mseed.specs.declared.request.Request.{Request};
 ghost use Rattle.clap.specs.declared.error.kind.ErrorKind.{ErrorKind};
+ghost use Rattle.mseed.specs.declared.request.Fetching.{Fetching};
 ghost use Rattle.mseed.specs.declared.request.Packing.{Packing};
+ghost use Rattle.mseed.specs.declared.request.Serving.{Serving};
 ghost use Rattle.mseed_pack.specs.Options.{code_of};
 
 use crate::ending::ShowFault;
 use crate::outcome::{BAD_COMMAND, BROKEN, DONE, FAULT, Run};
+use crate::planning::{plan_fetch, plan_serve};
 use crate::refusal::push_refusal;
 use crate::repack::repack;
 use crate::repack_fault::RepackFault;
@@ -38,9 +42,10 @@ use std::alloc::{Allocator, Global};
 /// where the text couldn't be written whole. `show` lists the records: status 0, or 2 where the input ended
 /// with a fault, which the listing names, or where it couldn't be written whole. `repack` packs the archive
 /// anew: status 0, 1 where a channel is broken, and 2 where the input is no whole archive, where a channel can't
-/// be packed, or where the output failed; `errors` takes a line that says so. Other words are a bad command
-/// line: status 3. Where there was no memory for the words, status 2. The input is one of which
-/// nothing was read yet.
+/// be packed, or where the output failed; `errors` takes a line that says so. `serve` fills a feed with the records
+/// of `input` and answers how it is to be served, or status 2 with a line where they aren't all the feed's or don't
+/// end where a record ends. `fetch` answers what is to be fetched. Other words are a bad command line: status 3.
+/// Where there was no memory for the words, status 2. The input is one of which nothing was read yet.
 pub fn run<R: Source, W: Sink, E: Sink>(
     alloc: Global,
     words: &[&str],
@@ -50,35 +55,45 @@ pub fn run<R: Source, W: Sink, E: Sink>(
 ) -> Run
     requires { R.heard input.old ≡ nothing_heard }
     ensures audit { AsksFor (map (λ word. word.now) words.now) Request.Audit
-        → ((outcome : Result Summary AuditFault) × IsAuditRun outcome (status_in result) (R.heard input.new)
-        (W.said output.old) (W.said output.new) (E.said errors.old) (E.said errors.new))
-        ⊎ IsMemoryRun (status_in result) (R.heard input.old) (R.heard input.new)
-        (W.said output.old) (W.said output.new) (E.said errors.old) (E.said errors.new) }
+        → ((outcome : Result Summary AuditFault) × IsStatusAnd result (λ status. IsAuditRun outcome status
+        (R.heard input.new) (W.said output.old) (W.said output.new) (E.said errors.old) (E.said errors.new)))
+        ⊎ IsStatusAnd result (λ status. IsMemoryRun status (R.heard input.old) (R.heard input.new)
+        (W.said output.old) (W.said output.new) (E.said errors.old) (E.said errors.new)) }
     ensures show { AsksFor (map (λ word. word.now) words.now) Request.Show
-        → ((outcome : Result (Option StreamFault) ShowFault) × IsShowRun outcome (status_in result) (R.heard input.new)
-        (W.said output.old) (W.said output.new) (E.said errors.old) (E.said errors.new))
-        ⊎ IsMemoryRun (status_in result) (R.heard input.old) (R.heard input.new)
-        (W.said output.old) (W.said output.new) (E.said errors.old) (E.said errors.new) }
+        → ((outcome : Result (Option StreamFault) ShowFault) × IsStatusAnd result (λ status. IsShowRun outcome status
+        (R.heard input.new) (W.said output.old) (W.said output.new) (E.said errors.old) (E.said errors.new)))
+        ⊎ IsStatusAnd result (λ status. IsMemoryRun status (R.heard input.old) (R.heard input.new)
+        (W.said output.old) (W.said output.new) (E.said errors.old) (E.said errors.new)) }
     ensures repack { (packing : Packing) → AsksFor (map (λ word. word.now) words.now) (Request.Repack packing)
-        → IsRepackRun packing (status_in result) (R.heard input.new)
-        (W.said output.old) (W.said output.new) (E.said errors.old) (E.said errors.new)
-        ⊎ IsMemoryRun (status_in result) (R.heard input.old) (R.heard input.new)
-        (W.said output.old) (W.said output.new) (E.said errors.old) (E.said errors.new) }
+        → IsStatusAnd result (λ status. IsRepackRun packing status (R.heard input.new)
+        (W.said output.old) (W.said output.new) (E.said errors.old) (E.said errors.new))
+        ⊎ IsStatusAnd result (λ status. IsMemoryRun status (R.heard input.old) (R.heard input.new)
+        (W.said output.old) (W.said output.new) (E.said errors.old) (E.said errors.new)) }
+    ensures serve { (serving : Serving) → AsksFor (map (λ word. word.now) words.now) (Request.Serve serving)
+        → (IsServeRun serving result (R.heard input.new) (E.said errors.old) (E.said errors.new)
+        × (W.said output.new ≡ W.said output.old))
+        ⊎ IsStatusAnd result (λ status. IsMemoryRun status (R.heard input.old) (R.heard input.new)
+        (W.said output.old) (W.said output.new) (E.said errors.old) (E.said errors.new)) }
+    ensures fetch { (fetching : Fetching) → AsksFor (map (λ word. word.now) words.now) (Request.Fetch fetching)
+        → (IsFetchRun fetching result × (R.heard input.new ≡ R.heard input.old)
+        × (W.said output.new ≡ W.said output.old) × (E.said errors.new ≡ E.said errors.old))
+        ⊎ IsStatusAnd result (λ status. IsMemoryRun status (R.heard input.old) (R.heard input.new)
+        (W.said output.old) (W.said output.new) (E.said errors.old) (E.said errors.new)) }
     ensures bad { AsksForNothing (map (λ word. word.now) words.now)
-        → IsBadRun (status_in result) (R.heard input.old) (R.heard input.new)
-        (W.said output.old) (W.said output.new) (E.said errors.old) (E.said errors.new)
-        ⊎ IsMemoryRun (status_in result) (R.heard input.old) (R.heard input.new)
-        (W.said output.old) (W.said output.new) (E.said errors.old) (E.said errors.new) }
+        → IsStatusAnd result (λ status. IsBadRun status (R.heard input.old) (R.heard input.new)
+        (W.said output.old) (W.said output.new) (E.said errors.old) (E.said errors.new))
+        ⊎ IsStatusAnd result (λ status. IsMemoryRun status (R.heard input.old) (R.heard input.new)
+        (W.said output.old) (W.said output.new) (E.said errors.old) (E.said errors.new)) }
     ensures refused { AreRefused (map (λ word. word.now) words.now)
-        → IsRefusedRun (status_in result) (R.heard input.old) (R.heard input.new)
-        (W.said output.old) (W.said output.new)
-        ⊎ IsMemoryRun (status_in result) (R.heard input.old) (R.heard input.new)
-        (W.said output.old) (W.said output.new) (E.said errors.old) (E.said errors.new) }
+        → IsStatusAnd result (λ status. IsRefusedRun status (R.heard input.old) (R.heard input.new)
+        (W.said output.old) (W.said output.new))
+        ⊎ IsStatusAnd result (λ status. IsMemoryRun status (R.heard input.old) (R.heard input.new)
+        (W.said output.old) (W.said output.new) (E.said errors.old) (E.said errors.new)) }
 {
     match words::read(alloc, words) {
         Ok(Some(request)) => carry_out(alloc, request, input, output, errors),
-        Ok(None) => refuse_words(errors),
-        Err(error) => refuse(alloc, errors, &error),
+        Ok(None) => Run::Status(refuse_words(errors)),
+        Err(error) => Run::Status(refuse(alloc, errors, &error)),
     }
 }
 
@@ -89,23 +104,31 @@ pub fn carry_out<A: Allocator + Copy, R: Source, W: Sink, E: Sink>(
     input: &mut R,
     output: &mut W,
     errors: &mut E,
-) -> Run
+) -> Run<A>
     requires unread { R.heard input.old ≡ nothing_heard }
     requires asked { CanBeAsked request }
     ensures audit { request ≡ Request.Audit
-        → (outcome : Result Summary AuditFault) × IsAuditRun outcome (status_in result) (R.heard input.new)
-        (W.said output.old) (W.said output.new) (E.said errors.old) (E.said errors.new) }
+        → (outcome : Result Summary AuditFault) × IsStatusAnd result (λ status. IsAuditRun outcome status
+        (R.heard input.new) (W.said output.old) (W.said output.new) (E.said errors.old) (E.said errors.new)) }
     ensures show { request ≡ Request.Show
-        → (outcome : Result (Option StreamFault) ShowFault) × IsShowRun outcome (status_in result) (R.heard input.new)
-        (W.said output.old) (W.said output.new) (E.said errors.old) (E.said errors.new) }
+        → (outcome : Result (Option StreamFault) ShowFault) × IsStatusAnd result (λ status. IsShowRun outcome status
+        (R.heard input.new) (W.said output.old) (W.said output.new) (E.said errors.old) (E.said errors.new)) }
     ensures repack { (packing : Packing) → request ≡ Request.Repack packing
-        → IsRepackRun packing (status_in result) (R.heard input.new)
-        (W.said output.old) (W.said output.new) (E.said errors.old) (E.said errors.new) }
+        → IsStatusAnd result (λ status. IsRepackRun packing status (R.heard input.new)
+        (W.said output.old) (W.said output.new) (E.said errors.old) (E.said errors.new)) }
+    ensures serve { (serving : Serving) → request ≡ Request.Serve serving
+        → IsServeRun serving result (R.heard input.new) (E.said errors.old) (E.said errors.new)
+        × (W.said output.new ≡ W.said output.old) }
+    ensures fetch { (fetching : Fetching) → request ≡ Request.Fetch fetching
+        → IsFetchRun fetching result × (R.heard input.new ≡ R.heard input.old)
+        × (W.said output.new ≡ W.said output.old) × (E.said errors.new ≡ E.said errors.old) }
 {
     match request {
-        Request::Audit => run_audit(alloc, input, output, errors),
-        Request::Show => run_show(alloc, input, output, errors),
-        Request::Repack(packing) => run_repack(alloc, packing, input, output, errors),
+        Request::Audit => Run::Status(run_audit(alloc, input, output, errors)),
+        Request::Show => Run::Status(run_show(alloc, input, output, errors)),
+        Request::Repack(packing) => Run::Status(run_repack(alloc, packing, input, output, errors)),
+        Request::Serve(serving) => plan_serve(alloc, &serving, input, errors),
+        Request::Fetch(fetching) => Run::Fetch(plan_fetch(&fetching)),
     }
 }
 
@@ -115,13 +138,13 @@ fn run_audit<A: Allocator + Copy, R: Source, W: Sink, E: Sink>(
     input: &mut R,
     output: &mut W,
     errors: &mut E,
-) -> Run
+) -> u8
     requires { R.heard input.old ≡ nothing_heard }
-    ensures { (outcome : Result Summary AuditFault) × IsAuditRun outcome (status_in result) (R.heard input.new)
+    ensures { (outcome : Result Summary AuditFault) × IsAuditRun outcome result (R.heard input.new)
         (W.said output.old) (W.said output.new) (E.said errors.old) (E.said errors.new) }
 {
     match audit(alloc, input, output) {
-        Ok(summary) => Run::Status(summary_status(summary)),
+        Ok(summary) => summary_status(summary),
         Err(AuditFault::Write(_)) => write_failed(errors),
         Err(AuditFault::Memory) => refuse_memory(errors),
     }
@@ -146,15 +169,15 @@ fn run_show<A: Allocator + Copy, R: Source, W: Sink, E: Sink>(
     input: &mut R,
     output: &mut W,
     errors: &mut E,
-) -> Run
+) -> u8
     requires { R.heard input.old ≡ nothing_heard }
     ensures { (outcome : Result (Option StreamFault) ShowFault)
-        × IsShowRun outcome (status_in result) (R.heard input.new)
+        × IsShowRun outcome result (R.heard input.new)
         (W.said output.old) (W.said output.new) (E.said errors.old) (E.said errors.new) }
 {
     match show(alloc, input, output) {
-        Ok(None) => Run::Status(DONE),
-        Ok(Some(_)) => Run::Status(FAULT),
+        Ok(None) => DONE,
+        Ok(Some(_)) => FAULT,
         Err(ShowFault::Write) => write_failed(errors),
         Err(ShowFault::Memory) => refuse_memory(errors),
     }
@@ -167,10 +190,10 @@ fn run_repack<A: Allocator + Copy, R: Source, W: Sink, E: Sink>(
     input: &mut R,
     output: &mut W,
     errors: &mut E,
-) -> Run
+) -> u8
     requires unread { R.heard input.old ≡ nothing_heard }
     requires asked { CanBeAsked (Request.Repack packing) }
-    ensures { IsRepackRun packing (status_in result) (R.heard input.new)
+    ensures { IsRepackRun packing result (R.heard input.new)
         (W.said output.old) (W.said output.new) (E.said errors.old) (E.said errors.new) }
 {
     let options = match Options::new(packing.exponent, packing.encoding.code(), 1) {
@@ -178,7 +201,7 @@ fn run_repack<A: Allocator + Copy, R: Source, W: Sink, E: Sink>(
         Err(_) => unreachable!(),
     };
     match repack(alloc, &options, input, output) {
-        Ok(()) => Run::Status(DONE),
+        Ok(()) => DONE,
         Err(fault) => refuse_to_repack(alloc, errors, &fault),
     }
 }
@@ -188,14 +211,14 @@ fn refuse_to_repack<A: Allocator + Copy, E: Sink>(
     alloc: A,
     errors: &mut E,
     fault: &RepackFault,
-) -> Run
-    ensures { IsRefusedRepack fault.now (status_in result) (E.said errors.old) (E.said errors.new) }
+) -> u8
+    ensures { IsRefusedRepack fault.now result (E.said errors.old) (E.said errors.new) }
 {
     let mut line = Vec::new(alloc);
     match push_refusal(&mut line, fault) {
         Ok(()) => {
             tell(errors, &line);
-            Run::Status(refusal_status(fault))
+            refusal_status(fault)
         }
         Err(_) => refuse_memory(errors),
     }
@@ -215,20 +238,20 @@ fn refusal_status(fault: &RepackFault) -> u8
 }
 
 /// Says that the output failed.
-fn write_failed<E: Sink>(errors: &mut E) -> Run
-    ensures status { status_in result ≡ 2 }
+fn write_failed<E: Sink>(errors: &mut E) -> u8
+    ensures status { result ≡ 2 }
     ensures told { Tells (codes "mseed: write failed\n") (E.said errors.old) (E.said errors.new) }
 {
     tell(errors, b"mseed: write failed\n");
-    Run::Status(FAULT)
+    FAULT
 }
 
 /// Says why `clap` refuses the words, in its own text.
-fn refuse<E: Sink>(alloc: Global, errors: &mut E, error: &Error) -> Run
+fn refuse<E: Sink>(alloc: Global, errors: &mut E, error: &Error) -> u8
     ensures memory { kind_of error.now ≡ ErrorKind.OutOfMemory
-        → (status_in result ≡ 2) × Tells (codes "mseed: no memory\n") (E.said errors.old) (E.said errors.new) }
-    ensures either { (status_in result ≡ 3)
-        ⊎ ((status_in result ≡ 2) × Tells (codes "mseed: no memory\n") (E.said errors.old) (E.said errors.new)) }
+        → (result ≡ 2) × Tells (codes "mseed: no memory\n") (E.said errors.old) (E.said errors.new) }
+    ensures either { (result ≡ 3)
+        ⊎ ((result ≡ 2) × Tells (codes "mseed: no memory\n") (E.said errors.old) (E.said errors.new)) }
 {
     if error.kind() == ErrorKind::OutOfMemory {
         return refuse_memory(errors);
@@ -236,32 +259,32 @@ fn refuse<E: Sink>(alloc: Global, errors: &mut E, error: &Error) -> Run
     match error.to_string(alloc) {
         Ok(text) => {
             tell(errors, text.as_bytes());
-            Run::Status(BAD_COMMAND)
+            BAD_COMMAND
         }
         Err(_) => refuse_memory(errors),
     }
 }
 
 /// Says that the words of the command line ask for nothing that there is, or aren't UTF-8.
-pub fn refuse_words<E: Sink>(errors: &mut E) -> Run
-    ensures status { status_in result ≡ 3 }
+pub fn refuse_words<E: Sink>(errors: &mut E) -> u8
+    ensures status { result ≡ 3 }
     ensures told { Tells (codes "mseed: bad value\n") (E.said errors.old) (E.said errors.new) }
 {
     tell(errors, b"mseed: bad value\n");
-    Run::Status(BAD_COMMAND)
+    BAD_COMMAND
 }
 
 /// Says that memory was refused: to a command, to `clap`, or to `main` for the words of the command line.
-pub fn refuse_memory<E: Sink>(errors: &mut E) -> Run
-    ensures status { status_in result ≡ 2 }
+pub fn refuse_memory<E: Sink>(errors: &mut E) -> u8
+    ensures status { result ≡ 2 }
     ensures told { Tells (codes "mseed: no memory\n") (E.said errors.old) (E.said errors.new) }
 {
     tell(errors, b"mseed: no memory\n");
-    Run::Status(FAULT)
+    FAULT
 }
 
 /// Writes a line. A device that fails is left as it is: there is nowhere else to say so.
-fn tell<E: Sink>(errors: &mut E, line: &[u8])
+pub fn tell<E: Sink>(errors: &mut E, line: &[u8])
     ensures { Tells line.now (E.said errors.old) (E.said errors.new) }
 {
     let _ = write_all_of(errors, line);

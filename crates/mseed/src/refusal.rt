@@ -1,8 +1,11 @@
-//! The lines that say why an archive wasn't packed anew.
+//! The lines that say why an archive wasn't packed anew, or a feed not filled.
 ghost use Rattle.std.specs.Prelude.{◌≡◌, ◌++◌, OnOk, codes};
 ghost use Rattle.mseed_audit.specs.Text.{name_text};
+ghost use Rattle.mseed.specs.Plans.{fill_text};
+ghost use Rattle.mseed.specs.declared.fill_fault.FillFault.{FillFault};
 ghost use Rattle.mseed.specs.Repacked.{refusal_text, broken_text, misfit_text, reason_text, misfit_number};
 
+use crate::fill_fault::FillFault;
 use crate::repack_fault::RepackFault;
 use mseed_audit::Part::{Count, Words};
 use mseed_audit::{push_fault_line, push_name, push_parts};
@@ -90,4 +93,35 @@ fn misfit_number(fault: &PackFault) -> u64
         PackFault::DifferenceTooLarge(_) => 5,
         PackFault::Write(_) => 6,
     }
+}
+
+/// Adds the line of a feed that wasn't filled. Where memory is refused, a part of it may have been added.
+pub fn push_fill_refusal<A: Allocator>(
+    line: &mut Vec<u8, A>,
+    fault: &FillFault,
+) -> Result<(), AllocError>
+    ensures { OnOk result (line.new.items ≡ line.old.items ++ fill_text fault.now) }
+{
+    match fault {
+        FillFault::Stream(fault) => {
+            push_parts(line, &[Words(b"mseed: ")])?;
+            push_fault_line(line, fault)
+        }
+        FillFault::Foreign(number) => push_foreign(line, *number),
+        FillFault::Memory => push_parts(line, &[Words(b"mseed: no memory\n")]),
+    }
+}
+
+/// Adds the line of a record that isn't the feed's.
+fn push_foreign<A: Allocator>(line: &mut Vec<u8, A>, number: u64) -> Result<(), AllocError>
+    ensures { OnOk result (line.new.items ≡ line.old.items ++ fill_text (FillFault.Foreign number)) }
+{
+    push_parts(
+        line,
+        &[
+            Words(b"mseed: record "),
+            Count(number),
+            Words(b" is not of this feed\n"),
+        ],
+    )
 }

@@ -1,7 +1,6 @@
 //! What the words of the command line ask for.
 ghost use Rattle.std.specs.Prelude.{◌≡◌, ◌<◌, ℕ, IfOk, IfErr, OnOk, map, pos, length, ◌==◌, [], codes, option_map, ◌≤◌};
 ghost use Rattle.std.specs.Prelude.{IfSome};
-ghost use Rattle.std.specs.List.{list_all};
 ghost use Rattle.clap.specs.Matches.{found_of};
 ghost use Rattle.clap.specs.Walk.{rows_of};
 ghost use Rattle.clap.specs.Simple.{app_of, with_rule};
@@ -9,11 +8,13 @@ ghost use Rattle.clap.specs.Kinds.{HasKind};
 ghost use Rattle.clap.specs.declared.builder.value_parser.ValueParser.TheVariants.{Signed};
 ghost use Rattle.mseed.specs.Words.{faults_in, entries_in, request_of, request_named, alone, packing_of, packing_with};
 ghost use Rattle.mseed.specs.Words.{CanBeAsked};
-ghost use Rattle.mseed.specs.Words.{is_of_packing, exponent_in, exponent_by, number_in, is_digit, encoding_in};
-ghost use Rattle.mseed.specs.Words.{encoding_named};
+ghost use Rattle.mseed.specs.Words.{exponent_in, exponent_by, encoding_in, encoding_named};
 ghost use Rattle.mseed.specs.Options.{bare_command, the_command, word_rule, places_rule, packing_rules, feed_rules};
 ghost use Rattle.mseed.specs.Options.{number_rules, option_rule, number_rule, with_rules};
 
+use crate::feed_words::{fetching_of, serving_of};
+use crate::found::{has_only, text_of};
+use crate::numbers::number_in;
 use crate::request::{Packing, Request};
 use clap::builder::ValueParser;
 use clap::{Arg, ArgAction, ArgMatches, Command, Error, value_parser};
@@ -42,7 +43,7 @@ fn request_of(matches: &ArgMatches<'_>) -> Option<Request>
     ensures value { result ≡ request_of (rows_of (found_of matches.now)) }
     ensures range { IfSome result CanBeAsked }
 {
-    match matches.get_str("command") {
+    match text_of(matches, "command") {
         Some(word) => request_named(word, matches),
         None => None,
     }
@@ -57,6 +58,8 @@ fn request_named(word: &str, matches: &ArgMatches<'_>) -> Option<Request>
         "audit" => alone(Request::Audit, matches),
         "show" => alone(Request::Show, matches),
         "repack" => packing_of(matches),
+        "serve" => Some(Request::Serve(serving_of(matches)?)),
+        "fetch" => Some(Request::Fetch(fetching_of(matches)?)),
         _ => None,
     }
 }
@@ -88,12 +91,12 @@ fn packing_of(matches: &ArgMatches<'_>) -> Option<Request>
     ensures value { result ≡ packing_of (rows_of (found_of matches.now)) }
     ensures range { IfSome result CanBeAsked }
 {
-    if !has_packing_alone(matches) {
+    if !has_only(matches, &["command", "length", "encoding"]) {
         return None;
     }
     packing_with(
-        exponent_in(matches.get_str("length")),
-        encoding_in(matches.get_str("encoding")),
+        exponent_in(text_of(matches, "length")),
+        encoding_in(text_of(matches, "encoding")),
     )
 }
 
@@ -107,26 +110,6 @@ fn packing_with(exponent: Option<u8>, encoding: Option<Encoding>) -> Option<Requ
         (Some(exponent), Some(encoding)) => Some(Request::Repack(Packing { exponent, encoding })),
         _ => None,
     }
-}
-
-/// Whether the words gave nothing but what packing anew takes.
-fn has_packing_alone(matches: &ArgMatches<'_>) -> bool
-    ensures { result ≡ list_all is_of_packing (map (λ r. r.id) (rows_of (found_of matches.now))) }
-{
-    let mut ids = matches.ids();
-    while let Some(id) = ids.next() {
-        if !is_of_packing(id) {
-            return false;
-        }
-    }
-    true
-}
-
-/// Whether packing anew takes what is called so.
-fn is_of_packing(id: &str) -> bool
-    ensures { result ≡ is_of_packing id.now }
-{
-    matches!(id, "command" | "length" | "encoding")
 }
 
 /// The power of two that a record's length is: of 512 bytes where none is said.
@@ -154,31 +137,6 @@ fn exponent_by(length: u32) -> Option<u8>
         4096 => Some(12),
         _ => None,
     }
-}
-
-/// The number that one to seven decimal digits say.
-fn number_in(text: &str) -> Option<u32>
-    ensures { result ≡ number_in text.now }
-{
-    let digits = text.as_bytes();
-    if digits.is_empty() || digits.len() > 7 {
-        return None;
-    }
-    let mut number = 0;
-    for digit in digits {
-        if !is_digit(*digit) {
-            return None;
-        }
-        number = number * 10 + u32::from(*digit - b'0');
-    }
-    Some(number)
-}
-
-/// Whether a byte is a decimal digit.
-fn is_digit(byte: u8) -> bool
-    ensures { result ≡ is_digit byte }
-{
-    b'0' <= byte && byte <= b'9'
 }
 
 /// The encoding of packed records: Steim-2 where none is said.
@@ -220,7 +178,7 @@ fn bare_command<'a>(alloc: Global) -> Command<'a>
     ensures { app_of result ≡ bare_command }
 {
     Command::new(alloc, "mseed")
-        .about("Audits, lists and repacks archives of seismic waveforms in miniSEED.")
+        .about("Audits, lists, repacks, serves and fetches seismic waveforms in miniSEED.")
         .no_binary_name(true)
 }
 
@@ -228,18 +186,17 @@ fn bare_command<'a>(alloc: Global) -> Command<'a>
 fn with_word<'a>(alloc: Global, command: Command<'a>) -> Result<Command<'a>, AllocError>
     ensures { IfOk result (λ c. app_of c ≡ with_rule (app_of command.entry) word_rule) }
 {
-    command.arg(Arg::new(alloc, "command").help("audit, show or repack"))
+    command.arg(Arg::new(alloc, "command").help("audit, show, repack, serve or fetch"))
 }
 
-/// With further places. Help leaves out what no command takes yet: these, and the options of a feed.
+/// With further places.
 fn with_places<'a>(alloc: Global, command: Command<'a>) -> Result<Command<'a>, AllocError>
     ensures { IfOk result (λ c. app_of c ≡ with_rule (app_of command.entry) places_rule) }
 {
     command.arg(
-        Arg::new(alloc, "place")
-            .action(ArgAction::Append)
-            .help("further places of a feed")
-            .hide(true),
+        Arg::new(alloc, "place").action(ArgAction::Append).help(
+            "further places of a feed: NET_STA, to fetch also NET_STA:HEX",
+        ),
     )
 }
 
@@ -253,14 +210,12 @@ fn with_packing<'a>(alloc: Global, command: Command<'a>) -> Result<Command<'a>, 
         command,
         "length",
         "bytes of a packed record: 128, 256, .. 4096; 512 where none is given",
-        false,
     )?;
     with_option(
         alloc,
         command,
         "encoding",
         "int16, int32, steim1 or steim2; the last where none is given",
-        false,
     )
 }
 
@@ -268,28 +223,25 @@ fn with_packing<'a>(alloc: Global, command: Command<'a>) -> Result<Command<'a>, 
 fn with_feed<'a>(alloc: Global, command: Command<'a>) -> Result<Command<'a>, AllocError>
     ensures { IfOk result (λ c. app_of c ≡ with_rules (app_of command.entry) feed_rules) }
 {
-    let command = with_option(alloc, command, "station", "the station of the feed", true)?;
-    let command = with_option(alloc, command, "network", "its network", true)?;
+    let command = with_option(alloc, command, "station", "the station of a feed")?;
+    let command = with_option(alloc, command, "network", "its network")?;
     let command = with_option(
         alloc,
         command,
         "capacity",
-        "how many records the ring keeps",
-        true,
+        "how many records of a place to serve; 1000 where none is given",
     )?;
     let command = with_option(
         alloc,
         command,
         "first",
-        "the first record's number, in hexadecimal",
-        true,
+        "the first record's number to serve, in hexadecimal; 000000 where none is given",
     )?;
     with_option(
         alloc,
         command,
         "from",
-        "the number to begin from, in hexadecimal",
-        true,
+        "the number to fetch from, in hexadecimal; the oldest where none is given",
     )
 }
 
@@ -303,14 +255,14 @@ fn with_numbers<'a>(alloc: Global, command: Command<'a>) -> Result<Command<'a>, 
         command,
         "connections",
         counts(),
-        "how many connections to serve",
+        "how many connections to serve; 1 where none is given",
     )?;
     with_number(
         alloc,
         command,
         "tries",
         counts(),
-        "how many times to connect",
+        "how many times to connect to fetch; 1 where none is given",
     )
 }
 
@@ -328,17 +280,16 @@ fn counts<'a>() -> ValueParser<'a>
     value_parser!(u32).range(1..=1_000_000)
 }
 
-/// With an option that takes a value; help leaves out one that is hidden.
+/// With an option that takes a value.
 fn with_option<'a>(
     alloc: Global,
     command: Command<'a>,
     name: &'a str,
     help: &'a str,
-    hidden: bool,
 ) -> Result<Command<'a>, AllocError>
     ensures { IfOk result (λ c. app_of c ≡ with_rule (app_of command.entry) (option_rule name.entry.now)) }
 {
-    command.arg(Arg::new(alloc, name).long(name).help(help).hide(hidden))
+    command.arg(Arg::new(alloc, name).long(name).help(help))
 }
 
 /// With an option that takes a number.
@@ -356,7 +307,6 @@ fn with_number<'a>(
         Arg::new(alloc, name)
             .long(name)
             .value_parser(numbers)
-            .help(help)
-            .hide(true),
+            .help(help),
     )
 }

@@ -1,8 +1,8 @@
 use Rattle.std.proofs.Common.{◌≡◌, ◌≤◌, ◌<◌, ◌+◌, ◌-◌, ◌*◌, ◌^◌, ℕ, List, take, get_or, true, arith, suc, ap, sym, ◌∙◌}
 use Rattle.std.proofs.Math.Nat.{pow-suc, pow-le-pow_right}
-use Rattle.mseed.specs.Words.{is_digit, value_of}
+use Rattle.mseed.specs.Numbers.{is_digit, value_of}
 use Rattle.mseed.proofs.Asked.{all_more, below, digits_more}
-use Rattle.mseed.proofs.words.number_in.Goals as goal
+use Rattle.mseed.proofs.numbers.number_in.Goals as goal
 
 pub overflow_mul-number : goal.overflow_mul-number
 overflow_mul-number c =

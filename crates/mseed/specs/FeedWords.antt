@@ -1,0 +1,134 @@
+-- What the words of the two commands of a feed ask for.
+use Rattle.std.specs.Prelude.{ℕ, Bool, true, false, ◌≤◌, ◌<◌, ◌^◌, ◌==◌, ◌&&◌, nat_le, nat_lt, List, [], ◌∷◌, length, map, if◌then◌else◌}
+use Rattle.std.specs.Prelude.{Option, Some, None, option_and_then, option_map, codes}
+use Rattle.std.specs.Char.{is_ascii_alphanumeric}
+use Rattle.std.specs.List.{after_first, before_first, list_all, position_or_len}
+use Rattle.clap.specs.Walk.{Row, Text, first_of}
+use Rattle.slink_wire.specs.Place.{Fields, fields_of}
+use Rattle.slink_feed.specs.Fault.{IsCapacity}
+use Rattle.mseed.specs.Found.{further_in, has_only}
+use Rattle.mseed.specs.Numbers.{counted_in, hexadecimal_in, number_in}
+use Rattle.mseed.specs.Places.{ArePlaces, Asked, places_of}
+use Rattle.mseed.specs.declared.request.Serving.{Serving}
+use Rattle.mseed.specs.declared.request.Fetching.{Fetching}
+
+-- a code: 1 to so many ASCII letters or digits
+abbrev pub is_code : ℕ → Text → Bool
+is_code width code = nat_le 1 (length code) && (nat_le (length code) width && list_all is_ascii_alphanumeric code)
+
+-- the place of a station's and a network's code
+abbrev pub place_by : Text → Text → Option Fields
+place_by sta net = if is_code 5 sta && is_code 2 net then Some (fields_of sta net) else None
+
+-- the place that a word names: the network's code before its first underscore, the station's behind it
+abbrev pub place_in : Text → Option Fields
+place_in word = place_by (after_first (λ c. c == 95) word) (before_first (λ c. c == 95) word)
+
+-- the place that the two options name
+abbrev pub place_named : Option Text → Option Text → Option Fields
+place_named None net = None
+place_named (Some sta) None = None
+place_named (Some sta) (Some net) = place_by sta net
+
+-- a place, with the number that is said, if one is: in hexadecimal digits
+abbrev pub asked_with : Option Fields → Option Text → Option Asked
+asked_with None digits = None
+asked_with (Some place) None = Some (place, None)
+asked_with (Some place) (Some digits) = option_map (λ number. (place, Some number)) (hexadecimal_in digits)
+
+-- what stands behind the first colon, where there is one
+abbrev pub behind_colon : Text → Option Text
+behind_colon word =
+    if nat_lt (position_or_len (λ c. c == 58) word) (length word) then Some (after_first (λ c. c == 58) word) else None
+
+-- a further place: `NET_STA`, or, where places have numbers, `NET_STA:HEX` as well
+abbrev pub asked_in : Bool → Text → Option Asked
+asked_in false word = asked_with (place_in word) None
+asked_in true word = asked_with (place_in (before_first (λ c. c == 58) word)) (behind_colon word)
+
+-- the place of `--station` and `--network`, and the further ones
+abbrev pub places_in : Bool → Option Text → List Row → Option (List Asked)
+places_in numbered from rows =
+    places_of (asked_with (place_named (first_of (codes "station") rows) (first_of (codes "network") rows)) from
+    ∷ map (asked_in numbered) (further_in rows))
+
+-- a port
+abbrev pub port_in : Option Text → Option ℕ
+port_in None = None
+port_in (Some text) = counted_in 65535 text
+
+-- how many connections or tries: one where none is said
+abbrev pub count_in : Option Text → Option ℕ
+count_in None = Some 1
+count_in (Some text) = counted_in 1000000 text
+
+-- a ring's capacity: from one record to a million
+abbrev pub capacity_by : ℕ → Option ℕ
+capacity_by n = if nat_le 1 n && nat_le n 1000000 then Some n else None
+
+-- how many records each ring keeps: a thousand where nothing is said
+abbrev pub capacity_in : Option Text → Option ℕ
+capacity_in None = Some 1000
+capacity_in (Some text) = option_and_then capacity_by (number_in text)
+
+-- the first record's number: 0 where none is said
+abbrev pub first_in : Option Text → Option ℕ
+first_in None = Some 0
+first_in (Some text) = hexadecimal_in text
+
+-- what the options give, where each can be had
+abbrev pub serving_with : Option ℕ → Option ℕ → Option ℕ → Option ℕ → Option (List Asked) → Option Serving
+serving_with (Some port) (Some connections) (Some capacity) (Some first) (Some places) =
+    Some (record { port = port; connections = connections; capacity = capacity; first = first; places = places })
+serving_with _ _ _ _ _ = None
+
+abbrev pub fetching_with : Option ℕ → Option ℕ → Option (List Asked) → Option Fetching
+fetching_with (Some port) (Some tries) (Some places) = Some (record { port = port; tries = tries; places = places })
+fetching_with _ _ _ = None
+
+-- what `serve` takes besides its word
+abbrev pub serve_names : List Text
+serve_names = codes "command" ∷ codes "place" ∷ codes "port" ∷ codes "station" ∷ codes "network" ∷ codes "capacity" ∷ codes "first"
+    ∷ codes "connections" ∷ []
+
+-- and `fetch`
+abbrev pub fetch_names : List Text
+fetch_names = codes "command" ∷ codes "place" ∷ codes "port" ∷ codes "station" ∷ codes "network" ∷ codes "from" ∷ codes "tries" ∷ []
+
+-- a feed to be served: its places have no numbers of their own
+abbrev pub serving_of : List Row → Option Serving
+serving_of rows =
+    if has_only serve_names rows
+    then serving_with (port_in (first_of (codes "port") rows)) (count_in (first_of (codes "connections") rows))
+    (capacity_in (first_of (codes "capacity") rows)) (first_in (first_of (codes "first") rows)) (places_in false None rows)
+    else None
+
+-- a feed to be fetched: `--from` is the number of the first place
+abbrev pub fetching_of : List Row → Option Fetching
+fetching_of rows =
+    if has_only fetch_names rows
+    then fetching_with (port_in (first_of (codes "port") rows)) (count_in (first_of (codes "tries") rows))
+    (places_in true (first_of (codes "from") rows) rows)
+    else None
+
+-- a port that there is
+abbrev pub IsPort : ℕ → Type 0
+IsPort port = (1 ≤ port) × (port ≤ 65535)
+
+-- one to a million
+abbrev pub IsCount : ℕ → Type 0
+IsCount count = (1 ≤ count) × (count ≤ 1000000)
+
+-- what a feed can be served by
+pub record CanServe (serving : Serving) : Type 0 where
+  pub port : IsPort serving.port
+  pub connections : IsCount serving.connections
+  pub capacity : IsCapacity serving.capacity
+  pub first : serving.first < 2 ^ 24
+  pub places : ArePlaces serving.places
+
+-- what a feed can be fetched by
+pub record CanFetch (fetching : Fetching) : Type 0 where
+  pub port : IsPort fetching.port
+  pub tries : IsCount fetching.tries
+  pub places : ArePlaces fetching.places

@@ -1,0 +1,251 @@
+//! What the words of the two commands of a feed ask for.
+ghost use Rattle.std.specs.Prelude.{◌≡◌, ◌<◌, ◌^◌, ◌∷◌, IfSome, map, option_map};
+ghost use Rattle.slink_feed.specs.Fault.{IsCapacity};
+ghost use Rattle.clap.specs.Matches.{found_of};
+ghost use Rattle.clap.specs.Walk.{rows_of};
+ghost use Rattle.mseed.specs.Places.{ArePlaces, places_of};
+ghost use Rattle.mseed.specs.FeedWords.{CanFetch, CanServe, IsCount, IsPort, asked_in, asked_with, capacity_by};
+ghost use Rattle.mseed.specs.FeedWords.{capacity_in, count_in, fetching_of, fetching_with, first_in};
+ghost use Rattle.mseed.specs.FeedWords.{place_by, place_in, place_named, places_in, port_in, serving_of, serving_with};
+
+use crate::found::{has_only, text_of};
+use crate::numbers::{counted_in, hexadecimal_in, number_in};
+use crate::places::Places;
+use crate::request::{Fetching, Serving};
+use clap::ArgMatches;
+use slink_wire::Place;
+
+/// What serving is asked for, by its options and places.
+pub(crate) fn serving_of(matches: &ArgMatches<'_>) -> Option<Serving>
+    ensures value { result ≡ serving_of (rows_of (found_of matches.now)) }
+    ensures range { IfSome result CanServe }
+{
+    if !has_only(
+        matches,
+        &[
+            "command",
+            "place",
+            "port",
+            "station",
+            "network",
+            "capacity",
+            "first",
+            "connections",
+        ],
+    ) {
+        return None;
+    }
+    serving_with(
+        port_in(text_of(matches, "port")),
+        count_in(text_of(matches, "connections")),
+        capacity_in(text_of(matches, "capacity")),
+        first_in(text_of(matches, "first")),
+        places_in(false, None, matches),
+    )
+}
+
+/// Serving, where all that it wants is there.
+fn serving_with(
+    port: Option<u16>,
+    connections: Option<u32>,
+    capacity: Option<u32>,
+    first: Option<u32>,
+    places: Option<Places>,
+) -> Option<Serving>
+    requires port { IfSome port IsPort }
+    requires connections { IfSome connections IsCount }
+    requires capacity { IfSome capacity IsCapacity }
+    requires first { IfSome first (λ n. n < 2 ^ 24) }
+    requires places { IfSome places ArePlaces }
+    ensures value { result ≡ serving_with port connections capacity first places }
+    ensures range { IfSome result CanServe }
+{
+    match (port, connections, capacity, first, places) {
+        (Some(port), Some(connections), Some(capacity), Some(first), Some(places)) => {
+            Some(Serving {
+                port,
+                connections,
+                capacity,
+                first,
+                places,
+            })
+        }
+        _ => None,
+    }
+}
+
+/// What fetching is asked for, by its options and places.
+pub(crate) fn fetching_of(matches: &ArgMatches<'_>) -> Option<Fetching>
+    ensures value { result ≡ fetching_of (rows_of (found_of matches.now)) }
+    ensures range { IfSome result CanFetch }
+{
+    if !has_only(
+        matches,
+        &[
+            "command", "place", "port", "station", "network", "from", "tries",
+        ],
+    ) {
+        return None;
+    }
+    fetching_with(
+        port_in(text_of(matches, "port")),
+        count_in(text_of(matches, "tries")),
+        places_in(true, text_of(matches, "from"), matches),
+    )
+}
+
+/// Fetching, where all that it wants is there.
+fn fetching_with(port: Option<u16>, tries: Option<u32>, places: Option<Places>) -> Option<Fetching>
+    requires port { IfSome port IsPort }
+    requires tries { IfSome tries IsCount }
+    requires places { IfSome places ArePlaces }
+    ensures value { result ≡ fetching_with port tries places }
+    ensures range { IfSome result CanFetch }
+{
+    match (port, tries, places) {
+        (Some(port), Some(tries), Some(places)) => Some(Fetching {
+            port,
+            tries,
+            places,
+        }),
+        _ => None,
+    }
+}
+
+/// A port.
+fn port_in(text: Option<&str>) -> Option<u16>
+    ensures value { result ≡ port_in (option_map (λ t. t.now) text.entry) }
+    ensures range { IfSome result IsPort }
+{
+    match text {
+        None => None,
+        Some(text) => Some(counted_in(65_535, text)? as u16),
+    }
+}
+
+/// How many connections or tries: one where none is said.
+fn count_in(text: Option<&str>) -> Option<u32>
+    ensures value { result ≡ count_in (option_map (λ t. t.now) text.entry) }
+    ensures range { IfSome result IsCount }
+{
+    match text {
+        None => Some(1),
+        Some(text) => counted_in(1_000_000, text),
+    }
+}
+
+/// How many records a ring keeps: a thousand where nothing is said.
+fn capacity_in(text: Option<&str>) -> Option<u32>
+    ensures value { result ≡ capacity_in (option_map (λ t. t.now) text.entry) }
+    ensures range { IfSome result IsCapacity }
+{
+    match text {
+        None => Some(1000),
+        Some(text) => capacity_by(number_in(text)?),
+    }
+}
+
+/// A ring's capacity: from one record to a million.
+fn capacity_by(number: u32) -> Option<u32>
+    ensures value { result ≡ capacity_by number }
+    ensures range { IfSome result IsCapacity }
+{
+    if 1 <= number && number <= 1_000_000 {
+        Some(number)
+    } else {
+        None
+    }
+}
+
+/// The first record's number: 0 where none is said.
+fn first_in(text: Option<&str>) -> Option<u32>
+    ensures value { result ≡ first_in (option_map (λ t. t.now) text.entry) }
+    ensures range { IfSome result (λ n. n < 2 ^ 24) }
+{
+    match text {
+        None => Some(0),
+        Some(text) => hexadecimal_in(text),
+    }
+}
+
+/// The place of the two options, with the number that is said of it, and the further ones. Where places are
+/// `numbered`, each of these may have a number too.
+fn places_in(numbered: bool, from: Option<&str>, matches: &ArgMatches<'_>) -> Option<Places>
+    ensures value { result
+        ≡ places_in numbered (option_map (λ t. t.now) from.entry) (rows_of (found_of matches.now)) }
+    ensures range { IfSome result ArePlaces }
+{
+    let place = place_named(text_of(matches, "station"), text_of(matches, "network"));
+    let first = asked_with(place, from);
+    match matches.get_raw("place") {
+        Some(words) => gather(numbered, first, words),
+        None => gather(numbered, first, &[]),
+    }
+}
+
+/// The first place and the further ones, unless one of them is bad or doubled, or they are more than sixteen.
+fn gather(numbered: bool, first: Option<(Place, Option<u32>)>, words: &[&str]) -> Option<Places>
+    requires { IfSome first (λ p. IfSome p.1 (λ n. n < 2 ^ 24)) }
+    ensures value { result ≡ places_of (first ∷ map (asked_in numbered) (map (λ w. w.now) words.now)) }
+    ensures range { IfSome result ArePlaces }
+{
+    let mut places = Places::of(first?);
+    for word in words {
+        let place = asked_in(numbered, word)?;
+        if places.len() == 16 || places.has(place.0) {
+            return None;
+        }
+        places.push(place);
+    }
+    Some(places)
+}
+
+/// A further place: `NET_STA`, or, where places are `numbered`, `NET_STA:HEX` as well.
+fn asked_in(numbered: bool, word: &str) -> Option<(Place, Option<u32>)>
+    ensures value { result ≡ asked_in numbered word.now }
+    ensures range { IfSome result (λ p. IfSome p.1 (λ n. n < 2 ^ 24)) }
+{
+    if !numbered {
+        return asked_with(place_in(word), None);
+    }
+    match word.split_once(':') {
+        None => asked_with(place_in(word), None),
+        Some((place, digits)) => asked_with(place_in(place), Some(digits)),
+    }
+}
+
+/// A place, with the number that is said, if one is.
+fn asked_with(place: Option<Place>, digits: Option<&str>) -> Option<(Place, Option<u32>)>
+    ensures value { result ≡ asked_with place (option_map (λ t. t.now) digits.entry) }
+    ensures range { IfSome result (λ p. IfSome p.1 (λ n. n < 2 ^ 24)) }
+{
+    let place = place?;
+    match digits {
+        None => Some((place, None)),
+        Some(digits) => Some((place, Some(hexadecimal_in(digits)?))),
+    }
+}
+
+/// The place that the two options name.
+fn place_named(sta: Option<&str>, net: Option<&str>) -> Option<Place>
+    ensures { result ≡ place_named (option_map (λ t. t.now) sta.entry) (option_map (λ t. t.now) net.entry) }
+{
+    match (sta, net) {
+        (Some(sta), Some(net)) => place_by(sta, net),
+        _ => None,
+    }
+}
+
+/// The place of a station's and a network's code.
+fn place_by(sta: &str, net: &str) -> Option<Place>
+    ensures { result ≡ place_by sta.now net.now }
+{
+    Place::new(sta.as_bytes(), net.as_bytes()).ok()
+}
+
+/// The place that a word names: the network's code, an underscore, and the station's code.
+fn place_in(word: &str) -> Option<Place>
+    ensures { result ≡ place_in word.now }
+{
+    Place::read(word.as_bytes()).ok()
+}
