@@ -1,0 +1,13 @@
+//! How filling a feed ends early.
+use mseed_stream::StreamFault;
+
+/// Why a feed wasn't filled.
+#[derive(Clone, Copy, Debug, PartialEq, Eq)]
+pub enum FillFault {
+    /// The input failed, or doesn't end where a record ends.
+    Stream(StreamFault),
+    /// The record of this number, counted from 1, hasn't 512 bytes, or is of none of the places.
+    Foreign(u64),
+    /// A growth was refused.
+    Memory,
+}
