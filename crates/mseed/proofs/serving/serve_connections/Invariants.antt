@@ -1,0 +1,8 @@
+use Rattle.std.proofs.Common.{◌≡◌, ◌+◌, true}
+use Rattle.mseed.proofs.serving.serve_connections.Given as goal
+
+abbrev pub invariant-loop-connection : goal.invariant-loop-connection
+invariant-loop-connection g l = record {
+  accepts : g.A.Accept.calls l.acceptor ≡ g.A.Accept.calls l.fn.acceptor + l.connection;
+  fine : l.is_fine ≡ true → g.A.Accept.failures l.acceptor ≡ g.A.Accept.failures l.fn.acceptor;
+}

@@ -1,0 +1,79 @@
+//! Serving a feed to one connection after another.
+ghost use Rattle.std.specs.Prelude.{◌≡◌, ◌+◌, true};
+ghost use Rattle.mseed.specs.Served.{HasServed};
+
+use crate::accept::Accept;
+use crate::command::tell;
+use crate::outcome::{DONE, FAULT};
+use mseed_stream::{Duplex, Sink};
+use slink_feed::{Feed, LinkFault, Session, Turn, serve_turn};
+use std::alloc::Allocator;
+
+/// With one link so many turns are taken at most.
+pub const TURNS: u64 = 1 << 40;
+
+/// Serves the feed to so many connections, one after another, each by a session of its own. An `accept` that fails
+/// uses up a connection.
+///
+/// The exit status is answered: 0, or 2 where some `accept` or link failed, and then `errors` takes a line that says
+/// so.
+pub fn serve_all<B: Allocator, A: Accept, E: Sink>(
+    feed: &Feed<B>,
+    connections: u64,
+    acceptor: &mut A,
+    errors: &mut E,
+) -> u8
+    ensures accepts { A.calls acceptor.new ≡ A.calls acceptor.old + connections }
+    ensures fine { result ≡ 0 → A.failures acceptor.new ≡ A.failures acceptor.old }
+    ensures told { HasServed result (E.said errors.old) (E.said errors.new) }
+{
+    if serve_connections(feed, connections, acceptor) {
+        return DONE;
+    }
+    tell(errors, b"mseed: link failed\n");
+    FAULT
+}
+
+/// Serves so many connections, and answers whether no `accept` and no link failed.
+fn serve_connections<B: Allocator, A: Accept>(
+    feed: &Feed<B>,
+    connections: u64,
+    acceptor: &mut A,
+) -> bool
+    ensures accepts { A.calls acceptor.new ≡ A.calls acceptor.old + connections }
+    ensures fine { result ≡ true → A.failures acceptor.new ≡ A.failures acceptor.old }
+{
+    let mut is_fine = true;
+    for connection in 0..connections {
+        if !serve_next(feed, acceptor) {
+            is_fine = false;
+        }
+    }
+    is_fine
+}
+
+/// Serves the next connection, and answers whether it could be had and didn't fail.
+fn serve_next<B: Allocator, A: Accept>(feed: &Feed<B>, acceptor: &mut A) -> bool
+    ensures accepts { A.calls acceptor.new ≡ A.calls acceptor.old + 1 }
+    ensures fine { result ≡ true → A.failures acceptor.new ≡ A.failures acceptor.old }
+{
+    match acceptor.accept() {
+        Some(mut link) => serve_link(feed, &mut link).is_ok(),
+        None => false,
+    }
+}
+
+/// Serves a link until nothing more is to be sent, or until many turns were taken.
+///
+/// # Errors
+///
+/// Why the link failed.
+fn serve_link<B: Allocator, S: Duplex>(feed: &Feed<B>, link: &mut S) -> Result<(), LinkFault> {
+    let mut session = Session::new();
+    for turn in 0..TURNS {
+        if serve_turn(&mut session, feed, link)? != Turn::Goes {
+            break;
+        }
+    }
+    Ok(())
+}
