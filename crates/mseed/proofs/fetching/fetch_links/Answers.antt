@@ -1,0 +1,19 @@
+use Rattle.std.proofs.Common.{◌≡◌, arith, rules, subst}
+use Rattle.mseed.specs.declared.fetching.FetchEnd.TheVariants.{LinkFailed}
+use Rattle.mseed.specs.Fetched.{HasFetched}
+use Rattle.mseed.proofs.Fetches.{fetched_both}
+use Rattle.mseed.proofs.fetching.fetch_links.Goals as goal
+
+pub returns-then-ne-clause-fetched : goal.returns-then-ne-clause-fetched
+returns-then-ne-clause-fetched g c =
+    fetched_both c.try_link-end.result c.args.client.now c.loop-dialled.client c.try_link-end.new.client (g.W.Sink.said c.args.output.now) (g.W.Sink.said c.loop-dialled.output)
+    (g.W.Sink.said c.try_link-end.new.output) c.loop-dialled.invariant.fetched c.try_link-end.ensures.fetched
+
+pub loop-dialled-preserved : goal.loop-dialled-preserved
+loop-dialled-preserved g c =
+    let same : c.try_link-end.result ≡ LinkFailed = search rules in record {
+      fetched = fetched_both LinkFailed c.args.client.now c.loop-dialled.client c.try_link-end.new.client (g.W.Sink.said c.args.output.now) (g.W.Sink.said c.loop-dialled.output)
+          (g.W.Sink.said c.try_link-end.new.output) c.loop-dialled.invariant.fetched
+          (subst (λ end. HasFetched end c.loop-dialled.client c.try_link-end.new.client (g.W.Sink.said c.loop-dialled.output) (g.W.Sink.said c.try_link-end.new.output)) same c.try_link-end.ensures.fetched);
+      dialled = omega (arith, c.try_link-end.ensures.dialled, c.loop-dialled.invariant.dialled);
+    }

@@ -1,0 +1,141 @@
+-- How fetching over one link after another ends, and what the output took by then.
+use Rattle.std.specs.Prelude.{◌≡◌, ◌⊎◌, ℕ, ◌+◌, ◌%◌, ◌^◌, ◌<◌, ◌≤◌, List, ◌∷◌, ◌++◌, [], length, Option, Some, None, Result, Ok, Err, codes}
+use Rattle.mseed_stream.specs.Device.{Said}
+use Rattle.slink_feed.specs.declared.dialogue.Ending.{Ending}
+use Rattle.slink_feed.specs.declared.dialogue.Ending.TheVariants as endings
+use Rattle.slink_feed.specs.declared.dialogue.Event.{Event}
+use Rattle.slink_feed.specs.declared.dialogue.Event.TheVariants as events
+use Rattle.slink_feed.specs.declared.dialogue.Stage.{Stage}
+use Rattle.slink_feed.specs.declared.dialogue.Stage.TheVariants.{Unlinked, Station, Number, Packets, Ended}
+use Rattle.slink_feed.specs.declared.turn.LinkFault.{LinkFault}
+use Rattle.slink_feed.specs.declared.turn.LinkFault.TheVariants as faults
+use Rattle.slink_feed.specs.declared.turn.Turn.{Turn}
+use Rattle.slink_feed.specs.declared.turn.Turn.TheVariants as turns
+use Rattle.slink_feed.specs.Delivered.{Numbered}
+use Rattle.slink_feed.specs.Dialogue.{Talk, Wants, next_at}
+use Rattle.slink_feed.specs.Fetching.{ReadsOn}
+use Rattle.slink_feed.specs.Listening.{Listening, Reads}
+use Rattle.slink_feed.specs.Told.{HasTold, bytes_in, numbers_at, records_told}
+use Rattle.slink_feed.specs.Turns.{Took, TookFront}
+use Rattle.mseed.specs.declared.fetching.FetchEnd.{FetchEnd}
+use Rattle.mseed.specs.declared.fetching.FetchEnd.TheVariants.{Done, Refused, BadFeed, WriteFailed, LinkFailed}
+use Rattle.mseed.specs.Outcome.{Tells}
+
+-- The output took these records: all of them; or, where it failed, those before the last one, and a front of that.
+pub data TakesRecords (records : List Numbered) (old new : Said) : Type 0 where
+  all : Took old new (bytes_in records) → TakesRecords records old new
+  but_last : (some : List Numbered) (last : Numbered) (count : ℕ) → records ≡ some ++ last ∷ [] → length (bytes_in some) ≤ count
+      → TookFront old new (bytes_in records) count → TakesRecords records old new
+
+-- The number that a place wanted moved by how many records of it there are.
+abbrev pub HaveMoved : Wants → Wants → List Numbered → Type 0
+HaveMoved old new records = (k n : ℕ) → n < 2 ^ 24 → next_at old k ≡ Some n
+    → next_at new k ≡ Some ((n + length (numbers_at k records)) % 2 ^ 24)
+
+-- what no server sends that serves these places
+abbrev pub IsBad : Ending → Type 0
+IsBad endings.End = ⊥
+IsBad (endings.Refused k) = ⊥
+IsBad (endings.Gap k want got) = Unit {0}
+IsBad endings.Garbage = Unit {0}
+IsBad endings.Foreign = Unit {0}
+
+-- The client has come to no end of its link.
+abbrev pub IsUnended : Stage → Type 0
+IsUnended Unlinked = Unit {0}
+IsUnended (Station k) = Unit {0}
+IsUnended (Number k) = Unit {0}
+IsUnended Packets = Unit {0}
+IsUnended (Ended ending) = ⊥
+
+-- What the client stands at by each end. Where the links failed it has come to no end of the last one, or had none.
+abbrev pub StandsAt : FetchEnd → Listening → Listening → Type 0
+StandsAt Done old new = new.talk.stage ≡ Ended endings.End
+StandsAt Refused old new = (k : ℕ) × (new.talk.stage ≡ Ended (endings.Refused k))
+StandsAt BadFeed old new = (ending : Ending) × (new.talk.stage ≡ Ended ending) × IsBad ending
+StandsAt WriteFailed old new = IsUnended new.talk.stage
+StandsAt LinkFailed old new = IsUnended new.talk.stage ⊎ (new ≡ old)
+
+-- how often the output failed by then
+abbrev pub output_failures : FetchEnd → ℕ
+output_failures Done = 0
+output_failures Refused = 0
+output_failures BadFeed = 0
+output_failures WriteFailed = 1
+output_failures LinkFailed = 0
+
+-- The links failed where all tries were used up. At another end some were made, and no more.
+abbrev pub HasDialled : FetchEnd → ℕ → ℕ → ℕ → Type 0
+HasDialled Done tries old new = (old < new) × (new ≤ old + tries)
+HasDialled Refused tries old new = (old < new) × (new ≤ old + tries)
+HasDialled BadFeed tries old new = (old < new) × (new ≤ old + tries)
+HasDialled WriteFailed tries old new = (old < new) × (new ≤ old + tries)
+HasDialled LinkFailed tries old new = new ≡ old + tries
+
+-- the exit status
+abbrev pub fetch_status : FetchEnd → ℕ
+fetch_status Done = 0
+fetch_status Refused = 2
+fetch_status BadFeed = 2
+fetch_status WriteFailed = 2
+fetch_status LinkFailed = 2
+
+-- the line on standard error, or none
+abbrev pub TellsOfFetch : FetchEnd → Said → Said → Type 0
+TellsOfFetch Done old new = new ≡ old
+TellsOfFetch Refused old new = Tells (codes "mseed: refused\n") old new
+TellsOfFetch BadFeed old new = Tells (codes "mseed: bad feed\n") old new
+TellsOfFetch WriteFailed old new = Tells (codes "mseed: write failed\n") old new
+TellsOfFetch LinkFailed old new = Tells (codes "mseed: link failed\n") old new
+
+-- Links were fetched over, up to an end: a client told of these records, and the output took them.
+pub record HasFetched (end : FetchEnd) (old new : Listening) (said_old said_new : Said) : Type 0 where
+  pub records : List Numbered
+  pub told : HasTold old.talk.wants new.talk.wants records
+  pub moved : HaveMoved old.talk.wants new.talk.wants records
+  pub took : TakesRecords records said_old said_new
+  pub stands : StandsAt end old new
+  pub failures : said_new.failures ≡ said_old.failures + output_failures end
+
+-- how a fetch ends by the event at which a client stopped
+abbrev pub stopped_by : Event → FetchEnd
+stopped_by events.None = BadFeed
+stopped_by (events.Say line) = BadFeed
+stopped_by (events.Record k number bytes) = BadFeed
+stopped_by events.End = BadFeed
+stopped_by (events.Refused k) = Refused
+stopped_by (events.Gap k want got) = BadFeed
+stopped_by events.Garbage = BadFeed
+stopped_by events.Foreign = BadFeed
+
+-- how it ends by what a turn with a link comes to, if it ends
+abbrev pub end_by : Result Turn LinkFault → Option FetchEnd
+end_by (Ok turns.Goes) = None
+end_by (Ok turns.Closed) = Some LinkFailed
+end_by (Ok turns.Ended) = Some Done
+end_by (Ok (turns.Stopped event)) = Some (stopped_by event)
+end_by (Err faults.Read) = Some LinkFailed
+end_by (Err (faults.Write count)) = Some LinkFailed
+end_by (Err (faults.Output count)) = Some WriteFailed
+
+-- by an end, or while there is none
+abbrev pub StandsBy : Option FetchEnd → Listening → Listening → Type 0
+StandsBy None old new = IsUnended new.talk.stage
+StandsBy (Some end) old new = StandsAt end old new
+
+abbrev pub failures_by : Option FetchEnd → ℕ
+failures_by None = 0
+failures_by (Some end) = output_failures end
+
+-- Turns were taken with a link, up to an end or not: a client read on, and the output took the records that it told of.
+pub record HasTurned (end : Option FetchEnd) (old new : Listening) (said_old said_new : Said) : Type 0 where
+  pub bytes : List ℕ
+  pub told : List Event
+  pub reads : ReadsOn old bytes told new
+  pub took : TakesRecords (records_told told) said_old said_new
+  pub stands : StandsBy end old new
+  pub failures : said_new.failures ≡ said_old.failures + failures_by end
+
+-- There is something that the client has read.
+abbrev pub IsReading : Listening → Type 0
+IsReading now = (start : Talk) × (stream : List ℕ) × (events : List Event) × Reads start stream events now
