@@ -1,14 +1,18 @@
 -- What the words of the command line give, one by one, and the digits of a length.
-use Rattle.std.proofs.Common.{◌≡◌, ℕ, suc, ◌+◌, ◌-◌, ◌*◌, ◌^◌, ◌<◌, ◌&&◌, ◌++◌, List, [], ◌∷◌, length, map, take, drop, get_or, refl, sym, ap, ◌∙◌, arith, true, Option, Some, None, slice_get, unwrap_or, codes}
+use Rattle.std.proofs.Common.{◌≡◌, ℕ, suc, ◌+◌, ◌-◌, ◌*◌, ◌^◌, ◌<◌, ◌&&◌, ◌||◌, ◌++◌, Bool, List, [], ◌∷◌, length, map, take, drop, get_or, refl, sym, ap, ◌∙◌, arith, true, Option, Some, None, slice_get, unwrap_or, codes}
 use Rattle.std.proofs.lemmas.Grind.{common_steps}
-use Rattle.std.specs.List.{list_all}
+use Rattle.std.specs.Borrow.{Bor}
+use Rattle.std.specs.List.{list_all, list_any}
+use Rattle.std.specs.Str.{bytes_eq}
 use Rattle.std.proofs.Math.Seq.{take-suc}
 use Rattle.std.proofs.Math.Nat.{pow-suc, mul_assoc}
 use Rattle.std.proofs.lemmas.List.{length-append}
 use Rattle.clap.specs.Facts.{Entry}
 use Rattle.clap.specs.Walk.{Row, Text, first_of, row_of}
 use Rattle.mseed_pack.specs.declared.options.Encoding.{Encoding}
-use Rattle.mseed.specs.Words.{encoding_in, exponent_in, is_digit, is_of_packing, packing_of, packing_with, value_of}
+use Rattle.mseed.specs.Found.{has_only, is_among}
+use Rattle.mseed.specs.Numbers.{is_digit, value_of}
+use Rattle.mseed.specs.Words.{encoding_in, exponent_in, packing_names, packing_of, packing_with}
 
 -- a digit behind others
 value_more : (xs : Text) (c : ℕ) → value_of (xs ++ c ∷ []) ≡ value_of xs * 10 + (c - 48)
@@ -29,20 +33,25 @@ digits_more ds i d lt =
 pub all_more : (ds : Text) (i d : ℕ) → i < length ds → list_all is_digit (take i ds) ≡ true → is_digit (get_or ds i d) ≡ true → list_all is_digit (take (i + 1) ds) ≡ true
 all_more ds i d lt before is = grind (arith, common_steps, before, is)
 
+-- whether a text is one of these
+pub named : (names : List (Bor Text)) (id : Text) → is_among (map (λ (n : Bor Text). n.now) names) id ≡ list_any (λ (n : Bor Text). bytes_eq n.now id) names
+named [] id = refl
+named (n ∷ ns) id = ap (λ (b : Bool). bytes_eq n.now id || b) (named ns id)
+
 -- nothing left, or one word and the others
-pub left_none : (xs : List Text) → slice_get xs 0 ≡ None → list_all is_of_packing xs ≡ true
-left_none [] e = refl
-left_none (x ∷ xs) e = absurd (some_none x e)
+pub left_none : (names xs : List Text) → slice_get xs 0 ≡ None → list_all (is_among names) xs ≡ true
+left_none names [] e = refl
+left_none names (x ∷ xs) e = absurd (some_none x e)
   where
     some_none : (x : Text) → Some x ≡ None → ⊥
     some_none x e = cc
 
-pub left_some : (xs : List Text) (x : Text) → slice_get xs 0 ≡ Some x → list_all is_of_packing xs ≡ (is_of_packing x && list_all is_of_packing (drop 1 xs))
-left_some [] x e = absurd (none_some x e)
+pub left_some : (names xs : List Text) (x : Text) → slice_get xs 0 ≡ Some x → list_all (is_among names) xs ≡ (is_among names x && list_all (is_among names) (drop 1 xs))
+left_some names [] x e = absurd (none_some x e)
   where
     none_some : (x : Text) → None ≡ Some x → ⊥
     none_some x e = cc
-left_some (y ∷ ys) x e = ap (λ (o : Option Text). is_of_packing (unwrap_or o y) && list_all is_of_packing ys) e
+left_some names (y ∷ ys) x e = ap (λ (o : Option Text). is_among names (unwrap_or o y) && list_all (is_among names) ys) e
 
 -- the words that were found are those of their rows
 pub ids_are : (es : List Entry) → map (λ (r : Row). r.id) (map row_of es) ≡ map (λ (e : Entry). e.0.now) es
@@ -53,6 +62,6 @@ pub below : (c : ℕ) → is_digit c ≡ true → c < 58
 below c is = grind (arith, common_steps, is)
 
 -- packing anew with the length and the encoding that the rows give
-pub packing_is : (rows : List Row) (exponent : Option ℕ) (encoding : Option Encoding) (all : list_all is_of_packing (map (λ (r : Row). r.id) rows) ≡ true)
+pub packing_is : (rows : List Row) (exponent : Option ℕ) (encoding : Option Encoding) (all : has_only packing_names rows ≡ true)
     → exponent ≡ exponent_in (first_of (codes "length") rows) → encoding ≡ encoding_in (first_of (codes "encoding") rows) → packing_with exponent encoding ≡ packing_of rows
 packing_is rows exponent encoding all e n = rw (all, e, n) refl

@@ -4,3 +4,12 @@ pub mod Gathered
 pub mod Repacks
 pub mod Wholes
 pub mod Asked
+pub mod Digits
+pub mod PlaceWords
+pub mod Different
+pub mod Fills
+pub mod OneFilling
+pub mod Relayed
+pub mod ReadChannels
+pub mod Judged
+pub mod Fetches

@@ -1,5 +1,5 @@
 -- A whole archive, and how packing it anew ends.
-use Rattle.std.proofs.Common.{◌≡◌, ℕ, ◌<◌, ◌^◌, List, [], ◌∷◌, length, map, refl, sym, ap, subst, arith, IsTrue, inl, inr, Result, Ok, Err, OnOk, IfErr}
+use Rattle.std.proofs.Common.{◌≡◌, ℕ, ◌<◌, ◌^◌, List, [], ◌∷◌, length, map, refl, sym, ap, subst, arith, IsTrue, Result, Ok, Err, OnOk, IfErr}
 use Rattle.std.specs.List.{AllByRecursion}
 use Rattle.std.specs.Result.{IsErrAnd}
 use Rattle.std.proofs.lemmas.List.{length-map}
@@ -16,8 +16,8 @@ use Rattle.mseed_pack.specs.Options.{code_of}
 use Rattle.mseed_pack.specs.declared.options.Encoding.{Encoding}
 use Rattle.mseed_pack.specs.declared.options.Encoding.TheVariants.{Int16, Int32, Steim1, Steim2}
 use Rattle.mseed_pack.specs.declared.options.Options.{Options}
-use Rattle.mseed.specs.Repack.{ArePackedInto, AreContinuous, Channel, IsArchiveOf, IsFitFor, IsRepacking, Wrote}
-use Rattle.mseed.specs.Repacking.{FailsToFit, FailsToPack, IsFirstBroken}
+use Rattle.mseed.specs.Repack.{AreContinuous, Channel, IsArchiveOf, IsRepacking}
+use Rattle.mseed.specs.Repacking.{FailsToPackAnew, IsFirstBroken, IsPackedAnew}
 use Rattle.mseed.specs.declared.repack_fault.RepackFault.{RepackFault}
 use Rattle.mseed.specs.declared.repack_fault.RepackFault.TheVariants.{Stream, Broken, Misfit, Write, Memory}
 
@@ -57,30 +57,18 @@ broken_is U o h s views cs (Misfit key f) archive is = absurd is
 broken_is U o h s views cs Write archive is = absurd is
 broken_is U o h s views cs Memory archive is = absurd is
 
-misfit_is : (U : Type 0) (o : Options) (h : Heard) (s : Said) (views : List View) (cs : List Channel) (fault : RepackFault) → IsArchiveOf h views cs → AreContinuous views cs → FailsToFit o views cs fault
-    → IsRepacking {U = U} o (Err fault) h s s
-misfit_is U o h s views cs (Stream f) archive continuous is = absurd is
-misfit_is U o h s views cs (Broken key) archive continuous is = absurd is
-misfit_is U o h s views cs (Misfit key f) archive continuous is = (views, (cs, (archive, continuous, is, refl)))
-misfit_is U o h s views cs Write archive continuous is = absurd is
-misfit_is U o h s views cs Memory archive continuous is = inl refl
-
-pub packed_is : {U : Type 0} (r : Result U RepackFault) (o : Options) (h : Heard) (old new : Said) (views : List View) (cs : List Channel) → IsFitFor o h views cs → OnOk r (Wrote (ArePackedInto o views cs) 0 old new)
-    → IfErr r (FailsToPack o views cs old new) → IsRepacking o r h old new
-packed_is (Ok u) o h old new views cs fit wrote fails = (views, (cs, (fit, wrote)))
-packed_is (Err (Stream f)) o h old new views cs fit wrote fails = absurd fails
-packed_is (Err (Broken key)) o h old new views cs fit wrote fails = absurd fails
-packed_is (Err (Misfit key f)) o h old new views cs fit wrote fails = absurd fails
-packed_is (Err Write) o h old new views cs fit wrote fails = (views, (cs, (fit, fails)))
-packed_is (Err Memory) o h old new views cs fit wrote fails = inr (views, (cs, (fit, fails)))
+pub packed_is : {U : Type 0} (r : Result U RepackFault) (o : Options) (h : Heard) (old new : Said) (views : List View) (cs : List Channel) → IsArchiveOf h views cs → AreContinuous views cs
+    → OnOk r (IsPackedAnew o views cs old new) → IfErr r (FailsToPackAnew o views cs old new) → IsRepacking o r h old new
+packed_is (Ok u) o h old new views cs archive continuous done fails = (views, (cs, (record { archive = archive; continuous = continuous; fit = done.fit }, done.wrote)))
+packed_is (Err (Stream f)) o h old new views cs archive continuous done fails = absurd fails
+packed_is (Err (Broken key)) o h old new views cs archive continuous done fails = absurd fails
+packed_is (Err (Misfit key f)) o h old new views cs archive continuous done fails = (views, (cs, (archive, continuous, fails.0, fails.1)))
+packed_is (Err Write) o h old new views cs archive continuous done fails = (views, (cs, (record { archive = archive; continuous = continuous; fit = fails.0 }, fails.1)))
+packed_is (Err Memory) o h old new views cs archive continuous done fails = fails
 
 pub broken_ends : {U : Type 0} (r : Result U RepackFault) (Q : RepackFault → Type 0) (o : Options) (h : Heard) (s : Said) (views : List View) (cs : List Channel) (fault : RepackFault) → IsErrAnd r Q
     → ((e : RepackFault) → Q e → e ≡ fault) → IsArchiveOf h views cs → IsFirstBroken views cs fault → IsRepacking o r h s s
 broken_ends {U} r Q o h s views cs fault err q archive is = ends_by r Q fault o h s s err q (broken_is U o h s views cs fault archive is)
-
-pub misfit_ends : {U : Type 0} (r : Result U RepackFault) (Q : RepackFault → Type 0) (o : Options) (h : Heard) (s : Said) (views : List View) (cs : List Channel) (fault : RepackFault) → IsErrAnd r Q
-    → ((e : RepackFault) → Q e → e ≡ fault) → IsArchiveOf h views cs → AreContinuous views cs → FailsToFit o views cs fault → IsRepacking o r h s s
-misfit_ends {U} r Q o h s views cs fault err q archive continuous is = ends_by r Q fault o h s s err q (misfit_is U o h s views cs fault archive continuous is)
 
 -- a code is of one encoding
 pub one_encoding : (a b : Encoding) → code_of a ≡ code_of b → a ≡ b

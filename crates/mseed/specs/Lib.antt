@@ -1,6 +1,10 @@
 pub mod Outcome
 pub mod Run
 pub mod Options
+pub mod Found
+pub mod Numbers
+pub mod Places
+pub mod FeedWords
 pub mod Words
 pub mod Listing
 pub mod Show
@@ -8,4 +12,12 @@ pub mod Gathering
 pub mod Done
 pub mod Repack
 pub mod Repacking
+pub mod Reading
 pub mod Repacked
+pub mod Filling
+pub mod Plans
+pub mod Relay
+pub mod Relaying
+pub mod Keeping
+pub mod Served
+pub mod Fetched

@@ -1,17 +1,32 @@
-//! `mseed`, the command: audits, lists and packs archives of seismic waveforms in miniSEED.
+//! `mseed`, the command: audits, lists and packs archives of seismic waveforms in miniSEED, and serves and fetches
+//! their records.
 #![tactic(auto)]
 
+mod accept;
 mod command;
+mod dial;
 mod ending;
+mod feed_words;
+mod fetching;
+mod fill_fault;
+mod filling;
+mod found;
+mod kept;
 mod listing;
+mod numbers;
 mod outcome;
+mod places;
+mod plan;
+mod planning;
+mod reading;
 mod refusal;
+mod relay;
 mod repack;
 mod repack_fault;
 mod request;
+mod serving;
 mod show;
-#[cfg(test)]
-mod tests;
+mod tcp;
 mod words;
 
 use mseed_stream::{Buffered, Counted, Sink};
@@ -25,8 +40,13 @@ const ROOM: usize = 1 << 19;
 
 fn main(rt: HostRuntime) -> ExitCode {
     let mut errors = Counted::new(rt.stderr());
-    let Run::Status(status) = match run_with_words(&rt, &mut errors) {
-        Ok(run) => run,
+    let status = match run_with_words(&rt, &mut errors) {
+        Ok(Run::Status(status)) => status,
+        Ok(Run::Serve(plan)) => tcp::serve(&rt, &plan, &mut errors),
+        Ok(Run::Fetch(mut plan)) => {
+            let mut output = Counted::new(io::writer(&rt));
+            tcp::fetch(&rt, &mut plan, &mut output, &mut errors)
+        }
         Err(error) if error.kind() == ErrorKind::OutOfMemory => command::refuse_memory(&mut errors),
         Err(_) => command::refuse_words(&mut errors),
     };

@@ -1,4 +1,6 @@
 //! What a command leaves to do, and the exit statuses.
+use crate::plan::{FetchPlan, ServePlan};
+use std::alloc::{Allocator, Global};
 
 /// All was done; of an audit: each channel is continuous.
 pub const DONE: u8 = 0;
@@ -13,8 +15,12 @@ pub const FAULT: u8 = 2;
 pub const BAD_COMMAND: u8 = 3;
 
 /// What `run` answers.
-#[derive(Clone, Copy, Debug, PartialEq, Eq)]
-pub enum Run {
+#[derive(Drop)]
+pub enum Run<A: Allocator = Global> {
     /// The command is done, with this exit status.
     Status(u8),
+    /// A feed is to be served.
+    Serve(ServePlan<A>),
+    /// Records are to be fetched.
+    Fetch(FetchPlan),
 }

@@ -1,0 +1,63 @@
+-- The plans of the two commands of a feed, and what is said where there is none.
+use Rattle.std.specs.Prelude.{◌≡◌, ◌⊎◌, ℕ, List, [], ◌++◌, Result, Ok, Err, codes, decimal}
+use Rattle.mseed_stream.specs.Device.{Heard, Said}
+use Rattle.mseed_audit.specs.Text.{fault_line}
+use Rattle.slink_feed.specs.Dialogue.{wants_of}
+use Rattle.slink_feed.specs.Window.{Window}
+use Rattle.slink_feed.specs.declared.dialogue.Stage.TheVariants.{Unlinked}
+use Rattle.slink_feed.specs.declared.grant.Mode.TheVariants as modes
+use Rattle.mseed.specs.Filling.{IsFilling, IsOneFilling}
+use Rattle.mseed.specs.Outcome.{Tells}
+use Rattle.mseed.specs.declared.fill_fault.FillFault.{FillFault}
+use Rattle.mseed.specs.declared.fill_fault.FillFault.TheVariants.{Stream, Foreign, Memory}
+use Rattle.mseed.specs.declared.outcome.Run.{Run}
+use Rattle.mseed.specs.declared.outcome.Run.TheVariants.{Status, Serve, Fetch}
+use Rattle.mseed.specs.declared.plan.FetchPlan.{FetchPlan}
+use Rattle.mseed.specs.declared.plan.ServePlan.{ServePlan}
+use Rattle.mseed.specs.declared.request.Fetching.{Fetching}
+use Rattle.mseed.specs.declared.request.Serving.{Serving}
+
+-- why a feed wasn't filled
+abbrev pub fill_text : FillFault → List ℕ
+fill_text (Stream fault) = codes "mseed: " ++ fault_line fault
+fill_text (Foreign number) = codes "mseed: record " ++ decimal number ++ codes " is not of this feed\n"
+fill_text Memory = codes "mseed: no memory\n"
+
+-- the line on standard error; there may be no memory for it
+abbrev pub TellsOfFilling : FillFault → Said → Said → Type 0
+TellsOfFilling fault old new = Tells (fill_text fault) old new ⊎ Tells (codes "mseed: no memory\n") old new
+
+-- the feed, and the values that were asked for
+pub record IsServePlan {A : Type 0} (serving : Serving) (feed : List Window) (plan : ServePlan A) : Type 0 where
+  pub port : plan.port ≡ serving.port
+  pub connections : plan.connections ≡ serving.connections
+  pub feed_is : plan.feed ≡ feed
+
+-- by what filling the feed came to: a plan, and no line; or status 2, and a line
+abbrev pub IsPlannedBy : {A : Type 0} → Serving → Result (List Window) FillFault → Run A → Said → Said → Type 0
+IsPlannedBy serving (Ok feed) (Status status) old new = ⊥
+IsPlannedBy serving (Ok feed) (Serve plan) old new = IsServePlan serving feed plan × (new ≡ old)
+IsPlannedBy serving (Ok feed) (Fetch plan) old new = ⊥
+IsPlannedBy serving (Err fault) (Status status) old new = (status ≡ 2) × TellsOfFilling fault old new
+IsPlannedBy serving (Err fault) (Serve plan) old new = ⊥
+IsPlannedBy serving (Err fault) (Fetch plan) old new = ⊥
+
+-- what `serve` comes to before it opens a socket; the input decides it, but for memory
+pub record IsServeRun {A : Type 0} (serving : Serving) (run : Run A) (heard : Heard) (told_old told_new : Said) : Type 0 where
+  pub outcome : Result (List Window) FillFault
+  pub filling : IsFilling serving outcome heard
+  pub only : IsOneFilling serving outcome heard
+  pub planned : IsPlannedBy serving outcome run told_old told_new
+
+-- a new client for the places that were asked for, and the other values
+pub record IsFetchPlan (fetching : Fetching) (plan : FetchPlan) : Type 0 where
+  pub port : plan.port ≡ fetching.port
+  pub tries : plan.tries ≡ fetching.tries
+  pub talk : plan.client.talk ≡ record { mode = modes.Fetch; wants = wants_of fetching.places; stage = Unlinked }
+  pub kept : plan.client.kept ≡ []
+
+-- what `fetch` comes to before it opens a socket
+abbrev pub IsFetchRun : {A : Type 0} → Fetching → Run A → Type 0
+IsFetchRun fetching (Status status) = ⊥
+IsFetchRun fetching (Serve plan) = ⊥
+IsFetchRun fetching (Fetch plan) = IsFetchPlan fetching plan

@@ -1,0 +1,65 @@
+//! The plans of the two commands of a feed.
+ghost use Rattle.std.specs.Prelude.{◌≡◌};
+ghost use Rattle.mseed_stream.specs.Device.{nothing_heard};
+ghost use Rattle.mseed.specs.FeedWords.{CanFetch, CanServe};
+ghost use Rattle.mseed.specs.Plans.{IsFetchPlan, IsServeRun, TellsOfFilling};
+
+use crate::command::{refuse_memory, tell};
+use crate::fill_fault::FillFault;
+use crate::filling::{fill, one_filling};
+use crate::outcome::{FAULT, Run};
+use crate::plan::{FetchPlan, ServePlan};
+use crate::refusal::push_fill_refusal;
+use crate::request::{Fetching, Serving};
+use mseed_stream::{Sink, Source};
+use slink_feed::{Client, Mode};
+use std::alloc::Allocator;
+
+/// Fills the feed that is to be served, or says on `errors` why there is none.
+pub fn plan_serve<A: Allocator + Copy, R: Source, E: Sink>(
+    alloc: A,
+    serving: &Serving,
+    input: &mut R,
+    errors: &mut E,
+) -> Run<A>
+    requires unread { R.heard input.old ≡ nothing_heard }
+    requires asked { CanServe serving.now }
+    ensures { IsServeRun serving.now result (R.heard input.new) (E.said errors.old) (E.said errors.new) }
+{
+    one_filling();
+    match fill(alloc, serving, input) {
+        Ok(feed) => Run::Serve(ServePlan {
+            port: serving.port,
+            connections: serving.connections,
+            feed,
+        }),
+        Err(fault) => Run::Status(refuse_to_serve(alloc, errors, &fault)),
+    }
+}
+
+/// Says why a feed wasn't filled.
+fn refuse_to_serve<A: Allocator + Copy, E: Sink>(alloc: A, errors: &mut E, fault: &FillFault) -> u8
+    ensures status { result ≡ 2 }
+    ensures told { TellsOfFilling fault.now (E.said errors.old) (E.said errors.new) }
+{
+    let mut line = Vec::new(alloc);
+    match push_fill_refusal(&mut line, fault) {
+        Ok(()) => {
+            tell(errors, &line);
+            FAULT
+        }
+        Err(_) => refuse_memory(errors),
+    }
+}
+
+/// A new client for what is to be fetched.
+pub fn plan_fetch(fetching: &Fetching) -> FetchPlan
+    requires { CanFetch fetching.now }
+    ensures { IsFetchPlan fetching.now result }
+{
+    FetchPlan {
+        port: fetching.port,
+        tries: fetching.tries,
+        client: Client::new(fetching.places.as_slice(), Mode::Fetch),
+    }
+}
