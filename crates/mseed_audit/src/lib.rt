@@ -11,6 +11,8 @@ mod law;
 mod name;
 mod parts;
 mod tail;
+#[cfg(test)]
+mod tests;
 mod text;
 mod verdict;
 

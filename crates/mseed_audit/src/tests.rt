@@ -1,0 +1,8 @@
+//! Rows of the audit and of the crates below it: what no clause says and no script over the program sees. They stand
+//! here alone, since a crate that holds tests is proved twice, with them and without.
+
+mod assembling;
+mod auditing;
+mod framing;
+mod records;
+mod writing;
