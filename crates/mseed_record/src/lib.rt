@@ -11,8 +11,6 @@ mod framing;
 mod header;
 mod law;
 mod naming;
-#[cfg(test)]
-mod tests;
 mod view;
 mod write;
 
