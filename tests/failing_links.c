@@ -1,0 +1,63 @@
+/* Put before the C library (LD_PRELOAD), it fails one call that opens, takes or dials a link, reads from one or writes
+   to one: the one whose number, from 1, LINK_FAILS gives. A read or a write brings at most as many bytes as LINK_PIECE
+   gives, where it is there. */
+#define _GNU_SOURCE
+#include <dlfcn.h>
+#include <errno.h>
+#include <stdlib.h>
+#include <sys/socket.h>
+
+static long number(const char *name) {
+    const char *text = getenv(name);
+    return text ? atol(text) : 0;
+}
+
+static int fails(void) {
+    static long left = -1;
+    if (left < 0) left = number("LINK_FAILS");
+    if (left > 0 && --left == 0) {
+        errno = ECONNRESET;
+        return 1;
+    }
+    return 0;
+}
+
+static size_t piece(size_t size) {
+    size_t most = (size_t)number("LINK_PIECE");
+    return most > 0 && most < size ? most : size;
+}
+
+int socket(int domain, int type, int protocol) {
+    int (*real)(int, int, int) = dlsym(RTLD_NEXT, "socket");
+    return fails() ? -1 : real(domain, type, protocol);
+}
+
+int bind(int fd, const struct sockaddr *address, socklen_t length) {
+    int (*real)(int, const struct sockaddr *, socklen_t) = dlsym(RTLD_NEXT, "bind");
+    return fails() ? -1 : real(fd, address, length);
+}
+
+int listen(int fd, int backlog) {
+    int (*real)(int, int) = dlsym(RTLD_NEXT, "listen");
+    return fails() ? -1 : real(fd, backlog);
+}
+
+int accept4(int fd, struct sockaddr *address, socklen_t *length, int flags) {
+    int (*real)(int, struct sockaddr *, socklen_t *, int) = dlsym(RTLD_NEXT, "accept4");
+    return fails() ? -1 : real(fd, address, length, flags);
+}
+
+int connect(int fd, const struct sockaddr *address, socklen_t length) {
+    int (*real)(int, const struct sockaddr *, socklen_t) = dlsym(RTLD_NEXT, "connect");
+    return fails() ? -1 : real(fd, address, length);
+}
+
+ssize_t recv(int fd, void *bytes, size_t size, int flags) {
+    ssize_t (*real)(int, void *, size_t, int) = dlsym(RTLD_NEXT, "recv");
+    return fails() ? -1 : real(fd, bytes, piece(size), flags);
+}
+
+ssize_t send(int fd, const void *bytes, size_t size, int flags) {
+    ssize_t (*real)(int, const void *, size_t, int) = dlsym(RTLD_NEXT, "send");
+    return fails() ? -1 : real(fd, bytes, piece(size), flags);
+}
