@@ -1,0 +1,29 @@
+#!/usr/bin/env bash
+# Thousands of schedules at random, run by `run_schedule` and counted in Python (schedules.py): the same worlds. No command
+# runs a schedule: in a copy of the crates, schedules.source is compiled as a program over them.
+root=$(cd "$(dirname "$0")/.." && pwd)
+copy=$(mktemp -d) || exit 1
+trap 'rm -rf "$copy"' EXIT
+cp "$root/HANDLES" "$copy"
+{
+    grep -E '^(mseed_time|mseed_record|mseed_stream|slink_wire|slink_feed):' "$root/crates.txt"
+    echo 'schedules: slink_feed slink_wire mseed_stream'
+} > "$copy/crates.txt"
+for crate in mseed_time mseed_record mseed_stream slink_wire slink_feed; do
+    mkdir -p "$copy/crates/$crate"
+    cp -r "$root/crates/$crate/src" "$root/crates/$crate/specs" "$root/crates/$crate/proofs" "$copy/crates/$crate"
+done
+mkdir -p "$copy/crates/schedules/src"
+cp "$root/tests/schedules.source" "$copy/crates/schedules/src/main.rt"
+cd "$copy/crates/schedules" || exit 1
+count=3000
+python3 "$root/tests/schedules.py" "$count" ../../schedules ../../wanted || exit 1
+rt try --seconds 300 --steps 100000000000 < ../../schedules > ../../worlds 2> ../../log
+if cmp ../../worlds ../../wanted; then
+    echo "$count schedules lead to the worlds that are counted"
+    echo "1 passed, 0 failed"
+else
+    tail -n 5 ../../log
+    echo "0 passed, 1 failed"
+    exit 1
+fi
