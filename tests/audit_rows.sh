@@ -35,6 +35,8 @@ archives = {
     "alternating": [FIRST, record(**BHN), SILENT, NEXT, next_record(**BHN)],
     "keys": [record(codes=codes) for codes in [b"AAA  00BHZBB", b"ZZZ  10BHEAA", b"ZZZ  00BHZAA", b"ZZZ  00BHEAA", b"ZZ   10BHZAA"]],
     "one_name": [FIRST, next_record(codes=STA_OF_NULS)],
+    "third_faster": [FIRST, NEXT, record(second=1, fraction=6000, factor=40)],
+    "two_channels": [FIRST, next_record(**BHN)],
     "odd_codes": [record(codes=b"S\0A \0 0\x7fH\xff~!")],
     "qualities": [FIRST, next_record(quality=b"R"), record(second=1, fraction=6000, quality=b"Q")],
     "other_broken": [record(**BHN), FIRST, record(fraction=8250, micros=1), next_record(**BHN)],
@@ -43,6 +45,7 @@ archives = {
     "silent": [SILENT],
     "day": [FIRST, next_record(year=2023, day=366)],
     "no_rate": [FIRST, next_record(factor=0)],
+    "no_rate_first": [record(factor=0)],
     "rate_100": [record(blockettes=blockette_1000() + RATE_100, data=b"\0" * 60)],
     "little_steim": [frame("01000000 00000064 00000067 00010101", 4, word_order=0)],
     "differs": [frame("01000000 00000064 00000068 00010101", 4)],
@@ -87,6 +90,9 @@ archives = {
     "many": [record(second=n * 8 // 10, fraction=n * 8 % 10 * 1000) for n in range(70)]
         + [record(minute=n // 75, second=n * 8 // 10 % 60, fraction=n * 8 % 10 * 1000) for n in range(70, 700)],
 }
+ODD_CODES = [b"S\0A \0  BHZXX", b"     00   XX", bytes(12), b"ST  A L\x7fH\xff~!", b"\x20\x21\x1f\x7e\x7f\0 \0 \0 \0"]
+for number, codes in enumerate(ODD_CODES):
+    archives[f"odd_codes_{number}"] = [record(codes=codes)]
 for cut in range(257):
     archives[f"cut_{cut}"] = [(FIRST + NEXT)[:cut]]
 for offset in range(128):
@@ -160,6 +166,12 @@ audits 'the order of channels' 0 keys "$(continuous AA_ZZ_10_BHZ 1 16)" "$(conti
     "$(continuous AA_ZZZ_00_BHZ 1 16)" "$(continuous AA_ZZZ_10_BHE 1 16)" "$(continuous BB_AAA_00_BHZ 1 16)" 'records 5 channels 5\n'
 audits 'two channels of one name' 0 one_name "$(continuous $bhz 1 16 2024-01-01T00:00:00.800000)" "$(continuous $bhz 1 16)" 'records 2 channels 2\n'
 audits 'odd codes' 0 odd_codes "$(continuous '~!_S?A_?0_?H?' 1 16)" 'records 1 channels 1\n'
+number=0
+for name in 'XX_S?A__BHZ' 'XX__00_' '___' '~!_ST??A_?L_?H?' '_?!?~?__'; do
+    audits "the name $name" 0 "odd_codes_$number" "$(continuous "$name" 1 16)" 'records 1 channels 1\n'
+    number=$((number + 1))
+done
+audits 'two channels' 0 two_channels "$(continuous XX_STA__BHN 1 16 2024-01-01T00:00:00.800000)" "$(continuous $bhz 1 16)" 'records 2 channels 2\n'
 audits 'other qualities' 0 qualities "$(continuous $bhz 3 48)" 'records 3 channels 1\n'
 audits 'one of two channels broken' 1 other_broken "$(continuous XX_STA__BHN 2 32)" \
     "$bhz broken findings 1 first record 3 offset 256 gap 25001\n" 'records 4 channels 2\n'
@@ -168,6 +180,7 @@ finds_of_one 'another encoding' encoding_4 'encoding 4'
 audits 'another encoding, and no samples' 0 silent 'records 1 channels 0\n'
 finds 'day 366 of 2023' day 'time day'
 finds 'no rate' no_rate norate
+finds_of_one 'no rate of the first' no_rate_first norate
 finds_of_one 'a blockette 100' rate_100 blockette100
 finds_of_one 'little-endian frames' little_steim littlesteim
 finds_of_one 'another last sample' differs 'lastdiffers 103 104'
@@ -180,6 +193,7 @@ finds_of_one 'a sum past 32 bits' overflow 'overflow 1'
 finds 'no time before all else' all_of_them 'time day'
 finds 'no rate before no samples' all_but_time norate
 finds 'no samples before another rate' all_but_rate 'encoding 4'
+finds_of_three 'another rate' third_faster 1 3 256 ratechange
 finds_of_three 'another rate before a gap' rate_and_gap 1 3 256 ratechange
 
 finds 'a correction' corrected 'gap 50000'
@@ -266,12 +280,25 @@ byte_finds 'encoding 255' 52
 byte_faults 'length 255' 54
 byte 0 "$two" 27 29 36 37 38 39 50 51 53 {55..127}
 
-check 'no word' 3 '' 'mseed: bad value\n' two
-check 'another word' 3 '' 'mseed: bad value\n' two unpack
-check 'an option of another command' 3 '' 'mseed: bad value\n' two audit --port 18000
-check 'two words' 3 '' 'mseed: bad value\n' two audit audit
-check 'an empty word' 3 '' 'mseed: bad value\n' two ''
-check 'a word that is not UTF-8' 3 '' 'mseed: bad value\n' two $'audit\xff'
+leaves 'an audit' 0 two audit
+leaves 'an audit with a fault' 0 late_and_cut audit
+
+# refuses NAME WORD..: other words, for which nothing is read
+refuses() {
+    check "$1" 3 '' 'mseed: bad value\n' two "${@:2}"
+    leaves "$1" 256 two "${@:2}"
+}
+
+refuses 'no word'
+refuses 'another word' unpack
+refuses 'an option of another command' audit --port 18000
+refuses 'an option and no command' --length=512
+refuses 'two words' audit audit
+refuses 'two words of another command' show show
+refuses 'a capital letter' Audit
+refuses 'a space behind' 'audit '
+refuses 'an empty word' ''
+refuses 'a word that is not UTF-8' $'audit\xff'
 
 : > output
 "$program" audit < two > /dev/full 2> errors

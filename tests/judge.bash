@@ -58,6 +58,16 @@ check_piped() {
     judge "$1, piped" is_as "$2" "$3" "$4"
 }
 
+# leaves NAME BYTES INPUT WORD..: so many bytes of the input are read by nobody
+leaves() {
+    {
+        "$program" "${@:4}" > output 2> errors
+        status=$?
+        cat > unread
+    } < "$3"
+    judge "$1, and leaves $2 bytes" [ "$(stat -c %s unread)" = "$2" ]
+}
+
 # The last line, which the gate counts.
 report() {
     echo "$passed passed, $failed failed"

@@ -1,17 +1,25 @@
-/* Put before the C library (LD_PRELOAD), it refuses one request for memory: the one whose number, from 1,
-   REFUSE gives. */
+/* Put before the C library (LD_PRELOAD), it refuses requests for memory: the one whose number, from 1, REFUSE gives;
+   that one and all behind it where REFUSE_FROM gives it; and each that would have more bytes held than HEAP gives. */
 #define _GNU_SOURCE
 #include <dlfcn.h>
 #include <errno.h>
+#include <malloc.h>
 #include <stdlib.h>
 
-static int is_refused(void) {
-    static long left = -1;
-    if (left < 0) {
-        const char *number = getenv("REFUSE");
-        left = number ? atol(number) : 0;
-    }
-    if (left > 0 && --left == 0) {
+static long requests = 0;
+static size_t held = 0;
+
+/* The number in the environment, or 0. */
+static long bound(const char *name) {
+    const char *number = getenv(name);
+    return number ? atol(number) : 0;
+}
+
+/* Whether a request is refused that would hold so many bytes in the place of so many. */
+static int is_refused(size_t size, size_t old) {
+    long one = bound("REFUSE"), from = bound("REFUSE_FROM"), heap = bound("HEAP");
+    requests += 1;
+    if (requests == one || (from > 0 && requests >= from) || (heap > 0 && held - old + size > (size_t)heap)) {
         errno = ENOMEM;
         return 1;
     }
@@ -21,11 +29,25 @@ static int is_refused(void) {
 void *malloc(size_t size) {
     static void *(*real)(size_t);
     if (!real) real = dlsym(RTLD_NEXT, "malloc");
-    return is_refused() ? NULL : real(size);
+    if (is_refused(size, 0)) return NULL;
+    void *given = real(size);
+    held += malloc_usable_size(given);
+    return given;
 }
 
 void *realloc(void *old, size_t size) {
     static void *(*real)(void *, size_t);
     if (!real) real = dlsym(RTLD_NEXT, "realloc");
-    return is_refused() ? NULL : real(old, size);
+    size_t before = malloc_usable_size(old);
+    if (is_refused(size, before)) return NULL;
+    void *given = real(old, size);
+    if (given) held = held - before + malloc_usable_size(given);
+    return given;
+}
+
+void free(void *old) {
+    static void (*real)(void *);
+    if (!real) real = dlsym(RTLD_NEXT, "free");
+    held -= malloc_usable_size(old);
+    real(old);
 }
