@@ -3,11 +3,12 @@
 # make test             the whole gate, then every test script
 # make interop          what libmseed packs, packed anew and read by libmseed (wants libmseed-dev)
 # make bench            the program side by side with libmseed (wants libmseed-dev)
+# make feed-bench       serve and fetch side by side with a pair of C programs
 
 MSEED := crates/mseed/out/mseed
 FILE ?= samples/two_records.mseed
 
-.PHONY: audit bench build interop test
+.PHONY: audit bench build feed-bench interop test
 
 audit: build
 	@$(MSEED) audit < "$(FILE)"; echo "status $$?"
@@ -27,3 +28,6 @@ interop: build
 
 bench: build
 	@python3 bench/bench.py $(MSEED)
+
+feed-bench: build
+	@python3 bench/feed.py $(MSEED)

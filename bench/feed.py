@@ -1,0 +1,110 @@
+#!/usr/bin/env python3
+"""Measures `mseed serve` and `mseed fetch` side by side with a pair of C programs that bring the same bytes over TCP.
+
+    feed.py MSEED [--rounds 7] [--megabytes 100]
+
+The pairs go in turn, round after round, every other round in reverse. For each side the user and system time and
+the peak memory are printed, and for the pair the wall time from dialling to the end: medians of the rounds. A ratio,
+C / mseed, is above 1 where mseed is faster. Wants a C compiler.
+"""
+
+import argparse
+import os
+import random
+import statistics
+import subprocess
+import sys
+import tempfile
+import time
+
+HERE = os.path.dirname(os.path.abspath(__file__))
+sys.path.insert(0, os.path.join(os.path.dirname(HERE), "tests"))
+
+from seedlink import Place, record_of  # noqa: E402
+
+FOLDER = os.path.join(tempfile.gettempdir(), "mseed-bench-of-" + str(os.getuid()))
+STA = Place("XX_STA")
+
+
+def path_of(name):
+    return os.path.join(FOLDER, name)
+
+
+def build():
+    os.makedirs(FOLDER, exist_ok=True)
+    for name in ("feed_pair", "measure"):
+        subprocess.run(["cc", "-O2", "-o", path_of(name), os.path.join(HERE, name + ".c")], check=True)
+
+
+def make_archive(megabytes):
+    """The path of an archive of one station, in records of 512 bytes."""
+    path = path_of(f"feed_{megabytes}.mseed")
+    if not os.path.exists(path):
+        with open(path, "wb") as file:
+            for index in range(megabytes * 1000000 // 512):
+                file.write(record_of(STA, index))
+    return path
+
+
+def calls(mseed, who, port, records):
+    """What the two sides are started by."""
+    if who == "C":
+        return [path_of("feed_pair"), "serve", port], [path_of("feed_pair"), "fetch", port]
+    words = ["--port", port, "--station", "STA", "--network", "XX"]
+    return [mseed, "serve", *words, "--capacity", str(records)], [mseed, "fetch", *words]
+
+
+def is_heard(port):
+    with open("/proc/net/tcp", encoding="ascii") as file:
+        lines = [line.split() for line in file]
+    return any(words[1].endswith(":%04X" % int(port)) and words[3] == "0A" for words in lines)
+
+
+def measured(call, input, output):
+    return subprocess.Popen([path_of("measure"), input, output, *call], stdout=subprocess.PIPE, text=True)
+
+
+def figures(process):
+    """User and system seconds, wall seconds, and peak memory in MiB."""
+    words = process.communicate(timeout=300)[0].split()
+    if words[5] != "0":
+        sys.exit(f"{process.args}: status {words[5]}")
+    return float(words[0]), float(words[3]), int(words[4]) / 1024
+
+
+def run(mseed, who, archive, output):
+    """The figures of both sides."""
+    port = str(random.randrange(10000, 30000))
+    serve, fetch = calls(mseed, who, port, max(200000, os.path.getsize(archive) // 512))
+    server = measured(serve, archive, "/dev/null")
+    while server.poll() is None and not is_heard(port):
+        time.sleep(0.01)
+    client = measured(fetch, "/dev/null", output)
+    return figures(client), figures(server)
+
+
+def main():
+    words = argparse.ArgumentParser(description=__doc__, formatter_class=argparse.RawDescriptionHelpFormatter)
+    words.add_argument("mseed")
+    words.add_argument("--rounds", type=int, default=7)
+    words.add_argument("--megabytes", type=int, default=100)
+    options = words.parse_args()
+    build()
+    archive = make_archive(options.megabytes)
+    rows = {"C": [], "mseed": []}
+    for turn in range(options.rounds):
+        for who in list(rows)[:: -1 if turn % 2 else 1]:
+            output = path_of(f"feed_by_{who}")
+            client, server = run(os.path.abspath(options.mseed), who, archive, output)
+            rows[who].append((server[0], server[2], client[0], client[2], client[1]))
+            if subprocess.run(["cmp", "-s", archive, output], check=False).returncode:
+                sys.exit(f"{who}: the output isn't the archive")
+    print("          serve s      MiB  fetch s      MiB   wall s")
+    for who, rounds in rows.items():
+        print(f"{who:8}" + "".join(f" {statistics.median(column):8.3f}" for column in zip(*rounds)))
+    pairs = list(zip(rows["C"], rows["mseed"]))
+    ratios = [statistics.median(one[k] / other[k] for one, other in pairs) for k in (0, 2, 4)]
+    print("times C  %8.2f          %8.2f          %8.2f" % tuple(ratios))
+
+
+main()
