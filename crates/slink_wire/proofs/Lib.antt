@@ -10,3 +10,5 @@ pub mod Said
 pub mod Worded
 pub mod Calls
 pub mod Requests
+pub mod SaidBack
+pub mod RequestLines

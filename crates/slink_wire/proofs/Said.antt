@@ -5,7 +5,7 @@ use Rattle.slink_wire.specs.declared.command.Command.TheVariants.{Hello, Station
 use Rattle.slink_wire.specs.declared.keyword.Keyword.{Keyword}
 use Rattle.slink_wire.specs.declared.keyword.Keyword.TheVariants as keyword
 use Rattle.slink_wire.specs.Hexadecimal.{SaysNumber}
-use Rattle.slink_wire.specs.Command.{IsRow, IsSaid}
+use Rattle.slink_wire.specs.Command.{IsCommand, IsRow, IsSaid, folded, words}
 use Rattle.slink_wire.specs.Place.{filled}
 use Rattle.slink_wire.specs.Parsing.{text_of}
 use Rattle.slink_wire.proofs.Digits.{says_one}
@@ -97,3 +97,6 @@ one_command ws c d (inl p) (inl q) = said_alike ws c d (one_keyword (keyword_at 
 one_command ws c d (inl p) (inr q) = absurd (q.1 c p)
 one_command ws c d (inr p) (inl q) = absurd (p.1 d q)
 one_command ws c d (inr p) (inr q) = p.0 ∙ sym q.0
+
+pub line_once : (line : List ℕ) (c d : Command) → IsCommand line c → IsCommand line d → c ≡ d
+line_once line c d p q = one_command (folded (words line)) c d p q

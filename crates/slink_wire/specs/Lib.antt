@@ -2,6 +2,7 @@ pub mod Place
 pub mod Hexadecimal
 pub mod Packet
 pub mod Lines
+pub mod Said
 pub mod Taking
 pub mod Steps
 pub mod Command

@@ -5,7 +5,7 @@ use Rattle.slink_wire.specs.declared.command.Command.TheVariants as command
 use Rattle.slink_wire.specs.declared.request.Request.{Request}
 use Rattle.slink_wire.specs.declared.request.Request.TheVariants.{Station, Data, Fetch, End}
 use Rattle.slink_wire.specs.Hexadecimal.{hexadecimal}
-use Rattle.slink_wire.specs.Place.{code_in}
+use Rattle.slink_wire.specs.Place.{IsField, code_in}
 use Rattle.slink_wire.specs.Reply.{line_end}
 
 -- a number behind a keyword
@@ -32,6 +32,13 @@ IsSpelled (Station place) = Unit {0}
 IsSpelled (Data number) = IsShort number
 IsSpelled (Fetch number) = IsShort number
 IsSpelled End = Unit {0}
+
+-- its place has the fields of codes
+abbrev pub HasPlace : Request → Type 0
+HasPlace (Station place) = IsField 5 place.station × IsField 2 place.network
+HasPlace (Data number) = Unit {0}
+HasPlace (Fetch number) = Unit {0}
+HasPlace End = Unit {0}
 
 -- the command that is read from it
 abbrev pub requested : Request → Command

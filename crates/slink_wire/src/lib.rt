@@ -16,7 +16,7 @@ mod tests;
 mod words;
 
 pub use command::Command;
-pub use law::any_pieces;
+pub use law::{any_pieces, lines_read_back, one_command, one_packet, requests_are_lines};
 pub use lines::{Lines, Took, What};
 pub use packet::{NotPacket, Packet};
 pub use place::{BadPlace, Place};

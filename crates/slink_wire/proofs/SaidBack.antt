@@ -1,0 +1,156 @@
+-- Lines that are said are spelled again, and of a front of the stream a front of them.
+use Rattle.std.proofs.Common.{◌≡◌, ℕ, ◌<◌, ◌≤◌, ◌⊎◌, inl, inr, suc, refl, sym, ap, subst, ◌∙◌, arith, Bool, true, false, not, cond, ◌==◌, nat_lt, if◌then◌else◌, List, [], ◌∷◌, ◌++◌, append-nil, append_assoc, length, length-append}
+use Rattle.std.specs.List.{list_all, onto_first, slice_split}
+use Rattle.std.proofs.lemmas.Bool.Decides.{leb_tells}
+use Rattle.std.proofs.lemmas.List.{append_cancel_left}
+use Rattle.std.proofs.lemmas.List.Folds.{list_all-append}
+use Rattle.slink_wire.specs.Lines.{Spelled, lines_of, spelled_by, stripped, too_long, unless_empty, with_piece}
+use Rattle.slink_wire.specs.Said.{AreLines, IsLine, SpellsFront, only_lines, said_bytes}
+use Rattle.slink_wire.proofs.Cuts.{Lacks, both}
+use Rattle.slink_wire.proofs.Pieces.{HasPiece, has_piece}
+
+not_true : (b : Bool) → not b ≡ true → b ≡ false
+not_true true h = absurd (let bad : false ≡ true = h in cc bad)
+not_true false h = refl
+
+choice_short : (t : Bool) (xs ys : List ℕ) (n : ℕ) → length xs ≤ n → length ys ≤ n → length (if t then xs else ys) ≤ n
+choice_short true xs ys n p q = p
+choice_short false xs ys n p q = q
+
+stripped_short : (line : List ℕ) → length (stripped line) ≤ length line
+stripped_short [] = omega arith
+stripped_short (x ∷ xs) = choice_short (x == 10) (stripped xs) (x ∷ xs) (length (x ∷ xs)) (let less : length (stripped xs) ≤ length xs = stripped_short xs in omega (arith, less)) (omega arith)
+
+not_long : (n : ℕ) → n ≤ 255 → nat_lt 255 n ≡ false
+not_long n h = elim (leb_tells 256 n) [ inl far ↦ absurd (omega (arith, far.1, h)) | inr other ↦ other.0 ]
+
+split_then : (line rest : List ℕ) → Lacks 13 line → slice_split (λ b. b == 13) (line ++ 13 ∷ rest) ≡ line ∷ slice_split (λ b. b == 13) rest
+split_then [] rest h = refl
+split_then (x ∷ xs) rest h =
+    let parts : (not (x == 13) ≡ true) × (list_all (λ b. not (b == 13)) xs ≡ true) = both (not (x == 13)) (list_all (λ b. not (b == 13)) xs) h in
+    ap (λ t. cond t ([] ∷ slice_split (λ b. b == 13) (xs ++ 13 ∷ rest)) (onto_first x (slice_split (λ b. b == 13) (xs ++ 13 ∷ rest)))) (not_true (x == 13) parts.0)
+    ∙ ap (onto_first x) (split_then xs rest parts.1)
+
+split_none : (line : List ℕ) → Lacks 13 line → slice_split (λ b. b == 13) line ≡ line ∷ []
+split_none [] h = refl
+split_none (x ∷ xs) h =
+    let parts : (not (x == 13) ≡ true) × (list_all (λ b. not (b == 13)) xs ≡ true) = both (not (x == 13)) (list_all (λ b. not (b == 13)) xs) h in
+    ap (λ t. cond t ([] ∷ slice_split (λ b. b == 13) xs) (onto_first x (slice_split (λ b. b == 13) xs))) (not_true (x == 13) parts.0)
+    ∙ ap (onto_first x) (split_none xs parts.1)
+
+-- before these lines
+abbrev behind : List ℕ → Spelled → Spelled
+behind line s = record s { lines = line ∷ s.lines }
+
+line_first : (line : List ℕ) (s : Spelled) → 0 < length line → record s { lines = unless_empty line ++ s.lines } ≡ behind line s
+line_first [] s some = absurd (omega (arith, some))
+line_first (x ∷ xs) s some = refl
+
+line_spelled : (line : List ℕ) (ps : List (List ℕ)) → HasPiece ps → IsLine line → spelled_by (line ∷ ps) ≡ behind line (spelled_by ps)
+line_spelled line [] has is = absurd has
+line_spelled line (p ∷ ps) has is =
+    ap (λ l. if nat_lt 255 (length l) then too_long else with_piece l (p ∷ ps) (spelled_by (p ∷ ps))) (is.no_lf)
+    ∙ (ap (λ t. if t then too_long else with_piece line (p ∷ ps) (spelled_by (p ∷ ps))) (not_long (length line) is.short) ∙ line_first line (spelled_by (p ∷ ps)) is.some)
+
+-- a line, and what is behind its CR
+lines_then : (line rest : List ℕ) → IsLine line → lines_of (line ++ 13 ∷ rest) ≡ behind line (lines_of rest)
+unfolding lines_of
+lines_then line rest is = ap spelled_by (split_then line rest is.no_cr) ∙ line_spelled line (slice_split (λ b. b == 13) rest) (has_piece (λ b. b == 13) rest) is
+
+lf_spelled : (ps : List (List ℕ)) → HasPiece ps → spelled_by (onto_first 10 ps) ≡ spelled_by ps
+lf_spelled [] has = absurd has
+lf_spelled (p ∷ []) has = refl
+lf_spelled (p ∷ q ∷ ps) has = refl
+
+lines_lf : (rest : List ℕ) → lines_of (10 ∷ rest) ≡ lines_of rest
+unfolding lines_of
+lines_lf rest = lf_spelled (slice_split (λ b. b == 13) rest) (has_piece (λ b. b == 13) rest)
+
+-- no line is told, and none is too long
+abbrev Quiet : List ℕ → Type 0
+Quiet bytes = ((lines_of bytes).lines ≡ []) × ((lines_of bytes).is_too_long ≡ false)
+
+part_spelled : (t : Bool) (piece : List ℕ) (s : Spelled) → t ≡ false → s ≡ (if t then too_long else with_piece piece [] (spelled_by [])) → (s.lines ≡ []) × (s.is_too_long ≡ false)
+part_spelled true piece s fails is = absurd (let bad : true ≡ false = fails in cc bad)
+part_spelled false piece s fails is = (ap (λ (x : Spelled). x.lines) is, ap (λ (x : Spelled). x.is_too_long) is)
+
+part_quiet : (part : List ℕ) → Lacks 13 part → length part ≤ 255 → Quiet part
+unfolding lines_of
+part_quiet part lacks short =
+    part_spelled (nat_lt 255 (length (stripped part))) (stripped part) (lines_of part) (not_long (length (stripped part)) (let less : length (stripped part) ≤ length part = stripped_short part in omega (arith, less, short))) (ap spelled_by (split_none part lacks))
+
+none_quiet : Quiet []
+none_quiet = part_quiet [] refl (omega arith)
+
+none_told : (bytes : List ℕ) (lines : List (List ℕ)) → Quiet bytes → SpellsFront bytes lines
+none_told bytes lines quiet = (0, omega arith, quiet.0, quiet.1)
+
+-- of two fronts of a list, one goes on with the other
+abbrev Further : List ℕ → List ℕ → Type 0
+Further a b = (z : List ℕ) × (b ≡ a ++ z)
+
+pub fronts : (a b x y : List ℕ) → a ++ x ≡ b ++ y → Further a b ⊎ Further b a
+fronts [] b x y e = inl (b, refl)
+fronts (p ∷ a) [] x y e = inr (p ∷ a, refl)
+fronts (p ∷ a) (q ∷ b) x y e =
+    let heads : p ≡ q = cc in
+    let tails : a ++ x ≡ b ++ y = cc in
+    elim (fronts a b x y tails) [
+      | inl more ↦ inl (more.0, ap (λ h. h ∷ b) (sym heads) ∙ ap (λ t. p ∷ t) more.1)
+      | inr more ↦ inr (more.0, ap (λ h. h ∷ a) heads ∙ ap (λ t. q ∷ t) more.1)
+    ]
+
+one_told : (line rest : List ℕ) (lines : List (List ℕ)) → IsLine line → SpellsFront rest lines → SpellsFront (line ++ 13 ∷ rest) (line ∷ lines)
+one_told line rest lines is told = (
+  suc told.0,
+  omega (arith, told.1),
+  ap (λ (s : Spelled). s.lines) (lines_then line rest is) ∙ ap (λ ls. line ∷ ls) told.2,
+  ap (λ (s : Spelled). s.is_too_long) (lines_then line rest is) ∙ told.3,
+)
+
+lacks_front : (t z : List ℕ) → Lacks 13 (t ++ z) → Lacks 13 t
+lacks_front t z h = (both (list_all (λ b. not (b == 13)) t) (list_all (λ b. not (b == 13)) z) (sym (list_all-append (λ b. not (b == 13)) t z) ∙ h)).0
+
+front_told : (line t z : List ℕ) (lines : List (List ℕ)) → IsLine line → line ≡ t ++ z → SpellsFront t lines
+front_told line t z lines is e =
+    none_told t lines (part_quiet t (lacks_front t z (subst (Lacks 13) e is.no_cr)) (let long : length line ≡ length (t ++ z) = ap length e in omega (arith, long, length-append t z, is.short)))
+
+-- what stands behind a line's CR
+behind_told : (z w rest : List ℕ) (lines : List (List ℕ)) → z ++ w ≡ 10 ∷ rest → ((u : List ℕ) → u ++ w ≡ rest → SpellsFront u lines) → SpellsFront z lines
+behind_told [] w rest lines e more = none_told [] lines none_quiet
+behind_told (x ∷ u) w rest lines e more =
+    let first : x ≡ 10 = cc e in
+    let others : u ++ w ≡ rest = cc e in
+    let told : SpellsFront u lines = more u others in
+    subst (λ b. SpellsFront (b ∷ u) lines) (sym first) (told.0, told.1, ap (λ (s : Spelled). s.lines) (lines_lf u) ∙ told.2, ap (λ (s : Spelled). s.is_too_long) (lines_lf u) ∙ told.3)
+
+ended_told : (line t z w rest : List ℕ) (lines : List (List ℕ)) → IsLine line → t ≡ line ++ z → z ++ w ≡ 13 ∷ 10 ∷ rest → ((u : List ℕ) → u ++ w ≡ rest → SpellsFront u lines) → SpellsFront t (line ∷ lines)
+ended_told line t [] w rest lines is e left more = front_told line t [] (line ∷ lines) is (let same : t ≡ line = e ∙ append-nil line in sym same ∙ sym (append-nil t))
+ended_told line t (x ∷ z) w rest lines is e left more =
+    let first : x ≡ 13 = cc left in
+    let others : z ++ w ≡ 10 ∷ rest = cc left in
+    subst (λ b. SpellsFront b (line ∷ lines)) (sym (e ∙ ap (λ b. line ++ b ∷ z) first)) (one_told line z lines is (behind_told z w rest lines others more))
+
+pub nothing_left : (t w : List ℕ) → t ++ w ≡ [] → t ≡ []
+nothing_left [] w e = refl
+nothing_left (x ∷ t) w e = absurd (let bad : x ∷ (t ++ w) ≡ [] = e in cc bad)
+
+-- of a front of the lines' bytes
+pub front_spelled : (lines : List (List ℕ)) (t w : List ℕ) → AreLines lines → t ++ w ≡ said_bytes lines → SpellsFront t lines
+front_spelled [] t w are e = subst (λ b. SpellsFront b []) (sym (nothing_left t w e)) (none_told [] [] none_quiet)
+front_spelled (line ∷ lines) t w are e = elim (fronts t line w (13 ∷ 10 ∷ said_bytes lines) e) [
+  | inl more ↦ front_told line t more.0 (line ∷ lines) are.0 more.1
+  | inr more ↦ ended_told line t more.0 w (said_bytes lines) lines are.0 more.1
+      (append_cancel_left line (more.0 ++ w) (13 ∷ 10 ∷ said_bytes lines) (sym (append_assoc line more.0 w) ∙ (ap (λ b. b ++ w) (sym more.1) ∙ e)))
+      (λ u same. front_spelled lines u w are.1 same)
+]
+
+none_spelled : lines_of [] ≡ only_lines []
+unfolding lines_of
+none_spelled = refl
+
+-- of all of their bytes
+pub whole_spelled : (lines : List (List ℕ)) → AreLines lines → lines_of (said_bytes lines) ≡ only_lines lines
+whole_spelled [] are = none_spelled
+whole_spelled (line ∷ lines) are =
+    lines_then line (10 ∷ said_bytes lines) are.0 ∙ (ap (behind line) (lines_lf (said_bytes lines)) ∙ ap (behind line) (whole_spelled lines are.1))
