@@ -1,13 +1,14 @@
 -- Lines that are said are spelled again, and of a front of the stream a front of them.
-use Rattle.std.proofs.Common.{◌≡◌, ℕ, ◌<◌, ◌≤◌, ◌⊎◌, inl, inr, suc, refl, sym, ap, subst, ◌∙◌, arith, Bool, true, false, not, cond, ◌==◌, nat_lt, if◌then◌else◌, List, [], ◌∷◌, ◌++◌, append-nil, append_assoc, length, length-append}
+use Rattle.std.proofs.Common.{◌≡◌, ℕ, ◌<◌, ◌≤◌, ◌⊎◌, inl, inr, suc, refl, sym, ap, subst, ◌∙◌, arith, Bool, true, false, not, cond, ◌==◌, ◌&&◌, nat_lt, if◌then◌else◌, List, [], ◌∷◌, ◌++◌, append-nil, append_assoc, length, length-append}
 use Rattle.std.specs.List.{list_all, onto_first, slice_split}
-use Rattle.std.proofs.lemmas.Bool.Decides.{leb_tells}
+use Rattle.std.proofs.lemmas.Bool.Decides.{eqb_tells, leb_tells}
 use Rattle.std.proofs.lemmas.List.{append_cancel_left}
 use Rattle.std.proofs.lemmas.List.Folds.{list_all-append}
 use Rattle.slink_wire.specs.Lines.{Spelled, lines_of, spelled_by, stripped, too_long, unless_empty, with_piece}
 use Rattle.slink_wire.specs.Said.{AreLines, IsLine, SpellsFront, only_lines, said_bytes}
 use Rattle.slink_wire.proofs.Cuts.{Lacks, both}
 use Rattle.slink_wire.proofs.Pieces.{HasPiece, has_piece}
+use Rattle.slink_wire.proofs.Spelled.{fits_of}
 
 not_true : (b : Bool) → not b ≡ true → b ≡ false
 not_true true h = absurd (let bad : false ≡ true = h in cc bad)
@@ -154,3 +155,55 @@ pub whole_spelled : (lines : List (List ℕ)) → AreLines lines → lines_of (s
 whole_spelled [] are = none_spelled
 whole_spelled (line ∷ lines) are =
     lines_then line (10 ∷ said_bytes lines) are.0 ∙ (ap (behind line) (lines_lf (said_bytes lines)) ∙ ap (behind line) (whole_spelled lines are.1))
+
+-- each line that is spelled is one that a stream has as it stands
+choice_lacks : (t : Bool) (xs ys : List ℕ) → Lacks 13 xs → Lacks 13 ys → Lacks 13 (if t then xs else ys)
+choice_lacks true xs ys p q = p
+choice_lacks false xs ys p q = q
+
+stripped_lacks : (piece : List ℕ) → Lacks 13 piece → Lacks 13 (stripped piece)
+stripped_lacks [] h = refl
+stripped_lacks (x ∷ xs) h =
+    let parts : (not (x == 13) ≡ true) × (list_all (λ b. not (b == 13)) xs ≡ true) = both (not (x == 13)) (list_all (λ b. not (b == 13)) xs) h in
+    choice_lacks (x == 10) (stripped xs) (x ∷ xs) (stripped_lacks xs parts.1) h
+
+stripped_twice : (piece : List ℕ) → stripped (stripped piece) ≡ stripped piece
+stripped_twice [] = refl
+stripped_twice (x ∷ xs) = elim (eqb_tells x 10) [
+  | inl lf ↦ ap (λ t. stripped (if t then stripped xs else x ∷ xs)) lf.0 ∙ (stripped_twice xs ∙ ap (λ t. if t then stripped xs else x ∷ xs) (sym lf.0))
+  | inr other ↦ ap (λ t. stripped (if t then stripped xs else x ∷ xs)) other.0
+]
+
+abbrev AllLack : List (List ℕ) → Type 0
+AllLack [] = Unit {0}
+AllLack (piece ∷ pieces) = Lacks 13 piece × AllLack pieces
+
+onto_lacks : (x : ℕ) (ps : List (List ℕ)) → not (x == 13) ≡ true → AllLack ps → AllLack (onto_first x ps)
+onto_lacks x [] h all = (ap (λ t. t && true) h, tt)
+onto_lacks x (p ∷ ps) h all = (ap (λ t. t && list_all (λ b. not (b == 13)) p) h ∙ all.0, all.1)
+
+pieces_lack : (xs : List ℕ) → AllLack (slice_split (λ b. b == 13) xs)
+pieces_lack [] = (refl, tt)
+pieces_lack (x ∷ xs) = elim (x == 13) as (λ t. (x == 13) ≡ t → AllLack (cond t ([] ∷ slice_split (λ b. b == 13) xs) (onto_first x (slice_split (λ b. b == 13) xs)))) [
+  | true ↦ λ e. (refl, pieces_lack xs)
+  | false ↦ λ e. onto_lacks x (slice_split (λ b. b == 13) xs) (ap not e) (pieces_lack xs)
+] refl
+
+unless_lines : (piece : List ℕ) (lines : List (List ℕ)) → length piece ≤ 255 → Lacks 13 piece → stripped piece ≡ piece → AreLines lines → AreLines (unless_empty piece ++ lines)
+unless_lines [] lines short lacks same are = are
+unless_lines (b ∷ bs) lines short lacks same are = (record { some = omega arith; short = short; no_cr = lacks; no_lf = same }, are)
+
+first_lines : (t : Bool) (piece : List ℕ) (others : List (List ℕ)) (rest : Spelled) → (t ≡ false → length piece ≤ 255) → Lacks 13 piece → stripped piece ≡ piece → AreLines rest.lines
+    → AreLines (if t then too_long else with_piece piece others rest).lines
+first_lines true piece others rest fits lacks same are = tt
+first_lines false piece [] rest fits lacks same are = tt
+first_lines false piece (other ∷ others) rest fits lacks same are = unless_lines piece rest.lines (fits refl) lacks same are
+
+pieces_lines : (pieces : List (List ℕ)) → AllLack pieces → AreLines (spelled_by pieces).lines
+pieces_lines [] all = tt
+pieces_lines (piece ∷ others) all =
+    first_lines (nat_lt 255 (length (stripped piece))) (stripped piece) others (spelled_by others) (fits_of (length (stripped piece))) (stripped_lacks piece all.0) (stripped_twice piece) (pieces_lines others all.1)
+
+pub spelled_lines : (stream : List ℕ) → AreLines (lines_of stream).lines
+unfolding lines_of
+spelled_lines stream = pieces_lines (slice_split (λ b. b == 13) stream) (pieces_lack stream)

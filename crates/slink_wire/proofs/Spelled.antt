@@ -140,7 +140,7 @@ lines_byte stream b n =
     let not_cr : (b == 13) ≡ false = elim (eqb_tells b 13) [ inl same ↦ absurd (n same.1) | inr other ↦ other.0 ] in
     ap spelled_by (split_on (λ x. x == 13) stream b not_cr) ∙ spelled_byte_of b (slice_split (λ x. x == 13) stream) (has_piece (λ x. x == 13) stream)
 
-fits_of : (n : ℕ) → nat_lt 255 n ≡ false → n ≤ 255
+pub fits_of : (n : ℕ) → nat_lt 255 n ≡ false → n ≤ 255
 fits_of n h = elim (leb_tells 256 n) [ inl far ↦ absurd (let e : true ≡ false = sym far.0 ∙ h in cc e) | inr other ↦ omega (arith, other.1) ]
 
 begun_cases : (t : Bool) (piece : List ℕ) (others : List (List ℕ)) (rest : Spelled) → (t ≡ false → length piece ≤ 255) → IsStripped piece → IsStripped rest.begun × (length rest.begun ≤ 255)

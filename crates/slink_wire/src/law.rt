@@ -17,12 +17,14 @@ pub fn any_pieces()
         → lines_in a ≡ lines_in b }
 {}
 
-/// Lines that are said, each with CR LF, are what the stream spells; a front of the stream spells a front of them.
-#[tactic(auto, using(crate::proofs::SaidBack::whole_spelled, crate::proofs::SaidBack::front_spelled))]
+/// Lines that are said, each with CR LF, are what the stream spells; a front of the stream spells a front of them. Each
+/// line that any stream spells can be said so.
+#[tactic(auto, using(crate::proofs::SaidBack::whole_spelled, crate::proofs::SaidBack::front_spelled, crate::proofs::SaidBack::spelled_lines))]
 pub fn lines_read_back()
     ensures whole { (lines : List (List ℕ)) → AreLines lines → lines_of (said_bytes lines) ≡ only_lines lines }
     ensures front { (lines : List (List ℕ)) (stream rest : List ℕ) → AreLines lines
         → stream ++ rest ≡ said_bytes lines → SpellsFront stream lines }
+    ensures lines { (stream : List ℕ) → AreLines (lines_of stream).lines }
 {}
 
 /// The line of a request stands in a stream as it is, and is its command.
