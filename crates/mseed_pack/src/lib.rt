@@ -23,5 +23,5 @@ pub use law::{
     one_misfit, one_packing, reads_back,
 };
 pub use options::{BadOption, Encoding, Options};
-pub use packing::{pack, pack_view};
+pub use packing::{pack, pack_fitting, pack_view};
 pub use series_view::SeriesView;

@@ -99,8 +99,16 @@ fn pack_if_fit<W: Sink>(
     }
 }
 
-/// Packs a series that fits. The error is how many bytes the sink took before it failed.
-fn pack_fitting<W: Sink>(series: &SeriesView, options: &Options, sink: &mut W) -> Result<u64, u128>
+/// [`pack_view`] of a series that is known to fit, as [`fit_view`] says: nothing is asked of it again.
+///
+/// # Errors
+///
+/// How many bytes the sink took before it failed.
+pub fn pack_fitting<W: Sink>(
+    series: &SeriesView,
+    options: &Options,
+    sink: &mut W,
+) -> Result<u64, u128>
     requires fits { Fits (trace_of series.now) options.now }
     requires steps { AreSteps (length series.now.samples.now) series.now.steps.now }
     ensures ok { IfOk result (λ count.
