@@ -1,8 +1,9 @@
 -- Differences side by side in a word.
-use Rattle.std.proofs.Common.{◌≡◌, ℕ, zero, suc, ◌+◌, ◌-◌, ◌*◌, ◌/◌, ◌%◌, ◌^◌, ◌<◌, ◌≤◌, List, [], ◌∷◌, ◌++◌, length, take, get_or, ℤ, pos, negsuc, arith, refl, ap, sym, ◌∙◌, length-append, bit_and, bit_or, Fits, w32, of_z, FitsSigned, lit<, zero-add}
-use Rattle.std.proofs.Math.Nat.{pow-le-pow_right, mod-eq_of_lt, mul-le-mul_left, add-mul, mul-zero}
+use Rattle.std.proofs.Common.{◌≡◌, ℕ, zero, suc, ◌+◌, ◌-◌, ◌*◌, ◌/◌, ◌%◌, ◌^◌, ◌<◌, ◌≤◌, List, [], ◌∷◌, ◌++◌, length, take, get_or, ℤ, pos, negsuc, arith, refl, ap, sym, ⊎_elim, if◌then◌else◌, nat_lt, ◌∙◌, length-append, bit_and, bit_or, Fits, w32, of_z, FitsSigned, lit<, zero-add}
+use Rattle.std.proofs.Math.Nat.{pow-le-pow_right, mod-eq_of_lt, mul-le-mul_left, add-mul, mul-add, mul_assoc, mul-suc, mul-zero}
 use Rattle.std.proofs.lemmas.Nat.{one_shl, and_mask, or_shifted, pow_pos, pow-add, shl_whole, shr_below, mod_below, mod_low, div-add-mod'}
-use Rattle.std.proofs.lemmas.List.{take_more, length-take}
+use Rattle.std.proofs.lemmas.Bool.{cases_lt, lt-ltb, le-ltb}
+use Rattle.std.proofs.lemmas.List.{take_more, take_all, length-take, length-take-le, get_or-take}
 use Rattle.mseed_steim.specs.Spelling.{residue, positional}
 use Rattle.mseed_steim.proofs.Words.{positional_lt, residue_lt}
 
@@ -57,6 +58,81 @@ joined_more w ds i word digit p n h less e f q =
     let digit_is : digit % 2 ^ w ≡ residue (2 ^ w) (get_or ds i (pos 0)) = ap (λ (x : ℕ). x % 2 ^ w) q ∙ digit_of w (get_or ds i (pos 0)) n f in
     let low : residue (2 ^ w) (get_or ds i (pos 0)) < 2 ^ w = residue_lt (2 ^ w) (get_or ds i (pos 0)) (pow_pos w) in
     rw (one, shifted, and_mask, digit_is, or_shifted word w (residue (2 ^ w) (get_or ds i (pos 0))) low, take_more ds i (pos 0) less, positional_push w (take i ds) (get_or ds i (pos 0)), e) refl
+
+-- The first i of c differences have been joined, each for what it counts in the whole.
+abbrev pub Placed : ℕ → ℕ → List ℤ → ℕ → ℕ → Type 0
+Placed w c ds i word = word ≡ positional w (take i (take c ds)) * 2 ^ (w * (c - i))
+
+pub placed_none : (w c : ℕ) (ds : List ℤ) → Placed w c ds 0 0
+placed_none w c ds = omega arith
+
+-- the low bits of a number, as many as a mask has
+pub mask_is : (w : ℕ) → w ≤ 32 → 1 * 2 ^ w % 2 ^ 64 - 1 ≡ 2 ^ w - 1
+mask_is w n = ap (λ (x : ℕ). x - 1) (one_shl w 64 (omega (arith, n)))
+
+-- one that is of the word
+placed_more : (w c i : ℕ) (ds : List ℤ) (word digit : ℕ) → 0 < w → w ≤ 32 → w * c ≤ 32 → c ≤ length ds → i < c → Placed w c ds i word → FitsSigned w32 (get_or ds i (pos 0)) → digit ≡ of_z w32 (get_or ds i (pos 0))
+    → Placed w c ds (i + 1) ((word + digit % 2 ^ w * 2 ^ (w * (c - 1 - i)) % 2 ^ 32) % 2 ^ 32)
+placed_more w c i ds word digit p n room inside less e f q =
+    let front = take c ds in
+    let d = get_or ds i (pos 0) in
+    let r = residue (2 ^ w) d in
+    let before = positional w (take i front) in
+    let rest = w * (c - 1 - i) in
+    let long : length front ≡ c = length-take-le c ds inside in
+    let same : get_or front i (pos 0) ≡ d = get_or-take c ds i (pos 0) less in
+    let digit_is : digit % 2 ^ w ≡ r = ap (λ (x : ℕ). x % 2 ^ w) q ∙ digit_of w d n f in
+    let low : r < 2 ^ w = residue_lt (2 ^ w) d (pow_pos w) in
+    let grown : positional w (take (i + 1) front) ≡ before * 2 ^ w + r =
+    ap (λ (l : List ℤ). positional w l) (take_more front i (pos 0) (omega (arith, long, less)) ∙ ap (λ (z : ℤ). take i front ++ z ∷ []) same) ∙ positional_push w (take i front) d in
+    let step : c - i ≡ suc (c - 1 - i) = omega (arith, less) in
+    let bits : w * (c - i) ≡ w + rest = ap (λ (x : ℕ). w * x) step ∙ mul-suc w (c - 1 - i) ∙ omega arith in
+    let power : 2 ^ (w * (c - i)) ≡ 2 ^ w * 2 ^ rest = ap (λ (x : ℕ). 2 ^ x) bits ∙ pow-add 2 w rest in
+    let over : before * (2 ^ w * 2 ^ rest) ≡ before * 2 ^ w * 2 ^ rest = sym (mul_assoc before (2 ^ w) (2 ^ rest)) in
+    let whole : (before * 2 ^ w + r) * 2 ^ rest ≡ before * 2 ^ w * 2 ^ rest + r * 2 ^ rest = add-mul (before * 2 ^ w) r (2 ^ rest) in
+    let word_is : word ≡ before * 2 ^ w * 2 ^ rest = e ∙ ap (λ (x : ℕ). before * x) power ∙ over in
+    let count : length (take (i + 1) front) ≡ i + 1 = length-take-le (i + 1) front (omega (arith, long, less)) in
+    let small : positional w (take (i + 1) front) < 2 ^ (w * (i + 1)) = rw count at (positional_lt w (take (i + 1) front)) in
+    let all : w * (i + 1) + rest ≡ w * c = sym (mul-add w (i + 1) (c - 1 - i)) ∙ ap (λ (x : ℕ). w * x) (omega (arith, less)) in
+    let fits : positional w (take (i + 1) front) * 2 ^ rest % 2 ^ 32 ≡ positional w (take (i + 1) front) * 2 ^ rest = shl_whole (positional w (take (i + 1) front)) (w * (i + 1)) rest 32 small (omega (arith, all, room)) in
+    let one : r * 2 ^ rest % 2 ^ 32 ≡ r * 2 ^ rest = shl_whole r w rest 32 low (omega (arith, bits, all, room, step, mul-le-mul_left w (i_most i c less))) in
+    let left : c - (i + 1) ≡ c - 1 - i = omega arith in
+    rw (digit_is, one, word_is, left, ← whole, ← grown) fits
+  where
+    i_most : (i c : ℕ) → i < c → c - i ≤ c
+    i_most i c h = omega arith
+
+-- one behind them, which counts for nothing
+placed_over : (w c i : ℕ) (ds : List ℤ) (word : ℕ) → w * c ≤ 32 → c ≤ length ds → c ≤ i → Placed w c ds i word → Placed w c ds (i + 1) ((word + 0 % 2 ^ 32) % 2 ^ 32)
+placed_over w c i ds word room inside over e =
+    let front = take c ds in
+    let long : length front ≡ c = length-take-le c ds inside in
+    let here : take i front ≡ front = take_all i front (omega (arith, long, over)) in
+    let next : take (i + 1) front ≡ front = take_all (i + 1) front (omega (arith, long, over)) in
+    let none : c - i ≡ 0 = omega (arith, over) in
+    let none_left : c - (i + 1) ≡ 0 = omega (arith, over) in
+    let one : 2 ^ (w * 0) ≡ 1 = ap (λ n. 2 ^ n) (mul-zero w) in
+    let word_is : word ≡ positional w front = e ∙ rw (here, none, one) (omega arith) in
+    let bits : w * length front ≤ 32 = rw long room in
+    let most : 2 ^ (w * length front) ≤ 2 ^ 32 = pow-le-pow_right (lit< tt) bits in
+    let short : positional w front < 2 ^ 32 = omega (arith, positional_lt w front, most) in
+    rw (next, none_left, one, word_is) (omega (arith, short))
+
+pub placed_next : (w c i : ℕ) (ds : List ℤ) (word digit mask place : ℕ) → 0 < w → w ≤ 32 → w * c ≤ 32 → c ≤ length ds → Placed w c ds i word → FitsSigned w32 (get_or ds i (pos 0)) → digit ≡ of_z w32 (get_or ds i (pos 0))
+    → mask ≡ 2 ^ w - 1 → place ≡ (if nat_lt i c then 2 ^ (w * (c - 1 - i)) else 0) → Placed w c ds (i + 1) ((word + bit_and digit mask * place % 2 ^ 32) % 2 ^ 32)
+placed_next w c i ds word digit mask place p n room inside e f q m h = ⊎_elim
+    (λ (less : i < c). rw (m, and_mask, h, lt-ltb i c less) (placed_more w c i ds word digit p n room inside less e f q))
+    (λ (over : c ≤ i). rw (h, le-ltb i c over, mul-zero (bit_and digit mask)) (placed_over w c i ds word room inside over e))
+    (cases_lt i c)
+
+-- all of them have been joined
+pub placed_all : (w c : ℕ) (ds : List ℤ) (i word : ℕ) → c ≤ i → Placed w c ds i word → word ≡ positional w (take c ds)
+placed_all w c ds i word over e =
+    let few : length (take c ds) ≤ c = rw length-take (omega arith) in
+    let here : take i (take c ds) ≡ take c ds = take_all i (take c ds) (omega (arith, few, over)) in
+    let none : c - i ≡ 0 = omega (arith, over) in
+    let one : 2 ^ (w * 0) ≡ 1 = ap (λ n. 2 ^ n) (mul-zero w) in
+    e ∙ rw (here, none, one) (omega arith)
 
 or_zero : (n : ℕ) → bit_or (0 * 1073741824 % 4294967296) n ≡ 0 * 1073741824 + n
 or_zero n = sym (zero-add n)

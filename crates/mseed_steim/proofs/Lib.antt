@@ -28,6 +28,7 @@ pub mod FrameItems
 pub mod Rows
 pub mod Widths
 pub mod Joins
+pub mod Places
 pub mod Fullest
 pub mod Packs
 pub mod Fewest

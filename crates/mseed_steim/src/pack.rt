@@ -42,7 +42,7 @@ pub fn pack_word(scheme: Scheme, diffs: &[i32]) -> Result<(u8, u32, usize), TooL
         (λ _. IsTooLargeAt scheme diffs.now 0) }
 {
     match fullest_row(scheme, diffs) {
-        Some(row) => Ok((row.code, word_of(row, &diffs[..row.count]), row.count)),
+        Some(row) => Ok((row.code, word_of(scheme, row, diffs), row.count)),
         None => Err(TooLarge),
     }
 }
