@@ -5,6 +5,7 @@ pub mod Behind
 pub mod Briefly
 pub mod Calling
 pub mod Commanded
+pub mod Connected
 pub mod Deliveries
 pub mod Done
 pub mod Dues

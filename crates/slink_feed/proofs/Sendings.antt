@@ -71,7 +71,7 @@ set_here [] k o g h = absurd (let bad : None ≡ Some g = h in cc bad)
 set_here (x ∷ gs) zero o g h = refl
 set_here (x ∷ gs) (suc k) o g h = set_here gs k o g h
 
-set_other : (gs : Grants) (j k : ℕ) (o : Option Grant) → j ≢ k → grant_at (set gs j o) k ≡ grant_at gs k
+pub set_other : (gs : Grants) (j k : ℕ) (o : Option Grant) → j ≢ k → grant_at (set gs j o) k ≡ grant_at gs k
 set_other [] j k o ne = refl
 set_other (x ∷ gs) zero zero o ne = absurd (ne refl)
 set_other (x ∷ gs) zero (suc k) o ne = refl
@@ -79,7 +79,7 @@ set_other (x ∷ gs) (suc j) zero o ne = refl
 set_other (x ∷ gs) (suc j) (suc k) o ne = set_other gs j k o (λ e. ne (ap suc e))
 
 -- records are sent, or no more of them
-abbrev IsOn : Phase → Type 0
+abbrev pub IsOn : Phase → Type 0
 IsOn phase = (phase ≡ Streaming) ⊎ (phase ≡ Closed)
 
 -- A call sends no packet of the place, whose grant stays; or the one at its position, which goes on.
@@ -88,7 +88,7 @@ data Stepped (k : ℕ) (g : Grant) (feed : List Window) (place : ℕ) (x : State
   went : (w : Window) (bytes : List ℕ) → place ≡ k → x.1 ≡ Sents.Packet (packet_bytes (g.position % 2 ^ 24) bytes) → slice_get feed k ≡ Some w → record_at w g.position ≡ Some bytes
       → grant_at x.0.grants k ≡ Some (record { mode = g.mode; position = g.position + 1 }) → IsOn x.0.phase → Stepped k g feed place x
 
-none_either : (t : Bool) → ◌≡◌ {A = List (List ℕ)} (if t then [] else []) []
+pub none_either : (t : Bool) → ◌≡◌ {A = List (List ℕ)} (if t then [] else []) []
 none_either true = refl
 none_either false = refl
 
@@ -127,7 +127,7 @@ step_sent k place g feed t at_k (inl on) =
 step_sent k place g feed t at_k (inr closed) =
     subst (λ (p : Phase). Stepped k g feed place (sent_in p feed t place)) (sym closed) (quiet (none_either (place == k)) at_k (inr closed))
 
-heard_on : (s t : State) → IsHeardFrom s t → IsOn s.phase → IsOn t.phase
+pub heard_on : (s t : State) → IsHeardFrom s t → IsOn s.phase → IsOn t.phase
 heard_on s t (inl same) on = subst (λ (u : State). IsOn u.phase) (sym same) on
 heard_on s t (inr closed) on = inr (ap (λ (u : State). u.phase) closed)
 

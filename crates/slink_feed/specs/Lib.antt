@@ -26,3 +26,4 @@ pub mod Rounds
 pub mod Attending
 pub mod Replying
 pub mod Going
+pub mod Connection

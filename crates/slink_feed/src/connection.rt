@@ -1,0 +1,25 @@
+//! The laws of what the link of one session takes in its turns.
+ghost use Rattle.std.specs.Prelude.{◌≡◌, ◌++◌, List, ℕ};
+ghost use Rattle.mseed_stream.specs.Device.{IsFrontOf};
+ghost use Rattle.slink_feed.specs.Connection.{FailsInTurn, SendsStretches, TakesTurns};
+ghost use Rattle.slink_feed.specs.Rounds.{Attending, SendsAll};
+ghost use Rattle.slink_feed.specs.Running.{Stands};
+ghost use Rattle.slink_feed.specs.Ties.{IsBefore};
+ghost use Rattle.slink_feed.specs.Window.{Window};
+
+use crate::session::Phase;
+
+/// From the moment on when a session streams, what its link takes in turns, with whatever is pushed between them and
+/// whatever the link tells, are packets: those of each place with a grant are a stretch of its records from the grant on,
+/// and no other place has any. Before that moment there are none.
+pub fn turns_send_stretches()
+    ensures before { (feed : List Window) (old new : Attending) → IsBefore old.session.state.phase
+        → SendsAll feed old new → (new.session ≡ old.session) × (new.said.bytes ≡ old.said.bytes) }
+    ensures taken { (feeds : List (List Window)) (old new : Attending) → old.session.state.phase ≡ Phase.Streaming
+        → Stands old.session → TakesTurns old feeds new
+        → (bytes : List ℕ) × (new.said.bytes ≡ old.said.bytes ++ bytes) × SendsStretches feeds old.session.state bytes }
+    // Where the link failed in the last turn, it took a front of such bytes.
+    ensures failed { (feeds : List (List Window)) (old new : Attending) → old.session.state.phase ≡ Phase.Streaming
+        → Stands old.session → FailsInTurn old feeds new → (bytes front : List ℕ) × IsFrontOf front bytes
+        × (new.said.bytes ≡ old.said.bytes ++ front) × SendsStretches feeds old.session.state bytes }
+{}
