@@ -23,6 +23,8 @@ pub mod Lined
 pub mod Linked
 pub mod Numbers
 pub mod OneReading
+pub mod OneReply
+pub mod OneTurn
 pub mod OneWorld
 pub mod Outcomes
 pub mod Pieces

@@ -180,11 +180,11 @@ one_hearing f t a b bytes x y is =
     takings_same a b (seen_same a.client b.client talk kept) (p.gains ∙ (ap (λ bs. with_events f (events_of t.client.talk bs) (gained t)) one.0 ∙ sym q.gains))
 
 -- however bytes are cut, a session comes to the same
-held_same : (a b : Held) (stream : List ℕ) → IsHeld a stream → IsHeld b stream → a ≡ b
+pub held_same : (a b : Held) (stream : List ℕ) → IsHeld a stream → IsHeld b stream → a ≡ b
 held_same a b stream p q =
     ap (λ (x : List ℕ). record { begun = x; is_too_long = a.is_too_long }) (p.0 ∙ sym q.0) ∙ ap (λ (x : Bool). record { begun = b.begun; is_too_long = x }) (p.1 ∙ sym q.1)
 
-standings_same : (a b : Standing) → a.state ≡ b.state → a.held ≡ b.held → a ≡ b
+pub standings_same : (a b : Standing) → a.state ≡ b.state → a.held ≡ b.held → a ≡ b
 standings_same a b p q = ap (λ (x : State). record { state = x; held = a.held }) p ∙ ap (λ (x : Held). record { state = b.state; held = x }) q
 
 module _ (feed : List Window) (s : Standing) (bytes way rest taken : List ℕ) (held : Open s.state.phase → IsHeld s.held taken) where

@@ -1,7 +1,8 @@
 -- What the link of one session takes in its turns.
-use Rattle.std.specs.Prelude.{◌≡◌, ℕ, List, [], ◌∷◌, ◌++◌, take, Some, None, slice_get}
+use Rattle.std.specs.Prelude.{◌≡◌, ◌≢◌, ℕ, List, [], ◌∷◌, ◌++◌, take, Some, None, slice_get}
 use Rattle.mseed_stream.specs.Device.{Heard}
 use Rattle.slink_feed.specs.declared.grant.Grant.{Grant}
+use Rattle.slink_feed.specs.declared.session.Phase.TheVariants.{Closed}
 use Rattle.slink_feed.specs.declared.turn.LinkFault.{LinkFault}
 use Rattle.slink_feed.specs.declared.turn.Turn.{Turn}
 use Rattle.slink_feed.specs.Attending.{Attends, IsServeFault}
@@ -44,3 +45,11 @@ pub record SendsStretches (feeds : List (List Window)) (s : State) (bytes : List
   pub stretch : (k first : ℕ) (pushed : List (List ℕ)) (g : Grant) → grant_at s.grants k ≡ Some g
       → ShowPushed k first pushed feeds → IsStretch first pushed g.position (packets_of k asked)
   pub none : (k : ℕ) → grant_at s.grants k ≡ None → packets_of k asked ≡ []
+
+-- Two turns came to the same: the session stands so, and the link took the same bytes. What a session holds that is
+-- closed tells nothing.
+pub record AreAlike (a b : Attending) : Type 0 where
+  pub state : a.session.state ≡ b.session.state
+  pub held : a.session.state.phase ≢ Closed → a.session.held ≡ b.session.held
+  pub bytes : a.said.bytes ≡ b.said.bytes
+  pub failures : a.said.failures ≡ b.said.failures

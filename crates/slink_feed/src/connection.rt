@@ -1,13 +1,28 @@
 //! The laws of what the link of one session takes in its turns.
 ghost use Rattle.std.specs.Prelude.{◌≡◌, ◌++◌, List, ℕ};
-ghost use Rattle.mseed_stream.specs.Device.{IsFrontOf};
-ghost use Rattle.slink_feed.specs.Connection.{FailsInTurn, SendsStretches, TakesTurns};
-ghost use Rattle.slink_feed.specs.Rounds.{Attending, SendsAll};
+ghost use Rattle.mseed_stream.specs.Device.{Heard, IsFrontOf};
+ghost use Rattle.slink_feed.specs.declared.turn.Turn.{Turn};
+ghost use Rattle.slink_feed.specs.Attending.{Attends};
+ghost use Rattle.slink_feed.specs.Connection.{AreAlike, FailsInTurn, SendsStretches, TakesTurns};
+ghost use Rattle.slink_feed.specs.Rounds.{Attending, FailsToSend, SendsAll};
 ghost use Rattle.slink_feed.specs.Running.{Stands};
 ghost use Rattle.slink_feed.specs.Ties.{IsBefore};
 ghost use Rattle.slink_feed.specs.Window.{Window};
 
 use crate::session::Phase;
+
+/// A turn of a session with its link comes to one thing: what the session comes to, which bytes the link takes and what
+/// the turn is are determined by the session, by its feed, and by what the link told.
+pub fn one_turn()
+    ensures turn { (feed : List Window) (old a b : Attending) (before after : Heard) (t u : Turn) → Stands old.session
+        → Attends feed old a before after t → Attends feed old b before after u → (t ≡ u) × AreAlike a b }
+    // So are the rounds in which it sends what is due.
+    ensures rounds { (feed : List Window) (old a b : Attending) → SendsAll feed old a → SendsAll feed old b
+        → AreAlike a b }
+    // Where the link fails in them, what it took is determined by how many bytes these were.
+    ensures failed { (feed : List Window) (old a b : Attending) (count : ℕ) → FailsToSend feed old a count
+        → FailsToSend feed old b count → AreAlike a b }
+{}
 
 /// From the moment on when a session streams, what its link takes in turns, with whatever is pushed between them and
 /// whatever the link tells, are packets: those of each place with a grant are a stretch of its records from the grant on,

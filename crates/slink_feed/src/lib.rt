@@ -23,7 +23,7 @@ mod turn;
 mod world;
 
 pub use client::Client;
-pub use connection::turns_send_stretches;
+pub use connection::{one_turn, turns_send_stretches};
 pub use dialogue::{Bytes, Ending, Event, Stage, Wanted};
 pub use feed::{Feed, FeedFault};
 pub use fetching::fetch_turn;
