@@ -1,5 +1,5 @@
 -- What a turn of a session comes to, by its parts.
-use Rattle.std.proofs.Common.{◌≡◌, ◌≢◌, ℕ, ◌+◌, ◌≤◌, ◌<◌, ◌==◌, ◌&&◌, ◌||◌, ◌∙◌, zero, suc, refl, arith, ap, sym, subst, inl, inr, Bool, true, false, not, List, [], ◌∷◌, ◌++◌, append-nil, length, take, Result, Ok, Err}
+use Rattle.std.proofs.Common.{◌≡◌, ◌≢◌, ℕ, ◌+◌, ◌≤◌, ◌<◌, ◌==◌, ◌&&◌, ◌||◌, ◌∙◌, zero, suc, refl, arith, ap, sym, subst, inl, inr, Bool, true, false, not, List, [], ◌∷◌, ◌++◌, append-nil, length, take, Ok, Err}
 use Rattle.std.proofs.lemmas.Bool.Decides.{eqb_tells}
 use Rattle.mseed_stream.specs.Device.{Heard, Said, heard_also}
 use Rattle.mseed_stream.specs.declared.device.Failed.{Failed}

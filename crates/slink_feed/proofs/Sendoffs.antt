@@ -1,7 +1,6 @@
 -- What a session gave so far, and which of the bytes it took were answered.
-use Rattle.std.proofs.Common.{◌≡◌, ◌≢◌, ℕ, ◌+◌, ◌-◌, ◌*◌, ◌≤◌, ◌<◌, ◌⊎◌, ◌==◌, zero, suc, refl, sym, ap, subst, ◌∙◌, arith, inl, inr, if◌then◌else◌, List, [], ◌∷◌, ◌++◌, append_assoc, append-nil, length, length-append, replicate, take, take_all, drop, Result, Err, IfErr}
+use Rattle.std.proofs.Common.{◌≡◌, ℕ, ◌+◌, ◌-◌, ◌*◌, ◌≤◌, ◌<◌, ◌⊎◌, zero, suc, refl, sym, ap, subst, ◌∙◌, arith, inl, inr, if◌then◌else◌, List, [], ◌∷◌, ◌++◌, append_assoc, append-nil, length, length-append, replicate, take, take_all, drop, Result, Err, IfErr}
 use Rattle.std.proofs.lemmas.Bool.Decides.{eqb_tells}
-use Rattle.mseed_stream.specs.Device.{Said}
 use Rattle.slink_wire.specs.declared.reply.Reply.{Reply}
 use Rattle.slink_wire.specs.declared.reply.Reply.TheVariants as replies
 use Rattle.slink_wire.specs.Reply.{reply_bytes}
@@ -10,17 +9,16 @@ use Rattle.slink_feed.specs.declared.session.Sent.{Sent}
 use Rattle.slink_feed.specs.declared.session.Sent.TheVariants as sents
 use Rattle.slink_feed.specs.declared.turn.LinkFault.{LinkFault}
 use Rattle.slink_feed.specs.declared.turn.LinkFault.TheVariants as faults
-use Rattle.slink_feed.specs.Attending.{FailsToReply, RepliesToAll}
+use Rattle.slink_feed.specs.Attending.{RepliesToAll}
 use Rattle.slink_feed.specs.Replying.{HasFailed, HasSent, IsReplyFault, IsSaid, IsSayFault, IsSendFault, IsUnsaid, waits_after}
-use Rattle.slink_feed.specs.Rounds.{Attending, FailsToSend, Gives, HasWaited, SendsAll, all_sent, place_behind}
+use Rattle.slink_feed.specs.Rounds.{Attending, FailsToSend, Gives, HasWaited, all_sent, place_behind}
 use Rattle.slink_feed.specs.Serving.{Standing}
 use Rattle.slink_feed.specs.Session.{State, sent}
-use Rattle.slink_feed.specs.Turns.{Took, TookFront}
+use Rattle.slink_feed.specs.Turns.{Took}
 use Rattle.slink_feed.specs.Window.{Window}
 use Rattle.slink_feed.specs.World.{Serves, Takes, none_served, piece_served, sent_bytes}
 use Rattle.slink_feed.proofs.Deliveries.{front_further, piece_is, took_further, took_none}
 use Rattle.slink_feed.proofs.Dues.{Moves, due, few_due, moves, waits}
-use Rattle.slink_feed.proofs.Pieces.{at_offset, from_offset}
 
 pub record SentSoFar (feed : List Window) (old now : Attending) (k waits said : ℕ) : Type 0 where
   pub given : List Sent
