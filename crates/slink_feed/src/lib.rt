@@ -40,5 +40,6 @@ pub use stretch::{
     answers_the_number_wanted, carries_a_stretch, goes_on_behind_the_last, holds_one_slice,
     one_world, pushes_what_is_appended, resumes_behind_the_last, spares_the_client,
 };
+pub use told::wants_move_by_records;
 pub use turn::{LinkFault, Turn};
 pub use world::{Link, Memory, Setup, Step, World};
