@@ -109,6 +109,13 @@ impl Client {
         }
     }
 
+    /// What is kept reads as what is begun.
+    pub(crate) fn has_reading(&self)
+        ensures { Reads self.now.talk self.now.kept [] self.now }
+    {
+        let _ = &self.kept;
+    }
+
     /// Whether there is a link of which more is taken.
     pub(crate) fn is_linked(&self) -> bool
         ensures yes { OnTrue result (IsLinked self.now.talk.stage) }

@@ -1,8 +1,9 @@
 //! One turn of a client with its link.
-ghost use Rattle.std.specs.Prelude.{◌≡◌, ◌≤◌, ◌^◌, IfErr, IfOk, OnOk, length};
+ghost use Rattle.std.specs.Prelude.{◌≡◌, ◌≤◌, ◌^◌, [], IfErr, IfOk, OnOk, length};
 ghost use Rattle.std.specs.Bool.{OnFalse, OnTrue};
 ghost use Rattle.slink_feed.specs.Fetching.{Delivers, FailsAt, Fetches, IsFetchFault, fetching};
 ghost use Rattle.slink_feed.specs.Delivery.{IsDelivered, IsUndelivered};
+ghost use Rattle.slink_feed.specs.Listening.{Reads};
 
 use crate::client::Client;
 use crate::dialogue::Event;
@@ -36,7 +37,10 @@ pub fn fetch_turn<S: Duplex, W: Sink>(
     ensures fault { IfErr result (λ fault. IsFetchFault fault
         (fetching client.old (S.said link.old) (W.said output.old))
         (fetching client.new (S.said link.new) (W.said output.new)) (S.heard link.old) (S.heard link.new)) }
+    // The bytes that the client kept read as what is begun: so the turn tells what they read as with those of the link.
+    ensures reading { Reads client.old.talk client.old.kept [] client.old }
 {
+    client.has_reading();
     let mut room = [0; ROOM];
     let count = match link.pull(&mut room) {
         Ok(count) => count,
