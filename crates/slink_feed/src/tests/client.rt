@@ -6,7 +6,7 @@ use slink_wire::Packet;
 use std::test::Fail;
 
 /// A client of STA of XX that wants record 1, and awaits packets.
-fn awaiting_packets() -> Result<Client, Fail> {
+pub(crate) fn awaiting_packets() -> Result<Client, Fail> {
     let mut client = Client::new(&[(place(b"STA")?, Some(1))], Mode::Data);
     client.connect();
     client.take(b"OK\r\n");

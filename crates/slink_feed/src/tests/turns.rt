@@ -1,8 +1,10 @@
 //! Worked rows of turns, over links that fail.
 
-use super::three_pushed;
-use crate::{LinkFault, Session, Turn, serve_turn};
+use super::client::awaiting_packets;
+use super::{record, three_pushed};
+use crate::{LinkFault, Session, Turn, fetch_turn, serve_turn};
 use mseed_stream::Counted;
+use slink_wire::Packet;
 use std::io;
 use std::io::{Read, Write};
 use std::test::Fail;
@@ -60,6 +62,35 @@ fn serves_until_the_link_fails(rt: HostRuntime) -> Result<(), Fail> {
         assert_eq!(rt; serve_turn(&mut session, &feed, &mut link), *wanted);
         let position = if *room == 8 + 519 { 2 } else { 3 };
         assert_eq!(rt; session.position(0), Some(position));
+    }
+    Ok(())
+}
+
+/// The packets of records 1 and 2 of STA.
+fn two_packets() -> [u8; 1040] {
+    let mut told = [0; 1040];
+    told[..520].copy_from_slice(&Packet::write(1, &record(b"STA  ", 1)));
+    told[520..].copy_from_slice(&Packet::write(2, &record(b"STA  ", 2)));
+    told
+}
+
+#[test]
+fn fetches_until_the_output_fails(rt: HostRuntime) -> Result<(), Fail> {
+    let told = two_packets();
+    // The first turn reads 1024 bytes, in which the second packet isn't whole.
+    let rows: [(usize, &[Result<Turn, LinkFault>], u32); 3] = [
+        (511, &[Err(LinkFault::Output(511))], 2),
+        (612, &[Ok(Turn::Goes), Err(LinkFault::Output(100))], 3),
+        (1024, &[Ok(Turn::Goes), Ok(Turn::Goes), Ok(Turn::Closed)], 3),
+    ];
+    for (room, turns, next) in &rows {
+        let mut client = awaiting_packets()?;
+        let mut link = link_of(&told, 0);
+        let mut output = link_of(b"", *room);
+        for wanted in *turns {
+            assert_eq!(rt; fetch_turn(&mut client, &mut link, &mut output), *wanted);
+        }
+        assert_eq!(rt; client.next(0), Some(*next));
     }
     Ok(())
 }
