@@ -47,7 +47,7 @@ stage_number j k s p q = let both : Number j ≡ Number k = sym p ∙ q in cc bo
 not_number : (k : ℕ) (s t : Stage) → s ≡ t → s ≡ Number k → (t ≡ Number k → ⊥) → ⊥
 not_number k s t p q other = other (sym p ∙ q)
 
-open_at : (phase p : Phase) → phase ≡ p → IsBefore p → Open phase
+pub open_at : (phase p : Phase) → phase ≡ p → IsBefore p → Open phase
 open_at phase p is before shut = subst IsBefore (sym is ∙ shut) before
 
 module _ (feed : List Window) where
@@ -70,16 +70,16 @@ module _ (feed : List Window) where
       after Closed x new reply over l = (l.0, l.1, l.2)
 
 -- what the answers to the three lines leave
-ready_for_open : (k : ℕ) (phase : Phase) → IsReadyFor k phase → Open phase
+pub ready_for_open : (k : ℕ) (phase : Phase) → IsReadyFor k phase → Open phase
 ready_for_open k phase (inl fresh) = open_at phase Fresh fresh.1 tt
 ready_for_open k phase (inr behind) = open_at phase (Granted behind.0) behind.2 tt
 
-chosen_open : (s new : State) (reply : Reply) (k : ℕ) → chosen (Some k) s ≡ (new, reply) → (new.grants ≡ set s.grants k None) × Open new.phase
+pub chosen_open : (s new : State) (reply : Reply) (k : ℕ) → chosen (Some k) s ≡ (new, reply) → (new.grants ≡ set s.grants k None) × Open new.phase
 chosen_open s new reply k is =
     let state : new ≡ at (Chosen k) (set s.grants k None) = sym (ap (λ (x : State × Reply). x.0) is) in
     (ap (λ (x : State). x.grants) state, subst (λ (x : State). Open x.phase) (sym state) (λ e. let bad : Chosen k ≡ Closed = e in cc bad))
 
-granted_open : (s new : State) (reply : Reply) (k : ℕ) (mode : Mode) (o : Option ℕ) → s.phase ≡ Chosen k → granted mode k o s ≡ (new, reply) → Open new.phase
+pub granted_open : (s new : State) (reply : Reply) (k : ℕ) (mode : Mode) (o : Option ℕ) → s.phase ≡ Chosen k → granted mode k o s ≡ (new, reply) → Open new.phase
 granted_open s new reply k mode None phase is = subst (λ (x : State). Open x.phase) (ap (λ (x : State × Reply). x.0) is) (open_at s.phase (Chosen k) phase tt)
 granted_open s new reply k mode (Some p) phase is = subst (λ (x : State). Open x.phase) (ap (λ (x : State × Reply). x.0) is) (λ e. let bad : Granted k ≡ Closed = e in cc bad)
 

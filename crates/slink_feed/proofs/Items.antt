@@ -136,7 +136,7 @@ drop_front zero xs ys le = refl
 drop_front (suc d) [] ys le = absurd (omega (arith, le))
 drop_front (suc d) (x ∷ xs) ys le = drop_front d xs ys (omega (arith, le))
 
-drop_none : (n : ℕ) → ◌≡◌ {A = List (List ℕ)} (drop n []) []
+pub drop_none : (n : ℕ) → ◌≡◌ {A = List (List ℕ)} (drop n []) []
 drop_none zero = refl
 drop_none (suc n) = refl
 
@@ -145,7 +145,7 @@ drop_twice m zero xs = ap (λ k. drop k xs) (let e : m ≡ 0 + m = omega arith i
 drop_twice m (suc d) [] = drop_none m ∙ sym (drop_none (suc d + m))
 drop_twice m (suc d) (x ∷ xs) = drop_twice m d xs ∙ sym (let e : suc d + m ≡ suc (d + m) = omega arith in ap (λ k. drop k (x ∷ xs)) e)
 
-keep_more : (n : ℕ) (xs : List (List ℕ)) (r : List ℕ) → window n (window n xs ++ r ∷ []) ≡ window n (xs ++ r ∷ [])
+pub keep_more : (n : ℕ) (xs : List (List ℕ)) (r : List ℕ) → window n (window n xs ++ r ∷ []) ≡ window n (xs ++ r ∷ [])
 keep_more n xs r =
     let d : ℕ = length xs - n in
     let front : drop d xs ++ r ∷ [] ≡ drop d (xs ++ r ∷ []) = sym (drop_front d xs (r ∷ []) (omega arith)) in

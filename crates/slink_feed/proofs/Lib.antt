@@ -51,3 +51,10 @@ pub mod Telling
 pub mod Wanting
 pub mod Wholes
 pub mod Worlds
+pub mod Counting
+pub mod Waiting
+pub mod Counts
+pub mod Counted
+pub mod CountedHeard
+pub mod CountedSent
+pub mod CountedWorld

@@ -75,7 +75,7 @@ split_none (x ∷ xs) h =
     ∙ ap (onto_first x) (split_none xs parts.1)
 
 -- before these lines
-abbrev behind : List ℕ → Spelled → Spelled
+abbrev pub behind : List ℕ → Spelled → Spelled
 behind line s = record s { lines = line ∷ s.lines }
 
 line_first : (line : List ℕ) (s : Spelled) → 0 < length line → record s { lines = unless_empty line ++ s.lines } ≡ behind line s
@@ -89,7 +89,7 @@ line_spelled line (p ∷ ps) has is =
     ∙ (ap (λ t. if t then too_long else with_piece line (p ∷ ps) (spelled_by (p ∷ ps))) (not_long (length line) is.short) ∙ line_first line (spelled_by (p ∷ ps)) is.some)
 
 -- a line, and what is behind its CR
-lines_then : (line rest : List ℕ) → IsLine line → lines_of (line ++ 13 ∷ rest) ≡ behind line (lines_of rest)
+pub lines_then : (line rest : List ℕ) → IsLine line → lines_of (line ++ 13 ∷ rest) ≡ behind line (lines_of rest)
 unfolding lines_of
 lines_then line rest is = ap spelled_by (split_then line rest is.lacks) ∙ line_spelled line (slice_split (λ b. b == 13) rest) (has_piece (λ b. b == 13) rest) is
 
@@ -98,24 +98,24 @@ lf_spelled [] has = absurd has
 lf_spelled (p ∷ []) has = refl
 lf_spelled (p ∷ q ∷ ps) has = refl
 
-lines_lf : (rest : List ℕ) → lines_of (10 ∷ rest) ≡ lines_of rest
+pub lines_lf : (rest : List ℕ) → lines_of (10 ∷ rest) ≡ lines_of rest
 unfolding lines_of
 lines_lf rest = lf_spelled (slice_split (λ b. b == 13) rest) (has_piece (λ b. b == 13) rest)
 
 -- no line is told, and none is too long
-abbrev Quiet : List ℕ → Type 0
+abbrev pub Quiet : List ℕ → Type 0
 Quiet bytes = ((lines_of bytes).lines ≡ []) × ((lines_of bytes).is_too_long ≡ false)
 
 part_spelled : (t : Bool) (piece : List ℕ) (s : Spelled) → t ≡ false → s ≡ (if t then too_long else with_piece piece [] (spelled_by [])) → (s.lines ≡ []) × (s.is_too_long ≡ false)
 part_spelled true piece s fails is = absurd (let bad : true ≡ false = fails in cc bad)
 part_spelled false piece s fails is = (ap (λ (x : Spelled). x.lines) is, ap (λ (x : Spelled). x.is_too_long) is)
 
-part_quiet : (part : List ℕ) → Lacks 13 part → length part ≤ 255 → Quiet part
+pub part_quiet : (part : List ℕ) → Lacks 13 part → length part ≤ 255 → Quiet part
 unfolding lines_of
 part_quiet part lacks short =
     part_spelled (nat_lt 255 (length (stripped part))) (stripped part) (lines_of part) (not_long (length (stripped part)) (let less : length (stripped part) ≤ length part = stripped_short part in omega (arith, less, short))) (ap spelled_by (split_none part lacks))
 
-none_quiet : Quiet []
+pub none_quiet : Quiet []
 none_quiet = part_quiet [] refl (omega arith)
 
 -- so many of the lines are told, and none is too long
@@ -133,7 +133,7 @@ one_told line rest lines is told = (
   ap (λ (s : Spelled). s.is_too_long) (lines_then line rest is) ∙ told.3,
 )
 
-lacks_front : (t z : List ℕ) → Lacks 13 (t ++ z) → Lacks 13 t
+pub lacks_front : (t z : List ℕ) → Lacks 13 (t ++ z) → Lacks 13 t
 lacks_front t z h = (both (list_all (λ b. not (b == 13)) t) (list_all (λ b. not (b == 13)) z) (sym (list_all-append (λ b. not (b == 13)) t z) ∙ h)).0
 
 front_told : (line t z : List ℕ) (lines : List (List ℕ)) → IsLine line → line ≡ t ++ z → IsTold t lines

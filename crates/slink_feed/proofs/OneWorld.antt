@@ -13,6 +13,7 @@ use Rattle.slink_feed.specs.declared.session.Phase.TheVariants.{Closed}
 use Rattle.slink_feed.specs.declared.world.Setup.{Setup}
 use Rattle.slink_feed.specs.declared.world.Step.{Step}
 use Rattle.slink_feed.specs.declared.world.Step.TheVariants.{Append, Connect, ToServer, ToClient, Send, Cut}
+use Rattle.slink_feed.specs.Counted.{Gained, with_event, with_events}
 use Rattle.slink_feed.specs.Cutting.{IsBegun, IsWhole}
 use Rattle.slink_feed.specs.Dialogue.{Talk, Whole, heard, says_place}
 use Rattle.slink_feed.specs.Listening.{AreBrought, Brings, Brought, IsLinked, Listening, begun, bytes_of, events_of, talk_after, telling, whole}
@@ -22,7 +23,7 @@ use Rattle.slink_feed.specs.Spared.{AreAskable}
 use Rattle.slink_feed.specs.Stretch.{IsSchedule}
 use Rattle.slink_feed.specs.Ties.{Places}
 use Rattle.slink_feed.specs.Window.{Window}
-use Rattle.slink_feed.specs.World.{AllHappen, Both, Connects, Delivers, Differ, Happens, Hears, IsHeard, IsServed, LinkState, Numbers, Serves, Taking, WorldState, none_heard, noted, number_at, opening, piece_heard, piece_lost, pushed_to, said, taking, with_first, with_one}
+use Rattle.slink_feed.specs.World.{AllHappen, Both, Connects, Delivers, Differ, Happens, Hears, IsHeard, IsServed, LinkState, Numbers, Serves, Taking, WorldState, none_heard, noted, opening, piece_heard, piece_lost, pushed_to, said, taking}
 use Rattle.slink_feed.proofs.Answering.{Comes, IsOn, IsPending, Open, asked_on, it_came, not_both, not_yet, open_or, quiet_on, shut_on}
 use Rattle.slink_feed.proofs.Calling.{pending_or}
 use Rattle.slink_feed.proofs.Heard.{begun_after, begun_none}
@@ -34,23 +35,8 @@ use Rattle.slink_feed.proofs.Taken.{same_client}
 use Rattle.slink_feed.proofs.Worlds.{AreOf, each_of}
 
 -- what comes of events, beside the client
-record Gained : Type 0 where
-  held : List (List (List ℕ))
-  start : List (Option ℕ)
-  to_server : List ℕ
-
-abbrev gained : Taking → Gained
+abbrev pub gained : Taking → Gained
 gained t = record { held = t.held; start = t.start; to_server = t.to_server }
-
-abbrev with_event : Numbers → Event → Gained → Gained
-with_event f (events.Say line) g = record g { to_server = g.to_server ++ line.items }
-with_event f (events.Record k n bytes) g = record g { held = with_one g.held k bytes; start = with_first g.start k (number_at f k) }
-with_event f events.None g = g
-with_event f events.End g = g
-with_event f (events.Refused k) g = g
-with_event f (events.Gap k want got) g = g
-with_event f events.Garbage g = g
-with_event f events.Foreign g = g
 
 same_gained : (f : Numbers) (e : Event) (t : Taking) → gained (noted f e t) ≡ with_event f e (gained t)
 same_gained f (events.Say line) t = refl
@@ -62,11 +48,7 @@ same_gained f (events.Gap k want got) t = refl
 same_gained f events.Garbage t = refl
 same_gained f events.Foreign t = refl
 
-abbrev with_events : Numbers → List Event → Gained → Gained
-with_events f [] g = g
-with_events f (e ∷ es) g = with_events f es (with_event f e g)
-
-told_events : (f : Numbers) (e : Event) (es : List Event) (g : Gained) → with_events f (telling e ++ es) g ≡ with_events f es (with_event f e g)
+pub told_events : (f : Numbers) (e : Event) (es : List Event) (g : Gained) → with_events f (telling e ++ es) g ≡ with_events f es (with_event f e g)
 told_events f (events.Say line) es g = refl
 told_events f (events.Record k n bytes) es g = refl
 told_events f events.None es g = refl
@@ -77,17 +59,17 @@ told_events f events.Garbage es g = refl
 told_events f events.Foreign es g = refl
 
 -- the wholes that a client heard, and what was lost behind its end
-record HeardAll (f : Numbers) (t : Taking) (bytes : List ℕ) (last : Taking) : Type 0 where
-  brought : List Brought
-  lost : List ℕ
-  are_brought : AreBrought t.client.talk brought
-  bytes_are : t.client.kept ++ bytes ≡ bytes_of brought ++ (last.client.kept ++ lost)
-  talk : last.client.talk ≡ talk_after t.client.talk brought
-  gains : gained last ≡ with_events f (events_of t.client.talk brought) (gained t)
-  is_begun : IsBegun last.client.talk.stage last.client.kept
-  all : IsLinked last.client.talk.stage → lost ≡ []
+pub record HeardAll (f : Numbers) (t : Taking) (bytes : List ℕ) (last : Taking) : Type 0 where
+  pub brought : List Brought
+  pub lost : List ℕ
+  pub are_brought : AreBrought t.client.talk brought
+  pub bytes_are : t.client.kept ++ bytes ≡ bytes_of brought ++ (last.client.kept ++ lost)
+  pub talk : last.client.talk ≡ talk_after t.client.talk brought
+  pub gains : gained last ≡ with_events f (events_of t.client.talk brought) (gained t)
+  pub is_begun : IsBegun last.client.talk.stage last.client.kept
+  pub all : IsLinked last.client.talk.stage → lost ≡ []
 
-lost_all : (f : Numbers) (t : Taking) (bytes : List ℕ) (last : Taking) → Hears f t bytes last → ¬ (IsLinked t.client.talk.stage) → last ≡ t
+pub lost_all : (f : Numbers) (t : Taking) (bytes : List ℕ) (last : Taking) → Hears f t bytes last → ¬ (IsLinked t.client.talk.stage) → last ≡ t
 lost_all f t bytes last (none_heard u) over = refl
 lost_all f t bytes last (piece_heard u v now all piece rest e split linked brings more) over = absurd (over linked)
 lost_all f t bytes last (piece_lost u v all piece rest split lost more) over = lost_all f u rest v more over
@@ -137,7 +119,7 @@ heard_piece : (f : Numbers) (u v : Taking) (now : Listening) (all piece rest : L
 heard_piece f u v now all piece rest e split (whole w is h none) more = heard_whole f u v now all piece rest e w split is h none more
 heard_piece f u v now all piece rest e split (begun is same quiet) more = heard_begun f u v now all piece rest e split same quiet more
 
-heard_all : (f : Numbers) (t : Taking) (bytes : List ℕ) (last : Taking) → Hears f t bytes last → IsBegun t.client.talk.stage t.client.kept → HeardAll f t bytes last
+pub heard_all : (f : Numbers) (t : Taking) (bytes : List ℕ) (last : Taking) → Hears f t bytes last → IsBegun t.client.talk.stage t.client.kept → HeardAll f t bytes last
 heard_all f t bytes last (none_heard u) is = record { brought = []; lost = []; are_brought = tt; bytes_are = refl; talk = refl; gains = refl; is_begun = is; all = λ _. refl }
 heard_all f t bytes last (piece_heard u v now all piece rest e split linked brings more) is =
     heard_piece f u v now all piece rest e split brings (heard_all f (noted f e (record u { client = now })) rest v more
@@ -150,14 +132,14 @@ heard_all f t bytes last (piece_lost u v all piece rest split over more) is =
 kept_linked : (k m x y : List ℕ) → x ≡ [] → y ≡ [] → k ++ x ≡ m ++ y → k ≡ m
 kept_linked k m x y p q e = sym (append-nil k) ∙ (ap (λ z. k ++ z) (sym p) ∙ (e ∙ (ap (λ z. m ++ z) q ∙ append-nil m)))
 
-kept_same : (stage : Stage) (k m x y : List ℕ) → IsBegun stage k → IsBegun stage m → (IsLinked stage → x ≡ []) → (IsLinked stage → y ≡ []) → k ++ x ≡ m ++ y → k ≡ m
+pub kept_same : (stage : Stage) (k m x y : List ℕ) → IsBegun stage k → IsBegun stage m → (IsLinked stage → x ≡ []) → (IsLinked stage → y ≡ []) → k ++ x ≡ m ++ y → k ≡ m
 kept_same Unlinked k m x y a b p q e = a ∙ sym b
 kept_same (Station j) k m x y a b p q e = kept_linked k m x y (p tt) (q tt) e
 kept_same (Number j) k m x y a b p q e = kept_linked k m x y (p tt) (q tt) e
 kept_same Packets k m x y a b p q e = kept_linked k m x y (p tt) (q tt) e
 kept_same (Ended ending) k m x y a b p q e = a ∙ sym b
 
-rest_is : (f : Numbers) (t : Taking) (bytes : List ℕ) (last : Taking) (h : HeardAll f t bytes last) → IsRest (talk_after t.client.talk h.brought).stage (last.client.kept ++ h.lost)
+pub rest_is : (f : Numbers) (t : Taking) (bytes : List ℕ) (last : Taking) (h : HeardAll f t bytes last) → IsRest (talk_after t.client.talk h.brought).stage (last.client.kept ++ h.lost)
 rest_is f t bytes last h linked =
     let at_last : IsLinked last.client.talk.stage = subst (λ (x : Talk). IsLinked x.stage) (sym h.talk) linked in
     subst (λ b. IsBegun (talk_after t.client.talk h.brought).stage b) (sym (ap (λ b. last.client.kept ++ b) (h.all at_last) ∙ append-nil last.client.kept))
@@ -224,7 +206,7 @@ module _ (feed : List Window) (s : Standing) (bytes way rest taken : List ℕ) (
         (asked_on feed s.state pending.request pending.awake pending.known pending.stays_open s bytes way b y rest taken q refl (held pending.awake) pending.asks)
 
 -- a stage is linked, or not
-linked_or : (stage : Stage) → IsLinked stage ⊎ ¬ (IsLinked stage)
+pub linked_or : (stage : Stage) → IsLinked stage ⊎ ¬ (IsLinked stage)
 linked_or Unlinked = inr (λ l. l)
 linked_or (Station k) = inl tt
 linked_or (Number k) = inl tt

@@ -50,7 +50,7 @@ lacks_byte (x ∷ xs) zero lacks is =
     elim (eqb_tells x 10) [ inl lf ↦ let bad : false ≡ true = sym (ap not lf.0) ∙ parts.0 in cc bad | inr other ↦ other.1 same ]
 lacks_byte (x ∷ xs) (suc j) lacks is = lacks_byte xs j (both (not (x == 10)) (list_all (λ b. not (b == 10)) xs) lacks).1 is
 
-lacks_end : (bytes : List ℕ) → Lacks 10 bytes → LacksEnd bytes
+pub lacks_end : (bytes : List ℕ) → Lacks 10 bytes → LacksEnd bytes
 lacks_end bytes lacks i cr lf = lacks_byte bytes (i + 1) lacks lf
 
 -- what stands in front of a stream is one whole
@@ -62,21 +62,21 @@ the_whole stage b a left rest w v p q e =
 no_whole : (stage : Stage) (b left : List ℕ) (w : Whole) → b ++ left ≡ [] → IsWhole stage b w → ⊥
 no_whole stage b left w e is = begun_no_whole stage [] [] w (begun_none stage) (subst (λ (x : List ℕ). IsWhole stage x w) (nothing_left b left e) is)
 
-want_slot : (o : Option (Option Wanted)) (w : Wanted) → unwrap_or o None ≡ Some w → o ≡ Some (Some w)
+pub want_slot : (o : Option (Option Wanted)) (w : Wanted) → unwrap_or o None ≡ Some w → o ≡ Some (Some w)
 want_slot None w h = absurd (let bad : None ≡ Some w = h in cc bad)
 want_slot (Some x) w h = ap (λ y. Some y) h
 
-some_if : (o : Option ℕ) (n : ℕ) → ((m : ℕ) → o ≡ Some m → n ≡ m) → IfSome o (λ want. n ≡ want)
+pub some_if : (o : Option ℕ) (n : ℕ) → ((m : ℕ) → o ≡ Some m → n ≡ m) → IfSome o (λ want. n ≡ want)
 some_if None n h = tt
 some_if (Some m) n h = h m refl
 
 -- the record of the first packet on the way is the one that is wanted
-suited_wanted : (want : Option ℕ) (o : Option Grant) (n : ℕ) (r : List ℕ) (rest : List (ℕ × List ℕ)) → IsSuited want o ((n, r) ∷ rest) → (m : ℕ) → want ≡ Some m → n % 2 ^ 24 ≡ m
+pub suited_wanted : (want : Option ℕ) (o : Option Grant) (n : ℕ) (r : List ℕ) (rest : List (ℕ × List ℕ)) → IsSuited want o ((n, r) ∷ rest) → (m : ℕ) → want ≡ Some m → n % 2 ^ 24 ≡ m
 suited_wanted want None n r rest s m e = absurd (omega (arith, ap length s))
 suited_wanted want (Some g) n r rest s m e = ap (λ x. x % 2 ^ 24) s.1.0 ∙ s.3 m e
 
 -- the next one is wanted once it is told
-suited_next : (want : Option ℕ) (o : Option Grant) (n : ℕ) (r : List ℕ) (rest : List (ℕ × List ℕ)) → IsSuited want o ((n, r) ∷ rest) → IsSuited (Some ((n % 2 ^ 24 + 1) % 2 ^ 24)) o rest
+pub suited_next : (want : Option ℕ) (o : Option Grant) (n : ℕ) (r : List ℕ) (rest : List (ℕ × List ℕ)) → IsSuited want o ((n, r) ∷ rest) → IsSuited (Some ((n % 2 ^ 24 + 1) % 2 ^ 24)) o rest
 suited_next want None n r rest s = absurd (omega (arith, ap length s))
 suited_next want (Some g) n r rest s = (
   s.0 + 1,
@@ -87,7 +87,7 @@ suited_next want (Some g) n r rest s = (
 
 module _ (places : Places) (differ : Differ places) (codes_are : (k : ℕ) (p : Fields × Option ℕ) → slice_get places k ≡ Some p → IsField 5 p.0.station × IsField 2 p.0.network) where
   -- A record's place is found.
-  bearer_found : (wants : Wants) (k : ℕ) (p : Fields × Option ℕ) (r : List ℕ) → AreAsked places wants → slice_get places k ≡ Some p → Bears r p.0 → (bearer wants r ≡ Some k) × (w : Wanted) × (want_at wants k ≡ Some w)
+  pub bearer_found : (wants : Wants) (k : ℕ) (p : Fields × Option ℕ) (r : List ℕ) → AreAsked places wants → slice_get places k ≡ Some p → Bears r p.0 → (bearer wants r ≡ Some k) × (w : Wanted) × (want_at wants k ≡ Some w)
   bearer_found wants k p r asked here bears =
       let at_k : (w : Wanted) × (want_at wants k ≡ Some w) × (p.0 ≡ w.place) = also_at (λ (q : Fields × Option ℕ). q.0) (λ (w : Wanted). w.place) (slice_get places k) (want_at wants k) p (sym (asked.alike k)) here in
       let borne : Bears r at_k.0.place = subst (Bears r) at_k.2 bears in
@@ -102,7 +102,7 @@ module _ (places : Places) (differ : Differ places) (codes_are : (k : ℕ) (p : 
       (position_from-zero (is_borne r) wants ∙ (first ∙ ap (λ n. Some n) (let e : 0 + k ≡ k = omega arith in e)), at_k.0, at_k.1)
 
   -- another number is wanted of a place
-  asked_next : (wants : Wants) (k x : ℕ) (w : Wanted) → want_at wants k ≡ Some w → x < 2 ^ 24 → AreAsked places wants → AreAsked places (with_next wants k x)
+  pub asked_next : (wants : Wants) (k x : ℕ) (w : Wanted) → want_at wants k ≡ Some w → x < 2 ^ 24 → AreAsked places wants → AreAsked places (with_next wants k x)
   asked_next wants k x w is short asked =
       let v : Wanted = record { place = w.place; next = Some x } in
       let ws : Wants = set wants k (Some v) in

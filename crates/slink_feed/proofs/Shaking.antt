@@ -117,7 +117,7 @@ module _ (places : Places) (differ : Differ places) (codes : (k : ℕ) (p : Fiel
   Talks s to_server to_client = LinkTalks places client s to_server to_client
 
   -- a reply goes on its way behind nothing
-  replied : (grants new : Grants) (way : List ℕ) (items : List Item) (reply : Reply) → items ≡ [] → ((k : ℕ) → IsSuited (next_at client.talk.wants k) (grant_at new k) []) → AreBorne places (items_of reply)
+  pub replied : (grants new : Grants) (way : List ℕ) (items : List Item) (reply : Reply) → items ≡ [] → ((k : ℕ) → IsSuited (next_at client.talk.wants k) (grant_at new k) []) → AreBorne places (items_of reply)
       → Flows places client grants way items → Flows places client new (way ++ reply_bytes reply) (items_of reply)
   replied grants new way items reply none suits borne f = record {
     flow = flow_more client.kept way (reply_bytes reply) [] (items_of reply) (reply_items reply) (f.flow ∙ ap way_bytes none);
@@ -125,11 +125,11 @@ module _ (places : Places) (differ : Differ places) (codes : (k : ℕ) (p : Fiel
     suited = λ k. subst (IsSuited (next_at client.talk.wants k) (grant_at new k)) (sym (reply_carries k reply)) (suits k);
   }
 
-  none_suited : (grants : Grants) (way : List ℕ) (items : List Item) → items ≡ [] → Flows places client grants way items → (k : ℕ) → IsSuited (next_at client.talk.wants k) (grant_at grants k) []
+  pub none_suited : (grants : Grants) (way : List ℕ) (items : List Item) → items ≡ [] → Flows places client grants way items → (k : ℕ) → IsSuited (next_at client.talk.wants k) (grant_at grants k) []
   none_suited grants way items none f k = subst (λ is. IsSuited (next_at client.talk.wants k) (grant_at grants k) (of_place k is)) none (f.suited k)
 
   -- nothing is answered, and the session stays
-  unanswered : (grants new : Grants) (way : List ℕ) (items : List Item) (reply : Reply) → new ≡ grants → reply ≡ replies.Nothing → Flows places client grants way items → Flows places client new (way ++ reply_bytes reply) items
+  pub unanswered : (grants new : Grants) (way : List ℕ) (items : List Item) (reply : Reply) → new ≡ grants → reply ≡ replies.Nothing → Flows places client grants way items → Flows places client new (way ++ reply_bytes reply) items
   unanswered grants new way items reply same none f =
       subst (λ (gs : Grants). Flows places client gs (way ++ reply_bytes reply) items) (sym same) (subst (λ b. Flows places client grants b items) (sym (ap (λ r. way ++ reply_bytes r) none ∙ append-nil way)) f)
 
@@ -137,13 +137,13 @@ module _ (places : Places) (differ : Differ places) (codes : (k : ℕ) (p : Fiel
   abbrev Then : Standing → List ℕ → List ℕ → List ℕ → Reply → Type 0
   Then now taken rest way reply = (¬ (now.state.phase ≡ Closed) → IsHeld now.held taken) → Talks now rest (way ++ reply_bytes reply)
 
-  no_grant : (grants : Grants) (j k : ℕ) → ((i : ℕ) → IsSuited (next_at client.talk.wants i) (grant_at grants i) []) → IsSuited (next_at client.talk.wants k) (grant_at (set grants j None) k) []
+  pub no_grant : (grants : Grants) (j k : ℕ) → ((i : ℕ) → IsSuited (next_at client.talk.wants i) (grant_at grants i) []) → IsSuited (next_at client.talk.wants k) (grant_at (set grants j None) k) []
   no_grant grants j k suits = elim (grant_set grants j k None) [
     | inl here ↦ subst (λ (o : Option Grant). IsSuited (next_at client.talk.wants k) o []) (sym here.1) refl
     | inr there ↦ subst (λ (o : Option Grant). IsSuited (next_at client.talk.wants k) o []) (sym there) (suits k)
   ]
 
-  a_grant : (grants : Grants) (j k : ℕ) (g : Grant) → ((m : ℕ) → next_at client.talk.wants j ≡ Some m → g.position % 2 ^ 24 ≡ m) → ((i : ℕ) → IsSuited (next_at client.talk.wants i) (grant_at grants i) [])
+  pub a_grant : (grants : Grants) (j k : ℕ) (g : Grant) → ((m : ℕ) → next_at client.talk.wants j ≡ Some m → g.position % 2 ^ 24 ≡ m) → ((i : ℕ) → IsSuited (next_at client.talk.wants i) (grant_at grants i) [])
       → IsSuited (next_at client.talk.wants k) (grant_at (set grants j (Some g)) k) []
   a_grant grants j k g wanted suits = elim (grant_set grants j k (Some g)) [
     | inl here ↦ subst (λ (o : Option Grant). IsSuited (next_at client.talk.wants k) o []) (sym here.1)
@@ -233,7 +233,7 @@ module _ (places : Places) (differ : Differ places) (codes : (k : ℕ) (p : Fiel
   number_granted s new reply k modes.Fetch number phase is = in_phase (Chosen k) s new reply (requests.Fetch number) phase is
 
   -- what is granted is what was wanted
-  granted_alike : (mode : Mode) (number : Option ℕ) (o : Option Window) (p m : ℕ) → option_and_then (grant_of mode number) o ≡ Some p → number ≡ Some m → m < 2 ^ 24 → p % 2 ^ 24 ≡ m
+  pub granted_alike : (mode : Mode) (number : Option ℕ) (o : Option Window) (p m : ℕ) → option_and_then (grant_of mode number) o ≡ Some p → number ≡ Some m → m < 2 ^ 24 → p % 2 ^ 24 ≡ m
   granted_alike mode number None p m is wanted short = absurd (let bad : None ≡ Some p = is in cc bad)
   granted_alike modes.Data None (Some w) p m is wanted short = absurd (let bad : None ≡ Some m = wanted in cc bad)
   granted_alike modes.Fetch None (Some w) p m is wanted short = absurd (let bad : None ≡ Some m = wanted in cc bad)

@@ -33,11 +33,11 @@ use Rattle.slink_feed.proofs.Shaking.{AreAsked, AreBorne, AreFrom, AreRinged, Ar
 use Rattle.slink_feed.proofs.Wanting.{short_all}
 use Rattle.slink_feed.proofs.Worlds.{AreOf, each_of, none_granted, none_wanted, sound_more}
 
-borne_more : (places : Places) (xs ys : List Item) → AreBorne places xs → AreBorne places ys → AreBorne places (xs ++ ys)
+pub borne_more : (places : Places) (xs ys : List Item) → AreBorne places xs → AreBorne places ys → AreBorne places (xs ++ ys)
 borne_more places [] ys p q = q
 borne_more places (x ∷ xs) ys p q = (p.0, borne_more places xs ys p.1 q)
 
-sent_more : (xs ys : List Item) → AreSent xs → AreSent ys → AreSent (xs ++ ys)
+pub sent_more : (xs ys : List Item) → AreSent xs → AreSent ys → AreSent (xs ++ ys)
 sent_more [] ys p q = q
 sent_more (x ∷ xs) ys p q = (p.0, sent_more xs ys p.1 q)
 
@@ -45,13 +45,13 @@ from_more : (n p : ℕ) (rest : List (ℕ × List ℕ)) (r : List ℕ) → p ≡
 from_more n p [] r e a = (omega (arith, e), tt)
 from_more n p (i ∷ is) r e a = (a.0, from_more (n + 1) p is r (omega (arith, e)) a.1)
 
-suited_more : (want : Option ℕ) (o : Option Grant) (g h : Grant) (rest : List (ℕ × List ℕ)) (r : List ℕ) → o ≡ Some g → h.position ≡ g.position + 1 → IsSuited want o rest → IsSuited want (Some h) (rest ++ (g.position, r) ∷ [])
+pub suited_more : (want : Option ℕ) (o : Option Grant) (g h : Grant) (rest : List (ℕ × List ℕ)) (r : List ℕ) → o ≡ Some g → h.position ≡ g.position + 1 → IsSuited want o rest → IsSuited want (Some h) (rest ++ (g.position, r) ∷ [])
 suited_more want None g h rest r is next s = absurd (let bad : None ≡ Some g = is in cc bad)
 suited_more want (Some f) g h rest r is next s =
     let same : f.position ≡ g.position = ap (λ (x : Grant). x.position) (one_value (Some f) f g refl is) in
     (s.0, from_more s.0 g.position rest r (omega (arith, same, s.2)) s.1, omega (arith, next, same, s.2, length-append rest ((g.position, r) ∷ [])), s.3)
 
-slot_within : (gs : Grants) (k : ℕ) (g : Grant) → grant_at gs k ≡ Some g → k < length gs
+pub slot_within : (gs : Grants) (k : ℕ) (g : Grant) → grant_at gs k ≡ Some g → k < length gs
 slot_within [] k g h = absurd (let bad : None ≡ Some g = h in cc bad)
 slot_within (x ∷ gs) zero g h = omega arith
 slot_within (x ∷ gs) (suc k) g h = let more : k < length gs = slot_within gs k g h in omega (arith, more)
@@ -60,7 +60,7 @@ before_no : (phase p : Phase) → phase ≡ p → IsBefore p → ¬ (IsBefore ph
 before_no phase p is before later = later (subst IsBefore (sym is) before)
 
 -- packets are sent
-streaming_is : (talk : Talk) (phase : Phase) (taken way : List ℕ) (items : List Item) → ¬ (IsBefore phase) → Shakes talk phase taken way items → (talk.stage ≡ Packets) × AreSent items × (¬ (phase ≡ Closed) → IsAnswered taken way)
+pub streaming_is : (talk : Talk) (phase : Phase) (taken way : List ℕ) (items : List Item) → ¬ (IsBefore phase) → Shakes talk phase taken way items → (talk.stage ≡ Packets) × AreSent items × (¬ (phase ≡ Closed) → IsAnswered taken way)
 streaming_is talk phase taken way items later (asks_place k w stage want ready asks none) = absurd (elim ready [ inl fresh ↦ before_no phase Fresh fresh.1 tt later | inr behind ↦ before_no phase (Granted behind.0) behind.2 tt later ])
 streaming_is talk phase taken way items later (has_place k stage is told one) = absurd (before_no phase (Chosen k) is tt later)
 streaming_is talk phase taken way items later (asks_number k stage is asks none) = absurd (before_no phase (Chosen k) is tt later)
@@ -70,7 +70,7 @@ streaming_is talk phase taken way items later (asks_end k stage is asks none) = 
 streaming_is talk phase taken way items later (streams stage over sent told) = (stage, sent, told)
 
 -- a record of the window is one of the ring's
-window_sound : (w : Window) (n : ℕ) (r : List ℕ) → AreSound w.place w.records → record_at w n ≡ Some r → (length r ≡ 512) × Bears r w.place
+pub window_sound : (w : Window) (n : ℕ) (r : List ℕ) → AreSound w.place w.records → record_at w n ≡ Some r → (length r ≡ 512) × Bears r w.place
 window_sound w n r sound is = sound (n - oldest_of w) r (got (Rattle.std.proofs.Common.nat_lt n (oldest_of w)) (slice_get w.records (n - oldest_of w)) is)
   where
     got : (t : Bool) (o : Option (List ℕ)) → (if t then None else o) ≡ Some r → o ≡ Some r

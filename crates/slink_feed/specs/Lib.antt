@@ -27,3 +27,4 @@ pub mod Attending
 pub mod Replying
 pub mod Going
 pub mod Connection
+pub mod Counted

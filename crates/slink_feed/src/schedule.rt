@@ -2,6 +2,7 @@
 ghost use Rattle.std.specs.Prelude.{◌≡◌, ◌^◌, ◌<◌, ◌≤◌, ◌++◌, ℕ, [], ◌∷◌, All, IfOk, None, Some, length, map};
 ghost use Rattle.slink_wire.specs.Place.{IsField};
 ghost use Rattle.slink_feed.specs.Calling.{AreAnswered};
+ghost use Rattle.slink_feed.specs.Counted.{IsCounted, counted_after, counted_opening};
 ghost use Rattle.slink_feed.specs.Dialogue.{AreNumbers};
 ghost use Rattle.slink_feed.specs.Fault.{IsCapacity};
 ghost use Rattle.slink_feed.specs.Going.{GoesOn};
@@ -124,6 +125,9 @@ pub fn run_schedule(alloc: Global, setup: &Setup, steps: &[Step]) -> Result<Worl
     requires steps { All (IsOf setup.now.places.items) steps.now }
     // The world is what the steps make of the opening.
     ensures happen { IfOk result (λ w. AllHappen (opening setup.now) steps.now (seen w)) }
+    // It is the counted world: what whole lines, replies and packets give, with the counts of the bytes that were taken.
+    ensures counted { IfOk result (λ w. 0 < length setup.now.places.items
+        → IsCounted setup.now (counted_after setup.now (counted_opening setup.now) steps.now) (seen w)) }
     // Of each place one slice of its records is held, in order and each once, where at no moment 2^24 of them or more
     // are lacking.
     ensures slices { IfOk result (λ w. (run : AllHappen (opening setup.now) steps.now (seen w))
@@ -136,7 +140,8 @@ pub fn run_schedule(alloc: Global, setup: &Setup, steps: &[Step]) -> Result<Worl
     // other.
     ensures resumes { IfOk result (λ w. (run : AllHappen (opening setup.now) steps.now (seen w))
         → LackFew setup.now.first (opening setup.now) steps.now (seen w) run → Resumes (seen w)) }
-    // What is on its way of a place is then a stretch of its records, up to the position of its grant.
+    // While a client takes from its link, what is on its way of a place is then a stretch of its records, up to the
+    // position of its grant.
     ensures carried { IfOk result (λ w. (run : AllHappen (opening setup.now) steps.now (seen w))
         → LackFew setup.now.first (opening setup.now) steps.now (seen w) run → (l : LinkState) → (seen w).link ≡ Some l
         → IsCarried setup.now.places.items setup.now.first (seen w) l) }

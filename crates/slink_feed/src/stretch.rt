@@ -3,6 +3,7 @@ ghost use Rattle.std.specs.Prelude.{◌≡◌, ℕ, All, List, [], Some, slice_i
 ghost use Rattle.slink_feed.specs.declared.world.Setup.{Setup};
 ghost use Rattle.slink_feed.specs.declared.world.Step.{Step};
 ghost use Rattle.slink_feed.specs.Calling.{AreAnswered};
+ghost use Rattle.slink_feed.specs.Counted.{IsCounted, counted_after, counted_opening};
 ghost use Rattle.slink_feed.specs.Going.{GoesOn};
 ghost use Rattle.slink_feed.specs.Listening.{IsLinked};
 ghost use Rattle.slink_feed.specs.Pushed.{appended};
@@ -42,8 +43,8 @@ pub fn answers_the_number_wanted()
         → next.link ≡ Some m → AreAnswered now l m }
 {}
 
-/// After any steps of a schedule, what a link has on its way to the client are replies and packets, and the packets of
-/// a place are a stretch of its records, up to the position of its grant.
+/// After any steps of a schedule, while a client takes from its link, what is on its way to it are replies and packets,
+/// and the packets of a place are a stretch of its records, up to the position of its grant.
 #[tactic(auto, using(crate::proofs::Resumed::stretch_carried))]
 pub fn carries_a_stretch()
     ensures carried { (setup : Setup) (steps : List Step) (now : WorldState) (run : AllHappen (opening setup) steps now)
@@ -82,4 +83,14 @@ pub fn goes_on_behind_the_last()
     ensures next { (setup : Setup) (steps : List Step) (now : WorldState) (run : AllHappen (opening setup) steps now)
         → IsSchedule setup steps → AreAskable setup.places.items → LackFew setup.first (opening setup) steps now run
         → (l : LinkState) → now.link ≡ Some l → IsLinked now.client.talk.stage → GoesOn setup.places.items now l }
+{}
+
+/// After any steps of a schedule, the world is the counted one: the lists of what was pushed and is held, the windows, the
+/// numbers that are wanted, and, where there is a link, where session and client stand and what is on its way between
+/// them, as whole lines, replies and packets give them with the counts of the bytes that were taken.
+#[tactic(auto, using(crate::proofs::CountedWorld::the_counted_world))]
+pub fn is_the_counted_world()
+    ensures counted { (setup : Setup) (steps : List Step) (now : WorldState) → AllHappen (opening setup) steps now
+        → IsSchedule setup steps → AreAskable setup.places.items
+        → IsCounted setup (counted_after setup (counted_opening setup) steps) now }
 {}

@@ -7,6 +7,7 @@ use Rattle.slink_feed.specs.World.{AllHappen, WorldState, opening, seen}
 use Rattle.slink_feed.specs.Stretch.{IsSound}
 use Rattle.slink_feed.proofs.Briefly.{brief_held}
 use Rattle.slink_feed.proofs.Calling.{answered_after}
+use Rattle.slink_feed.proofs.CountedWorld.{the_counted_world}
 use Rattle.slink_feed.proofs.Going.{goes_on_after}
 use Rattle.slink_feed.proofs.Items.{same_or_not}
 use Rattle.slink_feed.proofs.Worlds.{schedule_is, stretch_held}
@@ -85,3 +86,9 @@ pub returns-clause-goes_on : goal.returns-clause-goes_on
 returns-clause-goes_on c = λ run lacks some l at linked. goes_on_after c.args.setup.now c.args.steps.now (seen c.loop-step.world) run
     (schedule_is c.args.setup.now c.args.steps.now c.requires.count c.requires.capacity.1 c.requires.differ c.requires.steps (λ k lt. c.loop-step.invariant.sound k (omega (arith, lt))))
     (record { some = some; codes = c.have_codes.ensures; numbers = c.requires.numbers }) lacks l at linked
+
+pub returns-clause-counted : goal.returns-clause-counted
+returns-clause-counted c = λ some. the_counted_world c.args.setup.now c.args.steps.now (seen c.loop-step.world)
+    (happened c.args.steps.now c.loop-step.step-index (opening c.args.setup.now) (seen c.loop-step.world) (omega (arith, c.loop-step-test.false)) c.loop-step.invariant.rest)
+    (schedule_is c.args.setup.now c.args.steps.now c.requires.count c.requires.capacity.1 c.requires.differ c.requires.steps (λ k lt. c.loop-step.invariant.sound k (omega (arith, lt))))
+    (record { some = some; codes = c.have_codes.ensures; numbers = c.requires.numbers })
