@@ -31,12 +31,12 @@ pub all_sound : (key : List ℕ) (vs : List View) → IsContinuous (views_in (re
 all_sound key vs continuous = subst (λ (ws : List View). AllByRecursion IsSound ws) (views_are key vs) continuous.each
 
 -- the first record of a channel has its key
-first_key : (key : List ℕ) (vs : List View) (first : View) (rest : List View) → filter (is_of key) vs ≡ first ∷ rest → key ≡ key_at first.bytes
+pub first_key : (key : List ℕ) (vs : List View) (first : View) (rest : List View) → filter (is_of key) vs ≡ first ∷ rest → key ≡ key_at first.bytes
 first_key key vs first rest e =
     let passes : All (λ (v : View). is_of key v ≡ true) (first ∷ rest) = subst (λ (ws : List View). All (λ (v : View). is_of key v ≡ true) ws) e (filter_passes (is_of key) vs) in
     same_is key (key_at first.bytes) (and_parts (nat_lt 0 (count_of first)) (same_key key (key_at first.bytes)) (passes 0 first (omega arith))).1
 
-series_of : (key : List ℕ) (vs : List View) (start : ℤ) (rate : Rate) (records samples : ℕ) (s : Trace) → IsVerdict (Continuous start rate records samples) (records_of key (added_from 0 vs))
+pub series_of : (key : List ℕ) (vs : List View) (start : ℤ) (rate : Rate) (records samples : ℕ) (s : Trace) → IsVerdict (Continuous start rate records samples) (records_of key (added_from 0 vs))
     → HoldsAll key start rate (filter (is_of key) vs) s → IsSeriesOf s (views_in (records_of key (added_from 0 vs)))
 series_of key vs start rate records samples s verdict holds =
     let first : Placed = verdict.0 in
