@@ -3,6 +3,9 @@
 
 mod assembling;
 mod auditing;
+mod cutting;
+mod devices;
 mod framing;
 mod records;
+mod times;
 mod writing;

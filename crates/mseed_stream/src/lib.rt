@@ -29,6 +29,3 @@ pub use law::one_input;
 pub use slices::{split, split_in};
 pub use tally::Tally;
 pub use whole::{read_all, read_all_in, write_all_of};
-
-#[cfg(test)]
-mod tests;

@@ -11,8 +11,6 @@ mod order;
 mod outcome;
 mod rate;
 mod show;
-#[cfg(test)]
-mod tests;
 
 pub use btime::Btime;
 pub use fault::{OutOfRange, TimeFault};

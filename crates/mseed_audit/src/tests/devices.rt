@@ -2,10 +2,10 @@
 ghost use Rattle.std.specs.Prelude.{◌≡◌, IfOk, IfSome};
 ghost use Rattle.mseed_stream.specs.Device.{nothing_heard, nothing_said};
 
-mod cutting;
-
-use crate::{Counted, Failed, Sink, Source, StreamFault, read_all, read_all_in, write_all_of};
 use linked_list_allocator::LocalHeap;
+use mseed_stream::{
+    Counted, Failed, Sink, Source, StreamFault, read_all, read_all_in, write_all_of,
+};
 use std::alloc::Global;
 use std::io;
 use std::io::{Read, Write};
@@ -154,9 +154,17 @@ fn writes_what_there_is_room_for(rt: HostRuntime) {
                 fails,
             });
             let answer = write_all_of(&mut sink, b"hello");
-            assert_eq!(rt; answer, if room < 5 { Err(room) } else { Ok(()) });
-            assert_eq!(rt; sink.get_ref().taken.as_slice(), &b"hello"[..room.min(5)]);
-            assert_eq!(rt; write_all_of(&mut sink, b""), Ok(()));
+            assert_eq!(rt;
+                answer,
+                if room < 5 { Err(room) } else { Ok(()) },
+                "{fails} {room}"
+            );
+            assert_eq!(rt;
+                sink.get_ref().taken.as_slice(),
+                &b"hello"[..room.min(5)],
+                "{fails} {room}"
+            );
+            assert_eq!(rt; write_all_of(&mut sink, b""), Ok(()), "{fails} {room}");
         }
     }
 }

@@ -5,8 +5,8 @@ ghost use Rattle.mseed_stream.specs.Counted.{heard_by};
 ghost use Rattle.mseed_stream.specs.Cutting.{IsAlong};
 ghost use Rattle.mseed_stream.specs.Device.{nothing_heard};
 
-use crate::{Counted, Cutter, Source, StreamFault, split, split_in};
 use linked_list_allocator::LocalHeap;
+use mseed_stream::{Counted, Cutter, Source, StreamFault, split, split_in};
 use std::alloc::{AllocError, Allocator, Global};
 use std::io;
 use std::io::Read;

@@ -1,4 +1,6 @@
-use crate::{
+//! Times, rates and joins.
+
+use mseed_time::{
     Btime, Join, LeapStep, Micros, NoRate, Order, OutOfRange, Rate, TimeFault, join, show_time,
 };
 
@@ -52,10 +54,10 @@ fn reads_times(rt: HostRuntime) {
             AFTER_LEAP + 500_000,
         ),
     ];
-    for (order, bytes, instant) in cases {
+    for (row, (order, bytes, instant)) in cases.into_iter().enumerate() {
         let time = Btime::read(&bytes, order).expect(&rt, "a time");
-        assert_eq!(rt; time.micros(0, false, 0).get(), instant);
-        assert_eq!(rt; time.write(order), bytes);
+        assert_eq!(rt; time.micros(0, false, 0).get(), instant, "row {row}");
+        assert_eq!(rt; time.write(order), bytes, "row {row}");
     }
 }
 
@@ -81,8 +83,8 @@ fn refuses_fields(rt: HostRuntime) {
             TimeFault::Hour,
         ),
     ];
-    for (bytes, fault) in cases {
-        assert_eq!(rt; Btime::read(&bytes, Order::Big), Err(fault));
+    for (row, (bytes, fault)) in cases.into_iter().enumerate() {
+        assert_eq!(rt; Btime::read(&bytes, Order::Big), Err(fault), "row {row}");
     }
 }
 
@@ -115,7 +117,8 @@ fn corrects_times(rt: HostRuntime) {
     for (correction, is_applied, microseconds, instant) in cases {
         assert_eq!(rt;
             time.micros(correction, is_applied, microseconds).get(),
-            instant
+            instant,
+            "{correction} {is_applied} {microseconds}"
         );
     }
 }
@@ -226,9 +229,17 @@ fn has_rates(rt: HostRuntime) {
     let tenth = Rate::of(-10, 1).expect(&rt, "a rate");
     for (factor, multiplier, num, den) in cases {
         let rate = Rate::of(factor, multiplier).expect(&rt, "a rate");
-        assert_eq!(rt; (rate.num(), rate.den()), (num, den));
-        assert_eq!(rt; rate.pair(), (factor, multiplier));
-        assert_eq!(rt; rate.same_as(tenth), den == 10 || den == 20);
+        assert_eq!(rt;
+            (rate.num(), rate.den()),
+            (num, den),
+            "{factor} {multiplier}"
+        );
+        assert_eq!(rt; rate.pair(), (factor, multiplier), "{factor} {multiplier}");
+        assert_eq!(rt;
+            rate.same_as(tenth),
+            den == 10 || den == 20,
+            "{factor} {multiplier}"
+        );
     }
     assert_eq!(rt; Rate::of(0, 1), Err(NoRate));
     assert_eq!(rt; Rate::of(1, 0), Err(NoRate));
@@ -268,8 +279,8 @@ fn joins_records(rt: HostRuntime) {
         (1, (3, 1), None, -1_000_000, Join::Early(1_333_333)),
         (0, (-10, 1), None, 5_000_000, Join::Meets),
     ];
-    for (count, rate, step, after, answer) in cases {
-        assert_eq!(rt; follow(count, rate, step, after), Some(answer));
+    for (row, (count, rate, step, after, answer)) in cases.into_iter().enumerate() {
+        assert_eq!(rt; follow(count, rate, step, after), Some(answer), "row {row}");
     }
 }
 
