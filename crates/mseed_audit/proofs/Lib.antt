@@ -4,6 +4,7 @@ pub mod Behind
 pub mod Between
 pub mod Continuity
 pub mod Counts
+pub mod Currents
 pub mod Findings
 pub mod Finished
 pub mod Joined

@@ -1,10 +1,11 @@
 -- Words of what is kept of a channel: no public contract is stated by them.
-use Rattle.std.specs.Prelude.{⊤, ◌≡◌, ◌≤◌, ◌+◌, ◌*◌, ℕ, List, [], length, Option, Some, None}
+use Rattle.std.specs.Prelude.{⊤, ◌≡◌, ◌≤◌, ◌+◌, ◌*◌, ℕ, List, [], length, Option, Some, None, IsSome}
 use Rattle.std.specs.List.{All}
-use Rattle.std.specs.Map.{values_of}
+use Rattle.std.specs.Map.{lookup, set_value, values_of}
 use Rattle.std.specs.Vec.{vec_capacity}
 use Rattle.std.specs.declared.vec.Vec.{Vec}
 use Rattle.mseed_record.specs.View.{View}
+use Rattle.mseed_audit.specs.declared.audits.Current.{Current}
 use Rattle.mseed_audit.specs.declared.channel.Channel.{Channel}
 use Rattle.mseed_audit.specs.declared.channel.Judged.{Judged}
 use Rattle.mseed_audit.specs.declared.channel.Judged.TheVariants.{Sound, Faulty}
@@ -14,6 +15,7 @@ use Rattle.mseed_audit.specs.declared.tail.Tail.{Tail}
 use Rattle.mseed_audit.specs.declared.verdict.Verdict.{Verdict}
 use Rattle.mseed_audit.specs.declared.verdict.Verdict.TheVariants.{Continuous, Broken}
 use Rattle.mseed_audit.specs.Audit.{IsTail}
+use Rattle.mseed_audit.specs.Channels.{same_key}
 use Rattle.mseed_audit.specs.Judging.{known_rate}
 
 -- what is found of a record that was judged
@@ -54,3 +56,13 @@ AreBounded n channels = All (λ c. IsBounded n c.verdict) (values_of channels)
 -- there is room for a verdict on each channel, and none yet
 abbrev pub HasRoom : {Y Z : Type 0} → List Y → Vec (List ℕ × Verdict) Z → Type 0
 HasRoom channels verdicts = (verdicts.items ≡ []) × (length channels ≤ vec_capacity verdicts)
+
+-- the channels, with what came to the current one
+abbrev pub with_current : Option Current → List (List ℕ × Channel) → List (List ℕ × Channel)
+with_current None channels = channels
+with_current (Some o) channels = set_value (same_key o.codes) channels o.channel
+
+-- the current channel is one of them
+abbrev pub IsCurrentIn : Option Current → List (List ℕ × Channel) → Type 0
+IsCurrentIn None channels = ⊤
+IsCurrentIn (Some o) channels = IsSome (lookup (same_key o.codes) channels)
