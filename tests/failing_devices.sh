@@ -3,7 +3,10 @@
 # standard error that do, whether they move all bytes of a call or one or two. MSEED names the program.
 . "$(dirname "$0")/judge.bash"
 
-cc -shared -fPIC -O1 -o failing.so "$root/tests/failing_devices.c" -ldl || exit 2
+if ! preloads failing failing_devices; then
+    report
+    exit
+fi
 cp "$root/samples/two_records.mseed" two
 head -c 128 two > one
 "$program" repack --length 128 < two > packed

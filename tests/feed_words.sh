@@ -17,11 +17,7 @@ bad() {
 
 # refused NAME ABOUT WORD..: words that are refused in the parser's own text
 refused() {
-    local name=$1 about=$2
-    shift 2
-    "$program" "$@" < other > output 2> errors
-    status=$?
-    judge "$name" eval '[ "$status" = 3 ] && [ ! -s output ] && grep -q -e "$about" errors && ! grep -q "mseed: bad value" errors'
+    check_parsed "$1" "$2" other "${@:3}"
 }
 
 # taken NAME WORD..: words that are taken. What they ask for can't be done: the input is no archive, and nobody answers
@@ -29,7 +25,7 @@ refused() {
 taken() {
     local name=$1
     shift
-    timeout 20 "$program" "$@" < other > output 2> errors
+    "$program" "$@" < other > output 2> errors
     status=$?
     judge "$name" eval '[ "$status" = 2 ] && [ ! -s output ] && ! grep -q "mseed: bad value" errors'
 }

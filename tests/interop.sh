@@ -10,4 +10,4 @@ if ! echo '#include <libmseed.h>' | cc -E - > "$folder/found" 2>&1; then
     exit 0
 fi
 cc -O1 -Wall -Wextra -o "$folder/interop" "$root/tests/interop.c" -lmseed || exit 2
-"$folder/interop" "$(realpath "${MSEED:-$root/crates/mseed/out/mseed}")" "$folder"
+timeout 600 "$folder/interop" "$(realpath "${MSEED:-$root/crates/mseed/out/mseed}")" "$folder"

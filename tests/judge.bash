@@ -2,6 +2,11 @@
 # its status in `status` and what it wrote in the files `output` and `errors`.
 set -u
 
+# A script ends within this time, whatever happens.
+if [ -z "${IS_TIMED:-}" ]; then
+    IS_TIMED=1 exec timeout 1200 bash "$0" "$@"
+fi
+
 root=$(cd "$(dirname "${BASH_SOURCE[0]}")/.." && pwd)
 program=$(realpath "${MSEED:-$root/crates/mseed/out/mseed}")
 folder=$(mktemp -d)
@@ -9,6 +14,7 @@ trap 'rm -rf "$folder"' EXIT
 cd "$folder" || exit 2
 passed=0
 failed=0
+skipped=0
 
 # judge NAME TEST..: whether the test holds of the run
 judge() {
@@ -58,6 +64,17 @@ check_piped() {
     judge "$1, piped" is_as "$2" "$3" "$4"
 }
 
+# check_parsed NAME ABOUT INPUT WORD..: the parser of the command line refuses the words, in its own text about this
+check_parsed() {
+    "$program" "${@:4}" < "$3" > output 2> errors
+    status=$?
+    judge "$1" is_parsers_text "$2"
+}
+
+is_parsers_text() {
+    [ "$status" = 3 ] && [ ! -s output ] && grep -q -e "$1" errors && ! grep -q 'mseed: bad value' errors
+}
+
 # leaves NAME BYTES INPUT WORD..: so many bytes of the input are read by nobody
 leaves() {
     {
@@ -68,8 +85,19 @@ leaves() {
     judge "$1, and leaves $2 bytes" [ "$(stat -c %s unread)" = "$2" ]
 }
 
+# preloads NAME SOURCE: builds NAME.so, which is put before the C library. Where no C compiler is installed, it fails,
+# and what wants it counts as one that is skipped.
+preloads() {
+    if command -v cc > /dev/null; then
+        cc -shared -fPIC -O1 -o "$1.so" "$root/tests/$2.c" -ldl || exit 2
+    else
+        skipped=$((skipped + 1))
+        return 1
+    fi
+}
+
 # The last line, which the gate counts.
 report() {
-    echo "$passed passed, $failed failed"
+    echo "$passed passed, $failed failed$([ "$skipped" = 0 ] || echo ", $skipped skipped")"
     [ "$failed" = 0 ]
 }

@@ -1,3 +1,3 @@
 #!/bin/bash
 # What the documents show of the program is what it prints.
-cd "$(dirname "$0")/.." && exec python3 tests/readme.py
+cd "$(dirname "$0")/.." && exec timeout 300 python3 tests/readme.py

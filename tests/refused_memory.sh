@@ -5,7 +5,10 @@
 # MSEED names the program.
 . "$(dirname "$0")/judge.bash"
 
-cc -shared -fPIC -O1 -o refuse.so "$root/tests/refuse_memory.c" -ldl || exit 2
+if ! preloads refuse refuse_memory; then
+    report
+    exit
+fi
 
 cp "$root/samples/two_records.mseed" two
 # The first of them, and the same of another channel, over and over.

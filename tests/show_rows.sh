@@ -99,14 +99,10 @@ judge 'an input that cannot be read' is_as 2 'records 0\nfault at 0 read\n' ''
 
 leaves 'a listing' 0 longer show
 
-# refuse NAME ABOUT WORD..: words that are refused in clap's own text, before a byte is read
+# refuse NAME ABOUT WORD..: words that are refused in the parser's own text, before a byte is read
 refuse() {
-    local name=$1 about=$2
-    shift 2
-    "$program" "$@" < longer > output 2> errors
-    status=$?
-    judge "$name" eval '[ "$status" = 3 ] && [ ! -s output ] && grep -q -e "$about" errors && ! grep -q "mseed: bad value" errors'
-    leaves "$name" 512 longer "$@"
+    check_parsed "$1" "$2" longer "${@:3}"
+    leaves "$1" 512 longer "${@:3}"
 }
 
 refuse 'help' Usage --help
