@@ -3,8 +3,8 @@
 import random
 import time
 
-from feed_program import Fetching, Proxy, Server, fetch, free_port
-from seedlink import Place, Tests, record_of
+from feed_program import Fetching, Proxy, Server, fetch, fetch_words
+from seedlink import Place, Tests, free_port, record_of
 
 STA, STB, OTHER = Place("XX_STA"), Place("XX_STB"), Place("n_A1b2C")
 TRIES = ["--tries", 1000000]
@@ -80,16 +80,26 @@ def judge_killed_servers(tests):
 
 
 def judge_killed_at_a_port(tests):
-    """The server is killed at random moments and started anew at its port, which nobody serves meanwhile."""
+    """The server is killed at random moments and started anew at its port, which nobody serves meanwhile. The client
+    dials there for a moment in vain, and then stands still until the next server listens: so it has tries left,
+    however long that takes."""
     source = random.Random(6)
     records = records_at_random(7, [STA], 20000)
     port = free_port()
-    fetching = Fetching([STA], port, *TRIES)
-    for _ in range(6):
+    fetching = Fetching(fetch_words([STA], port, *TRIES))
+
+    def next_server():
+        time.sleep(0.01)
+        fetching.halt()
         server = Server(b"".join(records), [STA], "--capacity", 20000, port=port)
+        fetching.go_on()
+        return server
+
+    for _ in range(6):
+        server = next_server()
         time.sleep(source.random() * 0.02)
         server.kill()
-    server = Server(b"".join(records), [STA], "--capacity", 20000, port=port)
+    server = next_server()
     status, output, errors = fetching.end()
     server.kill()
     tests.judge("killed at a port: fetch ends", (status, errors) == (0, ""), (status, errors))

@@ -1,11 +1,12 @@
 """`serve` and `fetch` where memory is refused, the input or the output fails, or a call on a link does, each in turn,
 and over links that bring a few bytes at a time."""
 
+import os
 import subprocess
 import tempfile
 from pathlib import Path
 
-from feed_program import PROGRAM, Server, fetch
+from feed_program import Server, contents_of, fetch, fetch_words, started, status_of
 from seedlink import Client, Place, Tests, feed_of, fetch_link, record_of, records_in, serving
 
 STA, STB = Place("XX_STA"), Place("XX_STB")
@@ -59,6 +60,18 @@ def judge_memory(tests, refusing):
     tests.judge("fetch asked for memory more than five times", request > 5, request)
 
 
+def ends_unread(port):
+    """Whether `fetch` says that its output failed where that is a pipe which nobody reads from the first, and how it
+    ended."""
+    reads, writes = os.pipe()
+    os.close(reads)
+    with tempfile.TemporaryFile() as errors:
+        status = status_of(started(fetch_words([STA], port), stdin=subprocess.DEVNULL, stdout=writes, stderr=errors))
+        os.close(writes)
+        ended = status, contents_of(errors)
+    return ended == (2, b"mseed: write failed\n"), ended
+
+
 def judge_streams(tests, failing):
     """The input of `serve`, and the output of `fetch`, fail behind so many bytes."""
     for room in [*range(0, len(ARCHIVE), 61), 511, 512, 513, len(ARCHIVE) - 1, len(ARCHIVE)]:
@@ -71,11 +84,7 @@ def judge_streams(tests, failing):
         run = fetch([STA], port, "--tries", 9, env={"LD_PRELOAD": failing, "WRITE_ROOM": str(room)})
         wanted = (2, output[:room], "mseed: write failed\n")
         tests.judge(f"fetch onto an output that takes {room} bytes", run == wanted, run)
-    closed = subprocess.Popen([PROGRAM, "fetch", "--port", str(port), "--station", "STA", "--network", "XX"],
-                              stdout=subprocess.PIPE, stderr=subprocess.PIPE)
-    closed.stdout.close()
-    told = closed.stderr.read(), closed.wait(60)
-    tests.judge("fetch onto an output that nobody reads", told == (b"mseed: write failed\n", 2), told)
+    tests.judge("fetch onto an output that nobody reads", *ends_unread(port))
     run = fetch([STA], port, env={"LD_PRELOAD": failing, "WRITE_ROOM": str(len(output))})
     tests.judge("fetch onto an output that takes all", run == (0, output, ""), run)
 

@@ -1,9 +1,10 @@
 """What the scripts of the feed share: the program's `serve` and `fetch` as processes of their own, each with an end
 to its time, and a proxy that cuts the links between them. The program is the first word of a script's command line."""
 
+import atexit
 import os
-import random
 import select
+import signal
 import socket
 import struct
 import subprocess
@@ -13,22 +14,27 @@ import threading
 import time
 from pathlib import Path
 
-from seedlink import dialled, listening, port_of
+from seedlink import dialled, free_port, listening, port_of
 
 PROGRAM = sys.argv[1]
 LIMIT = 120
+# The processes that were started.
+STARTED = []
 
 
-def free_port():
-    """A port that nobody uses, and that isn't given to the near end of a link: who dials one of those over and over
-    while nobody listens there is once connected to itself."""
-    while True:
-        port = random.randrange(10000, 30000)
-        try:
-            listening(port).close()
-            return port
-        except OSError:
-            pass
+def started(words, env=None, **streams):
+    """The program as a process of its own, with more in its environment. It is over when the script is, however that
+    ends."""
+    process = subprocess.Popen([PROGRAM, *words], env=env and {**os.environ, **env}, **streams)
+    STARTED.append(process)
+    return process
+
+
+@atexit.register
+def end_all():
+    for process in STARTED:
+        process.kill()
+        process.wait()
 
 
 def is_heard(port):
@@ -63,17 +69,17 @@ def status_of(process):
 
 
 class Server:
-    """`mseed serve` over an archive, once it listens or has ended."""
+    """`mseed serve` over an archive, once it listens or has ended. Its words are made of the places and the options,
+    where no others are given."""
 
-    def __init__(self, archive, places, *options, port=None, env=None, is_awaited=True):
+    def __init__(self, archive, places=(), *options, port=None, words=None, env=None, is_awaited=True):
         self.port = port or free_port()
-        command = [PROGRAM, "serve", "--port", str(self.port)] + words_of(places, options)
+        words = words or ["serve", "--port", str(self.port)] + words_of(places, options)
         self.told = tempfile.TemporaryFile()
         with tempfile.TemporaryFile() as input:
             input.write(archive)
             input.seek(0)
-            self.process = subprocess.Popen(command, stdin=input, stdout=self.told, stderr=self.told,
-                                            env=env and {**os.environ, **env})
+            self.process = started(words, env, stdin=input, stdout=self.told, stderr=self.told)
         end = time.monotonic() + LIMIT * is_awaited
         while self.is_going() and not is_heard(self.port) and time.monotonic() < end:
             time.sleep(0.003)
@@ -91,16 +97,17 @@ class Server:
 
 
 class Fetching:
-    """`mseed fetch`, which runs on its own."""
+    """`mseed fetch`, by its words, which runs on its own."""
 
-    def __init__(self, places, port, *options, wants=(), env=None):
-        command = [PROGRAM, "fetch", "--port", str(port)] + words_of(places, options, wants)
+    def __init__(self, words, env=None):
         self.output, self.errors = tempfile.TemporaryFile(), tempfile.TemporaryFile()
-        self.process = subprocess.Popen(command, stdin=subprocess.DEVNULL, stdout=self.output, stderr=self.errors,
-                                        env=env and {**os.environ, **env})
+        self.process = started(words, env, stdin=subprocess.DEVNULL, stdout=self.output, stderr=self.errors)
 
-    def is_going(self):
-        return self.process.poll() is None
+    def halt(self):
+        self.process.send_signal(signal.SIGSTOP)
+
+    def go_on(self):
+        self.process.send_signal(signal.SIGCONT)
 
     def end(self):
         """The status, standard output and standard error, once it has ended by itself."""
@@ -108,21 +115,13 @@ class Fetching:
         return status, contents_of(self.output), contents_of(self.errors).decode()
 
 
+def fetch_words(places, port, *options, wants=()):
+    return ["fetch", "--port", str(port)] + words_of(places, options, wants)
+
+
 def fetch(places, port, *options, wants=(), env=None):
     """The status, standard output and standard error of `mseed fetch`."""
-    return Fetching(places, port, *options, wants=wants, env=env).end()
-
-
-def rest_of(link):
-    """All that comes up to the end of a link. One whose other side closed it with a byte unread is reset behind what
-    it sent: an end as well."""
-    told = b""
-    try:
-        while more := link.recv(65536):
-            told += more
-    except ConnectionError:
-        pass
-    return told
+    return Fetching(fetch_words(places, port, *options, wants=wants), env).end()
 
 
 def reset(link):
@@ -156,6 +155,7 @@ class Proxy:
     def __init__(self, upstream, cuts):
         self.upstream, self.cuts, self.carried = upstream, iter(cuts), 0
         self.listener = listening()
+        self.listener.settimeout(None)
         self.port = port_of(self.listener)
         threading.Thread(target=self.run, daemon=True).start()
 

@@ -1,11 +1,9 @@
 """Archives served and fetched: by the program's two ends, and by either of them and the other of Python."""
 
 import random
-import subprocess
-import time
 
-from feed_program import PROGRAM, Server, fetch, free_port, is_heard
-from seedlink import Client, Place, Tests, feed_of, fetch_link, record_of, records_in, serving
+from feed_program import Fetching, Server, fetch
+from seedlink import Client, Place, Tests, feed_of, fetch_link, free_port, record_of, records_in, serving
 
 STA, STB, OTHER = Place("XX_STA"), Place("XX_STB"), Place("n_A1b2C")
 
@@ -88,17 +86,12 @@ def judge_words(tests):
     tests.judge("each second of sixteen stations from a number", status == 0 and told == wanted, errors)
     tests.judge("serve ends behind them", server.end() == (0, ""))
     records = records_at_random(6, [STB], 3)
-    port = str(free_port())
-    words = ["--first", "abcDEF", "serve", "--network", "XX", "--port=" + port, "--station", "STB"]
-    with subprocess.Popen([PROGRAM, *words], stdin=subprocess.PIPE) as server:
-        server.stdin.write(b"".join(records))
-        server.stdin.close()
-        while server.poll() is None and not is_heard(int(port)):
-            time.sleep(0.003)
-        words = ["--station=STB", "--port", port, "--from", "ABCdef", "--network=XX", "fetch"]
-        run = subprocess.run([PROGRAM, *words], capture_output=True, timeout=60, check=False)
-    tests.judge("words in another order", (run.returncode, run.stdout) == (0, b"".join(records)), run.stderr)
-    tests.judge("serve by words in another order", server.returncode == 0, server.returncode)
+    port = free_port()
+    words = ["--first", "abcDEF", "serve", "--network", "XX", f"--port={port}", "--station", "STB"]
+    server = Server(b"".join(records), words=words, port=port)
+    run = Fetching(["--station=STB", "--port", str(port), "--from", "ABCdef", "--network=XX", "fetch"]).end()
+    tests.judge("words in another order", run == (0, b"".join(records), ""), run)
+    tests.judge("serve by words in another order", server.end() == (0, ""))
 
 
 def judge_python(tests):

@@ -11,6 +11,8 @@ import threading
 from records import record
 
 SPAN = 2**24
+# The sockets that hold a port.
+HELD = []
 HELLO = b"SeedLink v3.0 (mseed)\r\nmseed feed\r\n"
 REPLIES = {"Hello": HELLO, "Ok": b"OK\r\n", "Error": b"ERROR\r\n", "-": b""}
 
@@ -269,10 +271,39 @@ def port_of(listener):
     return listener.getsockname()[1]
 
 
+def free_port():
+    """A port at which nobody listens until a server of ours does. It is held as long as the script runs: no other is
+    given it, and it is the near end of no link. Who dials a port over and over while nobody listens there would else
+    be connected to itself once."""
+    holder = socket.socket()
+    holder.bind(("127.0.0.1", 0))
+    # Bound first and shared then: so nobody shared it before.
+    holder.setsockopt(socket.SOL_SOCKET, socket.SO_REUSEADDR, 1)
+    HELD.append(holder)
+    return port_of(holder)
+
+
 def dialled(port):
     link = socket.create_connection(("127.0.0.1", port), timeout=60)
     link.setsockopt(socket.IPPROTO_TCP, socket.TCP_NODELAY, 1)
     return link
+
+
+def heard(link, size):
+    """What a link brings, at most so many bytes, and none at its end. One whose other side closed it with a byte unread
+    is reset, and the last of what that side sent may be lost: an end as well."""
+    try:
+        return link.recv(size)
+    except ConnectionError:
+        return b""
+
+
+def say(link, bytes):
+    """Says something on a link. Where the other side has closed it, its end is heard next."""
+    try:
+        link.sendall(bytes)
+    except ConnectionError:
+        pass
 
 
 def serve_link(link, feed):
@@ -287,9 +318,12 @@ def serve_link(link, feed):
 
 
 def serve_in_turn(listener, feeds):
-    """Serves a connection from each feed, one after the other."""
+    """Serves a connection from each feed, one after the other, as long as somebody dials."""
     for feed in feeds:
-        link, _ = listener.accept()
+        try:
+            link, _ = listener.accept()
+        except OSError:
+            return
         link.settimeout(60)
         with link:
             try:
@@ -309,16 +343,16 @@ def fetch_link(client, port):
     """The events of one connection. The last is an ending, or ("Closed",)."""
     events = []
     with dialled(port) as link:
-        link.sendall(client.connect())
+        say(link, client.connect())
         while client.ending is None:
-            told = link.recv(1024)
+            told = heard(link, 1024)
             if not told:
                 return events + [("Closed",)]
             fresh = client.take(told)
             events += fresh
             for event in fresh:
                 if event[0] == "Say":
-                    link.sendall(event[1])
+                    say(link, event[1])
     return events
 
 
