@@ -7,18 +7,11 @@ PYTHONPATH=$root/tests PYTHONDONTWRITEBYTECODE=1 python3 - <<'PYTHON' || exit 2
 import struct
 from datetime import datetime, timedelta
 
+from damage import FRAMING, changed
 from records import record
 
 FIRST = record()
 rows = []
-
-
-def with_parts(*parts, length=128):
-    """The first record with other bytes at some offsets."""
-    bytes = bytearray(FIRST.ljust(length, b"\0"))
-    for offset, part in parts:
-        bytes[offset : offset + len(part)] = part
-    return b"".join([bytes])
 
 
 def row(name, bytes, status, text):
@@ -29,12 +22,12 @@ def row(name, bytes, status, text):
 
 def lists(name, *parts, samples=16, start="2024-01-01T00:00:00.000000", rate="20/1", encoding=3, order="big", end="",
           quality="D"):
-    row(name, with_parts(*parts), 0, f"0 XX_STA__BHZ {quality} length 128 samples {samples} start {start} rate {rate} "
+    row(name, changed(FIRST, parts), 0, f"0 XX_STA__BHZ {quality} length 128 samples {samples} start {start} rate {rate} "
         f"encoding {encoding} {order}{end}\\nrecords 1\\n")
 
 
 def refuses(name, *parts, fault, length=128):
-    row(name, with_parts(*parts, length=length), 2, f"records 0\\nfault at 0 {fault}\\n")
+    row(name, changed(FIRST.ljust(length, b"\0"), parts), 2, f"records 0\\nfault at 0 {fault}\\n")
 
 
 # The times of BTIMEs: the ends of what one here may say, an unused byte, the last day of a leap year, a leap second
@@ -103,18 +96,10 @@ for name, parts, encoding, added, end in [
     lists(name, *[(offset, bytes(part)) for offset, part in parts], encoding=encoding, start=micros(added), end=end)
 
 # What no bytes that may come can mend.
-for offset, part, fault in [
-    (0, b"x", "notdata"), (5, b"/", "notdata"), (6, b"X", "notdata"), (7, b"0", "notdata"), (0, b"MS\x03", "version3"),
-    (20, [7, 107], "order"),  # 1899; 27399 the other way
-    (20, [8, 53], "order"),  # 2101; 13576 the other way
-    (22, [0, 0], "order"), (22, [1, 111], "order"), (46, [0, 0], "no1000"), (46, [0, 1], "chain"),
-    (46, [0, 47], "chain"), (48, [1, 244, 0, 48], "chain"), (48, [1, 244, 0, 51], "chain"),
-    (48, [1, 244, 0, 0], "no1000"), (54, [6], "length 6"), (54, [21], "length 21"),
-]:
-    refuses(f"{list(part)} at {offset}", (offset, bytes(part)), fault=fault)
-at_124 = (46, bytes([0, 124]))
-refuses("a 1000 that ends behind the record", at_124, (124, bytes([3, 232, 0, 0, 3, 1, 7, 0])), length=132, fault="outside")
-refuses("a longer record's 1000", at_124, (124, bytes([3, 232, 0, 0, 3, 1, 8, 0])), length=132, fault="truncated 132")
+for parts, fault in FRAMING:
+    refuses(" ".join(f"{list(part)} at {offset}" for offset, part in parts), *parts, length=132, fault=fault)
+longer = [(46, bytes([0, 124])), (124, bytes([3, 232, 0, 0, 3, 1, 8, 0]))]
+refuses("a longer record's 1000", *longer, length=132, fault="truncated 132")
 refuses("the longest record cut", (54, b"\x14"), fault="truncated 128")
 chain = FIRST[:48] + b"".join(struct.pack(">HH", 500, offset + 4) for offset in range(48, 65532, 4))
 row("the longest chain without its last blockette", chain, 2, f"records 0\\nfault at 0 truncated {len(chain)}\\n")
@@ -126,6 +111,9 @@ PYTHON
 number=0
 while IFS=$'\t' read -r name wanted text <&3; do
     check "$name" "$wanted" "$text" '' "row_$number" show
+    # A fault is the same whoever reads.
+    fault=${text##*fault at}
+    [ "$wanted" = 0 ] || check_file "$name, packed anew" 2 '' "mseed: fault at$fault" "row_$number" repack
     number=$((number + 1))
 done 3< rows
 
