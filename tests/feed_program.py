@@ -14,10 +14,9 @@ import threading
 import time
 from pathlib import Path
 
-from seedlink import dialled, free_port, listening, port_of
+from seedlink import LIMIT, dialled, free_port, listening, port_of
 
 PROGRAM = sys.argv[1]
-LIMIT = 120
 # The processes that were started.
 STARTED = []
 

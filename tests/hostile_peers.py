@@ -7,8 +7,8 @@ import threading
 
 from dialogues import feed_at_random, pieces_of, said_at_random, sent_at_random, wants_at_random
 from feed_program import Server, fetch, reset
-from seedlink import REPLIES, Client, Place, Session, Tests, dialled, feed_of, fetch_link, free_port, listening, port_of
-from seedlink import record_of, records_in
+from seedlink import LIMIT, REPLIES, Client, Place, Session, Tests, dialled, feed_of, fetch_link, free_port, listening
+from seedlink import port_of, record_of, records_in
 
 STA = Place("XX_STA")
 LINK_FAILED = (2, "mseed: link failed\n")
@@ -88,14 +88,14 @@ class Speaker:
                 link, _ = self.listener.accept()
             except OSError:
                 return
-            link.settimeout(60)
+            link.settimeout(LIMIT)
             with link:
                 self.said.append(said_to(link, pieces))
 
     def close(self):
         self.listener.shutdown(socket.SHUT_RDWR)
         self.listener.close()
-        self.thread.join(60)
+        self.thread.join(LIMIT)
 
 
 ENDS = {

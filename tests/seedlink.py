@@ -11,6 +11,8 @@ import threading
 from records import record
 
 SPAN = 2**24
+# The seconds that anything may take, on a machine that is busy with other things too.
+LIMIT = 400
 # The sockets that hold a port.
 HELD = []
 HELLO = b"SeedLink v3.0 (mseed)\r\nmseed feed\r\n"
@@ -263,7 +265,7 @@ def listening(port=0):
     listener.setsockopt(socket.SOL_SOCKET, socket.SO_REUSEADDR, 1)
     listener.bind(("127.0.0.1", port))
     listener.listen(64)
-    listener.settimeout(60)
+    listener.settimeout(LIMIT)
     return listener
 
 
@@ -284,7 +286,7 @@ def free_port():
 
 
 def dialled(port):
-    link = socket.create_connection(("127.0.0.1", port), timeout=60)
+    link = socket.create_connection(("127.0.0.1", port), timeout=LIMIT)
     link.setsockopt(socket.IPPROTO_TCP, socket.TCP_NODELAY, 1)
     return link
 
@@ -324,7 +326,7 @@ def serve_in_turn(listener, feeds):
             link, _ = listener.accept()
         except OSError:
             return
-        link.settimeout(60)
+        link.settimeout(LIMIT)
         with link:
             try:
                 serve_link(link, feed)
