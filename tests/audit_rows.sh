@@ -1,11 +1,13 @@
 #!/bin/bash
-# Audits inputs that a small Python makes, and compares the output, the standard error and the status
-# with what they must be, byte for byte. MSEED names the program.
+# Audits inputs that a small Python makes, and packs them anew, and compares the output, the standard error and the
+# status with what they must be, byte for byte. What a continuous archive is packed into is what packing.py makes of it
+# by the rules of docs/format.md. MSEED names the program.
 . "$(dirname "$0")/judge.bash"
 
 PYTHONPATH=$root/tests PYTHONDONTWRITEBYTECODE=1 python3 - <<'PYTHON' || exit 2
 import struct
 
+from auditing import repack
 from records import blockette_1000, frame, next_record, record, write_all
 
 
@@ -98,6 +100,8 @@ for cut in range(257):
 for offset in range(128):
     archives[f"byte_{offset}"] = [FIRST, NEXT[:offset], b"\xff", NEXT[offset + 1 :]]
 write_all(archives)
+packed = {name: repack(b"".join(parts)) for name, parts in archives.items()}
+write_all({f"{name}.packed": [records] for name, (records, _, status) in packed.items() if status == 0})
 PYTHON
 
 start=2024-01-01T00:00:00.000000
@@ -110,16 +114,29 @@ bhz=XX_STA__BHZ
 one="$(continuous $bhz 1 16)records 1 channels 1\n"
 two="$(continuous $bhz 2 32)records 2 channels 1\n"
 
-# audits NAME STATUS INPUT LINE..: these lines, and nothing on standard error
+# audits NAME STATUS INPUT LINE..: these lines, and nothing on standard error; and packing anew says what they say
 audits() {
     local IFS=
     check "$1" "$2" "${*:4}" '' "$3" audit
+    repacks "$1, packed anew" "$2" "$3" "${*:4}"
 }
 
 # audits_file NAME STATUS INPUT LINE..: the same, through no pipe
 audits_file() {
     local IFS=
     check_file "$1" "$2" "${*:4}" '' "$3" audit
+    repacks "$1, packed anew" "$2" "$3" "${*:4}"
+}
+
+# repacks NAME STATUS INPUT LINES: what is packed anew, of which an audit says these lines with this status: the fault,
+# else the first channel that is broken, else nothing but the records
+repacks() {
+    local before=${4%% broken *}
+    case $2 in
+        2) check_file "$1" 2 '' "mseed: fault at${4##*fault at}" "$3" repack ;;
+        1) check_file "$1" 1 '' "mseed: ${before##*\\n} is broken\n" "$3" repack ;;
+        0) check_output "$1" "$3.packed" "$3" repack ;;
+    esac
 }
 
 # finds NAME INPUT WHY: of the second record of two

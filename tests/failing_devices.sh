@@ -31,10 +31,6 @@ wrote_a_front() {
     [ "$status" = 2 ] && [ "$(cat errors)" = 'mseed: write failed' ] && head -c "$2" "$1" | cmp -s - output
 }
 
-wrote_all() {
-    [ "$status" = 0 ] && [ ! -s errors ] && cmp -s output "$1"
-}
-
 # fails_to_write TEXT PIECE INPUT WORD..: each front of what stands in the file TEXT is all that the output takes
 fails_to_write() {
     local bytes all

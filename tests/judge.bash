@@ -64,6 +64,17 @@ check_piped() {
     judge "$1, piped" is_as "$2" "$3" "$4"
 }
 
+# check_output NAME FILE INPUT WORD..: the bytes of the file, nothing on standard error, and status 0
+check_output() {
+    "$program" "${@:4}" < "$3" > output 2> errors
+    status=$?
+    judge "$1" wrote_all "$2"
+}
+
+wrote_all() {
+    [ "$status" = 0 ] && [ ! -s errors ] && cmp -s output "$1"
+}
+
 # check_parsed NAME ABOUT INPUT WORD..: the parser of the command line refuses the words, in its own text about this
 check_parsed() {
     "$program" "${@:4}" < "$3" > output 2> errors

@@ -89,13 +89,7 @@ head -c 128 two > one
 
 # packs NAME INPUT OUTPUT WORD..: the whole output, nothing on standard error, and status 0
 packs() {
-    "$program" repack "${@:4}" < "$2" > output 2> errors
-    status=$?
-    judge "$1" is_packed "$3"
-}
-
-is_packed() {
-    [ "$status" = 0 ] && cmp -s output "$1" && [ ! -s errors ]
+    check_output "$1" "$3" "$2" repack "${@:4}"
 }
 
 # refuses NAME STATUS LINE INPUT WORD..: a line on standard error, and nothing on the output
