@@ -1,5 +1,5 @@
-"""What other bytes make of a sound record, by the tables of docs/format.md: a big-endian one whose blockettes are a 1000 at
-48 and a 1001 at 56, as `records.py` makes it."""
+"""What other bytes make of a sound record, by the tables of docs/format.md: a big-endian one whose blockettes are a 1000
+at 48 and a 1001 at 56, as `records.py` makes it."""
 
 
 def changed(record, parts):
@@ -27,3 +27,6 @@ FRAMING = [
     ([at(54, 6)], "length 6"), ([at(54, 21)], "length 21"),
     ([at(46, 0, 124), at(124, 3, 232, 0, 0, 3, 1, 7, 0)], "outside"),
 ]
+
+# Bytes that mean something somewhere.
+TELLING = [0x00, 0x01, 0x02, 0x03, 0x07, 0x0A, 0x0B, 0x10, 0x20, 0x30, 0x40, 0x48, 0x64, 0x7F, 0x80, 0xE8, 0xE9, 0xFF]

@@ -3,7 +3,8 @@
     damaged_archives.py MSEED [COUNT]
 
 Sound archives of a few channels, of all encodings and byte orders, are cut, and their bytes set, dropped and doubled,
-mostly those of headers and of the first frames. The last line counts.
+mostly those of headers and of the first frames. And each byte of a record's header and blockettes in turn is set to
+each value that means something somewhere. The last line counts.
 """
 
 import random
@@ -11,11 +12,11 @@ import subprocess
 import sys
 
 from auditing import audit, repack
+from damage import TELLING, changed
+from records import next_record, record
 from repack_round_trips import interleaved, records_for, series_for
 
 SEED = 20260101
-# Bytes that mean something somewhere.
-TELLING = [0x00, 0x01, 0x02, 0x03, 0x07, 0x0A, 0x0B, 0x10, 0x20, 0x30, 0x40, 0x48, 0x64, 0x7F, 0x80, 0xE8, 0xE9, 0xFF]
 
 # What byte damage seldom brings: leap flags, a factor of 0, little-endian Steim, another encoding, day 0 and day 366.
 SELDOM = [(36, 0x30), (36, 0x10), (36, 0x20), (33, 0), (35, 0), (53, 0), (52, 10), (52, 11), (23, 0), (22, 1), (49, 0x64)]
@@ -71,29 +72,43 @@ def damaged(source):
     return archive[: source.randrange(len(archive) + 1)] if source.randrange(6) == 0 else archive
 
 
-def main():
-    program, count = sys.argv[1], int(sys.argv[2]) if len(sys.argv) > 2 else 3000
-    failed = 0
-    seen = {0: 0, 1: 0, 2: 0}
-    for seed in range(count):
-        archive = damaged(random.Random(SEED + seed))
+def differs(program, word, archive, outcome):
+    """Whether a command does something else with an archive, which is told."""
+    done = subprocess.run([program, word], input=archive, stdout=subprocess.PIPE, stderr=subprocess.PIPE, check=False)
+    if (done.stdout, done.stderr, done.returncode) == outcome:
+        return False
+    print(f"FAILED {word}: {done.returncode} {done.stderr!r} {done.stdout[:500]!r} in place of "
+          f"{outcome[2]} {outcome[1]!r} {outcome[0][:500]!r}")
+    return True
+
+
+def is_as_in_python(program, archives, each):
+    """Whether all archives are audited, and one of so many packed anew, as in Python; and they are of all kinds."""
+    seen, wrong = {0: 0, 1: 0, 2: 0}, 0
+    for number, archive in enumerate(archives):
         text, status = audit(archive)
         seen[status] += 1
-        wanted = [("audit", (text, b"", status))]
-        if seed % 3 == 0:
-            wanted.append(("repack", repack(archive)))
-        for word, outcome in wanted:
-            done = subprocess.run([program, word], input=archive, stdout=subprocess.PIPE, stderr=subprocess.PIPE, check=False)
-            if (done.stdout, done.stderr, done.returncode) != outcome:
-                failed += 1
-                if failed <= 5:
-                    print(f"FAILED {word} of archive {seed}: {done.returncode} {done.stderr!r} {done.stdout[:500]!r} in place of "
-                          f"{outcome[2]} {outcome[1]!r} {outcome[0][:500]!r}")
-    print(f"{count} archives: {seen[0]} continuous, {seen[1]} broken, {seen[2]} with a fault")
+        wrong += differs(program, "audit", archive, (text, b"", status))
+        if number % each == 0:
+            wrong += differs(program, "repack", archive, repack(archive))
+    print(f"{seen[0]} continuous, {seen[1]} broken, {seen[2]} with a fault")
     # Each kind has to come often, or the archives are no test.
-    failed += sum(1 for number in seen.values() if number < count // 20)
-    print(f"{1 if not failed else 0} passed, {failed} failed")
-    sys.exit(bool(failed))
+    return not wrong and min(seen.values()) > sum(seen.values()) // 20
+
+
+def damaged_headers():
+    """The second of two records with another byte in its header or its blockettes."""
+    for offset in range(64):
+        for byte in TELLING:
+            yield record() + changed(next_record(), [(offset, bytes([byte]))])
+
+
+def main():
+    program, count = sys.argv[1], int(sys.argv[2]) if len(sys.argv) > 2 else 3000
+    judged = [is_as_in_python(program, (damaged(random.Random(SEED + seed)) for seed in range(count)), 3),
+              is_as_in_python(program, damaged_headers(), 1)]
+    print(f"{sum(judged)} passed, {len(judged) - sum(judged)} failed")
+    sys.exit(not all(judged))
 
 
 main()

@@ -1,14 +1,31 @@
-"""Archives at random, sound, damaged and mixed, for `serve`: the first thing that is wrong in one decides, as
-docs/texts.md says, by what `show` lists of it. Where nothing is wrong, the port is found to be taken."""
+"""Damaged archives for `serve`: by tables of what other bytes make of a record, and at random. The first thing that is
+wrong decides, as docs/texts.md says. Where nothing is wrong, the port is found to be taken."""
 
 import random
-import subprocess
 
-from feed_program import PROGRAM, Server
-from records import record
+from auditing import cut
+from damage import FRAMING, TELLING, changed
+from feed_program import Server
+from records import next_record, record
 from seedlink import Place, Tests, listening, port_of, record_of
 
 PLACES = [Place("XX_STA"), Place("n_A1b2C"), Place("XX_STB")]
+FIRST, NEXT = record(exponent=9), next_record(exponent=9)
+SERVED = "link failed"
+FOREIGN = "record 2 is not of this feed"
+
+# What 255 in the place of one byte of the second record does: the fault there, or that it is of no place. Where it
+# stands elsewhere, the record is of its place as before.
+BYTES = [
+    (range(8), "fault at 512 notdata"),
+    (range(8, 13), FOREIGN),
+    (range(18, 20), FOREIGN),
+    ((20, 22), "fault at 512 order"),
+    ((46,), "fault at 512 truncated 512"),
+    ((47, 48, 49), "fault at 512 no1000"),
+    ((54,), "fault at 512 length 255"),
+]
+LINES_OF_BYTES = {offset: line for offsets, line in BYTES for offset in offsets}
 
 
 def odd_record(source):
@@ -33,43 +50,72 @@ def archive_at_random(source):
     return bytes(archive)
 
 
-def listing_of(archive):
-    """The offset and length of each record, and the fault behind them or none, as `show` has them."""
-    run = subprocess.run([PROGRAM, "show"], input=archive, capture_output=True, timeout=60, check=False)
-    lines = run.stdout.decode("latin-1").splitlines()
-    fault = lines.pop() if lines[-1].startswith("fault") else None
-    records = []
-    for line in lines[:-1]:
-        offset, rest = line.split(" ", 1)
-        records.append((int(offset), int(rest.split(" length ")[1].split(" ")[0])))
-    return records, fault
-
-
 def refusal_of(archive):
     """What `serve` says of an archive whose places these are."""
-    records, fault = listing_of(archive)
-    for number, (offset, length) in enumerate(records, 1):
-        bytes = archive[offset : offset + length]
-        if length != 512 or not any(place.bears(bytes) for place in PLACES):
-            return f"mseed: record {number} is not of this feed\n"
-    return f"mseed: {fault}\n" if fault else "mseed: link failed\n"
+    records, end, fault = cut(archive)
+    for number, (_, record) in enumerate(records, 1):
+        if len(record.bytes) != 512 or not any(place.bears(record.bytes) for place in PLACES):
+            return f"record {number} is not of this feed"
+    return f"fault at {end} {fault}" if fault else SERVED
+
+
+def rows_of_tables():
+    """Archives by name, each with what is said of it."""
+    for size in range(1025):
+        line = f"fault at {size // 512 * 512} truncated {size % 512}" if size % 512 else SERVED
+        yield f"the first {size} bytes", (FIRST + NEXT)[:size], line
+    for offset in range(128):
+        yield f"255 at {offset}", FIRST + changed(NEXT, [(offset, b"\xff")]), LINES_OF_BYTES.get(offset, SERVED)
+    for parts, fault in FRAMING:
+        yield f"{parts}", changed(FIRST, parts) + NEXT, f"fault at 0 {fault}"
+        yield f"{parts} of the second record", FIRST + changed(NEXT, parts), f"fault at 512 {fault}"
+    for exponent in range(7, 21):
+        parts = [(54, bytes([exponent]))]
+        # A shorter record is none of the feed's. A longer one lacks bytes, and one of 1,024 bytes is none of the feed's.
+        line = {7: FOREIGN, 8: FOREIGN, 9: SERVED}.get(exponent, "fault at 512 truncated 512")
+        yield f"exponent {exponent} of the second record", FIRST + changed(NEXT, parts), line
+        line = SERVED if exponent == 9 else "record 1 is not of this feed"
+        line = line if exponent < 11 else "fault at 0 truncated 1024"
+        yield f"exponent {exponent}", changed(FIRST, parts) + NEXT, line
+
+
+def judge_headers(tests, line_of):
+    """Each byte of a header and its blockettes in the place of which another stands that means something somewhere."""
+    for offset in range(64):
+        archives = [FIRST + changed(NEXT, [(offset, bytes([byte]))]) for byte in TELLING]
+        wrong = [byte for byte, archive in zip(TELLING, archives) if line_of(archive) != refusal_of(archive)]
+        tests.judge(f"other bytes at {offset}", not wrong, wrong)
+
+
+def judge_at_random(tests, line_of):
+    source = random.Random(1)
+    wrong, seen = [], {}
+    for _ in range(400):
+        archive = archive_at_random(source)
+        line, wanted = line_of(archive), refusal_of(archive)
+        if line != wanted:
+            wrong.append((line, wanted, archive))
+        word = wanted.split()[0]
+        seen[word] = seen.get(word, 0) + 1
+    tests.judge(f"400 archives at random, by what is wrong: {seen}", not wrong, wrong[:1])
+    tests.judge("they are of all kinds", sorted(seen) == ["fault", "link", "record"] and min(seen.values()) > 50, seen)
 
 
 def main():
     tests = Tests()
-    source = random.Random(1)
-    wrong, seen = [], {}
     with listening() as taken:
-        for _ in range(400):
-            archive = archive_at_random(source)
-            server = Server(archive, PLACES, port=port_of(taken), is_awaited=False)
-            ended, wanted = server.end(), (2, refusal_of(archive))
-            if ended != wanted:
-                wrong.append((ended, wanted, archive))
-            word = wanted[1].split()[1]
-            seen[word] = seen.get(word, 0) + 1
-    tests.judge(f"400 archives at random, by what is wrong: {seen}", not wrong, wrong[:1])
-    tests.judge("they are of all kinds", sorted(seen) == ["fault", "link", "record"] and min(seen.values()) > 50, seen)
+
+        def line_of(archive):
+            """What `serve` says of an archive; all that it writes and its status, where that isn't its own line and 2."""
+            status, told = Server(archive, PLACES, port=port_of(taken), is_awaited=False).end()
+            is_line = status == 2 and told.startswith("mseed: ") and told.endswith("\n")
+            return told[7:-1] if is_line else (status, told)
+
+        for name, archive, wanted in rows_of_tables():
+            line = line_of(archive)
+            tests.judge(f"serve of {name}", line == wanted, line)
+        judge_headers(tests, line_of)
+        judge_at_random(tests, line_of)
     raise SystemExit(tests.report())
 
 
