@@ -9,6 +9,7 @@ pub mod PlaceWords
 pub mod Different
 pub mod Fills
 pub mod OneFilling
+pub mod OneRepacking
 pub mod Relayed
 pub mod ReadChannels
 pub mod Judged

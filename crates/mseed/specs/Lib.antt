@@ -14,6 +14,7 @@ pub mod Repack
 pub mod Repacking
 pub mod Reading
 pub mod Repacked
+pub mod OneRepacking
 pub mod Filling
 pub mod Plans
 pub mod Relay

@@ -12,6 +12,7 @@ mod fill_fault;
 mod filling;
 mod found;
 mod kept;
+mod law;
 mod listing;
 mod numbers;
 mod outcome;
