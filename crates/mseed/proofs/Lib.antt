@@ -13,4 +13,5 @@ pub mod OneRepacking
 pub mod Relayed
 pub mod ReadChannels
 pub mod Judged
+pub mod Serves
 pub mod Fetches

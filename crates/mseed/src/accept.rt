@@ -1,6 +1,7 @@
 //! Where the links of a server come from.
 ghost use Rattle.std.specs.Prelude.{◌≡◌, ◌+◌, ℕ, IfSome, is_none, if◌then◌else◌};
 ghost use Rattle.mseed_stream.specs.Device.{nothing_heard, nothing_said};
+ghost use Rattle.mseed.specs.Served.{has_failed};
 
 use mseed_stream::Duplex;
 
@@ -14,10 +15,21 @@ pub trait Accept {
     // How many of them failed.
     ghost failures: { Self → ℕ };
 
+    // How many links were given back that had failed.
+    ghost lost: { Self → ℕ };
+
     /// The next link, of which nothing was read and to which nothing was written; or none, where the call failed.
     fn accept(&mut self) -> Option<Self::Link>
         ensures calls { calls self.new ≡ calls self.old + 1 }
         ensures failures { failures self.new ≡ failures self.old + (if is_none result then 1 else 0) }
+        ensures lost { lost self.new ≡ lost self.old }
         ensures unheard { IfSome result (λ link. Self.Link.Source.heard link ≡ nothing_heard) }
         ensures unsaid { IfSome result (λ link. Self.Link.Sink.said link ≡ nothing_said) };
+
+    /// Takes a link back and closes it, and is told whether it failed.
+    fn hang_up(&mut self, link: Self::Link, failed: bool)
+        requires told { failed ≡ has_failed (Self.Link.Source.heard link) (Self.Link.Sink.said link) }
+        ensures lost { lost self.new ≡ lost self.old + (if failed then 1 else 0) }
+        ensures calls { calls self.new ≡ calls self.old }
+        ensures failures { failures self.new ≡ failures self.old };
 }

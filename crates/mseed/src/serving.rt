@@ -1,6 +1,6 @@
 //! Serving a feed to one connection after another.
-ghost use Rattle.std.specs.Prelude.{◌≡◌, ◌+◌, true};
-ghost use Rattle.mseed.specs.Served.{HasServed};
+ghost use Rattle.std.specs.Prelude.{◌≡◌, ◌+◌, ◌<◌, ◌↔◌, false, if◌then◌else◌, true};
+ghost use Rattle.mseed.specs.Served.{HasServed, IsServed};
 
 use crate::accept::Accept;
 use crate::command::tell;
@@ -15,8 +15,8 @@ pub const TURNS: u64 = 1 << 40;
 /// Serves the feed to so many connections, one after another, each by a session of its own. An `accept` that fails
 /// uses up a connection.
 ///
-/// The exit status is answered: 0, or 2 where some `accept` or link failed, and then `errors` takes a line that says
-/// so.
+/// The exit status is answered: 0 exactly where no `accept` and no link failed, and else 2, and then `errors` takes a
+/// line that says so.
 pub fn serve_all<B: Allocator, A: Accept, E: Sink>(
     feed: &Feed<B>,
     connections: u64,
@@ -24,7 +24,8 @@ pub fn serve_all<B: Allocator, A: Accept, E: Sink>(
     errors: &mut E,
 ) -> u8
     ensures accepts { A.calls acceptor.new ≡ A.calls acceptor.old + connections }
-    ensures fine { result ≡ 0 → A.failures acceptor.new ≡ A.failures acceptor.old }
+    ensures fine { result ≡ 0
+        ↔ (A.failures acceptor.new + A.lost acceptor.new ≡ A.failures acceptor.old + A.lost acceptor.old) }
     ensures told { HasServed result (E.said errors.old) (E.said errors.new) }
 {
     if serve_connections(feed, connections, acceptor) {
@@ -41,7 +42,10 @@ fn serve_connections<B: Allocator, A: Accept>(
     acceptor: &mut A,
 ) -> bool
     ensures accepts { A.calls acceptor.new ≡ A.calls acceptor.old + connections }
-    ensures fine { result ≡ true → A.failures acceptor.new ≡ A.failures acceptor.old }
+    ensures fine { result ≡ true
+        → A.failures acceptor.new + A.lost acceptor.new ≡ A.failures acceptor.old + A.lost acceptor.old }
+    ensures failed { result ≡ false
+        → A.failures acceptor.old + A.lost acceptor.old < A.failures acceptor.new + A.lost acceptor.new }
 {
     let mut is_fine = true;
     for connection in 0..connections {
@@ -55,24 +59,32 @@ fn serve_connections<B: Allocator, A: Accept>(
 /// Serves the next connection, and answers whether it could be had and didn't fail.
 fn serve_next<B: Allocator, A: Accept>(feed: &Feed<B>, acceptor: &mut A) -> bool
     ensures accepts { A.calls acceptor.new ≡ A.calls acceptor.old + 1 }
-    ensures fine { result ≡ true → A.failures acceptor.new ≡ A.failures acceptor.old }
+    ensures fine { A.failures acceptor.new + A.lost acceptor.new
+        ≡ A.failures acceptor.old + A.lost acceptor.old + (if result then 0 else 1) }
 {
     match acceptor.accept() {
-        Some(mut link) => serve_link(feed, &mut link).is_ok(),
+        Some(mut link) => {
+            let is_fine = serve_link(feed, &mut link).is_ok();
+            acceptor.hang_up(link, !is_fine);
+            is_fine
+        }
         None => false,
     }
 }
 
-/// Serves a link until nothing more is to be sent, or until many turns were taken.
+/// Serves a link by a session of its own, until nothing more is to be sent, or until many turns were taken.
 ///
 /// # Errors
 ///
 /// Why the link failed.
-fn serve_link<B: Allocator, S: Duplex>(feed: &Feed<B>, link: &mut S) -> Result<(), LinkFault> {
+pub fn serve_link<B: Allocator, S: Duplex>(feed: &Feed<B>, link: &mut S) -> Result<(), LinkFault>
+    ensures { IsServed feed.now result (S.heard link.old) (S.heard link.new) (S.said link.old) (S.said link.new) }
+{
     let mut session = Session::new();
     for turn in 0..TURNS {
-        if serve_turn(&mut session, feed, link)? != Turn::Goes {
-            break;
+        match serve_turn(&mut session, feed, link)? {
+            Turn::Goes => {}
+            Turn::Closed | Turn::Ended | Turn::Stopped(_) => break,
         }
     }
     Ok(())

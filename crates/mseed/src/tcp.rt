@@ -36,6 +36,7 @@ fn link_over<S: OpenStream>(stream: S) -> Counted<S>
 pub struct Listening<N: Net> {
     listener: N::Listener,
     tally: Tally,
+    lost: Tally,
 }
 
 impl<N: Net> Listening<N> {
@@ -48,6 +49,7 @@ impl<N: Net> Listening<N> {
         Ok(Listening {
             listener: TcpListener::bind(net, address_of(port))?,
             tally: Tally::new(),
+            lost: Tally::new(),
         })
     }
 }
@@ -58,6 +60,8 @@ impl<N: Net> Accept for Listening<N> {
     ghost calls = { λ l. l.tally.calls };
 
     ghost failures = { λ l. l.tally.failures };
+
+    ghost lost = { λ l. l.lost.failures };
 
     fn accept(&mut self) -> Option<Counted<N::Stream>> {
         match self.listener.accept() {
@@ -70,6 +74,10 @@ impl<N: Net> Accept for Listening<N> {
                 None
             }
         }
+    }
+
+    fn hang_up(&mut self, _link: Counted<N::Stream>, failed: bool) {
+        self.lost.record(&[], failed);
     }
 }
 
