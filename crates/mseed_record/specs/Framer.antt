@@ -1,6 +1,7 @@
 -- How far a framer has come along the bytes that it is shown.
-use Rattle.std.specs.Prelude.{◌≡◌, ℕ, ◌+◌, ◌^◌, ◌≤◌, ◌<◌, true, false, List, [], ◌∷◌, length, Some, None, IfSome}
+use Rattle.std.specs.Prelude.{◌≡◌, ℕ, ◌+◌, ◌^◌, ◌≤◌, ◌<◌, true, false, List, [], ◌∷◌, length, Some, None, IfSome, MatchOption}
 use Rattle.mseed_time.specs.declared.order.Order.{Order}
+use Rattle.mseed_record.specs.declared.frame.Scan.{Scan}
 use Rattle.mseed_record.specs.declared.framer.Framer.{Framer}
 use Rattle.mseed_record.specs.declared.framer.Reached.{Reached}
 use Rattle.mseed_record.specs.Header.{has_fixed_bytes, blockette_at}
@@ -27,3 +28,11 @@ pub record HasReached (r : Reached) (front : List ℕ) : Type 0 where
 -- where it ended a look, the steps come to in these bytes too
 abbrev pub IsFramerOf : Framer → List ℕ → Type 0
 IsFramerOf framer front = IfSome framer.reached (λ r. HasReached r front)
+
+-- the steps end at the header, and come to no offset of a chain
+abbrev pub HasNoChain : List ℕ → Type 0
+HasNoChain front = (r : Reached) → ¬ (HasReached r front)
+
+-- It stands where an answer is decided: at the offset to which the steps came, or nowhere where no chain begins.
+abbrev pub StandsAt : Framer → List ℕ → Scan → Type 0
+StandsAt framer front answer = MatchOption framer.reached (HasNoChain front) (λ r. at_offset r.order front r.low r.offset ≡ Some answer)

@@ -1,9 +1,9 @@
 //! Framing that goes on where it ended, while a record's bytes come.
-ghost use Rattle.std.specs.Prelude.{◌≡◌, ◌≤◌, ◌<◌, ◌+◌, ◌++◌, ◌^◌, ℕ, List, length, take, IfOk, IfErr};
+ghost use Rattle.std.specs.Prelude.{◌≡◌, ◌≤◌, ◌<◌, ◌+◌, ◌++◌, ◌^◌, ℕ, List, length, take, IfOk, IfErr, OnErr, Some};
 ghost use Rattle.mseed_record.specs.declared.frame.Scan.TheVariants.{Need, Record};
 ghost use Rattle.mseed_record.specs.Record.{IsRecord};
 ghost use Rattle.mseed_record.specs.Scan.{Decides, at_offset, at_1000};
-ghost use Rattle.mseed_record.specs.Framer.{IsFramerOf, HasReached};
+ghost use Rattle.mseed_record.specs.Framer.{IsFramerOf, HasReached, HasNoChain, StandsAt};
 
 use crate::frame::{FrameFault, Scan};
 use crate::header::{HEADER, has_fixed_bytes, order_of};
@@ -43,6 +43,9 @@ impl Framer {
     pub fn look(&mut self, front: &[u8]) -> Scan
         requires { IsFramerOf self.old front.now }
         ensures goes_on { (more : List ℕ) → IsFramerOf self.new (front.now ++ more) }
+
+        // It is kept where the answer was decided: at an offset of the chain, or nowhere while none begins.
+        ensures stands { StandsAt self.new front.now result }
         ensures decides { Decides front.now result }
         ensures record { (k : ℕ) → result ≡ Record k → (k ≤ length front.now) × IsRecord (take k front.now) }
         ensures bound { (k : ℕ) → result ≡ Need k → (length front.now < k) × (k ≤ 2 ^ 20) }
@@ -64,6 +67,7 @@ impl Framer {
 fn chain_of(front: &[u8]) -> Result<Reached, Scan>
     ensures ok { IfOk result (λ begin. HasReached begin front.now) }
     ensures err { IfErr result (λ answer. Decides front.now answer) }
+    ensures none { OnErr result (HasNoChain front.now) }
 {
     if front.starts_with(b"MS\x03") {
         return Err(Scan::Not(FrameFault::Version3));
@@ -88,6 +92,7 @@ fn chain_of(front: &[u8]) -> Result<Reached, Scan>
 fn go_along(front: &[u8], from: Reached) -> (Reached, Scan)
     requires { HasReached from front.now }
     ensures reached { HasReached result.0 front.now }
+    ensures stands { at_offset result.0.order front.now result.0.low result.0.offset ≡ Some result.1 }
     ensures decides { Decides front.now result.1 }
 {
     let order = from.order;
