@@ -40,7 +40,7 @@ seven Two c d =
     (cond_holds AtMostSeven (eqb d 2) _ _ (some_seven _ (omega arith)) none_seven)))
     none_seven))
 
-spelled_seven : (s : Scheme) (c w : ℕ) (ds : List ℤ) → Spells s c w ds → length ds ≤ 7
+pub spelled_seven : (s : Scheme) (c w : ℕ) (ds : List ℤ) → Spells s c w ds → length ds ≤ 7
 spelled_seven s c w ds (empty e none) = let size : length ds ≡ 0 = ap (λ (xs : List ℤ). length xs) none in omega (arith, size)
 spelled_seven s c w ds (row g d found is) = let few = seven s c d g found in omega (arith, few, is.count)
 
