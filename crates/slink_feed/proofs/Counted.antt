@@ -14,8 +14,8 @@ use Rattle.slink_feed.specs.declared.dialogue.Stage.{Stage}
 use Rattle.slink_feed.specs.declared.dialogue.Stage.TheVariants.{Station, Number, Packets}
 use Rattle.slink_feed.specs.declared.dialogue.Wanted.{Wanted}
 use Rattle.slink_feed.specs.declared.session.Phase.{Phase}
-use Rattle.slink_feed.specs.declared.session.Phase.TheVariants.{Granted}
-use Rattle.slink_feed.specs.Counted.{Gained, behind, brought_of, part, whole_of, wholes, with_event, with_events}
+use Rattle.slink_feed.specs.declared.session.Phase.TheVariants.{Granted, Chosen, Closed}
+use Rattle.slink_feed.specs.Counted.{Gained, behind, events_upon, on_item, part, talk_upon, wholes, with_event, with_events}
 use Rattle.slink_feed.specs.Cutting.{IsBegun, IsWhole}
 use Rattle.slink_feed.specs.Dialogue.{Talk, Wants, Reply, Packet, End, at_packet, bearer, ended, heard, heard_at, next_at, next_set, numbered, says, to_place, told, want_at, with_next}
 use Rattle.slink_feed.specs.Listening.{AreBrought, IsLinked, events_of, talk_after, telling}
@@ -23,7 +23,8 @@ use Rattle.slink_feed.specs.Session.{Grants, State, grant_at}
 use Rattle.slink_feed.specs.Ties.{Item, Accepted, Refused, Greeted, Carried, Finished, Places, item_bytes, of_place, way_bytes}
 use Rattle.slink_feed.specs.World.{Differ, Numbers}
 use Rattle.slink_feed.proofs.Answering.{Open}
-use Rattle.slink_feed.proofs.Counting.{whole_or}
+use Rattle.slink_feed.proofs.Calling.{open_at}
+use Rattle.slink_feed.proofs.Counting.{brought_of, whole_of, whole_or}
 use Rattle.slink_feed.proofs.Counts.{EndsIn}
 use Rattle.slink_feed.proofs.Fronted.{wanted_told}
 use Rattle.slink_feed.proofs.Heard.{begun_none}
@@ -36,6 +37,17 @@ use Rattle.slink_feed.proofs.Requested.{also_at, end_line, number_line, station_
 use Rattle.slink_feed.proofs.Shaken.{asked_next, bearer_found, lacks_end, some_if, suited_next, suited_wanted, want_slot}
 use Rattle.slink_feed.proofs.Shaking.{AreAsked, AreBorne, AreSent, IsSuited, Shakes, asks_end, asks_number, asks_place, has_none, has_number, has_place, streams}
 use Rattle.slink_feed.proofs.Wholes.{front_begun}
+
+-- what the client's table makes of items is what they are
+abbrev pub Same : Talk → List Item → Type 0
+Same t ws = (talk_after t (map brought_of ws) ≡ talk_upon t ws) × ((f : Numbers) (g : Gained) → with_events f (events_of t (map brought_of ws)) g ≡ with_events f (events_upon t ws) g)
+
+same_more : (t : Talk) (i : Item) (ws : List Item) → heard t (whole_of i) ≡ on_item t.stage i t → Same (heard t (whole_of i)).0 ws → Same t (i ∷ ws)
+same_more t i ws h more = (
+  more.0 ∙ ap (λ (x : Talk × Event). talk_upon x.0 ws) h,
+  λ f g. told_events f (heard t (whole_of i)).1 (events_of (heard t (whole_of i)).0 (map brought_of ws)) g
+      ∙ (more.1 f (with_event f (heard t (whole_of i)).1 g) ∙ ap (λ (x : Talk × Event). with_events f (events_upon x.0 ws) (with_event f x.1 g)) h),
+)
 
 -- a front of an item that isn't whole is begun
 part_begun : (stage : Stage) (i : Item) (is : List Item) (d : ℕ) → IsWhole stage (item_bytes i) (whole_of i) → d < length (item_bytes i) → IsBegun stage (take d (way_bytes (i ∷ is)))
@@ -59,6 +71,7 @@ module _ (places : Places) (differ : Differ places) (codes_are : (k : ℕ) (p : 
     pub are : AreBrought t (map brought_of ws)
     pub is_begun : IsRest (talk_after t (map brought_of ws)).stage (take p (way_bytes bs))
     pub unsaid : (f : Numbers) (g : Gained) → (with_events f (events_of t (map brought_of ws)) g).to_server ≡ g.to_server
+    pub same : Same t ws
     pub after : IsLinked (talk_after t (map brought_of ws)).stage → Streams grants phase (talk_after t (map brought_of ws)) bs
 
   at_stage : (t : Talk) (i : Item) → t.stage ≡ Packets → IsWhole Packets (item_bytes i) (whole_of i) → IsWhole t.stage (item_bytes i) (whole_of i)
@@ -69,6 +82,7 @@ module _ (places : Places) (differ : Differ places) (codes_are : (k : ℕ) (p : 
     are = tt;
     is_begun = λ _. part_begun t.stage i is d (at_stage t i s.stage whole) lt;
     unsaid = λ f g. refl;
+    same = (refl, λ f g. refl);
     after = λ _. s;
   }
 
@@ -127,6 +141,7 @@ module _ (places : Places) (differ : Differ places) (codes_are : (k : ℕ) (p : 
           is_begun = h'.is_begun;
           unsaid = λ f g. ap (λ (z : Gained). z.to_server) (told_events f (heard t (Packet m r)).1 (events_of (heard t (Packet m r)).0 (map brought_of ws)) g)
               ∙ (h'.unsaid f (with_event f (heard t (Packet m r)).1 g) ∙ ap (λ (y : Talk × Event). (with_event f y.1 g).to_server) packet_told);
+          same = same_more t (Carried k n r) ws (packet_told ∙ ap (λ (y : Stage). on_item y (Carried k n r) t) (sym s.stage)) h'.same;
           after = h'.after;
         }
 
@@ -138,12 +153,13 @@ module _ (places : Places) (differ : Differ places) (codes_are : (k : ℕ) (p : 
         are = (at_stage t Finished s.stage refl, tt);
         is_begun = λ _. begun_none (heard t End).0.stage;
         unsaid = λ f g. ap (λ (y : Talk × Event). (with_events f (telling y.1 ++ []) g).to_server) h;
+        same = same_more t Finished [] (h ∙ ap (λ (y : Stage). on_item y Finished t) (sym s.stage)) (refl, λ f g. refl);
         after = λ linked. absurd (subst (λ (y : Talk × Event). IsLinked y.0.stage) h linked);
       }
 
   -- so many bytes are heard
   pub streamed_front : (items : List Item) (grants : Grants) (phase : Phase) (t : Talk) (d : ℕ) → Streams grants phase t items → Front grants phase t (wholes d items) (behind d items) (part d items)
-  streamed_front [] grants phase t d s = record { are = tt; is_begun = λ _. begun_none t.stage; unsaid = λ f g. refl; after = λ _. s }
+  streamed_front [] grants phase t d s = record { are = tt; is_begun = λ _. begun_none t.stage; unsaid = λ f g. refl; same = (refl, λ f g. refl); after = λ _. s }
   streamed_front (Accepted ∷ rest) grants phase t d s = absurd s.sent.0
   streamed_front (Refused ∷ rest) grants phase t d s = absurd s.sent.0
   streamed_front (Greeted ∷ rest) grants phase t d s = absurd s.sent.0
@@ -167,6 +183,8 @@ module _ (places : Places) (differ : Differ places) (codes_are : (k : ℕ) (p : 
   pub record Outcome (s : State) (taken way : List ℕ) (t : Talk) (ws bs : List Item) (p : ℕ) : Type 0 where
     pub are : AreBrought t (map brought_of ws)
     pub is_begun : IsRest (talk_after t (map brought_of ws)).stage (take p (way_bytes bs))
+    pub same : Same t ws
+    pub unsaid : s.phase ≡ Closed → (f : Numbers) (g : Gained) → (with_events f (events_of t (map brought_of ws)) g).to_server ≡ g.to_server
     pub after : (f : Numbers) (g : Gained) → g.to_server ≡ way → IsLinked (talk_after t (map brought_of ws)).stage → Left s taken (talk_after t (map brought_of ws)) (with_events f (events_of t (map brought_of ws)) g).to_server bs
     pub quiet : (f : Numbers) (g : Gained) → g.to_server ≡ way → ¬ (IsLinked (talk_after t (map brought_of ws)).stage) → Open s.phase → IsAnswered taken (with_events f (events_of t (map brought_of ws)) g).to_server
 
@@ -176,26 +194,32 @@ module _ (places : Places) (differ : Differ places) (codes_are : (k : ℕ) (p : 
     nothing_heard items p begun linked left = record {
       are = tt;
       is_begun = λ _. begun;
+      same = (refl, λ f g. refl);
+      unsaid = λ _ f g. refl;
       after = λ f g same _. subst (λ b. Left s taken t b items) (sym same) left;
       quiet = λ f g same over. absurd (over linked);
     }
 
     -- a line is said
-    line_said : (i : Item) (stage : Stage) (request : Request) → IsWhole t.stage (item_bytes i) (whole_of i) → heard t (whole_of i) ≡ says t stage request → IsLinked stage
+    line_said : (i : Item) (stage : Stage) (request : Request) → Open s.phase → heard t (whole_of i) ≡ on_item t.stage i t → IsWhole t.stage (item_bytes i) (whole_of i) → heard t (whole_of i) ≡ says t stage request → IsLinked stage
         → ((k : ℕ) → IsSuited (next_at t.wants k) (grant_at s.grants k) []) → Shakes (record t { stage = stage }) s.phase taken (way ++ request_bytes request) [] → Outcome s taken way t (i ∷ []) [] 0
-    line_said i stage request whole h linked suited shakes = record {
+    line_said i stage request awake on whole h linked suited shakes = record {
       are = (whole, tt);
       is_begun = λ _. begun_none (heard t (whole_of i)).0.stage;
+      same = same_more t i [] on (refl, λ f g. refl);
+      unsaid = λ shut f g. absurd (awake shut);
       after = λ f g same _. subst (λ (y : Talk × Event). Left s taken y.0 (with_events f (telling y.1 ++ []) g).to_server []) (sym h)
           (subst (λ b. Left s taken (record t { stage = stage }) (b ++ request_bytes request) []) (sym same) (record { borne = tt; suited = suited; shakes = shakes; ends = tt }));
       quiet = λ f g same over. absurd (over (subst (λ (y : Talk × Event). IsLinked y.0.stage) (sym h) linked));
     }
 
     -- a place is refused
-    refusal_heard : (k : ℕ) → IsWhole t.stage (item_bytes Refused) (whole_of Refused) → heard t (Reply (codes "ERROR")) ≡ ended (endings.Refused k) t → IsAnswered taken way → Outcome s taken way t (Refused ∷ []) [] 0
-    refusal_heard k whole h told = record {
+    refusal_heard : (k : ℕ) → Open s.phase → heard t (Reply (codes "ERROR")) ≡ on_item t.stage Refused t → IsWhole t.stage (item_bytes Refused) (whole_of Refused) → heard t (Reply (codes "ERROR")) ≡ ended (endings.Refused k) t → IsAnswered taken way → Outcome s taken way t (Refused ∷ []) [] 0
+    refusal_heard k awake on whole h told = record {
       are = (whole, tt);
       is_begun = λ _. begun_none (heard t (Reply (codes "ERROR"))).0.stage;
+      same = same_more t Refused [] on (refl, λ f g. refl);
+      unsaid = λ shut f g. absurd (awake shut);
       after = λ f g same linked. absurd (subst (λ (y : Talk × Event). IsLinked y.0.stage) h linked);
       quiet = λ f g same _ _. subst (λ (y : Talk × Event). IsAnswered taken (with_events f (telling y.1 ++ []) g).to_server) (sym h) (subst (IsAnswered taken) (sym same) told);
     }
@@ -210,14 +234,14 @@ module _ (places : Places) (differ : Differ places) (codes_are : (k : ℕ) (p : 
     error_reply : (k : ℕ) → IsWhole (Number k) (item_bytes Refused) (whole_of Refused)
     error_reply k = (refl, lacks_end (codes "ERROR" ++ 13 ∷ []) refl, omega arith)
 
-    next_said : (k : ℕ) (o : Option Wanted) → AreAsked places t.wants → t.stage ≡ Number k → s.phase ≡ Granted k → IsAnswered taken way → want_at t.wants (k + 1) ≡ o → heard t (Reply (codes "OK")) ≡ to_place o (k + 1) t
+    next_said : (k : ℕ) (o : Option Wanted) → AreAsked places t.wants → t.stage ≡ Number k → s.phase ≡ Granted k → IsAnswered taken way → want_at t.wants (k + 1) ≡ o → heard t (Reply (codes "OK")) ≡ on_item t.stage Accepted t → heard t (Reply (codes "OK")) ≡ to_place o (k + 1) t
         → ((i : ℕ) → IsSuited (next_at t.wants i) (grant_at s.grants i) []) → Outcome s taken way t (Accepted ∷ []) [] 0
-    next_said k None asked stage phase told want h suited =
-        line_said Accepted Packets requests.End (subst (λ (y : Stage). IsWhole y (item_bytes Accepted) (whole_of Accepted)) (sym stage) (ok_reply k)) h tt suited (asks_end k refl phase (asks_more (request_line requests.End) taken way end_line told) refl)
-    next_said k (Some w) asked stage phase told want h suited =
+    next_said k None asked stage phase told want on h suited =
+        line_said Accepted Packets requests.End (open_at s.phase (Granted k) phase tt) on (subst (λ (y : Stage). IsWhole y (item_bytes Accepted) (whole_of Accepted)) (sym stage) (ok_reply k)) h tt suited (asks_end k refl phase (asks_more (request_line requests.End) taken way end_line told) refl)
+    next_said k (Some w) asked stage phase told want on h suited =
         let q : (p : Fields × Option ℕ) × (slice_get places (k + 1) ≡ Some p) × (w.place ≡ p.0) = also_at (λ (x : Wanted). x.place) (λ (p : Fields × Option ℕ). p.0) (want_at t.wants (k + 1)) (slice_get places (k + 1)) w (asked.alike (k + 1)) want in
         let fields : IsField 5 w.place.station × IsField 2 w.place.network = subst (λ (f : Fields). IsField 5 f.station × IsField 2 f.network) (sym q.2) (codes_are (k + 1) q.0 q.1) in
-        line_said Accepted (Station (k + 1)) (requests.Station w.place) (subst (λ (y : Stage). IsWhole y (item_bytes Accepted) (whole_of Accepted)) (sym stage) (ok_reply k)) h tt suited
+        line_said Accepted (Station (k + 1)) (requests.Station w.place) (open_at s.phase (Granted k) phase tt) on (subst (λ (y : Stage). IsWhole y (item_bytes Accepted) (whole_of Accepted)) (sym stage) (ok_reply k)) h tt suited
         (asks_place (k + 1) w refl want (inr (k, refl, phase)) (asks_more (request_line (requests.Station w.place)) taken way (station_line w.place fields.0 fields.1) told) refl)
 
     -- by who has said what
@@ -241,26 +265,32 @@ module _ (places : Places) (differ : Differ places) (codes_are : (k : ℕ) (p : 
       whole_at : (stage : Stage) (i : Item) → t.stage ≡ stage → IsWhole stage (item_bytes i) (whole_of i) → IsWhole t.stage (item_bytes i) (whole_of i)
       whole_at stage i is whole = subst (λ (y : Stage). IsWhole y (item_bytes i) (whole_of i)) (sym is) whole
 
+      -- the table says the same at this stage
+      on_is : (i : Item) (stage : Stage) → t.stage ≡ stage → heard_at stage t (whole_of i) ≡ on_item stage i t → heard t (whole_of i) ≡ on_item t.stage i t
+      on_is i stage is at = subst (λ (y : Stage). heard_at y t (whole_of i) ≡ on_item y i t) (sym is) at
+
       by_shakes : Shakes t s.phase taken way items → Result items
       by_shakes (asks_place k w stage want ready asks none) = empty none (there (Station k) stage tt)
       by_shakes (has_place k stage phase said one) =
           let request : Request = numbered t.mode (next_at t.wants k) in
           subst Result (sym one) (one_or Accepted d (there (Station k) stage tt) (whole_at (Station k) Accepted stage (ok_reply k))
-          (line_said Accepted (Number k) request (whole_at (Station k) Accepted stage (ok_reply k)) (ap (λ (y : Stage). heard_at y t (Reply (codes "OK"))) stage) tt (suits Accepted (λ i. refl) one)
+          (line_said Accepted (Number k) request (open_at s.phase (Chosen k) phase tt) (on_is Accepted (Station k) stage refl) (whole_at (Station k) Accepted stage (ok_reply k)) (ap (λ (y : Stage). heard_at y t (Reply (codes "OK"))) stage) tt (suits Accepted (λ i. refl) one)
           (asks_number k refl phase (asks_more (request_line request) taken way (number_line t.mode (next_at t.wants k)) said) refl)) (subst (Left s taken t way) one left))
       by_shakes (asks_number k stage phase asks none) = empty none (there (Number k) stage tt)
       by_shakes (has_number k stage phase said one) =
           subst Result (sym one) (one_or Accepted d (there (Number k) stage tt) (whole_at (Number k) Accepted stage (ok_reply k))
-          (next_said k (want_at t.wants (k + 1)) asked stage phase said refl (ap (λ (y : Stage). heard_at y t (Reply (codes "OK"))) stage) (suits Accepted (λ i. refl) one)) (subst (Left s taken t way) one left))
+          (next_said k (want_at t.wants (k + 1)) asked stage phase said refl (on_is Accepted (Number k) stage refl) (ap (λ (y : Stage). heard_at y t (Reply (codes "OK"))) stage) (suits Accepted (λ i. refl) one)) (subst (Left s taken t way) one left))
       by_shakes (has_none k stage phase said one) =
           subst Result (sym one) (one_or Refused d (there (Number k) stage tt) (whole_at (Number k) Refused stage (error_reply k))
-          (refusal_heard k (whole_at (Number k) Refused stage (error_reply k)) (ap (λ (y : Stage). heard_at y t (Reply (codes "ERROR"))) stage) said) (subst (Left s taken t way) one left))
+          (refusal_heard k (open_at s.phase (Chosen k) phase tt) (on_is Refused (Number k) stage refl) (whole_at (Number k) Refused stage (error_reply k)) (ap (λ (y : Stage). heard_at y t (Reply (codes "ERROR"))) stage) said) (subst (Left s taken t way) one left))
       by_shakes (asks_end k stage phase asks none) = empty none (there Packets stage tt)
       by_shakes (streams stage later sent said) =
           let front : Front s.grants s.phase t (wholes d items) (behind d items) (part d items) = streamed_front items s.grants s.phase t d (record { stage = stage; asked = asked; borne = borne; suited = suited; sent = sent; ends = ends }) in
           record {
             are = front.are;
             is_begun = front.is_begun;
+            same = front.same;
+            unsaid = λ _ f g. front.unsaid f g;
             after = λ f g same linked.
                 let u : Streams s.grants s.phase (talk_after t (map brought_of (wholes d items))) (behind d items) = front.after linked in
                 let same_way : (with_events f (events_of t (map brought_of (wholes d items))) g).to_server ≡ way = front.unsaid f g ∙ same in

@@ -1,5 +1,5 @@
 -- The counts of a link once a packet of it was asked for.
-use Rattle.std.proofs.Common.{◌≡◌, ℕ, ◌+◌, ◌%◌, ◌^◌, ◌<◌, ◌==◌, inl, inr, refl, sym, ap, subst, ◌∙◌, arith, Bool, true, false, if◌then◌else◌, List, [], ◌∷◌, ◌++◌, append-nil, length, length-append, set, take, drop, Option, Some, None, slice_get, unwrap_or}
+use Rattle.std.proofs.Common.{◌≡◌, ℕ, ◌+◌, ◌%◌, ◌^◌, ◌<◌, ◌==◌, inl, inr, refl, sym, ap, subst, ◌∙◌, arith, Bool, true, false, if◌then◌else◌, List, [], ◌∷◌, ◌++◌, append-nil, length, length-append, set, take, drop, Option, Some, None, slice_get, unwrap_or, ◌≤◌}
 use Rattle.std.proofs.lemmas.List.{drop-append-le}
 use Rattle.slink_wire.specs.Packet.{packet_bytes}
 use Rattle.slink_wire.specs.Place.{Bears, Fields}
@@ -21,9 +21,11 @@ use Rattle.slink_feed.proofs.Counting.{behind_more}
 use Rattle.slink_feed.proofs.Counts.{Counts, EndsIn, Pinned, pinned_as}
 use Rattle.slink_feed.proofs.Items.{carried_here, carried_there, carries_none, flow_more, of_more, put_here, put_there, same_or_not, way_more}
 use Rattle.slink_feed.proofs.Lined.{IsAnswered}
+use Rattle.slink_feed.proofs.OneWorld.{linked_or}
 use Rattle.slink_feed.proofs.Requested.{also_at}
 use Rattle.slink_feed.proofs.Shaking.{AreBorne, AreRinged, AreSent, IsSuited, streams}
 use Rattle.slink_feed.proofs.Sparing.{borne_more, sent_more, slot_within, streaming_is, suited_more, window_sound}
+use Rattle.slink_feed.proofs.Waiting.{answered_few}
 
 -- what is sent goes behind what was
 ends_more : (phase : Phase) (is ys : List Item) → EndsIn Streaming is → EndsIn phase ys → EndsIn phase (is ++ ys)
@@ -48,6 +50,7 @@ module _ (places : Places) (client : Listening) (feed : List Window) (ringed : A
   record Goes (x : State × Sent) (ys : List Item) : Type 0 where
     bytes : sent_bytes x.1 ≡ way_bytes ys
     awake : Open x.0.phase → Open s.phase
+    few : x.0.phase ≡ Closed → length l.to_server ≤ 1
     pinned : Pinned places client s before l.to_server l.to_client its → Pinned places client x.0 before l.to_server (l.to_client ++ sent_bytes x.1) (its ++ ys)
 
   abbrev GoesOn : State × Sent → Type 0
@@ -57,14 +60,25 @@ module _ (places : Places) (client : Listening) (feed : List Window) (ringed : A
   nothing_sent o none nothing = record {
     bytes = none ∙ ap way_bytes (sym nothing);
     awake = λ a. a;
+    few = counts.over;
     pinned = pinned_as places client s before before l.to_server l.to_server l.to_client (l.to_client ++ sent_bytes o) its (its ++ items_sent feed s.grants k o) refl refl
         (sym (ap (λ b. l.to_client ++ b) none ∙ append-nil l.to_client)) (sym (ap (λ ys. its ++ ys) nothing ∙ append-nil its));
   }
+
+  -- all lines are answered once packets are sent
+  settled : s.phase ≡ Streaming → length l.to_server ≤ 1
+  settled phase =
+      let awake : Open s.phase = λ shut. let bad : Streaming ≡ Closed = sym phase ∙ shut in cc bad in
+      elim (linked_or client.talk.stage) [
+        | inl there ↦ answered_few before l.to_server ((streaming_is client.talk s.phase before l.to_server its (λ b. subst IsBefore phase b) (counts.linked there).shakes).2 awake)
+        | inr over ↦ answered_few before l.to_server (counts.quiet over awake)
+      ]
 
   shut : (o : Sent) (ys : List Item) → s.phase ≡ Streaming → sent_bytes o ≡ way_bytes ys → AreBorne places ys → AreSent ys → ((i : ℕ) → of_place i ys ≡ []) → EndsIn Closed ys → Goes (at Closed s.grants, o) ys
   shut o ys phase bytes borne sent none ends = record {
     bytes = bytes;
     awake = λ a. absurd (a refl);
+    few = λ _. settled phase;
     pinned = λ pin.
         let now : (client.talk.stage ≡ Packets) × AreSent its × (¬ (s.phase ≡ Closed) → IsAnswered before l.to_server) = streaming_is client.talk s.phase before l.to_server its (λ b. subst IsBefore phase b) pin.shakes in
         record {
@@ -88,6 +102,7 @@ module _ (places : Places) (client : Listening) (feed : List Window) (ringed : A
       record {
         bytes = sym (append-nil (packet_bytes (g.position % 2 ^ 24) r));
         awake = λ a. a;
+        few = counts.over;
         pinned = λ pin.
             let now : (client.talk.stage ≡ Packets) × AreSent its × (¬ (s.phase ≡ Closed) → IsAnswered before l.to_server) = streaming_is client.talk s.phase before l.to_server its (λ b. subst IsBefore phase b) pin.shakes in
             record {
@@ -165,4 +180,5 @@ module _ (places : Places) (client : Listening) (feed : List Window) (ringed : A
         linked = λ there. pinned_as places client x.0 before before l.to_server l.to_server (l.to_client ++ sent_bytes x.1) (l.to_client ++ sent_bytes x.1) (its ++ ys) (behind c.delivered (c.sent ++ ys))
             refl refl refl (sym (behind_more c.sent ys c.delivered counts.delivered_few)) (go.pinned (counts.linked there));
         quiet = λ over a. counts.quiet over (go.awake a);
+        over = go.few;
       })

@@ -11,9 +11,9 @@ use Rattle.slink_feed.specs.declared.session.Phase.TheVariants.{Fresh, Closed}
 use Rattle.slink_feed.specs.declared.world.Setup.{Setup}
 use Rattle.slink_feed.specs.declared.world.Step.{Step}
 use Rattle.slink_feed.specs.declared.world.Step.TheVariants.{Append, Connect, ToServer, ToClient, Send, Cut}
-use Rattle.slink_feed.specs.Counted.{AreCountedLinks, Counted, CountedLink, IsCounted, IsCountedLink, counted_after, counted_opening, counted_step, heard_by, new_link, news, sent_by, served_by, shown_all, shown_of}
+use Rattle.slink_feed.specs.Counted.{AreCountedLinks, Counted, CountedLink, IsCounted, IsCountedLink, counted_after, counted_opening, counted_step, heard_by, new_link, news, sent_by, served_by, talk_upon, shown_all, shown_of}
 use Rattle.slink_feed.specs.Dialogue.{Talk, next_at, says_place, to_place, want_at}
-use Rattle.slink_feed.specs.Listening.{Listening, talk_after}
+use Rattle.slink_feed.specs.Listening.{Listening}
 use Rattle.slink_feed.specs.Session.{State, at, grant_at}
 use Rattle.slink_feed.specs.Spared.{AreAskable}
 use Rattle.slink_feed.specs.Stretch.{IsSchedule}
@@ -119,6 +119,7 @@ module _ (setup : Setup) (differ : Differ setup.places.items) (codes : (k : ℕ)
           ends = tt;
         };
         quiet = λ over. absurd (over tt);
+        over = λ shut. absurd (let bad : Fresh ≡ Closed = sym (ap (λ (s : State). s.phase) state) ∙ shut in cc bad);
       } in
       let done : IsWorld (record (beside w q) { talk = (to_place (Some first.0) 0 talk).0; link = Some (new_link (said (to_place (Some first.0) 0 talk).1)) }) (record w {
         client = record { talk = (to_place (Some first.0) 0 talk).0; kept = [] };
@@ -155,7 +156,7 @@ module _ (setup : Setup) (differ : Differ setup.places.items) (codes : (k : ℕ)
   heard_world w v n (Some c) (Some l) (Some m) t keeps windows same pushed was now h unlinked counts =
       let r : HeardCounts places differ codes w v n l m c counts h keeps t.asked = heard_counts places differ codes w v n l m c counts h keeps t.asked in
       let d : CountedLink = now_counted places differ codes w v n l m c counts h keeps t.asked in
-      let talk : Talk = talk_after w.client.talk (news n c) in
+      let talk : Talk = talk_upon w.client.talk (news n c) in
       let held : Lists = (gains places differ codes w v n l m c counts h keeps t.asked).held in
       let start : Numbers = (gains places differ codes w v n l m c counts h keeps t.asked).start in
       record {

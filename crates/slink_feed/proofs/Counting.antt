@@ -1,11 +1,23 @@
 -- Lists and counts of bytes: which replies and packets are whole in so many, and whether a line waits.
-use Rattle.std.proofs.Common.{◌≡◌, ℕ, ◌+◌, ◌-◌, ◌<◌, ◌≤◌, inl, inr, min, suc, zero, refl, sym, ap, subst, ◌∙◌, arith, if◌then◌else◌, List, [], ◌∷◌, ◌++◌, append_assoc, length, length-append, map, take, drop, take-append-drop}
+use Rattle.std.proofs.Common.{◌≡◌, ℕ, ◌+◌, ◌-◌, ◌<◌, ◌≤◌, inl, inr, min, suc, zero, refl, sym, ap, subst, ◌∙◌, arith, if◌then◌else◌, List, [], ◌∷◌, ◌++◌, append_assoc, length, length-append, map, take, drop, take-append-drop, ◌%◌, ◌^◌, codes}
 use Rattle.std.proofs.Math.Seq.{take-add, take-append-add, drop-append-add}
 use Rattle.std.proofs.lemmas.Bool.Decides.{leb_tells}
 use Rattle.std.proofs.lemmas.List.{append_cancel_right, drop-drop, drop_min, take_min}
-use Rattle.slink_feed.specs.Listening.{bytes_of}
+use Rattle.slink_feed.specs.Dialogue.{Whole, Reply, Packet, End, Garbage}
+use Rattle.slink_feed.specs.Listening.{Brought, bytes_of}
 use Rattle.slink_feed.specs.Ties.{Item, Accepted, Refused, Greeted, Carried, Finished, item_bytes, way_bytes}
-use Rattle.slink_feed.specs.Counted.{behind, brought_of, part, wholes}
+use Rattle.slink_feed.specs.Counted.{behind, part, wholes}
+
+-- what a client hears in an item
+abbrev pub whole_of : Item → Whole
+whole_of Accepted = Reply (codes "OK")
+whole_of Refused = Reply (codes "ERROR")
+whole_of Greeted = Garbage
+whole_of (Carried k n r) = Packet (n % 2 ^ 24) r
+whole_of Finished = End
+
+abbrev pub brought_of : Item → Brought
+brought_of i = record { bytes = item_bytes i; whole = whole_of i }
 
 -- more of a list is taken
 pub take_on : (xs : List ℕ) (a n : ℕ) → take (min (a + n) (length xs)) xs ≡ take a xs ++ take n (drop a xs)

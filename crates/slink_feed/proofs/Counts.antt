@@ -18,11 +18,13 @@ use Rattle.slink_feed.specs.declared.grant.Grant.{Grant}
 use Rattle.slink_feed.specs.declared.grant.Mode.{Mode}
 use Rattle.slink_feed.specs.declared.session.Phase.{Phase}
 use Rattle.slink_feed.specs.declared.session.Phase.TheVariants.{Chosen, Granted, Streaming, Closed}
-use Rattle.slink_feed.specs.Counted.{CountedLink, behind, if_come, line_at, served_by, station_of, taken_by, waits}
+use Rattle.slink_feed.specs.Counted.{CountedLink, answer_at, behind, if_come, served_by, taken_by, waits}
+use Rattle.slink_feed.specs.Counted.{replied as counted_reply}
 use Rattle.slink_feed.specs.Dialogue.{next_at, numbered}
 use Rattle.slink_feed.specs.Grant.{grant_of}
 use Rattle.slink_feed.specs.Listening.{IsLinked, Listening}
 use Rattle.slink_feed.specs.Rings.{station_at}
+use Rattle.slink_feed.specs.Serving.{Standing}
 use Rattle.slink_feed.specs.Session.{State, answered, at, chosen, grant_at, granted}
 use Rattle.slink_feed.specs.Ties.{Item, Accepted, Refused, Greeted, Carried, Finished, Places, items_of, way_bytes}
 use Rattle.slink_feed.specs.Window.{Window}
@@ -63,6 +65,7 @@ pub record Counts (places : Places) (client : Listening) (c : CountedLink) (l : 
   pub held : Open l.session.state.phase → IsHeld l.session.held (take c.taken c.said)
   pub linked : IsLinked client.talk.stage → Pinned places client l.session.state (take c.taken c.said) l.to_server l.to_client (behind c.delivered c.sent)
   pub quiet : ¬ (IsLinked client.talk.stage) → Open l.session.state.phase → IsAnswered (take c.taken c.said) l.to_server
+  pub over : l.session.state.phase ≡ Closed → length l.to_server ≤ 1
 
 pub pinned_as : (places : Places) (client : Listening) (s : State) (a b x y p q : List ℕ) (i j : List Item) → a ≡ b → x ≡ y → p ≡ q → i ≡ j → Pinned places client s a x p i → Pinned places client s b y q j
 pinned_as places client s a b x y p q i j ab xy pq ij h =
@@ -164,8 +167,8 @@ module _ (places : Places) (differ : Differ places) (codes : (k : ℕ) (p : Fiel
 
     made : (d : CountedLink) (reply : Reply) → d ≡ with_reply reply → m.to_client ≡ l.to_client ++ reply_bytes reply → (Open m.session.state.phase → IsHeld m.session.held (before ++ bytes))
         → (IsLinked client.talk.stage → Pinned places client m.session.state (before ++ bytes) rest (l.to_client ++ reply_bytes reply) (items ++ items_of reply))
-        → (¬ (IsLinked client.talk.stage) → Open m.session.state.phase → IsAnswered (before ++ bytes) rest) → Counts places client d m
-    made d reply is sent held pinned quiet = subst (λ (x : CountedLink). Counts places client x m) (sym is) (record {
+        → (¬ (IsLinked client.talk.stage) → Open m.session.state.phase → IsAnswered (before ++ bytes) rest) → (m.session.state.phase ≡ Closed → length rest ≤ 1) → Counts places client d m
+    made d reply is sent held pinned quiet few = subst (λ (x : CountedLink). Counts places client x m) (sym is) (record {
       session = refl;
       first_sent = served.first_sent ∙ counts.first_sent;
       to_server = served.left ∙ drop_now;
@@ -177,6 +180,7 @@ module _ (places : Places) (differ : Differ places) (codes : (k : ℕ) (p : Fiel
       linked = λ there. pinned_as places client m.session.state (before ++ bytes) (take (taken_by n c) c.said) rest m.to_server (l.to_client ++ reply_bytes reply) m.to_client (items ++ items_of reply) (behind c.delivered (c.sent ++ items_of reply))
           (sym take_now) (sym served.left) (sym sent) (sym (behind_more c.sent (items_of reply) c.delivered counts.delivered_few)) (pinned there);
       quiet = λ over awake. subst (λ b. IsAnswered b m.to_server) (sym take_now) (subst (IsAnswered (before ++ bytes)) (sym served.left) (quiet over awake));
+      over = λ shut. subst (λ b. length b ≤ 1) (sym served.left) (few shut);
     })
 
     nothing_more : m.to_client ≡ l.to_client → m.to_client ≡ l.to_client ++ reply_bytes replies.Nothing
@@ -187,23 +191,15 @@ module _ (places : Places) (differ : Differ places) (codes : (k : ℕ) (p : Fiel
         (pinned_as places client s (before ++ bytes) (before ++ bytes) rest rest l.to_client (l.to_client ++ []) items (items ++ []) refl refl (sym (append-nil l.to_client)) (sym (append-nil items)) h)
 
     -- a session that is closed
-    shut_answer : (x : State) (r : Request) → x.phase ≡ Closed → answered feed x (requested r) ≡ (x, replies.Nothing)
-    shut_answer x r shut = ap (λ (p : Phase). Rattle.slink_feed.specs.Session.answered_in p feed x (requested r)) shut
-
-    if_any : (t : Bool) (P : CountedLink → Type 0) → P (if_come true feed client.talk base) → P (if_come false feed client.talk base) → P (if_come t feed client.talk base)
-    if_any true P p q = p
-    if_any false P p q = q
-
     shut_counted : s.phase ≡ Closed → (IsLinked client.talk.stage → Pinned places client s (before ++ bytes) rest l.to_client items) → Counts places client (served_by feed client.talk n c) m
     shut_counted shut pinned =
         let on : (m.session ≡ l.session) × (m.to_client ≡ l.to_client) = shut_on feed l.session bytes l.to_client m.session m.to_client served.serves shut in
-        let same : m.session.state ≡ s = ap (λ (x : Rattle.slink_feed.specs.Serving.Standing). x.state) on.0 in
+        let same : m.session.state ≡ s = ap (λ (x : Standing). x.state) on.0 in
         let closed : m.session.state.phase ≡ Closed = ap (λ (x : State). x.phase) same ∙ shut in
-        let of : (d : CountedLink) → d ≡ with_reply replies.Nothing → Counts places client d m = λ d is. made d replies.Nothing is (nothing_more on.1) (λ awake. absurd (awake closed)) (λ there. pinned_still same (pinned there)) (λ over awake. absurd (awake closed)) in
-        let r : Request = line_at client.talk.stage client.talk in
-        let quiet : answered feed c.session (requested r) ≡ (m.session.state, replies.Nothing) = shut_answer c.session r (ap (λ (x : State). x.phase) (sym counts.session) ∙ shut) ∙ ap (λ (x : State). (x, replies.Nothing)) (sym counts.session ∙ sym same) in
-        if_any (waits c.taken c.said && not (waits (taken_by n c) c.said)) (λ d. Counts places client d m)
-        (of (if_come true feed client.talk base) (ap (λ (x : State × Reply). Rattle.slink_feed.specs.Counted.replied x base) quiet)) (of base (base_is (sym same)))
+        let few : length l.to_server ≤ 1 = counts.over shut in
+        let none : waits c.taken c.said ≡ false = waits_false c.taken c.said l.to_server counts.to_server few in
+        made (served_by feed client.talk n c) replies.Nothing (ap (λ t. if_come (t && not (waits (taken_by n c) c.said)) feed client.talk base) none ∙ base_is (sym same)) (nothing_more on.1) (λ awake. absurd (awake closed))
+        (λ there. pinned_still same (pinned there)) (λ over awake. absurd (awake closed)) (λ _. omega (arith, few, length-drop n l.to_server))
 
     -- all lines are answered
     told_counted : Open s.phase → IsAnswered before l.to_server → (IsLinked client.talk.stage → IsAnswered (before ++ bytes) rest → Pinned places client s (before ++ bytes) rest l.to_client items) → Counts places client (served_by feed client.talk n c) m
@@ -211,15 +207,15 @@ module _ (places : Places) (differ : Differ places) (codes : (k : ℕ) (p : Fiel
         let on : IsOn feed l.session m.session l.to_client m.to_client (before ++ bytes) rest = quiet_on feed l.session bytes l.to_client m.session m.to_client rest before served.serves awake (counts.held awake) (subst (IsAnswered before) cut told) in
         let none : waits c.taken c.said ≡ false = waits_false c.taken c.said l.to_server counts.to_server (answered_few before l.to_server told) in
         made (served_by feed client.talk n c) replies.Nothing (ap (λ t. if_come (t && not (waits (taken_by n c) c.said)) feed client.talk base) none ∙ base_is (sym on.state)) (nothing_more on.sent) (λ _. on.held)
-        (λ there. pinned_still on.state (pinned there on.told)) (λ over _. on.told)
+        (λ there. pinned_still on.state (pinned there on.told)) (λ over _. on.told) (λ _. answered_few (before ++ bytes) rest on.told)
 
     -- a line waits
     request_counted : (r : Request) (awake : Open s.phase) (known : IsCommand (request_line r) (requested r)) (stays_open : (new : State) (reply : Reply) → answered feed s (requested r) ≡ (new, reply) → Open new.phase) → IsLinked client.talk.stage
-        → line_at client.talk.stage client.talk ≡ r → IsAsking (request_line r) before l.to_server
+        → ((now : State) (reply : Reply) → answered feed s (requested r) ≡ (now, reply) → answer_at client.talk.stage feed client.talk s ≡ (now, reply)) → IsAsking (request_line r) before l.to_server
         → (IsAsking (request_line r) (before ++ bytes) rest → Pinned places client s (before ++ bytes) rest l.to_client items)
         → ((now : State) (reply : Reply) → answered feed s (requested r) ≡ (now, reply) → IsAnswered (before ++ bytes) rest → Pinned places client now (before ++ bytes) rest (l.to_client ++ reply_bytes reply) (items ++ items_of reply))
         → Counts places client (served_by feed client.talk n c) m
-    request_counted r awake known stays_open there line asks still next =
+    request_counted r awake known stays_open there answer asks still next =
         which (asked_on feed s r awake known stays_open l.session bytes l.to_client m.session m.to_client rest before served.serves refl (counts.held awake) (subst (IsAsking (request_line r) before) cut asks))
       where
         old : waits c.taken c.said ≡ true
@@ -231,11 +227,11 @@ module _ (places : Places) (differ : Differ places) (codes : (k : ℕ) (p : Fiel
         which : Comes feed s r awake known stays_open m.session l.to_client m.to_client (before ++ bytes) rest → Counts places client (served_by feed client.talk n c) m
         which (not_yet same sent kept more) =
             made (served_by feed client.talk n c) replies.Nothing (served_as true (waits_true (taken_by n c) c.said rest drop_now (asking_waits (request_line r) (before ++ bytes) rest more)) ∙ base_is (sym same)) (nothing_more sent) (λ _. kept)
-            (λ _. pinned_still same (still more)) (λ over _. absurd (over there))
+            (λ _. pinned_still same (still more)) (λ over _. absurd (over there)) (λ shut. absurd (awake (ap (λ (x : State). x.phase) (sym same) ∙ shut)))
         which (it_came reply sent done kept told) =
-            let answer : answered feed c.session (requested (line_at client.talk.stage client.talk)) ≡ (m.session.state, reply) = ap (λ (x : State). answered feed x (requested (line_at client.talk.stage client.talk))) (sym counts.session) ∙ (ap (λ (x : Request). answered feed s (requested x)) line ∙ done) in
-            made (served_by feed client.talk n c) reply (served_as false (waits_false (taken_by n c) c.said rest drop_now (answered_few (before ++ bytes) rest told)) ∙ ap (λ (x : State × Reply). Rattle.slink_feed.specs.Counted.replied x base) answer) sent (λ _. kept)
-            (λ _. next m.session.state reply done told) (λ over _. absurd (over there))
+            let is : answer_at client.talk.stage feed client.talk c.session ≡ (m.session.state, reply) = ap (λ (x : State). answer_at client.talk.stage feed client.talk x) (sym counts.session) ∙ answer m.session.state reply done in
+            made (served_by feed client.talk n c) reply (served_as false (waits_false (taken_by n c) c.said rest drop_now (answered_few (before ++ bytes) rest told)) ∙ ap (λ (x : State × Reply). counted_reply x base) is) sent (λ _. kept)
+            (λ _. next m.session.state reply done told) (λ over _. absurd (over there)) (λ _. answered_few (before ++ bytes) rest told)
 
     -- by who has said what
     by_shakes : IsLinked client.talk.stage → Flows places client s.grants l.to_client items → EndsIn s.phase items → Shakes client.talk s.phase before l.to_server items → Counts places client (served_by feed client.talk n c) m
@@ -243,7 +239,7 @@ module _ (places : Places) (differ : Differ places) (codes : (k : ℕ) (p : Fiel
         let at_k : (IsField 5 w.place.station × IsField 2 w.place.network) × (station_at feed w.place.station (Some w.place.network) ≡ Some k) = asked_place places differ codes client asked feed ringed k w want in
         let choose : (now : State) (reply : Reply) → answered feed s (requested (requests.Station w.place)) ≡ (now, reply) → chosen (Some k) s ≡ (now, reply) = λ now reply is. place_chosen places differ codes client asked feed ringed s now reply k w ready at_k.1 is in
         request_counted (requests.Station w.place) (ready_for_open k s.phase ready) (station_command w.place at_k.0.0 at_k.0.1) (λ new reply is. (chosen_open s new reply k (choose new reply is)).1) there
-        (ap (λ (x : Stage). line_at x client.talk) stage ∙ ap station_of want) asks
+        (λ now reply is. ap (λ (x : Stage). answer_at x feed client.talk s) stage ∙ choose now reply is) asks
         (λ more. record { flows = f; shakes = asks_place k w stage want ready more none; ends = ends })
         (λ now reply is told. place_left s (before ++ bytes) rest l.to_client items none told f now reply k stage (choose now reply is))
     by_shakes there f ends (has_place k stage phase told one) = told_counted (open_at s.phase (Chosen k) phase tt) told (λ _ more. record { flows = f; shakes = has_place k stage phase more one; ends = ends })
@@ -253,7 +249,7 @@ module _ (places : Places) (differ : Differ places) (codes : (k : ℕ) (p : Fiel
         let o : Option ℕ = option_and_then (grant_of mode number) (slice_get feed k) in
         let grant : (now : State) (reply : Reply) → answered feed s (requested (numbered mode number)) ≡ (now, reply) → granted mode k o s ≡ (now, reply) = λ now reply is. number_granted places differ codes client asked feed ringed s now reply k mode number phase is in
         request_counted (numbered mode number) (open_at s.phase (Chosen k) phase tt) (number_command mode number (is_short places differ codes client asked feed ringed number (λ x e. asked.short k x e))) (λ new reply is. granted_open s new reply k mode o phase (grant new reply is)) there
-        (ap (λ (x : Stage). line_at x client.talk) stage) asks
+        (λ now reply is. ap (λ (x : Stage). answer_at x feed client.talk s) stage ∙ grant now reply is) asks
         (λ more. record { flows = f; shakes = asks_number k stage phase more none; ends = ends })
         (λ now reply is told. number_left s (before ++ bytes) rest l.to_client items none told f now reply k mode o stage phase (grant now reply is)
         (λ p m e wanted. granted_alike places differ codes client asked feed ringed mode number (slice_get feed k) p m e wanted (asked.short k m wanted)))
@@ -263,7 +259,7 @@ module _ (places : Places) (differ : Differ places) (codes : (k : ℕ) (p : Fiel
         let streaming : (now : State) (reply : Reply) → answered feed s (requested requests.End) ≡ (now, reply) → ◌≡◌ {A = State × Reply} (at Streaming s.grants, replies.Nothing) (now, reply) = λ now reply is. in_phase places differ codes client asked feed ringed (Granted k) s now reply requests.End phase is in
         request_counted requests.End (open_at s.phase (Granted k) phase tt) end_command
         (λ new reply is. subst (λ (x : State × Reply). Open x.0.phase) (streaming new reply is) (λ e. let bad : Streaming ≡ Closed = e in cc bad)) there
-        (ap (λ (x : Stage). line_at x client.talk) stage) asks
+        (λ now reply is. ap (λ (x : Stage). answer_at x feed client.talk s) stage ∙ streaming now reply is) asks
         (λ more. record { flows = f; shakes = asks_end k stage phase more none; ends = ends })
         (λ now reply is told. end_left s (before ++ bytes) rest l.to_client items none told f now reply stage (streaming now reply is))
     by_shakes there f ends (streams stage later sent told) = elim (open_or s.phase) [

@@ -58,3 +58,4 @@ pub mod Counted
 pub mod CountedHeard
 pub mod CountedSent
 pub mod CountedWorld
+pub mod CountedPackets

@@ -1,28 +1,26 @@
 -- The counted world: where the steps of a schedule lead to, by lists and counts alone. A place has the list of all
 -- records that were pushed. A link has what the client said, what the server sent, in whole replies and packets, and how
 -- many bytes of each were taken. There is no ring, no buffer, and no part of a line, a reply or a packet.
-use Rattle.std.specs.Prelude.{◌≡◌, ℕ, Bool, true, false, not, min, ◌+◌, ◌-◌, ◌%◌, ◌^◌, ◌≤◌, ◌&&◌, List, [], ◌∷◌, ◌++◌, length, map, take, drop, replicate, codes, Option, Some, None, option_map, nat_le, unwrap_or, slice_get, if◌then◌else◌}
+use Rattle.std.specs.Prelude.{◌≡◌, ℕ, Bool, true, false, not, min, ◌+◌, ◌-◌, ◌%◌, ◌^◌, ◌≤◌, ◌&&◌, List, [], ◌∷◌, ◌++◌, length, map, take, drop, replicate, Option, Some, None, option_map, nat_le, unwrap_or, slice_get, if◌then◌else◌}
 use Rattle.slink_wire.specs.Lines.{IsHeld}
 use Rattle.slink_wire.specs.Place.{Fields}
-use Rattle.slink_wire.specs.Request.{requested}
 use Rattle.slink_wire.specs.declared.reply.Reply.{Reply as ServerReply}
-use Rattle.slink_wire.specs.declared.request.Request.{Request}
-use Rattle.slink_wire.specs.declared.request.Request.TheVariants as requests
+use Rattle.slink_wire.specs.declared.reply.Reply.TheVariants as replies
+use Rattle.slink_feed.specs.declared.dialogue.Ending.TheVariants as endings
 use Rattle.slink_feed.specs.declared.dialogue.Event.{Event}
 use Rattle.slink_feed.specs.declared.dialogue.Event.TheVariants as events
 use Rattle.slink_feed.specs.declared.dialogue.Stage.{Stage}
 use Rattle.slink_feed.specs.declared.dialogue.Stage.TheVariants.{Unlinked, Station, Number, Packets, Ended}
-use Rattle.slink_feed.specs.declared.dialogue.Wanted.{Wanted}
 use Rattle.slink_feed.specs.declared.grant.Grant.{Grant}
-use Rattle.slink_feed.specs.declared.session.Phase.TheVariants.{Fresh, Closed}
+use Rattle.slink_feed.specs.declared.session.Phase.TheVariants.{Fresh, Streaming, Closed}
 use Rattle.slink_feed.specs.declared.session.Sent.{Sent}
 use Rattle.slink_feed.specs.declared.session.Sent.TheVariants as sents
 use Rattle.slink_feed.specs.declared.world.Setup.{Setup}
 use Rattle.slink_feed.specs.declared.world.Step.{Step}
 use Rattle.slink_feed.specs.declared.world.Step.TheVariants.{Append, Connect, ToServer, ToClient, Send, Cut}
-use Rattle.slink_feed.specs.Dialogue.{Talk, Whole, Reply, Packet, End, Garbage, next_at, numbered, says_place, want_at, wants_of}
-use Rattle.slink_feed.specs.Listening.{Brought, IsLinked, events_of, talk_after}
-use Rattle.slink_feed.specs.Session.{Grants, State, answered, at, grant_at, sent}
+use Rattle.slink_feed.specs.Dialogue.{Talk, ended, next_at, says_number, says_place, told, wants_of}
+use Rattle.slink_feed.specs.Listening.{IsLinked}
+use Rattle.slink_feed.specs.Session.{Grants, State, asked, at, chosen, grant_at, sent}
 use Rattle.slink_feed.specs.Ties.{Item, Accepted, Refused, Greeted, Carried, Finished, item_bytes, items_of, way_bytes}
 use Rattle.slink_feed.specs.Window.{Window, record_at, window}
 use Rattle.slink_feed.specs.World.{LinkState, Lists, Numbers, WorldState, first_after, number_at, said, with_first, with_one}
@@ -59,17 +57,14 @@ shown_all setup (p ∷ ps) (records ∷ pushed) = shown_of setup p records ∷ s
 abbrev pub windows_of : Setup → Counted → List Window
 windows_of setup c = shown_all setup setup.places.items c.pushed
 
--- the line that a client said last, by what it waits for
-abbrev pub station_of : Option Wanted → Request
-station_of (Some w) = requests.Station w.place
-station_of None = requests.End
-
-abbrev pub line_at : Stage → Talk → Request
-line_at Unlinked t = requests.End
-line_at (Station k) t = station_of (want_at t.wants k)
-line_at (Number k) t = numbered t.mode (next_at t.wants k)
-line_at Packets t = requests.End
-line_at (Ended ending) t = requests.End
+-- What answers the line that a client said last, by what it waits for: its place is chosen; what it asks for is granted, if
+-- there is that grant; or packets may follow.
+abbrev pub answer_at : Stage → List Window → Talk → State → State × ServerReply
+answer_at Unlinked feed t s = (s, replies.Nothing)
+answer_at (Station k) feed t s = chosen (Some k) s
+answer_at (Number k) feed t s = asked feed k t.mode (next_at t.wants k) s
+answer_at Packets feed t s = (at Streaming s.grants, replies.Nothing)
+answer_at (Ended ending) feed t s = (s, replies.Nothing)
 
 -- A line waits for its answer while its CR isn't taken, which an LF follows.
 abbrev pub waits : ℕ → List ℕ → Bool
@@ -78,9 +73,9 @@ waits taken said = nat_le (taken + 2) (length said)
 abbrev pub replied : State × ServerReply → CountedLink → CountedLink
 replied x l = record l { session = x.0; sent = l.sent ++ items_of x.1 }
 
--- The line that was said last is answered by the session's table, if its CR has come.
+-- The line that was said last is answered, if its CR has come.
 abbrev pub if_come : Bool → List Window → Talk → CountedLink → CountedLink
-if_come true feed talk l = replied (answered feed l.session (requested (line_at talk.stage talk))) l
+if_come true feed talk l = replied (answer_at talk.stage feed talk l.session) l
 if_come false feed talk l = l
 
 abbrev pub taken_by : ℕ → CountedLink → ℕ
@@ -124,16 +119,24 @@ abbrev pub part : ℕ → List Item → ℕ
 part d [] = 0
 part d (i ∷ is) = if nat_le (length (item_bytes i)) d then part (d - length (item_bytes i)) is else d
 
--- what a client hears in it
-abbrev pub whole_of : Item → Whole
-whole_of Accepted = Reply (codes "OK")
-whole_of Refused = Reply (codes "ERROR")
-whole_of Greeted = Garbage
-whole_of (Carried k n r) = Packet (n % 2 ^ 24) r
-whole_of Finished = End
+-- What a client makes of what is sent to it, by what it waits for: `OK` lets it say its next line, and `ERROR` ends the link;
+-- a packet brings a record of its place, and the number behind it is wanted next.
+abbrev pub on_item : Stage → Item → Talk → Talk × Event
+on_item (Station k) Accepted t = says_number k t
+on_item (Station k) Refused t = ended (endings.Refused k) t
+on_item (Number k) Accepted t = says_place (k + 1) t
+on_item (Number k) Refused t = ended (endings.Refused k) t
+on_item Packets (Carried k n r) t = told k (n % 2 ^ 24) r t
+on_item Packets Finished t = ended endings.End t
+on_item stage item t = (t, events.None)
 
-abbrev pub brought_of : Item → Brought
-brought_of i = record { bytes = item_bytes i; whole = whole_of i }
+abbrev pub talk_upon : Talk → List Item → Talk
+talk_upon t [] = t
+talk_upon t (i ∷ is) = talk_upon (on_item t.stage i t).0 is
+
+abbrev pub events_upon : Talk → List Item → List Event
+events_upon t [] = []
+events_upon t (i ∷ is) = (on_item t.stage i t).1 ∷ events_upon (on_item t.stage i t).0 is
 
 -- what comes of events, beside the client
 pub record Gained : Type 0 where
@@ -156,20 +159,20 @@ with_events f [] g = g
 with_events f (e ∷ es) g = with_events f es (with_event f e g)
 
 -- what is whole once so many bytes more come to the client
-abbrev pub news : ℕ → CountedLink → List Brought
-news n l = map brought_of (wholes (part l.delivered l.sent + n) (behind l.delivered l.sent))
+abbrev pub news : ℕ → CountedLink → List Item
+news n l = wholes (part l.delivered l.sent + n) (behind l.delivered l.sent)
 
 abbrev pub delivered_by : ℕ → CountedLink → ℕ
 delivered_by n l = min (l.delivered + n) (length (way_bytes l.sent))
 
 abbrev pub gained_by : ℕ → Counted → CountedLink → Gained
-gained_by n c l = with_events l.first_sent (events_of c.talk (news n l)) (record { held = c.held; start = c.start; to_server = l.said })
+gained_by n c l = with_events l.first_sent (events_upon c.talk (news n l)) (record { held = c.held; start = c.start; to_server = l.said })
 
--- The client hears it, by its table.
+-- The client hears it.
 abbrev pub heard_by : ℕ → Counted → Option CountedLink → Counted
 heard_by n c None = c
 heard_by n c (Some l) = record c {
-  talk = talk_after c.talk (news n l);
+  talk = talk_upon c.talk (news n l);
   held = (gained_by n c l).held;
   start = (gained_by n c l).start;
   link = Some (record l { said = (gained_by n c l).to_server; delivered = delivered_by n l });
@@ -229,3 +232,12 @@ pub record IsCounted (setup : Setup) (c : Counted) (w : WorldState) : Type 0 whe
   pub held : w.held ≡ c.held
   pub start : w.start ≡ c.start
   pub link : AreCountedLinks c.talk w.client.kept c.link w.link
+
+-- packets of records of 512 bytes
+abbrev pub ArePackets : List Item → Type 0
+ArePackets [] = Unit {0}
+ArePackets (Accepted ∷ is) = ⊥
+ArePackets (Refused ∷ is) = ⊥
+ArePackets (Greeted ∷ is) = ⊥
+ArePackets (Carried k n r ∷ is) = (length r ≡ 512) × ArePackets is
+ArePackets (Finished ∷ is) = ⊥

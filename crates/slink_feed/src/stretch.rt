@@ -1,14 +1,15 @@
 //! The laws of a feed over every schedule.
-ghost use Rattle.std.specs.Prelude.{◌≡◌, ℕ, All, List, [], Some, slice_index_or};
+ghost use Rattle.std.specs.Prelude.{◌≡◌, ℕ, ◌++◌, ◌-◌, ◌*◌, ◌/◌, ◌≤◌, All, List, [], Some, replicate, slice_index_or, take};
 ghost use Rattle.slink_feed.specs.declared.world.Setup.{Setup};
 ghost use Rattle.slink_feed.specs.declared.world.Step.{Step};
 ghost use Rattle.slink_feed.specs.Calling.{AreAnswered};
-ghost use Rattle.slink_feed.specs.Counted.{IsCounted, counted_after, counted_opening};
+ghost use Rattle.slink_feed.specs.Counted.{ArePackets, IsCounted, counted_after, counted_opening, wholes};
 ghost use Rattle.slink_feed.specs.Going.{GoesOn};
 ghost use Rattle.slink_feed.specs.Listening.{IsLinked};
 ghost use Rattle.slink_feed.specs.Pushed.{appended};
 ghost use Rattle.slink_feed.specs.Spared.{AreAskable, IsSpared};
 ghost use Rattle.slink_feed.specs.Stretch.{HoldsStretches, IsCarried, IsSchedule, LackFew, Resumes};
+ghost use Rattle.slink_feed.specs.Ties.{Accepted, Item};
 ghost use Rattle.slink_feed.specs.World.{AllHappen, Happens, IsOf, LinkState, WorldState, opening};
 
 /// After any steps of a schedule, what a client holds of each place is one slice of all records that were pushed of it,
@@ -93,4 +94,13 @@ pub fn is_the_counted_world()
     ensures counted { (setup : Setup) (steps : List Step) (now : WorldState) → AllHappen (opening setup) steps now
         → IsSchedule setup steps → AreAskable setup.places.items
         → IsCounted setup (counted_after setup (counted_opening setup) steps) now }
+{}
+
+/// Of two replies to each of so many places, and packets behind them, there are whole in a front of their bytes, behind
+/// the replies, as many packets as the front has whole 520 bytes behind these.
+#[tactic(auto, using(crate::proofs::CountedPackets::counted_packets))]
+pub fn counts_whole_packets()
+    ensures whole { (places delivered : ℕ) (packets : List Item) → ArePackets packets → 8 * places ≤ delivered
+        → wholes delivered (replicate (2 * places) Accepted ++ packets)
+        ≡ replicate (2 * places) Accepted ++ take ((delivered - 8 * places) / 520) packets }
 {}

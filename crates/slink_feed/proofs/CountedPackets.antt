@@ -1,0 +1,37 @@
+-- Behind the replies a packet is whole for each 520 bytes.
+use Rattle.std.proofs.Common.{◌≡◌, ℕ, ◌-◌, ◌*◌, ◌/◌, ◌%◌, ◌^◌, ◌≤◌, zero, suc, refl, sym, ap, ◌∙◌, arith, List, [], ◌∷◌, ◌++◌, length, replicate, take}
+use Rattle.slink_feed.specs.Counted.{ArePackets, wholes}
+use Rattle.slink_feed.specs.Ties.{Item, Accepted, Refused, Greeted, Carried, Finished, item_bytes}
+use Rattle.slink_feed.proofs.Counting.{whole_or}
+use Rattle.slink_feed.proofs.Outcomes.{packet_length}
+
+replies_whole : (m d : ℕ) (ps : List Item) → 4 * m ≤ d → wholes d (replicate m Accepted ++ ps) ≡ replicate m Accepted ++ wholes (d - 4 * m) ps
+replies_whole zero d ps le = ap (λ e. wholes e ps) (let e : d ≡ d - 4 * 0 = omega arith in e)
+replies_whole (suc m) d ps le = whole_or Accepted (replicate m Accepted ++ ps) d (λ ws bs p. ws ≡ Accepted ∷ (replicate m Accepted ++ wholes (d - 4 * suc m) ps))
+    (λ fits. ap (λ ws. Accepted ∷ ws) (replies_whole m (d - 4) ps (omega (arith, le)) ∙ ap (λ e. replicate m Accepted ++ wholes e ps) (let e : d - 4 - 4 * m ≡ d - 4 * suc m = omega arith in e)))
+    (λ lt. absurd (omega (arith, le, lt)))
+
+packets_whole : (ps : List Item) (e : ℕ) → ArePackets ps → wholes e ps ≡ take (e / 520) ps
+packets_whole [] e are = nothing_taken (e / 520)
+  where
+    nothing_taken : (n : ℕ) → ◌≡◌ {A = List Item} [] (take n [])
+    nothing_taken zero = refl
+    nothing_taken (suc n) = refl
+packets_whole (Accepted ∷ ps) e are = absurd are
+packets_whole (Refused ∷ ps) e are = absurd are
+packets_whole (Greeted ∷ ps) e are = absurd are
+packets_whole (Carried k n r ∷ ps) e are =
+    let size : length (item_bytes (Carried k n r)) ≡ 520 = packet_length (n % 2 ^ 24) r are.0 in
+    whole_or (Carried k n r) ps e (λ ws bs p. ws ≡ take (e / 520) (Carried k n r ∷ ps))
+    (λ fits.
+    let count : e / 520 ≡ suc ((e - 520) / 520) = omega (arith, fits, size) in
+    ap (λ ws. Carried k n r ∷ ws) (ap (λ s. wholes (e - s) ps) size ∙ packets_whole ps (e - 520) are.1) ∙ ap (λ m. take m (Carried k n r ∷ ps)) (sym count))
+    (λ lt. let none : e / 520 ≡ 0 = omega (arith, lt, size) in ap (λ m. take m (Carried k n r ∷ ps)) (sym none))
+packets_whole (Finished ∷ ps) e are = absurd are
+
+pub counted_packets : (places delivered : ℕ) (packets : List Item) → ArePackets packets → 8 * places ≤ delivered
+    → wholes delivered (replicate (2 * places) Accepted ++ packets) ≡ replicate (2 * places) Accepted ++ take ((delivered - 8 * places) / 520) packets
+counted_packets places delivered packets are le =
+    replies_whole (2 * places) delivered packets (omega (arith, le))
+    ∙ (ap (λ e. replicate (2 * places) Accepted ++ wholes e packets) (let e : delivered - 4 * (2 * places) ≡ delivered - 8 * places = omega arith in e)
+    ∙ ap (λ ps. replicate (2 * places) Accepted ++ ps) (packets_whole packets (delivered - 8 * places) are))
