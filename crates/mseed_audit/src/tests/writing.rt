@@ -37,8 +37,8 @@ fn names_the_first_bad_code(rt: HostRuntime) {
         ([b"", b"", b"0\x7f", b""], CodeField::Location),
         ([b"XX", b"STA", b"00", b"BH "], CodeField::Channel),
     ];
-    for ([network, station, location, channel], field) in rows {
+    for (row, ([network, station, location, channel], field)) in rows.into_iter().enumerate() {
         let codes = Codes::new(network, station, location, channel);
-        assert_eq!(rt; codes, Err(BadCode { field }));
+        assert_eq!(rt; codes, Err(BadCode { field }), "row {row}");
     }
 }
