@@ -97,7 +97,7 @@ def fetched_while_going(server):
             records += records_in(fetch_link(client, server.port))
         except OSError:
             pass
-    return [one for place in PLACES for one in records if place.bears(one)]
+    return whole(b"".join(records))
 
 
 def judge_calls(tests, failing):
@@ -124,18 +124,31 @@ def judge_calls(tests, failing):
     tests.judge(f"fetch whose calls don't fail, {call}", call > 10, call)
 
 
+class BareClient(Client):
+    """One whose lines end with the CR. A server that reads an `END` without the LF behind it would close a link that
+    still holds that byte: the system then resets it, and the last of what was sent may be lost."""
+
+    def said(self):
+        return super().said().rstrip(b"\n")
+
+
 def judge_pieces(tests, failing):
-    """Reads and writes that bring a few bytes. A server that reads an `END` without its LF closes a link that still
-    holds it, so that the last of what it sent can be lost: then another link brings it."""
-    for size, connections in ((1, 1000), (7, 1), (511, 1)):
+    """Reads and writes that bring a few bytes: of either end alone, and of both where a read brings a whole `END`."""
+    env = {"LD_PRELOAD": failing, "LINK_PIECE": "1"}
+    server = Server(ARCHIVE, PLACES, env=env)
+    records = records_in(fetch_link(BareClient([(place, None) for place in PLACES], "FETCH"), server.port))
+    tests.judge("serve by single bytes", whole(b"".join(records)) == BY_PLACE, len(records))
+    ended = server.end()
+    tests.judge("serve by single bytes ends", ended == (0, ""), ended)
+    status, output, errors = fetch(PLACES, serving([feed_of(PLACES, 10, 0, RECORDS)]), env=env)
+    tests.judge("fetch by single bytes", (status, whole(output), errors) == (0, BY_PLACE, ""), errors)
+    for size in (7, 511):
         env = {"LD_PRELOAD": failing, "LINK_PIECE": str(size)}
-        server = Server(ARCHIVE, PLACES, "--connections", connections, env=env)
-        status, output, errors = fetch(PLACES, server.port, "--tries", connections, env=env)
+        server = Server(ARCHIVE, PLACES, env=env)
+        status, output, errors = fetch(PLACES, server.port, env=env)
         tests.judge(f"links of {size} bytes at a time", (status, whole(output), errors) == (0, BY_PLACE, ""), errors)
-        if connections == 1:
-            ended = server.end()
-            tests.judge(f"serve behind links of {size} bytes at a time", ended == (0, ""), ended)
-        server.kill()
+        ended = server.end()
+        tests.judge(f"serve behind links of {size} bytes at a time", ended == (0, ""), ended)
 
 
 def main():

@@ -309,14 +309,13 @@ def say(link, bytes):
 
 
 def serve_link(link, feed):
-    """Serves one connection to its end."""
+    """Serves one connection to its end. What the client says behind that is heard too, so that the link isn't reset."""
     session = Session(feed)
-    while session.phase != "closed":
-        told = link.recv(512)
-        if not told:
-            return
+    while told := link.recv(512):
         link.sendall(b"".join(REPLIES[name] for name in session.take(told)))
         link.sendall(session.sends())
+        if session.phase == "closed":
+            link.shutdown(socket.SHUT_WR)
 
 
 def serve_in_turn(listener, feeds):
