@@ -11,7 +11,7 @@ done
 cp tests/relay_rows.source "$copy/crates/mseed/src/rows.rt"
 printf '\n#[cfg(test)]\nmod rows;\n' >> "$copy/crates/mseed/src/main.rt"
 cd "$copy/crates/mseed" || exit 1
-rt try --test > "$copy/log" 2>&1
+timeout 1200 rt try --test --seconds 600 > "$copy/log" 2>&1
 grep '^test ' "$copy/log"
 passed=$(grep -c '^test rows::.* ok$' "$copy/log")
 failed=$((4 - passed))

@@ -1,9 +1,10 @@
-"""Schedules at random, and the worlds that they lead to by counts alone: see schedules.sh.
+"""Schedules of two stations with their worlds, and schedules at random with those that they lead to by counts alone:
+see schedules.sh.
 
     schedules.py COUNT SCHEDULES WORLDS
 
-Writes so many schedules to the one file, as schedules.source reads them, and to the other the worlds that it has to
-print: of each place the records pushed, those held, the index and the number of the first one, and the number wanted
+Writes the schedules to the one file, so many at random, as schedules.source reads them, and to the other the worlds
+that it has to print: of each place the records pushed, those held, the index and the number of the first one, and the number wanted
 next; then the bytes on their way to the server and to the client, where there is a link.
 
 A world is counted: no ring, no buffer, no part of a packet. Of each place so many records were pushed, and of these
@@ -165,13 +166,48 @@ def schedule(source):
             add(SEND, source.randrange(count))
         elif source.randrange(3) == 0:
             add(CUT)
-    head = struct.pack(">BBII", count, fetches, capacity, first)
+    return bytes_of(fetches, capacity, first, wanted, steps), world.text()
+
+
+def bytes_of(fetches, capacity, first, wanted, steps):
+    """A schedule as schedules.source reads it."""
+    head = struct.pack(">BBII", len(wanted), fetches, capacity, first)
     head += b"".join(struct.pack(">BI", number is not None, number or 0) for number in wanted)
-    return head + b"".join(struct.pack(">BI", *step) for step in steps) + bytes([END]), world.text()
+    return head + b"".join(struct.pack(">BI", *step) for step in steps) + bytes([END])
+
+
+# A client of two stations, which is cut off one byte before the end of the second one's record, and comes again: the
+# steps, what is pushed and held of either then, and the bytes on their way. It wants no number before it has a record.
+NOTHING_HELD = "2 0 0 -1 -1 true;1 0 0 -1 -1 true;"
+FIRST_HELD = "2 1 0 0 1 true;1 0 0 -1 -1 true;"
+ALL_HELD = "2 2 0 0 2 true;1 1 0 0 1 true;"
+THERE_AND_BACK = [(TO_SERVER, 64), (TO_CLIENT, 64)]
+TWO_STATIONS = [
+    ([(APPEND, 0), (APPEND, 1), (APPEND, 0), (CONNECT, 0)], NOTHING_HELD, len("STATION S00 XX..")),
+    (THERE_AND_BACK, NOTHING_HELD, len("FETCH..")),
+    (THERE_AND_BACK, NOTHING_HELD, len("STATION S01 XX..")),
+    (THERE_AND_BACK, NOTHING_HELD, len("FETCH..")),
+    (THERE_AND_BACK, NOTHING_HELD, len("END..")),
+    ([(TO_SERVER, 64), (SEND, 0), (SEND, 1), (TO_CLIENT, 520), (TO_CLIENT, 519), (CUT, 0)], FIRST_HELD, None),
+    ([(CONNECT, 0)], FIRST_HELD, len("STATION S00 XX..")),
+    (THERE_AND_BACK, FIRST_HELD, len("FETCH 000001..")),
+    (THERE_AND_BACK, FIRST_HELD, len("STATION S01 XX..")),
+    (THERE_AND_BACK, FIRST_HELD, len("FETCH..")),
+    (THERE_AND_BACK, FIRST_HELD, len("END..")),
+    ([(TO_SERVER, 64), (SEND, 0), (SEND, 1), (TO_CLIENT, 1040)], ALL_HELD, 0),
+]
+
+
+def two_stations():
+    """The rows up to each of them, each as a schedule with its world."""
+    steps = []
+    for more, held, said in TWO_STATIONS:
+        steps = steps + more
+        yield bytes_of(True, 8, 0, [None, None], steps), held + (" none\n" if said is None else f" {said} 0\n")
 
 
 def main():
-    made = [schedule(random.Random(seed)) for seed in range(int(sys.argv[1]))]
+    made = list(two_stations()) + [schedule(random.Random(seed)) for seed in range(int(sys.argv[1]))]
     with open(sys.argv[2], "wb") as schedules, open(sys.argv[3], "w", encoding="ascii") as worlds:
         schedules.write(b"".join(bytes for bytes, _ in made))
         worlds.write("".join(text for _, text in made))
