@@ -1,5 +1,5 @@
-"""What other bytes make of a sound record, by the tables of docs/format.md: a big-endian one whose blockettes are a 1000
-at 48 and a 1001 at 56, as `records.py` makes it."""
+"""What other bytes make of a sound record, by the tables of docs/format.md: a big-endian one whose blockettes are a
+1000 at 48 and a 1001 at 56, as `records.py` makes it."""
 
 
 def changed(record, parts):

@@ -71,7 +71,7 @@ def rows_of_tables():
         yield f"{parts} of the second record", FIRST + changed(NEXT, parts), f"fault at 512 {fault}"
     for exponent in range(7, 21):
         parts = [(54, bytes([exponent]))]
-        # A shorter record is none of the feed's. A longer one lacks bytes, and one of 1,024 bytes is none of the feed's.
+        # A shorter record is none of the feed's, nor is one of 1,024 bytes. A longer one lacks bytes.
         line = {7: FOREIGN, 8: FOREIGN, 9: SERVED}.get(exponent, "fault at 512 truncated 512")
         yield f"exponent {exponent} of the second record", FIRST + changed(NEXT, parts), line
         line = SERVED if exponent == 9 else "record 1 is not of this feed"
@@ -106,7 +106,7 @@ def main():
     with listening() as taken:
 
         def line_of(archive):
-            """What `serve` says of an archive; all that it writes and its status, where that isn't its own line and 2."""
+            """What `serve` says of an archive; its status and all that it writes, where that isn't 2 and a line of its."""
             status, told = Server(archive, PLACES, port=port_of(taken), is_awaited=False).end()
             is_line = status == 2 and told.startswith("mseed: ") and told.endswith("\n")
             return told[7:-1] if is_line else (status, told)
