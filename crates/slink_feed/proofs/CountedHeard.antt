@@ -11,8 +11,8 @@ use Rattle.slink_feed.specs.declared.dialogue.Stage.{Stage}
 use Rattle.slink_feed.specs.declared.dialogue.Stage.TheVariants.{Unlinked, Station, Number, Packets, Ended}
 use Rattle.slink_feed.specs.Counted.{CountedLink, Gained, behind, delivered_by, events_upon, news, on_item, part, talk_upon, wholes, with_event, with_events}
 use Rattle.slink_feed.specs.Cutting.{IsBegun}
-use Rattle.slink_feed.specs.Dialogue.{Talk, Whole, heard, heard_at}
-use Rattle.slink_feed.specs.Listening.{Brought, IsLinked, bytes_of, events_of, talk_after, telling}
+use Rattle.slink_feed.specs.Dialogue.{Talk}
+use Rattle.slink_feed.specs.Listening.{Brought, IsLinked, bytes_of, events_of, talk_after}
 use Rattle.slink_feed.specs.Serving.{Standing}
 use Rattle.slink_feed.specs.Session.{State}
 use Rattle.slink_feed.specs.Ties.{Item, Places, way_bytes}
@@ -52,7 +52,7 @@ unheard t (Number k) i is over = absurd (over tt)
 unheard t Packets i is over = absurd (over tt)
 unheard t (Ended ending) i is over = ap (λ (s : Stage). on_item s i t) is
 
-unlinked_upon : (t : Talk) (is : List Item) → ¬ (IsLinked t.stage) → (talk_upon t is ≡ t) × ((f : Numbers) (g : Gained) → with_events f (events_upon t is) g ≡ g)
+pub unlinked_upon : (t : Talk) (is : List Item) → ¬ (IsLinked t.stage) → (talk_upon t is ≡ t) × ((f : Numbers) (g : Gained) → with_events f (events_upon t is) g ≡ g)
 unlinked_upon t [] over = (refl, λ f g. refl)
 unlinked_upon t (i ∷ is) over =
     let h : on_item t.stage i t ≡ (t, events.None) = unheard t t.stage i refl over in

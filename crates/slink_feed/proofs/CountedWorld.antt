@@ -1,5 +1,5 @@
 -- The world that the steps of a schedule lead to is the counted one.
-use Rattle.std.proofs.Common.{◌≡◌, ℕ, ◌+◌, ◌-◌, ◌<◌, inl, zero, suc, refl, sym, ap, subst, ◌∙◌, arith, List, [], ◌∷◌, ◌++◌, length, length-append, map, replicate, set, Option, Some, None, option_map, slice_get}
+use Rattle.std.proofs.Common.{take, ◌≡◌, ℕ, ◌+◌, ◌-◌, ◌<◌, inl, zero, suc, refl, sym, ap, subst, ◌∙◌, arith, List, [], ◌∷◌, ◌++◌, length, length-append, map, replicate, set, Option, Some, None, option_map, slice_get}
 use Rattle.slink_wire.specs.declared.request.Request.TheVariants as requests
 use Rattle.slink_wire.specs.Place.{Fields, IsField}
 use Rattle.slink_wire.specs.Request.{request_bytes, request_line}
@@ -11,7 +11,7 @@ use Rattle.slink_feed.specs.declared.session.Phase.TheVariants.{Fresh, Closed}
 use Rattle.slink_feed.specs.declared.world.Setup.{Setup}
 use Rattle.slink_feed.specs.declared.world.Step.{Step}
 use Rattle.slink_feed.specs.declared.world.Step.TheVariants.{Append, Connect, ToServer, ToClient, Send, Cut}
-use Rattle.slink_feed.specs.Counted.{AreCountedLinks, Counted, CountedLink, IsCounted, IsCountedLink, counted_after, counted_opening, counted_step, heard_by, new_link, news, sent_by, served_by, talk_upon, shown_all, shown_of}
+use Rattle.slink_feed.specs.Counted.{AreCountedLinks, AreStreamed, behind, Counted, CountedLink, IsCounted, IsCountedLink, counted_after, counted_opening, counted_step, heard_by, new_link, news, sent_by, served_by, talk_upon, shown_all, shown_of}
 use Rattle.slink_feed.specs.Dialogue.{Talk, next_at, says_place, to_place, want_at}
 use Rattle.slink_feed.specs.Listening.{Listening}
 use Rattle.slink_feed.specs.Session.{State, at, grant_at}
@@ -22,13 +22,14 @@ use Rattle.slink_feed.specs.Window.{Window, window, with_record}
 use Rattle.slink_feed.specs.World.{AllHappen, Both, Connects, Differ, Happens, IsHeard, IsOf, IsServed, LinkState, Lists, Numbers, WorldState, empty_window, opening, pushed_to, said, sent_on, with_one}
 use Rattle.slink_feed.proofs.CountedHeard.{HeardCounts, gains, heard_counts, now_counted}
 use Rattle.slink_feed.proofs.CountedSent.{sent_counts}
+use Rattle.slink_feed.proofs.CountedShape.{AreFacts, AreShaped, step_shaped, streamed_of}
 use Rattle.slink_feed.proofs.Counting.{kept_part}
-use Rattle.slink_feed.proofs.Counts.{Counts, served_counts}
+use Rattle.slink_feed.proofs.Counts.{Counts, served_counts, Pinned}
 use Rattle.slink_feed.proofs.Items.{drop_none, keep_more, one_value, within_is}
 use Rattle.slink_feed.proofs.Lined.{begins_asking}
 use Rattle.slink_feed.proofs.OneWorld.{Keeps, step_keeps}
 use Rattle.slink_feed.proofs.Requested.{also_at, station_line}
-use Rattle.slink_feed.proofs.Shaking.{IsSuited, asks_place}
+use Rattle.slink_feed.proofs.Shaking.{IsSuited, asks_place, AreAsked}
 use Rattle.slink_feed.proofs.Sparing.{WorldTalks, opening_talks, step_talks}
 use Rattle.slink_feed.proofs.Worlds.{AreOf, each_of, none_granted}
 
@@ -47,7 +48,7 @@ all_more setup (p ∷ ps) (f ∷ fs) zero b v here =
 all_more setup (p ∷ ps) (f ∷ fs) (suc k) b v here = ap (λ ws. shown_of setup p f ∷ ws) (all_more setup ps fs k b v here)
 
 -- a counted world with what a world has beside its link
-abbrev beside : WorldState → Option CountedLink → Counted
+abbrev pub beside : WorldState → Option CountedLink → Counted
 beside w q = record { pushed = w.pushed; talk = w.client.talk; held = w.held; start = w.start; link = q }
 
 beside_as : (w : WorldState) (q : Option CountedLink) (talk : Talk) (held : Lists) (start : Numbers) → w.client.talk ≡ talk → w.held ≡ held → w.start ≡ start → record { pushed = w.pushed; talk = talk; held = held; start = start; link = q } ≡ beside w q
@@ -57,24 +58,24 @@ beside_as w q talk held start a b c =
     ∙ ap (λ (x : Numbers). record { pushed = w.pushed; talk = w.client.talk; held = w.held; start = x; link = q }) (sym c))
 
 module _ (setup : Setup) (differ : Differ setup.places.items) (codes : (k : ℕ) (p : Fields × Option ℕ) → slice_get setup.places.items k ≡ Some p → IsField 5 p.0.station × IsField 2 p.0.network) where
-  abbrev places : Places
+  abbrev pub places : Places
   places = setup.places.items
 
   abbrev Talks : WorldState → Type 0
   Talks w = WorldTalks places differ codes w
 
-  abbrev AreCounts : Listening → Option CountedLink → Option LinkState → Type 0
+  abbrev pub AreCounts : Listening → Option CountedLink → Option LinkState → Type 0
   AreCounts client None None = Unit {0}
   AreCounts client None (Some l) = ⊥
   AreCounts client (Some c) None = ⊥
   AreCounts client (Some c) (Some l) = Counts places client c l
 
   -- the counted world of a world
-  record IsWorld (c : Counted) (w : WorldState) : Type 0 where
-    link : Option CountedLink
-    is : c ≡ beside w link
-    windows : w.windows ≡ shown_all setup places w.pushed
-    counts : AreCounts w.client link w.link
+  pub record IsWorld (c : Counted) (w : WorldState) : Type 0 where
+    pub link : Option CountedLink
+    pub is : c ≡ beside w link
+    pub windows : w.windows ≡ shown_all setup places w.pushed
+    pub counts : AreCounts w.client link w.link
 
   -- Append
   append_world : (w : WorldState) (q : Option CountedLink) (k : ℕ) (b : List ℕ) (o : Option Window) → slice_get w.windows k ≡ o → IsOf places (Append k b) → Talks w → w.windows ≡ shown_all setup places w.pushed → AreCounts w.client q w.link
@@ -184,11 +185,28 @@ module _ (setup : Setup) (differ : Differ setup.places.items) (codes : (k : ℕ)
   })
   step_world w v Cut q some of h t keeps windows counts = subst (IsWorld (counted_step setup (beside w q) Cut)) (sym h) (record { link = None; is = refl; windows = windows; counts = tt })
 
-  all_world : (steps : List Step) (w v : WorldState) (c : Counted) (run : AllHappen w steps v) → 0 < length places → AreOf places steps → Talks w → Keeps w → IsWorld c w → IsWorld (counted_after setup c steps) v
-  all_world [] w v c run some of t keeps i = subst (IsWorld c) (sym run) i
-  all_world (step ∷ steps) w v c run some of t keeps i =
-      all_world steps run.0 v (counted_step setup c step) run.2 some of.2 (step_talks places differ codes w run.0 step some of.0 of.1 run.1 t) (step_keeps places differ codes w t keeps step run.0 run.1)
-      (subst (λ (x : Counted). IsWorld (counted_step setup x step) run.0) (sym i.is) (step_world w run.0 step i.link some of.0 run.1 t keeps i.windows i.counts))
+  next_world : (w v : WorldState) (c : Counted) (step : Step) → 0 < length places → IsOf places step → Happens w step v → Talks w → Keeps w → IsWorld c w → IsWorld (counted_step setup c step) v
+  next_world w v c step some of h t keeps i = subst (λ (x : Counted). IsWorld (counted_step setup x step) v) (sym i.is) (step_world w v step i.link some of h t keeps i.windows i.counts)
+
+  -- what is known of its link
+  facts_beside : (client : Listening) (q : Option CountedLink) (o : Option LinkState) → AreCounts client q o → AreFacts places client.talk q
+  facts_beside client None None k = tt
+  facts_beside client None (Some l) k = absurd k
+  facts_beside client (Some c) None k = absurd k
+  facts_beside client (Some c) (Some l) k = λ linked.
+      let pin : Pinned places client l.session.state (take c.taken c.said) l.to_server l.to_client (behind c.delivered c.sent) = k.linked linked in
+      record { phase = l.session.state.phase; taken = take c.taken c.said; way = l.to_server; shakes = pin.shakes; borne = pin.flows.borne; few = k.delivered_few }
+
+  facts_of : (c : Counted) (w : WorldState) → IsWorld c w → AreFacts places c.talk c.link
+  facts_of c w i = subst (λ (x : Counted). AreFacts places x.talk x.link) (sym i.is) (facts_beside w.client i.link w.link i.counts)
+
+  all_world : (steps : List Step) (w v : WorldState) (c : Counted) (run : AllHappen w steps v) → 0 < length places → AreOf places steps → Talks w → Keeps w → IsWorld c w → AreShaped places c.talk c.link
+      → IsWorld (counted_after setup c steps) v × AreShaped places (counted_after setup c steps).talk (counted_after setup c steps).link
+  all_world [] w v c run some of t keeps i shaped = (subst (IsWorld c) (sym run) i, shaped)
+  all_world (step ∷ steps) w v c run some of t keeps i shaped =
+      let next : IsWorld (counted_step setup c step) run.0 = next_world w run.0 c step some of.0 run.1 t keeps i in
+      all_world steps run.0 v (counted_step setup c step) run.2 some of.2 (step_talks places differ codes w run.0 step some of.0 of.1 run.1 t) (step_keeps places differ codes w t keeps step run.0 run.1) next
+      (step_shaped setup c step some (subst (λ (x : Counted). AreAsked places x.talk.wants) (sym i.is) t.asked) (facts_of c w i) (facts_of (counted_step setup c step) run.0 next) shaped)
 
   -- what is told of it
   link_counted : (client : Listening) (c : CountedLink) (l : LinkState) → Counts places client c l → IsCountedLink client.talk client.kept c l
@@ -227,10 +245,19 @@ opening_shown setup (p ∷ ps) =
     ∙ ap (λ n. record { place = p.0; capacity = setup.capacity; records = window setup.capacity []; next = n }) (let e : setup.first ≡ setup.first + length {A = List ℕ} [] = omega arith in e) in
     ap (λ (w : Window). w ∷ map (empty_window setup) ps) one ∙ ap (λ ws. shown_of setup p [] ∷ ws) (opening_shown setup ps)
 
--- After any steps the world is the counted one.
-pub the_counted_world : (setup : Setup) (steps : List Step) (now : WorldState) → AllHappen (opening setup) steps now → IsSchedule setup steps → AreAskable setup.places.items → IsCounted setup (counted_after setup (counted_opening setup) steps) now
-the_counted_world setup steps now run is askable =
-    is_counted setup is.differ askable.codes (counted_after setup (counted_opening setup) steps) now
-    (all_world setup is.differ askable.codes steps (opening setup) now (counted_opening setup) run askable.some (each_of setup.places.items steps is.of_places is.sound)
-    (opening_talks setup steps now run is askable) refl
-    (record { link = None; is = refl; windows = opening_shown setup setup.places.items; counts = tt }))
+module _ (setup : Setup) (steps : List Step) (now : WorldState) (run : AllHappen (opening setup) steps now) (schedule : IsSchedule setup steps) (askable : AreAskable setup.places.items) where
+  abbrev after : Counted
+  after = counted_after setup (counted_opening setup) steps
+
+  both : IsWorld setup schedule.differ askable.codes after now × AreShaped setup.places.items after.talk after.link
+  both = all_world setup schedule.differ askable.codes steps (opening setup) now (counted_opening setup) run askable.some (each_of setup.places.items steps schedule.of_places schedule.sound)
+      (opening_talks setup steps now run schedule askable) refl
+      (record { link = None; is = refl; windows = opening_shown setup setup.places.items; counts = tt }) tt
+
+  -- After any steps the world is the counted one.
+  pub the_counted_world : IsCounted setup after now
+  the_counted_world = is_counted setup schedule.differ askable.codes after now both.0
+
+  -- Packets follow two replies to each place.
+  pub counted_streamed : AreStreamed (length setup.places.items) after.talk after.link
+  counted_streamed = streamed_of setup.places.items after.talk after.link both.1

@@ -59,3 +59,4 @@ pub mod CountedHeard
 pub mod CountedSent
 pub mod CountedWorld
 pub mod CountedPackets
+pub mod CountedShape

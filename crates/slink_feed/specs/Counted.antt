@@ -1,7 +1,7 @@
 -- The counted world: where the steps of a schedule lead to, by lists and counts alone. A place has the list of all
 -- records that were pushed. A link has what the client said, what the server sent, in whole replies and packets, and how
 -- many bytes of each were taken. There is no ring, no buffer, and no part of a line, a reply or a packet.
-use Rattle.std.specs.Prelude.{◌≡◌, ℕ, Bool, true, false, not, min, ◌+◌, ◌-◌, ◌%◌, ◌^◌, ◌≤◌, ◌&&◌, List, [], ◌∷◌, ◌++◌, length, map, take, drop, replicate, Option, Some, None, option_map, nat_le, unwrap_or, slice_get, if◌then◌else◌}
+use Rattle.std.specs.Prelude.{◌≡◌, ℕ, Bool, true, false, not, min, ◌+◌, ◌-◌, ◌*◌, ◌%◌, ◌^◌, ◌≤◌, ◌&&◌, List, [], ◌∷◌, ◌++◌, length, map, take, drop, replicate, Option, Some, None, option_map, nat_le, unwrap_or, slice_get, if◌then◌else◌}
 use Rattle.slink_wire.specs.Lines.{IsHeld}
 use Rattle.slink_wire.specs.Place.{Fields}
 use Rattle.slink_wire.specs.declared.reply.Reply.{Reply as ServerReply}
@@ -241,3 +241,25 @@ ArePackets (Refused ∷ is) = ⊥
 ArePackets (Greeted ∷ is) = ⊥
 ArePackets (Carried k n r ∷ is) = (length r ≡ 512) × ArePackets is
 ArePackets (Finished ∷ is) = ⊥
+
+-- the same, and the end
+abbrev pub AreItems : List Item → Type 0
+AreItems [] = Unit {0}
+AreItems (Accepted ∷ is) = ⊥
+AreItems (Refused ∷ is) = ⊥
+AreItems (Greeted ∷ is) = ⊥
+AreItems (Carried k n r ∷ is) = (length r ≡ 512) × AreItems is
+AreItems (Finished ∷ is) = AreItems is
+
+-- Two replies of 4 bytes to each of so many places were sent and came to the client; behind them packets were sent, and the
+-- end.
+pub record IsStreamed (places : ℕ) (l : CountedLink) : Type 0 where
+  pub packets : List Item
+  pub sent_is : l.sent ≡ replicate (2 * places) Accepted ++ packets
+  pub are : AreItems packets
+  pub replies : 8 * places ≤ l.delivered
+
+-- So it is while packets are awaited.
+abbrev pub AreStreamed : ℕ → Talk → Option CountedLink → Type 0
+AreStreamed places talk None = Unit {0}
+AreStreamed places talk (Some l) = talk.stage ≡ Packets → IsStreamed places l

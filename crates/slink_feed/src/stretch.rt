@@ -1,9 +1,9 @@
 //! The laws of a feed over every schedule.
-ghost use Rattle.std.specs.Prelude.{◌≡◌, ℕ, ◌++◌, ◌-◌, ◌*◌, ◌/◌, ◌≤◌, All, List, [], Some, replicate, slice_index_or, take};
+ghost use Rattle.std.specs.Prelude.{◌≡◌, ℕ, ◌++◌, ◌-◌, ◌*◌, ◌/◌, ◌≤◌, All, List, [], Some, length, replicate, slice_index_or, take};
 ghost use Rattle.slink_feed.specs.declared.world.Setup.{Setup};
 ghost use Rattle.slink_feed.specs.declared.world.Step.{Step};
 ghost use Rattle.slink_feed.specs.Calling.{AreAnswered};
-ghost use Rattle.slink_feed.specs.Counted.{ArePackets, IsCounted, counted_after, counted_opening, wholes};
+ghost use Rattle.slink_feed.specs.Counted.{ArePackets, AreStreamed, IsCounted, counted_after, counted_opening, wholes};
 ghost use Rattle.slink_feed.specs.Going.{GoesOn};
 ghost use Rattle.slink_feed.specs.Listening.{IsLinked};
 ghost use Rattle.slink_feed.specs.Pushed.{appended};
@@ -103,4 +103,14 @@ pub fn counts_whole_packets()
     ensures whole { (places delivered : ℕ) (packets : List Item) → ArePackets packets → 8 * places ≤ delivered
         → wholes delivered (replicate (2 * places) Accepted ++ packets)
         ≡ replicate (2 * places) Accepted ++ take ((delivered - 8 * places) / 520) packets }
+{}
+
+/// After any steps of a schedule, while a client awaits packets, what its link was sent are two replies to each place, which
+/// have come to it, and behind them packets of whole records, and the end.
+#[tactic(auto, using(crate::proofs::CountedWorld::counted_streamed))]
+pub fn streams_behind_the_replies()
+    ensures streams { (setup : Setup) (steps : List Step) (now : WorldState) → AllHappen (opening setup) steps now
+        → IsSchedule setup steps → AreAskable setup.places.items
+        → AreStreamed (length setup.places.items) (counted_after setup (counted_opening setup) steps).talk
+        (counted_after setup (counted_opening setup) steps).link }
 {}
