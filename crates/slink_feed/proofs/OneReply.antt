@@ -1,7 +1,7 @@
 -- However bytes are cut into pieces, a session answers the same to them.
-use Rattle.std.proofs.Common.{◌≡◌, ℕ, ◌⊎◌, inl, inr, refl, sym, ap, subst, ◌∙◌, arith, Bool, true, false, List, [], ◌∷◌, ◌++◌, append_assoc, append-nil, length, length-append}
+use Rattle.std.proofs.Common.{◌≡◌, ℕ, ◌⊎◌, inl, inr, refl, sym, ap, subst, ◌∙◌, arith, Bool, true, false, List, [], ◌∷◌, ◌++◌, append_assoc, append-nil, length, length-append, take, ◌+◌, ◌≤◌, ◌<◌}
 use Rattle.std.proofs.lemmas.Bool.Decides.{eqb_tells}
-use Rattle.std.proofs.lemmas.List.{append_cancel_left}
+use Rattle.std.proofs.lemmas.List.{append_cancel_left, length-take-le}
 use Rattle.slink_wire.specs.declared.command.Command.{Command}
 use Rattle.slink_wire.specs.declared.lines.What.{What}
 use Rattle.slink_wire.specs.declared.lines.What.TheVariants.{More, Line, TooLong}
@@ -18,7 +18,7 @@ use Rattle.slink_feed.specs.declared.session.Phase.TheVariants.{Closed}
 use Rattle.slink_feed.specs.Serving.{Answers, IsAnswer, Standing}
 use Rattle.slink_feed.specs.Session.{State, answered, answered_in, ended, reply_at_next}
 use Rattle.slink_feed.specs.Window.{Window}
-use Rattle.slink_feed.specs.World.{Serves, none_served, piece_served}
+use Rattle.slink_feed.specs.World.{Serves, Takes, none_served, piece_served}
 use Rattle.slink_feed.proofs.Answering.{Open, open_or, shut_on}
 use Rattle.slink_feed.proofs.OneReading.{fronts}
 use Rattle.slink_feed.proofs.OneWorld.{held_same}
@@ -275,3 +275,159 @@ module _ (feed : List Window) where
         held = λ awake. held_same a.held b.held (stream ++ bytes) (held_open a stream bytes r.left r.ends awake) (held_open b stream bytes t.left t.ends (subst (λ (z : State). Open z.phase) both.0 awake));
         out = r.sent ∙ (ap (λ z. way ++ z) both.1 ∙ sym t.sent);
       }
+
+  -- Where a session was cut off in a reply: these lines are answered before, and the next one is, or one that is too long.
+  data CutAt (lines all : List (List ℕ)) (u v : State) (reply : Reply) : Type 0 where
+    at_line : (line : List ℕ) (more : List (List ℕ)) (c : Command) → all ≡ lines ++ line ∷ more → IsCommand line c → answered feed u c ≡ (v, reply) → CutAt lines all u v reply
+    at_over : all ≡ lines → ended u ≡ (v, reply) → CutAt lines all u v reply
+
+  record Cut (s : State) (all : List (List ℕ)) (v : State) (reply : Reply) : Type 0 where
+    lines : List (List ℕ)
+    until : State
+    out : List ℕ
+    replied : AreReplied s lines until out
+    last : CutAt lines all until v reply
+
+  rest_of : (lines all : List (List ℕ)) (u v : State) (reply : Reply) → CutAt lines all u v reply → (more : List (List ℕ)) × (all ≡ lines ++ more)
+  rest_of lines all u v reply (at_line line more c e is done) = (line ∷ more, e)
+  rest_of lines all u v reply (at_over e done) = ([], e ∙ sym (append-nil lines))
+
+  -- one that answered more wrote more
+  wrote_more : (s u v w : State) (lines more others all : List (List ℕ)) (x : List ℕ) (reply : Reply) (some out : List ℕ) → CutAt lines all u v reply → AreReplied s lines u some → AreReplied s (lines ++ x ∷ more) w out
+      → all ≡ (lines ++ x ∷ more) ++ others → length some + length (reply_bytes reply) ≤ length out
+  wrote_more s u v w lines more others all x reply some out (at_over e done) p q f =
+      absurd (omega (arith, ap length (sym e ∙ f), length-append (lines ++ x ∷ more) others, length-append lines (x ∷ more)))
+  wrote_more s u v w lines more others all x reply some out (at_line line rest c e is done) p q f =
+      let lists : line ∷ rest ≡ (x ∷ more) ++ others = append_cancel_left lines (line ∷ rest) ((x ∷ more) ++ others) (sym e ∙ (f ∙ append_assoc lines (x ∷ more) others)) in
+      let first : line ≡ x = cc lists in
+      let parts : (z : State) × (a : List ℕ) × (b : List ℕ) × (out ≡ a ++ b) × AreReplied s lines z a × AreReplied z (x ∷ more) w b = replied_split s w lines (x ∷ more) out q in
+      let one : (u ≡ parts.0) × (some ≡ parts.1) = replied_once s u parts.0 lines some parts.1 p parts.4 in
+      let next : AreReplied parts.0 (x ∷ more) w parts.2 = parts.5 in
+      let same : c ≡ next.0 = one_command (folded (words x)) c next.0 (subst (λ l. IsCommand l c) first is) next.1 in
+      let bytes : reply_bytes reply ≡ reply_bytes (answered feed parts.0 next.0).1 =
+      ap (λ (z : State × Reply). reply_bytes z.1) (sym done) ∙ (ap (λ (z : State). reply_bytes (answered feed z c).1) one.0 ∙ ap (λ d. reply_bytes (answered feed parts.0 d).1) same) in
+      omega (arith, ap length bytes, ap length one.1, ap length parts.3, length-append parts.1 parts.2, ap length next.3, length-append (reply_bytes (answered feed parts.0 next.0).1) next.2)
+
+  last_alike : (lines all : List (List ℕ)) (u a b : State) (r t : Reply) → CutAt lines all u a r → CutAt lines all u b t → ◌≡◌ {A = State × Reply} (a, r) (b, t)
+  last_alike lines all u a b r t (at_line l m c e is done) (at_line k n d f it that) =
+      let lists : l ∷ m ≡ k ∷ n = append_cancel_left lines (l ∷ m) (k ∷ n) (sym e ∙ f) in
+      let first : l ≡ k = cc lists in
+      let same : c ≡ d = one_command (folded (words k)) c d (subst (λ x. IsCommand x c) first is) it in
+      sym done ∙ (ap (answered feed u) same ∙ that)
+  last_alike lines all u a b r t (at_line l m c e is done) (at_over f that) = absurd (omega (arith, ap length (sym e ∙ f), length-append lines (l ∷ m)))
+  last_alike lines all u a b r t (at_over e done) (at_line k n d f it that) = absurd (omega (arith, ap length (sym f ∙ e), length-append lines (k ∷ n)))
+  last_alike lines all u a b r t (at_over e done) (at_over f that) = sym done ∙ that
+
+  -- what was written then, and what the session came to
+  abbrev CutAlike : State → State → Reply → Reply → List ℕ → List ℕ → Type 0
+  CutAlike a b r t x y = ◌≡◌ {A = State × Reply} (a, r) (b, t) × (x ≡ y)
+
+  cut_further : (s a b : State) (all : List (List ℕ)) (r t : Reply) (p : Cut s all a r) (q : Cut s all b t) (m n : ℕ) → m < length (reply_bytes r) → length p.out + m ≡ length q.out + n
+      → (d : List (List ℕ)) → q.lines ≡ p.lines ++ d → CutAlike a b r t p.out q.out
+  cut_further s a b all r t p q m n part total [] same =
+      let lines : q.lines ≡ p.lines = same ∙ append-nil p.lines in
+      let one : (p.until ≡ q.until) × (p.out ≡ q.out) = replied_once s p.until q.until p.lines p.out q.out p.replied (subst (λ ls. AreReplied s ls q.until q.out) lines q.replied) in
+      (last_alike p.lines all p.until a b r t p.last (subst (λ (z : State). CutAt p.lines all z b t) (sym one.0) (subst (λ ls. CutAt ls all q.until b t) lines q.last)), one.1)
+  cut_further s a b all r t p q m n part total (x ∷ d) same =
+      let rest : (more : List (List ℕ)) × (all ≡ q.lines ++ more) = rest_of q.lines all q.until b t q.last in
+      let more : length p.out + length (reply_bytes r) ≤ length q.out =
+      wrote_more s p.until a q.until p.lines d rest.0 all x r p.out q.out p.last p.replied (subst (λ ls. AreReplied s ls q.until q.out) same q.replied) (rest.1 ∙ ap (λ ls. ls ++ rest.0) same) in
+      absurd (omega (arith, more, part, total))
+
+  line_fronts : (a b x y : List (List ℕ)) → a ++ x ≡ b ++ y → ((z : List (List ℕ)) × (b ≡ a ++ z)) ⊎ ((z : List (List ℕ)) × (a ≡ b ++ z))
+  line_fronts [] b x y e = inl (b, refl)
+  line_fronts (p ∷ a) [] x y e = inr (p ∷ a, refl)
+  line_fronts (p ∷ a) (q ∷ b) x y e =
+      let heads : p ≡ q = cc e in
+      let tails : a ++ x ≡ b ++ y = cc e in
+      elim (line_fronts a b x y tails) [
+        | inl far ↦ inl (far.0, ap (λ h. h ∷ b) (sym heads) ∙ ap (λ ls. p ∷ ls) far.1)
+        | inr far ↦ inr (far.0, ap (λ h. h ∷ a) heads ∙ ap (λ ls. q ∷ ls) far.1)
+      ]
+
+  cut_once : (s a b : State) (all : List (List ℕ)) (r t : Reply) (p : Cut s all a r) (q : Cut s all b t) (m n : ℕ) → m < length (reply_bytes r) → n < length (reply_bytes t) → length p.out + m ≡ length q.out + n → CutAlike a b r t p.out q.out
+  cut_once s a b all r t p q m n part other total =
+      let x : (more : List (List ℕ)) × (all ≡ p.lines ++ more) = rest_of p.lines all p.until a r p.last in
+      let y : (more : List (List ℕ)) × (all ≡ q.lines ++ more) = rest_of q.lines all q.until b t q.last in
+      elim (line_fronts p.lines q.lines x.0 y.0 (sym x.1 ∙ y.1)) [
+        | inl far ↦ cut_further s a b all r t p q m n part total far.0 far.1
+        | inr far ↦ (let one : CutAlike b a t r q.out p.out = cut_further s b a all t r q p n m other (sym total) far.0 far.1 in (sym one.0, sym one.1))
+      ]
+
+  comes_open : (t : Bool) (s last : State) (lines : List (List ℕ)) (out : List ℕ) → Comes t s lines last out → Open last.phase → AreReplied s lines last out
+  comes_open false s last lines out p awake = p
+  comes_open true s last lines out p awake = absurd (awake (ap (λ (z : State). z.phase) p.3))
+
+  replies_some : (reply : Reply) (n : ℕ) → n < length (reply_bytes reply) → reply ≡ said.Nothing → ⊥
+  replies_some reply n part none = let e : length (reply_bytes reply) ≡ 0 = ap (λ r. length (reply_bytes r)) none in omega (arith, part, e)
+
+  -- the lines of all bytes
+  module _ (stream front piece rest bytes : List ℕ) (split : bytes ≡ front ++ (piece ++ rest)) where
+    all_bytes : ((stream ++ front) ++ piece) ++ rest ≡ stream ++ bytes
+    all_bytes = append_assoc (stream ++ front) piece rest ∙ (append_assoc stream front (piece ++ rest) ∙ ap (λ b. stream ++ b) (sym split))
+
+    all_lines : (lines more : List (List ℕ)) → (lines_of ((stream ++ front) ++ piece)).lines ≡ (lines_of stream).lines ++ lines → (lines_of (((stream ++ front) ++ piece) ++ rest)).lines ≡ (lines_of ((stream ++ front) ++ piece)).lines ++ more
+        → (grows stream bytes).more ≡ lines ++ more
+    all_lines lines more told on =
+        append_cancel_left (lines_of stream).lines (grows stream bytes).more (lines ++ more)
+        (sym (grows stream bytes).lines ∙ (ap (λ b. (lines_of b).lines) (sym all_bytes) ∙ (on ∙ (ap (λ ls. ls ++ more) told ∙ append_assoc (lines_of stream).lines lines more))))
+
+    cut_at : (u v : State) (lines : List (List ℕ)) (reply : Reply) (n : ℕ) (what : What) → n < length (reply_bytes reply) → (lines_of (stream ++ front)).lines ≡ (lines_of stream).lines ++ lines → Tells what (stream ++ front) ((stream ++ front) ++ piece)
+        → IsAnswer feed u what v reply → CutAt lines (grows stream bytes).more u v reply
+    cut_at u v lines reply n More part told tells is = absurd (replies_some reply n part is.1)
+    cut_at u v lines reply n (Line line) part told tells is =
+        let on : Grows (lines_of ((stream ++ front) ++ piece)) (lines_of (((stream ++ front) ++ piece) ++ rest)) = grows ((stream ++ front) ++ piece) rest in
+        at_line line.items on.more is.0
+        (all_lines (lines ++ line.items ∷ []) on.more (tells.0 ∙ (ap (λ ls. ls ++ line.items ∷ []) told ∙ append_assoc (lines_of stream).lines lines (line.items ∷ []))) on.lines ∙ append_assoc lines (line.items ∷ []) on.more)
+        is.1 is.2
+    cut_at u v lines reply n TooLong part told tells is =
+        let on : Grows (lines_of ((stream ++ front) ++ piece)) (lines_of (((stream ++ front) ++ piece) ++ rest)) = grows ((stream ++ front) ++ piece) rest in
+        at_over (all_lines lines on.more (tells.0 ∙ told) on.lines ∙ (ap (λ m. lines ++ m) (on.over tells.1).0 ∙ append-nil lines)) is
+
+  -- So a session is cut off whose reply was written in part.
+  record CutIn (s : Standing) (stream bytes way : List ℕ) (v : State) (reply : Reply) (all : List ℕ) : Type 0 where
+    cut : Cut s.state (grows stream bytes).more v reply
+    sent : all ≡ way ++ cut.out
+
+  cut_in : (s u last : Standing) (stream bytes front piece rest way all : List ℕ) (reply : Reply) (n : ℕ) → (Open s.state.phase → IsHeld s.held stream) → (lines_of stream).is_too_long ≡ false → bytes ≡ front ++ (piece ++ rest)
+      → Serves feed s front way u all → Takes feed u piece last reply → n < length (reply_bytes reply) → CutIn s stream bytes way last.state reply all
+  cut_in s u last stream bytes front piece rest way all reply n held fits split serves takes part = elim (open_or u.state.phase) [
+    | inl shut ↦ absurd (replies_some reply n part (takes.closed shut).0)
+    | inr awake ↦ (let r : Ran s stream front way u all = ran s front way u all stream serves held fits in
+        let here : (r.left ≡ []) × IsHeld u.held (stream ++ front) = still_open u stream front r.left r.ends awake in
+        let whole : r.front ≡ front = sym (r.split ∙ (ap (λ b. r.front ++ b) here.0 ∙ append-nil r.front)) in
+        let answer : Answers feed u.state (stream ++ front) ((stream ++ front) ++ piece) last.state reply = takes.answers (stream ++ front) awake here.1 in
+        record {
+          cut = record {
+            lines = r.lines;
+            until = u.state;
+            out = r.out;
+            replied = comes_open (lines_of (stream ++ r.front)).is_too_long s.state u.state r.lines r.out r.comes awake;
+            last = cut_at stream front piece rest bytes split u.state last.state r.lines reply n answer.0 part (ap (λ b. (lines_of (stream ++ b)).lines) (sym whole) ∙ r.told) answer.1 answer.2;
+          };
+          sent = r.sent;
+        })
+  ]
+    where
+      still_open : (a : Standing) (stream0 bytes0 left : List ℕ) → (a.state.phase ≡ Closed) ⊎ ((left ≡ []) × IsHeld a.held (stream0 ++ bytes0)) → Open a.state.phase → (left ≡ []) × IsHeld a.held (stream0 ++ bytes0)
+      still_open a stream0 bytes0 left (inl shut) awake = absurd (awake shut)
+      still_open a stream0 bytes0 left (inr all0) awake = all0
+
+  -- Such sessions came to the same, where as many bytes were written.
+  pub cut_in_once : (s u w a b : Standing) (stream bytes f p z g q y way all other : List ℕ) (r t : Reply) (m n : ℕ) → (Open s.state.phase → IsHeld s.held stream) → (lines_of stream).is_too_long ≡ false
+      → bytes ≡ f ++ (p ++ z) → Serves feed s f way u all → Takes feed u p a r → m < length (reply_bytes r)
+      → bytes ≡ g ++ (q ++ y) → Serves feed s g way w other → Takes feed w q b t → n < length (reply_bytes t)
+      → length (all ++ take m (reply_bytes r)) ≡ length (other ++ take n (reply_bytes t)) → (a.state ≡ b.state) × (all ++ take m (reply_bytes r) ≡ other ++ take n (reply_bytes t))
+  cut_in_once s u w a b stream bytes f p z g q y way all other r t m n held fits e serves takes part e2 serves2 takes2 part2 total =
+      let x : CutIn s stream bytes way a.state r all = cut_in s u a stream bytes f p z way all r m held fits e serves takes part in
+      let v : CutIn s stream bytes way b.state t other = cut_in s w b stream bytes g q y way other t n held fits e2 serves2 takes2 part2 in
+      let short : length (take m (reply_bytes r)) ≡ m = length-take-le m (reply_bytes r) (omega (arith, part)) in
+      let short2 : length (take n (reply_bytes t)) ≡ n = length-take-le n (reply_bytes t) (omega (arith, part2)) in
+      let sum : length x.cut.out + m ≡ length v.cut.out + n =
+      omega (arith, total, short, short2, length-append all (take m (reply_bytes r)), length-append other (take n (reply_bytes t)), ap length x.sent, ap length v.sent, length-append way x.cut.out, length-append way v.cut.out) in
+      let one : CutAlike a.state b.state r t x.cut.out v.cut.out = cut_once s.state a.state b.state (grows stream bytes).more r t x.cut v.cut m n part part2 sum in
+      let sent : all ≡ other = x.sent ∙ (ap (λ o. way ++ o) one.1 ∙ sym v.sent) in
+      let count : m ≡ n = omega (arith, sum, ap length one.1) in (
+        ap (λ (k : State × Reply). k.0) one.0,
+        ap (λ o. o ++ take m (reply_bytes r)) sent ∙ (ap (λ i. other ++ take i (reply_bytes r)) count ∙ ap (λ (k : State × Reply). other ++ take n (reply_bytes k.1)) one.0),
+      )

@@ -4,14 +4,17 @@ use Rattle.std.proofs.lemmas.Bool.Decides.{eqb_tells, leb_tells}
 use Rattle.std.proofs.lemmas.List.{append_cancel_left}
 use Rattle.mseed_stream.specs.Device.{Heard}
 use Rattle.slink_wire.specs.Lines.{IsHeld}
+use Rattle.slink_wire.specs.Reply.{reply_bytes}
 use Rattle.slink_feed.specs.declared.grant.Grant.{Grant}
 use Rattle.slink_feed.specs.declared.session.Phase.{Phase}
 use Rattle.slink_feed.specs.declared.session.Phase.TheVariants.{Fresh, Chosen, Granted, Streaming, Closed}
 use Rattle.slink_feed.specs.declared.session.Sent.{Sent}
 use Rattle.slink_feed.specs.declared.session.Sent.TheVariants as sents
+use Rattle.slink_feed.specs.declared.turn.LinkFault.{LinkFault}
+use Rattle.slink_feed.specs.declared.turn.LinkFault.TheVariants as faults
 use Rattle.slink_feed.specs.declared.turn.Turn.{Turn}
-use Rattle.slink_feed.specs.Attending.{Attends, GoesOn, RepliesToAll, is_at_end, is_closed, replies}
-use Rattle.slink_feed.specs.Connection.{AreAlike}
+use Rattle.slink_feed.specs.Attending.{Attends, FailsToReply, GoesOn, IsServeFault, RepliesToAll, at_read, at_reply, at_send, is_at_end, is_closed, replies}
+use Rattle.slink_feed.specs.Connection.{AreAlike, TookAlike}
 use Rattle.slink_feed.specs.Rounds.{Attending, FailsToSend, Gives, HasWaited, SendsAll, all_sent, place_behind}
 use Rattle.slink_feed.specs.Running.{Stands, StandsFor}
 use Rattle.slink_feed.specs.Serving.{Standing}
@@ -21,7 +24,7 @@ use Rattle.slink_feed.specs.Window.{Window, record_at}
 use Rattle.slink_feed.specs.World.{Serves, sent_bytes}
 use Rattle.slink_feed.proofs.Answering.{Open}
 use Rattle.slink_feed.proofs.Connected.{shut_given}
-use Rattle.slink_feed.proofs.OneReply.{Same, served_once}
+use Rattle.slink_feed.proofs.OneReply.{Same, cut_in_once, served_once}
 use Rattle.slink_feed.proofs.OneWorld.{standings_same}
 use Rattle.slink_feed.proofs.Sendoffs.{place_within}
 
@@ -212,8 +215,8 @@ failed_alike feed p q n u v a given last part behind (x ∷ rest, same, more) =
     let long : length (all_sent given) ≡ length (all_sent a) + length (all_sent some.0) = ap (λ g. length (all_sent g)) some.1 ∙ (ap length (all_joined a some.0) ∙ length-append (all_sent a) (all_sent some.0)) in
     absurd (omega (arith, part, behind, long))
 
-pub failed_once : (feed : List Window) (old a b : Attending) (n : ℕ) → FailsToSend feed old a n → FailsToSend feed old b n → AreAlike a b
-failed_once feed old a b n p q =
+pub sending_failed_once : (feed : List Window) (old a b : Attending) (n : ℕ) → FailsToSend feed old a n → FailsToSend feed old b n → AreAlike a b
+sending_failed_once feed old a b n p q =
     let x : List Sent = p.given ++ p.last ∷ [] in
     let y : List Sent = q.given ++ q.last ∷ [] in
     let both : (a.session.state ≡ b.session.state) × (all_sent x ≡ all_sent y) = elim (one_run feed 0 p.place q.place old.session.state a.session.state b.session.state x y p.gives q.gives) [
@@ -262,3 +265,39 @@ turned_once feed old a b before after t u stands (replies m bytes g e some few p
 turned_once feed old a b before after t u stands (replies m bytes g e some few p) (is_at_end h f) = absurd (nothing_told before bytes some (sym f ∙ e))
 turned_once feed old a b before after t u stands (replies m bytes g e some few p) (replies n more h f much short q) =
     (refl, replied_alike feed old m n a b bytes more stands g h (told_same before more bytes (sym f ∙ e)) p q)
+
+-- A link that failed in a turn.
+took_alike : (a b : Attending) → AreAlike a b → TookAlike a b
+took_alike a b same = record { state = same.state; bytes = same.bytes; failures = same.failures }
+
+-- it failed in a reply
+cut_alike : (feed : List Window) (old m n a b : Attending) (bytes more : List ℕ) (count : ℕ) → Stands old.session → GoesOn feed old m → GoesOn feed old n → more ≡ bytes → FailsToReply feed m a bytes → FailsToReply feed n b more
+    → length a.said.bytes ≡ length old.said.bytes + count → length b.said.bytes ≡ length old.said.bytes + count → TookAlike a b
+cut_alike feed old m n a b bytes more count stands g h same p q long short =
+    let mid : AreAlike m n = sent_once feed old m n g.sends h.sends in
+    let session : n.session ≡ m.session = sym (standings_same m.session n.session mid.state (mid.held g.open_still)) in
+    let awake : Open old.session.state.phase = λ shut. g.open_still (ap (λ (s : State). s.phase) (shut_given feed 0 g.sends.place old.session.state m.session.state g.sends.given g.sends.gives shut) ∙ shut) in
+    let some : (stream : List ℕ) × StandsFor old.session stream = stands awake in
+    let held : IsHeld m.session.held some.0 = subst (λ h. IsHeld h some.0) (sym g.sends.held) some.1.0 in
+    let other : Serves feed m.session q.front m.said.bytes q.before.session q.before.said.bytes =
+    subst (λ (s : Standing). Serves feed s q.front m.said.bytes q.before.session q.before.said.bytes) session
+    (subst (λ w. Serves feed n.session q.front w q.before.session q.before.said.bytes) (sym mid.bytes) q.replies.serves) in
+    let total : length (p.before.said.bytes ++ take p.count (reply_bytes p.reply)) ≡ length (q.before.said.bytes ++ take q.count (reply_bytes q.reply)) =
+    ap length (sym p.said.bytes) ∙ (long ∙ (sym short ∙ ap length q.said.bytes)) in
+    let one : (a.session.state ≡ b.session.state) × (p.before.said.bytes ++ take p.count (reply_bytes p.reply) ≡ q.before.said.bytes ++ take q.count (reply_bytes q.reply)) =
+    cut_in_once feed m.session p.before.session q.before.session a.session b.session some.0 bytes p.front p.piece p.rest q.front q.piece q.rest m.said.bytes p.before.said.bytes q.before.said.bytes p.reply q.reply p.count q.count
+    (λ _. held) (sym some.1.0.1 ∙ some.1.1) (p.bytes_are ∙ append_assoc p.front p.piece p.rest) p.replies.serves p.takes p.said.part (sym same ∙ (q.bytes_are ∙ append_assoc q.front q.piece q.rest)) other q.takes q.said.part total in
+    record {
+      state = one.0;
+      bytes = p.said.bytes ∙ (one.1 ∙ sym q.said.bytes);
+      failures = p.said.failures ∙ (ap (λ n. n + 1) (p.replies.failures ∙ (mid.failures ∙ sym q.replies.failures)) ∙ sym q.said.failures);
+    }
+
+pub cut_once : (feed : List Window) (old a b : Attending) (before after : Heard) (fault : LinkFault) → Stands old.session → IsServeFault feed old a before after fault → IsServeFault feed old b before after fault → TookAlike a b
+cut_once feed old a b before after (faults.Write count) stands (at_send n p e) (at_send m q f) = took_alike a b (sending_failed_once feed old a b count p q)
+cut_once feed old a b before after (faults.Write count) stands (at_send n p e) (at_reply m mid bytes h f few q long) = absurd (still_unread before bytes (sym e ∙ f))
+cut_once feed old a b before after faults.Read stands (at_read g e) (at_read h f) = took_alike a b (sent_once feed old a b g.sends h.sends)
+cut_once feed old a b before after (faults.Write count) stands (at_reply m mid bytes h f few q long) (at_send n p e) = absurd (still_unread before bytes (sym e ∙ f))
+cut_once feed old a b before after (faults.Write count) stands (at_reply n mid bytes g e few p long) (at_reply m other more h f short q total) =
+    cut_alike feed old mid other a b bytes more count stands g h (told_same before more bytes (sym f ∙ e)) p q long total
+cut_once feed old a b before after (faults.Output count) stands p q = elim p [ ]

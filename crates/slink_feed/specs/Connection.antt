@@ -36,8 +36,9 @@ abbrev pub bytes_sent : List Asked → List ℕ
 bytes_sent [] = []
 bytes_sent (a ∷ more) = sent_bytes a.answer ++ bytes_sent more
 
--- In these turns a session sent these bytes: the packets of each place that has a grant are those of a stretch of its
--- pushed records from the grant on, and there is no packet of any other place.
+-- In these turns a session sent these bytes, of packets, and `END` where all that was asked for was sent: the packets of
+-- each place that has a grant are those of a stretch of its pushed records from the grant on, and there is none of any
+-- other place.
 pub record SendsStretches (feeds : List (List Window)) (s : State) (bytes : List ℕ) : Type 0 where
   pub asked : List Asked
   pub are_asked : AreAsked s asked
@@ -51,5 +52,11 @@ pub record SendsStretches (feeds : List (List Window)) (s : State) (bytes : List
 pub record AreAlike (a b : Attending) : Type 0 where
   pub state : a.session.state ≡ b.session.state
   pub held : a.session.state.phase ≢ Closed → a.session.held ≡ b.session.held
+  pub bytes : a.said.bytes ≡ b.said.bytes
+  pub failures : a.said.failures ≡ b.said.failures
+
+-- Two turns left the session in the same state, and the link took the same bytes.
+pub record TookAlike (a b : Attending) : Type 0 where
+  pub state : a.session.state ≡ b.session.state
   pub bytes : a.said.bytes ≡ b.said.bytes
   pub failures : a.said.failures ≡ b.said.failures

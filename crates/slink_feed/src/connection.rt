@@ -1,10 +1,11 @@
 //! The laws of what the link of one session takes in its turns.
 ghost use Rattle.std.specs.Prelude.{◌≡◌, ◌++◌, List, ℕ};
 ghost use Rattle.mseed_stream.specs.Device.{Heard, IsFrontOf};
+ghost use Rattle.slink_feed.specs.declared.turn.LinkFault.{LinkFault};
 ghost use Rattle.slink_feed.specs.declared.turn.Turn.{Turn};
-ghost use Rattle.slink_feed.specs.Attending.{Attends};
-ghost use Rattle.slink_feed.specs.Connection.{AreAlike, FailsInTurn, SendsStretches, TakesTurns};
-ghost use Rattle.slink_feed.specs.Rounds.{Attending, FailsToSend, SendsAll};
+ghost use Rattle.slink_feed.specs.Attending.{Attends, IsServeFault};
+ghost use Rattle.slink_feed.specs.Connection.{AreAlike, FailsInTurn, SendsStretches, TakesTurns, TookAlike};
+ghost use Rattle.slink_feed.specs.Rounds.{Attending, SendsAll};
 ghost use Rattle.slink_feed.specs.Running.{Stands};
 ghost use Rattle.slink_feed.specs.Ties.{IsBefore};
 ghost use Rattle.slink_feed.specs.Window.{Window};
@@ -19,14 +20,15 @@ pub fn one_turn()
     // So are the rounds in which it sends what is due.
     ensures rounds { (feed : List Window) (old a b : Attending) → SendsAll feed old a → SendsAll feed old b
         → AreAlike a b }
-    // Where the link fails in them, what it took is determined by how many bytes these were.
-    ensures failed { (feed : List Window) (old a b : Attending) (count : ℕ) → FailsToSend feed old a count
-        → FailsToSend feed old b count → AreAlike a b }
+    // So is a turn in which the link fails: by how many bytes it took, and by what was read before.
+    ensures fault { (feed : List Window) (old a b : Attending) (before after : Heard) (fault : LinkFault)
+        → Stands old.session → IsServeFault feed old a before after fault
+        → IsServeFault feed old b before after fault → TookAlike a b }
 {}
 
 /// From the moment on when a session streams, what its link takes in turns, with whatever is pushed between them and
-/// whatever the link tells, are packets: those of each place with a grant are a stretch of its records from the grant on,
-/// and no other place has any. Before that moment there are none.
+/// whatever the link tells, are packets, and `END` where all that was asked for was sent. The packets of each place with
+/// a grant are a stretch of its records from the grant on, and no other place has any. Before that moment there are none.
 pub fn turns_send_stretches()
     ensures before { (feed : List Window) (old new : Attending) → IsBefore old.session.state.phase
         → SendsAll feed old new → (new.session ≡ old.session) × (new.said.bytes ≡ old.said.bytes) }
