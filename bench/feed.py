@@ -10,7 +10,6 @@ C / mseed, is above 1 where mseed is faster. Wants a C compiler.
 
 import argparse
 import os
-import random
 import statistics
 import subprocess
 import sys
@@ -20,7 +19,7 @@ import time
 HERE = os.path.dirname(os.path.abspath(__file__))
 sys.path.insert(0, os.path.join(os.path.dirname(HERE), "tests"))
 
-from seedlink import Place, record_of  # noqa: E402
+from seedlink import Place, free_port, is_heard, record_of  # noqa: E402
 
 FOLDER = os.path.join(tempfile.gettempdir(), "mseed-bench-of-" + str(os.getuid()))
 STA = Place("XX_STA")
@@ -54,12 +53,6 @@ def calls(mseed, who, port, records):
     return [mseed, "serve", *words, "--capacity", str(records)], [mseed, "fetch", *words]
 
 
-def is_heard(port):
-    with open("/proc/net/tcp", encoding="ascii") as file:
-        lines = [line.split() for line in file]
-    return any(words[1].endswith(":%04X" % int(port)) and words[3] == "0A" for words in lines)
-
-
 def measured(call, input, output):
     return subprocess.Popen([path_of("measure"), input, output, *call], stdout=subprocess.PIPE, text=True)
 
@@ -74,8 +67,8 @@ def figures(process):
 
 def run(mseed, who, archive, output):
     """The figures of both sides."""
-    port = str(random.randrange(10000, 30000))
-    serve, fetch = calls(mseed, who, port, max(200000, os.path.getsize(archive) // 512))
+    port = free_port()
+    serve, fetch = calls(mseed, who, str(port), max(200000, os.path.getsize(archive) // 512))
     server = measured(serve, archive, "/dev/null")
     while server.poll() is None and not is_heard(port):
         time.sleep(0.01)

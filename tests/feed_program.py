@@ -12,9 +12,8 @@ import sys
 import tempfile
 import threading
 import time
-from pathlib import Path
 
-from seedlink import LIMIT, dialled, free_port, listening, port_of
+from seedlink import LIMIT, dialled, free_port, is_heard, listening, port_of
 
 PROGRAM = sys.argv[1]
 # The processes that were started.
@@ -34,13 +33,6 @@ def end_all():
     for process in STARTED:
         process.kill()
         process.wait()
-
-
-def is_heard(port):
-    """Whether somebody listens there; nobody is dialled for it."""
-    lines = Path("/proc/net/tcp").read_text().splitlines()[1:]
-    heard = [line.split() for line in lines]
-    return any(words[1].endswith(":%04X" % port) and words[3] == "0A" for words in heard)
 
 
 def words_of(places, options, wants=()):

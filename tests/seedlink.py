@@ -7,6 +7,7 @@ Run alone it tries the two against one another and against the transcript of a s
 import re
 import socket
 import threading
+from pathlib import Path
 
 from records import record
 
@@ -283,6 +284,13 @@ def free_port():
     holder.setsockopt(socket.SOL_SOCKET, socket.SO_REUSEADDR, 1)
     HELD.append(holder)
     return port_of(holder)
+
+
+def is_heard(port):
+    """Whether somebody listens there; nobody is dialled for it."""
+    lines = Path("/proc/net/tcp").read_text(encoding="ascii").splitlines()[1:]
+    heard = [line.split() for line in lines]
+    return any(words[1].endswith(":%04X" % port) and words[3] == "0A" for words in heard)
 
 
 def dialled(port):
