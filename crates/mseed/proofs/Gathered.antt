@@ -1,22 +1,64 @@
 -- The lines of a listing, record after record.
-use Rattle.std.proofs.Common.{◌≡◌, ℕ, ◌+◌, ◌++◌, List, [], ◌∷◌, length, take, drop, map, sym, ap, ◌∙◌, subst, append_assoc, arith, inl, inr, Option, Result, Ok, Err}
-use Rattle.std.proofs.lemmas.List.{take-append-drop, append-nil, length-append}
+use Rattle.std.proofs.Common.{◌≡◌, ℕ, ◌+◌, ◌<◌, ◌++◌, List, [], ◌∷◌, length, take, map, refl, sym, ap, ◌∙◌, subst, append_assoc, arith, inl, inr, Option, Result, Ok, Err, IfErr}
+use Rattle.std.proofs.lemmas.List.{append-nil, length-append}
+use Rattle.std.proofs.Math.Seq.{take-append-add, take-append_seam}
 use Rattle.std.specs.List.{concat}
 use Rattle.mseed_record.specs.View.{View}
-use Rattle.mseed_stream.specs.Device.{Heard, Said, IsFrontOf}
+use Rattle.mseed_stream.specs.Device.{Heard, Said}
 use Rattle.mseed_stream.specs.declared.fault.StreamFault.{StreamFault}
 use Rattle.mseed.specs.Listing.{record_line, record_lines, count_line}
 use Rattle.mseed_stream.specs.Walk.{AreViews}
 use Rattle.mseed_audit.specs.Text.{end_line}
-use Rattle.mseed.specs.Show.{IsListed, IsShown, show_text}
+use Rattle.mseed.specs.Show.{IsListed, IsShown, TookFirst, TookPart, show_text}
 use Rattle.std.specs.Result.{IsErrAnd}
-use Rattle.mseed.specs.Gathering.{IsFrontWritten, IsListing, HasLines}
+use Rattle.mseed.specs.Gathering.{AreGathered, IsFrontWritten, IsListing, HasLines}
 use Rattle.mseed.specs.declared.ending.ShowFault.{ShowFault}
 use Rattle.mseed.specs.declared.ending.ShowFault.TheVariants.{Write, Memory}
 
--- what took a front of the text
-pub front_taken : (old text new : List ℕ) (n : ℕ) → new ≡ old ++ take n text → IsFrontOf new (old ++ text)
-front_taken old text new n e = (drop n text, ap (λ (xs : List ℕ). old ++ xs) (sym (take-append-drop n text)) ∙ sym (append_assoc old (take n text) (drop n text)) ∙ ap (λ (xs : List ℕ). xs ++ drop n text) (sym e))
+-- nothing was taken
+pub gathered_all : (s : Said) (text : List ℕ) → AreGathered s s text text
+gathered_all s text = record { taken = []; bytes = sym (append-nil s.bytes); joined = refl }
+
+-- what was taken is a front
+pub gathered_first : (first old : Said) (text lines : List ℕ) → AreGathered first old text lines → TookFirst first old lines
+gathered_first first old text lines g =
+    let front : g.taken ≡ take (length g.taken) lines = sym (take-append_seam g.taken text) ∙ ap (λ (xs : List ℕ). take (length g.taken) xs) g.joined in
+    (length g.taken, g.bytes ∙ ap (λ (xs : List ℕ). first.bytes ++ xs) front)
+
+-- no memory for a line, before anything of it was written
+pub memory_err : {U : Type 0} (r : Result U ShowFault) (Q : ShowFault → Type 0) (s : Said) (text : List ℕ) → IsErrAnd r Q → ((e : ShowFault) → Q e → e ≡ Memory)
+    → IfErr r (λ fault. IsFrontWritten fault s s text)
+memory_err (Ok u) Q s text is q = tt
+memory_err (Err e) Q s text is q = subst (λ (f : ShowFault). IsFrontWritten f s s text) (sym (q e is)) (refl, (0, sym (append-nil s.bytes)))
+
+-- some more was added to what is gathered, and perhaps written
+pub gathered_more : (first old new : Said) (text next lines line whole : List ℕ) → AreGathered first old text lines → AreGathered old new next (text ++ line) → whole ≡ lines ++ line
+    → AreGathered first new next whole
+gathered_more first old new text next lines line whole before after e = record {
+  taken = before.taken ++ after.taken;
+  bytes = after.bytes ∙ ap (λ (xs : List ℕ). xs ++ after.taken) before.bytes ∙ append_assoc first.bytes before.taken after.taken;
+  joined = append_assoc before.taken after.taken next ∙ ap (λ (xs : List ℕ). before.taken ++ xs) after.joined ∙ sym (append_assoc before.taken text line)
+      ∙ ap (λ (xs : List ℕ). xs ++ line) before.joined ∙ sym e;
+}
+
+-- the whole, behind what was taken before
+behind : (first old : Said) (text lines tail whole : List ℕ) (before : AreGathered first old text lines) → whole ≡ lines ++ tail → before.taken ++ (text ++ tail) ≡ whole
+behind first old text lines tail whole before e = sym (append_assoc before.taken text tail) ∙ ap (λ (xs : List ℕ). xs ++ tail) before.joined ∙ sym e
+
+front_behind : (first old new : Said) (text lines tail whole : List ℕ) (n : ℕ) (before : AreGathered first old text lines) → whole ≡ lines ++ tail
+    → new.bytes ≡ old.bytes ++ take n (text ++ tail) → new.bytes ≡ first.bytes ++ take (length before.taken + n) whole
+front_behind first old new text lines tail whole n before e taken =
+    taken ∙ ap (λ (xs : List ℕ). xs ++ take n (text ++ tail)) before.bytes ∙ append_assoc first.bytes before.taken (take n (text ++ tail))
+    ∙ ap (λ (xs : List ℕ). first.bytes ++ xs) (sym (take-append-add before.taken (text ++ tail) n))
+    ∙ ap (λ (xs : List ℕ). first.bytes ++ take (length before.taken + n) xs) (behind first old text lines tail whole before e)
+
+pub first_behind : (first old new : Said) (text lines tail whole : List ℕ) → AreGathered first old text lines → whole ≡ lines ++ tail → TookFirst old new (text ++ tail) → TookFirst first new whole
+first_behind first old new text lines tail whole before e took = (length before.taken + took.0, front_behind first old new text lines tail whole took.0 before e took.1)
+
+pub part_behind : (first old new : Said) (text lines tail whole : List ℕ) → AreGathered first old text lines → whole ≡ lines ++ tail → TookPart old new (text ++ tail) → TookPart first new whole
+part_behind first old new text lines tail whole before e took =
+    let size : length before.taken + length (text ++ tail) ≡ length whole = sym (length-append before.taken (text ++ tail)) ∙ ap (λ (xs : List ℕ). length xs) (behind first old text lines tail whole before e) in
+    (length before.taken + took.0, (omega (arith, took.1.0, size), front_behind first old new text lines tail whole took.0 before e took.1.1))
 
 lines_from : (offset : ℕ) (views : List View) (v : View) (n : ℕ) → n ≡ offset + length (concat (map (λ v. v.bytes) views)) → record_lines offset (views ++ v ∷ []) ≡ record_lines offset views ++ record_line n v
 lines_from offset [] v n e =
@@ -34,48 +76,81 @@ pub lines_more : (bytes : List ℕ) (offset : ℕ) (views : List View) (v : View
 lines_more bytes offset views v shown = lines_from 0 views v offset (omega (arith, shown.offset_is))
 
 -- a fault before which a front of the lines was written
-pub cut_short : (fault : ShowFault) (h : Heard) (first old new : Said) (text : List ℕ) (offset : ℕ) (views : List View) → AreViews h.bytes offset views → old.failures ≡ first.failures
-    → old.bytes ++ text ≡ first.bytes ++ record_lines 0 views → IsFrontWritten fault old new text → IsShown (Err fault) h first new
-cut_short Write h first old new text offset views shown same lines written =
-    (omega (arith, same, written.0), (offset, (views, record { shown = shown; front = inl (subst (λ (xs : List ℕ). IsFrontOf new.bytes xs) lines written.1) })))
-cut_short Memory h first old new text offset views shown same lines written =
-    (written.0 ∙ same, (offset, (views, record { shown = shown; front = inl (subst (λ (xs : List ℕ). IsFrontOf new.bytes xs) lines written.1) })))
+pub cut_short : (fault : ShowFault) (h : Heard) (first old new : Said) (text lines line : List ℕ) (offset : ℕ) (views : List View) → AreViews h.bytes offset views → old.failures ≡ first.failures
+    → AreGathered first old text lines → record_lines 0 views ≡ lines ++ line → IsFrontWritten fault old new (text ++ line) → IsShown (Err fault) h first new
+cut_short Write h first old new text lines line offset views shown same before e written =
+    (omega (arith, same, written.0), (offset, (views, record { shown = shown; front = inl (part_behind first old new text lines line (record_lines 0 views) before e written.1) })))
+cut_short Memory h first old new text lines line offset views shown same before e written =
+    (written.0 ∙ same, (offset, (views, record { shown = shown; front = inl (first_behind first old new text lines line (record_lines 0 views) before e written.1) })))
 
 pub gathered_err : (r : Result (ℕ × Option StreamFault) ShowFault) (Q : ShowFault → Type 0) (fault : ShowFault) (h : Heard) (old new : Said) (text : List ℕ) → IsErrAnd r Q → ((e : ShowFault) → Q e → e ≡ fault) → IsShown (Err fault) h old new → IsListing r h old new text
 gathered_err (Ok x) Q fault h old new text is q shown = absurd is
 gathered_err (Err e) Q fault h old new text is q shown = subst (λ (x : ShowFault). IsShown (Err x) h old new) (sym (q e is)) shown
 
-whole_text : (old text first lines tail : List ℕ) → old ++ text ≡ first ++ lines → old ++ (text ++ tail) ≡ first ++ (lines ++ tail)
-whole_text old text first lines tail e = sym (append_assoc old text tail) ∙ ap (λ (xs : List ℕ). xs ++ tail) e ∙ append_assoc first lines tail
-
 -- what is left to be written ends the whole text
-whole_is : (records : ℕ) (end : Option StreamFault) (h : Heard) (first old : Said) (text whole : List ℕ) (views : List View) → HasLines records end h first old text views
-    → whole ≡ text ++ count_line records ++ end_line end → old.bytes ++ whole ≡ first.bytes ++ show_text views end
-whole_is records end h first old text whole views gathered e =
-    let number : whole ≡ text ++ count_line (length views) ++ end_line end = e ∙ ap (λ (n : ℕ). text ++ count_line n ++ end_line end) gathered.number in
-    let lines = whole_text old.bytes text first.bytes (record_lines 0 views) (count_line (length views)) gathered.lines in
-    ap (λ (xs : List ℕ). old.bytes ++ xs) number
-    ∙ whole_text old.bytes (text ++ count_line (length views)) first.bytes (record_lines 0 views ++ count_line (length views)) (end_line end) lines
+tail_is : (records : ℕ) (end : Option StreamFault) (h : Heard) (first old : Said) (text whole : List ℕ) (views : List View) → HasLines records end h first old text views
+    → whole ≡ text ++ count_line records ++ end_line end → whole ≡ text ++ (count_line (length views) ++ end_line end)
+tail_is records end h first old text whole views gathered e =
+    e ∙ ap (λ (n : ℕ). text ++ count_line n ++ end_line end) gathered.number ∙ append_assoc text (count_line (length views)) (end_line end)
+
+shown_is : (views : List View) (end : Option StreamFault) → show_text views end ≡ record_lines 0 views ++ (count_line (length views) ++ end_line end)
+shown_is views end = append_assoc (record_lines 0 views) (count_line (length views)) (end_line end)
 
 -- the whole text was written
 pub listed : (records : ℕ) (end : Option StreamFault) (h : Heard) (first old new : Said) (text whole : List ℕ) (views : List View) → HasLines records end h first old text views
     → whole ≡ text ++ count_line records ++ end_line end → new.bytes ≡ old.bytes ++ whole → new.failures ≡ old.failures → IsListed end h first new views
-listed records end h first old new text whole views gathered e bytes fine = record {
-  all = gathered.all;
-  text = bytes ∙ whole_is records end h first old text whole views gathered e;
-  fine = fine ∙ gathered.fine;
-}
+listed records end h first old new text whole views gathered e bytes fine =
+    let tail : List ℕ = count_line (length views) ++ end_line end in
+    let before = gathered.lines in record {
+      all = gathered.all;
+      text = bytes ∙ ap (λ (xs : List ℕ). old.bytes ++ xs) (tail_is records end h first old text whole views gathered e) ∙ ap (λ (xs : List ℕ). xs ++ (text ++ tail)) before.bytes
+          ∙ append_assoc first.bytes before.taken (text ++ tail)
+          ∙ ap (λ (xs : List ℕ). first.bytes ++ xs) (behind first old text (record_lines 0 views) tail (show_text views end) before (shown_is views end));
+      fine = fine ∙ gathered.fine;
+    }
+
+-- no memory for the lines at the end
+pub memory_short : (records : ℕ) (end : Option StreamFault) (h : Heard) (first new : Said) (text : List ℕ) (views : List View) → HasLines records end h first new text views
+    → IsShown (Err Memory) h first new
+memory_short records end h first new text views gathered =
+    (gathered.fine, (gathered.all.offset, (views, record { shown = gathered.all.records; front = inl (gathered_first first new text (record_lines 0 views) gathered.lines) })))
 
 -- a fault before which a front of the whole text was written
 pub end_short : (fault : ShowFault) (records : ℕ) (end : Option StreamFault) (h : Heard) (first old new : Said) (text whole : List ℕ) (views : List View) → HasLines records end h first old text views
     → whole ≡ text ++ count_line records ++ end_line end → IsFrontWritten fault old new whole → IsShown (Err fault) h first new
 end_short fault records end h first old new text whole views gathered e written =
-    let same : old.bytes ++ whole ≡ first.bytes ++ show_text views end = whole_is records end h first old text whole views gathered e in
-    go fault written same
+    go fault (subst (λ (xs : List ℕ). IsFrontWritten fault old new xs) (tail_is records end h first old text whole views gathered e) written)
   where
-    go : (f : ShowFault) → IsFrontWritten f old new whole → old.bytes ++ whole ≡ first.bytes ++ show_text views end → IsShown (Err f) h first new
-    go Write w s = (omega (arith, gathered.fine, w.0), (gathered.all.offset, (views, record { shown = gathered.all.records; front = inr (end, (gathered.all, subst (λ (xs : List ℕ). IsFrontOf new.bytes xs) s w.1)) })))
-    go Memory w s = (w.0 ∙ gathered.fine, (gathered.all.offset, (views, record { shown = gathered.all.records; front = inr (end, (gathered.all, subst (λ (xs : List ℕ). IsFrontOf new.bytes xs) s w.1)) })))
+    tail : List ℕ
+    tail = count_line (length views) ++ end_line end
+
+    go : (f : ShowFault) → IsFrontWritten f old new (text ++ tail) → IsShown (Err f) h first new
+    go Write w = (
+      omega (arith, gathered.fine, w.0),
+      (
+        gathered.all.offset,
+        (
+          views,
+          record {
+            shown = gathered.all.records;
+            front = inr (end, (gathered.all, part_behind first old new text (record_lines 0 views) tail (show_text views end) gathered.lines (shown_is views end) w.1));
+          },
+        ),
+      ),
+    )
+    go Memory w = (
+      w.0 ∙ gathered.fine,
+      (
+        gathered.all.offset,
+        (
+          views,
+          record {
+            shown = gathered.all.records;
+            front = inr (end, (gathered.all, first_behind first old new text (record_lines 0 views) tail (show_text views end) gathered.lines (shown_is views end) w.1));
+          },
+        ),
+      ),
+    )
 
 pub shown_err : (r : Result (Option StreamFault) ShowFault) (Q : ShowFault → Type 0) (fault : ShowFault) (h : Heard) (old new : Said) → IsErrAnd r Q → ((e : ShowFault) → Q e → e ≡ fault) → IsShown (Err fault) h old new → IsShown r h old new
 shown_err (Ok x) Q fault h old new is q shown = absurd is

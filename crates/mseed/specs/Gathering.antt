@@ -1,23 +1,29 @@
 -- What was written of a listing, and what is gathered of it.
-use Rattle.std.specs.Prelude.{◌≡◌, ℕ, ◌<◌, List, ◌++◌, length, Option, Result, Ok, Err}
+use Rattle.std.specs.Prelude.{◌≡◌, ℕ, ◌+◌, List, ◌++◌, length, Option, Result, Ok, Err}
 use Rattle.mseed_record.specs.View.{View}
-use Rattle.mseed_stream.specs.Device.{Heard, Said, IsFrontOf}
+use Rattle.mseed_stream.specs.Device.{Heard, Said}
 use Rattle.mseed_stream.specs.declared.fault.StreamFault.{StreamFault}
 use Rattle.mseed.specs.Listing.{record_lines}
 use Rattle.mseed_stream.specs.Walk.{AreAllViews}
-use Rattle.mseed.specs.Show.{IsShown}
+use Rattle.mseed.specs.Show.{IsShown, TookFirst, TookPart}
 use Rattle.mseed.specs.declared.ending.ShowFault.{ShowFault}
 use Rattle.mseed.specs.declared.ending.ShowFault.TheVariants.{Write, Memory}
 
 -- a front of some text was written before the fault, which is the output's where the output failed
 abbrev pub IsFrontWritten : ShowFault → Said → Said → List ℕ → Type 0
-IsFrontWritten Write old new text = (old.failures < new.failures) × IsFrontOf new.bytes (old.bytes ++ text)
-IsFrontWritten Memory old new text = (new.failures ≡ old.failures) × IsFrontOf new.bytes (old.bytes ++ text)
+IsFrontWritten Write old new text = (new.failures ≡ old.failures + 1) × TookPart old new text
+IsFrontWritten Memory old new text = (new.failures ≡ old.failures) × TookFirst old new text
+
+-- the output took some bytes, and with those that are gathered they are a text
+pub record AreGathered (old new : Said) (gathered text : List ℕ) : Type 0 where
+  pub taken : List ℕ
+  pub bytes : new.bytes ≡ old.bytes ++ taken
+  pub joined : taken ++ gathered ≡ text
 
 -- the lines of the records up to the end were written or are gathered
 pub record HasLines (records : ℕ) (end : Option StreamFault) (h : Heard) (old new : Said) (text : List ℕ) (views : List View) : Type 0 where
   pub all : AreAllViews h views end
-  pub lines : new.bytes ++ text ≡ old.bytes ++ record_lines 0 views
+  pub lines : AreGathered old new text (record_lines 0 views)
   pub fine : new.failures ≡ old.failures
   pub number : records ≡ length views
 

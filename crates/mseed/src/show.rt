@@ -5,7 +5,7 @@ ghost use Rattle.mseed_stream.specs.Device.{nothing_heard, IsFrontOf};
 ghost use Rattle.mseed.specs.Listing.{record_line, count_line};
 ghost use Rattle.mseed_audit.specs.Text.{end_line};
 ghost use Rattle.mseed.specs.Show.{IsShown};
-ghost use Rattle.mseed.specs.Gathering.{IsFrontWritten, IsListing};
+ghost use Rattle.mseed.specs.Gathering.{AreGathered, IsFrontWritten, IsListing};
 
 use crate::ending::ShowFault;
 use crate::listing::{push_count_line, push_record_line};
@@ -69,8 +69,8 @@ fn list_record<A: Allocator, W: Sink>(
     offset: u64,
     view: &RecordView,
 ) -> Result<(), ShowFault>
-    ensures ok { OnOk result ((W.said output.new).bytes ++ text.new.items
-        ≡ ((W.said output.old).bytes ++ text.old.items) ++ record_line offset (view_of view.now)) }
+    ensures ok { OnOk result (AreGathered (W.said output.old) (W.said output.new) text.new.items
+        (text.old.items ++ record_line offset (view_of view.now))) }
     ensures fine { OnOk result ((W.said output.new).failures ≡ (W.said output.old).failures) }
     ensures err { IfErr result (λ fault. IsFrontWritten fault (W.said output.old) (W.said output.new)
         (text.old.items ++ record_line offset (view_of view.now))) }

@@ -1,7 +1,8 @@
-use Rattle.std.proofs.Common.{◌≡◌, ◌+◌, ◌-◌, ◌^◌, ◌≤◌, ◌++◌, List, length}
+use Rattle.std.proofs.Common.{◌≡◌, ◌+◌, ◌-◌, ◌^◌, ◌≤◌, List, length}
 use Rattle.mseed_record.specs.View.{View}
 use Rattle.mseed_stream.specs.Cutting.{IsAlong}
 use Rattle.mseed_stream.specs.Walk.{HasHandedOut}
+use Rattle.mseed.specs.Gathering.{AreGathered}
 use Rattle.mseed.specs.Listing.{record_lines}
 use Rattle.mseed.proofs.show.list.Given as goal
 
@@ -9,7 +10,7 @@ abbrev pub invariant-records : goal.invariant-records
 invariant-records g l = IsAlong (g.R.Source.heard l.input) l.cutter × (l.records ≤ (g.R.Source.heard l.input).calls)
     × ((g.W.Sink.said l.output).failures ≡ (g.W.Sink.said l.fn.output).failures)
     × ((views : List View) × (HasHandedOut (g.R.Source.heard l.input) l.cutter views
-    × ((g.W.Sink.said l.output).bytes ++ l.text.items ≡ (g.W.Sink.said l.fn.output).bytes ++ record_lines 0 views)
+    × AreGathered (g.W.Sink.said l.fn.output) (g.W.Sink.said l.output) l.text.items (record_lines 0 views)
     × (l.records ≡ length views)))
 
 abbrev pub decreases-records : goal.decreases-records

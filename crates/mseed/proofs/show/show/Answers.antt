@@ -1,6 +1,8 @@
+use Rattle.std.proofs.Common.{◌∙◌}
 use Rattle.mseed_stream.specs.Device.{Said}
 use Rattle.mseed.specs.declared.ending.ShowFault.{ShowFault}
-use Rattle.mseed.proofs.Gathered.{end_short, listed, shown_err}
+use Rattle.mseed.specs.declared.ending.ShowFault.TheVariants.{Memory}
+use Rattle.mseed.proofs.Gathered.{end_short, listed, memory_short, shown_err}
 use Rattle.mseed.proofs.show.show.Goals as goal
 
 pub returns-in_err-write_out : goal.returns-in_err-write_out
@@ -11,6 +13,14 @@ returns-in_err-write_out g c =
     let new : Said = g.W.Sink.said c.write_out.new.output in
     let ends = end_short fault c.in_ok-records.records c.in_ok-records.end _ first _ new _ _ gathered.0 gathered.1 c.in_ok-push_end.ensures.ok c.in_err-write_out.ensures.err in
     shown_err c.from_residual-in_err-write_out.result _ fault _ first new c.from_residual-in_err-write_out.ensures.1 (λ e q. q) ends
+
+pub returns-in_err-push_end : goal.returns-in_err-push_end
+returns-in_err-push_end g c =
+    let gathered = c.in_ok-records.ensures in
+    let first : Said = g.W.Sink.said c.args.output.now in
+    let new : Said = g.W.Sink.said c.list.new.output in
+    let ends = memory_short c.in_ok-records.records c.in_ok-records.end _ first new _ gathered.0 gathered.1 in
+    shown_err c.from_residual-in_err-push_end.result _ Memory _ first new c.from_residual-in_err-push_end.ensures.1 (λ e q. q ∙ c.in_err-push_end.ensures.err) ends
 
 pub returns : goal.returns
 returns g c =
