@@ -11,7 +11,9 @@ pub mod Fills
 pub mod OneFilling
 pub mod OneRepacking
 pub mod Relayed
+pub mod Near
 pub mod ReadChannels
+pub mod Outlines
 pub mod Judged
 pub mod Serves
 pub mod Fetches

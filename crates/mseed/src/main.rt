@@ -16,6 +16,7 @@ mod law;
 mod listing;
 mod numbers;
 mod outcome;
+mod outline;
 mod places;
 mod plan;
 mod planning;

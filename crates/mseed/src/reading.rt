@@ -22,7 +22,7 @@ pub(crate) struct Read {
 }
 
 /// Whether a record has samples, and is of a channel.
-fn is_of(codes: &Codes, view: &RecordView) -> bool
+pub(crate) fn is_of(codes: &Codes, view: &RecordView) -> bool
     ensures { result ≡ is_of codes.now (view_of view.now) }
 {
     view.samples() > 0 && *codes == view.codes()
@@ -87,7 +87,7 @@ fn read_record(
 }
 
 /// Puts a leap second behind so many that are there, where there is one.
-fn put_step(
+pub(crate) fn put_step(
     step: Option<LeapStep>,
     place: usize,
     count: usize,

@@ -1,5 +1,6 @@
 //! Packing an archive anew.
-ghost use Rattle.std.specs.Prelude.{◌≡◌, ◌≤◌, ◌<◌, ◌^◌, List, length, map, All, IfErr, IfOk, IsTrue, OnOk};
+ghost use Rattle.std.specs.Prelude.{◌≡◌, ◌≤◌, ◌<◌, ◌^◌, ℤ, List, length, map, All, IfErr, IfOk, IsTrue, OnOk};
+ghost use Rattle.std.specs.Bool.{OnTrue};
 ghost use Rattle.mseed_record.specs.View.{View};
 ghost use Rattle.mseed_record.specs.Viewing.{view_of};
 ghost use Rattle.mseed_stream.specs.Device.{nothing_heard};
@@ -7,6 +8,7 @@ ghost use Rattle.mseed_audit.specs.Channels.{added_from};
 ghost use Rattle.mseed_audit.specs.Series.{IsSeriesOf};
 ghost use Rattle.mseed_audit.specs.Verdict.{AreVerdicts, says_continuous};
 ghost use Rattle.mseed_pack.specs.Traces.{trace_of};
+ghost use Rattle.mseed.specs.Outline.{with_samples};
 ghost use Rattle.mseed.specs.Reading.{AreOf, channel_in, samples_said, steps_of};
 ghost use Rattle.mseed.specs.Repack.{AreContinuous, ArePackedInto, CanBePacked, CantBePacked, IsRepacking, Wrote};
 ghost use Rattle.mseed.specs.Repack.{records_in};
@@ -14,10 +16,11 @@ ghost use Rattle.mseed.specs.Repacking.{AreJudged, FailsToFit, FailsToPack, Fail
 ghost use Rattle.mseed.specs.Repacking.{IsFirstBroken, IsJudged, IsPackedAnew, IsPackedWhole};
 ghost use Rattle.mseed.specs.declared.repack_fault.RepackFault.{RepackFault};
 
+use crate::outline::{is_held, outline_channel};
 use crate::reading::{count_steps, read_channel};
 use crate::repack_fault::RepackFault;
 use mseed_audit::{Audit, Memory, Verdict, Verdicts, one_series};
-use mseed_pack::{Options, PackFault, SeriesView, fit_view, pack_view};
+use mseed_pack::{Encoding, Options, PackFault, SeriesView, fit_view, pack_view};
 use mseed_record::{Codes, RecordView};
 use mseed_stream::{Sink, Source, read_all_in, split_in};
 use mseed_time::LeapStep;
@@ -191,8 +194,61 @@ fn fit_all(
     Ok(())
 }
 
-/// Whether a channel can be packed.
+/// Whether a channel can be packed. Its samples are read only where no less tells.
 fn fit_channel(
+    views: &[RecordView],
+    channel: &(Codes, Verdict),
+    options: &Options,
+    samples: &mut [i32],
+    steps: &mut [(u64, LeapStep)],
+) -> Result<(), PackFault>
+    requires judged { IsJudged (map view_of views.now) channel.now }
+    requires samples_fit { samples_said channel.now.1 ≤ length samples.old }
+    requires steps_fit { steps_of (map view_of views.now) ≤ length steps.old }
+    ensures ok { OnOk result (CanBePacked options.now (map view_of views.now) channel.now.0) }
+    ensures err { IfErr result (λ fault.
+        CantBePacked options.now (map view_of views.now) fault channel.now.0) }
+{
+    if fits_unread(views, channel, options, samples, steps) {
+        return Ok(());
+    }
+    fit_read(views, channel, options, samples, steps)
+}
+
+/// Whether it is known of a channel before its samples are read that it can be packed: the encoding holds them
+/// whatever they are, and their instants can be written. Other samples are asked about in their place, as many, of
+/// which integers of 32 bits hold each.
+fn fits_unread(
+    views: &[RecordView],
+    channel: &(Codes, Verdict),
+    options: &Options,
+    others: &[i32],
+    steps: &mut [(u64, LeapStep)],
+) -> bool
+    requires judged { IsJudged (map view_of views.now) channel.now }
+    requires samples_fit { samples_said channel.now.1 ≤ length others.now }
+    requires steps_fit { steps_of (map view_of views.now) ≤ length steps.old }
+    ensures { OnTrue result (CanBePacked options.now (map view_of views.now) channel.now.0) }
+{
+    let count = samples_said(&channel.1);
+    let outline = outline_channel(views, &channel.0, steps);
+    if !is_held(outline.nearness, options.encoding) {
+        return false;
+    }
+    let series = view_series(channel, &others[..count], &steps[..outline.steps]);
+    let integers = Options {
+        exponent: options.exponent,
+        encoding: Encoding::Int32,
+        first_sequence: options.first_sequence,
+    };
+    match fit_view(&series, &integers) {
+        Ok(()) => true,
+        Err(_) => false,
+    }
+}
+
+/// The same of its samples, which are read.
+fn fit_read(
     views: &[RecordView],
     channel: &(Codes, Verdict),
     options: &Options,
@@ -273,6 +329,10 @@ fn view_series<'a>(
     ensures series { (views : List View) → IsJudged views channel.now
         → AreOf channel.now.0 (channel_in channel.now.0 views) samples.now steps.now
         → IsSeriesOf (trace_of result) (records_in views channel.now.0) }
+    // Where other samples are the channel's, the series with those.
+    ensures others { (views : List View) (xs : List ℤ) → IsJudged views channel.now
+        → AreOf channel.now.0 (channel_in channel.now.0 views) xs steps.now
+        → IsSeriesOf (with_samples xs (trace_of result)) (records_in views channel.now.0) }
     ensures samples { result.samples.now ≡ samples.now }
     ensures steps { result.steps.now ≡ steps.now }
 {

@@ -3,7 +3,7 @@ use Rattle.mseed_record.specs.Viewing.{view_of}
 use Rattle.mseed_audit.proofs.Assembled.{all_sound}
 use Rattle.mseed_pack.specs.Traces.{trace_of}
 use Rattle.mseed.proofs.Judged.{fits_as, misfits_as, said_is}
-use Rattle.mseed.proofs.repack.fit_channel.Goals as goal
+use Rattle.mseed.proofs.repack.fit_read.Goals as goal
 
 pub read_channel-read-requires-clause-sound : goal.read_channel-read-requires-clause-sound
 read_channel-read-requires-clause-sound c = all_sound c.args.channel.now.0 (map view_of c.args.views.now) c.requires.judged.continuous
