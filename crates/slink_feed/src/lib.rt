@@ -37,8 +37,9 @@ pub use schedule::run_schedule;
 pub use serving::serve_turn;
 pub use session::{Phase, Sent, Session};
 pub use stretch::{
-    answers_the_number_wanted, carries_a_stretch, goes_on_behind_the_last, holds_one_slice,
-    one_world, pushes_what_is_appended, resumes_behind_the_last, spares_the_client,
+    answers_the_number_wanted, carries_a_stretch, counts_whole_packets, goes_on_behind_the_last,
+    holds_one_slice, is_the_counted_world, one_world, pushes_what_is_appended,
+    resumes_behind_the_last, spares_the_client, streams_behind_the_replies,
 };
 pub use told::wants_move_by_records;
 pub use turn::{LinkFault, Turn};
