@@ -12,10 +12,9 @@ use Rattle.slink_feed.specs.declared.dialogue.Wanted.{Wanted}
 use Rattle.slink_feed.specs.declared.turn.LinkFault.{LinkFault}
 use Rattle.slink_feed.specs.declared.turn.LinkFault.TheVariants as faults
 use Rattle.slink_feed.specs.declared.turn.Turn.{Turn}
-use Rattle.slink_feed.specs.declared.turn.Turn.TheVariants as turns
 use Rattle.slink_feed.specs.Delivered.{Numbered}
-use Rattle.slink_feed.specs.Dialogue.{Talk, Wants, next_at, says_place, to_place, want_at}
-use Rattle.slink_feed.specs.Fetching.{Delivers, FailsToSay, FailsToWrite, Fetches, IsCutShort, IsFetchFault, ReadsOn, bytes_told, fetching, line_said, lines_said, record_told, turn_after, turn_at, turn_of}
+use Rattle.slink_feed.specs.Dialogue.{Talk, Wants, says_place, to_place, want_at}
+use Rattle.slink_feed.specs.Fetching.{Delivers, FailsToSay, FailsToWrite, Fetches, IsFetchFault, ReadsOn, bytes_told, fetching, line_said, lines_said, record_told, turn_after, turn_of}
 use Rattle.slink_feed.specs.Listening.{IsLinked, Listening, Reads}
 use Rattle.slink_feed.specs.Told.{HasTold, bytes_in, record_in, records_told}
 use Rattle.slink_feed.specs.Turns.{Took, TookFront}
@@ -23,7 +22,7 @@ use Rattle.slink_feed.proofs.OneReading as one
 use Rattle.slink_feed.proofs.Telling.{bytes_both, records_both, told_both, told_far, told_link, told_none, wants_said}
 use Rattle.mseed.specs.declared.fetching.FetchEnd.{FetchEnd}
 use Rattle.mseed.specs.declared.fetching.FetchEnd.TheVariants.{Done, Refused, BadFeed, WriteFailed, LinkFailed}
-use Rattle.mseed.specs.Fetched.{HasFetched, HasTurned, HaveMoved, IsReading, IsUnended, StandsAt, StandsBy, TakesRecords, all, but_last, end_by, failures_by, output_failures, stopped_by}
+use Rattle.mseed.specs.Fetched.{AreTaken, HasFetched, HasReadLink, HasTurned, HaveMoved, IsReading, IsUnended, StandsAt, StandsBy, TakesRecords, all, but_last, end_by, failures_by}
 
 -- What the output takes, one part after another.
 took_none : (old : Said) → Took old old []
@@ -158,13 +157,48 @@ stands_stopped (endings.Gap k want got) old new at = (endings.Gap k want got, at
 stands_stopped endings.Garbage old new at = (endings.Garbage, at, tt)
 stands_stopped endings.Foreign old new at = (endings.Foreign, at, tt)
 
-stands_turn : (bytes : List ℕ) (stage : Stage) (old new : Listening) → new.talk.stage ≡ stage → (bytes ≡ [] → IsUnended new.talk.stage) → StandsBy (end_by (Ok (turn_after bytes stage))) old new
-stands_turn [] stage old new at unended = inl (unended refl)
-stands_turn (b ∷ bs) Unlinked old new at unended = subst IsUnended (sym at) tt
-stands_turn (b ∷ bs) (Station k) old new at unended = subst IsUnended (sym at) tt
-stands_turn (b ∷ bs) (Number k) old new at unended = subst IsUnended (sym at) tt
-stands_turn (b ∷ bs) Packets old new at unended = subst IsUnended (sym at) tt
-stands_turn (b ∷ bs) (Ended ending) old new at unended = stands_stopped ending old new at
+stands_turn : (bytes : List ℕ) (stage : Stage) (old new : Listening) → new.talk.stage ≡ stage → ¬ (stage ≡ Unlinked) → (bytes ≡ [] → IsUnended new.talk.stage) → StandsBy (end_by (Ok (turn_after bytes stage))) old new
+stands_turn [] stage old new at some unended = inl (unended refl)
+stands_turn (b ∷ bs) Unlinked old new at some unended = absurd (some refl)
+stands_turn (b ∷ bs) (Station k) old new at some unended = subst IsLinked (sym at) tt
+stands_turn (b ∷ bs) (Number k) old new at some unended = subst IsLinked (sym at) tt
+stands_turn (b ∷ bs) Packets old new at some unended = subst IsLinked (sym at) tt
+stands_turn (b ∷ bs) (Ended ending) old new at some unended = stands_stopped ending old new at
+
+-- What a link told is taken whole while there is no end.
+some_end : (end : FetchEnd) → Some end ≡ None → ⊥
+some_end end e = cc
+
+never_goes : (ending : Ending) → end_by (Ok (turn_of ending)) ≡ None → ⊥
+never_goes endings.End e = some_end Done e
+never_goes (endings.Refused k) e = some_end Refused e
+never_goes (endings.Gap k want got) e = some_end BadFeed e
+never_goes endings.Garbage e = some_end BadFeed e
+never_goes endings.Foreign e = some_end BadFeed e
+
+goes_linked : (bytes : List ℕ) (stage : Stage) → ¬ (stage ≡ Unlinked) → end_by (Ok (turn_after bytes stage)) ≡ None → IsLinked stage
+goes_linked [] stage some e = absurd (some_end LinkFailed e)
+goes_linked (b ∷ bs) Unlinked some e = absurd (some refl)
+goes_linked (b ∷ bs) (Station k) some e = tt
+goes_linked (b ∷ bs) (Number k) some e = tt
+goes_linked (b ∷ bs) Packets some e = tt
+goes_linked (b ∷ bs) (Ended ending) some e = absurd (never_goes ending e)
+
+front_taken : (end : Option FetchEnd) (before after : Heard) (bytes taken : List ℕ) → after.bytes ≡ before.bytes ++ bytes → IsFrontOf taken bytes → (end ≡ None → taken ≡ bytes) → AreTaken end taken before after
+front_taken end before after bytes taken heard front whole = record {
+  front = (front.0, heard ∙ (ap (λ xs. before.bytes ++ xs) front.1 ∙ sym (append_assoc before.bytes taken front.0)));
+  whole = λ goes. heard ∙ ap (λ xs. before.bytes ++ xs) (sym (whole goes));
+}
+
+none_taken : (end : Option FetchEnd) (before after : Heard) → after.bytes ≡ before.bytes → AreTaken end [] before after
+none_taken end before after same = front_taken end before after [] [] (same ∙ sym (append-nil before.bytes)) ([], refl) (λ goes. refl)
+
+taken_both : (end : Option FetchEnd) (a b c : Heard) (xs ys : List ℕ) → AreTaken None xs a b → AreTaken end ys b c → AreTaken end (xs ++ ys) a c
+taken_both end a b c xs ys p q =
+    let joined : (zs : List ℕ) → (b.bytes ++ ys) ++ zs ≡ (a.bytes ++ (xs ++ ys)) ++ zs = λ zs. ap (λ ws. ws ++ zs) (ap (λ ws. ws ++ ys) (p.whole refl) ∙ append_assoc a.bytes xs ys) in record {
+      front = (q.front.0, q.front.1 ∙ joined q.front.0);
+      whole = λ goes. q.whole goes ∙ (ap (λ ws. ws ++ ys) (p.whole refl) ∙ append_assoc a.bytes xs ys);
+    }
 
 fine_stopped : (ending : Ending) → failures_by (end_by (Ok (turn_of ending))) ≡ 0
 fine_stopped endings.End = refl
@@ -186,46 +220,51 @@ unended_none old new bytes taken told reading unended on front none =
     let nothing : taken ≡ [] = no_front taken bytes front none in
     subst (λ (now : Listening). IsUnended now.talk.stage) (sym (same_by_none old new told reading (subst (λ xs. ReadsOn old xs told new) nothing on))) unended
 
-turned_ok : (turn : Turn) (old new : Listening) (s0 s1 w0 w1 : Said) (h0 h1 : Heard) → Fetches (fetching old s0 w0) (fetching new s1 w1) h0 h1 turn → IsReading old → IsUnended old.talk.stage
-    → HasTurned (end_by (Ok turn)) old new w0 w1
-turned_ok turn old new s0 s1 w0 w1 h0 h1 f reading unended =
+turned_ok : (turn : Turn) (old new : Listening) (s0 s1 w0 w1 : Said) (h0 h1 : Heard) → Fetches (fetching old s0 w0) (fetching new s1 w1) h0 h1 turn → IsReading old → IsLinked old.talk.stage
+    → HasTurned (end_by (Ok turn)) old new h0 h1 w0 w1
+turned_ok turn old new s0 s1 w0 w1 h0 h1 f reading linked =
     let d : Delivers (fetching old s0 w0) (fetching new s1 w1) f.bytes = f.delivers in
     let took : Took w0 w1 (bytes_in (records_told d.told)) = subst (Took w0 w1) (told_bytes d.told) d.output in
+    let some : ¬ (new.talk.stage ≡ Unlinked) = d.linked linked in
     let by : end_by (Ok turn) ≡ end_by (Ok (turn_after f.bytes new.talk.stage)) = ap (λ t. end_by (Ok t)) f.turn_is in record {
       bytes = d.takes.taken;
+      taken = front_taken (end_by (Ok turn)) h0 h1 f.bytes d.takes.taken (ap (λ (h : Heard). h.bytes) f.heard) d.takes.front (λ goes. d.whole (goes_linked f.bytes new.talk.stage some (sym by ∙ goes)));
       told = d.told;
       reads = d.takes.reads;
       took = all took;
       stands = subst (λ end. StandsBy end old new) (sym by)
-          (stands_turn f.bytes new.talk.stage old new refl (unended_none old new f.bytes d.takes.taken d.told reading unended d.takes.reads d.takes.front));
+          (stands_turn f.bytes new.talk.stage old new refl some (unended_none old new f.bytes d.takes.taken d.told reading (linked_unended old.talk.stage linked) d.takes.reads d.takes.front));
       failures = took.failures ∙ let none : failures_by (end_by (Ok turn)) ≡ 0 = ap failures_by by ∙ fine_turn f.bytes new.talk.stage in omega (arith, none);
     }
 
-turned_err : (fault : LinkFault) (old new : Listening) (s0 s1 w0 w1 : Said) (h0 h1 : Heard) → IsFetchFault fault (fetching old s0 w0) (fetching new s1 w1) h0 h1 → IsReading old → IsUnended old.talk.stage
-    → HasTurned (end_by (Err fault)) old new w0 w1
-turned_err faults.Read old new s0 s1 w0 w1 h0 h1 f reading unended =
+turned_err : (fault : LinkFault) (old new : Listening) (s0 s1 w0 w1 : Said) (h0 h1 : Heard) → IsFetchFault fault (fetching old s0 w0) (fetching new s1 w1) h0 h1 → IsReading old → IsLinked old.talk.stage
+    → HasTurned (end_by (Err fault)) old new h0 h1 w0 w1
+turned_err faults.Read old new s0 s1 w0 w1 h0 h1 f reading linked =
     let client : new ≡ old = ap (λ x. x.client) f.0 in
     let output : w1 ≡ w0 = ap (λ x. x.output) f.0 in record {
       bytes = [];
+      taken = none_taken (Some LinkFailed) h0 h1 (ap (λ (h : Heard). h.bytes) f.1);
       told = [];
       reads = subst (ReadsOn old [] []) (sym client) (on_none old);
       took = subst (TakesRecords [] w0) (sym output) (takes_none w0);
-      stands = inl (subst (λ (now : Listening). IsUnended now.talk.stage) (sym client) unended);
+      stands = inl (subst (λ (now : Listening). IsUnended now.talk.stage) (sym client) (linked_unended old.talk.stage linked));
       failures = ap (λ (w : Said). w.failures) output ∙ omega arith;
     }
-turned_err (faults.Write n) old new s0 s1 w0 w1 h0 h1 f reading unended =
+turned_err (faults.Write n) old new s0 s1 w0 w1 h0 h1 f reading linked =
     let x : FailsToSay (fetching old s0 w0) (fetching new s1 w1) f.bytes n = f.fails in
     let took : Took w0 w1 (bytes_in (records_told x.told)) = subst (Took w0 w1) (told_bytes x.told) x.output in record {
       bytes = x.takes.taken;
+      taken = front_taken (Some LinkFailed) h0 h1 f.bytes x.takes.taken (ap (λ (h : Heard). h.bytes) f.heard) x.takes.front (λ goes. absurd (some_end LinkFailed goes));
       told = x.told ++ x.last ∷ [];
       reads = x.takes.reads;
       took = subst (λ rs. TakesRecords rs w0 w1) (sym (unsaid_none x.told x.last n x.said.part x.behind)) (all took);
       stands = inl (linked_unended new.talk.stage x.linked);
       failures = took.failures ∙ omega arith;
     }
-turned_err (faults.Output n) old new s0 s1 w0 w1 h0 h1 f reading unended =
+turned_err (faults.Output n) old new s0 s1 w0 w1 h0 h1 f reading linked =
     let x : FailsToWrite (fetching old s0 w0) (fetching new s1 w1) f.bytes n = f.fails in record {
       bytes = x.takes.taken;
+      taken = front_taken (Some WriteFailed) h0 h1 f.bytes x.takes.taken (ap (λ (h : Heard). h.bytes) f.heard) x.takes.front (λ goes. absurd (some_end WriteFailed goes));
       told = x.told ++ x.last ∷ [];
       reads = x.takes.reads;
       took = unwritten x.told x.last n w0 w1 x.output x.behind;
@@ -235,34 +274,37 @@ turned_err (faults.Output n) old new s0 s1 w0 w1 h0 h1 f reading unended =
 
 -- what one turn comes to
 pub turned : (r : Result Turn LinkFault) (old new : Listening) (s0 s1 w0 w1 : Said) (h0 h1 : Heard) → IfOk r (λ turn. Fetches (fetching old s0 w0) (fetching new s1 w1) h0 h1 turn)
-    → IfErr r (λ fault. IsFetchFault fault (fetching old s0 w0) (fetching new s1 w1) h0 h1) → IsReading old → IsUnended old.talk.stage → HasTurned (end_by r) old new w0 w1
-turned (Ok turn) old new s0 s1 w0 w1 h0 h1 ok fault reading unended = turned_ok turn old new s0 s1 w0 w1 h0 h1 ok reading unended
-turned (Err e) old new s0 s1 w0 w1 h0 h1 ok fault reading unended = turned_err e old new s0 s1 w0 w1 h0 h1 fault reading unended
+    → IfErr r (λ fault. IsFetchFault fault (fetching old s0 w0) (fetching new s1 w1) h0 h1) → IsReading old → IsLinked old.talk.stage → HasTurned (end_by r) old new h0 h1 w0 w1
+turned (Ok turn) old new s0 s1 w0 w1 h0 h1 ok fault reading linked = turned_ok turn old new s0 s1 w0 w1 h0 h1 ok reading linked
+turned (Err e) old new s0 s1 w0 w1 h0 h1 ok fault reading linked = turned_err e old new s0 s1 w0 w1 h0 h1 fault reading linked
 
 -- no turn yet
-pub turned_none : (now : Listening) (said : Said) → IsUnended now.talk.stage → HasTurned None now now said said
-turned_none now said unended = record {
+pub turned_none : (now : Listening) (heard : Heard) (said : Said) → IsLinked now.talk.stage → HasTurned None now now heard heard said said
+turned_none now heard said linked = record {
   bytes = [];
+  taken = none_taken None heard heard refl;
   told = [];
   reads = on_none now;
   took = takes_none said;
-  stands = unended;
+  stands = linked;
   failures = omega arith;
 }
 
-stands_on : (end : Option FetchEnd) (a b c : Listening) → IsUnended b.talk.stage → StandsBy end b c → StandsBy end a c
-stands_on None a b c unended stands = stands
-stands_on (Some Done) a b c unended stands = stands
-stands_on (Some Refused) a b c unended stands = stands
-stands_on (Some BadFeed) a b c unended stands = stands
-stands_on (Some WriteFailed) a b c unended stands = stands
-stands_on (Some LinkFailed) a b c unended stands = elim stands [ inl now ↦ inl now | inr same ↦ inl (subst (λ (now : Listening). IsUnended now.talk.stage) (sym same) unended) ]
+stands_on : (end : Option FetchEnd) (a b c : Listening) → IsLinked b.talk.stage → StandsBy end b c → StandsBy end a c
+stands_on None a b c linked stands = stands
+stands_on (Some Done) a b c linked stands = stands
+stands_on (Some Refused) a b c linked stands = stands
+stands_on (Some BadFeed) a b c linked stands = stands
+stands_on (Some WriteFailed) a b c linked stands = stands
+stands_on (Some LinkFailed) a b c linked stands =
+    elim stands [ inl now ↦ inl now | inr same ↦ inl (subst (λ (now : Listening). IsUnended now.talk.stage) (sym same) (linked_unended b.talk.stage linked)) ]
 
 -- one turn after another
-pub turned_both : (end : Option FetchEnd) (a b c : Listening) (s t u : Said) → HasTurned None a b s t → HasTurned end b c t u → HasTurned end a c s u
-turned_both end a b c s t u p q =
+pub turned_both : (end : Option FetchEnd) (a b c : Listening) (h i j : Heard) (s t u : Said) → HasTurned None a b h i s t → HasTurned end b c i j t u → HasTurned end a c h j s u
+turned_both end a b c h i j s t u p q =
     let took : Took s t (bytes_in (records_told p.told)) = all_taken (records_told p.told) s t p.took (p.failures ∙ omega arith) in record {
       bytes = p.bytes ++ q.bytes;
+      taken = taken_both end h i j p.bytes q.bytes p.taken q.taken;
       told = p.told ++ q.told;
       reads = on_both a b c p.bytes q.bytes p.told q.told p.reads q.reads;
       took = subst (λ rs. TakesRecords rs s u) (sym (records_both p.told q.told)) (takes_both s t u (records_told p.told) (records_told q.told) took q.took);
@@ -271,19 +313,30 @@ turned_both end a b c s t u p q =
     }
 
 -- as many turns as there may be
-pub turned_out : (a b : Listening) (s t : Said) → HasTurned None a b s t → HasTurned (Some LinkFailed) a b s t
-turned_out a b s t p = record { bytes = p.bytes; told = p.told; reads = p.reads; took = p.took; stands = inl p.stands; failures = p.failures }
+pub turned_out : (a b : Listening) (h i : Heard) (s t : Said) → HasTurned None a b h i s t → HasTurned (Some LinkFailed) a b h i s t
+turned_out a b h i s t p = record {
+  bytes = p.bytes;
+  taken = record { front = p.taken.front; whole = λ goes. absurd (some_end LinkFailed goes) };
+  told = p.told;
+  reads = p.reads;
+  took = p.took;
+  stands = inl (linked_unended b.talk.stage p.stands);
+  failures = p.failures;
+}
 
-pub turned_reading : (end : Option FetchEnd) (a b : Listening) (s t : Said) → IsReading a → HasTurned end a b s t → IsReading b
-turned_reading end a b s t reading p = reading_on a b p.bytes p.told reading p.reads
+pub turned_reading : (end : Option FetchEnd) (a b : Listening) (h i : Heard) (s t : Said) → IsReading a → HasTurned end a b h i s t → IsReading b
+turned_reading end a b h i s t reading p = reading_on a b p.bytes p.told reading p.reads
 
 -- A new link changes nothing of what is wanted.
-said_unended : (t : Talk) (o : Option Wanted) → IsUnended (to_place o 0 t).0.stage
-said_unended t None = tt
-said_unended t (Some w) = tt
+said_linked : (t : Talk) (o : Option Wanted) → IsLinked (to_place o 0 t).0.stage
+said_linked t None = tt
+said_linked t (Some w) = tt
 
-pub connected_unended : (old : Talk) (new : Talk) (event : Event) → says_place 0 old ≡ (new, event) → IsUnended new.stage
-connected_unended old new event says = subst (λ (t : Talk). IsUnended t.stage) (ap (λ p. p.0) says) (said_unended old (want_at old.wants 0))
+pub connected_linked : (old : Talk) (new : Talk) (event : Event) → says_place 0 old ≡ (new, event) → IsLinked new.stage
+connected_linked old new event says = subst (λ (t : Talk). IsLinked t.stage) (ap (λ p. p.0) says) (said_linked old (want_at old.wants 0))
+
+connected_unended : (old : Talk) (new : Talk) (event : Event) → says_place 0 old ≡ (new, event) → IsUnended new.stage
+connected_unended old new event says = linked_unended new.stage (connected_linked old new event says)
 
 pub connected_wants : (old : Talk) (new : Talk) (event : Event) → says_place 0 old ≡ (new, event) → new.wants ≡ old.wants
 connected_wants old new event says = ap (λ p. p.0.wants) (sym says) ∙ wants_said old (want_at old.wants 0)
@@ -299,8 +352,8 @@ stands_linked WriteFailed old now new unended stands = stands
 stands_linked LinkFailed old now new unended stands = elim stands [ inl there ↦ inl there | inr same ↦ inl (subst (λ (x : Listening). IsUnended x.talk.stage) (sym same) unended) ]
 
 -- a link, from its first byte on
-pub fetched_link : (end : FetchEnd) (old now new : Listening) (event : Event) (s t : Said) → says_place 0 old.talk ≡ (now.talk, event) → Reads now.talk [] [] now → HasTurned (Some end) now new s t → HasFetched end old new s t
-fetched_link end old now new event s t says reads p =
+pub fetched_link : (end : FetchEnd) (old now new : Listening) (event : Event) (h i : Heard) (s t : Said) → says_place 0 old.talk ≡ (now.talk, event) → Reads now.talk [] [] now → HasTurned (Some end) now new h i s t → HasFetched end old new s t
+fetched_link end old now new event h i s t says reads p =
     let linked : HasTold now.talk.wants new.talk.wants (records_told p.told) = told_link now.talk p.bytes p.told new (p.reads now.talk [] [] reads) in
     let told : HasTold old.talk.wants new.talk.wants (records_told p.told) =
     subst (λ ws. HasTold ws new.talk.wants (records_told p.told)) (connected_wants old.talk now.talk event says) linked in record {
@@ -311,6 +364,18 @@ fetched_link end old now new event s t says reads p =
       stands = stands_linked end old now new (connected_unended old.talk now.talk event says) p.stands;
       failures = p.failures;
     }
+
+pub read_link : (end : FetchEnd) (old now new : Listening) (event : Event) (h i : Heard) (s t : Said) → says_place 0 old.talk ≡ (now.talk, event) → Reads now.talk [] [] now → HasTurned (Some end) now new h i s t → HasReadLink old new h i s t
+read_link end old now new event h i s t says reads p = record {
+  begun = now;
+  line = event;
+  begins = says;
+  bytes = p.bytes;
+  front = p.taken.front;
+  told = p.told;
+  reads = p.reads now.talk [] [] reads;
+  took = p.took;
+}
 
 -- no link yet
 pub fetched_none : (now : Listening) (said : Said) → HasFetched LinkFailed now now said said

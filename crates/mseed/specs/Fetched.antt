@@ -1,6 +1,6 @@
 -- How fetching over one link after another ends, and what the output took by then.
 use Rattle.std.specs.Prelude.{◌≡◌, ◌⊎◌, ℕ, ◌+◌, ◌%◌, ◌^◌, ◌<◌, ◌≤◌, List, ◌∷◌, ◌++◌, [], length, Option, Some, None, Result, Ok, Err, codes}
-use Rattle.mseed_stream.specs.Device.{Said}
+use Rattle.mseed_stream.specs.Device.{Heard, IsFrontOf, Said}
 use Rattle.slink_feed.specs.declared.dialogue.Ending.{Ending}
 use Rattle.slink_feed.specs.declared.dialogue.Ending.TheVariants as endings
 use Rattle.slink_feed.specs.declared.dialogue.Event.{Event}
@@ -12,9 +12,9 @@ use Rattle.slink_feed.specs.declared.turn.LinkFault.TheVariants as faults
 use Rattle.slink_feed.specs.declared.turn.Turn.{Turn}
 use Rattle.slink_feed.specs.declared.turn.Turn.TheVariants as turns
 use Rattle.slink_feed.specs.Delivered.{Numbered}
-use Rattle.slink_feed.specs.Dialogue.{Talk, Wants, next_at}
+use Rattle.slink_feed.specs.Dialogue.{Talk, Wants, next_at, says_place}
 use Rattle.slink_feed.specs.Fetching.{ReadsOn}
-use Rattle.slink_feed.specs.Listening.{Listening, Reads}
+use Rattle.slink_feed.specs.Listening.{IsLinked, Listening, Reads}
 use Rattle.slink_feed.specs.Told.{HasTold, bytes_in, numbers_at, records_told}
 use Rattle.slink_feed.specs.Turns.{Took, TookFront}
 use Rattle.mseed.specs.declared.fetching.FetchEnd.{FetchEnd}
@@ -120,16 +120,23 @@ end_by (Err (faults.Output count)) = Some WriteFailed
 
 -- by an end, or while there is none
 abbrev pub StandsBy : Option FetchEnd → Listening → Listening → Type 0
-StandsBy None old new = IsUnended new.talk.stage
+StandsBy None old new = IsLinked new.talk.stage
 StandsBy (Some end) old new = StandsAt end old new
 
 abbrev pub failures_by : Option FetchEnd → ℕ
 failures_by None = 0
 failures_by (Some end) = output_failures end
 
--- Turns were taken with a link, up to an end or not: a client read on, and the output took the records that it told of.
-pub record HasTurned (end : Option FetchEnd) (old new : Listening) (said_old said_new : Said) : Type 0 where
+-- Of what a link told meanwhile these bytes were taken: all of it while there is no end, and else a front.
+pub record AreTaken (end : Option FetchEnd) (bytes : List ℕ) (heard_old heard_new : Heard) : Type 0 where
+  pub front : IsFrontOf (heard_old.bytes ++ bytes) heard_new.bytes
+  pub whole : end ≡ None → heard_new.bytes ≡ heard_old.bytes ++ bytes
+
+-- Turns were taken with a link, up to an end or not: a client read on by what the link told, and the output took the
+-- records that it told of.
+pub record HasTurned (end : Option FetchEnd) (old new : Listening) (heard_old heard_new : Heard) (said_old said_new : Said) : Type 0 where
   pub bytes : List ℕ
+  pub taken : AreTaken end bytes heard_old heard_new
   pub told : List Event
   pub reads : ReadsOn old bytes told new
   pub took : TakesRecords (records_told told) said_old said_new
@@ -139,3 +146,15 @@ pub record HasTurned (end : Option FetchEnd) (old new : Listening) (said_old sai
 -- There is something that the client has read.
 abbrev pub IsReading : Listening → Type 0
 IsReading now = (start : Talk) × (stream : List ℕ) × (events : List Event) × Reads start stream events now
+
+-- A link was fetched over: a client begins on it, reads a front of what it told, and tells of these events, whose
+-- records the output took.
+pub record HasReadLink (old new : Listening) (heard_old heard_new : Heard) (said_old said_new : Said) : Type 0 where
+  pub begun : Listening
+  pub line : Event
+  pub begins : says_place 0 old.talk ≡ (begun.talk, line)
+  pub bytes : List ℕ
+  pub front : IsFrontOf (heard_old.bytes ++ bytes) heard_new.bytes
+  pub told : List Event
+  pub reads : Reads begun.talk bytes told new
+  pub took : TakesRecords (records_told told) said_old said_new

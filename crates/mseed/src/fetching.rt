@@ -2,7 +2,8 @@
 ghost use Rattle.std.specs.Prelude.{◌≡◌, ◌+◌, ◌≤◌};
 ghost use Rattle.slink_feed.specs.declared.dialogue.Ending.{Ending};
 ghost use Rattle.slink_feed.specs.declared.dialogue.Stage.{Stage};
-ghost use Rattle.mseed.specs.Fetched.{HasDialled, HasFetched, HasTurned, IsReading, IsUnended, TellsOfFetch};
+ghost use Rattle.slink_feed.specs.Listening.{IsLinked};
+ghost use Rattle.mseed.specs.Fetched.{HasDialled, HasFetched, HasReadLink, HasTurned, IsReading, TellsOfFetch};
 ghost use Rattle.mseed.specs.Fetched.{end_by, fetch_status, stopped_by};
 
 use crate::command::tell;
@@ -86,9 +87,11 @@ fn try_link<D: Dial, W: Sink>(client: &mut Client, dialler: &mut D, output: &mut
     }
 }
 
-/// Fetches over one link, and answers how it ended.
-fn fetch_link<S: Duplex, W: Sink>(client: &mut Client, link: &mut S, output: &mut W) -> FetchEnd
-    ensures { HasFetched result client.old client.new (W.said output.old) (W.said output.new) }
+/// Fetches over one link, and answers how it ended. The output takes the records that the link brought, and no others.
+pub fn fetch_link<S: Duplex, W: Sink>(client: &mut Client, link: &mut S, output: &mut W) -> FetchEnd
+    ensures fetched { HasFetched result client.old client.new (W.said output.old) (W.said output.new) }
+    ensures read { HasReadLink client.old client.new (S.heard link.old) (S.heard link.new) (W.said output.old)
+        (W.said output.new) }
 {
     let line = client.connect();
     match write_all_of(link, line.as_slice()) {
@@ -100,8 +103,9 @@ fn fetch_link<S: Duplex, W: Sink>(client: &mut Client, link: &mut S, output: &mu
 /// Takes turns with a link until it ends, or until many were taken.
 fn take_turns<S: Duplex, W: Sink>(client: &mut Client, link: &mut S, output: &mut W) -> FetchEnd
     requires reading { IsReading client.old }
-    requires unended { IsUnended client.old.talk.stage }
-    ensures { HasTurned (Some result) client.old client.new (W.said output.old) (W.said output.new) }
+    requires linked { IsLinked client.old.talk.stage }
+    ensures { HasTurned (Some result) client.old client.new (S.heard link.old) (S.heard link.new) (W.said output.old)
+        (W.said output.new) }
 {
     for turn in 0..TURNS {
         if let Some(end) = take_turn(client, link, output) {
@@ -118,8 +122,9 @@ fn take_turn<S: Duplex, W: Sink>(
     output: &mut W,
 ) -> Option<FetchEnd>
     requires reading { IsReading client.old }
-    requires unended { IsUnended client.old.talk.stage }
-    ensures { HasTurned result client.old client.new (W.said output.old) (W.said output.new) }
+    requires linked { IsLinked client.old.talk.stage }
+    ensures { HasTurned result client.old client.new (S.heard link.old) (S.heard link.new) (W.said output.old)
+        (W.said output.new) }
 {
     let turn = fetch_turn(client, link, output);
     end_by(&turn)

@@ -1,18 +1,41 @@
+use Rattle.std.proofs.Common.{◌≡◌, ◌∙◌, subst, sym}
 use Rattle.slink_feed.specs.declared.dialogue.Event.TheVariants.{Say}
-use Rattle.mseed.proofs.Fetches.{connected_unended, fetched_link, turned_none, turned_out}
+use Rattle.mseed_stream.specs.Device.{Heard}
+use Rattle.mseed.specs.Fetched.{HasReadLink}
+use Rattle.mseed.proofs.Fetches.{connected_linked, fetched_link, read_link, turned_none, turned_out}
 use Rattle.mseed.proofs.fetching.fetch_link.Goals as goal
 
-pub take_turns-requires-clause-unended : goal.take_turns-requires-clause-unended
-take_turns-requires-clause-unended g c = connected_unended c.args.client.now.talk c.connect-line.new.self.talk (Say c.connect-line.result) c.connect-line.ensures.said
+pub take_turns-requires-clause-linked : goal.take_turns-requires-clause-linked
+take_turns-requires-clause-linked g c = connected_linked c.args.client.now.talk c.connect-line.new.self.talk (Say c.connect-line.result) c.connect-line.ensures.said
 
-pub returns-in-Ok : goal.returns-in-Ok
-returns-in-Ok g c =
-    fetched_link c.take_turns.result c.args.client.now c.connect-line.new.self c.take_turns.new.client (Say c.connect-line.result) (g.W.Sink.said c.args.output.now)
-    (g.W.Sink.said c.take_turns.new.output) c.connect-line.ensures.said c.connect-line.ensures.reads c.take_turns.ensures
+pub returns-in-Ok-clause-fetched : goal.returns-in-Ok-clause-fetched
+returns-in-Ok-clause-fetched g c =
+    fetched_link c.take_turns.result c.args.client.now c.connect-line.new.self c.take_turns.new.client (Say c.connect-line.result) (g.S.Source.heard c.write_all_of.new.sink)
+    (g.S.Source.heard c.take_turns.new.link) (g.W.Sink.said c.args.output.now) (g.W.Sink.said c.take_turns.new.output) c.connect-line.ensures.said c.connect-line.ensures.reads c.take_turns.ensures
 
-pub returns-in-Err : goal.returns-in-Err
-returns-in-Err g c =
+pub returns-in-Ok-clause-read : goal.returns-in-Ok-clause-read
+returns-in-Ok-clause-read g c =
+    let same : g.S.Source.heard c.write_all_of.new.sink ≡ g.S.Source.heard c.args.link.now =
+    sym (g.met.S.Duplex.writes_apart c.write_all_of.new.sink) ∙ (c.write_all_of.ensures.beside ∙ g.met.S.Duplex.writes_apart c.args.link.now) in
+    subst (λ (h : Heard). HasReadLink c.args.client.now c.take_turns.new.client h (g.S.Source.heard c.take_turns.new.link) (g.W.Sink.said c.args.output.now) (g.W.Sink.said c.take_turns.new.output)) same
+    (read_link c.take_turns.result c.args.client.now c.connect-line.new.self c.take_turns.new.client (Say c.connect-line.result) (g.S.Source.heard c.write_all_of.new.sink)
+    (g.S.Source.heard c.take_turns.new.link) (g.W.Sink.said c.args.output.now) (g.W.Sink.said c.take_turns.new.output) c.connect-line.ensures.said c.connect-line.ensures.reads c.take_turns.ensures)
+
+pub returns-in-Err-clause-fetched : goal.returns-in-Err-clause-fetched
+returns-in-Err-clause-fetched g c =
     let now = c.connect-line.new.self in
+    let heard = g.S.Source.heard c.args.link.now in
     let said = g.W.Sink.said c.args.output.now in
-    let none = turned_none now said (connected_unended c.args.client.now.talk now.talk (Say c.connect-line.result) c.connect-line.ensures.said) in
-    fetched_link _ c.args.client.now now now (Say c.connect-line.result) said said c.connect-line.ensures.said c.connect-line.ensures.reads (turned_out now now said said none)
+    let none = turned_none now heard said (connected_linked c.args.client.now.talk now.talk (Say c.connect-line.result) c.connect-line.ensures.said) in
+    fetched_link _ c.args.client.now now now (Say c.connect-line.result) heard heard said said c.connect-line.ensures.said c.connect-line.ensures.reads (turned_out now now heard heard said said none)
+
+pub returns-in-Err-clause-read : goal.returns-in-Err-clause-read
+returns-in-Err-clause-read g c =
+    let now = c.connect-line.new.self in
+    let heard = g.S.Source.heard c.args.link.now in
+    let said = g.W.Sink.said c.args.output.now in
+    let same : g.S.Source.heard c.write_all_of.new.sink ≡ heard =
+    sym (g.met.S.Duplex.writes_apart c.write_all_of.new.sink) ∙ (c.write_all_of.ensures.beside ∙ g.met.S.Duplex.writes_apart c.args.link.now) in
+    let none = turned_none now heard said (connected_linked c.args.client.now.talk now.talk (Say c.connect-line.result) c.connect-line.ensures.said) in
+    subst (λ (h : Heard). HasReadLink c.args.client.now now heard h said said) (sym same)
+    (read_link _ c.args.client.now now now (Say c.connect-line.result) heard heard said said c.connect-line.ensures.said c.connect-line.ensures.reads (turned_out now now heard heard said said none))
