@@ -1,5 +1,5 @@
 -- Samples of records in Steim-2, which are near one another.
-use Rattle.std.proofs.Common.{◌≡◌, ℕ, ◌+◌, ◌-◌, ◌<◌, ◌≤◌, List, [], ◌∷◌, ◌++◌, length, slice_get, refl, sym, ap, subst, ◌∙◌, arith, ℤ, pos, ◌+ℤ◌, ◌-ℤ◌, Some, All}
+use Rattle.std.proofs.Common.{◌≡◌, ℕ, ◌+◌, ◌-◌, List, [], ◌∷◌, ◌++◌, length, slice_get, refl, sym, ap, subst, ◌∙◌, arith, ℤ, pos, ◌-ℤ◌, Some, All}
 use Rattle.std.specs.List.{AllByRecursion}
 use Rattle.std.proofs.lemmas.Int.{ints}
 use Rattle.std.proofs.lemmas.List.Elements.{All-append, All-from_recursion, All-nil, recursion_from_All}
@@ -17,8 +17,8 @@ use Rattle.mseed_steim.specs.Runs.{SpellsRun}
 use Rattle.mseed_steim.specs.Samples.{Adds, AreEnds, BeginsWith, IsPayloadReading, StartsAndAdds, bytes_of, form_of}
 use Rattle.mseed_steim.specs.Spelling.{IsWithin, Spells}
 use Rattle.mseed_steim.proofs.Rows.{all_wider, narrower_by, spelled_fits, within_wider}
-use Rattle.mseed_pack.specs.Stretches.{differences, differences_from}
-use Rattle.mseed.specs.Outline.{AreNear, EndsOn, IsKnown, last_behind}
+use Rattle.mseed_pack.specs.Stretches.{differences_from}
+use Rattle.mseed.specs.Outline.{AreNear, IsKnown, last_behind}
 use Rattle.mseed.specs.declared.outline.Nearness.TheVariants.{Near}
 
 -- what a word of Steim-2 spells has 30 bits at the most

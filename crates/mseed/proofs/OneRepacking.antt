@@ -1,6 +1,6 @@
 -- Packing an archive anew comes to one thing.
 use Rattle.std.specs.Prelude.{⊤}
-use Rattle.std.proofs.Common.{◌≡◌, ◌≢◌, ℕ, ℤ, suc, ◌+◌, ◌≤◌, ◌<◌, ◌^◌, ◌⊎◌, inl, inr, List, [], ◌∷◌, ◌++◌, length, length-append, length-take, take, drop, map, All, Option, Some, None, Result, Ok, Err, IsTrue, true, false, refl, sym, ap, subst, ◌∙◌, arith, append_assoc, append-nil}
+use Rattle.std.proofs.Common.{◌≡◌, ◌≢◌, ℕ, ℤ, ◌+◌, ◌≤◌, ◌<◌, ◌^◌, ◌⊎◌, inl, inr, List, [], ◌∷◌, ◌++◌, length, length-append, length-take, take, drop, All, Option, Some, None, Result, Ok, Err, IsTrue, refl, sym, ap, subst, ◌∙◌, arith, append_assoc, append-nil}
 use Rattle.std.proofs.lemmas.Bool.{false≢true}
 use Rattle.std.proofs.lemmas.List.{append_cancel_left, length-drop, length-map, take-append-drop, take_all}
 use Rattle.std.proofs.lemmas.List.Elements.{All-head, All-tail}
@@ -8,14 +8,13 @@ use Rattle.std.proofs.Math.Seq.{take-append_seam}
 use Rattle.std.proofs.lemmas.List.Folds.{concat-append}
 use Rattle.std.specs.List.{AllByRecursion, concat}
 use Rattle.mseed_record.specs.Record.{IsRecord}
-use Rattle.mseed_record.specs.View.{View, IsView}
-use Rattle.mseed_record.specs.declared.frame.FrameFault.{FrameFault}
+use Rattle.mseed_record.specs.View.{View}
 use Rattle.mseed_record.proofs.Asked.{record_long}
-use Rattle.mseed_stream.specs.Archive.{End, HasNoFurther, HasRecords, IsArchive, IsEndOf, clean, frame, truncated, is_clean}
+use Rattle.mseed_stream.specs.Archive.{End, HasNoFurther, IsArchive, IsEndOf, clean, frame, truncated, is_clean}
 use Rattle.mseed_stream.specs.Device.{Heard, Said, nothing_heard}
 use Rattle.mseed_stream.specs.Fault.{IsStreamFault}
 use Rattle.mseed_stream.specs.Split.{EndsBehind, GoesOnBehind, IsSplitFault}
-use Rattle.mseed_stream.specs.Walk.{AreAllViews, AreViews, bytes_in}
+use Rattle.mseed_stream.specs.Walk.{AreAllViews, bytes_in}
 use Rattle.mseed_stream.specs.declared.fault.StreamFault.{StreamFault}
 use Rattle.mseed_stream.specs.declared.fault.StreamFault.TheVariants.{Frame, Truncated, Read, Turns, Memory as NoMemory}
 use Rattle.mseed_stream.proofs.Ends.{one_end}

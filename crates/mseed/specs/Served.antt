@@ -1,5 +1,5 @@
 -- How serving one connection after another ends.
-use Rattle.std.specs.Prelude.{⊤, ◌≡◌, ℕ, ◌+◌, ◌<◌, ◌^◌, nat_lt, Bool, List, [], replicate, Option, None, Result, Ok, Err, codes}
+use Rattle.std.specs.Prelude.{⊤, ◌≡◌, ℕ, ◌+◌, ◌<◌, ◌^◌, nat_lt, Bool, List, [], replicate, None, Result, Ok, Err, codes}
 use Rattle.mseed_stream.specs.Device.{Heard, Said}
 use Rattle.slink_wire.specs.Lines.{IsHeld}
 use Rattle.slink_feed.specs.Attending.{Attends, IsServeFault, attending}

@@ -1,4 +1,4 @@
-use Rattle.std.proofs.Common.{◌≡◌, ◌++◌, ℤ, ◌-ℤ◌, List, sym, subst, rules, to_z, of_z, w32}
+use Rattle.std.proofs.Common.{◌≡◌, ◌++◌, ℤ, ◌-ℤ◌, sym, subst, rules, to_z, of_z, w32}
 use Rattle.std.proofs.lemmas.Int.{to_z-of_z}
 use Rattle.mseed_steim.specs.Spelling.{IsWithin}
 use Rattle.mseed.specs.Outline.{IsKnown}

@@ -1,11 +1,10 @@
-use Rattle.std.proofs.Common.{◌≡◌, ◌≤◌, ◌<◌, ◌^◌, length, map, take, arith, refl, sym, ap, ◌∙◌, rules}
+use Rattle.std.proofs.Common.{◌≡◌, ◌≤◌, ◌<◌, ◌^◌, length, map, take, arith, sym, ap, ◌∙◌, rules}
 use Rattle.std.proofs.lemmas.List.{length-take-le}
 use Rattle.mseed_record.specs.Viewing.{view_of}
 use Rattle.mseed_audit.specs.Series.{Trace}
 use Rattle.mseed_audit.proofs.Assembled.{all_sound}
 use Rattle.mseed_pack.specs.Traces.{trace_of}
 use Rattle.mseed.specs.Outline.{with_samples}
-use Rattle.mseed.specs.Reading.{channel_in, samples_of}
 use Rattle.mseed.proofs.Judged.{front_places, said_is}
 use Rattle.mseed.proofs.Outlines.{fits_with}
 use Rattle.mseed.proofs.repack.fits_unread.Goals as goal

@@ -1,8 +1,6 @@
-use Rattle.std.proofs.Common.{◌≡◌, ◌++◌, ℕ, List, sym, subst}
-use Rattle.mseed_record.specs.Viewing.{view_of}
+use Rattle.std.proofs.Common.{ℕ, List, subst}
 use Rattle.mseed_stream.specs.Device.{Said}
 use Rattle.mseed.specs.Gathering.{AreGathered}
-use Rattle.mseed.specs.Listing.{record_line}
 use Rattle.mseed.proofs.Gathered.{gathered_all, memory_err}
 use Rattle.mseed.proofs.show.list_record.Goals as goal
 
