@@ -1,5 +1,5 @@
 -- Channels of an archive, as they are packed one by one.
-use Rattle.std.proofs.Common.{◌≡◌, ℕ, suc, ◌+◌, ◌<◌, ◌≤◌, ◌↔◌, Bool, true, ◌++◌, List, [], ◌∷◌, length, take, drop, map, get_or, refl, sym, ap, subst, ◌∙◌, append_assoc, arith, false, IsTrue, Option, Some, Err, All, append-nil, pos}
+use Rattle.std.proofs.Common.{◌≡◌, ℕ, suc, ◌+◌, ◌<◌, ◌≤◌, ◌↔◌, Bool, true, ◌++◌, List, [], ◌∷◌, length, take, drop, map, get_or, refl, sym, ap, subst, ◌∙◌, append_assoc, arith, false, IsTrue, Option, Some, All, append-nil}
 use Rattle.std.specs.List.{concat, AllByRecursion}
 use Rattle.std.specs.Map.{lookup, keys_of}
 use Rattle.std.specs.Ordering.{nat_cmp, is_eq}
@@ -25,10 +25,8 @@ use Rattle.mseed_audit.specs.declared.verdict.Verdict.{Verdict}
 use Rattle.mseed_audit.specs.Audit.{Held, IsAuditOf}
 use Rattle.mseed_audit.proofs.Behind.{end_of}
 use Rattle.mseed_audit.proofs.Maps.{same_back, same_itself}
-use Rattle.mseed_pack.specs.Fitting.{Fits, IsMisfit, no_sample, too_fast, time_outside, large_sample, large_difference}
-use Rattle.mseed_pack.specs.Outcome.{IsOutcome, TookAll, TookFront}
+use Rattle.mseed_pack.specs.Outcome.{TookAll, TookFront}
 use Rattle.mseed_pack.specs.declared.fault.PackFault.{PackFault}
-use Rattle.mseed_pack.specs.declared.fault.PackFault.TheVariants.{Empty, RateTooHigh, TimeOutOfRange, SampleTooLarge, DifferenceTooLarge, Write as WriteFailed}
 use Rattle.mseed_pack.specs.declared.options.Options.{Options}
 use Rattle.mseed.specs.Repack.{Channel, AreContinuous, ArePackedInto, CanBePacked, CantBePacked, IsFirst, IsPartPacked, Wrote, more, none, records_in}
 use Rattle.mseed.specs.Repacking.{FailsToPack, FailsToPackOne, IsPackedInPart, IsPackedWhole}
@@ -74,14 +72,6 @@ first_at Before At cs i d lt before is = record {
   before = before;
   is_it = is;
 }
-
--- a series that can be packed has no reason why not
-pub fits_denies : (s : Trace) (o : Options) (fault : PackFault) → Fits s o → IsMisfit s o fault → ⊥
-fits_denies s o fault fits (no_sample e) = fits.some e
-fits_denies s o fault fits (too_fast some fast) = fits.slow fast
-fits_denies s o fault fits (time_outside some slow outside) = fits.timed outside
-fits_denies s o fault fits (large_sample some slow timed i first) = first.not_it (fits.samples i (pos 0) first.inside)
-fits_denies s o fault fits (large_difference some slow timed all i first) = first.not_it (fits.differences_fit i (pos 0) first.inside)
 
 -- the records of one more channel
 pub packed_next : (o : Options) (views : List View) (cs : List Channel) (i : ℕ) (d : Channel) (first old new : Said) → i < length cs
@@ -215,7 +205,7 @@ took_all o views key s count old new series took = record {
   failed = omega (arith, took.failures);
 }
 
-took_front : (o : Options) (views : List View) (key : List ℕ) (s : Trace) (taken : ℕ) (old new : Said) → IsSeriesOf s (records_in views key) → TookFront s o taken old new
+pub took_front : (o : Options) (views : List View) (key : List ℕ) (s : Trace) (taken : ℕ) (old new : Said) → IsSeriesOf s (records_in views key) → TookFront s o taken old new
     → Wrote (IsPackedInPart o views key) 1 old new
 took_front o views key s taken old new series took = record {
   text = take taken (concat (took.records ++ took.last ∷ []));
@@ -231,13 +221,3 @@ took_front o views key s taken old new series took = record {
   bytes = took.bytes;
   failed = took.failures;
 }
-
--- packing a series that fits ends early only where the output failed
-pub took_part : (o : Options) (views : List View) (key : List ℕ) (s : Trace) (fault : PackFault) (old new : Said) → IsSeriesOf s (records_in views key) → Fits s o → IsOutcome (Err fault) s o old new
-    → Wrote (IsPackedInPart o views key) 1 old new
-took_part o views key s Empty old new series fits is = absurd (fits_denies s o Empty fits is.0)
-took_part o views key s RateTooHigh old new series fits is = absurd (fits_denies s o RateTooHigh fits is.0)
-took_part o views key s TimeOutOfRange old new series fits is = absurd (fits_denies s o TimeOutOfRange fits is.0)
-took_part o views key s (SampleTooLarge i) old new series fits is = absurd (fits_denies s o (SampleTooLarge i) fits is.0)
-took_part o views key s (DifferenceTooLarge i) old new series fits is = absurd (fits_denies s o (DifferenceTooLarge i) fits is.0)
-took_part o views key s (WriteFailed taken) old new series fits is = took_front o views key s taken old new series is.1

@@ -20,7 +20,7 @@ use crate::outline::{is_held, outline_channel};
 use crate::reading::{count_steps, read_channel};
 use crate::repack_fault::RepackFault;
 use mseed_audit::{Audit, Memory, Verdict, Verdicts, one_series};
-use mseed_pack::{Encoding, Options, PackFault, SeriesView, fit_view, pack_view};
+use mseed_pack::{Encoding, Options, PackFault, SeriesView, fit_view, pack_fitting};
 use mseed_record::{Codes, RecordView};
 use mseed_stream::{Sink, Source, read_all_in, split_in};
 use mseed_time::LeapStep;
@@ -312,9 +312,9 @@ fn pack_channel<W: Sink>(
     one_series();
     let read = read_channel(views, &channel.0, samples, steps);
     let series = view_series(channel, &samples[..read.samples], &steps[..read.steps]);
-    match pack_view(&series, options, output) {
+    // The series is the one that was found to fit.
+    match pack_fitting(&series, options, output) {
         Ok(_) => Ok(()),
-        // The series is the one that was found to fit, so that the output failed.
         Err(_) => Err(RepackFault::Write),
     }
 }
