@@ -1,23 +1,21 @@
 -- Channels that are judged, and what is found of their series.
-use Rattle.std.proofs.Common.{◌≡◌, ℕ, ℤ, ◌+◌, ◌≤◌, ◌<◌, List, [], ◌∷◌, length, take, get_or, nat_lt, true, refl, sym, ap, subst, ◌∙◌, arith, IsTrue, Option, Some, Result, Ok, Err, OnOk, IfErr, All}
-use Rattle.std.specs.List.{filter}
+use Rattle.std.proofs.Common.{◌≡◌, ℕ, ℤ, ◌+◌, ◌≤◌, ◌<◌, List, [], ◌∷◌, length, take, get_or, refl, sym, ap, subst, ◌∙◌, arith, IsTrue, Option, Some, Result, Ok, Err, OnOk, IfErr, All}
 use Rattle.std.specs.Map.{lookup}
-use Rattle.std.proofs.lemmas.Bool.{false≢true, and_parts}
+use Rattle.std.proofs.lemmas.Bool.{false≢true}
 use Rattle.std.proofs.lemmas.List.{length-take-le}
-use Rattle.std.proofs.lemmas.List.Elements.{All-from_recursion, All-more, All-weaker, filter_passes}
+use Rattle.std.proofs.lemmas.List.Elements.{All-from_recursion, All-more, All-weaker}
 use Rattle.mseed_time.specs.declared.outcome.LeapStep.{LeapStep}
 use Rattle.mseed_time.specs.declared.rate.Rate.{Rate}
-use Rattle.mseed_record.specs.Header.{key_at}
 use Rattle.mseed_record.specs.View.{View}
 use Rattle.mseed_stream.specs.Device.{Said}
 use Rattle.mseed_steim.specs.Reading.{count_of}
-use Rattle.mseed_audit.specs.Channels.{Added, Placed, added_from, is_of, records_of, sample_count, same_key, views_in}
-use Rattle.mseed_audit.specs.Series.{Trace, AreJoined, AreSteps, HoldsAll, IsSeriesOf, steps_from}
+use Rattle.mseed_audit.specs.Channels.{Added, Placed, added_from, records_of, sample_count, same_key, views_in}
+use Rattle.mseed_audit.specs.Series.{Trace, AreSteps, IsSeriesOf}
 use Rattle.mseed_audit.specs.Verdict.{AreVerdicts, IsVerdict, IsVerdictAt, says_continuous}
 use Rattle.mseed_audit.specs.declared.verdict.Verdict.{Verdict}
 use Rattle.mseed_audit.specs.declared.verdict.Verdict.TheVariants.{Continuous, Broken}
+use Rattle.mseed_audit.proofs.Assembled.{series_of}
 use Rattle.mseed_audit.proofs.Behind.{views_are}
-use Rattle.mseed_audit.proofs.Maps.{same_is}
 use Rattle.mseed_pack.specs.Fitting.{Fits, IsMisfit}
 use Rattle.mseed_pack.specs.declared.fault.PackFault.{PackFault}
 use Rattle.mseed_pack.specs.declared.options.Options.{Options}
@@ -59,30 +57,6 @@ said_by (Broken first count) ps verdict says = absurd (false≢true says)
 -- a channel has as many samples as the verdict says
 pub said_is : (views : List View) (c : Channel) → IsJudged views c → samples_of (channel_in c.0 views) ≡ samples_said c.1
 said_is views c judged = ap samples_of (sym (views_are c.0 views)) ∙ said_by c.1 (records_of c.0 (added_from 0 views)) judged.verdict judged.says
-
--- the first record of a channel has its key
-first_key : (key : List ℕ) (vs : List View) (first : View) (rest : List View) → filter (is_of key) vs ≡ first ∷ rest → key ≡ key_at first.bytes
-first_key key vs first rest e =
-    let passes : All (λ (v : View). is_of key v ≡ true) (first ∷ rest) = subst (λ (ws : List View). All (λ (v : View). is_of key v ≡ true) ws) e (filter_passes (is_of key) vs) in
-    same_is key (key_at first.bytes) (and_parts (nat_lt 0 (count_of first)) (same_key key (key_at first.bytes)) (passes 0 first (omega arith))).1
-
-series_of : (key : List ℕ) (vs : List View) (start : ℤ) (rate : Rate) (records samples : ℕ) (s : Trace) → IsVerdict (Continuous start rate records samples) (records_of key (added_from 0 vs))
-    → HoldsAll key start rate (channel_in key vs) s → IsSeriesOf s (records_in vs key)
-series_of key vs start rate records samples s verdict holds =
-    let first : Placed = verdict.0 in
-    let rest : List Placed = verdict.1.0 in
-    let run = verdict.1.1.1 in
-    let parts : records_in vs key ≡ first.view ∷ views_in rest = ap (λ (qs : List Placed). views_in qs) verdict.1.1.0 in record {
-      first = first.view;
-      rest = views_in rest;
-      parts = parts;
-      codes = holds.codes_is ∙ first_key key vs first.view (views_in rest) (sym (views_are key vs) ∙ parts);
-      start = holds.start_is ∙ run.start_is;
-      factor = ap (λ (r : Rate). r.factor) holds.rate_is ∙ run.factor_is;
-      multiplier = ap (λ (r : Rate). r.multiplier) holds.rate_is ∙ run.multiplier_is;
-      samples = subst (λ (ws : List View). AreJoined ws s.samples) (sym (views_are key vs)) holds.samples;
-      steps = holds.steps ∙ ap (λ (ws : List View). steps_from 0 ws) (sym (views_are key vs));
-    }
 
 -- the series of a channel, with the verdict's start and rate
 pub series_by : (views : List View) (key : List ℕ) (v : Verdict) (start : ℤ) (rate : Rate) (records samples : ℕ) (xs : List ℤ) (ss : List (ℕ × LeapStep)) → v ≡ Continuous start rate records samples
