@@ -1,4 +1,4 @@
--- Command lines: words between spaces, the first of them in either case.
+-- Command lines (SeedLink 3, commands): words between spaces, the first of them in either case.
 use Rattle.std.specs.Prelude.{◌≡◌, ℕ, ◌==◌, ◌≤◌, ◌⊎◌, not, Some, None, List, [], ◌∷◌, length, map, codes}
 use Rattle.std.specs.List.{filter, slice_split}
 use Rattle.std.specs.Char.{to_ascii_lowercase}

@@ -1,4 +1,5 @@
--- Command lines out of a stream of bytes. A CR ends a line; LF bytes in front of a line are dropped, and so is an empty line.
+-- Command lines out of a stream of bytes (SeedLink 3, commands). A CR ends a line; LF bytes in front of a line are
+-- dropped, and so is an empty line.
 use Rattle.std.specs.Prelude.{◌≡◌, ℕ, Bool, true, false, ◌==◌, nat_lt, if◌then◌else◌, List, [], ◌∷◌, ◌++◌, length}
 use Rattle.std.specs.List.{slice_split}
 

@@ -1,4 +1,5 @@
--- The packets of the feed, 520 bytes: `SL`, the record's number in six hexadecimal digits, the record.
+-- The packets of the feed (SeedLink 3, packets), 520 bytes: `SL`, the record's number in six hexadecimal digits, the
+-- record.
 use Rattle.std.specs.Prelude.{◌≡◌, ℕ, List, ◌++◌, take, drop, map, codes, slice_range}
 use Rattle.std.specs.Char.{to_ascii_uppercase}
 use Rattle.slink_wire.specs.Hexadecimal.{hexadecimal, SaysNumber}

@@ -1,4 +1,4 @@
--- The server's replies to a line.
+-- The server's replies to a line (SeedLink 3, handshaking).
 use Rattle.std.specs.Prelude.{ℕ, List, [], ◌∷◌, ◌++◌, codes}
 use Rattle.slink_wire.specs.declared.reply.Reply.{Reply}
 use Rattle.slink_wire.specs.declared.reply.Reply.TheVariants.{Nothing, Ok, Error, Hello}

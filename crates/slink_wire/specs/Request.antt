@@ -1,4 +1,4 @@
--- What a client writes: the lines of commands, in capitals, a number in six digits.
+-- What a client writes (SeedLink 3, commands): lines in capitals, a number in six digits.
 use Rattle.std.specs.Prelude.{ℕ, ◌<◌, ◌^◌, Option, Some, None, List, [], ◌∷◌, ◌++◌, IfSome, codes}
 use Rattle.slink_wire.specs.declared.command.Command.{Command}
 use Rattle.slink_wire.specs.declared.command.Command.TheVariants as command
