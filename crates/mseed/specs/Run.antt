@@ -1,10 +1,61 @@
--- What `run` answers.
-use Rattle.std.specs.Prelude.{ℕ}
+-- What `run` comes to, by what is asked for.
+use Rattle.std.specs.Prelude.{◌≡◌, ◌⊎◌, ℕ, Option, Result}
+use Rattle.mseed_audit.specs.declared.archive.AuditFault.{AuditFault}
+use Rattle.mseed_audit.specs.declared.archive.Summary.{Summary}
+use Rattle.mseed_stream.specs.Device.{Heard, Said}
+use Rattle.mseed_stream.specs.declared.fault.StreamFault.{StreamFault}
+use Rattle.mseed.specs.Done.{IsMemoryRun, IsRefusedRun, IsShowRun}
+use Rattle.mseed.specs.Outcome.{IsAuditRun, IsBadRun}
+use Rattle.mseed.specs.Plans.{IsFetchRun, IsServeRun}
+use Rattle.mseed.specs.Repacked.{IsRepackRun}
+use Rattle.mseed.specs.declared.ending.ShowFault.{ShowFault}
 use Rattle.mseed.specs.declared.outcome.Run.{Run}
-use Rattle.mseed.specs.declared.outcome.Run.TheVariants.{Status, Serve, Fetch}
+use Rattle.mseed.specs.declared.outcome.Run.TheVariants as runs
+use Rattle.mseed.specs.declared.request.Request.{Request}
+use Rattle.mseed.specs.declared.request.Request.TheVariants.{Audit, Show, Repack, Serve, Fetch}
+
+-- what the input told, and what the output and the errors took
+pub record Streams : Type 0 where
+  pub input : Heard
+  pub output : Said
+  pub errors : Said
+
+abbrev pub streams : Heard → Said → Said → Streams
+streams input output errors = record { input = input; output = output; errors = errors }
 
 -- the command is done, and this holds of its exit status
 abbrev pub IsStatusAnd : {A : Type 0} → Run A → (ℕ → Type 0) → Type 0
-IsStatusAnd (Status status) P = P status
-IsStatusAnd (Serve plan) P = ⊥
-IsStatusAnd (Fetch plan) P = ⊥
+IsStatusAnd (runs.Status status) P = P status
+IsStatusAnd (runs.Serve plan) P = ⊥
+IsStatusAnd (runs.Fetch plan) P = ⊥
+
+-- an audit, a listing and a packing are done; serving and fetching are planned
+abbrev pub HasCarriedOut : {A : Type 0} → Request → Run A → Streams → Streams → Type 0
+HasCarriedOut Audit run old new = (outcome : Result Summary AuditFault)
+    × IsStatusAnd run (λ status. IsAuditRun outcome status new.input old.output new.output old.errors new.errors)
+HasCarriedOut Show run old new = (outcome : Result (Option StreamFault) ShowFault)
+    × IsStatusAnd run (λ status. IsShowRun outcome status new.input old.output new.output old.errors new.errors)
+HasCarriedOut (Repack packing) run old new =
+    IsStatusAnd run (λ status. IsRepackRun packing status new.input old.output new.output old.errors new.errors)
+HasCarriedOut (Serve serving) run old new =
+    IsServeRun serving run new.input old.errors new.errors × (new.output ≡ old.output)
+HasCarriedOut (Fetch fetching) run old new =
+    IsFetchRun fetching run × (new.input ≡ old.input) × (new.output ≡ old.output) × (new.errors ≡ old.errors)
+
+-- the words ask for nothing that there is
+abbrev pub HasRefusedRequest : {A : Type 0} → Run A → Streams → Streams → Type 0
+HasRefusedRequest run old new = IsStatusAnd run (λ status.
+    IsBadRun status old.input new.input old.output new.output old.errors new.errors)
+
+-- the words aren't those of a command line; the text on the errors is that of `clap`
+abbrev pub HasRefusedWords : {A : Type 0} → Run A → Streams → Streams → Type 0
+HasRefusedWords run old new = IsStatusAnd run (λ status. IsRefusedRun status old.input new.input old.output new.output)
+
+-- there was no memory for the words
+abbrev pub LacksMemory : {A : Type 0} → Run A → Streams → Streams → Type 0
+LacksMemory run old new = IsStatusAnd run (λ status.
+    IsMemoryRun status old.input new.input old.output new.output old.errors new.errors)
+
+-- this came of it, unless there was no memory for the words
+abbrev pub UnlessMemoryLacks : {A : Type 0} → (Run A → Streams → Streams → Type 0) → Run A → Streams → Streams → Type 0
+UnlessMemoryLacks P run old new = P run old new ⊎ LacksMemory run old new

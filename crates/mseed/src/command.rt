@@ -3,20 +3,16 @@ ghost use Rattle.std.specs.Prelude.{◌≡◌, ◌⊎◌, Option, Result, map, c
 ghost use Rattle.mseed_stream.specs.Device.{nothing_heard};
 ghost use Rattle.mseed_audit.specs.declared.archive.AuditFault.{AuditFault};
 ghost use Rattle.mseed_audit.specs.declared.archive.Summary.{Summary};
-ghost use Rattle.mseed.specs.Outcome.{IsAuditRun, IsBadRun, Tells, summary_status};
-ghost use Rattle.mseed.specs.Run.{IsStatusAnd};
+ghost use Rattle.mseed.specs.Outcome.{IsAuditRun, Tells, summary_status};
+ghost use Rattle.mseed.specs.Run.{HasCarriedOut, HasRefusedRequest, HasRefusedWords, UnlessMemoryLacks, streams};
 ghost use Rattle.mseed.specs.Words.{AsksFor, AsksForNothing, AreRefused, CanBeAsked};
-ghost use Rattle.mseed.specs.Done.{IsShowRun, IsMemoryRun, IsRefusedRun};
+ghost use Rattle.mseed.specs.Done.{IsShowRun};
 ghost use Rattle.mseed.specs.Repacked.{IsRepackRun, IsRefusedRepack, refusal_status};
-ghost use Rattle.mseed.specs.Plans.{IsFetchRun, IsServeRun};
 ghost use Rattle.clap.specs.Values.{kind_of};
 ghost use Rattle.mseed_stream.specs.declared.fault.StreamFault.{StreamFault};
 ghost use Rattle.mseed.specs.declared.ending.ShowFault.{ShowFault};
 ghost use Rattle.mseed.specs.declared.request.Request.{Request};
 ghost use Rattle.clap.specs.declared.error.kind.ErrorKind.{ErrorKind};
-ghost use Rattle.mseed.specs.declared.request.Fetching.{Fetching};
-ghost use Rattle.mseed.specs.declared.request.Packing.{Packing};
-ghost use Rattle.mseed.specs.declared.request.Serving.{Serving};
 ghost use Rattle.mseed_pack.specs.Options.{code_of};
 
 use crate::ending::ShowFault;
@@ -54,41 +50,18 @@ pub fn run<R: Source, W: Sink, E: Sink>(
     errors: &mut E,
 ) -> Run
     requires { R.heard input.old ≡ nothing_heard }
-    ensures audit { AsksFor (map (λ word. word.now) words.now) Request.Audit
-        → ((outcome : Result Summary AuditFault) × IsStatusAnd result (λ status. IsAuditRun outcome status
-        (R.heard input.new) (W.said output.old) (W.said output.new) (E.said errors.old) (E.said errors.new)))
-        ⊎ IsStatusAnd result (λ status. IsMemoryRun status (R.heard input.old) (R.heard input.new)
-        (W.said output.old) (W.said output.new) (E.said errors.old) (E.said errors.new)) }
-    ensures show { AsksFor (map (λ word. word.now) words.now) Request.Show
-        → ((outcome : Result (Option StreamFault) ShowFault) × IsStatusAnd result (λ status. IsShowRun outcome status
-        (R.heard input.new) (W.said output.old) (W.said output.new) (E.said errors.old) (E.said errors.new)))
-        ⊎ IsStatusAnd result (λ status. IsMemoryRun status (R.heard input.old) (R.heard input.new)
-        (W.said output.old) (W.said output.new) (E.said errors.old) (E.said errors.new)) }
-    ensures repack { (packing : Packing) → AsksFor (map (λ word. word.now) words.now) (Request.Repack packing)
-        → IsStatusAnd result (λ status. IsRepackRun packing status (R.heard input.new)
-        (W.said output.old) (W.said output.new) (E.said errors.old) (E.said errors.new))
-        ⊎ IsStatusAnd result (λ status. IsMemoryRun status (R.heard input.old) (R.heard input.new)
-        (W.said output.old) (W.said output.new) (E.said errors.old) (E.said errors.new)) }
-    ensures serve { (serving : Serving) → AsksFor (map (λ word. word.now) words.now) (Request.Serve serving)
-        → (IsServeRun serving result (R.heard input.new) (E.said errors.old) (E.said errors.new)
-        × (W.said output.new ≡ W.said output.old))
-        ⊎ IsStatusAnd result (λ status. IsMemoryRun status (R.heard input.old) (R.heard input.new)
-        (W.said output.old) (W.said output.new) (E.said errors.old) (E.said errors.new)) }
-    ensures fetch { (fetching : Fetching) → AsksFor (map (λ word. word.now) words.now) (Request.Fetch fetching)
-        → (IsFetchRun fetching result × (R.heard input.new ≡ R.heard input.old)
-        × (W.said output.new ≡ W.said output.old) × (E.said errors.new ≡ E.said errors.old))
-        ⊎ IsStatusAnd result (λ status. IsMemoryRun status (R.heard input.old) (R.heard input.new)
-        (W.said output.old) (W.said output.new) (E.said errors.old) (E.said errors.new)) }
+    ensures asked { (request : Request) → AsksFor (map (λ word. word.now) words.now) request
+        → UnlessMemoryLacks (HasCarriedOut request) result
+        (streams (R.heard input.old) (W.said output.old) (E.said errors.old))
+        (streams (R.heard input.new) (W.said output.new) (E.said errors.new)) }
     ensures bad { AsksForNothing (map (λ word. word.now) words.now)
-        → IsStatusAnd result (λ status. IsBadRun status (R.heard input.old) (R.heard input.new)
-        (W.said output.old) (W.said output.new) (E.said errors.old) (E.said errors.new))
-        ⊎ IsStatusAnd result (λ status. IsMemoryRun status (R.heard input.old) (R.heard input.new)
-        (W.said output.old) (W.said output.new) (E.said errors.old) (E.said errors.new)) }
+        → UnlessMemoryLacks HasRefusedRequest result
+        (streams (R.heard input.old) (W.said output.old) (E.said errors.old))
+        (streams (R.heard input.new) (W.said output.new) (E.said errors.new)) }
     ensures refused { AreRefused (map (λ word. word.now) words.now)
-        → IsStatusAnd result (λ status. IsRefusedRun status (R.heard input.old) (R.heard input.new)
-        (W.said output.old) (W.said output.new))
-        ⊎ IsStatusAnd result (λ status. IsMemoryRun status (R.heard input.old) (R.heard input.new)
-        (W.said output.old) (W.said output.new) (E.said errors.old) (E.said errors.new)) }
+        → UnlessMemoryLacks HasRefusedWords result
+        (streams (R.heard input.old) (W.said output.old) (E.said errors.old))
+        (streams (R.heard input.new) (W.said output.new) (E.said errors.new)) }
 {
     match words::read(alloc, words) {
         Ok(Some(request)) => carry_out(alloc, request, input, output, errors),
@@ -107,21 +80,9 @@ pub fn carry_out<A: Allocator + Copy, R: Source, W: Sink, E: Sink>(
 ) -> Run<A>
     requires unread { R.heard input.old ≡ nothing_heard }
     requires asked { CanBeAsked request }
-    ensures audit { request ≡ Request.Audit
-        → (outcome : Result Summary AuditFault) × IsStatusAnd result (λ status. IsAuditRun outcome status
-        (R.heard input.new) (W.said output.old) (W.said output.new) (E.said errors.old) (E.said errors.new)) }
-    ensures show { request ≡ Request.Show
-        → (outcome : Result (Option StreamFault) ShowFault) × IsStatusAnd result (λ status. IsShowRun outcome status
-        (R.heard input.new) (W.said output.old) (W.said output.new) (E.said errors.old) (E.said errors.new)) }
-    ensures repack { (packing : Packing) → request ≡ Request.Repack packing
-        → IsStatusAnd result (λ status. IsRepackRun packing status (R.heard input.new)
-        (W.said output.old) (W.said output.new) (E.said errors.old) (E.said errors.new)) }
-    ensures serve { (serving : Serving) → request ≡ Request.Serve serving
-        → IsServeRun serving result (R.heard input.new) (E.said errors.old) (E.said errors.new)
-        × (W.said output.new ≡ W.said output.old) }
-    ensures fetch { (fetching : Fetching) → request ≡ Request.Fetch fetching
-        → IsFetchRun fetching result × (R.heard input.new ≡ R.heard input.old)
-        × (W.said output.new ≡ W.said output.old) × (E.said errors.new ≡ E.said errors.old) }
+    ensures { HasCarriedOut request result
+        (streams (R.heard input.old) (W.said output.old) (E.said errors.old))
+        (streams (R.heard input.new) (W.said output.new) (E.said errors.new)) }
 {
     match request {
         Request::Audit => Run::Status(run_audit(alloc, input, output, errors)),
