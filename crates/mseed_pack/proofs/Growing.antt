@@ -1,13 +1,15 @@
 -- A packing grows by one record.
-use Rattle.std.proofs.Common.{◌≡◌, ℕ, suc, ◌+◌, ◌-◌, ◌*◌, ◌^◌, ◌<◌, ◌≤◌, List, [], ◌∷◌, ◌++◌, length, take, drop, map, refl, sym, ap, subst, ◌∙◌, arith, ℤ, length-append, append_assoc}
+use Rattle.std.proofs.Common.{◌≡◌, ℕ, suc, ◌+◌, ◌-◌, ◌*◌, ◌^◌, ◌<◌, ◌≤◌, List, [], ◌∷◌, ◌++◌, length, take, drop, map, refl, sym, ap, subst, ◌∙◌, arith, ℤ, length-append, append_assoc, ⊎_elim}
 use Rattle.std.specs.Prelude.{slice_range, flat_map}
 use Rattle.std.specs.List.{AllByRecursion, concat}
-use Rattle.std.proofs.lemmas.List.{append-nil, take-append-drop, drop-drop, length-drop, length-map, drop_all}
+use Rattle.std.proofs.lemmas.List.{append-nil, take-append-drop, drop-drop, length-drop, length-map, drop_all, take-append-le}
+use Rattle.std.proofs.lemmas.Bool.{cases_lt}
 use Rattle.mseed_stream.specs.Device.{Said}
 use Rattle.mseed_audit.specs.Series.{Trace}
+use Rattle.mseed_pack.specs.declared.batch.Place.{Place}
 use Rattle.mseed_pack.specs.declared.options.Options.{Options}
 use Rattle.mseed_pack.specs.Packing.{Piece, ArePlaced, IsPacked, PacksUpTo}
-use Rattle.mseed_pack.specs.Outcome.{TookSo, TookAll, TookFront}
+use Rattle.mseed_pack.specs.Outcome.{PacksOn, TookSo, TookAll, TookFront}
 
 -- a piece at the end
 placed_more : (ps : List Piece) (p : Piece) (number first : ℕ) → ArePlaced number first ps → p.number ≡ number + length ps → p.first ≡ first + length (flat_map (λ (q : Piece). q.samples) ps)
@@ -31,6 +33,16 @@ flat_piece (q ∷ ps) p = ap (λ (xs : List ℤ). q.samples ++ xs) (flat_piece p
 pub concat_more : (bs : List (List ℕ)) (b : List ℕ) → concat (bs ++ b ∷ []) ≡ concat bs ++ b
 concat_more [] b = append-nil b
 concat_more (c ∷ bs) b = ap (λ (xs : List ℕ). c ++ xs) (concat_more bs b) ∙ sym (append_assoc c (concat bs) b)
+
+pub concat_all : (xs ys : List (List ℕ)) → concat (xs ++ ys) ≡ concat xs ++ concat ys
+concat_all [] ys = refl
+concat_all (x ∷ xs) ys = ap (λ (l : List ℕ). x ++ l) (concat_all xs ys) ∙ sym (append_assoc x (concat xs) (concat ys))
+
+no_records : (r : List ℕ) (rs : List (List ℕ)) → [] ≡ r ∷ rs → ⊥
+no_records r rs e = let none = ap (λ (l : List (List ℕ)). length l) e in omega (arith, none)
+
+same_head : (a b : List ℕ) (xs ys : List (List ℕ)) → a ∷ xs ≡ b ∷ ys → a ≡ b
+same_head a b xs ys e = cc
 
 pub packs_more : (s : Trace) (o : Options) (records : List (List ℕ)) (first n : ℕ) (b : List ℕ) → PacksUpTo s o records (drop first s.samples) → first + n ≤ length s.samples
     → IsPacked s o (record { number = length records; first = first; samples = slice_range s.samples first (first + n); bytes = b })
@@ -67,21 +79,63 @@ took_none s o said = record {
 pub packed_length : (s : Trace) (o : Options) (p : Piece) → IsPacked s o p → length p.bytes ≡ 2 ^ o.exponent
 packed_length s o p one = one.headed.size ∙ ap (λ (e : ℕ). 2 ^ e) one.fields.exponent
 
-pub took_more : (s : Trace) (o : Options) (number first n : ℕ) (b : List ℕ) (old mid new : Said) → TookSo s o number first old mid → first + n ≤ length s.samples
-    → IsPacked s o (record { number = number; first = first; samples = slice_range s.samples first (first + n); bytes = b })
-    → new.bytes ≡ mid.bytes ++ b → new.failures ≡ mid.failures → TookSo s o (number + 1) (first + n) old new
-took_more s o number first n b old mid new h inside one told fine =
-    let mine = subst (λ (m : ℕ). IsPacked s o (record { number = m; first = first; samples = slice_range s.samples first (first + n); bytes = b })) h.count_is one in
-    let size : length b ≡ 2 ^ o.exponent = packed_length s o (record { number = number; first = first; samples = slice_range s.samples first (first + n); bytes = b }) one in
-    let all : length (concat (h.records ++ b ∷ [])) ≡ length (concat h.records) + length b = ap (λ (l : List ℕ). length l) (concat_more h.records b) ∙ length-append (concat h.records) b in
-    let long = h.long in
-    let times : (number + 1) * 2 ^ o.exponent ≡ number * 2 ^ o.exponent + 2 ^ o.exponent = omega arith in
+-- no record goes from a place to itself
+pub on_none : (s : Trace) (o : Options) (place : Place) → PacksOn s o place place []
+on_none s o place = record {
+  records = [];
+  packing = λ front _ h. subst (λ (rs : List (List ℕ)). PacksUpTo s o rs (drop place.first s.samples)) (sym (append-nil front)) h;
+  count_is = omega arith;
+  long = omega arith;
+  bytes_are = refl;
+}
+
+-- one record more
+pub on_one : (s : Trace) (o : Options) (place next : Place) (n : ℕ) (b : List ℕ) → next.number ≡ place.number + 1 → next.first ≡ place.first + n → place.first + n ≤ length s.samples
+    → IsPacked s o (record { number = place.number; first = place.first; samples = slice_range s.samples place.first (place.first + n); bytes = b }) → PacksOn s o place next b
+on_one s o place next n b number first inside one =
+    let size : length b ≡ 2 ^ o.exponent = packed_length s o (record { number = place.number; first = place.first; samples = slice_range s.samples place.first (place.first + n); bytes = b }) one in
+    let times : next.number * 2 ^ o.exponent ≡ place.number * 2 ^ o.exponent + 2 ^ o.exponent = ap (λ (m : ℕ). m * 2 ^ o.exponent) number ∙ (let e : (place.number + 1) * 2 ^ o.exponent ≡ place.number * 2 ^ o.exponent + 2 ^ o.exponent = omega arith in e) in
     record {
-      records = h.records ++ b ∷ [];
-      packing = packs_more s o h.records first n b h.packing inside mine;
-      count_is = ap (λ (m : ℕ). m + 1) h.count_is ∙ sym (length-append h.records (b ∷ []));
-      long = omega (arith, all, long, size, times);
-      bytes = told ∙ ap (λ (l : List ℕ). l ++ b) h.bytes ∙ append_assoc old.bytes (concat h.records) b ∙ ap (λ (l : List ℕ). old.bytes ++ l) (sym (concat_more h.records b));
+      records = b ∷ [];
+      packing = λ front count h. subst (λ (m : ℕ). PacksUpTo s o (front ++ b ∷ []) (drop m s.samples)) (sym first)
+          (packs_more s o front place.first n b h inside
+          (subst (λ (m : ℕ). IsPacked s o (record { number = m; first = place.first; samples = slice_range s.samples place.first (place.first + n); bytes = b })) (sym count) one));
+      count_is = number;
+      long = times ∙ ap (λ (m : ℕ). place.number * 2 ^ o.exponent + m) (sym size);
+      bytes_are = sym (append-nil b);
+    }
+
+-- from one place to another, and on to a third
+pub on_join : (s : Trace) (o : Options) (place mid next : Place) (a b : List ℕ) → PacksOn s o place mid a → PacksOn s o mid next b → PacksOn s o place next (a ++ b)
+on_join s o place mid next a b h k =
+    let count = h.count_is in
+    let count_2 = k.count_is in
+    let long = h.long in
+    let long_2 = k.long in
+    let first = h.bytes_are in
+    let second = k.bytes_are in
+    record {
+      records = h.records ++ k.records;
+      packing = λ front n up. subst (λ (rs : List (List ℕ)). PacksUpTo s o rs (drop next.first s.samples)) (append_assoc front h.records k.records)
+          (k.packing (front ++ h.records) (omega (arith, n, count, length-append front h.records)) (h.packing front n up));
+      count_is = omega (arith, count, count_2, length-append h.records k.records);
+      long = omega (arith, long, long_2, length-append a b);
+      bytes_are = (λ i. first i ++ second i) ∙ sym (concat_all h.records k.records);
+    }
+
+pub took_more : (s : Trace) (o : Options) (place next : Place) (b : List ℕ) (old mid new : Said) → TookSo s o place.number place.first old mid → PacksOn s o place next b
+    → new.bytes ≡ mid.bytes ++ b → new.failures ≡ mid.failures → TookSo s o next.number next.first old new
+took_more s o place next b old mid new h on told fine =
+    let all : length (concat (h.records ++ on.records)) ≡ length (concat h.records) + length b = ap (λ (l : List ℕ). length l) (concat_all h.records on.records) ∙ length-append (concat h.records) (concat on.records) ∙ ap (λ (l : List ℕ). length (concat h.records) + length l) (sym on.bytes_are) in
+    let long = h.long in
+    let longer = on.long in
+    record {
+      records = h.records ++ on.records;
+      packing = on.packing h.records (sym h.count_is) h.packing;
+      count_is = on.count_is ∙ ap (λ (m : ℕ). m + length on.records) h.count_is ∙ sym (length-append h.records on.records);
+      long = omega (arith, all, long, longer);
+      bytes = told ∙ ap (λ (l : List ℕ). l ++ b) h.bytes ∙ append_assoc old.bytes (concat h.records) b
+          ∙ ap (λ (l : List ℕ). old.bytes ++ (concat h.records ++ l)) on.bytes_are ∙ ap (λ (l : List ℕ). old.bytes ++ l) (sym (concat_all h.records on.records));
       failures = fine ∙ h.failures;
     }
 
@@ -91,22 +145,101 @@ take_more_of (x ∷ front) back n =
     let more : length (x ∷ front) + n ≡ suc (length front + n) = omega arith in
     ap (λ (m : ℕ). take m (x ∷ (front ++ back))) more ∙ ap (λ (l : List ℕ). x ∷ l) (take_more_of front back n)
 
-pub took_front : (s : Trace) (o : Options) (number first n taken : ℕ) (b : List ℕ) (old mid new : Said) → TookSo s o number first old mid → first + n ≤ length s.samples
-    → IsPacked s o (record { number = number; first = first; samples = slice_range s.samples first (first + n); bytes = b })
-    → taken < length b → new.bytes ≡ mid.bytes ++ take taken b → new.failures ≡ mid.failures + 1 → TookFront s o (number * 2 ^ o.exponent + taken) old new
-took_front s o number first n taken b old mid new h inside one part told failed =
-    let mine = subst (λ (m : ℕ). IsPacked s o (record { number = m; first = first; samples = slice_range s.samples first (first + n); bytes = b })) h.count_is one in
-    let long = h.long in
-    let cut : take (number * 2 ^ o.exponent + taken) (concat (h.records ++ b ∷ [])) ≡ concat h.records ++ take taken b =
-    ap (λ (l : List ℕ). take (number * 2 ^ o.exponent + taken) l) (concat_more h.records b) ∙ ap (λ (m : ℕ). take (m + taken) (concat h.records ++ b)) (sym long) ∙ take_more_of (concat h.records) b taken in
+-- the record in which so many bytes end
+record EndsIn (records : List (List ℕ)) (taken : ℕ) : Type 0 where
+  front : List (List ℕ)
+  last : List ℕ
+  rest : List (List ℕ)
+  parts : records ≡ (front ++ last ∷ []) ++ rest
+  whole : length (concat front) ≤ taken
+  part : taken < length (concat front) + length last
+
+ends_in : (records : List (List ℕ)) (taken : ℕ) → taken < length (concat records) → EndsIn records taken
+ends_in [] taken h = absurd (omega (arith, h))
+ends_in (r ∷ rs) taken h = ⊎_elim
+    (λ (inside : taken < length r). record { front = []; last = r; rest = rs; parts = refl; whole = omega arith; part = omega (arith, inside) })
+    (λ (behind : length r ≤ taken).
+    let size = length-append r (concat rs) in
+    let more = ends_in rs (taken - length r) (omega (arith, h, size, behind)) in
+    let whole = more.whole in
+    let part = more.part in
+    let longer = length-append r (concat more.front) in
     record {
-      records = h.records;
-      last = b;
-      left = drop (first + n) s.samples;
-      packing = packs_more s o h.records first n b h.packing inside mine;
-      whole = omega (arith, long);
-      part = omega (arith, long, part);
-      bytes = told ∙ ap (λ (l : List ℕ). l ++ take taken b) h.bytes ∙ append_assoc old.bytes (concat h.records) (take taken b) ∙ ap (λ (l : List ℕ). old.bytes ++ l) (sym cut);
+      front = r ∷ more.front;
+      last = more.last;
+      rest = more.rest;
+      parts = ap (λ (l : List (List ℕ)). r ∷ l) more.parts;
+      whole = omega (arith, whole, longer, behind);
+      part = omega (arith, part, longer, behind);
+    })
+    (cases_lt taken (length r))
+
+-- the pieces of the first records
+record Cut (s : Trace) (o : Options) (number first : ℕ) (records : List (List ℕ)) (samples : List ℤ) : Type 0 where
+  pieces : List Piece
+  left : List ℤ
+  bytes : map (λ (p : Piece). p.bytes) pieces ≡ records
+  joined : flat_map (λ (p : Piece). p.samples) pieces ++ left ≡ samples
+  placed : ArePlaced number first pieces
+  each : AllByRecursion (IsPacked s o) pieces
+
+cut : (s : Trace) (o : Options) (number first : ℕ) (front back : List (List ℕ)) (ps : List Piece) (left samples : List ℤ) → map (λ (p : Piece). p.bytes) ps ≡ front ++ back
+    → flat_map (λ (p : Piece). p.samples) ps ++ left ≡ samples → ArePlaced number first ps → AllByRecursion (IsPacked s o) ps → Cut s o number first front samples
+cut s o number first [] back ps left samples bytes joined placed each = record { pieces = []; left = samples; bytes = refl; joined = refl; placed = tt; each = tt }
+cut s o number first (r ∷ rs) back [] left samples bytes joined placed each = absurd (no_records r (rs ++ back) bytes)
+cut s o number first (r ∷ rs) back (p ∷ ps) left samples bytes joined placed each =
+    let rest : map (λ (q : Piece). q.bytes) ps ≡ rs ++ back = ap (λ (l : List (List ℕ)). drop 1 l) bytes in
+    let here : p.bytes ≡ r = same_head p.bytes r (map (λ (q : Piece). q.bytes) ps) (rs ++ back) bytes in
+    let more = cut s o (number + 1) (first + length p.samples) rs back ps left (flat_map (λ (q : Piece). q.samples) ps ++ left) rest refl placed.2 each.1 in
+    let behind = more.bytes in
+    record {
+      pieces = p ∷ more.pieces;
+      left = more.left;
+      bytes = λ i. here i ∷ behind i;
+      joined = append_assoc p.samples (flat_map (λ (q : Piece). q.samples) more.pieces) more.left ∙ ap (λ (l : List ℤ). p.samples ++ l) more.joined
+          ∙ sym (append_assoc p.samples (flat_map (λ (q : Piece). q.samples) ps) left) ∙ joined;
+      placed = (placed.0, placed.1, more.placed);
+      each = (each.0, more.each);
+    }
+
+-- a front of records that the series is packed into
+packs_front : (s : Trace) (o : Options) (front back : List (List ℕ)) (left : List ℤ) → PacksUpTo s o (front ++ back) left → (rest : List ℤ) × PacksUpTo s o front rest
+packs_front s o front back left h =
+    let c = cut s o 0 0 front back h.pieces left s.samples h.bytes h.joined h.placed h.each in
+    (c.left, record { pieces = c.pieces; bytes = c.bytes; joined = c.joined; placed = c.placed; each = c.each })
+
+pub took_front : (s : Trace) (o : Options) (place next : Place) (taken : ℕ) (b : List ℕ) (old mid new : Said) → TookSo s o place.number place.first old mid → PacksOn s o place next b
+    → taken < length b → new.bytes ≡ mid.bytes ++ take taken b → new.failures ≡ mid.failures + 1 → TookFront s o (place.number * 2 ^ o.exponent + taken) old new
+took_front s o place next taken b old mid new h on part told failed =
+    let same : length b ≡ length (concat on.records) = ap (λ (l : List ℕ). length l) on.bytes_are in
+    let at = ends_in on.records taken (omega (arith, part, same)) in
+    let whole = at.whole in
+    let inside = at.part in
+    let long = h.long in
+    let lead : List (List ℕ) = h.records ++ at.front in
+    let records_are : h.records ++ on.records ≡ (lead ++ at.last ∷ []) ++ at.rest =
+    ap (λ (l : List (List ℕ)). h.records ++ l) at.parts ∙ sym (append_assoc h.records (at.front ++ at.last ∷ []) at.rest) ∙ ap (λ (l : List (List ℕ)). l ++ at.rest) (sym (append_assoc h.records at.front (at.last ∷ []))) in
+    let front = packs_front s o (lead ++ at.last ∷ []) at.rest (drop next.first s.samples)
+    (subst (λ (l : List (List ℕ)). PacksUpTo s o l (drop next.first s.samples)) records_are (on.packing h.records (sym h.count_is) h.packing)) in
+    let lead_long : length (concat lead) ≡ length (concat h.records) + length (concat at.front) = ap (λ (l : List ℕ). length l) (concat_all h.records at.front) ∙ length-append (concat h.records) (concat at.front) in
+    let some : List ℕ = concat at.front ++ at.last in
+    let some_long : length some ≡ length (concat at.front) + length at.last = length-append (concat at.front) at.last in
+    let some_of : concat (at.front ++ at.last ∷ []) ≡ some = concat_more at.front at.last in
+    let bytes_are : b ≡ some ++ concat at.rest =
+    on.bytes_are ∙ ap (λ (l : List (List ℕ)). concat l) at.parts ∙ concat_all (at.front ++ at.last ∷ []) at.rest ∙ ap (λ (l : List ℕ). l ++ concat at.rest) some_of in
+    let mine : take taken b ≡ take taken some = ap (λ (l : List ℕ). take taken l) bytes_are ∙ take-append-le taken some (concat at.rest) (omega (arith, inside, some_long)) in
+    let cut_at : take (place.number * 2 ^ o.exponent + taken) (concat (lead ++ at.last ∷ [])) ≡ concat h.records ++ take taken b =
+    ap (λ (l : List (List ℕ)). take (place.number * 2 ^ o.exponent + taken) (concat l)) (append_assoc h.records at.front (at.last ∷ []))
+    ∙ ap (λ (l : List ℕ). take (place.number * 2 ^ o.exponent + taken) l) (concat_all h.records (at.front ++ at.last ∷ []) ∙ ap (λ (l : List ℕ). concat h.records ++ l) some_of)
+    ∙ ap (λ (m : ℕ). take (m + taken) (concat h.records ++ some)) (sym long) ∙ take_more_of (concat h.records) some taken ∙ ap (λ (l : List ℕ). concat h.records ++ l) (sym mine) in
+    record {
+      records = lead;
+      last = at.last;
+      left = front.0;
+      packing = front.1;
+      whole = omega (arith, long, whole, lead_long);
+      part = omega (arith, long, inside, lead_long);
+      bytes = told ∙ ap (λ (l : List ℕ). l ++ take taken b) h.bytes ∙ append_assoc old.bytes (concat h.records) (take taken b) ∙ ap (λ (l : List ℕ). old.bytes ++ l) (sym cut_at);
       failures = failed ∙ ap (λ (m : ℕ). m + 1) h.failures;
     }
 

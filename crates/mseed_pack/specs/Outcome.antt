@@ -5,6 +5,7 @@ use Rattle.std.specs.List.{concat}
 use Rattle.mseed_time.specs.Btime.{IsInstant}
 use Rattle.mseed_stream.specs.Device.{Said}
 use Rattle.mseed_audit.specs.Series.{Trace, AreSteps}
+use Rattle.mseed_pack.specs.declared.batch.Place.{Place}
 use Rattle.mseed_pack.specs.declared.options.Options.{Options}
 use Rattle.mseed_pack.specs.declared.fault.PackFault.{PackFault}
 use Rattle.mseed_pack.specs.declared.fault.PackFault.TheVariants.{Empty, RateTooHigh, TimeOutOfRange, SampleTooLarge, DifferenceTooLarge, Write}
@@ -29,6 +30,15 @@ pub record TookSo (s : Trace) (o : Options) (number first : ℕ) (old new : Said
   pub long : length (concat records) ≡ number * 2 ^ o.exponent
   pub bytes : new.bytes ≡ old.bytes ++ concat records
   pub failures : new.failures ≡ old.failures
+
+-- The bytes are the records that pack the series on from one place to another, behind any that pack it up to the first.
+pub record PacksOn (s : Trace) (o : Options) (place next : Place) (bytes : List ℕ) : Type 0 where
+  pub records : List (List ℕ)
+  pub packing : (front : List (List ℕ)) → length front ≡ place.number → PacksUpTo s o front (drop place.first s.samples)
+      → PacksUpTo s o (front ++ records) (drop next.first s.samples)
+  pub count_is : next.number ≡ place.number + length records
+  pub long : next.number * 2 ^ o.exponent ≡ place.number * 2 ^ o.exponent + length bytes
+  pub bytes_are : bytes ≡ concat records
 
 -- the sink took the records that the series is packed into, so many, and none of its calls failed
 pub record TookAll (s : Trace) (o : Options) (count : ℕ) (old new : Said) : Type 0 where

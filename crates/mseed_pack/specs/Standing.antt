@@ -3,6 +3,7 @@ use Rattle.std.specs.Prelude.{◌≡◌, ℕ, ◌*◌, ◌^◌, ◌≤◌, List,
 use Rattle.std.specs.List.{AllByRecursion}
 use Rattle.mseed_time.specs.declared.outcome.LeapStep.{LeapStep}
 use Rattle.mseed_audit.specs.Series.{AreStepsFrom}
+use Rattle.mseed_pack.specs.declared.batch.Place.{Place}
 use Rattle.mseed_pack.specs.declared.stretch.Stretch.{Stretch}
 use Rattle.mseed_pack.specs.Clock.{added_before}
 
@@ -22,3 +23,11 @@ pub record IsStretch (steps : List (ℕ × LeapStep)) (size : ℕ) (stretch : St
   pub end_is : stretch.end ≡ end_by left size
   pub added_is : stretch.added ≡ added_before passed stretch.begin
   pub added_bound : nat_abs stretch.added ≤ 10 ^ 6 * stretch.passed
+
+-- the stretch of a place is the one in which its sample stands, or the one before it where that begins there
+pub record StandsAt (steps : List (ℕ × LeapStep)) (size : ℕ) (place : Place) : Type 0 where
+  pub stretch : IsStretch steps size place.stretch
+  pub begun : place.stretch.begin ≤ place.first
+  pub ends : place.first ≤ place.stretch.end
+  pub inside : place.first ≤ size
+  pub counted : place.number ≤ place.first

@@ -3,6 +3,7 @@
 //! What is packed is one list of records, byte for byte: which one is said in `specs/Packing`.
 #![tactic(auto)]
 
+mod batch;
 mod clock;
 mod fault;
 mod fitting;

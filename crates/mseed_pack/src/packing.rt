@@ -1,5 +1,5 @@
 //! Packing a series.
-ghost use Rattle.std.specs.Prelude.{◌≡◌, ◌^◌, ◌%◌, ◌<◌, ◌≤◌, IfErr, IfOk, List, length, ℕ};
+ghost use Rattle.std.specs.Prelude.{◌≡◌, ◌≤◌, IfErr, IfOk, List, length, ℕ};
 ghost use Rattle.std.specs.List.{AllByRecursion};
 ghost use Rattle.mseed_audit.specs.Series.{AreSteps};
 ghost use Rattle.mseed_pack.specs.Fitting.{Fits};
@@ -9,22 +9,21 @@ ghost use Rattle.mseed_pack.specs.Packing.{IsPacking};
 ghost use Rattle.mseed_pack.specs.ReadBack.{ReadsAs};
 ghost use Rattle.mseed_pack.specs.declared.options.Encoding.TheVariants.{Steim2};
 ghost use Rattle.mseed_pack.specs.Traces.{trace_of};
-ghost use Rattle.mseed_pack.specs.Standing.{IsStretch};
 
+use crate::batch::{first_place, gather};
 use crate::fault::PackFault;
 use crate::fitting::fit_view;
 use crate::frames::ROOM;
 use crate::law::{fewest_words, reads_back};
 use crate::options::Options;
-use crate::record::write_record;
+use crate::record::length_of;
 use crate::series_view::SeriesView;
-use crate::stretch::{Stretch, first_stretch, next_stretch};
 use mseed_audit::Series;
 use mseed_stream::{Sink, write_all_of};
 use std::alloc::Allocator;
 
-/// The most bytes of a record that is packed.
-const LONGEST: usize = 4096;
+/// The bytes that are gathered before they are written: whole records of any length.
+const GATHERED: usize = 1 << 15;
 
 /// Packs a series into records, which it writes one behind another, and answers how many there are. It takes no memory.
 ///
@@ -117,70 +116,35 @@ pub fn pack_fitting<W: Sink>(
         TookFront (trace_of series.now) options.now taken (W.said sink.old) (W.said sink.new)) }
     ensures beside { W.beside sink.new ≡ W.beside sink.old }
 {
-    let mut record = [0; LONGEST];
-    let length = length_of(options);
-    pack_through(series, options, sink, &mut record[..length])
+    let mut records = [0; GATHERED];
+    pack_through(series, options, sink, &mut records)
 }
 
-/// The bytes of a record.
-fn length_of(options: &Options) -> usize
-    ensures value { result ≡ 2 ^ options.now.exponent }
-    ensures long { 128 ≤ result }
-    ensures short { result ≤ 4096 }
-    ensures whole { result % 64 ≡ 0 }
-{
-    1 << options.exponent
-}
-
-/// The same through these bytes, as many as a record has.
+/// The same through these bytes, in which records are gathered.
 fn pack_through<W: Sink>(
     series: &SeriesView,
     options: &Options,
     sink: &mut W,
-    out: &mut [u8],
+    records: &mut [u8],
 ) -> Result<u64, u128>
     requires fits { Fits (trace_of series.now) options.now }
     requires steps { AreSteps (length series.now.samples.now) series.now.steps.now }
-    requires size { length out.old ≡ 2 ^ options.now.exponent }
-    requires long { 128 ≤ length out.old }
-    requires short { length out.old ≤ 4096 }
-    requires whole { length out.old % 64 ≡ 0 }
+    requires long { 4096 ≤ length records.old }
     ensures ok { IfOk result (λ count.
         TookAll (trace_of series.now) options.now count (W.said sink.old) (W.said sink.new)) }
     ensures err { IfErr result (λ taken.
         TookFront (trace_of series.now) options.now taken (W.said sink.old) (W.said sink.new)) }
     ensures beside { W.beside sink.new ≡ W.beside sink.old }
 {
+    let length = length_of(options);
     let mut room = [0; ROOM];
-    let mut stretch = first_stretch(series.steps, series.samples.len());
-    let mut number = 0u64;
-    let mut first = 0;
-    while first < series.samples.len() {
-        stretch = stretch_at(series, stretch, first);
-        let count = write_record(series, options, stretch, number, first, &mut room, out);
-        if let Err(taken) = write_all_of(sink, out) {
-            return Err(u128::from(number) * out.len() as u128 + taken as u128);
+    let mut place = first_place(series);
+    while place.first < series.samples.len() {
+        let batch = gather(series, options, place, &mut room, records);
+        if let Err(taken) = write_all_of(sink, &records[..batch.bytes]) {
+            return Err(u128::from(place.number) * length as u128 + taken as u128);
         }
-        number += 1;
-        first += count;
+        place = batch.next;
     }
-    Ok(number)
-}
-
-/// The stretch in which a sample stands: this one, or where it stands at this one's end, the next.
-fn stretch_at(series: &SeriesView, stretch: Stretch, first: usize) -> Stretch
-    requires standing { IsStretch series.now.steps.now (length series.now.samples.now) stretch }
-    requires begun { stretch.begin ≤ first }
-    requires inside { first ≤ stretch.end }
-    requires more { first < length series.now.samples.now }
-    ensures standing { IsStretch series.now.steps.now (length series.now.samples.now) result }
-    ensures begun { result.begin ≤ first }
-    ensures inside { first < result.end }
-    ensures most { result.end ≤ length series.now.samples.now }
-{
-    if first == stretch.end {
-        next_stretch(series.steps, series.samples.len(), stretch)
-    } else {
-        stretch
-    }
+    Ok(place.number)
 }

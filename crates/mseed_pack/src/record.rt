@@ -22,6 +22,16 @@ use mseed_time::LeapStep;
 /// The bytes of a header with its two blockettes.
 const HEADER: usize = 64;
 
+/// The bytes of a record.
+pub(crate) fn length_of(options: &Options) -> usize
+    ensures value { result ≡ 2 ^ options.now.exponent }
+    ensures long { 128 ≤ result }
+    ensures short { result ≤ 4096 }
+    ensures whole { result % 64 ≡ 0 }
+{
+    1 << options.exponent
+}
+
 /// Writes the samples from one on, as many as there is room for, as the encoding has them.
 fn fill(
     encoding: Encoding,

@@ -1,6 +1,6 @@
 use Rattle.std.proofs.Common.{◌≡◌, ◌*◌, ◌%◌, ◌^◌, arith}
 use Rattle.mseed_pack.proofs.Recorded.{lengths}
-use Rattle.mseed_pack.proofs.packing.length_of.Goals as goal
+use Rattle.mseed_pack.proofs.record.length_of.Goals as goal
 
 pub returns : goal.returns
 returns c =

@@ -1,6 +1,6 @@
 use Rattle.std.proofs.Common.{arith, length}
 use Rattle.mseed_pack.proofs.Steps.{end_inside, end_most}
-use Rattle.mseed_pack.proofs.packing.stretch_at.Goals as goal
+use Rattle.mseed_pack.proofs.batch.stretch_at.Goals as goal
 
 pub returns-then-first-stretch : goal.returns-then-first-stretch
 returns-then-first-stretch c =

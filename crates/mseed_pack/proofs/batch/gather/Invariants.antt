@@ -1,0 +1,17 @@
+use Rattle.std.proofs.Common.{◌≤◌, ◌*◌, ◌-◌, length, take}
+use Rattle.mseed_pack.specs.Outcome.{PacksOn}
+use Rattle.mseed_pack.specs.Standing.{StandsAt}
+use Rattle.mseed_pack.specs.Traces.{trace_of}
+use Rattle.mseed_pack.proofs.batch.gather.Given as goal
+
+abbrev pub invariant-loop-out : goal.invariant-loop-out
+invariant-loop-out l = record {
+  standing : StandsAt l.series.steps.now (length l.series.samples.now) l.next;
+  on : PacksOn (trace_of l.series) l.options l.fn.place l.next (take l.bytes l.out);
+  within : l.bytes ≤ length l.out;
+  order : l.fn.place.first ≤ l.next.first;
+  some : l.bytes ≤ 4096 * (l.next.first - l.fn.place.first);
+}
+
+abbrev pub decreases-loop-out : goal.decreases-loop-out
+decreases-loop-out l = length l.out - l.bytes
