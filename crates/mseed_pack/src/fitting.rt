@@ -187,6 +187,18 @@ fn first_large_difference(samples: &[i32], encoding: Encoding) -> Option<usize>
     ensures none { IfNone result (All (IsDifferenceOf encoding) (differences samples.now)) }
     ensures some { IfSome result (λ index. IsFirstNot (IsDifferenceOf encoding) (differences samples.now) index) }
 {
+    match encoding {
+        // No differences are written.
+        Encoding::Int16 | Encoding::Int32 => None,
+        Encoding::Steim1 | Encoding::Steim2 => first_wide_difference(samples, encoding),
+    }
+}
+
+/// The same where samples that aren't too far apart are looked for first.
+fn first_wide_difference(samples: &[i32], encoding: Encoding) -> Option<usize>
+    ensures none { IfNone result (All (IsDifferenceOf encoding) (differences samples.now)) }
+    ensures some { IfSome result (λ index. IsFirstNot (IsDifferenceOf encoding) (differences samples.now) index) }
+{
     // No two of such samples are too far apart for any encoding.
     if are_near(samples) {
         return None;
