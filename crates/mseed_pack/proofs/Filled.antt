@@ -2,7 +2,7 @@
 use Rattle.std.proofs.Common.{◌≡◌, ℕ, suc, ◌+◌, ◌-◌, ◌*◌, ◌/◌, ◌%◌, ◌<◌, ◌≤◌, List, ◌∷◌, length, take, drop, get_or, sym, ap, subst, ◌∙◌, arith, ℤ, pos, ◌⊎◌, inl, inr, ⊎_elim, Some, All, min}
 use Rattle.std.specs.Prelude.{slice_range, slice_get}
 use Rattle.std.specs.List.{AllByRecursion}
-use Rattle.std.proofs.lemmas.List.{length-drop, length-take-le, take-take, get_or-take, get_or-drop}
+use Rattle.std.proofs.lemmas.List.{length-drop, length-take-le, take-take, get_or-take, get_or-drop, ext_get_or}
 use Rattle.std.proofs.lemmas.Option.{slice_get-get_or}
 use Rattle.std.proofs.lemmas.List.Elements.{All-get_or}
 use Rattle.std.proofs.lemmas.Bool.{cases_lt}
@@ -11,7 +11,8 @@ use Rattle.mseed_steim.specs.declared.scheme.Scheme.TheVariants.{Two}
 use Rattle.mseed_steim.specs.Spelling.{IsWithin}
 use Rattle.mseed_steim.specs.Frames.{DataWord, data_word, data_words, words_from, word_count, code_at}
 use Rattle.mseed_steim.specs.Packing.{IsEmptyWord, PacksRun}
-use Rattle.mseed_pack.specs.Filling.{AreSet, width_of}
+use Rattle.mseed_pack.specs.declared.window.Window.{Window}
+use Rattle.mseed_pack.specs.Filling.{AreSet, HoldsDifferences, width_of}
 use Rattle.mseed_pack.specs.Packing.{HoldsFrames}
 use Rattle.mseed_pack.specs.Stretches.{differences}
 use Rattle.mseed_pack.proofs.Constants.{words_step}
@@ -24,6 +25,20 @@ length_part xs i j a b = length-take-le (j - i) (drop i xs) (omega (arith, b, le
 
 pub part_at : (xs : List ℤ) (i j k : ℕ) → k < j - i → get_or (slice_range xs i j) k (pos 0) ≡ get_or xs (i + k) (pos 0)
 part_at xs i j k h = get_or-take (j - i) (drop i xs) k (pos 0) h ∙ get_or-drop i xs k (pos 0)
+
+-- a part of what a window holds
+pub held_part : (xs : List ℤ) (w : Window) (first n : ℕ) → HoldsDifferences xs w → w.first ≤ first → first + n ≤ w.end → length w.differences ≡ 7056
+    → slice_range w.differences (first - w.first) (first - w.first + n) ≡ slice_range (differences xs) first (first + n)
+held_part xs w first n h low high long =
+    let at = first - w.first in
+    let few = h.few in
+    let inside = h.inside in
+    let left : length (slice_range w.differences at (at + n)) ≡ at + n - at = length_part w.differences at (at + n) (omega arith) (omega (arith, long, few, low, high)) in
+    let right : length (slice_range (differences xs) first (first + n)) ≡ first + n - first = length_part (differences xs) first (first + n) (omega arith) (omega (arith, inside, high, length-differences xs)) in
+    ext_get_or (pos 0) (slice_range w.differences at (at + n)) (slice_range (differences xs) first (first + n)) (omega (arith, left, right))
+    (λ k b. let here : k < n = omega (arith, b, left) in
+    let place : w.first + (at + k) ≡ first + k = omega (arith, low) in
+    part_at w.differences at (at + n) k (omega (arith, here)) ∙ h.each (at + k) (omega (arith, here, low, high)) ∙ ap (λ (m : ℕ). get_or (differences xs) m (pos 0)) place ∙ sym (part_at (differences xs) first (first + n) k (omega (arith, here))))
 
 part_front : (xs : List ℤ) (i n j : ℕ) → i + n ≤ j → slice_range xs i (i + n) ≡ take n (slice_range xs i j)
 part_front xs i n j h =
@@ -111,6 +126,12 @@ some_used_of s xs first end n used words p f =
     (λ (e : words ≡ length (data_words p)). omega (arith, e, word, each, count, length-drop used part, fits))
     f.whole in
     (some, omega (arith, fits, sized.0, sized.1))
+
+pub used_most : (s : Scheme) (xs : List ℤ) (first end n used words : ℕ) (p : List ℕ) → Fills s xs first end n used words p → used ≤ n
+used_most s xs first end n used words p f =
+    let sized = part_long s xs first end n used words p f in
+    let fits = f.used_fits in
+    omega (arith, fits, sized.1)
 
 pub holds : (s : Scheme) (xs : List ℤ) (first end n used words : ℕ) (p q : List ℕ) → Fills s xs first end n used words p → length q ≡ length p
     → AreSet p q (get_or xs first (pos 0)) (get_or xs (first + used - 1) (pos 0)) → HoldsFrames s (slice_range (differences xs) first end) (slice_range xs first (first + used)) ((words + 16) / 15) q

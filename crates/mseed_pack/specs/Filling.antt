@@ -1,8 +1,10 @@
 -- Steps of filling a payload.
-use Rattle.std.specs.Prelude.{◌≡◌, ℕ, ◌*◌, ◌^◌, List, ℤ}
+use Rattle.std.specs.Prelude.{◌≡◌, ℕ, ◌+◌, ◌-◌, ◌*◌, ◌^◌, ◌<◌, ◌≤◌, List, length, slice_index_or, ℤ, pos}
 use Rattle.byteorder.specs.Endian.{big_bytes}
 use Rattle.mseed_steim.specs.Spelling.{residue}
 use Rattle.mseed_pack.specs.declared.integers.Width.{Width}
+use Rattle.mseed_pack.specs.declared.window.Window.{Window}
+use Rattle.mseed_pack.specs.Stretches.{differences}
 use Rattle.mseed_pack.specs.declared.integers.Width.TheVariants.{Two as Short, Four as Long}
 use Rattle.mseed_steim.specs.declared.scheme.Scheme.{Scheme}
 use Rattle.mseed_steim.specs.declared.scheme.Scheme.TheVariants.{One, Two}
@@ -28,3 +30,10 @@ bytes_in Long = 4
 -- an integer in big-endian two's complement of so many bytes
 abbrev pub integer_bytes : ℕ → ℤ → List ℕ
 integer_bytes width z = big_bytes width (residue (2 ^ (8 * width)) z)
+
+-- the window holds the differences of the samples from its first on, up to its end
+pub record HoldsDifferences (samples : List ℤ) (window : Window) : Type 0 where
+  pub order : window.first ≤ window.end
+  pub inside : window.end ≤ length samples
+  pub few : window.end ≤ window.first + 7056
+  pub each : (k : ℕ) → k < window.end - window.first → slice_index_or window.differences k (pos 0) ≡ slice_index_or (differences samples) (window.first + k) (pos 0)

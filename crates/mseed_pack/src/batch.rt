@@ -1,16 +1,17 @@
 //! Records that are gathered, to be written at once.
 ghost use Rattle.std.specs.Prelude.{◌≡◌, ◌^◌, ◌%◌, ◌<◌, ◌≤◌, length, take};
 ghost use Rattle.mseed_audit.specs.Series.{AreSteps};
+ghost use Rattle.mseed_pack.specs.Filling.{HoldsDifferences};
 ghost use Rattle.mseed_pack.specs.Fitting.{Fits};
 ghost use Rattle.mseed_pack.specs.Outcome.{PacksOn};
 ghost use Rattle.mseed_pack.specs.Standing.{StandsAt, IsStretch};
 ghost use Rattle.mseed_pack.specs.Traces.{trace_of};
 
-use crate::frames::ROOM;
 use crate::options::Options;
 use crate::record::{length_of, write_record};
 use crate::series_view::SeriesView;
 use crate::stretch::{Stretch, first_stretch, next_stretch};
+use crate::window::Window;
 
 /// How far a packing has come: so many records hold so many samples. The next one stands in the stretch, or behind it.
 #[derive(Clone, Copy)]
@@ -46,13 +47,15 @@ pub(crate) fn gather(
     series: &SeriesView,
     options: &Options,
     place: Place,
-    room: &mut [i32; ROOM],
+    window: &mut Window,
     out: &mut [u8],
 ) -> Batch
     requires fits { Fits (trace_of series.now) options.now }
     requires standing { StandsAt series.now.steps.now (length series.now.samples.now) place }
     requires more { place.first < length series.now.samples.now }
     requires long { 4096 ≤ length out.old }
+    requires held { HoldsDifferences series.now.samples.now window.old }
+    ensures held { HoldsDifferences series.now.samples.now window.new }
     ensures standing { StandsAt series.now.steps.now (length series.now.samples.now) result.next }
     ensures on { PacksOn (trace_of series.now) options.now place result.next (take result.bytes out.new) }
     ensures some { place.first < result.next.first }
@@ -65,7 +68,13 @@ pub(crate) fn gather(
         if next.first == series.samples.len() {
             return Batch { bytes, next };
         }
-        next = put_record(series, options, next, room, &mut out[bytes..bytes + length]);
+        next = put_record(
+            series,
+            options,
+            next,
+            window,
+            &mut out[bytes..bytes + length],
+        );
         bytes += length;
     }
     Batch { bytes, next }
@@ -76,13 +85,15 @@ fn put_record(
     series: &SeriesView,
     options: &Options,
     place: Place,
-    room: &mut [i32; ROOM],
+    window: &mut Window,
     out: &mut [u8],
 ) -> Place
     requires fits { Fits (trace_of series.now) options.now }
     requires standing { StandsAt series.now.steps.now (length series.now.samples.now) place }
     requires more { place.first < length series.now.samples.now }
     requires size { length out.old ≡ 2 ^ options.now.exponent }
+    requires held { HoldsDifferences series.now.samples.now window.old }
+    ensures held { HoldsDifferences series.now.samples.now window.new }
     ensures standing { StandsAt series.now.steps.now (length series.now.samples.now) result }
     ensures on { PacksOn (trace_of series.now) options.now place result out.new }
     ensures some { place.first < result.first }
@@ -94,7 +105,7 @@ fn put_record(
         stretch,
         place.number,
         place.first,
-        room,
+        window,
         out,
     );
     Place {

@@ -3,11 +3,12 @@ ghost use Rattle.std.specs.Prelude.{◌≡◌, ℕ, ◌+◌, ◌-◌, ◌*◌, �
 ghost use Rattle.std.specs.Prelude.{pos, slice_index_or, slice_range};
 ghost use Rattle.mseed_steim.specs.Frames.{word_at};
 ghost use Rattle.mseed_steim.specs.Spelling.{IsWithin};
-ghost use Rattle.mseed_pack.specs.Filling.{AreSet, width_of};
+ghost use Rattle.mseed_pack.specs.Filling.{AreSet, HoldsDifferences, width_of};
 ghost use Rattle.mseed_pack.specs.Packing.{HoldsFrames};
 ghost use Rattle.mseed_pack.specs.Stretches.{differences};
 
 use crate::payload::Filled;
+use crate::window::Window;
 use byteorder::{BigEndian, ByteOrder};
 use mseed_steim::{Packed, Scheme, pack_words};
 
@@ -17,20 +18,14 @@ const WORD: usize = 4;
 /// The most differences that a word holds.
 const MOST: usize = 7;
 
-/// The most bytes of a record's frames.
-const FRAMES: usize = 4032;
-
-/// The most differences that are looked at for a record: a word of its frames holds no more than seven.
-pub(crate) const ROOM: usize = MOST * (FRAMES / WORD);
-
-/// Packs the samples from one on, as many as there is room for, into Steim frames. In `room` their differences stand
-/// meanwhile.
+/// Packs the samples from one on, as many as there is room for, into Steim frames. Their differences are taken through
+/// the window.
 pub(crate) fn fill_frames(
     scheme: Scheme,
     samples: &[i32],
     first: usize,
     end: usize,
-    room: &mut [i32; ROOM],
+    window: &mut Window,
     payload: &mut [u8],
 ) -> Filled
     requires some { first < end }
@@ -39,6 +34,8 @@ pub(crate) fn fill_frames(
     requires short { length payload.old ≤ 4032 }
     requires whole { length payload.old % 64 ≡ 0 }
     requires fits { All (IsWithin (width_of scheme)) (differences samples.now) }
+    requires held { HoldsDifferences samples.now window.old }
+    ensures held { HoldsDifferences samples.now window.new }
     ensures holds { HoldsFrames scheme (slice_range (differences samples.now) first end)
         (slice_range samples.now first (first + result.samples)) result.frames payload.new }
     ensures some { 0 < result.samples }
@@ -46,9 +43,9 @@ pub(crate) fn fill_frames(
     ensures few { result.samples < 2 ^ 16 }
 {
     let count = (end - first).min(MOST * (payload.len() / WORD));
-    let left = &mut room[..count];
-    put_differences(samples, first, left);
-    match pack_words(scheme, left, payload) {
+    window.hold(samples, first, count);
+    let at = first - window.first;
+    match pack_words(scheme, &window.differences[at..at + count], payload) {
         Ok(packed) => finish(samples, first, packed, payload),
         // Each difference fits the scheme.
         Err(_) => Filled {
@@ -80,7 +77,7 @@ fn finish(samples: &[i32], first: usize, packed: Packed, payload: &mut [u8]) -> 
 }
 
 /// Writes the differences of the samples from one on.
-fn put_differences(samples: &[i32], first: usize, out: &mut [i32])
+pub(crate) fn put_differences(samples: &[i32], first: usize, out: &mut [i32])
     requires inside { first + length out.old ≤ length samples.now }
     requires fits { All (IsWithin 32) (differences samples.now) }
     ensures { out.new ≡ slice_range (differences samples.now) first (first + length out.old) }

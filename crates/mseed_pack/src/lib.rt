@@ -16,6 +16,7 @@ mod payload;
 mod record;
 mod series_view;
 mod stretch;
+mod window;
 
 pub use fault::PackFault;
 pub use fitting::{fit, fit_view};

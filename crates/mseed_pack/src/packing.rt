@@ -13,11 +13,11 @@ ghost use Rattle.mseed_pack.specs.Traces.{trace_of};
 use crate::batch::{first_place, gather};
 use crate::fault::PackFault;
 use crate::fitting::fit_view;
-use crate::frames::ROOM;
 use crate::law::{fewest_words, reads_back};
 use crate::options::Options;
 use crate::record::length_of;
 use crate::series_view::SeriesView;
+use crate::window::Window;
 use mseed_audit::Series;
 use mseed_stream::{Sink, write_all_of};
 use std::alloc::Allocator;
@@ -137,10 +137,10 @@ fn pack_through<W: Sink>(
     ensures beside { W.beside sink.new ≡ W.beside sink.old }
 {
     let length = length_of(options);
-    let mut room = [0; ROOM];
+    let mut window = Window::new();
     let mut place = first_place(series);
     while place.first < series.samples.len() {
-        let batch = gather(series, options, place, &mut room, records);
+        let batch = gather(series, options, place, &mut window, records);
         if let Err(taken) = write_all_of(sink, &records[..batch.bytes]) {
             return Err(u128::from(place.number) * length as u128 + taken as u128);
         }

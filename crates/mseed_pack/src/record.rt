@@ -2,6 +2,7 @@
 ghost use Rattle.std.specs.Prelude.{◌≡◌, ◌+◌, ◌-◌, ◌^◌, ◌%◌, ◌<◌, ◌≤◌, length, slice_range, All, List, ℕ, ℤ, IsSome};
 ghost use Rattle.std.specs.Prelude.{IfSome};
 ghost use Rattle.mseed_record.specs.Fields.{header_of};
+ghost use Rattle.mseed_pack.specs.Filling.{HoldsDifferences};
 ghost use Rattle.mseed_pack.specs.Fitting.{Fits, HasTimeOutside, IsDifferenceOf, IsSampleOf};
 ghost use Rattle.mseed_pack.specs.Packing.{HoldsSamples, IsHeaderOf, IsPacked};
 ghost use Rattle.mseed_pack.specs.Traces.{trace_of};
@@ -9,12 +10,13 @@ ghost use Rattle.mseed_pack.specs.Standing.{IsStretch};
 ghost use Rattle.mseed_pack.specs.Stretches.{differences, flags_of, step_behind};
 
 use crate::clock::time_at;
-use crate::frames::{ROOM, fill_frames};
+use crate::frames::fill_frames;
 use crate::integers::{Width, fill_integers};
 use crate::options::{Encoding, Options};
 use crate::payload::Filled;
 use crate::series_view::SeriesView;
 use crate::stretch::Stretch;
+use crate::window::Window;
 use mseed_record::{Fields, write_header};
 use mseed_steim::Scheme;
 use mseed_time::LeapStep;
@@ -38,7 +40,7 @@ fn fill(
     samples: &[i32],
     first: usize,
     end: usize,
-    room: &mut [i32; ROOM],
+    window: &mut Window,
     payload: &mut [u8],
 ) -> Filled
     requires some { first < end }
@@ -48,6 +50,8 @@ fn fill(
     requires whole { length payload.old % 64 ≡ 0 }
     requires samples_fit { All (IsSampleOf encoding) samples.now }
     requires differences_fit { All (IsDifferenceOf encoding) (differences samples.now) }
+    requires held { HoldsDifferences samples.now window.old }
+    ensures held { HoldsDifferences samples.now window.new }
     ensures holds { HoldsSamples encoding (slice_range (differences samples.now) first end)
         (slice_range samples.now first (first + result.samples)) result.frames payload.new }
     ensures some { 0 < result.samples }
@@ -57,8 +61,8 @@ fn fill(
     match encoding {
         Encoding::Int16 => fill_integers(Width::Two, samples, first, end, payload),
         Encoding::Int32 => fill_integers(Width::Four, samples, first, end, payload),
-        Encoding::Steim1 => fill_frames(Scheme::One, samples, first, end, room, payload),
-        Encoding::Steim2 => fill_frames(Scheme::Two, samples, first, end, room, payload),
+        Encoding::Steim1 => fill_frames(Scheme::One, samples, first, end, window, payload),
+        Encoding::Steim2 => fill_frames(Scheme::Two, samples, first, end, window, payload),
     }
 }
 
@@ -122,15 +126,14 @@ fn fields_at(
     })
 }
 
-/// Writes a record of a stretch, from one sample on, and answers how many it holds. In `room` differences stand
-/// meanwhile.
+/// Writes a record of a stretch, from one sample on, and answers how many it holds.
 pub(crate) fn write_record(
     series: &SeriesView,
     options: &Options,
     stretch: Stretch,
     number: u64,
     first: usize,
-    room: &mut [i32; ROOM],
+    window: &mut Window,
     out: &mut [u8],
 ) -> usize
     requires fits { Fits (trace_of series.now) options.now }
@@ -143,6 +146,8 @@ pub(crate) fn write_record(
     requires short { length out.old ≤ 4096 }
     requires whole { length out.old % 64 ≡ 0 }
     requires numbered { number < 2 ^ 63 }
+    requires held { HoldsDifferences series.now.samples.now window.old }
+    ensures held { HoldsDifferences series.now.samples.now window.new }
     ensures packed { IsPacked (trace_of series.now) options.now (record {
       number = number;
       first = first;
@@ -158,7 +163,7 @@ pub(crate) fn write_record(
         series.samples,
         first,
         stretch.end,
-        room,
+        window,
         &mut out[HEADER..],
     );
     let fields = match fields_at(series, options, stretch, number, first, filled) {

@@ -1,20 +1,14 @@
-use Rattle.std.proofs.Common.{◌≡◌, ◌+◌, ◌-◌, ◌≤◌, ◌++◌, ◌∙◌, sym, ap, subst, arith, rules, length, take, List, ℕ, append_assoc}
-use Rattle.std.proofs.lemmas.List.{take_at, length-take-le, length-append}
-use borrow.Rule.Slice.PartMut.{put_mid, post_of}
+use Rattle.std.proofs.Common.{◌≡◌, ◌+◌, ◌-◌, ◌≤◌, ◌++◌, ◌∙◌, sym, subst, arith, rules, length, take, List, ℕ}
+use Rattle.std.proofs.lemmas.Slice.{take-put_mid}
+use borrow.Rule.Slice.PartMut.{put_mid}
 use Rattle.mseed_pack.specs.Outcome.{PacksOn}
 use Rattle.mseed_pack.specs.Traces.{trace_of}
 use Rattle.mseed_pack.proofs.Growing.{on_none, on_join}
 use Rattle.mseed_pack.proofs.batch.gather.Goals as goal
 
--- what stands before the end of a part that was written
-front_of : (a m n : ℕ) (xs buf : List ℕ) → n ≡ m → a + m ≤ length xs → length buf ≡ m → take (a + m) (put_mid a n xs buf) ≡ take a xs ++ buf
-front_of a m n xs buf e inside size =
-    let long : length (take a xs) ≡ a = length-take-le a xs (omega (arith, inside)) in
-    ap (λ (l : List ℕ). take (a + m) l) (sym (append_assoc (take a xs) buf (post_of a n xs)))
-    ∙ take_at (take a xs ++ buf) (post_of a n xs) (a + m) (omega (arith, length-append (take a xs) buf, long, size))
-
 pub loop-out-init : goal.loop-out-init
 loop-out-init c = record {
+  held = c.requires.held;
   standing = c.requires.standing;
   on = on_none (trace_of c.args.series.now) c.args.options.now c.args.place;
   within = omega arith;
@@ -40,8 +34,9 @@ loop-out-preserved c =
     let same : l.bytes + size - l.bytes ≡ size = omega arith in
     let buf_long : length buf ≡ size = (let e : length buf ≡ l.bytes + size - l.bytes = search rules in e) ∙ same in
     let kept : length (put_mid l.bytes (l.bytes + size - l.bytes) l.out buf) ≡ length l.out = search rules in
-    let front : take (l.bytes + size) (put_mid l.bytes (l.bytes + size - l.bytes) l.out buf) ≡ take l.bytes l.out ++ buf = front_of l.bytes size (l.bytes + size - l.bytes) l.out buf same room buf_long in
+    let front : take (l.bytes + size) (put_mid l.bytes (l.bytes + size - l.bytes) l.out buf) ≡ take l.bytes l.out ++ buf = take-put_mid l.bytes (l.bytes + size - l.bytes) l.out buf (l.bytes + size) (omega (arith, buf_long)) (omega (arith, within)) in
     record {
+      held = c.put_record-next.ensures.held;
       standing = c.put_record-next.ensures.standing;
       on = subst (λ (b : List ℕ). PacksOn s o c.args.place next b) (sym front) (on_join s o c.args.place l.next next (take l.bytes l.out) buf l.invariant.on c.put_record-next.ensures.on);
       within = omega (arith, kept, room);

@@ -1,4 +1,5 @@
 use Rattle.std.proofs.Common.{◌≤◌, ◌*◌, ◌-◌, length, take}
+use Rattle.mseed_pack.specs.Filling.{HoldsDifferences}
 use Rattle.mseed_pack.specs.Outcome.{PacksOn}
 use Rattle.mseed_pack.specs.Standing.{StandsAt}
 use Rattle.mseed_pack.specs.Traces.{trace_of}
@@ -6,6 +7,7 @@ use Rattle.mseed_pack.proofs.batch.gather.Given as goal
 
 abbrev pub invariant-loop-out : goal.invariant-loop-out
 invariant-loop-out l = record {
+  held : HoldsDifferences l.series.samples.now l.window;
   standing : StandsAt l.series.steps.now (length l.series.samples.now) l.next;
   on : PacksOn (trace_of l.series) l.options l.fn.place l.next (take l.bytes l.out);
   within : l.bytes ≤ length l.out;

@@ -22,6 +22,7 @@ loop-place-preserved g c =
     let l = c.loop-place in
     let b = take c.gather-batch.result.bytes c.gather-batch.new.out in
     record {
+      held = c.gather-batch.ensures.held;
       standing = c.gather-batch.ensures.standing;
       took = took_more s o l.place c.gather-batch.result.next b (g.W.Sink.said c.args.sink.now) (g.W.Sink.said l.sink) (g.W.Sink.said c.write_all_of.new.sink) l.invariant.took
           c.gather-batch.ensures.on c.in_default.ensures.ok c.in_default.ensures.fine;
