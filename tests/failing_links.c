@@ -1,5 +1,6 @@
 /* Put before the C library (LD_PRELOAD), it fails one call that opens, takes or dials a link, reads from one or writes
-   to one: the one whose number, from 1, LINK_FAILS gives. A read or a write brings at most as many bytes as LINK_PIECE
+   to one: the one whose number, from 1, LINK_FAILS gives. The call that closes one side of a link, and those on that
+   link behind it, are counted apart, by CLOSING_FAILS. A read or a write brings at most as many bytes as LINK_PIECE
    gives, where it is there. */
 #define _GNU_SOURCE
 #include <dlfcn.h>
@@ -12,14 +13,31 @@ static long number(const char *name) {
     return text ? atol(text) : 0;
 }
 
-static int fails(void) {
-    static long left = -1;
-    if (left < 0) left = number("LINK_FAILS");
-    if (left > 0 && --left == 0) {
+static int counts_to(long *left, const char *name) {
+    if (*left < 0) *left = number(name);
+    if (*left > 0 && --*left == 0) {
         errno = ECONNRESET;
         return 1;
     }
     return 0;
+}
+
+static int fails(void) {
+    static long left = -1;
+    return counts_to(&left, "LINK_FAILS");
+}
+
+static int closing_fails(void) {
+    static long left = -1;
+    return counts_to(&left, "CLOSING_FAILS");
+}
+
+/* The link whose one side was closed last, or none. */
+static int closing = -1;
+
+static int opened(int fd) {
+    if (fd == closing) closing = -1;
+    return fd;
 }
 
 static size_t piece(size_t size) {
@@ -29,7 +47,7 @@ static size_t piece(size_t size) {
 
 int socket(int domain, int type, int protocol) {
     int (*real)(int, int, int) = dlsym(RTLD_NEXT, "socket");
-    return fails() ? -1 : real(domain, type, protocol);
+    return fails() ? -1 : opened(real(domain, type, protocol));
 }
 
 int bind(int fd, const struct sockaddr *address, socklen_t length) {
@@ -44,7 +62,7 @@ int listen(int fd, int backlog) {
 
 int accept4(int fd, struct sockaddr *address, socklen_t *length, int flags) {
     int (*real)(int, struct sockaddr *, socklen_t *, int) = dlsym(RTLD_NEXT, "accept4");
-    return fails() ? -1 : real(fd, address, length, flags);
+    return fails() ? -1 : opened(real(fd, address, length, flags));
 }
 
 int connect(int fd, const struct sockaddr *address, socklen_t length) {
@@ -54,7 +72,18 @@ int connect(int fd, const struct sockaddr *address, socklen_t length) {
 
 ssize_t recv(int fd, void *bytes, size_t size, int flags) {
     ssize_t (*real)(int, void *, size_t, int) = dlsym(RTLD_NEXT, "recv");
-    return fails() ? -1 : real(fd, bytes, piece(size), flags);
+    return (fd == closing ? closing_fails() : fails()) ? -1 : real(fd, bytes, piece(size), flags);
+}
+
+int shutdown(int fd, int how) {
+    int (*real)(int, int) = dlsym(RTLD_NEXT, "shutdown");
+    closing = fd;
+    return closing_fails() ? -1 : real(fd, how);
+}
+
+int setsockopt(int fd, int level, int name, const void *value, socklen_t length) {
+    int (*real)(int, int, int, const void *, socklen_t) = dlsym(RTLD_NEXT, "setsockopt");
+    return fd == closing && closing_fails() ? -1 : real(fd, level, name, value, length);
 }
 
 ssize_t send(int fd, const void *bytes, size_t size, int flags) {

@@ -124,25 +124,31 @@ def judge_calls(tests, failing):
     tests.judge(f"fetch whose calls don't fail, {call}", call > 10, call)
 
 
-class BareClient(Client):
-    """One whose lines end with the CR. A server that reads an `END` without the LF behind it would close a link that
-    still holds that byte: the system then resets it, and the last of what was sent may be lost."""
-
-    def said(self):
-        return super().said().rstrip(b"\n")
+def judge_closing(tests, failing):
+    """Each call by which a server closes a link fails in turn: what was sent comes through, and the next client is
+    served."""
+    for call in range(1, 8):
+        env = {"LD_PRELOAD": failing, "CLOSING_FAILS": str(call)}
+        server = Server(ARCHIVE, PLACES, "--connections", 2, env=env)
+        for turn in (1, 2):
+            run = fetch(PLACES, server.port)
+            name = f"client {turn} of a server whose call {call} in closing links fails"
+            tests.judge(name, (run[0], whole(run[1]), run[2]) == (0, BY_PLACE, ""), run[2])
+        ended = server.end()
+        tests.judge(f"serve whose call {call} in closing links fails", ended == (0, ""), ended)
 
 
 def judge_pieces(tests, failing):
-    """Reads and writes that bring a few bytes: of either end alone, and of both where a read brings a whole `END`."""
+    """Reads and writes that bring a few bytes, of either end and of both."""
     env = {"LD_PRELOAD": failing, "LINK_PIECE": "1"}
     server = Server(ARCHIVE, PLACES, env=env)
-    records = records_in(fetch_link(BareClient([(place, None) for place in PLACES], "FETCH"), server.port))
+    records = records_in(fetch_link(Client([(place, None) for place in PLACES], "FETCH"), server.port))
     tests.judge("serve by single bytes", whole(b"".join(records)) == BY_PLACE, len(records))
     ended = server.end()
     tests.judge("serve by single bytes ends", ended == (0, ""), ended)
     status, output, errors = fetch(PLACES, serving([feed_of(PLACES, 10, 0, RECORDS)]), env=env)
     tests.judge("fetch by single bytes", (status, whole(output), errors) == (0, BY_PLACE, ""), errors)
-    for size in (7, 511):
+    for size in (1, 7, 511):
         env = {"LD_PRELOAD": failing, "LINK_PIECE": str(size)}
         server = Server(ARCHIVE, PLACES, env=env)
         status, output, errors = fetch(PLACES, server.port, env=env)
@@ -158,6 +164,7 @@ def main():
         judge_streams(tests, library(folder, "failing_devices"))
         links = library(folder, "failing_links")
         judge_calls(tests, links)
+        judge_closing(tests, links)
         judge_pieces(tests, links)
     raise SystemExit(tests.report())
 

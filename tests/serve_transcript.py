@@ -41,8 +41,7 @@ def main():
         hears(link, "a transcript sent whole", b"".join(replies))
 
     def bytewise(link):
-        # The last LF stays away: the server would close the link with that byte unread, and the system then resets it.
-        for byte in b"".join(lines)[:-1]:
+        for byte in b"".join(lines):
             say(link, bytes([byte]))
         hears(link, "a transcript sent in single bytes", b"".join(replies))
 

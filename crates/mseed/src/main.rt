@@ -3,6 +3,7 @@
 #![tactic(auto)]
 
 mod accept;
+mod closing;
 mod command;
 mod dial;
 mod ending;

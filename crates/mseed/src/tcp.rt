@@ -6,6 +6,7 @@ ghost use Rattle.mseed.specs.Fetched.{HasFetched, TellsOfFetch, fetch_status};
 ghost use Rattle.mseed.specs.Served.{HasServed};
 
 use crate::accept::Accept;
+use crate::closing::close;
 use crate::command::tell;
 use crate::dial::Dial;
 use crate::fetching::{FetchEnd, fetch_all};
@@ -16,6 +17,7 @@ use mseed_stream::{Counted, Sink, Tally};
 use std::alloc::Allocator;
 use std::io;
 use std::net::{Ipv4Addr, Net, OpenListener, OpenStream, SocketAddr, TcpListener, TcpStream};
+use std::time::Clock;
 
 /// A port of this host.
 fn address_of(port: u16) -> SocketAddr {
@@ -33,28 +35,30 @@ fn link_over<S: OpenStream>(stream: S) -> Counted<S>
 
 /// A port that takes connections, with its calls counted.
 #[derive(Drop)]
-pub struct Listening<N: Net> {
+pub struct Listening<'a, N: Net + Clock> {
+    host: &'a N,
     listener: N::Listener,
     tally: Tally,
     lost: Tally,
 }
 
-impl<N: Net> Listening<N> {
+impl<'a, N: Net + Clock> Listening<'a, N> {
     /// Takes connections to a port from now on.
     ///
     /// # Errors
     ///
     /// Where the port can't be had, as one that is taken.
-    pub fn bind(net: &N, port: u16) -> io::Result<Listening<N>> {
+    pub fn bind(host: &'a N, port: u16) -> io::Result<Listening<'a, N>> {
         Ok(Listening {
-            listener: TcpListener::bind(net, address_of(port))?,
+            host,
+            listener: TcpListener::bind(host, address_of(port))?,
             tally: Tally::new(),
             lost: Tally::new(),
         })
     }
 }
 
-impl<N: Net> Accept for Listening<N> {
+impl<N: Net + Clock> Accept for Listening<'_, N> {
     type Link = Counted<N::Stream>;
 
     ghost calls = { λ l. l.tally.calls };
@@ -76,7 +80,8 @@ impl<N: Net> Accept for Listening<N> {
         }
     }
 
-    fn hang_up(&mut self, _link: Counted<N::Stream>, failed: bool) {
+    fn hang_up(&mut self, link: Counted<N::Stream>, failed: bool) {
+        close(self.host, link.into_inner());
         self.lost.record(&[], failed);
     }
 }
@@ -123,10 +128,14 @@ impl<N: Net> Dial for Dialler<'_, N> {
 
 /// Serves a feed at a port of this host, and answers the exit status. A port that can't be had is as a link that
 /// failed.
-pub fn serve<N: Net, A: Allocator, E: Sink>(net: &N, plan: &ServePlan<A>, errors: &mut E) -> u8
+pub fn serve<N: Net + Clock, A: Allocator, E: Sink>(
+    host: &N,
+    plan: &ServePlan<A>,
+    errors: &mut E,
+) -> u8
     ensures { HasServed result (E.said errors.old) (E.said errors.new) }
 {
-    match Listening::bind(net, plan.port) {
+    match Listening::bind(host, plan.port) {
         Ok(mut listening) => {
             let connections = u64::from(plan.connections);
             serve_all(&plan.feed, connections, &mut listening, errors)
