@@ -23,7 +23,7 @@ told_is h c is lent = is.held ∙ held_is c lent
 told_size : (h : Heard) (c : Standing) → IsHeard h c → c.is_lent ≡ false → length h.bytes ≡ c.offset + length c.front
 told_size h c is lent = is.told ∙ ap (λ (xs : List ℕ). c.offset + length xs) (held_is c lent)
 
-nothing_ended : (answer : Option Ending) (P : Ending → Type 0) → answer ≡ None → IfSome answer P
+pub nothing_ended : (answer : Option Ending) (P : Ending → Type 0) → answer ≡ None → IfSome answer P
 nothing_ended answer P e = subst (λ (o : Option Ending). IfSome o P) (sym e) tt
 
 -- a record was lent

@@ -2,6 +2,7 @@
 use Rattle.std.specs.Prelude.{⊤, ◌≡◌, ◌≢◌, Bool, true, false, ℕ, ◌+◌, ◌*◌, ◌^◌, ◌<◌, ◌≤◌, List, [], ◌∷◌, ◌++◌, length, take, drop, if◌then◌else◌, Option, Some, None, IfSome, Result, Ok, Err}
 use Rattle.std.specs.Io.KnownBytes.{Consumes}
 use Rattle.mseed_record.specs.declared.frame.Scan.TheVariants.{Need}
+use Rattle.mseed_record.specs.Record.{IsRecord}
 use Rattle.mseed_record.specs.Scan.{Decides}
 use Rattle.mseed_stream.specs.Device.{Heard}
 use Rattle.mseed_stream.specs.Standing.{Standing}
@@ -68,6 +69,24 @@ pub record IsAlong (h : Heard) (c : Standing) : Type 0 where
   pub asks : c.answer ≡ None → (k : ℕ) × Decides (held_of c) (Need k)
   pub going_on : c.answer ≡ None → h.is_at_end ≡ false
   pub ended : IfSome c.answer (λ e. IsEnding e c.offset h)
+
+-- A record of so many bytes begins what the source holds, and the cutter, which goes on and holds nothing, can go behind
+-- it.
+pub record IsAhead (size : ℕ) (c : Standing) (lent : List ℕ) : Type 0 where
+  pub whole : size ≤ length lent
+  pub is_record : IsRecord (take size lent)
+  pub none : held_of c ≡ []
+  pub goes_on : c.answer ≡ None
+  pub turns : c.reads + 2 ≤ 2 ^ 40
+
+-- what a source told, with a record more that it held whole: by two asks
+abbrev pub told_whole : Heard → List ℕ → Heard
+told_whole h bytes = record {
+  bytes = h.bytes ++ bytes;
+  calls = h.calls + 2;
+  failures = h.failures;
+  is_at_end = h.is_at_end;
+}
 
 -- what more a source told, and what it's known to have left
 abbrev pub TellsMore : Heard → Heard → Option (List ℕ) → Option (List ℕ) → Type 0

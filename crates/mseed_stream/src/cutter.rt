@@ -2,6 +2,7 @@
 ghost use Rattle.std.specs.Prelude.{◌≡◌, ◌≢◌, ◌+◌, ◌*◌, ◌^◌, ◌<◌, ◌≤◌, length, take, drop, true, false, IfOk};
 ghost use Rattle.std.specs.Prelude.{IfErr, OnErr, OnOk, IsTrue, Ok, slice_range, [], ℕ, IfSome, Some, None};
 ghost use Rattle.std.specs.Prelude.{Err, ⊤, List, ◌∷◌, ◌++◌};
+ghost use Rattle.std.specs.Bool.{OnTrue};
 ghost use Rattle.std.specs.Io.KnownBytes.{IsAtEnd, Consumes, ReadConsumes};
 ghost use Rattle.mseed_record.specs.Record.{IsRecord};
 ghost use Rattle.mseed_record.specs.Scan.{Decides};
@@ -13,7 +14,7 @@ ghost use Rattle.mseed_stream.specs.Archive.{HasRecords, IsArchive};
 ghost use Rattle.mseed_stream.specs.Cutting.{IsHeard, IsAlong, IsStop, TellsMore, IsReadTo, is_short};
 ghost use Rattle.mseed_stream.specs.Cutting.{asks_of, count_of, IsCutFault, IsCleanEnd, NeedsRoom, held_of};
 ghost use Rattle.mseed_stream.specs.Cutting.{told_from, moves_by, failed_by, answer_of, kept_of, handed_by};
-ghost use Rattle.mseed_stream.specs.Cutting.{IfEnds};
+ghost use Rattle.mseed_stream.specs.Cutting.{IfEnds, IsAhead, told_whole};
 ghost use Rattle.mseed_stream.specs.Walk.{HasHandedOut, AreAllViews, IfGoesOn, end_of};
 ghost use Rattle.mseed_stream.specs.Steps.{IsFillFault, IsAnswerAtEnd, IsCuttingFault, lent_of, settled};
 
@@ -228,6 +229,68 @@ impl<A: Allocator> Cutter<A> {
         }
     }
 
+    /// The next record where it lies, as long as the source holds it whole: it is lent from there, and not copied.
+    ///
+    /// Neither the cutter nor the source moves: [`pass`](Cutter::pass) goes behind the record. Where this lends
+    /// nothing, [`next`](Cutter::next) answers what comes.
+    pub fn peek<'a, R: Source>(&self, source: &'a R) -> Option<RecordView<'a>>
+        // A record is lent as its view, and is what the source tells next.
+        ensures record { IfSome result (λ r. IsView (view_of r)
+            × ((view_of r).bytes ≡ take (length (view_of r).bytes) (R.lent source.now))) }
+        ensures ahead { IfSome result (λ r. IsAhead (length (view_of r).bytes) self.now (R.lent source.now)) }
+    {
+        if !self.is_ready() {
+            return None;
+        }
+        match RecordView::of(source.lend()) {
+            Ok(view) => Some(view),
+            Err(_) => None,
+        }
+    }
+
+    /// Whether it goes on, holds no bytes, and can ask for a record.
+    fn is_ready(&self) -> bool
+        ensures none { OnTrue result (held_of self.now ≡ []) }
+        ensures goes_on { OnTrue result (self.now.answer ≡ None) }
+        ensures turns { OnTrue result (self.now.reads + 2 ≤ 2 ^ 40) }
+    {
+        if self.ending.is_some() || self.reads > TURNS - 2 {
+            return false;
+        }
+        self.is_lent || self.have == 0
+    }
+
+    /// Goes behind a record of so many bytes that the source holds whole, as [`next`](Cutter::next) does that lends
+    /// it: the source tells what framing asks for, the header and then the rest.
+    pub fn pass<R: Source>(&mut self, source: &mut R, size: usize)
+        requires along { IsAlong (R.heard source.old) self.old }
+        requires ahead { IsAhead size self.old (R.lent source.old) }
+
+        // The source told the record, by two asks that didn't fail, and holds what follows.
+        ensures told { R.heard source.new ≡ told_whole (R.heard source.old) (take size (R.lent source.old)) }
+        ensures rest { R.lent source.new ≡ drop size (R.lent source.old) }
+        ensures known { Consumes (R.remaining source.old) (R.remaining source.new) (take size (R.lent source.old)) }
+        ensures beside { R.beside source.new ≡ R.beside source.old }
+
+        // The cutter stands behind it, goes on, and keeps its buffer.
+        ensures along { IsAlong (R.heard source.new) self.new }
+        ensures offset { self.new.offset ≡ self.old.offset + size }
+        ensures goes_on { self.new.answer ≡ None }
+        ensures room { self.new.room ≡ self.old.room }
+
+        // It is the next record of the archive.
+        ensures records { (records : List (List ℕ)) → HasRecords (R.heard source.old).bytes self.old.offset records
+            → HasRecords (R.heard source.new).bytes self.new.offset
+            (records ++ take size (R.lent source.old) ∷ []) }
+        ensures handed { (views : List View) (v : View) → HasHandedOut (R.heard source.old) self.old views → IsView v
+            → v.bytes ≡ take size (R.lent source.old) → HasHandedOut (R.heard source.new) self.new (views ++ v ∷ []) }
+    {
+        self.forget();
+        tell_whole(source, size);
+        self.reads += 2;
+        self.offset += size as u64;
+    }
+
     /// The next answer, by which the bytes of a record that is found are lent.
     fn advance<R: Source>(&mut self, source: &mut R) -> Result<Option<usize>, StreamFault>
         requires { IsAlong (R.heard source.old) self.old }
@@ -368,16 +431,12 @@ impl<A: Allocator> Cutter<A> {
           front = take size (R.lent source.old);
           reads = self.old.reads + 2;
         } }
-        ensures bytes { (R.heard source.new).bytes ≡ (R.heard source.old).bytes ++ take size (R.lent source.old) }
-        ensures calls { (R.heard source.new).calls ≡ (R.heard source.old).calls + 2 }
-        ensures failures { (R.heard source.new).failures ≡ (R.heard source.old).failures }
-        ensures going_on { (R.heard source.new).is_at_end ≡ (R.heard source.old).is_at_end }
+        ensures told { R.heard source.new ≡ told_whole (R.heard source.old) (take size (R.lent source.old)) }
         ensures known { Consumes (R.remaining source.old) (R.remaining source.new) (take size (R.lent source.old)) }
         ensures beside { R.beside source.new ≡ R.beside source.old }
     {
         copy_front(&mut self.held, source.lend(), size);
-        source.consume(HEADER);
-        source.consume(size - HEADER);
+        tell_whole(source, size);
         self.reads += 2;
         self.have = size;
         self.framer = Framer::new();
@@ -506,6 +565,19 @@ fn copy_front(held: &mut [u8], bytes: &[u8], size: usize)
     ensures { take size held.new ≡ take size bytes.now }
 {
     held[..size].copy_from_slice(&bytes[..size]);
+}
+
+/// Has the source tell so many of the bytes that it holds, as framing asks for them: the header, and then the rest.
+fn tell_whole<R: Source>(source: &mut R, size: usize)
+    requires header { 48 ≤ size }
+    requires whole { size ≤ length (R.lent source.old) }
+    ensures told { R.heard source.new ≡ told_whole (R.heard source.old) (take size (R.lent source.old)) }
+    ensures rest { R.lent source.new ≡ drop size (R.lent source.old) }
+    ensures known { Consumes (R.remaining source.old) (R.remaining source.new) (take size (R.lent source.old)) }
+    ensures beside { R.beside source.new ≡ R.beside source.old }
+{
+    source.consume(HEADER);
+    source.consume(size - HEADER);
 }
 
 /// Reads once, into the bytes from `begin` to `end`.
