@@ -25,12 +25,6 @@ gathered_first first old text lines g =
     let front : g.taken ≡ take (length g.taken) lines = sym (take-append_seam g.taken text) ∙ ap (λ (xs : List ℕ). take (length g.taken) xs) g.joined in
     (length g.taken, g.bytes ∙ ap (λ (xs : List ℕ). first.bytes ++ xs) front)
 
--- no memory for a line, before anything of it was written
-pub memory_err : {U : Type 0} (r : Result U ShowFault) (Q : ShowFault → Type 0) (s : Said) (text : List ℕ) → IsErrAnd r Q → ((e : ShowFault) → Q e → e ≡ Memory)
-    → IfErr r (λ fault. IsFrontWritten fault s s text)
-memory_err (Ok u) Q s text is q = tt
-memory_err (Err e) Q s text is q = subst (λ (f : ShowFault). IsFrontWritten f s s text) (sym (q e is)) (refl, (0, sym (append-nil s.bytes)))
-
 -- some more was added to what is gathered, and perhaps written
 pub gathered_more : (first old new : Said) (text next lines line whole : List ℕ) → AreGathered first old text lines → AreGathered old new next (text ++ line) → whole ≡ lines ++ line
     → AreGathered first new next whole
@@ -74,6 +68,20 @@ lines_from offset (w ∷ views) v n e =
 -- one more line
 pub lines_more : (bytes : List ℕ) (offset : ℕ) (views : List View) (v : View) → AreViews bytes offset views → record_lines 0 (views ++ v ∷ []) ≡ record_lines 0 views ++ record_line offset v
 lines_more bytes offset views v shown = lines_from 0 views v offset (omega (arith, shown.offset_is))
+
+-- a line was added to what is gathered
+pub gathered_line : (first old : Said) (text added bytes : List ℕ) (offset : ℕ) (views : List View) (v : View) → AreViews bytes offset views → AreGathered first old text (record_lines 0 views)
+    → added ≡ text ++ record_line offset v → AreGathered first old added (record_lines 0 (views ++ v ∷ []))
+gathered_line first old text added bytes offset views v shown before e =
+    let line : List ℕ = record_line offset v in
+    let one : AreGathered old old added (text ++ line) = subst (λ (xs : List ℕ). AreGathered old old added xs) e (gathered_all old added) in
+    gathered_more first old old text added (record_lines 0 views) line (record_lines 0 (views ++ v ∷ [])) before one (lines_more bytes offset views v shown)
+
+-- what is gathered was written
+pub gathered_written : (first old new : Said) (text rest lines : List ℕ) → AreGathered first old text lines → new.bytes ≡ old.bytes ++ text → rest ≡ [] → AreGathered first new rest lines
+gathered_written first old new text rest lines before written none =
+    let all : AreGathered old new rest (text ++ []) = record { taken = text; bytes = written; joined = ap (λ (xs : List ℕ). text ++ xs) none } in
+    gathered_more first old new text rest lines [] lines before all (sym (append-nil lines))
 
 -- a fault before which a front of the lines was written
 pub cut_short : (fault : ShowFault) (h : Heard) (first old new : Said) (text lines line : List ℕ) (offset : ℕ) (views : List View) → AreViews h.bytes offset views → old.failures ≡ first.failures

@@ -1,10 +1,13 @@
 -- What was written of a listing, and what is gathered of it.
-use Rattle.std.specs.Prelude.{◌≡◌, ℕ, ◌+◌, List, ◌++◌, length, Option, Result, Ok, Err}
+use Rattle.std.specs.Prelude.{◌≡◌, ℕ, ◌+◌, ◌<◌, List, [], ◌∷◌, ◌++◌, length, Option, Result, Ok, Err}
 use Rattle.mseed_record.specs.View.{View}
 use Rattle.mseed_stream.specs.Device.{Heard, Said}
 use Rattle.mseed_stream.specs.declared.fault.StreamFault.{StreamFault}
-use Rattle.mseed.specs.Listing.{record_lines}
-use Rattle.mseed_stream.specs.Walk.{AreAllViews}
+use Rattle.mseed.specs.Listing.{record_line, record_lines}
+use Rattle.mseed_stream.specs.Standing.{Standing}
+use Rattle.mseed_stream.specs.Walk.{AreAllViews, AreViews, HasHandedOut}
+use Rattle.mseed.specs.declared.show.Step.{Step}
+use Rattle.mseed.specs.declared.show.Step.TheVariants.{Listed, Ended}
 use Rattle.mseed.specs.Show.{IsShown, TookFirst, TookPart}
 use Rattle.mseed.specs.declared.ending.ShowFault.{ShowFault}
 use Rattle.mseed.specs.declared.ending.ShowFault.TheVariants.{Write, Memory}
@@ -19,6 +22,19 @@ pub record AreGathered (old new : Said) (gathered text : List ℕ) : Type 0 wher
   pub taken : List ℕ
   pub bytes : new.bytes ≡ old.bytes ++ taken
   pub joined : taken ++ gathered ≡ text
+
+-- a record more was handed out than these, and its line was added
+pub record IsOneMore (views : List View) (offset : ℕ) (old new : Heard) (c : Standing) (text added : List ℕ) : Type 0 where
+  pub view : View
+  pub handed : HasHandedOut new c (views ++ view ∷ [])
+  pub asked : old.calls < new.calls
+  pub line : added ≡ text ++ record_line offset view
+
+-- What comes next of an input, behind these records: one more, its end, so that they are all, or a want of memory.
+abbrev pub IsNext : Result Step ShowFault → List View → ℕ → Heard → Heard → Standing → List ℕ → List ℕ → Type 0
+IsNext (Ok Listed) views offset old new c text added = IsOneMore views offset old new c text added
+IsNext (Ok (Ended end)) views offset old new c text added = AreAllViews new views end × (added ≡ text)
+IsNext (Err fault) views offset old new c text added = (fault ≡ Memory) × AreViews new.bytes offset views
 
 -- the lines of the records up to the end were written or are gathered
 pub record HasLines (records : ℕ) (end : Option StreamFault) (h : Heard) (old new : Said) (text : List ℕ) (views : List View) : Type 0 where

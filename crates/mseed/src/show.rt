@@ -1,21 +1,31 @@
 //! The listing of an input's records.
-ghost use Rattle.std.specs.Prelude.{◌≡◌, ◌++◌, ◌+◌, ◌<◌, List, ℕ, [], length, IfErr, OnErr, OnOk, IfOk, Option, Result};
-ghost use Rattle.mseed_record.specs.Viewing.{view_of};
-ghost use Rattle.mseed_stream.specs.Device.{nothing_heard, IsFrontOf};
-ghost use Rattle.mseed.specs.Listing.{record_line, count_line};
+ghost use Rattle.std.specs.Prelude.{◌≡◌, ◌++◌, List, [], IfErr, OnOk};
+ghost use Rattle.mseed_record.specs.View.{View};
+ghost use Rattle.mseed_stream.specs.Cutting.{IsAlong};
+ghost use Rattle.mseed_stream.specs.Device.{nothing_heard};
+ghost use Rattle.mseed_stream.specs.Walk.{HasHandedOut};
+ghost use Rattle.mseed.specs.Listing.{count_line};
 ghost use Rattle.mseed_audit.specs.Text.{end_line};
 ghost use Rattle.mseed.specs.Show.{IsShown};
-ghost use Rattle.mseed.specs.Gathering.{AreGathered, IsFrontWritten, IsListing};
+ghost use Rattle.mseed.specs.Gathering.{IsFrontWritten, IsListing, IsNext};
 
 use crate::ending::ShowFault;
 use crate::listing::{push_count_line, push_record_line};
 use mseed_audit::push_fault_line;
-use mseed_record::RecordView;
 use mseed_stream::{Cutter, Sink, Source, StreamFault, write_all_of};
 use std::alloc::Allocator;
 
 /// So many bytes of text are gathered before they are written.
 const GATHERED: usize = 1 << 16;
+
+/// What comes next of an input.
+#[derive(Clone, Copy, Debug)]
+pub(crate) enum Step {
+    /// A record, whose line was added.
+    Listed,
+    /// Its end, by the fault, if by one.
+    Ended(Option<StreamFault>),
+}
 
 /// Lists the records of the input, a line for each, and answers with what fault it ended, if with any.
 ///
@@ -51,35 +61,43 @@ fn list<A: Allocator + Copy, R: Source, W: Sink>(
     let mut cutter = Cutter::new(alloc);
     let mut records = 0;
     'records: loop {
-        let offset = cutter.offset();
-        match cutter.next(input) {
-            Ok(Some(view)) => list_record(output, text, offset, &view)?,
-            Ok(None) => return Ok((records, None)),
-            Err(StreamFault::Memory) => return Err(ShowFault::Memory),
-            Err(fault) => return Ok((records, Some(fault))),
+        match push_next(&mut cutter, input, text)? {
+            Step::Listed => records += 1,
+            Step::Ended(end) => return Ok((records, end)),
         }
-        records += 1;
+        if text.len() >= GATHERED {
+            write_out(output, text)?;
+        }
     }
 }
 
-/// Adds a record's line, and writes what was gathered once there is much of it.
-fn list_record<A: Allocator, W: Sink>(
-    output: &mut W,
+/// Adds the next record's line, or answers how the input ends. A record that the input holds whole isn't copied.
+fn push_next<A: Allocator, R: Source>(
+    cutter: &mut Cutter<A>,
+    input: &mut R,
     text: &mut Vec<u8, A>,
-    offset: u64,
-    view: &RecordView,
-) -> Result<(), ShowFault>
-    ensures ok { OnOk result (AreGathered (W.said output.old) (W.said output.new) text.new.items
-        (text.old.items ++ record_line offset (view_of view.now))) }
-    ensures fine { OnOk result ((W.said output.new).failures ≡ (W.said output.old).failures) }
-    ensures err { IfErr result (λ fault. IsFrontWritten fault (W.said output.old) (W.said output.new)
-        (text.old.items ++ record_line offset (view_of view.now))) }
+) -> Result<Step, ShowFault>
+    requires { IsAlong (R.heard input.old) cutter.old }
+    ensures { (views : List View) → HasHandedOut (R.heard input.old) cutter.old views
+        → IsNext result views cutter.old.offset (R.heard input.old) (R.heard input.new) cutter.new text.old.items
+        text.new.items }
 {
-    push_record_line(text, offset, view)?;
-    if text.len() >= GATHERED {
-        write_out(output, text)?;
+    let offset = cutter.offset();
+    if let Some(view) = cutter.peek(input) {
+        push_record_line(text, offset, &view)?;
+        let size = view.bytes().len();
+        cutter.pass(input, size);
+        return Ok(Step::Listed);
     }
-    Ok(())
+    match cutter.next(input) {
+        Ok(Some(view)) => {
+            push_record_line(text, offset, &view)?;
+            Ok(Step::Listed)
+        }
+        Ok(None) => Ok(Step::Ended(None)),
+        Err(StreamFault::Memory) => Err(ShowFault::Memory),
+        Err(fault) => Ok(Step::Ended(Some(fault))),
+    }
 }
 
 /// Adds the lines at the end.
