@@ -39,7 +39,7 @@ use std::process::ExitCode;
 use std::{env, io};
 
 /// So many bytes of the input are read at once.
-const ROOM: usize = 1 << 19;
+const ROOM: usize = 1 << 17;
 
 fn main(rt: HostRuntime) -> ExitCode {
     let mut errors = Counted::new(rt.stderr());
