@@ -41,6 +41,13 @@ took_front a b c xs ys n p q = record {
   failures = q.failures ∙ ap (λ f. f + 1) p.failures;
 }
 
+-- What a sink took, said of an equal list.
+pub took_as : (a b : Said) (xs ys : List ℕ) → b.bytes ≡ a.bytes ++ xs → b.failures ≡ a.failures → xs ≡ ys → Took a b ys
+took_as a b xs ys bytes fine same = subst (Took a b) same (record { bytes = bytes; failures = fine })
+
+pub took_front_as : (a b : Said) (xs ys : List ℕ) (n : ℕ) → b.bytes ≡ a.bytes ++ take n xs → n < length xs → b.failures ≡ a.failures + 1 → xs ≡ ys → TookFront a b ys n
+took_front_as a b xs ys n bytes within failed same = subst (λ zs. TookFront a b zs n) same (record { bytes = bytes; part = within; failures = failed })
+
 takes_none : (old : Said) → TakesRecords [] old old
 takes_none old = all (took_none old)
 

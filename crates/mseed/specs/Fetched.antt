@@ -1,5 +1,5 @@
 -- How fetching over one link after another ends, and what the output took by then.
-use Rattle.std.specs.Prelude.{◌≡◌, ◌⊎◌, ℕ, ◌+◌, ◌%◌, ◌^◌, ◌<◌, ◌≤◌, List, ◌∷◌, ◌++◌, [], length, Option, Some, None, Result, Ok, Err, codes}
+use Rattle.std.specs.Prelude.{◌≡◌, ◌⊎◌, ℕ, ◌+◌, ◌%◌, ◌^◌, ◌<◌, ◌≤◌, List, ◌∷◌, ◌++◌, [], length, Option, Some, None, Result, Ok, Err, IfOk, IfErr, codes}
 use Rattle.mseed_stream.specs.Device.{Heard, IsFrontOf, Said}
 use Rattle.slink_feed.specs.declared.dialogue.Ending.{Ending}
 use Rattle.slink_feed.specs.declared.dialogue.Ending.TheVariants as endings
@@ -13,7 +13,7 @@ use Rattle.slink_feed.specs.declared.turn.Turn.{Turn}
 use Rattle.slink_feed.specs.declared.turn.Turn.TheVariants as turns
 use Rattle.slink_feed.specs.Delivered.{Numbered}
 use Rattle.slink_feed.specs.Dialogue.{Talk, Wants, next_at, says_place}
-use Rattle.slink_feed.specs.Fetching.{ReadsOn}
+use Rattle.slink_feed.specs.Fetching.{Fetches, Fetching, IsFetchFault, ReadsOn, fetching, line_said}
 use Rattle.slink_feed.specs.Listening.{IsLinked, Listening, Reads}
 use Rattle.slink_feed.specs.Told.{HasTold, bytes_in, numbers_at, records_told}
 use Rattle.slink_feed.specs.Turns.{Took, TookFront}
@@ -158,3 +158,34 @@ pub record HasReadLink (old new : Listening) (heard_old heard_new : Heard) (said
   pub told : List Event
   pub reads : Reads begun.talk bytes told new
   pub took : TakesRecords (records_told told) said_old said_new
+
+-- A turn was taken with a link, by which the fetch ends so, or goes on.
+pub record IsTurnBy (end : Option FetchEnd) (old new : Fetching) (before after : Heard) : Type 0 where
+  pub turn : Result Turn LinkFault
+  pub goes : IfOk turn (λ t. Fetches old new before after t)
+  pub fails : IfErr turn (λ fault. IsFetchFault fault old new before after)
+  pub ends : end ≡ end_by turn
+
+-- So many turns were taken with a link, and the fetch goes on behind each.
+pub data HasTakenTurns (first : Fetching) (before : Heard) : ℕ → Fetching → Heard → Type 0 where
+  none : HasTakenTurns first before 0 first before
+  more : (n : ℕ) (now new : Fetching) (mid after : Heard) → HasTakenTurns first before n now mid
+      → IsTurnBy None now new mid after → HasTakenTurns first before (n + 1) new after
+
+-- Turns were taken up to the one by which the fetch ends so; or 2^40 of them.
+pub data HasTakenAll (first : Fetching) (before : Heard) : FetchEnd → Fetching → Heard → Type 0 where
+  to_the_end : (end : FetchEnd) (n : ℕ) (now last : Fetching) (mid after : Heard) → n < 2 ^ 40 → HasTakenTurns first before n now mid
+      → IsTurnBy (Some end) now last mid after → HasTakenAll first before end last after
+  for_long : (last : Fetching) (after : Heard) → HasTakenTurns first before (2 ^ 40) last after → HasTakenAll first before LinkFailed last after
+
+-- A client begins on a link by this line, and nothing is kept of the link before.
+pub record Begins (old begun : Listening) (line : Event) : Type 0 where
+  pub says : says_place 0 old.talk ≡ (begun.talk, line)
+  pub kept : begun.kept ≡ []
+
+-- The line was written to the link, and turns were taken; or the link failed within the line, and wasn't read.
+pub data IsFetchedOver (old : Fetching) (before : Heard) : FetchEnd → Fetching → Heard → Type 0 where
+  by_turns : (end : FetchEnd) (begun : Listening) (line : Event) (said : Said) (new : Fetching) (after : Heard) → Begins old.client begun line
+      → Took old.said said (line_said line) → HasTakenAll (fetching begun said old.output) before end new after → IsFetchedOver old before end new after
+  unsaid : (begun : Listening) (line : Event) (said : Said) (count : ℕ) → Begins old.client begun line
+      → TookFront old.said said (line_said line) count → IsFetchedOver old before LinkFailed (fetching begun said old.output) before

@@ -2,9 +2,10 @@
 ghost use Rattle.std.specs.Prelude.{◌≡◌, ◌+◌, ◌≤◌};
 ghost use Rattle.slink_feed.specs.declared.dialogue.Ending.{Ending};
 ghost use Rattle.slink_feed.specs.declared.dialogue.Stage.{Stage};
+ghost use Rattle.slink_feed.specs.Fetching.{fetching};
 ghost use Rattle.slink_feed.specs.Listening.{IsLinked};
 ghost use Rattle.mseed.specs.Fetched.{HasDialled, HasFetched, HasReadLink, HasTurned, IsReading, TellsOfFetch};
-ghost use Rattle.mseed.specs.Fetched.{end_by, fetch_status, stopped_by};
+ghost use Rattle.mseed.specs.Fetched.{HasTakenAll, IsFetchedOver, IsTurnBy, end_by, fetch_status, stopped_by};
 
 use crate::command::tell;
 use crate::dial::Dial;
@@ -92,6 +93,9 @@ pub fn fetch_link<S: Duplex, W: Sink>(client: &mut Client, link: &mut S, output:
     ensures fetched { HasFetched result client.old client.new (W.said output.old) (W.said output.new) }
     ensures read { HasReadLink client.old client.new (S.heard link.old) (S.heard link.new) (W.said output.old)
         (W.said output.new) }
+    // The client's first line was written, and then turns were taken, up to the one by which the fetch ends so.
+    ensures turns { IsFetchedOver (fetching client.old (S.said link.old) (W.said output.old)) (S.heard link.old) result
+        (fetching client.new (S.said link.new) (W.said output.new)) (S.heard link.new) }
 {
     let line = client.connect();
     match write_all_of(link, line.as_slice()) {
@@ -104,8 +108,10 @@ pub fn fetch_link<S: Duplex, W: Sink>(client: &mut Client, link: &mut S, output:
 fn take_turns<S: Duplex, W: Sink>(client: &mut Client, link: &mut S, output: &mut W) -> FetchEnd
     requires reading { IsReading client.old }
     requires linked { IsLinked client.old.talk.stage }
-    ensures { HasTurned (Some result) client.old client.new (S.heard link.old) (S.heard link.new) (W.said output.old)
-        (W.said output.new) }
+    ensures turned { HasTurned (Some result) client.old client.new (S.heard link.old) (S.heard link.new)
+        (W.said output.old) (W.said output.new) }
+    ensures taken { HasTakenAll (fetching client.old (S.said link.old) (W.said output.old)) (S.heard link.old) result
+        (fetching client.new (S.said link.new) (W.said output.new)) (S.heard link.new) }
 {
     for turn in 0..TURNS {
         if let Some(end) = take_turn(client, link, output) {
@@ -123,8 +129,10 @@ fn take_turn<S: Duplex, W: Sink>(
 ) -> Option<FetchEnd>
     requires reading { IsReading client.old }
     requires linked { IsLinked client.old.talk.stage }
-    ensures { HasTurned result client.old client.new (S.heard link.old) (S.heard link.new) (W.said output.old)
+    ensures turned { HasTurned result client.old client.new (S.heard link.old) (S.heard link.new) (W.said output.old)
         (W.said output.new) }
+    ensures by { IsTurnBy result (fetching client.old (S.said link.old) (W.said output.old))
+        (fetching client.new (S.said link.new) (W.said output.new)) (S.heard link.old) (S.heard link.new) }
 {
     let turn = fetch_turn(client, link, output);
     end_by(&turn)
