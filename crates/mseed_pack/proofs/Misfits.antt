@@ -7,6 +7,7 @@ use Rattle.std.proofs.lemmas.List.{nil_from_length, length-take-le, take-take, g
 use Rattle.std.proofs.lemmas.List.Elements.{All-from_get_or, All-get_or, All-more, All-take}
 use native.Mathlib.Numerals.{unary_clauses}
 use Rattle.mseed_steim.specs.Spelling.{IsWithin}
+use Rattle.mseed_pack.specs.Filling.{IsUnder}
 use Rattle.mseed_pack.specs.Fitting.{IsDifferenceOf}
 use Rattle.mseed_pack.specs.Stretches.{differences}
 use Rattle.mseed_pack.specs.declared.options.Encoding.{Encoding}
@@ -51,18 +52,18 @@ pub near_differences : (e : Encoding) (xs : List ℤ) → All (IsWithin 29) xs �
 near_differences e xs near =
     All-from_get_or (IsDifferenceOf e) (differences xs) (pos 0) (λ k h. near_at e xs near k (omega (arith, h, length-differences xs)))
 
--- whether all samples so far are such ones, with one more that isn't
-pub near_not : (xs : List ℤ) (i : ℕ) → i < length xs → ¬ (IsWithin 29 (get_or xs i (pos 0))) → IsTrue false ↔ All (IsWithin 29) (take (i + 1) xs)
-near_not xs i h far = (
+-- whether all samples so far are under a limit, with one more that isn't
+pub near_not : (limit : ℤ) (xs : List ℤ) (i : ℕ) → i < length xs → ¬ (IsUnder limit (get_or xs i (pos 0))) → IsTrue false ↔ All (IsUnder limit) (take (i + 1) xs)
+near_not limit xs i h far = (
   λ e. absurd (false≢true e),
   λ all.
       let long : i < length (take (i + 1) xs) = rw (length-take-le (i + 1) xs (omega (arith, h))) (omega arith) in
-      absurd (far (rw (get_or-take (i + 1) xs i (pos 0) (omega arith)) at (All-get_or (IsWithin 29) (take (i + 1) xs) i (pos 0) long all))),
+      absurd (far (rw (get_or-take (i + 1) xs i (pos 0) (omega arith)) at (All-get_or (IsUnder limit) (take (i + 1) xs) i (pos 0) long all))),
 )
 
 -- or that is
-pub near_more : (near : Bool) (xs : List ℤ) (i : ℕ) → i < length xs → IsWithin 29 (get_or xs i (pos 0)) → IsTrue near ↔ All (IsWithin 29) (take i xs) → IsTrue near ↔ All (IsWithin 29) (take (i + 1) xs)
-near_more near xs i h one before = (
-  λ e. All-more (IsWithin 29) xs i (pos 0) h (before.0 e) one,
-  λ all. before.1 (rw (take-take i (i + 1) xs (omega arith)) at (All-take (IsWithin 29) i (take (i + 1) xs) all)),
+pub near_more : (limit : ℤ) (near : Bool) (xs : List ℤ) (i : ℕ) → i < length xs → IsUnder limit (get_or xs i (pos 0)) → IsTrue near ↔ All (IsUnder limit) (take i xs) → IsTrue near ↔ All (IsUnder limit) (take (i + 1) xs)
+near_more limit near xs i h one before = (
+  λ e. All-more (IsUnder limit) xs i (pos 0) h (before.0 e) one,
+  λ all. before.1 (rw (take-take i (i + 1) xs (omega arith)) at (All-take (IsUnder limit) i (take (i + 1) xs) all)),
 )

@@ -1,5 +1,5 @@
 -- Steps of filling a payload.
-use Rattle.std.specs.Prelude.{◌≡◌, ℕ, ◌+◌, ◌-◌, ◌*◌, ◌^◌, ◌<◌, ◌≤◌, List, length, slice_index_or, ℤ, pos}
+use Rattle.std.specs.Prelude.{◌≡◌, ℕ, ◌+◌, ◌-◌, ◌*◌, ◌^◌, ◌<◌, ◌≤◌, List, length, slice_index_or, ℤ, pos, neg_ℤ, ◌≤ℤ◌, ◌<ℤ◌}
 use Rattle.byteorder.specs.Endian.{big_bytes}
 use Rattle.mseed_steim.specs.Spelling.{residue}
 use Rattle.mseed_pack.specs.declared.integers.Width.{Width}
@@ -37,3 +37,7 @@ pub record HoldsDifferences (samples : List ℤ) (window : Window) : Type 0 wher
   pub inside : window.end ≤ length samples
   pub few : window.end ≤ window.first + 7056
   pub each : (k : ℕ) → k < window.end - window.first → slice_index_or window.differences k (pos 0) ≡ slice_index_or (differences samples) (window.first + k) (pos 0)
+
+-- a number less than a limit, and no less than its negative
+abbrev pub IsUnder : ℤ → ℤ → Type 0
+IsUnder limit z = (neg_ℤ limit ≤ℤ z) × (z <ℤ limit)

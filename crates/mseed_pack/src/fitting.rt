@@ -1,6 +1,6 @@
 //! Whether a series can be packed.
 ghost use Rattle.std.specs.Prelude.{◌≡◌, ◌↔◌, ◌<◌, ◌≤◌, ◌*◌, ℕ, IsTrue, OnOk, IfErr, IfSome, IfNone, None, All};
-ghost use Rattle.std.specs.Prelude.{length, pos, slice_index_or, ◌^◌, nat_abs, ◌+ℤ◌, ◌-ℤ◌, ◌≢◌, FitsSigned};
+ghost use Rattle.std.specs.Prelude.{length, pos, slice_index_or, ◌^◌, nat_abs, ◌+ℤ◌, ◌-ℤ◌, ◌<ℤ◌, ◌≢◌, FitsSigned};
 ghost use Rattle.std.specs.Int.{w16};
 ghost use Rattle.mseed_time.specs.Btime.{IsInstant};
 ghost use Rattle.mseed_time.specs.Naming.{IsOutside};
@@ -8,10 +8,10 @@ ghost use Rattle.mseed_time.specs.Ratios.{ratio_of};
 ghost use Rattle.mseed_audit.specs.Series.{AreSteps};
 ghost use Rattle.mseed_pack.specs.Clock.{periods, reading_at};
 ghost use Rattle.mseed_pack.specs.Stretches.{differences};
+ghost use Rattle.mseed_pack.specs.Filling.{IsUnder};
 ghost use Rattle.mseed_pack.specs.Fitting.{Fits, IsDifferenceOf, IsFirstNot, IsMisfit, IsSampleOf};
 ghost use Rattle.mseed_pack.specs.Outcome.{IsTrace};
 ghost use Rattle.mseed_pack.specs.Traces.{trace_of};
-ghost use Rattle.mseed_steim.specs.Spelling.{IsWithin};
 
 use crate::clock::time_at;
 use crate::fault::PackFault;
@@ -24,6 +24,12 @@ use std::alloc::Allocator;
 
 /// The most samples a second, at which half a period is a microsecond.
 const FASTEST: u64 = 500_000;
+
+/// The first number that has more than 16 bits.
+const SHORT: i32 = 0x8000;
+
+/// The first number that has more than 29 bits.
+const NEAR: i32 = 0x1000_0000;
 
 /// Whether a series can be packed with these options.
 ///
@@ -164,6 +170,18 @@ fn first_large_sample(samples: &[i32], encoding: Encoding) -> Option<usize>
     ensures none { IfNone result (All (IsSampleOf encoding) samples.now) }
     ensures some { IfSome result (λ index. IsFirstNot (IsSampleOf encoding) samples.now index) }
 {
+    match encoding {
+        // All are looked at before one is looked for.
+        Encoding::Int16 if are_within(samples, SHORT) => None,
+        _ => find_large_sample(samples, encoding),
+    }
+}
+
+/// The same, sample by sample.
+fn find_large_sample(samples: &[i32], encoding: Encoding) -> Option<usize>
+    ensures none { IfNone result (All (IsSampleOf encoding) samples.now) }
+    ensures some { IfSome result (λ index. IsFirstNot (IsSampleOf encoding) samples.now index) }
+{
     for (index, sample) in samples.iter().enumerate() {
         if !is_sample(encoding, *sample) {
             return Some(index);
@@ -200,30 +218,32 @@ fn first_wide_difference(samples: &[i32], encoding: Encoding) -> Option<usize>
     ensures some { IfSome result (λ index. IsFirstNot (IsDifferenceOf encoding) (differences samples.now) index) }
 {
     // No two of such samples are too far apart for any encoding.
-    if are_near(samples) {
+    if are_within(samples, NEAR) {
         return None;
     }
     find_large_difference(samples, encoding)
 }
 
-/// Whether each sample has 29 bits at the most.
-fn are_near(samples: &[i32]) -> bool
-    ensures { IsTrue result ↔ All (IsWithin 29) samples.now }
+/// Whether each sample is less than a limit, and no less than its negative.
+fn are_within(samples: &[i32], limit: i32) -> bool
+    requires { pos 0 <ℤ limit }
+    ensures { IsTrue result ↔ All (IsUnder limit) samples.now }
 {
     let mut near = true;
     for sample in samples {
-        if !is_near(*sample) {
+        if !is_within(*sample, limit) {
             near = false;
         }
     }
     near
 }
 
-/// Whether a sample has 29 bits at the most.
-fn is_near(sample: i32) -> bool
-    ensures { IsTrue result ↔ IsWithin 29 sample }
+/// Whether a sample is.
+fn is_within(sample: i32, limit: i32) -> bool
+    requires { pos 0 <ℤ limit }
+    ensures { IsTrue result ↔ IsUnder limit sample }
 {
-    -0x1000_0000 <= sample && sample < 0x1000_0000
+    -limit <= sample && sample < limit
 }
 
 /// The same, sample by sample.
