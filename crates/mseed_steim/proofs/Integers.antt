@@ -17,7 +17,7 @@ use Rattle.mseed_steim.specs.Samples.{bytes_of, BeginsWith, IsChecked, IsPayload
 use Rattle.mseed_steim.proofs.Spelled.{signed_within, signed_residue}
 use Rattle.mseed_steim.proofs.Framed.{minus}
 
-number_lt : (order : Order) (w place : ℕ) (p : List ℕ) → ((i : ℕ) → get_or p i 0 < 256) → number_at order w place p < 256 ^ w
+pub number_lt : (order : Order) (w place : ℕ) (p : List ℕ) → ((i : ℕ) → get_or p i 0 < 256) → number_at order w place p < 256 ^ w
 number_lt Big w place p octets = big_from-lt place w p octets
 number_lt Little w place p octets = little_from-lt place w p octets
 
@@ -26,7 +26,7 @@ minus_all x zero h = absurd (omega arith)
 minus_all x (suc m) h = minus x m h ∙ ap negsuc (omega arith)
 
 -- two's complement of bytes is that of their bits
-signed_is : (w x : ℕ) → x < 2 ^ (8 * w) → twos_complement w x ≡ signed (8 * w) x
+pub signed_is : (w x : ℕ) → x < 2 ^ (8 * w) → twos_complement w x ≡ signed (8 * w) x
 signed_is w x small = ⊎_elim
     (λ (low : x < 2 ^ (8 * w - 1)). rw (lt-ltb x (2 ^ (8 * w - 1)) low) refl)
     (λ (high : 2 ^ (8 * w - 1) ≤ x). rw (le-ltb x (2 ^ (8 * w - 1)) high) (minus_all x (2 ^ (8 * w)) small))

@@ -90,7 +90,7 @@ record_fault_one v f g (in_payload a form d r p fault h) (in_payload b form' e r
     payload_fault_one form' (payload_of v) (count_of v) f g (subst (λ (x : Form). IsPayloadFault x (payload_of v) (count_of v) f) same h) h'
 
 -- two forms of one encoding
-same_payload : (v : View) (form : Form) (s : List ℤ) → form_of v.encoding ≡ Some form → IsReading v s → IsPayloadReading form v.payload_order (payload_of v) (count_of v) s
+pub same_payload : (v : View) (form : Form) (s : List ℤ) → form_of v.encoding ≡ Some form → IsReading v s → IsPayloadReading form v.payload_order (payload_of v) (count_of v) s
 same_payload v form s e a =
     let same : a.form ≡ form = cc (a.encoding, e) in
     subst (λ (x : Form). IsPayloadReading x v.payload_order (payload_of v) (count_of v) s) same a.spelled

@@ -38,3 +38,5 @@ pub mod OnePacking
 pub mod Widened
 pub mod ByteRun
 pub mod Unpacking
+pub mod Nearness
+pub mod Constants

@@ -13,5 +13,6 @@ pub mod Moves
 pub mod Samples
 pub mod Sums
 pub mod Reading
+pub mod Nearness
 pub mod Packing
 pub mod Rows

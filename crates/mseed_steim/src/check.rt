@@ -58,7 +58,7 @@ fn check_frames(payload: &[u8], scheme: Scheme, samples: usize) -> Result<Ends, 
 }
 
 /// The ends of so many integers.
-fn check_integers(
+pub(crate) fn check_integers(
     payload: &[u8],
     width: Width,
     order: Order,

@@ -58,7 +58,7 @@ impl<'a> Model for Words<'a> {
 }
 
 /// The code of a word, by its frame's codes.
-fn code_in(codes: u32, index: usize) -> u8
+pub(crate) fn code_in(codes: u32, index: usize) -> u8
     ensures value { result ≡ codes / 2 ^ (30 - 2 * (index % 16)) % 4 }
     ensures small { result < 4 }
 {

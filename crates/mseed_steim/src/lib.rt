@@ -5,6 +5,7 @@
 mod check;
 mod data_words;
 mod differences;
+mod ends;
 mod fault;
 mod form;
 mod frame;
@@ -29,6 +30,7 @@ mod word;
 
 pub use check::check_samples;
 pub use differences::{BadWordAt, Differences};
+pub use ends::{ends_of, is_surely_near};
 pub use fault::{Ends, ReadFault};
 pub use law::{one_fault, one_reading, reading_has_count};
 pub use pack::{Packed, TooLarge, TooLargeAt, least_words, pack_word, pack_words};

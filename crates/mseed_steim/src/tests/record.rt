@@ -1,6 +1,6 @@
 //! Records of 256 bytes, made of the parts that their samples hang on.
 
-use crate::{Ends, ReadFault, check_samples, fill_samples, read_samples};
+use crate::{Ends, ReadFault, check_samples, ends_of, fill_samples, read_samples};
 use mseed_record::RecordView;
 use std::alloc::Global;
 use std::process::Abort;
@@ -105,6 +105,7 @@ pub fn assert_record(
                 last: samples.last().copied().unwrap_or(0),
             };
             assert_eq!(rt; ends, Ok(found), "{name}");
+            assert_eq!(rt; ends_of(&view), found, "{name}");
         }
         Err(fault) => {
             assert_eq!(rt; Err(fault), wanted, "{name}");

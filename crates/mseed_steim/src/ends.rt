@@ -1,0 +1,161 @@
+//! What is known of a record's samples before they are read.
+
+ghost use Rattle.std.specs.Prelude.{◌≡◌, ◌≢◌, ◌<◌, ◌≤◌, ◌+◌, ◌-◌, ◌*◌, ◌/◌, ◌%◌, ◌^◌, ℕ, List, ℤ, IfOk, IfErr, length};
+ghost use Rattle.std.specs.Bool.{OnTrue};
+ghost use Rattle.byteorder.specs.Endian.{twos_complement};
+ghost use Rattle.mseed_time.specs.Fields.{number_at};
+ghost use Rattle.mseed_record.specs.Viewing.{view_of};
+ghost use Rattle.mseed_steim.specs.Frames.{word_at, word_count};
+ghost use Rattle.mseed_steim.specs.Nearness.{AreNear, IsNarrowAt, IsSurelyNear};
+ghost use Rattle.mseed_steim.specs.Reading.{count_of, IsFault, IsWhole};
+ghost use Rattle.mseed_steim.specs.Samples.{AreEnds, IsPayloadReading};
+ghost use Rattle.mseed_steim.specs.Spelling.{IsWithin};
+
+use crate::check::{check_integers, constants_of, payload_of};
+use crate::data_words::{FRAME, WORD, code_in, read_word};
+use crate::fault::{Ends, ReadFault};
+use crate::form::{Form, Width, integer_at};
+use crate::scheme::Scheme;
+use mseed_record::RecordView;
+use mseed_time::Order;
+
+/// The lower bits of the codes of a frame's words 1 to 15.
+const LOWER_BITS: u32 = 0x1555_5555;
+
+/// The first and the last of a record's samples, of which none is read: the record is known to have a reading that
+/// ends on its constants.
+pub fn ends_of(view: &RecordView<'_>) -> Ends
+    requires { (s : List ℤ) × IsWhole (view_of view.now) s }
+    ensures { (s : List ℤ) → IsWhole (view_of view.now) s → AreEnds result s }
+{
+    match find_ends(view) {
+        Ok(ends) => ends,
+        Err(_) => unreachable!(),
+    }
+}
+
+/// The ends of the record's reading, or why there is none.
+fn find_ends(view: &RecordView<'_>) -> Result<Ends, ReadFault>
+    requires { 0 < count_of (view_of view.now) }
+    ensures ends { IfOk result (λ ends. (s : List ℤ) → IsWhole (view_of view.now) s → AreEnds ends s) }
+    ensures fault { IfErr result (λ fault. IsFault (view_of view.now) fault) }
+{
+    let (form, payload) = match payload_of(view) {
+        Ok(found) => found,
+        Err(fault) => return Err(fault),
+    };
+    let samples = usize::from(view.samples());
+    match form {
+        Form::Integers(width) => { check_integers(payload, width, view.payload_order(), samples) }
+        Form::Frames(_) => match constants_of(payload) {
+            Some(ends) => Ok(ends),
+            None => Err(ReadFault::Short(0)),
+        },
+    }
+}
+
+/// Whether it shows, before a record's samples are read, that each is the one before it plus a difference of 30 bits:
+/// always in Steim-2, and of 16-bit integers; in Steim-1 where no word holds a wider difference; of 32-bit integers
+/// where each has 29 bits at the most.
+pub fn is_surely_near(view: &RecordView<'_>) -> bool
+    ensures { OnTrue result ((s : List ℤ) → IsWhole (view_of view.now) s → AreNear s) }
+{
+    let Ok((form, payload)) = payload_of(view) else {
+        return false;
+    };
+    let samples = usize::from(view.samples());
+    are_surely_near(form, view.payload_order(), payload, samples)
+}
+
+/// The same of so many samples of a payload.
+fn are_surely_near(form: Form, order: Order, payload: &[u8], samples: usize) -> bool
+    ensures { OnTrue result ((s : List ℤ) → IsPayloadReading form order payload.now samples s → AreNear s) }
+{
+    shows_near(form, order, payload, samples)
+}
+
+/// Whether the words or integers of a payload show it.
+fn shows_near(form: Form, order: Order, payload: &[u8], samples: usize) -> bool
+    ensures { OnTrue result (IsSurelyNear form order payload.now samples) }
+{
+    match form {
+        Form::Integers(Width::Two) | Form::Frames(Scheme::Two) => true,
+        Form::Integers(Width::Four) => are_short(payload, order, samples),
+        Form::Frames(Scheme::One) => are_narrow(payload),
+    }
+}
+
+/// Whether so many 32-bit integers are there, and have 29 bits at the most.
+fn are_short(payload: &[u8], order: Order, samples: usize) -> bool
+    ensures { OnTrue result ((i : ℕ) → i < samples
+        → IsWithin 29 (twos_complement 4 (number_at order 4 (4 * i) payload.now))) }
+{
+    if payload.len() / WORD < samples {
+        return false;
+    }
+    let mut short = true;
+    for index in 0..samples {
+        if !is_short(integer_at(payload, Width::Four, order, WORD * index)) {
+            short = false;
+        }
+    }
+    short
+}
+
+/// Whether a number has 29 bits at the most.
+fn is_short(number: i32) -> bool
+    ensures { OnTrue result (IsWithin 29 number) }
+{
+    -0x1000_0000 <= number && number < 0x1000_0000
+}
+
+/// Whether no Steim-1 word of the whole frames holds a difference of more than 30 bits.
+fn are_narrow(payload: &[u8]) -> bool
+    ensures { OnTrue result ((k : ℕ) → k < word_count payload.now → k % 16 ≢ 0 → IsNarrowAt payload.now k) }
+{
+    for frame in 0..payload.len() / (FRAME * WORD) {
+        if !is_frame_narrow(payload, frame) {
+            return false;
+        }
+    }
+    true
+}
+
+/// Whether none of a frame does.
+fn is_frame_narrow(payload: &[u8], frame: usize) -> bool
+    requires { 64 * (frame + 1) ≤ length payload.now }
+    ensures { OnTrue result ((k : ℕ) → 16 * frame < k → k < 16 * (frame + 1) → IsNarrowAt payload.now k) }
+{
+    let codes = read_word(payload, FRAME * frame);
+    has_no_code_3(codes) || are_words_narrow(payload, frame, codes)
+}
+
+/// Whether no word of a frame has the code 3, both bits of which are set.
+fn has_no_code_3(codes: u32) -> bool
+    ensures { OnTrue result ((j : ℕ) → 0 < j → j < 16 → codes / 2 ^ (30 - 2 * j) % 4 ≢ 3) }
+{
+    codes & (codes >> 1) & LOWER_BITS == 0
+}
+
+/// The same of a frame's words, each of which is looked at.
+#[cold]
+fn are_words_narrow(payload: &[u8], frame: usize, codes: u32) -> bool
+    requires inside { 64 * (frame + 1) ≤ length payload.now }
+    requires codes { codes ≡ word_at payload.now (16 * frame) }
+    ensures { OnTrue result ((k : ℕ) → 16 * frame < k → k < 16 * (frame + 1) → IsNarrowAt payload.now k) }
+{
+    for place in 1..FRAME {
+        let index = FRAME * frame + place;
+        if code_in(codes, index) == 3 && !is_narrow(read_word(payload, index).cast_signed()) {
+            return false;
+        }
+    }
+    true
+}
+
+/// Whether a difference has 30 bits at the most.
+fn is_narrow(difference: i32) -> bool
+    ensures { OnTrue result (IsWithin 30 difference) }
+{
+    -0x2000_0000 <= difference && difference < 0x2000_0000
+}
