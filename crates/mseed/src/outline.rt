@@ -16,7 +16,7 @@ ghost use Rattle.mseed.specs.Reading.{channel_in, samples_of, step_count, steps_
 use crate::reading::{is_of, put_step};
 use mseed_pack::Encoding;
 use mseed_record::{Codes, RecordView};
-use mseed_steim::{Ends, check_samples};
+use mseed_steim::{Ends, ends_of, is_surely_near};
 use mseed_time::LeapStep;
 
 /// Whether each sample of some records is near the one before it: by no more than a Steim-2 word can say.
@@ -106,17 +106,15 @@ fn nearness_with(before: Nearness, view: &RecordView) -> Nearness
     }
 }
 
-/// The first and the last sample of a sound record in Steim-2, whose samples are near one another.
+/// The first and the last sample of a sound record whose samples are surely near one another.
 fn near_ends(view: &RecordView) -> Option<Ends>
     requires { IsSound (view_of view.now) }
     ensures { IfSome result (λ ends. (s : List ℤ) → IsWhole (view_of view.now) s → AreEnds ends s × AreNear s) }
 {
-    if view.encoding() != Encoding::Steim2.code() {
-        return None;
-    }
-    match check_samples(view) {
-        Ok(ends) => Some(ends),
-        Err(_) => None,
+    if is_surely_near(view) {
+        Some(ends_of(view))
+    } else {
+        None
     }
 }
 
