@@ -3,6 +3,7 @@ pub mod Buffered
 pub mod Counted
 pub mod Cutting
 pub mod Device
+pub mod Exchanges
 pub mod Fault
 pub mod Split
 pub mod Standing

@@ -16,7 +16,7 @@ pub struct Counted<T> {
     pub(crate) inner: T,
     pub(crate) is_at_end: bool,
     pub(crate) reads: Tally,
-    writes: Tally,
+    pub(crate) writes: Tally,
 }
 
 impl<T> Counted<T> {

@@ -4,7 +4,7 @@
 //! the bytes that went through it, of the calls that were made and of those that failed, so that a
 //! contract can speak of a whole run over a device. [`Counted`] makes either of any reader or
 //! writer of `std::io`, and a [`Duplex`] of what does both. A [`Tally`] is such a record: whoever
-//! counts other calls for proofs keeps one too.
+//! counts other calls for proofs keeps one too. [`Exchanges`] are those of one link after another.
 //!
 //! A [`Cutter`] hands out the records of what a source tells, one by one, and [`split`] those of a
 //! slice. [`read_all`] and [`write_all_of`] are the plain loops over devices.
@@ -14,6 +14,7 @@ mod buffered;
 mod counted;
 mod cutter;
 mod device;
+mod exchanges;
 mod fault;
 mod law;
 mod slices;
@@ -24,6 +25,7 @@ pub use buffered::Buffered;
 pub use counted::Counted;
 pub use cutter::Cutter;
 pub use device::{Duplex, Failed, Sink, Source};
+pub use exchanges::Exchanges;
 pub use fault::StreamFault;
 pub use law::one_input;
 pub use slices::{split, split_in};
