@@ -1,7 +1,8 @@
 -- Turns with a link, one after another, and links one after another.
 use Rattle.std.proofs.Common.{◌≡◌, ◌⊎◌, ℕ, ◌+◌, ◌<◌, ◌≤◌, inl, inr, refl, sym, ap, subst, ◌∙◌, arith, List, [], ◌∷◌, ◌++◌, append_assoc, append-nil, length, length-append, take, Option, Some, None, Result, Ok, Err, IfOk, IfErr}
 use Rattle.std.proofs.Math.Seq.{take-append-add}
-use Rattle.mseed_stream.specs.Device.{Heard, IsFrontOf, Said}
+use Rattle.mseed_stream.specs.Device.{Heard, IsFrontOf, Said, nothing_heard}
+use Rattle.mseed_stream.specs.Exchanges.{Exchange, exchange}
 use Rattle.slink_feed.specs.declared.dialogue.Ending.{Ending}
 use Rattle.slink_feed.specs.declared.dialogue.Ending.TheVariants as endings
 use Rattle.slink_feed.specs.declared.dialogue.Event.{Event}
@@ -22,7 +23,7 @@ use Rattle.slink_feed.proofs.OneReading as one
 use Rattle.slink_feed.proofs.Telling.{bytes_both, records_both, told_both, told_far, told_link, told_none, wants_said}
 use Rattle.mseed.specs.declared.fetching.FetchEnd.{FetchEnd}
 use Rattle.mseed.specs.declared.fetching.FetchEnd.TheVariants.{Done, Refused, BadFeed, WriteFailed, LinkFailed}
-use Rattle.mseed.specs.Fetched.{AreTaken, HasFetched, HasReadLink, HasTurned, HaveMoved, IsReading, IsUnended, StandsAt, StandsBy, TakesRecords, all, but_last, end_by, failures_by}
+use Rattle.mseed.specs.Fetched.{AreTaken, HasFetched, HasReadEach, HasReadLink, HasReadLinks, HasTurned, HaveMoved, IsReading, IsUnended, StandsAt, StandsBy, TakesRecords, all, but_last, end_by, failures_by, over_none, over_one_more}
 
 -- What the output takes, one part after another.
 took_none : (old : Said) → Took old old []
@@ -417,3 +418,28 @@ fetched_both end a b c s t u p q =
       stands = stands_behind end a b c p.stands q.stands;
       failures = omega (arith, p.failures, q.failures);
     }
+
+-- no link given back yet
+pub reads_none : (now : Listening) (links : List Exchange) (said : Said) → HasReadEach now now links links said said
+reads_none now links said = record { links = []; given_back = sym (append-nil links); read = over_none now said }
+
+links_both : (a b c : Listening) (some others : List Exchange) (s t u : Said) → HasReadLinks a b some s t → HasReadLinks b c others t u → HasReadLinks a c (some ++ others) s u
+links_both _ _ c _ others _ _ u (over_none now said) q = q
+links_both _ _ c _ others _ _ u (over_one_more a now b link links s r t p ps) q = over_one_more a now c link (links ++ others) s r u p (links_both now b c links others r t u ps q)
+
+-- some and then others
+pub reads_both : (a b c : Listening) (before now after : List Exchange) (s t u : Said) → HasReadEach a b before now s t → HasReadEach b c now after t u → HasReadEach a c before after s u
+reads_both a b c before now after s t u p q = record {
+  links = p.links ++ q.links;
+  given_back = q.given_back ∙ (ap (λ xs. xs ++ q.links) p.given_back ∙ append_assoc before p.links q.links);
+  read = links_both a b c p.links q.links s t u p.read q.read;
+}
+
+-- a new link that was fetched over
+pub reads_one : (a b : Listening) (before after : List Exchange) (h h' : Heard) (said' : Said) (s t : Said) → h ≡ nothing_heard → HasReadLink a b h h' s t → after ≡ before ++ exchange h' said' ∷ []
+    → HasReadEach a b before after s t
+reads_one a b before after h h' said' s t unheard is given = record {
+  links = exchange h' said' ∷ [];
+  given_back = given;
+  read = over_one_more a b b (exchange h' said') [] s t t (subst (λ (x : Heard). HasReadLink a b x h' s t) unheard is) (over_none b t);
+}

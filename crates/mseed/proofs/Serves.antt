@@ -1,8 +1,10 @@
 -- Turns of a session with its link, one after another.
 use Rattle.std.specs.Prelude.{⊤}
-use Rattle.std.proofs.Common.{◌≡◌, ◌⊎◌, inl, inr, ℕ, ◌+◌, ◌<◌, ◌^◌, Bool, true, false, nat_lt, not, if◌then◌else◌, List, Result, Ok, Err, refl, sym, ap, subst, ◌∙◌, arith}
+use Rattle.std.proofs.Common.{◌≡◌, ◌⊎◌, inl, inr, ℕ, ◌+◌, ◌<◌, ◌^◌, Bool, true, false, nat_lt, not, if◌then◌else◌, List, ◌++◌, append_assoc, Result, Ok, Err, refl, sym, ap, subst, ◌∙◌, arith}
+use Rattle.std.proofs.lemmas.List.Elements.{All-append}
 use Rattle.std.specs.Result.{IsErrAnd, is_ok}
 use Rattle.mseed_stream.specs.Device.{Heard, Said, nothing_heard, nothing_said}
+use Rattle.mseed_stream.specs.Exchanges.{Exchange}
 use Rattle.slink_feed.specs.Attending.{Attends, IsServeFault, attending, is_closed, is_at_end, replies, at_send, at_read, at_reply}
 use Rattle.slink_feed.specs.Rounds.{Attending}
 use Rattle.slink_feed.specs.Serving.{Standing}
@@ -10,7 +12,7 @@ use Rattle.slink_feed.specs.Window.{Window}
 use Rattle.slink_feed.specs.declared.dialogue.Event.{Event}
 use Rattle.slink_feed.specs.declared.turn.LinkFault.{LinkFault}
 use Rattle.slink_feed.specs.declared.turn.Turn.{Turn}
-use Rattle.mseed.specs.Served.{HasTakenAll, HasTakenTurns, IsFresh, IsServed, has_failed, none, more, to_the_end, for_long, to_a_fault}
+use Rattle.mseed.specs.Served.{HasServedEach, HasTakenAll, HasTakenTurns, IsFresh, IsServed, WasServed, has_failed, none, more, to_the_end, for_long, to_a_fault}
 
 -- a session of its own has taken so many turns
 pub record IsServing (feed : List Window) (n : ℕ) (heard_old heard_now : Heard) (said_old said_now : Said) (now : Standing) : Type 0 where
@@ -119,3 +121,22 @@ served_by_err feed (Err e) Q fault h h' s s' is q p = subst (λ (f : LinkFault).
 pub lost_by : (fine : Bool) → ◌≡◌ {A = ℕ} (if not fine then 1 else 0) (if fine then 0 else 1)
 lost_by true = refl
 lost_by false = refl
+
+-- some and then others
+pub each_both : (feed : List Window) (a b c : List Exchange) → HasServedEach feed a b → HasServedEach feed b c → HasServedEach feed a c
+each_both feed a b c p q = record {
+  links = p.links ++ q.links;
+  given_back = q.given_back ∙ (ap (λ xs. xs ++ q.links) p.given_back ∙ append_assoc a p.links q.links);
+  served = All-append (WasServed feed) p.links q.links p.served q.served;
+}
+
+-- one more failed, whether one had failed before or not
+pub fails_more : (was result : Bool) (a b c : ℕ) → (was ≡ true → b ≡ a) → (was ≡ false → a < b) → result ≡ false → c ≡ b + (if result then 0 else 1) → a < c
+fails_more was true a b c fine failed is e = absurd (let bad : true ≡ false = is in cc bad)
+fails_more true false a b c fine failed is e = omega (arith, fine refl, e)
+fails_more false false a b c fine failed is e = omega (arith, failed refl, e)
+
+-- and where this one didn't fail
+pub fails_still : (was now result : Bool) (a b c : ℕ) → (was ≡ true → b ≡ a) → (was ≡ false → a < b) → now ≡ was → result ≡ true → c ≡ b + (if result then 0 else 1) → (now ≡ true → c ≡ a) × (now ≡ false → a < c)
+fails_still was now false a b c fine failed same is e = absurd (let bad : false ≡ true = is in cc bad)
+fails_still was now true a b c fine failed same is e = ((λ yes. omega (arith, e, fine (sym same ∙ yes))), (λ no. omega (arith, e, failed (sym same ∙ no))))

@@ -1,6 +1,7 @@
 -- How fetching over one link after another ends, and what the output took by then.
 use Rattle.std.specs.Prelude.{◌≡◌, ◌⊎◌, ℕ, ◌+◌, ◌%◌, ◌^◌, ◌<◌, ◌≤◌, List, ◌∷◌, ◌++◌, [], length, Option, Some, None, Result, Ok, Err, IfOk, IfErr, codes}
-use Rattle.mseed_stream.specs.Device.{Heard, IsFrontOf, Said}
+use Rattle.mseed_stream.specs.Device.{Heard, IsFrontOf, Said, nothing_heard}
+use Rattle.mseed_stream.specs.Exchanges.{Exchange}
 use Rattle.slink_feed.specs.declared.dialogue.Ending.{Ending}
 use Rattle.slink_feed.specs.declared.dialogue.Ending.TheVariants as endings
 use Rattle.slink_feed.specs.declared.dialogue.Event.{Event}
@@ -189,3 +190,15 @@ pub data IsFetchedOver (old : Fetching) (before : Heard) : FetchEnd → Fetching
       → Took old.said said (line_said line) → HasTakenAll (fetching begun said old.output) before end new after → IsFetchedOver old before end new after
   unsaid : (begun : Listening) (line : Event) (said : Said) (count : ℕ) → Begins old.client begun line
       → TookFront old.said said (line_said line) count → IsFetchedOver old before LinkFailed (fetching begun said old.output) before
+
+-- One link after another was fetched over, each from its first byte on.
+pub data HasReadLinks : Listening → Listening → List Exchange → Said → Said → Type 0 where
+  over_none : (now : Listening) (said : Said) → HasReadLinks now now [] said said
+  over_one_more : (old now new : Listening) (link : Exchange) (links : List Exchange) (a b c : Said) → HasReadLink old now nothing_heard link.heard a b
+      → HasReadLinks now new links b c → HasReadLinks old new (link ∷ links) a c
+
+-- Some links were given back behind those before, and these were fetched over in turn.
+pub record HasReadEach (old new : Listening) (before after : List Exchange) (said_old said_new : Said) : Type 0 where
+  pub links : List Exchange
+  pub given_back : after ≡ before ++ links
+  pub read : HasReadLinks old new links said_old said_new

@@ -1,6 +1,7 @@
 -- How serving one connection after another ends.
-use Rattle.std.specs.Prelude.{⊤, ◌≡◌, ℕ, ◌+◌, ◌<◌, ◌^◌, nat_lt, Bool, List, [], replicate, None, Result, Ok, Err, codes}
-use Rattle.mseed_stream.specs.Device.{Heard, Said}
+use Rattle.std.specs.Prelude.{⊤, ◌≡◌, ℕ, ◌+◌, ◌<◌, ◌^◌, nat_lt, Bool, List, [], ◌++◌, All, replicate, None, Result, Ok, Err, codes}
+use Rattle.mseed_stream.specs.Device.{Heard, Said, nothing_heard, nothing_said}
+use Rattle.mseed_stream.specs.Exchanges.{Exchange}
 use Rattle.slink_wire.specs.Lines.{IsHeld}
 use Rattle.slink_feed.specs.Attending.{Attends, IsServeFault, attending}
 use Rattle.slink_feed.specs.Rounds.{Attending}
@@ -42,6 +43,16 @@ pub record IsServed (feed : List Window) (result : Result ⊤ LinkFault) (heard_
   pub fresh : IsFresh first
   pub last : Standing
   pub turns : HasTakenAll feed (attending first said_old) heard_old result (attending last said_new) heard_new
+
+-- A link was served from its first byte on.
+abbrev pub WasServed : List Window → Exchange → Type 0
+WasServed feed link = (result : Result ⊤ LinkFault) × IsServed feed result nothing_heard link.heard nothing_said link.said
+
+-- Some links were given back behind those before, and each of them was served.
+pub record HasServedEach (feed : List Window) (before after : List Exchange) : Type 0 where
+  pub links : List Exchange
+  pub given_back : after ≡ before ++ links
+  pub served : All (WasServed feed) links
 
 -- the exit status, and what standard error took
 pub data HasServed (status : ℕ) (told_old told_new : Said) : Type 0 where

@@ -1,11 +1,12 @@
 //! Fetching records over one link after another.
-ghost use Rattle.std.specs.Prelude.{◌≡◌, ◌+◌, ◌≤◌};
+ghost use Rattle.std.specs.Prelude.{◌≡◌, ◌+◌, ◌≤◌, length};
 ghost use Rattle.slink_feed.specs.declared.dialogue.Ending.{Ending};
 ghost use Rattle.slink_feed.specs.declared.dialogue.Stage.{Stage};
 ghost use Rattle.slink_feed.specs.Fetching.{fetching};
 ghost use Rattle.slink_feed.specs.Listening.{IsLinked};
-ghost use Rattle.mseed.specs.Fetched.{HasDialled, HasFetched, HasReadLink, HasTurned, IsReading, TellsOfFetch};
-ghost use Rattle.mseed.specs.Fetched.{HasTakenAll, IsFetchedOver, IsTurnBy, end_by, fetch_status, stopped_by};
+ghost use Rattle.mseed.specs.Fetched.{HasDialled, HasFetched, HasReadEach, HasReadLink, HasTakenAll, HasTurned};
+ghost use Rattle.mseed.specs.Fetched.{IsFetchedOver, IsReading, IsTurnBy, TellsOfFetch};
+ghost use Rattle.mseed.specs.Fetched.{end_by, fetch_status, stopped_by};
 
 use crate::command::tell;
 use crate::dial::Dial;
@@ -46,6 +47,11 @@ pub fn fetch_all<D: Dial, W: Sink, E: Sink>(
     ensures end { (end : FetchEnd) × HasFetched end client.old client.new (W.said output.old) (W.said output.new)
         × HasDialled end tries (D.calls dialler.old) (D.calls dialler.new)
         × (result ≡ fetch_status end) × TellsOfFetch end (E.said errors.old) (E.said errors.new) }
+    // Each link was given back, and was fetched over before, one behind another.
+    ensures hung_up { length (D.given_back dialler.new) + D.failures dialler.new + D.calls dialler.old
+        ≡ length (D.given_back dialler.old) + D.failures dialler.old + D.calls dialler.new }
+    ensures read { HasReadEach client.old client.new (D.given_back dialler.old) (D.given_back dialler.new)
+        (W.said output.old) (W.said output.new) }
 {
     let end = fetch_links(client, tries, dialler, output);
     match end {
@@ -67,6 +73,10 @@ fn fetch_links<D: Dial, W: Sink>(
 ) -> FetchEnd
     ensures fetched { HasFetched result client.old client.new (W.said output.old) (W.said output.new) }
     ensures dialled { HasDialled result tries (D.calls dialler.old) (D.calls dialler.new) }
+    ensures hung_up { length (D.given_back dialler.new) + D.failures dialler.new + D.calls dialler.old
+        ≡ length (D.given_back dialler.old) + D.failures dialler.old + D.calls dialler.new }
+    ensures read { HasReadEach client.old client.new (D.given_back dialler.old) (D.given_back dialler.new)
+        (W.said output.old) (W.said output.new) }
 {
     for dialled in 0..tries {
         let end = try_link(client, dialler, output);
@@ -81,9 +91,17 @@ fn fetch_links<D: Dial, W: Sink>(
 fn try_link<D: Dial, W: Sink>(client: &mut Client, dialler: &mut D, output: &mut W) -> FetchEnd
     ensures fetched { HasFetched result client.old client.new (W.said output.old) (W.said output.new) }
     ensures dialled { D.calls dialler.new ≡ D.calls dialler.old + 1 }
+    ensures hung_up { length (D.given_back dialler.new) + D.failures dialler.new
+        ≡ length (D.given_back dialler.old) + D.failures dialler.old + 1 }
+    ensures read { HasReadEach client.old client.new (D.given_back dialler.old) (D.given_back dialler.new)
+        (W.said output.old) (W.said output.new) }
 {
     match dialler.dial() {
-        Some(mut link) => fetch_link(client, &mut link, output),
+        Some(mut link) => {
+            let end = fetch_link(client, &mut link, output);
+            dialler.hang_up(link);
+            end
+        }
         None => FetchEnd::LinkFailed,
     }
 }

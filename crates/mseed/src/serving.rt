@@ -1,6 +1,6 @@
 //! Serving a feed to one connection after another.
-ghost use Rattle.std.specs.Prelude.{◌≡◌, ◌+◌, ◌<◌, ◌↔◌, false, if◌then◌else◌, true};
-ghost use Rattle.mseed.specs.Served.{HasServed, IsServed};
+ghost use Rattle.std.specs.Prelude.{◌≡◌, ◌+◌, ◌<◌, ◌↔◌, false, if◌then◌else◌, length, true};
+ghost use Rattle.mseed.specs.Served.{HasServed, HasServedEach, IsServed};
 
 use crate::accept::Accept;
 use crate::command::tell;
@@ -27,6 +27,10 @@ pub fn serve_all<B: Allocator, A: Accept, E: Sink>(
     ensures fine { result ≡ 0
         ↔ (A.failures acceptor.new + A.lost acceptor.new ≡ A.failures acceptor.old + A.lost acceptor.old) }
     ensures told { HasServed result (E.said errors.old) (E.said errors.new) }
+    // Each link was given back, and was served before.
+    ensures hung_up { length (A.given_back acceptor.new) + A.failures acceptor.new
+        ≡ length (A.given_back acceptor.old) + A.failures acceptor.old + connections }
+    ensures served { HasServedEach feed.now (A.given_back acceptor.old) (A.given_back acceptor.new) }
 {
     if serve_connections(feed, connections, acceptor) {
         return DONE;
@@ -46,6 +50,9 @@ fn serve_connections<B: Allocator, A: Accept>(
         → A.failures acceptor.new + A.lost acceptor.new ≡ A.failures acceptor.old + A.lost acceptor.old }
     ensures failed { result ≡ false
         → A.failures acceptor.old + A.lost acceptor.old < A.failures acceptor.new + A.lost acceptor.new }
+    ensures hung_up { length (A.given_back acceptor.new) + A.failures acceptor.new
+        ≡ length (A.given_back acceptor.old) + A.failures acceptor.old + connections }
+    ensures served { HasServedEach feed.now (A.given_back acceptor.old) (A.given_back acceptor.new) }
 {
     let mut is_fine = true;
     for connection in 0..connections {
@@ -61,6 +68,9 @@ fn serve_next<B: Allocator, A: Accept>(feed: &Feed<B>, acceptor: &mut A) -> bool
     ensures accepts { A.calls acceptor.new ≡ A.calls acceptor.old + 1 }
     ensures fine { A.failures acceptor.new + A.lost acceptor.new
         ≡ A.failures acceptor.old + A.lost acceptor.old + (if result then 0 else 1) }
+    ensures hung_up { length (A.given_back acceptor.new) + A.failures acceptor.new
+        ≡ length (A.given_back acceptor.old) + A.failures acceptor.old + 1 }
+    ensures served { HasServedEach feed.now (A.given_back acceptor.old) (A.given_back acceptor.new) }
 {
     match acceptor.accept() {
         Some(mut link) => {

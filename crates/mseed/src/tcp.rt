@@ -13,7 +13,7 @@ use crate::fetching::{FetchEnd, fetch_all};
 use crate::outcome::FAULT;
 use crate::plan::{FetchPlan, ServePlan};
 use crate::serving::serve_all;
-use mseed_stream::{Counted, Sink, Tally};
+use mseed_stream::{Counted, Exchanges, Sink, Tally};
 use std::alloc::Allocator;
 use std::io;
 use std::net::{Ipv4Addr, Net, OpenListener, OpenStream, SocketAddr, TcpListener, TcpStream};
@@ -40,6 +40,7 @@ pub struct Listening<'a, N: Net + Clock> {
     listener: N::Listener,
     tally: Tally,
     lost: Tally,
+    given_back: Exchanges,
 }
 
 impl<'a, N: Net + Clock> Listening<'a, N> {
@@ -54,6 +55,7 @@ impl<'a, N: Net + Clock> Listening<'a, N> {
             listener: TcpListener::bind(host, address_of(port))?,
             tally: Tally::new(),
             lost: Tally::new(),
+            given_back: Exchanges::new(),
         })
     }
 }
@@ -66,6 +68,8 @@ impl<N: Net + Clock> Accept for Listening<'_, N> {
     ghost failures = { λ l. l.tally.failures };
 
     ghost lost = { λ l. l.lost.failures };
+
+    ghost given_back = { λ l. l.given_back.all };
 
     fn accept(&mut self) -> Option<Counted<N::Stream>> {
         match self.listener.accept() {
@@ -81,8 +85,9 @@ impl<N: Net + Clock> Accept for Listening<'_, N> {
     }
 
     fn hang_up(&mut self, link: Counted<N::Stream>, failed: bool) {
-        close(self.host, link.into_inner());
+        self.given_back.record(&link);
         self.lost.record(&[], failed);
+        close(self.host, link.into_inner());
     }
 }
 
@@ -92,6 +97,7 @@ pub struct Dialler<'a, N: Net> {
     net: &'a N,
     port: u16,
     tally: Tally,
+    given_back: Exchanges,
 }
 
 impl<'a, N: Net> Dialler<'a, N> {
@@ -101,6 +107,7 @@ impl<'a, N: Net> Dialler<'a, N> {
             net,
             port,
             tally: Tally::new(),
+            given_back: Exchanges::new(),
         }
     }
 }
@@ -111,6 +118,8 @@ impl<N: Net> Dial for Dialler<'_, N> {
     ghost calls = { λ d. d.tally.calls };
 
     ghost failures = { λ d. d.tally.failures };
+
+    ghost given_back = { λ d. d.given_back.all };
 
     fn dial(&mut self) -> Option<Counted<N::Stream>> {
         match TcpStream::connect(self.net, address_of(self.port)) {
@@ -123,6 +132,10 @@ impl<N: Net> Dial for Dialler<'_, N> {
                 None
             }
         }
+    }
+
+    fn hang_up(&mut self, link: Counted<N::Stream>) {
+        self.given_back.record(&link);
     }
 }
 

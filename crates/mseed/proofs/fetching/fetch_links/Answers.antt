@@ -1,13 +1,27 @@
 use Rattle.std.proofs.Common.{◌≡◌, arith, rules, subst}
 use Rattle.mseed.specs.declared.fetching.FetchEnd.TheVariants.{LinkFailed}
 use Rattle.mseed.specs.Fetched.{HasFetched}
-use Rattle.mseed.proofs.Fetches.{fetched_both}
+use Rattle.mseed.proofs.Fetches.{fetched_both, fetched_none, reads_both, reads_none}
 use Rattle.mseed.proofs.fetching.fetch_links.Goals as goal
+
+pub loop-dialled-init : goal.loop-dialled-init
+loop-dialled-init g c = record {
+  fetched = fetched_none c.args.client.now (g.W.Sink.said c.args.output.now);
+  dialled = omega arith;
+  hung_up = omega arith;
+  read = reads_none c.args.client.now (g.D.Dial.given_back c.args.dialler.now) (g.W.Sink.said c.args.output.now);
+}
 
 pub returns-then-ne-clause-fetched : goal.returns-then-ne-clause-fetched
 returns-then-ne-clause-fetched g c =
     fetched_both c.try_link-end.result c.args.client.now c.loop-dialled.client c.try_link-end.new.client (g.W.Sink.said c.args.output.now) (g.W.Sink.said c.loop-dialled.output)
     (g.W.Sink.said c.try_link-end.new.output) c.loop-dialled.invariant.fetched c.try_link-end.ensures.fetched
+
+pub returns-then-ne-clause-read : goal.returns-then-ne-clause-read
+returns-then-ne-clause-read g c =
+    reads_both c.args.client.now c.loop-dialled.client c.try_link-end.new.client (g.D.Dial.given_back c.args.dialler.now) (g.D.Dial.given_back c.loop-dialled.dialler)
+    (g.D.Dial.given_back c.try_link-end.new.dialler) (g.W.Sink.said c.args.output.now) (g.W.Sink.said c.loop-dialled.output) (g.W.Sink.said c.try_link-end.new.output)
+    c.loop-dialled.invariant.read c.try_link-end.ensures.read
 
 pub loop-dialled-preserved : goal.loop-dialled-preserved
 loop-dialled-preserved g c =
@@ -16,4 +30,8 @@ loop-dialled-preserved g c =
           (g.W.Sink.said c.try_link-end.new.output) c.loop-dialled.invariant.fetched
           (subst (λ end. HasFetched end c.loop-dialled.client c.try_link-end.new.client (g.W.Sink.said c.loop-dialled.output) (g.W.Sink.said c.try_link-end.new.output)) same c.try_link-end.ensures.fetched);
       dialled = omega (arith, c.try_link-end.ensures.dialled, c.loop-dialled.invariant.dialled);
+      hung_up = omega (arith, c.try_link-end.ensures.dialled, c.try_link-end.ensures.hung_up, c.loop-dialled.invariant.hung_up);
+      read = reads_both c.args.client.now c.loop-dialled.client c.try_link-end.new.client (g.D.Dial.given_back c.args.dialler.now) (g.D.Dial.given_back c.loop-dialled.dialler)
+          (g.D.Dial.given_back c.try_link-end.new.dialler) (g.W.Sink.said c.args.output.now) (g.W.Sink.said c.loop-dialled.output) (g.W.Sink.said c.try_link-end.new.output)
+          c.loop-dialled.invariant.read c.try_link-end.ensures.read;
     }
