@@ -65,7 +65,7 @@ are_views s first [] samples h = tt
 are_views s first (v ∷ vs) samples h = (h.1.1.1.is_view, are_views s (first + length h.0) vs h.1.0 h.1.1.2)
 
 -- their samples, joined
-joined_at : (s : Trace) (first : ℕ) (vs : List View) (samples : List ℤ) → AreAt s first vs samples → AreJoined vs samples
+pub joined_at : (s : Trace) (first : ℕ) (vs : List View) (samples : List ℤ) → AreAt s first vs samples → AreJoined vs samples
 joined_at s first [] samples h = subst (λ (xs : List ℤ). AreJoined [] xs) (sym h) none
 joined_at s first (v ∷ vs) samples h =
     subst (λ (xs : List ℤ). AreJoined (v ∷ vs) xs) (sym h.1.1.0) (one v vs h.0 h.1.0 h.1.1.1.whole (joined_at s (first + length h.0) vs h.1.0 h.1.1.2))

@@ -22,15 +22,15 @@ later [] place = []
 later (t ∷ ts) place = cond (nat_lt place t.0) (t ∷ ts) (later ts place)
 
 -- none of them stands at a place before them all
-record Before (steps : List (ℕ × LeapStep)) (place : ℕ) : Type 0 where
-  added : added_before steps place ≡ pos 0
-  none : step_in steps place ≡ None
-  all : later steps place ≡ steps
+pub record Before (steps : List (ℕ × LeapStep)) (place : ℕ) : Type 0 where
+  pub added : added_before steps place ≡ pos 0
+  pub none : step_in steps place ≡ None
+  pub all : later steps place ≡ steps
 
 nothing_added : (z : ℤ) → z ≡ pos 0 → pos 0 +ℤ z ≡ pos 0
 nothing_added z e = omega (arith, ints)
 
-before : (low size : ℕ) (steps : List (ℕ × LeapStep)) (place : ℕ) → place ≤ low → AreStepsFrom low size steps → Before steps place
+pub before : (low size : ℕ) (steps : List (ℕ × LeapStep)) (place : ℕ) → place ≤ low → AreStepsFrom low size steps → Before steps place
 before low size [] place h are = record { added = refl; none = refl; all = refl }
 before low size (t ∷ ts) place h are =
     let behind : low < t.0 = are.0 in

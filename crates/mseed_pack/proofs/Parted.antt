@@ -61,7 +61,7 @@ shares (v ∷ vs) back _ (one _ _ xs rest is more) =
       second = behind.second;
     }
 
-views_joined : (xs ys : List (List ℕ)) (us vs : List View) → AreViewsOf xs us → AreViewsOf ys vs → AreViewsOf (xs ++ ys) (us ++ vs)
+pub views_joined : (xs ys : List (List ℕ)) (us vs : List View) → AreViewsOf xs us → AreViewsOf ys vs → AreViewsOf (xs ++ ys) (us ++ vs)
 views_joined xs ys us vs h k =
     let first = h.bytes in
     let second = k.bytes in

@@ -1,12 +1,14 @@
 -- What records say that a series is packed into.
-use Rattle.std.specs.Prelude.{⊤, ◌≡◌, ◌≢◌, ℕ, ℤ, List, [], ◌∷◌, ◌++◌, map, IsTrue, Result, Ok, Err}
-use Rattle.std.specs.List.{AllByRecursion, flat_map}
+use Rattle.std.specs.Prelude.{⊤, ◌≡◌, ◌≢◌, ℕ, ◌+◌, nat_le, nat_lt, ℤ, Bool, ◌&&◌, List, [], ◌∷◌, ◌++◌, length, map, IsTrue, Result, Ok, Err}
+use Rattle.std.specs.List.{AllByRecursion, filter, flat_map}
+use Rattle.mseed_time.specs.declared.outcome.LeapStep.{LeapStep}
 use Rattle.mseed_record.specs.View.{View, IsView}
 use Rattle.mseed_audit.specs.declared.assembly.NotContinuous.{NotContinuous}
 use Rattle.mseed_audit.specs.declared.assembly.NotContinuous.TheVariants.{Absent, Broken, Memory}
 use Rattle.mseed_audit.specs.Channels.{added_from, is_of, records_of, views_in}
 use Rattle.mseed_audit.specs.Follows.{IsContinuous}
 use Rattle.mseed_audit.specs.Series.{Trace, AreJoined, IsSeriesOf}
+use Rattle.mseed_pack.specs.Clock.{instant_at}
 
 -- these are views of these records, in their order
 pub record AreViewsOf (records : List (List ℕ)) (views : List View) : Type 0 where
@@ -53,6 +55,22 @@ pub record IsPartOf (s : Trace) (before after : List (List ℕ)) (part : Trace) 
   pub before_it : HaveSamples before older
   pub behind_it : HaveSamples after later
   pub codes : part.codes ≡ s.codes
+
+-- the leap second stands behind more than so many samples, and not more than so many
+abbrev pub is_among : ℕ → ℕ → ℕ × LeapStep → Bool
+is_among place end step = nat_lt place step.0 && nat_le step.0 end
+
+-- a leap second, with so many samples more before it
+abbrev pub moved : ℕ → ℕ × LeapStep → ℕ × LeapStep
+moved place step = (place + step.0, step.1)
+
+-- A part of a series that has so many samples before it begins at the instant of its first one, at the series' rate, and
+-- its leap seconds are the series' own that stand behind one of its samples: their places are counted from its first.
+pub record IsTimedFrom (s : Trace) (place : ℕ) (part : Trace) : Type 0 where
+  pub start : part.start ≡ instant_at s place
+  pub factor : part.rate.factor ≡ s.rate.factor
+  pub multiplier : part.rate.multiplier ≡ s.rate.multiplier
+  pub steps : map (moved place) part.steps ≡ filter (is_among place (place + length part.samples)) s.steps
 
 -- the series of these records, or there was no memory for it
 abbrev pub IsAssembled : Result Trace NotContinuous → List View → Type 0

@@ -16,7 +16,8 @@ ghost use Rattle.mseed_pack.specs.FewestWords.{HasFewestWords};
 ghost use Rattle.mseed_pack.specs.Fitting.{Fits, IsMisfit};
 ghost use Rattle.mseed_pack.specs.Outcome.{IsTrace};
 ghost use Rattle.mseed_pack.specs.Packing.{PacksUpTo, IsPacking};
-ghost use Rattle.mseed_pack.specs.ReadBack.{AreApart, AreViewsOf, IsAssembled, IsPartOf, Packed, ReadsAs, StandsIn, records_of_all};
+ghost use Rattle.mseed_pack.specs.ReadBack.{AreApart, AreViewsOf, HaveSamples, IsAssembled, IsPartOf, IsTimedFrom};
+ghost use Rattle.mseed_pack.specs.ReadBack.{Packed, ReadsAs, StandsIn, records_of_all};
 
 use mseed_audit::{continuous_exactly, one_series};
 use mseed_record::header_reads_back;
@@ -100,6 +101,20 @@ pub fn a_stretch_reads_back()
         (answer : Result Trace NotContinuous) → ReadsAs s (before ++ (held ++ after)) → AreViewsOf held views
         → held ≢ [] → IsSeries answer (records_of s.codes (added_from 0 views)) → IsAssembled answer views }
 {
+    one_series();
+}
+
+/// The series of records that stand one behind another, of those that a series is packed into, begins at the instant of
+/// the sample that it begins with, and has the series' rate and leap seconds.
+pub fn a_stretch_keeps_time()
+    ensures { (s part : Trace) (o : Options) (before held after : List (List ℕ)) (views : List View) (older : List ℤ)
+        → IsTrace s → Fits s o → IsPacking s o (before ++ (held ++ after)) → AreViewsOf held views
+        → IsSeriesOf part views → HaveSamples before older → IsTimedFrom s (length older) part }
+{
+    header_reads_back();
+    packed_spells();
+    one_reading();
+    one_input();
     one_series();
 }
 
