@@ -4,7 +4,6 @@ pub mod Behind
 pub mod Between
 pub mod Continuity
 pub mod Counts
-pub mod Currents
 pub mod Findings
 pub mod Finished
 pub mod Joined
@@ -19,6 +18,7 @@ pub mod OneVerdict
 pub mod Outcomes
 pub mod Pieces
 pub mod Places
+pub mod Rosters
 pub mod Steps
 pub mod Trims
 pub mod Views

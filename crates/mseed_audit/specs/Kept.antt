@@ -1,16 +1,17 @@
 -- Words of what is kept of a channel: no public contract is stated by them.
-use Rattle.std.specs.Prelude.{⊤, ◌≡◌, ◌≤◌, ◌+◌, ◌*◌, ℕ, List, [], length, Option, Some, None, IsSome}
+use Rattle.std.specs.Prelude.{⊤, ◌≡◌, ◌<◌, ◌≤◌, ◌+◌, ◌*◌, ℕ, suc, Bool, cond, List, [], ◌∷◌, length, Option, Some, None}
 use Rattle.std.specs.List.{All}
-use Rattle.std.specs.Map.{lookup, set_value, values_of}
+use Rattle.std.specs.Map.{lookup, values_of}
+use Rattle.std.specs.Option.{option_map}
 use Rattle.std.specs.Vec.{vec_capacity}
 use Rattle.std.specs.declared.vec.Vec.{Vec}
 use Rattle.mseed_record.specs.View.{View}
-use Rattle.mseed_audit.specs.declared.audits.Current.{Current}
 use Rattle.mseed_audit.specs.declared.channel.Channel.{Channel}
 use Rattle.mseed_audit.specs.declared.channel.Judged.{Judged}
 use Rattle.mseed_audit.specs.declared.channel.Judged.TheVariants.{Sound, Faulty}
 use Rattle.mseed_audit.specs.declared.finding.Finding.{Finding}
 use Rattle.mseed_audit.specs.declared.finding.Why.{Why}
+use Rattle.mseed_audit.specs.declared.roster.Place.{Place}
 use Rattle.mseed_audit.specs.declared.tail.Tail.{Tail}
 use Rattle.mseed_audit.specs.declared.verdict.Verdict.{Verdict}
 use Rattle.mseed_audit.specs.declared.verdict.Verdict.TheVariants.{Continuous, Broken}
@@ -53,16 +54,26 @@ IsBounded n (Broken first count) = count ≤ n
 abbrev pub AreBounded : ℕ → List (List ℕ × Channel) → Type 0
 AreBounded n channels = All (λ c. IsBounded n c.verdict) (values_of channels)
 
+-- where the first channel stands whose key passes
+abbrev pub place_of : (List ℕ → Bool) → List (List ℕ × Channel) → Option ℕ
+place_of test [] = None
+place_of test (e ∷ es) = cond (test e.0) (Some 0) (option_map suc (place_of test es))
+
+-- where each channel stands, by its key
+pub record ArePlaces (places : List (List ℕ × ℕ)) (channels : List (List ℕ × Channel)) : Type 0 where
+  pub each : (key : List ℕ) → lookup (same_key key) places ≡ place_of (same_key key) channels
+  pub within : All (λ i. i < length channels) (values_of places)
+
+-- a channel stands there
+abbrev pub IsPlace : Option Place → List (List ℕ × Channel) → Type 0
+IsPlace None channels = ⊤
+IsPlace (Some p) channels = place_of (same_key p.codes) channels ≡ Some p.index
+
 -- there is room for a verdict on each channel, and none yet
 abbrev pub HasRoom : {Y Z : Type 0} → List Y → Vec (List ℕ × Verdict) Z → Type 0
 HasRoom channels verdicts = (verdicts.items ≡ []) × (length channels ≤ vec_capacity verdicts)
 
--- the channels, with what came to the current one
-abbrev pub with_current : Option Current → List (List ℕ × Channel) → List (List ℕ × Channel)
-with_current None channels = channels
-with_current (Some o) channels = set_value (same_key o.codes) channels o.channel
-
--- the current channel is one of them
-abbrev pub IsCurrentIn : Option Current → List (List ℕ × Channel) → Type 0
-IsCurrentIn None channels = ⊤
-IsCurrentIn (Some o) channels = IsSome (lookup (same_key o.codes) channels)
+-- the verdict on what is kept of a channel, where something is
+abbrev pub verdict_in : Option Channel → Option Verdict
+verdict_in None = None
+verdict_in (Some c) = Some c.verdict

@@ -10,6 +10,7 @@ mod finding;
 mod law;
 mod name;
 mod parts;
+mod roster;
 mod tail;
 #[cfg(test)]
 mod tests;

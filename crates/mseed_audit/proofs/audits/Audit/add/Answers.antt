@@ -1,16 +1,15 @@
 use Rattle.std.proofs.Common.{◌+◌, refl}
 use Rattle.mseed_record.specs.Viewing.{view_of}
 use Rattle.mseed_audit.specs.Audit.{Held, IsAuditOf}
-use Rattle.mseed_audit.specs.Kept.{with_current}
 use Rattle.mseed_audit.proofs.More.{audit_more}
 use Rattle.mseed_audit.proofs.audits.Audit.add.Goals as goal
 
 pub invariant_of-self-2 : goal.invariant_of-self-2
-invariant_of-self-2 g c = (c.add_to_channel.ensures.room, c.add_to_channel.ensures.bounded c.self.inside.added c.self.invariant.1, c.add_to_channel.ensures.there)
+invariant_of-self-2 g c = c.add.ensures.bounded c.self.inside.added c.self.invariant
 
 pub returns-clause-adds : goal.returns-clause-adds
 returns-clause-adds g c = λ added h.
-    let old : Held = record { channels = with_current c.self.inside.current c.self.inside.channels.entries; added = c.self.inside.added } in
-    let new : Held = record { channels = with_current c.add_to_channel.new.current c.add_to_channel.new.channels.entries; added = c.self.inside.added + 1 } in
+    let old : Held = record { channels = c.self.inside.roster; added = c.self.inside.added } in
+    let new : Held = record { channels = c.add.new.self; added = c.self.inside.added + 1 } in
     let is : IsAuditOf old added = rw (← c.self.view_is) at h in
-    audit_more old new added (record { view = view_of c.args.view.now; offset = c.args.offset }) is refl c.in_ok-add_to_channel.ensures.stands
+    audit_more old new added (record { view = view_of c.args.view.now; offset = c.args.offset }) is refl c.in_ok-add.ensures.stands

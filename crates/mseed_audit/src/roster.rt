@@ -1,0 +1,170 @@
+//! What is kept of each channel while records come.
+ghost use Rattle.std.specs.Prelude.{◌≡◌, ◌↔◌, ◌⊎◌, ◌+◌, ◌^◌, List, ℕ, [], ◌∷◌, ◌++◌, OnOk, OnErr, IsOk, IsSome};
+ghost use Rattle.std.specs.Prelude.{IsTrue, Option, Some, None};
+ghost use Rattle.mseed_record.specs.Header.{key_at};
+ghost use Rattle.mseed_record.specs.Viewing.{view_of};
+ghost use Rattle.mseed_steim.specs.Reading.{count_of};
+ghost use Rattle.std.specs.Map.{keys_of, lookup};
+ghost use Rattle.std.specs.Ordering.{nat_cmp};
+ghost use Rattle.std.specs.Cmp.Lexicographic.{slice_cmp};
+ghost use Rattle.std.specs.List.Sorted.{IsStrictlySortedBy};
+ghost use Rattle.mseed_audit.specs.Channels.{Placed, same_key, with_record};
+ghost use Rattle.mseed_audit.specs.Audit.{StandsAt};
+ghost use Rattle.mseed_audit.specs.Kept.{AreBounded, place_of, verdict_in};
+
+use crate::audits::Memory;
+use crate::channel::Channel;
+use crate::verdict::Verdict;
+use mseed_record::{Codes, RecordView};
+use std::alloc::{Allocator, Global};
+use std::collections::BTreeMap;
+use std::marker::Model;
+
+/// Where a channel stands on a roster.
+#[derive(Clone, Copy, Debug)]
+pub(crate) struct Place {
+    codes: Codes,
+    index: usize,
+}
+
+/// What is kept of each channel, in the order in which they came. A record of the channel that came last is added
+/// without a search, and each other by one.
+///
+/// Contracts see a roster as the list of its channels, each with its key.
+#[derive(Drop)]
+pub(crate) struct Roster<A: Allocator = Global> {
+    channels: Vec<(Codes, Channel), A>,
+    // Where each of them stands, by its key.
+    places: BTreeMap<Codes, usize, A>,
+    // The one that came last. In most archives the next record is of it too.
+    last: Option<Place>,
+    // Nothing yet, with room for each channel.
+    verdicts: Vec<(Codes, Verdict), A>,
+}
+
+impl<A: Allocator> Model for Roster<A> {
+    ghost use Rattle.std.specs.Prelude.{List, ℕ};
+    ghost use Rattle.mseed_audit.specs.declared.channel.Channel.{Channel};
+    ghost use Rattle.mseed_audit.specs.Kept.{ArePlaces, HasRoom, IsPlace};
+
+    ghost Value = { List (List ℕ × Channel) };
+
+    ghost view = { λ r. r.channels.items };
+
+    ghost invariant = { λ r. ArePlaces r.places.entries r.channels.items × HasRoom r.places.entries r.verdicts
+        × IsPlace r.last r.channels.items };
+}
+
+impl<A: Allocator + Copy> Roster<A> {
+    /// A roster of no channel. It takes no memory.
+    pub(crate) fn new(alloc: A) -> Roster<A>
+        ensures { result ≡ [] }
+    {
+        Roster {
+            channels: Vec::new(alloc),
+            places: BTreeMap::new(alloc),
+            last: None,
+            verdicts: Vec::new(alloc),
+        }
+    }
+
+    /// Whether a channel is on it.
+    pub(crate) fn holds(&self, codes: &Codes) -> bool
+        ensures { IsTrue result ↔ IsSome (lookup (same_key codes.now) self.now) }
+    {
+        self.places.contains_key(codes)
+    }
+
+    /// Adds a record to its channel, which may be new. Nothing is kept of a silent one.
+    ///
+    /// # Errors
+    ///
+    /// `Memory` where the channel is new and there was no room for it; the roster is then as it was.
+    pub(crate) fn add(&mut self, view: &RecordView, number: u64, offset: u64) -> Result<(), Memory>
+        requires { AreBounded (2 ^ 40) self.old }
+        ensures stands { (key : List ℕ) (ps : List Placed) → StandsAt (lookup (same_key key) self.old) ps
+            → OnOk result (StandsAt (lookup (same_key key) self.new)
+            (with_record key ps (record { view = view_of view.now; offset = offset; number = number }))) }
+        ensures bounded { (n : ℕ) → AreBounded n self.old → AreBounded (n + 1) self.new }
+        ensures unchanged { OnErr result (self.new ≡ self.old) }
+        ensures memory { (count_of (view_of view.now) ≡ 0)
+            ⊎ IsSome (lookup (same_key (key_at (view_of view.now).bytes)) self.old) → IsOk result }
+    {
+        if view.samples() == 0 {
+            return Ok(());
+        }
+        let codes = view.codes();
+        match self.find(codes) {
+            Some(index) => {
+                self.channels[index].1.add(view, number, offset);
+                Ok(())
+            }
+            None => self.keep(codes, Channel::begin(view, number, offset)),
+        }
+    }
+
+    /// Where a channel stands, if it is there. It is then the one that came last.
+    fn find(&mut self, codes: Codes) -> Option<usize>
+        ensures place { result ≡ place_of (same_key codes) self.old }
+        ensures stays { self.new ≡ self.old }
+    {
+        if let Some(last) = self.last {
+            if last.codes == codes {
+                return Some(last.index);
+            }
+        }
+        match self.places.get(&codes) {
+            Some(index) => {
+                let index = *index;
+                self.last = Some(Place { codes, index });
+                Some(index)
+            }
+            None => None,
+        }
+    }
+
+    /// Keeps a new channel, once there is room for it and for its verdict.
+    fn keep(&mut self, codes: Codes, channel: Channel) -> Result<(), Memory>
+        requires { lookup (same_key codes) self.old ≡ None }
+        ensures kept { OnOk result (self.new ≡ self.old ++ (codes, channel) ∷ []) }
+        ensures unchanged { OnErr result (self.new ≡ self.old) }
+    {
+        let index = self.channels.len();
+        if self.verdicts.reserve(self.places.len() + 1).is_err() {
+            return Err(Memory);
+        }
+        if self.channels.reserve(1).is_err() {
+            return Err(Memory);
+        }
+        match self.places.insert(codes, index) {
+            Ok(_) => {}
+            Err(_) => return Err(Memory),
+        }
+        match self.channels.push((codes, channel)) {
+            Ok(()) => {}
+            Err(_) => unreachable!(),
+        }
+        self.last = Some(Place { codes, index });
+        Ok(())
+    }
+
+    /// The verdict on each channel, ascending by the 12 bytes of their keys. It takes no memory.
+    pub(crate) fn into_verdicts(self) -> Vec<(Codes, Verdict), A>
+        ensures ascending { IsStrictlySortedBy (slice_cmp nat_cmp) (keys_of result.items) }
+        ensures each { (key : List ℕ) → lookup (same_key key) result.items ≡ verdict_in (lookup (same_key key) self) }
+    {
+        let Roster {
+            channels,
+            places,
+            mut verdicts,
+            ..
+        } = self;
+        for (codes, index) in places {
+            match verdicts.push((codes, channels[index].1.verdict())) {
+                Ok(()) => {}
+                Err(_) => unreachable!(),
+            }
+        }
+        verdicts
+    }
+}
