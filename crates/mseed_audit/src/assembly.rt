@@ -105,7 +105,7 @@ fn channel_with(
 }
 
 /// Whether a record has samples, and is of a channel.
-fn is_of(codes: &Codes, view: &RecordView) -> bool
+pub fn is_of(codes: &Codes, view: &RecordView) -> bool
     ensures { result ≡ is_of codes.now (view_of view.now) }
 {
     view.samples() > 0 && *codes == view.codes()

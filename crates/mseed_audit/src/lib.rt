@@ -18,7 +18,7 @@ mod text;
 mod verdict;
 
 pub use archive::{AuditFault, Summary, audit};
-pub use assembly::{NotContinuous, series};
+pub use assembly::{NotContinuous, is_of, series};
 pub use audits::{Audit, Memory, Verdicts};
 pub use channel_series::{BadStep, Series};
 pub use finding::{Finding, Why};
