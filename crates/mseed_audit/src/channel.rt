@@ -44,7 +44,7 @@ impl Channel {
     {
         match judge(None, view) {
             Judged::Sound(tail) => Channel {
-                verdict: tail.alone(),
+                verdict: tail.verdict_alone(),
                 tail: Some(tail),
             },
             Judged::Faulty(why, tail) => Channel {
@@ -118,7 +118,7 @@ fn judge(before: Option<Tail>, view: &RecordView) -> Judged
     };
     let why = match check_samples(view) {
         Ok(_) => match before {
-            Some(before) => before.break_before(&tail),
+            Some(before) => before.break_to(&tail),
             None => None,
         },
         Err(fault) => Some(Why::Read(fault)),

@@ -61,7 +61,7 @@ impl Tail {
     }
 
     /// The verdict on a channel of one record that has this end, and of which nothing was found.
-    pub(crate) fn alone(&self) -> Verdict
+    pub(crate) fn verdict_alone(&self) -> Verdict
         ensures is { (v : View) (number offset : ℕ) → IsTail self.now v → IsFound None v None
             → IsVerdict result (record { view = v; offset = offset; number = number } ∷ []) }
         ensures bounded { IsBounded 1 result }
@@ -74,8 +74,8 @@ impl Tail {
         }
     }
 
-    /// Why the next record doesn't follow, if it doesn't.
-    pub(crate) fn break_before(&self, next: &Tail) -> Option<Why>
+    /// The break between this record and the next: why that one doesn't follow, if it doesn't.
+    pub(crate) fn break_to(&self, next: &Tail) -> Option<Why>
         ensures { (b v : View) → IsTail self.now b → IsTail next.now v
             → result ≡ why_between b (ratio_of self.now.rate) v (ratio_of next.now.rate) }
     {

@@ -22,7 +22,7 @@ returns-clause-why c = λ b before.
       | in-Ok-check_samples+in-Some w ↦
           let kept : IsTailBefore (Some w.in-Some.before) b = subst (λ (t : Option Tail). IsTailBefore t b) w.in-Some.is before in
           let whole = w.in-Ok-check_samples.ensures.ends in
-          found_whole b v next whole.0 c.match-check_samples.why known whole.1.0 whole.1.1 (after_some w.in-Some.before b v next w.break_before.result kept (λ before-view tail. w.break_before.ensures before-view v tail c.in-Ok.ensures.ok) ∙ sym w.why-is)
+          found_whole b v next whole.0 c.match-check_samples.why known whole.1.0 whole.1.1 (after_some w.in-Some.before b v next w.break_to.result kept (λ before-view tail. w.break_to.ensures before-view v tail c.in-Ok.ensures.ok) ∙ sym w.why-is)
       | in-Ok-check_samples+in-None w ↦
           let kept : IsTailBefore None b = subst (λ (t : Option Tail). IsTailBefore t b) w.in-None.is before in
           let whole = w.in-Ok-check_samples.ensures.ends in

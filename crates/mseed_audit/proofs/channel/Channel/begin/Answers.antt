@@ -9,7 +9,7 @@ pub returns-in-Sound-clause-stands : goal.returns-in-Sound-clause-stands
 returns-in-Sound-clause-stands c =
     let v : View = view_of c.args.view.now in
     let p : Placed = record { view = v; offset = c.args.offset; number = c.args.number } in record {
-      verdict = c.alone.ensures.is v c.args.number c.args.offset c.in-Sound.ensures.tail (c.in-Sound.ensures.why None tt);
+      verdict = c.verdict_alone.ensures.is v c.args.number c.args.offset c.in-Sound.ensures.tail (c.in-Sound.ensures.why None tt);
       front = [];
       last = p;
       parts = refl;

@@ -1,7 +1,7 @@
 use Rattle.std.proofs.Common.{[], None, refl, arith}
 use Rattle.mseed_audit.proofs.Findings.{findings_one}
 use Rattle.mseed_audit.specs.Channels.{Placed}
-use Rattle.mseed_audit.proofs.tail.Tail.alone.Goals as goal
+use Rattle.mseed_audit.proofs.tail.Tail.verdict_alone.Goals as goal
 
 pub returns-clause-is : goal.returns-clause-is
 returns-clause-is c = λ v number offset tail found.

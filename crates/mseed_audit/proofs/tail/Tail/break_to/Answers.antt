@@ -2,7 +2,7 @@ use Rattle.std.proofs.Common.{◌≡◌, ◌*◌, true, false, sym}
 use Rattle.mseed_time.specs.Rate.{Ratio}
 use Rattle.mseed_time.specs.Ratios.{ratio_of}
 use Rattle.mseed_audit.proofs.Judged.{changed}
-use Rattle.mseed_audit.proofs.tail.Tail.break_before.Goals as goal
+use Rattle.mseed_audit.proofs.tail.Tail.break_to.Goals as goal
 
 pub returns-then-not-same_as : goal.returns-then-not-same_as
 returns-then-not-same_as c = λ b v t u.
