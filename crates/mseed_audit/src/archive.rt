@@ -1,7 +1,11 @@
 //! The audit of an archive.
-ghost use Rattle.std.specs.Prelude.{◌≡◌, ◌≢◌, ◌<◌, List, ℕ, IfOk};
+ghost use Rattle.std.specs.Prelude.{◌≡◌, ◌≤◌, List, IfOk};
 ghost use Rattle.mseed_record.specs.View.{View};
+ghost use Rattle.mseed_stream.specs.Cutting.{IsAlong};
 ghost use Rattle.mseed_stream.specs.Device.{nothing_heard};
+ghost use Rattle.mseed_stream.specs.Walk.{HasHandedOut};
+ghost use Rattle.mseed_audit.specs.Audit.{IsAuditOf};
+ghost use Rattle.mseed_audit.specs.Channels.{added_from};
 
 use crate::audits::{Audit, Memory};
 use crate::text::push_audit;
@@ -35,7 +39,16 @@ pub enum AuditFault {
     Memory,
 }
 
-ghost use Rattle.mseed_audit.specs.Summary.{IsOutcome, IsGathered, broken_count};
+/// What comes next of an input.
+#[derive(Clone, Copy, Debug)]
+pub(crate) enum Step {
+    /// A record, which was added.
+    Added,
+    /// Its end, by the fault, if by one.
+    Ended(Option<StreamFault>),
+}
+
+ghost use Rattle.mseed_audit.specs.Summary.{IsOutcome, IsGathered, IsNext, broken_count};
 
 /// Audits the records that a source tells, and writes the text of the audit. The source is one of which
 /// nothing was read yet.
@@ -85,13 +98,40 @@ fn gather<A: Allocator + Copy, R: Source>(
     let mut cutter = Cutter::new(alloc);
     let mut audit = Audit::new(alloc);
     'records: loop {
-        let offset = cutter.offset();
-        match cutter.next(source) {
-            Ok(Some(view)) => audit.add(&view, offset)?,
-            Ok(None) => return Ok((audit, None)),
-            Err(StreamFault::Memory) => return Err(Memory),
-            Err(fault) => return Ok((audit, Some(fault))),
+        match add_next(&mut audit, &mut cutter, source)? {
+            Step::Added => {}
+            Step::Ended(end) => return Ok((audit, end)),
         }
+    }
+}
+
+/// Adds the next record, or answers how the input ends. A record that the source holds whole isn't copied.
+fn add_next<A: Allocator + Copy, R: Source>(
+    audit: &mut Audit<A>,
+    cutter: &mut Cutter<A>,
+    source: &mut R,
+) -> Result<Step, Memory>
+    requires along { IsAlong (R.heard source.old) cutter.old }
+    requires few { audit.old.added ≤ (R.heard source.old).calls }
+    ensures { (views : List View) → HasHandedOut (R.heard source.old) cutter.old views
+        → IsAuditOf audit.old (added_from 0 views)
+        → IsNext result views (R.heard source.old) (R.heard source.new) cutter.new audit.new }
+{
+    let offset = cutter.offset();
+    if let Some(view) = cutter.peek(source) {
+        audit.add(&view, offset)?;
+        let size = view.bytes().len();
+        cutter.pass(source, size);
+        return Ok(Step::Added);
+    }
+    match cutter.next(source) {
+        Ok(Some(view)) => {
+            audit.add(&view, offset)?;
+            Ok(Step::Added)
+        }
+        Ok(None) => Ok(Step::Ended(None)),
+        Err(StreamFault::Memory) => Err(Memory),
+        Err(fault) => Ok(Step::Ended(Some(fault))),
     }
 }
 
