@@ -19,6 +19,7 @@ pub mod Outcomes
 pub mod Pieces
 pub mod Places
 pub mod Rosters
+pub mod Shorts
 pub mod Steps
 pub mod Trims
 pub mod Views

@@ -1,5 +1,5 @@
 //! A text in parts: words and numbers, one behind another.
-ghost use Rattle.std.specs.Prelude.{◌≡◌, ◌++◌, OnOk, decimal};
+ghost use Rattle.std.specs.Prelude.{◌≡◌, ◌<◌, ◌+◌, ◌++◌, OnOk, decimal};
 ghost use Rattle.mseed_stream.specs.Device.{IsFrontOf};
 ghost use Rattle.mseed_audit.specs.Parts.{part_text, parts_text};
 
@@ -50,5 +50,38 @@ pub fn push_count<A: Allocator>(text: &mut Vec<u8, A>, count: u64) -> Result<(),
     ensures ok { OnOk result (text.new.items ≡ text.old.items ++ decimal count) }
     ensures front { IsFrontOf text.old.items text.new.items }
 {
-    text.extend_from_slice(Buffer::new().format(count).as_bytes())
+    if count < 10_000 {
+        push_short(text, count)
+    } else {
+        text.extend_from_slice(Buffer::new().format(count).as_bytes())
+    }
+}
+
+/// Adds the digits of a number that has four of them at most, each length by a write of its own.
+fn push_short<A: Allocator>(text: &mut Vec<u8, A>, count: u64) -> Result<(), AllocError>
+    requires { count < 10000 }
+    ensures ok { OnOk result (text.new.items ≡ text.old.items ++ decimal count) }
+    ensures front { IsFrontOf text.old.items text.new.items }
+{
+    let ones = digit(count % 10);
+    if count < 10 {
+        return text.extend_from_slice(&[ones]);
+    }
+    let tens = digit(count / 10 % 10);
+    if count < 100 {
+        return text.extend_from_slice(&[tens, ones]);
+    }
+    let hundreds = digit(count / 100 % 10);
+    if count < 1000 {
+        return text.extend_from_slice(&[hundreds, tens, ones]);
+    }
+    text.extend_from_slice(&[digit(count / 1000), hundreds, tens, ones])
+}
+
+/// A digit as it is written.
+fn digit(number: u64) -> u8
+    requires { number < 10 }
+    ensures { result ≡ 48 + number }
+{
+    b'0' + number as u8
 }
