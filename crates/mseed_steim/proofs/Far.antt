@@ -1,5 +1,6 @@
 -- Differences that are added up at once, while the limits of 32 bits are out of reach.
-use Rattle.std.proofs.Common.{◌≡◌, ℕ, ◌+◌, ◌<◌, ◌≤◌, ◌^◌, List, [], ◌∷◌, ◌++◌, map, length, ℤ, pos, negsuc, ◌+ℤ◌, nat_abs, w32, FitsSigned, arith, refl, ◌∙◌, true, Ok, Result}
+use Rattle.std.proofs.Common.{◌≡◌, ℕ, ◌+◌, ◌<◌, ◌≤◌, ◌^◌, suc, List, [], ◌∷◌, ◌++◌, map, drop, get_or, length, ℤ, pos, negsuc, ◌+ℤ◌, nat_abs, w32, FitsSigned, arith, refl, ap, ◌∙◌, true, Ok, Result}
+use Rattle.std.proofs.Math.Seq.{drop-cons}
 use Rattle.std.proofs.lemmas.Int.{ints}
 use Rattle.std.proofs.lemmas.Bool.{lt-ltb}
 use Rattle.mseed_steim.specs.declared.differences.BadWordAt.{BadWordAt}
@@ -38,3 +39,10 @@ fold_far n (d ∷ ds) s more some room far =
 pub near_signed : (z : ℤ) → nat_abs z < 2 ^ 31 → FitsSigned w32 z
 near_signed (pos n) h = record { sfits = omega (arith, h) }
 near_signed (negsuc n) h = record { sfits = omega (arith, h) }
+
+-- the next of some differences, and those after it
+pub span_step : (ds : List ℤ) (i : ℕ) (z : ℤ) → i < length ds → span (drop i ds) ≡ nat_abs (get_or ds i z) + span (drop (i + 1) ds)
+span_step ds i z h =
+    let next : suc i ≡ i + 1 = omega arith in
+    let cut : drop i ds ≡ get_or ds i z ∷ drop (i + 1) ds = drop-cons ds i z h ∙ ap (λ (k : ℕ). get_or ds i z ∷ drop k ds) next in
+    ap span cut

@@ -57,7 +57,7 @@ unfolding counts_two widths_two differences_of
 row_two_3 word = each_of_4 (Row Two counts_two widths_two 3 word)
     (λ e few. rw e refl) (λ e few. rw e refl) (λ e few. rw e refl) (λ e few. absurd (omega (arith, few)))
 
-rows_two : Rows Two counts_two widths_two
+pub rows_two : Rows Two counts_two widths_two
 rows_two c word h small few =
     each_of_4 (λ n. (t : ℕ) → t < 4 → Row Two counts_two widths_two n word t) (row_two_0 word) (row_two_1 word) (row_two_2 word) (row_two_3 word) c h (word / 2 ^ 30) (omega arith) refl few
 
@@ -87,7 +87,7 @@ unfolding counts_one
 row_one_3 word = each_of_4 (Row One counts_one widths_one 3 word)
     (λ e few. absurd (omega (arith, few))) (λ e few. absurd (omega (arith, few))) (λ e few. absurd (omega (arith, few))) (λ e few. absurd (omega (arith, few)))
 
-rows_one : Rows One counts_one widths_one
+pub rows_one : Rows One counts_one widths_one
 rows_one c word h small few =
     each_of_4 (λ n. (t : ℕ) → t < 4 → Row One counts_one widths_one n word t) (row_one_0 word) (row_one_1 word) (row_one_2 word) (row_one_3 word) c h (word / 2 ^ 30) (omega arith) refl few
 
@@ -96,7 +96,7 @@ byte_is : (p f : List ℕ) (k i n : ℕ) → f ≡ take 64 (drop (64 * k) p) →
 byte_is p f k i n e h at = rw (e, at, get_or-take 64 (drop (64 * k) p) i 0 h) (get_or-drop (64 * k) p i 0)
 
 -- a word of it
-word_is : (p f : List ℕ) (k j : ℕ) → f ≡ take 64 (drop (64 * k) p) → j < 16 → word_at p (16 * k + j) ≡ lanes_word_at f j
+pub word_is : (p f : List ℕ) (k j : ℕ) → f ≡ take 64 (drop (64 * k) p) → j < 16 → word_at p (16 * k + j) ≡ lanes_word_at f j
 word_is p f k j e h =
     let at = λ (i : ℕ) (less : i < 4). get_or-drop (4 * (16 * k + j)) p i 0 ∙ sym (byte_is p f k (4 * j + i) (4 * (16 * k + j) + i) e (omega arith) (omega arith)) in
     rw (at 0 (omega arith), at 1 (omega arith), at 2 (omega arith), at 3 (omega arith)) (omega arith)
@@ -113,16 +113,16 @@ total-append : (xs ys : List ℤ) → total (xs ++ ys) ≡ total xs +ℤ total y
 total-append [] ys = omega (arith, ints)
 total-append (x ∷ xs) ys = let later = total-append xs ys in omega (arith, ints, later)
 
-span-append : (xs ys : List ℤ) → span (xs ++ ys) ≡ span xs + span ys
+pub span-append : (xs ys : List ℤ) → span (xs ++ ys) ≡ span xs + span ys
 span-append [] ys = omega arith
 span-append (x ∷ xs) ys = let later = span-append xs ys in omega (arith, later)
 
 -- ---- the words from word j of a frame on
 -- the differences of a word by its row
-abbrev group_at : List ℕ → List ℕ → List ℕ → ℕ → ℕ → List ℤ
+abbrev pub group_at : List ℕ → List ℕ → List ℕ → ℕ → ℕ → List ℤ
 group_at counts widths f from w = digits (get_or widths (row_at f from w) 0) (lanes_word_at f w) (get_or counts (row_at f from w) 0)
 
-abbrev count_at : List ℕ → List ℕ → ℕ → ℕ → ℕ
+abbrev pub count_at : List ℕ → List ℕ → ℕ → ℕ → ℕ
 count_at counts f from w = get_or counts (row_at f from w) 0
 
 -- what the n words from word j on spell, with their sums
@@ -134,9 +134,9 @@ record Found (s : Scheme) (counts widths p f : List ℕ) (k from j n : ℕ) : Ty
   near : span ds ≡ sum_l (map (λ w. span (group_at counts widths f from w)) (range_with_len j n))
 
 -- each word is read by its row
-record Reads (s : Scheme) (counts widths p f : List ℕ) (k from : ℕ) : Type 0 where
-  word : (j : ℕ) → j < 16 → from ≤ j → count_at counts f from j < 128 → differences_of s (code_at p (16 * k + j)) (word_at p (16 * k + j)) ≡ Some (group_at counts widths f from j)
-  empty : (j : ℕ) → j < from → count_at counts f from j ≡ 0
+pub record Reads (s : Scheme) (counts widths p f : List ℕ) (k from : ℕ) : Type 0 where
+  pub word : (j : ℕ) → j < 16 → from ≤ j → count_at counts f from j < 128 → differences_of s (code_at p (16 * k + j)) (word_at p (16 * k + j)) ≡ Some (group_at counts widths f from j)
+  pub empty : (j : ℕ) → j < from → count_at counts f from j ≡ 0
 
 found : (s : Scheme) (counts widths p f : List ℕ) (k from : ℕ) → Reads s counts widths p f k from
     → (n j : ℕ) → 0 < j → from ≤ j → j + n ≡ 16 → sum_l (map (count_at counts f from) (range_with_len j n)) < 128 → Found s counts widths p f k from j n
@@ -164,7 +164,7 @@ found s counts widths p f k from reads (suc n) j some behind end few =
     }
 
 -- a word of no differences
-none_at : (counts widths f : List ℕ) (from w : ℕ) → count_at counts f from w ≡ 0 → group_at counts widths f from w ≡ []
+pub none_at : (counts widths f : List ℕ) (from w : ℕ) → count_at counts f from w ≡ 0 → group_at counts widths f from w ≡ []
 unfolding digits
 none_at counts widths f from w e = rw e refl
 
@@ -209,7 +209,7 @@ moves s counts widths p f begin k from m (inr h) = rw h.0 (moves_4 s counts widt
 word_small : (f : List ℕ) (w : ℕ) → ((i : ℕ) → get_or f i 0 < 256) → lanes_word_at f w < 2 ^ 32
 word_small f w h = omega (arith, h (4 * w + 0), h (4 * w + 1), h (4 * w + 2), h (4 * w + 3))
 
-reads_by : (s : Scheme) (counts widths p f : List ℕ) (k from : ℕ) → Rows s counts widths → ((r : ℕ) → r < 4 → get_or counts r 0 ≡ 0) → f ≡ take 64 (drop (64 * k) p) → ((i : ℕ) → get_or f i 0 < 256)
+pub reads_by : (s : Scheme) (counts widths p f : List ℕ) (k from : ℕ) → Rows s counts widths → ((r : ℕ) → r < 4 → get_or counts r 0 ≡ 0) → f ≡ take 64 (drop (64 * k) p) → ((i : ℕ) → get_or f i 0 < 256)
     → Reads s counts widths p f k from
 reads_by s counts widths p f k from rows zeros e h = record {
   word = λ j less behind few.
@@ -221,11 +221,11 @@ reads_by s counts widths p f k from rows zeros e h = record {
       rw row (zeros (lanes_word_at f j / 2 ^ 30) (omega (arith, small)));
 }
 
-zeros_two : (r : ℕ) → r < 4 → get_or counts_two r 0 ≡ 0
+pub zeros_two : (r : ℕ) → r < 4 → get_or counts_two r 0 ≡ 0
 unfolding counts_two
 zeros_two = each_of_4 (λ r. get_or counts_two r 0 ≡ 0) refl refl refl refl
 
-zeros_one : (r : ℕ) → r < 4 → get_or counts_one r 0 ≡ 0
+pub zeros_one : (r : ℕ) → r < 4 → get_or counts_one r 0 ≡ 0
 unfolding counts_one
 zeros_one = each_of_4 (λ r. get_or counts_one r 0 ≡ 0) refl refl refl refl
 

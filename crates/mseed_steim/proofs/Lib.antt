@@ -40,3 +40,6 @@ pub mod ByteRun
 pub mod Unpacking
 pub mod Nearness
 pub mod Constants
+pub mod Lifts
+pub mod LaneDigits
+pub mod FrameUnpacked

@@ -10,6 +10,7 @@ pub mod Left
 pub mod Steps
 pub mod Lanes
 pub mod Moves
+pub mod Unpacked
 pub mod Samples
 pub mod Sums
 pub mod Reading

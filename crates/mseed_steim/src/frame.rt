@@ -31,7 +31,8 @@ macro_rules! rows_two {
     };
 }
 
-const COUNT_TWO: Rows = [0, 0, 0, 0, 4, 4, 4, 4, 128, 128, 2, 3, 5, 6, 7, 128];
+/// How many differences a word of a row has; 128 where it is bad or has one of 30 bits.
+pub(crate) const COUNT_TWO: Rows = [0, 0, 0, 0, 4, 4, 4, 4, 128, 128, 2, 3, 5, 6, 7, 128];
 
 /// The bits of the codes from word 4 on: each byte of word 0 has those of four words.
 pub(crate) const FROM_4: Rows = [
@@ -162,7 +163,8 @@ macro_rules! rows_one {
     };
 }
 
-const COUNT_ONE: Rows = [0, 0, 0, 0, 4, 4, 4, 4, 2, 2, 2, 2, 128, 128, 128, 128];
+/// The same; 128 where it has one of 32 bits.
+pub(crate) const COUNT_ONE: Rows = [0, 0, 0, 0, 4, 4, 4, 4, 2, 2, 2, 2, 128, 128, 128, 128];
 
 /// What counts for 1.
 #[inline(always)]

@@ -24,6 +24,7 @@ mod scheme;
 mod sum;
 #[cfg(test)]
 mod tests;
+mod unpack;
 mod walk;
 mod widen;
 mod word;

@@ -1,86 +1,27 @@
-//! Differences that are added up word by word, with each sample put in its place.
+//! Differences that are added up frame by frame, with each sample put in its place.
 
-ghost use Rattle.std.specs.Prelude.{◌≡◌, ◌+◌, ◌*◌, ◌^◌, ◌≤◌, ◌<◌, ◌∷◌, ◌++◌, List, ℤ, nat_abs, Result, Ok, IfOk, OnOk};
-ghost use Rattle.std.specs.Prelude.{map, take, length};
+ghost use Rattle.std.specs.Prelude.{◌≡◌, ◌+◌, ◌-◌, ◌*◌, ◌^◌, ◌≤◌, ◌<◌, ◌∷◌, ◌++◌, ℕ, List, ℤ, nat_abs, Result, Ok, IfOk};
+ghost use Rattle.std.specs.Prelude.{IfNone, IfSome, OnOk, drop, map, take, length};
 ghost use Rattle.mseed_steim.specs.declared.differences.BadWordAt.{BadWordAt};
 ghost use Rattle.mseed_steim.specs.Digits.{digits};
-ghost use Rattle.mseed_steim.specs.Frames.{DataWord, data_words};
+ghost use Rattle.mseed_steim.specs.Frames.{DataWord, data_words, words_from};
 ghost use Rattle.mseed_steim.specs.Items.{items_of};
-ghost use Rattle.mseed_steim.specs.Reads.{as_data, with_first};
+ghost use Rattle.mseed_steim.specs.Lanes.{Begins, span};
+ghost use Rattle.mseed_steim.specs.Reads.{as_data};
 ghost use Rattle.mseed_steim.specs.Sums.{GoesOn, Keeps, fold, met_in};
 
-use crate::data_words::{Word, Words};
+use crate::data_words::{FRAME, Word, Words};
 use crate::fault::ReadFault;
+use crate::frame::{FROM_1, FROM_4};
 use crate::group::{Group, group_of};
+use crate::lanes::Rows;
 use crate::scheme::Scheme;
 use crate::sum::{Sum, add_difference, add_near};
+use crate::unpack::{ROOM, unpack_frame};
 use crate::word::read_digit;
 
-/// The most differences that a word has.
-const MOST: usize = 7;
-
-/// The most bits of differences that are added without a look at the limits of 32 bits.
-const NARROW: u32 = 16;
-
-/// No sum of a word's differences of so few bits is further from 0 than this.
-const REACH: u32 = 1 << 18;
-
-/// The differences of a group, all of which are needed, while the limits of 32 bits are out of reach.
-#[inline(always)]
-fn put_all(word: u32, count: u32, width: u32, samples: usize, sum: Sum, out: &mut [i32]) -> Sum
-    requires places { length out.old ≡ samples }
-    requires some { 0 < sum.met }
-    requires left { sum.met + count ≤ samples }
-    requires positive { 0 < width }
-    requires narrow { width ≤ 16 }
-    requires fits { width * count ≤ 32 }
-    requires near { nat_abs sum.last + 2 ^ 15 * count < 2 ^ 31 }
-    ensures goes_on { (more : List (Result ℤ BadWordAt))
-        → fold samples sum (map Ok (digits width word count) ++ more) ≡ fold samples result more }
-    ensures kept { (more : List (Result ℤ BadWordAt))
-        → take result.met out.new ++ met_in samples result more
-        ≡ take sum.met out.old ++ met_in samples sum (map Ok (digits width word count) ++ more) }
-    ensures met { result.met ≡ sum.met + count }
-    ensures near { nat_abs result.last ≤ nat_abs sum.last + 2 ^ 15 * count }
-    ensures places { length out.new ≡ samples }
-{
-    let mut sum = sum;
-    for i in 0..count {
-        let next = add_near(read_digit(word, width, count - 1 - i), samples, sum);
-        out[sum.met] = next.last;
-        sum = next;
-    }
-    sum
-}
-
-/// The same, by a body for each of the groups of so few bits.
-#[inline(always)]
-fn put_row(word: u32, group: Group, samples: usize, sum: Sum, out: &mut [i32]) -> Sum
-    requires places { length out.old ≡ samples }
-    requires some { 0 < sum.met }
-    requires left { sum.met + group.count ≤ samples }
-    requires narrow { group.width ≤ 16 }
-    requires near { nat_abs sum.last + 2 ^ 15 * group.count < 2 ^ 31 }
-    ensures goes_on { (more : List (Result ℤ BadWordAt))
-        → fold samples sum (map Ok (digits group.width word group.count) ++ more) ≡ fold samples result more }
-    ensures kept { (more : List (Result ℤ BadWordAt))
-        → take result.met out.new ++ met_in samples result more
-        ≡ take sum.met out.old ++ met_in samples sum (map Ok (digits group.width word group.count) ++ more) }
-    ensures met { result.met ≡ sum.met + group.count }
-    ensures near { nat_abs result.last ≤ nat_abs sum.last + 2 ^ 15 * group.count }
-    ensures places { length out.new ≡ samples }
-{
-    match (group.count, group.width) {
-        (4, 8) => put_all(word, 4, 8, samples, sum, out),
-        (7, 4) => put_all(word, 7, 4, samples, sum, out),
-        (6, 5) => put_all(word, 6, 5, samples, sum, out),
-        (5, 6) => put_all(word, 5, 6, samples, sum, out),
-        (3, 10) => put_all(word, 3, 10, samples, sum, out),
-        (2, 15) => put_all(word, 2, 15, samples, sum, out),
-        (2, 16) => put_all(word, 2, 16, samples, sum, out),
-        _ => put_all(word, group.count, group.width, samples, sum, out),
-    }
-}
+/// No sum of a frame's differences is further from 0 than this, unless one of them has 30 or 32 bits.
+const REACH: u32 = 1 << 20;
 
 /// The differences of a group, one by one: as far as they are needed, and no sum leaves 32 bits.
 #[cold]
@@ -143,85 +84,172 @@ fn put_word(
     }
 }
 
-/// Words one after another, as long as all of their differences are needed, and so many at the most, while the
-/// limits of 32 bits are out of reach: the sum, and the word that ended the run since it is bad or has wide ones.
-#[inline(never)]
-fn put_run(
-    words: &mut Words<'_>,
+/// The differences of some words, as far as they are needed.
+#[cold]
+fn put_all_words(
     scheme: Scheme,
-    most: usize,
-    samples: usize,
-    sum: Sum,
-    out: &mut [i32],
-) -> (Sum, Option<Word>)
-    requires places { length out.old ≡ samples }
-    requires some { 0 < sum.met }
-    requires met { sum.met ≤ samples }
-    requires near { nat_abs sum.last + 2 ^ 18 * most ≤ 2 ^ 31 }
-    ensures goes_on { fold samples sum (items_of scheme words.old)
-        ≡ fold samples result.0 (items_of scheme (with_first result.1 words.new)) }
-    ensures kept { take result.0.met out.new
-        ++ met_in samples result.0 (items_of scheme (with_first result.1 words.new))
-        ≡ take sum.met out.old ++ met_in samples sum (items_of scheme words.old) }
-    ensures met { result.0.met ≤ samples }
-    ensures places { length out.new ≡ samples }
-    ensures fewer { length words.new ≤ length words.old }
-{
-    let mut sum = sum;
-    for turn in 0..most {
-        if samples - sum.met < MOST {
-            return (sum, None);
-        }
-        let Some(word) = words.next() else {
-            return (sum, None);
-        };
-        let Some(group) = group_of(scheme, word.code, word.bits) else {
-            return (sum, Some(word));
-        };
-        if group.width > NARROW {
-            return (sum, Some(word));
-        }
-        sum = put_row(word.bits, group, samples, sum, out);
-    }
-    (sum, None)
-}
-
-/// How many words at least can be added before the limits of 32 bits are reached, whatever their narrow
-/// differences are.
-fn words_ahead(sum: Sum) -> usize
-    ensures { nat_abs sum.last + 2 ^ 18 * result ≤ 2 ^ 31 }
-{
-    (((1 << 31) - sum.last.unsigned_abs()) / REACH) as usize
-}
-
-/// The words ahead as far as they can be added without a look at each sum, and the one that can't, if it ends them.
-fn put_ahead(
-    words: &mut Words<'_>,
-    scheme: Scheme,
+    words: Words<'_>,
     samples: usize,
     sum: Sum,
     out: &mut [i32],
 ) -> Result<Sum, ReadFault>
     requires places { length out.old ≡ samples }
     requires met { sum.met ≤ samples }
-    ensures goes_on { GoesOn samples sum (items_of scheme words.old) (items_of scheme words.new) result }
-    ensures kept { Keeps samples sum out.old (items_of scheme words.old) (items_of scheme words.new) out.new result }
+    ensures goes_on { (rest : List DataWord)
+        → GoesOn samples sum (items_of scheme (words.entry ++ rest)) (items_of scheme rest) result }
+    ensures kept { (rest : List DataWord)
+        → Keeps samples sum out.old (items_of scheme (words.entry ++ rest)) (items_of scheme rest) out.new result }
     ensures met { IfOk result (λ next. next.met ≤ samples) }
     ensures places { length out.new ≡ samples }
-    ensures fewer { length words.new ≤ length words.old }
 {
-    if sum.met == 0 {
-        return Ok(sum);
+    let mut sum = sum;
+    for word in words {
+        match put_word(scheme, word, samples, sum, out) {
+            Ok(next) => sum = next,
+            Err(fault) => return Err(fault),
+        }
     }
-    let (next, stopped) = put_run(words, scheme, words_ahead(sum), samples, sum, out);
-    match stopped {
-        Some(word) => put_word(scheme, word, samples, next, out),
-        None => Ok(next),
+    Ok(sum)
+}
+
+/// Differences that are all needed, while the limits of 32 bits are out of reach.
+#[inline(always)]
+fn put_near(differences: &[i32], samples: usize, sum: Sum, out: &mut [i32]) -> Sum
+    requires places { length out.old ≡ samples }
+    requires some { 0 < sum.met }
+    requires left { sum.met + length differences.now ≤ samples }
+    requires near { nat_abs sum.last + span differences.now < 2 ^ 31 }
+    ensures goes_on { (more : List (Result ℤ BadWordAt))
+        → fold samples sum (map Ok differences.now ++ more) ≡ fold samples result more }
+    ensures kept { (more : List (Result ℤ BadWordAt))
+        → take result.met out.new ++ met_in samples result more
+        ≡ take sum.met out.old ++ met_in samples sum (map Ok differences.now ++ more) }
+    ensures met { result.met ≡ sum.met + length differences.now }
+    ensures near { nat_abs result.last ≤ nat_abs sum.last + span differences.now }
+    ensures places { length out.new ≡ samples }
+{
+    let mut sum = sum;
+    for i in 0..differences.len() {
+        let next = add_near(differences[i], samples, sum);
+        out[sum.met] = next.last;
+        sum = next;
+    }
+    sum
+}
+
+/// The differences of a frame at once. None where its words have to be looked at: where not all are needed, none was
+/// met before, a word is bad or its differences wide, or the limits of 32 bits are within reach.
+#[inline(always)]
+fn put_at_once(
+    scheme: Scheme,
+    frame: &[u8; 64],
+    begin: Rows,
+    samples: usize,
+    sum: Sum,
+    differences: &mut [i32; ROOM],
+    out: &mut [i32],
+) -> Option<Sum>
+    requires places { length out.old ≡ samples }
+    requires met { sum.met ≤ samples }
+    requires begins { (from : ℕ) × Begins begin from }
+    ensures goes_on { IfSome result (λ next. (p : List ℕ) (k from : ℕ) (rest : List DataWord) → Begins begin from
+        → frame.now ≡ take 64 (drop (64 * k) p)
+        → fold samples sum (items_of scheme (words_from p (16 * k + from) (16 - from) ++ rest))
+        ≡ fold samples next (items_of scheme rest)) }
+    ensures kept { IfSome result (λ next. (p : List ℕ) (k from : ℕ) (rest : List DataWord) → Begins begin from
+        → frame.now ≡ take 64 (drop (64 * k) p)
+        → take next.met out.new ++ met_in samples next (items_of scheme rest)
+        ≡ take sum.met out.old
+        ++ met_in samples sum (items_of scheme (words_from p (16 * k + from) (16 - from) ++ rest))) }
+    ensures met { IfSome result (λ next. next.met ≤ samples) }
+    ensures places { length out.new ≡ samples }
+    ensures none { IfNone result (out.new ≡ out.old) }
+{
+    if sum.met == 0 || sum.last.unsigned_abs() >= (1 << 31) - REACH {
+        return None;
+    }
+    let count = unpack_frame(scheme, frame, begin, differences)?;
+    if samples - sum.met < count {
+        return None;
+    }
+    Some(put_near(&differences[..count], samples, sum, out))
+}
+
+/// The differences of the first frame, as far as they are needed.
+fn put_first_frame(
+    scheme: Scheme,
+    payload: &[u8],
+    frame: &[u8; 64],
+    samples: usize,
+    first: i32,
+    differences: &mut [i32; ROOM],
+    out: &mut [i32],
+) -> Result<Sum, ReadFault>
+    requires inside { 64 ≤ length payload.now }
+    requires front { frame.now ≡ take 64 payload.now }
+    requires places { length out.old ≡ samples }
+    ensures goes_on { (rest : List DataWord)
+        → GoesOn samples (record { met = 0; last = first })
+        (items_of scheme (words_from payload.now 3 13 ++ rest)) (items_of scheme rest) result }
+    ensures kept { (rest : List DataWord)
+        → Keeps samples (record { met = 0; last = first }) out.old
+        (items_of scheme (words_from payload.now 3 13 ++ rest)) (items_of scheme rest) out.new result }
+    ensures met { IfOk result (λ next. next.met ≤ samples) }
+    ensures places { length out.new ≡ samples }
+{
+    let none = Sum {
+        met: 0,
+        last: first,
+    };
+    let mut words = Words::between(payload, 3, FRAME);
+    let Some(word) = words.next() else {
+        return Ok(none);
+    };
+    let sum = match put_word(scheme, word, samples, none, out) {
+        Ok(sum) => sum,
+        Err(fault) => return Err(fault),
+    };
+    match put_at_once(scheme, frame, FROM_4, samples, sum, differences, out) {
+        Some(sum) => Ok(sum),
+        None => put_all_words(scheme, words, samples, sum, out),
+    }
+}
+
+/// The differences of a later frame, as far as they are needed.
+fn put_frame(
+    scheme: Scheme,
+    payload: &[u8],
+    frame: &[u8; 64],
+    index: usize,
+    samples: usize,
+    sum: Sum,
+    differences: &mut [i32; ROOM],
+    out: &mut [i32],
+) -> Result<Sum, ReadFault>
+    requires inside { 64 * (index + 1) ≤ length payload.now }
+    requires at { frame.now ≡ take 64 (drop (64 * index) payload.now) }
+    requires places { length out.old ≡ samples }
+    requires met { sum.met ≤ samples }
+    ensures goes_on { (rest : List DataWord)
+        → GoesOn samples sum
+        (items_of scheme (words_from payload.now (16 * index) 16 ++ rest)) (items_of scheme rest) result }
+    ensures kept { (rest : List DataWord)
+        → Keeps samples sum out.old
+        (items_of scheme (words_from payload.now (16 * index) 16 ++ rest)) (items_of scheme rest) out.new result }
+    ensures met { IfOk result (λ next. next.met ≤ samples) }
+    ensures places { length out.new ≡ samples }
+{
+    match put_at_once(scheme, frame, FROM_1, samples, sum, differences, out) {
+        Some(sum) => Ok(sum),
+        None => {
+            let words = Words::between(payload, FRAME * index, FRAME * (index + 1));
+            put_all_words(scheme, words, samples, sum, out)
+        }
     }
 }
 
 /// The sum of so many samples, of which this is the first, each put in its place, or what comes first in place
-/// of one.
+/// of one. Frames are added up at once, where that can't go wrong, and else word by word.
 pub(crate) fn put_words(
     payload: &[u8],
     scheme: Scheme,
@@ -229,26 +257,43 @@ pub(crate) fn put_words(
     first: i32,
     out: &mut [i32],
 ) -> Result<Sum, ReadFault>
-    requires { length out.old ≡ samples }
+    requires framed { 64 ≤ length payload.now }
+    requires places { length out.old ≡ samples }
     ensures folded { result
         ≡ fold samples (record { met = 0; last = first }) (items_of scheme (data_words payload.now)) }
     ensures kept { OnOk result (out.new
         ≡ met_in samples (record { met = 0; last = first }) (items_of scheme (data_words payload.now))) }
 {
-    let mut sum = Sum {
-        met: 0,
-        last: first,
+    let (frames, _) = payload.as_chunks::<64>();
+    let mut differences = [0; ROOM];
+    let begun = put_first_frame(
+        scheme,
+        payload,
+        &frames[0],
+        samples,
+        first,
+        &mut differences,
+        out,
+    );
+    let mut sum = match begun {
+        Ok(sum) => sum,
+        Err(fault) => return Err(fault),
     };
-    let mut words = Words::of(payload);
-    while let Some(word) = words.next() {
+    for index in 1..frames.len() {
         if sum.met == samples {
             return Ok(sum);
         }
-        match put_word(scheme, word, samples, sum, out) {
-            Ok(next) => sum = next,
-            Err(fault) => return Err(fault),
-        }
-        match put_ahead(&mut words, scheme, samples, sum, out) {
+        let frame = &frames[index];
+        match put_frame(
+            scheme,
+            payload,
+            frame,
+            index,
+            samples,
+            sum,
+            &mut differences,
+            out,
+        ) {
             Ok(next) => sum = next,
             Err(fault) => return Err(fault),
         }

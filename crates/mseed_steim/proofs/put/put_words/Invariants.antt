@@ -1,16 +1,13 @@
-use Rattle.std.proofs.Common.{◌≡◌, ◌≤◌, ◌++◌, take, length}
-use Rattle.mseed_steim.specs.Frames.{data_words}
+use Rattle.std.proofs.Common.{◌≡◌, ◌≤◌, ◌-◌, ◌*◌, ◌++◌, take, length}
+use Rattle.mseed_steim.specs.Frames.{data_words, words_from, word_count}
 use Rattle.mseed_steim.specs.Items.{items_of}
 use Rattle.mseed_steim.specs.Sums.{fold, met_in}
 use Rattle.mseed_steim.proofs.put.put_words.Given as goal
 
-abbrev pub invariant-loop-word : goal.invariant-loop-word
-invariant-loop-word l = record {
-  room : length l.out ≡ l.samples;
+abbrev pub invariant-loop-index : goal.invariant-loop-index
+invariant-loop-index l = record {
+  places : length l.out ≡ l.samples;
   met : l.sum.met ≤ l.samples;
-  same : fold l.samples (record { met = 0; last = l.first }) (items_of l.scheme (data_words l.payload)) ≡ fold l.samples l.sum (items_of l.scheme l.words);
-  kept : take l.sum.met l.out ++ met_in l.samples l.sum (items_of l.scheme l.words) ≡ met_in l.samples (record { met = 0; last = l.first }) (items_of l.scheme (data_words l.payload));
+  same : fold l.samples (record { met = 0; last = l.first }) (items_of l.scheme (data_words l.payload)) ≡ fold l.samples l.sum (items_of l.scheme (words_from l.payload (16 * l.index) (word_count l.payload - 16 * l.index)));
+  kept : take l.sum.met l.out ++ met_in l.samples l.sum (items_of l.scheme (words_from l.payload (16 * l.index) (word_count l.payload - 16 * l.index))) ≡ met_in l.samples (record { met = 0; last = l.first }) (items_of l.scheme (data_words l.payload));
 }
-
-abbrev pub decreases-loop-word : goal.decreases-loop-word
-decreases-loop-word l = length l.words

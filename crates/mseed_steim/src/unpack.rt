@@ -1,0 +1,245 @@
+//! The differences of a frame's words side by side, each word at once and without a branch on its row, which the
+//! processor could but guess.
+//!
+//! A word is multiplied, in each lane, by what lifts one of its differences to the top of 32 bits; a shift down, the
+//! same in all lanes, leaves the differences. The lanes behind the last one hold anything: there stand the
+//! differences of the next word.
+
+ghost use Rattle.std.specs.Prelude.{◌≡◌, ◌<◌, ◌≤◌, ◌+◌, ◌-◌, ◌*◌, ◌^◌, ℕ, List, ◌++◌, ℤ, Ok, IfSome, map, take, drop};
+ghost use Rattle.std.specs.Prelude.{slice_index, slice_index_or};
+ghost use Rattle.std.specs.Simd.Lanes.{sum_l};
+ghost use Rattle.mseed_steim.specs.Digits.{digit_at, digits};
+ghost use Rattle.mseed_steim.specs.Frames.{DataWord, words_from};
+ghost use Rattle.mseed_steim.specs.Items.{items_of};
+ghost use Rattle.mseed_steim.specs.Lanes.{Begins, row_at, span, word_at, words};
+ghost use Rattle.mseed_steim.specs.Unpacked.{AreNarrow, Unpacks, counts_of, lanes_of, unpacked, widths_of};
+
+use crate::data_words::read_word;
+use crate::frame::{COUNT_ONE, COUNT_TWO};
+use crate::lanes::{Rows, planes, rows_of, sum_of, tally};
+use crate::scheme::Scheme;
+
+/// The lanes of a word: no fewer than it has differences.
+const LANES: usize = 8;
+
+/// Those of a word of Steim-1, as far as its differences have at most 16 bits.
+const LANES_ONE: usize = 4;
+
+/// Room for the differences of a frame, and the lanes behind the last of them.
+pub(crate) const ROOM: usize = 128;
+
+/// How the words of a row are unpacked.
+#[derive(Clone, Copy)]
+struct Unpacking {
+    /// What lifts each difference to the top of 32 bits.
+    lifts: [u32; LANES],
+    /// By how many bits it is let down.
+    fall: u32,
+    /// How many differences there are.
+    count: usize,
+}
+
+/// A row of so many differences.
+macro_rules! row {
+    ($count:literal, $width:literal, $lifts:expr) => {
+        Unpacking {
+            lifts: $lifts,
+            fall: 32 - $width,
+            count: $count,
+        }
+    };
+}
+
+/// Words with no differences, and those that aren't unpacked: they are bad, or have one of 30 or 32 bits.
+const NONE: Unpacking = row!(0, 8, [0, 0, 0, 0, 0, 0, 0, 0]);
+
+const BYTES: Unpacking = row!(4, 8, [1, 0x100, 0x1_0000, 0x100_0000, 0, 0, 0, 0]);
+
+/// By code and dnib, in Steim-2.
+static ROWS_TWO: [Unpacking; 16] = [
+    NONE,
+    NONE,
+    NONE,
+    NONE,
+    BYTES,
+    BYTES,
+    BYTES,
+    BYTES,
+    NONE,
+    NONE,
+    row!(2, 15, [4, 0x2_0000, 0, 0, 0, 0, 0, 0]),
+    row!(3, 10, [4, 0x1000, 0x40_0000, 0, 0, 0, 0, 0]),
+    row!(5, 6, [4, 0x100, 0x4000, 0x10_0000, 0x400_0000, 0, 0, 0]),
+    row!(
+        6,
+        5,
+        [4, 0x80, 0x1000, 0x2_0000, 0x40_0000, 0x800_0000, 0, 0]
+    ),
+    row!(
+        7,
+        4,
+        [
+            0x10,
+            0x100,
+            0x1000,
+            0x1_0000,
+            0x10_0000,
+            0x100_0000,
+            0x1000_0000,
+            0
+        ]
+    ),
+    NONE,
+];
+
+const PAIR: Unpacking = row!(2, 16, [1, 0x1_0000, 0, 0, 0, 0, 0, 0]);
+
+/// By code and top bits, in Steim-1.
+static ROWS_ONE: [Unpacking; 16] = [
+    NONE, NONE, NONE, NONE, BYTES, BYTES, BYTES, BYTES, PAIR, PAIR, PAIR, PAIR, NONE, NONE, NONE,
+    NONE,
+];
+
+/// How a word of a row is unpacked.
+#[inline(always)]
+fn unpacking_of(scheme: Scheme, row: usize) -> &'static Unpacking
+    requires { row < 16 }
+    ensures few { result.now.count ≤ lanes_of scheme }
+    ensures low { result.now.fall < 32 }
+    ensures row { slice_index (counts_of scheme) row < 128
+        → Unpacks (slice_index (counts_of scheme) row) (slice_index (widths_of scheme) row) result.now }
+{
+    match scheme {
+        Scheme::One => &ROWS_ONE[row],
+        Scheme::Two => &ROWS_TWO[row],
+    }
+}
+
+/// How many lanes a word has.
+#[inline(always)]
+fn lanes_of(scheme: Scheme) -> usize
+    ensures { result ≡ lanes_of scheme }
+{
+    match scheme {
+        Scheme::One => LANES_ONE,
+        Scheme::Two => LANES,
+    }
+}
+
+/// A difference that is lifted to the top of 32 bits, and let down.
+#[inline(always)]
+fn digit_by(word: u32, lift: u32, fall: u32) -> i32
+    requires { fall < 32 }
+    ensures { (width place : ℕ) → 0 < width → width * (place + 1) ≤ 32 → lift ≡ 2 ^ (32 - width * (place + 1))
+        → fall ≡ 32 - width → result ≡ digit_at width word place }
+{
+    word.wrapping_mul(lift).cast_signed() >> fall
+}
+
+/// The differences of a word, from a place on.
+#[inline(always)]
+fn spread(word: u32, by: &Unpacking, lanes: usize, at: usize, differences: &mut [i32; ROOM])
+    requires low { by.now.fall < 32 }
+    requires enough { by.now.count ≤ lanes }
+    requires few { lanes ≤ 8 }
+    requires room { at + 8 ≤ 128 }
+    ensures { (width : ℕ) → Unpacks by.now.count width by.now
+        → take (at + by.now.count) differences.new ≡ take at differences.old ++ digits width word by.now.count }
+{
+    for lane in 0..lanes {
+        differences[at + lane] = digit_by(word, by.lifts[lane], by.fall);
+    }
+}
+
+/// The rows of a frame's words, and how many differences these have: 128 or more where a word is bad or has one of
+/// 30 or 32 bits.
+#[inline(always)]
+fn rows_in(scheme: Scheme, frame: &[u8; 64], begin: Rows) -> ([u8; 16], u32)
+    ensures small { (word : ℕ) → slice_index result.0 word < 16 }
+    ensures rows { (from word : ℕ) → Begins begin from → word < 16
+        → slice_index result.0 word ≡ row_at frame.now from word }
+    ensures count { (from : ℕ) → Begins begin from
+        → result.1 ≡ sum_l (map (λ w. slice_index (counts_of scheme) (row_at frame.now from w)) words) }
+{
+    let (tops, _, _, _) = planes(frame);
+    let rows = rows_of(frame, tops, begin);
+    let count = match scheme {
+        Scheme::One => sum_of(tally(rows, COUNT_ONE)),
+        Scheme::Two => sum_of(tally(rows, COUNT_TWO)),
+    };
+    (rows.to_array(), count)
+}
+
+/// The differences of a frame's words of these rows, in their order: how many there are.
+#[inline(always)]
+fn unpack_words(
+    scheme: Scheme,
+    frame: &[u8; 64],
+    rows: &[u8; 16],
+    differences: &mut [i32; ROOM],
+) -> usize
+    requires small { (word : ℕ) → slice_index rows.now word < 16 }
+    ensures few { result ≤ 120 }
+    ensures unpacked { (from : ℕ) → ((word : ℕ) → word < 16 → slice_index rows.now word ≡ row_at frame.now from word)
+        → AreNarrow scheme frame.now from → take result differences.new ≡ unpacked scheme frame.now from 1 15 }
+{
+    let mut met = 0;
+    for index in 0..15 {
+        let by = unpacking_of(scheme, usize::from(rows[index + 1]));
+        spread(
+            read_word(frame, index + 1),
+            by,
+            lanes_of(scheme),
+            met,
+            differences,
+        );
+        met += by.count;
+    }
+    met
+}
+
+/// The differences of a frame's words from word 1 or word 4 on, in their order: how many there are. None where a word
+/// is bad or has a difference of 30 or 32 bits.
+#[inline(always)]
+fn unpack_by(
+    scheme: Scheme,
+    frame: &[u8; 64],
+    begin: Rows,
+    differences: &mut [i32; ROOM],
+) -> Option<usize>
+    requires { (from : ℕ) × Begins begin from }
+    ensures few { IfSome result (λ count. count ≤ 120) }
+    ensures items { IfSome result (λ count. (p : List ℕ) (k from : ℕ) (rest : List DataWord) → Begins begin from
+        → frame.now ≡ take 64 (drop (64 * k) p)
+        → items_of scheme (words_from p (16 * k + from) (16 - from) ++ rest)
+        ≡ map Ok (take count differences.new) ++ items_of scheme rest) }
+    ensures near { IfSome result (λ count. span (take count differences.new) ≤ 2 ^ 20) }
+{
+    let (rows, count) = rows_in(scheme, frame, begin);
+    if count >= 128 {
+        return None;
+    }
+    Some(unpack_words(scheme, frame, &rows, differences))
+}
+
+/// The same, by a body for each scheme, with its own table and lanes.
+#[inline(always)]
+pub(crate) fn unpack_frame(
+    scheme: Scheme,
+    frame: &[u8; 64],
+    begin: Rows,
+    differences: &mut [i32; ROOM],
+) -> Option<usize>
+    requires { (from : ℕ) × Begins begin from }
+    ensures few { IfSome result (λ count. count ≤ 120) }
+    ensures items { IfSome result (λ count. (p : List ℕ) (k from : ℕ) (rest : List DataWord) → Begins begin from
+        → frame.now ≡ take 64 (drop (64 * k) p)
+        → items_of scheme (words_from p (16 * k + from) (16 - from) ++ rest)
+        ≡ map Ok (take count differences.new) ++ items_of scheme rest) }
+    ensures near { IfSome result (λ count. span (take count differences.new) ≤ 2 ^ 20) }
+{
+    match scheme {
+        Scheme::One => unpack_by(Scheme::One, frame, begin, differences),
+        Scheme::Two => unpack_by(Scheme::Two, frame, begin, differences),
+    }
+}
