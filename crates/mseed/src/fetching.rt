@@ -18,7 +18,7 @@ use slink_feed::{Client, Event, LinkFault, Turn, fetch_turn};
 /// How a fetch ended.
 #[derive(Clone, Copy, Debug, PartialEq, Eq)]
 pub enum FetchEnd {
-    /// The server has sent all that was asked for.
+    /// The server said `END`: that it has sent all that was asked for.
     Done,
     /// The server refused a place.
     Refused,
@@ -30,8 +30,8 @@ pub enum FetchEnd {
     LinkFailed,
 }
 
-/// Fetches over one link after another, at most so many, until the server has sent all that was asked for. A `dial`
-/// that fails uses up a try. Each record goes to the output as soon as it is told of.
+/// Fetches over one link after another, at most so many, until the server says that it has sent all that was asked for,
+/// and gives each back. A `dial` that fails uses up a try. Each record goes to the output as soon as it is told of.
 ///
 /// The exit status is answered: 0, or 2 with a line on `errors` that says why not all came.
 pub fn fetch_all<D: Dial, W: Sink, E: Sink>(
