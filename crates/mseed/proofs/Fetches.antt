@@ -1,7 +1,7 @@
 -- Turns with a link, one after another, and links one after another.
 use Rattle.std.proofs.Common.{◌≡◌, ◌⊎◌, ℕ, ◌+◌, ◌<◌, ◌≤◌, inl, inr, refl, sym, ap, subst, ◌∙◌, arith, List, [], ◌∷◌, ◌++◌, append_assoc, append-nil, length, length-append, take, Option, Some, None, Result, Ok, Err, IfOk, IfErr}
 use Rattle.std.proofs.Math.Seq.{take-append-add}
-use Rattle.mseed_stream.specs.Device.{Heard, IsFrontOf, Said, nothing_heard}
+use Rattle.mseed_stream.specs.Device.{Heard, IsFrontOf, Said, nothing_heard, nothing_said}
 use Rattle.mseed_stream.specs.Exchanges.{Exchange, exchange}
 use Rattle.slink_feed.specs.declared.dialogue.Ending.{Ending}
 use Rattle.slink_feed.specs.declared.dialogue.Ending.TheVariants as endings
@@ -23,7 +23,7 @@ use Rattle.slink_feed.proofs.OneReading as one
 use Rattle.slink_feed.proofs.Telling.{bytes_both, records_both, told_both, told_far, told_link, told_none, wants_said}
 use Rattle.mseed.specs.declared.fetching.FetchEnd.{FetchEnd}
 use Rattle.mseed.specs.declared.fetching.FetchEnd.TheVariants.{Done, Refused, BadFeed, WriteFailed, LinkFailed}
-use Rattle.mseed.specs.Fetched.{AreTaken, HasFetched, HasReadEach, HasReadLink, HasReadLinks, HasTurned, HaveMoved, IsReading, IsUnended, StandsAt, StandsBy, TakesRecords, all, but_last, end_by, failures_by, over_none, over_one_more}
+use Rattle.mseed.specs.Fetched.{AreTaken, HasFetched, HasReadEach, HasReadLink, HasReadLinks, HasTurned, HaveMoved, IsFetchedOver, IsReading, IsUnended, StandsAt, StandsBy, TakesRecords, all, but_last, end_by, failures_by, over_none, over_one_more}
 
 -- What the output takes, one part after another.
 took_none : (old : Said) → Took old old []
@@ -436,10 +436,17 @@ reads_both a b c before now after s t u p q = record {
 }
 
 -- a new link that was fetched over
-pub reads_one : (a b : Listening) (before after : List Exchange) (h h' : Heard) (said' : Said) (s t : Said) → h ≡ nothing_heard → HasReadLink a b h h' s t → after ≡ before ++ exchange h' said' ∷ []
+pub reads_one : (a b : Listening) (before after : List Exchange) (h h' : Heard) (said said' s t : Said) (end : FetchEnd)
+    → h ≡ nothing_heard → said ≡ nothing_said → HasReadLink a b h h' s t
+    → IsFetchedOver (fetching a said s) h end (fetching b said' t) h' → after ≡ before ++ exchange h' said' ∷ []
     → HasReadEach a b before after s t
-reads_one a b before after h h' said' s t unheard is given = record {
+reads_one a b before after h h' said said' s t end unheard unsaid is over given = record {
   links = exchange h' said' ∷ [];
   given_back = given;
-  read = over_one_more a b b (exchange h' said') [] s t t (subst (λ (x : Heard). HasReadLink a b x h' s t) unheard is) (over_none b t);
+  read = over_one_more a b b (exchange h' said') [] s t t (record {
+    end = end;
+    read = subst (λ (x : Heard). HasReadLink a b x h' s t) unheard is;
+    turns = subst (λ (x : Heard). IsFetchedOver (fetching a nothing_said s) x end (fetching b said' t) h') unheard
+        (subst (λ (x : Said). IsFetchedOver (fetching a x s) h end (fetching b said' t) h') unsaid over);
+  }) (over_none b t);
 }

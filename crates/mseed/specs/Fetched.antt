@@ -1,6 +1,6 @@
 -- How fetching over one link after another ends, and what the output took by then.
 use Rattle.std.specs.Prelude.{◌≡◌, ◌⊎◌, ℕ, ◌+◌, ◌%◌, ◌^◌, ◌<◌, ◌≤◌, List, ◌∷◌, ◌++◌, [], length, Option, Some, None, Result, Ok, Err, IfOk, IfErr, codes}
-use Rattle.mseed_stream.specs.Device.{Heard, IsFrontOf, Said, nothing_heard}
+use Rattle.mseed_stream.specs.Device.{Heard, IsFrontOf, Said, nothing_heard, nothing_said}
 use Rattle.mseed_stream.specs.Exchanges.{Exchange}
 use Rattle.slink_feed.specs.declared.dialogue.Ending.{Ending}
 use Rattle.slink_feed.specs.declared.dialogue.Ending.TheVariants as endings
@@ -191,10 +191,17 @@ pub data IsFetchedOver (old : Fetching) (before : Heard) : FetchEnd → Fetching
   unsaid : (begun : Listening) (line : Event) (said : Said) (count : ℕ) → Begins old.client begun line
       → TookFront old.said said (line_said line) count → IsFetchedOver old before LinkFailed (fetching begun said old.output) before
 
--- One link after another was fetched over, each from its first byte on.
+-- A link was fetched over from its first byte on: what it told was read, and turns were taken with it up to the one by
+-- which the fetch ended.
+pub record WasFetchedOver (old new : Listening) (link : Exchange) (said_old said_new : Said) : Type 0 where
+  pub end : FetchEnd
+  pub read : HasReadLink old new nothing_heard link.heard said_old said_new
+  pub turns : IsFetchedOver (fetching old nothing_said said_old) nothing_heard end (fetching new link.said said_new) link.heard
+
+-- One link after another was fetched over.
 pub data HasReadLinks : Listening → Listening → List Exchange → Said → Said → Type 0 where
   over_none : (now : Listening) (said : Said) → HasReadLinks now now [] said said
-  over_one_more : (old now new : Listening) (link : Exchange) (links : List Exchange) (a b c : Said) → HasReadLink old now nothing_heard link.heard a b
+  over_one_more : (old now new : Listening) (link : Exchange) (links : List Exchange) (a b c : Said) → WasFetchedOver old now link a b
       → HasReadLinks now new links b c → HasReadLinks old new (link ∷ links) a c
 
 -- Some links were given back behind those before, and these were fetched over in turn.
