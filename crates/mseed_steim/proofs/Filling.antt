@@ -67,7 +67,7 @@ words_split p k (suc n) m =
     (λ (plain : k % 16 ≡ 0 → ⊥). words_step p k (n + m) plain ∙ ap (λ (ws : List DataWord). data_word p k ∷ ws) later ∙ ap (λ (ws : List DataWord). ws ++ words_from p (k + suc n) m) (sym (words_step p k n plain)))
     (cases_eq (k % 16) 0)
 
-words_same : (p q : List ℕ) (k n : ℕ) → ((i : ℕ) → k ≤ i → i < k + n → i % 16 ≢ 0 → data_word p i ≡ data_word q i) → words_from p k n ≡ words_from q k n
+pub words_same : (p q : List ℕ) (k n : ℕ) → ((i : ℕ) → k ≤ i → i < k + n → i % 16 ≢ 0 → data_word p i ≡ data_word q i) → words_from p k n ≡ words_from q k n
 words_same p q k zero h = words_none p k ∙ sym (words_none q k)
 words_same p q k (suc n) h =
     let later : words_from p (k + 1) n ≡ words_from q (k + 1) n = words_same p q (k + 1) n (λ i low high. h i (omega (arith, low)) (omega (arith, high))) in
@@ -102,7 +102,7 @@ get_zero zero i = refl
 get_zero (suc n) zero = refl
 get_zero (suc n) (suc i) = get_zero n i
 
-word_zero : (n k : ℕ) → word_at (replicate n 0) k ≡ 0
+pub word_zero : (n k : ℕ) → word_at (replicate n 0) k ≡ 0
 word_zero n k =
     let byte : (i : ℕ) → get_or (drop (4 * k) (replicate n 0)) i 0 ≡ 0 = λ i. get_or-drop (4 * k) (replicate n 0) i 0 ∙ get_zero n (4 * k + i) in
     rw (byte 0, byte 1, byte 2, byte 3) refl

@@ -56,7 +56,7 @@ first_fits ds i size p h known =
     rw (get_or-take i ds 0 (pos 0) p) at (All-get_or (IsWithin 32) (take i ds) 0 (pos 0) long (known.fits 32 known.small))
 
 -- a front that a word spells fits the row of its length
-front_fits : (s : Scheme) (ds : List ℤ) (k : ℕ) → 0 < k → k ≤ length ds → CanSpell s (take k ds) → (r : Row) × ((row_for s k ≡ Some r) × All (IsWithin r.width) (take k ds))
+pub front_fits : (s : Scheme) (ds : List ℤ) (k : ℕ) → 0 < k → k ≤ length ds → CanSpell s (take k ds) → (r : Row) × ((row_for s k ≡ Some r) × All (IsWithin r.width) (take k ds))
 front_fits s ds k p in' can =
     let long : length (take k ds) ≡ k = length-take-le k ds in' in
     let fits : FitsRow s (take k ds) = spelled_fits s (take k ds) (omega (arith, long, p)) can in

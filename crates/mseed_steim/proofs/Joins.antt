@@ -66,10 +66,6 @@ Placed w c ds i word = word ≡ positional w (take i (take c ds)) * 2 ^ (w * (c 
 pub placed_none : (w c : ℕ) (ds : List ℤ) → Placed w c ds 0 0
 placed_none w c ds = omega arith
 
--- the low bits of a number, as many as a mask has
-pub mask_is : (w : ℕ) → w ≤ 32 → 1 * 2 ^ w % 2 ^ 64 - 1 ≡ 2 ^ w - 1
-mask_is w n = ap (λ (x : ℕ). x - 1) (one_shl w 64 (omega (arith, n)))
-
 -- one that is of the word
 placed_more : (w c i : ℕ) (ds : List ℤ) (word digit : ℕ) → 0 < w → w ≤ 32 → w * c ≤ 32 → c ≤ length ds → i < c → Placed w c ds i word → FitsSigned w32 (get_or ds i (pos 0)) → digit ≡ of_z w32 (get_or ds i (pos 0))
     → Placed w c ds (i + 1) ((word + digit % 2 ^ w * 2 ^ (w * (c - 1 - i)) % 2 ^ 32) % 2 ^ 32)

@@ -28,12 +28,15 @@ pub mod FrameItems
 pub mod Rows
 pub mod Widths
 pub mod Joins
-pub mod Places
 pub mod Fullest
 pub mod Packs
 pub mod Fewest
 pub mod Written
 pub mod Filling
+pub mod Sizes
+pub mod Layouts
+pub mod Held
+pub mod Coding
 pub mod OnePacking
 pub mod Widened
 pub mod ByteRun

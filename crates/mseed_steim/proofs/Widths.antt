@@ -5,11 +5,7 @@ use lib.IntN.{nat_abs}
 use Rattle.std.proofs.lemmas.Bool.{lt-ltb, ltb-true}
 use Rattle.std.proofs.lemmas.Int.{ints, to_z-of_z}
 use Rattle.mseed_steim.specs.Spelling.{IsWithin}
-
--- the number, or the one below its opposite
-abbrev pub size_of : ℤ → ℕ
-size_of (pos n) = n
-size_of (negsuc n) = n
+use Rattle.mseed_steim.specs.Ahead.{size_of}
 
 not_below : (n : ℕ) → lt_z (pos n) (pos 0) ≡ true → ⊥
 not_below n e = let t : ltb n 0 ≡ true = e in absurd (omega (arith, ltb-true n 0 t))

@@ -16,7 +16,14 @@ same_number xs ys h = rw (h 0 (omega arith), h 1 (omega arith), h 2 (omega arith
 abbrev pub with_bytes : ℕ → List ℕ → List ℕ → List ℕ
 with_bytes a p bytes = take a p ++ (bytes ++ drop (a + 4) p)
 
-word_with : (a n : ℕ) (p : List ℕ) (k j : ℕ) → a ≡ 4 * j → 4 * (j + 1) ≤ length p → n < 2 ^ 32 → word_at (with_bytes a p (big_bytes 4 n)) k ≡ cond (eqb k j) n (word_at p k)
+pub length_with : (a : ℕ) (p bytes : List ℕ) → length bytes ≡ 4 → a + 4 ≤ length p → length (with_bytes a p bytes) ≡ length p
+length_with a p bytes four h =
+    let front : length (take a p) ≡ a = length-take-le a p (omega (arith, h)) in
+    let back : length (drop (a + 4) p) ≡ length p - (a + 4) = length-drop (a + 4) p in
+    let rest : length (bytes ++ drop (a + 4) p) ≡ length bytes + length (drop (a + 4) p) = length-append bytes (drop (a + 4) p) in
+    omega (arith, length-append (take a p) (bytes ++ drop (a + 4) p), front, rest, four, back, h)
+
+pub word_with : (a n : ℕ) (p : List ℕ) (k j : ℕ) → a ≡ 4 * j → 4 * (j + 1) ≤ length p → n < 2 ^ 32 → word_at (with_bytes a p (big_bytes 4 n)) k ≡ cond (eqb k j) n (word_at p k)
 word_with a n p k j e h small =
     let long : length (take a p) ≡ a = length-take-le a p (omega (arith, e, h)) in
     let four : length (big_bytes 4 n) ≡ 4 = length-bytes_high_first 4 n in

@@ -17,3 +17,4 @@ pub mod Reading
 pub mod Nearness
 pub mod Packing
 pub mod Rows
+pub mod Ahead

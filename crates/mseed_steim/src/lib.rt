@@ -2,6 +2,7 @@
 //! Manual 2.4, appendix B).
 #![tactic(auto)]
 
+mod ahead;
 mod check;
 mod data_words;
 mod differences;
@@ -12,6 +13,7 @@ mod frame;
 mod group;
 mod lanes;
 mod law;
+mod layout;
 mod pack;
 mod packing;
 mod put;

@@ -1,15 +1,19 @@
 //! Differences packed into words that are as full as words can be.
 
-ghost use Rattle.std.specs.Prelude.{◌≡◌, ◌≢◌, ◌⊎◌, ◌↔◌, ℕ, ◌+◌, ◌*◌, ◌%◌, ◌<◌, ◌≤◌, ◌==◌, if◌then◌else◌, Err, IfOk};
+ghost use Rattle.std.specs.Prelude.{◌≡◌, ◌⊎◌, ◌↔◌, ℕ, ◌+◌, ◌-◌, ◌*◌, ◌%◌, ◌^◌, ◌<◌, ◌≤◌, ◌==◌, if◌then◌else◌};
+ghost use Rattle.std.specs.Prelude.{bit_or, Err, IfOk};
 ghost use Rattle.std.specs.Prelude.{MatchResult, length, take, drop};
 ghost use Rattle.std.specs.List.{AllByRecursion};
 ghost use Rattle.mseed_steim.specs.declared.scheme.Scheme.TheVariants.{Two};
+ghost use Rattle.mseed_steim.specs.Ahead.{IsAhead};
 ghost use Rattle.mseed_steim.specs.Frames.{code_at, data_words, word_at, word_count};
 ghost use Rattle.mseed_steim.specs.Packing.{IsEmptyWord, IsFarthest, IsFewest, IsFirstTooLarge, IsFullest};
 ghost use Rattle.mseed_steim.specs.Packing.{IsTooLargeAt, LeavesRoom, PacksRun};
 ghost use Rattle.mseed_steim.specs.Runs.{SpellsRun};
 
-use crate::data_words::{FRAME, WORD, read_word};
+use crate::ahead::Ahead;
+use crate::data_words::{FRAME, WORD};
+use crate::layout::word_ahead;
 use crate::row::{fullest_row, word_of};
 use crate::scheme::Scheme;
 use byteorder::{BigEndian, ByteOrder};
@@ -42,9 +46,24 @@ pub fn pack_word(scheme: Scheme, diffs: &[i32]) -> Result<(u8, u32, usize), TooL
         (λ _. IsTooLargeAt scheme diffs.now 0) }
 {
     match fullest_row(scheme, diffs) {
-        Some(row) => Ok((row.code, word_of(scheme, row, diffs), row.count)),
+        Some(row) => Ok((row.code, word_of(row, diffs), row.count)),
         None => Err(TooLarge),
     }
+}
+
+/// The same word, by the most differences that are held, where two or more are known to be.
+#[inline(always)]
+fn next_word(scheme: Scheme, most: usize, diffs: &[i32]) -> Result<(u8, u32, usize), TooLarge>
+    requires some { 0 < length diffs.now }
+    requires ahead { IsAhead scheme diffs.now most }
+    ensures fullest { IfOk result (λ word. IsFullest scheme diffs.now word.0 word.1 word.2) }
+    ensures refused { MatchResult result (λ _. ¬ (IsTooLargeAt scheme diffs.now 0))
+        (λ _. IsTooLargeAt scheme diffs.now 0) }
+{
+    if 2 <= most {
+        return Ok(word_ahead(scheme, most, diffs));
+    }
+    pack_word(scheme, diffs)
 }
 
 /// Writes the bits of a word of the frames.
@@ -55,19 +74,13 @@ fn write_word(frames: &mut [u8], index: usize, word: u32)
     BigEndian::write_u32(&mut frames[WORD * index..], word);
 }
 
-/// Writes a data word, and its code into the first word of its frame.
-fn put_word(frames: &mut [u8], index: usize, code: u8, word: u32)
-    requires inside { index < word_count frames.old }
-    requires data { index % 16 ≢ 0 }
-    requires code { code < 4 }
-    requires empty { code_at frames.old index ≡ 0 }
-    ensures words { (k : ℕ) → k % 16 ≢ 0 → word_at frames.new k ≡ (if k == index then word else word_at frames.old k) }
-    ensures codes { (k : ℕ) → code_at frames.new k ≡ (if k == index then code else code_at frames.old k) }
+/// A frame's codes with that of one more of its data words.
+#[inline(always)]
+fn with_code(codes: u32, index: usize, code: u8) -> u32
+    requires { code < 4 }
+    ensures { result ≡ bit_or codes ((code * 2 ^ (30 - 2 * (index % 16))) % 2 ^ 32) }
 {
-    let first = index / FRAME * FRAME;
-    let codes = read_word(frames, first) | u32::from(code) << (30 - 2 * (index % FRAME));
-    write_word(frames, first, codes);
-    write_word(frames, index, word);
+    codes | u32::from(code) << (30 - 2 * (index % FRAME))
 }
 
 /// Packs differences into frames, from the first on: each data word in turn takes the largest number of
@@ -101,22 +114,32 @@ pub fn pack_words(scheme: Scheme, diffs: &[i32], frames: &mut [u8]) -> Result<Pa
     frames.fill(0);
     let mut used = 0;
     let mut words = 0;
+    // The frame that is being filled: its first word, and the codes that belong there.
+    let mut head = 0;
+    let mut codes = 0;
+    let mut ahead = Ahead::new();
     for index in 3..frames.len() / WORD {
-        if used == diffs.len() {
-            break;
-        }
         if index % FRAME == 0 {
+            write_word(frames, head, codes);
+            head = index;
+            codes = 0;
             continue;
         }
-        match pack_word(scheme, &diffs[used..]) {
+        let most = ahead.most_at(scheme, diffs, used);
+        if most < 2 && used == diffs.len() {
+            break;
+        }
+        match next_word(scheme, most, &diffs[used..]) {
             Ok((code, word, count)) => {
-                put_word(frames, index, code, word);
+                write_word(frames, index, word);
+                codes = with_code(codes, index, code);
                 used += count;
                 words += 1;
             }
             Err(_) => return Err(TooLargeAt { index: used }),
         }
     }
+    write_word(frames, head, codes);
     Ok(Packed { used, words })
 }
 

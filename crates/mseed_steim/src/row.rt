@@ -1,7 +1,7 @@
 //! The rows of the table of groups, by how many differences they have, and the fullest word.
 
-ghost use Rattle.std.specs.Prelude.{◌≡◌, ◌↔◌, ◌+◌, ◌-◌, ◌*◌, ◌^◌, ◌<◌, ◌≤◌, ℕ, length, pos, slice_index_or, take, Some};
-ghost use Rattle.mseed_steim.specs.Rows.{ArePlaces, row_with, row_for, size_limit, IsBestRow};
+ghost use Rattle.std.specs.Prelude.{◌≡◌, ◌↔◌, ◌+◌, ◌-◌, ◌*◌, ◌^◌, ◌<◌, ◌≤◌, ℕ, length, pos, slice_index_or, take};
+ghost use Rattle.mseed_steim.specs.Rows.{row_with, row_for, size_limit, IsBestRow};
 ghost use Rattle.mseed_steim.specs.Spelling.{IsWithin, positional};
 
 use crate::scheme::Scheme;
@@ -128,72 +128,10 @@ fn join_digits(diffs: &[i32], width: u32) -> u32
     word as u32
 }
 
-/// How many differences are joined in one turn, be they of the word or not.
-const LANES: usize = 8;
-
-/// What each difference of a word of Steim-2 counts for, by how many it holds; nothing behind the last.
-static PLACES_TWO: [[u32; LANES]; LANES] = [
-    [0, 0, 0, 0, 0, 0, 0, 0],
-    [1, 0, 0, 0, 0, 0, 0, 0],
-    [0x8000, 1, 0, 0, 0, 0, 0, 0],
-    [0x10_0000, 0x400, 1, 0, 0, 0, 0, 0],
-    [0x100_0000, 0x1_0000, 0x100, 1, 0, 0, 0, 0],
-    [0x100_0000, 0x4_0000, 0x1000, 0x40, 1, 0, 0, 0],
-    [0x200_0000, 0x10_0000, 0x8000, 0x400, 0x20, 1, 0, 0],
-    [0x100_0000, 0x10_0000, 0x1_0000, 0x1000, 0x100, 0x10, 1, 0],
-];
-
-/// The same of Steim-1, which has words of 1, 2 and 4.
-static PLACES_ONE: [[u32; LANES]; LANES] = [
-    [0, 0, 0, 0, 0, 0, 0, 0],
-    [1, 0, 0, 0, 0, 0, 0, 0],
-    [0x1_0000, 1, 0, 0, 0, 0, 0, 0],
-    [0, 0, 0, 0, 0, 0, 0, 0],
-    [0x100_0000, 0x1_0000, 0x100, 1, 0, 0, 0, 0],
-    [0, 0, 0, 0, 0, 0, 0, 0],
-    [0, 0, 0, 0, 0, 0, 0, 0],
-    [0, 0, 0, 0, 0, 0, 0, 0],
-];
-
-/// What the differences of a row count for in a word.
-#[inline(always)]
-fn places_of(scheme: Scheme, row: Row) -> &'static [u32; LANES]
-    requires { row_for scheme row.count ≡ Some row }
-    ensures { ArePlaces row.width row.count result.now }
-{
-    match scheme {
-        Scheme::One => &PLACES_ONE[row.count],
-        Scheme::Two => &PLACES_TWO[row.count],
-    }
-}
-
-/// The first differences of eight or more, as many as a row has. There is no branch on how many, which the processor
-/// could but guess.
-#[inline(always)]
-fn join_row(diffs: &[i32], row: Row, places: &[u32; LANES]) -> u32
-    requires eight { 8 ≤ length diffs.now }
-    requires places { ArePlaces row.width row.count places.now }
-    requires few { row.count ≤ 7 }
-    requires room { row.width * row.count ≤ 32 }
-    requires positive { 0 < row.width }
-    requires narrow { row.width ≤ 32 }
-    ensures { result ≡ positional row.width (take row.count diffs.now) }
-{
-    let mask = ((1u64 << row.width) - 1) as u32;
-    let mut word = 0u32;
-    for index in 0..LANES {
-        let digit = diffs[index].cast_unsigned() & mask;
-        word = word.wrapping_add(digit.wrapping_mul(places[index]));
-    }
-    word
-}
-
 /// The word of a row with the first of these differences.
 #[inline(always)]
-pub(crate) fn word_of(scheme: Scheme, row: Row, diffs: &[i32]) -> u32
-    requires found { row_for scheme row.count ≡ Some row }
+pub(crate) fn word_of(row: Row, diffs: &[i32]) -> u32
     requires inside { row.count ≤ length diffs.now }
-    requires few { row.count ≤ 7 }
     requires room { row.width * row.count ≤ 32 }
     requires positive { 0 < row.width }
     requires narrow { row.width ≤ 32 }
@@ -201,10 +139,5 @@ pub(crate) fn word_of(scheme: Scheme, row: Row, diffs: &[i32]) -> u32
     requires apart { 0 < row.dnib → row.width * row.count ≤ 30 }
     ensures { result ≡ row.dnib * 2 ^ 30 + positional row.width (take row.count diffs.now) }
 {
-    let digits = if diffs.len() < LANES {
-        join_digits(&diffs[..row.count], row.width)
-    } else {
-        join_row(diffs, row, places_of(scheme, row))
-    };
-    row.dnib << 30 | digits
+    row.dnib << 30 | join_digits(&diffs[..row.count], row.width)
 }

@@ -1,5 +1,6 @@
 //! Packed words, worked by hand from the manual's tables.
 
+use crate::data_words::read_word;
 use crate::{Packed, Scheme, TooLargeAt, least_words, pack_word, pack_words};
 
 const DIFFERENCES: [i32; 5] = [300, 1, 1, 1, 1];
@@ -69,4 +70,46 @@ fn counts_the_fewest_words(rt: HostRuntime) {
         pack_words(Scheme::Two, &[0, 536_870_912], &mut frame),
         Err(TooLargeAt { index: 1 })
     );
+}
+
+/// Differences of many widths, in stretches of some of about one width.
+fn many_widths() -> [i32; 700] {
+    let mut diffs = [0; 700];
+    let mut state = 1u32;
+    for index in 0..700 {
+        state = state.wrapping_mul(1_664_525).wrapping_add(1_013_904_223);
+        let narrow = index / 9 * 5 % 23 + index % 4;
+        diffs[index] = state.cast_signed() >> (2 + narrow);
+    }
+    diffs
+}
+
+#[test]
+fn packs_as_word_by_word(rt: HostRuntime) {
+    let diffs = many_widths();
+    for scheme in [Scheme::One, Scheme::Two] {
+        let mut frames = [255; 4032];
+        let packed = pack_words(scheme, &diffs, &mut frames);
+        let mut used = 0usize;
+        let mut words = 0usize;
+        for index in 3..1008 {
+            let left = diffs.get(used..).unwrap_or(&[]);
+            if index % 16 == 0 || left.is_empty() {
+                continue;
+            }
+            if let Ok((code, word, count)) = pack_word(scheme, left) {
+                let codes = read_word(&frames, index / 16 * 16);
+                assert_eq!(rt; read_word(&frames, index), word, "word {index}");
+                assert_eq!(rt;
+                    codes >> (30 - 2 * (index % 16)) & 3,
+                    u32::from(code),
+                    "code {index}"
+                );
+                used = used.wrapping_add(count);
+                words = words.wrapping_add(1);
+            }
+        }
+        assert_eq!(rt; packed, Ok(Packed { used, words }));
+        assert_eq!(rt; used, 700);
+    }
 }

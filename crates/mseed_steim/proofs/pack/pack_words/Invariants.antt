@@ -1,5 +1,12 @@
-use Rattle.mseed_steim.proofs.Filling.{Filling}
+use Rattle.std.proofs.Common.{◌≤◌, ◌+◌}
+use Rattle.mseed_steim.specs.Ahead.{Tells}
+use Rattle.mseed_steim.proofs.Coding.{Coding}
 use Rattle.mseed_steim.proofs.pack.pack_words.Given as goal
 
 abbrev pub invariant-loop-index : goal.invariant-loop-index
-invariant-loop-index l = Filling l.scheme l.diffs l.frames l.index l.used l.words
+invariant-loop-index l = record {
+  coding : Coding l.scheme l.diffs l.frames l.head l.codes l.index l.used l.words;
+  tells : Tells l.scheme l.diffs l.ahead;
+  from : l.ahead.begin ≤ l.used;
+  to : l.used ≤ l.ahead.begin + 64;
+}

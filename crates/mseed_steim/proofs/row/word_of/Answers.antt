@@ -1,15 +1,10 @@
 use Rattle.std.proofs.Common.{◌≡◌, take, length}
 use Rattle.std.proofs.lemmas.List.{length-take-le}
 use Rattle.mseed_steim.proofs.Joins.{dnib_joined}
-use Rattle.mseed_steim.proofs.row.word_of.Goals.{then-diffs-lt-LANES, else-diffs-lt-LANES}
 use Rattle.mseed_steim.proofs.row.word_of.Goals as goal
 
 pub returns : goal.returns
 returns c =
     let front = take c.args.row.count c.args.diffs.now in
     let long : length front ≡ c.args.row.count = length-take-le c.args.row.count c.args.diffs.now c.requires.inside in
-    let joined = dnib_joined c.args.row.dnib c.args.row.width front c.requires.dnib (rw long c.requires.room) (λ some. rw long (c.requires.apart some)) in
-    elim c.if-diffs-lt-LANES.branch [
-      | then-diffs-lt-LANES w ↦ rw (w.digits-is, w.join_digits-digits.ensures) joined
-      | else-diffs-lt-LANES w ↦ rw (w.digits-is, w.join_row-digits.ensures) joined
-    ]
+    rw c.join_digits.ensures (dnib_joined c.args.row.dnib c.args.row.width front c.requires.dnib (rw long c.requires.room) (λ some. rw long (c.requires.apart some)))

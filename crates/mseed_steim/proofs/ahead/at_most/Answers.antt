@@ -1,0 +1,10 @@
+use Rattle.std.proofs.Common.{◌≡◌, ◌-◌, length, take, drop}
+use lib.Lanes.{chunk}
+use Rattle.mseed_steim.proofs.Sizes.{lanes_bounded, sixteen_at, length_sixteen}
+use Rattle.mseed_steim.proofs.ahead.at_most.Goals as goal
+
+pub returns : goal.returns
+returns c = λ i inside k.
+    let place : c.from.result ≡ c.args.place = c.from.ensures in
+    rw (place, ← sixteen_at c.args.held.now c.args.place i c.requires.long inside)
+    (lanes_bounded 16 c.args.place c.args.most (chunk 0 16 (take (length c.args.held.now - c.args.place) (drop c.args.place c.args.held.now))) i c.fits-most.0 (length_sixteen c.args.held.now c.args.place c.requires.long) inside k)

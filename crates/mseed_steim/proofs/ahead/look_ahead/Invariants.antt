@@ -1,0 +1,9 @@
+use Rattle.std.proofs.Common.{◌≡◌, ◌<◌, ◌≤◌, ℕ, get_or, drop}
+use Rattle.mseed_steim.specs.Ahead.{IsAhead}
+use Rattle.mseed_steim.proofs.ahead.look_ahead.Given as goal
+
+abbrev pub invariant-loop-index : goal.invariant-loop-index
+invariant-loop-index l = record {
+  ahead : (i : ℕ) → i < 57 → IsAhead l.fn.scheme (drop i l.fn.diffs) (get_or l.most i 0);
+  none : (i : ℕ) → 57 ≤ i → i < l.index → get_or l.most i 0 ≡ 0;
+}

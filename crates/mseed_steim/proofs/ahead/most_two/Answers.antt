@@ -1,0 +1,19 @@
+use Rattle.std.proofs.Common.{◌≡◌, ◌<◌, ℕ, arith, map, subst, sym, List}
+use Rattle.std.proofs.lemmas.Simd.{splat_is_map}
+use lib.Lanes.{Each1}
+use Rattle.mseed_steim.specs.Ahead.{most_two}
+use Rattle.mseed_steim.proofs.Sizes.{two_1, two_2, two_3, two_4, two_5, two_6, each_map}
+use Rattle.mseed_steim.proofs.ahead.most_two.Goals as goal
+
+pub returns : goal.returns
+returns c =
+    let zero = splat_is_map c.args.sizes 16 1 c.fits-sizes.0 in
+    let one = c.raised-most.ensures (λ _. 1) zero (λ x. omega arith) in
+    let two = c.raised-most-2.ensures _ one (λ x. omega (arith, two_1 x)) in
+    let three = c.raised-most-3.ensures _ two (λ x. omega (arith, two_2 x)) in
+    let four = c.raised-most-4.ensures _ three (λ x. omega (arith, two_3 x)) in
+    let five = c.raised-most-5.ensures _ four (λ x. omega (arith, two_4 x)) in
+    let value : c.raised.result ≡ map most_two c.args.sizes = c.raised.ensures _ five (λ x. omega (arith, two_5 x)) in record {
+      value = value;
+      small = subst (λ (xs : List ℕ). Each1 (λ x. x < 256) xs) (sym value) (each_map (λ x. x < 256) most_two (λ x. omega (arith, two_6 x)) c.args.sizes);
+    }

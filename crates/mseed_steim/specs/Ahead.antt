@@ -1,0 +1,62 @@
+-- How many differences words hold, by the sizes of single differences.
+use Rattle.std.specs.Prelude.{◌≡◌, ◌↔◌, ℕ, ◌+◌, ◌-◌, ◌*◌, ◌/◌, ◌^◌, ◌<◌, ◌≤◌, ◌==◌, nat_lt, if◌then◌else◌, List, length, drop, ℤ, pos, negsuc, slice_index_or, Some}
+use Rattle.mseed_steim.specs.declared.row.Row.{Row}
+use Rattle.mseed_steim.specs.declared.layout.Layout.{Layout}
+use Rattle.mseed_steim.specs.declared.ahead.Ahead.{Ahead}
+use Rattle.mseed_steim.specs.Rows.{row_for, IsBestRow, ArePlaces}
+use Rattle.mseed_steim.specs.declared.scheme.Scheme.{Scheme}
+use Rattle.mseed_steim.specs.declared.scheme.Scheme.TheVariants.{One, Two}
+
+-- the number, or the one below its opposite: the bits that it takes but for its sign
+abbrev pub size_of : ℤ → ℕ
+size_of (pos n) = n
+size_of (negsuc n) = n
+
+-- the number, where it's below 2^15
+abbrev pub near : ℕ → ℕ
+near n = if nat_lt n 32767 then n else 32767
+
+-- half the size in Steim-1, and the size in Steim-2, where that is below 2^15
+abbrev pub near_size : Scheme → ℤ → ℕ
+near_size One z = near (size_of z / 2)
+near_size Two z = near (size_of z)
+
+-- one more where a number is below a limit
+abbrev pub raised : (ℕ → ℕ) → ℕ → ℕ → ℕ
+raised f limit x = f x + (if nat_lt x limit then 1 else 0)
+
+-- the most differences of a word that holds two or more, one of which is of this near size
+abbrev pub most_two : ℕ → ℕ
+most_two = raised (raised (raised (raised (raised (raised (λ _. 1) 16384) 512) 128) 32) 16) 8
+
+abbrev pub most_one : ℕ → ℕ
+most_one = raised (raised (raised (λ _. 1) 16384) 64) 64
+
+abbrev pub most_with : Scheme → ℕ → ℕ
+most_with One = most_one
+most_with Two = most_two
+
+-- The largest number of the items from a place on, seven at the most, of which each is no less than it.
+abbrev pub IsMost : List ℕ → ℕ → ℕ → Type 0
+IsMost items from most = (k : ℕ) → (k ≤ most) ↔ ((j : ℕ) → j < k → j < 7 → k ≤ slice_index_or items (from + j) 0)
+
+-- how many of them a word takes: Steim-1 has no word of three
+abbrev pub taken : Scheme → ℕ → ℕ
+taken One most = if most == 3 then 2 else most
+taken Two most = most
+
+-- Where two or more are held, this is the row that takes the largest number of the differences, of which there are eight or more.
+abbrev pub IsAhead : Scheme → List ℤ → ℕ → Type 0
+IsAhead scheme ds most =
+    2 ≤ most → (most ≤ 7) × (8 ≤ length ds) × ((row : Row) × ((row_for scheme (taken scheme most) ≡ Some row) × IsBestRow scheme ds (length ds) (Some row)))
+
+-- a row's bits of one difference, its dnib where it stands in a word, and what its differences count for
+abbrev pub IsLayout : Scheme → Layout → Type 0
+IsLayout scheme layout =
+    (row_for scheme layout.row.count ≡ Some layout.row) × (layout.mask ≡ 2 ^ layout.row.width - 1) × (layout.head ≡ layout.row.dnib * 2 ^ 30)
+    × ArePlaces layout.row.width layout.row.count layout.places
+
+-- What was found from a place on is so of the differences, and nothing is told of the last places.
+abbrev pub Tells : Scheme → List ℤ → Ahead → Type 0
+Tells scheme ds ahead =
+    ((i : ℕ) → i < 80 → IsAhead scheme (drop (ahead.begin + i) ds) (slice_index_or ahead.most i 0)) × ((i : ℕ) → 57 ≤ i → i < 80 → slice_index_or ahead.most i 0 ≡ 0)

@@ -1,0 +1,222 @@
+//! How many differences the next words take, found ahead, for many places at once.
+
+ghost use Rattle.std.specs.Prelude.{◌≡◌, ◌⊎◌, ◌↔◌, ◌≤◌, ◌<◌, ◌+◌, ℕ, ℤ, List, pos, drop, length, map, slice_index};
+ghost use Rattle.std.specs.Prelude.{slice_index_or};
+ghost use Rattle.std.specs.Simd.Lanes.{Each1};
+ghost use Rattle.mseed_steim.specs.Ahead.{near_size, raised, most_one, most_two, most_with, IsAhead, IsMost, Tells};
+
+use crate::scheme::Scheme;
+use std::simd::prelude::*;
+
+/// How many differences are looked at ahead.
+const AHEAD: usize = 64;
+
+/// How many places are told of: for a word eight differences are read.
+const KNOWN: usize = AHEAD - 7;
+
+/// How many bytes it takes to tell of each place among them how many a word takes there.
+const ROOM: usize = AHEAD + 16;
+
+/// Half the size of a difference in Steim-1, and its size in Steim-2; 32767 where that is larger.
+#[inline(always)]
+fn near_size(scheme: Scheme, difference: i32) -> u16
+    ensures { result ≡ near_size scheme difference }
+{
+    let size = if difference < 0 {
+        !difference
+    } else {
+        difference
+    };
+    match scheme {
+        Scheme::One => (size >> 1).min(32767) as u16,
+        Scheme::Two => size.min(32767) as u16,
+    }
+}
+
+/// The sizes of so many differences.
+#[inline(always)]
+fn put_sizes(scheme: Scheme, diffs: &[i32], sizes: &mut [u16; AHEAD])
+    requires { 64 ≤ length diffs.now }
+    ensures { (i : ℕ) → i < 64 → slice_index sizes.new i ≡ near_size scheme (slice_index_or diffs.now i (pos 0)) }
+{
+    for index in 0..AHEAD {
+        sizes[index] = near_size(scheme, diffs[index]);
+    }
+}
+
+/// One more where a size is below the limit.
+#[inline(always)]
+fn raised(most: u16x16, sizes: u16x16, limit: u16) -> u16x16
+    requires small { limit < 32768 }
+    requires near { Each1 (λ x. x < 32768) sizes }
+    ensures { (f : ℕ → ℕ) → most ≡ map f sizes → ((x : ℕ) → f x < 65535) → result ≡ map (raised f limit) sizes }
+{
+    let is_below = sizes.cast::<i16>().simd_lt(i16x16::splat(limit as i16));
+    most + is_below.select(u16x16::splat(1), u16x16::splat(0))
+}
+
+/// The most differences of a word of Steim-2 that holds two or more, by the near size of one of them.
+#[inline(always)]
+fn most_two(sizes: u16x16) -> u16x16
+    requires { Each1 (λ x. x < 32768) sizes }
+    ensures value { result ≡ map most_two sizes }
+    ensures small { Each1 (λ x. x < 256) result }
+{
+    let most = raised(u16x16::splat(1), sizes, 1 << 14);
+    let most = raised(most, sizes, 1 << 9);
+    let most = raised(most, sizes, 1 << 7);
+    let most = raised(most, sizes, 1 << 5);
+    let most = raised(most, sizes, 1 << 4);
+    raised(most, sizes, 1 << 3)
+}
+
+/// The same of Steim-1.
+#[inline(always)]
+fn most_one(sizes: u16x16) -> u16x16
+    requires { Each1 (λ x. x < 32768) sizes }
+    ensures value { result ≡ map most_one sizes }
+    ensures small { Each1 (λ x. x < 256) result }
+{
+    let most = raised(u16x16::splat(1), sizes, 1 << 14);
+    let most = raised(most, sizes, 1 << 6);
+    raised(most, sizes, 1 << 6)
+}
+
+/// The most differences of words that hold two or more, by the near sizes of single ones.
+#[inline(always)]
+fn most_with(scheme: Scheme, sizes: u16x16) -> u8x16
+    requires { Each1 (λ x. x < 32768) sizes }
+    ensures { result ≡ map (most_with scheme) sizes }
+{
+    let most = match scheme {
+        Scheme::One => most_one(sizes),
+        Scheme::Two => most_two(sizes),
+    };
+    most.cast::<u8>()
+}
+
+/// The most differences of words that hold two or more, by one of them.
+#[inline(always)]
+fn put_most(scheme: Scheme, sizes: &[u16; AHEAD], most: &mut [u8; ROOM])
+    requires { (i : ℕ) → i < 64 → slice_index sizes.now i < 32768 }
+    ensures { (i : ℕ) → i < 64 → slice_index most.new i ≡ most_with scheme (slice_index sizes.now i) }
+{
+    for turn in 0..AHEAD / 16 {
+        let sixteen = u16x16::from_slice(&sizes[16 * turn..]);
+        most_with(scheme, sixteen).copy_to_slice(&mut most[16 * turn..]);
+    }
+}
+
+/// What is no more than a vector's lanes, nor than the greater of a place and what is held that far behind.
+#[inline(always)]
+fn at_most(most: u8x16, held: &[u8], place: u8) -> u8x16
+    requires long { 16 + place ≤ length held.now }
+    ensures { (i : ℕ) → i < 16 → (k : ℕ) → (k ≤ slice_index result i)
+        ↔ ((k ≤ slice_index most i) × ((k ≤ slice_index held.now (i + place)) ⊎ (k ≤ place))) }
+{
+    let here = u8x16::from_slice(&held[usize::from(place)..]);
+    most.simd_min(here.simd_max(u8x16::splat(place)))
+}
+
+/// How many of the first items of which each is no less; so from each of sixteen places on.
+#[inline(always)]
+fn most_from(held: &[u8]) -> u8x16
+    requires { 22 ≤ length held.now }
+    ensures { (i : ℕ) → i < 16 → IsMost held.now i (slice_index result i) }
+{
+    let most = u8x16::from_slice(held);
+    let most = at_most(most, held, 1);
+    let most = at_most(most, held, 2);
+    let most = at_most(most, held, 3);
+    let most = at_most(most, held, 4);
+    let most = at_most(most, held, 5);
+    at_most(most, held, 6)
+}
+
+/// The same from each place on, in the place of the items.
+#[inline(always)]
+fn bound(held: &mut [u8; ROOM])
+    ensures { (i : ℕ) → i < 64 → IsMost held.old i (slice_index held.new i) }
+{
+    for turn in 0..AHEAD / 16 {
+        let lanes = most_from(&held[16 * turn..]);
+        lanes.copy_to_slice(&mut held[16 * turn..]);
+    }
+}
+
+/// The most differences that are held from each of the first 57 places on; nothing is told of others.
+fn look_ahead(scheme: Scheme, diffs: &[i32], most: &mut [u8; ROOM])
+    requires { 64 ≤ length diffs.now }
+    ensures ahead { (i : ℕ) → i < 80 → IsAhead scheme (drop i diffs.now) (slice_index most.new i) }
+    ensures none { (i : ℕ) → 57 ≤ i → i < 80 → slice_index most.new i ≡ 0 }
+{
+    let mut sizes = [0; AHEAD];
+    put_sizes(scheme, diffs, &mut sizes);
+    put_most(scheme, &sizes, most);
+    bound(most);
+    for index in KNOWN..ROOM {
+        most[index] = 0;
+    }
+}
+
+/// What has been found ahead: the most differences that are held, from each of some places on.
+#[derive(Drop)]
+pub(crate) struct Ahead {
+    begin: usize,
+    most: [u8; ROOM],
+}
+
+impl Ahead {
+    /// Nothing is known yet.
+    pub(crate) fn new() -> Self
+        ensures tells { (scheme : Scheme) (ds : List ℤ) → Tells scheme ds result }
+        ensures begin { result.begin ≡ 0 }
+    {
+        Ahead {
+            begin: 0,
+            most: [0; ROOM],
+        }
+    }
+
+    /// The most differences that are held from a place on; less than two where nothing is told of them.
+    #[inline(always)]
+    pub(crate) fn most_at(&mut self, scheme: Scheme, diffs: &[i32], place: usize) -> usize
+        requires tells { Tells scheme diffs.now self.old }
+        requires inside { place ≤ length diffs.now }
+        requires from { self.old.begin ≤ place }
+        requires to { place ≤ self.old.begin + 64 }
+        ensures tells { Tells scheme diffs.now self.new }
+        ensures ahead { IsAhead scheme (drop place diffs.now) result }
+        ensures from { self.new.begin ≤ place }
+        ensures to { place < self.new.begin + 57 }
+    {
+        let most = self.most[place - self.begin];
+        if 2 <= most {
+            return usize::from(most);
+        }
+        self.look_again(scheme, diffs, place)
+    }
+
+    /// The same, where two or more aren't known: what lies ahead is looked at once nothing is known there.
+    fn look_again(&mut self, scheme: Scheme, diffs: &[i32], place: usize) -> usize
+        requires tells { Tells scheme diffs.now self.old }
+        requires inside { place ≤ length diffs.now }
+        requires from { self.old.begin ≤ place }
+        requires to { place ≤ self.old.begin + 64 }
+        ensures tells { Tells scheme diffs.now self.new }
+        ensures ahead { IsAhead scheme (drop place diffs.now) result }
+        ensures from { self.new.begin ≤ place }
+        ensures to { place < self.new.begin + 57 }
+    {
+        if place - self.begin < KNOWN {
+            return usize::from(self.most[place - self.begin]);
+        }
+        self.begin = place;
+        if diffs.len() - place < AHEAD {
+            self.most = [0; ROOM];
+        } else {
+            look_ahead(scheme, &diffs[place..], &mut self.most);
+        }
+        usize::from(self.most[0])
+    }
+}

@@ -1,0 +1,248 @@
+//! How the rows of the table lay their differences out in a word, and words of them that are joined at once.
+
+ghost use Rattle.std.specs.Prelude.{◌≡◌, ◌*◌, ◌+◌, ◌<◌, ◌≤◌, ◌^◌, Some, length, take};
+ghost use Rattle.mseed_steim.specs.Ahead.{IsLayout, IsAhead, taken};
+ghost use Rattle.mseed_steim.specs.Packing.{IsFullest};
+ghost use Rattle.mseed_steim.specs.Rows.{row_for};
+ghost use Rattle.mseed_steim.specs.Spelling.{positional};
+ghost use Rattle.mseed_steim.specs.declared.row.Row.{Row};
+
+use crate::row::Row;
+use crate::scheme::Scheme;
+
+/// How many differences are joined in one turn, be they of the word or not.
+const LANES: usize = 8;
+
+/// A row, the bits of one of its differences, its dnib where it stands in a word, and what each of its differences
+/// counts for; nothing behind the last.
+struct Layout {
+    row: Row,
+    mask: u32,
+    head: u32,
+    places: [u32; LANES],
+}
+
+/// The layouts of Steim-2, by how many differences of the next are held by the words that hold each.
+static LAYOUTS_TWO: [Layout; LANES] = [
+    Layout {
+        row: Row {
+            code: 0,
+            dnib: 0,
+            count: 0,
+            width: 0,
+        },
+        mask: 0,
+        head: 0,
+        places: [0, 0, 0, 0, 0, 0, 0, 0],
+    },
+    Layout {
+        row: Row {
+            code: 2,
+            dnib: 1,
+            count: 1,
+            width: 30,
+        },
+        mask: 0x3FFF_FFFF,
+        head: 0x4000_0000,
+        places: [1, 0, 0, 0, 0, 0, 0, 0],
+    },
+    Layout {
+        row: Row {
+            code: 2,
+            dnib: 2,
+            count: 2,
+            width: 15,
+        },
+        mask: 0x7FFF,
+        head: 0x8000_0000,
+        places: [0x8000, 1, 0, 0, 0, 0, 0, 0],
+    },
+    Layout {
+        row: Row {
+            code: 2,
+            dnib: 3,
+            count: 3,
+            width: 10,
+        },
+        mask: 0x3FF,
+        head: 0xC000_0000,
+        places: [0x10_0000, 0x400, 1, 0, 0, 0, 0, 0],
+    },
+    Layout {
+        row: Row {
+            code: 1,
+            dnib: 0,
+            count: 4,
+            width: 8,
+        },
+        mask: 0xFF,
+        head: 0,
+        places: [0x100_0000, 0x1_0000, 0x100, 1, 0, 0, 0, 0],
+    },
+    Layout {
+        row: Row {
+            code: 3,
+            dnib: 0,
+            count: 5,
+            width: 6,
+        },
+        mask: 0x3F,
+        head: 0,
+        places: [0x100_0000, 0x4_0000, 0x1000, 0x40, 1, 0, 0, 0],
+    },
+    Layout {
+        row: Row {
+            code: 3,
+            dnib: 1,
+            count: 6,
+            width: 5,
+        },
+        mask: 0x1F,
+        head: 0x4000_0000,
+        places: [0x200_0000, 0x10_0000, 0x8000, 0x400, 0x20, 1, 0, 0],
+    },
+    Layout {
+        row: Row {
+            code: 3,
+            dnib: 2,
+            count: 7,
+            width: 4,
+        },
+        mask: 0xF,
+        head: 0x8000_0000,
+        places: [0x100_0000, 0x10_0000, 0x1_0000, 0x1000, 0x100, 0x10, 1, 0],
+    },
+];
+
+/// The same of Steim-1, which has words of 1, 2 and 4: of three it takes two.
+static LAYOUTS_ONE: [Layout; LANES] = [
+    Layout {
+        row: Row {
+            code: 0,
+            dnib: 0,
+            count: 0,
+            width: 0,
+        },
+        mask: 0,
+        head: 0,
+        places: [0, 0, 0, 0, 0, 0, 0, 0],
+    },
+    Layout {
+        row: Row {
+            code: 3,
+            dnib: 0,
+            count: 1,
+            width: 32,
+        },
+        mask: 0xFFFF_FFFF,
+        head: 0,
+        places: [1, 0, 0, 0, 0, 0, 0, 0],
+    },
+    Layout {
+        row: Row {
+            code: 2,
+            dnib: 0,
+            count: 2,
+            width: 16,
+        },
+        mask: 0xFFFF,
+        head: 0,
+        places: [0x1_0000, 1, 0, 0, 0, 0, 0, 0],
+    },
+    Layout {
+        row: Row {
+            code: 2,
+            dnib: 0,
+            count: 2,
+            width: 16,
+        },
+        mask: 0xFFFF,
+        head: 0,
+        places: [0x1_0000, 1, 0, 0, 0, 0, 0, 0],
+    },
+    Layout {
+        row: Row {
+            code: 1,
+            dnib: 0,
+            count: 4,
+            width: 8,
+        },
+        mask: 0xFF,
+        head: 0,
+        places: [0x100_0000, 0x1_0000, 0x100, 1, 0, 0, 0, 0],
+    },
+    Layout {
+        row: Row {
+            code: 0,
+            dnib: 0,
+            count: 0,
+            width: 0,
+        },
+        mask: 0,
+        head: 0,
+        places: [0, 0, 0, 0, 0, 0, 0, 0],
+    },
+    Layout {
+        row: Row {
+            code: 0,
+            dnib: 0,
+            count: 0,
+            width: 0,
+        },
+        mask: 0,
+        head: 0,
+        places: [0, 0, 0, 0, 0, 0, 0, 0],
+    },
+    Layout {
+        row: Row {
+            code: 0,
+            dnib: 0,
+            count: 0,
+            width: 0,
+        },
+        mask: 0,
+        head: 0,
+        places: [0, 0, 0, 0, 0, 0, 0, 0],
+    },
+];
+
+/// The layout of a word by the most differences that are held.
+#[inline(always)]
+fn layout_of(scheme: Scheme, most: usize) -> &'static Layout
+    requires { most < 8 }
+    ensures { (r : Row) → row_for scheme (taken scheme most) ≡ Some r
+        → (result.now.row ≡ r) × IsLayout scheme result.now }
+{
+    match scheme {
+        Scheme::One => &LAYOUTS_ONE[most],
+        Scheme::Two => &LAYOUTS_TWO[most],
+    }
+}
+
+/// The first differences of eight or more, as many as a row has. There is no branch on how many, which the processor
+/// could but guess.
+#[inline(always)]
+fn join(scheme: Scheme, layout: &Layout, diffs: &[i32]) -> u32
+    requires eight { 8 ≤ length diffs.now }
+    requires layout { IsLayout scheme layout.now }
+    ensures { result ≡ positional layout.now.row.width (take layout.now.row.count diffs.now) }
+{
+    let mut word = 0u32;
+    for index in 0..LANES {
+        let digit = diffs[index].cast_unsigned() & layout.mask;
+        word = word.wrapping_add(digit.wrapping_mul(layout.places[index]));
+    }
+    word
+}
+
+/// The fullest word, where it is known ahead: its code, its bits and how many differences it takes.
+#[inline(always)]
+pub(crate) fn word_ahead(scheme: Scheme, most: usize, diffs: &[i32]) -> (u8, u32, usize)
+    requires some { 2 ≤ most }
+    requires ahead { IsAhead scheme diffs.now most }
+    ensures { IsFullest scheme diffs.now result.0 result.1 result.2 }
+{
+    let layout = layout_of(scheme, most);
+    let word = layout.head | join(scheme, layout, diffs);
+    (layout.row.code, word, layout.row.count)
+}
