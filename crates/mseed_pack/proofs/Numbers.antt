@@ -1,10 +1,10 @@
 -- Integers that are written one behind another.
-use Rattle.std.proofs.Common.{◌≡◌, ℕ, ◌+◌, ◌-◌, ◌*◌, ◌^◌, ◌<◌, ◌≤◌, List, [], ◌∷◌, ◌++◌, length, take, drop, get_or, sym, ap, ◌∙◌, arith, ℤ, pos, negsuc, replicate, length-append, append_assoc, of_z, w16, w32}
+use Rattle.std.proofs.Common.{◌≡◌, ℕ, ◌+◌, ◌-◌, ◌*◌, ◌^◌, ◌<◌, ◌≤◌, List, [], ◌∷◌, ◌++◌, length, take, drop, get_or, sym, ap, ◌∙◌, arith, ℤ, pos, negsuc, length-append, append_assoc, of_z, w16, w32}
 use Rattle.std.specs.List.{flat_map}
 use Rattle.std.specs.Prelude.{slice_range}
 use borrow.Rule.Slice.PartMut.{put_mid, post_of}
 use Rattle.std.proofs.lemmas.Int.{ints}
-use Rattle.std.proofs.lemmas.List.{length-drop, take_at, drop_at, drop_all, append-nil, take_more, get_or-drop, drop-replicate}
+use Rattle.std.proofs.lemmas.List.{length-drop, take_at, drop_at, drop_all, append-nil, take_more, get_or-drop, drop-drop}
 use Rattle.mseed_steim.specs.Spelling.{residue, IsWithin}
 use Rattle.byteorder.specs.Numbers.{length-bytes_high_first}
 use Rattle.mseed_pack.specs.Filling.{integer_bytes}
@@ -17,24 +17,21 @@ pub residue_32 : (z : ℤ) → IsWithin 32 z → of_z w32 z ≡ residue (2 ^ 32)
 residue_32 (pos n) h = let high = h.1 in omega (arith, ints, high)
 residue_32 (negsuc n) h = let low = h.0 in omega (arith, ints, low)
 
-drop_zeros : (m n : ℕ) → drop {A = ℕ} n (replicate m 0) ≡ replicate (m - n) 0
-drop_zeros m n = drop-replicate n m 0
-
--- one more in front of the zeros
-pub one_more : (w size index : ℕ) (front bytes p buf : List ℕ) → length front ≡ w * index → w * index + w ≤ size → length p ≡ size → p ≡ front ++ replicate (size - w * index) 0
-    → buf ≡ bytes ++ drop w (drop (w * index) p) → put_mid (w * index) (length p - w * index) p buf ≡ (front ++ bytes) ++ replicate (size - w * (index + 1)) 0
-one_more w size index front bytes p buf count room long parts e =
+-- one more in front of what stood there
+pub one_more : (w size index : ℕ) (front bytes p q buf : List ℕ) → length front ≡ w * index → w * index + w ≤ size → length p ≡ size → p ≡ front ++ drop (w * index) q
+    → buf ≡ bytes ++ drop w (drop (w * index) p) → put_mid (w * index) (length p - w * index) p buf ≡ (front ++ bytes) ++ drop (w * (index + 1)) q
+one_more w size index front bytes p q buf count room long parts e =
     let a = w * index in
     let left : length (drop a p) ≡ length p - a = length-drop a p in
     let none : post_of a (length p - a) p ≡ [] = drop_all (length p - a) (drop a p) (omega (arith, left)) in
-    let zeros : drop a p ≡ replicate (size - a) 0 = ap (λ (l : List ℕ). drop a l) parts ∙ drop_at front (replicate (size - a) 0) a count in
-    let head : take a p ≡ front = ap (λ (l : List ℕ). take a l) parts ∙ take_at front (replicate (size - a) 0) a count in
-    let fewer : size - a - w ≡ size - w * (index + 1) = omega arith in
-    let behind : drop w (drop a p) ≡ replicate (size - w * (index + 1)) 0 = ap (λ (l : List ℕ). drop w l) zeros ∙ drop_zeros (size - a) w ∙ ap (λ (n : ℕ). replicate n 0) fewer in
+    let rest : drop a p ≡ drop a q = ap (λ (l : List ℕ). drop a l) parts ∙ drop_at front (drop a q) a count in
+    let head : take a p ≡ front = ap (λ (l : List ℕ). take a l) parts ∙ take_at front (drop a q) a count in
+    let further : a + w ≡ w * (index + 1) = omega arith in
+    let behind : drop w (drop a p) ≡ drop (w * (index + 1)) q = ap (λ (l : List ℕ). drop w l) rest ∙ drop-drop w a q ∙ ap (λ (n : ℕ). drop n q) further in
     ap (λ (l : List ℕ). take a p ++ (buf ++ l)) none
     ∙ ap (λ (l : List ℕ). take a p ++ l) (append-nil buf ∙ e ∙ ap (λ (l : List ℕ). bytes ++ l) behind)
-    ∙ ap (λ (l : List ℕ). l ++ (bytes ++ replicate (size - w * (index + 1)) 0)) head
-    ∙ sym (append_assoc front bytes (replicate (size - w * (index + 1)) 0))
+    ∙ ap (λ (l : List ℕ). l ++ (bytes ++ drop (w * (index + 1)) q)) head
+    ∙ sym (append_assoc front bytes (drop (w * (index + 1)) q))
 
 flat_push : (f : ℤ → List ℕ) (xs : List ℤ) (z : ℤ) → flat_map f (xs ++ z ∷ []) ≡ flat_map f xs ++ f z
 flat_push f [] z = append-nil (f z)

@@ -44,12 +44,12 @@ pub(crate) fn fill_integers(
     ensures within { first + result.samples ≤ end }
     ensures few { result.samples < 2 ^ 16 }
 {
-    payload.fill(0);
     let bytes = bytes_in(width);
     let count = (end - first).min(payload.len() / bytes);
     for index in 0..count {
         put_sample(width, samples, first + index, &mut payload[bytes * index..]);
     }
+    payload[bytes * count..].fill(0);
     Filled {
         samples: count,
         frames: 0,

@@ -1,4 +1,4 @@
-use Rattle.std.proofs.Common.{◌≡◌, ◌<◌, ◌≤◌, ◌+◌, ◌-◌, ◌*◌, ◌/◌, ◌++◌, ℕ, ℤ, pos, List, length, take, drop, get_or, ap, sym, ◌∙◌, arith, rules, replicate}
+use Rattle.std.proofs.Common.{◌≡◌, ◌<◌, ◌≤◌, ◌+◌, ◌-◌, ◌*◌, ◌/◌, ◌++◌, ℕ, ℤ, pos, List, length, take, drop, get_or, ap, sym, ◌∙◌, arith, rules}
 use Rattle.std.specs.List.{flat_map}
 use Rattle.std.specs.Prelude.{slice_range}
 use Rattle.std.proofs.Math.Nat.{mul-div-le, mul-le-mul_left}
@@ -17,27 +17,27 @@ loop-index-preserved c =
     let p = c.loop-index.payload in
     let index = c.loop-index.index in
     let first = c.args.first in
-    let size = length c.args.payload.now in
+    let old = c.args.payload.now in
+    let size = length old in
     let same : r ≡ w = c.loop-index.invariant.bytes_are in
     let front : List ℕ = flat_map (λ (z : ℤ). integer_bytes w z) (slice_range xs first (first + index)) in
     let long : length p ≡ size = search rules in
     let count = c.min-count.ensures in
     let test = c.loop-index-test.true in
-    let more : index + 1 ≤ length c.fill.new.self / r = omega (arith, count, test) in
-    let filled : length c.fill.new.self ≡ size = search rules in
-    let most : r * (length c.fill.new.self / r) ≤ length c.fill.new.self = mul-div-le (length c.fill.new.self) r in
-    let each : r * (index + 1) ≤ r * (length c.fill.new.self / r) = mul-le-mul_left r more in
+    let more : index + 1 ≤ size / r = omega (arith, count, test) in
+    let most : r * (size / r) ≤ size = mul-div-le size r in
+    let each : r * (index + 1) ≤ r * (size / r) = mul-le-mul_left r more in
     let inside : first + index < length xs = omega (arith, count, test, c.requires.inside, c.requires.some) in
     let part : length (slice_range xs first (first + index)) ≡ first + index - first = length_part xs first (first + index) (omega arith) (omega (arith, inside)) in
     let index_is : first + index - first ≡ index = omega arith in
     let front_long : length front ≡ r * index = length_flat w (slice_range xs first (first + index)) ∙ ap (λ (n : ℕ). w * n) (part ∙ index_is) ∙ ap (λ (n : ℕ). n * index) (sym same) in
-    let parts : p ≡ front ++ replicate (size - r * index) 0 = c.loop-index.invariant.written ∙ ap (λ (n : ℕ). front ++ replicate (size - n * index) 0) (sym same) in
+    let parts : p ≡ front ++ drop (r * index) old = c.loop-index.invariant.written ∙ ap (λ (n : ℕ). front ++ drop (n * index) old) (sym same) in
     let all : take (length p - r * index) (drop (r * index) p) ≡ drop (r * index) p = take_rest p (r * index) in
     let bytes : List ℕ = integer_bytes w (get_or xs (first + index) (pos 0)) in
     let put : c.put_sample.new.out ≡ bytes ++ drop r (drop (r * index) p) = c.put_sample.ensures ∙ ap (λ (l : List ℕ). bytes ++ drop w l) all ∙ ap (λ (n : ℕ). bytes ++ drop n (drop (r * index) p)) (sym same) in
-    let next : put_mid (r * index) (length p - r * index) p c.put_sample.new.out ≡ (front ++ bytes) ++ replicate (size - r * (index + 1)) 0 =
-    one_more r size index front bytes p c.put_sample.new.out front_long (omega (arith, most, each, filled)) long parts put in
+    let next : put_mid (r * index) (length p - r * index) p c.put_sample.new.out ≡ (front ++ bytes) ++ drop (r * (index + 1)) old =
+    one_more r size index front bytes p old c.put_sample.new.out front_long (omega (arith, most, each)) long parts put in
     record {
       bytes_are = same;
-      written = next ∙ ap (λ (n : ℕ). (front ++ bytes) ++ replicate (size - n * (index + 1)) 0) same ∙ ap (λ (l : List ℕ). l ++ replicate (size - w * (index + 1)) 0) (sym (flat_more w xs first index inside));
+      written = next ∙ ap (λ (n : ℕ). (front ++ bytes) ++ drop (n * (index + 1)) old) same ∙ ap (λ (l : List ℕ). l ++ drop (w * (index + 1)) old) (sym (flat_more w xs first index inside));
     }

@@ -1,4 +1,4 @@
-use Rattle.std.proofs.Common.{◌≡◌, ◌+◌, ◌-◌, ◌*◌, ◌++◌, ℤ, length, replicate}
+use Rattle.std.proofs.Common.{◌≡◌, ◌+◌, ◌*◌, ◌++◌, ℤ, drop}
 use Rattle.std.specs.List.{flat_map}
 use Rattle.std.specs.Prelude.{slice_range}
 use Rattle.mseed_pack.specs.Filling.{bytes_in, integer_bytes}
@@ -7,5 +7,5 @@ use Rattle.mseed_pack.proofs.integers.fill_integers.Given as goal
 abbrev pub invariant-loop-index : goal.invariant-loop-index
 invariant-loop-index l = record {
   bytes_are : l.bytes ≡ bytes_in l.width;
-  written : l.payload ≡ flat_map (λ (z : ℤ). integer_bytes (bytes_in l.width) z) (slice_range l.samples l.first (l.first + l.index)) ++ replicate (length l.fn.payload - bytes_in l.width * l.index) 0;
+  written : l.payload ≡ flat_map (λ (z : ℤ). integer_bytes (bytes_in l.width) z) (slice_range l.samples l.first (l.first + l.index)) ++ drop (bytes_in l.width * l.index) l.fn.payload;
 }
