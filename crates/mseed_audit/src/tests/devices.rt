@@ -217,3 +217,10 @@ fn asks_a_writer_once_a_call(rt: HostRuntime) {
     assert_eq!(rt; sink.put(b"h"), Err(Failed));
     assert_eq!(rt; sink.put(b"h"), Ok(1));
 }
+
+#[test]
+fn takes_an_empty_write_unless_its_writer_fails(rt: HostRuntime) {
+    let mut sink = Counted::new(Stumbling { has_failed: false });
+    assert_eq!(rt; sink.put(b""), Err(Failed));
+    assert_eq!(rt; sink.put(b""), Ok(0));
+}
