@@ -13,7 +13,8 @@ ghost use Rattle.mseed_audit.specs.Series.{step_at};
 ghost use Rattle.mseed.specs.Outline.{AreHeld, AreNear, IsKnown, IsOutline};
 ghost use Rattle.mseed.specs.Reading.{channel_in, samples_of, step_count, steps_of};
 
-use crate::reading::{is_of, put_step};
+use crate::reading::put_step;
+use mseed_audit::is_of;
 use mseed_pack::Encoding;
 use mseed_record::{Codes, RecordView};
 use mseed_steim::{Ends, ends_of, is_surely_near};

@@ -4,12 +4,12 @@ ghost use Rattle.std.specs.List.{AllByRecursion};
 ghost use Rattle.mseed_record.specs.View.{leap_of};
 ghost use Rattle.mseed_record.specs.Viewing.{view_of};
 ghost use Rattle.mseed_steim.specs.Reading.{count_of, IsWhole};
-ghost use Rattle.mseed_audit.specs.Channels.{is_of};
 ghost use Rattle.mseed_audit.specs.Follows.{IsSound};
 ghost use Rattle.mseed_audit.specs.Judging.{step_in};
 ghost use Rattle.mseed_audit.specs.Series.{AreSteps, step_at};
 ghost use Rattle.mseed.specs.Reading.{AreOf, channel_in, samples_of, step_count, steps_of};
 
+use mseed_audit::is_of;
 use mseed_record::{Codes, RecordView};
 use mseed_steim::fill_samples;
 use mseed_time::LeapStep;
@@ -19,13 +19,6 @@ use mseed_time::LeapStep;
 pub(crate) struct Read {
     pub(crate) samples: usize,
     pub(crate) steps: usize,
-}
-
-/// Whether a record has samples, and is of a channel.
-pub(crate) fn is_of(codes: &Codes, view: &RecordView) -> bool
-    ensures { result ≡ is_of codes.now (view_of view.now) }
-{
-    view.samples() > 0 && *codes == view.codes()
 }
 
 /// Reads the samples and leap seconds of a channel of which each record is sound, from the front of the lists on,
