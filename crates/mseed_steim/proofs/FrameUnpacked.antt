@@ -104,3 +104,21 @@ all_narrow s f from few word less =
     let one = one_of_sum (map (λ w. get_or (counts_of s) (row_at f from w) 0) words) word in
     let at = at_word (λ w. get_or (counts_of s) (row_at f from w) 0) word less in
     omega (arith, one, at, few)
+
+-- the words in two parts
+unpacked_cut : (s : Scheme) (f : List ℕ) (from n m j : ℕ) → unpacked s f from j (n + m) ≡ unpacked s f from j n ++ unpacked s f from (j + n) m
+unfolding unpacked
+unpacked_cut s f from zero m j =
+    let none : 0 + m ≡ m = omega arith in
+    let at : j + 0 ≡ j = omega arith in
+    rw (none, at) refl
+unpacked_cut s f from (suc n) m j =
+    let more : suc n + m ≡ suc (n + m) = omega arith in
+    let at : j + 1 + n ≡ j + suc n = omega arith in
+    let later = rw at at (unpacked_cut s f from n m (j + 1)) in
+    rw more (ap (λ (xs : List ℤ). differences_at s f from j ++ xs) later ∙ sym (append_assoc (differences_at s f from j) (unpacked s f from (j + 1) n) (unpacked s f from (j + suc n) m)))
+
+-- a frame's words, five by five
+pub unpacked_fives : (s : Scheme) (f : List ℕ) (from : ℕ) → (unpacked s f from 1 5 ++ unpacked s f from 6 5) ++ unpacked s f from 11 5 ≡ unpacked s f from 1 15
+unpacked_fives s f from =
+    ap (λ (xs : List ℤ). xs ++ unpacked s f from 11 5) (sym (unpacked_cut s f from 5 5 1)) ∙ sym (unpacked_cut s f from 10 5 1)

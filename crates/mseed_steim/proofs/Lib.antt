@@ -46,3 +46,4 @@ pub mod Constants
 pub mod Lifts
 pub mod LaneDigits
 pub mod FrameUnpacked
+pub mod Turns

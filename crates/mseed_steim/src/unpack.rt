@@ -170,6 +170,34 @@ fn rows_in(scheme: Scheme, frame: &[u8; 64], begin: Rows) -> ([u8; 16], u32)
     (rows.to_array(), count)
 }
 
+/// The differences of five words of these rows, put behind those that there are: how many there are then.
+#[inline(always)]
+fn unpack_five(
+    scheme: Scheme,
+    frame: &[u8; 64],
+    rows: &[u8; 16],
+    first: usize,
+    met: usize,
+    differences: &mut [i32; ROOM],
+) -> usize
+    requires small { (word : ℕ) → slice_index rows.now word < 16 }
+    requires inside { first + 5 ≤ 16 }
+    requires room { met ≤ 80 }
+    ensures few { result ≤ met + 40 }
+    ensures unpacked { (from : ℕ) → ((word : ℕ) → word < 16 → slice_index rows.now word ≡ row_at frame.now from word)
+        → AreNarrow scheme frame.now from
+        → take result differences.new ≡ take met differences.old ++ unpacked scheme frame.now from first 5 }
+{
+    let mut met = met;
+    for index in 0..5 {
+        let by = unpacking_of(scheme, usize::from(rows[first + index]));
+        let word = read_word(frame, first + index);
+        spread(word, by, lanes_of(scheme), met, differences);
+        met += by.count;
+    }
+    met
+}
+
 /// The differences of a frame's words of these rows, in their order: how many there are.
 #[inline(always)]
 fn unpack_words(
@@ -183,19 +211,9 @@ fn unpack_words(
     ensures unpacked { (from : ℕ) → ((word : ℕ) → word < 16 → slice_index rows.now word ≡ row_at frame.now from word)
         → AreNarrow scheme frame.now from → take result differences.new ≡ unpacked scheme frame.now from 1 15 }
 {
-    let mut met = 0;
-    for index in 0..15 {
-        let by = unpacking_of(scheme, usize::from(rows[index + 1]));
-        spread(
-            read_word(frame, index + 1),
-            by,
-            lanes_of(scheme),
-            met,
-            differences,
-        );
-        met += by.count;
-    }
-    met
+    let met = unpack_five(scheme, frame, rows, 1, 0, differences);
+    let met = unpack_five(scheme, frame, rows, 6, met, differences);
+    unpack_five(scheme, frame, rows, 11, met, differences)
 }
 
 /// The differences of a frame's words from word 1 or word 4 on, in their order: how many there are. None where a word

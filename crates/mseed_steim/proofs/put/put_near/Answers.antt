@@ -1,37 +1,38 @@
-use Rattle.std.proofs.Common.{◌≡◌, ◌<◌, ◌+◌, ◌++◌, ◌∙◌, List, ℤ, ◌+ℤ◌, Result, Ok, map, take, drop, length, get_or, pos, arith, ap, sym, rules, w32, FitsSigned}
-use Rattle.std.proofs.lemmas.Int.{to_z-of_z}
+use Rattle.std.proofs.Common.{◌≡◌, ◌+◌, ◌-◌, ◌*◌, ◌≤◌, ◌++◌, ◌∙◌, ℕ, List, ℤ, Result, Ok, map, take, drop, length, ap, sym, arith}
+use Rattle.std.proofs.lemmas.Simd.{length-chunk}
 use Rattle.mseed_steim.specs.declared.differences.BadWordAt.{BadWordAt}
 use Rattle.mseed_steim.specs.Sums.{fold, met_in}
-use Rattle.mseed_steim.proofs.Far.{abs_sum, span_step}
-use Rattle.mseed_steim.proofs.Folded.{drop_step, take_put}
+use Rattle.mseed_steim.proofs.Turns.{items_cut, span_cut}
 use Rattle.mseed_steim.proofs.put.put_near.Goals as goal
 
-pub add_near-next-requires-clause-near : goal.add_near-next-requires-clause-near
-add_near-next-requires-clause-near c =
-    let fits : FitsSigned w32 (get_or c.args.differences.now c.loop-i.i (pos 0)) = search rules in
-    let step = span_step c.args.differences.now c.loop-i.i (pos 0) c.loop-i-test.true in
-    rw to_z-of_z (omega (arith, step, c.loop-i.invariant.near, c.requires.near))
-
-pub loop-i-preserved : goal.loop-i-preserved
-loop-i-preserved c =
-    let fits : FitsSigned w32 (get_or c.args.differences.now c.loop-i.i (pos 0)) = search rules in
-    let last : FitsSigned w32 c.add_near-next.result.last = search rules in
-    let step = span_step c.args.differences.now c.loop-i.i (pos 0) c.loop-i-test.true in
-    let next : c.add_near-next.result.last ≡ c.loop-i.sum.last +ℤ get_or c.args.differences.now c.loop-i.i (pos 0) = rw to_z-of_z at c.add_near-next.ensures.last in
-    let sum = abs_sum c.loop-i.sum.last (get_or c.args.differences.now c.loop-i.i (pos 0)) in
-    let inside : c.loop-i.sum.met < length c.loop-i.out = omega arith in
+pub loop-turn-preserved : goal.loop-turn-preserved
+loop-turn-preserved c =
+    let ds = c.args.differences.now in
+    let k : ℕ = 8 * c.loop-turn.turn in
+    let eight : 8 * c.loop-turn.turn + 8 - 8 * c.loop-turn.turn ≡ 8 = omega arith in
+    let next : 8 * (c.loop-turn.turn + 1) ≡ k + 8 = omega arith in
+    let inside : k + 8 ≤ length ds = omega (arith, c.loop-turn-test.true) in
+    let long = length-chunk k 8 ds inside in
+    let spans = span_cut ds k 8 in
+    let goes = rw eight at c.put_some-sum.ensures.goes_on in
+    let kept_one = rw eight at c.put_some-sum.ensures.kept in
+    let met_one = rw eight at c.put_some-sum.ensures.met in
+    let near_one = rw eight at c.put_some-sum.ensures.near in
     record {
-      places = search rules;
-      met = let met = c.add_near-next.ensures.met in omega (arith, met);
-      near = rw next (omega (arith, step, sum, c.loop-i.invariant.near));
-      same = λ more.
-          let rest = map Ok (drop (c.loop-i.i + 1) c.args.differences.now) ++ more in
-          c.loop-i.invariant.same more ∙ ap (λ (items : List (Result ℤ BadWordAt)). fold c.args.samples c.loop-i.sum items) (drop_step c.args.differences.now c.loop-i.i (pos 0) more c.loop-i-test.true)
-          ∙ (rw to_z-of_z at (c.add_near-next.ensures.goes_on rest));
-      kept = λ more.
-          let rest = map Ok (drop (c.loop-i.i + 1) c.args.differences.now) ++ more in
-          let met = rw to_z-of_z at (c.add_near-next.ensures.kept rest) in
-          rw to_z-of_z (take_put c.loop-i.out c.loop-i.sum.met c.add_near-next.result.met c.add_near-next.result.last (met_in c.args.samples c.add_near-next.result rest) inside c.add_near-next.ensures.met
-          ∙ ap (λ (xs : List ℤ). take c.loop-i.sum.met c.loop-i.out ++ xs) (sym met ∙ ap (λ (items : List (Result ℤ BadWordAt)). met_in c.args.samples c.loop-i.sum items) (sym (drop_step c.args.differences.now c.loop-i.i (pos 0) more c.loop-i-test.true)))
-          ∙ c.loop-i.invariant.kept more);
+      places = c.put_some-sum.ensures.places;
+      met = omega (arith, met_one, long, c.loop-turn.invariant.met);
+      near = rw next (omega (arith, near_one, spans, c.loop-turn.invariant.near));
+      same = λ more. rw next (c.loop-turn.invariant.same more
+          ∙ ap (λ (items : List (Result ℤ BadWordAt)). fold c.args.samples c.loop-turn.sum items) (items_cut ds k 8 more)
+          ∙ goes (map Ok (drop (k + 8) ds) ++ more));
+      kept = λ more. rw next (kept_one (map Ok (drop (k + 8) ds) ++ more)
+          ∙ ap (λ (items : List (Result ℤ BadWordAt)). take c.loop-turn.sum.met c.loop-turn.out ++ met_in c.args.samples c.loop-turn.sum items) (sym (items_cut ds k 8 more))
+          ∙ c.loop-turn.invariant.kept more);
     }
+
+pub put_some-sum-requires-clause-near : goal.put_some-sum-requires-clause-near
+put_some-sum-requires-clause-near c =
+    let k : ℕ = 8 * c.loop-turn.turn in
+    let eight : 8 * c.loop-turn.turn + 8 - 8 * c.loop-turn.turn ≡ 8 = omega arith in
+    let spans = span_cut c.args.differences.now k 8 in
+    rw eight (omega (arith, spans, c.loop-turn.invariant.near, c.requires.near))

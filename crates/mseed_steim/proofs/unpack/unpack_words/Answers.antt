@@ -1,44 +1,12 @@
-use Rattle.std.proofs.Common.{◌≡◌, ◌≤◌, ◌+◌, ◌++◌, ◌∙◌, ℕ, List, ℤ, get_or, ap, sym, refl, arith}
-use Rattle.mseed_steim.specs.Digits.{digits}
-use Rattle.mseed_steim.specs.Lanes.{row_at, word_at}
-use Rattle.mseed_steim.specs.Unpacked.{lanes_of, differences_at, unpacked, widths_of}
-use Rattle.mseed_steim.proofs.FrameUnpacked.{by_own_count, lanes_few, unpacked_more, word_in}
+use Rattle.std.proofs.Common.{◌++◌, ◌∙◌, List, ℤ, ap}
+use Rattle.mseed_steim.specs.Unpacked.{unpacked}
+use Rattle.mseed_steim.proofs.FrameUnpacked.{unpacked_fives}
 use Rattle.mseed_steim.proofs.unpack.unpack_words.Goals as goal
 
-pub loop-index-init : goal.loop-index-init
-unfolding unpacked
-loop-index-init c = record {
-  long = c.told-differences;
-  few = omega arith;
-  so_far = λ from rows narrow. refl;
-}
-
-pub loop-index-preserved : goal.loop-index-preserved
-loop-index-preserved c =
-    let f = c.args.frame.now in
-    let s = c.args.scheme in
-    let index = c.loop-index.index in
-    let by = c.unpacking_of-by.result.now in
-    let most = lanes_few c.args.scheme in
-    let enough : by.count ≤ lanes_of s = c.unpacking_of-by.ensures.few in
-    record {
-      long = c.spread.array_long;
-      few = omega (arith, most, enough, c.loop-index.invariant.few);
-      so_far = λ from rows narrow.
-          let row : c.from.result ≡ row_at f from (index + 1) = c.from.ensures ∙ rows (index + 1) (omega (arith, c.loop-index-test.true)) in
-          let known = rw row at c.unpacking_of-by.ensures.row in
-          let u = known (narrow (index + 1) (omega (arith, c.loop-index-test.true))) in
-          let width : ℕ = get_or (widths_of s) (row_at f from (index + 1)) 0 in
-          let word : c.read_word.result ≡ word_at f (index + 1) = c.read_word.ensures ∙ word_in f (index + 1) c.told-frame (omega (arith, c.loop-index-test.true)) in
-          let place : 1 + index ≡ index + 1 = omega arith in
-          let same : digits width c.read_word.result by.count ≡ differences_at s f from (1 + index) = rw (word, u.as_many, place) refl in
-          c.spread.ensures width (by_own_count _ width by u)
-          ∙ ap (λ (xs : List ℤ). xs ++ digits width c.read_word.result by.count) (c.loop-index.invariant.so_far from rows narrow)
-          ∙ ap (λ (xs : List ℤ). unpacked s f from 1 index ++ xs) same
-          ∙ sym (unpacked_more s f from 1 index);
-    }
-
 pub returns-clause-unpacked : goal.returns-clause-unpacked
-returns-clause-unpacked c =
-    let all : c.loop-index.index ≡ 15 = omega (arith, c.loop-index-test.false, c.loop-index.auto.index-end) in
-    rw all at c.loop-index.invariant.so_far
+returns-clause-unpacked c = λ from rows narrow.
+    let s = c.args.scheme in
+    let f = c.args.frame.now in
+    c.unpack_five.ensures.unpacked from rows narrow
+    ∙ ap (λ (xs : List ℤ). xs ++ unpacked s f from 11 5) (c.unpack_five-met-2.ensures.unpacked from rows narrow ∙ ap (λ (xs : List ℤ). xs ++ unpacked s f from 6 5) (c.unpack_five-met.ensures.unpacked from rows narrow))
+    ∙ unpacked_fives s f from

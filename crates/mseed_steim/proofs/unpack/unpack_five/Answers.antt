@@ -1,0 +1,47 @@
+use Rattle.std.proofs.Common.{◌≡◌, ◌<◌, ◌≤◌, ◌+◌, ◌++◌, ◌∙◌, ℕ, List, ℤ, take, get_or, ap, sym, refl, arith, append-nil, append_assoc}
+use Rattle.mseed_steim.specs.Digits.{digits}
+use Rattle.mseed_steim.specs.Lanes.{row_at, word_at}
+use Rattle.mseed_steim.specs.Unpacked.{lanes_of, differences_at, unpacked, widths_of}
+use Rattle.mseed_steim.proofs.FrameUnpacked.{by_own_count, lanes_few, unpacked_more, word_in}
+use Rattle.mseed_steim.proofs.unpack.unpack_five.Goals as goal
+
+pub loop-index-init : goal.loop-index-init
+unfolding unpacked
+loop-index-init c = record {
+  long = c.told-differences;
+  few = omega arith;
+  so_far = λ from rows narrow. rw append-nil refl;
+}
+
+pub loop-index-preserved : goal.loop-index-preserved
+loop-index-preserved c =
+    let f = c.args.frame.now in
+    let s = c.args.scheme in
+    let index = c.loop-index.index in
+    let place : ℕ = c.args.first + index in
+    let by = c.unpacking_of-by.result.now in
+    let most = lanes_few c.args.scheme in
+    let enough : by.count ≤ lanes_of s = c.unpacking_of-by.ensures.few in
+    let inside : place < 16 = omega (arith, c.loop-index-test.true, c.requires.inside) in
+    let front : List ℤ = take c.args.met c.args.differences.now in
+    record {
+      long = c.spread.array_long;
+      few = omega (arith, most, enough, c.loop-index.invariant.few);
+      so_far = λ from rows narrow.
+          let row : c.from.result ≡ row_at f from place = c.from.ensures ∙ rows place inside in
+          let known = rw row at c.unpacking_of-by.ensures.row in
+          let u = known (narrow place inside) in
+          let width : ℕ = get_or (widths_of s) (row_at f from place) 0 in
+          let word : c.read_word-word.result ≡ word_at f place = c.read_word-word.ensures ∙ word_in f place c.told-frame inside in
+          let same : digits width c.read_word-word.result by.count ≡ differences_at s f from place = rw (word, u.as_many) refl in
+          c.spread.ensures width (by_own_count _ width by u)
+          ∙ ap (λ (xs : List ℤ). xs ++ digits width c.read_word-word.result by.count) (c.loop-index.invariant.so_far from rows narrow)
+          ∙ append_assoc front (unpacked s f from c.args.first index) (digits width c.read_word-word.result by.count)
+          ∙ ap (λ (xs : List ℤ). front ++ (unpacked s f from c.args.first index ++ xs)) same
+          ∙ ap (λ (xs : List ℤ). front ++ xs) (sym (unpacked_more s f from c.args.first index));
+    }
+
+pub returns-clause-unpacked : goal.returns-clause-unpacked
+returns-clause-unpacked c =
+    let all : c.loop-index.index ≡ 5 = omega (arith, c.loop-index-test.false, c.loop-index.auto.index-end) in
+    rw all at c.loop-index.invariant.so_far
