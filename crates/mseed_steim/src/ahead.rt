@@ -167,15 +167,16 @@ pub(crate) struct Ahead {
 }
 
 impl Ahead {
-    /// Nothing is known yet.
-    pub(crate) fn new() -> Self
-        ensures tells { (scheme : Scheme) (ds : List ℤ) → Tells scheme ds result }
+    /// What is found from the first of the differences on.
+    pub(crate) fn of(scheme: Scheme, diffs: &[i32]) -> Self
+        ensures tells { Tells scheme diffs.now result }
         ensures begin { result.begin ≡ 0 }
     {
-        Ahead {
-            begin: 0,
-            most: [0; ROOM],
+        let mut most = [0; ROOM];
+        if AHEAD <= diffs.len() {
+            look_ahead(scheme, diffs, &mut most);
         }
+        Ahead { begin: 0, most }
     }
 
     /// The most differences that are held from a place on; less than two where nothing is told of them.

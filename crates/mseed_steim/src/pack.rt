@@ -117,7 +117,7 @@ pub fn pack_words(scheme: Scheme, diffs: &[i32], frames: &mut [u8]) -> Result<Pa
     // The frame that is being filled: its first word, and the codes that belong there.
     let mut head = 0;
     let mut codes = 0;
-    let mut ahead = Ahead::new();
+    let mut ahead = Ahead::of(scheme, diffs);
     for index in 3..frames.len() / WORD {
         if index % FRAME == 0 {
             write_word(frames, head, codes);

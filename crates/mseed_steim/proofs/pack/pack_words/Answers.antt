@@ -13,8 +13,8 @@ use Rattle.mseed_steim.proofs.pack.pack_words.Goals as goal
 pub loop-index-init : goal.loop-index-init
 loop-index-init c = record {
   coding = coding_none c.args.scheme c.args.diffs.now c.fill.new.self (length c.args.frames.now) (c.fill.ensures.after (λ y e. e));
-  tells = c.new-ahead.ensures.tells c.args.scheme c.args.diffs.now;
-  from = omega (arith, c.new-ahead.ensures.begin);
+  tells = c.of-ahead.ensures.tells;
+  from = omega (arith, c.of-ahead.ensures.begin);
   to = omega arith;
 }
 
