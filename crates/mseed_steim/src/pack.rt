@@ -12,7 +12,7 @@ ghost use Rattle.mseed_steim.specs.Packing.{IsTooLargeAt, LeavesRoom, PacksRun};
 ghost use Rattle.mseed_steim.specs.Runs.{SpellsRun};
 
 use crate::ahead::Ahead;
-use crate::data_words::{FRAME, WORD};
+use crate::data_words::WORD;
 use crate::layout::word_ahead;
 use crate::row::{fullest_row, word_of};
 use crate::scheme::Scheme;
@@ -74,13 +74,13 @@ fn write_word(frames: &mut [u8], index: usize, word: u32)
     BigEndian::write_u32(&mut frames[WORD * index..], word);
 }
 
-/// A frame's codes with that of one more of its data words.
+/// A frame's codes with that of one more of its data words, so many bits above the last.
 #[inline(always)]
-fn with_code(codes: u32, index: usize, code: u8) -> u32
-    requires { code < 4 }
-    ensures { result ≡ bit_or codes ((code * 2 ^ (30 - 2 * (index % 16))) % 2 ^ 32) }
+fn with_code(codes: u32, code: u8, shift: u32) -> u32
+    requires { shift < 32 }
+    ensures { result ≡ bit_or codes ((code * 2 ^ shift) % 2 ^ 32) }
 {
-    codes | u32::from(code) << (30 - 2 * (index % FRAME))
+    codes | u32::from(code) << shift
 }
 
 /// Packs differences into frames, from the first on: each data word in turn takes the largest number of
@@ -114,15 +114,17 @@ pub fn pack_words(scheme: Scheme, diffs: &[i32], frames: &mut [u8]) -> Result<Pa
     frames.fill(0);
     let mut used = 0;
     let mut words = 0;
-    // The frame that is being filled: its first word, and the codes that belong there.
+    // The frame that is being filled: its first word, the codes that belong there, and how many bits are left for more.
     let mut head = 0;
     let mut codes = 0;
+    let mut room = 26;
     let mut ahead = Ahead::of(scheme, diffs);
     for index in 3..frames.len() / WORD {
-        if index % FRAME == 0 {
+        if room == 0 {
             write_word(frames, head, codes);
             head = index;
             codes = 0;
+            room = 30;
             continue;
         }
         let most = ahead.most_at(scheme, diffs, used);
@@ -132,7 +134,8 @@ pub fn pack_words(scheme: Scheme, diffs: &[i32], frames: &mut [u8]) -> Result<Pa
         match next_word(scheme, most, &diffs[used..]) {
             Ok((code, word, count)) => {
                 write_word(frames, index, word);
-                codes = with_code(codes, index, code);
+                room -= 2;
+                codes = with_code(codes, code, room);
                 used += count;
                 words += 1;
             }

@@ -1,4 +1,4 @@
-use Rattle.std.proofs.Common.{◌≤◌, ◌+◌}
+use Rattle.std.proofs.Common.{◌≡◌, ◌≤◌, ◌+◌, ◌-◌, ◌*◌, ◌%◌}
 use Rattle.mseed_steim.specs.Ahead.{Tells}
 use Rattle.mseed_steim.proofs.Coding.{Coding}
 use Rattle.mseed_steim.proofs.pack.pack_words.Given as goal
@@ -6,6 +6,7 @@ use Rattle.mseed_steim.proofs.pack.pack_words.Given as goal
 abbrev pub invariant-loop-index : goal.invariant-loop-index
 invariant-loop-index l = record {
   coding : Coding l.scheme l.diffs l.frames l.head l.codes l.index l.used l.words;
+  room : l.room ≡ 30 - 2 * ((l.index - 1) % 16);
   tells : Tells l.scheme l.diffs l.ahead;
   from : l.ahead.begin ≤ l.used;
   to : l.used ≤ l.ahead.begin + 64;
