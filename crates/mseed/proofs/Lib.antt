@@ -12,6 +12,7 @@ pub mod OneFilling
 pub mod OneRepacking
 pub mod Relayed
 pub mod Near
+pub mod Trails
 pub mod ReadChannels
 pub mod Outlines
 pub mod Judged

@@ -13,6 +13,7 @@ pub mod Done
 pub mod Repack
 pub mod Repacking
 pub mod Reading
+pub mod Trails
 pub mod Outline
 pub mod Repacked
 pub mod OneRepacking

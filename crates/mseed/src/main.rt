@@ -30,6 +30,7 @@ mod request;
 mod serving;
 mod show;
 mod tcp;
+mod trail;
 mod words;
 
 use mseed_stream::{Buffered, Counted, Sink};

@@ -12,8 +12,10 @@ ghost use Rattle.mseed_audit.specs.Judging.{step_in};
 ghost use Rattle.mseed_audit.specs.Series.{step_at};
 ghost use Rattle.mseed.specs.Outline.{AreHeld, AreNear, IsKnown, IsOutline};
 ghost use Rattle.mseed.specs.Reading.{channel_in, samples_of, step_count, steps_of};
+ghost use Rattle.mseed.specs.Trails.{IsTrail};
 
 use crate::reading::put_step;
+use crate::trail::Trail;
 use mseed_audit::is_of;
 use mseed_pack::Encoding;
 use mseed_record::{Codes, RecordView};
@@ -42,9 +44,12 @@ pub(crate) struct Outline {
 /// The outline of a channel of which each record is sound. Its leap seconds are put into the list.
 pub(crate) fn outline_channel(
     views: &[RecordView],
+    trail: Trail,
     codes: &Codes,
     steps: &mut [(u64, LeapStep)],
 ) -> Outline
+    requires trail { IsTrail codes.now views.now trail.first trail.nexts.now }
+    requires nexts { length trail.nexts.now ≡ length views.now }
     requires sound { AllByRecursion IsSound (channel_in codes.now (map view_of views.now)) }
     requires few { samples_of (channel_in codes.now (map view_of views.now)) < 2 ^ 64 }
     requires steps_fit { steps_of (map view_of views.now) ≤ length steps.old }
@@ -58,9 +63,14 @@ pub(crate) fn outline_channel(
         steps: 0,
         nearness: Nearness::Empty,
     };
-    for view in views {
+    let mut place = trail.first;
+    while place < views.len() {
+        let view = &views[place];
         if is_of(codes, view) {
             outline = outline_record(view, outline, steps);
+            place = trail.nexts[place];
+        } else {
+            place += 1;
         }
     }
     outline

@@ -8,7 +8,9 @@ ghost use Rattle.mseed_audit.specs.Follows.{IsSound};
 ghost use Rattle.mseed_audit.specs.Judging.{step_in};
 ghost use Rattle.mseed_audit.specs.Series.{AreSteps, step_at};
 ghost use Rattle.mseed.specs.Reading.{AreOf, channel_in, samples_of, step_count, steps_of};
+ghost use Rattle.mseed.specs.Trails.{IsTrail};
 
+use crate::trail::Trail;
 use mseed_audit::is_of;
 use mseed_record::{Codes, RecordView};
 use mseed_steim::fill_samples;
@@ -25,10 +27,13 @@ pub(crate) struct Read {
 /// and answers how many there are. It takes no memory.
 pub(crate) fn read_channel(
     views: &[RecordView],
+    trail: Trail,
     codes: &Codes,
     samples: &mut [i32],
     steps: &mut [(u64, LeapStep)],
 ) -> Read
+    requires trail { IsTrail codes.now views.now trail.first trail.nexts.now }
+    requires nexts { length trail.nexts.now ≡ length views.now }
     requires sound { AllByRecursion IsSound (channel_in codes.now (map view_of views.now)) }
     requires samples_fit { samples_of (channel_in codes.now (map view_of views.now)) ≤ length samples.old }
     requires steps_fit { steps_of (map view_of views.now) ≤ length steps.old }
@@ -42,9 +47,14 @@ pub(crate) fn read_channel(
         samples: 0,
         steps: 0,
     };
-    for view in views {
+    let mut place = trail.first;
+    while place < views.len() {
+        let view = &views[place];
         if is_of(codes, view) {
             read = read_record(view, read, samples, steps);
+            place = trail.nexts[place];
+        } else {
+            place += 1;
         }
     }
     read

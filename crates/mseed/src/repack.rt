@@ -1,6 +1,10 @@
 //! Packing an archive anew.
 ghost use Rattle.std.specs.Prelude.{◌≡◌, ◌≤◌, ◌<◌, ◌^◌, ℤ, List, length, map, All, IfErr, IfOk, IsTrue, OnOk};
 ghost use Rattle.std.specs.Bool.{OnTrue};
+ghost use Rattle.std.specs.Cmp.Lexicographic.{slice_cmp};
+ghost use Rattle.std.specs.List.Sorted.{IsStrictlySortedBy};
+ghost use Rattle.std.specs.Map.{keys_of};
+ghost use Rattle.std.specs.Ordering.{nat_cmp};
 ghost use Rattle.mseed_record.specs.View.{View};
 ghost use Rattle.mseed_record.specs.Viewing.{view_of};
 ghost use Rattle.mseed_stream.specs.Device.{nothing_heard};
@@ -14,11 +18,13 @@ ghost use Rattle.mseed.specs.Repack.{AreContinuous, ArePackedInto, CanBePacked, 
 ghost use Rattle.mseed.specs.Repack.{records_in};
 ghost use Rattle.mseed.specs.Repacking.{AreJudged, FailsToFit, FailsToPack, FailsToPackAnew, FailsToPackOne};
 ghost use Rattle.mseed.specs.Repacking.{IsFirstBroken, IsJudged, IsPackedAnew, IsPackedWhole};
+ghost use Rattle.mseed.specs.Trails.{AreLaid, IsTrail};
 ghost use Rattle.mseed.specs.declared.repack_fault.RepackFault.{RepackFault};
 
 use crate::outline::{is_held, outline_channel};
 use crate::reading::{count_steps, read_channel};
 use crate::repack_fault::RepackFault;
+use crate::trail::{Trail, Trails, lay_trails, places};
 use mseed_audit::{Audit, Memory, Verdict, Verdicts, one_series};
 use mseed_pack::{Encoding, Options, PackFault, SeriesView, fit_view, pack_fitting};
 use mseed_record::{Codes, RecordView};
@@ -94,6 +100,46 @@ fn repack_continuous<A: Allocator + Copy, W: Sink>(
     output: &mut W,
 ) -> Result<(), RepackFault>
     requires judged { AreJudged (map view_of views.now) channels.now }
+    requires ascending { IsStrictlySortedBy (slice_cmp nat_cmp) (keys_of channels.now) }
+    ensures ok { OnOk result (IsPackedAnew options.now (map view_of views.now) channels.now
+        (W.said output.old) (W.said output.new)) }
+    ensures err { IfErr result (FailsToPackAnew options.now (map view_of views.now) channels.now
+        (W.said output.old) (W.said output.new)) }
+{
+    let mut firsts = match places(alloc, views.len(), channels.len()) {
+        Ok(firsts) => firsts,
+        Err(_) => return Err(RepackFault::Memory),
+    };
+    let mut nexts = match places(alloc, views.len(), views.len()) {
+        Ok(nexts) => nexts,
+        Err(_) => return Err(RepackFault::Memory),
+    };
+    repack_along(
+        alloc,
+        views,
+        channels,
+        options,
+        &mut firsts,
+        &mut nexts,
+        output,
+    )
+}
+
+/// The same by the trails of the channels, which are laid in lists that have room for them.
+fn repack_along<A: Allocator + Copy, W: Sink>(
+    alloc: A,
+    views: &[RecordView],
+    channels: &[(Codes, Verdict)],
+    options: &Options,
+    firsts: &mut [usize],
+    nexts: &mut [usize],
+    output: &mut W,
+) -> Result<(), RepackFault>
+    requires judged { AreJudged (map view_of views.now) channels.now }
+    requires ascending { IsStrictlySortedBy (slice_cmp nat_cmp) (keys_of channels.now) }
+    requires firsts { length firsts.old ≡ length channels.now }
+    requires none { All (λ first. first ≡ length views.now) firsts.old }
+    requires nexts { length nexts.old ≡ length views.now }
     ensures ok { OnOk result (IsPackedAnew options.now (map view_of views.now) channels.now
         (W.said output.old) (W.said output.new)) }
     ensures err { IfErr result (FailsToPackAnew options.now (map view_of views.now) channels.now
@@ -107,7 +153,17 @@ fn repack_continuous<A: Allocator + Copy, W: Sink>(
         Ok(steps) => steps,
         Err(_) => return Err(RepackFault::Memory),
     };
-    repack_within(views, channels, options, &mut samples, &mut steps, output)
+    lay_trails(views, channels, firsts, nexts);
+    let trails = Trails { firsts, nexts };
+    repack_within(
+        views,
+        trails,
+        channels,
+        options,
+        &mut samples,
+        &mut steps,
+        output,
+    )
 }
 
 /// So many samples.
@@ -151,6 +207,7 @@ fn samples_said(verdict: &Verdict) -> usize
 /// The same with lists that have room for what is read of each channel. It takes no memory.
 fn repack_within<W: Sink>(
     views: &[RecordView],
+    trails: Trails,
     channels: &[(Codes, Verdict)],
     options: &Options,
     samples: &mut [i32],
@@ -158,6 +215,7 @@ fn repack_within<W: Sink>(
     output: &mut W,
 ) -> Result<(), RepackFault>
     requires judged { AreJudged (map view_of views.now) channels.now }
+    requires laid { AreLaid views.now channels.now trails.firsts.now trails.nexts.now }
     requires samples_fit { All (λ c. samples_said c.1 ≤ length samples.old) channels.now }
     requires steps_fit { steps_of (map view_of views.now) ≤ length steps.old }
     ensures ok { OnOk result (IsPackedAnew options.now (map view_of views.now) channels.now
@@ -165,8 +223,8 @@ fn repack_within<W: Sink>(
     ensures err { IfErr result (FailsToPackAnew options.now (map view_of views.now) channels.now
         (W.said output.old) (W.said output.new)) }
 {
-    match fit_all(views, channels, options, samples, steps) {
-        Ok(()) => pack_all(views, channels, options, samples, steps, output),
+    match fit_all(views, trails, channels, options, samples, steps) {
+        Ok(()) => pack_all(views, trails, channels, options, samples, steps, output),
         Err(fault) => Err(fault),
     }
 }
@@ -174,19 +232,21 @@ fn repack_within<W: Sink>(
 /// Refuses the first channel that can't be packed.
 fn fit_all(
     views: &[RecordView],
+    trails: Trails,
     channels: &[(Codes, Verdict)],
     options: &Options,
     samples: &mut [i32],
     steps: &mut [(u64, LeapStep)],
 ) -> Result<(), RepackFault>
     requires judged { AreJudged (map view_of views.now) channels.now }
+    requires laid { AreLaid views.now channels.now trails.firsts.now trails.nexts.now }
     requires samples_fit { All (λ c. samples_said c.1 ≤ length samples.old) channels.now }
     requires steps_fit { steps_of (map view_of views.now) ≤ length steps.old }
     ensures ok { OnOk result (All (λ c. CanBePacked options.now (map view_of views.now) c.0) channels.now) }
     ensures err { IfErr result (FailsToFit options.now (map view_of views.now) channels.now) }
 {
-    for channel in channels {
-        match fit_channel(views, channel, options, samples, steps) {
+    for (number, channel) in channels.iter().enumerate() {
+        match fit_channel(views, trails.of(number), channel, options, samples, steps) {
             Ok(()) => {}
             Err(fault) => return Err(RepackFault::Misfit(channel.0, fault)),
         }
@@ -197,22 +257,25 @@ fn fit_all(
 /// Whether a channel can be packed. Its samples are read only where no less tells.
 fn fit_channel(
     views: &[RecordView],
+    trail: Trail,
     channel: &(Codes, Verdict),
     options: &Options,
     samples: &mut [i32],
     steps: &mut [(u64, LeapStep)],
 ) -> Result<(), PackFault>
     requires judged { IsJudged (map view_of views.now) channel.now }
+    requires trail { IsTrail channel.now.0 views.now trail.first trail.nexts.now }
+    requires nexts { length trail.nexts.now ≡ length views.now }
     requires samples_fit { samples_said channel.now.1 ≤ length samples.old }
     requires steps_fit { steps_of (map view_of views.now) ≤ length steps.old }
     ensures ok { OnOk result (CanBePacked options.now (map view_of views.now) channel.now.0) }
     ensures err { IfErr result (λ fault.
         CantBePacked options.now (map view_of views.now) fault channel.now.0) }
 {
-    if fits_unread(views, channel, options, samples, steps) {
+    if fits_unread(views, trail, channel, options, samples, steps) {
         return Ok(());
     }
-    fit_read(views, channel, options, samples, steps)
+    fit_read(views, trail, channel, options, samples, steps)
 }
 
 /// Whether it is known of a channel before its samples are read that it can be packed: the encoding holds them
@@ -220,18 +283,21 @@ fn fit_channel(
 /// which integers of 32 bits hold each.
 fn fits_unread(
     views: &[RecordView],
+    trail: Trail,
     channel: &(Codes, Verdict),
     options: &Options,
     others: &[i32],
     steps: &mut [(u64, LeapStep)],
 ) -> bool
     requires judged { IsJudged (map view_of views.now) channel.now }
+    requires trail { IsTrail channel.now.0 views.now trail.first trail.nexts.now }
+    requires nexts { length trail.nexts.now ≡ length views.now }
     requires samples_fit { samples_said channel.now.1 ≤ length others.now }
     requires steps_fit { steps_of (map view_of views.now) ≤ length steps.old }
     ensures { OnTrue result (CanBePacked options.now (map view_of views.now) channel.now.0) }
 {
     let count = samples_said(&channel.1);
-    let outline = outline_channel(views, &channel.0, steps);
+    let outline = outline_channel(views, trail, &channel.0, steps);
     if !is_held(outline.nearness, options.encoding) {
         return false;
     }
@@ -250,19 +316,22 @@ fn fits_unread(
 /// The same of its samples, which are read.
 fn fit_read(
     views: &[RecordView],
+    trail: Trail,
     channel: &(Codes, Verdict),
     options: &Options,
     samples: &mut [i32],
     steps: &mut [(u64, LeapStep)],
 ) -> Result<(), PackFault>
     requires judged { IsJudged (map view_of views.now) channel.now }
+    requires trail { IsTrail channel.now.0 views.now trail.first trail.nexts.now }
+    requires nexts { length trail.nexts.now ≡ length views.now }
     requires samples_fit { samples_said channel.now.1 ≤ length samples.old }
     requires steps_fit { steps_of (map view_of views.now) ≤ length steps.old }
     ensures ok { OnOk result (CanBePacked options.now (map view_of views.now) channel.now.0) }
     ensures err { IfErr result (λ fault.
         CantBePacked options.now (map view_of views.now) fault channel.now.0) }
 {
-    let read = read_channel(views, &channel.0, samples, steps);
+    let read = read_channel(views, trail, &channel.0, samples, steps);
     let series = view_series(channel, &samples[..read.samples], &steps[..read.steps]);
     fit_view(&series, options)
 }
@@ -270,6 +339,7 @@ fn fit_read(
 /// Writes the records of all channels.
 fn pack_all<W: Sink>(
     views: &[RecordView],
+    trails: Trails,
     channels: &[(Codes, Verdict)],
     options: &Options,
     samples: &mut [i32],
@@ -277,6 +347,7 @@ fn pack_all<W: Sink>(
     output: &mut W,
 ) -> Result<(), RepackFault>
     requires judged { AreJudged (map view_of views.now) channels.now }
+    requires laid { AreLaid views.now channels.now trails.firsts.now trails.nexts.now }
     requires samples_fit { All (λ c. samples_said c.1 ≤ length samples.old) channels.now }
     requires steps_fit { steps_of (map view_of views.now) ≤ length steps.old }
     requires fit { All (λ c. CanBePacked options.now (map view_of views.now) c.0) channels.now }
@@ -285,8 +356,16 @@ fn pack_all<W: Sink>(
     ensures err { IfErr result (FailsToPack options.now (map view_of views.now) channels.now
         (W.said output.old) (W.said output.new)) }
 {
-    for channel in channels {
-        pack_channel(views, channel, options, samples, steps, output)?;
+    for (number, channel) in channels.iter().enumerate() {
+        pack_channel(
+            views,
+            trails.of(number),
+            channel,
+            options,
+            samples,
+            steps,
+            output,
+        )?;
     }
     Ok(())
 }
@@ -294,6 +373,7 @@ fn pack_all<W: Sink>(
 /// Writes the records of a channel.
 fn pack_channel<W: Sink>(
     views: &[RecordView],
+    trail: Trail,
     channel: &(Codes, Verdict),
     options: &Options,
     samples: &mut [i32],
@@ -301,6 +381,8 @@ fn pack_channel<W: Sink>(
     output: &mut W,
 ) -> Result<(), RepackFault>
     requires judged { IsJudged (map view_of views.now) channel.now }
+    requires trail { IsTrail channel.now.0 views.now trail.first trail.nexts.now }
+    requires nexts { length trail.nexts.now ≡ length views.now }
     requires samples_fit { samples_said channel.now.1 ≤ length samples.old }
     requires steps_fit { steps_of (map view_of views.now) ≤ length steps.old }
     requires fit { CanBePacked options.now (map view_of views.now) channel.now.0 }
@@ -310,7 +392,7 @@ fn pack_channel<W: Sink>(
         (W.said output.old) (W.said output.new)) }
 {
     one_series();
-    let read = read_channel(views, &channel.0, samples, steps);
+    let read = read_channel(views, trail, &channel.0, samples, steps);
     let series = view_series(channel, &samples[..read.samples], &steps[..read.steps]);
     // The series is the one that was found to fit.
     match pack_fitting(&series, options, output) {

@@ -1,4 +1,4 @@
-use Rattle.std.proofs.Common.{◌≡◌, ◌+◌, ◌∷◌, [], List, map, take, arith, sym, ap, subst, ◌∙◌, true, false}
+use Rattle.std.proofs.Common.{◌≡◌, ◌+◌, ◌∷◌, [], List, map, take, arith, sym, ap, subst, ◌∙◌, true}
 use Rattle.std.proofs.lemmas.List.{take_all}
 use Rattle.mseed_record.specs.View.{View}
 use Rattle.mseed_record.specs.Viewing.{view_of}
@@ -7,27 +7,28 @@ use Rattle.mseed_audit.proofs.Behind.{kept_next, sound_at}
 use Rattle.mseed.specs.Reading.{channel_in, samples_of, steps_of}
 use Rattle.mseed.proofs.ReadChannels.{samples_append, samples_front, steps_append, steps_front}
 use Rattle.mseed.proofs.Outlines.{IsOutlined, outline_is, outlined_more, outlined_none}
-use Rattle.mseed.proofs.outline.outline_channel.Goals.{then-is_of, else-is_of}
+use Rattle.mseed.specs.declared.outline.Nearness.TheVariants.{Empty}
 use Rattle.mseed.proofs.outline.outline_channel.Goals as goal
 
-pub loop-view-init : goal.loop-view-init
-loop-view-init c = outlined_none c.args.codes.now c.args.steps.now
+pub loop-place-init : goal.loop-place-init
+loop-place-init c =
+    subst (λ (vs : List View). IsOutlined c.args.codes.now vs 0 0 Empty c.args.steps.now) (sym c.requires.trail.first_is.none) (outlined_none c.args.codes.now c.args.steps.now)
 
 pub outline_record-outline-requires-clause-sound : goal.outline_record-outline-requires-clause-sound
 outline_record-outline-requires-clause-sound c =
-    sound_at c.args.codes.now c.args.views.now c.loop-view.view-index c.view-item.result c.loop-view-test.true c.view-item.is c.if-is_of.ensures c.requires.sound
+    sound_at c.args.codes.now c.args.views.now c.loop-place.place c.index-views-place.result c.loop-place-test.true c.index-views-place.is c.if-is_of.ensures c.requires.sound
 
 pub outline_record-outline-requires-clause-few : goal.outline_record-outline-requires-clause-few
 outline_record-outline-requires-clause-few c =
     let key = c.args.codes.now in
     let rs = c.args.views.now in
-    let n = c.loop-view.view-index in
+    let n = c.loop-place.place in
     let front = channel_in key (map view_of (take n rs)) in
-    let v = view_of c.view-item.result in
+    let v = view_of c.index-views-place.result in
     let next : samples_of (channel_in key (map view_of (take (n + 1) rs))) ≡ samples_of front + samples_of (v ∷ []) =
-    ap (λ (vs : List View). samples_of vs) (kept_next key rs n c.view-item.result true c.loop-view-test.true c.view-item.is c.if-is_of.ensures) ∙ samples_append front (v ∷ []) in
+    ap (λ (vs : List View). samples_of vs) (kept_next key rs n c.index-views-place.result true c.loop-place-test.true c.index-views-place.is c.if-is_of.ensures) ∙ samples_append front (v ∷ []) in
     let most = samples_front key rs (n + 1) in
-    let so_far = c.loop-view.invariant.read.samples_count in
+    let so_far = c.loop-place.invariant.read.samples_count in
     let room = c.requires.few in
     omega (arith, next, most, so_far, room)
 
@@ -35,52 +36,48 @@ pub outline_record-outline-requires-clause-steps_fit : goal.outline_record-outli
 outline_record-outline-requires-clause-steps_fit c =
     let key = c.args.codes.now in
     let rs = c.args.views.now in
-    let n = c.loop-view.view-index in
+    let n = c.loop-place.place in
     let front = channel_in key (map view_of (take n rs)) in
-    let v = view_of c.view-item.result in
+    let v = view_of c.index-views-place.result in
     let next : steps_of (channel_in key (map view_of (take (n + 1) rs))) ≡ steps_of front + steps_of (v ∷ []) =
-    ap (λ (vs : List View). steps_of vs) (kept_next key rs n c.view-item.result true c.loop-view-test.true c.view-item.is c.if-is_of.ensures) ∙ steps_append front (v ∷ []) in
+    ap (λ (vs : List View). steps_of vs) (kept_next key rs n c.index-views-place.result true c.loop-place-test.true c.index-views-place.is c.if-is_of.ensures) ∙ steps_append front (v ∷ []) in
     let most = steps_front key rs (n + 1) in
-    let so_far = c.loop-view.invariant.read.steps_count in
-    let size = c.loop-view.auto.steps in
+    let so_far = c.loop-place.invariant.read.steps_count in
+    let size = c.loop-place.auto.steps in
     let room = c.requires.steps_fit in
     omega (arith, next, most, so_far, size, room)
 
-pub loop-view-preserved : goal.loop-view-preserved
-loop-view-preserved c =
+pub loop-place-preserved-then-is_of : goal.loop-place-preserved-then-is_of
+loop-place-preserved-then-is_of c =
     let key = c.args.codes.now in
     let rs = c.args.views.now in
-    let l = c.loop-view in
-    let n = l.view-index in
-    let r = c.view-item.result in
+    let l = c.loop-place in
+    let n = l.place in
+    let r = c.index-views-place.result in
     let front : List View = channel_in key (map view_of (take n rs)) in
-    elim c.if-is_of.branch [
-      | then-is_of w ↦ let e = w.outline_record-outline.ensures in let o = w.outline_record-outline.result in
-          let sound = sound_at key rs n r c.loop-view-test.true c.view-item.is w.if-is_of.ensures c.requires.sound in
-          rw (w.steps-is, w.outline-is)
-          (subst (λ (vs : List View). IsOutlined key vs o.samples o.steps o.nearness w.outline_record-outline.new.steps)
-          (sym (kept_next key rs n r true c.loop-view-test.true c.view-item.is w.if-is_of.ensures))
-          (outlined_more key front (view_of r) l.outline.samples l.outline.steps o.samples o.steps l.outline.nearness o.nearness sound.samples l.steps w.outline_record-outline.new.steps
-          l.invariant sound.whole e.samples e.steps e.steps_count e.nearness))
-      | else-is_of w ↦ rw (w.steps-is, w.outline-is)
-          (subst (λ (vs : List View). IsOutlined key vs l.outline.samples l.outline.steps l.outline.nearness l.steps)
-          (sym (kept_next key rs n r false c.loop-view-test.true c.view-item.is w.if-is_of.ensures)) l.invariant)
-    ]
+    let e = c.outline_record-outline.ensures in
+    let o = c.outline_record-outline.result in
+    let sound = sound_at key rs n r c.loop-place-test.true c.index-views-place.is c.if-is_of.ensures c.requires.sound in
+    let next = c.requires.trail.nexts_are n r (omega arith) c.loop-place-test.true c.index-views-place.is (sym c.if-is_of.ensures) in
+    subst (λ (vs : List View). IsOutlined key vs o.samples o.steps o.nearness c.outline_record-outline.new.steps)
+    (sym (next.none ∙ kept_next key rs n r true c.loop-place-test.true c.index-views-place.is c.if-is_of.ensures))
+    (outlined_more key front (view_of r) l.outline.samples l.outline.steps o.samples o.steps l.outline.nearness o.nearness sound.samples l.steps c.outline_record-outline.new.steps
+    l.invariant sound.whole e.samples e.steps e.steps_count e.nearness)
 
 pub returns-clause-outline : goal.returns-clause-outline
 returns-clause-outline c =
-    let l = c.loop-view in
-    let all : take l.view-index c.args.views.now ≡ c.args.views.now = take_all l.view-index c.args.views.now (omega (arith, c.loop-view-test.false)) in
+    let l = c.loop-place in
+    let all : take l.place c.args.views.now ≡ c.args.views.now = take_all l.place c.args.views.now (omega (arith, c.loop-place-test.false)) in
     outline_is c.args.codes.now (channel_in c.args.codes.now (map view_of c.args.views.now)) l.outline.samples l.outline.steps l.outline.nearness l.steps
     (subst (λ (rs : List RecordView). IsOutlined c.args.codes.now (channel_in c.args.codes.now (map view_of rs)) l.outline.samples l.outline.steps l.outline.nearness l.steps) all l.invariant)
 
 pub returns-clause-samples : goal.returns-clause-samples
 returns-clause-samples c =
-    let l = c.loop-view in
-    let all : take l.view-index c.args.views.now ≡ c.args.views.now = take_all l.view-index c.args.views.now (omega (arith, c.loop-view-test.false)) in
+    let l = c.loop-place in
+    let all : take l.place c.args.views.now ≡ c.args.views.now = take_all l.place c.args.views.now (omega (arith, c.loop-place-test.false)) in
     subst (λ (rs : List RecordView). l.outline.samples ≡ samples_of (channel_in c.args.codes.now (map view_of rs))) all l.invariant.read.samples_count
 
 pub returns-clause-steps_inside : goal.returns-clause-steps_inside
 returns-clause-steps_inside c =
-    let most = steps_front c.args.codes.now c.args.views.now c.loop-view.view-index in
-    omega (arith, most, c.loop-view.invariant.read.steps_count, c.loop-view.auto.steps, c.requires.steps_fit)
+    let most = steps_front c.args.codes.now c.args.views.now c.loop-place.place in
+    omega (arith, most, c.loop-place.invariant.read.steps_count, c.loop-place.auto.steps, c.requires.steps_fit)

@@ -24,7 +24,9 @@ returns-in_err-refuse_broken g c =
     broken_ends c.from_residual-in_err-refuse_broken.result _ c.args.options.now h s views cs fault c.from_residual-in_err-refuse_broken.ensures.1 (λ e q. q) archive broken
 
 pub repack_continuous-requires : goal.repack_continuous-requires
-repack_continuous-requires g c = record { judged = rw (c.deref-3.ensures.value, ← c.deref-4.ensures.value) at c.in_ok-refuse_broken.ensures.judged }
+repack_continuous-requires g c =
+    let verdicts = rw (c.deref-2.ensures.value, ← c.as_slice-channels.ensures) at c.in_ok-verdicts.ensures.ok in
+    record { judged = rw (c.deref-3.ensures.value, ← c.deref-4.ensures.value) at c.in_ok-refuse_broken.ensures.judged; ascending = verdicts.ascending }
 
 pub returns : goal.returns
 returns g c =
