@@ -86,3 +86,10 @@ grown_none before after more e l = e ∙ (ap (λ (xs : List ℕ). before ++ xs) 
     empty : (xs : List ℕ) → length xs ≡ 0 → xs ≡ []
     empty [] h = refl
     empty (x ∷ xs) h = absurd (omega arith)
+
+-- where nothing was asked, nothing more is held
+pub none_asked : (first before after more : List ℕ) (o m n : ℕ) → after ≡ before ++ more → m ≤ n → o ≤ m → (m ≤ o → before ≡ first) → (length before < length after → m < n) → n ≤ o → after ≡ first
+none_asked first before after [] o m n grown calls asked same quiet none = grown ∙ append-nil before ∙ same (omega (arith, none, calls))
+none_asked first before after (x ∷ more) o m n grown calls asked same quiet none =
+    let size : length after ≡ length before + length (x ∷ more) = ap (λ (xs : List ℕ). length xs) grown ∙ length-append before (x ∷ more) in
+    absurd (omega (arith, quiet (omega (arith, size)), none, asked))

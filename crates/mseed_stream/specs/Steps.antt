@@ -1,11 +1,12 @@
 -- What the single steps of a cutter do: the reads for one stop, those for one record, and the answer by what was found.
-use Rattle.std.specs.Prelude.{◌≡◌, Bool, true, false, ℕ, ◌+◌, ◌^◌, ◌<◌, List, [], length, Option, Some, None, Result, Ok, Err}
+use Rattle.std.specs.Prelude.{◌≡◌, Bool, true, false, ℕ, ◌+◌, ◌^◌, ◌<◌, ◌≤◌, List, [], length, Option, Some, None, Result, Ok, Err, OnOk, IfErr}
 use Rattle.mseed_record.specs.declared.frame.Scan.TheVariants.{Need}
+use Rattle.mseed_record.specs.Record.{IsRecord}
 use Rattle.mseed_record.specs.Scan.{Decides}
 use Rattle.mseed_stream.specs.Device.{Heard}
 use Rattle.mseed_stream.specs.Standing.{Standing}
 use Rattle.mseed_stream.specs.Archive.{IsEndOf, frame, truncated}
-use Rattle.mseed_stream.specs.Cutting.{FallsShort, IsReadTo}
+use Rattle.mseed_stream.specs.Cutting.{FallsShort, IsHeard, IsReadTo, IsStop, asks_of, is_short}
 use Rattle.mseed_stream.specs.declared.cutter.Ending.TheVariants.{Clean, Fault}
 use Rattle.mseed_stream.specs.declared.fault.StreamFault.{StreamFault}
 use Rattle.mseed_stream.specs.declared.fault.StreamFault.TheVariants.{Frame, Truncated, Read, Turns, Memory}
@@ -25,6 +26,28 @@ IsCuttingFault (Truncated n have) c after old new = (n ≡ c.offset) × (new.fai
 IsCuttingFault (Read n) c after old new = (n ≡ c.offset) × (new.failures ≡ old.failures + 1) × (new.is_at_end ≡ false) × FallsShort after.front
 IsCuttingFault (Turns n) c after old new = (n ≡ c.offset) × (new.failures ≡ old.failures) × (new.calls ≡ 2 ^ 40) × (new.is_at_end ≡ false) × FallsShort after.front
 IsCuttingFault Memory c after old new = (new.failures ≡ old.failures) × (new.is_at_end ≡ false) × ((n : ℕ) × (c.room < n) × Decides after.front (Need n))
+
+-- the reads for a record may begin: the framing steps are to be taken next, of what is held
+pub record MayCut (h : Heard) (c : Standing) : Type 0 where
+  pub heard : IsHeard h c
+  pub not_lent : c.is_lent ≡ false
+  pub stop : IsStop c.front (length c.front)
+  pub asks : (k : ℕ) × Decides c.front (Need k)
+  pub going_on : h.is_at_end ≡ false
+
+-- what the reads for one record come to: what was told is held up to a stop, and is a record, nothing at the input's
+-- end, or the bytes of a fault
+pub record IsCut (answer : Result Bool StreamFault) (c after : Standing) (old new : Heard) : Type 0 where
+  pub heard : IsHeard new after
+  pub stays : (after.offset ≡ c.offset) × (after.is_lent ≡ false) × (after.answer ≡ c.answer)
+  pub room : c.room ≤ after.room
+  pub stop : IsReadTo after.front (is_short answer new.is_at_end)
+  pub found : answer ≡ Ok true → IsRecord after.front × (new.is_at_end ≡ false)
+  pub asked : answer ≡ Ok true → old.calls + 2 ≤ new.calls + asks_of c.front
+  pub quiet : (new.calls ≤ old.calls → after.front ≡ c.front) × (old.calls ≤ new.calls)
+  pub ended : answer ≡ Ok false → (after.front ≡ []) × (new.is_at_end ≡ true)
+  pub fine : OnOk answer (new.failures ≡ old.failures)
+  pub fault : IfErr answer (λ e. IsCuttingFault e c after old new)
 
 -- at the input's end: nothing is left, or so many bytes of what might have been a record
 abbrev pub IsAnswerAtEnd : Result Bool StreamFault → ℕ → List ℕ → Type 0

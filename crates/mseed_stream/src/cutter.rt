@@ -16,7 +16,7 @@ ghost use Rattle.mseed_stream.specs.Cutting.{asks_of, count_of, IsCutFault, IsCl
 ghost use Rattle.mseed_stream.specs.Cutting.{told_from, moves_by, failed_by, answer_of, kept_of, handed_by};
 ghost use Rattle.mseed_stream.specs.Cutting.{IfEnds, IsAhead, told_whole};
 ghost use Rattle.mseed_stream.specs.Walk.{HasHandedOut, AreAllViews, IfGoesOn, end_of};
-ghost use Rattle.mseed_stream.specs.Steps.{IsFillFault, IsAnswerAtEnd, IsCuttingFault, lent_of, settled};
+ghost use Rattle.mseed_stream.specs.Steps.{IsFillFault, IsAnswerAtEnd, IsCut, MayCut, lent_of, settled};
 
 use crate::device::{Failed, Sink, Source};
 use crate::fault::StreamFault;
@@ -371,27 +371,10 @@ impl<A: Allocator> Cutter<A> {
 
     /// Reads to the next record's end, or answers that the input ended where a record ended.
     fn cut<R: Source>(&mut self, source: &mut R) -> Result<bool, StreamFault>
-        requires heard { IsHeard (R.heard source.old) self.old }
-        requires not_lent { self.old.is_lent ≡ false }
-        requires stop { IsStop self.old.front (length self.old.front) }
-        requires asks { (k : ℕ) × Decides self.old.front (Need k) }
-        requires going_on { (R.heard source.old).is_at_end ≡ false }
-        ensures heard { IsHeard (R.heard source.new) self.new }
+        requires { MayCut (R.heard source.old) self.old }
+        ensures cut { IsCut result self.old self.new (R.heard source.old) (R.heard source.new) }
         ensures more { TellsMore (R.heard source.old) (R.heard source.new) (R.remaining source.old)
             (R.remaining source.new) }
-        ensures stays { (self.new.offset ≡ self.old.offset) × (self.new.is_lent ≡ false)
-            × (self.new.answer ≡ self.old.answer) }
-        ensures room { self.old.room ≤ self.new.room }
-        ensures stop { IsReadTo self.new.front (is_short result (R.heard source.new).is_at_end) }
-        ensures found { result ≡ Ok true → IsRecord self.new.front × (R.heard source.new).is_at_end ≡ false }
-        ensures asked { result ≡ Ok true
-            → (R.heard source.old).calls + 2 ≤ (R.heard source.new).calls + asks_of self.old.front }
-        ensures quiet { ((R.heard source.new).calls ≤ (R.heard source.old).calls → self.new.front ≡ self.old.front)
-            × ((R.heard source.old).calls ≤ (R.heard source.new).calls) }
-        ensures ended { result ≡ Ok false → (self.new.front ≡ []) × ((R.heard source.new).is_at_end ≡ true) }
-        ensures fine { OnOk result ((R.heard source.new).failures ≡ (R.heard source.old).failures) }
-        ensures fault { IfErr result (λ e. IsCuttingFault e self.old self.new (R.heard source.old)
-            (R.heard source.new)) }
         ensures known { (R.heard source.new).is_at_end ≡ true → IsAtEnd (R.remaining source.new) }
         ensures beside { R.beside source.new ≡ R.beside source.old }
     {
@@ -444,27 +427,10 @@ impl<A: Allocator> Cutter<A> {
 
     /// Reads from stop to stop up to the next record's end, or answers that the input ended where a record ended.
     fn cut_by_stops<R: Source>(&mut self, source: &mut R) -> Result<bool, StreamFault>
-        requires heard { IsHeard (R.heard source.old) self.old }
-        requires not_lent { self.old.is_lent ≡ false }
-        requires stop { IsStop self.old.front (length self.old.front) }
-        requires asks { (k : ℕ) × Decides self.old.front (Need k) }
-        requires going_on { (R.heard source.old).is_at_end ≡ false }
-        ensures heard { IsHeard (R.heard source.new) self.new }
+        requires { MayCut (R.heard source.old) self.old }
+        ensures cut { IsCut result self.old self.new (R.heard source.old) (R.heard source.new) }
         ensures more { TellsMore (R.heard source.old) (R.heard source.new) (R.remaining source.old)
             (R.remaining source.new) }
-        ensures stays { (self.new.offset ≡ self.old.offset) × (self.new.is_lent ≡ false)
-            × (self.new.answer ≡ self.old.answer) }
-        ensures room { self.old.room ≤ self.new.room }
-        ensures stop { IsReadTo self.new.front (is_short result (R.heard source.new).is_at_end) }
-        ensures found { result ≡ Ok true → IsRecord self.new.front × (R.heard source.new).is_at_end ≡ false }
-        ensures asked { result ≡ Ok true
-            → (R.heard source.old).calls + 2 ≤ (R.heard source.new).calls + asks_of self.old.front }
-        ensures quiet { ((R.heard source.new).calls ≤ (R.heard source.old).calls → self.new.front ≡ self.old.front)
-            × ((R.heard source.old).calls ≤ (R.heard source.new).calls) }
-        ensures ended { result ≡ Ok false → (self.new.front ≡ []) × ((R.heard source.new).is_at_end ≡ true) }
-        ensures fine { OnOk result ((R.heard source.new).failures ≡ (R.heard source.old).failures) }
-        ensures fault { IfErr result (λ e. IsCuttingFault e self.old self.new (R.heard source.old)
-            (R.heard source.new)) }
         ensures known { (R.heard source.new).is_at_end ≡ true → IsAtEnd (R.remaining source.new) }
         ensures beside { R.beside source.new ≡ R.beside source.old }
     {

@@ -14,7 +14,7 @@ use Rattle.mseed_stream.proofs.cutter.Cutter.advance.Goals as goal
 pub returns-clause-along : goal.returns-clause-along
 returns-clause-along g c =
     let after : Standing = c.cut-found.new.self in
-    let cut = c.cut-found.ensures in
+    let cut = c.cut-found.ensures.cut in
     let new : Heard = g.R.Source.heard c.cut-found.new.source in
     let open_still : after.answer ≡ None = search rules in
     subst (λ (s : Standing). IsAlong new s) (sym c.settle.ensures.after)
@@ -22,7 +22,7 @@ returns-clause-along g c =
 
 pub returns-clause-end : goal.returns-clause-end
 returns-clause-end g c e =
-    let cut = c.cut-found.ensures in
+    let cut = c.cut-found.ensures.cut in
     let after : Standing = c.cut-found.new.self in
     let new : Heard = g.R.Source.heard c.cut-found.new.source in
     let nothing = cut.ended (nothing_found c.cut-found.result (length after.front) (sym c.settle.ensures.answer ∙ e)) in
@@ -41,7 +41,7 @@ returns-in-Some-clause-archive g c records has =
 
 pub returns-clause-records : goal.returns-clause-records
 returns-clause-records g c records has =
-    let cut = c.cut-found.ensures in
+    let cut = c.cut-found.ensures.cut in
     let after : Standing = c.cut-found.new.self in
     let offset : ℕ = c.args.self.now.offset in
     let old : Heard = g.R.Source.heard c.args.source.now in
@@ -52,11 +52,11 @@ returns-clause-records g c records has =
     let found = record_found c.cut-found.result (length after.front) after.front new.is_at_end cut.found in
     let is = subst (λ (xs : List ℕ). IfOk (lent_of (length after.front) c.cut-found.result) (λ o. IfSome o (λ m. IsRecord xs))) told found in
     let handed = subst (λ (r : Result (Option ℕ) StreamFault). IfOk r (λ o. IfSome o (λ m. IsRecord (told_from offset new)))) (sym c.settle.ensures.answer) is in
-    records_after c.settle.result old new cut.more.0 offset records within cut.more.1 handed has
+    records_after c.settle.result old new c.cut-found.ensures.more.0 offset records within c.cut-found.ensures.more.1 handed has
 
 pub returns-clause-fault : goal.returns-clause-fault
 returns-clause-fault g c =
-    let cut = c.cut-found.ensures in
+    let cut = c.cut-found.ensures.cut in
     let after : Standing = c.cut-found.new.self in
     let old : Heard = g.R.Source.heard c.args.source.now in
     let new : Heard = g.R.Source.heard c.cut-found.new.source in
@@ -67,11 +67,11 @@ returns-clause-fault g c =
 
 pub returns-clause-archive : goal.returns-clause-archive
 returns-clause-archive g c records has =
-    let cut = c.cut-found.ensures in
+    let cut = c.cut-found.ensures.cut in
     let after : Standing = c.cut-found.new.self in
     let offset : ℕ = c.args.self.now.offset in
     let old : Heard = g.R.Source.heard c.args.source.now in
     let new : Heard = g.R.Source.heard c.cut-found.new.source in
     let within : offset ≤ length old.bytes = omega (arith, c.requires.heard.told) in
     let same_offset : after.offset ≡ offset = cut.stays.0 ∙ ap (λ (s : Standing). s.offset) c.forget.ensures in
-    archive_at c.settle.result old new cut.more.0 offset records within cut.more.1 has (returns-clause-end g c) (returns-clause-fault g c)
+    archive_at c.settle.result old new c.cut-found.ensures.more.0 offset records within c.cut-found.ensures.more.1 has (returns-clause-end g c) (returns-clause-fault g c)

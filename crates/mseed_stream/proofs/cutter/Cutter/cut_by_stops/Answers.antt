@@ -1,4 +1,4 @@
-use Rattle.std.proofs.Common.{◌≡◌, ◌<◌, ◌≤◌, ◌++◌, length, true, false, Bool, Ok, Err, IfErr, Result, ℕ, List, sym, ap, subst, ◌∙◌, append_assoc, arith, rules, ⊎_elim}
+use Rattle.std.proofs.Common.{◌≡◌, ◌<◌, ◌≤◌, ◌++◌, length, true, false, Bool, Ok, Err, IfErr, OnOk, Result, ℕ, List, sym, ap, subst, ◌∙◌, append_assoc, arith, rules, ⊎_elim}
 use Rattle.std.proofs.lemmas.Bool.{cases_lt}
 use Rattle.mseed_record.proofs.Answered.{answered}
 use Rattle.std.proofs.KnownBytes.{Consumes-trans}
@@ -9,70 +9,82 @@ use Rattle.mseed_stream.specs.Archive.{is_frame}
 use Rattle.mseed_stream.specs.Device.{Heard}
 use Rattle.mseed_stream.specs.Standing.{Standing}
 use Rattle.mseed_stream.specs.Cutting.{IsStop, IsReadTo, is_short}
-use Rattle.mseed_stream.specs.Steps.{IsCuttingFault}
+use Rattle.mseed_stream.specs.Steps.{IsCut, IsCuttingFault}
 use Rattle.mseed_stream.specs.declared.fault.StreamFault.{StreamFault}
 use Rattle.mseed_stream.proofs.Stops.{stop_grows, stop_next}
 use Rattle.mseed_stream.proofs.Filled.{held_grows, held_stays}
-use Rattle.mseed_stream.proofs.Cuts.{found, fault_at_end, cutting_err, read_to_err, stops_again, same_end, stop_here, asked_twice, first_fill}
+use Rattle.mseed_stream.proofs.Cuts.{found, fault_at_end, cutting_err, read_to_err, stops_again, same_end, stop_here, asked_twice, first_fill, none_asked}
 use Rattle.mseed_stream.proofs.cutter.Cutter.cut_by_stops.Goals as goal
 
-pub returns-in-Record-clause-found : goal.returns-in-Record-clause-found
-returns-in-Record-clause-found g c _ =
-    let inv = c.stops.invariant in
-    let record_at = c.look.ensures.record c.in-Record.field-0 c.in-Record.is in
-    let it = found c.stops.self.front c.stops.is_at_end c.in-Record.field-0 inv.stop record_at.0 record_at.1 in
-    (rw c.look.ensures.stays it.0, inv.end ∙ it.1)
-
-pub returns-in-Record-clause-asked : goal.returns-in-Record-clause-asked
-returns-in-Record-clause-asked g c _ =
+pub returns-in-Record-clause-cut : goal.returns-in-Record-clause-cut
+returns-in-Record-clause-cut g c =
     let inv = c.stops.invariant in
     let k : ℕ = c.in-Record.field-0 in
     let n : ℕ = c.requires.asks.0 in
-    let old : ℕ = (g.R.Source.heard c.args.source.now).calls in
-    let new : ℕ = (g.R.Source.heard c.stops.source).calls in
+    let front : List ℕ = c.stops.self.front in
+    let before : Heard = g.R.Source.heard c.args.source.now in
+    let after : Heard = g.R.Source.heard c.stops.source in
+    let old : ℕ = before.calls in
+    let new : ℕ = after.calls in
     let record_at = c.look.ensures.record k c.in-Record.is in
-    let it = found c.stops.self.front c.stops.is_at_end k inv.stop record_at.0 record_at.1 in
+    let it = found front c.stops.is_at_end k inv.stop record_at.0 record_at.1 in
     let more : old < new = ⊎_elim (λ (less : old < new). less)
     (λ (none : new ≤ old).
     let asks = subst (λ (xs : List ℕ). Decides xs (Need n)) (sym (inv.asked none)) c.requires.asks.1 in
-    absurd (cc (answered c.stops.self.front k (Need n) asks record_at.0 record_at.1)))
+    absurd (cc (answered front k (Need n) asks record_at.0 record_at.1)))
     (cases_lt old new) in
-    asked_twice c.args.self.now.front c.stops.self.front old new more inv.header it.0
+    let cut : IsCut (Ok true) c.args.self.now c.stops.self before after = record {
+      heard = inv.heard;
+      stays = (inv.offset, inv.not_lent, inv.answer);
+      room = inv.room;
+      stop = rw inv.end inv.stop;
+      found = λ same. (it.0, inv.end ∙ it.1);
+      asked = λ same. asked_twice c.args.self.now.front front old new more inv.header it.0;
+      quiet = (inv.asked, inv.calls);
+      ended = λ other. cc;
+      fine = inv.failures;
+      fault = tt;
+    } in
+    subst (λ (s : Standing). IsCut (Ok true) c.args.self.now s before after) (sym c.look.ensures.stays) cut
 
-pub returns-in-Not-clause-fault : goal.returns-in-Not-clause-fault
-returns-in-Not-clause-fault g c =
+pub returns-in-Not-clause-cut : goal.returns-in-Not-clause-cut
+returns-in-Not-clause-cut g c =
     let inv = c.stops.invariant in
     let decides = subst (λ (a : Scan). Decides c.stops.self.front a) c.in-Not.is c.look.ensures.decides in
     let same = c.look.ensures.stays in
-    (ap (λ (s : Standing). s.offset) (c.self.view_is ∙ same) ∙ inv.offset, inv.failures, rw same (is_frame c.in-Not.fault decides), rw (same, inv.end) inv.stop)
+    record {
+      heard = rw same inv.heard;
+      stays = rw same (inv.offset, inv.not_lent, inv.answer);
+      room = rw same inv.room;
+      stop = rw (same, inv.end) inv.stop;
+      found = λ other. cc;
+      asked = λ other. cc;
+      quiet = rw same (inv.asked, inv.calls);
+      ended = λ other. cc;
+      fine = tt;
+      fault = (ap (λ (s : Standing). s.offset) (c.self.view_is ∙ same) ∙ inv.offset, inv.failures, rw same (is_frame c.in-Not.fault decides), rw (same, inv.end) inv.stop);
+    }
 
-pub returns-in-Need-clause-fault : goal.returns-in-Need-clause-fault
-returns-in-Need-clause-fault g c =
+pub returns-in-Need-clause-cut : goal.returns-in-Need-clause-cut
+returns-in-Need-clause-cut g c =
     let inv = c.stops.invariant in
     let same = c.look.ensures.stays in
     let decides = subst (λ (a : Scan). Decides c.stops.self.front a) c.in-Need.is c.look.ensures.decides in
-    fault_at_end c.end.result c.in-Need.field-0 c.args.self.now c.look.new.self (g.R.Source.heard c.args.source.now) (g.R.Source.heard c.stops.source) c.end.ensures (ap (λ (s : Standing). s.offset) same ∙ inv.offset) inv.failures (inv.end ∙ c.if-is_at_end.true) (rw same decides)
+    record {
+      heard = rw same inv.heard;
+      stays = rw same (inv.offset, inv.not_lent, inv.answer);
+      room = rw same inv.room;
+      stop = search rules;
+      found = search rules;
+      asked = search rules;
+      quiet = rw same (inv.asked, inv.calls);
+      ended = search rules;
+      fine = search rules;
+      fault = fault_at_end c.end.result c.in-Need.field-0 c.args.self.now c.look.new.self (g.R.Source.heard c.args.source.now) (g.R.Source.heard c.stops.source) c.end.ensures (ap (λ (s : Standing). s.offset) same ∙ inv.offset) inv.failures (inv.end ∙ c.if-is_at_end.true) (rw same decides);
+    }
 
-pub returns-in_err-is_at_end-in-Need-2-clause-stop : goal.returns-in_err-is_at_end-in-Need-2-clause-stop
-returns-in_err-is_at_end-in-Need-2-clause-stop g c =
-    let inv = c.stops.invariant in
-    let err = rw c.look.ensures.stays at c.in_err-is_at_end-in-Need-2.ensures in
-    let fault : StreamFault = c.in_err-is_at_end-in-Need-2.field-0.0 in
-    let needed : ℕ = c.in-Need.field-0 in
-    let before : List ℕ = c.stops.self.front in
-    let after : List ℕ = c.fill.new.self.front in
-    let old : Heard = g.R.Source.heard c.stops.source in
-    let new : Heard = g.R.Source.heard c.fill.new.source in
-    let decides = subst (λ (a : Scan). Decides before a) c.in-Need.is c.look.ensures.decides in
-    let here = stop_here before c.stops.is_at_end inv.stop c.if-is_at_end.false in
-    let grown : after ≡ before ++ err.more.0 = held_grows old new c.stops.self c.fill.new.self err.more.0 inv.heard err.heard inv.not_lent err.stays.1 err.stays.0 err.more.1 in
-    let stop = subst (λ (xs : List ℕ). IsStop xs needed) (sym grown) (stop_grows before err.more.0 needed (stop_next before needed here decides)) in
-    let held = λ (same : new ≡ old). subst (λ (xs : List ℕ). IsStop xs (length xs)) (sym (held_stays old new c.stops.self c.fill.new.self inv.heard err.heard inv.not_lent err.stays.1 err.stays.0 same)) here in
-    let same : c.from_residual.result ≡ Err fault = search rules in
-    subst (λ (r : Result Bool StreamFault). IsReadTo after (is_short r new.is_at_end)) (sym same) (read_to_err fault after needed c.stops.self.offset c.stops.self.room old new err.fault stop err.short held)
-
-pub returns-in_err-is_at_end-in-Need-2-clause-fault : goal.returns-in_err-is_at_end-in-Need-2-clause-fault
-returns-in_err-is_at_end-in-Need-2-clause-fault g c =
+pub returns-in_err-is_at_end-in-Need-2-clause-cut : goal.returns-in_err-is_at_end-in-Need-2-clause-cut
+returns-in_err-is_at_end-in-Need-2-clause-cut g c =
     let inv = c.stops.invariant in
     let err = rw c.look.ensures.stays at c.in_err-is_at_end-in-Need-2.ensures in
     let fault : StreamFault = c.in_err-is_at_end-in-Need-2.field-0.0 in
@@ -86,10 +98,23 @@ returns-in_err-is_at_end-in-Need-2-clause-fault g c =
     let here = stop_here before c.stops.is_at_end inv.stop c.if-is_at_end.false in
     let grown : after.front ≡ before ++ err.more.0 = held_grows old new c.stops.self after err.more.0 inv.heard err.heard inv.not_lent err.stays.1 err.stays.0 err.more.1 in
     let stop = subst (λ (xs : List ℕ). IsStop xs needed) (sym grown) (stop_grows before err.more.0 needed (stop_next before needed here decides)) in
-    let asks = λ (same : new ≡ old). subst (λ (xs : List ℕ). Decides xs (Need needed)) (sym (held_stays old new c.stops.self after inv.heard err.heard inv.not_lent err.stays.1 err.stays.0 same)) decides in
+    let stays = λ (same : new ≡ old). held_stays old new c.stops.self after inv.heard err.heard inv.not_lent err.stays.1 err.stays.0 same in
+    let held = λ (same : new ≡ old). subst (λ (xs : List ℕ). IsStop xs (length xs)) (sym (stays same)) here in
+    let asks = λ (same : new ≡ old). subst (λ (xs : List ℕ). Decides xs (Need needed)) (sym (stays same)) decides in
     let same : c.from_residual.result ≡ Err fault = search rules in
-    subst (λ (r : Result Bool StreamFault). IfErr r (λ e. IsCuttingFault e c.args.self.now after first new)) (sym same)
-    (cutting_err fault c.args.self.now c.stops.self after first old new needed err.fault inv.offset inv.room inv.failures (inv.end ∙ c.if-is_at_end.false) stop err.short asks)
+    record {
+      heard = err.heard;
+      stays = (err.stays.0 ∙ inv.offset, err.stays.1, err.stays.2 ∙ inv.answer);
+      room = omega (arith, inv.room, err.room);
+      stop = subst (λ (r : Result Bool StreamFault). IsReadTo after.front (is_short r new.is_at_end)) (sym same) (read_to_err fault after.front needed c.stops.self.offset c.stops.self.room old new err.fault stop err.short held);
+      found = λ other. absurd (cc (sym same ∙ other));
+      asked = λ other. absurd (cc (sym same ∙ other));
+      quiet = (none_asked c.args.self.now.front before after.front err.more.0 first.calls old.calls new.calls grown err.calls inv.calls inv.asked err.quiet, omega (arith, inv.calls, err.calls));
+      ended = λ other. absurd (cc (sym same ∙ other));
+      fine = subst (λ (r : Result Bool StreamFault). OnOk r (new.failures ≡ first.failures)) (sym same) tt;
+      fault = subst (λ (r : Result Bool StreamFault). IfErr r (λ e. IsCuttingFault e c.args.self.now after first new)) (sym same)
+          (cutting_err fault c.args.self.now c.stops.self after first old new needed err.fault inv.offset inv.room inv.failures (inv.end ∙ c.if-is_at_end.false) stop err.short asks);
+    }
 
 pub stops-preserved : goal.stops-preserved
 stops-preserved g c =
