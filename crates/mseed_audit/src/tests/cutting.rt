@@ -6,10 +6,10 @@ ghost use Rattle.mseed_stream.specs.Cutting.{IsAlong};
 ghost use Rattle.mseed_stream.specs.Device.{nothing_heard};
 
 use linked_list_allocator::LocalHeap;
-use mseed_stream::{Counted, Cutter, Source, StreamFault, split, split_in};
+use mseed_stream::{Buffered, Counted, Cutter, Source, StreamFault, split, split_in};
 use std::alloc::{AllocError, Allocator, Global};
 use std::io;
-use std::io::Read;
+use std::io::{BufReader, Read};
 use std::test::Fail;
 
 /// The header of a record of 48 32-bit integers from the first instant of 2024, and its blockettes.
@@ -81,6 +81,20 @@ fn next_answer<A: Allocator, R: Source>(cutter: &mut Cutter<A>, source: &mut R) 
     }
 }
 
+/// The next answer, where a record that the source holds whole is looked at there.
+fn answer_where_it_lies<A: Allocator, R: Source>(cutter: &mut Cutter<A>, source: &mut R) -> Answer
+    requires { IsAlong (R.heard source.old) cutter.old }
+    ensures { IsAlong (R.heard source.new) cutter.new }
+{
+    let offset = cutter.offset();
+    if let Some(record) = cutter.peek(source) {
+        let size = record.bytes().len();
+        cutter.pass(source, size);
+        return Answer::Record(offset, size);
+    }
+    next_answer(cutter, source)
+}
+
 /// How often memory was refused before the first record came, where each time one more block is given back.
 fn refusals_before_record<A: Allocator, R: Source, B: Drop>(
     cutter: &mut Cutter<A>,
@@ -145,6 +159,32 @@ fn cuts_records_in_any_pieces(rt: HostRuntime) -> Result<(), Fail> {
             "{most}"
         );
     }
+    Ok(())
+}
+
+#[test]
+fn lends_records_where_they_lie(rt: HostRuntime) -> Result<(), Fail> {
+    let bytes = records(rt.alloc(), &[7, 8, 9])?;
+    let pieces = Pieces {
+        rest: &bytes,
+        most: 700,
+        calls_before_failure: None,
+    };
+    let mut source = Buffered::new(BufReader::with_capacity(rt.alloc(), 4096, pieces)?);
+    let mut cutter = Cutter::new(rt.alloc());
+    let first = answer_where_it_lies(&mut cutter, &mut source);
+    let second = answer_where_it_lies(&mut cutter, &mut source);
+    assert_eq!(rt; cutter.room(), 128, "the first alone was copied");
+    let third = answer_where_it_lies(&mut cutter, &mut source);
+    assert_eq!(rt; cutter.room(), 512, "the third came in two pieces");
+    let last = answer_where_it_lies(&mut cutter, &mut source);
+    let wanted = [
+        Answer::Record(0, 128),
+        Answer::Record(128, 256),
+        Answer::Record(384, 512),
+        Answer::End,
+    ];
+    assert_eq!(rt; [first, second, third, last], wanted);
     Ok(())
 }
 
