@@ -15,7 +15,7 @@ audit: build
 
 # Proves every crate that the program stands on, builds it, and runs it once: what isn't proved isn't built.
 build:
-	@echo 'Proving and building: some minutes the first time.'
+	@echo 'Proving and building: about half an hour the first time.'
 	@cd crates/mseed && rt run -- audit < /dev/null > out.log 2>&1 || { cat out.log; exit 1; }
 	@rm -f crates/mseed/out.log
 	@echo 'Proved and built.'
