@@ -23,7 +23,7 @@ use Rattle.slink_feed.proofs.OneReading as one
 use Rattle.slink_feed.proofs.Telling.{bytes_both, records_both, told_both, told_far, told_link, told_none, wants_said}
 use Rattle.mseed.specs.declared.fetching.FetchEnd.{FetchEnd}
 use Rattle.mseed.specs.declared.fetching.FetchEnd.TheVariants.{Done, Refused, BadFeed, WriteFailed, LinkFailed}
-use Rattle.mseed.specs.Fetched.{AreTaken, HasFetched, HasReadEach, HasReadLink, HasReadLinks, HasTurned, HaveMoved, IsFetchedOver, IsReading, IsUnended, StandsAt, StandsBy, TakesRecords, all, but_last, end_by, failures_by, over_none, over_one_more}
+use Rattle.mseed.specs.Fetched.{AreTaken, HasFetched, HasReadEach, HasReadLink, HasReadLinks, HasTurned, HaveMoved, IsFetchedOver, IsReading, IsUnended, StandsAt, StandsBy, TakesRecords, all, but_last, end_by, failures_by, over_none, over_one_more, over_the_last}
 
 -- What the output takes, one part after another.
 took_none : (old : Said) → Took old old []
@@ -420,33 +420,33 @@ fetched_both end a b c s t u p q =
     }
 
 -- no link given back yet
-pub reads_none : (now : Listening) (links : List Exchange) (said : Said) → HasReadEach now now links links said said
+pub reads_none : (now : Listening) (links : List Exchange) (said : Said) → HasReadEach LinkFailed now now links links said said
 reads_none now links said = record { links = []; given_back = sym (append-nil links); read = over_none now said }
 
-links_both : (a b c : Listening) (some others : List Exchange) (s t u : Said) → HasReadLinks a b some s t → HasReadLinks b c others t u → HasReadLinks a c (some ++ others) s u
-links_both _ _ c _ others _ _ u (over_none now said) q = q
-links_both _ _ c _ others _ _ u (over_one_more a now b link links s r t p ps) q = over_one_more a now c link (links ++ others) s r u p (links_both now b c links others r t u ps q)
+links_both : (end : FetchEnd) (a b c : Listening) (some others : List Exchange) (s t u : Said) → HasReadLinks LinkFailed a b some s t → HasReadLinks end b c others t u → HasReadLinks end a c (some ++ others) s u
+links_both end _ _ c _ others _ _ u (over_none now said) q = q
+links_both end _ _ c _ others _ _ u (over_one_more _ a now b link links s r t p ps) q = over_one_more end a now c link (links ++ others) s r u p (links_both end now b c links others r t u ps q)
+links_both end _ _ c _ others _ _ u (over_the_last _ a b link s t p) q = over_one_more end a b c link others s t u p q
 
 -- some and then others
-pub reads_both : (a b c : Listening) (before now after : List Exchange) (s t u : Said) → HasReadEach a b before now s t → HasReadEach b c now after t u → HasReadEach a c before after s u
-reads_both a b c before now after s t u p q = record {
+pub reads_both : (end : FetchEnd) (a b c : Listening) (before now after : List Exchange) (s t u : Said) → HasReadEach LinkFailed a b before now s t → HasReadEach end b c now after t u → HasReadEach end a c before after s u
+reads_both end a b c before now after s t u p q = record {
   links = p.links ++ q.links;
   given_back = q.given_back ∙ (ap (λ xs. xs ++ q.links) p.given_back ∙ append_assoc before p.links q.links);
-  read = links_both a b c p.links q.links s t u p.read q.read;
+  read = links_both end a b c p.links q.links s t u p.read q.read;
 }
 
 -- a new link that was fetched over
 pub reads_one : (a b : Listening) (before after : List Exchange) (h h' : Heard) (said said' s t : Said) (end : FetchEnd)
     → h ≡ nothing_heard → said ≡ nothing_said → HasReadLink a b h h' s t
     → IsFetchedOver (fetching a said s) h end (fetching b said' t) h' → after ≡ before ++ exchange h' said' ∷ []
-    → HasReadEach a b before after s t
+    → HasReadEach end a b before after s t
 reads_one a b before after h h' said said' s t end unheard unsaid is over given = record {
   links = exchange h' said' ∷ [];
   given_back = given;
-  read = over_one_more a b b (exchange h' said') [] s t t (record {
-    end = end;
+  read = over_the_last end a b (exchange h' said') s t (record {
     read = subst (λ (x : Heard). HasReadLink a b x h' s t) unheard is;
     turns = subst (λ (x : Heard). IsFetchedOver (fetching a nothing_said s) x end (fetching b said' t) h') unheard
         (subst (λ (x : Said). IsFetchedOver (fetching a x s) h end (fetching b said' t) h') unsaid over);
-  }) (over_none b t);
+  });
 }

@@ -192,20 +192,20 @@ pub data IsFetchedOver (old : Fetching) (before : Heard) : FetchEnd → Fetching
       → TookFront old.said said (line_said line) count → IsFetchedOver old before LinkFailed (fetching begun said old.output) before
 
 -- A link was fetched over from its first byte on: what it told was read, and turns were taken with it up to the one by
--- which the fetch ended.
-pub record WasFetchedOver (old new : Listening) (link : Exchange) (said_old said_new : Said) : Type 0 where
-  pub end : FetchEnd
+-- which the fetch ended so.
+pub record WasFetchedOver (end : FetchEnd) (old new : Listening) (link : Exchange) (said_old said_new : Said) : Type 0 where
   pub read : HasReadLink old new nothing_heard link.heard said_old said_new
   pub turns : IsFetchedOver (fetching old nothing_said said_old) nothing_heard end (fetching new link.said said_new) link.heard
 
--- One link after another was fetched over.
-pub data HasReadLinks : Listening → Listening → List Exchange → Said → Said → Type 0 where
-  over_none : (now : Listening) (said : Said) → HasReadLinks now now [] said said
-  over_one_more : (old now new : Listening) (link : Exchange) (links : List Exchange) (a b c : Said) → WasFetchedOver old now link a b
-      → HasReadLinks now new links b c → HasReadLinks old new (link ∷ links) a c
+-- One link after another was fetched over, each up to where it failed, and the last one up to this end.
+pub data HasReadLinks : FetchEnd → Listening → Listening → List Exchange → Said → Said → Type 0 where
+  over_none : (now : Listening) (said : Said) → HasReadLinks LinkFailed now now [] said said
+  over_one_more : (end : FetchEnd) (old now new : Listening) (link : Exchange) (links : List Exchange) (a b c : Said) → WasFetchedOver LinkFailed old now link a b
+      → HasReadLinks end now new links b c → HasReadLinks end old new (link ∷ links) a c
+  over_the_last : (end : FetchEnd) (old new : Listening) (link : Exchange) (a b : Said) → WasFetchedOver end old new link a b → HasReadLinks end old new (link ∷ []) a b
 
 -- Some links were given back behind those before, and these were fetched over in turn.
-pub record HasReadEach (old new : Listening) (before after : List Exchange) (said_old said_new : Said) : Type 0 where
+pub record HasReadEach (end : FetchEnd) (old new : Listening) (before after : List Exchange) (said_old said_new : Said) : Type 0 where
   pub links : List Exchange
   pub given_back : after ≡ before ++ links
-  pub read : HasReadLinks old new links said_old said_new
+  pub read : HasReadLinks end old new links said_old said_new

@@ -43,15 +43,16 @@ pub fn fetch_all<D: Dial, W: Sink, E: Sink>(
 ) -> u8
     ensures dials { D.calls dialler.new ≤ D.calls dialler.old + tries }
     ensures done { result ≡ 0 → client.new.talk.stage ≡ Stage.Ended Ending.End }
-    // What the client told of went to the output, and the status and the line are by how it ended.
+    // What the client told of went to the output, and the status and the line are by how it ended. Each link was fetched
+    // over before it was given back, one behind another, and all but the last one failed.
     ensures end { (end : FetchEnd) × HasFetched end client.old client.new (W.said output.old) (W.said output.new)
         × HasDialled end tries (D.calls dialler.old) (D.calls dialler.new)
+        × HasReadEach end client.old client.new (D.given_back dialler.old) (D.given_back dialler.new)
+        (W.said output.old) (W.said output.new)
         × (result ≡ fetch_status end) × TellsOfFetch end (E.said errors.old) (E.said errors.new) }
-    // Each link was given back, and was fetched over before, one behind another.
+    // Each link was given back.
     ensures hung_up { length (D.given_back dialler.new) + D.failures dialler.new + D.calls dialler.old
         ≡ length (D.given_back dialler.old) + D.failures dialler.old + D.calls dialler.new }
-    ensures read { HasReadEach client.old client.new (D.given_back dialler.old) (D.given_back dialler.new)
-        (W.said output.old) (W.said output.new) }
 {
     let end = fetch_links(client, tries, dialler, output);
     match end {
@@ -75,7 +76,7 @@ fn fetch_links<D: Dial, W: Sink>(
     ensures dialled { HasDialled result tries (D.calls dialler.old) (D.calls dialler.new) }
     ensures hung_up { length (D.given_back dialler.new) + D.failures dialler.new + D.calls dialler.old
         ≡ length (D.given_back dialler.old) + D.failures dialler.old + D.calls dialler.new }
-    ensures read { HasReadEach client.old client.new (D.given_back dialler.old) (D.given_back dialler.new)
+    ensures read { HasReadEach result client.old client.new (D.given_back dialler.old) (D.given_back dialler.new)
         (W.said output.old) (W.said output.new) }
 {
     for dialled in 0..tries {
@@ -93,7 +94,7 @@ fn try_link<D: Dial, W: Sink>(client: &mut Client, dialler: &mut D, output: &mut
     ensures dialled { D.calls dialler.new ≡ D.calls dialler.old + 1 }
     ensures hung_up { length (D.given_back dialler.new) + D.failures dialler.new
         ≡ length (D.given_back dialler.old) + D.failures dialler.old + 1 }
-    ensures read { HasReadEach client.old client.new (D.given_back dialler.old) (D.given_back dialler.new)
+    ensures read { HasReadEach result client.old client.new (D.given_back dialler.old) (D.given_back dialler.new)
         (W.said output.old) (W.said output.new) }
 {
     match dialler.dial() {

@@ -1,5 +1,6 @@
 use Rattle.std.proofs.Common.{[], ◌∷◌, ◌++◌, ◌∙◌, ap, subst, sym}
 use Rattle.mseed_stream.specs.Exchanges.{exchange}
+use Rattle.mseed.specs.declared.fetching.FetchEnd.TheVariants.{LinkFailed}
 use Rattle.mseed.specs.Fetched.{HasReadEach}
 use Rattle.mseed.proofs.Fetches.{fetched_none, reads_none, reads_one}
 use Rattle.mseed.proofs.fetching.try_link.Goals as goal
@@ -16,5 +17,5 @@ returns-in-None-clause-fetched g c = fetched_none c.args.client.now (g.W.Sink.sa
 
 pub returns-in-None-clause-read : goal.returns-in-None-clause-read
 returns-in-None-clause-read g c =
-    subst (λ links. HasReadEach c.args.client.now c.args.client.now (g.D.Dial.given_back c.args.dialler.now) links (g.W.Sink.said c.args.output.now) (g.W.Sink.said c.args.output.now))
+    subst (λ links. HasReadEach LinkFailed c.args.client.now c.args.client.now (g.D.Dial.given_back c.args.dialler.now) links (g.W.Sink.said c.args.output.now) (g.W.Sink.said c.args.output.now))
     (sym c.in-None.ensures.given_back) (reads_none c.args.client.now (g.D.Dial.given_back c.args.dialler.now) (g.W.Sink.said c.args.output.now))
