@@ -51,6 +51,64 @@ fn fill(payload: &mut [u8; 192], scheme: Scheme, is_tame: bool, number: u64) -> 
     number
 }
 
+/// Codes and words of Steim-1 whose differences are the least and the most of their width, in turn and alone.
+const EDGES_ONE: [(u32, u32); 18] = [
+    (1, 0x8080_8080),
+    (1, 0x7F7F_7F7F),
+    (1, 0x807F_807F),
+    (1, 0x7F80_7F80),
+    (1, 0xFFFF_FFFF),
+    (1, 0x0101_0101),
+    (1, 0x0000_0080),
+    (1, 0x8000_0000),
+    (1, 0x7FFF_FFFF),
+    (2, 0x8000_8000),
+    (2, 0x7FFF_7FFF),
+    (2, 0x8000_7FFF),
+    (2, 0x7FFF_8000),
+    (2, 0xFFFF_FFFF),
+    (2, 0x0001_0001),
+    (2, 0x0000_8000),
+    (2, 0x8000_0000),
+    (2, 0x7FFF_FFFF),
+];
+
+/// Codes and words of each row of Steim-2 but that of 30 bits: the least of its width, the most, and both in turn.
+const EDGES_TWO: [(u32, u32); 18] = [
+    (1, 0x8080_8080),
+    (1, 0x7F7F_7F7F),
+    (1, 0x807F_807F),
+    (2, 0xA000_4000),
+    (2, 0x9FFF_BFFF),
+    (2, 0xA000_3FFF),
+    (2, 0xE008_0200),
+    (2, 0xDFF7_FDFF),
+    (2, 0xE007_FE00),
+    (3, 0x2082_0820),
+    (3, 0x1F7D_F7DF),
+    (3, 0x207E_07E0),
+    (3, 0x6108_4210),
+    (3, 0x5EF7_BDEF),
+    (3, 0x60F8_3E0F),
+    (3, 0x8888_8888),
+    (3, 0x8777_7777),
+    (3, 0x8878_7878),
+];
+
+/// Fills three frames with these words one after another, from one of them on.
+fn fill_edges(payload: &mut [u8; 192], edges: &[(u32, u32); 18], from: usize) {
+    for frame in 0..3usize {
+        let mut codes = 0u32;
+        for place in 1..16usize {
+            let (code, word) = edges[(from % 18 + 15 * frame + place) % 18];
+            codes |= (code & 3) << (30 - 2 * place);
+            let at = 64 * frame + 4 * place;
+            payload[at..at + 4].copy_from_slice(&word.to_be_bytes());
+        }
+        payload[64 * frame..64 * frame + 4].copy_from_slice(&codes.to_be_bytes());
+    }
+}
+
 /// A first sample: near a limit, near where a frame's reach to it ends, or anywhere.
 fn first_by(number: u64) -> i32 {
     let some = (number >> 40 & 0xFFFF) as i32;
@@ -102,6 +160,21 @@ fn adds_frames_as_the_reference(rt: HostRuntime) {
             number = next_number(number);
             let samples = 1 + (number >> 48) as usize % 300;
             assert_same(&rt, &payload, scheme, samples, first_by(number));
+        }
+    }
+}
+
+#[test]
+fn puts_the_edges_of_each_row_as_the_reference(rt: HostRuntime) {
+    let mut payload = [0; 192];
+    for (scheme, edges) in [(Scheme::One, EDGES_ONE), (Scheme::Two, EDGES_TWO)] {
+        for from in 0..18usize {
+            fill_edges(&mut payload, &edges, from);
+            for samples in [1, 2, 50, 90, 120, 160, 300] {
+                for first in [0, i32::MAX, i32::MIN, 1 << 30] {
+                    assert_same(&rt, &payload, scheme, samples, first);
+                }
+            }
         }
     }
 }
