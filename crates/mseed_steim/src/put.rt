@@ -1,7 +1,7 @@
 //! Differences that are added up frame by frame, with each sample put in its place.
 
-ghost use Rattle.std.specs.Prelude.{◌≡◌, ◌+◌, ◌-◌, ◌*◌, ◌^◌, ◌≤◌, ◌<◌, ◌∷◌, ◌++◌, ℕ, List, ℤ, nat_abs, Result, Ok, IfOk};
-ghost use Rattle.std.specs.Prelude.{IfNone, IfSome, OnOk, drop, map, take, length};
+ghost use Rattle.std.specs.Prelude.{◌≡◌, ◌+◌, ◌-◌, ◌*◌, ◌^◌, ◌≤◌, ◌<◌, ◌∷◌, ◌++◌, ℕ, List, ℤ, nat_abs, Result, Ok};
+ghost use Rattle.std.specs.Prelude.{IfNone, IfOk, IfSome, OnOk, drop, map, take, length};
 ghost use Rattle.mseed_steim.specs.declared.differences.BadWordAt.{BadWordAt};
 ghost use Rattle.mseed_steim.specs.Digits.{digits};
 ghost use Rattle.mseed_steim.specs.Frames.{DataWord, data_words, words_from};
