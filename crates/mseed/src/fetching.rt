@@ -43,8 +43,8 @@ pub fn fetch_all<D: Dial, W: Sink, E: Sink>(
 ) -> u8
     ensures dials { D.calls dialler.new ≤ D.calls dialler.old + tries }
     ensures done { result ≡ 0 → client.new.talk.stage ≡ Stage.Ended Ending.End }
-    // What the client told of went to the output, and the status and the line are by how it ended. Each link was fetched
-    // over before it was given back, one behind another, and all but the last one failed.
+    // What the client told of went to the output, and the status and the line are by how it ended. Each link was
+    // fetched over before it was given back, one behind another, and all but the last one failed.
     ensures end { (end : FetchEnd) × HasFetched end client.old client.new (W.said output.old) (W.said output.new)
         × HasDialled end tries (D.calls dialler.old) (D.calls dialler.new)
         × HasReadEach end client.old client.new (D.given_back dialler.old) (D.given_back dialler.new)

@@ -1,5 +1,6 @@
 //! A series that is packed, sent through a schedule, and put together from what the client holds.
-ghost use Rattle.std.specs.Prelude.{◌≡◌, ◌^◌, ◌<◌, ◌≤◌, All, IfErr, IfOk, [], ◌∷◌, ◌++◌, List, ℕ, Err, length, map, slice_index_or};
+ghost use Rattle.std.specs.Prelude.{◌≡◌, ◌^◌, ◌<◌, ◌≤◌, All, IfErr, IfOk, [], ◌∷◌, ◌++◌, List, ℕ, Err, length, map};
+ghost use Rattle.std.specs.Prelude.{slice_index_or};
 ghost use Rattle.mseed_record.specs.Record.{IsRecord};
 ghost use Rattle.mseed_record.specs.Viewing.{view_of};
 ghost use Rattle.mseed_pack.specs.ReadBack.{AreViewsOf, ReadsAs};

@@ -27,8 +27,9 @@ pub fn one_turn()
 {}
 
 /// From the moment on when a session streams, what its link takes in turns, with whatever is pushed between them and
-/// whatever the link tells, are packets, and `END` where all that was asked for was sent. The packets of each place with
-/// a grant are a stretch of its records from the grant on, and no other place has any. Before that moment there are none.
+/// whatever the link tells, are packets, and `END` where all that was asked for was sent. The packets of each place
+/// with a grant are a stretch of its records from the grant on, and no other place has any. Before that moment there
+/// are none.
 pub fn turns_send_stretches()
     ensures before { (feed : List Window) (old new : Attending) → IsBefore old.session.state.phase
         → SendsAll feed old new → (new.session ≡ old.session) × (new.said.bytes ≡ old.said.bytes) }

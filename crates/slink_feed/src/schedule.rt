@@ -125,7 +125,8 @@ pub fn run_schedule(alloc: Global, setup: &Setup, steps: &[Step]) -> Result<Worl
     requires steps { All (IsOf setup.now.places.items) steps.now }
     // The world is what the steps make of the opening.
     ensures happen { IfOk result (λ w. AllHappen (opening setup.now) steps.now (seen w)) }
-    // It is the counted world: what whole lines, replies and packets give, with the counts of the bytes that were taken.
+    // It is the counted world: what whole lines, replies and packets give, with the counts of the bytes that were
+    // taken.
     ensures counted { IfOk result (λ w. 0 < length setup.now.places.items
         → IsCounted setup.now (counted_after setup.now (counted_opening setup.now) steps.now) (seen w)) }
     // Of each place one slice of its records is held, in order and each once, where at no moment 2^24 of them or more

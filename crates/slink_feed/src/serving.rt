@@ -17,8 +17,8 @@ use std::alloc::Allocator;
 const ROOM: usize = 512;
 
 /// Takes a turn with a session's link: writes what is due, round and round of the places, one packet a place, until the
-/// session is closed or a whole round gives none. Unless it is closed then, it reads once, at most 512 bytes, and writes
-/// the reply to each line.
+/// session is closed or a whole round gives none. Unless it is closed then, it reads once, at most 512 bytes, and
+/// writes the reply to each line.
 ///
 /// It is lent the same feed at every call, whose rings keep their indices.
 ///

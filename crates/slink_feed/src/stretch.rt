@@ -1,5 +1,6 @@
 //! The laws of a feed over every schedule.
-ghost use Rattle.std.specs.Prelude.{◌≡◌, ℕ, ◌++◌, ◌-◌, ◌*◌, ◌/◌, ◌≤◌, All, List, [], Some, length, replicate, slice_index_or, take};
+ghost use Rattle.std.specs.Prelude.{◌≡◌, ℕ, ◌++◌, ◌-◌, ◌*◌, ◌/◌, ◌≤◌, All, List, [], Some, length, replicate, take};
+ghost use Rattle.std.specs.Prelude.{slice_index_or};
 ghost use Rattle.slink_feed.specs.declared.world.Setup.{Setup};
 ghost use Rattle.slink_feed.specs.declared.world.Step.{Step};
 ghost use Rattle.slink_feed.specs.Calling.{AreAnswered};
@@ -69,8 +70,8 @@ pub fn pushes_what_is_appended()
         → All (IsOf setup.places.items) steps → (k : ℕ) → slice_index_or now.pushed k [] ≡ appended k steps }
 {}
 
-/// The steps of a schedule lead to one world: however the bytes that come to an end are cut into the pieces that it takes,
-/// and wherever these end, it comes to the same.
+/// The steps of a schedule lead to one world: however the bytes that come to an end are cut into the pieces that it
+/// takes, and wherever these end, it comes to the same.
 #[tactic(auto, using(crate::proofs::OneWorld::one_world))]
 pub fn one_world()
     ensures one { (setup : Setup) (steps : List Step) (a b : WorldState) → AllHappen (opening setup) steps a
@@ -86,9 +87,9 @@ pub fn goes_on_behind_the_last()
         → (l : LinkState) → now.link ≡ Some l → IsLinked now.client.talk.stage → GoesOn setup.places.items now l }
 {}
 
-/// After any steps of a schedule, the world is the counted one: the lists of what was pushed and is held, the windows, the
-/// numbers that are wanted, and, where there is a link, where session and client stand and what is on its way between
-/// them, as whole lines, replies and packets give them with the counts of the bytes that were taken.
+/// After any steps of a schedule, the world is the counted one: the lists of what was pushed and is held, the windows,
+/// the numbers that are wanted, and, where there is a link, where session and client stand and what is on its way
+/// between them, as whole lines, replies and packets give them with the counts of the bytes that were taken.
 #[tactic(auto, using(crate::proofs::CountedWorld::the_counted_world))]
 pub fn is_the_counted_world()
     ensures counted { (setup : Setup) (steps : List Step) (now : WorldState) → AllHappen (opening setup) steps now
@@ -105,8 +106,8 @@ pub fn counts_whole_packets()
         ≡ replicate (2 * places) Accepted ++ take ((delivered - 8 * places) / 520) packets }
 {}
 
-/// After any steps of a schedule, while a client awaits packets, what its link was sent are two replies to each place, which
-/// have come to it, and behind them packets of whole records, and the end.
+/// After any steps of a schedule, while a client awaits packets, what its link was sent are two replies to each place,
+/// which have come to it, and behind them packets of whole records, and the end.
 #[tactic(auto, using(crate::proofs::CountedWorld::counted_streamed))]
 pub fn streams_behind_the_replies()
     ensures streams { (setup : Setup) (steps : List Step) (now : WorldState) → AllHappen (opening setup) steps now
