@@ -1,12 +1,14 @@
 /* Put before the C library (LD_PRELOAD), it fails one call that opens, takes or dials a link, reads from one or writes
    to one: the one whose number, from 1, LINK_FAILS gives. The call that closes one side of a link, and those on that
-   link behind it, are counted apart, by CLOSING_FAILS. A read or a write brings at most as many bytes as LINK_PIECE
-   gives, where it is there. */
+   link behind it, are counted apart, by CLOSING_FAILS; where one of these is failed, the file is made that CLOSING_SEEN
+   names. A read or a write brings at most as many bytes as LINK_PIECE gives, where it is there. */
 #define _GNU_SOURCE
 #include <dlfcn.h>
 #include <errno.h>
+#include <fcntl.h>
 #include <stdlib.h>
 #include <sys/socket.h>
+#include <unistd.h>
 
 static long number(const char *name) {
     const char *text = getenv(name);
@@ -29,7 +31,10 @@ static int fails(void) {
 
 static int closing_fails(void) {
     static long left = -1;
-    return counts_to(&left, "CLOSING_FAILS");
+    if (!counts_to(&left, "CLOSING_FAILS")) return 0;
+    close(creat(getenv("CLOSING_SEEN"), 0600));
+    errno = ECONNRESET;
+    return 1;
 }
 
 /* The link whose one side was closed last, or none. */

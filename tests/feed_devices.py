@@ -124,11 +124,12 @@ def judge_calls(tests, failing):
     tests.judge(f"fetch whose calls don't fail, {call}", call > 10, call)
 
 
-def judge_closing(tests, failing):
+def judge_closing(tests, failing, folder):
     """Each call by which a server closes a link fails in turn: what was sent comes through, and the next client is
     served."""
-    for call in range(1, 8):
-        env = {"LD_PRELOAD": failing, "CLOSING_FAILS": str(call)}
+    marks = [os.path.join(folder, f"closing_{call}") for call in range(1, 8)]
+    for call, mark in enumerate(marks, 1):
+        env = {"LD_PRELOAD": failing, "CLOSING_FAILS": str(call), "CLOSING_SEEN": mark}
         server = Server(ARCHIVE, PLACES, "--connections", 2, env=env)
         for turn in (1, 2):
             run = fetch(PLACES, server.port)
@@ -136,6 +137,8 @@ def judge_closing(tests, failing):
             tests.judge(name, (run[0], whole(run[1]), run[2]) == (0, BY_PLACE, ""), run[2])
         ended = server.end()
         tests.judge(f"serve whose call {call} in closing links fails", ended == (0, ""), ended)
+    failed = sum(map(os.path.exists, marks))
+    tests.judge("calls in closing links failed", failed >= 3, failed)
 
 
 def judge_pieces(tests, failing):
@@ -164,7 +167,7 @@ def main():
         judge_streams(tests, library(folder, "failing_devices"))
         links = library(folder, "failing_links")
         judge_calls(tests, links)
-        judge_closing(tests, links)
+        judge_closing(tests, links, folder)
         judge_pieces(tests, links)
     raise SystemExit(tests.report())
 
