@@ -60,14 +60,16 @@ def judge_clients(tests, seed, count):
     archive = b"".join(record for ring in feed for record in ring.pushed)
     options = ["--capacity", feed[0].capacity, "--first", f"{feed[0].first:X}", "--connections", count]
     server = Server(archive, places, *options)
-    wrong = []
+    wrong, resets = [], 0
     for _ in range(count):
         stream = said_at_random(source, feed)
         with dialled(server.port) as link:
             told = said_to(link, pieces_of(source, stream))
+        resets += told[1]
         if not any(is_told(told, answer) for answer in answers_to(feed, stream)):
             wrong.append((stream, told))
     tests.judge(f"{count} clients at random of server {seed}", not wrong, wrong[:1])
+    tests.judge(f"few links of server {seed} were reset", resets <= count // 10, resets)
     ended = server.end()
     tests.judge(f"server {seed} ends", ended == (0, ""), ended)
 
