@@ -57,4 +57,4 @@ for name in NAMES:
             failed += 1
             print(f"FAILED {name}: {command}\n{told}")
 print(f"{passed} passed, {failed} failed")
-sys.exit(bool(failed))
+sys.exit(bool(failed) or not passed)

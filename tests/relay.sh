@@ -14,7 +14,7 @@ cd "$copy/crates/mseed" || exit 1
 timeout 1200 rt try --test --seconds 600 > "$copy/log" 2>&1
 grep '^test ' "$copy/log"
 passed=$(grep -c '^test rows::.* ok$' "$copy/log")
-failed=$((4 - passed))
+failed=$(($(grep -c '^#\[test\]' src/rows.rt) - passed))
 [ "$failed" = 0 ] || tail -n 30 "$copy/log"
 echo "$passed passed, $failed failed"
 [ "$failed" = 0 ]

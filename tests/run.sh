@@ -8,7 +8,8 @@ failed=0
 skipped=0
 
 # Runs a command, shows what it prints, and adds what its last line `N passed, M failed` says, with `, K skipped`
-# behind it where what a script wants isn't installed. One that fails without such a line counts as one failure.
+# behind it where what a script wants isn't installed. One that fails without such a line counts as one failure, and
+# so does one that ran nothing and skipped nothing.
 count() {
     local log status last
     log=$(mktemp)
@@ -20,7 +21,7 @@ count() {
         passed=$((passed + BASH_REMATCH[1]))
         failed=$((failed + BASH_REMATCH[2]))
         skipped=$((skipped + ${BASH_REMATCH[4]:-0}))
-        if [ "$status" -ne 0 ] && [ "${BASH_REMATCH[2]}" -eq 0 ]; then
+        if [ "${BASH_REMATCH[2]}" -eq 0 ] && { [ "$status" -ne 0 ] || [ "${BASH_REMATCH[1]}${BASH_REMATCH[4]}" = 0 ]; }; then
             failed=$((failed + 1))
         fi
     else
