@@ -22,19 +22,22 @@ struct Layout {
     places: [u32; LANES],
 }
 
+/// Where no word holds so many.
+const NO_LAYOUT: Layout = Layout {
+    row: Row {
+        code: 0,
+        dnib: 0,
+        count: 0,
+        width: 0,
+    },
+    mask: 0,
+    head: 0,
+    places: [0, 0, 0, 0, 0, 0, 0, 0],
+};
+
 /// The layouts of Steim-2, by how many differences of the next are held by the words that hold each.
 static LAYOUTS_TWO: [Layout; LANES] = [
-    Layout {
-        row: Row {
-            code: 0,
-            dnib: 0,
-            count: 0,
-            width: 0,
-        },
-        mask: 0,
-        head: 0,
-        places: [0, 0, 0, 0, 0, 0, 0, 0],
-    },
+    NO_LAYOUT,
     Layout {
         row: Row {
             code: 2,
@@ -116,17 +119,7 @@ static LAYOUTS_TWO: [Layout; LANES] = [
 
 /// The same of Steim-1, which has words of 1, 2 and 4: of three it takes two.
 static LAYOUTS_ONE: [Layout; LANES] = [
-    Layout {
-        row: Row {
-            code: 0,
-            dnib: 0,
-            count: 0,
-            width: 0,
-        },
-        mask: 0,
-        head: 0,
-        places: [0, 0, 0, 0, 0, 0, 0, 0],
-    },
+    NO_LAYOUT,
     Layout {
         row: Row {
             code: 3,
@@ -171,39 +164,9 @@ static LAYOUTS_ONE: [Layout; LANES] = [
         head: 0,
         places: [0x100_0000, 0x1_0000, 0x100, 1, 0, 0, 0, 0],
     },
-    Layout {
-        row: Row {
-            code: 0,
-            dnib: 0,
-            count: 0,
-            width: 0,
-        },
-        mask: 0,
-        head: 0,
-        places: [0, 0, 0, 0, 0, 0, 0, 0],
-    },
-    Layout {
-        row: Row {
-            code: 0,
-            dnib: 0,
-            count: 0,
-            width: 0,
-        },
-        mask: 0,
-        head: 0,
-        places: [0, 0, 0, 0, 0, 0, 0, 0],
-    },
-    Layout {
-        row: Row {
-            code: 0,
-            dnib: 0,
-            count: 0,
-            width: 0,
-        },
-        mask: 0,
-        head: 0,
-        places: [0, 0, 0, 0, 0, 0, 0, 0],
-    },
+    NO_LAYOUT,
+    NO_LAYOUT,
+    NO_LAYOUT,
 ];
 
 /// The layout of a word by the most differences that are held.
