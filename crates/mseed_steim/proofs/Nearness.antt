@@ -1,8 +1,9 @@
 -- Samples that are near one another, by the words or integers that say them.
-use Rattle.std.proofs.Common.{◌≡◌, ◌≢◌, ℕ, zero, suc, ◌+◌, ◌-◌, ◌*◌, ◌/◌, ◌%◌, ◌^◌, ◌<◌, ◌≤◌, List, [], ◌∷◌, ◌++◌, length, map, not, eqb, get_or, refl, sym, ap, ◌∙◌, subst, arith, ℤ, ◌-ℤ◌, Option, Some, None, All, cond, to_z, w32, false, bit_and, below_none, below_more}
+use Rattle.std.proofs.Common.{◌≡◌, ◌≢◌, ℕ, zero, suc, ◌+◌, ◌-◌, ◌*◌, ◌/◌, ◌%◌, ◌^◌, ◌<◌, ◌≤◌, List, [], ◌∷◌, ◌++◌, length, map, not, eqb, get_or, refl, sym, ap, ◌∙◌, subst, arith, ℤ, ◌-ℤ◌, Option, Some, None, All, cond, to_z, w32, Bool, ⊎_elim, false, bit_and, below_none, below_more}
 use Rattle.std.specs.Int.{bit_at}
 use Rattle.std.specs.List.{AllByRecursion, filter, range_with_len}
-use Rattle.std.proofs.lemmas.Bool.{cond_both, eqb-true, false≢true}
+use Rattle.std.specs.Prelude.{IsTrue, ◌↔◌}
+use Rattle.std.proofs.lemmas.Bool.{cases_lt, cond_both, eqb-true, false≢true}
 use Rattle.std.proofs.Math.Nat.{div-div-eq-div-mul, mul_comm}
 use Rattle.std.proofs.lemmas.Int.{ints}
 use Rattle.std.proofs.lemmas.Nat.Bits.{bit_at-zero, bit_at_and}
@@ -150,7 +151,7 @@ four_short order p place (s ∷ ss) octets h short =
 pub shown_near : (form : Form) (order : Order) (p : List ℕ) (n : ℕ) (ss : List ℤ) → ((i : ℕ) → get_or p i 0 < 256) → IsSurelyNear form order p n → IsPayloadReading form order p n ss → AreNear ss
 shown_near (Integers Two) order p n ss octets shows h = short_near ss (two_short order p 0 ss h.1)
 shown_near (Integers Four) order p n ss octets shows h =
-    short_near ss (four_short order p 0 ss octets h.1 (λ i less. let place : 0 + 4 * i ≡ 4 * i = omega arith in rw place (shows i (omega (arith, less, h.0)))))
+    short_near ss (four_short order p 0 ss octets h.1 (λ i less. let place : 0 + 4 * i ≡ 4 * i = omega arith in rw place (shows.1 i (omega (arith, less, h.0)))))
 shown_near (Frames Steim1) order p n ss octets shows h =
     sums_near Steim1 p n ss h.1 (words_near_one p octets 3 (word_count p - 3) (λ j from less other. shows j (omega (arith, from, less)) other))
 shown_near (Frames Steim2) order p n ss octets shows h = sums_near Steim2 p n ss h.1 (all_near_two (data_words p))
@@ -186,3 +187,16 @@ code_is p codes frame place less e =
 -- a record whose payload shows it
 pub near_whole : (v : View) (form : Form) (p : List ℕ) (n : ℕ) → HoldsIn v form p → n ≡ count_of v → ((s : List ℤ) → IsPayloadReading form v.payload_order p n s → AreNear s) → (s : List ℤ) → IsWhole v s → AreNear s
 near_whole v form p n held count near s whole = near s (rw (held.4, count) (same_payload v form s held.1 whole.0))
+
+-- what holds of all places up to one more
+pub all_and_next : (P : ℕ → Type 0) (flag : Bool) (n : ℕ) → IsTrue flag ↔ ((i : ℕ) → i < n → P i) → P n → IsTrue flag ↔ ((i : ℕ) → i < n + 1 → P i)
+all_and_next P flag n all next = (
+  λ e i less. ⊎_elim
+      (λ (before : i < n). all.0 e i before)
+      (λ (here : n ≤ i). let same : n ≡ i = omega (arith, here, less) in subst P same next)
+      (cases_lt i n),
+  λ h. all.1 (λ i less. h i (omega (arith, less))),
+)
+
+pub not_all : (P : ℕ → Type 0) (n : ℕ) → ¬ (P n) → IsTrue false ↔ ((i : ℕ) → i < n + 1 → P i)
+not_all P n fails = (λ e. absurd (false≢true e), λ h. absurd (fails (h n (omega arith))))

@@ -1,6 +1,6 @@
 //! Payloads that are checked without keeping their samples.
 
-ghost use Rattle.std.specs.Prelude.{◌≡◌, ◌↔◌, ◌<◌, ◌≤◌, List, ℤ, IfOk, IfErr, IfSome, IfNone, IsOkAnd, Err, length};
+ghost use Rattle.std.specs.Prelude.{◌≡◌, ◌↔◌, ◌<◌, ◌≤◌, ℕ, List, ℤ, IfOk, IfErr, IfSome, IfNone, IsOkAnd, Err, length};
 ghost use Rattle.mseed_record.specs.Viewing.{view_of};
 ghost use Rattle.mseed_time.specs.declared.order.Order.TheVariants.{Big};
 ghost use Rattle.mseed_steim.specs.declared.form.Form.TheVariants.{Integers, Frames};
@@ -93,6 +93,8 @@ fn is_little_steim(form: Form, order: Order) -> bool
 /// How a record holds its samples, and the bytes that do.
 pub(crate) fn payload_of<'a>(view: &RecordView<'a>) -> Result<(Form, &'a [u8]), ReadFault>
     ensures held { IfOk result (λ found. HoldsIn (view_of view.now) found.0 found.1.now) }
+    ensures not_held { IfErr result (λ _. (form : Form) → (payload : List ℕ)
+        → ¬ (HoldsIn (view_of view.now) form payload)) }
     ensures fault { IfErr result (λ fault. IsFault (view_of view.now) fault) }
 {
     if view.has_rate_blockette() {

@@ -1,12 +1,11 @@
 //! What is known of a record's samples before they are read.
 
-ghost use Rattle.std.specs.Prelude.{◌≡◌, ◌≢◌, ◌<◌, ◌≤◌, ◌+◌, ◌-◌, ◌*◌, ◌/◌, ◌%◌, ◌^◌, ℕ, List, ℤ, IfOk, IfErr, length};
+ghost use Rattle.std.specs.Prelude.{◌≡◌, ◌≢◌, ◌↔◌, ◌<◌, ◌≤◌, ◌+◌, ◌-◌, ◌*◌, ◌/◌, ◌%◌, ◌^◌, ℕ, List, ℤ, IfOk, IfErr, IsTrue};
+ghost use Rattle.std.specs.Prelude.{length};
 ghost use Rattle.std.specs.Bool.{OnTrue};
-ghost use Rattle.byteorder.specs.Endian.{twos_complement};
-ghost use Rattle.mseed_time.specs.Fields.{number_at};
 ghost use Rattle.mseed_record.specs.Viewing.{view_of};
 ghost use Rattle.mseed_steim.specs.Frames.{word_at, word_count};
-ghost use Rattle.mseed_steim.specs.Nearness.{AreNear, IsNarrowAt, IsSurelyNear};
+ghost use Rattle.mseed_steim.specs.Nearness.{AreNear, AreShort, IsNarrowAt, IsSurelyNear, ShowsNear};
 ghost use Rattle.mseed_steim.specs.Reading.{count_of, IsFault, IsWhole};
 ghost use Rattle.mseed_steim.specs.Samples.{AreEnds, IsPayloadReading};
 ghost use Rattle.mseed_steim.specs.Spelling.{IsWithin};
@@ -58,37 +57,38 @@ fn find_ends(view: &RecordView<'_>) -> Result<Ends, ReadFault>
 /// always in Steim-2, and of 16-bit integers; in Steim-1 where no word holds a wider difference; of 32-bit integers
 /// where each has 29 bits at the most.
 pub fn is_surely_near(view: &RecordView<'_>) -> bool
-    ensures { OnTrue result ((s : List ℤ) → IsWhole (view_of view.now) s → AreNear s) }
+    // The words or integers show it.
+    ensures shown { IsTrue result ↔ ShowsNear (view_of view.now) }
+    // Where they do, the samples are near one another.
+    ensures near { OnTrue result ((s : List ℤ) → IsWhole (view_of view.now) s → AreNear s) }
 {
     let Ok((form, payload)) = payload_of(view) else {
         return false;
     };
-    let samples = usize::from(view.samples());
-    are_surely_near(form, view.payload_order(), payload, samples)
-}
-
-/// The same of so many samples of a payload.
-fn are_surely_near(form: Form, order: Order, payload: &[u8], samples: usize) -> bool
-    ensures { OnTrue result ((s : List ℤ) → IsPayloadReading form order payload.now samples s → AreNear s) }
-{
-    shows_near(form, order, payload, samples)
+    shows_near(
+        form,
+        view.payload_order(),
+        payload,
+        usize::from(view.samples()),
+    )
 }
 
 /// Whether the words or integers of a payload show it.
 fn shows_near(form: Form, order: Order, payload: &[u8], samples: usize) -> bool
-    ensures { OnTrue result (IsSurelyNear form order payload.now samples) }
+    ensures shown { IsTrue result ↔ IsSurelyNear form order payload.now samples }
+    ensures near { OnTrue result ((s : List ℤ) → IsPayloadReading form order payload.now samples s → AreNear s) }
 {
     match form {
-        Form::Integers(Width::Two) | Form::Frames(Scheme::Two) => true,
+        Form::Integers(Width::Two) => true,
         Form::Integers(Width::Four) => are_short(payload, order, samples),
         Form::Frames(Scheme::One) => are_narrow(payload),
+        Form::Frames(Scheme::Two) => true,
     }
 }
 
 /// Whether so many 32-bit integers are there, and have 29 bits at the most.
 fn are_short(payload: &[u8], order: Order, samples: usize) -> bool
-    ensures { OnTrue result ((i : ℕ) → i < samples
-        → IsWithin 29 (twos_complement 4 (number_at order 4 (4 * i) payload.now))) }
+    ensures { IsTrue result ↔ AreShort order payload.now samples }
 {
     if payload.len() / WORD < samples {
         return false;
@@ -104,14 +104,14 @@ fn are_short(payload: &[u8], order: Order, samples: usize) -> bool
 
 /// Whether a number has 29 bits at the most.
 fn is_short(number: i32) -> bool
-    ensures { OnTrue result (IsWithin 29 number) }
+    ensures { IsTrue result ↔ IsWithin 29 number }
 {
     -0x1000_0000 <= number && number < 0x1000_0000
 }
 
 /// Whether no Steim-1 word of the whole frames holds a difference of more than 30 bits.
 fn are_narrow(payload: &[u8]) -> bool
-    ensures { OnTrue result ((k : ℕ) → k < word_count payload.now → k % 16 ≢ 0 → IsNarrowAt payload.now k) }
+    ensures { IsTrue result ↔ ((k : ℕ) → k < word_count payload.now → k % 16 ≢ 0 → IsNarrowAt payload.now k) }
 {
     for frame in 0..payload.len() / (FRAME * WORD) {
         if !is_frame_narrow(payload, frame) {
@@ -124,7 +124,7 @@ fn are_narrow(payload: &[u8]) -> bool
 /// Whether none of a frame does.
 fn is_frame_narrow(payload: &[u8], frame: usize) -> bool
     requires { 64 * (frame + 1) ≤ length payload.now }
-    ensures { OnTrue result ((k : ℕ) → 16 * frame < k → k < 16 * (frame + 1) → IsNarrowAt payload.now k) }
+    ensures { IsTrue result ↔ ((k : ℕ) → 16 * frame < k → k < 16 * (frame + 1) → IsNarrowAt payload.now k) }
 {
     let codes = read_word(payload, FRAME * frame);
     has_no_code_3(codes) || are_words_narrow(payload, frame, codes)
@@ -142,7 +142,7 @@ fn has_no_code_3(codes: u32) -> bool
 fn are_words_narrow(payload: &[u8], frame: usize, codes: u32) -> bool
     requires inside { 64 * (frame + 1) ≤ length payload.now }
     requires codes { codes ≡ word_at payload.now (16 * frame) }
-    ensures { OnTrue result ((k : ℕ) → 16 * frame < k → k < 16 * (frame + 1) → IsNarrowAt payload.now k) }
+    ensures { IsTrue result ↔ ((k : ℕ) → 16 * frame < k → k < 16 * (frame + 1) → IsNarrowAt payload.now k) }
 {
     for place in 1..FRAME {
         let index = FRAME * frame + place;
@@ -155,7 +155,7 @@ fn are_words_narrow(payload: &[u8], frame: usize, codes: u32) -> bool
 
 /// Whether a difference has 30 bits at the most.
 fn is_narrow(difference: i32) -> bool
-    ensures { OnTrue result (IsWithin 30 difference) }
+    ensures { IsTrue result ↔ IsWithin 30 difference }
 {
     -0x2000_0000 <= difference && difference < 0x2000_0000
 }

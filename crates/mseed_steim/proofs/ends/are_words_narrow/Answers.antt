@@ -1,4 +1,4 @@
-use Rattle.std.proofs.Common.{◌≡◌, ℕ, ◌+◌, ◌*◌, ◌<◌, ◌≤◌, ◌∙◌, ap, sym, subst, arith, ⊎_elim, ℤ, w32, to_z, of_z, rules}
+use Rattle.std.proofs.Common.{◌≡◌, ℕ, ◌+◌, ◌*◌, ◌<◌, ◌≤◌, ◌∙◌, ap, refl, sym, subst, arith, ⊎_elim, ℤ, w32, to_z, of_z, rules}
 use Rattle.std.proofs.lemmas.Bool.{cases_lt}
 use Rattle.std.proofs.lemmas.Int.{to_z-of_z}
 use Rattle.byteorder.specs.Endian.{twos_complement}
@@ -22,7 +22,7 @@ loop-place-preserved c = λ k from less.
       | else-code_in-eq3-via-then-code_in-eq3+else-not-is_narrow w ↦ λ _.
           let same : to_z w32 (of_z w32 w.cast_signed.result) ≡ w.cast_signed.result = to_z-of_z w32 _ (search rules) in
           let value : w.cast_signed.result ≡ twos_complement 4 (word_at c.args.payload.now at) = w.cast_signed.ensures ∙ ap (to_z w32) w.read_word.ensures ∙ sym (word_value c.args.payload.now at (λ i. (c.type_inv.payload i).fits)) in
-          subst (λ (z : ℤ). IsWithin 30 z) (same ∙ value) w.if-not-is_narrow.ensures
+          subst (λ (z : ℤ). IsWithin 30 z) (same ∙ value) (w.if-not-is_narrow.ensures.0 refl)
       | else-code_in-eq3-via-else-code_in-eq3 w ↦ λ three. absurd (w.if-code_in-eq3.false (code ∙ three))
     ]))
     (cases_lt k at)
