@@ -1,5 +1,5 @@
 -- What the digits of words give is what the words spell.
-use Rattle.std.proofs.Common.{◌≡◌, ℕ, zero, suc, ◌+◌, ◌*◌, ◌%◌, ◌^◌, ◌<◌, not, eqb, drop, List, [], ◌∷◌, ◌++◌, map, ℤ, refl, ap, sym, ◌∙◌, append_assoc, get_or, Option, Some, None, Result, Ok, Err}
+use Rattle.std.proofs.Common.{◌≡◌, ℕ, zero, suc, ◌+◌, ◌*◌, ◌%◌, ◌^◌, ◌<◌, not, eqb, drop, List, [], ◌∷◌, ◌++◌, map, ℤ, refl, ap, sym, subst, append-nil, ◌∙◌, append_assoc, get_or, Option, Some, None, Result, Ok, Err}
 use Rattle.std.proofs.lemmas.List.{map-append}
 use Rattle.std.specs.List.{AllByRecursion, filter, range_with_len}
 use Rattle.std.proofs.lemmas.List.{get_or-drop}
@@ -8,9 +8,9 @@ use Rattle.byteorder.specs.Numbers.{big_from-lt}
 use Rattle.mseed_steim.specs.declared.scheme.Scheme.{Scheme}
 use Rattle.mseed_steim.specs.declared.differences.BadWordAt.{BadWordAt}
 use Rattle.mseed_steim.specs.Digits.{differences_of}
-use Rattle.mseed_steim.specs.Spelling.{Spells}
+use Rattle.mseed_steim.specs.Spelling.{Spells, SpellsNone}
 use Rattle.mseed_steim.specs.Frames.{DataWord, data_word, is_data, word_at, words_from}
-use Rattle.mseed_steim.specs.Runs.{place_of, Gives, all, broken}
+use Rattle.mseed_steim.specs.Runs.{SpellsRun, place_of, Gives, all, broken}
 use Rattle.mseed_steim.specs.Items.{with_items, items_of}
 use Rattle.mseed_steim.proofs.Spelled.{differences_spelled, spelled_differences}
 
@@ -38,6 +38,50 @@ pub items_given : (s : Scheme) (ws : List DataWord) → AllByRecursion IsWord ws
 unfolding items_of
 items_given s [] h = all [] refl refl
 items_given s (w ∷ ws) h = by_word s w ws (differences_of s w.code w.bits) h.0 refl (items_given s ws h.1)
+
+-- what words give with what a first one spells
+all_after : (s : Scheme) (ws : List DataWord) (ds : List ℤ) → AllByRecursion IsWord ws → SpellsRun s ws ds → (more : List DataWord) → items_of s (ws ++ more) ≡ map Ok ds ++ items_of s more
+unfolding items_of
+all_after s [] ds h run more = rw run refl
+all_after s (w ∷ ws) ds h run more =
+    let first : List ℤ = run.0 in
+    let rest : List ℤ = run.1.0 in
+    let found : differences_of s w.code w.bits ≡ Some first = spelled_differences s w.code w.bits first h.0 run.1.1.1.0 in
+    let later : items_of s (ws ++ more) ≡ map Ok rest ++ items_of s more = all_after s ws rest h.1 run.1.1.1.1 more in
+    let joined : map Ok ds ≡ map Ok first ++ map Ok rest = ap (λ (zs : List ℤ). map {B = Result ℤ BadWordAt} Ok zs) run.1.1.0 ∙ map-append Ok first rest in
+    rw (found, later, joined) (sym (append_assoc (map Ok first) (map Ok rest) (items_of s more)))
+
+front_words : (before after : List DataWord) → AllByRecursion IsWord (before ++ after) → AllByRecursion IsWord before
+front_words [] after h = tt
+front_words (w ∷ ws) after h = (h.0, front_words ws after h.1)
+
+word_behind : (before : List DataWord) (bad : DataWord) (after : List DataWord) → AllByRecursion IsWord (before ++ bad ∷ after) → bad.bits < 2 ^ 32
+word_behind [] bad after h = h.0
+word_behind (w ∷ ws) bad after h = word_behind ws bad after h.1
+
+-- a word that spells nothing is the last
+stops : (s : Scheme) (bad : DataWord) (after : List DataWord) (o : Option (List ℤ)) → bad.bits < 2 ^ 32 → differences_of s bad.code bad.bits ≡ o → SpellsNone s bad.code bad.bits → with_items bad o (items_of s after) ≡ Err (place_of bad) ∷ []
+stops s bad after None small e fails = refl
+stops s bad after (Some ds) small e fails = absurd (fails ds (differences_spelled s bad.code bad.bits ds small e))
+
+bad_items : (s : Scheme) (bad : DataWord) (after : List DataWord) → bad.bits < 2 ^ 32 → SpellsNone s bad.code bad.bits → items_of s (bad ∷ after) ≡ Err (place_of bad) ∷ []
+unfolding items_of
+bad_items s bad after small fails = stops s bad after (differences_of s bad.code bad.bits) small refl fails
+
+none_of : (s : Scheme) → items_of s [] ≡ []
+unfolding items_of
+none_of s = refl
+
+-- Words give nothing else.
+pub given_items : (s : Scheme) (ws : List DataWord) (items : List (Result ℤ BadWordAt)) → AllByRecursion IsWord ws → Gives s ws items → items ≡ items_of s ws
+given_items s ws items h (all ds run e) =
+    let whole : items_of s (ws ++ []) ≡ map Ok ds ++ items_of s [] = all_after s ws ds h run [] in
+    e ∙ sym (append-nil (map Ok ds)) ∙ ap (λ (xs : List (Result ℤ BadWordAt)). map Ok ds ++ xs) (sym (none_of s)) ∙ sym whole ∙ ap (λ (xs : List DataWord). items_of s xs) (append-nil ws)
+given_items s ws items h (broken before bad after ds cut run fails e) =
+    let there : AllByRecursion IsWord (before ++ bad ∷ after) = subst (λ (xs : List DataWord). AllByRecursion IsWord xs) cut h in
+    let front : items_of s (before ++ bad ∷ after) ≡ map Ok ds ++ items_of s (bad ∷ after) = all_after s before ds (front_words before (bad ∷ after) there) run (bad ∷ after) in
+    let last : items_of s (bad ∷ after) ≡ Err (place_of bad) ∷ [] = bad_items s bad after (word_behind before bad after there) fails in
+    rw cut (e ∙ sym (front ∙ ap (λ (xs : List (Result ℤ BadWordAt)). map Ok ds ++ xs) last))
 
 -- the words of a payload have 32 bits
 data_small : (p : List ℕ) → ((i : ℕ) → get_or p i 0 < 256) → (k n : ℕ) → AllByRecursion IsWord (map (data_word p) (filter is_data (range_with_len k n)))

@@ -19,7 +19,7 @@ AreOctets bytes = (i : ℕ) → slice_index_or bytes i 0 < 256
 abbrev pub word_at : List ℕ → ℕ → ℕ
 word_at payload k = big_number 4 (drop (4 * k) payload)
 
--- the code of word j of a frame: bits 31 - 2j and 30 - 2j of the frame's word 0
+-- the code of word k, which is word j of its frame: bits 31 - 2j and 30 - 2j of the frame's word 0
 abbrev pub code_at : List ℕ → ℕ → ℕ
 code_at payload k = word_at payload (16 * (k / 16)) / 2 ^ (30 - 2 * (k % 16)) % 4
 
@@ -27,7 +27,7 @@ abbrev pub data_word : List ℕ → ℕ → DataWord
 data_word payload k =
     record { frame = k / 16; place = k % 16; code = code_at payload k; bits = word_at payload k }
 
--- a frame's word 0 holds its codes; all others are data, but for X0 and Xn, the words 1 and 2 of the first
+-- a frame's word 0 holds its codes, and is no data
 abbrev pub is_data : ℕ → Bool
 is_data k = not (k % 16 == 0)
 
@@ -39,7 +39,7 @@ words_from payload k n = map (data_word payload) (filter is_data (range_with_len
 abbrev pub word_count : List ℕ → ℕ
 word_count payload = 16 * (length payload / 64)
 
--- the data words of the whole frames, in their order; those of the first begin behind X0 and Xn
+-- the data words of the whole frames, in their order; those of the first begin behind X0 and Xn, its words 1 and 2
 abbrev pub data_words : List ℕ → List DataWord
 data_words payload = words_from payload 3 (word_count payload - 3)
 

@@ -24,7 +24,7 @@ abbrev pub PacksRun : Scheme → List DataWord → List ℤ → List ℤ → Typ
 PacksRun scheme [] ds rest = ds ≡ rest
 PacksRun scheme (w ∷ ws) ds rest = (used : ℕ) × (IsFullest scheme ds w.code w.bits used × PacksRun scheme ws (drop used ds) rest)
 
--- the difference at a place is too large for a word of Steim-2, whose widest has 30 bits
+-- the words are of Steim-2, and the difference at a place is too large for one: the widest has 30 bits
 abbrev pub IsTooLargeAt : Scheme → List ℤ → ℕ → Type 0
 IsTooLargeAt scheme ds i = (i < length ds) × (scheme ≡ Two) × ¬ (IsWithin 30 (slice_index_or ds i (pos 0)))
 

@@ -1,10 +1,11 @@
 //! The differences of a payload, one by one.
 
-ghost use Rattle.std.specs.Prelude.{◌≡◌, ◌≤◌, ◌<◌, ◌*◌, ⊤, ℕ, [], Some, IfSome, length};
+ghost use Rattle.std.specs.Prelude.{◌≡◌, ◌≢◌, ◌≤◌, ◌<◌, ◌*◌, ⊤, ℕ, ℤ, List, [], ◌∷◌, ◌++◌, map, Some, Ok, IfSome, length, Result};
 ghost use Rattle.std.specs.Iterator.{UpTo, YieldsFirst, MakesProgress, at_most, item_count};
 ghost use Rattle.std.specs.Iterator.SizeHint.{IsWithinCount};
+ghost use Rattle.mseed_steim.specs.declared.differences.BadWordAt.{BadWordAt};
 ghost use Rattle.mseed_steim.specs.declared.scheme.Scheme.{Scheme};
-ghost use Rattle.mseed_steim.specs.ByteRuns.{UnpacksRun, past_empty};
+ghost use Rattle.mseed_steim.specs.ByteRuns.{UnpacksRun, past_empty, words_behind};
 ghost use Rattle.mseed_steim.specs.Frames.{data_words};
 ghost use Rattle.mseed_steim.specs.Items.{items_of};
 ghost use Rattle.mseed_steim.specs.Left.{most_left};
@@ -71,6 +72,7 @@ fn unpack_next(
     requires { ready.old ≡ [] }
     ensures step { IsStep scheme words.old result words.new ready.new }
     ensures run { IfSome result (λ item. UnpacksRun words.old item ready.new) }
+    ensures words { IfSome result (λ item. words.new ≡ words_behind item words.old) }
 {
     pass_empty(words);
     let bytes = words.take_bytes();
@@ -97,9 +99,12 @@ fn unpack_next(
 impl<'a> Differences<'a> {
     /// Those of a payload, by its scheme. Bytes after the last whole frame aren't read.
     pub fn over(payload: &'a [u8], scheme: Scheme) -> Self
-        // What is handed out is what the words spell, or those before the first bad word, and its place.
+        // What is handed out is what the words spell, or those before the first bad word, and its place: no other items
+        // are.
         ensures items { Gives scheme (data_words payload.now) result.items }
         // No more than seven for each word.
+        ensures only { (items : List (Result ℤ BadWordAt)) → Gives scheme (data_words payload.now) items
+            → items ≡ result.items }
         ensures few { 4 * length result.items ≤ 7 * length payload.now }
         ensures bounded { 4 * most_left result ≤ 7 * length payload.now }
         // Nothing is unpacked yet.
@@ -115,7 +120,9 @@ impl<'a> Differences<'a> {
 
     /// What is unpacked and not yet given.
     pub fn ready(&self) -> &[i32]
-        ensures { result.now ≡ self.now.ready }
+        ensures value { result.now ≡ self.now.ready }
+        // They come first.
+        ensures first { (rest : List (Result ℤ BadWordAt)) × (self.now.items ≡ map Ok result.now ++ rest) }
     {
         self.ready.as_slice()
     }
@@ -135,6 +142,10 @@ impl<'a> Iterator for Differences<'a> {
         ensures falls { IfSome result (λ _. most_left self.new < most_left self.old) }
         // A run of words of code 01 in one frame is unpacked at once: after its first difference the rest is ready.
         ensures run { IfSome result (λ item. self.old.ready ≡ [] → UnpacksRun self.old.words item self.new.ready) }
+        ensures words { IfSome result (λ item. self.old.ready ≡ [] → self.new.words ≡ words_behind item self.old.words) }
+        // What is ready is given before another word is unpacked.
+        ensures given { IfSome result (λ item. self.old.ready ≢ []
+            → (map Ok self.old.ready ≡ item ∷ map Ok self.new.ready) × (self.new.words ≡ self.old.words)) }
     {
         match self.ready.next() {
             Some(difference) => Some(Ok(difference)),

@@ -36,7 +36,11 @@ pub struct Packed {
 }
 
 /// The word that takes the largest number of the differences, from the first on: its code, its bits and
-/// how many it takes. The error comes exactly where no word holds the first.
+/// how many it takes.
+///
+/// # Errors
+///
+/// `TooLarge` exactly where no word holds the first.
 pub fn pack_word(scheme: Scheme, diffs: &[i32]) -> Result<(u8, u32, usize), TooLarge>
     requires { 0 < length diffs.now }
     // No word spells a longer front than this one does.
@@ -84,9 +88,12 @@ fn with_code(codes: u32, code: u8, shift: u32) -> u32
 }
 
 /// Packs differences into frames, from the first on: each data word in turn takes the largest number of
-/// those that are left, until no difference or no word is left. X0 and Xn and all words behind are 0. The
-/// error comes exactly where a difference is too large for Steim-2 and a word is left for it once those
-/// before it are packed; what the frames hold is then open.
+/// those that are left, until no difference or no word is left. X0 and Xn and all words behind are 0.
+///
+/// # Errors
+///
+/// `TooLargeAt` exactly where a difference is too large for Steim-2 and a word is left for it once those
+/// before it are packed, with the index of the first; what the frames hold is then open.
 pub fn pack_words(scheme: Scheme, diffs: &[i32], frames: &mut [u8]) -> Result<Packed, TooLargeAt>
     requires some { 0 < length frames.old }
     requires whole { length frames.old % 64 ≡ 0 }
@@ -146,8 +153,11 @@ pub fn pack_words(scheme: Scheme, diffs: &[i32], frames: &mut [u8]) -> Result<Pa
     Ok(Packed { used, words })
 }
 
-/// The fewest words of Steim-2 that hold the differences, 0 where there are none. The error comes exactly
-/// where one of them is too large.
+/// The fewest words of Steim-2 that hold the differences, 0 where there are none.
+///
+/// # Errors
+///
+/// `TooLargeAt` exactly where one of them is too large, with the index of the first.
 pub fn least_words(diffs: &[i32]) -> Result<u64, TooLargeAt>
     ensures fewest { IfOk result (λ words. IsFewest diffs.now words) }
     ensures refused { (i : ℕ) → (result ≡ Err (record { index = i })) ↔ IsFirstTooLarge Two diffs.now i }

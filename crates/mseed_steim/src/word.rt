@@ -35,7 +35,11 @@ pub(crate) fn differences_in(word: u32, group: Group) -> ArrayVec<i32, 7>
 }
 
 /// The differences that a data word of this code spells: none where the code is 0, and else those of its
-/// row of the table. The error comes where the code and the word's top two bits have no row.
+/// row of the table.
+///
+/// # Errors
+///
+/// `BadWord` exactly where the code and the word's top two bits have no row.
 pub fn unpack_word(scheme: Scheme, code: u8, word: u32) -> Result<ArrayVec<i32, 7>, BadWord>
     requires { code < 4 }
     // What is answered is spelled.
