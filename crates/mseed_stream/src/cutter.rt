@@ -1,8 +1,7 @@
 //! Cuts what a source tells into records.
-ghost use Rattle.std.specs.Prelude.{◌≡◌, ◌≢◌, ◌+◌, ◌*◌, ◌^◌, ◌<◌, ◌≤◌, length, take, drop, true, false, IfOk};
-ghost use Rattle.std.specs.Prelude.{IfErr, OnErr, OnOk, IsTrue, Ok, slice_range, [], ℕ, IfSome, Some, None};
+ghost use Rattle.std.specs.Prelude.{◌≡◌, ◌≢◌, ◌↔◌, ◌+◌, ◌*◌, ◌^◌, ◌<◌, ◌≤◌, length, take, drop, true, false, IfOk};
+ghost use Rattle.std.specs.Prelude.{IfErr, OnErr, OnOk, IsTrue, Ok, slice_range, [], ℕ, IfNone, IfSome, Some, None};
 ghost use Rattle.std.specs.Prelude.{Err, ⊤, List, ◌∷◌, ◌++◌};
-ghost use Rattle.std.specs.Bool.{OnTrue};
 ghost use Rattle.std.specs.Io.KnownBytes.{IsAtEnd, Consumes, ReadConsumes};
 ghost use Rattle.mseed_record.specs.Record.{IsRecord};
 ghost use Rattle.mseed_record.specs.Scan.{Decides};
@@ -231,13 +230,17 @@ impl<A: Allocator> Cutter<A> {
 
     /// The next record where it lies, as long as the source holds it whole: it is lent from there, and not copied.
     ///
-    /// Neither the cutter nor the source moves: [`pass`](Cutter::pass) goes behind the record. Where this lends
-    /// nothing, [`next`](Cutter::next) answers what comes.
+    /// It is lent exactly where it begins what the source holds, and the cutter goes on, holds no bytes and has
+    /// two reads left. Neither the cutter nor the source moves: [`pass`](Cutter::pass) goes behind the record.
+    /// Where this lends nothing, [`next`](Cutter::next) answers what comes.
     pub fn peek<'a, R: Source>(&self, source: &'a R) -> Option<RecordView<'a>>
         // A record is lent as its view, and is what the source tells next.
         ensures record { IfSome result (λ r. IsView (view_of r)
             × ((view_of r).bytes ≡ take (length (view_of r).bytes) (R.lent source.now))) }
         ensures ahead { IfSome result (λ r. IsAhead (length (view_of r).bytes) self.now (R.lent source.now)) }
+
+        // Where nothing is lent, no record lies ahead.
+        ensures nothing { IfNone result ((size : ℕ) → ¬ (IsAhead size self.now (R.lent source.now))) }
     {
         if !self.is_ready() {
             return None;
@@ -250,9 +253,8 @@ impl<A: Allocator> Cutter<A> {
 
     /// Whether it goes on, holds no bytes, and can ask for a record.
     fn is_ready(&self) -> bool
-        ensures none { OnTrue result (held_of self.now ≡ []) }
-        ensures goes_on { OnTrue result (self.now.answer ≡ None) }
-        ensures turns { OnTrue result (self.now.reads + 2 ≤ 2 ^ 40) }
+        ensures { IsTrue result ↔ ((held_of self.now ≡ []) × (self.now.answer ≡ None)
+            × (self.now.reads + 2 ≤ 2 ^ 40)) }
     {
         if self.ending.is_some() || self.reads > TURNS - 2 {
             return false;
