@@ -1,9 +1,14 @@
 -- What a contract reads of a `Buffered`.
 use Rattle.std.specs.Prelude.{ℕ, List, [], Option, if◌then◌else◌}
 use Rattle.std.specs.Io.Buffered.{reader_buffer, reader_remaining}
-use Rattle.mseed_stream.specs.Counted.{heard_by, remaining_of}
+use Rattle.std.specs.declared.io.buffered.BufReader.{BufReader}
+use Rattle.mseed_stream.specs.Counted.{heard_by, inner_of, remaining_of}
 use Rattle.mseed_stream.specs.Device.{Heard}
 use Rattle.mseed_stream.specs.declared.buffered.Buffered.{Buffered}
+
+-- the reader, as it stands
+abbrev pub reader_of : {T A : Type 0} → Buffered T A → BufReader T A
+reader_of b = inner_of b.counted
 
 -- what it told so far
 abbrev pub told_by : {T A : Type 0} → Buffered T A → Heard

@@ -15,11 +15,12 @@ pub struct Buffered<T, A: Allocator = Global> {
 }
 
 impl<T: Read, A: Allocator> Buffered<T, A> {
-    ghost use Rattle.mseed_stream.specs.Buffered.{told_by};
+    ghost use Rattle.mseed_stream.specs.Buffered.{told_by, reader_of};
 
-    /// The reader, of which nothing was asked yet.
+    /// The reader, of which nothing was asked yet: what stands in its buffer is the first that is lent.
     pub fn new(reader: BufReader<T, A>) -> Buffered<T, A>
-        ensures { told_by result ≡ nothing_heard }
+        ensures heard { told_by result ≡ nothing_heard }
+        ensures reader { reader_of result ≡ reader }
     {
         Buffered {
             counted: Counted::new(reader),
