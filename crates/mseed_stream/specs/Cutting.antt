@@ -156,7 +156,7 @@ handed_by (Ok (Some r)) bytes = bytes ∷ []
 handed_by (Ok None) bytes = []
 handed_by (Err e) bytes = []
 
--- where an answer says that there is no further record
+-- where an answer ends the records for ever: any but a record and a want of memory
 abbrev pub IfEnds : {X : Type 0} → Result (Option X) StreamFault → Type 0 → Type 0
 IfEnds (Ok (Some r)) P = ⊤
 IfEnds (Ok None) P = P

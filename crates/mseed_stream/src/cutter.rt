@@ -130,7 +130,7 @@ impl<A: Allocator> Cutter<A> {
         self.offset
     }
 
-    /// The length of the buffer, which never becomes shorter.
+    /// The length of the buffer in bytes, which never becomes shorter.
     pub fn room(&self) -> usize
         ensures value { result ≡ self.now.room }
         ensures most { result ≤ 1048576 }
@@ -174,12 +174,12 @@ impl<A: Allocator> Cutter<A> {
             → HasRecords (R.heard source.new).bytes (self.old.offset + moves_by result (told_from self.old.offset
             (R.heard source.new))) (records ++ handed_by result (told_from self.old.offset (R.heard source.new))) }
 
-        // Where there is no further record, those so far and the rest are the archive.
+        // Where the records end for ever, those so far and the rest are the archive of the bytes told.
         ensures archive { (records : List (List ℕ)) → HasRecords (R.heard source.old).bytes self.old.offset records
             → IfEnds result (IsArchive (R.heard source.new).bytes records (told_from self.old.offset
             (R.heard source.new))) }
 
-        // Where there is no further record, those so far are all of the input's.
+        // Where the records end for ever, those so far are all of what was heard.
         ensures all { (views : List View) → HasHandedOut (R.heard source.old) self.old views
             → IfEnds result (AreAllViews (R.heard source.new) views (end_of result)) }
 

@@ -15,7 +15,8 @@ pub enum StreamFault {
     Truncated(u64, usize),
     /// The reader failed, behind so many bytes.
     Read(u64),
-    /// The input wasn't at its end after 2^40 reads, behind so many bytes.
+    /// The input wasn't at its end after 2^40 reads, behind so many bytes; for [`split`](crate::split), a
+    /// 2^40th record stands there.
     Turns(u64),
     /// A growth was refused.
     Memory,
