@@ -1,5 +1,5 @@
 //! A text in parts: words and numbers, one behind another.
-ghost use Rattle.std.specs.Prelude.{◌≡◌, ◌<◌, ◌+◌, ◌++◌, OnOk, decimal};
+ghost use Rattle.std.specs.Prelude.{◌≡◌, ◌<◌, ◌+◌, ◌++◌, OnErr, OnOk, decimal};
 ghost use Rattle.mseed_stream.specs.Device.{IsFrontOf};
 ghost use Rattle.mseed_audit.specs.Parts.{part_text, parts_text};
 
@@ -48,6 +48,7 @@ fn push_part<A: Allocator>(text: &mut Vec<u8, A>, part: Part<'_>) -> Result<(), 
 /// Adds the decimal digits of a number. Where memory is refused, the text is as it was.
 pub fn push_count<A: Allocator>(text: &mut Vec<u8, A>, count: u64) -> Result<(), AllocError>
     ensures ok { OnOk result (text.new.items ≡ text.old.items ++ decimal count) }
+    ensures unchanged { OnErr result (text.new.items ≡ text.old.items) }
     ensures front { IsFrontOf text.old.items text.new.items }
 {
     if count < 10_000 {
@@ -61,6 +62,7 @@ pub fn push_count<A: Allocator>(text: &mut Vec<u8, A>, count: u64) -> Result<(),
 fn push_short<A: Allocator>(text: &mut Vec<u8, A>, count: u64) -> Result<(), AllocError>
     requires { count < 10000 }
     ensures ok { OnOk result (text.new.items ≡ text.old.items ++ decimal count) }
+    ensures unchanged { OnErr result (text.new.items ≡ text.old.items) }
     ensures front { IsFrontOf text.old.items text.new.items }
 {
     let ones = digit(count % 10);
