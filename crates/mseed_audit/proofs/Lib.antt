@@ -21,5 +21,6 @@ pub mod Places
 pub mod Rosters
 pub mod Shorts
 pub mod Steps
+pub mod Told
 pub mod Trims
 pub mod Views

@@ -1,7 +1,8 @@
 //! The audit of an archive.
-ghost use Rattle.std.specs.Prelude.{◌≡◌, ◌≤◌, List, IfOk};
+ghost use Rattle.std.specs.Prelude.{◌≡◌, ◌≤◌, ◌++◌, List, ℕ, IfOk, None, true};
+ghost use Rattle.std.specs.Io.KnownBytes.{Appends, IsAtEnd};
 ghost use Rattle.mseed_record.specs.View.{View};
-ghost use Rattle.mseed_stream.specs.Cutting.{IsAlong};
+ghost use Rattle.mseed_stream.specs.Cutting.{IsAlong, TellsMore};
 ghost use Rattle.mseed_stream.specs.Device.{nothing_heard};
 ghost use Rattle.mseed_stream.specs.Walk.{HasHandedOut};
 ghost use Rattle.mseed_audit.specs.Audit.{IsAuditOf};
@@ -62,7 +63,20 @@ pub fn audit<A: Allocator + Copy, R: Source, W: Sink>(
     sink: &mut W,
 ) -> Result<Summary, AuditFault>
     requires { R.heard source.old ≡ nothing_heard }
-    ensures { IsOutcome result (R.heard source.new) (W.said sink.old) (W.said sink.new) }
+    ensures outcome { IsOutcome result (R.heard source.new) (W.said sink.old) (W.said sink.new) }
+
+    // What the source is known to have left is what it told, up to its end where the input is at its end.
+    ensures more { TellsMore (R.heard source.old) (R.heard source.new) (R.remaining source.old)
+        (R.remaining source.new) }
+    ensures known { (R.heard source.new).is_at_end ≡ true → IsAtEnd (R.remaining source.new) }
+
+    // What the sink is known to hold grew by what it took.
+    ensures contents { (bytes : List ℕ) → (W.said sink.new).bytes ≡ (W.said sink.old).bytes ++ bytes
+        → Appends (W.contents sink.old) (W.contents sink.new) bytes }
+
+    // What the source takes, and what the sink tells, stay as they were.
+    ensures source_beside { R.beside source.new ≡ R.beside source.old }
+    ensures sink_beside { W.beside sink.new ≡ W.beside sink.old }
 {
     let (audit, end) = match gather(alloc, source) {
         Ok(gathered) => gathered,
@@ -92,8 +106,12 @@ fn gather<A: Allocator + Copy, R: Source>(
     source: &mut R,
 ) -> Result<(Audit<A>, Option<StreamFault>), Memory>
     requires { R.heard source.old ≡ nothing_heard }
-    ensures { IfOk result (λ found. (views : List View)
+    ensures gathered { IfOk result (λ found. (views : List View)
         × IsGathered found.0 found.1 (R.heard source.new) views) }
+    ensures more { TellsMore (R.heard source.old) (R.heard source.new) (R.remaining source.old)
+        (R.remaining source.new) }
+    ensures known { (R.heard source.new).is_at_end ≡ true → IsAtEnd (R.remaining source.new) }
+    ensures beside { R.beside source.new ≡ R.beside source.old }
 {
     let mut cutter = Cutter::new(alloc);
     let mut audit = Audit::new(alloc);
@@ -113,9 +131,14 @@ fn add_next<A: Allocator + Copy, R: Source>(
 ) -> Result<Step, Memory>
     requires along { IsAlong (R.heard source.old) cutter.old }
     requires few { audit.old.added ≤ (R.heard source.old).calls }
-    ensures { (views : List View) → HasHandedOut (R.heard source.old) cutter.old views
+    ensures next { (views : List View) → HasHandedOut (R.heard source.old) cutter.old views
         → IsAuditOf audit.old (added_from 0 views)
         → IsNext result views (R.heard source.old) (R.heard source.new) cutter.new audit.new }
+    ensures more { TellsMore (R.heard source.old) (R.heard source.new) (R.remaining source.old)
+        (R.remaining source.new) }
+    ensures known { cutter.old.answer ≡ None → (R.heard source.new).is_at_end ≡ true
+        → IsAtEnd (R.remaining source.new) }
+    ensures beside { R.beside source.new ≡ R.beside source.old }
 {
     let offset = cutter.offset();
     if let Some(view) = cutter.peek(source) {

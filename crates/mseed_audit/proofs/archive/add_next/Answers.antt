@@ -8,8 +8,8 @@ use Rattle.mseed_audit.specs.Audit.{IsAuditOf}
 use Rattle.mseed_audit.proofs.Views.{added_more}
 use Rattle.mseed_audit.proofs.archive.add_next.Goals as goal
 
-pub returns-in-Some : goal.returns-in-Some
-returns-in-Some g c = λ views before is.
+pub returns-in-Some-clause-next : goal.returns-in-Some-clause-next
+returns-in-Some-clause-next g c = λ views before is.
     let view : View = view_of c.in-Some.view in
     let lent : List ℕ = g.R.Source.lent c.args.source.now in
     let shown = c.in-Some.ensures.record in
@@ -24,8 +24,8 @@ returns-in-Some g c = λ views before is.
       few = omega (arith, calls, c.requires.few, c.in_ok-add.ensures.number);
     }
 
-pub returns-in_ok-add-in-Ok-Some : goal.returns-in_ok-add-in-Ok-Some
-returns-in_ok-add-in-Ok-Some g c = λ views before is.
+pub returns-in_ok-add-in-Ok-Some-clause-next : goal.returns-in_ok-add-in-Ok-Some-clause-next
+returns-in_ok-add-in-Ok-Some-clause-next g c = λ views before is.
     let view : View = view_of c.in-Ok-Some.view in
     let some = c.in-Ok-Some.field-0-is in
     let asked = rw some at c.in-Ok-Some.ensures.asked in
