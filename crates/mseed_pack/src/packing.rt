@@ -1,5 +1,6 @@
 //! Packing a series.
-ghost use Rattle.std.specs.Prelude.{◌≡◌, ◌≤◌, IfErr, IfOk, List, length, ℕ};
+ghost use Rattle.std.specs.Prelude.{◌≡◌, ◌≤◌, ◌++◌, IfErr, IfOk, List, length, ℕ};
+ghost use Rattle.std.specs.Io.KnownBytes.{Appends};
 ghost use Rattle.std.specs.List.{AllByRecursion};
 ghost use Rattle.mseed_audit.specs.Series.{AreSteps};
 ghost use Rattle.mseed_pack.specs.Fitting.{Fits};
@@ -39,6 +40,10 @@ pub fn pack<A: Allocator + Copy, W: Sink>(
     ensures outcome { IsOutcome result series.now options.now (W.said sink.old) (W.said sink.new) }
     ensures beside { W.beside sink.new ≡ W.beside sink.old }
 
+    // What the sink is known to hold grew by what it took.
+    ensures contents { (bytes : List ℕ) → (W.said sink.new).bytes ≡ (W.said sink.old).bytes ++ bytes
+        → Appends (W.contents sink.old) (W.contents sink.new) bytes }
+
     // What a series that fits is packed into reads back as the series: a continuous channel.
     ensures reads_back { (records : List (List ℕ)) → Fits series.now options.now
         → IsPacking series.now options.now records → ReadsAs series.now records }
@@ -65,6 +70,10 @@ pub fn pack_view<W: Sink>(
     ensures outcome { IsOutcome result (trace_of series.now) options.now (W.said sink.old) (W.said sink.new) }
     ensures beside { W.beside sink.new ≡ W.beside sink.old }
 
+    // What the sink is known to hold grew by what it took.
+    ensures contents { (bytes : List ℕ) → (W.said sink.new).bytes ≡ (W.said sink.old).bytes ++ bytes
+        → Appends (W.contents sink.old) (W.contents sink.new) bytes }
+
     // What a series that fits is packed into reads back as the series: a continuous channel.
     ensures reads_back { (records : List (List ℕ)) → Fits (trace_of series.now) options.now
         → IsPacking (trace_of series.now) options.now records → ReadsAs (trace_of series.now) records }
@@ -86,6 +95,8 @@ fn pack_if_fit<W: Sink>(
 ) -> Result<u64, PackFault>
     requires steps { AreSteps (length series.now.samples.now) series.now.steps.now }
     ensures outcome { IsOutcome result (trace_of series.now) options.now (W.said sink.old) (W.said sink.new) }
+    ensures contents { (bytes : List ℕ) → (W.said sink.new).bytes ≡ (W.said sink.old).bytes ++ bytes
+        → Appends (W.contents sink.old) (W.contents sink.new) bytes }
     ensures beside { W.beside sink.new ≡ W.beside sink.old }
     ensures trace { IsTrace (trace_of series.now) }
 {
@@ -114,6 +125,8 @@ pub fn pack_fitting<W: Sink>(
         TookAll (trace_of series.now) options.now count (W.said sink.old) (W.said sink.new)) }
     ensures err { IfErr result (λ taken.
         TookFront (trace_of series.now) options.now taken (W.said sink.old) (W.said sink.new)) }
+    ensures contents { (bytes : List ℕ) → (W.said sink.new).bytes ≡ (W.said sink.old).bytes ++ bytes
+        → Appends (W.contents sink.old) (W.contents sink.new) bytes }
     ensures beside { W.beside sink.new ≡ W.beside sink.old }
 {
     let mut records = [0; GATHERED];
@@ -134,6 +147,8 @@ fn pack_through<W: Sink>(
         TookAll (trace_of series.now) options.now count (W.said sink.old) (W.said sink.new)) }
     ensures err { IfErr result (λ taken.
         TookFront (trace_of series.now) options.now taken (W.said sink.old) (W.said sink.new)) }
+    ensures contents { (bytes : List ℕ) → (W.said sink.new).bytes ≡ (W.said sink.old).bytes ++ bytes
+        → Appends (W.contents sink.old) (W.contents sink.new) bytes }
     ensures beside { W.beside sink.new ≡ W.beside sink.old }
 {
     let length = length_of(options);

@@ -2,6 +2,8 @@ use Rattle.std.proofs.Common.{◌≡◌, ◌+◌, ◌*◌, ◌^◌, ℕ, sym, ap
 use Rattle.mseed_pack.specs.Outcome.{TookFront}
 use Rattle.mseed_pack.specs.Traces.{trace_of}
 use Rattle.mseed_pack.proofs.Growing.{took_more, took_front}
+use Rattle.mseed_audit.proofs.Told.{grew}
+use Rattle.mseed_pack.proofs.Taken.{takes_on}
 use Rattle.mseed_pack.proofs.packing.pack_through.Goals as goal
 
 pub returns-in-Err-clause-err : goal.returns-in-Err-clause-err
@@ -15,6 +17,18 @@ returns-in-Err-clause-err g c =
     let number : l.place.number * 2 ^ o.exponent ≡ c.from.result * c.length_of-length.result = ap (λ (m : ℕ). m * 2 ^ o.exponent) (sym c.from.ensures) ∙ ap (λ (m : ℕ). c.from.result * m) (sym c.length_of-length.ensures.value) in
     subst (λ (m : ℕ). TookFront s o (m + c.in-Err.taken) (g.W.Sink.said c.args.sink.now) (g.W.Sink.said c.write_all_of.new.sink)) number front
 
+pub returns-in-Err-clause-contents : goal.returns-in-Err-clause-contents
+returns-in-Err-clause-contents g c = λ bytes.
+    let l = c.loop-place in
+    let b = take c.in-Err.taken (take c.gather-batch.result.bytes c.gather-batch.new.out) in
+    let more = takes_on (g.W.Sink.said c.args.sink.now) (g.W.Sink.said l.sink) (g.W.Sink.said c.write_all_of.new.sink) (g.W.Sink.contents c.args.sink.now) (g.W.Sink.contents l.sink) (g.W.Sink.contents c.write_all_of.new.sink) l.invariant.contents (b, c.in-Err.ensures.err, c.in-Err.ensures.known) in
+    grew (g.W.Sink.said c.args.sink.now) (g.W.Sink.said c.write_all_of.new.sink) (g.W.Sink.contents c.args.sink.now) (g.W.Sink.contents c.write_all_of.new.sink) more.0 bytes more.1 more.2
+
+pub returns-clause-contents : goal.returns-clause-contents
+returns-clause-contents g c = λ bytes.
+    let more = c.loop-place.invariant.contents in
+    grew (g.W.Sink.said c.args.sink.now) (g.W.Sink.said c.loop-place.sink) (g.W.Sink.contents c.args.sink.now) (g.W.Sink.contents c.loop-place.sink) more.0 bytes more.1 more.2
+
 pub loop-place-preserved : goal.loop-place-preserved
 loop-place-preserved g c =
     let s = trace_of c.args.series.now in
@@ -26,5 +40,6 @@ loop-place-preserved g c =
       standing = c.gather-batch.ensures.standing;
       took = took_more s o l.place c.gather-batch.result.next b (g.W.Sink.said c.args.sink.now) (g.W.Sink.said l.sink) (g.W.Sink.said c.write_all_of.new.sink) l.invariant.took
           c.gather-batch.ensures.on c.in_default.ensures.ok c.in_default.ensures.fine;
+      contents = takes_on (g.W.Sink.said c.args.sink.now) (g.W.Sink.said l.sink) (g.W.Sink.said c.write_all_of.new.sink) (g.W.Sink.contents c.args.sink.now) (g.W.Sink.contents l.sink) (g.W.Sink.contents c.write_all_of.new.sink) l.invariant.contents (b, c.in_default.ensures.ok, c.in_default.ensures.known);
       beside = c.write_all_of.ensures.beside ∙ l.invariant.beside;
     }

@@ -3,6 +3,7 @@ use Rattle.mseed_pack.specs.Filling.{HoldsDifferences}
 use Rattle.mseed_pack.specs.Outcome.{TookSo}
 use Rattle.mseed_pack.specs.Standing.{StandsAt}
 use Rattle.mseed_pack.specs.Traces.{trace_of}
+use Rattle.mseed_pack.proofs.Taken.{TakesMore}
 use Rattle.mseed_pack.proofs.packing.pack_through.Given as goal
 
 abbrev pub invariant-loop-place : goal.invariant-loop-place
@@ -10,6 +11,7 @@ invariant-loop-place g l = record {
   held : HoldsDifferences l.series.samples.now l.window;
   standing : StandsAt l.series.steps.now (length l.series.samples.now) l.place;
   took : TookSo (trace_of l.series) l.options l.place.number l.place.first (g.W.Sink.said l.fn.sink) (g.W.Sink.said l.sink);
+  contents : TakesMore (g.W.Sink.said l.fn.sink) (g.W.Sink.said l.sink) (g.W.Sink.contents l.fn.sink) (g.W.Sink.contents l.sink);
   beside : g.W.Sink.beside l.sink ≡ g.W.Sink.beside l.fn.sink;
 }
 
