@@ -16,7 +16,8 @@ use Rattle.mseed_pack.specs.Stretches.{differences}
 abbrev pub IsTooFast : Trace → Type 0
 IsTooFast s = 500_000 * (ratio_of s.rate).den < (ratio_of s.rate).num
 
--- some sample's instant can't be written: it lies in no year from 1900 to 2100
+-- some sample's instant can't be written: once it is rounded to a ten-thousandth of a second, it lies in no year from
+-- 1900 to 2100
 abbrev pub HasTimeOutside : Trace → Type 0
 HasTimeOutside s = (i : ℕ) × ((i < length s.samples) × IsOutside (instant_at s i))
 

@@ -11,7 +11,8 @@ pub enum PackFault {
     /// It has more than 500,000 samples a second.
     #[error("the sample rate is over 500,000 Hz")]
     RateTooHigh,
-    /// The instant of some sample lies in no year from 1900 to 2100.
+    /// The instant of some sample, once it is rounded to a ten-thousandth of a second, lies in no year from 1900 to
+    /// 2100.
     #[error("a sample lies in no year from 1900 to 2100")]
     TimeOutOfRange,
     /// The first sample that the encoding doesn't hold.

@@ -35,8 +35,9 @@ const NEAR: i32 = 0x1000_0000;
 ///
 /// # Errors
 ///
-/// The first reason why it can't: it's empty; it has more than 500,000 samples a second; a sample lies in no year from
-/// 1900 to 2100; a sample or a difference is too large for the encoding, the first of those.
+/// The first reason why it can't: it's empty; it has more than 500,000 samples a second; a sample's instant, once it is
+/// rounded to a ten-thousandth of a second, lies in no year from 1900 to 2100; a sample or a difference is too large
+/// for the encoding, the first of those.
 pub fn fit<A: Allocator + Copy>(series: &Series<A>, options: &Options) -> Result<(), PackFault>
     ensures fits { OnOk result (Fits series.now options.now) }
     ensures fault { IfErr result (λ fault. IsMisfit series.now options.now fault) }
