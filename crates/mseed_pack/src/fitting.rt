@@ -48,7 +48,8 @@ pub fn fit<A: Allocator + Copy>(series: &Series<A>, options: &Options) -> Result
     fit_view(&view, options)
 }
 
-/// [`fit`] of a series where it lies.
+/// [`fit`] of a series where it lies. The numbers of samples before its leap seconds rise strictly, from 1 to at most
+/// the number of samples.
 ///
 /// # Errors
 ///

@@ -56,7 +56,8 @@ pub fn pack<A: Allocator + Copy, W: Sink>(
     pack_view(&view, options, sink)
 }
 
-/// [`pack`] of a series where it lies.
+/// [`pack`] of a series where it lies. The numbers of samples before its leap seconds rise strictly, from 1 to at most
+/// the number of samples.
 ///
 /// # Errors
 ///
@@ -109,7 +110,8 @@ fn pack_if_fit<W: Sink>(
     }
 }
 
-/// [`pack_view`] of a series that is known to fit, as [`fit_view`] says: nothing is asked of it again.
+/// [`pack_view`] of a series that is known to fit, as [`fit_view`] says: nothing is asked of it again. The numbers of
+/// samples before its leap seconds rise strictly, from 1 to at most the number of samples.
 ///
 /// # Errors
 ///

@@ -14,7 +14,8 @@ pub struct SeriesView<'a> {
     pub start: Micros,
     pub rate: Rate,
     pub samples: &'a [i32],
-    /// The leap seconds: each with the number of samples before it, which rises strictly from 1 on.
+    /// The leap seconds: each with the number of samples before it. Whoever makes a view may write any here; the calls
+    /// that take one want these numbers to rise strictly, from 1 to at most the number of samples.
     pub steps: &'a [(u64, LeapStep)],
 }
 
