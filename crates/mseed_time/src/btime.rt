@@ -54,7 +54,11 @@ impl Btime {
     ghost use Rattle.mseed_time.specs.Btime.{parts_at, first_fault, instant_of, microsecond_of};
     ghost use Rattle.mseed_time.specs.Parts.{parts_of};
 
-    /// Reads a BTIME. The byte at 7 is unused. The fault names the first field that is out of its range.
+    /// Reads a BTIME. The byte at 7 is unused.
+    ///
+    /// # Errors
+    ///
+    /// The first field, in the order of [`TimeFault`], that is out of its range.
     pub fn read(bytes: &[u8; 10], order: Order) -> Result<Btime, TimeFault>
         ensures fields { IfOk result (λ b. parts_of b ≡ parts_at order 0 bytes.now) }
         ensures fault { result_err result ≡ first_fault (parts_at order 0 bytes.now) }
@@ -117,6 +121,11 @@ impl Btime {
 
     /// The time that is nearest to an instant, the later one of two, and the microseconds from it to the
     /// instant, -50 to 49. The time's second is never 60.
+    ///
+    /// # Errors
+    ///
+    /// `OutOfRange` exactly where the instant, once it is rounded to a ten-thousandth of a second, lies in no
+    /// year from 1900 to 2100.
     pub fn of_micros(instant: Micros) -> Result<(Btime, i8), OutOfRange>
         ensures value { IfOk result (λ a. instant_of (parts_of a.0) (pos 0) false a.1 ≡ instant) }
         ensures names { IfOk result (λ a. Names instant (parts_of a.0) a.1) }

@@ -21,6 +21,10 @@ impl Rate {
 
     /// The rate of a factor and a multiplier (SEED manual, chapter 8): what is positive multiplies, and
     /// what is negative divides.
+    ///
+    /// # Errors
+    ///
+    /// `NoRate` exactly where the factor or the multiplier is 0.
     pub fn of(factor: i16, multiplier: i16) -> Result<Rate, NoRate>
         ensures ok { IsOk result ↔ IsSome (rate_of factor multiplier) }
         ensures value { IfOk result (λ r. Some (ratio_of r) ≡ rate_of factor multiplier) }
