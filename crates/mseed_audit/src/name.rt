@@ -9,8 +9,12 @@ use mseed_record::{Codes, is_blank};
 use std::alloc::{AllocError, Allocator};
 
 /// Adds a channel's name: network, station, location and channel, each without its trailing spaces and
-/// NULs, with `?` for what is left and can't be printed. Where memory is refused, a part of it may have
-/// been added.
+/// NULs, with `?` for what is left and can't be printed.
+///
+/// # Errors
+///
+/// `AllocError` where memory is refused. What was there stays in front, and a part of the name may have been
+/// added behind it.
 pub fn push_name<A: Allocator>(text: &mut Vec<u8, A>, codes: &Codes) -> Result<(), AllocError>
     ensures ok { OnOk result (text.new.items ≡ text.old.items ++ name_text codes.now) }
     ensures front { IsFrontOf text.old.items text.new.items }

@@ -19,7 +19,12 @@ pub enum Part<'a> {
     Signed(i32),
 }
 
-/// Adds the parts. Where memory is refused, some of them may have been added.
+/// Adds the parts.
+///
+/// # Errors
+///
+/// `AllocError` where memory is refused. What was there stays in front, and some of the parts may have been added
+/// behind it.
 #[inline(always)]
 pub fn push_parts<A: Allocator>(text: &mut Vec<u8, A>, parts: &[Part<'_>]) -> Result<(), AllocError>
     ensures ok { OnOk result (text.new.items ≡ text.old.items ++ parts_text parts.now) }
@@ -45,7 +50,11 @@ fn push_part<A: Allocator>(text: &mut Vec<u8, A>, part: Part<'_>) -> Result<(), 
     }
 }
 
-/// Adds the decimal digits of a number. Where memory is refused, the text is as it was.
+/// Adds the decimal digits of a number.
+///
+/// # Errors
+///
+/// `AllocError` where memory is refused. The text is as it was.
 pub fn push_count<A: Allocator>(text: &mut Vec<u8, A>, count: u64) -> Result<(), AllocError>
     ensures ok { OnOk result (text.new.items ≡ text.old.items ++ decimal count) }
     ensures unchanged { OnErr result (text.new.items ≡ text.old.items) }

@@ -149,8 +149,12 @@ fn push_total_line<A: Allocator>(
     )
 }
 
-/// Adds the line of a stream's fault; none for a want of memory. Where memory is refused, a part of it may
-/// have been added.
+/// Adds the line of a stream's fault; none for a want of memory.
+///
+/// # Errors
+///
+/// `AllocError` where memory is refused. What was there stays in front, and a part of the line may have been added
+/// behind it.
 pub fn push_fault_line<A: Allocator>(
     text: &mut Vec<u8, A>,
     fault: &StreamFault,
