@@ -1,13 +1,13 @@
 //! The rings of one feed.
-ghost use Rattle.std.specs.Prelude.{◌≡◌, ◌^◌, ◌<◌, ◌≤◌, [], ◌∷◌, ◌++◌, Some, length, slice_get, slice_set, IfErr};
-ghost use Rattle.std.specs.Prelude.{IfSome, OnOk, OnErr, IsSomeAnd, option_map};
+ghost use Rattle.std.specs.Prelude.{◌≡◌, ◌≢◌, ◌^◌, ◌<◌, ◌≤◌, ℕ, List, [], ◌∷◌, ◌++◌, Some, length, slice_get};
+ghost use Rattle.std.specs.Prelude.{slice_set, IfErr, IfSome, OnOk, OnErr, IsSomeAnd, option_map};
 ghost use Rattle.std.specs.Option.{ForSome};
 ghost use Rattle.std.specs.Bool.{OnFalse, OnTrue};
 ghost use Rattle.slink_wire.specs.Place.{Bears};
 ghost use Rattle.slink_feed.specs.Fault.{IsFeedFault};
 ghost use Rattle.slink_feed.specs.Rings.{HasPlace, LacksPlace, station_at};
 ghost use Rattle.slink_feed.specs.Session.{Fits, State};
-ghost use Rattle.slink_feed.specs.Window.{Window, with_record};
+ghost use Rattle.slink_feed.specs.Window.{Shows, Window, with_record};
 
 use crate::ring::Ring;
 use arrayvec::ArrayVec;
@@ -110,6 +110,11 @@ impl<A: Allocator> Feed<A> {
         requires room { ForSome (slice_get self.old k) (λ w. w.next < 2 ^ 63) }
         ensures pushed { ForSome (slice_get self.old k)
             (λ w. self.new ≡ slice_set self.old k (with_record w bytes.now)) }
+        // The ring goes on showing the list of all records that were pushed to it, and the other rings stay.
+        ensures shows { (first : ℕ) (pushed : List (List ℕ))
+            → ForSome (slice_get self.old k) (λ w. Shows w first pushed)
+            → IsSomeAnd (slice_get self.new k) (λ w. Shows w first (pushed ++ bytes.now ∷ [])) }
+        ensures others { (j : ℕ) → j ≢ k → slice_get self.new j ≡ slice_get self.old j }
         // A session that this feed serves is served on.
         ensures fits { (s : State) → Fits self.old s → Fits self.new s }
     {

@@ -1,8 +1,9 @@
-use Rattle.std.proofs.Common.{◌≡◌, arith, ap, length, sym, ◌∙◌, subst, ◌<◌, ◌^◌, Option, Some, IsSomeAnd, slice_get, option_map}
+use Rattle.std.proofs.Common.{◌≡◌, arith, ap, length, sym, ◌∙◌, subst, ◌<◌, ◌^◌, [], ◌∷◌, ◌++◌, Option, Some, IsSomeAnd, slice_get, option_map}
 use Rattle.slink_wire.specs.Place.{Bears}
-use Rattle.slink_feed.specs.Window.{Window, with_record}
+use Rattle.slink_feed.specs.Window.{Shows, Window, with_record}
 use Rattle.slink_feed.proofs.Done.{some_at}
 use Rattle.slink_feed.proofs.Fitting.{fits_pushed}
+use Rattle.slink_feed.proofs.Items.{get_here, get_there, shows_more}
 use Rattle.slink_feed.proofs.Slots.{same_length, slot_at, slot_written}
 use Rattle.slink_feed.proofs.feed.Feed.push.Goals as goal
 
@@ -28,3 +29,15 @@ pub returns-clause-fits : goal.returns-clause-fits
 returns-clause-fits g c s fits =
     let at : (w : Window) × (slice_get c.args.self.now c.args.k ≡ Some w) = some_at c.args.self.now c.args.k c.requires.in_range in
     fits_pushed c.args.self.now _ c.args.k at.0 c.args.bytes.now s at.1 (returns-clause-pushed g c at.0 at.1) fits
+
+pub returns-clause-shows : goal.returns-clause-shows
+returns-clause-shows g c first pushed shows =
+    let at : (w : Window) × (slice_get c.args.self.now c.args.k ≡ Some w) = some_at c.args.self.now c.args.k c.requires.in_range in
+    subst (λ ws. IsSomeAnd (slice_get ws c.args.k) (λ w. Shows w first (pushed ++ c.args.bytes.now ∷ []))) (sym (returns-clause-pushed g c at.0 at.1))
+    (subst (λ o. IsSomeAnd o (λ w. Shows w first (pushed ++ c.args.bytes.now ∷ []))) (sym (get_here c.args.self.now c.args.k (with_record at.0 c.args.bytes.now) c.requires.in_range))
+    (shows_more at.0 first pushed c.args.bytes.now (shows at.0 at.1)))
+
+pub returns-clause-others : goal.returns-clause-others
+returns-clause-others g c j ne =
+    let at : (w : Window) × (slice_get c.args.self.now c.args.k ≡ Some w) = some_at c.args.self.now c.args.k c.requires.in_range in
+    ap (λ ws. slice_get ws j) (returns-clause-pushed g c at.0 at.1) ∙ get_there c.args.self.now c.args.k j (with_record at.0 c.args.bytes.now) ne
