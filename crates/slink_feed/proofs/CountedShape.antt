@@ -1,5 +1,5 @@
 -- What a link was sent: two replies to each place, then packets.
-use Rattle.std.proofs.Common.{◌≡◌, ℕ, ◌+◌, ◌-◌, ◌*◌, ◌<◌, ◌≤◌, inl, inr, min, zero, suc, refl, sym, ap, subst, ◌∙◌, arith, Bool, true, false, ◌&&◌, not, List, [], ◌∷◌, ◌++◌, append_assoc, length, replicate, Option, Some, None, slice_get}
+use Rattle.std.proofs.Common.{◌≡◌, ℕ, ◌+◌, ◌-◌, ◌*◌, ◌<◌, ◌≤◌, inl, inr, zero, suc, refl, sym, ap, subst, ◌∙◌, arith, Bool, true, false, ◌&&◌, not, List, [], ◌∷◌, ◌++◌, append_assoc, length, replicate, Option, Some, None, option_map, slice_get}
 use Rattle.slink_wire.specs.Place.{Fields}
 use Rattle.slink_feed.specs.declared.dialogue.Stage.{Stage}
 use Rattle.slink_feed.specs.declared.dialogue.Stage.TheVariants.{Unlinked, Station, Number, Packets, Ended}
@@ -8,20 +8,20 @@ use Rattle.slink_feed.specs.declared.session.Phase.{Phase}
 use Rattle.slink_feed.specs.declared.world.Setup.{Setup}
 use Rattle.slink_feed.specs.declared.world.Step.{Step}
 use Rattle.slink_feed.specs.declared.world.Step.TheVariants.{Append, Connect, ToServer, ToClient, Send, Cut}
-use Rattle.slink_feed.specs.Counted.{AreItems, AreStreamed, Counted, CountedLink, answer_at, behind, counted_step, delivered_by, heard_by, if_come, items_sent, new_link, news, on_item, part, sent_by, served_by, taken_by, talk_upon, waits, wholes, windows_of}
+use Rattle.slink_feed.specs.Counted.{AreItems, ArePackets, AreStreamed, Counted, CountedLink, answer_at, behind, counted_step, delivered_by, heard_by, if_come, items_sent, new_link, news, on_item, part, sent_by, served_by, taken_by, talk_upon, waits, wholes, windows_of}
 use Rattle.slink_feed.specs.Dialogue.{Talk, to_place, want_at}
 use Rattle.slink_feed.specs.Listening.{AwaitsReply, IsLinked}
 use Rattle.slink_feed.specs.Session.{sent}
-use Rattle.slink_feed.specs.Ties.{Item, Accepted, Refused, Greeted, Carried, Finished, Places, items_of, way_bytes}
+use Rattle.slink_feed.specs.Ties.{Item, Accepted, Refused, Greeted, Carried, Finished, Places, item_bytes, items_of, way_bytes}
 use Rattle.slink_feed.specs.Window.{Window}
 use Rattle.slink_feed.specs.World.{said}
 use Rattle.slink_feed.proofs.CountedHeard.{unlinked_upon}
 use Rattle.slink_feed.proofs.Counting.{behind_more, left_after, whole_or}
+use Rattle.slink_feed.proofs.Counts.{EndsIn}
 use Rattle.slink_feed.proofs.Items.{is_within, within_is}
 use Rattle.slink_feed.proofs.OneWorld.{linked_or}
 use Rattle.slink_feed.proofs.Requested.{also_at}
-use Rattle.slink_feed.proofs.Shaking.{AreAsked, AreBorne, AreSent, Shakes, asks_end, asks_number, asks_place, has_none, has_number, has_place, streams}
-use Rattle.slink_feed.proofs.Sparing.{borne_more, sent_more}
+use Rattle.slink_feed.proofs.Shaking.{AreAsked, AreBorne, AreSent, IsBorne, IsSent, Shakes, asks_end, asks_number, asks_place, has_none, has_number, has_place, streams}
 
 -- how many replies a client heard that waits for this
 abbrev replies_at : Places → Stage → ℕ
@@ -44,7 +44,7 @@ pub record Shape (places : Places) (stage : Stage) (sent : List Item) (d : ℕ) 
   pub done : 4 * replies_at places stage ≤ d
   pub still : AwaitsReply stage → packets ≡ behind d sent
   pub within : IsWithin places stage
-  pub are : stage ≡ Packets → AreSent packets × AreBorne places packets
+  pub are : stage ≡ Packets → (front : List Item) × (packets ≡ front ++ behind d sent) × ArePackets front
 
 -- what is known of a link of which more is taken
 pub record LinkFacts (places : Places) (talk : Talk) (c : CountedLink) : Type 0 where
@@ -53,6 +53,7 @@ pub record LinkFacts (places : Places) (talk : Talk) (c : CountedLink) : Type 0 
   pub way : List ℕ
   pub shakes : Shakes talk phase taken way (behind c.delivered c.sent)
   pub borne : AreBorne places (behind c.delivered c.sent)
+  pub ends : EndsIn phase (behind c.delivered c.sent)
   pub few : c.delivered ≤ length (way_bytes c.sent)
 
 abbrev pub AreFacts : Places → Talk → Option CountedLink → Type 0
@@ -63,31 +64,9 @@ abbrev pub AreShaped : Places → Talk → Option CountedLink → Type 0
 AreShaped places talk None = Unit {0}
 AreShaped places talk (Some c) = IsLinked talk.stage → Shape places talk.stage c.sent c.delivered
 
-empty_tail : (xs ys : List Item) → xs ++ ys ≡ [] → ys ≡ []
-empty_tail [] ys e = e
-empty_tail (x ∷ xs) ys e = absurd (let bad : x ∷ (xs ++ ys) ≡ [] = e in cc bad)
-
-sent_tail : (xs ys : List Item) → AreSent (xs ++ ys) → AreSent ys
-sent_tail [] ys h = h
-sent_tail (x ∷ xs) ys h = sent_tail xs ys h.1
-
-borne_tail : (places : Places) (xs ys : List Item) → AreBorne places (xs ++ ys) → AreBorne places ys
-borne_tail places [] ys h = h
-borne_tail places (x ∷ xs) ys h = borne_tail places xs ys h.1
-
 -- what goes behind while packets are awaited
-tail_sent : (talk : Talk) (phase : Phase) (taken way : List ℕ) (xs ys : List Item) → talk.stage ≡ Packets → Shakes talk phase taken way (xs ++ ys) → AreSent ys
-tail_sent talk phase taken way xs ys p (asks_place k w stage want ready asks none) = absurd (let bad : Station k ≡ Packets = sym stage ∙ p in cc bad)
-tail_sent talk phase taken way xs ys p (has_place k stage is told one) = absurd (let bad : Station k ≡ Packets = sym stage ∙ p in cc bad)
-tail_sent talk phase taken way xs ys p (asks_number k stage is asks none) = absurd (let bad : Number k ≡ Packets = sym stage ∙ p in cc bad)
-tail_sent talk phase taken way xs ys p (has_number k stage is told one) = absurd (let bad : Number k ≡ Packets = sym stage ∙ p in cc bad)
-tail_sent talk phase taken way xs ys p (has_none k stage is told one) = absurd (let bad : Number k ≡ Packets = sym stage ∙ p in cc bad)
-tail_sent talk phase taken way xs ys p (asks_end k stage is asks none) = subst AreSent (sym (empty_tail xs ys none)) tt
-tail_sent talk phase taken way xs ys p (streams stage later sent told) = sent_tail xs ys sent
-
-shape_more : (places : Places) (talk : Talk) (sent ys : List Item) (d : ℕ) (phase : Phase) (taken way : List ℕ) → d ≤ length (way_bytes sent) → Shakes talk phase taken way (behind d (sent ++ ys)) → AreBorne places (behind d (sent ++ ys))
-    → Shape places talk.stage sent d → Shape places talk.stage (sent ++ ys) d
-shape_more places talk sent ys d phase taken way few shakes borne h =
+shape_more : (places : Places) (talk : Talk) (sent ys : List Item) (d : ℕ) → d ≤ length (way_bytes sent) → Shape places talk.stage sent d → Shape places talk.stage (sent ++ ys) d
+shape_more places talk sent ys d few h =
     let b : behind d (sent ++ ys) ≡ behind d sent ++ ys = behind_more sent ys d few in
     record {
       packets = h.packets ++ ys;
@@ -96,16 +75,17 @@ shape_more places talk sent ys d phase taken way few shakes borne h =
       still = λ awaits. ap (λ (x : List Item). x ++ ys) (h.still awaits) ∙ sym b;
       within = h.within;
       are = λ p. (
-        sent_more h.packets ys (h.are p).0 (tail_sent talk phase taken way (behind d sent) ys p (subst (Shakes talk phase taken way) b shakes)),
-        borne_more places h.packets ys (h.are p).1 (borne_tail places (behind d sent) ys (subst (AreBorne places) b borne)),
+        (h.are p).0,
+        ap (λ (x : List Item). x ++ ys) (h.are p).1 ∙ (append_assoc (h.are p).0 (behind d sent) ys ∙ ap (λ (x : List Item). (h.are p).0 ++ x) (sym b)),
+        (h.are p).2,
       );
     }
 
 -- a line that comes is answered
-come_shape : (places : Places) (t : Bool) (feed : List Window) (talk : Talk) (l : CountedLink) → l.delivered ≤ length (way_bytes l.sent) → LinkFacts places talk (if_come t feed talk l) → Shape places talk.stage l.sent l.delivered
+come_shape : (places : Places) (t : Bool) (feed : List Window) (talk : Talk) (l : CountedLink) → l.delivered ≤ length (way_bytes l.sent) → Shape places talk.stage l.sent l.delivered
     → Shape places talk.stage (if_come t feed talk l).sent (if_come t feed talk l).delivered
-come_shape places true feed talk l few f h = shape_more places talk l.sent (items_of (answer_at talk.stage feed talk l.session).1) l.delivered f.phase f.taken f.way few f.shakes f.borne h
-come_shape places false feed talk l few f h = h
+come_shape places true feed talk l few h = shape_more places talk l.sent (items_of (answer_at talk.stage feed talk l.session).1) l.delivered few h
+come_shape places false feed talk l few h = h
 
 -- one reply more
 replies_more : (m : ℕ) → replicate m Accepted ++ Accepted ∷ [] ≡ replicate (m + 1) Accepted ++ []
@@ -118,22 +98,46 @@ all_there (suc m) d none = whole_or Accepted (replicate m Accepted ++ []) d (λ 
     (λ fits none. let more : 4 * m ≤ d - 4 = all_there m (d - 4) none in omega (arith, more, fits))
     (λ lt none. absurd (let bad : Accepted ∷ (replicate m Accepted ++ []) ≡ [] = none in cc bad)) none
 
--- packets are awaited until the end
-packets_on : (i : Item) (t : Talk) → t.stage ≡ Packets → IsLinked (on_item Packets i t).0.stage → (on_item Packets i t).0.stage ≡ Packets
-packets_on Accepted t p there = p
-packets_on Refused t p there = p
-packets_on Greeted t p there = p
-packets_on (Carried k n r) t p there = p
-packets_on Finished t p there = absurd there
-
-upon_packets : (is : List Item) (t : Talk) → t.stage ≡ Packets → IsLinked (talk_upon t is).stage → (talk_upon t is).stage ≡ Packets
-upon_packets [] t p linked = p
-upon_packets (i ∷ is) t p linked =
+-- what a client hears that goes on to await packets
+heard_packets : (places : Places) (is : List Item) (t : Talk) → t.stage ≡ Packets → AreSent is → AreBorne places is → IsLinked (talk_upon t is).stage → ArePackets is × ((talk_upon t is).stage ≡ Packets)
+heard_packets places [] t p sent borne linked = (tt, p)
+heard_packets places (i ∷ is) t p sent borne linked =
     let same : (on_item t.stage i t).0 ≡ (on_item Packets i t).0 = ap (λ (s : Stage). (on_item s i t).0) p in
     elim (linked_or (on_item t.stage i t).0.stage) [
-      | inl there ↦ upon_packets is (on_item t.stage i t).0 (ap (λ (u : Talk). u.stage) same ∙ packets_on i t p (subst (λ (u : Talk). IsLinked u.stage) same there)) linked
+      | inl there ↦
+          let next : ((on_item Packets i t).0.stage ≡ Packets) × (ArePackets is → ArePackets (i ∷ is)) = one_heard i sent.0 borne.0 (subst (λ (u : Talk). IsLinked u.stage) same there) in
+          let rest : ArePackets is × ((talk_upon (on_item t.stage i t).0 is).stage ≡ Packets) = heard_packets places is (on_item t.stage i t).0 (ap (λ (u : Talk). u.stage) same ∙ next.0) sent.1 borne.1 linked in
+          (next.1 rest.0, rest.1)
       | inr over ↦ absurd (over (subst (λ (u : Talk). IsLinked u.stage) (unlinked_upon (on_item t.stage i t).0 is over).0 linked))
     ]
+  where
+    one_heard : (i : Item) → IsSent i → IsBorne places i → IsLinked (on_item Packets i t).0.stage → ((on_item Packets i t).0.stage ≡ Packets) × (ArePackets is → ArePackets (i ∷ is))
+    one_heard Accepted sent borne there = absurd sent
+    one_heard Refused sent borne there = absurd sent
+    one_heard Greeted sent borne there = absurd sent
+    one_heard (Carried k n r) sent borne there = (p, λ are. (borne.2, are))
+    one_heard Finished sent borne there = absurd there
+
+-- the items that are whole, and the others
+wholes_behind : (is : List Item) (d : ℕ) → is ≡ wholes d is ++ behind d is
+wholes_behind [] d = refl
+wholes_behind (i ∷ is) d = whole_or i is d (λ ws bs p. i ∷ is ≡ ws ++ bs) (λ fits. ap (λ xs. i ∷ xs) (wholes_behind is (d - length (item_bytes i)))) (λ lt. refl)
+
+sent_front : (xs ys : List Item) → AreSent (xs ++ ys) → AreSent xs
+sent_front [] ys h = tt
+sent_front (x ∷ xs) ys h = (h.0, sent_front xs ys h.1)
+
+borne_front : (places : Places) (xs ys : List Item) → AreBorne places (xs ++ ys) → AreBorne places xs
+borne_front places [] ys h = tt
+borne_front places (x ∷ xs) ys h = (h.0, borne_front places xs ys h.1)
+
+packets_more : (xs ys : List Item) → ArePackets xs → ArePackets ys → ArePackets (xs ++ ys)
+packets_more [] ys a b = b
+packets_more (Accepted ∷ xs) ys a b = absurd a
+packets_more (Refused ∷ xs) ys a b = absurd a
+packets_more (Greeted ∷ xs) ys a b = absurd a
+packets_more (Carried k n r ∷ xs) ys a b = (a.0, packets_more xs ys a.1 b)
+packets_more (Finished ∷ xs) ys a b = absurd a
 
 module _ (places : Places) (talk : Talk) (asked : AreAsked places talk.wants) (n : ℕ) (l : CountedLink) (f : LinkFacts places talk l) (h : Shape places talk.stage l.sent l.delivered) where
   abbrev its : List Item
@@ -148,14 +152,14 @@ module _ (places : Places) (talk : Talk) (asked : AreAsked places talk.wants) (n
   left : behind d l.sent ≡ behind e its
   left = left_after l.sent l.delivered n f.few
 
-  stays : (new : Stage) → new ≡ talk.stage → (AwaitsReply talk.stage → behind d l.sent ≡ its) → Shape places new l.sent d
+  stays : (new : Stage) → new ≡ talk.stage → behind d l.sent ≡ its → Shape places new l.sent d
   stays new same rest = subst (λ (s : Stage). Shape places s l.sent d) (sym same) (record {
     packets = h.packets;
     sent_is = h.sent_is;
     done = omega (arith, h.done, f.few);
-    still = λ awaits. h.still awaits ∙ sym (rest awaits);
+    still = λ awaits. h.still awaits ∙ sym rest;
     within = h.within;
-    are = h.are;
+    are = λ p. ((h.are p).0, (h.are p).1 ∙ ap (λ (x : List Item). (h.are p).0 ++ x) (sym rest), (h.are p).2);
   })
 
   reply_heard : (new : Stage) → its ≡ Accepted ∷ [] → AwaitsReply talk.stage → replies_at places new ≡ replies_at places talk.stage + 1 → IsWithin places new → behind d l.sent ≡ [] → Shape places new l.sent d
@@ -168,18 +172,38 @@ module _ (places : Places) (talk : Talk) (asked : AreAsked places talk.wants) (n
         done = all_there (replies_at places new) d (ap (behind d) (sym is) ∙ none);
         still = λ _. sym none;
         within = within;
-        are = λ _. (tt, tt);
+        are = λ _. ([], sym none, tt);
       }
+
+  packets_heard : talk.stage ≡ Packets → AreSent its → behind d l.sent ≡ behind e its → IsLinked (talk_upon talk (wholes e its)).stage → Shape places (talk_upon talk (wholes e its)).stage l.sent d
+  packets_heard p sent same linked =
+      let ws : List Item = wholes e its in
+      let split : its ≡ ws ++ behind d l.sent = wholes_behind its e ∙ ap (λ (x : List Item). ws ++ x) (sym same) in
+      let heard : ArePackets ws × ((talk_upon talk ws).stage ≡ Packets) =
+      heard_packets places ws talk p (sent_front ws (behind d l.sent) (subst AreSent split sent)) (borne_front places ws (behind d l.sent) (subst (AreBorne places) split f.borne)) linked in
+      let front : List Item = (h.are p).0 in
+      subst (λ (s : Stage). Shape places s l.sent d) (p ∙ sym heard.1) (record {
+        packets = h.packets;
+        sent_is = h.sent_is;
+        done = omega (arith, h.done, f.few);
+        still = λ awaits. absurd (subst AwaitsReply p awaits);
+        within = h.within;
+        are = λ _. (
+          front ++ ws,
+          (h.are p).1 ∙ (ap (λ (x : List Item). front ++ x) split ∙ sym (append_assoc front ws (behind d l.sent))),
+          packets_more front ws (h.are p).2 heard.0,
+        );
+      })
 
   abbrev Result : List Item → Type 0
   Result is = behind d l.sent ≡ behind e is → IsLinked (talk_upon talk (wholes e is)).stage → Shape places (talk_upon talk (wholes e is)).stage l.sent d
 
   nothing : its ≡ [] → Result its
-  nothing none = subst Result (sym none) (λ same linked. stays talk.stage refl (λ _. same ∙ sym none))
+  nothing none = subst Result (sym none) (λ same linked. stays talk.stage refl (same ∙ sym none))
 
   one_item : (i : Item) → its ≡ i ∷ [] → (behind d l.sent ≡ [] → IsLinked (on_item talk.stage i talk).0.stage → Shape places (on_item talk.stage i talk).0.stage l.sent d) → Result its
   one_item i one next = subst Result (sym one) (whole_or i [] e (λ ws bs p. behind d l.sent ≡ bs → IsLinked (talk_upon talk ws).stage → Shape places (talk_upon talk ws).stage l.sent d)
-      (λ fits same linked. next same linked) (λ lt same linked. stays talk.stage refl (λ _. same ∙ sym one)))
+      (λ fits same linked. next same linked) (λ lt same linked. stays talk.stage refl (same ∙ sym one)))
 
   after_number : (k : ℕ) (o : Option Wanted) → its ≡ Accepted ∷ [] → talk.stage ≡ Number k → want_at talk.wants (k + 1) ≡ o → behind d l.sent ≡ [] → Shape places (to_place o (k + 1) talk).0.stage l.sent d
   after_number k None one stage want none =
@@ -209,9 +233,7 @@ module _ (places : Places) (talk : Talk) (asked : AreAsked places talk.wants) (n
       subst (λ (t : Stage). Shape places (on_item t Accepted talk).0.stage l.sent d) (sym stage) (after_number k (want_at talk.wants (k + 1)) one stage refl none))
   by_shakes (has_none k stage phase told one) = one_item Refused one (λ none linked. absurd (subst (λ (t : Stage). IsLinked (on_item t Refused talk).0.stage) stage linked))
   by_shakes (asks_end k stage phase asks none) = nothing none
-  by_shakes (streams stage later sent told) = λ same linked.
-      let at : (talk_upon talk (wholes e its)).stage ≡ Packets = upon_packets (wholes e its) talk stage linked in
-      stays (talk_upon talk (wholes e its)).stage (at ∙ sym stage) (λ awaits. absurd (subst AwaitsReply stage awaits))
+  by_shakes (streams stage later sent told) = packets_heard stage sent
 
   pub shape_heard : IsLinked (talk_upon talk (news n l)).stage → Shape places (talk_upon talk (news n l)).stage l.sent d
   shape_heard linked = by_shakes f.shakes left linked
@@ -231,13 +253,13 @@ connect_shaped places talk (Some w) some asked want = λ _. record {
   are = λ p. absurd (let bad : Station 0 ≡ Packets = p in cc bad);
 }
 
-served_shaped : (places : Places) (feed : List Window) (talk : Talk) (n : ℕ) (q : Option CountedLink) → AreFacts places talk q → AreFacts places talk (Rattle.std.proofs.Common.option_map (served_by feed talk n) q) → AreShaped places talk q → AreShaped places talk (Rattle.std.proofs.Common.option_map (served_by feed talk n) q)
-served_shaped places feed talk n None f g h = tt
-served_shaped places feed talk n (Some l) f g h = λ linked. come_shape places (waits l.taken l.said && not (waits (taken_by n l) l.said)) feed talk (record l { taken = taken_by n l }) (f linked).few (g linked) (h linked)
+served_shaped : (places : Places) (feed : List Window) (talk : Talk) (n : ℕ) (q : Option CountedLink) → AreFacts places talk q → AreShaped places talk q → AreShaped places talk (option_map (served_by feed talk n) q)
+served_shaped places feed talk n None f h = tt
+served_shaped places feed talk n (Some l) f h = λ linked. come_shape places (waits l.taken l.said && not (waits (taken_by n l) l.said)) feed talk (record l { taken = taken_by n l }) (f linked).few (h linked)
 
-sent_shaped : (places : Places) (feed : List Window) (talk : Talk) (k : ℕ) (q : Option CountedLink) → AreFacts places talk q → AreFacts places talk (Rattle.std.proofs.Common.option_map (sent_by feed k) q) → AreShaped places talk q → AreShaped places talk (Rattle.std.proofs.Common.option_map (sent_by feed k) q)
-sent_shaped places feed talk k None f g h = tt
-sent_shaped places feed talk k (Some l) f g h = λ linked. let x : LinkFacts places talk (sent_by feed k l) = g linked in shape_more places talk l.sent (items_sent feed l.session.grants k (sent feed l.session k).1) l.delivered x.phase x.taken x.way (f linked).few x.shakes x.borne (h linked)
+sent_shaped : (places : Places) (feed : List Window) (talk : Talk) (k : ℕ) (q : Option CountedLink) → AreFacts places talk q → AreShaped places talk q → AreShaped places talk (option_map (sent_by feed k) q)
+sent_shaped places feed talk k None f h = tt
+sent_shaped places feed talk k (Some l) f h = λ linked. shape_more places talk l.sent (items_sent feed l.session.grants k (sent feed l.session k).1) l.delivered (f linked).few (h linked)
 
 heard_shaped : (places : Places) (c : Counted) (n : ℕ) (q : Option CountedLink) → AreAsked places c.talk.wants → AreFacts places c.talk q → AreShaped places c.talk q → AreShaped places c.talk c.link → AreShaped places (heard_by n c q).talk (heard_by n c q).link
 heard_shaped places c n None asked f h same = same
@@ -247,31 +269,48 @@ heard_shaped places c n (Some l) asked f h same = λ linked. elim (linked_or c.t
 ]
 
 pub step_shaped : (setup : Setup) (c : Counted) (step : Step) → 0 < length setup.places.items → AreAsked setup.places.items c.talk.wants → AreFacts setup.places.items c.talk c.link
-    → AreFacts setup.places.items (counted_step setup c step).talk (counted_step setup c step).link → AreShaped setup.places.items c.talk c.link → AreShaped setup.places.items (counted_step setup c step).talk (counted_step setup c step).link
-step_shaped setup c (Append k b) some asked f g h = h
-step_shaped setup c Connect some asked f g h = connect_shaped setup.places.items c.talk (want_at c.talk.wants 0) some asked refl
-step_shaped setup c (ToServer n) some asked f g h = served_shaped setup.places.items (windows_of setup c) c.talk n c.link f g h
-step_shaped setup c (ToClient n) some asked f g h = heard_shaped setup.places.items c n c.link asked f h h
-step_shaped setup c (Send k) some asked f g h = sent_shaped setup.places.items (windows_of setup c) c.talk k c.link f g h
-step_shaped setup c Cut some asked f g h = tt
+    → AreShaped setup.places.items c.talk c.link → AreShaped setup.places.items (counted_step setup c step).talk (counted_step setup c step).link
+step_shaped setup c (Append k b) some asked f h = h
+step_shaped setup c Connect some asked f h = connect_shaped setup.places.items c.talk (want_at c.talk.wants 0) some asked refl
+step_shaped setup c (ToServer n) some asked f h = served_shaped setup.places.items (windows_of setup c) c.talk n c.link f h
+step_shaped setup c (ToClient n) some asked f h = heard_shaped setup.places.items c n c.link asked f h h
+step_shaped setup c (Send k) some asked f h = sent_shaped setup.places.items (windows_of setup c) c.talk k c.link f h
+step_shaped setup c Cut some asked f h = tt
 
 -- what is told of it
-items_are : (places : Places) (is : List Item) → AreSent is → AreBorne places is → AreItems is
-items_are places [] s b = tt
-items_are places (Accepted ∷ is) s b = absurd s.0
-items_are places (Refused ∷ is) s b = absurd s.0
-items_are places (Greeted ∷ is) s b = absurd s.0
-items_are places (Carried k n r ∷ is) s b = (b.0.2, items_are places is s.1 b.1)
-items_are places (Finished ∷ is) s b = items_are places is s.1 b.1
+packets_sent : (talk : Talk) (phase : Phase) (taken way : List ℕ) (is : List Item) → talk.stage ≡ Packets → Shakes talk phase taken way is → AreSent is
+packets_sent talk phase taken way is p (asks_place k w stage want ready asks none) = absurd (let bad : Station k ≡ Packets = sym stage ∙ p in cc bad)
+packets_sent talk phase taken way is p (has_place k stage at told one) = absurd (let bad : Station k ≡ Packets = sym stage ∙ p in cc bad)
+packets_sent talk phase taken way is p (asks_number k stage at asks none) = absurd (let bad : Number k ≡ Packets = sym stage ∙ p in cc bad)
+packets_sent talk phase taken way is p (has_number k stage at told one) = absurd (let bad : Number k ≡ Packets = sym stage ∙ p in cc bad)
+packets_sent talk phase taken way is p (has_none k stage at told one) = absurd (let bad : Number k ≡ Packets = sym stage ∙ p in cc bad)
+packets_sent talk phase taken way is p (asks_end k stage at asks none) = subst AreSent (sym none) tt
+packets_sent talk phase taken way is p (streams stage later sent told) = sent
 
-pub streamed_of : (places : Places) (talk : Talk) (q : Option CountedLink) → AreShaped places talk q → AreStreamed (length places) talk q
-streamed_of places talk None h = tt
-streamed_of places talk (Some l) h = λ p.
-    let x : Shape places talk.stage l.sent l.delivered = h (subst IsLinked (sym p) tt) in
+items_are : (places : Places) (phase : Phase) (front is : List Item) → ArePackets front → AreSent is → AreBorne places is → EndsIn phase is → AreItems (front ++ is)
+items_are places phase [] [] a s b e = tt
+items_are places phase [] (Accepted ∷ is) a s b e = absurd s.0
+items_are places phase [] (Refused ∷ is) a s b e = absurd s.0
+items_are places phase [] (Greeted ∷ is) a s b e = absurd s.0
+items_are places phase [] (Carried k n r ∷ is) a s b e = (b.0.2, items_are places phase [] is tt s.1 b.1 e)
+items_are places phase [] (Finished ∷ is) a s b e = e.0
+items_are places phase (Accepted ∷ front) is a s b e = absurd a
+items_are places phase (Refused ∷ front) is a s b e = absurd a
+items_are places phase (Greeted ∷ front) is a s b e = absurd a
+items_are places phase (Carried k n r ∷ front) is a s b e = (a.0, items_are places phase front is a.1 s b e)
+items_are places phase (Finished ∷ front) is a s b e = absurd a
+
+pub streamed_of : (places : Places) (talk : Talk) (q : Option CountedLink) → AreFacts places talk q → AreShaped places talk q → AreStreamed (length places) talk q
+streamed_of places talk None f h = tt
+streamed_of places talk (Some l) f h = λ p.
+    let linked : IsLinked talk.stage = subst IsLinked (sym p) tt in
+    let x : Shape places talk.stage l.sent l.delivered = h linked in
+    let y : LinkFacts places talk l = f linked in
+    let its : List Item = behind l.delivered l.sent in
     let count : replies_at places talk.stage ≡ 2 * length places = ap (replies_at places) p in
     record {
       packets = x.packets;
       sent_is = x.sent_is ∙ ap (λ m. replicate m Accepted ++ x.packets) count;
-      are = items_are places x.packets (x.are p).0 (x.are p).1;
+      are = subst AreItems (sym (x.are p).1) (items_are places y.phase (x.are p).0 its (x.are p).2 (packets_sent talk y.phase y.taken y.way its p y.shakes) y.borne y.ends);
       replies = omega (arith, x.done, count);
     }

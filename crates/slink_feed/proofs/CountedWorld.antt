@@ -195,7 +195,7 @@ module _ (setup : Setup) (differ : Differ setup.places.items) (codes : (k : ℕ)
   facts_beside client (Some c) None k = absurd k
   facts_beside client (Some c) (Some l) k = λ linked.
       let pin : Pinned places client l.session.state (take c.taken c.said) l.to_server l.to_client (behind c.delivered c.sent) = k.linked linked in
-      record { phase = l.session.state.phase; taken = take c.taken c.said; way = l.to_server; shakes = pin.shakes; borne = pin.flows.borne; few = k.delivered_few }
+      record { phase = l.session.state.phase; taken = take c.taken c.said; way = l.to_server; shakes = pin.shakes; borne = pin.flows.borne; ends = pin.ends; few = k.delivered_few }
 
   facts_of : (c : Counted) (w : WorldState) → IsWorld c w → AreFacts places c.talk c.link
   facts_of c w i = subst (λ (x : Counted). AreFacts places x.talk x.link) (sym i.is) (facts_beside w.client i.link w.link i.counts)
@@ -206,7 +206,7 @@ module _ (setup : Setup) (differ : Differ setup.places.items) (codes : (k : ℕ)
   all_world (step ∷ steps) w v c run some of t keeps i shaped =
       let next : IsWorld (counted_step setup c step) run.0 = next_world w run.0 c step some of.0 run.1 t keeps i in
       all_world steps run.0 v (counted_step setup c step) run.2 some of.2 (step_talks places differ codes w run.0 step some of.0 of.1 run.1 t) (step_keeps places differ codes w t keeps step run.0 run.1) next
-      (step_shaped setup c step some (subst (λ (x : Counted). AreAsked places x.talk.wants) (sym i.is) t.asked) (facts_of c w i) (facts_of (counted_step setup c step) run.0 next) shaped)
+      (step_shaped setup c step some (subst (λ (x : Counted). AreAsked places x.talk.wants) (sym i.is) t.asked) (facts_of c w i) shaped)
 
   -- what is told of it
   link_counted : (client : Listening) (c : CountedLink) (l : LinkState) → Counts places client c l → IsCountedLink client.talk client.kept c l
@@ -260,4 +260,4 @@ module _ (setup : Setup) (steps : List Step) (now : WorldState) (run : AllHappen
 
   -- Packets follow two replies to each place.
   pub counted_streamed : AreStreamed (length setup.places.items) after.talk after.link
-  counted_streamed = streamed_of setup.places.items after.talk after.link both.1
+  counted_streamed = streamed_of setup.places.items after.talk after.link (facts_of setup schedule.differ askable.codes after now both.0) both.1

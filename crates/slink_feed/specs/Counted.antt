@@ -242,17 +242,17 @@ ArePackets (Greeted ∷ is) = ⊥
 ArePackets (Carried k n r ∷ is) = (length r ≡ 512) × ArePackets is
 ArePackets (Finished ∷ is) = ⊥
 
--- the same, and the end
+-- the same, and behind the last of them the end, if it was sent
 abbrev pub AreItems : List Item → Type 0
 AreItems [] = Unit {0}
 AreItems (Accepted ∷ is) = ⊥
 AreItems (Refused ∷ is) = ⊥
 AreItems (Greeted ∷ is) = ⊥
 AreItems (Carried k n r ∷ is) = (length r ≡ 512) × AreItems is
-AreItems (Finished ∷ is) = AreItems is
+AreItems (Finished ∷ is) = is ≡ []
 
--- Two replies of 4 bytes to each of so many places were sent and came to the client; behind them packets were sent, and the
--- end.
+-- Two replies of 4 bytes to each of so many places were sent and came to the client; behind them packets were sent, and behind
+-- the last of these the end, if it was.
 pub record IsStreamed (places : ℕ) (l : CountedLink) : Type 0 where
   pub packets : List Item
   pub sent_is : l.sent ≡ replicate (2 * places) Accepted ++ packets

@@ -1,6 +1,6 @@
 //! The laws of a feed over every schedule.
-ghost use Rattle.std.specs.Prelude.{◌≡◌, ℕ, ◌++◌, ◌-◌, ◌*◌, ◌/◌, ◌≤◌, All, List, [], Some, length, replicate, take};
-ghost use Rattle.std.specs.Prelude.{slice_index_or};
+ghost use Rattle.std.specs.Prelude.{◌≡◌, ℕ, ◌∷◌, ◌++◌, ◌+◌, ◌-◌, ◌*◌, ◌/◌, ◌<◌, ◌≤◌, All, List, [], Some, length};
+ghost use Rattle.std.specs.Prelude.{replicate, slice_index_or, take};
 ghost use Rattle.slink_feed.specs.declared.world.Setup.{Setup};
 ghost use Rattle.slink_feed.specs.declared.world.Step.{Step};
 ghost use Rattle.slink_feed.specs.Calling.{AreAnswered};
@@ -10,7 +10,7 @@ ghost use Rattle.slink_feed.specs.Listening.{IsLinked};
 ghost use Rattle.slink_feed.specs.Pushed.{appended};
 ghost use Rattle.slink_feed.specs.Spared.{AreAskable, IsSpared};
 ghost use Rattle.slink_feed.specs.Stretch.{HoldsStretches, IsCarried, IsSchedule, LackFew, Resumes};
-ghost use Rattle.slink_feed.specs.Ties.{Accepted, Item};
+ghost use Rattle.slink_feed.specs.Ties.{Accepted, Finished, Item};
 ghost use Rattle.slink_feed.specs.World.{AllHappen, Happens, IsOf, LinkState, WorldState, opening};
 
 /// After any steps of a schedule, what a client holds of each place is one slice of all records that were pushed of it,
@@ -39,8 +39,9 @@ pub fn resumes_behind_the_last()
 /// takes from its link, a place comes to have a grant by no other way.
 #[tactic(auto, using(crate::proofs::Calling::answered_after))]
 pub fn answers_the_number_wanted()
-    ensures answered { (setup : Setup) (steps : List Step) (now : WorldState) (run : AllHappen (opening setup) steps now)
-        → IsSchedule setup steps → AreAskable setup.places.items → LackFew setup.first (opening setup) steps now run
+    ensures answered { (setup : Setup) (steps : List Step) (now : WorldState)
+        (run : AllHappen (opening setup) steps now) → IsSchedule setup steps → AreAskable setup.places.items
+        → LackFew setup.first (opening setup) steps now run
         → (n : ℕ) (next : WorldState) (l m : LinkState) → Happens now (Step.ToServer n) next → now.link ≡ Some l
         → next.link ≡ Some m → AreAnswered now l m }
 {}
@@ -98,16 +99,24 @@ pub fn is_the_counted_world()
 {}
 
 /// Of two replies to each of so many places, and packets behind them, there are whole in a front of their bytes, behind
-/// the replies, as many packets as the front has whole 520 bytes behind these.
-#[tactic(auto, using(crate::proofs::CountedPackets::counted_packets))]
+/// the replies, as many packets as the front has whole 520 bytes behind these. So it is where the end is behind the
+/// packets, which is whole where all bytes are there.
 pub fn counts_whole_packets()
     ensures whole { (places delivered : ℕ) (packets : List Item) → ArePackets packets → 8 * places ≤ delivered
         → wholes delivered (replicate (2 * places) Accepted ++ packets)
         ≡ replicate (2 * places) Accepted ++ take ((delivered - 8 * places) / 520) packets }
+    ensures ending { (places delivered : ℕ) (packets : List Item) → ArePackets packets → 8 * places ≤ delivered
+        → delivered < 8 * places + 520 * length packets + 3
+        → wholes delivered (replicate (2 * places) Accepted ++ (packets ++ Finished ∷ []))
+        ≡ replicate (2 * places) Accepted ++ take ((delivered - 8 * places) / 520) packets }
+    ensures ended { (places delivered : ℕ) (packets : List Item) → ArePackets packets
+        → 8 * places + 520 * length packets + 3 ≤ delivered
+        → wholes delivered (replicate (2 * places) Accepted ++ (packets ++ Finished ∷ []))
+        ≡ replicate (2 * places) Accepted ++ (packets ++ Finished ∷ []) }
 {}
 
 /// After any steps of a schedule, while a client awaits packets, what its link was sent are two replies to each place,
-/// which have come to it, and behind them packets of whole records, and the end.
+/// which have come to it, behind them packets of whole records, and behind the last of these the end, once or not yet.
 #[tactic(auto, using(crate::proofs::CountedWorld::counted_streamed))]
 pub fn streams_behind_the_replies()
     ensures streams { (setup : Setup) (steps : List Step) (now : WorldState) → AllHappen (opening setup) steps now
