@@ -1,5 +1,5 @@
 -- The first packet of a place on its way is that of the record behind the last one held.
-use Rattle.std.proofs.Common.{◌≡◌, ◌≢◌, ℕ, ◌+◌, ◌-◌, ◌%◌, ◌^◌, ◌<◌, ◌≤◌, ◌⊎◌, inl, inr, refl, sym, ap, subst, ◌∙◌, arith, List, [], ◌∷◌, ◌++◌, length, length-append, append_assoc, get_or, drop, Option, Some, None, slice_get}
+use Rattle.std.proofs.Common.{◌≡◌, ℕ, ◌+◌, ◌-◌, ◌%◌, ◌^◌, ◌<◌, inl, inr, refl, sym, ap, subst, ◌∙◌, arith, List, [], ◌∷◌, ◌++◌, length, length-append, append_assoc, get_or, drop, Option, Some, None, slice_get}
 use Rattle.std.proofs.lemmas.Bool.{cases_lt}
 use Rattle.slink_wire.specs.Packet.{IsPacket, packet_bytes}
 use Rattle.slink_wire.specs.Place.{Bears, Fields, IsField}
@@ -13,14 +13,13 @@ use Rattle.slink_feed.specs.Listening.{IsLinked}
 use Rattle.slink_feed.specs.Session.{grant_at}
 use Rattle.slink_feed.specs.Spared.{AreAskable}
 use Rattle.slink_feed.specs.Stretch.{IsSchedule, LackFew, LacksFew}
-use Rattle.slink_feed.specs.Ties.{AreNext, AreOfPlaces, AreWhole, Holds, IsLinkTied, IsNear, IsOnWay, Item, Accepted, Refused, Greeted, Carried, Finished, LinkTies, Places, WorldTies, carried_of, of_place, way_bytes}
+use Rattle.slink_feed.specs.Ties.{AreNext, AreWhole, Holds, IsLinkTied, IsOnWay, Item, Accepted, Refused, Greeted, Carried, Finished, LinkTies, Places, WorldTies, carried_of, of_place, way_bytes}
 use Rattle.slink_feed.specs.World.{AllHappen, Differ, LinkState, WorldState, number_at, opening}
 use Rattle.slink_feed.proofs.Following.{get_within, near_alike}
-use Rattle.slink_feed.proofs.Items.{carried_here, carried_there, one_value, same_or_not, within_is}
+use Rattle.slink_feed.proofs.Items.{carried_here, carried_there, same_or_not, within_is}
 use Rattle.slink_feed.proofs.Linked.{any}
-use Rattle.slink_feed.proofs.OneReading.{cancel}
 use Rattle.slink_feed.proofs.Outcomes.{no_byte, one_byte, packet_length, same_cut}
-use Rattle.slink_feed.proofs.Shaking.{AreBorne, AreFrom, IsBorne, IsSuited, LinkTalks}
+use Rattle.slink_feed.proofs.Shaking.{AreBorne, IsBorne, IsSuited, LinkTalks}
 use Rattle.slink_feed.proofs.Sparing.{IsTalking, WorldTalks, talks_after}
 use Rattle.slink_feed.proofs.Taken.{one_place}
 use Rattle.slink_feed.proofs.Worlds.{last_lacks, ties_after}

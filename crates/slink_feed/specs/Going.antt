@@ -1,6 +1,5 @@
 -- Which packet of a place comes next on a link.
 use Rattle.std.specs.Prelude.{◌≡◌, ℕ, ◌+◌, ◌<◌, List, [], ◌∷◌, ◌++◌, length, Some, slice_index_or}
-use Rattle.slink_wire.specs.Place.{Fields}
 use Rattle.slink_feed.specs.Ties.{Item, Places, of_place, way_bytes}
 use Rattle.slink_feed.specs.World.{LinkState, WorldState, number_at}
 
