@@ -117,6 +117,8 @@ impl Session {
             → (result.0 ≡ length bytes.now) × (result.1 ≡ Reply.Nothing) × (self.new ≡ self.old) }
         ensures bound { result.0 ≤ length bytes.now }
         ensures fits { Fits feed.now self.new.state }
+        // What a turn requires of a session stays true.
+        ensures stands { Stands self.old → Stands self.new }
     {
         match self.phase {
             Phase::Closed => (bytes.len(), Reply::Nothing),
@@ -136,6 +138,7 @@ impl Session {
         ensures sent { sent feed.now self.old.state k ≡ (self.new.state, result) }
         ensures held { self.new.held ≡ self.old.held }
         ensures fits { Fits feed.now self.new.state }
+        ensures stands { Stands self.old → Stands self.new }
         // The ring of a packet keeps at most 1,000,000 records.
         ensures few { (bytes : List ℕ) → result ≡ Sent.Packet bytes
             → ForSome (slice_get feed.now k) (λ w. length w.records ≤ 1000000) }

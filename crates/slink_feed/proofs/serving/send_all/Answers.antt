@@ -10,7 +10,6 @@ use Rattle.slink_feed.specs.Window.{Window}
 use Rattle.slink_feed.specs.World.{sent_bytes}
 use Rattle.slink_feed.proofs.Dues.{Moves, due, moved}
 use Rattle.slink_feed.proofs.Sendoffs.{SentSoFar, few_said, has_sent, less_left, not_sent, passed_on, nothing_sent, one_sent}
-use Rattle.slink_feed.proofs.Stands.{sent_stands}
 use Rattle.slink_feed.proofs.serving.send_all.Goals as goal
 
 pub loop-waits-init : goal.loop-waits-init
@@ -34,10 +33,6 @@ returns-in_err-said-clause-fault g c =
     let fails : IsSendFault c.in_err-said.field-0.0 c.args.feed.now old new =
     not_sent c.args.feed.now old now new c.loop-waits.k c.loop-waits.waits c.loop-waits.said c.loop-waits.invariant.so_far (c.packet-sent.new.self.state, c.packet-sent.result) c.packet-sent.ensures.sent refl c.packet-sent.ensures.held c.in_err-said.field-0.0 cut in
     passed_on c.from_residual.result c.in_err-said.field-0.0 (λ fault. IsSendFault fault c.args.feed.now old new) (err_from_is_err_and c.from_residual.result c.from_residual.ensures.1) fails
-
-pub returns-in_err-said-clause-stands : goal.returns-in_err-said-clause-stands
-returns-in_err-said-clause-stands g c =
-    sent_stands c.args.feed.now c.loop-waits.session c.packet-sent.new.self c.loop-waits.k c.packet-sent.result c.loop-waits.invariant.stands c.packet-sent.ensures.sent c.packet-sent.ensures.held
 
 pub loop-waits-smaller : goal.loop-waits-smaller
 loop-waits-smaller g c =
@@ -73,7 +68,7 @@ loop-waits-preserved g c =
       so_far = subst (λ (k : ℕ). SentSoFar c.args.feed.now old new k c.count_waits-waits.result c.in_ok-said.said) (sym c.next_place-k.ensures)
           (subst (λ (n : ℕ). SentSoFar c.args.feed.now old new (place_behind c.args.feed.now c.loop-waits.k) n c.in_ok-said.said) (sym c.count_waits-waits.ensures) so_far);
       fits = c.packet-sent.ensures.fits;
-      stands = sent_stands c.args.feed.now c.loop-waits.session c.packet-sent.new.self c.loop-waits.k c.packet-sent.result c.loop-waits.invariant.stands c.packet-sent.ensures.sent c.packet-sent.ensures.held;
+      stands = c.packet-sent.ensures.stands c.loop-waits.invariant.stands;
       beside = c.say.ensures.beside ∙ c.loop-waits.invariant.beside;
     }
 

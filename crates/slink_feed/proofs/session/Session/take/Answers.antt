@@ -1,8 +1,9 @@
-use Rattle.std.proofs.Common.{ap, subst, sym, take, ◌++◌}
+use Rattle.std.proofs.Common.{◌≡◌, ◌∙◌, ◌++◌, ℕ, List, ap, subst, sym, take}
 use Rattle.slink_wire.specs.Lines.{Held, IsHeld}
 use Rattle.slink_feed.specs.Serving.{Standing}
 use Rattle.slink_feed.specs.Session.{at}
 use Rattle.slink_feed.proofs.Answered.{answer_told}
+use Rattle.slink_feed.proofs.Stands.{still_stands}
 use Rattle.slink_feed.proofs.session.Session.take.Goals as goal
 
 pub returns-in_default-clause-answers : goal.returns-in_default-clause-answers
@@ -18,3 +19,13 @@ returns-in_default-clause-whole g c stream runs held =
       c.take-used.ensures.told stream (subst (λ (h : Held). IsHeld h stream) (sym same) held),
       c.take-used.ensures.whole,
     )
+
+pub returns-in_default-clause-stands : goal.returns-in_default-clause-stands
+returns-in_default-clause-stands g c stands =
+    let same : c.self.inside.lines ≡ c.args.self.now.held = ap (λ (s : Standing). s.held) c.self.view_is in
+    let piece : List ℕ = take c.take-used.result.used c.args.bytes.now in
+    still_stands c.args.feed.now c.args.self.now c.answer_to.new.self piece c.answer_to.result stands (record {
+      held = λ stream runs held. subst (λ (h : Held). IsHeld h (stream ++ piece)) (sym c.answer_to.ensures.held) (c.take-used.ensures.held stream (subst (λ (h : Held). IsHeld h stream) (sym same) held));
+      answers = returns-in_default-clause-answers g c;
+      closed = λ shut. absurd (c.in_default.not-Closed (ap (λ (s : Standing). s.state.phase) c.self.view_is ∙ shut));
+    })
