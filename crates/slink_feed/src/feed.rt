@@ -83,6 +83,18 @@ impl<A: Allocator> Feed<A> {
         Ok(())
     }
 
+    /// Takes the ring of a place that has none yet, where there are fewer than sixteen.
+    pub fn add_other(&mut self, ring: Ring<A>)
+        requires room { length self.old < 16 }
+        requires differs { ¬ (HasPlace self.old ring.place) }
+        ensures { self.new ≡ self.old ++ ring ∷ [] }
+    {
+        match self.add(ring) {
+            Ok(()) => {}
+            Err(FeedFault::Full(_) | FeedFault::Double(_)) => unreachable!(),
+        }
+    }
+
     /// How many rings there are.
     pub fn len(&self) -> usize
         ensures value { result ≡ length self.now }

@@ -1,5 +1,5 @@
 //! Schedules: pushes, deliveries, cuts and reconnections in any order.
-ghost use Rattle.std.specs.Prelude.{◌≡◌, ◌^◌, ◌<◌, ◌≤◌, ◌++◌, ℕ, [], ◌∷◌, All, IfOk, None, Some, length, map};
+ghost use Rattle.std.specs.Prelude.{◌≡◌, ◌^◌, ◌<◌, ◌≤◌, ℕ, [], All, IfOk, None, Some, length, map};
 ghost use Rattle.slink_wire.specs.Place.{IsField};
 ghost use Rattle.slink_feed.specs.Calling.{AreAnswered};
 ghost use Rattle.slink_feed.specs.Counted.{IsCounted, counted_after, counted_opening};
@@ -7,7 +7,6 @@ ghost use Rattle.slink_feed.specs.Dialogue.{AreNumbers};
 ghost use Rattle.slink_feed.specs.Fault.{IsCapacity};
 ghost use Rattle.slink_feed.specs.Going.{GoesOn};
 ghost use Rattle.slink_feed.specs.Listening.{IsLinked};
-ghost use Rattle.slink_feed.specs.Rings.{HasPlace};
 ghost use Rattle.slink_feed.specs.Running.{IsRunning};
 ghost use Rattle.slink_feed.specs.Spared.{HaveCodes, IsSpared};
 ghost use Rattle.slink_feed.specs.Stretch.{HoldsStretches, IsCarried, LackFew, Resumes};
@@ -15,7 +14,7 @@ ghost use Rattle.slink_feed.specs.World.{AllHappen, Differ, Happens, IsOf, LinkS
 ghost use Rattle.slink_feed.specs.World.{lists_of, opening, seen};
 
 use crate::client::Client;
-use crate::feed::{Feed, FeedFault};
+use crate::feed::Feed;
 use crate::ring::Ring;
 use crate::world::{Memory, Setup, Step, World};
 use slink_wire::Place;
@@ -38,18 +37,6 @@ fn have_codes(setup: &Setup)
     }
 }
 
-/// Adds the ring of another place.
-fn add(feed: &mut Feed, ring: Ring)
-    requires room { length feed.old < 16 }
-    requires differs { ¬ (HasPlace feed.old ring.place) }
-    ensures { feed.new ≡ feed.old ++ ring ∷ [] }
-{
-    match feed.add(ring) {
-        Ok(()) => {}
-        Err(FeedFault::Full(_) | FeedFault::Double(_)) => unreachable!(),
-    }
-}
-
 /// The empty rings of the places.
 fn feed_of(alloc: Global, setup: &Setup) -> Result<Feed, Memory>
     requires capacity { IsCapacity setup.now.capacity }
@@ -63,7 +50,7 @@ fn feed_of(alloc: Global, setup: &Setup) -> Result<Feed, Memory>
         let Ok(ring) = Ring::new(alloc, *place, setup.capacity, setup.first) else {
             return Err(Memory);
         };
-        add(&mut feed, ring);
+        feed.add_other(ring);
     }
     Ok(feed)
 }
