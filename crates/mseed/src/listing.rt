@@ -9,7 +9,11 @@ use mseed_record::RecordView;
 use mseed_time::{NoRate, Order, TimeFault, show_time};
 use std::alloc::{AllocError, Allocator};
 
-/// Adds a record's line. Where memory is refused, a part of it may have been added.
+/// Adds a record's line.
+///
+/// # Errors
+///
+/// `AllocError` where a growth was refused. A part of it may have been added then.
 pub fn push_record_line<A: Allocator>(
     text: &mut Vec<u8, A>,
     offset: u64,
@@ -23,7 +27,11 @@ pub fn push_record_line<A: Allocator>(
     push_payload(text, view)
 }
 
-/// Adds the line that counts the records. Where memory is refused, a part of it may have been added.
+/// Adds the line that counts the records.
+///
+/// # Errors
+///
+/// `AllocError` where a growth was refused. A part of it may have been added then.
 pub fn push_count_line<A: Allocator>(text: &mut Vec<u8, A>, records: u64) -> Result<(), AllocError>
     ensures { OnOk result (text.new.items ≡ text.old.items ++ count_line records) }
 {

@@ -13,7 +13,11 @@ use mseed_pack::PackFault;
 use mseed_record::Codes;
 use std::alloc::{AllocError, Allocator};
 
-/// Adds the line of a fault. Where memory is refused, a part of it may have been added.
+/// Adds the line of a fault.
+///
+/// # Errors
+///
+/// `AllocError` where a growth was refused. A part of it may have been added then.
 pub fn push_refusal<A: Allocator>(
     line: &mut Vec<u8, A>,
     fault: &RepackFault,
@@ -95,7 +99,11 @@ fn misfit_number(fault: &PackFault) -> u64
     }
 }
 
-/// Adds the line of a feed that wasn't filled. Where memory is refused, a part of it may have been added.
+/// Adds the line of a feed that wasn't filled.
+///
+/// # Errors
+///
+/// `AllocError` where a growth was refused. A part of it may have been added then.
 pub fn push_fill_refusal<A: Allocator>(
     line: &mut Vec<u8, A>,
     fault: &FillFault,

@@ -44,6 +44,10 @@ impl<'a> Trails<'a> {
 }
 
 /// So many places, each the same.
+///
+/// # Errors
+///
+/// `AllocError` where there is no memory for them.
 pub(crate) fn places<A: Allocator + Copy>(
     alloc: A,
     place: usize,
