@@ -278,9 +278,9 @@ fn fit_channel(
     fit_read(views, trail, channel, options, samples, steps)
 }
 
-/// Whether it is known of a channel before its samples are read that it can be packed: the encoding holds them
-/// whatever they are, and their instants can be written. Other samples are asked about in their place, as many, of
-/// which integers of 32 bits hold each.
+/// Whether it is known of a channel before its samples are read that it can be packed: the encoding holds them, and
+/// their instants can be written. The instants are asked of a series of as many other samples, whatever they are, in
+/// integers of 32 bits, which hold every sample.
 fn fits_unread(
     views: &[RecordView],
     trail: Trail,
