@@ -1,5 +1,5 @@
 -- What the words of the two commands of a feed ask for.
-use Rattle.std.specs.Prelude.{ℕ, Bool, true, false, ◌≤◌, ◌<◌, ◌^◌, ◌==◌, ◌&&◌, nat_le, nat_lt, List, [], ◌∷◌, length, map, if◌then◌else◌}
+use Rattle.std.specs.Prelude.{ℕ, Bool, ◌≤◌, ◌<◌, ◌^◌, ◌==◌, ◌&&◌, nat_le, nat_lt, List, [], ◌∷◌, length, map, if◌then◌else◌}
 use Rattle.std.specs.Prelude.{Option, Some, None, option_and_then, option_map, codes}
 use Rattle.std.specs.Char.{is_ascii_alphanumeric}
 use Rattle.std.specs.List.{after_first, before_first, list_all, position_or_len}
@@ -9,6 +9,8 @@ use Rattle.slink_feed.specs.Fault.{IsCapacity}
 use Rattle.mseed.specs.Found.{further_in, has_only}
 use Rattle.mseed.specs.Numbers.{counted_in, hexadecimal_in, number_in}
 use Rattle.mseed.specs.Places.{ArePlaces, Asked, places_of}
+use Rattle.mseed.specs.declared.feed_words.Naming.{Naming}
+use Rattle.mseed.specs.declared.feed_words.Naming.TheVariants.{Plain, Numbered}
 use Rattle.mseed.specs.declared.request.Serving.{Serving}
 use Rattle.mseed.specs.declared.request.Fetching.{Fetching}
 
@@ -41,16 +43,20 @@ abbrev pub behind_colon : Text → Option Text
 behind_colon word =
     if nat_lt (position_or_len (λ c. c == 58) word) (length word) then Some (after_first (λ c. c == 58) word) else None
 
--- a further place: `NET_STA`, or, where places have numbers, `NET_STA:HEX` as well
-abbrev pub asked_in : Bool → Text → Option Asked
-asked_in false word = asked_with (place_in word) None
-asked_in true word = asked_with (place_in (before_first (λ c. c == 58) word)) (behind_colon word)
+-- `NET_STA`, or `NET_STA:HEX`
+abbrev pub numbered_in : Text → Option Asked
+numbered_in word = asked_with (place_in (before_first (λ c. c == 58) word)) (behind_colon word)
+
+-- a further place: `NET_STA`, or, where it can have a number, `NET_STA:HEX` as well
+abbrev pub asked_in : Naming → Text → Option Asked
+asked_in Plain word = asked_with (place_in word) None
+asked_in Numbered word = numbered_in word
 
 -- the place of `--station` and `--network`, and the further ones
-abbrev pub places_in : Bool → Option Text → List Row → Option (List Asked)
-places_in numbered from rows =
+abbrev pub places_in : Naming → Option Text → List Row → Option (List Asked)
+places_in naming from rows =
     places_of (asked_with (place_named (first_of (codes "station") rows) (first_of (codes "network") rows)) from
-    ∷ map (asked_in numbered) (further_in rows))
+    ∷ map (asked_in naming) (further_in rows))
 
 -- a port
 abbrev pub port_in : Option Text → Option ℕ
@@ -100,7 +106,7 @@ abbrev pub serving_of : List Row → Option Serving
 serving_of rows =
     if has_only serve_names rows
     then serving_with (port_in (first_of (codes "port") rows)) (count_in (first_of (codes "connections") rows))
-    (capacity_in (first_of (codes "capacity") rows)) (first_in (first_of (codes "first") rows)) (places_in false None rows)
+    (capacity_in (first_of (codes "capacity") rows)) (first_in (first_of (codes "first") rows)) (places_in Plain None rows)
     else None
 
 -- a feed to be fetched: `--from` is the number of the first place
@@ -108,7 +114,7 @@ abbrev pub fetching_of : List Row → Option Fetching
 fetching_of rows =
     if has_only fetch_names rows
     then fetching_with (port_in (first_of (codes "port") rows)) (count_in (first_of (codes "tries") rows))
-    (places_in true (first_of (codes "from") rows) rows)
+    (places_in Numbered (first_of (codes "from") rows) rows)
     else None
 
 -- a port that there is

@@ -5,7 +5,7 @@ ghost use Rattle.clap.specs.Matches.{found_of};
 ghost use Rattle.clap.specs.Walk.{rows_of};
 ghost use Rattle.mseed.specs.Places.{ArePlaces, places_of};
 ghost use Rattle.mseed.specs.FeedWords.{CanFetch, CanServe, IsCount, IsPort, asked_in, asked_with, capacity_by};
-ghost use Rattle.mseed.specs.FeedWords.{capacity_in, count_in, fetching_of, fetching_with, first_in};
+ghost use Rattle.mseed.specs.FeedWords.{capacity_in, count_in, fetching_of, fetching_with, first_in, numbered_in};
 ghost use Rattle.mseed.specs.FeedWords.{place_by, place_in, place_named, places_in, port_in, serving_of, serving_with};
 
 use crate::found::{has_only, text_of};
@@ -14,6 +14,15 @@ use crate::places::Places;
 use crate::request::{Fetching, Serving};
 use clap::ArgMatches;
 use slink_wire::Place;
+
+/// How further places are named.
+#[derive(Clone, Copy)]
+pub(crate) enum Naming {
+    /// `NET_STA`: by the codes of a network and a station.
+    Plain,
+    /// So, or `NET_STA:HEX`, with the number of the record that is wanted first.
+    Numbered,
+}
 
 /// What serving is asked for, by its options and places.
 pub(crate) fn serving_of(matches: &ArgMatches<'_>) -> Option<Serving>
@@ -40,7 +49,7 @@ pub(crate) fn serving_of(matches: &ArgMatches<'_>) -> Option<Serving>
         count_in(text_of(matches, "connections")),
         capacity_in(text_of(matches, "capacity")),
         first_in(text_of(matches, "first")),
-        places_in(false, None, matches),
+        places_in(Naming::Plain, None, matches),
     )
 }
 
@@ -90,7 +99,7 @@ pub(crate) fn fetching_of(matches: &ArgMatches<'_>) -> Option<Fetching>
     fetching_with(
         port_in(text_of(matches, "port")),
         count_in(text_of(matches, "tries")),
-        places_in(true, text_of(matches, "from"), matches),
+        places_in(Naming::Numbered, text_of(matches, "from"), matches),
     )
 }
 
@@ -168,30 +177,29 @@ fn first_in(text: Option<&str>) -> Option<u32>
     }
 }
 
-/// The place of the two options, with the number that is said of it, and the further ones. Where places are
-/// `numbered`, each of these may have a number too.
-fn places_in(numbered: bool, from: Option<&str>, matches: &ArgMatches<'_>) -> Option<Places>
+/// The place of the two options, with the number that is said of it, and the further ones.
+fn places_in(naming: Naming, from: Option<&str>, matches: &ArgMatches<'_>) -> Option<Places>
     ensures value { result
-        ≡ places_in numbered (option_map (λ t. t.now) from.entry) (rows_of (found_of matches.now)) }
+        ≡ places_in naming (option_map (λ t. t.now) from.entry) (rows_of (found_of matches.now)) }
     ensures range { IfSome result ArePlaces }
 {
     let place = place_named(text_of(matches, "station"), text_of(matches, "network"));
     let first = asked_with(place, from);
     match matches.get_raw("place") {
-        Some(words) => gather(numbered, first, words),
-        None => gather(numbered, first, &[]),
+        Some(words) => gather(naming, first, words),
+        None => gather(naming, first, &[]),
     }
 }
 
 /// The first place and the further ones, unless one of them is bad or doubled, or they are more than sixteen.
-fn gather(numbered: bool, first: Option<(Place, Option<u32>)>, words: &[&str]) -> Option<Places>
+fn gather(naming: Naming, first: Option<(Place, Option<u32>)>, words: &[&str]) -> Option<Places>
     requires { IfSome first (λ p. IfSome p.1 (λ n. n < 2 ^ 24)) }
-    ensures value { result ≡ places_of (first ∷ map (asked_in numbered) (map (λ w. w.now) words.now)) }
+    ensures value { result ≡ places_of (first ∷ map (asked_in naming) (map (λ w. w.now) words.now)) }
     ensures range { IfSome result ArePlaces }
 {
     let mut places = Places::of(first?);
     for word in words {
-        let place = asked_in(numbered, word)?;
+        let place = asked_in(naming, word)?;
         if places.len() == 16 || places.has(place.0) {
             return None;
         }
@@ -200,14 +208,22 @@ fn gather(numbered: bool, first: Option<(Place, Option<u32>)>, words: &[&str]) -
     Some(places)
 }
 
-/// A further place: `NET_STA`, or, where places are `numbered`, `NET_STA:HEX` as well.
-fn asked_in(numbered: bool, word: &str) -> Option<(Place, Option<u32>)>
-    ensures value { result ≡ asked_in numbered word.now }
+/// The further place that a word names.
+fn asked_in(naming: Naming, word: &str) -> Option<(Place, Option<u32>)>
+    ensures value { result ≡ asked_in naming word.now }
     ensures range { IfSome result (λ p. IfSome p.1 (λ n. n < 2 ^ 24)) }
 {
-    if !numbered {
-        return asked_with(place_in(word), None);
+    match naming {
+        Naming::Plain => asked_with(place_in(word), None),
+        Naming::Numbered => numbered_in(word),
     }
+}
+
+/// The place that a word names, with the number behind its first colon, if there is one.
+fn numbered_in(word: &str) -> Option<(Place, Option<u32>)>
+    ensures value { result ≡ numbered_in word.now }
+    ensures range { IfSome result (λ p. IfSome p.1 (λ n. n < 2 ^ 24)) }
+{
     match word.split_once(':') {
         None => asked_with(place_in(word), None),
         Some((place, digits)) => asked_with(place_in(place), Some(digits)),

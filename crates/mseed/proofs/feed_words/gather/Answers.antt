@@ -1,4 +1,4 @@
-use Rattle.std.proofs.Common.{◌≡◌, ℕ, Bool, false, ◌+◌, ◌≤◌, ◌<◌, ◌^◌, ◌∷◌, [], ◌++◌, Some, Option, List, map, drop, get_or, length, ap, sym, subst, ◌∙◌, arith, IfSome, length-append}
+use Rattle.std.proofs.Common.{◌≡◌, ℕ, false, ◌+◌, ◌≤◌, ◌<◌, ◌^◌, ◌∷◌, [], ◌++◌, Some, Option, List, map, drop, get_or, length, ap, sym, subst, ◌∙◌, arith, IfSome, length-append}
 use Rattle.std.specs.Borrow.{Bor}
 use Rattle.std.proofs.lemmas.List.{drop_all, drop_more}
 use Rattle.std.proofs.lemmas.List.Elements.{All-push}
@@ -6,24 +6,25 @@ use Rattle.clap.specs.Walk.{Text}
 use Rattle.slink_feed.specs.Dialogue.{AreNumbers}
 use Rattle.mseed.specs.FeedWords.{asked_in}
 use Rattle.mseed.specs.Places.{Asked, are_different, has_place}
+use Rattle.mseed.specs.declared.feed_words.Naming.{Naming}
 use Rattle.mseed.proofs.Different.{all_taken, different_more, doubled, one_more, too_many, with_rest}
 use Rattle.mseed.proofs.feed_words.gather.Goals as goal
 use Rattle.mseed.proofs.feed_words.gather.Goals.{then-len-eq16-via-then-len-eq16, then-len-eq16-via-else-len-eq16+then-has}
 
 -- what the words ask for
-abbrev asked_of : Bool → List (Bor Text) → List (Option Asked)
-asked_of numbered words = map (asked_in numbered) (map (λ (w : Bor Text). w.now) words)
+abbrev asked_of : Naming → List (Bor Text) → List (Option Asked)
+asked_of naming words = map (asked_in naming) (map (λ (w : Bor Text). w.now) words)
 
 -- the next word, and the others
-next : (numbered : Bool) (words : List (Bor Text)) (i : ℕ) (d : Bor Text) (p : Asked) → i < length words → Some p ≡ asked_in numbered (get_or words i d).now
-    → asked_of numbered (drop i words) ≡ Some p ∷ asked_of numbered (drop (i + 1) words)
-next numbered words i d p lt is =
-    ap (asked_of numbered) (drop_more words i d lt) ∙ ap (λ (o : Option Asked). o ∷ asked_of numbered (drop (i + 1) words)) (sym is)
+next : (naming : Naming) (words : List (Bor Text)) (i : ℕ) (d : Bor Text) (p : Asked) → i < length words → Some p ≡ asked_in naming (get_or words i d).now
+    → asked_of naming (drop i words) ≡ Some p ∷ asked_of naming (drop (i + 1) words)
+next naming words i d p lt is =
+    ap (asked_of naming) (drop_more words i d lt) ∙ ap (λ (o : Option Asked). o ∷ asked_of naming (drop (i + 1) words)) (sym is)
 
 pub returns-then-len-eq16-clause-value : goal.returns-then-len-eq16-clause-value
 returns-then-len-eq16-clause-value c =
-    let left = asked_of c.args.numbered (drop (c.loop-word.word-index + 1) c.args.words.now) in
-    let before = ap (with_rest c.loop-word.places) (sym (next c.args.numbered c.args.words.now c.loop-word.word-index _ c.in_ok-place.place c.loop-word-test.true c.in_ok-place.ensures.value)) ∙ c.loop-word.invariant.0 in
+    let left = asked_of c.args.naming (drop (c.loop-word.word-index + 1) c.args.words.now) in
+    let before = ap (with_rest c.loop-word.places) (sym (next c.args.naming c.args.words.now c.loop-word.word-index _ c.in_ok-place.place c.loop-word-test.true c.in_ok-place.ensures.value)) ∙ c.loop-word.invariant.0 in
     elim c.then-len-eq16.branch [
       | then-len-eq16-via-then-len-eq16 w ↦ sym (too_many c.loop-word.places c.in_ok-place.place left (sym c.len.ensures.value ∙ w.if-len-eq16.true)) ∙ before
       | then-len-eq16-via-else-len-eq16+then-has w ↦ sym (doubled c.loop-word.places c.in_ok-place.place left (sym w.has.ensures ∙ w.if-has.true)) ∙ before
@@ -33,8 +34,8 @@ pub loop-word-preserved : goal.loop-word-preserved
 loop-word-preserved c =
     let places : List Asked = c.loop-word.places in
     let p : Asked = c.in_ok-place.place in
-    let left : List (Option Asked) = asked_of c.args.numbered (drop (c.loop-word.word-index + 1) c.args.words.now) in
-    let before = ap (with_rest places) (sym (next c.args.numbered c.args.words.now c.loop-word.word-index _ p c.loop-word-test.true c.in_ok-place.ensures.value)) ∙ c.loop-word.invariant.0 in
+    let left : List (Option Asked) = asked_of c.args.naming (drop (c.loop-word.word-index + 1) c.args.words.now) in
+    let before = ap (with_rest places) (sym (next c.args.naming c.args.words.now c.loop-word.word-index _ p c.loop-word-test.true c.in_ok-place.ensures.value)) ∙ c.loop-word.invariant.0 in
     let lacks : has_place p.0 places ≡ false = sym c.has.ensures ∙ c.if-has.false in
     let count : length (places ++ p ∷ []) ≡ length places + 1 = length-append places (p ∷ []) in
     let size : length c.push.new.self ≡ length (places ++ p ∷ []) = ap length c.push.ensures in (
@@ -45,12 +46,12 @@ loop-word-preserved c =
       omega (arith, count, size, c.len.ensures.value, c.len.ensures.most, c.if-len-eq16.false),
     )
 
-ends : (numbered : Bool) (words : List (Bor Text)) (i : ℕ) → length words ≤ i → asked_of numbered (drop i words) ≡ []
-ends numbered words i le = ap (asked_of numbered) (drop_all i words le)
+ends : (naming : Naming) (words : List (Bor Text)) (i : ℕ) → length words ≤ i → asked_of naming (drop i words) ≡ []
+ends naming words i le = ap (asked_of naming) (drop_all i words le)
 
 pub returns-clause-value : goal.returns-clause-value
 returns-clause-value c =
-    let none = ends c.args.numbered c.args.words.now c.loop-word.word-index c.loop-word-test.false in
+    let none = ends c.args.naming c.args.words.now c.loop-word.word-index c.loop-word-test.false in
     sym (all_taken c.loop-word.places c.loop-word.invariant.4 c.loop-word.invariant.1) ∙ (ap (with_rest c.loop-word.places) (sym none) ∙ c.loop-word.invariant.0)
 
 pub returns-clause-range : goal.returns-clause-range

@@ -1,4 +1,4 @@
-use Rattle.std.proofs.Common.{◌≡◌, ◌∷◌, [], Bool, List, Option, ap, codes, map, unwrap_or, ◌∙◌}
+use Rattle.std.proofs.Common.{◌≡◌, ◌∷◌, [], List, Option, ap, codes, map, unwrap_or, ◌∙◌}
 use Rattle.clap.proofs.WalkLemmas.{raw_values-rows}
 use Rattle.clap.specs.Matches.{found_of}
 use Rattle.clap.specs.Walk.{Row, Text, first_of, rows_of}
@@ -6,6 +6,7 @@ use Rattle.slink_wire.specs.Place.{Fields}
 use Rattle.mseed.specs.FeedWords.{asked_in, asked_with, place_named, places_in}
 use Rattle.mseed.specs.Found.{further_in}
 use Rattle.mseed.specs.Places.{Asked, places_of}
+use Rattle.mseed.specs.declared.feed_words.Naming.{Naming}
 use Rattle.mseed.proofs.feed_words.places_in.Goals as goal
 
 -- the place of the two options, with what is said of its number
@@ -15,23 +16,23 @@ first_is : (sta net from : Option Text) (rows : List Row) (place : Option Fields
 first_is sta net from rows place first s n p f = f ∙ ap (λ (q : Option Fields). asked_with q from) (p ∙ (ap (λ (t : Option Text). place_named t net) s ∙ ap (λ (t : Option Text). place_named (first_of (codes "station") rows) t) n))
 
 -- all places
-all_are : (numbered : Bool) (from : Option Text) (rows : List Row) (first : Option Asked) (further : List Text)
+all_are : (naming : Naming) (from : Option Text) (rows : List Row) (first : Option Asked) (further : List Text)
     → first ≡ asked_with (place_named (first_of (codes "station") rows) (first_of (codes "network") rows)) from → further ≡ further_in rows
-    → places_of (first ∷ map (asked_in numbered) further) ≡ places_in numbered from rows
-all_are numbered from rows first further f w =
-    ap (λ (p : Option Asked). places_of (p ∷ map (asked_in numbered) further)) f
-    ∙ ap (λ (ws : List Text). places_of (asked_with (place_named (first_of (codes "station") rows) (first_of (codes "network") rows)) from ∷ map (asked_in numbered) ws)) w
+    → places_of (first ∷ map (asked_in naming) further) ≡ places_in naming from rows
+all_are naming from rows first further f w =
+    ap (λ (p : Option Asked). places_of (p ∷ map (asked_in naming) further)) f
+    ∙ ap (λ (ws : List Text). places_of (asked_with (place_named (first_of (codes "station") rows) (first_of (codes "network") rows)) from ∷ map (asked_in naming) ws)) w
 
 pub returns-in-Some-clause-value : goal.returns-in-Some-clause-value
 returns-in-Some-clause-value c =
     let rows : List Row = rows_of (found_of c.args.matches.now) in
     let first = first_is _ _ _ rows c.place_named-place.result c.asked_with-first.result c.text_of.ensures c.text_of-2.ensures c.place_named-place.ensures c.asked_with-first.ensures.value in
     let further = ap (λ (o : Option (List Text)). unwrap_or o []) (c.in-Some.ensures ∙ raw_values-rows (found_of c.args.matches.now) (codes "place")) in
-    c.gather.ensures.value ∙ all_are c.args.numbered _ rows c.asked_with-first.result _ first further
+    c.gather.ensures.value ∙ all_are c.args.naming _ rows c.asked_with-first.result _ first further
 
 pub returns-in-None-clause-value : goal.returns-in-None-clause-value
 returns-in-None-clause-value c =
     let rows : List Row = rows_of (found_of c.args.matches.now) in
     let first = first_is _ _ _ rows c.place_named-place.result c.asked_with-first.result c.text_of.ensures c.text_of-2.ensures c.place_named-place.ensures c.asked_with-first.ensures.value in
     let further = ap (λ (o : Option (List Text)). unwrap_or o []) (c.in-None.ensures ∙ raw_values-rows (found_of c.args.matches.now) (codes "place")) in
-    c.gather-in-None.ensures.value ∙ all_are c.args.numbered _ rows c.asked_with-first.result _ first further
+    c.gather-in-None.ensures.value ∙ all_are c.args.naming _ rows c.asked_with-first.result _ first further
