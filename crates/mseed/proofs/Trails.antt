@@ -90,8 +90,8 @@ trail_past key rs n first nexts new r lt is of kept h = record {
   nexts_are = λ i q from less at there. ⊎_elim
       (λ (behind : n < i). subst (λ (m : ℕ). Skips key rs (i + 1) m) (sym (kept i behind)) (h.nexts_are i q (omega (arith, behind)) less at there))
       (λ (here : i ≤ n).
-      let place : i ≡ n = omega (arith, from, here) in
-      let at_n : q ≡ get_or rs n q = subst (λ (m : ℕ). q ≡ get_or rs m q) place at in
+      let index : i ≡ n = omega (arith, from, here) in
+      let at_n : q ≡ get_or rs n q = subst (λ (m : ℕ). q ≡ get_or rs m q) index at in
       let same : q ≡ r = one_record rs n q r lt at_n is in
       absurd (false≢true (sym of ∙ ap (λ (x : RecordView). is_of key (view_of x)) (sym same) ∙ there)))
       (cases_lt n i);
@@ -104,7 +104,7 @@ trail_here key rs n first nexts new lt put kept h = record {
   first_is = skips_none key rs n;
   nexts_are = λ i q from less at there. ⊎_elim
       (λ (behind : n < i). subst (λ (m : ℕ). Skips key rs (i + 1) m) (sym (kept i behind)) (h.nexts_are i q (omega (arith, behind)) less at there))
-      (λ (here : i ≤ n). let place : n ≡ i = omega (arith, from, here) in subst (λ (m : ℕ). Skips key rs (m + 1) (get_or new m 0)) place (subst (λ (m : ℕ). Skips key rs (n + 1) m) (sym put) h.first_is))
+      (λ (here : i ≤ n). let index : n ≡ i = omega (arith, from, here) in subst (λ (m : ℕ). Skips key rs (m + 1) (get_or new m 0)) index (subst (λ (m : ℕ). Skips key rs (n + 1) m) (sym put) h.first_is))
       (cases_lt n i);
 }
 

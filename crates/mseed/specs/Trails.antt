@@ -6,17 +6,17 @@ use Rattle.mseed_audit.specs.Channels.{is_of}
 use Rattle.mseed.specs.Reading.{channel_in}
 use Rattle.mseed.specs.Repack.{Channel}
 
--- of the records from one place up to another none is of the channel with this key
+-- of the records from one index up to another none is of the channel with this key
 pub record Skips (key : List ℕ) (rs : List RecordView) (from at : ℕ) : Type 0 where
   pub order : from ≤ at
   pub none : channel_in key (map view_of (take at rs)) ≡ channel_in key (map view_of (take from rs))
 
--- behind each of the channel's records from a place on, where the next one stands
+-- behind each of the channel's records from an index on, where the next one stands
 abbrev pub AreNexts : List ℕ → List RecordView → ℕ → List ℕ → Type 0
 AreNexts key rs from nexts =
     (i : ℕ) (r : RecordView) → from ≤ i → i < length rs → r ≡ slice_index_or rs i r → is_of key (view_of r) ≡ true → Skips key rs (i + 1) (slice_index_or nexts i 0)
 
--- of the channel's records from a place on, where the first one stands, and behind each the next one
+-- of the channel's records from an index on, where the first one stands, and behind each the next one
 pub record IsTrailFrom (from : ℕ) (key : List ℕ) (rs : List RecordView) (first : ℕ) (nexts : List ℕ) : Type 0 where
   pub first_is : Skips key rs from first
   pub nexts_are : AreNexts key rs from nexts

@@ -63,14 +63,14 @@ pub(crate) fn outline_channel(
         steps: 0,
         nearness: Nearness::Empty,
     };
-    let mut place = trail.first;
-    while place < views.len() {
-        let view = &views[place];
+    let mut index = trail.first;
+    while index < views.len() {
+        let view = &views[index];
         if is_of(codes, view) {
             outline = outline_record(view, outline, steps);
-            place = trail.nexts[place];
+            index = trail.nexts[index];
         } else {
-            place += 1;
+            index += 1;
         }
     }
     outline

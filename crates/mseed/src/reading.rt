@@ -47,14 +47,14 @@ pub(crate) fn read_channel(
         samples: 0,
         steps: 0,
     };
-    let mut place = trail.first;
-    while place < views.len() {
-        let view = &views[place];
+    let mut index = trail.first;
+    while index < views.len() {
+        let view = &views[index];
         if is_of(codes, view) {
             read = read_record(view, read, samples, steps);
-            place = trail.nexts[place];
+            index = trail.nexts[index];
         } else {
-            place += 1;
+            index += 1;
         }
     }
     read

@@ -24,7 +24,7 @@ ghost use Rattle.mseed.specs.declared.repack_fault.RepackFault.{RepackFault};
 use crate::outline::{is_held, outline_channel};
 use crate::reading::{count_steps, read_channel};
 use crate::repack_fault::RepackFault;
-use crate::trail::{Trail, Trails, lay_trails, places};
+use crate::trail::{Trail, Trails, indices, lay_trails};
 use mseed_audit::{Audit, Memory, Verdict, Verdicts, one_series};
 use mseed_pack::{Encoding, Options, PackFault, SeriesView, fit_view, pack_fitting};
 use mseed_record::{Codes, RecordView};
@@ -106,11 +106,11 @@ fn repack_continuous<A: Allocator + Copy, W: Sink>(
     ensures err { IfErr result (FailsToPackAnew options.now (map view_of views.now) channels.now
         (W.said output.old) (W.said output.new)) }
 {
-    let mut firsts = match places(alloc, views.len(), channels.len()) {
+    let mut firsts = match indices(alloc, views.len(), channels.len()) {
         Ok(firsts) => firsts,
         Err(_) => return Err(RepackFault::Memory),
     };
-    let mut nexts = match places(alloc, views.len(), views.len()) {
+    let mut nexts = match indices(alloc, views.len(), views.len()) {
         Ok(nexts) => nexts,
         Err(_) => return Err(RepackFault::Memory),
     };

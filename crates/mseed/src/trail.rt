@@ -43,23 +43,23 @@ impl<'a> Trails<'a> {
     }
 }
 
-/// So many places, each the same.
+/// So many indices, each the same.
 ///
 /// # Errors
 ///
 /// `AllocError` where there is no memory for them.
-pub(crate) fn places<A: Allocator + Copy>(
+pub(crate) fn indices<A: Allocator + Copy>(
     alloc: A,
-    place: usize,
+    index: usize,
     count: usize,
 ) -> Result<Vec<usize, A>, AllocError>
-    ensures count { IfOk result (λ places. length places.items ≡ count) }
-    ensures each { IfOk result (λ places. All (λ p. p ≡ place) places.items) }
+    ensures count { IfOk result (λ indices. length indices.items ≡ count) }
+    ensures each { IfOk result (λ indices. All (λ i. i ≡ index) indices.items) }
 {
-    Ok(vec![in alloc; place; count]?)
+    Ok(vec![in alloc; index; count]?)
 }
 
-/// Lays the trails of all channels, whose keys rise. In place of a record that there isn't, a trail has the number of
+/// Lays the trails of all channels, whose keys rise. For a record that there isn't, a trail has the number of
 /// records, as each first one has before.
 pub(crate) fn lay_trails(
     views: &[RecordView],
@@ -74,33 +74,33 @@ pub(crate) fn lay_trails(
     ensures trails { AreTrails views.now channels.now firsts.new nexts.new }
 {
     for turn in 0..views.len() {
-        let place = views.len() - 1 - turn;
-        lead_to(&views[place], place, channels, firsts, nexts);
+        let index = views.len() - 1 - turn;
+        lead_to(&views[index], index, channels, firsts, nexts);
     }
 }
 
 /// Puts a record in front of those of its channel.
 fn lead_to(
     view: &RecordView,
-    place: usize,
+    index: usize,
     channels: &[(Codes, Verdict)],
     firsts: &mut [usize],
     nexts: &mut [usize],
 )
     requires ascending { IsStrictlySortedBy (slice_cmp nat_cmp) (keys_of channels.now) }
     requires firsts { length firsts.old ≡ length channels.now }
-    requires inside { place < length nexts.old }
-    ensures trails { (rs : List RecordView) → place < length rs → view.now ≡ slice_index_or rs place view.now
-        → AreTrailsFrom (place + 1) rs channels.now firsts.old nexts.old
-        → AreTrailsFrom place rs channels.now firsts.new nexts.new }
+    requires inside { index < length nexts.old }
+    ensures trails { (rs : List RecordView) → index < length rs → view.now ≡ slice_index_or rs index view.now
+        → AreTrailsFrom (index + 1) rs channels.now firsts.old nexts.old
+        → AreTrailsFrom index rs channels.now firsts.new nexts.new }
 {
     if view.samples() == 0 {
         return;
     }
     match find_channel(channels, &view.codes()) {
         Some(number) => {
-            nexts[place] = firsts[number];
-            firsts[number] = place;
+            nexts[index] = firsts[number];
+            firsts[number] = index;
         }
         None => {}
     }

@@ -14,15 +14,15 @@ pub loop-turn-preserved : goal.loop-turn-preserved
 loop-turn-preserved c =
     let turn = c.loop-turn.turn in
     let n = length c.args.views.now in
-    let place : ℕ = n - 1 - turn in
-    let before : n - turn ≡ place + 1 = omega (arith, c.loop-turn-test.true) in
-    let after : place ≡ n - (turn + 1) = omega (arith, c.loop-turn-test.true) in
-    let inside : place < n = omega (arith, c.loop-turn-test.true) in
+    let index : ℕ = n - 1 - turn in
+    let before : n - turn ≡ index + 1 = omega (arith, c.loop-turn-test.true) in
+    let after : index ≡ n - (turn + 1) = omega (arith, c.loop-turn-test.true) in
+    let inside : index < n = omega (arith, c.loop-turn-test.true) in
     let so_far = subst (λ (m : ℕ). AreTrailsFrom m c.args.views.now c.args.channels.now c.loop-turn.firsts c.loop-turn.nexts) before c.loop-turn.invariant.trails in
     record {
       trails =
           subst (λ (m : ℕ). AreTrailsFrom m c.args.views.now c.args.channels.now c.lead_to.new.firsts c.lead_to.new.nexts) after
-          (c.lead_to.ensures.trails c.args.views.now inside c.index-views-place.is so_far);
+          (c.lead_to.ensures.trails c.args.views.now inside c.index-views-index.is so_far);
       firsts = omega (arith, c.lead_to.auto.firsts, c.loop-turn.invariant.firsts);
       nexts = omega (arith, c.lead_to.auto.nexts, c.loop-turn.invariant.nexts);
     }
