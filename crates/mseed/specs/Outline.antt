@@ -1,5 +1,5 @@
 -- What is known of a channel's samples before they are read.
-use Rattle.std.specs.Prelude.{⊤, ◌≡◌, ℕ, ℤ, List, [], ◌∷◌, take, length, All}
+use Rattle.std.specs.Prelude.{⊤, ◌≡◌, ℕ, Bool, true, false, ℤ, List, [], ◌∷◌, take, length, All}
 use Rattle.std.specs.List.{AllByRecursion}
 use Rattle.mseed_time.specs.declared.outcome.LeapStep.{LeapStep}
 use Rattle.mseed_record.specs.View.{View}
@@ -8,6 +8,7 @@ use Rattle.mseed_audit.specs.Series.{AreSteps, Trace}
 use Rattle.mseed_pack.specs.Fitting.{IsDifferenceOf, IsSampleOf}
 use Rattle.mseed_pack.specs.Stretches.{differences}
 use Rattle.mseed_pack.specs.declared.options.Encoding.{Encoding}
+use Rattle.mseed_pack.specs.declared.options.Encoding.TheVariants.{Int16, Int32, Steim1, Steim2}
 use Rattle.mseed.specs.Reading.{AreOf}
 use Rattle.mseed.specs.declared.outline.Nearness.{Nearness}
 use Rattle.mseed.specs.declared.outline.Nearness.TheVariants.{Empty, Near, Unknown}
@@ -35,6 +36,19 @@ IsKnown Unknown xs = ⊤
 -- an encoding holds samples, and their differences
 abbrev pub AreHeld : Encoding → List ℤ → Type 0
 AreHeld encoding xs = All (IsSampleOf encoding) xs × All (IsDifferenceOf encoding) (differences xs)
+
+-- there are samples, and each is near the one before it
+abbrev pub says_near : Nearness → Bool
+says_near Empty = false
+says_near (Near last) = true
+says_near Unknown = false
+
+-- whether an encoding surely holds them: integers of 32 bits hold any, either Steim those that are near
+abbrev pub is_held : Nearness → Encoding → Bool
+is_held nearness Int16 = false
+is_held nearness Int32 = true
+is_held nearness Steim1 = says_near nearness
+is_held nearness Steim2 = says_near nearness
 
 -- a series with other samples
 abbrev pub with_samples : List ℤ → Trace → Trace

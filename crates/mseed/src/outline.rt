@@ -1,5 +1,6 @@
 //! What is known of a channel before its samples are read.
 ghost use Rattle.std.specs.Prelude.{◌≡◌, ◌<◌, ◌≤◌, ◌+◌, ◌++◌, ◌^◌, ◌-ℤ◌, [], All, IfSome, List, ℤ, length, map, take};
+ghost use Rattle.std.specs.Prelude.{◌↔◌, IsTrue};
 ghost use Rattle.std.specs.Bool.{OnTrue};
 ghost use Rattle.std.specs.List.{AllByRecursion};
 ghost use Rattle.mseed_record.specs.View.{leap_of};
@@ -10,7 +11,7 @@ ghost use Rattle.mseed_steim.specs.Spelling.{IsWithin};
 ghost use Rattle.mseed_audit.specs.Follows.{IsSound};
 ghost use Rattle.mseed_audit.specs.Judging.{step_in};
 ghost use Rattle.mseed_audit.specs.Series.{step_at};
-ghost use Rattle.mseed.specs.Outline.{AreHeld, AreNear, IsKnown, IsOutline};
+ghost use Rattle.mseed.specs.Outline.{AreHeld, AreNear, IsKnown, IsOutline, is_held};
 ghost use Rattle.mseed.specs.Reading.{channel_in, samples_of, step_count, steps_of};
 ghost use Rattle.mseed.specs.Trails.{IsTrail};
 
@@ -131,7 +132,7 @@ fn near_ends(view: &RecordView) -> Option<Ends>
 
 /// Whether a sample is near the one before it.
 fn is_near(before: i32, sample: i32) -> bool
-    ensures { OnTrue result (IsWithin 30 (sample -ℤ before)) }
+    ensures { IsTrue result ↔ IsWithin 30 (sample -ℤ before) }
 {
     let difference = i64::from(sample) - i64::from(before);
     -0x2000_0000 <= difference && difference < 0x2000_0000
@@ -139,7 +140,8 @@ fn is_near(before: i32, sample: i32) -> bool
 
 /// Whether an encoding surely holds samples of which this is known.
 pub(crate) fn is_held(nearness: Nearness, encoding: Encoding) -> bool
-    ensures { OnTrue result ((xs : List ℤ) → All (IsWithin 32) xs → IsKnown nearness xs → AreHeld encoding xs) }
+    ensures value { result ≡ is_held nearness encoding }
+    ensures held { OnTrue result ((xs : List ℤ) → All (IsWithin 32) xs → IsKnown nearness xs → AreHeld encoding xs) }
 {
     match encoding {
         Encoding::Int16 => false,

@@ -41,5 +41,5 @@ returns-in-Ok c =
     record {
       trace = with_samples found.samples s;
       series = c.view_series-series.ensures.others (map view_of c.args.views.now) found.samples c.requires.judged found.are;
-      fits = fits_with s found.samples c.args.options.now _ size c.in-Ok.ensures.fits (c.if-not-is_held.ensures found.samples found.within found.known);
+      fits = fits_with s found.samples c.args.options.now _ size c.in-Ok.ensures.fits (c.if-not-is_held.ensures.held found.samples found.within found.known);
     }
