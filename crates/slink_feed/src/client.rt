@@ -109,10 +109,11 @@ impl Client {
         }
     }
 
-    /// What is kept reads as what is begun.
+    /// What is kept reads as what is begun. Nothing is done.
     pub(crate) fn has_reading(&self)
         ensures { Reads self.now.talk self.now.kept [] self.now }
     {
+        // The prover learns here that what is kept is begun.
         let _ = &self.kept;
     }
 

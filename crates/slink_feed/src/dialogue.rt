@@ -12,9 +12,6 @@ use arrayvec::ArrayVec;
 use slink_wire::{Place, Request};
 use std::marker::Model;
 
-/// The most places that a client asks for.
-const MOST: usize = 16;
-
 /// A line that a client says.
 pub type Bytes = ArrayVec<u8, 32>;
 
@@ -185,6 +182,7 @@ impl Dialogue {
         ensures value { result ≡ next_at self.now.wants k }
         ensures short { IfSome result (λ n. n < 2 ^ 24) }
     {
+        // The prover learns here that the numbers are below 2^24.
         let _ = &self.wants;
         match self.want(k) {
             Some(wanted) => wanted.next,

@@ -24,6 +24,7 @@ use std::alloc::Global;
 fn has_codes(place: &Place)
     ensures { IsField 5 place.now.station × IsField 2 place.now.network }
 {
+    // The prover learns from these two that the fields are filled by codes.
     let _station = place.station();
     let _network = place.network();
 }
