@@ -67,6 +67,10 @@ impl<A: Allocator> Feed<A> {
     }
 
     /// Takes a ring, unless the feed has sixteen already, or one of the same place: then nothing changes.
+    ///
+    /// # Errors
+    ///
+    /// `Full` where there are sixteen rings, else `Double` where one has its place. The ring comes back.
     pub fn add(&mut self, ring: Ring<A>) -> Result<(), FeedFault<A>>
         ensures ok { OnOk result (self.new ≡ self.old ++ ring ∷ []) }
         ensures taken { OnOk result ((length self.old < 16) × LacksPlace self.old ring.place) }

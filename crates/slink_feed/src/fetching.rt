@@ -21,7 +21,10 @@ pub(crate) struct Counts {
 }
 
 /// Takes a turn with a client's link: reads once, at most 1024 bytes, and takes what it told event by event. A line
-/// goes to the link, and the bytes of a record to the output.
+/// goes to the link, and the bytes of a record to the output. The line of `connect` is the caller's to write first.
+///
+/// The answer is `Closed` where the link is at its end; else `Ended` or `Stopped` where the client has ended, and
+/// `Goes` where it hasn't. A client that isn't connected, or has ended, drops what is read.
 ///
 /// # Errors
 ///

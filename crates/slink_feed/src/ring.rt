@@ -55,6 +55,10 @@ impl<A: Allocator> Model for Ring<A> {
 impl<A: Allocator> Ring<A> {
     /// An empty ring of a place: its capacity is from 1 to 1,000,000 records, and its first record's number is below
     /// 2^24.
+    ///
+    /// # Errors
+    ///
+    /// `Capacity`, else `First`, where that number isn't in its range; else `Memory` where a growth was refused.
     pub fn new(alloc: A, place: Place, capacity: usize, first: u32) -> Result<Self, RingFault>
         ensures empty { IfOk result
             (λ r. r ≡ record { place = place; capacity = capacity; records = []; next = first }) }

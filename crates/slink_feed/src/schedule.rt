@@ -103,6 +103,10 @@ fn open(alloc: Global, setup: &Setup) -> Result<World, Memory>
 /// The places are different. The capacity is from 1 to 1,000,000 records, the first number and those that the client
 /// wants first are below 2^24. A step names one of the places, and a record that is pushed bears its place's station
 /// and network.
+///
+/// # Errors
+///
+/// `Memory` where a growth was refused.
 pub fn run_schedule(alloc: Global, setup: &Setup, steps: &[Step]) -> Result<World, Memory>
     requires capacity { IsCapacity setup.now.capacity }
     requires first { setup.now.first < 2 ^ 24 }

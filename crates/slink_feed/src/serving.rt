@@ -20,6 +20,9 @@ const ROOM: usize = 512;
 /// session is closed or a whole round gives none. Unless it is closed then, it reads once, at most 512 bytes, and
 /// writes the reply to each line.
 ///
+/// The answer is `Closed` where the session is closed before the read, or the link is at its end; else it is `Goes`. A
+/// session that a line closes is told by the next turn.
+///
 /// It is lent the same feed at every call, whose rings keep their indices.
 ///
 /// # Errors

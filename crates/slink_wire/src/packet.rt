@@ -39,6 +39,10 @@ impl Packet {
     }
 
     /// The number and the record of a packet, whose digits may stand in either case.
+    ///
+    /// # Errors
+    ///
+    /// `NotPacket` where the bytes don't begin with `SL` and six hexadecimal digits.
     #[tactic(auto, using(crate::proofs::Packets::one_packet))]
     pub fn read(bytes: &[u8; 520]) -> Result<(u32, &[u8; 512]), NotPacket>
         ensures packet { IfOk result (λ p. IsPacket bytes.now p.0 p.1.now) }

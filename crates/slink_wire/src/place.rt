@@ -63,6 +63,10 @@ fn code_in(field: &[u8]) -> &[u8]
 
 impl Place {
     /// The place of a station code, 1 to 5 ASCII letters or digits, and a network code, 1 or 2 of them.
+    ///
+    /// # Errors
+    ///
+    /// `BadPlace` where one of them isn't such a code.
     pub fn new(sta: &[u8], net: &[u8]) -> Result<Place, BadPlace>
         ensures accepted { IsOk result ↔ (IsCode 5 sta.now × IsCode 2 net.now) }
         ensures value { IfOk result (λ p. p ≡ fields_of sta.now net.now) }
@@ -77,6 +81,10 @@ impl Place {
     }
 
     /// The place that a text spells: the network's code, an underscore, and the station's code.
+    ///
+    /// # Errors
+    ///
+    /// `BadPlace` where the text spells no place.
     pub fn read(text: &[u8]) -> Result<Place, BadPlace>
         ensures place { IfOk result (SpellsPlace text.now) }
         // All that is spelled is answered, so at most one place is.
