@@ -4,11 +4,11 @@ ghost use Rattle.mseed_stream.specs.Device.{nothing_heard, nothing_said};
 
 use linked_list_allocator::LocalHeap;
 use mseed_stream::{
-    Counted, Failed, Sink, Source, StreamFault, read_all, read_all_in, write_all_of,
+    Buffered, Counted, Failed, Sink, Source, StreamFault, read_all, read_all_in, write_all_of,
 };
 use std::alloc::Global;
 use std::io;
-use std::io::{Read, Write};
+use std::io::{BufReader, Read, Write};
 use std::test::Fail;
 
 /// Tells one byte a call, and fails at one of its calls.
@@ -142,6 +142,21 @@ fn asks_no_reader_behind_its_end(rt: HostRuntime) {
     assert_eq!(rt; source.pull(&mut buf), Err(Failed));
     assert_eq!(rt; source.pull(&mut buf), Ok(1));
     assert_eq!(rt; source.into_inner().bytes, b"ello".as_slice());
+}
+
+#[test]
+fn asks_a_buffered_reader_once_a_call(rt: HostRuntime) -> Result<(), Fail> {
+    let reader = Dripping {
+        bytes: b"hello",
+        calls_before_failure: Some(1),
+    };
+    let mut source = Buffered::new(BufReader::with_capacity(rt.alloc(), 4, reader)?);
+    let mut buf = [0; 3];
+    assert_eq!(rt; source.pull(&mut buf), Ok(1));
+    assert_eq!(rt; source.pull(&mut buf), Err(Failed));
+    assert_eq!(rt; source.pull(&mut buf), Ok(1));
+    assert_eq!(rt; buf[0], b'e');
+    Ok(())
 }
 
 #[test]
