@@ -11,11 +11,8 @@ use Rattle.mseed_record.specs.declared.view.RecordView.{RecordView}
 use Rattle.mseed_stream.specs.Walk.{IfGoesOn, bytes_in}
 use Rattle.mseed_stream.specs.declared.fault.StreamFault.{StreamFault}
 use Rattle.slink_wire.specs.Place.{Bears, Fields}
-use Rattle.slink_feed.specs.Fault.{IsFeedFault}
 use Rattle.slink_feed.specs.Rings.{HasPlace}
 use Rattle.slink_feed.specs.Window.{Shows, Window, window, with_record}
-use Rattle.slink_feed.specs.declared.feed.FeedFault.{FeedFault}
-use Rattle.slink_feed.specs.declared.feed.FeedFault.TheVariants.{Full, Double}
 use Rattle.slink_feed.proofs.Items.{one_value, same_or_not, shows_more, within_is}
 use Rattle.mseed.specs.Places.{Asked, are_different, has_place, is_same}
 use Rattle.mseed.specs.Filling.{AreOfFeed, IsOfFeed, IsPushed, feed_of, is_of, records_of, ring_of, served}
@@ -192,11 +189,6 @@ no_double s [] i p distinct is has = absurd (let bad : None ≡ Some p = is in c
 no_double s (q ∷ qs) zero p distinct is has = has
 no_double s (q ∷ qs) (suc i) p distinct is (inl same) = lacks_at q.0 p.0 (map (λ (a : Asked). a.0) qs) i distinct.0 (map_got (λ (a : Asked). a.0) qs i p is) (sym same)
 no_double s (q ∷ qs) (suc i) p distinct is (inr more) = no_double s qs i p distinct.1 is more
-
--- a feed with room takes the ring of another place
-pub takes_ring : {A : Type 0} (e : FeedFault A) (feed : List Window) (ring : Window) → length feed < 16 → ¬ (HasPlace feed ring.place) → IsFeedFault e feed ring → ⊥
-takes_ring (Full back) feed ring room differs is = omega (arith, room, is.0)
-takes_ring (Double back) feed ring room differs is = differs is.1
 
 -- a record of 512 bytes was pushed
 pub pushed_is : (old new : List Window) (bytes whole : List ℕ) (k : ℕ) → length bytes ≡ 512 → whole ≡ bytes → k < length old → ((w : Window) → slice_get old k ≡ Some w → Bears whole w.place)

@@ -5,7 +5,6 @@ ghost use Rattle.std.specs.Bool.{OnFalse, OnTrue};
 ghost use Rattle.std.specs.Option.{ForSome};
 ghost use Rattle.mseed_stream.specs.Device.{Heard, nothing_heard};
 ghost use Rattle.slink_wire.specs.Place.{Bears};
-ghost use Rattle.slink_feed.specs.Rings.{HasPlace};
 ghost use Rattle.slink_feed.specs.Window.{Window};
 ghost use Rattle.mseed.specs.Filling.{IsFilling, IsOneFilling, IsPushed, feed_of};
 ghost use Rattle.mseed.specs.FeedWords.{CanServe};
@@ -15,7 +14,7 @@ ghost use Rattle.mseed.specs.declared.request.Serving.{Serving};
 use crate::fill_fault::FillFault;
 use crate::request::Serving;
 use mseed_stream::{Cutter, Source, StreamFault};
-use slink_feed::{Feed, FeedFault, Ring};
+use slink_feed::{Feed, Ring};
 use std::alloc::Allocator;
 
 /// Fills a feed with the records of the archive that the input tells: it has a ring of so many records for each
@@ -63,21 +62,9 @@ fn open<A: Allocator + Copy>(alloc: A, serving: &Serving) -> Result<Feed<A>, Fil
         let Ok(ring) = Ring::new(alloc, *place, serving.capacity as usize, serving.first) else {
             return Err(FillFault::Memory);
         };
-        add(&mut feed, ring);
+        feed.add_other(ring);
     }
     Ok(feed)
-}
-
-/// Adds the ring of another place.
-fn add<A: Allocator>(feed: &mut Feed<A>, ring: Ring<A>)
-    requires room { length feed.old < 16 }
-    requires differs { ¬ (HasPlace feed.old ring.place) }
-    ensures { feed.new ≡ feed.old ++ ring ∷ [] }
-{
-    match feed.add(ring) {
-        Ok(()) => {}
-        Err(FeedFault::Full(_) | FeedFault::Double(_)) => unreachable!(),
-    }
 }
 
 /// Gives a record to the ring of its place, and answers whether it has 512 bytes and is of one of the places.

@@ -3,8 +3,8 @@ use Rattle.mseed.specs.Places.{Asked}
 use Rattle.mseed.proofs.Fills.{opened_all, opened_few, opened_more, opened_other}
 use Rattle.mseed.proofs.filling.open.Goals as goal
 
-pub add-requires : goal.add-requires
-add-requires g c = (
+pub add_other-requires : goal.add_other-requires
+add_other-requires g c = (
   search rules,
   (
     opened_few c.args.serving.now c.loop-place.place-index c.loop-place.feed (omega (arith, c.loop-place-test.true, ap length c.as_slice-place-items.ensures)) c.requires.places.most c.loop-place.invariant,
@@ -15,8 +15,8 @@ add-requires g c = (
 
 pub loop-place-preserved : goal.loop-place-preserved
 loop-place-preserved g c =
-    opened_more c.args.serving.now c.loop-place.place-index c.loop-place-item.result c.loop-place.feed c.add.new.feed c.in-Ok.ring (omega (arith, c.loop-place-test.true, ap length c.as_slice-place-items.ensures))
-    (c.loop-place-item.is ∙ ap (λ (xs : List Asked). get_or xs c.loop-place.place-index c.loop-place-item.result) c.as_slice-place-items.ensures) c.in-Ok.ensures.empty c.loop-place.invariant c.add.ensures
+    opened_more c.args.serving.now c.loop-place.place-index c.loop-place-item.result c.loop-place.feed c.add_other.new.self c.in-Ok.ring (omega (arith, c.loop-place-test.true, ap length c.as_slice-place-items.ensures))
+    (c.loop-place-item.is ∙ ap (λ (xs : List Asked). get_or xs c.loop-place.place-index c.loop-place-item.result) c.as_slice-place-items.ensures) c.in-Ok.ensures.empty c.loop-place.invariant c.add_other.ensures
 
 pub returns-clause-ok : goal.returns-clause-ok
 returns-clause-ok g c =
