@@ -1,5 +1,5 @@
 -- Bytes that begin with a written header are a record, and its fields read back.
-use Rattle.std.proofs.Common.{◌≡◌, ℕ, zero, suc, ◌+◌, ◌-◌, ◌*◌, ◌/◌, ◌%◌, ◌^◌, ◌<◌, ◌≤◌, ◌==◌, ◌&&◌, Bool, true, false, List, [], ◌∷◌, ◌++◌, length, take, drop, get_or, Some, refl, sym, ap, subst, ◌∙◌, arith, lit<, lit≤, ℤ, pos, negsuc, ◌+ℤ◌, FitsSigned, w8, w16, of_z, codes}
+use Rattle.std.proofs.Common.{◌≡◌, ℕ, ◌+◌, ◌*◌, ◌/◌, ◌%◌, ◌^◌, ◌<◌, ◌≤◌, ◌==◌, ◌&&◌, Bool, true, false, List, [], ◌∷◌, ◌++◌, length, take, drop, get_or, Some, refl, sym, ap, subst, ◌∙◌, arith, lit≤, ℤ, pos, negsuc, ◌+ℤ◌, FitsSigned, w8, w16}
 use Rattle.std.proofs.lemmas.List.{take-append-drop}
 use Rattle.std.proofs.lemmas.Bool.Decides.{nat_tests}
 use Rattle.std.proofs.lemmas.Int.{ints}
@@ -10,11 +10,11 @@ use Rattle.byteorder.specs.Endian.{twos_complement}
 use Rattle.mseed_time.specs.declared.order.Order.TheVariants.{Big}
 use Rattle.mseed_time.specs.Fields.{number_at}
 use Rattle.mseed_time.specs.Btime.{Parts, IsTime, parts_at, microsecond_of, instant_of, is_within}
-use Rattle.mseed_record.specs.Header.{is_sequence_byte, has_fixed_bytes, key_at, time_at, samples_at, factor_at, multiplier_at, activity_at, correction_at, data_at, blockette_at}
-use Rattle.mseed_record.specs.Order.{order_of, is_dated}
-use Rattle.mseed_record.specs.Chain.{type_at, next_at, goes_on, first_of, has_type, IsChain, IsWholeChain}
-use Rattle.mseed_record.specs.Record.{IsRecordBy, exponent_at}
-use Rattle.mseed_record.specs.View.{IsViewBy, microseconds_at, start_of}
+use Rattle.mseed_record.specs.Header.{is_sequence_byte, has_fixed_bytes, key_at, time_at, samples_at, activity_at, correction_at, data_at, blockette_at}
+use Rattle.mseed_record.specs.Order.{order_of}
+use Rattle.mseed_record.specs.Chain.{type_at, next_at, goes_on}
+use Rattle.mseed_record.specs.Record.{IsRecordBy}
+use Rattle.mseed_record.specs.View.{IsViewBy}
 use Rattle.mseed_record.specs.Written.{Header, header_bytes, name_bytes, time_bytes, IsWritable, IsHeaded, ReadsBack, headed_view}
 use Rattle.mseed_record.proofs.Bytes.{bytes_from}
 use Rattle.mseed_record.proofs.Puts.{each_byte}

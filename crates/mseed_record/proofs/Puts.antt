@@ -1,5 +1,5 @@
 -- Writing one part of a slice behind another.
-use Rattle.std.proofs.Common.{◌≡◌, ℕ, ◌+◌, List, [], ◌++◌, length, take, drop, sym, subst, ◌∙◌, refl, arith}
+use Rattle.std.proofs.Common.{◌≡◌, ℕ, ◌+◌, List, ◌++◌, length, take, drop, sym, subst, ◌∙◌, refl, arith}
 use Rattle.std.proofs.Math.Seq.{take-append_seam, drop-append-add, take-length}
 use Rattle.std.proofs.lemmas.List.{drop-drop, length-append}
 use Rattle.mseed_record.proofs.Bytes.{bytes_from, take-drop-bytes}

@@ -1,4 +1,4 @@
-use Rattle.std.proofs.Common.{◌≡◌, ℕ, ◌+◌, ◌/◌, ◌%◌, ◌∷◌, [], List, ap, ◌∙◌, rules, arith}
+use Rattle.std.proofs.Common.{ℕ, ◌∷◌, [], ap, ◌∙◌, rules}
 use Rattle.mseed_audit.proofs.Shorts.{added_text, four_digits, one_digit, three_digits, two_digits}
 use Rattle.mseed_audit.proofs.parts.push_short.Goals as goal
 

@@ -1,7 +1,7 @@
 use Rattle.std.proofs.Common.{◌≡◌, ◌++◌, List, ℕ, length, drop, refl, ◌∙◌, rules}
 use Rattle.mseed_time.specs.Parts.{parts_of}
 use Rattle.mseed_record.specs.Fields.{header_of}
-use Rattle.mseed_record.specs.Written.{name_bytes, time_bytes}
+use Rattle.mseed_record.specs.Written.{name_bytes}
 use Rattle.mseed_record.proofs.Puts.{Begins, put_next}
 use Rattle.mseed_record.proofs.Headed.{length-name_bytes, reads_back, time_written}
 use Rattle.mseed_record.proofs.write.write_header.Goals as goal

@@ -1,6 +1,5 @@
-use Rattle.std.proofs.Common.{◌≡◌, ◌<◌, ◌+◌, ◌^◌, ◌++◌, ◌∷◌, [], ◌∙◌, ℕ, List, false, length, Option, IsSome, Some, None, OnOk, is_some, subst, sym, ap, arith, inl, inr, rules}
-use Rattle.std.specs.List.{All}
-use Rattle.std.specs.Map.{lookup, set_value, values_of}
+use Rattle.std.proofs.Common.{◌≡◌, ◌<◌, ◌+◌, ◌^◌, ◌∙◌, ℕ, List, false, length, Option, IsSome, Some, None, is_some, subst, sym, ap, arith, inl, inr, rules}
+use Rattle.std.specs.Map.{lookup}
 use Rattle.std.proofs.lemmas.Bool.{false≢true}
 use Rattle.mseed_record.specs.Viewing.{view_of}
 use Rattle.mseed_audit.specs.declared.channel.Channel.{Channel}

@@ -1,5 +1,4 @@
 use Rattle.std.proofs.Common.{◌≡◌, ℕ, List, [], ◌∷◌, ◌++◌, length, get_or, ◌∙◌, rules}
-use Rattle.mseed_record.specs.Written.{filled}
 use Rattle.mseed_record.proofs.Puts.{each_byte}
 use Rattle.mseed_record.proofs.codes.Codes.new.Goals as goal
 
