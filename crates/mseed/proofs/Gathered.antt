@@ -1,5 +1,5 @@
 -- The lines of a listing, record after record.
-use Rattle.std.proofs.Common.{◌≡◌, ℕ, ◌+◌, ◌++◌, List, [], ◌∷◌, length, take, map, refl, sym, ap, ◌∙◌, subst, append_assoc, arith, inl, inr, Option, Result, Ok, Err, IfErr}
+use Rattle.std.proofs.Common.{◌≡◌, ℕ, ◌+◌, ◌++◌, List, [], ◌∷◌, length, take, map, refl, sym, ap, ◌∙◌, subst, append_assoc, arith, inl, inr, Option, Result, Ok, Err}
 use Rattle.std.proofs.lemmas.List.{append-nil, length-append}
 use Rattle.std.proofs.Math.Seq.{take-append-add, take-append_seam}
 use Rattle.std.specs.List.{concat}
