@@ -27,7 +27,8 @@ IsNarrowAt payload k = code_at payload k ≡ 3 → IsWithin 30 (twos_complement 
 
 -- n 32-bit integers are there, each of 29 bits at the most (SEED manual, chapter 8, blockette 1000, field 4)
 abbrev pub AreShort : Order → List ℕ → ℕ → Type 0
-AreShort order payload n = (4 * n ≤ length payload) × ((i : ℕ) → i < n → IsWithin 29 (twos_complement 4 (number_at order 4 (4 * i) payload)))
+AreShort order payload n =
+    (4 * n ≤ length payload) × ((i : ℕ) → i < n → IsWithin 29 (twos_complement 4 (number_at order 4 (4 * i) payload)))
 
 -- The words or integers of a payload are such that no two neighbours among n samples are far apart: Steim-2 words have
 -- no wider differences, and no two numbers of 29 bits have.
@@ -39,4 +40,5 @@ IsSurelyNear (Frames Steim2) order payload n = ⊤
 
 -- a record has a payload of a form that is read, and it is such
 abbrev pub ShowsNear : View → Type 0
-ShowsNear v = (form : Form) × (HoldsIn v form (payload_of v) × IsSurelyNear form v.payload_order (payload_of v) (count_of v))
+ShowsNear v =
+    (form : Form) × (HoldsIn v form (payload_of v) × IsSurelyNear form v.payload_order (payload_of v) (count_of v))

@@ -1,6 +1,7 @@
 //! The differences of a payload, one by one.
 
-ghost use Rattle.std.specs.Prelude.{◌≡◌, ◌≢◌, ◌≤◌, ◌<◌, ◌*◌, ⊤, ℕ, ℤ, List, [], ◌∷◌, ◌++◌, map, Some, Ok, IfSome, length, Result};
+ghost use Rattle.std.specs.Prelude.{◌≡◌, ◌≢◌, ◌≤◌, ◌<◌, ◌*◌, ⊤, ℕ, ℤ, List, [], ◌∷◌, ◌++◌, map, Some, Ok, IfSome};
+ghost use Rattle.std.specs.Prelude.{length, Result};
 ghost use Rattle.std.specs.Iterator.{UpTo, YieldsFirst, MakesProgress, at_most, item_count};
 ghost use Rattle.std.specs.Iterator.SizeHint.{IsWithinCount};
 ghost use Rattle.mseed_steim.specs.declared.differences.BadWordAt.{BadWordAt};
@@ -99,8 +100,8 @@ fn unpack_next(
 impl<'a> Differences<'a> {
     /// Those of a payload, by its scheme. Bytes after the last whole frame aren't read.
     pub fn over(payload: &'a [u8], scheme: Scheme) -> Self
-        // What is handed out is what the words spell, or those before the first bad word, and its place: no other items
-        // are.
+        // What is handed out is what the words spell, or those before the first bad word, and its place, and nothing
+        // else.
         ensures items { Gives scheme (data_words payload.now) result.items }
         // No more than seven for each word.
         ensures only { (items : List (Result ℤ BadWordAt)) → Gives scheme (data_words payload.now) items
@@ -142,7 +143,8 @@ impl<'a> Iterator for Differences<'a> {
         ensures falls { IfSome result (λ _. most_left self.new < most_left self.old) }
         // A run of words of code 01 in one frame is unpacked at once: after its first difference the rest is ready.
         ensures run { IfSome result (λ item. self.old.ready ≡ [] → UnpacksRun self.old.words item self.new.ready) }
-        ensures words { IfSome result (λ item. self.old.ready ≡ [] → self.new.words ≡ words_behind item self.old.words) }
+        ensures words { IfSome result (λ item. self.old.ready ≡ []
+            → self.new.words ≡ words_behind item self.old.words) }
         // What is ready is given before another word is unpacked.
         ensures given { IfSome result (λ item. self.old.ready ≢ []
             → (map Ok self.old.ready ≡ item ∷ map Ok self.new.ready) × (self.new.words ≡ self.old.words)) }
