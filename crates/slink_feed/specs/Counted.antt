@@ -251,8 +251,8 @@ AreItems (Greeted ∷ is) = ⊥
 AreItems (Carried k n r ∷ is) = (length r ≡ 512) × AreItems is
 AreItems (Finished ∷ is) = is ≡ []
 
--- Two replies of 4 bytes to each of so many places were sent and came to the client; behind them packets were sent, and behind
--- the last of these the end, if it was.
+-- Two replies of 4 bytes to each of so many places were sent and came to the client; behind them packets were sent,
+-- and behind the last of these the end, if it was.
 pub record IsStreamed (places : ℕ) (l : CountedLink) : Type 0 where
   pub packets : List Item
   pub sent_is : l.sent ≡ replicate (2 * places) Accepted ++ packets
