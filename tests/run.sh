@@ -11,7 +11,7 @@ skipped=0
 # behind it where what a script wants isn't installed. One that fails without such a line counts as one failure, and
 # so does one that ran nothing and skipped nothing.
 count() {
-    local log status last
+    local log status last ran
     log=$(mktemp)
     "$@" 2>&1 | tee "$log"
     status=${PIPESTATUS[0]}
@@ -21,7 +21,8 @@ count() {
         passed=$((passed + BASH_REMATCH[1]))
         failed=$((failed + BASH_REMATCH[2]))
         skipped=$((skipped + ${BASH_REMATCH[4]:-0}))
-        if [ "${BASH_REMATCH[2]}" -eq 0 ] && { [ "$status" -ne 0 ] || [ "${BASH_REMATCH[1]}${BASH_REMATCH[4]}" = 0 ]; }; then
+        ran=$((BASH_REMATCH[1] + BASH_REMATCH[2] + ${BASH_REMATCH[4]:-0}))
+        if [ "$ran" -eq 0 ] || { [ "$status" -ne 0 ] && [ "${BASH_REMATCH[2]}" -eq 0 ]; }; then
             failed=$((failed + 1))
         fi
     else
