@@ -1,7 +1,7 @@
 use Rattle.std.proofs.Common.{◌≡◌, ◌-◌, ◌*◌, ◌∙◌, ◌++◌, ap, arith, List, ℕ, length, drop, take}
 use Rattle.std.proofs.lemmas.List.{take_rest}
 use Rattle.byteorder.specs.Endian.{big_bytes}
-use Rattle.mseed_pack.proofs.Constants.{word_written}
+use Rattle.mseed_steim.proofs.Written.{word_written}
 use Rattle.mseed_pack.proofs.frames.write_word.Goals as goal
 
 pub returns : goal.returns
