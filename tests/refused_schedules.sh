@@ -3,7 +3,7 @@
 # schedule, so this takes the proved tests of its crate, which the gate leaves as a program; without it all is skipped.
 . "$(dirname "$0")/judge.bash"
 
-tests="$root/crates/slink_feed/out/slink_feed_tests"
+tests="$root/crates/slink_model/out/slink_model_tests"
 row=tests::schedule::goes_on_behind_the_last_record
 
 if [ ! -x "$tests" ]; then

@@ -6,11 +6,12 @@ root=$(cd "$(dirname "$0")/.." && pwd)
 copy=$(mktemp -d) || exit 1
 trap 'rm -rf "$copy"' EXIT
 cp "$root/HANDLES" "$copy"
+below=(mseed_time mseed_record mseed_stream mseed_steim mseed_audit mseed_pack slink_wire slink_feed slink_model)
 {
-    grep -E '^(mseed_time|mseed_record|mseed_stream|slink_wire|slink_feed):' "$root/crates.txt"
-    echo 'schedules: slink_feed slink_wire mseed_stream'
+    for crate in "${below[@]}"; do grep "^$crate:" "$root/crates.txt"; done
+    echo 'schedules: slink_model slink_feed slink_wire mseed_stream'
 } > "$copy/crates.txt"
-for crate in mseed_time mseed_record mseed_stream slink_wire slink_feed; do
+for crate in "${below[@]}"; do
     mkdir -p "$copy/crates/$crate"
     cp -r "$root/crates/$crate/src" "$root/crates/$crate/specs" "$root/crates/$crate/proofs" "$copy/crates/$crate"
 done

@@ -26,7 +26,7 @@ front_is : (r rest bytes : List ℕ) → bytes ≡ r ++ rest → take (length r)
 front_is r rest bytes e = ap (take (length r)) e ∙ take-append_seam r rest
 
 -- a first record, and what is left behind it, are the only ones
-pub one_first : (bytes r s tail rest : List ℕ) → IsRecord r → IsRecord s → bytes ≡ r ++ tail → bytes ≡ s ++ rest → (r ≡ s) × (tail ≡ rest)
+one_first : (bytes r s tail rest : List ℕ) → IsRecord r → IsRecord s → bytes ≡ r ++ tail → bytes ≡ s ++ rest → (r ≡ s) × (tail ≡ rest)
 one_first bytes r s tail rest is it d e =
     let fits : length r ≤ length bytes = omega (arith, ap (λ (xs : List ℕ). length xs) d, length-append r tail) in
     let within : length s ≤ length bytes = omega (arith, ap (λ (xs : List ℕ). length xs) e, length-append s rest) in

@@ -4,7 +4,7 @@ use Rattle.mseed_stream.specs.Device.{Heard, Said}
 use Rattle.mseed_stream.specs.declared.fault.StreamFault.{StreamFault}
 use Rattle.mseed.specs.declared.ending.ShowFault.{ShowFault}
 use Rattle.mseed.specs.declared.ending.ShowFault.TheVariants.{Write, Memory}
-use Rattle.mseed.specs.Outcome.{Tells}
+use Rattle.mseed_stream.specs.Telling.{Tells}
 use Rattle.mseed.specs.Show.{IsShown}
 
 -- the exit status of a listing: a fault of the input counts

@@ -10,17 +10,6 @@ pub mod Listing
 pub mod Show
 pub mod Gathering
 pub mod Done
-pub mod Repack
-pub mod Repacking
-pub mod Reading
-pub mod Trails
-pub mod Outline
 pub mod Repacked
-pub mod OneRepacking
 pub mod Filling
 pub mod Plans
-pub mod Relay
-pub mod Relaying
-pub mod Keeping
-pub mod Served
-pub mod Fetched

@@ -1,6 +1,7 @@
 -- What the command did.
-use Rattle.std.specs.Prelude.{◌≡◌, ◌⊎◌, ℕ, ◌+◌, ◌<◌, nat_lt, if◌then◌else◌, List, ◌++◌, length, take, Result, Ok, Err, codes}
+use Rattle.std.specs.Prelude.{◌≡◌, ℕ, nat_lt, if◌then◌else◌, Result, Ok, Err, codes}
 use Rattle.mseed_stream.specs.Device.{Heard, Said}
+use Rattle.mseed_stream.specs.Telling.{Tells}
 use Rattle.mseed_audit.specs.declared.archive.Summary.{Summary}
 use Rattle.mseed_audit.specs.declared.archive.AuditFault.{AuditFault}
 use Rattle.mseed_audit.specs.declared.archive.AuditFault.TheVariants.{Write, Memory}
@@ -13,20 +14,6 @@ summary_status s = if s.fault then 2 else if nat_lt 0 s.broken then 1 else 0
 abbrev pub status_of : Result Summary AuditFault → ℕ
 status_of (Ok summary) = summary_status summary
 status_of (Err fault) = 2
-
--- a line was written
-pub record TellsAll (line : List ℕ) (old new : Said) : Type 0 where
-  pub text : new.bytes ≡ old.bytes ++ line
-  pub fine : new.failures ≡ old.failures
-
--- a front of a line was written, and then the device failed, and wasn't asked again
-pub record TellsFront (line : List ℕ) (old new : Said) : Type 0 where
-  pub front : (n : ℕ) × ((n < length line) × (new.bytes ≡ old.bytes ++ take n line))
-  pub failed : new.failures ≡ old.failures + 1
-
--- a line was written, whole unless the device failed
-pub record Tells (line : List ℕ) (old new : Said) : Type 0 where
-  pub either : TellsAll line old new ⊎ TellsFront line old new
 
 -- the line on standard error; the input's fault is in the text, and has none
 abbrev pub TellsOfAudit : Result Summary AuditFault → Said → Said → Type 0

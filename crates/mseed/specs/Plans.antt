@@ -7,13 +7,13 @@ use Rattle.slink_feed.specs.Window.{Window}
 use Rattle.slink_feed.specs.declared.dialogue.Stage.TheVariants.{Unlinked}
 use Rattle.slink_feed.specs.declared.grant.Mode.TheVariants as modes
 use Rattle.mseed.specs.Filling.{IsFilling, IsOneFilling}
-use Rattle.mseed.specs.Outcome.{Tells}
+use Rattle.mseed_stream.specs.Telling.{Tells}
 use Rattle.mseed.specs.declared.fill_fault.FillFault.{FillFault}
 use Rattle.mseed.specs.declared.fill_fault.FillFault.TheVariants.{Stream, Foreign, Memory}
 use Rattle.mseed.specs.declared.outcome.Run.{Run}
 use Rattle.mseed.specs.declared.outcome.Run.TheVariants.{Status, Serve, Fetch}
-use Rattle.mseed.specs.declared.plan.FetchPlan.{FetchPlan}
-use Rattle.mseed.specs.declared.plan.ServePlan.{ServePlan}
+use Rattle.slink_links.specs.declared.plan.FetchPlan.{FetchPlan}
+use Rattle.slink_links.specs.declared.plan.ServePlan.{ServePlan}
 use Rattle.mseed.specs.declared.request.Fetching.{Fetching}
 use Rattle.mseed.specs.declared.request.Serving.{Serving}
 

@@ -5,11 +5,11 @@ use Rattle.mseed_audit.specs.Text.{name_text, fault_line}
 use Rattle.mseed_pack.specs.declared.fault.PackFault.{PackFault}
 use Rattle.mseed_pack.specs.declared.fault.PackFault.TheVariants.{Empty, RateTooHigh, TimeOutOfRange, SampleTooLarge, DifferenceTooLarge, Write as WriteFailed}
 use Rattle.mseed_pack.specs.declared.options.Options.{Options}
-use Rattle.mseed.specs.Outcome.{Tells}
-use Rattle.mseed.specs.Repack.{IsRepacking}
+use Rattle.mseed_stream.specs.Telling.{Tells}
+use Rattle.mseed_repack.specs.Repack.{IsRepacking}
 use Rattle.mseed.specs.declared.request.Packing.{Packing}
-use Rattle.mseed.specs.declared.repack_fault.RepackFault.{RepackFault}
-use Rattle.mseed.specs.declared.repack_fault.RepackFault.TheVariants.{Stream, Broken, Misfit, Write, Memory}
+use Rattle.mseed_repack.specs.declared.fault.RepackFault.{RepackFault}
+use Rattle.mseed_repack.specs.declared.fault.RepackFault.TheVariants.{Stream, Broken, Misfit, Write, Memory}
 
 -- why a series can't be packed, by its place among the reasons
 abbrev pub misfit_number : PackFault → ℕ

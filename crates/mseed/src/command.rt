@@ -3,7 +3,8 @@ ghost use Rattle.std.specs.Prelude.{◌≡◌, ◌⊎◌, Option, Result, map, c
 ghost use Rattle.mseed_stream.specs.Device.{nothing_heard};
 ghost use Rattle.mseed_audit.specs.declared.archive.AuditFault.{AuditFault};
 ghost use Rattle.mseed_audit.specs.declared.archive.Summary.{Summary};
-ghost use Rattle.mseed.specs.Outcome.{IsAuditRun, Tells, summary_status};
+ghost use Rattle.mseed_stream.specs.Telling.{Tells};
+ghost use Rattle.mseed.specs.Outcome.{IsAuditRun, summary_status};
 ghost use Rattle.mseed.specs.Run.{HasCarriedOut, HasRefusedRequest, HasRefusedWords, UnlessMemoryLacks, streams};
 ghost use Rattle.mseed.specs.Words.{AsksFor, AsksForNothing, AreRefused, CanBeAsked};
 ghost use Rattle.mseed.specs.Done.{IsShowRun};
@@ -19,8 +20,6 @@ use crate::ending::ShowFault;
 use crate::outcome::{BAD_COMMAND, BROKEN, DONE, FAULT, Run};
 use crate::planning::{plan_fetch, plan_serve};
 use crate::refusal::push_refusal;
-use crate::repack::repack;
-use crate::repack_fault::RepackFault;
 use crate::request::{Packing, Request};
 use crate::show::show;
 use crate::words;
@@ -28,7 +27,8 @@ use clap::Error;
 use clap::error::ErrorKind;
 use mseed_audit::{AuditFault, Summary, audit};
 use mseed_pack::Options;
-use mseed_stream::{Sink, Source, write_all_of};
+use mseed_repack::{RepackFault, repack};
+use mseed_stream::{Sink, Source, tell};
 use std::alloc::{Allocator, Global};
 
 /// Carries out what the words of the command line ask for, those after the program's name.
@@ -242,11 +242,4 @@ pub fn refuse_memory<E: Sink>(errors: &mut E) -> u8
 {
     tell(errors, b"mseed: no memory\n");
     FAULT
-}
-
-/// Writes a line. A device that fails is left as it is: there is nowhere else to say so.
-pub fn tell<E: Sink>(errors: &mut E, line: &[u8])
-    ensures { Tells line.now (E.said errors.old) (E.said errors.new) }
-{
-    let _ = write_all_of(errors, line);
 }

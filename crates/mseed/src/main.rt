@@ -2,35 +2,20 @@
 //! their records.
 #![tactic(auto)]
 
-mod accept;
-mod closing;
 mod command;
-mod dial;
 mod ending;
 mod feed_words;
-mod fetching;
 mod fill_fault;
 mod filling;
 mod found;
-mod kept;
-mod law;
 mod listing;
 mod numbers;
 mod outcome;
-mod outline;
 mod places;
-mod plan;
 mod planning;
-mod reading;
 mod refusal;
-mod relay;
-mod repack;
-mod repack_fault;
 mod request;
-mod serving;
 mod show;
-mod tcp;
-mod trail;
 mod words;
 
 use mseed_stream::{Buffered, Counted, Sink};
@@ -46,10 +31,10 @@ fn main(rt: HostRuntime) -> ExitCode {
     let mut errors = Counted::new(rt.stderr());
     let status = match run_with_words(&rt, &mut errors) {
         Ok(Run::Status(status)) => status,
-        Ok(Run::Serve(plan)) => tcp::serve(&rt, &plan, &mut errors),
+        Ok(Run::Serve(plan)) => slink_links::serve(&rt, &plan, &mut errors),
         Ok(Run::Fetch(mut plan)) => {
             let mut output = Counted::new(io::writer(&rt));
-            tcp::fetch(&rt, &mut plan, &mut output, &mut errors)
+            slink_links::fetch(&rt, &mut plan, &mut output, &mut errors)
         }
         Err(error) if error.kind() == ErrorKind::OutOfMemory => command::refuse_memory(&mut errors),
         Err(_) => command::refuse_words(&mut errors),

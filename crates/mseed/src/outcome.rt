@@ -1,5 +1,5 @@
 //! What a command leaves to do, and the exit statuses.
-use crate::plan::{FetchPlan, ServePlan};
+use slink_links::{FetchPlan, ServePlan};
 use std::alloc::{Allocator, Global};
 
 /// All was done; of an audit: each channel is continuous.

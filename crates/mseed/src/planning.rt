@@ -4,15 +4,15 @@ ghost use Rattle.mseed_stream.specs.Device.{nothing_heard};
 ghost use Rattle.mseed.specs.FeedWords.{CanFetch, CanServe};
 ghost use Rattle.mseed.specs.Plans.{IsFetchPlan, IsServeRun, TellsOfFilling};
 
-use crate::command::{refuse_memory, tell};
+use crate::command::refuse_memory;
 use crate::fill_fault::FillFault;
 use crate::filling::{fill, one_filling};
 use crate::outcome::{FAULT, Run};
-use crate::plan::{FetchPlan, ServePlan};
 use crate::refusal::push_fill_refusal;
 use crate::request::{Fetching, Serving};
-use mseed_stream::{Sink, Source};
+use mseed_stream::{Sink, Source, tell};
 use slink_feed::{Client, Mode};
+use slink_links::{FetchPlan, ServePlan};
 use std::alloc::Allocator;
 
 /// Fills the feed that is to be served, or says on `errors` why there is none.

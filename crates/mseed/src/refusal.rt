@@ -6,11 +6,11 @@ ghost use Rattle.mseed.specs.declared.fill_fault.FillFault.{FillFault};
 ghost use Rattle.mseed.specs.Repacked.{refusal_text, broken_text, misfit_text, reason_text, misfit_number};
 
 use crate::fill_fault::FillFault;
-use crate::repack_fault::RepackFault;
 use mseed_audit::Part::{Count, Words};
 use mseed_audit::{push_fault_line, push_name, push_parts};
 use mseed_pack::PackFault;
 use mseed_record::Codes;
+use mseed_repack::RepackFault;
 use std::alloc::{AllocError, Allocator};
 
 /// Adds the line of a fault.

@@ -8,4 +8,5 @@ pub mod Fault
 pub mod Split
 pub mod Standing
 pub mod Steps
+pub mod Telling
 pub mod Walk

@@ -7,7 +7,8 @@
 //! counts other calls for proofs keeps one too. [`Exchanges`] are those of one link after another.
 //!
 //! A [`Cutter`] hands out the records of what a source tells, one by one, and [`split`] those of a
-//! slice. [`read_all`] and [`write_all_of`] are the plain loops over devices.
+//! slice. [`read_all`] and [`write_all_of`] are the plain loops over devices, and [`tell`] writes a
+//! line as far as the device takes it.
 #![tactic(auto)]
 
 mod buffered;
@@ -19,6 +20,7 @@ mod fault;
 mod law;
 mod slices;
 mod tally;
+mod telling;
 mod whole;
 
 pub use buffered::Buffered;
@@ -30,4 +32,5 @@ pub use fault::StreamFault;
 pub use law::one_input;
 pub use slices::{split, split_in};
 pub use tally::Tally;
+pub use telling::tell;
 pub use whole::{read_all, read_all_in, write_all_of};

@@ -20,14 +20,12 @@ use Rattle.slink_feed.specs.declared.turn.Turn.{Turn}
 use Rattle.slink_feed.specs.Attending.{Attends, IsServeFault, RepliesToAll, at_read, at_reply, at_send, is_at_end, is_closed, replies}
 use Rattle.slink_feed.specs.Connection.{FailsInTurn, SendsStretches, ShowPushed, TakesTurns, bytes_sent, fails_later, fails_now, no_turn, turn_taken}
 use Rattle.slink_feed.specs.Rounds.{Attending, Gives, SendsAll, all_sent, place_behind}
-use Rattle.slink_feed.specs.Running.{Stands, StandsFor}
+use Rattle.slink_feed.specs.Running.{HasStream, Stands, StandsFor}
 use Rattle.slink_feed.specs.Sending.{AreAsked, AreShown, Asked, IsHeardFrom, packet_in, packets_of}
-use Rattle.slink_feed.specs.Serving.{Answers, IsAnswer, Standing}
-use Rattle.slink_feed.specs.Session.{State, all_done, answered_in, at_next, grant_at, in_streaming, packet_at, reply_at_next, sent, sent_in, sent_of}
-use Rattle.slink_feed.specs.Ties.{HasStream, IsBefore}
+use Rattle.slink_feed.specs.Serving.{Answers, IsAnswer, Serves, Standing, Takes, none_served, piece_served}
+use Rattle.slink_feed.specs.Session.{IsBefore, State, all_done, answered_in, at_next, grant_at, in_streaming, packet_at, reply_at_next, sent, sent_bytes, sent_in, sent_of}
 use Rattle.slink_feed.specs.Window.{Shows, Window, record_at}
-use Rattle.slink_feed.specs.World.{Serves, Takes, none_served, piece_served, sent_bytes}
-use Rattle.slink_feed.proofs.Answering.{Open, open_or}
+use Rattle.slink_feed.proofs.Closing.{Open, open_or}
 use Rattle.slink_feed.proofs.Sendings.{IsOn, answer_heard, heard_on, none_either, set_other, stretch_sent}
 
 -- A session streams on, or is closed, once it was asked.

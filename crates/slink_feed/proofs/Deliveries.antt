@@ -13,7 +13,7 @@ use Rattle.slink_feed.specs.Fetching.{Delivers, FailsAt, Fetches, Fetching, Read
 use Rattle.slink_feed.specs.Listening.{Brings, IsLinked, Listening, Reads, telling}
 use Rattle.slink_feed.specs.Turns.{Took, TookFront, told_once}
 use Rattle.slink_feed.proofs.Goings.{says_on, still_linked, tells_on}
-use Rattle.slink_feed.proofs.Pieces.{from_offset}
+use Rattle.slink_feed.proofs.Fronts.{from_offset}
 
 pub record SoFar (old now : Fetching) (bytes : List ℕ) (offset said_count written_count : ℕ) : Type 0 where
   pub told : List Event

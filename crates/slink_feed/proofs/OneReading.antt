@@ -1,5 +1,7 @@
 -- A stream of bytes reads as wholes in one way.
-use Rattle.std.proofs.Common.{◌≡◌, ℕ, ◌⊎◌, inl, inr, refl, sym, ap, subst, ◌∙◌, arith, List, [], ◌∷◌, ◌++◌, append_assoc, append-nil}
+use Rattle.std.proofs.Common.{◌≡◌, ℕ, inl, inr, refl, sym, ap, subst, ◌∙◌, arith, List, [], ◌∷◌, ◌++◌, append_assoc, append-nil}
+use Rattle.std.proofs.lemmas.List.{append_cancel_left}
+use Rattle.slink_wire.proofs.Fronts.{fronts}
 use Rattle.slink_feed.specs.declared.dialogue.Event.{Event}
 use Rattle.slink_feed.specs.declared.dialogue.Stage.{Stage}
 use Rattle.slink_feed.specs.declared.dialogue.Stage.TheVariants.{Unlinked, Station, Number, Packets, Ended}
@@ -7,25 +9,6 @@ use Rattle.slink_feed.specs.Cutting.{IsBegun, IsWhole}
 use Rattle.slink_feed.specs.Dialogue.{Talk, Whole, heard}
 use Rattle.slink_feed.specs.Listening.{AreBrought, Brought, IsLinked, Listening, Reads, bytes_of, events_of, talk_after}
 use Rattle.slink_feed.proofs.Wholes.{begun_no_whole, front_begun, one_whole}
-
--- of two fronts of a list, one goes on with the other
-abbrev Further : List ℕ → List ℕ → Type 0
-Further a b = (z : List ℕ) × (b ≡ a ++ z)
-
-pub fronts : (a b x y : List ℕ) → a ++ x ≡ b ++ y → Further a b ⊎ Further b a
-fronts [] b x y e = inl (b, refl)
-fronts (p ∷ a) [] x y e = inr (p ∷ a, refl)
-fronts (p ∷ a) (q ∷ b) x y e =
-    let heads : p ≡ q = cc in
-    let tails : a ++ x ≡ b ++ y = cc in
-    elim (fronts a b x y tails) [
-      | inl more ↦ inl (more.0, ap (λ h. h ∷ b) (sym heads) ∙ ap (λ t. p ∷ t) more.1)
-      | inr more ↦ inr (more.0, ap (λ h. h ∷ a) heads ∙ ap (λ t. q ∷ t) more.1)
-    ]
-
-pub cancel : (a x y : List ℕ) → a ++ x ≡ a ++ y → x ≡ y
-cancel [] x y e = e
-cancel (p ∷ a) x y e = cancel a x y (let tails : a ++ x ≡ a ++ y = cc in tails)
 
 -- a whole that another goes on with is that other
 no_further : (stage : Stage) (a z b : List ℕ) (w v : Whole) → IsWhole stage a w → IsWhole stage b v → b ≡ a ++ z → b ≡ a
@@ -63,7 +46,7 @@ one_brought t (b ∷ bs) [] k m p q e f g =
 one_brought t (b ∷ bs) (c ∷ cs) k m p q e f g =
     let both : b.bytes ++ (bytes_of bs ++ k) ≡ c.bytes ++ (bytes_of cs ++ m) = sym (append_assoc b.bytes (bytes_of bs) k) ∙ (e ∙ append_assoc c.bytes (bytes_of cs) m) in
     let front : b.bytes ≡ c.bytes = one_front t.stage b.bytes c.bytes (bytes_of bs ++ k) (bytes_of cs ++ m) b.whole c.whole p.0 q.0 both in
-    let rest : bytes_of bs ++ k ≡ bytes_of cs ++ m = cancel c.bytes (bytes_of bs ++ k) (bytes_of cs ++ m) (ap (λ xs. xs ++ (bytes_of bs ++ k)) (sym front) ∙ both) in
+    let rest : bytes_of bs ++ k ≡ bytes_of cs ++ m = append_cancel_left c.bytes (bytes_of bs ++ k) (bytes_of cs ++ m) (ap (λ xs. xs ++ (bytes_of bs ++ k)) (sym front) ∙ both) in
     let whole : b.whole ≡ c.whole = one_whole t.stage c.bytes b.whole c.whole (subst (λ (bytes : List ℕ). IsWhole t.stage bytes b.whole) front p.0) q.0 in
     let talk : (heard t b.whole).0 ≡ (heard t c.whole).0 = ap (λ w. (heard t w).0) whole in
     let more : (bs ≡ cs) × (k ≡ m) = one_brought (heard t c.whole).0 bs cs k m (subst (λ u. AreBrought u bs) talk p.1) q.1 rest (subst (λ u. IsRest (talk_after u bs).stage k) talk f) g in

@@ -15,13 +15,11 @@ use Rattle.slink_wire.proofs.Said.{one_command}
 use Rattle.slink_wire.proofs.Spelled.{checked, continued, lines_byte, lines_cr, with_cr}
 use Rattle.slink_feed.specs.declared.session.Phase.{Phase}
 use Rattle.slink_feed.specs.declared.session.Phase.TheVariants.{Closed}
-use Rattle.slink_feed.specs.Serving.{Answers, IsAnswer, Standing}
+use Rattle.slink_feed.specs.Serving.{Answers, IsAnswer, Serves, Standing, Takes, none_served, piece_served}
 use Rattle.slink_feed.specs.Session.{State, answered, answered_in, ended, reply_at_next}
 use Rattle.slink_feed.specs.Window.{Window}
-use Rattle.slink_feed.specs.World.{Serves, Takes, none_served, piece_served}
-use Rattle.slink_feed.proofs.Answering.{Open, open_or, shut_on}
-use Rattle.slink_feed.proofs.OneReading.{fronts}
-use Rattle.slink_feed.proofs.OneWorld.{held_same}
+use Rattle.slink_feed.proofs.Closing.{Open, held_same, open_or, shut_on}
+use Rattle.slink_wire.proofs.Fronts.{fronts}
 
 -- With more bytes a stream spells what it spelled, and lines behind that; once one was too long, none.
 record Grows (old new : Spelled) : Type 0 where
@@ -334,22 +332,11 @@ module _ (feed : List Window) where
       wrote_more s p.until a q.until p.lines d rest.0 all x r p.out q.out p.last p.replied (subst (λ ls. AreReplied s ls q.until q.out) same q.replied) (rest.1 ∙ ap (λ ls. ls ++ rest.0) same) in
       absurd (omega (arith, more, part, total))
 
-  line_fronts : (a b x y : List (List ℕ)) → a ++ x ≡ b ++ y → ((z : List (List ℕ)) × (b ≡ a ++ z)) ⊎ ((z : List (List ℕ)) × (a ≡ b ++ z))
-  line_fronts [] b x y e = inl (b, refl)
-  line_fronts (p ∷ a) [] x y e = inr (p ∷ a, refl)
-  line_fronts (p ∷ a) (q ∷ b) x y e =
-      let heads : p ≡ q = cc e in
-      let tails : a ++ x ≡ b ++ y = cc e in
-      elim (line_fronts a b x y tails) [
-        | inl far ↦ inl (far.0, ap (λ h. h ∷ b) (sym heads) ∙ ap (λ ls. p ∷ ls) far.1)
-        | inr far ↦ inr (far.0, ap (λ h. h ∷ a) heads ∙ ap (λ ls. q ∷ ls) far.1)
-      ]
-
   cut_once : (s a b : State) (all : List (List ℕ)) (r t : Reply) (p : Cut s all a r) (q : Cut s all b t) (m n : ℕ) → m < length (reply_bytes r) → n < length (reply_bytes t) → length p.out + m ≡ length q.out + n → CutAlike a b r t p.out q.out
   cut_once s a b all r t p q m n part other total =
       let x : (more : List (List ℕ)) × (all ≡ p.lines ++ more) = rest_of p.lines all p.until a r p.last in
       let y : (more : List (List ℕ)) × (all ≡ q.lines ++ more) = rest_of q.lines all q.until b t q.last in
-      elim (line_fronts p.lines q.lines x.0 y.0 (sym x.1 ∙ y.1)) [
+      elim (fronts p.lines q.lines x.0 y.0 (sym x.1 ∙ y.1)) [
         | inl far ↦ cut_further s a b all r t p q m n part total far.0 far.1
         | inr far ↦ (let one : CutAlike b a t r q.out p.out = cut_further s b a all t r q p n m other (sym total) far.0 far.1 in (sym one.0, sym one.1))
       ]

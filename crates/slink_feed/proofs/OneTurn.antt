@@ -17,15 +17,13 @@ use Rattle.slink_feed.specs.Attending.{Attends, FailsToReply, GoesOn, IsServeFau
 use Rattle.slink_feed.specs.Connection.{AreAlike, TookAlike}
 use Rattle.slink_feed.specs.Rounds.{Attending, FailsToSend, Gives, HasWaited, SendsAll, all_sent, place_behind}
 use Rattle.slink_feed.specs.Running.{Stands, StandsFor}
-use Rattle.slink_feed.specs.Serving.{Standing}
-use Rattle.slink_feed.specs.Session.{State, all_done, at_next, grant_at, packet_at, sent, sent_in, sent_of}
+use Rattle.slink_feed.specs.Serving.{Serves, Standing}
+use Rattle.slink_feed.specs.Session.{State, all_done, at_next, grant_at, packet_at, sent, sent_bytes, sent_in, sent_of}
 use Rattle.slink_feed.specs.Turns.{told_once}
 use Rattle.slink_feed.specs.Window.{Window, record_at}
-use Rattle.slink_feed.specs.World.{Serves, sent_bytes}
-use Rattle.slink_feed.proofs.Answering.{Open}
+use Rattle.slink_feed.proofs.Closing.{Open, standings_same}
 use Rattle.slink_feed.proofs.Connected.{shut_given}
 use Rattle.slink_feed.proofs.OneReply.{Same, cut_in_once, served_once}
-use Rattle.slink_feed.proofs.OneWorld.{standings_same}
 use Rattle.slink_feed.proofs.Sendoffs.{place_within}
 
 -- Where a session gives nothing, it stays as it is.

@@ -12,11 +12,10 @@ use Rattle.slink_feed.specs.declared.turn.LinkFault.TheVariants as faults
 use Rattle.slink_feed.specs.Attending.{RepliesToAll}
 use Rattle.slink_feed.specs.Replying.{HasFailed, HasSent, IsReplyFault, IsSaid, IsSayFault, IsSendFault, IsUnsaid, waits_after}
 use Rattle.slink_feed.specs.Rounds.{Attending, FailsToSend, Gives, HasWaited, all_sent, place_behind}
-use Rattle.slink_feed.specs.Serving.{Standing}
-use Rattle.slink_feed.specs.Session.{State, sent}
+use Rattle.slink_feed.specs.Serving.{Serves, Standing, Takes, none_served, piece_served}
+use Rattle.slink_feed.specs.Session.{State, sent, sent_bytes}
 use Rattle.slink_feed.specs.Turns.{Took}
 use Rattle.slink_feed.specs.Window.{Window}
-use Rattle.slink_feed.specs.World.{Serves, Takes, none_served, piece_served, sent_bytes}
 use Rattle.slink_feed.proofs.Deliveries.{front_further, piece_is, took_further, took_none}
 use Rattle.slink_feed.proofs.Dues.{Moves, due, few_due, moves, waits}
 

@@ -8,11 +8,10 @@ use Rattle.slink_wire.specs.Taking.{Tells}
 use Rattle.slink_feed.specs.declared.session.Phase.{Phase}
 use Rattle.slink_feed.specs.declared.session.Phase.TheVariants.{Fresh, Chosen, Granted, Streaming, Closed}
 use Rattle.slink_feed.specs.declared.session.Sent.{Sent}
-use Rattle.slink_feed.specs.Running.{IsServing, Stands, StandsFor}
-use Rattle.slink_feed.specs.Serving.{Answers, IsAnswer, Standing, TakesWhole}
-use Rattle.slink_feed.specs.Session.{Fits, State, sent, sent_in}
+use Rattle.slink_feed.specs.Running.{Stands, StandsFor}
+use Rattle.slink_feed.specs.Serving.{Answers, IsAnswer, Standing, Takes, TakesWhole}
+use Rattle.slink_feed.specs.Session.{State, sent, sent_in}
 use Rattle.slink_feed.specs.Window.{Window}
-use Rattle.slink_feed.specs.World.{LinkState, Takes}
 
 closed_or : (p : Phase) → (p ≡ Closed) ⊎ ¬ (p ≡ Closed)
 closed_or Fresh = inr (λ e. cc e)
@@ -75,8 +74,3 @@ sent_stands feed old new k what stands is same unshut =
     unshut (ap (λ (p : State × Sent). p.0.phase) (sym is ∙ stays) ∙ shut) in
     let s : (stream : List ℕ) × StandsFor old stream = stands unshut_before in
     (s.0, subst (λ (h : Held). IsHeld h s.0 × (h.is_too_long ≡ false)) (sym same) s.1)
-
--- The feed goes on, and fits whatever it fitted.
-pub serving_on : (feed new : List Window) (link : Option LinkState) → ((s : State) → Fits feed s → Fits new s) → IfSome link (IsServing feed) → IfSome link (IsServing new)
-serving_on feed new None fits serving = tt
-serving_on feed new (Some l) fits serving = (fits l.session.state serving.0, serving.1)

@@ -9,10 +9,9 @@ use Rattle.slink_feed.specs.declared.turn.LinkFault.TheVariants as faults
 use Rattle.slink_feed.specs.declared.turn.Turn.{Turn}
 use Rattle.slink_feed.specs.declared.turn.Turn.TheVariants as turns
 use Rattle.slink_feed.specs.Rounds.{Attending, FailsToSend, SendsAll}
-use Rattle.slink_feed.specs.Serving.{Standing}
+use Rattle.slink_feed.specs.Serving.{Serves, Standing, Takes}
 use Rattle.slink_feed.specs.Turns.{TookFront, failed_once, told_once}
 use Rattle.slink_feed.specs.Window.{Window}
-use Rattle.slink_feed.specs.World.{Serves, Takes}
 
 -- A session took all of these bytes, line by line, and each reply was written.
 pub record RepliesToAll (feed : List Window) (old new : Attending) (bytes : List ℕ) : Type 0 where

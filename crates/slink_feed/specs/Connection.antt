@@ -8,9 +8,8 @@ use Rattle.slink_feed.specs.declared.turn.Turn.{Turn}
 use Rattle.slink_feed.specs.Attending.{Attends, IsServeFault}
 use Rattle.slink_feed.specs.Rounds.{Attending}
 use Rattle.slink_feed.specs.Sending.{AreAsked, Asked, IsStretch, packets_of}
-use Rattle.slink_feed.specs.Session.{State, grant_at}
+use Rattle.slink_feed.specs.Session.{State, grant_at, sent_bytes}
 use Rattle.slink_feed.specs.Window.{Shows, Window}
-use Rattle.slink_feed.specs.World.{sent_bytes}
 
 -- Turns one after another, each with the feed as it then stands.
 pub data TakesTurns : Attending → List (List Window) → Attending → Type 0 where

@@ -1,16 +1,12 @@
--- What stays true of a world while steps happen.
-use Rattle.std.specs.Prelude.{◌≡◌, ℕ, ◌^◌, ◌<◌, ◌≤◌, List, map, length, false, Option, Some, IfSome, slice_get}
+-- A session that runs.
+use Rattle.std.specs.Prelude.{◌≡◌, ℕ, List, false}
 use Rattle.slink_wire.specs.Lines.{IsHeld}
-use Rattle.slink_wire.specs.Place.{Fields, Bears}
 use Rattle.slink_feed.specs.declared.session.Phase.TheVariants.{Closed}
-use Rattle.slink_feed.specs.declared.world.Step.{Step}
-use Rattle.slink_feed.specs.declared.world.Step.TheVariants.{Append, Connect, ToServer, ToClient, Send, Cut}
-use Rattle.slink_feed.specs.Cutting.{IsBegun}
-use Rattle.slink_feed.specs.Listening.{Listening}
 use Rattle.slink_feed.specs.Serving.{Standing}
-use Rattle.slink_feed.specs.Session.{Fits}
-use Rattle.slink_feed.specs.Window.{Window}
-use Rattle.slink_feed.specs.World.{LinkState, WorldState}
+
+-- The session stands for a stream of bytes, unless it is closed.
+abbrev pub HasStream : Standing → Type 0
+HasStream s = (stream : List ℕ) × (¬ (s.state.phase ≡ Closed) → IsHeld s.held stream)
 
 -- A session that isn't closed stands for some stream, none of whose lines is too long.
 abbrev pub StandsFor : Standing → List ℕ → Type 0
@@ -18,28 +14,3 @@ StandsFor s stream = IsHeld s.held stream × (s.held.is_too_long ≡ false)
 
 abbrev pub Stands : Standing → Type 0
 Stands s = ¬ (s.state.phase ≡ Closed) → (stream : List ℕ) × StandsFor s stream
-
--- What a client keeps is begun.
-abbrev pub Keeps : Listening → Type 0
-Keeps c = IsBegun c.talk.stage c.kept
-
-abbrev pub IsServing : List Window → LinkState → Type 0
-IsServing feed l = Fits feed l.session.state × Stands l.session
-
-pub record IsRunning (w : WorldState) : Type 0 where
-  pub client : Keeps w.client
-  pub link : IfSome w.link (IsServing w.windows)
-
--- A step can happen in this feed.
-abbrev pub IsPossible : List Window → Step → Type 0
-IsPossible feed (Append k bytes) = (v : Window) × (slice_get feed k ≡ Some v) × Bears bytes v.place × (v.next < 2 ^ 63)
-IsPossible feed (Send k) = k < length feed
-IsPossible feed Connect = Unit {0}
-IsPossible feed (ToServer n) = Unit {0}
-IsPossible feed (ToClient n) = Unit {0}
-IsPossible feed Cut = Unit {0}
-
--- The rings are of these places, and have numbers up to a bound.
-pub record AreRings (places : List (Fields × Option ℕ)) (bound : ℕ) (feed : List Window) : Type 0 where
-  pub places_are : map (λ (v : Window). v.place) feed ≡ map (λ (p : Fields × Option ℕ). p.0) places
-  pub numbers : (k : ℕ) (v : Window) → slice_get feed k ≡ Some v → v.next ≤ bound

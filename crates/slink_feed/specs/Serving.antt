@@ -1,13 +1,15 @@
 -- A session over the stream of bytes that its link brought so far.
-use Rattle.std.specs.Prelude.{◌≡◌, ℕ, List}
+use Rattle.std.specs.Prelude.{◌≡◌, ℕ, List, [], ◌++◌}
 use Rattle.slink_wire.specs.declared.command.Command.{Command}
 use Rattle.slink_wire.specs.declared.lines.What.{What}
 use Rattle.slink_wire.specs.declared.lines.What.TheVariants.{More, Line, TooLong}
 use Rattle.slink_wire.specs.declared.reply.Reply.{Reply}
 use Rattle.slink_wire.specs.declared.reply.Reply.TheVariants as Replies
 use Rattle.slink_wire.specs.Command.{IsCommand}
-use Rattle.slink_wire.specs.Lines.{Held}
+use Rattle.slink_wire.specs.Lines.{Held, IsHeld}
+use Rattle.slink_wire.specs.Reply.{reply_bytes}
 use Rattle.slink_wire.specs.Taking.{Tells}
+use Rattle.slink_feed.specs.declared.session.Phase.TheVariants.{Closed}
 use Rattle.slink_feed.specs.Session.{State, answered, ended}
 use Rattle.slink_feed.specs.Window.{Window}
 
@@ -29,3 +31,19 @@ Answers feed s before after new reply = (what : What) × Tells what before after
 -- So many bytes of these were taken: all of them, unless a line ended or is too long.
 abbrev pub TakesWhole : List ℕ → List ℕ → ℕ → ℕ → Type 0
 TakesWhole before after used count = (what : What) × Tells what before after × (what ≡ More → used ≡ count)
+
+-- A session takes bytes, of which the last may end a line, and replies. A closed one replies nothing.
+pub record Takes (feed : List Window) (old : Standing) (bytes : List ℕ) (new : Standing) (reply : Reply) : Type 0 where
+  -- It stands for the stream that its link brought, whichever that is.
+  pub held : (stream : List ℕ) → ¬ (old.state.phase ≡ Closed) → IsHeld old.held stream
+      → IsHeld new.held (stream ++ bytes)
+  pub answers : (stream : List ℕ) → ¬ (old.state.phase ≡ Closed) → IsHeld old.held stream
+      → Answers feed old.state stream (stream ++ bytes) new.state reply
+  pub closed : old.state.phase ≡ Closed → (reply ≡ Replies.Nothing) × (new ≡ old)
+
+-- A session takes all of these bytes, piece by piece, and its replies go on their way.
+pub data Serves (feed : List Window) : Standing → List ℕ → List ℕ → Standing → List ℕ → Type 0 where
+  none_served : (s : Standing) (way : List ℕ) → Serves feed s [] way s way
+  piece_served : (s now last : Standing) (bytes piece rest way all : List ℕ) (reply : Reply) → bytes ≡ piece ++ rest
+      → Takes feed s piece now reply
+      → Serves feed now rest (way ++ reply_bytes reply) last all → Serves feed s bytes way last all

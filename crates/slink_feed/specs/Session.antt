@@ -1,5 +1,5 @@
 -- What a session answers, and what it sends.
-use Rattle.std.specs.Prelude.{◌≡◌, ℕ, Bool, true, false, ◌+◌, ◌%◌, ◌^◌, ◌≤◌, ◌<◌, ◌==◌, ◌&&◌, List, length, Option, Some, None, unwrap_or, slice_get, slice_set, if◌then◌else◌}
+use Rattle.std.specs.Prelude.{◌≡◌, ℕ, Bool, true, false, ◌+◌, ◌%◌, ◌^◌, ◌≤◌, ◌<◌, ◌==◌, ◌&&◌, List, [], length, codes, Option, Some, None, unwrap_or, slice_get, slice_set, if◌then◌else◌}
 use Rattle.std.specs.List.{list_all, zip}
 use Rattle.std.specs.Option.{option_and_then}
 use Rattle.slink_wire.specs.declared.command.Command.{Command}
@@ -160,3 +160,19 @@ sent_in Closed feed s k = (s, Sents.Closed)
 -- what is sent of a place when it is asked for, and the state afterwards
 abbrev pub sent : List Window → State → ℕ → State × Sent
 sent feed s k = sent_in s.phase feed s k
+
+-- the bytes of what is sent
+abbrev pub sent_bytes : Sent → List ℕ
+sent_bytes (Sents.Packet bytes) = bytes
+sent_bytes Sents.Done = codes "END"
+sent_bytes Sents.Wait = []
+sent_bytes Sents.Overrun = []
+sent_bytes Sents.Closed = []
+
+-- before records are sent
+abbrev pub IsBefore : Phase → Type 0
+IsBefore Fresh = Unit {0}
+IsBefore (Chosen k) = Unit {0}
+IsBefore (Granted k) = Unit {0}
+IsBefore Streaming = ⊥
+IsBefore Closed = ⊥

@@ -7,7 +7,7 @@ ghost use Rattle.slink_feed.specs.Attending.{Attends, IsServeFault};
 ghost use Rattle.slink_feed.specs.Connection.{AreAlike, FailsInTurn, SendsStretches, TakesTurns, TookAlike};
 ghost use Rattle.slink_feed.specs.Rounds.{Attending, SendsAll};
 ghost use Rattle.slink_feed.specs.Running.{Stands};
-ghost use Rattle.slink_feed.specs.Ties.{IsBefore};
+ghost use Rattle.slink_feed.specs.Session.{IsBefore};
 ghost use Rattle.slink_feed.specs.Window.{Window};
 
 use crate::session::Phase;

@@ -91,7 +91,7 @@ impl Ending {
 
 /// What a reply says.
 #[derive(Clone, Copy)]
-pub(crate) enum Answer {
+pub enum Answer {
     /// `OK`.
     Granted,
     /// It begins with `ERROR`.

@@ -6,7 +6,6 @@ ghost use Rattle.slink_feed.specs.Rounds.{place_behind};
 ghost use Rattle.slink_feed.specs.Running.{Stands};
 ghost use Rattle.slink_feed.specs.Session.{Fits};
 
-use crate::carry::serve_piece;
 use crate::feed::Feed;
 use crate::session::{Sent, Session};
 use crate::turn::{LinkFault, Turn};
@@ -133,7 +132,7 @@ fn reply_to_all<A: Allocator, L: Sink>(
     let mut start = 0;
     let mut said = before;
     while start < bytes.len() {
-        let (used, reply) = serve_piece(feed, session, &bytes[start..]);
+        let (used, reply) = session.take(feed, &bytes[start..]);
         said = say(link, reply.bytes(), said)?;
         start += used;
     }

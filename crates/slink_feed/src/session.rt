@@ -10,8 +10,7 @@ ghost use Rattle.slink_feed.specs.Running.{Stands};
 ghost use Rattle.slink_feed.specs.Serving.{Answers, IsAnswer, TakesWhole};
 ghost use Rattle.slink_feed.specs.Session.{AreReached, Fits, all_done, answered, asked, at, at_next, chosen, ended};
 ghost use Rattle.slink_feed.specs.Session.{grant_at, in_chosen, in_fresh, in_granted, in_streaming, is_done, sent};
-ghost use Rattle.slink_feed.specs.Session.{sent_from};
-ghost use Rattle.slink_feed.specs.World.{sent_bytes};
+ghost use Rattle.slink_feed.specs.Session.{sent_bytes, sent_from};
 
 use crate::feed::Feed;
 use crate::grant::{Grant, Mode, first_granted};
@@ -115,6 +114,8 @@ impl Session {
             → n < result.0 → TellsNothing stream (stream ++ take n bytes.now) }
         ensures closed { self.old.state.phase ≡ Phase.Closed
             → (result.0 ≡ length bytes.now) × (result.1 ≡ Reply.Nothing) × (self.new ≡ self.old) }
+        // A session that stands for its stream takes some, where there are any.
+        ensures some { Stands self.old → 0 < length bytes.now → 0 < result.0 }
         ensures bound { result.0 ≤ length bytes.now }
         ensures fits { Fits feed.now self.new.state }
         // What a turn requires of a session stays true.
@@ -234,7 +235,7 @@ impl Session {
     }
 
     /// The number of the record that is sent next of a place that has a grant.
-    pub(crate) fn position(&self, k: usize) -> Option<u64>
+    pub fn position(&self, k: usize) -> Option<u64>
         ensures { result ≡ option_map (λ (g : Grant). g.position) (grant_at self.now.state.grants k) }
     {
         match self.grant_of(k) {

@@ -2,6 +2,7 @@ pub mod Cuts
 pub mod Codes
 pub mod Digits
 pub mod Packets
+pub mod Fronts
 pub mod Pieces
 pub mod Spelled
 pub mod Stepped

@@ -33,8 +33,8 @@ number_long : (number : Option ℕ) → length (number_bytes number) ≤ 7
 number_long None = omega arith
 number_long (Some n) = omega (arith, length-hexadecimal 6 n)
 
-line_of_station : (place : Fields) → IsField 5 place.station → IsField 2 place.network → IsLine (request_line (Station place))
-line_of_station place p q =
+pub station_line : (place : Fields) → IsField 5 place.station → IsField 2 place.network → IsLine (request_line (Station place))
+station_line place p q =
     let sta : List ℕ = code_in place.station in
     let net : List ℕ = code_in place.network in
     let long : length ((sta ++ 32 ∷ []) ++ net) ≡ length sta + 1 + length net = length-append (sta ++ 32 ∷ []) net ∙ ap (λ n. n + length net) (length-append sta (32 ∷ [])) in
@@ -45,21 +45,30 @@ line_of_station place p q =
       no_lf = refl;
     }
 
-pub line_of_request : (r : Request) → IsSpelled r → HasPlace r → IsLine (request_line r)
-line_of_request (Station place) spelled has = line_of_station place has.0 has.1
-line_of_request (Data number) spelled has = record {
+pub data_line : (number : Option ℕ) → IsLine (request_line (Data number))
+data_line number = record {
   some = omega arith;
   short = omega (arith, number_long number);
   no_cr = lacks_both (codes "DATA") (number_bytes number) refl (number_lacks number);
   no_lf = refl;
 }
-line_of_request (Fetch number) spelled has = record {
+
+pub fetch_line : (number : Option ℕ) → IsLine (request_line (Fetch number))
+fetch_line number = record {
   some = omega arith;
   short = omega (arith, number_long number);
   no_cr = lacks_both (codes "FETCH") (number_bytes number) refl (number_lacks number);
   no_lf = refl;
 }
-line_of_request End spelled has = record { some = omega arith; short = omega arith; no_cr = refl; no_lf = refl }
+
+pub end_line : IsLine (request_line End)
+end_line = record { some = omega arith; short = omega arith; no_cr = refl; no_lf = refl }
+
+pub line_of_request : (r : Request) → IsSpelled r → HasPlace r → IsLine (request_line r)
+line_of_request (Station place) spelled has = station_line place has.0 has.1
+line_of_request (Data number) spelled has = data_line number
+line_of_request (Fetch number) spelled has = fetch_line number
+line_of_request End spelled has = end_line
 
 pub command_of_request : (r : Request) → IsSpelled r → HasPlace r → IsCommand (request_line r) (requested r)
 command_of_request (Station place) spelled has = station_said place.station place.network has.0 has.1

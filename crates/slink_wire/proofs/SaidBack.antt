@@ -1,5 +1,5 @@
 -- Lines that are said are spelled again, and of a front of the stream a front of them.
-use Rattle.std.proofs.Common.{◌≡◌, ℕ, ◌<◌, ◌≤◌, ◌⊎◌, inl, inr, suc, refl, sym, ap, subst, ◌∙◌, arith, Bool, true, false, not, cond, ◌==◌, ◌&&◌, nat_lt, if◌then◌else◌, List, [], ◌∷◌, ◌++◌, append-nil, append_assoc, length, length-append}
+use Rattle.std.proofs.Common.{◌≡◌, ℕ, ◌<◌, ◌≤◌, inl, inr, suc, refl, sym, ap, subst, ◌∙◌, arith, Bool, true, false, not, cond, ◌==◌, ◌&&◌, nat_lt, if◌then◌else◌, List, [], ◌∷◌, ◌++◌, append-nil, append_assoc, length, length-append}
 use Rattle.std.specs.List.{list_all, onto_first, slice_split}
 use Rattle.std.proofs.lemmas.Bool.Decides.{eqb_tells, leb_tells}
 use Rattle.std.proofs.lemmas.List.{append_cancel_left}
@@ -7,6 +7,7 @@ use Rattle.std.proofs.lemmas.List.Folds.{list_all-append}
 use Rattle.slink_wire.specs.Lines.{Spelled, lines_of, spelled_by, stripped, too_long, unless_empty, with_piece}
 use Rattle.slink_wire.specs.Said.{AreLines, IsLine, SpellsFront, only_lines, said_bytes}
 use Rattle.slink_wire.proofs.Cuts.{Lacks, both}
+use Rattle.slink_wire.proofs.Fronts.{fronts}
 use Rattle.slink_wire.proofs.Pieces.{HasPiece, has_piece}
 use Rattle.slink_wire.proofs.Spelled.{fits_of}
 
@@ -40,7 +41,7 @@ split_none (x ∷ xs) h =
     ∙ ap (onto_first x) (split_none xs parts.1)
 
 -- before these lines
-abbrev behind : List ℕ → Spelled → Spelled
+abbrev pub behind : List ℕ → Spelled → Spelled
 behind line s = record s { lines = line ∷ s.lines }
 
 line_first : (line : List ℕ) (s : Spelled) → 0 < length line → record s { lines = unless_empty line ++ s.lines } ≡ behind line s
@@ -54,7 +55,7 @@ line_spelled line (p ∷ ps) has is =
     ∙ (ap (λ t. if t then too_long else with_piece line (p ∷ ps) (spelled_by (p ∷ ps))) (not_long (length line) is.short) ∙ line_first line (spelled_by (p ∷ ps)) is.some)
 
 -- a line, and what is behind its CR
-lines_then : (line rest : List ℕ) → IsLine line → lines_of (line ++ 13 ∷ rest) ≡ behind line (lines_of rest)
+pub lines_then : (line rest : List ℕ) → IsLine line → lines_of (line ++ 13 ∷ rest) ≡ behind line (lines_of rest)
 unfolding lines_of
 lines_then line rest is = ap spelled_by (split_then line rest is.no_cr) ∙ line_spelled line (slice_split (λ b. b == 13) rest) (has_piece (λ b. b == 13) rest) is
 
@@ -63,43 +64,28 @@ lf_spelled [] has = absurd has
 lf_spelled (p ∷ []) has = refl
 lf_spelled (p ∷ q ∷ ps) has = refl
 
-lines_lf : (rest : List ℕ) → lines_of (10 ∷ rest) ≡ lines_of rest
+pub lines_lf : (rest : List ℕ) → lines_of (10 ∷ rest) ≡ lines_of rest
 unfolding lines_of
 lines_lf rest = lf_spelled (slice_split (λ b. b == 13) rest) (has_piece (λ b. b == 13) rest)
 
 -- no line is told, and none is too long
-abbrev Quiet : List ℕ → Type 0
+abbrev pub Quiet : List ℕ → Type 0
 Quiet bytes = ((lines_of bytes).lines ≡ []) × ((lines_of bytes).is_too_long ≡ false)
 
 part_spelled : (t : Bool) (piece : List ℕ) (s : Spelled) → t ≡ false → s ≡ (if t then too_long else with_piece piece [] (spelled_by [])) → (s.lines ≡ []) × (s.is_too_long ≡ false)
 part_spelled true piece s fails is = absurd (let bad : true ≡ false = fails in cc bad)
 part_spelled false piece s fails is = (ap (λ (x : Spelled). x.lines) is, ap (λ (x : Spelled). x.is_too_long) is)
 
-part_quiet : (part : List ℕ) → Lacks 13 part → length part ≤ 255 → Quiet part
+pub part_quiet : (part : List ℕ) → Lacks 13 part → length part ≤ 255 → Quiet part
 unfolding lines_of
 part_quiet part lacks short =
     part_spelled (nat_lt 255 (length (stripped part))) (stripped part) (lines_of part) (not_long (length (stripped part)) (let less : length (stripped part) ≤ length part = stripped_short part in omega (arith, less, short))) (ap spelled_by (split_none part lacks))
 
-none_quiet : Quiet []
+pub none_quiet : Quiet []
 none_quiet = part_quiet [] refl (omega arith)
 
 none_told : (bytes : List ℕ) (lines : List (List ℕ)) → Quiet bytes → SpellsFront bytes lines
 none_told bytes lines quiet = (0, omega arith, quiet.0, quiet.1)
-
--- of two fronts of a list, one goes on with the other
-abbrev Further : List ℕ → List ℕ → Type 0
-Further a b = (z : List ℕ) × (b ≡ a ++ z)
-
-pub fronts : (a b x y : List ℕ) → a ++ x ≡ b ++ y → Further a b ⊎ Further b a
-fronts [] b x y e = inl (b, refl)
-fronts (p ∷ a) [] x y e = inr (p ∷ a, refl)
-fronts (p ∷ a) (q ∷ b) x y e =
-    let heads : p ≡ q = cc in
-    let tails : a ++ x ≡ b ++ y = cc in
-    elim (fronts a b x y tails) [
-      | inl more ↦ inl (more.0, ap (λ h. h ∷ b) (sym heads) ∙ ap (λ t. p ∷ t) more.1)
-      | inr more ↦ inr (more.0, ap (λ h. h ∷ a) heads ∙ ap (λ t. q ∷ t) more.1)
-    ]
 
 one_told : (line rest : List ℕ) (lines : List (List ℕ)) → IsLine line → SpellsFront rest lines → SpellsFront (line ++ 13 ∷ rest) (line ∷ lines)
 one_told line rest lines is told = (
@@ -109,7 +95,7 @@ one_told line rest lines is told = (
   ap (λ (s : Spelled). s.is_too_long) (lines_then line rest is) ∙ told.3,
 )
 
-lacks_front : (t z : List ℕ) → Lacks 13 (t ++ z) → Lacks 13 t
+pub lacks_front : (t z : List ℕ) → Lacks 13 (t ++ z) → Lacks 13 t
 lacks_front t z h = (both (list_all (λ b. not (b == 13)) t) (list_all (λ b. not (b == 13)) z) (sym (list_all-append (λ b. not (b == 13)) t z) ∙ h)).0
 
 front_told : (line t z : List ℕ) (lines : List (List ℕ)) → IsLine line → line ≡ t ++ z → SpellsFront t lines

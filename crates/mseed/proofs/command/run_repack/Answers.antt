@@ -1,5 +1,5 @@
 use Rattle.std.proofs.Common.{Ok, Err, refl, ◌∙◌}
-use Rattle.mseed.proofs.Wholes.{one_encoding}
+use Rattle.mseed.proofs.Encodings.{one_encoding}
 use Rattle.mseed.proofs.command.run_repack.Goals as goal
 
 pub returns-in-Ok-repack : goal.returns-in-Ok-repack

@@ -1,6 +1,5 @@
 use Rattle.std.proofs.Common.{sym}
-use Rattle.slink_feed.specs.Cutting.{Begins}
-use Rattle.slink_feed.specs.Cutting.{no_first}
+use Rattle.slink_feed.specs.Cutting.{Begins, no_first}
 use Rattle.slink_feed.proofs.cutting.judge.Goals as goal
 
 pub returns-in-Some : goal.returns-in-Some

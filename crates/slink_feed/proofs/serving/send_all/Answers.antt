@@ -5,9 +5,8 @@ use Rattle.slink_feed.specs.declared.session.Sent.TheVariants as sents
 use Rattle.slink_feed.specs.Attending.{attending}
 use Rattle.slink_feed.specs.Replying.{IsSaid, IsSayFault, IsSendFault, waits_after}
 use Rattle.slink_feed.specs.Rounds.{Attending, place_behind}
-use Rattle.slink_feed.specs.Session.{State, sent}
+use Rattle.slink_feed.specs.Session.{State, sent, sent_bytes}
 use Rattle.slink_feed.specs.Window.{Window}
-use Rattle.slink_feed.specs.World.{sent_bytes}
 use Rattle.slink_feed.proofs.Dues.{Moves, due, moved}
 use Rattle.slink_feed.proofs.Sendoffs.{SentSoFar, few_said, has_sent, less_left, not_sent, passed_on, nothing_sent, one_sent}
 use Rattle.slink_feed.proofs.serving.send_all.Goals as goal

@@ -3,7 +3,7 @@ use Rattle.slink_wire.specs.Lines.{Held, IsHeld}
 use Rattle.slink_feed.specs.Serving.{Standing}
 use Rattle.slink_feed.specs.Session.{at}
 use Rattle.slink_feed.proofs.Answered.{answer_told}
-use Rattle.slink_feed.proofs.Stands.{still_stands}
+use Rattle.slink_feed.proofs.Stands.{piece_taken, still_stands}
 use Rattle.slink_feed.proofs.session.Session.take.Goals as goal
 
 pub returns-in_default-clause-answers : goal.returns-in_default-clause-answers
@@ -19,6 +19,11 @@ returns-in_default-clause-whole g c stream runs held =
       c.take-used.ensures.told stream (subst (λ (h : Held). IsHeld h stream) (sym same) held),
       c.take-used.ensures.whole,
     )
+
+pub returns-in_default-clause-some : goal.returns-in_default-clause-some
+returns-in_default-clause-some g c stands some =
+    piece_taken c.args.self.now c.answer_to.new.self c.args.bytes.now c.take-used.result.used some stands (returns-in_default-clause-whole g c)
+    (λ shut. absurd (c.in_default.not-Closed (ap (λ (s : Standing). s.state.phase) c.self.view_is ∙ shut)))
 
 pub returns-in_default-clause-stands : goal.returns-in_default-clause-stands
 returns-in_default-clause-stands g c stands =

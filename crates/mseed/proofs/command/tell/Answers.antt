@@ -1,7 +1,0 @@
-use Rattle.mseed.proofs.Written.{told}
-use Rattle.mseed.proofs.command.tell.Goals as goal
-
-pub returns : goal.returns
-returns g c =
-    let e = c.write_all_of.ensures in
-    told c.write_all_of.result c.args.line.now (g.E.Sink.said c.args.errors.now) (g.E.Sink.said c.write_all_of.new.sink) e.ok e.fine e.err e.within e.failed

@@ -1,7 +1,0 @@
-use Rattle.std.proofs.Common.{map, take}
-use Rattle.mseed_record.specs.Viewing.{view_of}
-use Rattle.mseed_pack.specs.ReadBack.{AreViewsOf}
-use Rattle.mseed.proofs.relay.views_of.Given as goal
-
-abbrev pub invariant-loop-record : goal.invariant-loop-record
-invariant-loop-record l = AreViewsOf (take l.record-index l.records) (map view_of l.views.items)

@@ -1,7 +1,0 @@
-use Rattle.std.proofs.Common.{◌≤◌, take, All}
-use Rattle.mseed.specs.Reading.{samples_said}
-use Rattle.mseed.specs.Repack.{Channel}
-use Rattle.mseed.proofs.repack.longest.Given as goal
-
-abbrev pub invariant-loop-channel : goal.invariant-loop-channel
-invariant-loop-channel l = All (λ (c : Channel). samples_said c.1 ≤ l.most) (take l.channel-index l.channels)

@@ -1,8 +1,0 @@
-use Rattle.std.proofs.Common.{map, take}
-use Rattle.mseed_record.specs.Viewing.{view_of}
-use Rattle.mseed.specs.Repack.{ArePackedInto, Wrote}
-use Rattle.mseed.proofs.repack.pack_all.Given as goal
-
-abbrev pub invariant-loop-number : goal.invariant-loop-number
-invariant-loop-number g l =
-    Wrote (ArePackedInto l.options (map view_of l.views) (take l.number l.channels)) 0 (g.W.Sink.said l.fn.output) (g.W.Sink.said l.output)

@@ -1,6 +1,0 @@
--- What a sink in memory took.
-use Rattle.mseed_stream.specs.Device.{Said}
-use Rattle.mseed.specs.declared.kept.Kept.{Kept}
-
-abbrev pub said_by : {A : Type 0} → Kept A → Said
-said_by k = record { bytes = k.bytes.items; calls = k.calls.calls; failures = k.calls.failures }

@@ -1,0 +1,77 @@
+-- What is known of a channel's samples, record by record.
+use Rattle.std.proofs.Common.{◌≡◌, ℕ, ℤ, ◌+◌, ◌≤◌, ◌<◌, List, [], ◌∷◌, ◌++◌, length, take, refl, sym, ap, subst, ◌∙◌, arith, All}
+use Rattle.std.proofs.lemmas.List.{take_all, length-append}
+use Rattle.std.proofs.lemmas.List.Elements.{All-append, All-nil}
+use Rattle.mseed_time.specs.declared.outcome.LeapStep.{LeapStep}
+use Rattle.mseed_record.specs.View.{View, leap_of}
+use Rattle.mseed_steim.specs.Reading.{count_of, IsWhole}
+use Rattle.mseed_steim.specs.Spelling.{IsWithin}
+use Rattle.mseed_audit.specs.Judging.{step_in}
+use Rattle.mseed_audit.specs.Series.{Trace, step_at}
+use Rattle.mseed_audit.proofs.Joined.{count_is}
+use Rattle.mseed_pack.specs.Fitting.{Fits}
+use Rattle.mseed_pack.specs.declared.options.Options.{Options}
+use Rattle.mseed_repack.specs.Outline.{AreHeld, IsKnown, IsOutline, with_samples}
+use Rattle.mseed_repack.specs.Reading.{AreOf, step_count}
+use Rattle.mseed_repack.specs.declared.outline.Nearness.{Nearness}
+use Rattle.mseed_repack.specs.declared.outline.Nearness.TheVariants.{Empty}
+use Rattle.mseed_repack.proofs.Near.{whole_within}
+use Rattle.mseed_repack.proofs.ReadChannels.{IsRead, read_more, read_none}
+
+-- what is known of the samples of these records, as if they had been read
+pub record IsOutlined (key : List ℕ) (vs : List View) (m k : ℕ) (nearness : Nearness) (steps : List (ℕ × LeapStep)) : Type 0 where
+  pub samples : List ℤ
+  pub read : IsRead key vs m k samples steps
+  pub long : length samples ≡ m
+  pub within : All (IsWithin 32) samples
+  pub known : IsKnown nearness samples
+
+pub outlined_none : (key : List ℕ) (steps : List (ℕ × LeapStep)) → IsOutlined key [] 0 0 Empty steps
+outlined_none key steps = record {
+  samples = [];
+  read = read_none key [] steps;
+  long = refl;
+  within = All-nil (IsWithin 32);
+  known = refl;
+}
+
+-- one more record
+pub outlined_more : (key : List ℕ) (vs : List View) (v : View) (m k m' k' : ℕ) (near near' : Nearness) (s : List ℤ) (ss ss' : List (ℕ × LeapStep)) → IsOutlined key vs m k near ss
+    → IsWhole v s → m' ≡ m + count_of v → take k' ss' ≡ take k ss ++ step_at m' (step_in (leap_of v.bytes)) → k' ≡ k + step_count v
+    → ((xs s : List ℤ) → IsKnown near xs → IsWhole v s → IsKnown near' (xs ++ s)) → IsOutlined key (vs ++ v ∷ []) m' k' near' ss'
+outlined_more key vs v m k m' k' near near' s ss ss' h whole count steps bears known =
+    let xs : List ℤ = h.samples in
+    let inside : length xs ≤ m = omega (arith, h.long) in
+    let size : length (xs ++ s) ≡ m' = omega (arith, length-append xs s, h.long, count, count_is v s whole) in
+    let all : length (xs ++ s) ≤ m' = omega (arith, size) in
+    let taken : take m' (xs ++ s) ≡ take m xs ++ s = take_all m' (xs ++ s) all ∙ ap (λ (ys : List ℤ). ys ++ s) (sym (take_all m xs inside)) in record {
+      samples = xs ++ s;
+      read = read_more key vs v m k m' k' xs (xs ++ s) s ss ss' (omega (arith, h.long)) h.read whole taken steps count bears;
+      long = size;
+      within = All-append (IsWithin 32) xs s h.within (whole_within v s whole);
+      known = known xs s h.known whole;
+    }
+
+pub outline_is : (key : List ℕ) (vs : List View) (m k : ℕ) (near : Nearness) (ss : List (ℕ × LeapStep)) → IsOutlined key vs m k near ss → IsOutline key vs m k near ss
+outline_is key vs m k near ss h = record {
+  samples = h.samples;
+  are = subst (λ (xs : List ℤ). AreOf key vs xs (take k ss)) (take_all m h.samples (omega (arith, h.long))) h.read.read;
+  places = h.read.places;
+  count_is = sym h.long;
+  within = h.within;
+  known = h.known;
+}
+
+empty_list : (ys : List ℤ) → length ys ≡ 0 → ys ≡ []
+empty_list [] e = refl
+empty_list (y ∷ ys) e = absurd (omega (arith, e))
+
+-- a series fits where another of as many samples does, and the encoding holds its own
+pub fits_with : (s : Trace) (xs : List ℤ) (o p : Options) → length xs ≡ length s.samples → Fits s p → AreHeld o.encoding xs → Fits (with_samples xs s) o
+fits_with s xs o p size fits held = record {
+  some = λ none. fits.some (empty_list s.samples (sym size ∙ ap (λ (ys : List ℤ). length ys) none));
+  slow = fits.slow;
+  timed = λ outside. fits.timed (outside.0, (subst (λ (n : ℕ). outside.0 < n) size outside.1.0, outside.1.1));
+  samples = held.0;
+  differences_fit = held.1;
+}

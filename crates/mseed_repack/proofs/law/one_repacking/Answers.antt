@@ -1,0 +1,13 @@
+use Rattle.mseed_repack.proofs.OneRepacking.{one_repacking}
+use Rattle.mseed_repack.proofs.law.one_repacking.Goals as goal
+
+pub returns : goal.returns
+returns c = one_repacking (record {
+  input = c.one_input.ensures.input;
+  list = c.one_list_of_verdicts.ensures;
+  series = c.one_series.ensures.series;
+  packing = c.one_packing.ensures.whole;
+  front = c.one_packing.ensures.front;
+  misfit = c.one_misfit.ensures.one;
+  none = c.one_misfit.ensures.none;
+})

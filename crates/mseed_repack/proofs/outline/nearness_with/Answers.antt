@@ -1,0 +1,30 @@
+use Rattle.std.proofs.Common.{◌≡◌, ◌++◌, ℤ, ◌-ℤ◌, refl, sym, subst, rules, to_z, of_z, w32}
+use Rattle.std.proofs.lemmas.Int.{to_z-of_z}
+use Rattle.mseed_steim.specs.Spelling.{IsWithin}
+use Rattle.mseed_repack.specs.Outline.{IsKnown}
+use Rattle.mseed_repack.specs.declared.outline.Nearness.{Nearness}
+use Rattle.mseed_repack.specs.declared.outline.Nearness.TheVariants.{Near}
+use Rattle.mseed_repack.proofs.Near.{known_first, known_more}
+use Rattle.mseed_repack.proofs.outline.nearness_with.Goals as goal
+
+pub returns-in-Empty : goal.returns-in-Empty
+returns-in-Empty c =
+    let ends = c.in-Some.ends in
+    let same : to_z w32 (of_z w32 ends.last) ≡ ends.last = to_z-of_z w32 _ (search rules) in
+    λ xs s known whole.
+    let found = c.in-Some.ensures s whole in
+    let none = subst (λ (n : Nearness). IsKnown n xs) c.in-Empty.is known in
+    subst (λ (z : ℤ). IsKnown (Near z) (xs ++ s)) (sym same) (known_first ends xs s none found.0 found.1)
+
+pub returns-then-is_near : goal.returns-then-is_near
+returns-then-is_near c =
+    let ends = c.in-Some.ends in
+    let same : to_z w32 (of_z w32 ends.last) ≡ ends.last = to_z-of_z w32 _ (search rules) in
+    λ xs s known whole.
+    let found = c.in-Some.ensures s whole in
+    let before = subst (λ (n : Nearness). IsKnown n xs) c.in-Near.is known in
+    let first : to_z w32 (of_z w32 ends.first) ≡ ends.first = to_z-of_z w32 _ (search rules) in
+    let last : to_z w32 (of_z w32 c.in-Near.last) ≡ c.in-Near.last = to_z-of_z w32 _ (search rules) in
+    let step : IsWithin 30 (ends.first -ℤ c.in-Near.last) =
+    subst (λ (z : ℤ). IsWithin 30 (z -ℤ c.in-Near.last)) first (subst (λ (z : ℤ). IsWithin 30 (to_z w32 (of_z w32 ends.first) -ℤ z)) last (c.if-is_near.ensures.0 refl)) in
+    subst (λ (z : ℤ). IsKnown (Near z) (xs ++ s)) (sym same) (known_more ends c.in-Near.last xs s before found.0 found.1 step)

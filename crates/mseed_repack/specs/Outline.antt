@@ -1,0 +1,65 @@
+-- What is known of a channel's samples before they are read.
+use Rattle.std.specs.Prelude.{⊤, ◌≡◌, ℕ, Bool, true, false, ℤ, List, [], ◌∷◌, take, length, All}
+use Rattle.std.specs.List.{AllByRecursion}
+use Rattle.mseed_time.specs.declared.outcome.LeapStep.{LeapStep}
+use Rattle.mseed_record.specs.View.{View}
+use Rattle.mseed_steim.specs.Spelling.{IsWithin}
+use Rattle.mseed_audit.specs.Series.{AreSteps, Trace}
+use Rattle.mseed_pack.specs.Fitting.{IsDifferenceOf, IsSampleOf}
+use Rattle.mseed_pack.specs.Stretches.{differences}
+use Rattle.mseed_pack.specs.declared.options.Encoding.{Encoding}
+use Rattle.mseed_pack.specs.declared.options.Encoding.TheVariants.{Int16, Int32, Steim1, Steim2}
+use Rattle.mseed_repack.specs.Reading.{AreOf}
+use Rattle.mseed_repack.specs.declared.outline.Nearness.{Nearness}
+use Rattle.mseed_repack.specs.declared.outline.Nearness.TheVariants.{Empty, Near, Unknown}
+
+-- the last of some numbers, or else the one before them
+abbrev pub last_behind : ℤ → List ℤ → ℤ
+last_behind before [] = before
+last_behind before (x ∷ xs) = last_behind x xs
+
+-- there is a last number, and it is this one
+abbrev pub EndsOn : ℤ → List ℤ → Type 0
+EndsOn last [] = ⊥
+EndsOn last (x ∷ xs) = last_behind x xs ≡ last
+
+-- each number is the one before it plus a difference of 30 bits, the widest of a Steim-2 word (SEED manual, appendix B)
+abbrev pub AreNear : List ℤ → Type 0
+AreNear xs = AllByRecursion (IsWithin 30) (differences xs)
+
+-- what is known of samples: there is none; or each is near the one before it, and this is the last; or nothing
+abbrev pub IsKnown : Nearness → List ℤ → Type 0
+IsKnown Empty xs = xs ≡ []
+IsKnown (Near last) xs = EndsOn last xs × AreNear xs
+IsKnown Unknown xs = ⊤
+
+-- an encoding holds samples, and their differences
+abbrev pub AreHeld : Encoding → List ℤ → Type 0
+AreHeld encoding xs = All (IsSampleOf encoding) xs × All (IsDifferenceOf encoding) (differences xs)
+
+-- there are samples, and each is near the one before it
+abbrev pub says_near : Nearness → Bool
+says_near Empty = false
+says_near (Near last) = true
+says_near Unknown = false
+
+-- whether an encoding surely holds them: integers of 32 bits hold any, either Steim those that are near
+abbrev pub is_held : Nearness → Encoding → Bool
+is_held nearness Int16 = false
+is_held nearness Int32 = true
+is_held nearness Steim1 = says_near nearness
+is_held nearness Steim2 = says_near nearness
+
+-- a series with other samples
+abbrev pub with_samples : List ℤ → Trace → Trace
+with_samples xs s = record s { samples = xs }
+
+-- The samples of these records are so many numbers of 32 bits, of which this is known, and their leap seconds are the
+-- first so many of a list.
+pub record IsOutline (key : List ℕ) (vs : List View) (count bears : ℕ) (nearness : Nearness) (steps : List (ℕ × LeapStep)) : Type 0 where
+  pub samples : List ℤ
+  pub are : AreOf key vs samples (take bears steps)
+  pub places : AreSteps count (take bears steps)
+  pub count_is : count ≡ length samples
+  pub within : All (IsWithin 32) samples
+  pub known : IsKnown nearness samples

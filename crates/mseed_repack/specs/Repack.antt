@@ -1,0 +1,140 @@
+-- What is written when an archive is packed anew.
+use Rattle.std.specs.Prelude.{ℤ, ◌≡◌, ◌≢◌, ◌⊎◌, ℕ, ◌+◌, ◌<◌, ◌^◌, List, [], ◌∷◌, ◌++◌, length, take, IsTrue, All, Result, Ok, Err}
+use Rattle.std.specs.List.{concat, AllByRecursion}
+use Rattle.mseed_record.specs.View.{View, IsView}
+use Rattle.mseed_stream.specs.Archive.{IsArchive}
+use Rattle.mseed_stream.specs.Device.{Heard, Said, nothing_heard}
+use Rattle.mseed_stream.specs.Fault.{IsStreamFault}
+use Rattle.mseed_stream.specs.Split.{IsSplitFault}
+use Rattle.mseed_stream.specs.Walk.{bytes_in}
+use Rattle.mseed_stream.specs.declared.fault.StreamFault.{StreamFault}
+use Rattle.mseed_stream.specs.declared.fault.StreamFault.TheVariants.{Frame, Truncated, Read, Turns, Memory as NoMemory}
+use Rattle.mseed_audit.specs.Channels.{added_from, records_of, views_in}
+use Rattle.mseed_audit.specs.Follows.{IsContinuous}
+use Rattle.mseed_audit.specs.Series.{Trace, IsSeriesOf}
+use Rattle.mseed_audit.specs.Verdict.{AreVerdicts}
+use Rattle.mseed_audit.specs.declared.verdict.Verdict.{Verdict}
+use Rattle.mseed_pack.specs.Fitting.{Fits, IsMisfit}
+use Rattle.mseed_pack.specs.Packing.{IsPacking, PacksUpTo}
+use Rattle.mseed_pack.specs.declared.fault.PackFault.{PackFault}
+use Rattle.mseed_pack.specs.declared.options.Options.{Options}
+use Rattle.mseed_repack.specs.declared.fault.RepackFault.{RepackFault}
+use Rattle.mseed_repack.specs.declared.fault.RepackFault.TheVariants.{Stream, Broken, Misfit, Write, Memory}
+
+-- a fault of the input; a want of memory is none
+abbrev pub stream_fault : StreamFault → RepackFault
+stream_fault (Frame n f) = Stream (Frame n f)
+stream_fault (Truncated n have) = Stream (Truncated n have)
+stream_fault (Read n) = Stream (Read n)
+stream_fault (Turns n) = Stream (Turns n)
+stream_fault NoMemory = Memory
+
+-- a channel of an archive: its key, and the verdict on it
+abbrev pub Channel : Type 0
+Channel = List ℕ × Verdict
+
+-- what was heard, to its end, is the bytes of these records
+pub record IsWhole (h : Heard) (views : List View) : Type 0 where
+  pub archive : IsArchive h.bytes (bytes_in views) []
+  pub each : AllByRecursion IsView views
+  pub few : length views < 2 ^ 40
+  pub ended : IsTrue h.is_at_end
+  pub fine : h.failures ≡ 0
+
+-- the input failed, or its bytes are no whole archive
+abbrev pub IsUnread : StreamFault → Heard → Type 0
+IsUnread fault h =
+    IsStreamFault fault nothing_heard h ⊎ (IsTrue h.is_at_end × (h.failures ≡ 0) × IsSplitFault fault h.bytes)
+
+-- the records of the channel with this key
+abbrev pub records_in : List View → List ℕ → List View
+records_in views key = views_in (records_of key (added_from 0 views))
+
+abbrev pub AreContinuous : List View → List Channel → Type 0
+AreContinuous views channels = All (λ c. IsContinuous (records_in views c.0)) channels
+
+-- the channel's series can be packed
+pub record CanBePacked (o : Options) (views : List View) (key : List ℕ) : Type 0 where
+  pub trace : Trace
+  pub series : IsSeriesOf trace (records_in views key)
+  pub fits : Fits trace o
+
+-- the channel's series can't be packed
+pub record CantBePacked (o : Options) (views : List View) (fault : PackFault) (key : List ℕ) : Type 0 where
+  pub trace : Trace
+  pub series : IsSeriesOf trace (records_in views key)
+  pub misfit : IsMisfit trace o fault
+
+-- of these channels the one with this key is the first of its kind
+pub record IsFirst (Before At : List ℕ → Type 0) (key : List ℕ) (channels : List Channel) : Type 0 where
+  pub front : List Channel
+  pub verdict : Verdict
+  pub back : List Channel
+  pub parts : channels ≡ front ++ (key, verdict) ∷ back
+  pub before : All (λ c. Before c.0) front
+  pub is_it : At key
+
+-- the channel's series is packed into these records
+pub record IsPackedInto (o : Options) (views : List View) (key : List ℕ) (records : List (List ℕ)) : Type 0 where
+  pub trace : Trace
+  pub series : IsSeriesOf trace (records_in views key)
+  pub packing : IsPacking trace o records
+
+-- the records that the series of these channels are packed into, channel behind channel
+pub data ArePackedInto (o : Options) (views : List View) : List Channel → List ℕ → Type 0 where
+  none : ArePackedInto o views [] []
+  more : (cs : List Channel) (c : Channel) (text : List ℕ) (records : List (List ℕ)) → ArePackedInto o views cs text
+      → IsPackedInto o views c.0 records → ArePackedInto o views (cs ++ c ∷ []) (text ++ concat records)
+
+-- the records of the first channels, and of the next channel's a part
+pub record IsPartPacked (o : Options) (views : List View) (channels : List Channel) (text : List ℕ) : Type 0 where
+  pub front : List Channel
+  pub next : Channel
+  pub back : List Channel
+  pub parts : channels ≡ front ++ next ∷ back
+  pub before : List ℕ
+  pub packed : ArePackedInto o views front before
+  pub trace : Trace
+  pub series : IsSeriesOf trace (records_in views next.0)
+  pub records : List (List ℕ)
+  pub left : List ℤ
+  pub packing : PacksUpTo trace o records left
+  pub taken : ℕ
+  pub text_is : text ≡ before ++ take taken (concat records)
+
+-- What was heard is a whole archive, and these are its channels, in the order of their keys.
+pub record IsArchiveOf (h : Heard) (views : List View) (channels : List Channel) : Type 0 where
+  pub whole : IsWhole h views
+  pub verdicts : AreVerdicts (added_from 0 views) channels
+
+-- each channel is continuous, and can be packed
+pub record IsFitFor (o : Options) (h : Heard) (views : List View) (channels : List Channel) : Type 0 where
+  pub archive : IsArchiveOf h views channels
+  pub continuous : AreContinuous views channels
+  pub fit : All (λ c. CanBePacked o views c.0) channels
+
+-- this was written
+pub record Wrote (P : List ℕ → Type 0) (failures : ℕ) (old new : Said) : Type 0 where
+  pub text : List ℕ
+  pub text_is : P text
+  pub bytes : new.bytes ≡ old.bytes ++ text
+  pub failed : new.failures ≡ old.failures + failures
+
+abbrev pub Exists : (List View → List Channel → Type 0) → Type 0
+Exists P = (views : List View) × ((channels : List Channel) × P views channels)
+
+-- What packing anew comes to. All is written where the input is a whole archive, each channel continuous, and each
+-- series can be packed; a front of that where the output failed; and nothing otherwise, where memory was refused too.
+abbrev pub IsRepacking : {U : Type 0} → Options → Result U RepackFault → Heard → Said → Said → Type 0
+IsRepacking o (Ok u) h old new =
+    Exists (λ views channels. IsFitFor o h views channels × Wrote (ArePackedInto o views channels) 0 old new)
+IsRepacking o (Err (Stream fault)) h old new = (fault ≢ NoMemory) × IsUnread fault h × (new ≡ old)
+IsRepacking o (Err (Broken key)) h old new =
+    Exists (λ views channels. IsArchiveOf h views channels
+    × IsFirst (λ k. IsContinuous (records_in views k)) (λ k. ¬ (IsContinuous (records_in views k))) key channels × (new ≡ old))
+IsRepacking o (Err (Misfit key fault)) h old new =
+    Exists (λ views channels. IsArchiveOf h views channels × AreContinuous views channels
+    × IsFirst (CanBePacked o views) (CantBePacked o views fault) key channels × (new ≡ old))
+IsRepacking o (Err Write) h old new =
+    Exists (λ views channels. IsFitFor o h views channels × Wrote (IsPartPacked o views channels) 1 old new)
+IsRepacking o (Err Memory) h old new = new ≡ old

@@ -1,0 +1,151 @@
+//! What is known of a channel before its samples are read.
+ghost use Rattle.std.specs.Prelude.{◌≡◌, ◌<◌, ◌≤◌, ◌+◌, ◌++◌, ◌^◌, ◌-ℤ◌, [], All, IfSome, List, ℤ, length, map, take};
+ghost use Rattle.std.specs.Prelude.{◌↔◌, IsTrue};
+ghost use Rattle.std.specs.Bool.{OnTrue};
+ghost use Rattle.std.specs.List.{AllByRecursion};
+ghost use Rattle.mseed_record.specs.View.{leap_of};
+ghost use Rattle.mseed_record.specs.Viewing.{view_of};
+ghost use Rattle.mseed_steim.specs.Reading.{count_of, IsWhole};
+ghost use Rattle.mseed_steim.specs.Samples.{AreEnds};
+ghost use Rattle.mseed_steim.specs.Spelling.{IsWithin};
+ghost use Rattle.mseed_audit.specs.Follows.{IsSound};
+ghost use Rattle.mseed_audit.specs.Judging.{step_in};
+ghost use Rattle.mseed_audit.specs.Series.{step_at};
+ghost use Rattle.mseed_repack.specs.Outline.{AreHeld, AreNear, IsKnown, IsOutline, is_held};
+ghost use Rattle.mseed_repack.specs.Reading.{channel_in, samples_of, step_count, steps_of};
+ghost use Rattle.mseed_repack.specs.Trails.{IsTrail};
+
+use crate::reading::put_step;
+use crate::trail::Trail;
+use mseed_audit::is_of;
+use mseed_pack::Encoding;
+use mseed_record::{Codes, RecordView};
+use mseed_steim::{Ends, ends_of, is_surely_near};
+use mseed_time::LeapStep;
+
+/// Whether each sample of some records is near the one before it: by no more than a Steim-2 word can say.
+#[derive(Clone, Copy)]
+pub(crate) enum Nearness {
+    /// There is no sample yet.
+    Empty,
+    /// Each is, and the last is this one.
+    Near(i32),
+    /// It isn't known.
+    Unknown,
+}
+
+/// How many samples and leap seconds a channel has, and whether its samples are near one another.
+#[derive(Clone, Copy)]
+pub(crate) struct Outline {
+    pub(crate) samples: usize,
+    pub(crate) steps: usize,
+    pub(crate) nearness: Nearness,
+}
+
+/// The outline of a channel of which each record is sound. Its leap seconds are put into the list.
+pub(crate) fn outline_channel(
+    views: &[RecordView],
+    trail: Trail,
+    codes: &Codes,
+    steps: &mut [(u64, LeapStep)],
+) -> Outline
+    requires trail { IsTrail codes.now views.now trail.first trail.nexts.now }
+    requires nexts { length trail.nexts.now ≡ length views.now }
+    requires sound { AllByRecursion IsSound (channel_in codes.now (map view_of views.now)) }
+    requires few { samples_of (channel_in codes.now (map view_of views.now)) < 2 ^ 64 }
+    requires steps_fit { steps_of (map view_of views.now) ≤ length steps.old }
+    ensures outline { IsOutline codes.now (channel_in codes.now (map view_of views.now))
+        result.samples result.steps result.nearness steps.new }
+    ensures samples { result.samples ≡ samples_of (channel_in codes.now (map view_of views.now)) }
+    ensures steps_inside { result.steps ≤ length steps.new }
+{
+    let mut outline = Outline {
+        samples: 0,
+        steps: 0,
+        nearness: Nearness::Empty,
+    };
+    let mut index = trail.first;
+    while index < views.len() {
+        let view = &views[index];
+        if is_of(codes, view) {
+            outline = outline_record(view, outline, steps);
+            index = trail.nexts[index];
+        } else {
+            index += 1;
+        }
+    }
+    outline
+}
+
+/// The outline with one more record, which is sound.
+fn outline_record(view: &RecordView, before: Outline, steps: &mut [(u64, LeapStep)]) -> Outline
+    requires sound { IsSound (view_of view.now) }
+    requires few { before.samples + count_of (view_of view.now) < 2 ^ 64 }
+    requires steps_fit { before.steps + step_count (view_of view.now) ≤ length steps.old }
+    ensures samples { result.samples ≡ before.samples + count_of (view_of view.now) }
+    ensures steps { take result.steps steps.new ≡ take before.steps steps.old
+        ++ step_at result.samples (step_in (leap_of (view_of view.now).bytes)) }
+    ensures steps_count { result.steps ≡ before.steps + step_count (view_of view.now) }
+    ensures nearness { (xs s : List ℤ) → IsKnown before.nearness xs → IsWhole (view_of view.now) s
+        → IsKnown result.nearness (xs ++ s) }
+{
+    let samples = before.samples + usize::from(view.samples());
+    Outline {
+        samples,
+        steps: put_step(view.leap().step(), samples, before.steps, steps),
+        nearness: nearness_with(before.nearness, view),
+    }
+}
+
+/// What is known with one more record, which is sound.
+fn nearness_with(before: Nearness, view: &RecordView) -> Nearness
+    requires { IsSound (view_of view.now) }
+    ensures { (xs s : List ℤ) → IsKnown before xs → IsWhole (view_of view.now) s → IsKnown result (xs ++ s) }
+{
+    let Some(ends) = near_ends(view) else {
+        return Nearness::Unknown;
+    };
+    match before {
+        Nearness::Empty => Nearness::Near(ends.last),
+        Nearness::Near(last) => {
+            if is_near(last, ends.first) {
+                Nearness::Near(ends.last)
+            } else {
+                Nearness::Unknown
+            }
+        }
+        Nearness::Unknown => Nearness::Unknown,
+    }
+}
+
+/// The first and the last sample of a sound record whose samples are surely near one another.
+fn near_ends(view: &RecordView) -> Option<Ends>
+    requires { IsSound (view_of view.now) }
+    ensures { IfSome result (λ ends. (s : List ℤ) → IsWhole (view_of view.now) s → AreEnds ends s × AreNear s) }
+{
+    if is_surely_near(view) {
+        Some(ends_of(view))
+    } else {
+        None
+    }
+}
+
+/// Whether a sample is near the one before it.
+fn is_near(before: i32, sample: i32) -> bool
+    ensures { IsTrue result ↔ IsWithin 30 (sample -ℤ before) }
+{
+    let difference = i64::from(sample) - i64::from(before);
+    -0x2000_0000 <= difference && difference < 0x2000_0000
+}
+
+/// Whether an encoding surely holds samples of which this is known.
+pub(crate) fn is_held(nearness: Nearness, encoding: Encoding) -> bool
+    ensures value { result ≡ is_held nearness encoding }
+    ensures held { OnTrue result ((xs : List ℤ) → All (IsWithin 32) xs → IsKnown nearness xs → AreHeld encoding xs) }
+{
+    match encoding {
+        Encoding::Int16 => false,
+        Encoding::Int32 => true,
+        Encoding::Steim1 | Encoding::Steim2 => matches!(nearness, Nearness::Near(_)),
+    }
+}

@@ -1,0 +1,132 @@
+//! Reading a channel into lists that are there.
+ghost use Rattle.std.specs.Prelude.{◌≡◌, ◌<◌, ◌≤◌, ◌+◌, ◌++◌, ◌^◌, ℤ, List, length, map, take};
+ghost use Rattle.std.specs.List.{AllByRecursion};
+ghost use Rattle.mseed_record.specs.View.{leap_of};
+ghost use Rattle.mseed_record.specs.Viewing.{view_of};
+ghost use Rattle.mseed_steim.specs.Reading.{count_of, IsWhole};
+ghost use Rattle.mseed_audit.specs.Follows.{IsSound};
+ghost use Rattle.mseed_audit.specs.Judging.{step_in};
+ghost use Rattle.mseed_audit.specs.Series.{AreSteps, step_at};
+ghost use Rattle.mseed_repack.specs.Reading.{AreOf, channel_in, samples_of, step_count, steps_of};
+ghost use Rattle.mseed_repack.specs.Trails.{IsTrail};
+
+use crate::trail::Trail;
+use mseed_audit::is_of;
+use mseed_record::{Codes, RecordView};
+use mseed_steim::fill_samples;
+use mseed_time::LeapStep;
+
+/// How many samples and how many leap seconds were read.
+#[derive(Clone, Copy)]
+pub(crate) struct Read {
+    pub(crate) samples: usize,
+    pub(crate) steps: usize,
+}
+
+/// Reads the samples and leap seconds of a channel of which each record is sound, from the front of the lists on,
+/// and answers how many there are. It takes no memory.
+pub(crate) fn read_channel(
+    views: &[RecordView],
+    trail: Trail,
+    codes: &Codes,
+    samples: &mut [i32],
+    steps: &mut [(u64, LeapStep)],
+) -> Read
+    requires trail { IsTrail codes.now views.now trail.first trail.nexts.now }
+    requires nexts { length trail.nexts.now ≡ length views.now }
+    requires sound { AllByRecursion IsSound (channel_in codes.now (map view_of views.now)) }
+    requires samples_fit { samples_of (channel_in codes.now (map view_of views.now)) ≤ length samples.old }
+    requires steps_fit { steps_of (map view_of views.now) ≤ length steps.old }
+    ensures read { AreOf codes.now (channel_in codes.now (map view_of views.now))
+        (take result.samples samples.new) (take result.steps steps.new) }
+    ensures places { AreSteps result.samples (take result.steps steps.new) }
+    ensures samples_inside { result.samples ≤ length samples.new }
+    ensures steps_inside { result.steps ≤ length steps.new }
+{
+    let mut read = Read {
+        samples: 0,
+        steps: 0,
+    };
+    let mut index = trail.first;
+    while index < views.len() {
+        let view = &views[index];
+        if is_of(codes, view) {
+            read = read_record(view, read, samples, steps);
+            index = trail.nexts[index];
+        } else {
+            index += 1;
+        }
+    }
+    read
+}
+
+/// Reads the samples of a sound record, and the leap second that it bears, behind those that were read.
+fn read_record(
+    view: &RecordView,
+    before: Read,
+    samples: &mut [i32],
+    steps: &mut [(u64, LeapStep)],
+) -> Read
+    requires sound { IsSound (view_of view.now) }
+    requires samples_fit { before.samples + count_of (view_of view.now) ≤ length samples.old }
+    requires steps_fit { before.steps + step_count (view_of view.now) ≤ length steps.old }
+    ensures samples { (s : List ℤ) × (IsWhole (view_of view.now) s
+        × (take result.samples samples.new ≡ take before.samples samples.old ++ s)) }
+    ensures steps { take result.steps steps.new ≡ take before.steps steps.old
+        ++ step_at result.samples (step_in (leap_of (view_of view.now).bytes)) }
+    ensures samples_count { result.samples ≡ before.samples + count_of (view_of view.now) }
+    ensures steps_count { result.steps ≡ before.steps + step_count (view_of view.now) }
+{
+    let end = before.samples + usize::from(view.samples());
+    // A sound record has a reading.
+    match fill_samples(view, &mut samples[before.samples..end]) {
+        Ok(()) => {}
+        Err(_) => unreachable!(),
+    }
+    Read {
+        samples: end,
+        steps: put_step(view.leap().step(), end, before.steps, steps),
+    }
+}
+
+/// Puts a leap second behind so many that are there, where there is one.
+pub(crate) fn put_step(
+    step: Option<LeapStep>,
+    place: usize,
+    count: usize,
+    steps: &mut [(u64, LeapStep)],
+) -> usize
+    requires { count + length (step_at 0 step) ≤ length steps.old }
+    ensures steps { take result steps.new ≡ take count steps.old ++ step_at place step }
+    ensures count { result ≡ count + length (step_at 0 step) }
+{
+    match step {
+        Some(step) => {
+            steps[count] = (place as u64, step);
+            count + 1
+        }
+        None => count,
+    }
+}
+
+/// How many leap seconds the records bear.
+pub(crate) fn count_steps(views: &[RecordView]) -> usize
+    ensures { result ≡ steps_of (map view_of views.now) }
+{
+    let mut count = 0;
+    for view in views {
+        count += step_count(view);
+    }
+    count
+}
+
+/// How many leap seconds a record bears.
+fn step_count(view: &RecordView) -> usize
+    ensures value { result ≡ step_count (view_of view.now) }
+    ensures bound { result ≤ 1 }
+{
+    match view.leap().step() {
+        Some(_) => 1,
+        None => 0,
+    }
+}

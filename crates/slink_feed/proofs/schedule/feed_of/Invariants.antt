@@ -1,6 +1,0 @@
-use Rattle.std.proofs.Common.{◌≡◌, map, take}
-use Rattle.slink_feed.specs.World.{empty_window}
-use Rattle.slink_feed.proofs.schedule.feed_of.Given as goal
-
-abbrev pub invariant-loop-place : goal.invariant-loop-place
-invariant-loop-place l = (l.feed ≡ map (empty_window l.setup) (take l.place-index l.setup.places.items))

@@ -1,0 +1,23 @@
+use Rattle.std.proofs.Common.{sym, subst}
+use Rattle.slink_links.specs.Fetched.{HasTurned}
+use Rattle.slink_links.proofs.Fetches.{turned}
+use Rattle.slink_links.proofs.fetching.take_turn.Goals as goal
+
+pub returns-clause-turned : goal.returns-clause-turned
+returns-clause-turned g c =
+    let old = c.args.client.now in
+    let new = c.fetch_turn-turn.new.client in
+    let before = g.W.Sink.said c.args.output.now in
+    let after = g.W.Sink.said c.fetch_turn-turn.new.output in
+    subst (λ end. HasTurned end old new (g.S.Source.heard c.args.link.now) (g.S.Source.heard c.fetch_turn-turn.new.link) before after) (sym c.end_by.ensures)
+    (turned c.fetch_turn-turn.result old new (g.S.Sink.said c.args.link.now) (g.S.Sink.said c.fetch_turn-turn.new.link) before after
+    (g.S.Source.heard c.args.link.now) (g.S.Source.heard c.fetch_turn-turn.new.link) c.fetch_turn-turn.ensures.ok c.fetch_turn-turn.ensures.fault
+    c.requires.reading c.requires.linked)
+
+pub returns-clause-by : goal.returns-clause-by
+returns-clause-by g c = record {
+  turn = c.fetch_turn-turn.result;
+  goes = c.fetch_turn-turn.ensures.ok;
+  fails = c.fetch_turn-turn.ensures.fault;
+  ends = c.end_by.ensures;
+}

@@ -1,0 +1,211 @@
+-- How fetching over one link after another ends, and what the output took by then.
+use Rattle.std.specs.Prelude.{◌≡◌, ◌⊎◌, ℕ, ◌+◌, ◌%◌, ◌^◌, ◌<◌, ◌≤◌, List, ◌∷◌, ◌++◌, [], length, Option, Some, None, Result, Ok, Err, IfOk, IfErr, codes}
+use Rattle.mseed_stream.specs.Device.{Heard, IsFrontOf, Said, nothing_heard, nothing_said}
+use Rattle.mseed_stream.specs.Exchanges.{Exchange}
+use Rattle.slink_feed.specs.declared.dialogue.Ending.{Ending}
+use Rattle.slink_feed.specs.declared.dialogue.Ending.TheVariants as endings
+use Rattle.slink_feed.specs.declared.dialogue.Event.{Event}
+use Rattle.slink_feed.specs.declared.dialogue.Event.TheVariants as events
+use Rattle.slink_feed.specs.declared.dialogue.Stage.{Stage}
+use Rattle.slink_feed.specs.declared.dialogue.Stage.TheVariants.{Unlinked, Station, Number, Packets, Ended}
+use Rattle.slink_feed.specs.declared.turn.LinkFault.{LinkFault}
+use Rattle.slink_feed.specs.declared.turn.LinkFault.TheVariants as faults
+use Rattle.slink_feed.specs.declared.turn.Turn.{Turn}
+use Rattle.slink_feed.specs.declared.turn.Turn.TheVariants as turns
+use Rattle.slink_feed.specs.Delivered.{Numbered}
+use Rattle.slink_feed.specs.Dialogue.{Talk, Wants, next_at, says_place}
+use Rattle.slink_feed.specs.Fetching.{Fetches, Fetching, IsFetchFault, ReadsOn, fetching, line_said}
+use Rattle.slink_feed.specs.Listening.{IsLinked, Listening, Reads}
+use Rattle.slink_feed.specs.Told.{HasTold, bytes_in, numbers_at, records_told}
+use Rattle.slink_feed.specs.Turns.{Took, TookFront}
+use Rattle.slink_links.specs.declared.fetching.FetchEnd.{FetchEnd}
+use Rattle.slink_links.specs.declared.fetching.FetchEnd.TheVariants.{Done, Refused, BadFeed, WriteFailed, LinkFailed}
+use Rattle.mseed_stream.specs.Telling.{Tells}
+
+-- The output took these records: all of them; or, where it failed, those before the last one, and a front of that.
+pub data TakesRecords (records : List Numbered) (old new : Said) : Type 0 where
+  all : Took old new (bytes_in records) → TakesRecords records old new
+  but_last : (some : List Numbered) (last : Numbered) (count : ℕ) → records ≡ some ++ last ∷ [] → length (bytes_in some) ≤ count
+      → TookFront old new (bytes_in records) count → TakesRecords records old new
+
+-- The number that a place wanted moved by how many records of it there are.
+abbrev pub HaveMoved : Wants → Wants → List Numbered → Type 0
+HaveMoved old new records = (k n : ℕ) → n < 2 ^ 24 → next_at old k ≡ Some n
+    → next_at new k ≡ Some ((n + length (numbers_at k records)) % 2 ^ 24)
+
+-- what no server sends that serves these places
+abbrev pub IsBad : Ending → Type 0
+IsBad endings.End = ⊥
+IsBad (endings.Refused k) = ⊥
+IsBad (endings.Gap k want got) = Unit {0}
+IsBad endings.Garbage = Unit {0}
+IsBad endings.Foreign = Unit {0}
+
+-- The client has come to no end of its link.
+abbrev pub IsUnended : Stage → Type 0
+IsUnended Unlinked = Unit {0}
+IsUnended (Station k) = Unit {0}
+IsUnended (Number k) = Unit {0}
+IsUnended Packets = Unit {0}
+IsUnended (Ended ending) = ⊥
+
+-- What the client stands at by each end. Where the links failed it has come to no end of the last one, or had none.
+abbrev pub StandsAt : FetchEnd → Listening → Listening → Type 0
+StandsAt Done old new = new.talk.stage ≡ Ended endings.End
+StandsAt Refused old new = (k : ℕ) × (new.talk.stage ≡ Ended (endings.Refused k))
+StandsAt BadFeed old new = (ending : Ending) × (new.talk.stage ≡ Ended ending) × IsBad ending
+StandsAt WriteFailed old new = IsUnended new.talk.stage
+StandsAt LinkFailed old new = IsUnended new.talk.stage ⊎ (new ≡ old)
+
+-- how often the output failed by then
+abbrev pub output_failures : FetchEnd → ℕ
+output_failures Done = 0
+output_failures Refused = 0
+output_failures BadFeed = 0
+output_failures WriteFailed = 1
+output_failures LinkFailed = 0
+
+-- The links failed where all tries were used up. At another end some were made, and no more.
+abbrev pub HasDialled : FetchEnd → ℕ → ℕ → ℕ → Type 0
+HasDialled Done tries old new = (old < new) × (new ≤ old + tries)
+HasDialled Refused tries old new = (old < new) × (new ≤ old + tries)
+HasDialled BadFeed tries old new = (old < new) × (new ≤ old + tries)
+HasDialled WriteFailed tries old new = (old < new) × (new ≤ old + tries)
+HasDialled LinkFailed tries old new = new ≡ old + tries
+
+-- the exit status
+abbrev pub fetch_status : FetchEnd → ℕ
+fetch_status Done = 0
+fetch_status Refused = 2
+fetch_status BadFeed = 2
+fetch_status WriteFailed = 2
+fetch_status LinkFailed = 2
+
+-- the line on standard error, or none
+abbrev pub TellsOfFetch : FetchEnd → Said → Said → Type 0
+TellsOfFetch Done old new = new ≡ old
+TellsOfFetch Refused old new = Tells (codes "mseed: refused\n") old new
+TellsOfFetch BadFeed old new = Tells (codes "mseed: bad feed\n") old new
+TellsOfFetch WriteFailed old new = Tells (codes "mseed: write failed\n") old new
+TellsOfFetch LinkFailed old new = Tells (codes "mseed: link failed\n") old new
+
+-- Links were fetched over, up to an end: a client told of these records, and the output took them.
+pub record HasFetched (end : FetchEnd) (old new : Listening) (said_old said_new : Said) : Type 0 where
+  pub records : List Numbered
+  pub told : HasTold old.talk.wants new.talk.wants records
+  pub moved : HaveMoved old.talk.wants new.talk.wants records
+  pub took : TakesRecords records said_old said_new
+  pub stands : StandsAt end old new
+  pub failures : said_new.failures ≡ said_old.failures + output_failures end
+
+-- how a fetch ends by the event at which a client stopped
+abbrev pub stopped_by : Event → FetchEnd
+stopped_by events.None = BadFeed
+stopped_by (events.Say line) = BadFeed
+stopped_by (events.Record k number bytes) = BadFeed
+stopped_by events.End = BadFeed
+stopped_by (events.Refused k) = Refused
+stopped_by (events.Gap k want got) = BadFeed
+stopped_by events.Garbage = BadFeed
+stopped_by events.Foreign = BadFeed
+
+-- how it ends by what a turn with a link comes to, if it ends
+abbrev pub end_by : Result Turn LinkFault → Option FetchEnd
+end_by (Ok turns.Goes) = None
+end_by (Ok turns.Closed) = Some LinkFailed
+end_by (Ok turns.Ended) = Some Done
+end_by (Ok (turns.Stopped event)) = Some (stopped_by event)
+end_by (Err faults.Read) = Some LinkFailed
+end_by (Err (faults.Write count)) = Some LinkFailed
+end_by (Err (faults.Output count)) = Some WriteFailed
+
+-- by an end, or while there is none
+abbrev pub StandsBy : Option FetchEnd → Listening → Listening → Type 0
+StandsBy None old new = IsLinked new.talk.stage
+StandsBy (Some end) old new = StandsAt end old new
+
+abbrev pub failures_by : Option FetchEnd → ℕ
+failures_by None = 0
+failures_by (Some end) = output_failures end
+
+-- Of what a link told meanwhile these bytes were taken: all of it while there is no end, and else a front.
+pub record AreTaken (end : Option FetchEnd) (bytes : List ℕ) (heard_old heard_new : Heard) : Type 0 where
+  pub front : IsFrontOf (heard_old.bytes ++ bytes) heard_new.bytes
+  pub whole : end ≡ None → heard_new.bytes ≡ heard_old.bytes ++ bytes
+
+-- Turns were taken with a link, up to an end or not: a client read on by what the link told, and the output took the
+-- records that it told of.
+pub record HasTurned (end : Option FetchEnd) (old new : Listening) (heard_old heard_new : Heard) (said_old said_new : Said) : Type 0 where
+  pub bytes : List ℕ
+  pub taken : AreTaken end bytes heard_old heard_new
+  pub told : List Event
+  pub reads : ReadsOn old bytes told new
+  pub took : TakesRecords (records_told told) said_old said_new
+  pub stands : StandsBy end old new
+  pub failures : said_new.failures ≡ said_old.failures + failures_by end
+
+-- There is something that the client has read.
+abbrev pub IsReading : Listening → Type 0
+IsReading now = (start : Talk) × (stream : List ℕ) × (events : List Event) × Reads start stream events now
+
+-- A link was fetched over: a client begins on it, reads a front of what it told, and tells of these events, whose
+-- records the output took.
+pub record HasReadLink (old new : Listening) (heard_old heard_new : Heard) (said_old said_new : Said) : Type 0 where
+  pub begun : Listening
+  pub line : Event
+  pub begins : says_place 0 old.talk ≡ (begun.talk, line)
+  pub bytes : List ℕ
+  pub front : IsFrontOf (heard_old.bytes ++ bytes) heard_new.bytes
+  pub told : List Event
+  pub reads : Reads begun.talk bytes told new
+  pub took : TakesRecords (records_told told) said_old said_new
+
+-- A turn was taken with a link, by which the fetch ends so, or goes on.
+pub record IsTurnBy (end : Option FetchEnd) (old new : Fetching) (before after : Heard) : Type 0 where
+  pub turn : Result Turn LinkFault
+  pub goes : IfOk turn (λ t. Fetches old new before after t)
+  pub fails : IfErr turn (λ fault. IsFetchFault fault old new before after)
+  pub ends : end ≡ end_by turn
+
+-- So many turns were taken with a link, and the fetch goes on behind each.
+pub data HasTakenTurns (first : Fetching) (before : Heard) : ℕ → Fetching → Heard → Type 0 where
+  none : HasTakenTurns first before 0 first before
+  more : (n : ℕ) (now new : Fetching) (mid after : Heard) → HasTakenTurns first before n now mid
+      → IsTurnBy None now new mid after → HasTakenTurns first before (n + 1) new after
+
+-- Turns were taken up to the one by which the fetch ends so; or 2^40 of them.
+pub data HasTakenAll (first : Fetching) (before : Heard) : FetchEnd → Fetching → Heard → Type 0 where
+  to_the_end : (end : FetchEnd) (n : ℕ) (now last : Fetching) (mid after : Heard) → n < 2 ^ 40 → HasTakenTurns first before n now mid
+      → IsTurnBy (Some end) now last mid after → HasTakenAll first before end last after
+  for_long : (last : Fetching) (after : Heard) → HasTakenTurns first before (2 ^ 40) last after → HasTakenAll first before LinkFailed last after
+
+-- A client begins on a link by this line, and nothing is kept of the link before.
+pub record Begins (old begun : Listening) (line : Event) : Type 0 where
+  pub says : says_place 0 old.talk ≡ (begun.talk, line)
+  pub kept : begun.kept ≡ []
+
+-- The line was written to the link, and turns were taken; or the link failed within the line, and wasn't read.
+pub data IsFetchedOver (old : Fetching) (before : Heard) : FetchEnd → Fetching → Heard → Type 0 where
+  by_turns : (end : FetchEnd) (begun : Listening) (line : Event) (said : Said) (new : Fetching) (after : Heard) → Begins old.client begun line
+      → Took old.said said (line_said line) → HasTakenAll (fetching begun said old.output) before end new after → IsFetchedOver old before end new after
+  unsaid : (begun : Listening) (line : Event) (said : Said) (count : ℕ) → Begins old.client begun line
+      → TookFront old.said said (line_said line) count → IsFetchedOver old before LinkFailed (fetching begun said old.output) before
+
+-- A link was fetched over from its first byte on: what it told was read, and turns were taken with it up to the one by
+-- which the fetch ended so.
+pub record WasFetchedOver (end : FetchEnd) (old new : Listening) (link : Exchange) (said_old said_new : Said) : Type 0 where
+  pub read : HasReadLink old new nothing_heard link.heard said_old said_new
+  pub turns : IsFetchedOver (fetching old nothing_said said_old) nothing_heard end (fetching new link.said said_new) link.heard
+
+-- One link after another was fetched over, each up to where it failed, and the last one up to this end.
+pub data HasReadLinks : FetchEnd → Listening → Listening → List Exchange → Said → Said → Type 0 where
+  over_none : (now : Listening) (said : Said) → HasReadLinks LinkFailed now now [] said said
+  over_one_more : (end : FetchEnd) (old now new : Listening) (link : Exchange) (links : List Exchange) (a b c : Said) → WasFetchedOver LinkFailed old now link a b
+      → HasReadLinks end now new links b c → HasReadLinks end old new (link ∷ links) a c
+  over_the_last : (end : FetchEnd) (old new : Listening) (link : Exchange) (a b : Said) → WasFetchedOver end old new link a b → HasReadLinks end old new (link ∷ []) a b
+
+-- Some links were given back behind those before, and these were fetched over in turn.
+pub record HasReadEach (end : FetchEnd) (old new : Listening) (before after : List Exchange) (said_old said_new : Said) : Type 0 where
+  pub links : List Exchange
+  pub given_back : after ≡ before ++ links
+  pub read : HasReadLinks end old new links said_old said_new

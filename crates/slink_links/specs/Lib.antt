@@ -1,0 +1,3 @@
+pub mod Out
+pub mod Served
+pub mod Fetched

@@ -1,0 +1,181 @@
+//! Fetching records over one link after another.
+ghost use Rattle.std.specs.Prelude.{◌≡◌, ◌+◌, ◌≤◌, length};
+ghost use Rattle.slink_feed.specs.declared.dialogue.Ending.{Ending};
+ghost use Rattle.slink_feed.specs.declared.dialogue.Stage.{Stage};
+ghost use Rattle.slink_feed.specs.Fetching.{fetching};
+ghost use Rattle.slink_feed.specs.Listening.{IsLinked};
+ghost use Rattle.slink_links.specs.Fetched.{HasDialled, HasFetched, HasReadEach, HasReadLink, HasTakenAll, HasTurned};
+ghost use Rattle.slink_links.specs.Out.{AreOut};
+ghost use Rattle.slink_links.specs.Fetched.{IsFetchedOver, IsReading, IsTurnBy, TellsOfFetch};
+ghost use Rattle.slink_links.specs.Fetched.{end_by, fetch_status, stopped_by};
+
+use crate::dial::Dial;
+use crate::serving::TURNS;
+use crate::status::{DONE, FAULT};
+use mseed_stream::{Duplex, Sink, tell, write_all_of};
+use slink_feed::{Client, Event, LinkFault, Turn, fetch_turn};
+
+/// How a fetch ended.
+#[derive(Clone, Copy, Debug, PartialEq, Eq)]
+pub enum FetchEnd {
+    /// The server said `END`: that it has sent all that was asked for.
+    Done,
+    /// The server refused a place.
+    Refused,
+    /// The link brought what no server sends that serves these places.
+    BadFeed,
+    /// The output failed.
+    WriteFailed,
+    /// Each link failed, was closed, or couldn't be had.
+    LinkFailed,
+}
+
+/// Fetches over one link after another, at most so many, until the server says that it has sent all that was asked for,
+/// and gives each back. A `dial` that fails uses up a try. Each record goes to the output as soon as it is told of.
+///
+/// The exit status is answered: 0, or 2 with a line on `errors` that says why not all came.
+pub fn fetch_all<D: Dial, W: Sink, E: Sink>(
+    client: &mut Client,
+    tries: u64,
+    dialler: &mut D,
+    output: &mut W,
+    errors: &mut E,
+) -> u8
+    requires { AreOut 0 (D.calls dialler.old) (D.failures dialler.old) (D.given_back dialler.old) }
+    ensures dials { D.calls dialler.new ≤ D.calls dialler.old + tries }
+    ensures done { result ≡ 0 → client.new.talk.stage ≡ Stage.Ended Ending.End }
+    // What the client told of went to the output, and the status and the line are by how it ended. Each link was
+    // fetched over before it was given back, one behind another, and all but the last one failed.
+    ensures end { (end : FetchEnd) × HasFetched end client.old client.new (W.said output.old) (W.said output.new)
+        × HasDialled end tries (D.calls dialler.old) (D.calls dialler.new)
+        × HasReadEach end client.old client.new (D.given_back dialler.old) (D.given_back dialler.new)
+        (W.said output.old) (W.said output.new)
+        × (result ≡ fetch_status end) × TellsOfFetch end (E.said errors.old) (E.said errors.new) }
+    // Each link was given back before the next one was dialled.
+    ensures out { AreOut 0 (D.calls dialler.new) (D.failures dialler.new) (D.given_back dialler.new) }
+{
+    let end = fetch_links(client, tries, dialler, output);
+    match end {
+        FetchEnd::Done => return DONE,
+        FetchEnd::Refused => tell(errors, b"mseed: refused\n"),
+        FetchEnd::BadFeed => tell(errors, b"mseed: bad feed\n"),
+        FetchEnd::WriteFailed => tell(errors, b"mseed: write failed\n"),
+        FetchEnd::LinkFailed => tell(errors, b"mseed: link failed\n"),
+    }
+    FAULT
+}
+
+/// Fetches over one link after another, and answers how it ended.
+fn fetch_links<D: Dial, W: Sink>(
+    client: &mut Client,
+    tries: u64,
+    dialler: &mut D,
+    output: &mut W,
+) -> FetchEnd
+    requires { AreOut 0 (D.calls dialler.old) (D.failures dialler.old) (D.given_back dialler.old) }
+    ensures fetched { HasFetched result client.old client.new (W.said output.old) (W.said output.new) }
+    ensures dialled { HasDialled result tries (D.calls dialler.old) (D.calls dialler.new) }
+    ensures out { AreOut 0 (D.calls dialler.new) (D.failures dialler.new) (D.given_back dialler.new) }
+    ensures read { HasReadEach result client.old client.new (D.given_back dialler.old) (D.given_back dialler.new)
+        (W.said output.old) (W.said output.new) }
+{
+    for dialled in 0..tries {
+        let end = try_link(client, dialler, output);
+        if end != FetchEnd::LinkFailed {
+            return end;
+        }
+    }
+    FetchEnd::LinkFailed
+}
+
+/// Dials once and fetches over that link, and answers how it ended.
+fn try_link<D: Dial, W: Sink>(client: &mut Client, dialler: &mut D, output: &mut W) -> FetchEnd
+    requires { AreOut 0 (D.calls dialler.old) (D.failures dialler.old) (D.given_back dialler.old) }
+    ensures fetched { HasFetched result client.old client.new (W.said output.old) (W.said output.new) }
+    ensures dialled { D.calls dialler.new ≡ D.calls dialler.old + 1 }
+    ensures out { AreOut 0 (D.calls dialler.new) (D.failures dialler.new) (D.given_back dialler.new) }
+    ensures read { HasReadEach result client.old client.new (D.given_back dialler.old) (D.given_back dialler.new)
+        (W.said output.old) (W.said output.new) }
+{
+    match dialler.dial() {
+        Some(mut link) => {
+            let end = fetch_link(client, &mut link, output);
+            dialler.hang_up(link);
+            end
+        }
+        None => FetchEnd::LinkFailed,
+    }
+}
+
+/// Fetches over one link, and answers how it ended. The output takes the records that the link brought, and no others.
+pub fn fetch_link<S: Duplex, W: Sink>(client: &mut Client, link: &mut S, output: &mut W) -> FetchEnd
+    ensures fetched { HasFetched result client.old client.new (W.said output.old) (W.said output.new) }
+    ensures read { HasReadLink client.old client.new (S.heard link.old) (S.heard link.new) (W.said output.old)
+        (W.said output.new) }
+    // The client's first line was written, and then turns were taken, up to the one by which the fetch ends so.
+    ensures turns { IsFetchedOver (fetching client.old (S.said link.old) (W.said output.old)) (S.heard link.old) result
+        (fetching client.new (S.said link.new) (W.said output.new)) (S.heard link.new) }
+{
+    let line = client.connect();
+    match write_all_of(link, line.as_slice()) {
+        Ok(()) => take_turns(client, link, output),
+        Err(_) => FetchEnd::LinkFailed,
+    }
+}
+
+/// Takes turns with a link until it ends, or until many were taken.
+fn take_turns<S: Duplex, W: Sink>(client: &mut Client, link: &mut S, output: &mut W) -> FetchEnd
+    requires reading { IsReading client.old }
+    requires linked { IsLinked client.old.talk.stage }
+    ensures turned { HasTurned (Some result) client.old client.new (S.heard link.old) (S.heard link.new)
+        (W.said output.old) (W.said output.new) }
+    ensures taken { HasTakenAll (fetching client.old (S.said link.old) (W.said output.old)) (S.heard link.old) result
+        (fetching client.new (S.said link.new) (W.said output.new)) (S.heard link.new) }
+{
+    for turn in 0..TURNS {
+        if let Some(end) = take_turn(client, link, output) {
+            return end;
+        }
+    }
+    FetchEnd::LinkFailed
+}
+
+/// Takes a turn with a link, and answers how the fetch ends by it, if it does.
+fn take_turn<S: Duplex, W: Sink>(
+    client: &mut Client,
+    link: &mut S,
+    output: &mut W,
+) -> Option<FetchEnd>
+    requires reading { IsReading client.old }
+    requires linked { IsLinked client.old.talk.stage }
+    ensures turned { HasTurned result client.old client.new (S.heard link.old) (S.heard link.new) (W.said output.old)
+        (W.said output.new) }
+    ensures by { IsTurnBy result (fetching client.old (S.said link.old) (W.said output.old))
+        (fetching client.new (S.said link.new) (W.said output.new)) (S.heard link.old) (S.heard link.new) }
+{
+    let turn = fetch_turn(client, link, output);
+    end_by(&turn)
+}
+
+/// How a fetch ends by what a turn comes to, if it ends.
+fn end_by(turn: &Result<Turn, LinkFault>) -> Option<FetchEnd>
+    ensures { result ≡ end_by turn.now }
+{
+    match turn {
+        Ok(Turn::Goes) => None,
+        Ok(Turn::Ended) => Some(FetchEnd::Done),
+        Ok(Turn::Stopped(event)) => Some(stopped_by(event)),
+        Ok(Turn::Closed) | Err(LinkFault::Read | LinkFault::Write(_)) => Some(FetchEnd::LinkFailed),
+        Err(LinkFault::Output(_)) => Some(FetchEnd::WriteFailed),
+    }
+}
+
+/// How a fetch ends by the event at which the client stopped.
+fn stopped_by(event: &Event) -> FetchEnd
+    ensures { result ≡ stopped_by event.now }
+{
+    match event {
+        Event::Refused(_) => FetchEnd::Refused,
+        _ => FetchEnd::BadFeed,
+    }
+}

@@ -1,0 +1,25 @@
+//! The feed of SeedLink 3 over one link after another: serving it to as many connections as are asked for, fetching
+//! over as many tries, and TCP on this machine.
+//!
+//! [`serve_all`] takes its links from an [`Accept`], and [`fetch_all`] from a [`Dial`]; each gives every link back, and
+//! what went over it stands in a list for proofs, so that a contract can say of each link what was done with it.
+//! [`serve_planned`] and [`fetch_planned`] carry out a plan over such devices, and [`serve`] and [`fetch`] over TCP.
+#![tactic(auto)]
+
+mod accept;
+mod closing;
+mod dial;
+mod fetching;
+mod plan;
+mod planned;
+mod serving;
+mod status;
+mod tcp;
+
+pub use accept::Accept;
+pub use dial::Dial;
+pub use fetching::{FetchEnd, fetch_all, fetch_link};
+pub use plan::{FetchPlan, ServePlan};
+pub use planned::{fetch_planned, serve_planned};
+pub use serving::{serve_all, serve_link};
+pub use tcp::{fetch, serve};

@@ -1,0 +1,54 @@
+//! From a plan to the loop over links.
+ghost use Rattle.std.specs.Prelude.{◌≡◌, ◌+◌, ◌≤◌, ◌↔◌};
+ghost use Rattle.slink_feed.specs.declared.dialogue.Ending.{Ending};
+ghost use Rattle.slink_feed.specs.declared.dialogue.Stage.{Stage};
+ghost use Rattle.slink_links.specs.Fetched.{HasDialled, HasFetched, HasReadEach, TellsOfFetch, fetch_status};
+ghost use Rattle.slink_links.specs.Out.{AreOut};
+ghost use Rattle.slink_links.specs.Served.{HasServed, HasServedEach};
+
+use crate::accept::Accept;
+use crate::dial::Dial;
+use crate::fetching::{FetchEnd, fetch_all};
+use crate::plan::{FetchPlan, ServePlan};
+use crate::serving::serve_all;
+use mseed_stream::Sink;
+use std::alloc::Allocator;
+
+/// Serves the feed of a plan to as many connections as it says, by [`serve_all`].
+pub fn serve_planned<B: Allocator, A: Accept, E: Sink>(
+    plan: &ServePlan<B>,
+    acceptor: &mut A,
+    errors: &mut E,
+) -> u8
+    requires { AreOut 0 (A.calls acceptor.old) (A.failures acceptor.old) (A.given_back acceptor.old) }
+    ensures accepts { A.calls acceptor.new ≡ A.calls acceptor.old + plan.now.connections }
+    ensures fine { result ≡ 0
+        ↔ (A.failures acceptor.new ≡ A.failures acceptor.old) × (A.lost acceptor.new ≡ A.lost acceptor.old) }
+    ensures told { HasServed result (E.said errors.old) (E.said errors.new) }
+    ensures out { AreOut 0 (A.calls acceptor.new) (A.failures acceptor.new) (A.given_back acceptor.new) }
+    ensures served { HasServedEach plan.now.feed (A.given_back acceptor.old) (A.given_back acceptor.new) }
+{
+    serve_all(&plan.feed, u64::from(plan.connections), acceptor, errors)
+}
+
+/// Fetches what a plan says by at most as many tries as it says, by [`fetch_all`].
+pub fn fetch_planned<D: Dial, W: Sink, E: Sink>(
+    plan: &mut FetchPlan,
+    dialler: &mut D,
+    output: &mut W,
+    errors: &mut E,
+) -> u8
+    requires { AreOut 0 (D.calls dialler.old) (D.failures dialler.old) (D.given_back dialler.old) }
+    ensures dials { D.calls dialler.new ≤ D.calls dialler.old + plan.old.tries }
+    ensures done { result ≡ 0 → plan.new.client.talk.stage ≡ Stage.Ended Ending.End }
+    ensures end { (end : FetchEnd)
+        × HasFetched end plan.old.client plan.new.client (W.said output.old) (W.said output.new)
+        × HasDialled end plan.old.tries (D.calls dialler.old) (D.calls dialler.new)
+        × HasReadEach end plan.old.client plan.new.client (D.given_back dialler.old) (D.given_back dialler.new)
+        (W.said output.old) (W.said output.new)
+        × (result ≡ fetch_status end) × TellsOfFetch end (E.said errors.old) (E.said errors.new) }
+    ensures out { AreOut 0 (D.calls dialler.new) (D.failures dialler.new) (D.given_back dialler.new) }
+{
+    let tries = u64::from(plan.tries);
+    fetch_all(&mut plan.client, tries, dialler, output, errors)
+}

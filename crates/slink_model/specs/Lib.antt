@@ -1,0 +1,12 @@
+pub mod World
+pub mod Running
+pub mod Ties
+pub mod Stretch
+pub mod Spared
+pub mod Calling
+pub mod Pushed
+pub mod Going
+pub mod Counted
+pub mod Relay
+pub mod Relaying
+pub mod Keeping

@@ -1,0 +1,206 @@
+-- What is held of a place, and what of it is on its way to the client.
+use Rattle.std.specs.Prelude.{◌≡◌, ℕ, ◌+◌, ◌-◌, ◌%◌, ◌^◌, ◌<◌, ◌≤◌, ◌⊎◌, ◌==◌, List, [], ◌∷◌, ◌++◌, length, codes, Option, Some, None, slice_get, slice_index_or, if◌then◌else◌}
+use Rattle.slink_wire.specs.declared.reply.Reply.{Reply}
+use Rattle.slink_wire.specs.declared.reply.Reply.TheVariants as replies
+use Rattle.slink_wire.specs.Packet.{packet_bytes}
+use Rattle.slink_wire.specs.Place.{Bears, Fields}
+use Rattle.slink_wire.specs.Reply.{reply_bytes}
+use Rattle.slink_feed.specs.declared.dialogue.Ending.{Ending}
+use Rattle.slink_feed.specs.declared.dialogue.Event.{Event}
+use Rattle.slink_feed.specs.declared.dialogue.Event.TheVariants as events
+use Rattle.slink_feed.specs.declared.dialogue.Stage.TheVariants.{Ended}
+use Rattle.slink_feed.specs.declared.grant.Grant.{Grant}
+use Rattle.slink_feed.specs.declared.dialogue.Wanted.{Wanted}
+use Rattle.slink_feed.specs.declared.session.Phase.{Phase}
+use Rattle.slink_feed.specs.declared.session.Phase.TheVariants.{Fresh, Chosen, Granted, Streaming, Closed}
+use Rattle.slink_feed.specs.Dialogue.{Talk, Wants, bearer, next_at, want_at, with_next}
+use Rattle.slink_feed.specs.Listening.{IsLinked, Listening}
+use Rattle.slink_feed.specs.Session.{State, grant_at, IsBefore}
+use Rattle.slink_feed.specs.Window.{Shows, Window, oldest_of}
+use Rattle.slink_feed.specs.Running.{HasStream}
+use Rattle.slink_model.specs.World.{LinkState, Lists, Numbers, WorldState, number_at}
+
+-- What is held of a place is one stretch of all its records, in their order and each once: `start` is the number of the
+-- first one held, and the number of the record behind the last one is wanted next.
+abbrev pub Holds : ℕ → List (List ℕ) → Option ℕ → List (List ℕ) → Option ℕ → Type 0
+Holds first pushed next held None = held ≡ []
+Holds first pushed next held (Some start) =
+    (older : List (List ℕ)) × (later : List (List ℕ)) × (pushed ≡ older ++ (held ++ later))
+    × (start ≡ first + length older) × (next ≡ Some ((start + length held) % 2 ^ 24))
+
+-- what a server sends: a reply, the packet of a record of a place, with the record's whole number, or the end
+pub data Item : Type 0 where
+  Accepted : Item
+  Refused : Item
+  Greeted : Item
+  Carried : ℕ → ℕ → List ℕ → Item
+  Finished : Item
+
+abbrev pub item_bytes : Item → List ℕ
+item_bytes Accepted = reply_bytes replies.Ok
+item_bytes Refused = reply_bytes replies.Error
+item_bytes Greeted = reply_bytes replies.Hello
+item_bytes (Carried k n r) = packet_bytes (n % 2 ^ 24) r
+item_bytes Finished = codes "END"
+
+abbrev pub way_bytes : List Item → List ℕ
+way_bytes [] = []
+way_bytes (i ∷ is) = item_bytes i ++ way_bytes is
+
+abbrev pub items_of : Reply → List Item
+items_of replies.Nothing = []
+items_of replies.Ok = Accepted ∷ []
+items_of replies.Error = Refused ∷ []
+items_of replies.Hello = Greeted ∷ []
+
+-- the records of one place, with their numbers
+abbrev pub carried_of : ℕ → Item → List (ℕ × List ℕ)
+carried_of k Accepted = []
+carried_of k Refused = []
+carried_of k Greeted = []
+carried_of k (Carried j n r) = if j == k then (n, r) ∷ [] else []
+carried_of k Finished = []
+
+abbrev pub of_place : ℕ → List Item → List (ℕ × List ℕ)
+of_place k [] = []
+of_place k (i ∷ is) = carried_of k i ++ of_place k is
+
+-- records of a place that have the numbers from n on
+abbrev pub AreNext : ℕ → List (List ℕ) → ℕ → List (ℕ × List ℕ) → Type 0
+AreNext first pushed n [] = Unit {0}
+AreNext first pushed n (i ∷ is) =
+    (i.0 ≡ n) × (slice_get pushed (n - first) ≡ Some i.1) × AreNext first pushed (n + 1) is
+
+-- The record that comes next is the one behind the last one held, or at least it isn't 2^24 or more before it.
+abbrev pub IsNear : (ℕ → Type 0) → ℕ → Option ℕ → ℕ → Type 0
+IsNear few n None count = Unit {0}
+IsNear few n (Some start) count = (n ≡ start + count) ⊎ ((start + count < n + 2 ^ 24) × few (start + count))
+
+-- While nothing is held of a place, its first packet on the way is the first that the link was sent.
+abbrev pub IsFirst : Option ℕ → Option ℕ → ℕ → List (ℕ × List ℕ) → Type 0
+IsFirst (Some start) first_sent n rest = Unit {0}
+IsFirst None None n rest = rest ≡ []
+IsFirst None (Some f) n rest = n ≡ f
+
+-- what is on its way of a place: nothing without a grant
+abbrev pub IsOnWay : (ℕ → Type 0) → ℕ → List (List ℕ) → List (List ℕ) → Option ℕ → Option ℕ → Option Grant
+    → List (ℕ × List ℕ) → Type 0
+IsOnWay few first pushed held start first_sent None rest = rest ≡ []
+IsOnWay few first pushed held start first_sent (Some g) rest =
+    (n : ℕ) × (first ≤ n) × AreNext first pushed n rest × (g.position ≡ n + length rest)
+    × IsNear few n start (length held) × IsFirst start first_sent n rest
+
+-- each record of a place bears it
+abbrev pub AreSound : Fields → List (List ℕ) → Type 0
+AreSound place pushed = (i : ℕ) (r : List ℕ) → slice_get pushed i ≡ Some r → (length r ≡ 512) × Bears r place
+
+-- a record that a client's event tells of: the index of its place, its number modulo 2^24, its bytes
+pub record Told : Type 0 where
+  pub index : ℕ
+  pub number : ℕ
+  pub bytes : List ℕ
+
+abbrev pub told_of : Event → Option Told
+told_of events.None = None
+told_of (events.Say bytes) = None
+told_of (events.Record k number bytes) = Some (record { index = k; number = number; bytes = bytes })
+told_of events.End = None
+told_of (events.Refused k) = None
+told_of (events.Gap k want got) = None
+told_of events.Garbage = None
+told_of events.Foreign = None
+
+-- what comes of bytes that a client takes
+pub data Outcome (t : Talk) (items : List Item) (bytes way : List ℕ) (new : Listening) (e : Event) : Type 0 where
+  waits : new ≡ record { talk = t; kept = bytes } → told_of e ≡ None → Outcome t items bytes way new e
+  says : (rest : List Item) → items ≡ Accepted ∷ rest → way ≡ way_bytes rest → new.talk.wants ≡ t.wants → new.kept ≡ []
+      → told_of e ≡ None → Outcome t items bytes way new e
+  takes : (k j n : ℕ) (r : List ℕ) (rest : List Item) → items ≡ Carried k n r ∷ rest → way ≡ way_bytes rest
+      → bearer t.wants r ≡ Some j → ((w : ℕ) → next_at t.wants j ≡ Some w → n % 2 ^ 24 ≡ w)
+      → new.talk ≡ record t { wants = with_next t.wants j ((n % 2 ^ 24 + 1) % 2 ^ 24) } → new.kept ≡ []
+      → told_of e ≡ Some (record { index = j; number = n % 2 ^ 24; bytes = r }) → Outcome t items bytes way new e
+  ends : (ending : Ending) → new.talk ≡ record t { stage = Ended ending } → new.kept ≡ [] → told_of e ≡ None
+      → Outcome t items bytes way new e
+
+-- the records that are carried are of these places, and have 512 bytes
+abbrev pub AreWhole : List Item → Type 0
+AreWhole [] = Unit {0}
+AreWhole (Accepted ∷ is) = AreWhole is
+AreWhole (Refused ∷ is) = AreWhole is
+AreWhole (Greeted ∷ is) = AreWhole is
+AreWhole (Carried k n r ∷ is) = (length r ≡ 512) × AreWhole is
+AreWhole (Finished ∷ is) = AreWhole is
+
+-- What a place is granted once a command was answered: what it was, nothing, or a number from the window or the next.
+pub data IsGranted (feed : List Window) (k : ℕ) (old new : Option Grant) : Type 0 where
+  same : new ≡ old → IsGranted feed k old new
+  dropped : new ≡ None → IsGranted feed k old new
+  given : (g : Grant) (w : Window) → new ≡ Some g → slice_get feed k ≡ Some w → oldest_of w ≤ g.position
+      → g.position ≤ w.next → IsGranted feed k old new
+
+-- what an answer leaves: before records are sent, each place is granted so; afterwards the grants stay, and there is no
+-- reply
+abbrev pub Leaves : Phase → List Window → State → State × Reply → Type 0
+Leaves Fresh feed s x = (k : ℕ) → IsGranted feed k (grant_at s.grants k) (grant_at x.0.grants k)
+Leaves (Chosen place) feed s x = (k : ℕ) → IsGranted feed k (grant_at s.grants k) (grant_at x.0.grants k)
+Leaves (Granted place) feed s x = (k : ℕ) → IsGranted feed k (grant_at s.grants k) (grant_at x.0.grants k)
+Leaves Streaming feed s x = (x.0.grants ≡ s.grants) × (x.1 ≡ replies.Nothing) × ¬ (IsBefore x.0.phase)
+Leaves Closed feed s x = (x.0.grants ≡ s.grants) × (x.1 ≡ replies.Nothing) × ¬ (IsBefore x.0.phase)
+
+-- the places, each with the number that was wanted first, and no two of which are the same
+abbrev pub Places : Type 0
+Places = List (Fields × Option ℕ)
+
+-- Each ring shows what was pushed to it.
+abbrev pub AreShown : Places → ℕ → List Window → Lists → Type 0
+AreShown places first windows pushed = (k : ℕ) → k < length places
+    → (w : Window) × (slice_get windows k ≡ Some w) × Shows w first (slice_index_or pushed k [])
+    × (w.capacity ≤ 1000000)
+
+abbrev pub AreOfPlaces : Places → Lists → Type 0
+AreOfPlaces places pushed = (k : ℕ) (p : Fields × Option ℕ) → slice_get places k ≡ Some p
+    → AreSound p.0 (slice_index_or pushed k [])
+
+abbrev pub AreWanted : Places → Wants → Type 0
+AreWanted places wants = (k : ℕ) (w : Wanted) → want_at wants k ≡ Some w
+    → (p : Fields × Option ℕ) × (slice_get places k ≡ Some p) × (w.place ≡ p.0)
+
+-- Where nothing is held of a place, the number that was wanted first is wanted still.
+abbrev pub WantFirst : Places → Wants → Numbers → Type 0
+WantFirst places wants start = (k : ℕ) (p : Fields × Option ℕ) → slice_get places k ≡ Some p → number_at start k ≡ None
+    → next_at wants k ≡ p.1
+
+-- Of each place a stretch is held.
+abbrev pub AllHold : Places → ℕ → Lists → Wants → Lists → Numbers → Type 0
+AllHold places first pushed wants held start = (k : ℕ) → k < length places
+    → Holds first (slice_index_or pushed k []) (next_at wants k) (slice_index_or held k []) (number_at start k)
+
+-- a link, by what is on its way to the client
+pub record LinkTies (places : Places) (first : ℕ) (few : ℕ → ℕ → Type 0) (pushed : Lists) (client : Listening)
+    (held : Lists) (start : Numbers) (state : State) (first_sent : Numbers) (way : List ℕ) : Type 0 where
+  pub items : List Item
+  pub are_whole : AreWhole items
+  pub flow : IsLinked client.talk.stage → client.kept ++ way ≡ way_bytes items
+  pub before : IsBefore state.phase → (k : ℕ) → (of_place k items ≡ []) × (number_at first_sent k ≡ None)
+  pub within : (k : ℕ) → length places ≤ k → of_place k items ≡ []
+  pub places_are : (k : ℕ) → k < length places
+      → IsOnWay (few k) first (slice_index_or pushed k []) (slice_index_or held k []) (number_at start k)
+      (number_at first_sent k) (grant_at state.grants k) (of_place k items)
+  pub room : length first_sent ≡ 16
+
+abbrev pub IsLinkTied : Places → ℕ → WorldState → Option LinkState → Type 0
+IsLinkTied places first w None = Unit {0}
+IsLinkTied places first w (Some l) =
+    HasStream l.session
+    × LinkTies places first (λ k x. Unit {0}) w.pushed w.client w.held w.start l.session.state l.first_sent l.to_client
+
+-- how a world stands to all records that were pushed, at any moment of any schedule
+pub record WorldTies (places : Places) (first : ℕ) (w : WorldState) : Type 0 where
+  pub shown : AreShown places first w.windows w.pushed
+  pub sound : AreOfPlaces places w.pushed
+  pub wanted : AreWanted places w.client.talk.wants
+  pub holds : AllHold places first w.pushed w.client.talk.wants w.held w.start
+  pub want_first : WantFirst places w.client.talk.wants w.start
+  pub long : (length w.windows ≡ length places) × (length w.pushed ≡ length places)
+      × (length w.held ≡ length places) × (length w.start ≡ length places)
+  pub link : IsLinkTied places first w w.link

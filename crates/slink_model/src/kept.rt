@@ -1,0 +1,45 @@
+//! A sink in memory.
+use mseed_stream::{Failed, Sink, Tally};
+use std::alloc::Allocator;
+
+/// What was written, kept in memory. A write fails where memory was refused.
+#[derive(Drop)]
+pub struct Kept<A: Allocator> {
+    pub bytes: Vec<u8, A>,
+    pub(crate) calls: Tally,
+}
+
+impl<A: Allocator> Kept<A> {
+    ghost use Rattle.slink_model.specs.Keeping.{said_by};
+    ghost use Rattle.mseed_stream.specs.Device.{nothing_said};
+    ghost use Rattle.std.specs.Prelude.{◌≡◌};
+
+    /// Nothing yet.
+    pub fn new(alloc: A) -> Kept<A>
+        ensures { said_by result ≡ nothing_said }
+    {
+        Kept {
+            bytes: Vec::new(alloc),
+            calls: Tally::new(),
+        }
+    }
+}
+
+impl<A: Allocator> Sink for Kept<A> {
+    ghost use Rattle.slink_model.specs.Keeping.{said_by};
+
+    ghost said = { said_by };
+
+    fn put(&mut self, bytes: &[u8]) -> Result<usize, Failed> {
+        match self.bytes.extend_from_slice(bytes) {
+            Ok(()) => {
+                self.calls.record(&[], false);
+                Ok(bytes.len())
+            }
+            Err(_) => {
+                self.calls.record(&[], true);
+                Err(Failed)
+            }
+        }
+    }
+}

@@ -1,0 +1,22 @@
+//! Worlds of SeedLink 3: a server, a client and the link between them, what the steps of a schedule make of them, and
+//! series that are relayed through one. No command calls this: it says what sessions and clients come to over links
+//! that are cut off and come again.
+#![tactic(auto)]
+
+mod carry;
+mod kept;
+mod relaying;
+mod schedule;
+mod stretch;
+#[cfg(test)]
+mod tests;
+mod world;
+
+pub use relaying::{RelayFault, relay};
+pub use schedule::run_schedule;
+pub use stretch::{
+    answers_the_number_wanted, carries_a_stretch, counts_whole_packets, goes_on_behind_the_last,
+    holds_one_slice, is_the_counted_world, one_world, pushes_what_is_appended,
+    resumes_behind_the_last, spares_the_client, streams_behind_the_replies,
+};
+pub use world::{Link, Memory, Setup, Step, World};
