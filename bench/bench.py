@@ -1,14 +1,17 @@
 #!/usr/bin/env python3
 """Measures mseed side by side with libmseed over archives made here.
 
-    bench.py MSEED [--rounds 11] [--megabytes 100] [--commands audit show repack] [--archives NAME ..] [--count]
+    bench.py MSEED [--rounds 11] [--megabytes 100] [--commands audit show repack] [--archives NAME ..]
+             [--count] [--write]
 
 Each program does the same work over the same archive in turn, round after round, so that load from
 elsewhere falls on all alike; every other round goes in reverse. What counts is user and system time. The
 ratio, libmseed / mseed, is above 1 where mseed is faster; it is the median of the rounds' ratios. With
---count the instructions a record of one run are counted too, by valgrind over eight megabytes.
+--count the instructions of one run are counted too, by valgrind over eight megabytes: a record, or of repack a sample.
+With --write they are counted, and what was measured is written into the tables of docs/performance.md.
 
-Wants a C compiler and Debian's libmseed-dev. What it builds and the archives go to a temporary folder.
+Wants a C compiler and Debian's libmseed-dev; --count and --write want valgrind. What it builds and the archives go to
+a temporary folder.
 """
 
 import argparse
@@ -20,10 +23,13 @@ import subprocess
 import sys
 import tempfile
 
+from tables import table, write
+
 HERE = os.path.dirname(os.path.abspath(__file__))
 FOLDER = os.path.join(tempfile.gettempdir(), "mseed-bench-of-" + str(os.getuid()))
 ENCODINGS = {"int16": 1, "int32": 3, "steim1": 10, "steim2": 11}
 ARCHIVES = ["steim2_512", "steim1_512", "steim2_4096", "int32_512"]
+SPELLED = {"int16": "integers of 16 bits", "int32": "integers of 32 bits", "steim1": "Steim-1", "steim2": "Steim-2"}
 
 
 def build():
@@ -61,39 +67,76 @@ def measure(call, archive, output="/dev/null"):
     return float(words[0]), int(words[4]) / 1024
 
 
-def instructions(call, archive, records):
-    """Instructions a record, of one run."""
+def instructions(call, archive):
+    """The instructions of one run."""
     with open(archive, "rb") as source:
-        told = subprocess.run(["valgrind", "--tool=cachegrind", "--cache-sim=no", "--cachegrind-out-file=/dev/null", *call],
-                              stdin=source, stdout=subprocess.DEVNULL, stderr=subprocess.PIPE, text=True).stderr
-    return int(re.search(r"I +refs: +([\d,]+)", told).group(1).replace(",", "")) // records
+        call = ["valgrind", "--tool=cachegrind", "--cache-sim=no", "--cachegrind-out-file=/dev/null", *call]
+        told = subprocess.run(call, stdin=source, stdout=subprocess.DEVNULL, stderr=subprocess.PIPE, text=True).stderr
+    return int(re.search(r"I +refs: +([\d,]+)", told).group(1).replace(",", ""))
 
 
-def compare(mseed, command, name, options):
-    archive = make_archive(name, options.megabytes)
-    calls = programs(mseed, command)
-    seconds = {who: [] for who in calls}
-    peak = {who: 0.0 for who in calls}
-    for turn in range(options.rounds):
-        for who in list(calls)[:: -1 if turn % 2 else 1]:
-            cost, memory = measure(calls[who], archive)
-            seconds[who].append(cost)
-            peak[who] = max(peak[who], memory)
-    ratio = statistics.median(a / b for a, b in zip(seconds["libmseed"], seconds["mseed"]))
-    speed = {who: os.path.getsize(archive) / statistics.median(seconds[who]) / 1e6 for who in calls}
-    line = f"{command:7} {name:12} {ratio:5.2f}" + "".join(f" {speed[who]:8.0f} {peak[who]:7.1f}" for who in calls)
-    if options.count and shutil.which("valgrind"):
-        small = make_archive(name, 8)
-        records = os.path.getsize(small) // int(name.split("_")[1])
-        line += "".join(f" {instructions(calls[who], small, records):9}" for who in calls)
-    print(line, flush=True)
-    if command != "repack":
-        texts = {who: os.path.join(FOLDER, f"{who}.text") for who in calls}
-        for who in calls:
-            measure(calls[who], archive, texts[who])
+def samples_in(mseed, archive):
+    """How many samples an archive has whose channels are continuous."""
+    with open(archive, "rb") as source:
+        text = subprocess.run([mseed, "audit"], stdin=source, stdout=subprocess.PIPE, check=True, text=True).stdout
+    return sum(int(line.split()[-1]) for line in text.splitlines() if " continuous " in line)
+
+
+class Row:
+    """What was measured of a command over an archive: medians of the rounds, by program."""
+
+    def __init__(self, mseed, command, name, options):
+        self.command, self.name = command, name
+        self.archive = make_archive(name, options.megabytes)
+        self.calls = programs(mseed, command)
+        self.peak = {who: 0.0 for who in self.calls}
+        self.instructions = {}
+        self.run(options.rounds)
+        if options.count or options.write:
+            small = make_archive(name, 8)
+            records = os.path.getsize(small) // int(name.split("_")[1])
+            units = samples_in(mseed, small) if command == "repack" else records
+            self.instructions = {who: instructions(call, small) / units for who, call in self.calls.items()}
+
+    def run(self, rounds):
+        seconds = {who: [] for who in self.calls}
+        for turn in range(rounds):
+            for who in list(self.calls)[:: -1 if turn % 2 else 1]:
+                cost, memory = measure(self.calls[who], self.archive)
+                seconds[who].append(cost)
+                self.peak[who] = max(self.peak[who], memory)
+        self.ratio = statistics.median(a / b for a, b in zip(seconds["libmseed"], seconds["mseed"]))
+        self.speed = {who: os.path.getsize(self.archive) / statistics.median(seconds[who]) / 1e6 for who in self.calls}
+
+    def check(self):
+        """Both programs say the same, but of packing, where they may differ."""
+        texts = {who: os.path.join(FOLDER, f"{who}.text") for who in self.calls}
+        for who, call in self.calls.items():
+            measure(call, self.archive, texts[who])
         with open(texts["libmseed"], "rb") as one, open(texts["mseed"], "rb") as other:
             if one.read() != other.read():
-                sys.exit(f"{command} {name}: the texts differ: {texts['libmseed']} {texts['mseed']}")
+                sys.exit(f"{self.command} {self.name}: the texts differ: {texts['libmseed']} {texts['mseed']}")
+
+    def line(self):
+        return f"{self.command:7} {self.name:12} {self.ratio:5.2f}" \
+            + "".join(f" {self.speed[who]:8.0f} {self.peak[who]:7.1f}" for who in self.calls) \
+            + "".join(f" {self.instructions[who]:9.1f}" for who in self.instructions)
+
+    def cells(self):
+        """The row of a table."""
+        encoding, length = self.name.split("_")
+        digits = 1 if self.command == "repack" else 0
+        return [f"`{self.command}`", f"{SPELLED[encoding]}, records of {int(length):,} bytes", f"{self.ratio:.1f}",
+                *(f"{self.peak[who]:.1f}" for who in self.calls),
+                *(f"{self.instructions[who]:,.{digits}f}" for who in self.calls)]
+
+
+def write_tables(rows):
+    """Those of audit and show count instructions by the record, that of repack by the sample."""
+    for name, unit, commands in (("audit and show", "record", ("audit", "show")), ("repack", "sample", ("repack",))):
+        heads = ["command", "archive", "times libmseed", "peak MiB, libmseed", "`mseed`",
+                 f"instructions a {unit}, libmseed", "`mseed`"]
+        write(name, table(heads, [row.cells() for row in rows if row.command in commands]))
 
 
 def main():
@@ -104,13 +147,25 @@ def main():
     words.add_argument("--commands", nargs="+", default=["audit", "show", "repack"])
     words.add_argument("--archives", nargs="+", default=ARCHIVES)
     words.add_argument("--count", action="store_true")
+    words.add_argument("--write", action="store_true")
     options = words.parse_args()
+    if (options.count or options.write) and not shutil.which("valgrind"):
+        sys.exit("instructions are counted by valgrind, which isn't installed")
+    if options.write and (options.commands, options.archives) != (["audit", "show", "repack"], ARCHIVES):
+        sys.exit("the tables are written as a whole")
     build()
-    print("                        ratio  libmseed            mseed" + ("              instructions a record" if options.count else ""))
-    print("command archive         times     MB/s     MiB     MB/s     MiB" + ("  libmseed     mseed" if options.count else ""))
+    print("                        ratio  libmseed            mseed              instructions")
+    print("command archive         times     MB/s     MiB     MB/s     MiB  libmseed     mseed")
+    rows = []
     for command in options.commands:
         for name in options.archives:
-            compare(os.path.abspath(options.mseed), command, name, options)
+            row = Row(os.path.abspath(options.mseed), command, name, options)
+            print(row.line(), flush=True)
+            if command != "repack":
+                row.check()
+            rows.append(row)
+    if options.write:
+        write_tables(rows)
 
 
 main()

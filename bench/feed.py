@@ -1,11 +1,12 @@
 #!/usr/bin/env python3
 """Measures `mseed serve` and `mseed fetch` side by side with a pair of C programs that bring the same bytes over TCP.
 
-    feed.py MSEED [--rounds 7] [--megabytes 100]
+    feed.py MSEED [--rounds 7] [--megabytes 100] [--write]
 
 The pairs go in turn, round after round, every other round in reverse. For each side the user and system time and
 the peak memory are printed, and for the pair the wall time from dialling to the end: medians of the rounds. A ratio,
-C / mseed, is above 1 where mseed is faster. Wants a C compiler.
+C / mseed, is above 1 where mseed is faster. With --write they are written into the table of docs/performance.md.
+Wants a C compiler.
 """
 
 import argparse
@@ -20,6 +21,7 @@ HERE = os.path.dirname(os.path.abspath(__file__))
 sys.path.insert(0, os.path.join(os.path.dirname(HERE), "tests"))
 
 from seedlink import Place, free_port, is_heard, record_of  # noqa: E402
+from tables import table, write  # noqa: E402
 
 FOLDER = os.path.join(tempfile.gettempdir(), "mseed-bench-of-" + str(os.getuid()))
 STA = Place("XX_STA")
@@ -81,6 +83,7 @@ def main():
     words.add_argument("mseed")
     words.add_argument("--rounds", type=int, default=7)
     words.add_argument("--megabytes", type=int, default=100)
+    words.add_argument("--write", action="store_true")
     options = words.parse_args()
     build()
     archive = make_archive(options.megabytes)
@@ -93,11 +96,17 @@ def main():
             if subprocess.run(["cmp", "-s", archive, output], check=False).returncode:
                 sys.exit(f"{who}: the output isn't the archive")
     print("          serve s      MiB  fetch s      MiB   wall s")
-    for who, rounds in rows.items():
-        print(f"{who:8}" + "".join(f" {statistics.median(column):8.3f}" for column in zip(*rounds)))
+    medians = {who: [statistics.median(column) for column in zip(*rounds)] for who, rounds in rows.items()}
+    for who, columns in medians.items():
+        print(f"{who:8}" + "".join(f" {column:8.3f}" for column in columns))
     pairs = list(zip(rows["C"], rows["mseed"]))
     ratios = [statistics.median(one[k] / other[k] for one, other in pairs) for k in (0, 2, 4)]
     print("times C  %8.2f          %8.2f          %8.2f" % tuple(ratios))
+    if options.write:
+        heads = ["", "serving, seconds", "peak MiB", "fetching, seconds", "peak MiB", "from dialling to the end"]
+        cells = [[f"{column:.{1 if place in (1, 3) else 3}f}" for place, column in enumerate(columns)]
+                 for columns in medians.values()]
+        write("serve and fetch", table(heads, [["C", *cells[0]], ["`mseed`", *cells[1]]]))
 
 
 main()
