@@ -1,5 +1,6 @@
 -- No two pairs spell one instant.
-use Rattle.std.proofs.Common.{◌≡◌, ℕ, suc, ◌+◌, ◌-◌, ◌*◌, ◌<◌, ◌≤◌, zero, ap, ◌∙◌, le_trans, arith, ℤ, pos, ◌+ℤ◌, ⊎_elim}
+use Rattle.std.proofs.Common.{◌≡◌, ℕ, suc, ◌+◌, ◌-◌, ◌*◌, ◌<◌, ◌≤◌, zero, ap, ◌∙◌, le_trans, arith, ℤ, pos, ◌+ℤ◌,
+    ⊎_elim}
 use Rattle.std.proofs.lemmas.Bool.{cases_order}
 use Rattle.std.proofs.lemmas.Bool.Decides.{nat_tests}
 use Rattle.jiff_core.proofs.SignedLemmas.{signed_arith}
@@ -18,7 +19,8 @@ days_before-rises : (y k : ℕ) → 1 ≤ y → days_before y ≤ days_before (k
 days_before-rises y zero low = omega arith
 days_before-rises y (suc k) low =
     let rest = days_before-rises y k low in
-    let next : days_before (k + y) ≤ days_before (suc (k + y)) = rw (days_before-next (k + y) (omega arith)) (omega arith) in
+    let next : days_before (k + y) ≤ days_before (suc (k + y)) =
+        rw (days_before-next (k + y) (omega arith)) (omega arith) in
     let same : suc k + y ≡ suc (k + y) = omega arith in
     rw same (le_trans rest next)
 
@@ -30,7 +32,8 @@ days_before-later y z low h =
     rw (← days_before-next y low) rises
 
 -- a day of a year is no day of another
-same_day : (y d z e : ℕ) → 1 ≤ y → 1 ≤ z → 1 ≤ d → d ≤ days_in_year y → 1 ≤ e → e ≤ days_in_year z → days_before y + d ≡ days_before z + e → (y ≡ z) × (d ≡ e)
+same_day : (y d z e : ℕ) → 1 ≤ y → 1 ≤ z → 1 ≤ d → d ≤ days_in_year y → 1 ≤ e → e ≤ days_in_year z
+    → days_before y + d ≡ days_before z + e → (y ≡ z) × (d ≡ e)
 same_day y d z e y_low z_low d_low d_high e_low e_high same =
     let years : y ≡ z = ⊎_elim (λ h. h)
     (λ o. absurd (⊎_elim
@@ -52,14 +55,18 @@ unfolding days_of
 counted t h = microsecond_of-counted t (days_of t) (omega (arith, signed_arith)) ∙ ap pos (omega arith)
 
 -- two pairs that spell one instant have the same microseconds, and the same ten-thousandths
-same_ticks : (instant u v : ℤ) (t s : Parts) → Names instant t u → Names instant s v → (u ≡ v) × (ticks_of (days_of t) t ≡ ticks_of (days_of s) s)
+same_ticks : (instant u v : ℤ) (t s : Parts) → Names instant t u → Names instant s v
+    → (u ≡ v) × (ticks_of (days_of t) t ≡ ticks_of (days_of s) s)
 same_ticks instant u v t s a b =
     let first = counted t a.valid in
     let second = counted s b.valid in
-    (omega (arith, signed_arith, a.value, b.value, first, second), omega (arith, signed_arith, a.value, b.value, first, second))
+    (omega (arith, signed_arith, a.value, b.value, first, second),
+        omega (arith, signed_arith, a.value, b.value, first, second))
 
 -- the digits of the ten-thousandths
-same_clock : (c d : ℕ) (t s : Parts) → IsTime t → t.second ≤ 59 → IsTime s → s.second ≤ 59 → ticks_of c t ≡ ticks_of d s → (t.fraction ≡ s.fraction) × (t.second ≡ s.second) × (t.minute ≡ s.minute) × (t.hour ≡ s.hour) × (c ≡ d)
+same_clock : (c d : ℕ) (t s : Parts) → IsTime t → t.second ≤ 59 → IsTime s → s.second ≤ 59
+    → ticks_of c t ≡ ticks_of d s → (t.fraction ≡ s.fraction) × (t.second ≡ s.second) × (t.minute ≡ s.minute)
+    × (t.hour ≡ s.hour) × (c ≡ d)
 same_clock c d t s a t59 b s59 e =
     let fraction : t.fraction ≡ s.fraction = omega arith in
     let second : t.second ≡ s.second = omega arith in
@@ -67,12 +74,14 @@ same_clock c d t s a t59 b s59 e =
     let hour : t.hour ≡ s.hour = omega arith in
     (fraction, second, minute, hour, omega arith)
 
-same_parts : (t s : Parts) → IsTime t → t.second ≤ 59 → IsTime s → s.second ≤ 59 → ticks_of (days_of t) t ≡ ticks_of (days_of s) s → t ≡ s
+same_parts : (t s : Parts) → IsTime t → t.second ≤ 59 → IsTime s → s.second ≤ 59
+    → ticks_of (days_of t) t ≡ ticks_of (days_of s) s → t ≡ s
 unfolding days_of
 same_parts t s a t59 b s59 e =
     let clock = same_clock (days_of t) (days_of s) t s a t59 b s59 e in
     let day = same_day t.year t.day s.year s.day (omega arith) (omega arith) a.2 a.3 b.2 b.3 (omega arith) in
-    λ i. record { year = day.0 i; day = day.1 i; hour = clock.3 i; minute = clock.2 i; second = clock.1 i; fraction = clock.0 i }
+    λ i. record { year = day.0 i; day = day.1 i; hour = clock.3 i; minute = clock.2 i; second = clock.1 i;
+        fraction = clock.0 i }
 
 pub name_unique : (instant u v : ℤ) (t s : Parts) → Names instant t u → Names instant s v → (t ≡ s) × (u ≡ v)
 name_unique instant u v t s a b =
