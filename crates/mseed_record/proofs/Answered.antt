@@ -1,5 +1,6 @@
 -- Where a record is there, the framing steps answer it.
-use Rattle.std.proofs.Common.{◌≡◌, ℕ, ◌+◌, ◌^◌, ◌<◌, ◌≤◌, List, [], ◌∷◌, length, take, Option, Some, None, sym, ap, subst, arith, true, ◌∙◌}
+use Rattle.std.proofs.Common.{◌≡◌, ℕ, ◌+◌, ◌^◌, ◌<◌, ◌≤◌, List, [], ◌∷◌, length, take, Option, Some, None, sym, ap,
+    subst, arith, true, ◌∙◌}
 use Rattle.std.proofs.lemmas.Bool.{false≢true}
 use Rattle.std.proofs.lemmas.Bool.Decides.{nat_tests}
 use Rattle.std.proofs.lemmas.List.{get_or-take, length-take-le}
@@ -10,18 +11,25 @@ use Rattle.mseed_record.specs.Header.{has_fixed_bytes, blockette_at}
 use Rattle.mseed_record.specs.Order.{order_of}
 use Rattle.mseed_record.specs.Chain.{type_at, next_at, Passes}
 use Rattle.mseed_record.specs.Record.{exponent_at, IsRecordBy, IsRecord}
-use Rattle.mseed_record.specs.Scan.{is_version3, at_offset, DecidesFrom, Decides, version3, short, no_data, no_order, by_chain}
+use Rattle.mseed_record.specs.Scan.{is_version3, at_offset, DecidesFrom, Decides, version3, short, no_data, no_order,
+    by_chain}
 use Rattle.mseed_record.proofs.Framed.{Stands, number_front, fixed_front, order_front, passes_above}
 
-pub none_at : (order : Order) (front : List ℕ) (low o : ℕ) → low ≤ o → 0 < low → o + 4 ≤ length front → (type_at order front o ≡ 1000 → ⊥) → at_offset order front low o ≡ None
+pub none_at : (order : Order) (front : List ℕ) (low o : ℕ) → low ≤ o → 0 < low → o + 4 ≤ length front
+    → (type_at order front o ≡ 1000 → ⊥) → at_offset order front low o ≡ None
 none_at order front low o h z l t = grind (arith, nat_tests, t)
 
-some_at : (order : Order) (front : List ℕ) (low o k : ℕ) → low ≤ o → 0 < low → Stands order front o k → at_offset order front low o ≡ Some (Record k)
-some_at order front low o k h z s = grind (arith, nat_tests, s.type, s.exponent_low, s.exponent_high, s.inside, s.whole, s.size)
+some_at : (order : Order) (front : List ℕ) (low o k : ℕ) → low ≤ o → 0 < low → Stands order front o k
+    → at_offset order front low o ≡ Some (Record k)
+some_at order front low o k h z s = grind (arith, nat_tests, s.type, s.exponent_low, s.exponent_high, s.inside,
+    s.whole, s.size)
 
 -- the steps along the chain of the first k bytes
-decided : (order : Order) (front : List ℕ) (k low o : ℕ) (os : List ℕ) (last : ℕ) → low ≤ o → 0 < low → last + 8 ≤ k → k ≤ length front → Passes order (take k front) o os last → Stands order front last k → DecidesFrom order front low o os (Record k)
-decided order front k low o [] last h z w l p s = some_at order front low o k h z (subst (λ (n : ℕ). Stands order front n k) (sym p) s)
+decided : (order : Order) (front : List ℕ) (k low o : ℕ) (os : List ℕ) (last : ℕ) → low ≤ o → 0 < low → last + 8 ≤ k
+    → k ≤ length front → Passes order (take k front) o os last → Stands order front last k
+    → DecidesFrom order front low o os (Record k)
+decided order front k low o [] last h z w l p s =
+    some_at order front low o k h z (subst (λ (n : ℕ). Stands order front n k) (sym p) s)
 decided order front k low o (q ∷ os) last h z w l p s =
     let b : List ℕ = take k front in
     let above = passes_above order b (next_at order b o) os last p.3 in
@@ -33,11 +41,13 @@ decided order front k low o (q ∷ os) last h z w l p s =
     (p.0, none, subst (λ (n : ℕ). DecidesFrom order front (o + 4) n os (Record k)) next later)
 
 -- the steps along a chain decide one thing
-pub one_from : (order : Order) (front : List ℕ) (low o : ℕ) (os ps : List ℕ) (a c : Scan) → DecidesFrom order front low o os a → DecidesFrom order front low o ps c → a ≡ c
+pub one_from : (order : Order) (front : List ℕ) (low o : ℕ) (os ps : List ℕ) (a c : Scan)
+    → DecidesFrom order front low o os a → DecidesFrom order front low o ps c → a ≡ c
 one_from order front low o [] [] a c d e = cc
 one_from order front low o [] (p ∷ ps) a c d e = cc (d, e.1)
 one_from order front low o (p ∷ os) [] a c d e = cc (d.1, e)
-one_from order front low o (p ∷ os) (q ∷ ps) a c d e = one_from order front (o + 4) (next_at order front o) os ps a c d.2 e.2
+one_from order front low o (p ∷ os) (q ∷ ps) a c d e =
+    one_from order front (o + 4) (next_at order front o) os ps a c d.2 e.2
 
 -- no header begins as miniSEED 3 does
 other_version : (b : List ℕ) → has_fixed_bytes b ≡ true → is_version3 b ≡ true → ⊥
@@ -52,7 +62,8 @@ record There (order : Order) (front : List ℕ) (k : ℕ) (os : List ℕ) (last 
   order_is : order_of front ≡ Some order
   decides : DecidesFrom order front 48 (blockette_at order front) os (Record k)
 
-there : (order : Order) (front : List ℕ) (k : ℕ) (os : List ℕ) (last : ℕ) → k ≤ length front → IsRecordBy order os last (take k front) → There order front k os last
+there : (order : Order) (front : List ℕ) (k : ℕ) (os : List ℕ) (last : ℕ) → k ≤ length front
+    → IsRecordBy order os last (take k front) → There order front k os last
 there order front k os last l r =
     let b : List ℕ = take k front in
     let size : k ≡ 2 ^ exponent_at b last = sym (length-take-le k front l) ∙ r.size in
@@ -71,7 +82,8 @@ there order front k os last l r =
       whole = subst (λ (n : ℕ). n ≤ length front) size_front l;
       size = size_front;
     } in
-    let steps = decided order front k 48 (blockette_at order b) os last r.chain.low (omega arith) inside l r.chain.others stands in
+    let steps = decided order front k 48 (blockette_at order b) os last r.chain.low (omega arith) inside l
+        r.chain.others stands in
     record {
       stands = stands;
       long = long;
@@ -83,7 +95,8 @@ there order front k os last l r =
 one_order : (x : Option Order) (order other : Order) → x ≡ Some order → x ≡ Some other → order ≡ other
 one_order x order other e f = cc (e, f)
 
-answer_there : (order : Order) (front : List ℕ) (k : ℕ) (os : List ℕ) (last : ℕ) (a : Scan) → k ≤ length front → There order front k os last → Decides front a → a ≡ Record k
+answer_there : (order : Order) (front : List ℕ) (k : ℕ) (os : List ℕ) (last : ℕ) (a : Scan) → k ≤ length front
+    → There order front k os last → Decides front a → a ≡ Record k
 answer_there order front k os last _ l t (version3 v) = absurd (other_version front t.fixed v)
 answer_there order front k os last _ l t (short v s) =
     let long = t.long in
@@ -92,10 +105,12 @@ answer_there order front k os last _ l t (no_data v s f) = absurd (false≢true 
 answer_there order front k os last _ l t (no_order v s f o) = absurd (cc (o, t.order_is))
 answer_there order front k os last a l t (by_chain other ps answer v s f o d) =
     let same = one_order (order_of front) other order o t.order_is in
-    one_from order front 48 (blockette_at order front) ps os answer (Record k) (subst (λ (x : Order). DecidesFrom x front 48 (blockette_at x front) ps answer) same d) t.decides
+    one_from order front 48 (blockette_at order front) ps os answer (Record k)
+        (subst (λ (x : Order). DecidesFrom x front 48 (blockette_at x front) ps answer) same d) t.decides
 
 -- the steps answer k where the first k bytes are a record
-pub answered : (front : List ℕ) (k : ℕ) (a : Scan) → Decides front a → k ≤ length front → IsRecord (take k front) → a ≡ Record k
+pub answered : (front : List ℕ) (k : ℕ) (a : Scan) → Decides front a → k ≤ length front → IsRecord (take k front)
+    → a ≡ Record k
 answered front k a d l r =
     let order = r.0 in
     let os = r.1.0 in

@@ -1,5 +1,6 @@
 -- Where the framing steps answer a record, one is there.
-use Rattle.std.proofs.Common.{◌≡◌, ◌≢◌, ℕ, suc, ◌+◌, ◌^◌, ◌<◌, ◌≤◌, List, [], ◌∷◌, length, take, get_or, Some, None, refl, sym, ap, subst, arith, lit<, ⊎_elim, length-take, true, ◌∙◌}
+use Rattle.std.proofs.Common.{◌≡◌, ◌≢◌, ℕ, suc, ◌+◌, ◌^◌, ◌<◌, ◌≤◌, List, [], ◌∷◌, length, take, get_or, Some, None,
+    refl, sym, ap, subst, arith, lit<, ⊎_elim, length-take, true, ◌∙◌}
 use Rattle.std.proofs.lemmas.Bool.Decides.{nat_tests}
 use Rattle.std.proofs.lemmas.List.{get_or-take, take-take, length-take-le}
 use Rattle.std.proofs.lemmas.Bool.{cases_lt}
@@ -16,7 +17,8 @@ use Rattle.mseed_record.specs.Scan.{at_offset, DecidesFrom}
 use Rattle.mseed_record.proofs.Passing.{none_within}
 
 -- a front and its first k bytes spell the same
-pub number_front : (order : Order) (b : List ℕ) (o k : ℕ) → o + 2 ≤ k → number_at order 2 o (take k b) ≡ number_at order 2 o b
+pub number_front : (order : Order) (b : List ℕ) (o k : ℕ) → o + 2 ≤ k
+    → number_at order 2 o (take k b) ≡ number_at order 2 o b
 number_front Big b o k h =
     let one : o < k = omega arith in
     let two : suc o < k = omega arith in
@@ -35,7 +37,8 @@ pub record Stands (order : Order) (front : List ℕ) (o k : ℕ) : Type 0 where
   pub whole : 2 ^ exponent_at front o ≤ length front
   pub size : k ≡ 2 ^ exponent_at front o
 
-record_at : (order : Order) (front : List ℕ) (low o k : ℕ) → at_offset order front low o ≡ Some (Record k) → (low ≤ o) × Stands order front o k
+record_at : (order : Order) (front : List ℕ) (low o k : ℕ) → at_offset order front low o ≡ Some (Record k)
+    → (low ≤ o) × Stands order front o k
 record_at order front low o k e = (
   grind (arith, nat_tests, e),
   record {
@@ -48,17 +51,21 @@ record_at order front low o k e = (
   },
 )
 
-pub other_at : (order : Order) (front : List ℕ) (low o : ℕ) → at_offset order front low o ≡ None → type_at order front o ≢ 1000
+pub other_at : (order : Order) (front : List ℕ) (low o : ℕ) → at_offset order front low o ≡ None
+    → type_at order front o ≢ 1000
 other_at order front low o e = λ t. absurd (grind (arith, nat_tests, e, t))
 
 -- the first 1000 of a record that was answered, behind the blockettes that were passed
-pub found : (order : Order) (front : List ℕ) (low o : ℕ) (os : List ℕ) (k : ℕ) → DecidesFrom order front low o os (Record k) → (last : ℕ) × ((low ≤ o) × Passes order front o os last × Stands order front last k)
+pub found : (order : Order) (front : List ℕ) (low o : ℕ) (os : List ℕ) (k : ℕ)
+    → DecidesFrom order front low o os (Record k)
+    → (last : ℕ) × ((low ≤ o) × Passes order front o os last × Stands order front last k)
 found order front low o [] k e =
     let there = record_at order front low o k e in
     (o, (there.0, refl, there.1))
 found order front low o (p ∷ os) k e =
     let later = found order front (o + 4) (next_at order front o) os k e.2 in
-    (later.0, ((none_within order front low o e.1).0, (e.0, other_at order front low o e.1, later.1.0, later.1.1), later.1.2))
+    (later.0, ((none_within order front low o e.1).0, (e.0, other_at order front low o e.1, later.1.0, later.1.1),
+        later.1.2))
 
 pub passes_above : (order : Order) (b : List ℕ) (o : ℕ) (os : List ℕ) (last : ℕ) → Passes order b o os last → o ≤ last
 passes_above order b o [] last h = omega (arith, h)
@@ -67,13 +74,15 @@ passes_above order b o (q ∷ os) last h =
     omega (arith, h.2)
 
 -- the fixed section lies within a record, and its first blockette 1000 lies behind it
-pub record_room : (order : Order) (os : List ℕ) (last : ℕ) (b : List ℕ) → IsRecordBy order os last b → (48 ≤ last) × (last + 8 ≤ length b)
+pub record_room : (order : Order) (os : List ℕ) (last : ℕ) (b : List ℕ) → IsRecordBy order os last b
+    → (48 ≤ last) × (last + 8 ≤ length b)
 record_room order os last b r =
     let on = passes_above order b (blockette_at order b) os last r.chain.others in
     (omega (arith, on, r.chain.low), omega (arith, r.inside, r.size))
 
 -- the same blockettes stand in the first k bytes
-pub passes_front : (order : Order) (b : List ℕ) (k o : ℕ) (os : List ℕ) (last : ℕ) → last + 8 ≤ k → Passes order b o os last → Passes order (take k b) o os last
+pub passes_front : (order : Order) (b : List ℕ) (k o : ℕ) (os : List ℕ) (last : ℕ) → last + 8 ≤ k
+    → Passes order b o os last → Passes order (take k b) o os last
 passes_front order b k o [] last w h = h
 passes_front order b k o (q ∷ os) last w h =
     let above = passes_above order b (next_at order b o) os last h.3 in
@@ -101,11 +110,14 @@ order_front b k h = rw (dated_front Big b k h, dated_front Little b k h) refl
 octets_front : (b : List ℕ) (k : ℕ) → ((i : ℕ) → get_or b i 0 < 256) → (i : ℕ) → get_or (take k b) i 0 < 256
 octets_front b k octets i = ⊎_elim
     (λ (l : i < k). rw (get_or-take k b i 0 l) (octets i))
-    (λ (g : k ≤ i). let out : length (take k b) ≤ i = omega (arith, length-take k b) in rw (get_or-eq_default (take k b) 0 out) (lit< tt))
+    (λ (g : k ≤ i). let out : length (take k b) ≤ i = omega (arith, length-take k b) in
+        rw (get_or-eq_default (take k b) 0 out) (lit< tt))
     (cases_lt i k)
 
 -- the first k bytes are a record where the steps answer k
-pub framed : (order : Order) (front : List ℕ) (os : List ℕ) (k : ℕ) → ((i : ℕ) → get_or front i 0 < 256) → 48 ≤ length front → has_fixed_bytes front ≡ true → order_of front ≡ Some order → DecidesFrom order front 48 (blockette_at order front) os (Record k) → (k ≤ length front) × IsRecord (take k front)
+pub framed : (order : Order) (front : List ℕ) (os : List ℕ) (k : ℕ) → ((i : ℕ) → get_or front i 0 < 256)
+    → 48 ≤ length front → has_fixed_bytes front ≡ true → order_of front ≡ Some order
+    → DecidesFrom order front 48 (blockette_at order front) os (Record k) → (k ≤ length front) × IsRecord (take k front)
 framed order front os k octets long fixed dated decided =
     let it = found order front 48 (blockette_at order front) os k decided in
     let last = it.0 in
@@ -114,12 +126,16 @@ framed order front os k octets long fixed dated decided =
     let inside : last + 8 ≤ k = subst (λ (n : ℕ). last + 8 ≤ n) (sym stands.size) stands.inside in
     let least : 48 ≤ k = omega (arith, it.1.0) in
     let whole : k ≤ length front = subst (λ (n : ℕ). n ≤ length front) (sym stands.size) stands.whole in
-    let exponent : exponent_at (take k front) last ≡ exponent_at front last = get_or-take k front (last + 6) 0 (omega arith) in
-    let begins : blockette_at order (take k front) ≡ blockette_at order front = number_front order front 46 k (omega arith) in
-    let type : type_at order (take k front) last ≡ type_at order front last = number_front order front last k (omega arith) in
+    let exponent : exponent_at (take k front) last ≡ exponent_at front last =
+        get_or-take k front (last + 6) 0 (omega arith) in
+    let begins : blockette_at order (take k front) ≡ blockette_at order front =
+        number_front order front 46 k (omega arith) in
+    let type : type_at order (take k front) last ≡ type_at order front last =
+        number_front order front last k (omega arith) in
     let chain : IsChain order (take k front) os last = record {
       low = rw begins it.1.0;
-      others = subst (λ (n : ℕ). Passes order (take k front) n os last) (sym begins) (passes_front order front k (blockette_at order front) os last inside it.1.1);
+      others = subst (λ (n : ℕ). Passes order (take k front) n os last) (sym begins)
+          (passes_front order front k (blockette_at order front) os last inside it.1.1);
       found = type ∙ stands.type;
     } in
     let facts : IsRecordBy order os last (take k front) = record {

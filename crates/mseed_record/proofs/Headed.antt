@@ -1,5 +1,7 @@
 -- Bytes that begin with a written header are a record, and its fields read back.
-use Rattle.std.proofs.Common.{◌≡◌, ℕ, ◌+◌, ◌*◌, ◌/◌, ◌%◌, ◌^◌, ◌<◌, ◌≤◌, ◌==◌, ◌&&◌, Bool, true, false, List, [], ◌∷◌, ◌++◌, length, take, drop, get_or, Some, refl, sym, ap, subst, ◌∙◌, arith, lit≤, ℤ, pos, negsuc, ◌+ℤ◌, FitsSigned, w8, w16}
+use Rattle.std.proofs.Common.{◌≡◌, ℕ, ◌+◌, ◌*◌, ◌/◌, ◌%◌, ◌^◌, ◌<◌, ◌≤◌, ◌==◌, ◌&&◌, Bool, true, false, List, [], ◌∷◌,
+    ◌++◌, length, take, drop, get_or, Some, refl, sym, ap, subst, ◌∙◌, arith, lit≤, ℤ, pos, negsuc, ◌+ℤ◌, FitsSigned,
+    w8, w16}
 use Rattle.std.proofs.lemmas.List.{take-append-drop}
 use Rattle.std.proofs.lemmas.Bool.Decides.{nat_tests}
 use Rattle.std.proofs.lemmas.Int.{ints}
@@ -10,12 +12,14 @@ use Rattle.byteorder.specs.Endian.{twos_complement}
 use Rattle.mseed_time.specs.declared.order.Order.TheVariants.{Big}
 use Rattle.mseed_time.specs.Fields.{number_at}
 use Rattle.mseed_time.specs.Btime.{Parts, IsTime, parts_at, microsecond_of, instant_of, is_within}
-use Rattle.mseed_record.specs.Header.{is_sequence_byte, has_fixed_bytes, key_at, time_at, samples_at, activity_at, correction_at, data_at, blockette_at}
+use Rattle.mseed_record.specs.Header.{is_sequence_byte, has_fixed_bytes, key_at, time_at, samples_at, activity_at,
+    correction_at, data_at, blockette_at}
 use Rattle.mseed_record.specs.Order.{order_of}
 use Rattle.mseed_record.specs.Chain.{type_at, next_at, goes_on}
 use Rattle.mseed_record.specs.Record.{IsRecordBy}
 use Rattle.mseed_record.specs.View.{IsViewBy}
-use Rattle.mseed_record.specs.Written.{Header, header_bytes, name_bytes, time_bytes, IsWritable, IsHeaded, ReadsBack, headed_view}
+use Rattle.mseed_record.specs.Written.{Header, header_bytes, name_bytes, time_bytes, IsWritable, IsHeaded, ReadsBack,
+    headed_view}
 use Rattle.mseed_record.proofs.Bytes.{bytes_from}
 use Rattle.mseed_record.proofs.Puts.{each_byte}
 
@@ -28,7 +32,8 @@ spelled h = header_bytes (record h { key = bytes_from h.key 0 12 })
 
 begun : (h : Header) (b : List ℕ) → IsWritable h → IsHeaded h b → b ≡ spelled h ++ drop 64 b
 begun h b w e =
-    let begins : take 64 b ≡ spelled h = e.begins ∙ ap (λ (ks : List ℕ). header_bytes (record h { key = ks })) (key_bytes h.key w.key) in
+    let begins : take 64 b ≡ spelled h =
+        e.begins ∙ ap (λ (ks : List ℕ). header_bytes (record h { key = ks })) (key_bytes h.key w.key) in
     sym (take-append-drop 64 b) ∙ ap (λ (front : List ℕ). front ++ drop 64 b) begins
 
 -- the bytes before the start are twenty
@@ -41,7 +46,8 @@ two_bytes : (x : ℕ) → x < 2 ^ 16 → byte_at 1 x * 256 ^ 1 + (byte_at 0 x * 
 two_bytes x h = omega arith
 
 -- a signed number's bytes as two's complement are its own
-complement_16 : (z : ℤ) → FitsSigned w16 z → (twos_complement 2 (cast_unsigned w16 z) ≡ z) × (cast_unsigned w16 z < 2 ^ 16)
+complement_16 : (z : ℤ) → FitsSigned w16 z → (twos_complement 2 (cast_unsigned w16 z) ≡ z)
+    × (cast_unsigned w16 z < 2 ^ 16)
 complement_16 (pos n) f = let fits = f.sfits in grind (arith, nat_tests, ints)
 complement_16 (negsuc n) f = let fits = f.sfits in grind (arith, nat_tests, ints)
 
@@ -52,7 +58,8 @@ complement_8 (negsuc n) f = let fits = f.sfits in grind (arith, nat_tests, ints)
 a_digit : (x : ℕ) → x < 10 → is_sequence_byte (48 + x) ≡ true
 a_digit x h = grind (arith, nat_tests)
 
-all_digits : (a b c d e f : ℕ) → a < 10 → b < 10 → c < 10 → d < 10 → e < 10 → f < 10 → list_all is_sequence_byte ((48 + a) ∷ (48 + b) ∷ (48 + c) ∷ (48 + d) ∷ (48 + e) ∷ (48 + f) ∷ []) ≡ true
+all_digits : (a b c d e f : ℕ) → a < 10 → b < 10 → c < 10 → d < 10 → e < 10 → f < 10
+    → list_all is_sequence_byte ((48 + a) ∷ (48 + b) ∷ (48 + c) ∷ (48 + d) ∷ (48 + e) ∷ (48 + f) ∷ []) ≡ true
 all_digits a b c d e f ha hb hc hd he hf =
     rw (a_digit a ha, a_digit b hb, a_digit c hc, a_digit d hd, a_digit e he, a_digit f hf) refl
 
@@ -87,7 +94,9 @@ record Spells (h : Header) (b : List ℕ) : Type 0 where
 
 spells_begun : (h : Header) (rest : List ℕ) → IsWritable h → Spells h (spelled h ++ rest)
 spells_begun h rest w = record {
-  fixed = ap (λ (v : Bool). v && true && true) (all_digits (h.sequence / 100_000 % 10) (h.sequence / 10_000 % 10) (h.sequence / 1000 % 10) (h.sequence / 100 % 10) (h.sequence / 10 % 10) (h.sequence / 1 % 10) (omega arith) (omega arith) (omega arith) (omega arith) (omega arith) (omega arith));
+  fixed = ap (λ (v : Bool). v && true && true) (all_digits (h.sequence / 100_000 % 10) (h.sequence / 10_000 % 10)
+      (h.sequence / 1000 % 10) (h.sequence / 100 % 10) (h.sequence / 10 % 10) (h.sequence / 1 % 10) (omega arith)
+      (omega arith) (omega arith) (omega arith) (omega arith) (omega arith));
   key = sym (key_bytes h.key w.key);
   year = two_bytes h.start.year (omega (arith, w.time));
   day = two_bytes h.start.day (omega (arith, day_high h.start w.time));
@@ -121,7 +130,8 @@ within low high n a b = grind (arith, nat_tests)
 is_ordered : (h : Header) (b : List ℕ) → IsTime h.start → Spells h b → order_of b ≡ Some Big
 is_ordered h b t s =
     let year : is_within 1900 2100 (number_at Big 2 20 b) ≡ true = rw s.year (within 1900 2100 h.start.year t.0 t.1) in
-    let day : is_within 1 366 (number_at Big 2 22 b) ≡ true = rw s.day (within 1 366 h.start.day t.2 (day_high h.start t)) in
+    let day : is_within 1 366 (number_at Big 2 22 b) ≡ true =
+        rw s.day (within 1 366 h.start.day t.2 (day_high h.start t)) in
     rw (year, day) refl
 
 long_enough : (h : Header) (b : List ℕ) → IsHeaded h b → 128 ≤ length b
@@ -145,7 +155,8 @@ is_record_by h b w e s = record {
   size = rw s.exponent e.size;
 }
 
-is_view_by : (h : Header) (b : List ℕ) → IsWritable h → IsHeaded h b → Spells h b → IsViewBy [] 48 (56 ∷ []) (headed_view h b)
+is_view_by : (h : Header) (b : List ℕ) → IsWritable h → IsHeaded h b → Spells h b
+    → IsViewBy [] 48 (56 ∷ []) (headed_view h b)
 is_view_by h b w e s =
     let r = is_record_by h b w e s in
     let long = long_enough h b e in
@@ -160,7 +171,8 @@ is_view_by h b w e s =
     }
 
 time_is : (h : Header) (b : List ℕ) → Spells h b → time_at Big b ≡ h.start
-time_is h b s = λ i. record { year = s.year i; day = s.day i; hour = s.hour i; minute = s.minute i; second = s.second i; fraction = s.fraction i }
+time_is h b s = λ i. record { year = s.year i; day = s.day i; hour = s.hour i; minute = s.minute i;
+    second = s.second i; fraction = s.fraction i }
 
 no_shift : (t : Parts) (is_applied : Bool) (u : ℤ) → instant_of t (pos 0) is_applied u ≡ microsecond_of t +ℤ u
 no_shift t true u = omega (arith, ints)
@@ -177,7 +189,8 @@ reads_back h b w e =
       is_view = ([], (48, (56 ∷ [], is_view_by h b w e s)));
       key = s.key;
       time = time;
-      start = rw s.correction (no_shift (time_at Big b) (bit_at (activity_at b) 1 == 1) h.microseconds ∙ ap (λ (t : Parts). microsecond_of t +ℤ h.microseconds) time);
+      start = rw s.correction (no_shift (time_at Big b) (bit_at (activity_at b) 1 == 1) h.microseconds
+          ∙ ap (λ (t : Parts). microsecond_of t +ℤ h.microseconds) time);
       samples = s.samples;
       factor = rw s.factor (complement_16 h.factor w.factor).0;
       multiplier = rw s.multiplier (complement_16 h.multiplier w.multiplier).0;
@@ -187,14 +200,23 @@ reads_back h b w e =
     }
 
 -- what BTIME's ten bytes say is what they spell
-pub time_written : (t : Parts) (bytes : List ℕ) → length bytes ≡ 10 → ((i : ℕ) → get_or bytes i 0 < 256) → parts_at Big 0 bytes ≡ t → get_or bytes 7 0 ≡ 0 → bytes ≡ time_bytes t
+pub time_written : (t : Parts) (bytes : List ℕ) → length bytes ≡ 10 → ((i : ℕ) → get_or bytes i 0 < 256)
+    → parts_at Big 0 bytes ≡ t → get_or bytes 7 0 ≡ 0 → bytes ≡ time_bytes t
 time_written t bytes size octets parts unused =
-    sym (each_byte bytes 10 size) ∙ same t (get_or bytes 0 0) (get_or bytes 1 0) (get_or bytes 2 0) (get_or bytes 3 0) (get_or bytes 4 0) (get_or bytes 5 0) (get_or bytes 6 0) (get_or bytes 7 0) (get_or bytes 8 0) (get_or bytes 9 0) (octets 0) (octets 1) (octets 2) (octets 3) (octets 8) (octets 9) (ap (λ (p : Parts). p.year) parts) (ap (λ (p : Parts). p.day) parts) (ap (λ (p : Parts). p.hour) parts) (ap (λ (p : Parts). p.minute) parts) (ap (λ (p : Parts). p.second) parts) (ap (λ (p : Parts). p.fraction) parts) unused
+    sym (each_byte bytes 10 size) ∙ same t (get_or bytes 0 0) (get_or bytes 1 0) (get_or bytes 2 0) (get_or bytes 3 0)
+        (get_or bytes 4 0) (get_or bytes 5 0) (get_or bytes 6 0) (get_or bytes 7 0) (get_or bytes 8 0)
+        (get_or bytes 9 0) (octets 0) (octets 1) (octets 2) (octets 3) (octets 8) (octets 9)
+        (ap (λ (p : Parts). p.year) parts) (ap (λ (p : Parts). p.day) parts) (ap (λ (p : Parts). p.hour) parts)
+        (ap (λ (p : Parts). p.minute) parts) (ap (λ (p : Parts). p.second) parts)
+        (ap (λ (p : Parts). p.fraction) parts) unused
   where
     high : (x y z : ℕ) → x < 256 → y < 256 → x * 256 ^ 1 + (y * 256 ^ 0 + 0) ≡ z → (x ≡ byte_at 1 z) × (y ≡ byte_at 0 z)
     high x y z a b e = (omega arith, omega arith)
 
-    same : (t : Parts) (a b c d e f g h i j : ℕ) → a < 256 → b < 256 → c < 256 → d < 256 → i < 256 → j < 256 → a * 256 ^ 1 + (b * 256 ^ 0 + 0) ≡ t.year → c * 256 ^ 1 + (d * 256 ^ 0 + 0) ≡ t.day → e ≡ t.hour → f ≡ t.minute → g ≡ t.second → i * 256 ^ 1 + (j * 256 ^ 0 + 0) ≡ t.fraction → h ≡ 0 → (a ∷ b ∷ c ∷ d ∷ e ∷ f ∷ g ∷ h ∷ i ∷ j ∷ []) ≡ time_bytes t
+    same : (t : Parts) (a b c d e f g h i j : ℕ) → a < 256 → b < 256 → c < 256 → d < 256 → i < 256 → j < 256
+        → a * 256 ^ 1 + (b * 256 ^ 0 + 0) ≡ t.year → c * 256 ^ 1 + (d * 256 ^ 0 + 0) ≡ t.day → e ≡ t.hour
+        → f ≡ t.minute → g ≡ t.second → i * 256 ^ 1 + (j * 256 ^ 0 + 0) ≡ t.fraction → h ≡ 0
+        → (a ∷ b ∷ c ∷ d ∷ e ∷ f ∷ g ∷ h ∷ i ∷ j ∷ []) ≡ time_bytes t
     same t a b c d e f g h i j la lb lc ld li lj year day hour minute second fraction unused =
         let years = high a b t.year la lb year in
         let days = high c d t.day lc ld day in

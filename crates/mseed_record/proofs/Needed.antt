@@ -1,5 +1,6 @@
 -- Where the framing steps need more bytes, and which.
-use Rattle.std.proofs.Common.{◌≡◌, ℕ, zero, suc, ◌+◌, ◌-◌, ◌^◌, ◌<◌, ◌≤◌, ◌++◌, List, [], ◌∷◌, length, take, get_or, replicate, Some, refl, sym, ap, subst, arith, lit<, ⊎_elim, true, ◌∙◌}
+use Rattle.std.proofs.Common.{◌≡◌, ℕ, zero, suc, ◌+◌, ◌-◌, ◌^◌, ◌<◌, ◌≤◌, ◌++◌, List, [], ◌∷◌, length, take, get_or,
+    replicate, Some, refl, sym, ap, subst, arith, lit<, ⊎_elim, true, ◌∙◌}
 use Rattle.std.specs.Prelude.{⊤}
 use Rattle.std.proofs.lemmas.Bool.{cases_lt}
 use Rattle.std.proofs.lemmas.Bool.Decides.{nat_tests}
@@ -15,13 +16,16 @@ use Rattle.mseed_record.specs.Header.{has_fixed_bytes, blockette_at}
 use Rattle.mseed_record.specs.Order.{order_of}
 use Rattle.mseed_record.specs.Chain.{type_at, next_at, Passes}
 use Rattle.mseed_record.specs.Record.{exponent_at, IsRecordBy, IsRecord}
-use Rattle.mseed_record.specs.Scan.{at_offset, DecidesFrom, Decides, version3, short, no_data, no_order, by_chain, HasRecord, Needs, header, blockette, exponent, record_end}
+use Rattle.mseed_record.specs.Scan.{at_offset, DecidesFrom, Decides, version3, short, no_data, no_order, by_chain,
+    HasRecord, Needs, header, blockette, exponent, record_end}
 use Rattle.mseed_record.proofs.Passing.{none_within}
 use Rattle.mseed_record.proofs.Framed.{number_front, fixed_front, order_front, other_at}
 
-pub number_more : (order : Order) (front more : List ℕ) (o : ℕ) → o + 2 ≤ length front → number_at order 2 o (front ++ more) ≡ number_at order 2 o front
+pub number_more : (order : Order) (front more : List ℕ) (o : ℕ) → o + 2 ≤ length front
+    → number_at order 2 o (front ++ more) ≡ number_at order 2 o front
 number_more order front more o h =
-    sym (number_front order (front ++ more) o (length front) h) ∙ ap (λ (b : List ℕ). number_at order 2 o b) (take-append_seam front more)
+    sym (number_front order (front ++ more) o (length front) h)
+        ∙ ap (λ (b : List ℕ). number_at order 2 o b) (take-append_seam front more)
 
 -- what the first 1000 of a record that may come says
 record Grows (order : Order) (front : List ℕ) (o k : ℕ) : Type 0 where
@@ -42,16 +46,20 @@ data Lacks (order : Order) (front : List ℕ) (o k : ℕ) : Type 0 where
 low_of : (order : Order) (front : List ℕ) (low o k : ℕ) → at_offset order front low o ≡ Some (Need k) → low ≤ o
 low_of order front low o k e = grind (arith, nat_tests, e)
 
-lacks_four : (order : Order) (front : List ℕ) (low o k : ℕ) → at_offset order front low o ≡ Some (Need k) → length front < o + 4 → k ≡ o + 4
+lacks_four : (order : Order) (front : List ℕ) (low o k : ℕ) → at_offset order front low o ≡ Some (Need k)
+    → length front < o + 4 → k ≡ o + 4
 lacks_four order front low o k e s = grind (arith, nat_tests, e, s)
 
-type_of : (order : Order) (front : List ℕ) (low o k : ℕ) → at_offset order front low o ≡ Some (Need k) → o + 4 ≤ length front → type_at order front o ≡ 1000
+type_of : (order : Order) (front : List ℕ) (low o k : ℕ) → at_offset order front low o ≡ Some (Need k)
+    → o + 4 ≤ length front → type_at order front o ≡ 1000
 type_of order front low o k e s = grind (arith, nat_tests, e, s)
 
-lacks_eight : (order : Order) (front : List ℕ) (low o k : ℕ) → at_offset order front low o ≡ Some (Need k) → o + 4 ≤ length front → length front < o + 8 → k ≡ o + 8
+lacks_eight : (order : Order) (front : List ℕ) (low o k : ℕ) → at_offset order front low o ≡ Some (Need k)
+    → o + 4 ≤ length front → length front < o + 8 → k ≡ o + 8
 lacks_eight order front low o k e l s = grind (arith, nat_tests, e, l, s)
 
-grows : (order : Order) (front : List ℕ) (low o k : ℕ) → at_offset order front low o ≡ Some (Need k) → o + 8 ≤ length front → Grows order front o k
+grows : (order : Order) (front : List ℕ) (low o k : ℕ) → at_offset order front low o ≡ Some (Need k)
+    → o + 8 ≤ length front → Grows order front o k
 grows order front low o k e l = record {
   type = grind (arith, nat_tests, e, l);
   there = l;
@@ -62,7 +70,8 @@ grows order front low o k e l = record {
   size = grind (arith, nat_tests, e, l);
 }
 
-lacks : (order : Order) (front : List ℕ) (low o k : ℕ) → at_offset order front low o ≡ Some (Need k) → Lacks order front o k
+lacks : (order : Order) (front : List ℕ) (low o k : ℕ) → at_offset order front low o ≡ Some (Need k)
+    → Lacks order front o k
 lacks order front low o k e = ⊎_elim
     (λ (s : length front < o + 4). four s (lacks_four order front low o k e s))
     (λ (l : o + 4 ≤ length front). ⊎_elim
@@ -77,7 +86,9 @@ Within front [] = ⊤
 Within front (o ∷ os) = (o + 4 ≤ length front) × Within front os
 
 -- the blockette where bytes are missing, behind those that were passed
-lacking : (order : Order) (front : List ℕ) (low o : ℕ) (os : List ℕ) (k : ℕ) → DecidesFrom order front low o os (Need k) → (last : ℕ) × ((low ≤ o) × Passes order front o os last × Within front os × Lacks order front last k)
+lacking : (order : Order) (front : List ℕ) (low o : ℕ) (os : List ℕ) (k : ℕ)
+    → DecidesFrom order front low o os (Need k)
+    → (last : ℕ) × ((low ≤ o) × Passes order front o os last × Within front os × Lacks order front last k)
 lacking order front low o [] k e = (o, (low_of order front low o k e, refl, tt, lacks order front low o k e))
 lacking order front low o (p ∷ os) k e =
     let later = lacking order front (o + 4) (next_at order front o) os k e.2 in
@@ -85,14 +96,17 @@ lacking order front low o (p ∷ os) k e =
     let place : p + 4 ≤ length front = rw e.0 here.1 in
     (later.0, (here.0, (e.0, other_at order front low o e.1, later.1.0, later.1.1), (place, later.1.2), later.1.3))
 
-passes_more : (order : Order) (front more : List ℕ) (o : ℕ) (os : List ℕ) (last : ℕ) → Within front os → Passes order front o os last → Passes order (front ++ more) o os last
+passes_more : (order : Order) (front more : List ℕ) (o : ℕ) (os : List ℕ) (last : ℕ) → Within front os
+    → Passes order front o os last → Passes order (front ++ more) o os last
 passes_more order front more o [] last w h = h
 passes_more order front more o (q ∷ os) last w h =
     let place : o + 4 ≤ length front = subst (λ (n : ℕ). n + 4 ≤ length front) h.0 w.0 in
     let type : type_at order (front ++ more) o ≡ type_at order front o = number_more order front more o (omega arith) in
-    let next : next_at order (front ++ more) o ≡ next_at order front o = number_more order front more (o + 2) (omega arith) in
+    let next : next_at order (front ++ more) o ≡ next_at order front o =
+        number_more order front more (o + 2) (omega arith) in
     let later = passes_more order front more (next_at order front o) os last w.1 h.3 in
-    (h.0, λ t. h.1 (sym type ∙ t), rw next h.2, subst (λ (n : ℕ). Passes order (front ++ more) n os last) (sym next) later)
+    (h.0, λ t. h.1 (sym type ∙ t), rw next h.2, subst (λ (n : ℕ). Passes order (front ++ more) n os last)
+        (sym next) later)
 
 within_more : (front more : List ℕ) (os : List ℕ) → Within front os → Within (front ++ more) os
 within_more front more [] w = tt
@@ -130,7 +144,8 @@ record Headed (order : Order) (front : List ℕ) (os : List ℕ) (last : ℕ) : 
   passes : Passes order front (blockette_at order front) os last
   within : Within front os
 
-headed_more : (order : Order) (front more : List ℕ) (os : List ℕ) (last : ℕ) → Octets more → Headed order front os last → Headed order (front ++ more) os last
+headed_more : (order : Order) (front more : List ℕ) (os : List ℕ) (last : ℕ) → Octets more → Headed order front os last
+    → Headed order (front ++ more) os last
 headed_more order front more os last octets h =
     let all : List ℕ = front ++ more in
     let cut : take (length front) all ≡ front = take-append_seam front more in
@@ -142,20 +157,25 @@ headed_more order front more os last octets h =
       fixed = sym (fixed_front all (length front) h.long) ∙ ap (λ (b : List ℕ). has_fixed_bytes b) cut ∙ h.fixed;
       dated = sym (order_front all (length front) h.long) ∙ ap (λ (b : List ℕ). order_of b) cut ∙ h.dated;
       begins = rw same h.begins;
-      passes = subst (λ (n : ℕ). Passes order all n os last) (sym same) (passes_more order front more (blockette_at order front) os last h.within h.passes);
+      passes = subst (λ (n : ℕ). Passes order all n os last) (sym same)
+          (passes_more order front more (blockette_at order front) os last h.within h.passes);
       within = within_more front more os h.within;
     }
 
 -- a record whose end isn't there yet: what is missing may be zeros
-grown : (order : Order) (front : List ℕ) (os : List ℕ) (last k : ℕ) → Headed order front os last → Grows order front last k → HasRecord front
+grown : (order : Order) (front : List ℕ) (os : List ℕ) (last k : ℕ) → Headed order front os last
+    → Grows order front last k → HasRecord front
 grown order front os last k h g =
     let more : List ℕ = replicate (k - length front) 0 in
     let all : List ℕ = front ++ more in
     let headed = headed_more order front more os last (octets_zeros (k - length front)) h in
     let short : length front < k = subst (λ (n : ℕ). length front < n) (sym g.size) g.short in
-    let size : length all ≡ k = omega (arith, length-append front more, length-replicate {A = ℕ} (k - length front) 0) in
-    let same : exponent_at all last ≡ exponent_at front last = get_or-append front more 0 (last + 6) (omega (arith, g.there)) in
-    let type : type_at order all last ≡ type_at order front last = number_more order front more last (omega (arith, g.there)) in
+    let size : length all ≡ k =
+        omega (arith, length-append front more, length-replicate {A = ℕ} (k - length front) 0) in
+    let same : exponent_at all last ≡ exponent_at front last =
+        get_or-append front more 0 (last + 6) (omega (arith, g.there)) in
+    let type : type_at order all last ≡ type_at order front last =
+        number_more order front more last (omega (arith, g.there)) in
     let facts : IsRecordBy order os last all = record {
       octets = headed.octets;
       fixed = headed.fixed;
@@ -179,14 +199,16 @@ number_small Little b o k =
     let high = k (suc o) in
     omega arith
 
-passes_small : (order : Order) (b : List ℕ) (o : ℕ) (os : List ℕ) (last : ℕ) → Octets b → o < 2 ^ 16 → Passes order b o os last → last < 2 ^ 16
+passes_small : (order : Order) (b : List ℕ) (o : ℕ) (os : List ℕ) (last : ℕ) → Octets b → o < 2 ^ 16
+    → Passes order b o os last → last < 2 ^ 16
 passes_small order b o [] last octets s h = subst (λ (n : ℕ). n < 2 ^ 16) h s
 passes_small order b o (q ∷ os) last octets s h =
     passes_small order b (next_at order b o) os last octets (number_small order b (o + 2) octets) h.3
 
 last_small : (order : Order) (b : List ℕ) (os : List ℕ) (last : ℕ) → Headed order b os last → last + 8 < 2 ^ 20
 last_small order b os last h =
-    let small = passes_small order b (blockette_at order b) os last h.octets (number_small order b 46 h.octets) h.passes in
+    let small = passes_small order b (blockette_at order b) os last h.octets (number_small order b 46 h.octets)
+        h.passes in
     omega arith
 
 -- bytes behind a front
@@ -231,14 +253,17 @@ longest_exponent : (order : Order) → get_or (longest order) 6 0 ≡ 20
 longest_exponent Big = refl
 longest_exponent Little = refl
 
-longest_type : (order : Order) (front : List ℕ) (last : ℕ) → length front ≡ last → type_at order (front ++ longest order) last ≡ 1000
+longest_type : (order : Order) (front : List ℕ) (last : ℕ) → length front ≡ last
+    → type_at order (front ++ longest order) last ≡ 1000
 longest_type Big front last e =
     let one : get_or (front ++ longest Big) last 0 ≡ 3 = behind front (longest Big) last 0 (omega (arith, e)) in
-    let two : get_or (front ++ longest Big) (suc last) 0 ≡ 232 = behind front (longest Big) (suc last) 1 (omega (arith, e)) in
+    let two : get_or (front ++ longest Big) (suc last) 0 ≡ 232 =
+        behind front (longest Big) (suc last) 1 (omega (arith, e)) in
     rw (one, two) refl
 longest_type Little front last e =
     let one : get_or (front ++ longest Little) last 0 ≡ 232 = behind front (longest Little) last 0 (omega (arith, e)) in
-    let two : get_or (front ++ longest Little) (suc last) 0 ≡ 3 = behind front (longest Little) (suc last) 1 (omega (arith, e)) in
+    let two : get_or (front ++ longest Little) (suc last) 0 ≡ 3 =
+        behind front (longest Little) (suc last) 1 (omega (arith, e)) in
     rw (one, two) refl
 
 seven_twenty : 7 ≤ 20
@@ -248,7 +273,8 @@ twenty_twenty : 20 ≤ 20
 twenty_twenty = omega arith
 
 -- a 1000 whose exponent is 20 has its record to come
-grows_by : (order : Order) (front : List ℕ) (last : ℕ) → type_at order front last ≡ 1000 → exponent_at front last ≡ 20 → last + 8 ≡ length front → last + 8 < 2 ^ 20 → Grows order front last (2 ^ 20)
+grows_by : (order : Order) (front : List ℕ) (last : ℕ) → type_at order front last ≡ 1000 → exponent_at front last ≡ 20
+    → last + 8 ≡ length front → last + 8 < 2 ^ 20 → Grows order front last (2 ^ 20)
 grows_by order front last t e l s = record {
   type = t;
   there = omega (arith, l);
@@ -259,23 +285,30 @@ grows_by order front last t e l s = record {
   size = ap (λ (n : ℕ). 2 ^ n) (sym e);
 }
 
-at_its_place : (order : Order) (front : List ℕ) (os : List ℕ) (last : ℕ) → length front ≡ last → Headed order front os last → HasRecord front
+at_its_place : (order : Order) (front : List ℕ) (os : List ℕ) (last : ℕ) → length front ≡ last
+    → Headed order front os last → HasRecord front
 at_its_place order front os last e h =
     let all : List ℕ = front ++ longest order in
     let headed = headed_more order front (longest order) os last (octets_longest order) h in
     let size : last + 8 ≡ length all = omega (arith, e, length-append front (longest order), longest_length order) in
-    let exponent : exponent_at all last ≡ 20 = behind front (longest order) (last + 6) 6 (omega (arith, e)) ∙ longest_exponent order in
+    let exponent : exponent_at all last ≡ 20 = behind front (longest order) (last + 6) 6 (omega (arith, e))
+        ∙ longest_exponent order in
     let small = last_small order all os last headed in
-    before front (longest order) (grown order all os last (2 ^ 20) headed (grows_by order all last (longest_type order front last e) exponent size small))
+    before front (longest order)
+        (grown order all os last (2 ^ 20) headed
+        (grows_by order all last (longest_type order front last e) exponent size small))
 
-ahead_of_it : (order : Order) (front : List ℕ) (os : List ℕ) (last : ℕ) → length front ≤ last → Headed order front os last → HasRecord front
+ahead_of_it : (order : Order) (front : List ℕ) (os : List ℕ) (last : ℕ) → length front ≤ last
+    → Headed order front os last → HasRecord front
 ahead_of_it order front os last l h =
     let zeros : List ℕ = replicate (last - length front) 0 in
     let headed = headed_more order front zeros os last (octets_zeros (last - length front)) h in
-    let size : length (front ++ zeros) ≡ last = omega (arith, l, length-append front zeros, length-replicate {A = ℕ} (last - length front) 0) in
+    let size : length (front ++ zeros) ≡ last =
+        omega (arith, l, length-append front zeros, length-replicate {A = ℕ} (last - length front) 0) in
     before front zeros (at_its_place order (front ++ zeros) os last size headed)
 
-at_its_exponent : (order : Order) (front : List ℕ) (os : List ℕ) (last : ℕ) → length front ≡ last + 4 → type_at order front last ≡ 1000 → Headed order front os last → HasRecord front
+at_its_exponent : (order : Order) (front : List ℕ) (os : List ℕ) (last : ℕ) → length front ≡ last + 4
+    → type_at order front last ≡ 1000 → Headed order front os last → HasRecord front
 at_its_exponent order front os last e t h =
     let all : List ℕ = front ++ exponent_bytes in
     let headed = headed_more order front exponent_bytes os last octets_exponent h in
@@ -283,22 +316,26 @@ at_its_exponent order front os last e t h =
     let type : type_at order all last ≡ 1000 = number_more order front exponent_bytes last (omega (arith, e)) ∙ t in
     let exponent : exponent_at all last ≡ 20 = behind front exponent_bytes (last + 6) 2 (omega (arith, e)) in
     let small = last_small order all os last headed in
-    before front exponent_bytes (grown order all os last (2 ^ 20) headed (grows_by order all last type exponent size small))
+    before front exponent_bytes
+        (grown order all os last (2 ^ 20) headed (grows_by order all last type exponent size small))
 
-needs_by : (order : Order) (front : List ℕ) (os : List ℕ) (last k : ℕ) → Headed order front os last → Lacks order front last k → Needs front k
+needs_by : (order : Order) (front : List ℕ) (os : List ℕ) (last k : ℕ) → Headed order front os last
+    → Lacks order front last k → Needs front k
 needs_by order front os last k h (four s e) = subst (λ (n : ℕ). Needs front n) (sym e) (⊎_elim
     (λ (i : last < length front). blockette order os last h.dated h.passes i s)
     (λ (l : length front ≤ last). record_end (last + 4) s (ahead_of_it order front os last l h))
     (cases_lt last (length front)))
 needs_by order front os last k h (eight t l s e) = subst (λ (n : ℕ). Needs front n) (sym e) (⊎_elim
     (λ (i : last + 4 < length front). exponent order os last h.dated h.passes t i s)
-    (λ (o : length front ≤ last + 4). record_end (last + 8) s (at_its_exponent order front os last (omega (arith, l, o)) t h))
+    (λ (o : length front ≤ last + 4). record_end (last + 8) s
+        (at_its_exponent order front os last (omega (arith, l, o)) t h))
     (cases_lt (last + 4) (length front)))
 needs_by order front os last k h (rest g) =
     let short : length front < k = subst (λ (n : ℕ). length front < n) (sym g.size) g.short in
     record_end k short (grown order front os last k h g)
 
-needs_of : (front : List ℕ) (k : ℕ) (a : Scan) → ((i : ℕ) → get_or front i 0 < 256) → Decides front a → a ≡ Need k → Needs front k
+needs_of : (front : List ℕ) (k : ℕ) (a : Scan) → ((i : ℕ) → get_or front i 0 < 256) → Decides front a → a ≡ Need k
+    → Needs front k
 needs_of front k _ octets (version3 v) e = cc
 needs_of front k _ octets (short v s) e =
     let same : 48 ≡ k = cc in
@@ -306,8 +343,10 @@ needs_of front k _ octets (short v s) e =
 needs_of front k _ octets (no_data v s f) e = cc
 needs_of front k _ octets (no_order v s f o) e = cc
 needs_of front k a octets (by_chain order ps answer v s f o d) e =
-    let it = lacking order front 48 (blockette_at order front) ps k (subst (λ (x : Scan). DecidesFrom order front 48 (blockette_at order front) ps x) e d) in
-    let headed : Headed order front ps it.0 = record { octets = octets; long = s; fixed = f; dated = o; begins = it.1.0; passes = it.1.1; within = it.1.2 } in
+    let it = lacking order front 48 (blockette_at order front) ps k
+        (subst (λ (x : Scan). DecidesFrom order front 48 (blockette_at order front) ps x) e d) in
+    let headed : Headed order front ps it.0 =
+        record { octets = octets; long = s; fixed = f; dated = o; begins = it.1.0; passes = it.1.1; within = it.1.2 } in
     needs_by order front ps it.0 k headed it.1.3
 
 -- the steps ask for bytes only where they are needed

@@ -25,7 +25,8 @@ early_of b =
 
 data Settles (b : List ℕ) (a : Scan) : Type 0 where
   early : early_of b ≡ Some a → Settles b a
-  late : (order : Order) (os : List ℕ) → early_of b ≡ None → order_of b ≡ Some order → DecidesFrom order b 48 (blockette_at order b) os a → Settles b a
+  late : (order : Order) (os : List ℕ) → early_of b ≡ None → order_of b ≡ Some order
+      → DecidesFrom order b 48 (blockette_at order b) os a → Settles b a
 
 settles : (b : List ℕ) (a : Scan) → Decides b a → Settles b a
 settles b _ (version3 v) = early (grind (arith, nat_tests, v))
@@ -40,7 +41,8 @@ one_settled b a c (early d) (late order os e o f) = cc (d, e)
 one_settled b a c (late order os d o f) (early e) = cc (d, e)
 one_settled b a c (late order os d o f) (late other ps e p g) =
     let same : order ≡ other = cc (o, p) in
-    one_from other b 48 (blockette_at other b) os ps a c (subst (λ (x : Order). DecidesFrom x b 48 (blockette_at x b) os a) same f) g
+    one_from other b 48 (blockette_at other b) os ps a c
+        (subst (λ (x : Order). DecidesFrom x b 48 (blockette_at x b) os a) same f) g
 
 -- the framing steps decide one thing
 pub one_answer : (b : List ℕ) (a c : Scan) → Decides b a → Decides b c → a ≡ c

@@ -16,12 +16,15 @@ pub record Begins (old new front : List ℕ) (n : ℕ) : Type 0 where
   pub size : length front ≡ n
 
 -- a part put behind it makes it longer
-pub put_next : (old before after front part : List ℕ) (n m : ℕ) → n + length part ≡ m → Begins old before front n → after ≡ take n before ++ part ++ drop (n + length part) before → Begins old after (front ++ part) m
+pub put_next : (old before after front part : List ℕ) (n m : ℕ) → n + length part ≡ m → Begins old before front n
+    → after ≡ take n before ++ part ++ drop (n + length part) before → Begins old after (front ++ part) m
 put_next old before after front part n m sizes begins put =
     let bytes = begins.bytes in
     let size = sym begins.size in
     let kept : take n before ≡ front = rw (bytes, size) (take-append_seam front (drop (length front) old)) in
-    let rest : drop (n + length part) before ≡ drop (n + length part) old = rw (bytes, size) (drop-append-add front (drop (length front) old) (length part) ∙ drop-drop (length part) (length front) old) in
+    let rest : drop (n + length part) before ≡ drop (n + length part) old =
+        rw (bytes, size) (drop-append-add front (drop (length front) old) (length part)
+        ∙ drop-drop (length part) (length front) old) in
     record {
       bytes = put ∙ (rw (kept, rest, sizes) refl);
       size = omega (arith, length-append front part);

@@ -1,5 +1,6 @@
 -- Framing goes on along a chain, and where it ended stays where more bytes come.
-use Rattle.std.proofs.Common.{◌≡◌, ℕ, ◌+◌, ◌^◌, ◌<◌, ◌≤◌, ◌++◌, List, [], ◌∷◌, length, take, Some, None, Option, IfSome, refl, sym, ap, subst, ◌∙◌, arith, length-append}
+use Rattle.std.proofs.Common.{◌≡◌, ℕ, ◌+◌, ◌^◌, ◌<◌, ◌≤◌, ◌++◌, List, [], ◌∷◌, length, take, Some, None, Option, IfSome,
+    refl, sym, ap, subst, ◌∙◌, arith, length-append}
 use Rattle.std.proofs.Math.Seq.{take-append_seam}
 use Rattle.mseed_time.specs.declared.order.Order.{Order}
 use Rattle.mseed_record.specs.declared.frame.Scan.{Scan}
@@ -16,12 +17,15 @@ use Rattle.mseed_record.proofs.Answered.{none_at}
 use Rattle.mseed_record.proofs.Needed.{number_more}
 
 -- what is decided where the look stands
-pub reached_decides : (r : Reached) (front : List ℕ) (answer : Scan) → HasReached r front → at_offset r.order front r.low r.offset ≡ Some answer → Decides front answer
+pub reached_decides : (r : Reached) (front : List ℕ) (answer : Scan) → HasReached r front
+    → at_offset r.order front r.low r.offset ≡ Some answer → Decides front answer
 reached_decides r front answer h e =
-    by_chain r.order h.passed.0 answer h.other_version h.header h.fixed h.order_is (passes_decides r.order front 48 (blockette_at r.order front) h.passed.0 r.low r.offset answer h.passed.1 e)
+    by_chain r.order h.passed.0 answer h.other_version h.header h.fixed h.order_is
+        (passes_decides r.order front 48 (blockette_at r.order front) h.passed.0 r.low r.offset answer h.passed.1 e)
 
 -- one blockette further on
-pub reached_next : (r : Reached) (front : List ℕ) (next : ℕ) → HasReached r front → at_offset r.order front r.low r.offset ≡ None → next ≡ next_at r.order front r.offset → next < 2 ^ 16
+pub reached_next : (r : Reached) (front : List ℕ) (next : ℕ) → HasReached r front
+    → at_offset r.order front r.low r.offset ≡ None → next ≡ next_at r.order front r.offset → next < 2 ^ 16
     → HasReached (record { order = r.order; low = r.offset + 4; offset = next }) front
 reached_next r front next h e is small =
     let more = passes_more r.order front 48 (blockette_at r.order front) h.passed.0 r.low r.offset h.passed.1 e in
@@ -33,7 +37,8 @@ reached_next r front next h e is small =
       order_is = h.order_is;
       low = (none_within r.order front r.low r.offset e).1;
       small = small;
-      passed = (passed, subst (λ (n : ℕ). PassesTo r.order front 48 (blockette_at r.order front) passed (r.offset + 4) n) (sym is) more);
+      passed = (passed, subst (λ (n : ℕ). PassesTo r.order front 48 (blockette_at r.order front) passed (r.offset + 4)
+          n) (sym is) more);
     }
 
 -- what is said of a header is said of all bytes that begin with it
@@ -44,28 +49,35 @@ version3_more (a ∷ b ∷ []) more h = absurd (omega arith)
 version3_more (a ∷ b ∷ c ∷ rest) more h = refl
 
 -- a blockette that is passed is passed in all bytes that begin so
-none_more : (order : Order) (front more : List ℕ) (low o : ℕ) → 0 < low → at_offset order front low o ≡ None → at_offset order (front ++ more) low o ≡ None
+none_more : (order : Order) (front more : List ℕ) (low o : ℕ) → 0 < low → at_offset order front low o ≡ None
+    → at_offset order (front ++ more) low o ≡ None
 none_more order front more low o some e =
     let within = none_within order front low o e in
     let wide : o + 4 ≤ length (front ++ more) = omega (arith, within.1, length-append front more) in
-    let type : type_at order (front ++ more) o ≡ type_at order front o = number_more order front more o (omega (arith, within.1)) in
+    let type : type_at order (front ++ more) o ≡ type_at order front o =
+        number_more order front more o (omega (arith, within.1)) in
     none_at order (front ++ more) low o within.0 some wide (λ t. other_at order front low o e (sym type ∙ t))
 
-passes_to_more : (order : Order) (front more : List ℕ) (low o : ℕ) (os : List ℕ) (least q : ℕ) → 0 < low → PassesTo order front low o os least q → PassesTo order (front ++ more) low o os least q
+passes_to_more : (order : Order) (front more : List ℕ) (low o : ℕ) (os : List ℕ) (least q : ℕ) → 0 < low
+    → PassesTo order front low o os least q → PassesTo order (front ++ more) low o os least q
 passes_to_more order front more low o [] least q some h = h
 passes_to_more order front more low o (p ∷ os) least q some h =
     let within = none_within order front low o h.1 in
-    let next : next_at order (front ++ more) o ≡ next_at order front o = number_more order front more (o + 2) (omega (arith, within.1)) in
+    let next : next_at order (front ++ more) o ≡ next_at order front o =
+        number_more order front more (o + 2) (omega (arith, within.1)) in
     let later = passes_to_more order front more (o + 4) (next_at order front o) os least q (omega arith) h.2 in
-    (h.0, none_more order front more low o some h.1, subst (λ (n : ℕ). PassesTo order (front ++ more) (o + 4) n os least q) (sym next) later)
+    (h.0, none_more order front more low o some h.1,
+        subst (λ (n : ℕ). PassesTo order (front ++ more) (o + 4) n os least q) (sym next) later)
 
 pub reached_more : (r : Reached) (front more : List ℕ) → HasReached r front → HasReached r (front ++ more)
 reached_more r front more h =
     let all : List ℕ = front ++ more in
     let long = h.header in
     let cut : take (length front) all ≡ front = take-append_seam front more in
-    let begins : blockette_at r.order all ≡ blockette_at r.order front = number_more r.order front more 46 (omega arith) in
-    let passed = passes_to_more r.order front more 48 (blockette_at r.order front) h.passed.0 r.low r.offset (omega arith) h.passed.1 in
+    let begins : blockette_at r.order all ≡ blockette_at r.order front =
+        number_more r.order front more 46 (omega arith) in
+    let passed = passes_to_more r.order front more 48 (blockette_at r.order front) h.passed.0 r.low r.offset
+        (omega arith) h.passed.1 in
     let wide : length front ≤ length all = omega (arith, length-append front more) in
     record {
       other_version = version3_more front more (omega arith) ∙ h.other_version;
@@ -77,7 +89,8 @@ reached_more r front more h =
       passed = (h.passed.0, subst (λ (n : ℕ). PassesTo r.order all 48 n h.passed.0 r.low r.offset) (sym begins) passed);
     }
 
-some_more : (o : Option Reached) (front more : List ℕ) → IfSome o (λ r. HasReached r front) → IfSome o (λ r. HasReached r (front ++ more))
+some_more : (o : Option Reached) (front more : List ℕ) → IfSome o (λ r. HasReached r front)
+    → IfSome o (λ r. HasReached r (front ++ more))
 some_more None front more h = h
 some_more (Some r) front more h = reached_more r front more h
 

@@ -1,5 +1,6 @@
 -- A record has one view.
-use Rattle.std.proofs.Common.{◌≡◌, ℕ, ◌+◌, ◌≤◌, ◌++◌, List, [], ◌∷◌, length, slice_index, Some, Option, Bool, ℤ, refl, sym, ap, ◌∙◌, subst}
+use Rattle.std.proofs.Common.{◌≡◌, ℕ, ◌+◌, ◌≤◌, ◌++◌, List, [], ◌∷◌, length, slice_index, Some, Option, Bool, ℤ, refl,
+    sym, ap, ◌∙◌, subst}
 use Rattle.std.proofs.lemmas.Bool.{false≢true}
 use Rattle.mseed_time.specs.declared.order.Order.{Order}
 use Rattle.mseed_record.specs.declared.chain.Blockettes.{Blockettes}
@@ -10,10 +11,13 @@ use Rattle.mseed_record.specs.Blockettes.{AreBlockettes}
 use Rattle.mseed_record.specs.View.{View, IsViewBy, IsView, word_order_at, microseconds_at}
 
 -- two chains to a first 1000 are one
-pub passes_once : (order : Order) (b : List ℕ) (o : ℕ) (os ps : List ℕ) (last end : ℕ) → Passes order b o os last → type_at order b last ≡ 1000 → Passes order b o ps end → type_at order b end ≡ 1000 → (os ≡ ps) × (last ≡ end)
+pub passes_once : (order : Order) (b : List ℕ) (o : ℕ) (os ps : List ℕ) (last end : ℕ) → Passes order b o os last
+    → type_at order b last ≡ 1000 → Passes order b o ps end → type_at order b end ≡ 1000 → (os ≡ ps) × (last ≡ end)
 passes_once order b o [] [] last end h t k u = (refl, cc (h, k))
-passes_once order b o [] (q ∷ ps) last end h t k u = absurd (k.1 (subst (λ (n : ℕ). type_at order b n ≡ 1000) (sym h) t))
-passes_once order b o (q ∷ os) [] last end h t k u = absurd (h.1 (subst (λ (n : ℕ). type_at order b n ≡ 1000) (sym k) u))
+passes_once order b o [] (q ∷ ps) last end h t k u =
+    absurd (k.1 (subst (λ (n : ℕ). type_at order b n ≡ 1000) (sym h) t))
+passes_once order b o (q ∷ os) [] last end h t k u =
+    absurd (h.1 (subst (λ (n : ℕ). type_at order b n ≡ 1000) (sym k) u))
 passes_once order b o (q ∷ os) (r ∷ ps) last end h t k u =
     let later = passes_once order b (next_at order b o) os ps last end h.3 t k.3 u in
     (cc (h.0, k.0, later.0), later.1)
@@ -30,18 +34,24 @@ rest_once order b o (p ∷ ps) (q ∷ qs) h k =
 
 -- the blockettes of a record, as they were found
 abbrev pub Found : Order → List ℕ → Blockettes → Type 0
-Found order b found = (os : List ℕ) × ((last : ℕ) × ((rest : List ℕ) × (IsRecordBy order os last b × IsWholeChain order b os last rest × AreBlockettes order b (os ++ last ∷ rest) found × (found.first_1000 ≡ Some last))))
+Found order b found = (os : List ℕ)
+    × ((last : ℕ) × ((rest : List ℕ) × (IsRecordBy order os last b × IsWholeChain order b os last rest
+    × AreBlockettes order b (os ++ last ∷ rest) found × (found.first_1000 ≡ Some last))))
 
 -- the first 1000 has its eight bytes in the record
-pub found_within : (order : Order) (b : List ℕ) (found : Blockettes) (o : ℕ) → Found order b found → found.first_1000 ≡ Some o → o + 8 ≤ length b
+pub found_within : (order : Order) (b : List ℕ) (found : Blockettes) (o : ℕ) → Found order b found
+    → found.first_1000 ≡ Some o → o + 8 ≤ length b
 found_within order b found o (os, (last, (rest, (r, w, f, l)))) e =
     let same : last ≡ o = cc (l, e) in
     subst (λ (n : ℕ). n + 8 ≤ length b) same (subst (λ (n : ℕ). last + 8 ≤ n) (sym r.size) r.inside)
 
 -- what is found makes the view
-pub view_by : (order : Order) (b : List ℕ) (found : Blockettes) (o : ℕ) (encoding : ℕ) (payload_order : Order) (microseconds : ℤ) → Found order b found → found.first_1000 ≡ Some o
-    → encoding ≡ slice_index b (o + 4) → payload_order ≡ word_order_at b o → microseconds ≡ microseconds_at b found.first_1001
-    → IsView (record { bytes = b; order = order; encoding = encoding; payload_order = payload_order; microseconds = microseconds; has_rate_blockette = found.has_100 })
+pub view_by : (order : Order) (b : List ℕ) (found : Blockettes) (o : ℕ) (encoding : ℕ) (payload_order : Order)
+    (microseconds : ℤ) → Found order b found → found.first_1000 ≡ Some o
+    → encoding ≡ slice_index b (o + 4) → payload_order ≡ word_order_at b o
+    → microseconds ≡ microseconds_at b found.first_1001
+    → IsView (record { bytes = b; order = order; encoding = encoding; payload_order = payload_order;
+    microseconds = microseconds; has_rate_blockette = found.has_100 })
 view_by order b found o encoding payload_order microseconds (os, (last, (rest, (r, w, f, l)))) e coded ordered timed =
     let same : o ≡ last = cc (l, e) in (
       os,
@@ -62,27 +72,39 @@ view_by order b found o encoding payload_order microseconds (os, (last, (rest, (
     )
 
 abbrev view_of : List ℕ → Order → ℕ → Order → ℤ → Bool → View
-view_of b o e g m r = record { bytes = b; order = o; encoding = e; payload_order = g; microseconds = m; has_rate_blockette = r }
+view_of b o e g m r = record { bytes = b; order = o; encoding = e; payload_order = g; microseconds = m;
+    has_rate_blockette = r }
 
-view_same : (b c : List ℕ) (o p : Order) (e f : ℕ) (g h : Order) (m n : ℤ) (r s : Bool) → b ≡ c → o ≡ p → e ≡ f → g ≡ h → m ≡ n → r ≡ s
+view_same : (b c : List ℕ) (o p : Order) (e f : ℕ) (g h : Order) (m n : ℤ) (r s : Bool) → b ≡ c → o ≡ p → e ≡ f → g ≡ h
+    → m ≡ n → r ≡ s
     → view_of b o e g m r ≡ view_of c p f h n s
 view_same b c o p e f g h m n r s k1 k2 k3 k4 k5 k6 = cc (k1, k2, k3, k4, k5, k6)
 
 -- in one order and with one chain, two views of the same bytes are one
-same_fields : (os : List ℕ) (last : ℕ) (rest : List ℕ) (v w : View) → v.bytes ≡ w.bytes → v.order ≡ w.order → IsViewBy os last rest v → IsViewBy os last rest w → v ≡ w
+same_fields : (os : List ℕ) (last : ℕ) (rest : List ℕ) (v w : View) → v.bytes ≡ w.bytes → v.order ≡ w.order
+    → IsViewBy os last rest v → IsViewBy os last rest w → v ≡ w
 same_fields os last rest v w same dated h k =
-    view_same v.bytes w.bytes v.order w.order v.encoding w.encoding v.payload_order w.payload_order v.microseconds w.microseconds v.has_rate_blockette w.has_rate_blockette same dated
+    view_same v.bytes w.bytes v.order w.order v.encoding w.encoding v.payload_order w.payload_order v.microseconds
+        w.microseconds v.has_rate_blockette w.has_rate_blockette same dated
     (cc (h.encoding_is, k.encoding_is, same)) (cc (h.payload_order_is, k.payload_order_is, same))
-    (cc (h.microseconds_is, k.microseconds_is, same, dated)) (cc (h.rate_blockette_is, k.rate_blockette_is, same, dated))
+    (cc (h.microseconds_is, k.microseconds_is, same, dated))
+        (cc (h.rate_blockette_is, k.rate_blockette_is, same, dated))
 
 -- two views of the same bytes are one
 pub view_once : (v w : View) → IsView v → IsView w → w.bytes ≡ v.bytes → w ≡ v
 view_once v w (os, (last, (rest, h))) (ps, (end, (qs, k))) same =
     let dated : w.order ≡ v.order = cc (h.record_is.order_is, k.record_is.order_is, same) in
-    let chained = passes_once v.order v.bytes (blockette_at v.order v.bytes) os ps last end h.chain_is.chain.others h.chain_is.chain.found
-    (subst (λ (o : Order). Passes o v.bytes (blockette_at o v.bytes) ps end) dated (subst (λ (b : List ℕ). Passes w.order b (blockette_at w.order b) ps end) same k.chain_is.chain.others))
-    (subst (λ (o : Order). type_at o v.bytes end ≡ 1000) dated (subst (λ (b : List ℕ). type_at w.order b end ≡ 1000) same k.chain_is.chain.found)) in
+    let chained = passes_once v.order v.bytes (blockette_at v.order v.bytes) os ps last end h.chain_is.chain.others
+        h.chain_is.chain.found
+    (subst (λ (o : Order). Passes o v.bytes (blockette_at o v.bytes) ps end) dated
+        (subst (λ (b : List ℕ). Passes w.order b (blockette_at w.order b) ps end) same k.chain_is.chain.others))
+    (subst (λ (o : Order). type_at o v.bytes end ≡ 1000) dated
+        (subst (λ (b : List ℕ). type_at w.order b end ≡ 1000) same k.chain_is.chain.found)) in
     let rested = rest_once v.order v.bytes last rest qs h.chain_is.others
-    (subst (λ (n : ℕ). Rest v.order v.bytes n qs) (sym chained.1) (subst (λ (o : Order). Rest o v.bytes end qs) dated (subst (λ (b : List ℕ). Rest w.order b end qs) same k.chain_is.others))) in
-    let there = subst (λ (xs : List ℕ). IsViewBy xs last rest w) (sym chained.0) (subst (λ (n : ℕ). IsViewBy ps n rest w) (sym chained.1) (subst (λ (xs : List ℕ). IsViewBy ps end xs w) (sym rested) k)) in
+    (subst (λ (n : ℕ). Rest v.order v.bytes n qs) (sym chained.1)
+        (subst (λ (o : Order). Rest o v.bytes end qs) dated
+        (subst (λ (b : List ℕ). Rest w.order b end qs) same k.chain_is.others))) in
+    let there = subst (λ (xs : List ℕ). IsViewBy xs last rest w) (sym chained.0)
+        (subst (λ (n : ℕ). IsViewBy ps n rest w) (sym chained.1)
+        (subst (λ (xs : List ℕ). IsViewBy ps end xs w) (sym rested) k)) in
     sym (same_fields os last rest v w (sym same) (sym dated) h there)

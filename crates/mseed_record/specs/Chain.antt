@@ -1,6 +1,7 @@
 -- The chain of blockettes (SEED manual, chapter 8, "Data record blockettes"): each begins with its type
 -- and the offset of the next one, counted from the start of the record.
-use Rattle.std.specs.Prelude.{◌≡◌, ◌≢◌, ℕ, ◌+◌, ◌≤◌, ◌==◌, ◌&&◌, nat_le, Bool, true, false, if◌then◌else◌, List, [], ◌∷◌, length, Option}
+use Rattle.std.specs.Prelude.{◌≡◌, ◌≢◌, ℕ, ◌+◌, ◌≤◌, ◌==◌, ◌&&◌, nat_le, Bool, true, false, if◌then◌else◌, List, [],
+    ◌∷◌, length, Option}
 use Rattle.std.specs.List.{find, list_any}
 use Rattle.mseed_time.specs.declared.order.Order.{Order}
 use Rattle.mseed_time.specs.Fields.{number_at}
@@ -17,7 +18,8 @@ next_at order b o = number_at order 2 (o + 2) b
 -- is at least 4 bytes further on than the one that names it
 abbrev pub Passes : Order → List ℕ → ℕ → List ℕ → ℕ → Type 0
 Passes order b o [] p = o ≡ p
-Passes order b o (q ∷ os) p = (q ≡ o) × (type_at order b o ≢ 1000) × (o + 4 ≤ next_at order b o) × Passes order b (next_at order b o) os p
+Passes order b o (q ∷ os) p = (q ≡ o) × (type_at order b o ≢ 1000) × (o + 4 ≤ next_at order b o)
+    × Passes order b (next_at order b o) os p
 
 -- the chain: blockettes of other types, from the one that the header names, then the first 1000
 pub record IsChain (order : Order) (b : List ℕ) (os : List ℕ) (last : ℕ) : Type 0 where
@@ -32,7 +34,8 @@ head_of kind = if kind == 1001 then 8 else 4
 -- behind the first 1000 the chain goes on from o while the next blockette is at least 4 bytes further on and
 -- its head lies in the record
 abbrev pub goes_on : Order → List ℕ → ℕ → Bool
-goes_on order b o = nat_le (o + 4) (next_at order b o) && nat_le (next_at order b o + head_of (type_at order b (next_at order b o))) (length b)
+goes_on order b o = nat_le (o + 4) (next_at order b o)
+    && nat_le (next_at order b o + head_of (type_at order b (next_at order b o))) (length b)
 
 -- the blockettes behind the one at o, up to one from which the chain doesn't go on
 abbrev pub Rest : Order → List ℕ → ℕ → List ℕ → Type 0

@@ -1,5 +1,6 @@
 -- How far a framer has come along the bytes that it is shown.
-use Rattle.std.specs.Prelude.{◌≡◌, ℕ, ◌+◌, ◌^◌, ◌≤◌, ◌<◌, true, false, List, [], ◌∷◌, length, Some, None, IfSome, MatchOption}
+use Rattle.std.specs.Prelude.{◌≡◌, ℕ, ◌+◌, ◌^◌, ◌≤◌, ◌<◌, true, false, List, [], ◌∷◌, length, Some, None, IfSome,
+    MatchOption}
 use Rattle.mseed_time.specs.declared.order.Order.{Order}
 use Rattle.mseed_record.specs.declared.frame.Scan.{Scan}
 use Rattle.mseed_record.specs.declared.framer.Framer.{Framer}
@@ -35,4 +36,5 @@ HasNoChain front = (r : Reached) → ¬ (HasReached r front)
 
 -- It stands where an answer is decided: at the offset to which the steps came, or nowhere where no chain begins.
 abbrev pub StandsAt : Framer → List ℕ → Scan → Type 0
-StandsAt framer front answer = MatchOption framer.reached (HasNoChain front) (λ r. at_offset r.order front r.low r.offset ≡ Some answer)
+StandsAt framer front answer =
+    MatchOption framer.reached (HasNoChain front) (λ r. at_offset r.order front r.low r.offset ≡ Some answer)

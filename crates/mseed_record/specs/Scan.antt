@@ -1,10 +1,12 @@
 -- What the framing steps decide of the front of a record, the first that applies.
-use Rattle.std.specs.Prelude.{◌≡◌, ℕ, ◌+◌, ◌^◌, ◌≤◌, ◌<◌, ◌==◌, ◌&&◌, nat_eq, nat_le, nat_lt, not, Bool, true, false, if◌then◌else◌, List, [], ◌∷◌, ◌++◌, length, take, Some, None, Option}
+use Rattle.std.specs.Prelude.{◌≡◌, ℕ, ◌+◌, ◌^◌, ◌≤◌, ◌<◌, ◌==◌, ◌&&◌, nat_eq, nat_le, nat_lt, not, Bool, true, false,
+    if◌then◌else◌, List, [], ◌∷◌, ◌++◌, length, take, Some, None, Option}
 use Rattle.std.specs.List.{starts_with}
 use Rattle.mseed_time.specs.declared.order.Order.{Order}
 use Rattle.mseed_record.specs.declared.frame.Scan.{Scan}
 use Rattle.mseed_record.specs.declared.frame.Scan.TheVariants.{Need, Record, Not}
-use Rattle.mseed_record.specs.declared.frame.FrameFault.TheVariants.{NotData, Order as NoOrder, Chain, No1000, Length, Outside, Version3}
+use Rattle.mseed_record.specs.declared.frame.FrameFault.TheVariants.{NotData, Order as NoOrder, Chain, No1000, Length,
+    Outside, Version3}
 use Rattle.mseed_record.specs.Header.{has_fixed_bytes, blockette_at}
 use Rattle.mseed_record.specs.Order.{order_of}
 use Rattle.mseed_record.specs.Chain.{type_at, next_at, Passes}
@@ -44,9 +46,12 @@ pub data Decides (front : List ℕ) : Scan → Type 0 where
   version3 : is_version3 front ≡ true → Decides front (Not Version3)
   short : is_version3 front ≡ false → length front < 48 → Decides front (Need 48)
   no_data : is_version3 front ≡ false → 48 ≤ length front → has_fixed_bytes front ≡ false → Decides front (Not NotData)
-  no_order : is_version3 front ≡ false → 48 ≤ length front → has_fixed_bytes front ≡ true → order_of front ≡ None → Decides front (Not NoOrder)
-  by_chain : (order : Order) (os : List ℕ) (answer : Scan) → is_version3 front ≡ false → 48 ≤ length front → has_fixed_bytes front ≡ true
-      → order_of front ≡ Some order → DecidesFrom order front 48 (blockette_at order front) os answer → Decides front answer
+  no_order : is_version3 front ≡ false → 48 ≤ length front → has_fixed_bytes front ≡ true → order_of front ≡ None
+      → Decides front (Not NoOrder)
+  by_chain : (order : Order) (os : List ℕ) (answer : Scan) → is_version3 front ≡ false → 48 ≤ length front
+      → has_fixed_bytes front ≡ true
+      → order_of front ≡ Some order → DecidesFrom order front 48 (blockette_at order front) os answer
+      → Decides front answer
 
 -- no bytes that may come make a record of it
 abbrev pub HasNoRecord : List ℕ → Type 0
@@ -65,6 +70,10 @@ HasRecord front = (more : List ℕ) × IsRecord (front ++ more)
 -- everywhere else since there may be a record.
 pub data Needs (front : List ℕ) : ℕ → Type 0 where
   header : length front < 48 → Needs front 48
-  blockette : (order : Order) (os : List ℕ) (last : ℕ) → order_of front ≡ Some order → Passes order front (blockette_at order front) os last → last < length front → length front < last + 4 → Needs front (last + 4)
-  exponent : (order : Order) (os : List ℕ) (last : ℕ) → order_of front ≡ Some order → Passes order front (blockette_at order front) os last → type_at order front last ≡ 1000 → last + 4 < length front → length front < last + 8 → Needs front (last + 8)
+  blockette : (order : Order) (os : List ℕ) (last : ℕ) → order_of front ≡ Some order
+      → Passes order front (blockette_at order front) os last → last < length front → length front < last + 4
+      → Needs front (last + 4)
+  exponent : (order : Order) (os : List ℕ) (last : ℕ) → order_of front ≡ Some order
+      → Passes order front (blockette_at order front) os last → type_at order front last ≡ 1000
+      → last + 4 < length front → length front < last + 8 → Needs front (last + 8)
   record_end : (k : ℕ) → length front < k → HasRecord front → Needs front k

@@ -1,5 +1,6 @@
 -- What a record says: its header's fields, and what its chain of blockettes adds (SEED manual, chapter 8).
-use Rattle.std.specs.Prelude.{◌≡◌, ℕ, ◌+◌, ◌≤◌, ◌==◌, Bool, if◌then◌else◌, List, ◌∷◌, ◌++◌, length, slice_index, drop, Option, Some, None, ℤ, pos}
+use Rattle.std.specs.Prelude.{◌≡◌, ℕ, ◌+◌, ◌≤◌, ◌==◌, Bool, if◌then◌else◌, List, ◌∷◌, ◌++◌, length, slice_index, drop,
+    Option, Some, None, ℤ, pos}
 use Rattle.std.specs.Int.{bit_at}
 use Rattle.byteorder.specs.Endian.{twos_complement}
 use Rattle.mseed_time.specs.declared.order.Order.{Order}
@@ -46,7 +47,8 @@ IsView v = (os : List ℕ) × ((last : ℕ) × ((rest : List ℕ) × IsViewBy os
 
 -- the instant of the first sample: activity bit 1 says that the time correction has been applied
 abbrev pub start_of : View → ℤ
-start_of v = instant_of (time_at v.order v.bytes) (correction_at v.order v.bytes) (bit_at (activity_at v.bytes) 1 == 1) v.microseconds
+start_of v = instant_of (time_at v.order v.bytes) (correction_at v.order v.bytes) (bit_at (activity_at v.bytes) 1 == 1)
+    v.microseconds
 
 -- the leap seconds that happened during the record: activity bit 4 is a positive one, bit 5 a negative one
 abbrev pub leap_of : List ℕ → Leap

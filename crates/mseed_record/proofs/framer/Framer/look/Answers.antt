@@ -11,7 +11,8 @@ returns-in-Err-clause-record c k e =
     ((scanned c.args.front.now c.in-Err.answer (λ i. (c.type_inv.front i).fits) c.in-Err.ensures.err).record_is k).0 e
 
 pub returns-in-Err-clause-bound : goal.returns-in-Err-clause-bound
-returns-in-Err-clause-bound c = (scanned c.args.front.now c.in-Err.answer (λ i. (c.type_inv.front i).fits) c.in-Err.ensures.err).bound
+returns-in-Err-clause-bound c =
+    (scanned c.args.front.now c.in-Err.answer (λ i. (c.type_inv.front i).fits) c.in-Err.ensures.err).bound
 
 pub go_along-answer-requires : goal.go_along-answer-requires
 go_along-answer-requires c =
@@ -22,11 +23,15 @@ go_along-answer-requires c =
     ]
 
 pub returns-clause-goes_on : goal.returns-clause-goes_on
-returns-clause-goes_on c more = reached_more c.go_along-answer.result.0 c.args.front.now more c.go_along-answer.ensures.reached
+returns-clause-goes_on c more =
+    reached_more c.go_along-answer.result.0 c.args.front.now more c.go_along-answer.ensures.reached
 
 pub returns-clause-record : goal.returns-clause-record
 returns-clause-record c k e =
-    ((scanned c.args.front.now c.go_along-answer.result.1 (λ i. (c.type_inv.front i).fits) c.go_along-answer.ensures.decides).record_is k).0 e
+    ((scanned c.args.front.now c.go_along-answer.result.1 (λ i. (c.type_inv.front i).fits)
+        c.go_along-answer.ensures.decides).record_is k).0 e
 
 pub returns-clause-bound : goal.returns-clause-bound
-returns-clause-bound c = (scanned c.args.front.now c.go_along-answer.result.1 (λ i. (c.type_inv.front i).fits) c.go_along-answer.ensures.decides).bound
+returns-clause-bound c =
+    (scanned c.args.front.now c.go_along-answer.result.1 (λ i. (c.type_inv.front i).fits)
+    c.go_along-answer.ensures.decides).bound
