@@ -1,12 +1,14 @@
 -- The records that a cutter handed out, and the archive that they are.
-use Rattle.std.proofs.Common.{◌≡◌, ℕ, ◌+◌, ◌≤◌, ◌++◌, List, [], ◌∷◌, length, take, drop, Option, Some, None, Result, Ok, Err, IfErr, IfOk, IfSome, refl, sym, ap, subst, ◌∙◌, arith, length-take}
+use Rattle.std.proofs.Common.{◌≡◌, ℕ, ◌+◌, ◌≤◌, ◌++◌, List, [], ◌∷◌, length, take, drop, Option, Some, None, Result, Ok,
+    Err, IfErr, IfOk, IfSome, refl, sym, ap, subst, ◌∙◌, arith, length-take}
 use Rattle.std.proofs.lemmas.List.{append-nil, take-append-le, take-append-drop}
 use Rattle.std.proofs.lemmas.List.Folds.{concat-append}
 use Rattle.std.proofs.Math.Seq.{take-add, take-length}
 use Rattle.std.specs.List.{concat, AllByRecursion}
 use Rattle.mseed_record.specs.Record.{IsRecord}
 use Rattle.mseed_record.proofs.Answered.{answered}
-use Rattle.mseed_stream.specs.Archive.{HasNoFurther, IsArchive, HasRecords, End, IsEndOf, clean, frame, truncated, is_clean, is_frame, is_truncated}
+use Rattle.mseed_stream.specs.Archive.{HasNoFurther, IsArchive, HasRecords, End, IsEndOf, clean, frame, truncated,
+    is_clean, is_frame, is_truncated}
 use Rattle.mseed_stream.specs.Device.{Heard}
 use Rattle.mseed_stream.specs.Cutting.{told_from, moves_by, handed_by, IfEnds, IsCutFault, IsCleanEnd}
 use Rattle.mseed_stream.specs.declared.fault.StreamFault.{StreamFault}
@@ -23,59 +25,84 @@ no_further rest _ (is_clean empty) k l r =
 no_further rest _ (is_frame f d) k l r = cc (answered rest k _ d l r)
 no_further rest _ (is_truncated n some d) k l r = cc (answered rest k _ d l r)
 
-pub all_more : (xs : List (List ℕ)) (x : List ℕ) → AllByRecursion IsRecord xs → IsRecord x → AllByRecursion IsRecord (xs ++ x ∷ [])
+pub all_more : (xs : List (List ℕ)) (x : List ℕ) → AllByRecursion IsRecord xs → IsRecord x
+    → AllByRecursion IsRecord (xs ++ x ∷ [])
 all_more [] x all is = (is, tt)
 all_more (y ∷ ys) x all is = (all.0, all_more ys x all.1 is)
 
 -- what was handed out stays where more is told
-same_front : (old new more : List ℕ) (offset : ℕ) → offset ≤ length old → new ≡ old ++ more → take offset new ≡ take offset old
+same_front : (old new more : List ℕ) (offset : ℕ) → offset ≤ length old → new ≡ old ++ more
+    → take offset new ≡ take offset old
 same_front old new more offset l e = ap (λ (xs : List ℕ). take offset xs) e ∙ take-append-le offset old more l
 
-pub records_stay : (old new more : List ℕ) (offset : ℕ) (records : List (List ℕ)) → offset ≤ length old → new ≡ old ++ more → HasRecords old offset records → HasRecords new (offset + 0) (records ++ [])
+pub records_stay : (old new more : List ℕ) (offset : ℕ) (records : List (List ℕ)) → offset ≤ length old
+    → new ≡ old ++ more → HasRecords old offset records → HasRecords new (offset + 0) (records ++ [])
 records_stay old new more offset records l e has =
     let same : offset + 0 ≡ offset = omega arith in
     let list : records ++ [] ≡ records = append-nil records in
     record {
-      joined = ap (λ (n : ℕ). take n new) same ∙ (same_front old new more offset l e ∙ (has.joined ∙ ap (λ (xs : List (List ℕ)). concat xs) (sym list)));
+      joined = ap (λ (n : ℕ). take n new) same
+          ∙ (same_front old new more offset l e ∙ (has.joined ∙ ap (λ (xs : List (List ℕ)). concat xs) (sym list)));
       each = subst (λ (xs : List (List ℕ)). AllByRecursion IsRecord xs) (sym list) has.each;
     }
 
-pub records_more : (old new more : List ℕ) (offset : ℕ) (records : List (List ℕ)) → offset ≤ length old → new ≡ old ++ more → IsRecord (drop offset new) → HasRecords old offset records
+pub records_more : (old new more : List ℕ) (offset : ℕ) (records : List (List ℕ)) → offset ≤ length old
+    → new ≡ old ++ more → IsRecord (drop offset new) → HasRecords old offset records
     → HasRecords new (offset + length (drop offset new)) (records ++ drop offset new ∷ [])
 records_more old new more offset records l e is has =
     let r : List ℕ = drop offset new in
-    let cut : take (offset + length r) new ≡ take offset new ++ r = take-add offset (length r) new ∙ ap (λ (xs : List ℕ). take offset new ++ xs) (take-length r) in
+    let cut : take (offset + length r) new ≡ take offset new ++ r = take-add offset (length r) new
+        ∙ ap (λ (xs : List ℕ). take offset new ++ xs) (take-length r) in
     let front : take offset new ≡ concat records = same_front old new more offset l e ∙ has.joined in
     let one : concat (r ∷ []) ≡ r = append-nil r in
     record {
-      joined = cut ∙ (ap (λ (xs : List ℕ). xs ++ r) front ∙ (ap (λ (xs : List ℕ). concat records ++ xs) (sym one) ∙ sym (concat-append records (r ∷ []))));
+      joined = cut ∙ (ap (λ (xs : List ℕ). xs ++ r) front
+          ∙ (ap (λ (xs : List ℕ). concat records ++ xs) (sym one) ∙ sym (concat-append records (r ∷ []))));
       each = all_more records r has.each is;
     }
 
-pub records_after : (result : Result (Option ℕ) StreamFault) (old new : Heard) (more : List ℕ) (offset : ℕ) (records : List (List ℕ)) → offset ≤ length old.bytes → new.bytes ≡ old.bytes ++ more
+pub records_after : (result : Result (Option ℕ) StreamFault) (old new : Heard) (more : List ℕ) (offset : ℕ)
+    (records : List (List ℕ)) → offset ≤ length old.bytes → new.bytes ≡ old.bytes ++ more
     → IfOk result (λ o. IfSome o (λ n. IsRecord (told_from offset new))) → HasRecords old.bytes offset records
-    → HasRecords new.bytes (offset + moves_by result (told_from offset new)) (records ++ handed_by result (told_from offset new))
-records_after (Ok (Some n)) old new more offset records l e is has = records_more old.bytes new.bytes more offset records l e is has
-records_after (Ok None) old new more offset records l e is has = records_stay old.bytes new.bytes more offset records l e has
-records_after (Err f) old new more offset records l e is has = records_stay old.bytes new.bytes more offset records l e has
+    → HasRecords new.bytes (offset + moves_by result (told_from offset new))
+    (records ++ handed_by result (told_from offset new))
+records_after (Ok (Some n)) old new more offset records l e is has =
+    records_more old.bytes new.bytes more offset records l e is has
+records_after (Ok None) old new more offset records l e is has =
+    records_stay old.bytes new.bytes more offset records l e has
+records_after (Err f) old new more offset records l e is has =
+    records_stay old.bytes new.bytes more offset records l e has
 
 -- the bytes told are those records and then the rest
-archive_of : (old new more : List ℕ) (offset : ℕ) (records : List (List ℕ)) → offset ≤ length old → new ≡ old ++ more → HasRecords old offset records → HasNoFurther (drop offset new) → IsArchive new records (drop offset new)
+archive_of : (old new more : List ℕ) (offset : ℕ) (records : List (List ℕ)) → offset ≤ length old → new ≡ old ++ more
+    → HasRecords old offset records → HasNoFurther (drop offset new) → IsArchive new records (drop offset new)
 archive_of old new more offset records l e has none = record {
-  joined = sym (take-append-drop offset new) ∙ ap (λ (xs : List ℕ). xs ++ drop offset new) (same_front old new more offset l e ∙ has.joined);
+  joined = sym (take-append-drop offset new)
+      ∙ ap (λ (xs : List ℕ). xs ++ drop offset new) (same_front old new more offset l e ∙ has.joined);
   each = has.each;
   no_further = none;
 }
 
-archive_by : (old new more : List ℕ) (offset : ℕ) (records : List (List ℕ)) (end : End) → offset ≤ length old → new ≡ old ++ more → HasRecords old offset records → IsEndOf (drop offset new) end → IsArchive new records (drop offset new)
-archive_by old new more offset records end l e has is = archive_of old new more offset records l e has (no_further (drop offset new) end is)
+archive_by : (old new more : List ℕ) (offset : ℕ) (records : List (List ℕ)) (end : End) → offset ≤ length old
+    → new ≡ old ++ more → HasRecords old offset records → IsEndOf (drop offset new) end
+    → IsArchive new records (drop offset new)
+archive_by old new more offset records end l e has is =
+    archive_of old new more offset records l e has (no_further (drop offset new) end is)
 
-pub archive_at : (result : Result (Option ℕ) StreamFault) (old new : Heard) (more : List ℕ) (offset : ℕ) (records : List (List ℕ)) → offset ≤ length old.bytes → new.bytes ≡ old.bytes ++ more → HasRecords old.bytes offset records
-    → (result ≡ Ok None → IsCleanEnd offset new) → IfErr result (λ e. IsCutFault e offset new) → IfEnds result (IsArchive new.bytes records (told_from offset new))
+pub archive_at : (result : Result (Option ℕ) StreamFault) (old new : Heard) (more : List ℕ) (offset : ℕ)
+    (records : List (List ℕ)) → offset ≤ length old.bytes → new.bytes ≡ old.bytes ++ more
+    → HasRecords old.bytes offset records
+    → (result ≡ Ok None → IsCleanEnd offset new) → IfErr result (λ e. IsCutFault e offset new)
+    → IfEnds result (IsArchive new.bytes records (told_from offset new))
 archive_at (Ok (Some n)) old new more offset records l e has end fault = tt
-archive_at (Ok None) old new more offset records l e has end fault = archive_by old.bytes new.bytes more offset records clean l e has (end refl).0
-archive_at (Err (Frame n f)) old new more offset records l e has end fault = archive_by old.bytes new.bytes more offset records (frame f) l e has fault.1
-archive_at (Err (Truncated n have)) old new more offset records l e has end fault = archive_by old.bytes new.bytes more offset records (truncated have) l e has fault.1
-archive_at (Err (Read n)) old new more offset records l e has end fault = archive_of old.bytes new.bytes more offset records l e has (none_short (told_from offset new) fault.3)
-archive_at (Err (Turns n)) old new more offset records l e has end fault = archive_of old.bytes new.bytes more offset records l e has (none_short (told_from offset new) fault.3)
+archive_at (Ok None) old new more offset records l e has end fault =
+    archive_by old.bytes new.bytes more offset records clean l e has (end refl).0
+archive_at (Err (Frame n f)) old new more offset records l e has end fault =
+    archive_by old.bytes new.bytes more offset records (frame f) l e has fault.1
+archive_at (Err (Truncated n have)) old new more offset records l e has end fault =
+    archive_by old.bytes new.bytes more offset records (truncated have) l e has fault.1
+archive_at (Err (Read n)) old new more offset records l e has end fault =
+    archive_of old.bytes new.bytes more offset records l e has (none_short (told_from offset new) fault.3)
+archive_at (Err (Turns n)) old new more offset records l e has end fault =
+    archive_of old.bytes new.bytes more offset records l e has (none_short (told_from offset new) fault.3)
 archive_at (Err Memory) old new more offset records l e has end fault = tt

@@ -1,30 +1,41 @@
 -- What a buffered reader lends is the front of what it is known to have left.
-use Rattle.std.proofs.Common.{◌≡◌, ℕ, ◌==◌, ◌++◌, Bool, true, false, if◌then◌else◌, List, [], take, drop, Option, Some, None, sym, ap, ◌∙◌, append_assoc, refl, zero, suc}
+use Rattle.std.proofs.Common.{◌≡◌, ℕ, ◌==◌, ◌++◌, Bool, true, false, if◌then◌else◌, List, [], take, drop, Option, Some,
+    None, sym, ap, ◌∙◌, append_assoc, refl, zero, suc}
 use Rattle.std.proofs.lemmas.List.{take-append-drop}
 use Rattle.std.specs.Io.KnownBytes.{Consumes, prepend_known}
 use Rattle.std.specs.Io.Buffered.{reader_buffer, reader_capacity, reader_inner, reader_remaining}
 use Rattle.std.specs.declared.io.buffered.BufReader.{BufReader}
 
-front_taken : (known : Option (List ℕ)) (buffer : List ℕ) (n : ℕ) → Consumes (prepend_known buffer known) (prepend_known (drop n buffer) known) (take n buffer)
+front_taken : (known : Option (List ℕ)) (buffer : List ℕ) (n : ℕ)
+    → Consumes (prepend_known buffer known) (prepend_known (drop n buffer) known) (take n buffer)
 front_taken None buffer n = tt
-front_taken (Some xs) buffer n = ap (λ (front : List ℕ). front ++ xs) (sym (take-append-drop n buffer)) ∙ append_assoc (take n buffer) (drop n buffer) xs
+front_taken (Some xs) buffer n = ap (λ (front : List ℕ). front ++ xs) (sym (take-append-drop n buffer))
+    ∙ append_assoc (take n buffer) (drop n buffer) xs
 
 where_known : (unknown : Bool) (known : Option (List ℕ)) (buffer : List ℕ) (n : ℕ)
-    → Consumes (if unknown then None else prepend_known buffer known) (if unknown then None else prepend_known (drop n buffer) known) (take n buffer)
+    → Consumes (if unknown then None else prepend_known buffer known)
+    (if unknown then None else prepend_known (drop n buffer) known) (take n buffer)
 where_known true known buffer n = tt
 where_known false known buffer n = front_taken known buffer n
 
-reader_taken : {T A : Type 0} (remaining : T → Option (List ℕ)) (old new : BufReader T A) (n : ℕ) → reader_capacity new ≡ reader_capacity old → reader_inner new ≡ reader_inner old → reader_buffer new ≡ drop n (reader_buffer old)
+reader_taken : {T A : Type 0} (remaining : T → Option (List ℕ)) (old new : BufReader T A) (n : ℕ)
+    → reader_capacity new ≡ reader_capacity old → reader_inner new ≡ reader_inner old
+    → reader_buffer new ≡ drop n (reader_buffer old)
     → Consumes (reader_remaining remaining old) (reader_remaining remaining new) (take n (reader_buffer old))
 reader_taken remaining old new n capacity inner buffer =
-    rw (capacity, inner, buffer) (where_known (reader_capacity old == 0) (remaining (reader_inner old)) (reader_buffer old) n)
+    rw (capacity, inner, buffer) (where_known (reader_capacity old == 0) (remaining (reader_inner old))
+        (reader_buffer old) n)
 
 none_taken : (n : ℕ) (xs : List ℕ) → xs ≡ [] → xs ≡ take n xs ++ []
 none_taken zero xs e = e
 none_taken (suc n) xs e = rw e refl
 
 -- once it is at its end, nothing is taken of nothing
-pub lent_taken : {T A : Type 0} (is_at_end : Bool) (remaining : T → Option (List ℕ)) (old new : BufReader T A) (n : ℕ) → reader_capacity new ≡ reader_capacity old → reader_inner new ≡ reader_inner old → reader_buffer new ≡ drop n (reader_buffer old)
-    → Consumes (if is_at_end then Some [] else reader_remaining remaining old) (if is_at_end then Some [] else reader_remaining remaining new) (take n (if is_at_end then [] else reader_buffer old))
+pub lent_taken : {T A : Type 0} (is_at_end : Bool) (remaining : T → Option (List ℕ)) (old new : BufReader T A) (n : ℕ)
+    → reader_capacity new ≡ reader_capacity old → reader_inner new ≡ reader_inner old
+    → reader_buffer new ≡ drop n (reader_buffer old)
+    → Consumes (if is_at_end then Some [] else reader_remaining remaining old)
+    (if is_at_end then Some [] else reader_remaining remaining new)
+    (take n (if is_at_end then [] else reader_buffer old))
 lent_taken true remaining old new n capacity inner buffer = none_taken n [] refl
 lent_taken false remaining old new n capacity inner buffer = reader_taken remaining old new n capacity inner buffer

@@ -1,5 +1,6 @@
 -- What was heard of an input has one list of records, and one end behind them.
-use Rattle.std.proofs.Common.{◌≡◌, ℕ, suc, ◌<◌, ◌≤◌, ◌++◌, Bool, true, false, List, [], ◌∷◌, length, take, drop, Option, Some, None, refl, sym, ap, subst, ◌∙◌, arith, ⊎_elim, append-nil, length-take}
+use Rattle.std.proofs.Common.{◌≡◌, ℕ, suc, ◌<◌, ◌≤◌, ◌++◌, Bool, true, false, List, [], ◌∷◌, length, take, drop, Option,
+    Some, None, refl, sym, ap, subst, ◌∙◌, arith, ⊎_elim, append-nil, length-take}
 use Rattle.std.proofs.lemmas.Bool.{cases_lt, false≢true}
 use Rattle.std.proofs.lemmas.List.{take-append-drop}
 use Rattle.std.proofs.Math.Seq.{take-length}
@@ -74,7 +75,8 @@ refused_whole b f s d (n, (t, past)) = ⊎_elim
     let asks : Decides b (Need it.next) = subst (λ (xs : List ℕ). Decides xs (Need it.next)) (take-length b) it.asks in
     cc (one_answer b (Not f) (Need it.next) d asks))
     (λ (other : index b n t ≤ index b (length b) s). ⊎_elim
-    (λ (less : index b n t < index b (length b) s). let it = earlier b n (length b) t s less in omega (arith, it.within))
+    (λ (less : index b n t < index b (length b) s). let it = earlier b n (length b) t s less in
+        omega (arith, it.within))
     (λ (last : index b (length b) s ≤ index b n t).
     let same : n ≡ length b = same_stop b n (length b) t s (omega (arith, other, last)) in
     omega arith)
@@ -82,7 +84,8 @@ refused_whole b f s d (n, (t, past)) = ⊎_elim
     (cases_lt (index b (length b) s) (index b n t))
 
 -- records of the same bytes have the same views
-same_views : (vs ws : List View) → AllByRecursion IsView vs → AllByRecursion IsView ws → bytes_in vs ≡ bytes_in ws → vs ≡ ws
+same_views : (vs ws : List View) → AllByRecursion IsView vs → AllByRecursion IsView ws → bytes_in vs ≡ bytes_in ws
+    → vs ≡ ws
 same_views [] [] h k e = refl
 same_views [] (w ∷ ws) h k e = cc
 same_views (v ∷ vs) [] h k e = cc
@@ -96,7 +99,8 @@ same_views (v ∷ vs) (w ∷ ws) h k e =
 none_in : HasNoFurther []
 none_in k within r = omega (arith, record_long (take k []) r, length-take {A = ℕ} k [])
 
-archive_to : (bytes : List ℕ) (offset : ℕ) (views : List View) → AreViews bytes offset views → IsArchive (take offset bytes) (bytes_in views) []
+archive_to : (bytes : List ℕ) (offset : ℕ) (views : List View) → AreViews bytes offset views
+    → IsArchive (take offset bytes) (bytes_in views) []
 archive_to bytes offset views are = record {
   joined = are.records.joined ∙ sym (append-nil (concat (bytes_in views)));
   each = are.records.each;
@@ -104,13 +108,16 @@ archive_to bytes offset views are = record {
 }
 
 -- the bytes up to an offset are those of one list of views
-pub one_views : (bytes : List ℕ) (offset : ℕ) (vs ws : List View) → AreViews bytes offset vs → AreViews bytes offset ws → vs ≡ ws
+pub one_views : (bytes : List ℕ) (offset : ℕ) (vs ws : List View) → AreViews bytes offset vs → AreViews bytes offset ws
+    → vs ≡ ws
 one_views bytes offset vs ws a b =
-    let both = one_archive (take offset bytes) (bytes_in vs) (bytes_in ws) [] [] (archive_to bytes offset vs a) (archive_to bytes offset ws b) in
+    let both = one_archive (take offset bytes) (bytes_in vs) (bytes_in ws) [] [] (archive_to bytes offset vs a)
+        (archive_to bytes offset ws b) in
     same_views vs ws a.each b.each both.0
 
 -- no record begins behind the last
-none_behind : (end : Option StreamFault) (offset : ℕ) (h : Heard) → IsEnd end offset h → HasNoFurther (told_from offset h)
+none_behind : (end : Option StreamFault) (offset : ℕ) (h : Heard) → IsEnd end offset h
+    → HasNoFurther (told_from offset h)
 none_behind None offset h is = no_further (told_from offset h) clean is.0.0
 none_behind (Some (Frame n f)) offset h is = no_further (told_from offset h) (frame f) is.0.1
 none_behind (Some (Truncated n have)) offset h is = no_further (told_from offset h) (truncated have) is.0.1
@@ -118,7 +125,8 @@ none_behind (Some (Read n)) offset h is = none_short (told_from offset h) is.0.3
 none_behind (Some (Turns n)) offset h is = none_short (told_from offset h) is.0.3
 none_behind (Some Memory) offset h is = absurd (is.1 refl)
 
-archive_is : (offset : ℕ) (views : List View) (end : Option StreamFault) (h : Heard) → AreViews h.bytes offset views → IsEnd end offset h → IsArchive h.bytes (bytes_in views) (drop offset h.bytes)
+archive_is : (offset : ℕ) (views : List View) (end : Option StreamFault) (h : Heard) → AreViews h.bytes offset views
+    → IsEnd end offset h → IsArchive h.bytes (bytes_in views) (drop offset h.bytes)
 archive_is offset views end h are is = record {
   joined = sym (take-append-drop offset h.bytes) ∙ ap (λ (xs : List ℕ). xs ++ drop offset h.bytes) are.records.joined;
   each = are.records.each;
@@ -136,9 +144,11 @@ abbrev RefusedAtStop : List ℕ → Type 0
 RefusedAtStop bytes = (f : FrameFault) × (IsStop bytes (length bytes) × Decides bytes (Not f))
 
 data Ended (offset : ℕ) (h : Heard) (end : Option StreamFault) : Type 0 where
-  by_bytes : (e : End) → IsEndOf (told_from offset h) e → h.failures ≡ 0 → (h.is_at_end ≡ false → RefusedAtStop (told_from offset h)) → end ≡ ended offset e → Ended offset h end
+  by_bytes : (e : End) → IsEndOf (told_from offset h) e → h.failures ≡ 0
+      → (h.is_at_end ≡ false → RefusedAtStop (told_from offset h)) → end ≡ ended offset e → Ended offset h end
   by_failure : h.failures ≡ 1 → end ≡ Some (Read offset) → Ended offset h end
-  by_turns : h.failures ≡ 0 → h.is_at_end ≡ false → FallsShort (told_from offset h) → end ≡ Some (Turns offset) → Ended offset h end
+  by_turns : h.failures ≡ 0 → h.is_at_end ≡ false → FallsShort (told_from offset h) → end ≡ Some (Turns offset)
+      → Ended offset h end
 
 refused_of : (bytes : List ℕ) (f : FrameFault) → IsEndOf bytes (frame f) → Decides bytes (Not f)
 refused_of bytes f (is_frame _ d) = d
@@ -150,35 +160,45 @@ ends : (end : Option StreamFault) (offset : ℕ) (h : Heard) → IsEnd end offse
 ends None offset h is = by_bytes clean is.0.0 is.1 (λ going. absurd (not_both h.is_at_end is.0.1 going)) refl
 ends (Some (Frame n f)) offset h is =
     let told : List ℕ = told_from offset h in
-    by_bytes (frame f) is.0.1 is.2 (λ going. (f, (subst (λ (b : Bool). IsReadTo told b) going is.0.2, refused_of told f is.0.1))) (ap (λ (k : ℕ). Some (Frame k f)) is.0.0)
-ends (Some (Truncated n have)) offset h is = by_bytes (truncated have) is.0.1 is.2 (λ going. absurd (not_both h.is_at_end is.0.2 going)) (ap (λ (k : ℕ). Some (Truncated k have)) is.0.0)
+    by_bytes (frame f) is.0.1 is.2
+        (λ going. (f, (subst (λ (b : Bool). IsReadTo told b) going is.0.2, refused_of told f is.0.1)))
+        (ap (λ (k : ℕ). Some (Frame k f)) is.0.0)
+ends (Some (Truncated n have)) offset h is =
+    by_bytes (truncated have) is.0.1 is.2 (λ going. absurd (not_both h.is_at_end is.0.2 going))
+    (ap (λ (k : ℕ). Some (Truncated k have)) is.0.0)
 ends (Some (Read n)) offset h is = by_failure is.2 (ap (λ (k : ℕ). Some (Read k)) is.0.0)
 ends (Some (Turns n)) offset h is = by_turns is.2 is.0.2 is.0.3 (ap (λ (k : ℕ). Some (Turns k)) is.0.0)
 ends (Some Memory) offset h is = absurd (is.1 refl)
 
 -- bytes that end an input don't fall short of more while it goes on
-never_both : (offset : ℕ) (h : Heard) → (h.is_at_end ≡ false → RefusedAtStop (told_from offset h)) → h.is_at_end ≡ false → FallsShort (told_from offset h) → ⊥
+never_both : (offset : ℕ) (h : Heard) → (h.is_at_end ≡ false → RefusedAtStop (told_from offset h))
+    → h.is_at_end ≡ false → FallsShort (told_from offset h) → ⊥
 never_both offset h refused going short =
     let it = refused going in
     refused_whole (told_from offset h) it.0 it.1.0 it.1.1 short
 
 same_end : (offset : ℕ) (h : Heard) (a b : Option StreamFault) → Ended offset h a → Ended offset h b → a ≡ b
-same_end offset h a b (by_bytes e is none going at) (by_bytes d are nor wide to) = at ∙ ap (ended offset) (one_end (told_from offset h) e d is are) ∙ sym to
+same_end offset h a b (by_bytes e is none going at) (by_bytes d are nor wide to) =
+    at ∙ ap (ended offset) (one_end (told_from offset h) e d is are) ∙ sym to
 same_end offset h a b (by_bytes e is none going at) (by_failure failed to) = absurd (omega (arith, none, failed))
-same_end offset h a b (by_bytes e is none going at) (by_turns nor goes short to) = absurd (never_both offset h going goes short)
+same_end offset h a b (by_bytes e is none going at) (by_turns nor goes short to) =
+    absurd (never_both offset h going goes short)
 same_end offset h a b (by_failure failed at) (by_bytes e is none going to) = absurd (omega (arith, none, failed))
 same_end offset h a b (by_failure failed at) (by_failure fails to) = at ∙ sym to
 same_end offset h a b (by_failure failed at) (by_turns none goes short to) = absurd (omega (arith, none, failed))
-same_end offset h a b (by_turns none goes short at) (by_bytes e is nor going to) = absurd (never_both offset h going goes short)
+same_end offset h a b (by_turns none goes short at) (by_bytes e is nor going to) =
+    absurd (never_both offset h going goes short)
 same_end offset h a b (by_turns none goes short at) (by_failure failed to) = absurd (omega (arith, none, failed))
 same_end offset h a b (by_turns none goes short at) (by_turns nor runs less to) = at ∙ sym to
 
 -- all records of what was heard, and its end, are the only ones
-pub one_input : (h : Heard) (vs ws : List View) (a b : Option StreamFault) → AreAllViews h vs a → AreAllViews h ws b → (vs ≡ ws) × (a ≡ b)
+pub one_input : (h : Heard) (vs ws : List View) (a b : Option StreamFault) → AreAllViews h vs a → AreAllViews h ws b
+    → (vs ≡ ws) × (a ≡ b)
 one_input h vs ws a b p q =
     let both = one_archive h.bytes (bytes_in vs) (bytes_in ws) (drop p.offset h.bytes) (drop q.offset h.bytes)
     (archive_is p.offset vs a h p.records p.ends) (archive_is q.offset ws b h q.records q.ends) in
     let views : vs ≡ ws = same_views vs ws p.records.each q.records.each both.0 in
-    let offset : p.offset ≡ q.offset = sym p.records.offset_is ∙ ap (λ (xs : List View). length (concat (bytes_in xs))) views ∙ q.records.offset_is in
+    let offset : p.offset ≡ q.offset = sym p.records.offset_is
+        ∙ ap (λ (xs : List View). length (concat (bytes_in xs))) views ∙ q.records.offset_is in
     let ending : IsEnd a q.offset h = subst (λ (n : ℕ). IsEnd a n h) offset p.ends in
     (views, same_end q.offset h a b (ends a q.offset h ending) (ends b q.offset h q.ends))

@@ -1,11 +1,13 @@
 -- A cutter that goes behind a record which its source holds whole.
-use Rattle.std.proofs.Common.{◌≡◌, ℕ, ◌+◌, ◌-◌, ◌^◌, ◌≤◌, ◌++◌, List, [], ◌∷◌, length, take, drop, false, refl, sym, ap, subst, ◌∙◌, arith, append_assoc, length-append, drop-drop}
+use Rattle.std.proofs.Common.{◌≡◌, ℕ, ◌+◌, ◌-◌, ◌^◌, ◌≤◌, ◌++◌, List, [], ◌∷◌, length, take, drop, false, refl, sym, ap,
+    subst, ◌∙◌, arith, append_assoc, length-append, drop-drop}
 use Rattle.std.proofs.lemmas.List.{drop_all, drop-append-le, length-take-le}
 use Rattle.mseed_record.specs.Record.{IsRecord}
 use Rattle.mseed_record.specs.Scan.{short}
 use Rattle.mseed_record.specs.View.{View, IsView}
 use Rattle.mseed_stream.specs.Archive.{HasRecords}
-use Rattle.mseed_stream.specs.Cutting.{IsAhead, IsAlong, IsEnding, IsHeard, at_start, held_of, asks_of, told_from, told_whole}
+use Rattle.mseed_stream.specs.Cutting.{IsAhead, IsAlong, IsEnding, IsHeard, at_start, held_of, asks_of, told_from,
+    told_whole}
 use Rattle.mseed_stream.specs.Device.{Heard, told_also}
 use Rattle.mseed_stream.specs.Standing.{Standing}
 use Rattle.mseed_stream.specs.Walk.{HasHandedOut, bytes_in}
@@ -20,10 +22,12 @@ told_twice h xs ys =
     let calls : h.calls + 1 + 1 ≡ h.calls + 2 = omega arith in
     rw (append_assoc h.bytes xs ys, calls) refl
 
-pub rest_twice : (size : ℕ) (lent middle after : List ℕ) → 48 ≤ size → middle ≡ drop 48 lent → after ≡ drop (size - 48) middle → after ≡ drop size lent
+pub rest_twice : (size : ℕ) (lent middle after : List ℕ) → 48 ≤ size → middle ≡ drop 48 lent
+    → after ≡ drop (size - 48) middle → after ≡ drop size lent
 rest_twice size lent middle after l first second =
     let all : 48 + (size - 48) ≡ size = omega arith in
-    second ∙ (ap (λ (xs : List ℕ). drop (size - 48) xs) first ∙ (drop-drop (size - 48) 48 lent ∙ ap (λ (n : ℕ). drop n lent) all))
+    second ∙ (ap (λ (xs : List ℕ). drop (size - 48) xs) first
+        ∙ (drop-drop (size - 48) 48 lent ∙ ap (λ (n : ℕ). drop n lent) all))
 
 -- how the cutter stands then
 abbrev pub passed : Standing → ℕ → Standing
@@ -33,12 +37,15 @@ passed c size = record c { offset = c.offset + size; front = []; is_lent = false
 abbrev pub behind : Standing → ℕ → Standing
 behind c size = record c { offset = c.offset + size; reads = c.reads + 2 }
 
-pub stands_behind : (here old : Standing) (size : ℕ) → here ≡ record old { front = held_of old; is_lent = false } → held_of old ≡ [] → behind here size ≡ passed old size
+pub stands_behind : (here old : Standing) (size : ℕ) → here ≡ record old { front = held_of old; is_lent = false }
+    → held_of old ≡ [] → behind here size ≡ passed old size
 stands_behind here old size is none =
     ap (λ (s : Standing). behind s size) is
-    ∙ ap (λ (xs : List ℕ). let s : Standing = record old { offset = old.offset + size; front = xs; is_lent = false; reads = old.reads + 2 } in s) none
+    ∙ ap (λ (xs : List ℕ). let s : Standing = record old { offset = old.offset + size; front = xs; is_lent = false;
+    reads = old.reads + 2 } in s) none
 
-passed_heard : (h : Heard) (c : Standing) (bytes : List ℕ) → IsHeard h c → held_of c ≡ [] → c.reads + 2 ≤ 2 ^ 40 → length bytes ≤ 2 ^ 20 → IsHeard (told_whole h bytes) (passed c (length bytes))
+passed_heard : (h : Heard) (c : Standing) (bytes : List ℕ) → IsHeard h c → held_of c ≡ [] → c.reads + 2 ≤ 2 ^ 40
+    → length bytes ≤ 2 ^ 20 → IsHeard (told_whole h bytes) (passed c (length bytes))
 passed_heard h c bytes is none few small =
     let size : length h.bytes ≡ c.offset + 0 = is.told ∙ ap (λ (xs : List ℕ). c.offset + length xs) none in
     let size_now : length (h.bytes ++ bytes) ≡ length h.bytes + length bytes = length-append h.bytes bytes in
@@ -53,12 +60,14 @@ passed_heard h c bytes is none few small =
       small = is.small;
     }
 
-pub passed_along : (h : Heard) (c : Standing) (size : ℕ) (lent : List ℕ) → IsAlong h c → IsAhead size c lent → IsAlong (told_whole h (take size lent)) (passed c size)
+pub passed_along : (h : Heard) (c : Standing) (size : ℕ) (lent : List ℕ) → IsAlong h c → IsAhead size c lent
+    → IsAlong (told_whole h (take size lent)) (passed c size)
 passed_along h c size lent is ahead =
     let bytes : List ℕ = take size lent in
     let long : length bytes ≡ size = length-take-le size lent ahead.whole in
     let heard : IsHeard (told_whole h bytes) (passed c size) =
-    subst (λ (n : ℕ). IsHeard (told_whole h bytes) (passed c n)) long (passed_heard h c bytes is.heard ahead.none ahead.turns (record_few bytes ahead.is_record)) in
+    subst (λ (n : ℕ). IsHeard (told_whole h bytes) (passed c n)) long
+        (passed_heard h c bytes is.heard ahead.none ahead.turns (record_few bytes ahead.is_record)) in
     record {
       heard = heard;
       stop = λ same. at_start;
@@ -68,12 +77,14 @@ passed_along h c size lent is ahead =
     }
 
 -- what is told from the offset on
-told_then : (h : Heard) (c : Standing) (bytes : List ℕ) → IsHeard h c → held_of c ≡ [] → told_from c.offset (told_whole h bytes) ≡ bytes
+told_then : (h : Heard) (c : Standing) (bytes : List ℕ) → IsHeard h c → held_of c ≡ []
+    → told_from c.offset (told_whole h bytes) ≡ bytes
 told_then h c bytes is none =
     let size : length h.bytes ≡ c.offset + 0 = is.told ∙ ap (λ (xs : List ℕ). c.offset + length xs) none in
     drop-append-le c.offset h.bytes bytes (omega arith) ∙ ap (λ (xs : List ℕ). xs ++ bytes) (is.held ∙ none)
 
-pub passed_records : (h : Heard) (c : Standing) (size : ℕ) (lent : List ℕ) (records : List (List ℕ)) → IsHeard h c → IsAhead size c lent → HasRecords h.bytes c.offset records
+pub passed_records : (h : Heard) (c : Standing) (size : ℕ) (lent : List ℕ) (records : List (List ℕ)) → IsHeard h c
+    → IsAhead size c lent → HasRecords h.bytes c.offset records
     → HasRecords (told_whole h (take size lent)).bytes (c.offset + size) (records ++ take size lent ∷ [])
 passed_records h c size lent records is ahead has =
     let bytes : List ℕ = take size lent in
@@ -81,10 +92,13 @@ passed_records h c size lent records is ahead has =
     let long : length bytes ≡ size = length-take-le size lent ahead.whole in
     let told : told_from c.offset now ≡ bytes = told_then h c bytes is ahead.none in
     let within : c.offset ≤ length h.bytes = omega (arith, is.told) in
-    let more = records_more h.bytes now.bytes bytes c.offset records within refl (subst IsRecord (sym told) ahead.is_record) has in
-    subst (λ (n : ℕ). HasRecords now.bytes (c.offset + n) (records ++ bytes ∷ [])) long (subst (λ (xs : List ℕ). HasRecords now.bytes (c.offset + length xs) (records ++ xs ∷ [])) told more)
+    let more = records_more h.bytes now.bytes bytes c.offset records within refl
+        (subst IsRecord (sym told) ahead.is_record) has in
+    subst (λ (n : ℕ). HasRecords now.bytes (c.offset + n) (records ++ bytes ∷ [])) long
+        (subst (λ (xs : List ℕ). HasRecords now.bytes (c.offset + length xs) (records ++ xs ∷ [])) told more)
 
-pub passed_handed : (h : Heard) (c : Standing) (size : ℕ) (lent : List ℕ) (views : List View) (v : View) → IsAhead size c lent → HasHandedOut h c views → IsView v → v.bytes ≡ take size lent
+pub passed_handed : (h : Heard) (c : Standing) (size : ℕ) (lent : List ℕ) (views : List View) (v : View)
+    → IsAhead size c lent → HasHandedOut h c views → IsView v → v.bytes ≡ take size lent
     → HasHandedOut (told_whole h (take size lent)) (passed c size) (views ++ v ∷ [])
 passed_handed h c size lent views v ahead before is same =
     let bytes : List ℕ = take size lent in
@@ -93,7 +107,10 @@ passed_handed h c size lent views v ahead before is same =
     let long : length bytes ≡ size = length-take-le size lent ahead.whole in
     let told : told_from c.offset now ≡ bytes = told_then h c bytes heard ahead.none in
     let within : c.offset ≤ length h.bytes = omega (arith, heard.told) in
-    let more = records_more h.bytes now.bytes bytes c.offset (bytes_in views) within refl (subst IsRecord (sym told) ahead.is_record) before.records.records in
-    let offset : c.offset + size ≡ c.offset + length (told_from c.offset now) = ap (λ (n : ℕ). c.offset + n) (sym long) ∙ ap (λ (xs : List ℕ). c.offset + length xs) (sym told) in
+    let more = records_more h.bytes now.bytes bytes c.offset (bytes_in views) within refl
+        (subst IsRecord (sym told) ahead.is_record) before.records.records in
+    let offset : c.offset + size ≡ c.offset + length (told_from c.offset now) = ap (λ (n : ℕ). c.offset + n) (sym long)
+        ∙ ap (λ (xs : List ℕ). c.offset + length xs) (sym told) in
     let asks : asks_of (held_of c) ≡ 0 = ap (λ (xs : List ℕ). asks_of xs) ahead.none in
-    handed_record h now c (passed c size) views v before is (same ∙ sym told) more (passed_along h c size lent before.along ahead) offset ahead.goes_on refl (omega (arith, asks))
+    handed_record h now c (passed c size) views v before is (same ∙ sym told) more
+        (passed_along h c size lent before.along ahead) offset ahead.goes_on refl (omega (arith, asks))

@@ -1,5 +1,6 @@
 -- A cutter stays along what its source told, whatever it answers.
-use Rattle.std.proofs.Common.{◌≡◌, ◌≢◌, ℕ, ◌+◌, ◌*◌, ◌<◌, ◌≤◌, Bool, true, false, List, [], ◌∷◌, length, Option, Some, None, Result, Ok, Err, IfOk, IfErr, IfSome, refl, sym, ap, subst, ◌∙◌, arith, ⊎_elim}
+use Rattle.std.proofs.Common.{◌≡◌, ◌≢◌, ℕ, ◌+◌, ◌*◌, ◌<◌, ◌≤◌, Bool, true, false, List, [], ◌∷◌, length, Option, Some,
+    None, Result, Ok, Err, IfOk, IfErr, IfSome, refl, sym, ap, subst, ◌∙◌, arith, ⊎_elim}
 use Rattle.std.proofs.lemmas.Bool.{cases_lt}
 use Rattle.std.proofs.lemmas.List.{drop_all}
 use Rattle.mseed_record.specs.Record.{IsRecord}
@@ -8,7 +9,8 @@ use Rattle.mseed_record.specs.declared.frame.Scan.TheVariants.{Need}
 use Rattle.mseed_stream.specs.Archive.{IsEndOf, clean, frame, truncated, is_clean}
 use Rattle.mseed_stream.specs.Device.{Heard}
 use Rattle.mseed_stream.specs.Standing.{Standing}
-use Rattle.mseed_stream.specs.Cutting.{IsStop, at_start, told_from, IsHeard, IsAlong, IsEnding, FallsShort, IsReadTo, is_short, IsCutFault, IsCleanEnd, answer_of, held_of, asks_of, count_of}
+use Rattle.mseed_stream.specs.Cutting.{IsStop, at_start, told_from, IsHeard, IsAlong, IsEnding, FallsShort, IsReadTo,
+    is_short, IsCutFault, IsCleanEnd, answer_of, held_of, asks_of, count_of}
 use Rattle.mseed_stream.specs.Steps.{IsCuttingFault, lent_of, settled}
 use Rattle.mseed_stream.specs.declared.cutter.Ending.{Ending}
 use Rattle.mseed_stream.specs.declared.cutter.Ending.TheVariants.{Clean, Fault}
@@ -41,7 +43,8 @@ lent_heard h c is lent =
     }
 
 -- the answer is kept
-kept_heard : (h : Heard) (c : Standing) (answer : Option Ending) → IsHeard h c → IsHeard h (record c { answer = answer })
+kept_heard : (h : Heard) (c : Standing) (answer : Option Ending) → IsHeard h c
+    → IsHeard h (record c { answer = answer })
 kept_heard h c answer is = record {
   told = is.told;
   held = is.held;
@@ -52,7 +55,8 @@ kept_heard h c answer is = record {
   small = is.small;
 }
 
-ended_along : (h : Heard) (c : Standing) (e : Ending) → IsHeard h c → IsEnding e c.offset h → IsAlong h (record c { answer = Some e })
+ended_along : (h : Heard) (c : Standing) (e : Ending) → IsHeard h c → IsEnding e c.offset h
+    → IsAlong h (record c { answer = Some e })
 ended_along h c e is ending = record {
   heard = kept_heard h c (Some e) is;
   stop = λ other. cc;
@@ -61,7 +65,8 @@ ended_along h c e is ending = record {
   ended = ending;
 }
 
-pub along_record : (h : Heard) (c : Standing) → IsHeard h c → c.is_lent ≡ false → c.answer ≡ None → h.is_at_end ≡ false → IsAlong h (settled c (Ok true))
+pub along_record : (h : Heard) (c : Standing) → IsHeard h c → c.is_lent ≡ false → c.answer ≡ None → h.is_at_end ≡ false
+    → IsAlong h (settled c (Ok true))
 along_record h c is lent goes going_on = record {
   heard = lent_heard h c is lent;
   stop = λ same. at_start;
@@ -70,13 +75,16 @@ along_record h c is lent goes going_on = record {
   ended = nothing_ended c.answer (λ e. IsEnding e (c.offset + length c.front) h) goes;
 }
 
-pub clean_end : (h : Heard) (c : Standing) → IsHeard h c → c.is_lent ≡ false → c.front ≡ [] → IsEndOf (told_from c.offset h) clean
+pub clean_end : (h : Heard) (c : Standing) → IsHeard h c → c.is_lent ≡ false → c.front ≡ []
+    → IsEndOf (told_from c.offset h) clean
 clean_end h c is lent empty = is_clean (told_is h c is lent ∙ empty)
 
-along_fault : (h : Heard) (c : Standing) (e : StreamFault) → IsHeard h c → e ≢ Memory → IsCutFault e c.offset h → IsAlong h (record c { answer = Some (Fault e) })
+along_fault : (h : Heard) (c : Standing) (e : StreamFault) → IsHeard h c → e ≢ Memory → IsCutFault e c.offset h
+    → IsAlong h (record c { answer = Some (Fault e) })
 along_fault h c e is other fault = ended_along h c (Fault e) is (fault, other)
 
-along_memory : (h : Heard) (c : Standing) → IsHeard h c → c.is_lent ≡ false → c.answer ≡ None → IsStop c.front (length c.front) → h.is_at_end ≡ false → (n : ℕ) → Decides c.front (Need n) → IsAlong h c
+along_memory : (h : Heard) (c : Standing) → IsHeard h c → c.is_lent ≡ false → c.answer ≡ None
+    → IsStop c.front (length c.front) → h.is_at_end ≡ false → (n : ℕ) → Decides c.front (Need n) → IsAlong h c
 along_memory h c is lent goes stop going_on n asks =
     record {
       heard = is;
@@ -87,30 +95,42 @@ along_memory h c is lent goes stop going_on n asks =
     }
 
 -- what a fault of the reads for one record says of the offset
-pub cut_fault : (e : StreamFault) (c after : Standing) (old new : Heard) → IsHeard new after → after.is_lent ≡ false → after.offset ≡ c.offset → IsCuttingFault e c after old new → IsCutFault e after.offset new
+pub cut_fault : (e : StreamFault) (c after : Standing) (old new : Heard) → IsHeard new after → after.is_lent ≡ false
+    → after.offset ≡ c.offset → IsCuttingFault e c after old new → IsCutFault e after.offset new
 cut_fault (Frame n f) c after old new is lent offset it =
     let told = sym (told_is new after is lent) in
-    (it.0 ∙ sym offset, subst (λ (xs : List ℕ). IsEndOf xs (frame f)) told it.2, subst (λ (xs : List ℕ). IsReadTo xs new.is_at_end) told it.3)
-cut_fault (Truncated n have) c after old new is lent offset it = (it.0 ∙ sym offset, subst (λ (xs : List ℕ). IsEndOf xs (truncated have)) (sym (told_is new after is lent)) it.2, it.3)
+    (it.0 ∙ sym offset, subst (λ (xs : List ℕ). IsEndOf xs (frame f)) told it.2,
+        subst (λ (xs : List ℕ). IsReadTo xs new.is_at_end) told it.3)
+cut_fault (Truncated n have) c after old new is lent offset it =
+    (it.0 ∙ sym offset, subst (λ (xs : List ℕ). IsEndOf xs (truncated have)) (sym (told_is new after is lent)) it.2,
+    it.3)
 cut_fault (Read n) c after old new is lent offset it =
     let one = it.1 in
-    (it.0 ∙ sym offset, omega arith, it.2, subst (λ (xs : List ℕ). FallsShort xs) (sym (told_is new after is lent)) it.3)
-cut_fault (Turns n) c after old new is lent offset it = (it.0 ∙ sym offset, it.2, it.3, subst (λ (xs : List ℕ). FallsShort xs) (sym (told_is new after is lent)) it.4)
+    (it.0 ∙ sym offset, omega arith, it.2, subst (λ (xs : List ℕ). FallsShort xs) (sym (told_is new after is lent))
+        it.3)
+cut_fault (Turns n) c after old new is lent offset it =
+    (it.0 ∙ sym offset, it.2, it.3, subst (λ (xs : List ℕ). FallsShort xs) (sym (told_is new after is lent)) it.4)
 cut_fault Memory c after old new is lent offset it = tt
 
 -- by each answer
-pub along_settled : (found : Result Bool StreamFault) (c after : Standing) (old new : Heard) → IsHeard new after → after.is_lent ≡ false → after.answer ≡ None → after.offset ≡ c.offset
-    → (found ≡ Ok true → IsRecord after.front × (new.is_at_end ≡ false)) → (found ≡ Ok false → (after.front ≡ []) × (new.is_at_end ≡ true)) → IsReadTo after.front (is_short found new.is_at_end)
+pub along_settled : (found : Result Bool StreamFault) (c after : Standing) (old new : Heard) → IsHeard new after
+    → after.is_lent ≡ false → after.answer ≡ None → after.offset ≡ c.offset
+    → (found ≡ Ok true → IsRecord after.front × (new.is_at_end ≡ false))
+    → (found ≡ Ok false → (after.front ≡ []) × (new.is_at_end ≡ true))
+    → IsReadTo after.front (is_short found new.is_at_end)
     → IfErr found (λ e. IsCuttingFault e c after old new) → IsAlong new (settled after found)
-along_settled (Ok true) c after old new is lent goes offset one ended read fault = along_record new after is lent goes (one refl).1
+along_settled (Ok true) c after old new is lent goes offset one ended read fault =
+    along_record new after is lent goes (one refl).1
 along_settled (Ok false) c after old new is lent goes offset one ended read fault =
     let end = ended refl in
     ended_along new after Clean is (clean_end new after is lent end.0, end.1)
-along_settled (Err Memory) c after old new is lent goes offset one ended read fault = along_memory new after is lent goes read fault.1 fault.2.0 fault.2.2
+along_settled (Err Memory) c after old new is lent goes offset one ended read fault =
+    along_memory new after is lent goes read fault.1 fault.2.0 fault.2.2
 along_settled (Err (Frame n f)) c after old new is lent goes offset one ended read fault =
     along_fault new after (Frame n f) is (λ e. cc) (cut_fault (Frame n f) c after old new is lent offset fault)
 along_settled (Err (Truncated n have)) c after old new is lent goes offset one ended read fault =
-    along_fault new after (Truncated n have) is (λ e. cc) (cut_fault (Truncated n have) c after old new is lent offset fault)
+    along_fault new after (Truncated n have) is (λ e. cc)
+        (cut_fault (Truncated n have) c after old new is lent offset fault)
 along_settled (Err (Read n)) c after old new is lent goes offset one ended read fault =
     along_fault new after (Read n) is (λ e. cc) (cut_fault (Read n) c after old new is lent offset fault)
 along_settled (Err (Turns n)) c after old new is lent goes offset one ended read fault =
@@ -121,39 +141,53 @@ nothing_found (Ok true) n e = cc
 nothing_found (Ok false) n e = refl
 nothing_found (Err f) n e = cc
 
-pub record_found : (found : Result Bool StreamFault) (n : ℕ) (front : List ℕ) (is_at_end : Bool) → (found ≡ Ok true → IsRecord front × (is_at_end ≡ false)) → IfOk (lent_of n found) (λ o. IfSome o (λ m. IsRecord front))
+pub record_found : (found : Result Bool StreamFault) (n : ℕ) (front : List ℕ) (is_at_end : Bool)
+    → (found ≡ Ok true → IsRecord front × (is_at_end ≡ false))
+    → IfOk (lent_of n found) (λ o. IfSome o (λ m. IsRecord front))
 record_found (Ok true) n front is_at_end one = (one refl).0
 record_found (Ok false) n front is_at_end one = tt
 record_found (Err f) n front is_at_end one = tt
 
-pub fault_found : (found : Result Bool StreamFault) (n : ℕ) (c after : Standing) (old new : Heard) → IsHeard new after → after.is_lent ≡ false → after.offset ≡ c.offset → IfErr found (λ e. IsCuttingFault e c after old new) → IfErr (lent_of n found) (λ e. IsCutFault e after.offset new)
+pub fault_found : (found : Result Bool StreamFault) (n : ℕ) (c after : Standing) (old new : Heard) → IsHeard new after
+    → after.is_lent ≡ false → after.offset ≡ c.offset → IfErr found (λ e. IsCuttingFault e c after old new)
+    → IfErr (lent_of n found) (λ e. IsCutFault e after.offset new)
 fault_found (Ok true) n c after old new is lent offset fault = tt
 fault_found (Ok false) n c after old new is lent offset fault = tt
 fault_found (Err e) n c after old new is lent offset fault = cut_fault e c after old new is lent offset fault
 
-pub fault_again : (result : Result (Option ℕ) StreamFault) (answer : Option Ending) (e : Ending) (offset : ℕ) (h : Heard) → answer ≡ Some e → result ≡ answer_of e → IfSome answer (λ x. IsEnding x offset h) → IfErr result (λ f. IsCutFault f offset h)
-fault_again result answer Clean offset h same is ending = subst (λ (r : Result (Option ℕ) StreamFault). IfErr r (λ f. IsCutFault f offset h)) (sym is) tt
+pub fault_again : (result : Result (Option ℕ) StreamFault) (answer : Option Ending) (e : Ending) (offset : ℕ)
+    (h : Heard) → answer ≡ Some e → result ≡ answer_of e → IfSome answer (λ x. IsEnding x offset h)
+    → IfErr result (λ f. IsCutFault f offset h)
+fault_again result answer Clean offset h same is ending =
+    subst (λ (r : Result (Option ℕ) StreamFault). IfErr r (λ f. IsCutFault f offset h)) (sym is) tt
 fault_again result answer (Fault f) offset h same is ending =
-    let it : IsEnding (Fault f) offset h = subst (λ (o : Option Ending). IfSome o (λ x. IsEnding x offset h)) same ending in
+    let it : IsEnding (Fault f) offset h =
+        subst (λ (o : Option Ending). IfSome o (λ x. IsEnding x offset h)) same ending in
     subst (λ (r : Result (Option ℕ) StreamFault). IfErr r (λ x. IsCutFault x offset h)) (sym is) it.0
 
-pub end_again : (result : Result (Option ℕ) StreamFault) (answer : Option Ending) (e : Ending) (offset : ℕ) (h : Heard) → answer ≡ Some e → result ≡ answer_of e → IfSome answer (λ x. IsEnding x offset h) → result ≡ Ok None → IsCleanEnd offset h
-end_again result answer Clean offset h same is ending none = subst (λ (o : Option Ending). IfSome o (λ x. IsEnding x offset h)) same ending
+pub end_again : (result : Result (Option ℕ) StreamFault) (answer : Option Ending) (e : Ending) (offset : ℕ) (h : Heard)
+    → answer ≡ Some e → result ≡ answer_of e → IfSome answer (λ x. IsEnding x offset h) → result ≡ Ok None
+    → IsCleanEnd offset h
+end_again result answer Clean offset h same is ending none =
+    subst (λ (o : Option Ending). IfSome o (λ x. IsEnding x offset h)) same ending
 end_again result answer (Fault f) offset h same is ending none = cc
 
 pub few_asks : (held : List ℕ) → asks_of held ≤ 1
 few_asks [] = omega arith
 few_asks (x ∷ xs) = omega arith
 
-asks_other : (held front : List ℕ) (old new : ℕ) → old ≤ new → (new ≤ old → front ≡ held) → old + asks_of front ≤ new + asks_of held
+asks_other : (held front : List ℕ) (old new : ℕ) → old ≤ new → (new ≤ old → front ≡ held)
+    → old + asks_of front ≤ new + asks_of held
 asks_other held front old new calls quiet = ⊎_elim
     (λ (less : old < new). omega (arith, few_asks front))
     (λ (none : new ≤ old). omega (arith, ap (λ (xs : List ℕ). asks_of xs) (quiet none)))
     (cases_lt old new)
 
 -- two asks of the source for each record, and one for what is held of the next
-pub asks_settled : (found : Result Bool StreamFault) (n : ℕ) (held : List ℕ) (after : Standing) (old new : ℕ) → after.is_lent ≡ false → old ≤ new → (new ≤ old → after.front ≡ held)
-    → (found ≡ Ok true → old + 2 ≤ new + asks_of held) → old + 2 * count_of (lent_of n found) + asks_of (held_of (settled after found)) ≤ new + asks_of held
+pub asks_settled : (found : Result Bool StreamFault) (n : ℕ) (held : List ℕ) (after : Standing) (old new : ℕ)
+    → after.is_lent ≡ false → old ≤ new → (new ≤ old → after.front ≡ held)
+    → (found ≡ Ok true → old + 2 ≤ new + asks_of held)
+    → old + 2 * count_of (lent_of n found) + asks_of (held_of (settled after found)) ≤ new + asks_of held
 asks_settled (Ok true) n held after old new lent calls quiet twice = omega (arith, twice refl)
 asks_settled (Ok false) n held after old new lent calls quiet twice =
     let same : held_of (settled after (Ok false)) ≡ after.front = held_is (settled after (Ok false)) lent in

@@ -1,5 +1,6 @@
 -- Where the bytes of a record are looked at: no record ends before the framing steps have what they ask for.
-use Rattle.std.proofs.Common.{◌≡◌, ℕ, ◌≤◌, ◌++◌, List, length, take, drop, sym, subst, arith, length-append, length-take}
+use Rattle.std.proofs.Common.{◌≡◌, ℕ, ◌≤◌, ◌++◌, List, length, take, drop, sym, subst, arith, length-append,
+    length-take}
 use Rattle.std.proofs.lemmas.List.{take-append-le, take-append-drop, length-take-le, take_all}
 use Rattle.std.proofs.Math.Seq.{take-length}
 use Rattle.mseed_record.specs.declared.frame.Scan.TheVariants.{Need}
@@ -14,18 +15,21 @@ pub stop_grows : (b more : List ℕ) (n : ℕ) → IsStop b n → IsStop (b ++ m
 stop_grows b more _ at_start = at_start
 stop_grows b more n (asked_for m _ s l d) =
     let same : take m (b ++ more) ≡ take m b = take-append-le m b more l in
-    asked_for m n (stop_grows b more m s) (omega (arith, length-append b more)) (subst (λ (xs : List ℕ). Decides xs (Need n)) (sym same) d)
+    asked_for m n (stop_grows b more m s) (omega (arith, length-append b more))
+        (subst (λ (xs : List ℕ). Decides xs (Need n)) (sym same) d)
 
 -- the next stop, where all that was asked for is there
 pub stop_next : (b : List ℕ) (n : ℕ) → IsStop b (length b) → Decides b (Need n) → IsStop b n
-stop_next b n s d = asked_for (length b) n s (omega arith) (subst (λ (xs : List ℕ). Decides xs (Need n)) (sym (take-length b)) d)
+stop_next b n s d = asked_for (length b) n s (omega arith)
+    (subst (λ (xs : List ℕ). Decides xs (Need n)) (sym (take-length b)) d)
 
 -- no record ends before a stop
 pub stop_record : (b : List ℕ) (n k : ℕ) → IsStop b n → IsRecord (take k b) → n ≤ length (take k b)
 stop_record b _ k at_start r = omega (arith, record_long (take k b) r)
 stop_record b n k (asked_for m _ s l d) r =
     let whole_is : take m b ++ drop m b ≡ b = take-append-drop m b in
-    subst (λ (xs : List ℕ). n ≤ length (take k xs)) whole_is (asked (take m b) (drop m b) n k d (subst (λ (xs : List ℕ). IsRecord (take k xs)) (sym whole_is) r))
+    subst (λ (xs : List ℕ). n ≤ length (take k xs)) whole_is
+        (asked (take m b) (drop m b) n k d (subst (λ (xs : List ℕ). IsRecord (take k xs)) (sym whole_is) r))
 
 -- short of a stop there's no record
 pub none_short : (b : List ℕ) → FallsShort b → HasNoFurther b
@@ -35,7 +39,8 @@ none_short b short k within r =
     omega (arith, length-take k b)
 
 -- at a stop, what begins with a record is one
-pub record_whole : (b : List ℕ) (n k : ℕ) → IsStop b n → length b ≤ n → k ≤ length b → IsRecord (take k b) → IsRecord b × (n ≤ length b)
+pub record_whole : (b : List ℕ) (n k : ℕ) → IsStop b n → length b ≤ n → k ≤ length b → IsRecord (take k b)
+    → IsRecord b × (n ≤ length b)
 record_whole b n k s l w r =
     let far : n ≤ length (take k b) = stop_record b n k s r in
     let size : length (take k b) ≡ k = length-take-le k b w in

@@ -1,5 +1,6 @@
 -- A cutter's records so far, with one more, and all of them at the input's end.
-use Rattle.std.proofs.Common.{◌≡◌, ◌≢◌, ℕ, ◌+◌, ◌^◌, ◌<◌, ◌≤◌, ◌++◌, List, [], ◌∷◌, length, Option, Some, None, Result, Ok, Err, IfErr, refl, sym, ap, subst, ◌∙◌, arith, length-append, append-nil}
+use Rattle.std.proofs.Common.{◌≡◌, ◌≢◌, ℕ, ◌+◌, ◌^◌, ◌<◌, ◌≤◌, ◌++◌, List, [], ◌∷◌, length, Option, Some, None, Result,
+    Ok, Err, IfErr, refl, sym, ap, subst, ◌∙◌, arith, length-append, append-nil}
 use Rattle.std.specs.List.{concat, AllByRecursion}
 use Rattle.mseed_record.specs.View.{View, IsView}
 use Rattle.mseed_stream.specs.Device.{Heard}
@@ -12,7 +13,8 @@ use Rattle.mseed_stream.specs.declared.fault.StreamFault.TheVariants.{Frame, Tru
 use Rattle.mseed_stream.proofs.Handed.{records_stay}
 
 -- how many bytes the records have, with one more
-size_more : (views : List View) (v : View) → length (concat (bytes_in (views ++ v ∷ []))) ≡ length (concat (bytes_in views)) + length v.bytes
+size_more : (views : List View) (v : View)
+    → length (concat (bytes_in (views ++ v ∷ []))) ≡ length (concat (bytes_in views)) + length v.bytes
 size_more [] v = length-append v.bytes [] ∙ omega arith
 size_more (w ∷ views) v =
     let rest : List ℕ = concat (bytes_in views) in
@@ -20,7 +22,8 @@ size_more (w ∷ views) v =
     let later : length more ≡ length rest + length v.bytes = size_more views v in
     omega (arith, later, length-append w.bytes more, length-append w.bytes rest)
 
-all_more : (views : List View) (v : View) → AllByRecursion IsView views → IsView v → AllByRecursion IsView (views ++ v ∷ [])
+all_more : (views : List View) (v : View) → AllByRecursion IsView views → IsView v
+    → AllByRecursion IsView (views ++ v ∷ [])
 all_more [] v h k = (k, tt)
 all_more (w ∷ views) v h k = (h.0, all_more views v h.1 k)
 
@@ -29,22 +32,28 @@ bytes_more [] v = refl
 bytes_more (w ∷ views) v = ap (λ (xs : List (List ℕ)). w.bytes ∷ xs) (bytes_more views v)
 
 -- one more record
-pub views_more : (old new : List ℕ) (offset : ℕ) (views : List View) (v : View) (told : List ℕ) → AreViews old offset views → IsView v → v.bytes ≡ told
-    → HasRecords new (offset + length told) (bytes_in views ++ told ∷ []) → AreViews new (offset + length told) (views ++ v ∷ [])
+pub views_more : (old new : List ℕ) (offset : ℕ) (views : List View) (v : View) (told : List ℕ)
+    → AreViews old offset views → IsView v → v.bytes ≡ told
+    → HasRecords new (offset + length told) (bytes_in views ++ told ∷ [])
+    → AreViews new (offset + length told) (views ++ v ∷ [])
 views_more old new offset views v told before is same has = record {
   each = all_more views v before.each is;
-  records = subst (λ (xs : List (List ℕ)). HasRecords new (offset + length told) xs) (ap (λ (xs : List ℕ). bytes_in views ++ xs ∷ []) (sym same) ∙ bytes_more views v) has;
-  offset_is = size_more views v ∙ (ap (λ (n : ℕ). n + length v.bytes) before.offset_is ∙ ap (λ (xs : List ℕ). offset + length xs) same);
+  records = subst (λ (xs : List (List ℕ)). HasRecords new (offset + length told) xs)
+      (ap (λ (xs : List ℕ). bytes_in views ++ xs ∷ []) (sym same) ∙ bytes_more views v) has;
+  offset_is = size_more views v
+      ∙ (ap (λ (n : ℕ). n + length v.bytes) before.offset_is ∙ ap (λ (xs : List ℕ). offset + length xs) same);
 }
 
 -- they stay while more is told
-pub views_stay : (old new more : List ℕ) (offset : ℕ) (views : List View) → offset ≤ length old → new ≡ old ++ more → AreViews old offset views → AreViews new offset views
+pub views_stay : (old new more : List ℕ) (offset : ℕ) (views : List View) → offset ≤ length old → new ≡ old ++ more
+    → AreViews old offset views → AreViews new offset views
 views_stay old new more offset views within e before =
     let has = records_stay old new more offset (bytes_in views) within e before.records in
     let same : offset + 0 ≡ offset = omega arith in
     record {
       each = before.each;
-      records = subst (λ (n : ℕ). HasRecords new n (bytes_in views)) same (subst (λ (xs : List (List ℕ)). HasRecords new (offset + 0) xs) (append-nil (bytes_in views)) has);
+      records = subst (λ (n : ℕ). HasRecords new n (bytes_in views)) same
+          (subst (λ (xs : List (List ℕ)). HasRecords new (offset + 0) xs) (append-nil (bytes_in views)) has);
       offset_is = before.offset_is;
     }
 
@@ -52,9 +61,12 @@ length_more : (views : List View) (v : View) → length (views ++ v ∷ []) ≡ 
 length_more views v = length-append views (v ∷ [])
 
 -- a record was handed out
-pub handed_record : (h now : Heard) (c after : Standing) (views : List View) (v : View) → HasHandedOut h c views → IsView v → v.bytes ≡ told_from c.offset now
-    → HasRecords now.bytes (c.offset + length (told_from c.offset now)) (bytes_in views ++ told_from c.offset now ∷ []) → IsAlong now after → after.offset ≡ c.offset + length (told_from c.offset now) → after.answer ≡ None
-    → now.failures ≡ h.failures → h.calls + 2 + asks_of (held_of after) ≤ now.calls + asks_of (held_of c) → HasHandedOut now after (views ++ v ∷ [])
+pub handed_record : (h now : Heard) (c after : Standing) (views : List View) (v : View) → HasHandedOut h c views
+    → IsView v → v.bytes ≡ told_from c.offset now
+    → HasRecords now.bytes (c.offset + length (told_from c.offset now)) (bytes_in views ++ told_from c.offset now ∷ [])
+    → IsAlong now after → after.offset ≡ c.offset + length (told_from c.offset now) → after.answer ≡ None
+    → now.failures ≡ h.failures → h.calls + 2 + asks_of (held_of after) ≤ now.calls + asks_of (held_of c)
+    → HasHandedOut now after (views ++ v ∷ [])
 handed_record h now c after views v before is same has along offset goes fine asked =
     let more = views_more h.bytes now.bytes c.offset views v (told_from c.offset now) before.records is same has in
     record {
@@ -66,8 +78,10 @@ handed_record h now c after views v before is same has along offset goes fine as
     }
 
 -- memory was refused
-pub handed_none : (h now : Heard) (c after : Standing) (views : List View) (more : List ℕ) → HasHandedOut h c views → now.bytes ≡ h.bytes ++ more → IsAlong now after → after.offset ≡ c.offset → after.answer ≡ None
-    → now.failures ≡ h.failures → h.calls + asks_of (held_of after) ≤ now.calls + asks_of (held_of c) → HasHandedOut now after (views ++ [])
+pub handed_none : (h now : Heard) (c after : Standing) (views : List View) (more : List ℕ) → HasHandedOut h c views
+    → now.bytes ≡ h.bytes ++ more → IsAlong now after → after.offset ≡ c.offset → after.answer ≡ None
+    → now.failures ≡ h.failures → h.calls + asks_of (held_of after) ≤ now.calls + asks_of (held_of c)
+    → HasHandedOut now after (views ++ [])
 handed_none h now c after views more before told along offset goes fine asked =
     let within : c.offset ≤ length h.bytes = omega (arith, before.along.heard.told) in
     let stay = views_stay h.bytes now.bytes more c.offset views within told before.records in
@@ -84,20 +98,30 @@ few_views : (h : Heard) (c : Standing) (views : List View) → HasHandedOut h c 
 few_views h c views before = omega (arith, before.asked, before.along.heard.reads, before.along.heard.few_reads)
 
 -- the input ended
-pub all_views : {X : Type 0} (r : Result (Option X) StreamFault) (h now : Heard) (c : Standing) (views : List View) (more : List ℕ) → HasHandedOut h c views → now.bytes ≡ h.bytes ++ more → (r ≡ Ok None → IsCleanEnd c.offset now)
-    → IfErr r (λ e. IsCutFault e c.offset now) → now.failures ≡ h.failures + failed_by r → IfEnds r (AreAllViews now views (end_of r))
+pub all_views : {X : Type 0} (r : Result (Option X) StreamFault) (h now : Heard) (c : Standing) (views : List View)
+    (more : List ℕ) → HasHandedOut h c views → now.bytes ≡ h.bytes ++ more → (r ≡ Ok None → IsCleanEnd c.offset now)
+    → IfErr r (λ e. IsCutFault e c.offset now) → now.failures ≡ h.failures + failed_by r
+    → IfEnds r (AreAllViews now views (end_of r))
 all_views r h now c views more before told end fault failed =
     let within : c.offset ≤ length h.bytes = omega (arith, before.along.heard.told) in
     let stay = views_stay h.bytes now.bytes more c.offset views within told before.records in
     let few = few_views h c views before in
     go r end fault failed stay few
   where
-    fault_all : (f : StreamFault) → f ≢ Memory → IsCutFault f c.offset now → now.failures ≡ h.failures + failed_by {X = ℕ} (Err f) → AreViews now.bytes c.offset views → length views < 2 ^ 40 → AreAllViews now views (Some f)
-    fault_all f other is failures stay few = record { offset = c.offset; records = stay; ends = (is, other, failures ∙ ap (λ (n : ℕ). n + failed_by {X = ℕ} (Err f)) before.fine ∙ omega arith); few = few }
+    fault_all : (f : StreamFault) → f ≢ Memory → IsCutFault f c.offset now
+        → now.failures ≡ h.failures + failed_by {X = ℕ} (Err f) → AreViews now.bytes c.offset views
+        → length views < 2 ^ 40 → AreAllViews now views (Some f)
+    fault_all f other is failures stay few =
+        record { offset = c.offset; records = stay;
+        ends = (is, other, failures ∙ ap (λ (n : ℕ). n + failed_by {X = ℕ} (Err f)) before.fine ∙ omega arith); few =
+        few }
 
-    go : {X : Type 0} (q : Result (Option X) StreamFault) → (q ≡ Ok None → IsCleanEnd c.offset now) → IfErr q (λ e. IsCutFault e c.offset now) → now.failures ≡ h.failures + failed_by q → AreViews now.bytes c.offset views → length views < 2 ^ 40 → IfEnds q (AreAllViews now views (end_of q))
+    go : {X : Type 0} (q : Result (Option X) StreamFault) → (q ≡ Ok None → IsCleanEnd c.offset now)
+        → IfErr q (λ e. IsCutFault e c.offset now) → now.failures ≡ h.failures + failed_by q
+        → AreViews now.bytes c.offset views → length views < 2 ^ 40 → IfEnds q (AreAllViews now views (end_of q))
     go (Ok (Some x)) e f n s w = tt
-    go (Ok None) e f n s w = record { offset = c.offset; records = s; ends = (e refl, n ∙ (ap (λ (k : ℕ). k + 0) before.fine)); few = w }
+    go (Ok None) e f n s w =
+        record { offset = c.offset; records = s; ends = (e refl, n ∙ (ap (λ (k : ℕ). k + 0) before.fine)); few = w }
     go (Err Memory) e f n s w = tt
     go (Err (Frame m fault)) e f n s w = fault_all (Frame m fault) (λ same. cc) f n s w
     go (Err (Truncated m have)) e f n s w = fault_all (Truncated m have) (λ same. cc) f n s w
@@ -105,7 +129,8 @@ all_views r h now c views more before told end fault failed =
     go (Err (Turns m)) e f n s w = fault_all (Turns m) (λ same. cc) f n s w
 
 -- all but a want of memory end the input
-pub all_at_fault : (X : Type 0) (fault : StreamFault) (h : Heard) (views : List View) → fault ≢ Memory → IfEnds {X = X} (Err fault) (AreAllViews h views (Some fault)) → AreAllViews h views (Some fault)
+pub all_at_fault : (X : Type 0) (fault : StreamFault) (h : Heard) (views : List View) → fault ≢ Memory
+    → IfEnds {X = X} (Err fault) (AreAllViews h views (Some fault)) → AreAllViews h views (Some fault)
 all_at_fault X (Frame n f) h views other all = all
 all_at_fault X (Truncated n have) h views other all = all
 all_at_fault X (Read n) h views other all = all

@@ -4,7 +4,10 @@ use Rattle.mseed_stream.specs.Device.{Said}
 use Rattle.mseed_stream.specs.Telling.{Tells}
 
 -- the whole line, or a front of it where the device failed
-pub told : {U : Type 0} (r : Result U ℕ) (line : List ℕ) (old new : Said) → OnOk r (new.bytes ≡ old.bytes ++ line) → OnOk r (new.failures ≡ old.failures)
-    → IfErr r (λ n. new.bytes ≡ old.bytes ++ take n line) → IfErr r (λ n. n < length line) → OnErr r (new.failures ≡ old.failures + 1) → Tells line old new
+pub told : {U : Type 0} (r : Result U ℕ) (line : List ℕ) (old new : Said) → OnOk r (new.bytes ≡ old.bytes ++ line)
+    → OnOk r (new.failures ≡ old.failures)
+    → IfErr r (λ n. new.bytes ≡ old.bytes ++ take n line) → IfErr r (λ n. n < length line)
+    → OnErr r (new.failures ≡ old.failures + 1) → Tells line old new
 told (Ok u) line old new all fine front part failed = record { either = inl (record { text = all; fine = fine }) }
-told (Err n) line old new all fine front part failed = record { either = inr (record { front = (n, (part, front)); failed = failed }) }
+told (Err n) line old new all fine front part failed =
+    record { either = inr (record { front = (n, (part, front)); failed = failed }) }

@@ -31,7 +31,8 @@ pub data IsEndOf (rest : List ℕ) : End → Type 0 where
 
 -- the records and the rest are the only ones
 abbrev pub HasOneArchive : List ℕ → Type 0
-HasOneArchive bytes = (records others : List (List ℕ)) (rest left : List ℕ) → IsArchive bytes records rest → IsArchive bytes others left
+HasOneArchive bytes = (records others : List (List ℕ)) (rest left : List ℕ) → IsArchive bytes records rest
+    → IsArchive bytes others left
     → (records ≡ others) × (rest ≡ left)
 
 -- an archive's end is the only one

@@ -1,5 +1,6 @@
 -- How a cutter stands to what its source told, and what its answers mean.
-use Rattle.std.specs.Prelude.{⊤, ◌≡◌, ◌≢◌, Bool, true, false, ℕ, ◌+◌, ◌*◌, ◌^◌, ◌<◌, ◌≤◌, List, [], ◌∷◌, ◌++◌, length, take, drop, if◌then◌else◌, Option, Some, None, IfSome, Result, Ok, Err}
+use Rattle.std.specs.Prelude.{⊤, ◌≡◌, ◌≢◌, Bool, true, false, ℕ, ◌+◌, ◌*◌, ◌^◌, ◌<◌, ◌≤◌, List, [], ◌∷◌, ◌++◌, length,
+    take, drop, if◌then◌else◌, Option, Some, None, IfSome, Result, Ok, Err}
 use Rattle.std.specs.Io.KnownBytes.{Consumes}
 use Rattle.mseed_record.specs.declared.frame.Scan.TheVariants.{Need}
 use Rattle.mseed_record.specs.Record.{IsRecord}
@@ -38,10 +39,13 @@ IsReadTo bytes true = FallsShort bytes
 -- What a fault means, of the offset where the next record begins and of what was heard. Bytes are refused once all
 -- that was asked for is there, or at the input's end; where a read failed or the turns ran out, more was asked for.
 abbrev pub IsCutFault : StreamFault → ℕ → Heard → Type 0
-IsCutFault (Frame n f) offset h = (n ≡ offset) × IsEndOf (told_from offset h) (frame f) × IsReadTo (told_from offset h) h.is_at_end
-IsCutFault (Truncated n have) offset h = (n ≡ offset) × IsEndOf (told_from offset h) (truncated have) × (h.is_at_end ≡ true)
+IsCutFault (Frame n f) offset h = (n ≡ offset) × IsEndOf (told_from offset h) (frame f)
+    × IsReadTo (told_from offset h) h.is_at_end
+IsCutFault (Truncated n have) offset h = (n ≡ offset) × IsEndOf (told_from offset h) (truncated have)
+    × (h.is_at_end ≡ true)
 IsCutFault (Read n) offset h = (n ≡ offset) × (0 < h.failures) × (h.is_at_end ≡ false) × FallsShort (told_from offset h)
-IsCutFault (Turns n) offset h = (n ≡ offset) × (h.calls ≡ 2 ^ 40) × (h.is_at_end ≡ false) × FallsShort (told_from offset h)
+IsCutFault (Turns n) offset h = (n ≡ offset) × (h.calls ≡ 2 ^ 40) × (h.is_at_end ≡ false)
+    × FallsShort (told_from offset h)
 IsCutFault Memory offset h = ⊤
 
 -- the input ended where a record ended
@@ -70,7 +74,8 @@ pub record IsAlong (h : Heard) (c : Standing) : Type 0 where
   pub going_on : c.answer ≡ None → h.is_at_end ≡ false
   pub ended : IfSome c.answer (λ e. IsEnding e c.offset h)
 
--- A record of so many bytes begins what the source holds, and the cutter, which goes on and holds nothing, can go behind
+-- A record of so many bytes begins what the source holds, and the cutter, which goes on and holds nothing, can go
+-- behind
 -- it.
 pub record IsAhead (size : ℕ) (c : Standing) (lent : List ℕ) : Type 0 where
   pub whole : size ≤ length lent

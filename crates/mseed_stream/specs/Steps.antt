@@ -1,5 +1,6 @@
 -- What the single steps of a cutter do: the reads for one stop, those for one record, and the answer by what was found.
-use Rattle.std.specs.Prelude.{◌≡◌, Bool, true, false, ℕ, ◌+◌, ◌^◌, ◌<◌, ◌≤◌, List, [], length, Option, Some, None, Result, Ok, Err, OnOk, IfErr}
+use Rattle.std.specs.Prelude.{◌≡◌, Bool, true, false, ℕ, ◌+◌, ◌^◌, ◌<◌, ◌≤◌, List, [], length, Option, Some, None,
+    Result, Ok, Err, OnOk, IfErr}
 use Rattle.mseed_record.specs.declared.frame.Scan.TheVariants.{Need}
 use Rattle.mseed_record.specs.Record.{IsRecord}
 use Rattle.mseed_record.specs.Scan.{Decides}
@@ -15,17 +16,24 @@ use Rattle.mseed_stream.specs.declared.fault.StreamFault.TheVariants.{Frame, Tru
 abbrev pub IsFillFault : StreamFault → ℕ → ℕ → ℕ → Heard → Heard → Type 0
 IsFillFault (Frame n f) offset room needed old new = ⊥
 IsFillFault (Truncated n have) offset room needed old new = ⊥
-IsFillFault (Read n) offset room needed old new = (n ≡ offset) × (new.failures ≡ old.failures + 1) × (new.is_at_end ≡ false)
-IsFillFault (Turns n) offset room needed old new = (n ≡ offset) × (new.failures ≡ old.failures) × (new.calls ≡ 2 ^ 40) × (new.is_at_end ≡ false)
+IsFillFault (Read n) offset room needed old new = (n ≡ offset) × (new.failures ≡ old.failures + 1)
+    × (new.is_at_end ≡ false)
+IsFillFault (Turns n) offset room needed old new = (n ≡ offset) × (new.failures ≡ old.failures) × (new.calls ≡ 2 ^ 40)
+    × (new.is_at_end ≡ false)
 IsFillFault Memory offset room needed old new = (room < needed) × (new ≡ old)
 
 -- what a fault means of the reads for one record
 abbrev pub IsCuttingFault : StreamFault → Standing → Standing → Heard → Heard → Type 0
-IsCuttingFault (Frame n f) c after old new = (n ≡ c.offset) × (new.failures ≡ old.failures) × IsEndOf after.front (frame f) × IsReadTo after.front new.is_at_end
-IsCuttingFault (Truncated n have) c after old new = (n ≡ c.offset) × (new.failures ≡ old.failures) × IsEndOf after.front (truncated have) × (new.is_at_end ≡ true)
-IsCuttingFault (Read n) c after old new = (n ≡ c.offset) × (new.failures ≡ old.failures + 1) × (new.is_at_end ≡ false) × FallsShort after.front
-IsCuttingFault (Turns n) c after old new = (n ≡ c.offset) × (new.failures ≡ old.failures) × (new.calls ≡ 2 ^ 40) × (new.is_at_end ≡ false) × FallsShort after.front
-IsCuttingFault Memory c after old new = (new.failures ≡ old.failures) × (new.is_at_end ≡ false) × ((n : ℕ) × (c.room < n) × Decides after.front (Need n))
+IsCuttingFault (Frame n f) c after old new = (n ≡ c.offset) × (new.failures ≡ old.failures)
+    × IsEndOf after.front (frame f) × IsReadTo after.front new.is_at_end
+IsCuttingFault (Truncated n have) c after old new = (n ≡ c.offset) × (new.failures ≡ old.failures)
+    × IsEndOf after.front (truncated have) × (new.is_at_end ≡ true)
+IsCuttingFault (Read n) c after old new = (n ≡ c.offset) × (new.failures ≡ old.failures + 1) × (new.is_at_end ≡ false)
+    × FallsShort after.front
+IsCuttingFault (Turns n) c after old new = (n ≡ c.offset) × (new.failures ≡ old.failures) × (new.calls ≡ 2 ^ 40)
+    × (new.is_at_end ≡ false) × FallsShort after.front
+IsCuttingFault Memory c after old new = (new.failures ≡ old.failures) × (new.is_at_end ≡ false)
+    × ((n : ℕ) × (c.room < n) × Decides after.front (Need n))
 
 -- the reads for a record may begin: the framing steps are to be taken next, of what is held
 pub record MayCut (h : Heard) (c : Standing) : Type 0 where

@@ -20,12 +20,16 @@ returns-then-is_ok-clause-cut g c =
     let calls = ap (λ (h : Heard). h.calls) taken.told in
     let going_on = ap (λ (h : Heard). h.is_at_end) taken.told ∙ may.going_on in
     record {
-      heard = heard_whole (g.R.Source.heard c.args.source.now) (g.R.Source.heard c.take_whole.new.source) c.args.self.now before c.take_whole.new.self before.room bytes may.heard may.not_lent
-          c.in-Some.ensures.none c.make_room.ensures.stays c.make_room.ensures.small taken.stays (ap (λ (h : Heard). h.bytes) taken.told) calls c.in-Some.ensures.turns (omega arith);
+      heard = heard_whole (g.R.Source.heard c.args.source.now) (g.R.Source.heard c.take_whole.new.source)
+          c.args.self.now before c.take_whole.new.self before.room bytes may.heard may.not_lent
+          c.in-Some.ensures.none c.make_room.ensures.stays c.make_room.ensures.small taken.stays
+              (ap (λ (h : Heard). h.bytes) taken.told) calls c.in-Some.ensures.turns (omega arith);
       stays = search rules;
       room = search rules;
-      stop = read_to_record c.take_whole.new.self.front bytes (g.R.Source.heard c.take_whole.new.source).is_at_end (ap (λ (s : Standing). s.front) taken.stays) c.in-Some.ensures.whole.1 going_on;
-      found = λ same. (subst IsRecord (sym (ap (λ (s : Standing). s.front) taken.stays)) c.in-Some.ensures.whole.1, going_on);
+      stop = read_to_record c.take_whole.new.self.front bytes (g.R.Source.heard c.take_whole.new.source).is_at_end
+          (ap (λ (s : Standing). s.front) taken.stays) c.in-Some.ensures.whole.1 going_on;
+      found = λ same. (subst IsRecord (sym (ap (λ (s : Standing). s.front) taken.stays)) c.in-Some.ensures.whole.1,
+          going_on);
       asked = λ same. omega (arith, calls);
       quiet = (λ none. absurd (omega (arith, calls)), omega (arith, calls));
       ended = λ other. cc;

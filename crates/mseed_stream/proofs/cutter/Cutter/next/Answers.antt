@@ -1,4 +1,5 @@
-use Rattle.std.proofs.Common.{◌≡◌, ◌+◌, ◌≤◌, ◌++◌, List, [], ◌∷◌, ℕ, subst, length, take, refl, sym, ap, ◌∙◌, arith, Option, Some, None, Ok, IfSome}
+use Rattle.std.proofs.Common.{◌≡◌, ◌+◌, ◌≤◌, ◌++◌, List, [], ◌∷◌, ℕ, subst, length, take, refl, sym, ap, ◌∙◌, arith,
+    Option, Some, None, Ok, IfSome}
 use Rattle.std.proofs.lemmas.List.{length-take-le}
 use Rattle.mseed_record.specs.View.{View}
 use Rattle.mseed_record.specs.Viewing.{view_of}
@@ -14,13 +15,15 @@ use Rattle.mseed_stream.proofs.Walks.{handed_record}
 use Rattle.mseed_stream.proofs.cutter.Cutter.next.Goals as goal
 
 -- as many bytes as the front has are the front
-taken : (items front : List ℕ) (have n : ℕ) → take have items ≡ front → n ≡ length front → have ≤ length items → take n items ≡ front
+taken : (items front : List ℕ) (have n : ℕ) → take have items ≡ front → n ≡ length front → have ≤ length items
+    → take n items ≡ front
 taken items front have n is size within =
     let same : n ≡ have = size ∙ (ap (λ (xs : List ℕ). length xs) (sym is) ∙ length-take-le have items within) in
     ap (λ (k : ℕ). take k items) same ∙ is
 
 -- a cutter that has ended hands out no record
-no_record : (o : Option Ending) (n : ℕ) (r : RecordView) (Same : Type 0) → IfSome o (λ e. (Ok (Some n) ≡ answer_of e) × Same) → IfSome o (λ e. (Ok (Some r) ≡ answer_of e) × Same)
+no_record : (o : Option Ending) (n : ℕ) (r : RecordView) (Same : Type 0)
+    → IfSome o (λ e. (Ok (Some n) ≡ answer_of e) × Same) → IfSome o (λ e. (Ok (Some r) ≡ answer_of e) × Same)
 no_record None n r Same h = h
 no_record (Some Clean) n r Same h = absurd (cc h.0)
 no_record (Some (Fault f)) n r Same h = absurd (cc h.0)
@@ -38,9 +41,16 @@ returns-in-Some g c =
     let front : take c.self.inside.have items ≡ after.front = ap (λ (s : Standing). s.front) c.self.view_is in
     let size : length items ≡ length c.deref.result.now = ap (λ (xs : List ℕ). length xs) (sym c.deref.ensures.value) in
     let within : c.self.inside.have ≤ length items = omega (arith, size, c.deref.ensures.len, c.self.invariant.0) in
-    let bytes : view.bytes ≡ told = c.of_record.ensures.bytes ∙ (ap (λ (xs : List ℕ). take c.in-Some.length xs) c.deref.ensures.value ∙ (taken items after.front c.self.inside.have c.in-Some.length front it.record.0 within ∙ it.record.2)) in
-    let moved : after.offset ≡ before.offset + length told = it.offset ∙ ap (λ (xs : List ℕ). before.offset + length xs) it.record.2 in
-    let handed = λ (views : List View) (h : HasHandedOut old before views). subst (λ (x : Standing). HasHandedOut new x (views ++ view ∷ [])) (sym c.self.view_is) (handed_record old new before after views view h c.of_record.ensures.view bytes (it.records (bytes_in views) h.records.records) it.along moved it.kept (omega (arith, it.failed h.goes_on)) it.asked) in (
+    let bytes : view.bytes ≡ told = c.of_record.ensures.bytes
+        ∙ (ap (λ (xs : List ℕ). take c.in-Some.length xs) c.deref.ensures.value
+        ∙ (taken items after.front c.self.inside.have c.in-Some.length front it.record.0 within ∙ it.record.2)) in
+    let moved : after.offset ≡ before.offset + length told =
+        it.offset ∙ ap (λ (xs : List ℕ). before.offset + length xs) it.record.2 in
+    let handed = λ (views : List View) (h : HasHandedOut old before views). subst
+        (λ (x : Standing). HasHandedOut new x (views ++ view ∷ [])) (sym c.self.view_is)
+        (handed_record old new before after views view h c.of_record.ensures.view bytes
+        (it.records (bytes_in views) h.records.records) it.along moved it.kept (omega (arith, it.failed h.goes_on))
+        it.asked) in (
       (
         refl,
         λ _. tt,
