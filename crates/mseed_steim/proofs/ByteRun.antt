@@ -1,5 +1,7 @@
 -- Words of code 01: their differences are their bytes.
-use Rattle.std.proofs.Common.{◌≡◌, ◌≢◌, ℕ, zero, suc, ◌+◌, ◌-◌, ◌*◌, ◌/◌, ◌%◌, ◌^◌, ◌<◌, ◌≤◌, List, [], ◌∷◌, ◌++◌, length, map, take, drop, get_or, length-drop, ℤ, refl, sym, ap, ◌∙◌, append_assoc, arith, eqb, cond, true, false, Bool, Some, Ok, Result, ⊎_elim}
+use Rattle.std.proofs.Common.{◌≡◌, ◌≢◌, ℕ, zero, suc, ◌+◌, ◌-◌, ◌*◌, ◌/◌, ◌%◌, ◌^◌, ◌<◌, ◌≤◌, List, [], ◌∷◌, ◌++◌,
+    length, map, take, drop, get_or, length-drop, ℤ, refl, sym, ap, ◌∙◌, append_assoc, arith, eqb, cond, true, false,
+    Bool, Some, Ok, Result, ⊎_elim}
 use Rattle.std.proofs.lemmas.Int.{ints}
 use Rattle.std.proofs.lemmas.Bool.{ne_eqb, eq-eqb, cases_lt, lt-ltb, le-ltb}
 use Rattle.std.proofs.lemmas.List.{map-append, drop-drop, get_or-drop, length-take-le}
@@ -28,7 +30,8 @@ byte_signed x h = ⊎_elim
     (cases_lt x 128)
 
 -- the digits of four bytes
-byte_digits : (xs : List ℕ) → 4 ≤ length xs → ((i : ℕ) → get_or xs i 0 < 256) → widened (take 4 xs) ≡ digits 8 (big_number 4 xs) 4
+byte_digits : (xs : List ℕ) → 4 ≤ length xs → ((i : ℕ) → get_or xs i 0 < 256)
+    → widened (take 4 xs) ≡ digits 8 (big_number 4 xs) 4
 unfolding digits
 byte_digits [] h small = absurd (omega arith)
 byte_digits (a ∷ []) h small = absurd (omega arith)
@@ -47,10 +50,13 @@ byte_digits (a ∷ b ∷ c ∷ d ∷ xs) h small =
     rw (first, second, third, fourth, byte_signed a la, byte_signed b lb, byte_signed c lc, byte_signed d ld) refl
 
 -- a word of code 01
-pub word_bytes : (s : Scheme) (p : List ℕ) → ((i : ℕ) → get_or p i 0 < 256) → (k : ℕ) → code_at p k ≡ 1 → 4 * (k + 1) ≤ length p → differences_of s (code_at p k) (word_at p k) ≡ Some (widened (take 4 (drop (4 * k) p)))
+pub word_bytes : (s : Scheme) (p : List ℕ) → ((i : ℕ) → get_or p i 0 < 256) → (k : ℕ) → code_at p k ≡ 1
+    → 4 * (k + 1) ≤ length p → differences_of s (code_at p k) (word_at p k) ≡ Some (widened (take 4 (drop (4 * k) p)))
 word_bytes s p octets k e h =
     let long : 4 ≤ length (drop (4 * k) p) = rw length-drop (omega (arith, h)) in
-    let found = by_row s 1 (word_at p k) false 1 4 8 (widened (take 4 (drop (4 * k) p))) (omega arith) (bytes_row s (word_at p k / 2 ^ 30)) (byte_digits (drop (4 * k) p) long (λ i. rw (get_or-drop (4 * k) p i 0) (octets (4 * k + i)))) in
+    let found = by_row s 1 (word_at p k) false 1 4 8 (widened (take 4 (drop (4 * k) p))) (omega arith)
+        (bytes_row s (word_at p k / 2 ^ 30))
+        (byte_digits (drop (4 * k) p) long (λ i. rw (get_or-drop (4 * k) p i 0) (octets (4 * k + i)))) in
     rw e found
 
 -- the words of a run: each is of code 01, in one frame, and not the frame's first
@@ -62,13 +68,15 @@ next_bytes p frame k m h i less =
     let same : k + suc i ≡ k + 1 + i = omega arith in
     rw same at (h (suc i) (omega (arith, less)))
 
-first_bytes : (p : List ℕ) (frame k m : ℕ) → AreBytes p frame k (suc m) → ((k / 16 ≡ frame) × (k % 16 ≢ 0) × (code_at p k ≡ 1))
+first_bytes : (p : List ℕ) (frame k m : ℕ) → AreBytes p frame k (suc m)
+    → ((k / 16 ≡ frame) × (k % 16 ≢ 0) × (code_at p k ≡ 1))
 first_bytes p frame k m h =
     let same : k + 0 ≡ k = omega arith in
     rw same at (h 0 (omega arith))
 
 -- the run of these words, and whatever is behind them
-pub run_words : (p : List ℕ) (frame m k n : ℕ) → AreBytes p frame k m → run_in frame (words_from p (k + m) n) ≡ [] → run_in frame (words_from p k (m + n)) ≡ words_from p k m
+pub run_words : (p : List ℕ) (frame m k n : ℕ) → AreBytes p frame k m → run_in frame (words_from p (k + m) n) ≡ []
+    → run_in frame (words_from p k (m + n)) ≡ words_from p k m
 run_words p frame zero k n h stop =
     let none : k + 0 ≡ k = omega arith in
     let all : 0 + n ≡ n = omega arith in
@@ -78,7 +86,8 @@ run_words p frame (suc m) k n h stop =
     let more : suc m + n ≡ suc (m + n) = omega arith in
     let next : k + suc m ≡ k + 1 + m = omega arith in
     let later = run_words p frame m (k + 1) n (next_bytes p frame k m h) (rw next at stop) in
-    rw (more, words_step p k (m + n) one.1, words_step p k m one.1, eq-eqb (k / 16) frame one.0, eq-eqb (code_at p k) 1 one.2) (ap (λ (ws : List DataWord). data_word p k ∷ ws) later)
+    rw (more, words_step p k (m + n) one.1, words_step p k m one.1, eq-eqb (k / 16) frame one.0,
+        eq-eqb (code_at p k) 1 one.2) (ap (λ (ws : List DataWord). data_word p k ∷ ws) later)
 
 neither : {X : Type 0} (b : Bool) (x y : X) → cond (cond b false false) x y ≡ y
 neither true x y = refl
@@ -92,34 +101,46 @@ other_frame p frame k (suc n) e h =
     rw (words_step p (k + 1) n data_place, ne_eqb ((k + 1) / 16) frame differs) refl
 
 -- where a run stops: at another code, or at the frame's end
-pub run_stops : (p : List ℕ) (frame k n : ℕ) → (k % 16 ≢ 0 → code_at p k ≢ 1) → (k % 16 ≡ 0 → frame < k / 16) → run_in frame (words_from p k n) ≡ []
+pub run_stops : (p : List ℕ) (frame k n : ℕ) → (k % 16 ≢ 0 → code_at p k ≢ 1) → (k % 16 ≡ 0 → frame < k / 16)
+    → run_in frame (words_from p k n) ≡ []
 run_stops p frame k zero other past = rw (words_none p k) refl
 run_stops p frame k (suc n) other past = ⊎_elim
     (λ (head : k % 16 ≡ 0). rw (words_skip p k n head) (other_frame p frame k n head (past head)))
-    (λ (data_place : k % 16 ≢ 0). rw (words_step p k n data_place, ne_eqb (code_at p k) 1 (other data_place)) (neither (eqb (k / 16) frame) _ _))
+    (λ (data_place : k % 16 ≢ 0). rw (words_step p k n data_place, ne_eqb (code_at p k) 1 (other data_place))
+        (neither (eqb (k / 16) frame) _ _))
     (is_head k)
 
 -- the bytes of a word, and those of the words behind it
-bytes_cut : (p : List ℕ) (k m : ℕ) → take (4 * suc m) (drop (4 * k) p) ≡ take 4 (drop (4 * k) p) ++ take (4 * m) (drop (4 * (k + 1)) p)
+bytes_cut : (p : List ℕ) (k m : ℕ) → take (4 * suc m) (drop (4 * k) p) ≡ take 4 (drop (4 * k) p) ++ take (4 * m)
+    (drop (4 * (k + 1)) p)
 bytes_cut p k m =
     let more : 4 * suc m ≡ 4 + 4 * m = omega arith in
     let next : 4 * k + 4 ≡ 4 * (k + 1) = omega arith in
-    let behind : drop 4 (drop (4 * k) p) ≡ drop (4 * (k + 1)) p = drop-drop 4 (4 * k) p ∙ ap (λ (i : ℕ). drop i p) next in
-    ap (λ (i : ℕ). take i (drop (4 * k) p)) more ∙ take-add 4 (4 * m) (drop (4 * k) p) ∙ ap (λ (xs : List ℕ). take 4 (drop (4 * k) p) ++ take (4 * m) xs) behind
+    let behind : drop 4 (drop (4 * k) p) ≡ drop (4 * (k + 1)) p = drop-drop 4 (4 * k) p
+        ∙ ap (λ (i : ℕ). drop i p) next in
+    ap (λ (i : ℕ). take i (drop (4 * k) p)) more ∙ take-add 4 (4 * m) (drop (4 * k) p)
+        ∙ ap (λ (xs : List ℕ). take 4 (drop (4 * k) p) ++ take (4 * m) xs) behind
 
-widened_cut : (p : List ℕ) (k m : ℕ) → widened (take (4 * suc m) (drop (4 * k) p)) ≡ widened (take 4 (drop (4 * k) p)) ++ widened (take (4 * m) (drop (4 * (k + 1)) p))
-widened_cut p k m = ap widened (bytes_cut p k m) ∙ map-append (λ byte. twos_complement 1 byte) (take 4 (drop (4 * k) p)) (take (4 * m) (drop (4 * (k + 1)) p))
+widened_cut : (p : List ℕ) (k m : ℕ) → widened (take (4 * suc m) (drop (4 * k) p)) ≡ widened (take 4 (drop (4 * k) p))
+    ++ widened (take (4 * m) (drop (4 * (k + 1)) p))
+widened_cut p k m = ap widened (bytes_cut p k m)
+    ∙ map-append (λ byte. twos_complement 1 byte) (take 4 (drop (4 * k) p)) (take (4 * m) (drop (4 * (k + 1)) p))
 
 -- what the run spells
-pub run_spelled : (s : Scheme) (p : List ℕ) → ((i : ℕ) → get_or p i 0 < 256) → (frame m k : ℕ) → AreBytes p frame k m → 4 * (k + m) ≤ length p → SpellsRun s (words_from p k m) (widened (take (4 * m) (drop (4 * k) p)))
+pub run_spelled : (s : Scheme) (p : List ℕ) → ((i : ℕ) → get_or p i 0 < 256) → (frame m k : ℕ) → AreBytes p frame k m
+    → 4 * (k + m) ≤ length p → SpellsRun s (words_from p k m) (widened (take (4 * m) (drop (4 * k) p)))
 run_spelled s p octets frame zero k h inside = rw (words_none p k) refl
 run_spelled s p octets frame (suc m) k h inside =
     let one = first_bytes p frame k m h in
-    let word = differences_spelled s (code_at p k) (word_at p k) (widened (take 4 (drop (4 * k) p))) (word_small p k octets) (word_bytes s p octets k one.2 (omega (arith, inside))) in
+    let word = differences_spelled s (code_at p k) (word_at p k) (widened (take 4 (drop (4 * k) p)))
+        (word_small p k octets) (word_bytes s p octets k one.2 (omega (arith, inside))) in
     let later = run_spelled s p octets frame m (k + 1) (next_bytes p frame k m h) (omega (arith, inside)) in
-    rw (words_step p k m one.1) (widened (take 4 (drop (4 * k) p)), (widened (take (4 * m) (drop (4 * (k + 1)) p)), (widened_cut p k m, (word, later))))
+    rw (words_step p k m one.1) (widened (take 4 (drop (4 * k) p)),
+        (widened (take (4 * m) (drop (4 * (k + 1)) p)), (widened_cut p k m, (word, later))))
 
-pub run_items : (s : Scheme) (p : List ℕ) → ((i : ℕ) → get_or p i 0 < 256) → (frame m k n : ℕ) → AreBytes p frame k m → 4 * (k + m) ≤ length p → items_of s (words_from p k (m + n)) ≡ map Ok (widened (take (4 * m) (drop (4 * k) p))) ++ items_of s (words_from p (k + m) n)
+pub run_items : (s : Scheme) (p : List ℕ) → ((i : ℕ) → get_or p i 0 < 256) → (frame m k n : ℕ) → AreBytes p frame k m
+    → 4 * (k + m) ≤ length p → items_of s (words_from p k (m + n)) ≡ map Ok (widened (take (4 * m) (drop (4 * k) p)))
+    ++ items_of s (words_from p (k + m) n)
 run_items s p octets frame zero k n h inside =
     let none : k + 0 ≡ k = omega arith in
     let all : 0 + n ≡ n = omega arith in
@@ -131,10 +152,15 @@ run_items s p octets frame (suc m) k n h inside =
     let first : List ℤ = widened (take 4 (drop (4 * k) p)) in
     let others : List ℤ = widened (take (4 * m) (drop (4 * (k + 1)) p)) in
     let behind : List (Result ℤ BadWordAt) = items_of s (words_from p (k + suc m) n) in
-    let step = items_group s (words_from p k (suc (m + n))) (words_from p (k + 1) (m + n)) (data_word p k) first (words_step p k (m + n) one.1) (word_bytes s p octets k one.2 (omega (arith, inside))) in
-    let later : items_of s (words_from p (k + 1) (m + n)) ≡ map Ok others ++ behind = rw next at (run_items s p octets frame m (k + 1) n (next_bytes p frame k m h) (omega (arith, inside))) in
-    let joined : map Ok (widened (take (4 * suc m) (drop (4 * k) p))) ≡ map Ok first ++ map Ok others = ap (λ (zs : List ℤ). map {B = Result ℤ BadWordAt} Ok zs) (widened_cut p k m) ∙ map-append Ok first others in
-    rw more (step ∙ ap (λ (zs : List (Result ℤ BadWordAt)). map Ok first ++ zs) later ∙ sym (append_assoc (map Ok first) (map Ok others) behind) ∙ ap (λ (zs : List (Result ℤ BadWordAt)). zs ++ behind) (sym joined))
+    let step = items_group s (words_from p k (suc (m + n))) (words_from p (k + 1) (m + n)) (data_word p k) first
+        (words_step p k (m + n) one.1) (word_bytes s p octets k one.2 (omega (arith, inside))) in
+    let later : items_of s (words_from p (k + 1) (m + n)) ≡ map Ok others ++ behind =
+        rw next at (run_items s p octets frame m (k + 1) n (next_bytes p frame k m h) (omega (arith, inside))) in
+    let joined : map Ok (widened (take (4 * suc m) (drop (4 * k) p))) ≡ map Ok first ++ map Ok others =
+        ap (λ (zs : List ℤ). map {B = Result ℤ BadWordAt} Ok zs) (widened_cut p k m) ∙ map-append Ok first others in
+    rw more (step ∙ ap (λ (zs : List (Result ℤ BadWordAt)). map Ok first ++ zs) later
+        ∙ sym (append_assoc (map Ok first) (map Ok others) behind)
+        ∙ ap (λ (zs : List (Result ℤ BadWordAt)). zs ++ behind) (sym joined))
 
 -- how many words there are
 pub run_count : (p : List ℕ) (frame m k : ℕ) → AreBytes p frame k m → length (words_from p k m) ≡ m
@@ -152,12 +178,16 @@ run_one s (w ∷ ws) ds es h k =
     h.1.1.0 ∙ ap (λ (xs : List ℤ). xs ++ h.1.0) one ∙ ap (λ (xs : List ℤ). k.0 ++ xs) later ∙ sym k.1.1.0
 
 -- the next word, and those behind it
-pub front : (p : List ℕ) (k end : ℕ) → k < end → k % 16 ≢ 0 → words_from p k (end - k) ≡ data_word p k ∷ words_from p (k + 1) (end - (k + 1))
-front p k end h data_place = let more : end - k ≡ suc (end - (k + 1)) = omega arith in rw more (words_step p k (end - (k + 1)) data_place)
+pub front : (p : List ℕ) (k end : ℕ) → k < end → k % 16 ≢ 0
+    → words_from p k (end - k) ≡ data_word p k ∷ words_from p (k + 1) (end - (k + 1))
+front p k end h data_place = let more : end - k ≡ suc (end - (k + 1)) = omega arith in
+    rw more (words_step p k (end - (k + 1)) data_place)
 
 -- a frame's first word
-pub past_head : (p : List ℕ) (k end : ℕ) → k < end → k % 16 ≡ 0 → words_from p (k + 1) (end - (k + 1)) ≡ words_from p k (end - k)
-past_head p k end h head = let more : end - k ≡ suc (end - (k + 1)) = omega arith in rw more (sym (words_skip p k (end - (k + 1)) head))
+pub past_head : (p : List ℕ) (k end : ℕ) → k < end → k % 16 ≡ 0
+    → words_from p (k + 1) (end - (k + 1)) ≡ words_from p k (end - k)
+past_head p k end h head = let more : end - k ≡ suc (end - (k + 1)) = omega arith in
+    rw more (sym (words_skip p k (end - (k + 1)) head))
 
 pub past_none : (ws : List DataWord) → begins_empty ws ≡ false → past_empty ws ≡ ws
 past_none [] e = refl
@@ -170,7 +200,8 @@ IsAt p codes from end = from < end → (from % 16 ≢ 0) × (codes ≡ word_at p
 abbrev pub is_code : ℕ → ℕ → ℕ
 is_code codes k = codes / 2 ^ (30 - 2 * (k % 16)) % 4
 
-bytes_to : (p : List ℕ) (codes from to end : ℕ) → to ≤ (from / 16 + 1) * 16 → to ≤ end → IsAt p codes from end → ((k : ℕ) → from ≤ k → k < to → is_code codes k ≡ 1) → AreBytes p (from / 16) from (to - from)
+bytes_to : (p : List ℕ) (codes from to end : ℕ) → to ≤ (from / 16 + 1) * 16 → to ≤ end → IsAt p codes from end
+    → ((k : ℕ) → from ≤ k → k < to → is_code codes k ≡ 1) → AreBytes p (from / 16) from (to - from)
 bytes_to p codes from to end h inside known run i less =
     let at = known (omega arith) in
     let data_place = at.0 in
@@ -178,11 +209,14 @@ bytes_to p codes from to end h inside known run i less =
     let place : (from + i) % 16 ≢ 0 = λ e. data_place (omega arith) in
     (frame, place, rw (frame, ← at.1) (run (from + i) (omega arith) (omega arith)))
 
-run_from : (p : List ℕ) (from n : ℕ) → (0 < n → from % 16 ≢ 0) → byte_run (words_from p from n) ≡ run_in (from / 16) (words_from p from n)
+run_from : (p : List ℕ) (from n : ℕ) → (0 < n → from % 16 ≢ 0)
+    → byte_run (words_from p from n) ≡ run_in (from / 16) (words_from p from n)
 run_from p from zero h = rw (words_none p from) refl
 run_from p from (suc n) h = rw (words_step p from n (h (omega arith))) refl
 
-stops_at : (p : List ℕ) (codes from to end : ℕ) → from ≤ to → to ≤ (from / 16 + 1) * 16 → to ≤ end → IsAt p codes from end → (to < (from / 16 + 1) * 16 → to < end → is_code codes to ≢ 1) → run_in (from / 16) (words_from p to (end - to)) ≡ []
+stops_at : (p : List ℕ) (codes from to end : ℕ) → from ≤ to → to ≤ (from / 16 + 1) * 16 → to ≤ end
+    → IsAt p codes from end → (to < (from / 16 + 1) * 16 → to < end → is_code codes to ≢ 1)
+    → run_in (from / 16) (words_from p to (end - to)) ≡ []
 stops_at p codes from to end low high inside known stop = ⊎_elim
     (λ (less : to < end).
     let at = known (omega (arith, low)) in
@@ -198,12 +232,18 @@ stops_at p codes from to end low high inside known stop = ⊎_elim
 -- the words of a run that was taken, and what they spell
 pub record Taken (p : List ℕ) (from to end : ℕ) : Type 0 where
   pub cut : words_from p from (end - from) ≡ byte_run (words_from p from (end - from)) ++ words_from p to (end - to)
-  pub spelled : (s : Scheme) → SpellsRun s (byte_run (words_from p from (end - from))) (widened (take (4 * to - 4 * from) (drop (4 * from) p)))
-  pub items : (s : Scheme) → items_of s (words_from p from (end - from)) ≡ map Ok (widened (take (4 * to - 4 * from) (drop (4 * from) p))) ++ items_of s (words_from p to (end - to))
-  pub count : length (take (4 * to - 4 * from) (drop (4 * from) p)) ≡ 4 * length (byte_run (words_from p from (end - from)))
+  pub spelled : (s : Scheme)
+      → SpellsRun s (byte_run (words_from p from (end - from))) (widened (take (4 * to - 4 * from) (drop (4 * from) p)))
+  pub items : (s : Scheme)
+      → items_of s (words_from p from (end - from)) ≡ map Ok (widened (take (4 * to - 4 * from) (drop (4 * from) p)))
+      ++ items_of s (words_from p to (end - to))
+  pub count : length (take (4 * to - 4 * from) (drop (4 * from) p)) ≡ 4 * length
+      (byte_run (words_from p from (end - from)))
 
-pub taken : (p : List ℕ) (codes from to end : ℕ) → ((i : ℕ) → get_or p i 0 < 256) → 4 * end ≤ length p → from ≤ to → to ≤ (from / 16 + 1) * 16 → to ≤ end → IsAt p codes from end
-    → ((k : ℕ) → from ≤ k → k < to → is_code codes k ≡ 1) → (to < (from / 16 + 1) * 16 → to < end → is_code codes to ≢ 1) → Taken p from to end
+pub taken : (p : List ℕ) (codes from to end : ℕ) → ((i : ℕ) → get_or p i 0 < 256) → 4 * end ≤ length p → from ≤ to
+    → to ≤ (from / 16 + 1) * 16 → to ≤ end → IsAt p codes from end
+    → ((k : ℕ) → from ≤ k → k < to → is_code codes k ≡ 1)
+    → (to < (from / 16 + 1) * 16 → to < end → is_code codes to ≢ 1) → Taken p from to end
 taken p codes from to end octets room low high inside known run stop =
     let m : ℕ = to - from in
     let bytes = bytes_to p codes from to end high inside known run in
@@ -218,8 +258,13 @@ taken p codes from to end octets room low high inside known run stop =
     ∙ run_words p (from / 16) (to - from) from (end - to) bytes (rw behind stopped) in
     let long : 4 * (to - from) ≤ length (drop (4 * from) p) = rw length-drop (omega (arith, fits, low)) in
     record {
-      cut = rw is (ap (λ (n : ℕ). words_from p from n) whole ∙ words_cut p from (to - from) (end - to) ∙ ap (λ (k : ℕ). words_from p from (to - from) ++ words_from p k (end - to)) behind);
+      cut = rw is (ap (λ (n : ℕ). words_from p from n) whole ∙ words_cut p from (to - from) (end - to)
+          ∙ ap (λ (k : ℕ). words_from p from (to - from) ++ words_from p k (end - to)) behind);
       spelled = λ s. rw (is, size) (run_spelled s p octets (from / 16) (to - from) from bytes fits);
-      items = λ s. rw (size) (ap (λ (n : ℕ). items_of s (words_from p from n)) whole ∙ run_items s p octets (from / 16) (to - from) from (end - to) bytes fits ∙ ap (λ (k : ℕ). map Ok (widened (take (4 * (to - from)) (drop (4 * from) p))) ++ items_of s (words_from p k (end - to))) behind);
-      count = rw (is, size, run_count p (from / 16) (to - from) from bytes) (length-take-le (4 * (to - from)) (drop (4 * from) p) long);
+      items = λ s. rw (size) (ap (λ (n : ℕ). items_of s (words_from p from n)) whole
+          ∙ run_items s p octets (from / 16) (to - from) from (end - to) bytes fits
+          ∙ ap (λ (k : ℕ). map Ok (widened (take (4 * (to - from)) (drop (4 * from) p))) ++ items_of s
+          (words_from p k (end - to))) behind);
+      count = rw (is, size, run_count p (from / 16) (to - from) from bytes)
+          (length-take-le (4 * (to - from)) (drop (4 * from) p) long);
     }

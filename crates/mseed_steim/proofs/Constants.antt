@@ -1,5 +1,6 @@
 -- The ends of a record's reading, none of which is read.
-use Rattle.std.proofs.Common.{◌≡◌, ℕ, ◌-◌, ◌<◌, List, [], ◌∷◌, length, ap, sym, subst, ◌∙◌, arith, ℤ, slice_get, Some, Ok, Err, Result, IfOk, IfErr}
+use Rattle.std.proofs.Common.{◌≡◌, ℕ, ◌-◌, ◌<◌, List, [], ◌∷◌, length, ap, sym, subst, ◌∙◌, arith, ℤ, slice_get, Some,
+    Ok, Err, Result, IfOk, IfErr}
 use Rattle.mseed_record.specs.View.{View, payload_of}
 use Rattle.mseed_steim.specs.declared.scheme.Scheme.{Scheme}
 use Rattle.mseed_steim.specs.declared.form.Form.TheVariants.{Frames}
@@ -13,8 +14,10 @@ use Rattle.mseed_steim.proofs.Ended.{no_frame}
 use Rattle.mseed_steim.proofs.Laws.{denied, fault_denies, reading_one, same_payload}
 
 -- the answer of a check has the ends of any reading
-pub answer_ends : (v : View) (r : Result Ends ReadFault) → IsAnswer v r → IfOk r (λ ends. (s : List ℤ) → IsWhole v s → AreEnds ends s)
-answer_ends v (Ok ends) h = λ s whole. subst (λ (xs : List ℤ). AreEnds ends xs) (reading_one v h.0 s h.1.0 whole.0) h.1.2
+pub answer_ends : (v : View) (r : Result Ends ReadFault) → IsAnswer v r
+    → IfOk r (λ ends. (s : List ℤ) → IsWhole v s → AreEnds ends s)
+answer_ends v (Ok ends) h = λ s whole. subst (λ (xs : List ℤ). AreEnds ends xs) (reading_one v h.0 s h.1.0 whole.0)
+    h.1.2
 answer_ends v (Err f) h = tt
 
 pub answer_fault : (v : View) (r : Result Ends ReadFault) → IsAnswer v r → IfErr r (λ f. IsFault v f)
@@ -27,17 +30,24 @@ first_is first [] (x ∷ xs) some h = absurd h
 first_is first (d ∷ ds) (x ∷ xs) some h = ap (λ (z : ℤ). Some z) h.0
 
 -- those of Steim frames are their constants
-pub constants_end : (v : View) (scheme : Scheme) (p : List ℕ) (ends : Ends) → HoldsIn v (Frames scheme) p → ends.first ≡ first_constant p → ends.last ≡ last_constant p → (s : List ℤ) → IsWhole v s → AreEnds ends s
+pub constants_end : (v : View) (scheme : Scheme) (p : List ℕ) (ends : Ends) → HoldsIn v (Frames scheme) p
+    → ends.first ≡ first_constant p → ends.last ≡ last_constant p → (s : List ℤ) → IsWhole v s → AreEnds ends s
 constants_end v scheme p ends held first last s whole =
     let read = same_payload v (Frames scheme) s held.1 whole.0 in
     let end : slice_get s (length s - 1) ≡ Some (last_constant (payload_of v)) = whole.1 (Frames scheme) held.1 in
     let same : p ≡ payload_of v = held.4 in
-    let begin : slice_get s 0 ≡ Some (first_constant (payload_of v)) = first_is (first_constant (payload_of v)) read.1.differences s (omega (arith, read.1.count, whole.0.some)) read.1.sums in
-    (begin ∙ ap (λ (q : List ℕ). Some (first_constant q)) (sym same) ∙ ap (λ (z : ℤ). Some z) (sym first), end ∙ ap (λ (q : List ℕ). Some (last_constant q)) (sym same) ∙ ap (λ (z : ℤ). Some z) (sym last))
+    let begin : slice_get s 0 ≡ Some (first_constant (payload_of v)) =
+        first_is (first_constant (payload_of v)) read.1.differences s (omega (arith, read.1.count, whole.0.some))
+        read.1.sums in
+    (begin ∙ ap (λ (q : List ℕ). Some (first_constant q)) (sym same) ∙ ap (λ (z : ℤ). Some z) (sym first), end
+        ∙ ap (λ (q : List ℕ). Some (last_constant q)) (sym same) ∙ ap (λ (z : ℤ). Some z) (sym last))
 
-pub frameless : (v : View) (scheme : Scheme) (p : List ℕ) → 0 < count_of v → HoldsIn v (Frames scheme) p → length p < 64 → IsFault v (Short 0)
+pub frameless : (v : View) (scheme : Scheme) (p : List ℕ) → 0 < count_of v → HoldsIn v (Frames scheme) p
+    → length p < 64 → IsFault v (Short 0)
 frameless v scheme p some held small =
-    in_payload held.0 (Frames scheme) held.1 held.2 held.3 (Short 0) (subst (λ (q : List ℕ). IsFrameFault scheme q (count_of v) (Short 0)) held.4 (no_frame scheme p (count_of v) small some))
+    in_payload held.0 (Frames scheme) held.1 held.2 held.3 (Short 0)
+        (subst (λ (q : List ℕ). IsFrameFault scheme q (count_of v) (Short 0)) held.4
+        (no_frame scheme p (count_of v) small some))
 
 -- a record with a reading that ends on its constants has no fault
 pub whole_fault : (v : View) (s : List ℤ) (f : ReadFault) → IsWhole v s → IsFault v f → ⊥

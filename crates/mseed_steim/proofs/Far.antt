@@ -1,5 +1,6 @@
 -- Differences that are added up at once, while the limits of 32 bits are out of reach.
-use Rattle.std.proofs.Common.{◌≡◌, ℕ, ◌+◌, ◌<◌, ◌≤◌, ◌^◌, suc, List, [], ◌∷◌, ◌++◌, map, drop, get_or, length, ℤ, pos, negsuc, ◌+ℤ◌, nat_abs, w32, FitsSigned, arith, refl, ap, ◌∙◌, true, Ok, Result}
+use Rattle.std.proofs.Common.{◌≡◌, ℕ, ◌+◌, ◌<◌, ◌≤◌, ◌^◌, suc, List, [], ◌∷◌, ◌++◌, map, drop, get_or, length, ℤ, pos,
+    negsuc, ◌+ℤ◌, nat_abs, w32, FitsSigned, arith, refl, ap, ◌∙◌, true, Ok, Result}
 use Rattle.std.proofs.Math.Seq.{drop-cons}
 use Rattle.std.proofs.lemmas.Int.{ints}
 use Rattle.std.proofs.lemmas.Bool.{lt-ltb}
@@ -23,7 +24,8 @@ pub total_near : (ds : List ℤ) → nat_abs (total ds) ≤ span ds
 total_near [] = omega arith
 total_near (d ∷ ds) = let later = total_near ds in omega (arith, later, abs_sum d (total ds))
 
-pub fold_far : (n : ℕ) (ds : List ℤ) (s : Sum) (more : List (Result ℤ BadWordAt)) → 0 < s.met → s.met + length ds ≤ n → nat_abs s.last + span ds < 2 ^ 31
+pub fold_far : (n : ℕ) (ds : List ℤ) (s : Sum) (more : List (Result ℤ BadWordAt)) → 0 < s.met → s.met + length ds ≤ n
+    → nat_abs s.last + span ds < 2 ^ 31
     → fold n s (map Ok ds ++ more) ≡ fold n (record { met = s.met + length ds; last = s.last +ℤ total ds }) more
 fold_far n [] s more some room far =
     let met : s.met + 0 ≡ s.met = omega arith in
@@ -34,15 +36,18 @@ fold_far n (d ∷ ds) s more some room far =
     let met : s.met + 1 + length ds ≡ s.met + length (d ∷ ds) = omega arith in
     let last : (s.last +ℤ d) +ℤ total ds ≡ s.last +ℤ total (d ∷ ds) = omega (arith, ints) in
     fold_add n s d (map Ok ds ++ more) (omega arith) some (near_fits (s.last +ℤ d) (omega (arith, near)))
-    ∙ (rw (met, last) at (fold_far n ds (one_more s (s.last +ℤ d)) more (omega arith) (omega arith) (omega (arith, near))))
+    ∙ (rw (met, last) at (fold_far n ds (one_more s (s.last +ℤ d)) more (omega arith) (omega arith)
+    (omega (arith, near))))
 
 pub near_signed : (z : ℤ) → nat_abs z < 2 ^ 31 → FitsSigned w32 z
 near_signed (pos n) h = record { sfits = omega (arith, h) }
 near_signed (negsuc n) h = record { sfits = omega (arith, h) }
 
 -- the next of some differences, and those after it
-pub span_step : (ds : List ℤ) (i : ℕ) (z : ℤ) → i < length ds → span (drop i ds) ≡ nat_abs (get_or ds i z) + span (drop (i + 1) ds)
+pub span_step : (ds : List ℤ) (i : ℕ) (z : ℤ) → i < length ds
+    → span (drop i ds) ≡ nat_abs (get_or ds i z) + span (drop (i + 1) ds)
 span_step ds i z h =
     let next : suc i ≡ i + 1 = omega arith in
-    let cut : drop i ds ≡ get_or ds i z ∷ drop (i + 1) ds = drop-cons ds i z h ∙ ap (λ (k : ℕ). get_or ds i z ∷ drop k ds) next in
+    let cut : drop i ds ≡ get_or ds i z ∷ drop (i + 1) ds = drop-cons ds i z h
+        ∙ ap (λ (k : ℕ). get_or ds i z ∷ drop k ds) next in
     ap span cut

@@ -1,5 +1,6 @@
 -- How many differences words have: seven each at the most.
-use Rattle.std.proofs.Common.{ℕ, ◌+◌, ◌*◌, ◌/◌, ◌^◌, ◌≤◌, List, [], ◌∷◌, length, ℤ, arith, length-append, eqb, Option, Some, None, Result}
+use Rattle.std.proofs.Common.{ℕ, ◌+◌, ◌*◌, ◌/◌, ◌^◌, ◌≤◌, List, [], ◌∷◌, length, ℤ, arith, length-append, eqb, Option,
+    Some, None, Result}
 use Rattle.std.proofs.lemmas.Bool.{cond_both}
 use Rattle.std.proofs.lemmas.List.{length-map}
 use Rattle.mseed_steim.specs.declared.scheme.Scheme.{Scheme}
@@ -33,11 +34,13 @@ few Two c d =
     (cond_holds AllFew (eqb d 1) _ _ (row _ (omega arith))
     (cond_holds AllFew (eqb d 2) _ _ (row _ (omega arith)) no_row))) no_row))
 
-few_in : (w : DataWord) (o : Option Group) (more : List (Result ℤ BadWordAt)) → AllFew o → length (with_items w (differences_in w.bits o) more) ≤ 7 + length more
+few_in : (w : DataWord) (o : Option Group) (more : List (Result ℤ BadWordAt)) → AllFew o
+    → length (with_items w (differences_in w.bits o) more) ≤ 7 + length more
 few_in w None more no_row = omega arith
 few_in w (Some g) more (row h p) = simp (length-append, length-map, length-digits) (omega arith)
 
-few_items : (s : Scheme) (w : DataWord) (more : List (Result ℤ BadWordAt)) → length (with_items w (differences_of s w.code w.bits) more) ≤ 7 + length more
+few_items : (s : Scheme) (w : DataWord) (more : List (Result ℤ BadWordAt))
+    → length (with_items w (differences_of s w.code w.bits) more) ≤ 7 + length more
 unfolding differences_of
 few_items s w more = cond_both (eqb w.code 0) (Some []) (differences_in w.bits (group_of s w.code (w.bits / 2 ^ 30)))
     (λ (o : Option (List ℤ)). length (with_items w o more) ≤ 7 + length more)

@@ -1,7 +1,9 @@
 -- What a walk over items answers, in the words of lists.
 use Rattle.std.proofs.Math.Seq.{drop-cons, take-suc-set, take-length}
 use Rattle.std.proofs.Math.ListN.{set}
-use Rattle.std.proofs.Common.{take, drop, get_or, append_assoc, append-nil, ◌≡◌, ℕ, ◌+◌, ◌<◌, ◌≤◌, ◌^◌, List, [], ◌∷◌, ◌++◌, map, length, ℤ, pos, negsuc, ◌+ℤ◌, arith, refl, ap, sym, ◌∙◌, subst, false, true, Option, Some, None, Result, Ok, Err, All, ⊎_elim, eqb, suc}
+use Rattle.std.proofs.Common.{take, drop, get_or, append_assoc, append-nil, ◌≡◌, ℕ, ◌+◌, ◌<◌, ◌≤◌, ◌^◌, List, [], ◌∷◌,
+    ◌++◌, map, length, ℤ, pos, negsuc, ◌+ℤ◌, arith, refl, ap, sym, ◌∙◌, subst, false, true, Option, Some, None, Result,
+    Ok, Err, All, ⊎_elim, eqb, suc}
 use Rattle.std.proofs.lemmas.Int.{ints}
 use Rattle.std.proofs.lemmas.Bool.{ne_eqb, eq-eqb, cases_lt}
 use Rattle.std.proofs.lemmas.Bool.Decides.{nat_tests}
@@ -20,12 +22,17 @@ last_of before [] = before
 last_of before (s ∷ ss) = last_of s ss
 
 -- the answer of a walk that has met m samples, the last of them l
-pub data Folds (n m : ℕ) (l : ℤ) (items : List (Result ℤ BadWordAt)) (mets : List ℤ) : Result Sum ReadFault → Type 0 where
-  done : (next : Sum) (ds ss : List ℤ) (more : List (Result ℤ BadWordAt)) → items ≡ map Ok ds ++ more → length ds + m ≡ n → length ss ≡ length ds → Adds l ds ss → All IsSample ss
+pub data Folds (n m : ℕ) (l : ℤ) (items : List (Result ℤ BadWordAt)) (mets : List ℤ) : Result Sum ReadFault
+    → Type 0 where
+  done : (next : Sum) (ds ss : List ℤ) (more : List (Result ℤ BadWordAt)) → items ≡ map Ok ds ++ more
+      → length ds + m ≡ n → length ss ≡ length ds → Adds l ds ss → All IsSample ss
       → next.met ≡ n → next.last ≡ last_of l ss → mets ≡ ss → Folds n m l items mets (Ok next)
   short : (k : ℕ) (ds : List ℤ) → items ≡ map Ok ds → length ds + m ≡ k → k < n → Folds n m l items mets (Err (Short k))
-  bad : (ds : List ℤ) (at : BadWordAt) (more : List (Result ℤ BadWordAt)) → items ≡ map Ok ds ++ Err at ∷ more → length ds + m < n → Folds n m l items mets (Err (BadWord at.frame at.word))
-  over : (k : ℕ) (ds : List ℤ) (d : ℤ) (ss : List ℤ) (more : List (Result ℤ BadWordAt)) → items ≡ map Ok ds ++ Ok d ∷ more → length ds + m ≡ k → k < n → length ss ≡ length ds → Adds l ds ss → All IsSample ss
+  bad : (ds : List ℤ) (at : BadWordAt) (more : List (Result ℤ BadWordAt)) → items ≡ map Ok ds ++ Err at ∷ more
+      → length ds + m < n → Folds n m l items mets (Err (BadWord at.frame at.word))
+  over : (k : ℕ) (ds : List ℤ) (d : ℤ) (ss : List ℤ) (more : List (Result ℤ BadWordAt))
+      → items ≡ map Ok ds ++ Ok d ∷ more → length ds + m ≡ k → k < n → length ss ≡ length ds → Adds l ds ss
+      → All IsSample ss
       → ¬ (IsSample (last_of l ss +ℤ d)) → Folds n m l items mets (Err (Overflow k))
 
 -- the test of 32 bits
@@ -38,13 +45,19 @@ fits_not (pos n) e s = let h : 2 ^ 31 ≤ n = grind (arith, nat_tests) in omega 
 fits_not (negsuc n) e s = let h : 2 ^ 31 ≤ n = grind (arith, nat_tests) in omega (arith, ints, s.0)
 
 -- a difference in front
-more_folded : (n m : ℕ) (l d : ℤ) (items : List (Result ℤ BadWordAt)) (mets : List ℤ) (r : Result Sum ReadFault) → IsSample (l +ℤ d) → Folds n (m + 1) (l +ℤ d) items mets r → Folds n m l (Ok d ∷ items) ((l +ℤ d) ∷ mets) r
+more_folded : (n m : ℕ) (l d : ℤ) (items : List (Result ℤ BadWordAt)) (mets : List ℤ) (r : Result Sum ReadFault)
+    → IsSample (l +ℤ d) → Folds n (m + 1) (l +ℤ d) items mets r → Folds n m l (Ok d ∷ items) ((l +ℤ d) ∷ mets) r
 more_folded n m l d items mets r fit (done next ds ss more e count same adds all met last kept) =
-    done next (d ∷ ds) ((l +ℤ d) ∷ ss) more (ap (λ (xs : List (Result ℤ BadWordAt)). Ok d ∷ xs) e) (omega arith) (omega arith) (refl, adds) (All-cons IsSample (l +ℤ d) ss fit all) met last (ap (λ (xs : List ℤ). (l +ℤ d) ∷ xs) kept)
-more_folded n m l d items mets r fit (short k ds e count less) = short k (d ∷ ds) (ap (λ (xs : List (Result ℤ BadWordAt)). Ok d ∷ xs) e) (omega arith) less
-more_folded n m l d items mets r fit (bad ds at more e less) = bad (d ∷ ds) at more (ap (λ (xs : List (Result ℤ BadWordAt)). Ok d ∷ xs) e) (omega arith)
+    done next (d ∷ ds) ((l +ℤ d) ∷ ss) more (ap (λ (xs : List (Result ℤ BadWordAt)). Ok d ∷ xs) e) (omega arith)
+        (omega arith) (refl, adds) (All-cons IsSample (l +ℤ d) ss fit all) met last
+        (ap (λ (xs : List ℤ). (l +ℤ d) ∷ xs) kept)
+more_folded n m l d items mets r fit (short k ds e count less) =
+    short k (d ∷ ds) (ap (λ (xs : List (Result ℤ BadWordAt)). Ok d ∷ xs) e) (omega arith) less
+more_folded n m l d items mets r fit (bad ds at more e less) =
+    bad (d ∷ ds) at more (ap (λ (xs : List (Result ℤ BadWordAt)). Ok d ∷ xs) e) (omega arith)
 more_folded n m l d items mets r fit (over k ds x ss more e count less same adds all not) =
-    over k (d ∷ ds) x ((l +ℤ d) ∷ ss) more (ap (λ (xs : List (Result ℤ BadWordAt)). Ok d ∷ xs) e) (omega arith) less (omega arith) (refl, adds) (All-cons IsSample (l +ℤ d) ss fit all) not
+    over k (d ∷ ds) x ((l +ℤ d) ∷ ss) more (ap (λ (xs : List (Result ℤ BadWordAt)). Ok d ∷ xs) e) (omega arith) less
+        (omega arith) (refl, adds) (All-cons IsSample (l +ℤ d) ss fit all) not
 
 -- the samples that a walk meets
 pub met_enough : (n : ℕ) (s : Sum) (items : List (Result ℤ BadWordAt)) → s.met ≡ n → met_in n s items ≡ []
@@ -53,46 +66,61 @@ met_enough n s [] e = refl
 met_enough n s (Ok d ∷ more) e = rw (eq-eqb s.met n e) refl
 met_enough n s (Err at ∷ more) e = refl
 
-pub met_first : (n : ℕ) (s : Sum) (d : ℤ) (more : List (Result ℤ BadWordAt)) → s.met < n → s.met ≡ 0 → met_in n s (Ok d ∷ more) ≡ s.last ∷ met_in n (one_more s s.last) more
+pub met_first : (n : ℕ) (s : Sum) (d : ℤ) (more : List (Result ℤ BadWordAt)) → s.met < n → s.met ≡ 0
+    → met_in n s (Ok d ∷ more) ≡ s.last ∷ met_in n (one_more s s.last) more
 unfolding met_in
 met_first n s d more h e =
     let less : eqb s.met n ≡ false = ne_eqb s.met n (λ (z : s.met ≡ n). omega arith) in
     rw (less, eq-eqb s.met 0 e) refl
 
-pub met_add : (n : ℕ) (s : Sum) (d : ℤ) (more : List (Result ℤ BadWordAt)) → s.met < n → 0 < s.met → fits (s.last +ℤ d) ≡ true → met_in n s (Ok d ∷ more) ≡ (s.last +ℤ d) ∷ met_in n (one_more s (s.last +ℤ d)) more
+pub met_add : (n : ℕ) (s : Sum) (d : ℤ) (more : List (Result ℤ BadWordAt)) → s.met < n → 0 < s.met
+    → fits (s.last +ℤ d) ≡ true → met_in n s (Ok d ∷ more) ≡ (s.last +ℤ d) ∷ met_in n (one_more s (s.last +ℤ d)) more
 unfolding met_in
 met_add n s d more h p e =
     let less : eqb s.met n ≡ false = ne_eqb s.met n (λ (z : s.met ≡ n). omega arith) in
     let some : eqb s.met 0 ≡ false = ne_eqb s.met 0 (λ (z : s.met ≡ 0). omega arith) in
     rw (less, some, e) refl
 
-enough : (n : ℕ) (s : Sum) (items : List (Result ℤ BadWordAt)) → s.met ≡ n → Folds n s.met s.last items (met_in n s items) (fold n s items)
-enough n s items e = subst (λ r. Folds n s.met s.last items (met_in n s items) r) (sym (fold_enough n s items e)) (done s [] [] items refl (omega arith) refl tt (All-nil IsSample) e refl (met_enough n s items e))
+enough : (n : ℕ) (s : Sum) (items : List (Result ℤ BadWordAt)) → s.met ≡ n
+    → Folds n s.met s.last items (met_in n s items) (fold n s items)
+enough n s items e = subst (λ r. Folds n s.met s.last items (met_in n s items) r) (sym (fold_enough n s items e))
+    (done s [] [] items refl (omega arith) refl tt (All-nil IsSample) e refl (met_enough n s items e))
 
-pub folds : (n : ℕ) (s : Sum) (items : List (Result ℤ BadWordAt)) → 0 < s.met → s.met ≤ n → Folds n s.met s.last items (met_in n s items) (fold n s items)
+pub folds : (n : ℕ) (s : Sum) (items : List (Result ℤ BadWordAt)) → 0 < s.met → s.met ≤ n
+    → Folds n s.met s.last items (met_in n s items) (fold n s items)
 folds n s [] p h = ⊎_elim
-    (λ (less : s.met < n). subst (λ r. Folds n s.met s.last [] (met_in n s []) r) (sym (fold_short n s (λ (z : s.met ≡ n). omega arith))) (short s.met [] refl (omega arith) less))
+    (λ (less : s.met < n). subst (λ r. Folds n s.met s.last [] (met_in n s []) r)
+        (sym (fold_short n s (λ (z : s.met ≡ n). omega arith))) (short s.met [] refl (omega arith) less))
     (λ (most : n ≤ s.met). enough n s [] (omega arith))
     (cases_lt s.met n)
 folds n s (Err at ∷ more) p h = ⊎_elim
-    (λ (less : s.met < n). subst (λ r. Folds n s.met s.last (Err at ∷ more) (met_in n s (Err at ∷ more)) r) (sym (fold_bad n s at more less)) (bad [] at more refl (omega arith)))
+    (λ (less : s.met < n). subst (λ r. Folds n s.met s.last (Err at ∷ more) (met_in n s (Err at ∷ more)) r)
+        (sym (fold_bad n s at more less)) (bad [] at more refl (omega arith)))
     (λ (most : n ≤ s.met). enough n s (Err at ∷ more) (omega arith))
     (cases_lt s.met n)
 folds n s (Ok d ∷ more) p h = ⊎_elim
     (λ (less : s.met < n).
     let later = folds n (one_more s (s.last +ℤ d)) more (omega arith) (omega arith) in
-    (elim (fits (s.last +ℤ d)) as (λ b. fits (s.last +ℤ d) ≡ b → Folds n s.met s.last (Ok d ∷ more) (met_in n s (Ok d ∷ more)) (fold n s (Ok d ∷ more))) [
-      | true ↦ λ e. subst (λ r. Folds n s.met s.last (Ok d ∷ more) (met_in n s (Ok d ∷ more)) r) (sym (fold_add n s d more less p e)) (subst (λ (xs : List ℤ). Folds n s.met s.last (Ok d ∷ more) xs (fold n (one_more s (s.last +ℤ d)) more)) (sym (met_add n s d more less p e)) (more_folded n s.met s.last d more _ _ (fits_sample (s.last +ℤ d) e) later))
-      | false ↦ λ e. subst (λ r. Folds n s.met s.last (Ok d ∷ more) (met_in n s (Ok d ∷ more)) r) (sym (fold_over n s d more less p e)) (over s.met [] d [] more refl (omega arith) less refl tt (All-nil IsSample) (fits_not (s.last +ℤ d) e))
+    (elim (fits (s.last +ℤ d)) as (λ b. fits (s.last +ℤ d) ≡ b
+        → Folds n s.met s.last (Ok d ∷ more) (met_in n s (Ok d ∷ more)) (fold n s (Ok d ∷ more))) [
+      | true ↦ λ e. subst (λ r. Folds n s.met s.last (Ok d ∷ more) (met_in n s (Ok d ∷ more)) r)
+      (sym (fold_add n s d more less p e))
+      (subst (λ (xs : List ℤ). Folds n s.met s.last (Ok d ∷ more) xs (fold n (one_more s (s.last +ℤ d)) more))
+      (sym (met_add n s d more less p e)) (more_folded n s.met s.last d more _ _ (fits_sample (s.last +ℤ d) e) later))
+      | false ↦ λ e. subst (λ r. Folds n s.met s.last (Ok d ∷ more) (met_in n s (Ok d ∷ more)) r)
+      (sym (fold_over n s d more less p e)) (over s.met [] d [] more refl (omega arith) less refl tt (All-nil IsSample)
+      (fits_not (s.last +ℤ d) e))
     ]) refl)
     (λ (most : n ≤ s.met). enough n s (Ok d ∷ more) (omega arith))
     (cases_lt s.met n)
 
 -- what is lacking
 pub data Lacks (n m : ℕ) (items : List (Result ℤ BadWordAt)) : Option ReadFault → Type 0 where
-  nothing : (ds : List ℤ) (more : List (Result ℤ BadWordAt)) → items ≡ map Ok ds ++ more → length ds + m ≡ n → Lacks n m items None
+  nothing : (ds : List ℤ) (more : List (Result ℤ BadWordAt)) → items ≡ map Ok ds ++ more → length ds + m ≡ n
+      → Lacks n m items None
   short : (k : ℕ) (ds : List ℤ) → items ≡ map Ok ds → length ds + m ≡ k → k < n → Lacks n m items (Some (Short k))
-  bad : (ds : List ℤ) (at : BadWordAt) (more : List (Result ℤ BadWordAt)) → items ≡ map Ok ds ++ Err at ∷ more → length ds + m < n → Lacks n m items (Some (BadWord at.frame at.word))
+  bad : (ds : List ℤ) (at : BadWordAt) (more : List (Result ℤ BadWordAt)) → items ≡ map Ok ds ++ Err at ∷ more
+      → length ds + m < n → Lacks n m items (Some (BadWord at.frame at.word))
 
 pub lack_enough : (n m : ℕ) (items : List (Result ℤ BadWordAt)) → m ≡ n → lack n m items ≡ None
 unfolding lack
@@ -100,11 +128,13 @@ lack_enough n m [] e = rw (eq-eqb m n e) refl
 lack_enough n m (Ok d ∷ more) e = rw (eq-eqb m n e) refl
 lack_enough n m (Err at ∷ more) e = rw (eq-eqb m n e) refl
 
-pub lack_more : (n m : ℕ) (d : ℤ) (more : List (Result ℤ BadWordAt)) → m < n → lack n m (Ok d ∷ more) ≡ lack n (m + 1) more
+pub lack_more : (n m : ℕ) (d : ℤ) (more : List (Result ℤ BadWordAt)) → m < n
+    → lack n m (Ok d ∷ more) ≡ lack n (m + 1) more
 unfolding lack
 lack_more n m d more h = rw (ne_eqb m n (λ (z : m ≡ n). omega arith)) refl
 
-pub lack_bad : (n m : ℕ) (at : BadWordAt) (more : List (Result ℤ BadWordAt)) → m < n → lack n m (Err at ∷ more) ≡ Some (BadWord at.frame at.word)
+pub lack_bad : (n m : ℕ) (at : BadWordAt) (more : List (Result ℤ BadWordAt)) → m < n
+    → lack n m (Err at ∷ more) ≡ Some (BadWord at.frame at.word)
 unfolding lack
 lack_bad n m at more h = rw (ne_eqb m n (λ (z : m ≡ n). omega arith)) refl
 
@@ -112,54 +142,72 @@ pub lack_short : (n m : ℕ) → m < n → lack n m [] ≡ Some (Short m)
 unfolding lack
 lack_short n m h = rw (ne_eqb m n (λ (z : m ≡ n). omega arith)) refl
 
-more_lacked : (n m : ℕ) (d : ℤ) (items : List (Result ℤ BadWordAt)) (o : Option ReadFault) → Lacks n (m + 1) items o → Lacks n m (Ok d ∷ items) o
-more_lacked n m d items o (nothing ds more e count) = nothing (d ∷ ds) more (ap (λ (xs : List (Result ℤ BadWordAt)). Ok d ∷ xs) e) (omega arith)
-more_lacked n m d items o (short k ds e count less) = short k (d ∷ ds) (ap (λ (xs : List (Result ℤ BadWordAt)). Ok d ∷ xs) e) (omega arith) less
-more_lacked n m d items o (bad ds at more e less) = bad (d ∷ ds) at more (ap (λ (xs : List (Result ℤ BadWordAt)). Ok d ∷ xs) e) (omega arith)
+more_lacked : (n m : ℕ) (d : ℤ) (items : List (Result ℤ BadWordAt)) (o : Option ReadFault) → Lacks n (m + 1) items o
+    → Lacks n m (Ok d ∷ items) o
+more_lacked n m d items o (nothing ds more e count) =
+    nothing (d ∷ ds) more (ap (λ (xs : List (Result ℤ BadWordAt)). Ok d ∷ xs) e) (omega arith)
+more_lacked n m d items o (short k ds e count less) =
+    short k (d ∷ ds) (ap (λ (xs : List (Result ℤ BadWordAt)). Ok d ∷ xs) e) (omega arith) less
+more_lacked n m d items o (bad ds at more e less) =
+    bad (d ∷ ds) at more (ap (λ (xs : List (Result ℤ BadWordAt)). Ok d ∷ xs) e) (omega arith)
 
 pub lacks : (n m : ℕ) (items : List (Result ℤ BadWordAt)) → m ≤ n → Lacks n m items (lack n m items)
 lacks n m [] h = ⊎_elim
     (λ (less : m < n). subst (λ o. Lacks n m [] o) (sym (lack_short n m less)) (short m [] refl (omega arith) less))
-    (λ (most : n ≤ m). subst (λ o. Lacks n m [] o) (sym (lack_enough n m [] (omega arith))) (nothing [] [] refl (omega arith)))
+    (λ (most : n ≤ m). subst (λ o. Lacks n m [] o) (sym (lack_enough n m [] (omega arith)))
+        (nothing [] [] refl (omega arith)))
     (cases_lt m n)
 lacks n m (Err at ∷ more) h = ⊎_elim
-    (λ (less : m < n). subst (λ o. Lacks n m (Err at ∷ more) o) (sym (lack_bad n m at more less)) (bad [] at more refl (omega arith)))
-    (λ (most : n ≤ m). subst (λ o. Lacks n m (Err at ∷ more) o) (sym (lack_enough n m (Err at ∷ more) (omega arith))) (nothing [] (Err at ∷ more) refl (omega arith)))
+    (λ (less : m < n). subst (λ o. Lacks n m (Err at ∷ more) o) (sym (lack_bad n m at more less))
+        (bad [] at more refl (omega arith)))
+    (λ (most : n ≤ m). subst (λ o. Lacks n m (Err at ∷ more) o) (sym (lack_enough n m (Err at ∷ more) (omega arith)))
+        (nothing [] (Err at ∷ more) refl (omega arith)))
     (cases_lt m n)
 lacks n m (Ok d ∷ more) h = ⊎_elim
-    (λ (less : m < n). subst (λ o. Lacks n m (Ok d ∷ more) o) (sym (lack_more n m d more less)) (more_lacked n m d more _ (lacks n (m + 1) more (omega arith))))
-    (λ (most : n ≤ m). subst (λ o. Lacks n m (Ok d ∷ more) o) (sym (lack_enough n m (Ok d ∷ more) (omega arith))) (nothing [] (Ok d ∷ more) refl (omega arith)))
+    (λ (less : m < n). subst (λ o. Lacks n m (Ok d ∷ more) o) (sym (lack_more n m d more less))
+        (more_lacked n m d more _ (lacks n (m + 1) more (omega arith))))
+    (λ (most : n ≤ m). subst (λ o. Lacks n m (Ok d ∷ more) o) (sym (lack_enough n m (Ok d ∷ more) (omega arith)))
+        (nothing [] (Ok d ∷ more) refl (omega arith)))
     (cases_lt m n)
 
 -- past a word's differences
-pub lack_group : (n m : ℕ) (ds : List ℤ) (more : List (Result ℤ BadWordAt)) → m + length ds < n → lack n m (map Ok ds ++ more) ≡ lack n (m + length ds) more
+pub lack_group : (n m : ℕ) (ds : List ℤ) (more : List (Result ℤ BadWordAt)) → m + length ds < n
+    → lack n m (map Ok ds ++ more) ≡ lack n (m + length ds) more
 lack_group n m [] more h = ap (λ (k : ℕ). lack n k more) (omega arith)
 lack_group n m (d ∷ ds) more h =
-    lack_more n m d (map Ok ds ++ more) (omega arith) ∙ lack_group n (m + 1) ds more (omega arith) ∙ ap (λ (k : ℕ). lack n k more) (omega arith)
+    lack_more n m d (map Ok ds ++ more) (omega arith) ∙ lack_group n (m + 1) ds more (omega arith)
+        ∙ ap (λ (k : ℕ). lack n k more) (omega arith)
 
 -- the differences are enough
-pub lack_none : (n m : ℕ) (ds : List ℤ) (more : List (Result ℤ BadWordAt)) → m < n → n ≤ m + length ds → lack n m (map Ok ds ++ more) ≡ None
+pub lack_none : (n m : ℕ) (ds : List ℤ) (more : List (Result ℤ BadWordAt)) → m < n → n ≤ m + length ds
+    → lack n m (map Ok ds ++ more) ≡ None
 lack_none n m [] more h e = absurd (omega arith)
 lack_none n m (d ∷ ds) more h e = ⊎_elim
     (λ (less : m + 1 < n). lack_more n m d (map Ok ds ++ more) h ∙ lack_none n (m + 1) ds more less (omega arith))
-    (λ (most : n ≤ m + 1). lack_more n m d (map Ok ds ++ more) h ∙ lack_enough n (m + 1) (map Ok ds ++ more) (omega arith))
+    (λ (most : n ≤ m + 1). lack_more n m d (map Ok ds ++ more) h
+        ∙ lack_enough n (m + 1) (map Ok ds ++ more) (omega arith))
     (cases_lt (m + 1) n)
 
 -- the next of some differences, and those after it
-pub drop_step : (ds : List ℤ) (i : ℕ) (z : ℤ) (more : List (Result ℤ BadWordAt)) → i < length ds → map Ok (drop i ds) ++ more ≡ Ok (get_or ds i z) ∷ (map Ok (drop (i + 1) ds) ++ more)
+pub drop_step : (ds : List ℤ) (i : ℕ) (z : ℤ) (more : List (Result ℤ BadWordAt)) → i < length ds
+    → map Ok (drop i ds) ++ more ≡ Ok (get_or ds i z) ∷ (map Ok (drop (i + 1) ds) ++ more)
 drop_step ds i z more h =
     let next : suc i ≡ i + 1 = omega arith in
-    let cut : drop i ds ≡ get_or ds i z ∷ drop (i + 1) ds = drop-cons ds i z h ∙ ap (λ (k : ℕ). get_or ds i z ∷ drop k ds) next in
+    let cut : drop i ds ≡ get_or ds i z ∷ drop (i + 1) ds = drop-cons ds i z h
+        ∙ ap (λ (k : ℕ). get_or ds i z ∷ drop k ds) next in
     ap (λ (xs : List ℤ). map Ok xs ++ more) cut
 
 -- a sample put in its place
-pub take_put : (out : List ℤ) (i k : ℕ) (z : ℤ) (xs : List ℤ) → i < length out → k ≡ i + 1 → take k (set out i z) ++ xs ≡ take i out ++ z ∷ xs
+pub take_put : (out : List ℤ) (i k : ℕ) (z : ℤ) (xs : List ℤ) → i < length out → k ≡ i + 1
+    → take k (set out i z) ++ xs ≡ take i out ++ z ∷ xs
 take_put out i k z xs h e =
     let next : k ≡ suc i = omega arith in
-    ap (λ (m : ℕ). take m (set out i z) ++ xs) next ∙ ap (λ (ys : List ℤ). ys ++ xs) (take-suc-set out i z h) ∙ append_assoc (take i out) (z ∷ []) xs
+    ap (λ (m : ℕ). take m (set out i z) ++ xs) next ∙ ap (λ (ys : List ℤ). ys ++ xs) (take-suc-set out i z h)
+        ∙ append_assoc (take i out) (z ∷ []) xs
 
 -- all places are filled
-pub all_kept : (n : ℕ) (s : Sum) (out : List ℤ) (items : List (Result ℤ BadWordAt)) → length out ≡ n → s.met ≡ n → out ≡ take s.met out ++ met_in n s items
+pub all_kept : (n : ℕ) (s : Sum) (out : List ℤ) (items : List (Result ℤ BadWordAt)) → length out ≡ n → s.met ≡ n
+    → out ≡ take s.met out ++ met_in n s items
 all_kept n s out items room e =
     let whole : take s.met out ≡ out = ap (λ (k : ℕ). take k out) (e ∙ sym room) ∙ take-length out in
     sym (ap (λ (xs : List ℤ). take s.met out ++ xs) (met_enough n s items e) ∙ append-nil (take s.met out) ∙ whole)

@@ -1,5 +1,6 @@
 -- One item after another: how a walk goes on.
-use Rattle.std.proofs.Common.{◌≡◌, ◌≢◌, ℕ, ◌<◌, ◌^◌, List, [], ◌∷◌, ◌++◌, take, ◌∙◌, ℤ, pos, negsuc, ◌+ℤ◌, arith, refl, eqb, false, true, Result, Ok, Err, w32, FitsSigned}
+use Rattle.std.proofs.Common.{◌≡◌, ◌≢◌, ℕ, ◌<◌, ◌^◌, List, [], ◌∷◌, ◌++◌, take, ◌∙◌, ℤ, pos, negsuc, ◌+ℤ◌, arith, refl,
+    eqb, false, true, Result, Ok, Err, w32, FitsSigned}
 use Rattle.std.proofs.lemmas.Bool.{ne_eqb, eq-eqb, lt-ltb, le-ltb}
 use Rattle.mseed_steim.specs.declared.differences.BadWordAt.{BadWordAt}
 use Rattle.mseed_steim.specs.declared.fault.ReadFault.{ReadFault}
@@ -13,20 +14,23 @@ fold_enough n s [] e = rw (eq-eqb s.met n e) refl
 fold_enough n s (Ok d ∷ more) e = rw (eq-eqb s.met n e) refl
 fold_enough n s (Err at ∷ more) e = rw (eq-eqb s.met n e) refl
 
-pub fold_first : (n : ℕ) (s : Sum) (d : ℤ) (more : List (Result ℤ BadWordAt)) → s.met < n → s.met ≡ 0 → fold n s (Ok d ∷ more) ≡ fold n (one_more s s.last) more
+pub fold_first : (n : ℕ) (s : Sum) (d : ℤ) (more : List (Result ℤ BadWordAt)) → s.met < n → s.met ≡ 0
+    → fold n s (Ok d ∷ more) ≡ fold n (one_more s s.last) more
 unfolding fold
 fold_first n s d more h e =
     let less : eqb s.met n ≡ false = ne_eqb s.met n (λ (z : s.met ≡ n). omega arith) in
     rw (less, eq-eqb s.met 0 e) refl
 
-pub fold_add : (n : ℕ) (s : Sum) (d : ℤ) (more : List (Result ℤ BadWordAt)) → s.met < n → 0 < s.met → fits (s.last +ℤ d) ≡ true → fold n s (Ok d ∷ more) ≡ fold n (one_more s (s.last +ℤ d)) more
+pub fold_add : (n : ℕ) (s : Sum) (d : ℤ) (more : List (Result ℤ BadWordAt)) → s.met < n → 0 < s.met
+    → fits (s.last +ℤ d) ≡ true → fold n s (Ok d ∷ more) ≡ fold n (one_more s (s.last +ℤ d)) more
 unfolding fold
 fold_add n s d more h p e =
     let less : eqb s.met n ≡ false = ne_eqb s.met n (λ (z : s.met ≡ n). omega arith) in
     let some : eqb s.met 0 ≡ false = ne_eqb s.met 0 (λ (z : s.met ≡ 0). omega arith) in
     rw (less, some, e) refl
 
-pub fold_over : (n : ℕ) (s : Sum) (d : ℤ) (more : List (Result ℤ BadWordAt)) → s.met < n → 0 < s.met → fits (s.last +ℤ d) ≡ false → fold n s (Ok d ∷ more) ≡ Err (Overflow s.met)
+pub fold_over : (n : ℕ) (s : Sum) (d : ℤ) (more : List (Result ℤ BadWordAt)) → s.met < n → 0 < s.met
+    → fits (s.last +ℤ d) ≡ false → fold n s (Ok d ∷ more) ≡ Err (Overflow s.met)
 unfolding fold
 fold_over n s d more h p e =
     let less : eqb s.met n ≡ false = ne_eqb s.met n (λ (z : s.met ≡ n). omega arith) in
@@ -42,9 +46,11 @@ pub fits_false : (z : ℤ) → (FitsSigned w32 z → ⊥) → fits z ≡ false
 fits_false (pos n) h = le-ltb n (2 ^ 31) (omega (arith, λ (l : n < 2 ^ 31). h (record { sfits = l })))
 fits_false (negsuc n) h = le-ltb n (2 ^ 31) (omega (arith, λ (l : n < 2 ^ 31). h (record { sfits = l })))
 
-pub fold_bad : (n : ℕ) (s : Sum) (at : BadWordAt) (more : List (Result ℤ BadWordAt)) → s.met < n → fold n s (Err at ∷ more) ≡ Err (BadWord at.frame at.word)
+pub fold_bad : (n : ℕ) (s : Sum) (at : BadWordAt) (more : List (Result ℤ BadWordAt)) → s.met < n
+    → fold n s (Err at ∷ more) ≡ Err (BadWord at.frame at.word)
 unfolding fold
-fold_bad n s at more h = let less : eqb s.met n ≡ false = ne_eqb s.met n (λ (z : s.met ≡ n). omega arith) in rw less refl
+fold_bad n s at more h = let less : eqb s.met n ≡ false = ne_eqb s.met n (λ (z : s.met ≡ n). omega arith) in
+    rw less refl
 
 -- at the end of the items
 pub fold_short : (n : ℕ) (s : Sum) → s.met ≢ n → fold n s [] ≡ Err (Short s.met)
@@ -52,11 +58,13 @@ unfolding fold
 fold_short n s h = rw (ne_eqb s.met n h) refl
 
 -- a walk that is at another sum by now
-pub goes_from : (n : ℕ) (s t : Sum) (items later behind : List (Result ℤ BadWordAt)) (r : Result Sum ReadFault) → fold n s items ≡ fold n t later → GoesOn n t later behind r → GoesOn n s items behind r
+pub goes_from : (n : ℕ) (s t : Sum) (items later behind : List (Result ℤ BadWordAt)) (r : Result Sum ReadFault)
+    → fold n s items ≡ fold n t later → GoesOn n t later behind r → GoesOn n s items behind r
 goes_from n s t items later behind (Ok next) e h = e ∙ h
 goes_from n s t items later behind (Err fault) e h = e ∙ h
 
-pub keeps_from : (n : ℕ) (s t : Sum) (before between after : List ℤ) (items later behind : List (Result ℤ BadWordAt)) (r : Result Sum ReadFault) → take t.met between ++ met_in n t later ≡ take s.met before ++ met_in n s items
+pub keeps_from : (n : ℕ) (s t : Sum) (before between after : List ℤ) (items later behind : List (Result ℤ BadWordAt))
+    (r : Result Sum ReadFault) → take t.met between ++ met_in n t later ≡ take s.met before ++ met_in n s items
     → Keeps n t between later behind after r → Keeps n s before items behind after r
 keeps_from n s t before between after items later behind (Ok next) e h = h ∙ e
 keeps_from n s t before between after items later behind (Err fault) e h = tt

@@ -1,5 +1,7 @@
 -- A frame's words in lanes are the payload's data words, and a row of lanes is the group of the word.
-use Rattle.std.proofs.Common.{◌≡◌, ◌≢◌, ℕ, zero, suc, ◌+◌, ◌-◌, ◌*◌, ◌/◌, ◌%◌, ◌^◌, ◌<◌, ◌≤◌, List, [], ◌∷◌, ◌++◌, length, map, take, drop, get_or, ℤ, ◌+ℤ◌, refl, sym, ap, ◌∙◌, append_assoc, length-append, arith, inl, inr, below_none, below_more, Some, Ok, Result}
+use Rattle.std.proofs.Common.{◌≡◌, ◌≢◌, ℕ, zero, suc, ◌+◌, ◌-◌, ◌*◌, ◌/◌, ◌%◌, ◌^◌, ◌<◌, ◌≤◌, List, [], ◌∷◌, ◌++◌,
+    length, map, take, drop, get_or, ℤ, ◌+ℤ◌, refl, sym, ap, ◌∙◌, append_assoc, length-append, arith, inl, inr,
+    below_none, below_more, Some, Ok, Result}
 use Rattle.std.specs.List.{range_with_len}
 use Rattle.std.proofs.lemmas.Int.{ints}
 use Rattle.std.proofs.lemmas.Bool.{le-ltb, lt-ltb}
@@ -13,7 +15,8 @@ use Rattle.mseed_steim.specs.Moves.{MovesBy}
 use Rattle.mseed_steim.specs.Digits.{digits, differences_of}
 use Rattle.mseed_steim.specs.Frames.{DataWord, data_word, word_at, code_at, words_from}
 use Rattle.mseed_steim.specs.Items.{items_of}
-use Rattle.mseed_steim.specs.Lanes.{total, span, sum_z, words, word_at as lanes_word_at, row_at, Begins, counts_two, widths_two, moved_two, spanned_two, counts_one, widths_one, moved_one, spanned_one}
+use Rattle.mseed_steim.specs.Lanes.{total, span, sum_z, words, word_at as lanes_word_at, row_at, Begins, counts_two,
+    widths_two, moved_two, spanned_two, counts_one, widths_one, moved_one, spanned_one}
 use Rattle.mseed_steim.proofs.Spelled.{length-digits}
 use Rattle.mseed_steim.proofs.Walking.{words_none, words_step, items_group}
 
@@ -25,32 +28,39 @@ each_of_4 P a b c d = below_more P 3 (below_more P 2 (below_more P 1 (below_more
 abbrev Rows : Scheme → List ℕ → List ℕ → Type 0
 Rows s counts widths =
     (c word : ℕ) → c < 4 → word < 2 ^ 32 → get_or counts (4 * c + word / 2 ^ 30) 0 < 128
-    → differences_of s c word ≡ Some (digits (get_or widths (4 * c + word / 2 ^ 30) 0) word (get_or counts (4 * c + word / 2 ^ 30) 0))
+    → differences_of s c word
+    ≡ Some (digits (get_or widths (4 * c + word / 2 ^ 30) 0) word (get_or counts (4 * c + word / 2 ^ 30) 0))
 
 abbrev Row : Scheme → List ℕ → List ℕ → ℕ → ℕ → ℕ → Type 0
-Row s counts widths c word t = word / 2 ^ 30 ≡ t → get_or counts (4 * c + t) 0 < 128 → differences_of s c word ≡ Some (digits (get_or widths (4 * c + t) 0) word (get_or counts (4 * c + t) 0))
+Row s counts widths c word t = word / 2 ^ 30 ≡ t → get_or counts (4 * c + t) 0 < 128
+    → differences_of s c word ≡ Some (digits (get_or widths (4 * c + t) 0) word (get_or counts (4 * c + t) 0))
 
-none_row : (s : Scheme) (counts widths : List ℕ) (word t : ℕ) → get_or counts (4 * 0 + t) 0 ≡ 0 → Row s counts widths 0 word t
+none_row : (s : Scheme) (counts widths : List ℕ) (word t : ℕ) → get_or counts (4 * 0 + t) 0 ≡ 0
+    → Row s counts widths 0 word t
 unfolding differences_of digits
 none_row s counts widths word t z e few = rw z refl
 
-bytes_two : (word t : ℕ) → get_or counts_two (4 * 1 + t) 0 ≡ 4 → get_or widths_two (4 * 1 + t) 0 ≡ 8 → Row Two counts_two widths_two 1 word t
+bytes_two : (word t : ℕ) → get_or counts_two (4 * 1 + t) 0 ≡ 4 → get_or widths_two (4 * 1 + t) 0 ≡ 8
+    → Row Two counts_two widths_two 1 word t
 unfolding differences_of
 bytes_two word t c w e few = rw (c, w) refl
 
 row_two_0 : (word t : ℕ) → t < 4 → Row Two counts_two widths_two 0 word t
 unfolding counts_two
 row_two_0 word = each_of_4 (Row Two counts_two widths_two 0 word)
-    (none_row Two counts_two widths_two word 0 refl) (none_row Two counts_two widths_two word 1 refl) (none_row Two counts_two widths_two word 2 refl) (none_row Two counts_two widths_two word 3 refl)
+    (none_row Two counts_two widths_two word 0 refl) (none_row Two counts_two widths_two word 1 refl)
+        (none_row Two counts_two widths_two word 2 refl) (none_row Two counts_two widths_two word 3 refl)
 
 row_two_1 : (word t : ℕ) → t < 4 → Row Two counts_two widths_two 1 word t
 unfolding counts_two widths_two
-row_two_1 word = each_of_4 (Row Two counts_two widths_two 1 word) (bytes_two word 0 refl refl) (bytes_two word 1 refl refl) (bytes_two word 2 refl refl) (bytes_two word 3 refl refl)
+row_two_1 word = each_of_4 (Row Two counts_two widths_two 1 word) (bytes_two word 0 refl refl)
+    (bytes_two word 1 refl refl) (bytes_two word 2 refl refl) (bytes_two word 3 refl refl)
 
 row_two_2 : (word t : ℕ) → t < 4 → Row Two counts_two widths_two 2 word t
 unfolding counts_two widths_two differences_of
 row_two_2 word = each_of_4 (Row Two counts_two widths_two 2 word)
-    (λ e few. absurd (omega (arith, few))) (λ e few. absurd (omega (arith, few))) (λ e few. rw e refl) (λ e few. rw e refl)
+    (λ e few. absurd (omega (arith, few))) (λ e few. absurd (omega (arith, few))) (λ e few. rw e refl)
+        (λ e few. rw e refl)
 
 row_two_3 : (word t : ℕ) → t < 4 → Row Two counts_two widths_two 3 word t
 unfolding counts_two widths_two differences_of
@@ -59,50 +69,62 @@ row_two_3 word = each_of_4 (Row Two counts_two widths_two 3 word)
 
 pub rows_two : Rows Two counts_two widths_two
 rows_two c word h small few =
-    each_of_4 (λ n. (t : ℕ) → t < 4 → Row Two counts_two widths_two n word t) (row_two_0 word) (row_two_1 word) (row_two_2 word) (row_two_3 word) c h (word / 2 ^ 30) (omega arith) refl few
+    each_of_4 (λ n. (t : ℕ) → t < 4 → Row Two counts_two widths_two n word t) (row_two_0 word) (row_two_1 word)
+        (row_two_2 word) (row_two_3 word) c h (word / 2 ^ 30) (omega arith) refl few
 
-bytes_one : (word t : ℕ) → get_or counts_one (4 * 1 + t) 0 ≡ 4 → get_or widths_one (4 * 1 + t) 0 ≡ 8 → Row One counts_one widths_one 1 word t
+bytes_one : (word t : ℕ) → get_or counts_one (4 * 1 + t) 0 ≡ 4 → get_or widths_one (4 * 1 + t) 0 ≡ 8
+    → Row One counts_one widths_one 1 word t
 unfolding differences_of
 bytes_one word t c w e few = rw (c, w) refl
 
-pairs_one : (word t : ℕ) → get_or counts_one (4 * 2 + t) 0 ≡ 2 → get_or widths_one (4 * 2 + t) 0 ≡ 16 → Row One counts_one widths_one 2 word t
+pairs_one : (word t : ℕ) → get_or counts_one (4 * 2 + t) 0 ≡ 2 → get_or widths_one (4 * 2 + t) 0 ≡ 16
+    → Row One counts_one widths_one 2 word t
 unfolding differences_of
 pairs_one word t c w e few = rw (c, w) refl
 
 row_one_0 : (word t : ℕ) → t < 4 → Row One counts_one widths_one 0 word t
 unfolding counts_one
 row_one_0 word = each_of_4 (Row One counts_one widths_one 0 word)
-    (none_row One counts_one widths_one word 0 refl) (none_row One counts_one widths_one word 1 refl) (none_row One counts_one widths_one word 2 refl) (none_row One counts_one widths_one word 3 refl)
+    (none_row One counts_one widths_one word 0 refl) (none_row One counts_one widths_one word 1 refl)
+        (none_row One counts_one widths_one word 2 refl) (none_row One counts_one widths_one word 3 refl)
 
 row_one_1 : (word t : ℕ) → t < 4 → Row One counts_one widths_one 1 word t
 unfolding counts_one widths_one
-row_one_1 word = each_of_4 (Row One counts_one widths_one 1 word) (bytes_one word 0 refl refl) (bytes_one word 1 refl refl) (bytes_one word 2 refl refl) (bytes_one word 3 refl refl)
+row_one_1 word = each_of_4 (Row One counts_one widths_one 1 word) (bytes_one word 0 refl refl)
+    (bytes_one word 1 refl refl) (bytes_one word 2 refl refl) (bytes_one word 3 refl refl)
 
 row_one_2 : (word t : ℕ) → t < 4 → Row One counts_one widths_one 2 word t
 unfolding counts_one widths_one
-row_one_2 word = each_of_4 (Row One counts_one widths_one 2 word) (pairs_one word 0 refl refl) (pairs_one word 1 refl refl) (pairs_one word 2 refl refl) (pairs_one word 3 refl refl)
+row_one_2 word = each_of_4 (Row One counts_one widths_one 2 word) (pairs_one word 0 refl refl)
+    (pairs_one word 1 refl refl) (pairs_one word 2 refl refl) (pairs_one word 3 refl refl)
 
 row_one_3 : (word t : ℕ) → t < 4 → Row One counts_one widths_one 3 word t
 unfolding counts_one
 row_one_3 word = each_of_4 (Row One counts_one widths_one 3 word)
-    (λ e few. absurd (omega (arith, few))) (λ e few. absurd (omega (arith, few))) (λ e few. absurd (omega (arith, few))) (λ e few. absurd (omega (arith, few)))
+    (λ e few. absurd (omega (arith, few))) (λ e few. absurd (omega (arith, few)))
+        (λ e few. absurd (omega (arith, few))) (λ e few. absurd (omega (arith, few)))
 
 pub rows_one : Rows One counts_one widths_one
 rows_one c word h small few =
-    each_of_4 (λ n. (t : ℕ) → t < 4 → Row One counts_one widths_one n word t) (row_one_0 word) (row_one_1 word) (row_one_2 word) (row_one_3 word) c h (word / 2 ^ 30) (omega arith) refl few
+    each_of_4 (λ n. (t : ℕ) → t < 4 → Row One counts_one widths_one n word t) (row_one_0 word) (row_one_1 word)
+        (row_one_2 word) (row_one_3 word) c h (word / 2 ^ 30) (omega arith) refl few
 
 -- ---- the bytes of a frame of a payload
-byte_is : (p f : List ℕ) (k i n : ℕ) → f ≡ take 64 (drop (64 * k) p) → i < 64 → n ≡ 64 * k + i → get_or f i 0 ≡ get_or p n 0
+byte_is : (p f : List ℕ) (k i n : ℕ) → f ≡ take 64 (drop (64 * k) p) → i < 64 → n ≡ 64 * k + i
+    → get_or f i 0 ≡ get_or p n 0
 byte_is p f k i n e h at = rw (e, at, get_or-take 64 (drop (64 * k) p) i 0 h) (get_or-drop (64 * k) p i 0)
 
 -- a word of it
-pub word_is : (p f : List ℕ) (k j : ℕ) → f ≡ take 64 (drop (64 * k) p) → j < 16 → word_at p (16 * k + j) ≡ lanes_word_at f j
+pub word_is : (p f : List ℕ) (k j : ℕ) → f ≡ take 64 (drop (64 * k) p) → j < 16
+    → word_at p (16 * k + j) ≡ lanes_word_at f j
 word_is p f k j e h =
-    let at = λ (i : ℕ) (less : i < 4). get_or-drop (4 * (16 * k + j)) p i 0 ∙ sym (byte_is p f k (4 * j + i) (4 * (16 * k + j) + i) e (omega arith) (omega arith)) in
+    let at = λ (i : ℕ) (less : i < 4). get_or-drop (4 * (16 * k + j)) p i 0
+        ∙ sym (byte_is p f k (4 * j + i) (4 * (16 * k + j) + i) e (omega arith) (omega arith)) in
     rw (at 0 (omega arith), at 1 (omega arith), at 2 (omega arith), at 3 (omega arith)) (omega arith)
 
 -- its code
-code_is : (p f : List ℕ) (k j : ℕ) → f ≡ take 64 (drop (64 * k) p) → j < 16 → code_at p (16 * k + j) ≡ lanes_word_at f 0 / 2 ^ (30 - 2 * j) % 4
+code_is : (p f : List ℕ) (k j : ℕ) → f ≡ take 64 (drop (64 * k) p) → j < 16
+    → code_at p (16 * k + j) ≡ lanes_word_at f 0 / 2 ^ (30 - 2 * j) % 4
 code_is p f k j e h =
     let head : 16 * ((16 * k + j) / 16) ≡ 16 * k + 0 = omega arith in
     let place : (16 * k + j) % 16 ≡ j = omega arith in
@@ -120,7 +142,8 @@ span-append (x ∷ xs) ys = let later = span-append xs ys in omega (arith, later
 -- ---- the words from word j of a frame on
 -- the differences of a word by its row
 abbrev pub group_at : List ℕ → List ℕ → List ℕ → ℕ → ℕ → List ℤ
-group_at counts widths f from w = digits (get_or widths (row_at f from w) 0) (lanes_word_at f w) (get_or counts (row_at f from w) 0)
+group_at counts widths f from w =
+    digits (get_or widths (row_at f from w) 0) (lanes_word_at f w) (get_or counts (row_at f from w) 0)
 
 abbrev pub count_at : List ℕ → List ℕ → ℕ → ℕ → ℕ
 count_at counts f from w = get_or counts (row_at f from w) 0
@@ -135,23 +158,31 @@ record Found (s : Scheme) (counts widths p f : List ℕ) (k from j n : ℕ) : Ty
 
 -- each word is read by its row
 pub record Reads (s : Scheme) (counts widths p f : List ℕ) (k from : ℕ) : Type 0 where
-  pub word : (j : ℕ) → j < 16 → from ≤ j → count_at counts f from j < 128 → differences_of s (code_at p (16 * k + j)) (word_at p (16 * k + j)) ≡ Some (group_at counts widths f from j)
+  pub word : (j : ℕ) → j < 16 → from ≤ j → count_at counts f from j < 128
+      → differences_of s (code_at p (16 * k + j)) (word_at p (16 * k + j)) ≡ Some (group_at counts widths f from j)
   pub empty : (j : ℕ) → j < from → count_at counts f from j ≡ 0
 
 found : (s : Scheme) (counts widths p f : List ℕ) (k from : ℕ) → Reads s counts widths p f k from
-    → (n j : ℕ) → 0 < j → from ≤ j → j + n ≡ 16 → sum_l (map (count_at counts f from) (range_with_len j n)) < 128 → Found s counts widths p f k from j n
-found s counts widths p f k from reads zero j some behind end few = record { ds = []; items = λ rest. rw (words_none p (16 * k + j)) refl; count = refl; by = refl; near = refl }
+    → (n j : ℕ) → 0 < j → from ≤ j → j + n ≡ 16 → sum_l (map (count_at counts f from) (range_with_len j n)) < 128
+    → Found s counts widths p f k from j n
+found s counts widths p f k from reads zero j some behind end few =
+    record { ds = []; items = λ rest. rw (words_none p (16 * k + j)) refl; count = refl; by = refl; near = refl }
 found s counts widths p f k from reads (suc n) j some behind end few =
-    let later = found s counts widths p f k from reads n (j + 1) (omega arith) (omega arith) (omega arith) (omega (arith, few)) in
+    let later = found s counts widths p f k from reads n (j + 1) (omega arith) (omega arith) (omega arith)
+        (omega (arith, few)) in
     let data_place : (16 * k + j) % 16 ≢ 0 = λ e. omega arith in
     let next : 16 * k + j + 1 ≡ 16 * k + (j + 1) = omega arith in
     let group : List ℤ = group_at counts widths f from j in
-    let cut : words_from p (16 * k + j) (suc n) ≡ data_word p (16 * k + j) ∷ words_from p (16 * k + (j + 1)) n = rw (← next) (words_step p (16 * k + j) n data_place) in
-    let one : differences_of s (code_at p (16 * k + j)) (word_at p (16 * k + j)) ≡ Some group = reads.word j (omega arith) behind (omega (arith, few)) in
-    let long : length group ≡ count_at counts f from j = length-digits (get_or widths (row_at f from j) 0) (lanes_word_at f j) (get_or counts (row_at f from j) 0) in
+    let cut : words_from p (16 * k + j) (suc n) ≡ data_word p (16 * k + j) ∷ words_from p (16 * k + (j + 1)) n =
+        rw (← next) (words_step p (16 * k + j) n data_place) in
+    let one : differences_of s (code_at p (16 * k + j)) (word_at p (16 * k + j)) ≡ Some group =
+        reads.word j (omega arith) behind (omega (arith, few)) in
+    let long : length group ≡ count_at counts f from j =
+        length-digits (get_or widths (row_at f from j) 0) (lanes_word_at f j) (get_or counts (row_at f from j) 0) in
     let whole : length (group ++ later.ds) ≡ length group + length later.ds = length-append group later.ds in
     let items = λ (rest : List DataWord).
-    items_group s (words_from p (16 * k + j) (suc n) ++ rest) (words_from p (16 * k + (j + 1)) n ++ rest) (data_word p (16 * k + j)) group (ap (λ (ws : List DataWord). ws ++ rest) cut) one
+    items_group s (words_from p (16 * k + j) (suc n) ++ rest) (words_from p (16 * k + (j + 1)) n ++ rest)
+        (data_word p (16 * k + j)) group (ap (λ (ws : List DataWord). ws ++ rest) cut) one
     ∙ ap (λ (xs : List (Result ℤ BadWordAt)). map Ok group ++ xs) (later.items rest)
     ∙ sym (append_assoc (map Ok group) (map Ok later.ds) (items_of s rest))
     ∙ ap (λ (xs : List (Result ℤ BadWordAt)). xs ++ items_of s rest) (sym (map-append Ok group later.ds)) in
@@ -164,14 +195,17 @@ found s counts widths p f k from reads (suc n) j some behind end few =
     }
 
 -- a word of no differences
-pub none_at : (counts widths f : List ℕ) (from w : ℕ) → count_at counts f from w ≡ 0 → group_at counts widths f from w ≡ []
+pub none_at : (counts widths f : List ℕ) (from w : ℕ) → count_at counts f from w ≡ 0
+    → group_at counts widths f from w ≡ []
 unfolding digits
 none_at counts widths f from w e = rw e refl
 
 -- ---- all words of the frame
 moves_1 : (s : Scheme) (counts widths p f : List ℕ) (k : ℕ) (m : Moved) → Reads s counts widths p f k 1
-    → m.count ≡ sum_l (map (count_at counts f 1) words) → (m.count < 128 → m.by ≡ sum_z (map (λ w. total (group_at counts widths f 1 w)) words))
-    → (m.count < 128 → sum_l (map (λ w. span (group_at counts widths f 1 w)) words) ≤ 2 ^ 20) → MovesBy s (words_from p (16 * k + 1) 15) m
+    → m.count ≡ sum_l (map (count_at counts f 1) words)
+    → (m.count < 128 → m.by ≡ sum_z (map (λ w. total (group_at counts widths f 1 w)) words))
+    → (m.count < 128 → sum_l (map (λ w. span (group_at counts widths f 1 w)) words) ≤ 2 ^ 20)
+    → MovesBy s (words_from p (16 * k + 1) 15) m
 unfolding words
 moves_1 s counts widths p f k m reads count by near = λ few.
     let z = reads.empty 0 (omega arith) in
@@ -179,11 +213,15 @@ moves_1 s counts widths p f k m reads count by near = λ few.
     let all = found s counts widths p f k 1 reads 15 1 (omega arith) (omega arith) refl (omega (arith, few, count)) in
     let sum = by few in
     let span_all = near few in
-    (all.ds, (record { count = omega (arith, all.count, count, z); by = all.by ∙ sym (sum ∙ (rw none (omega (arith, ints)))); near = omega (arith, all.near, rw none at span_all) }, all.items))
+    (all.ds, (record { count = omega (arith, all.count, count, z); by = all.by
+        ∙ sym (sum ∙ (rw none (omega (arith, ints)))); near = omega (arith, all.near, rw none at span_all) },
+        all.items))
 
 moves_4 : (s : Scheme) (counts widths p f : List ℕ) (k : ℕ) (m : Moved) → Reads s counts widths p f k 4
-    → m.count ≡ sum_l (map (count_at counts f 4) words) → (m.count < 128 → m.by ≡ sum_z (map (λ w. total (group_at counts widths f 4 w)) words))
-    → (m.count < 128 → sum_l (map (λ w. span (group_at counts widths f 4 w)) words) ≤ 2 ^ 20) → MovesBy s (words_from p (16 * k + 4) 12) m
+    → m.count ≡ sum_l (map (count_at counts f 4) words)
+    → (m.count < 128 → m.by ≡ sum_z (map (λ w. total (group_at counts widths f 4 w)) words))
+    → (m.count < 128 → sum_l (map (λ w. span (group_at counts widths f 4 w)) words) ≤ 2 ^ 20)
+    → MovesBy s (words_from p (16 * k + 4) 12) m
 unfolding words
 moves_4 s counts widths p f k m reads count by near = λ few.
     let z0 = reads.empty 0 (omega arith) in
@@ -197,11 +235,16 @@ moves_4 s counts widths p f k m reads count by near = λ few.
     let all = found s counts widths p f k 4 reads 12 4 (omega arith) (omega arith) refl (omega (arith, few, count)) in
     let sum = by few in
     let span_all = near few in
-    (all.ds, (record { count = omega (arith, all.count, count, z0, z1, z2, z3); by = all.by ∙ sym (sum ∙ (rw (n0, n1, n2, n3) (omega (arith, ints)))); near = omega (arith, all.near, rw (n0, n1, n2, n3) at span_all) }, all.items))
+    (all.ds, (record { count = omega (arith, all.count, count, z0, z1, z2, z3); by = all.by
+        ∙ sym (sum ∙ (rw (n0, n1, n2, n3) (omega (arith, ints)))); near =
+        omega (arith, all.near, rw (n0, n1, n2, n3) at span_all) }, all.items))
 
-moves : (s : Scheme) (counts widths p f begin : List ℕ) (k from : ℕ) (m : Moved) → Begins begin from → Reads s counts widths p f k from
-    → m.count ≡ sum_l (map (count_at counts f from) words) → (m.count < 128 → m.by ≡ sum_z (map (λ w. total (group_at counts widths f from w)) words))
-    → (m.count < 128 → sum_l (map (λ w. span (group_at counts widths f from w)) words) ≤ 2 ^ 20) → MovesBy s (words_from p (16 * k + from) (16 - from)) m
+moves : (s : Scheme) (counts widths p f begin : List ℕ) (k from : ℕ) (m : Moved) → Begins begin from
+    → Reads s counts widths p f k from
+    → m.count ≡ sum_l (map (count_at counts f from) words)
+    → (m.count < 128 → m.by ≡ sum_z (map (λ w. total (group_at counts widths f from w)) words))
+    → (m.count < 128 → sum_l (map (λ w. span (group_at counts widths f from w)) words) ≤ 2 ^ 20)
+    → MovesBy s (words_from p (16 * k + from) (16 - from)) m
 moves s counts widths p f begin k from m (inl h) = rw h.0 (moves_1 s counts widths p f k m)
 moves s counts widths p f begin k from m (inr h) = rw h.0 (moves_4 s counts widths p f k m)
 
@@ -209,12 +252,16 @@ moves s counts widths p f begin k from m (inr h) = rw h.0 (moves_4 s counts widt
 word_small : (f : List ℕ) (w : ℕ) → ((i : ℕ) → get_or f i 0 < 256) → lanes_word_at f w < 2 ^ 32
 word_small f w h = omega (arith, h (4 * w + 0), h (4 * w + 1), h (4 * w + 2), h (4 * w + 3))
 
-pub reads_by : (s : Scheme) (counts widths p f : List ℕ) (k from : ℕ) → Rows s counts widths → ((r : ℕ) → r < 4 → get_or counts r 0 ≡ 0) → f ≡ take 64 (drop (64 * k) p) → ((i : ℕ) → get_or f i 0 < 256)
+pub reads_by : (s : Scheme) (counts widths p f : List ℕ) (k from : ℕ) → Rows s counts widths
+    → ((r : ℕ) → r < 4 → get_or counts r 0 ≡ 0) → f ≡ take 64 (drop (64 * k) p) → ((i : ℕ) → get_or f i 0 < 256)
     → Reads s counts widths p f k from
 reads_by s counts widths p f k from rows zeros e h = record {
   word = λ j less behind few.
-      let row : row_at f from j ≡ 4 * (lanes_word_at f 0 / 2 ^ (30 - 2 * j) % 4) + lanes_word_at f j / 2 ^ 30 = rw (le-ltb j from behind) refl in
-      rw (code_is p f k j e less, word_is p f k j e less, row) (rows (lanes_word_at f 0 / 2 ^ (30 - 2 * j) % 4) (lanes_word_at f j) (omega arith) (word_small f j h) (rw row at few));
+      let row : row_at f from j ≡ 4 * (lanes_word_at f 0 / 2 ^ (30 - 2 * j) % 4) + lanes_word_at f j / 2 ^ 30 =
+          rw (le-ltb j from behind) refl in
+      rw (code_is p f k j e less, word_is p f k j e less, row)
+          (rows (lanes_word_at f 0 / 2 ^ (30 - 2 * j) % 4) (lanes_word_at f j) (omega arith) (word_small f j h)
+          (rw row at few));
   empty = λ j less.
       let small = word_small f j h in
       let row : row_at f from j ≡ lanes_word_at f j / 2 ^ 30 = rw (lt-ltb j from less) (omega arith) in
@@ -229,12 +276,22 @@ pub zeros_one : (r : ℕ) → r < 4 → get_or counts_one r 0 ≡ 0
 unfolding counts_one
 zeros_one = each_of_4 (λ r. get_or counts_one r 0 ≡ 0) refl refl refl refl
 
-pub moves_two : (p f begin : List ℕ) (k from : ℕ) (m : Moved) → Begins begin from → f ≡ take 64 (drop (64 * k) p) → ((i : ℕ) → get_or f i 0 < 256)
-    → m.count ≡ sum_l (map (λ w. get_or counts_two (row_at f from w) 0) words) → (m.count < 128 → m.by ≡ sum_z (map (moved_two f from) words))
-    → (m.count < 128 → sum_l (map (spanned_two f from) words) ≤ 1048576) → MovesBy Two (words_from p (16 * k + from) (16 - from)) m
-moves_two p f begin k from m begins e h = moves Two counts_two widths_two p f begin k from m begins (reads_by Two counts_two widths_two p f k from rows_two zeros_two e h)
+pub moves_two : (p f begin : List ℕ) (k from : ℕ) (m : Moved) → Begins begin from → f ≡ take 64 (drop (64 * k) p)
+    → ((i : ℕ) → get_or f i 0 < 256)
+    → m.count ≡ sum_l (map (λ w. get_or counts_two (row_at f from w) 0) words)
+    → (m.count < 128 → m.by ≡ sum_z (map (moved_two f from) words))
+    → (m.count < 128 → sum_l (map (spanned_two f from) words) ≤ 1048576)
+    → MovesBy Two (words_from p (16 * k + from) (16 - from)) m
+moves_two p f begin k from m begins e h =
+    moves Two counts_two widths_two p f begin k from m begins
+    (reads_by Two counts_two widths_two p f k from rows_two zeros_two e h)
 
-pub moves_one : (p f begin : List ℕ) (k from : ℕ) (m : Moved) → Begins begin from → f ≡ take 64 (drop (64 * k) p) → ((i : ℕ) → get_or f i 0 < 256)
-    → m.count ≡ sum_l (map (λ w. get_or counts_one (row_at f from w) 0) words) → (m.count < 128 → m.by ≡ sum_z (map (moved_one f from) words))
-    → (m.count < 128 → sum_l (map (spanned_one f from) words) ≤ 1048576) → MovesBy One (words_from p (16 * k + from) (16 - from)) m
-moves_one p f begin k from m begins e h = moves One counts_one widths_one p f begin k from m begins (reads_by One counts_one widths_one p f k from rows_one zeros_one e h)
+pub moves_one : (p f begin : List ℕ) (k from : ℕ) (m : Moved) → Begins begin from → f ≡ take 64 (drop (64 * k) p)
+    → ((i : ℕ) → get_or f i 0 < 256)
+    → m.count ≡ sum_l (map (λ w. get_or counts_one (row_at f from w) 0) words)
+    → (m.count < 128 → m.by ≡ sum_z (map (moved_one f from) words))
+    → (m.count < 128 → sum_l (map (spanned_one f from) words) ≤ 1048576)
+    → MovesBy One (words_from p (16 * k + from) (16 - from)) m
+moves_one p f begin k from m begins e h =
+    moves One counts_one widths_one p f begin k from m begins
+    (reads_by One counts_one widths_one p f k from rows_one zeros_one e h)

@@ -1,10 +1,12 @@
 -- Steim-1: what a word's parts add up to, by its row, and a frame's words.
-use Rattle.std.proofs.Common.{to_z, w32, negsuc, ◌≡◌, ℕ, suc, ◌+◌, ◌-◌, ◌*◌, ◌/◌, ◌%◌, ◌<◌, ◌≤◌, List, [], ◌∷◌, length, map, get_or, bit_and, bit_xor, refl, sym, ap, subst, ◌∙◌, arith, ℤ, pos, ◌+ℤ◌, below_none, below_more}
+use Rattle.std.proofs.Common.{to_z, w32, negsuc, ◌≡◌, ℕ, suc, ◌+◌, ◌-◌, ◌*◌, ◌/◌, ◌%◌, ◌<◌, ◌≤◌, List, [], ◌∷◌, length,
+    map, get_or, bit_and, bit_xor, refl, sym, ap, subst, ◌∙◌, arith, ℤ, pos, ◌+ℤ◌, below_none, below_more}
 use Rattle.std.proofs.lemmas.Int.{ints, to_z_pos}
 use lib.Lanes.{sum_l}
 use Rattle.mseed_steim.specs.Digits.{signed, digits}
 use Rattle.mseed_steim.specs.Lanes.{total, word_of}
-use Rattle.mseed_steim.specs.Lanes.{words, sum_z, byte_at, row_at, low_one, high_one, flipped, flipped_low, least_one, counts_one, widths_one, moved_one}
+use Rattle.mseed_steim.specs.Lanes.{words, sum_z, byte_at, row_at, low_one, high_one, flipped, flipped_low, least_one,
+    counts_one, widths_one, moved_one}
 use Rattle.mseed_steim.proofs.FrameBytes.{same, four_is, four_p0}
 use Rattle.mseed_steim.proofs.LaneSums.{long_words}
 use Rattle.mseed_steim.proofs.FrameWords.{gone}
@@ -16,12 +18,14 @@ use Rattle.std.proofs.Common.{⊎_elim}
 -- the parts of a word
 abbrev pub whole_one : ℕ → ℕ → ℕ → ℕ → ℕ → ℕ
 whole_one row a b c d =
-    low_one row (flipped row a) (flipped_low row b) (flipped row c) (flipped_low row d) + 256 * high_one row (flipped row a) (flipped_low row b) (flipped row c) (flipped_low row d)
+    low_one row (flipped row a) (flipped_low row b) (flipped row c) (flipped_low row d) + 256 * high_one row
+        (flipped row a) (flipped_low row b) (flipped row c) (flipped_low row d)
 
 abbrev pub Tells_one : ℕ → ℕ → ℕ → ℕ → ℕ → Type 0
 Tells_one row a b c d =
     get_or counts_one row 0 < 128
-    → (pos (whole_one row a b c d) ≡ total (digits (get_or widths_one row 0) (word_of a b c d) (get_or counts_one row 0)) +ℤ pos (512 * least_one row))
+    → (pos (whole_one row a b c d)
+    ≡ total (digits (get_or widths_one row 0) (word_of a b c d) (get_or counts_one row 0)) +ℤ pos (512 * least_one row))
     × (whole_one row a b c d ≤ 131072) × (512 * least_one row ≤ 65536)
 
 plain : (x : ℕ) → x < 256 → bit_and (bit_xor x 0) 255 * 1 ≡ x
@@ -42,7 +46,8 @@ pair_1 a b c d A B C D = omega arith
 pair_0 : (a b c d : ℕ) → a < 256 → b < 256 → c < 256 → d < 256 → word_of a b c d / 1 % 65536 ≡ c * 256 + d
 pair_0 a b c d A B C D = omega arith
 
-both_raised : (x y : ℕ) → x < 65536 → y < 65536 → pos ((x + 32768) % 65536 + (y + 32768) % 65536) ≡ (signed 16 x +ℤ (signed 16 y +ℤ pos 0)) +ℤ pos 65536
+both_raised : (x y : ℕ) → x < 65536 → y < 65536
+    → pos ((x + 32768) % 65536 + (y + 32768) % 65536) ≡ (signed 16 x +ℤ (signed 16 y +ℤ pos 0)) +ℤ pos 65536
 both_raised x y X Y = go (signed 16 x) (signed 16 y) (raised16 x X) (raised16 y Y)
   where
     go : (s t : ℤ) → s +ℤ pos 32768 ≡ pos ((x + 32768) % 65536) → t +ℤ pos 32768 ≡ pos ((y + 32768) % 65536)
@@ -65,19 +70,32 @@ wide_is a b c d A B C D =
     ∙ sym (rw (pair_1 a b c d A B C D, pair_0 a b c d A B C D) refl)
 
 scaled_one : (row a b c d k : ℕ) → whole_one row a b c d ≡ k → k ≤ 131072
-    → pos k ≡ total (digits (get_or widths_one row 0) (word_of a b c d) (get_or counts_one row 0)) +ℤ pos (512 * least_one row) → 512 * least_one row ≤ 65536
-    → (pos (whole_one row a b c d) ≡ total (digits (get_or widths_one row 0) (word_of a b c d) (get_or counts_one row 0)) +ℤ pos (512 * least_one row))
+    → pos k ≡ total (digits (get_or widths_one row 0) (word_of a b c d) (get_or counts_one row 0)) +ℤ pos
+    (512 * least_one row) → 512 * least_one row ≤ 65536
+    → (pos (whole_one row a b c d)
+    ≡ total (digits (get_or widths_one row 0) (word_of a b c d) (get_or counts_one row 0)) +ℤ pos (512 * least_one row))
     × (whole_one row a b c d ≤ 131072) × (512 * least_one row ≤ 65536)
 scaled_one row a b c d k e small is low = (ap pos e ∙ is, omega (arith, e, small), low)
 
-none_one : (a b c d : ℕ) → a < 256 → b < 256 → c < 256 → d < 256 → (bit_and (bit_xor a 0) 0 * 1 + bit_and (bit_xor b 0) 0 * 1 + bit_and (bit_xor c 0) 0 * 1 + bit_and (bit_xor d 0) 0 * 1) + 256 * (bit_and (bit_xor a 0) 0 * 1 + bit_and (bit_xor c 0) 0 * 1) ≡ 0
-none_one a b c d A B C D = omega (arith, gone (bit_xor a 0) 1, gone (bit_xor b 0) 1, gone (bit_xor c 0) 1, gone (bit_xor d 0) 1)
+none_one : (a b c d : ℕ) → a < 256 → b < 256 → c < 256 → d < 256
+    → (bit_and (bit_xor a 0) 0 * 1 + bit_and (bit_xor b 0) 0 * 1 + bit_and (bit_xor c 0) 0 * 1 + bit_and (bit_xor d 0)
+    0 * 1) + 256 * (bit_and (bit_xor a 0) 0 * 1 + bit_and (bit_xor c 0) 0 * 1) ≡ 0
+none_one a b c d A B C D = omega (arith, gone (bit_xor a 0) 1, gone (bit_xor b 0) 1, gone (bit_xor c 0) 1,
+    gone (bit_xor d 0) 1)
 
-four_one : (a b c d : ℕ) → a < 256 → b < 256 → c < 256 → d < 256 → (bit_and (bit_xor a 128) 255 * 1 + bit_and (bit_xor b 128) 255 * 1 + bit_and (bit_xor c 128) 255 * 1 + bit_and (bit_xor d 128) 255 * 1) + 256 * (bit_and (bit_xor a 128) 0 * 1 + bit_and (bit_xor c 128) 0 * 1) ≡ 1 * ((a / 1 + 128) % 256) + 1 * ((b / 1 + 128) % 256) + 1 * ((c / 1 + 128) % 256) + 1 * ((d / 1 + 128) % 256)
-four_one a b c d A B C D = omega (arith, four_p0 a A, four_p0 b B, four_p0 c C, four_p0 d D, gone (bit_xor a 128) 1, gone (bit_xor c 128) 1)
+four_one : (a b c d : ℕ) → a < 256 → b < 256 → c < 256 → d < 256
+    → (bit_and (bit_xor a 128) 255 * 1 + bit_and (bit_xor b 128) 255 * 1 + bit_and (bit_xor c 128) 255 * 1 + bit_and
+    (bit_xor d 128) 255 * 1) + 256 * (bit_and (bit_xor a 128) 0 * 1 + bit_and (bit_xor c 128) 0 * 1)
+    ≡ 1 * ((a / 1 + 128) % 256) + 1 * ((b / 1 + 128) % 256) + 1 * ((c / 1 + 128) % 256) + 1 * ((d / 1 + 128) % 256)
+four_one a b c d A B C D = omega (arith, four_p0 a A, four_p0 b B, four_p0 c C, four_p0 d D, gone (bit_xor a 128) 1,
+    gone (bit_xor c 128) 1)
 
-wide_one : (a b c d : ℕ) → a < 256 → b < 256 → c < 256 → d < 256 → (bit_and (bit_xor a 128) 0 * 1 + bit_and (bit_xor b 0) 255 * 1 + bit_and (bit_xor c 128) 0 * 1 + bit_and (bit_xor d 0) 255 * 1) + 256 * (bit_and (bit_xor a 128) 255 * 1 + bit_and (bit_xor c 128) 255 * 1) ≡ b + d + 256 * ((a + 128) % 256 + (c + 128) % 256)
-wide_one a b c d A B C D = omega (arith, plain b B, plain d D, top_turned a A, top_turned c C, gone (bit_xor a 128) 1, gone (bit_xor c 128) 1)
+wide_one : (a b c d : ℕ) → a < 256 → b < 256 → c < 256 → d < 256
+    → (bit_and (bit_xor a 128) 0 * 1 + bit_and (bit_xor b 0) 255 * 1 + bit_and (bit_xor c 128) 0 * 1 + bit_and
+    (bit_xor d 0) 255 * 1) + 256 * (bit_and (bit_xor a 128) 255 * 1 + bit_and (bit_xor c 128) 255 * 1)
+    ≡ b + d + 256 * ((a + 128) % 256 + (c + 128) % 256)
+wide_one a b c d A B C D = omega (arith, plain b B, plain d D, top_turned a A, top_turned c C, gone (bit_xor a 128) 1,
+    gone (bit_xor c 128) 1)
 
 one_0 : (a b c d : ℕ) → a < 256 → b < 256 → c < 256 → d < 256 → Tells_one 0 a b c d
 unfolding low_one high_one flipped flipped_low least_one counts_one widths_one digits
@@ -97,35 +115,47 @@ one_3 a b c d A B C D = λ few. scaled_one 3 a b c d 0 (none_one a b c d A B C D
 
 one_4 : (a b c d : ℕ) → a < 256 → b < 256 → c < 256 → d < 256 → Tells_one 4 a b c d
 unfolding low_one high_one flipped flipped_low least_one counts_one widths_one digits
-one_4 a b c d A B C D = λ few. scaled_one 4 a b c d (1 * ((a / 1 + 128) % 256) + 1 * ((b / 1 + 128) % 256) + 1 * ((c / 1 + 128) % 256) + 1 * ((d / 1 + 128) % 256)) (four_one a b c d A B C D) (omega arith) (four_is a b c d A B C D) (omega arith)
+one_4 a b c d A B C D = λ few. scaled_one 4 a b c d
+    (1 * ((a / 1 + 128) % 256) + 1 * ((b / 1 + 128) % 256) + 1 * ((c / 1 + 128) % 256) + 1 * ((d / 1 + 128) % 256))
+    (four_one a b c d A B C D) (omega arith) (four_is a b c d A B C D) (omega arith)
 
 one_5 : (a b c d : ℕ) → a < 256 → b < 256 → c < 256 → d < 256 → Tells_one 5 a b c d
 unfolding low_one high_one flipped flipped_low least_one counts_one widths_one digits
-one_5 a b c d A B C D = λ few. scaled_one 5 a b c d (1 * ((a / 1 + 128) % 256) + 1 * ((b / 1 + 128) % 256) + 1 * ((c / 1 + 128) % 256) + 1 * ((d / 1 + 128) % 256)) (four_one a b c d A B C D) (omega arith) (four_is a b c d A B C D) (omega arith)
+one_5 a b c d A B C D = λ few. scaled_one 5 a b c d
+    (1 * ((a / 1 + 128) % 256) + 1 * ((b / 1 + 128) % 256) + 1 * ((c / 1 + 128) % 256) + 1 * ((d / 1 + 128) % 256))
+    (four_one a b c d A B C D) (omega arith) (four_is a b c d A B C D) (omega arith)
 
 one_6 : (a b c d : ℕ) → a < 256 → b < 256 → c < 256 → d < 256 → Tells_one 6 a b c d
 unfolding low_one high_one flipped flipped_low least_one counts_one widths_one digits
-one_6 a b c d A B C D = λ few. scaled_one 6 a b c d (1 * ((a / 1 + 128) % 256) + 1 * ((b / 1 + 128) % 256) + 1 * ((c / 1 + 128) % 256) + 1 * ((d / 1 + 128) % 256)) (four_one a b c d A B C D) (omega arith) (four_is a b c d A B C D) (omega arith)
+one_6 a b c d A B C D = λ few. scaled_one 6 a b c d
+    (1 * ((a / 1 + 128) % 256) + 1 * ((b / 1 + 128) % 256) + 1 * ((c / 1 + 128) % 256) + 1 * ((d / 1 + 128) % 256))
+    (four_one a b c d A B C D) (omega arith) (four_is a b c d A B C D) (omega arith)
 
 one_7 : (a b c d : ℕ) → a < 256 → b < 256 → c < 256 → d < 256 → Tells_one 7 a b c d
 unfolding low_one high_one flipped flipped_low least_one counts_one widths_one digits
-one_7 a b c d A B C D = λ few. scaled_one 7 a b c d (1 * ((a / 1 + 128) % 256) + 1 * ((b / 1 + 128) % 256) + 1 * ((c / 1 + 128) % 256) + 1 * ((d / 1 + 128) % 256)) (four_one a b c d A B C D) (omega arith) (four_is a b c d A B C D) (omega arith)
+one_7 a b c d A B C D = λ few. scaled_one 7 a b c d
+    (1 * ((a / 1 + 128) % 256) + 1 * ((b / 1 + 128) % 256) + 1 * ((c / 1 + 128) % 256) + 1 * ((d / 1 + 128) % 256))
+    (four_one a b c d A B C D) (omega arith) (four_is a b c d A B C D) (omega arith)
 
 one_8 : (a b c d : ℕ) → a < 256 → b < 256 → c < 256 → d < 256 → Tells_one 8 a b c d
 unfolding low_one high_one flipped flipped_low least_one counts_one widths_one digits
-one_8 a b c d A B C D = λ few. scaled_one 8 a b c d (b + d + 256 * ((a + 128) % 256 + (c + 128) % 256)) (wide_one a b c d A B C D) (omega arith) (wide_is a b c d A B C D) (omega arith)
+one_8 a b c d A B C D = λ few. scaled_one 8 a b c d (b + d + 256 * ((a + 128) % 256 + (c + 128) % 256))
+    (wide_one a b c d A B C D) (omega arith) (wide_is a b c d A B C D) (omega arith)
 
 one_9 : (a b c d : ℕ) → a < 256 → b < 256 → c < 256 → d < 256 → Tells_one 9 a b c d
 unfolding low_one high_one flipped flipped_low least_one counts_one widths_one digits
-one_9 a b c d A B C D = λ few. scaled_one 9 a b c d (b + d + 256 * ((a + 128) % 256 + (c + 128) % 256)) (wide_one a b c d A B C D) (omega arith) (wide_is a b c d A B C D) (omega arith)
+one_9 a b c d A B C D = λ few. scaled_one 9 a b c d (b + d + 256 * ((a + 128) % 256 + (c + 128) % 256))
+    (wide_one a b c d A B C D) (omega arith) (wide_is a b c d A B C D) (omega arith)
 
 one_10 : (a b c d : ℕ) → a < 256 → b < 256 → c < 256 → d < 256 → Tells_one 10 a b c d
 unfolding low_one high_one flipped flipped_low least_one counts_one widths_one digits
-one_10 a b c d A B C D = λ few. scaled_one 10 a b c d (b + d + 256 * ((a + 128) % 256 + (c + 128) % 256)) (wide_one a b c d A B C D) (omega arith) (wide_is a b c d A B C D) (omega arith)
+one_10 a b c d A B C D = λ few. scaled_one 10 a b c d (b + d + 256 * ((a + 128) % 256 + (c + 128) % 256))
+    (wide_one a b c d A B C D) (omega arith) (wide_is a b c d A B C D) (omega arith)
 
 one_11 : (a b c d : ℕ) → a < 256 → b < 256 → c < 256 → d < 256 → Tells_one 11 a b c d
 unfolding low_one high_one flipped flipped_low least_one counts_one widths_one digits
-one_11 a b c d A B C D = λ few. scaled_one 11 a b c d (b + d + 256 * ((a + 128) % 256 + (c + 128) % 256)) (wide_one a b c d A B C D) (omega arith) (wide_is a b c d A B C D) (omega arith)
+one_11 a b c d A B C D = λ few. scaled_one 11 a b c d (b + d + 256 * ((a + 128) % 256 + (c + 128) % 256))
+    (wide_one a b c d A B C D) (omega arith) (wide_is a b c d A B C D) (omega arith)
 
 one_12 : (a b c d : ℕ) → a < 256 → b < 256 → c < 256 → d < 256 → Tells_one 12 a b c d
 unfolding counts_one
@@ -146,15 +176,27 @@ one_15 a b c d A B C D = λ few. absurd (omega (arith, few))
 pub tells_one : (a b c d : ℕ) → a < 256 → b < 256 → c < 256 → d < 256 → (row : ℕ) → row < 16 → Tells_one row a b c d
 tells_one a b c d A B C D =
     let P : ℕ → Type 0 = λ row. Tells_one row a b c d in
-    below_more P 15 (below_more P 14 (below_more P 13 (below_more P 12 (below_more P 11 (below_more P 10 (below_more P 9 (below_more P 8 (below_more P 7 (below_more P 6 (below_more P 5 (below_more P 4 (below_more P 3 (below_more P 2 (below_more P 1 (below_more P 0 (below_none P) (one_0 a b c d A B C D)) (one_1 a b c d A B C D)) (one_2 a b c d A B C D)) (one_3 a b c d A B C D)) (one_4 a b c d A B C D)) (one_5 a b c d A B C D)) (one_6 a b c d A B C D)) (one_7 a b c d A B C D)) (one_8 a b c d A B C D)) (one_9 a b c d A B C D)) (one_10 a b c d A B C D)) (one_11 a b c d A B C D)) (one_12 a b c d A B C D)) (one_13 a b c d A B C D)) (one_14 a b c d A B C D)) (one_15 a b c d A B C D)
+    below_more P 15 (below_more P 14
+        (below_more P 13 (below_more P 12
+        (below_more P 11 (below_more P 10
+        (below_more P 9 (below_more P 8
+        (below_more P 7 (below_more P 6
+        (below_more P 5 (below_more P 4
+        (below_more P 3 (below_more P 2 (below_more P 1 (below_more P 0 (below_none P) (one_0 a b c d A B C D))
+        (one_1 a b c d A B C D)) (one_2 a b c d A B C D)) (one_3 a b c d A B C D)) (one_4 a b c d A B C D))
+        (one_5 a b c d A B C D)) (one_6 a b c d A B C D)) (one_7 a b c d A B C D)) (one_8 a b c d A B C D))
+        (one_9 a b c d A B C D)) (one_10 a b c d A B C D)) (one_11 a b c d A B C D)) (one_12 a b c d A B C D))
+        (one_13 a b c d A B C D)) (one_14 a b c d A B C D)) (one_15 a b c d A B C D)
 
 abbrev pub Told_one : (ℕ → ℕ) → (ℕ → ℕ) → (ℕ → ℕ) → (ℕ → ℤ) → ℕ → Type 0
-Told_one count whole least moved w = count w < 128 → (pos (whole w) ≡ moved w +ℤ pos (least w)) × (whole w ≤ 131072) × (least w ≤ 65536)
+Told_one count whole least moved w = count w < 128 → (pos (whole w) ≡ moved w +ℤ pos (least w)) × (whole w ≤ 131072)
+    × (least w ≤ 65536)
 
 step : (x X l L : ℕ) (m M : ℤ) → pos x ≡ m +ℤ pos l → pos X ≡ M +ℤ pos L → pos (x + X) ≡ (m +ℤ M) +ℤ pos (l + L)
 step x X l L m M f h = omega (arith, ints, f, h)
 
-told_all_one : (count whole least : ℕ → ℕ) (moved : ℕ → ℤ) → ((w : ℕ) → Told_one count whole least moved w) → (ws : List ℕ) → sum_l (map count ws) < 128
+told_all_one : (count whole least : ℕ → ℕ) (moved : ℕ → ℤ) → ((w : ℕ) → Told_one count whole least moved w)
+    → (ws : List ℕ) → sum_l (map count ws) < 128
     → (pos (sum_l (map whole ws)) ≡ sum_z (map moved ws) +ℤ pos (sum_l (map least ws)))
     × (sum_l (map whole ws) ≤ 131072 * length ws) × (sum_l (map least ws) ≤ 65536 * length ws)
 told_all_one count whole least moved h [] lt = (refl, omega arith, omega arith)
@@ -174,7 +216,8 @@ pub lanes_come_one : (low high least LO HI t8 p1 t9 m r : ℕ)
     → (r + 512 * least) % 4294967296 ≡ (LO + 256 * HI) % 4294967296
 lanes_come_one low high least LO HI t8 p1 t9 m r e1 e2 e3 e4 e5 e6 e7 = omega (arith, e1, e2, e3, e4, e5, e6, e7)
 
-read_back : (r W L : ℕ) (T : ℤ) → (r + L) % 4294967296 ≡ W % 4294967296 → r < 4294967296 → W ≤ 2097152 → L ≤ 1048576 → pos W ≡ T +ℤ pos L → to_z w32 r ≡ T
+read_back : (r W L : ℕ) (T : ℤ) → (r + L) % 4294967296 ≡ W % 4294967296 → r < 4294967296 → W ≤ 2097152 → L ≤ 1048576
+    → pos W ≡ T +ℤ pos L → to_z w32 r ≡ T
 read_back r W L T e lt w l f = ⊎_elim
     (λ (less : W < L).
     let k : ℕ = L - W - 1 in
@@ -191,7 +234,8 @@ read_back r W L T e lt w l f = ⊎_elim
     above : (W L : ℕ) (T : ℤ) → L ≤ W → pos W ≡ T +ℤ pos L → pos (W - L) ≡ T
     above W L T more f = omega (arith, ints, more, f)
 
-sums_256 : (o f : ℕ → ℕ) (ws : List ℕ) → sum_l (map (λ w. o w + 256 * f w) ws) ≡ sum_l (map o ws) + 256 * sum_l (map f ws)
+sums_256 : (o f : ℕ → ℕ) (ws : List ℕ)
+    → sum_l (map (λ w. o w + 256 * f w) ws) ≡ sum_l (map o ws) + 256 * sum_l (map f ws)
 sums_256 o f [] = refl
 sums_256 o f (w ∷ ws) = let ih = sums_256 o f ws in omega (arith, ih)
 
@@ -203,22 +247,35 @@ abbrev whole_at_one : List ℕ → ℕ → ℕ → ℕ
 whole_at_one f from w = whole_one (row_at f from w) (byte_at f 0 w) (byte_at f 1 w) (byte_at f 2 w) (byte_at f 3 w)
 
 told_one : (f : List ℕ) (from : ℕ) → ((k : ℕ) → get_or f k 0 < 256) → (w : ℕ)
-    → Told_one (λ w. get_or counts_one (row_at f from w) 0) (whole_at_one f from) (λ w. 512 * least_one (row_at f from w)) (moved_one f from) w
+    → Told_one (λ w. get_or counts_one (row_at f from w) 0) (whole_at_one f from)
+    (λ w. 512 * least_one (row_at f from w)) (moved_one f from) w
 told_one f from h w =
-    tells_one (byte_at f 0 w) (byte_at f 1 w) (byte_at f 2 w) (byte_at f 3 w) (h (4 * w + 0)) (h (4 * w + 1)) (h (4 * w + 2)) (h (4 * w + 3)) (row_at f from w) (row_small f from h w)
+    tells_one (byte_at f 0 w) (byte_at f 1 w) (byte_at f 2 w) (byte_at f 3 w) (h (4 * w + 0)) (h (4 * w + 1))
+        (h (4 * w + 2)) (h (4 * w + 3)) (row_at f from w) (row_small f from h w)
 
 pub frame_sum_one : (f : List ℕ) (from : ℕ) → ((k : ℕ) → get_or f k 0 < 256) → (r le LO HI : ℕ)
     → (r + 512 * le) % 4294967296 ≡ (LO + 256 * HI) % 4294967296 → r < 4294967296
-    → LO ≡ sum_l (map (λ w. low_one (row_at f from w) (flipped (row_at f from w) (byte_at f 0 w)) (flipped_low (row_at f from w) (byte_at f 1 w)) (flipped (row_at f from w) (byte_at f 2 w)) (flipped_low (row_at f from w) (byte_at f 3 w))) words)
-    → HI ≡ sum_l (map (λ w. high_one (row_at f from w) (flipped (row_at f from w) (byte_at f 0 w)) (flipped_low (row_at f from w) (byte_at f 1 w)) (flipped (row_at f from w) (byte_at f 2 w)) (flipped_low (row_at f from w) (byte_at f 3 w))) words)
+    → LO ≡ sum_l (map (λ w. low_one (row_at f from w) (flipped (row_at f from w) (byte_at f 0 w))
+    (flipped_low (row_at f from w) (byte_at f 1 w)) (flipped (row_at f from w) (byte_at f 2 w))
+    (flipped_low (row_at f from w) (byte_at f 3 w))) words)
+    → HI ≡ sum_l (map (λ w. high_one (row_at f from w) (flipped (row_at f from w) (byte_at f 0 w))
+    (flipped_low (row_at f from w) (byte_at f 1 w)) (flipped (row_at f from w) (byte_at f 2 w))
+    (flipped_low (row_at f from w) (byte_at f 3 w))) words)
     → le ≡ sum_l (map (λ w. least_one (row_at f from w)) words)
     → sum_l (map (λ w. get_or counts_one (row_at f from w) 0) words) < 128
     → to_z w32 r ≡ sum_z (map (moved_one f from) words)
 frame_sum_one f from h r le LO HI come small lo hi l few =
-    let all = told_all_one (λ w. get_or counts_one (row_at f from w) 0) (whole_at_one f from) (λ w. 512 * least_one (row_at f from w)) (moved_one f from) (told_one f from h) words few in
+    let all = told_all_one (λ w. get_or counts_one (row_at f from w) 0) (whole_at_one f from)
+        (λ w. 512 * least_one (row_at f from w)) (moved_one f from) (told_one f from h) words few in
     let W : ℕ = sum_l (map (whole_at_one f from) words) in
     let L : ℕ = sum_l (map (λ w. 512 * least_one (row_at f from w)) words) in
-    let is_w : LO + 256 * HI ≡ W = rw (lo, hi) (sym (sums_256 (λ w. low_one (row_at f from w) (flipped (row_at f from w) (byte_at f 0 w)) (flipped_low (row_at f from w) (byte_at f 1 w)) (flipped (row_at f from w) (byte_at f 2 w)) (flipped_low (row_at f from w) (byte_at f 3 w))) (λ w. high_one (row_at f from w) (flipped (row_at f from w) (byte_at f 0 w)) (flipped_low (row_at f from w) (byte_at f 1 w)) (flipped (row_at f from w) (byte_at f 2 w)) (flipped_low (row_at f from w) (byte_at f 3 w))) words)) in
+    let is_w : LO + 256 * HI ≡ W =
+        rw (lo, hi) (sym (sums_256 (λ w. low_one (row_at f from w) (flipped (row_at f from w) (byte_at f 0 w))
+        (flipped_low (row_at f from w) (byte_at f 1 w)) (flipped (row_at f from w) (byte_at f 2 w))
+        (flipped_low (row_at f from w) (byte_at f 3 w)))
+        (λ w. high_one (row_at f from w) (flipped (row_at f from w) (byte_at f 0 w))
+        (flipped_low (row_at f from w) (byte_at f 1 w)) (flipped (row_at f from w) (byte_at f 2 w))
+        (flipped_low (row_at f from w) (byte_at f 3 w))) words)) in
     let is_l : 512 * le ≡ L = rw l (sym (sums_512 (λ w. least_one (row_at f from w)) words)) in
     let e : (r + L) % 4294967296 ≡ W % 4294967296 =
     ap (λ n. (r + n) % 4294967296) (sym is_l) ∙ come ∙ ap (λ n. n % 4294967296) is_w in

@@ -1,30 +1,37 @@
 -- What a frame's words add up to.
-use Rattle.std.proofs.Common.{to_z, of_z, ◌≡◌, ◌-◌, ◌^◌, Bool, true, false, if◌then◌else◌, nat_lt, w32, rules, ℕ, ◌+◌, ◌*◌, ◌/◌, ◌%◌, ◌<◌, ◌≤◌, List, [], ◌∷◌, length, map, get_or, refl, sym, ap, subst, ◌∙◌, arith, ℤ, pos, ◌+ℤ◌, ◌-ℤ◌}
+use Rattle.std.proofs.Common.{to_z, of_z, ◌≡◌, ◌-◌, ◌^◌, Bool, true, false, if◌then◌else◌, nat_lt, w32, rules, ℕ, ◌+◌,
+    ◌*◌, ◌/◌, ◌%◌, ◌<◌, ◌≤◌, List, [], ◌∷◌, length, map, get_or, refl, sym, ap, subst, ◌∙◌, arith, ℤ, pos, ◌+ℤ◌, ◌-ℤ◌}
 use Rattle.std.proofs.lemmas.Int.{ints}
 use lib.Lanes.{sum_l}
 use Rattle.std.proofs.lemmas.Int.{to_z_pos, to_z-of_z}
 use Rattle.mseed_steim.specs.Lanes.{word_of}
-use Rattle.mseed_steim.specs.Lanes.{words, sum_z, byte_at, word_at, row_at, moved_two, counts_two, ones_two, fine_two, coarse_two, turned_a, turned_b, turned_c, turned_d, least_two, least_coarse_two}
+use Rattle.mseed_steim.specs.Lanes.{words, sum_z, byte_at, word_at, row_at, moved_two, counts_two, ones_two, fine_two,
+    coarse_two, turned_a, turned_b, turned_c, turned_d, least_two, least_coarse_two}
 use Rattle.mseed_steim.proofs.LaneSums.{long_words}
 use Rattle.mseed_steim.proofs.FrameWords.{tells, whole, least}
 
 abbrev pub Told : (ℕ → ℕ) → (ℕ → ℕ) → (ℕ → ℕ) → (ℕ → ℤ) → ℕ → Type 0
-Told count whole least moved w = count w < 128 → (whole w % 128 ≡ 0) × (pos (whole w / 128) ≡ moved w +ℤ pos (least w)) × (whole w / 128 ≤ 65536) × (least w ≤ 32768)
+Told count whole least moved w = count w < 128 → (whole w % 128 ≡ 0) × (pos (whole w / 128) ≡ moved w +ℤ pos (least w))
+    × (whole w / 128 ≤ 65536) × (least w ≤ 32768)
 
-step : (x X l L : ℕ) (m M : ℤ) → x % 128 ≡ 0 → pos (x / 128) ≡ m +ℤ pos l → X % 128 ≡ 0 → pos (X / 128) ≡ M +ℤ pos L → pos ((x + X) / 128) ≡ (m +ℤ M) +ℤ pos (l + L)
+step : (x X l L : ℕ) (m M : ℤ) → x % 128 ≡ 0 → pos (x / 128) ≡ m +ℤ pos l → X % 128 ≡ 0 → pos (X / 128) ≡ M +ℤ pos L
+    → pos ((x + X) / 128) ≡ (m +ℤ M) +ℤ pos (l + L)
 step x X l L m M e f g h =
     let k : (x + X) / 128 ≡ x / 128 + X / 128 = omega (arith, e, g) in
     ap pos k ∙ omega (arith, ints, f, h)
 
-pub told_all : (count whole least : ℕ → ℕ) (moved : ℕ → ℤ) → ((w : ℕ) → Told count whole least moved w) → (ws : List ℕ) → sum_l (map count ws) < 128
-    → (sum_l (map whole ws) % 128 ≡ 0) × (pos (sum_l (map whole ws) / 128) ≡ sum_z (map moved ws) +ℤ pos (sum_l (map least ws)))
+pub told_all : (count whole least : ℕ → ℕ) (moved : ℕ → ℤ) → ((w : ℕ) → Told count whole least moved w) → (ws : List ℕ)
+    → sum_l (map count ws) < 128
+    → (sum_l (map whole ws) % 128 ≡ 0)
+    × (pos (sum_l (map whole ws) / 128) ≡ sum_z (map moved ws) +ℤ pos (sum_l (map least ws)))
     × (sum_l (map whole ws) / 128 ≤ 65536 * length ws) × (sum_l (map least ws) ≤ 32768 * length ws)
 told_all count whole least moved h [] lt = (refl, refl, omega arith, omega arith)
 told_all count whole least moved h (w ∷ ws) lt =
     let a = h w (omega (arith, lt)) in
     let b = told_all count whole least moved h ws (omega (arith, lt)) in (
       omega (arith, a.0, b.0),
-      step (whole w) (sum_l (map whole ws)) (least w) (sum_l (map least ws)) (moved w) (sum_z (map moved ws)) a.0 a.1 b.0 b.1,
+      step (whole w) (sum_l (map whole ws)) (least w) (sum_l (map least ws)) (moved w) (sum_z (map moved ws)) a.0 a.1
+          b.0 b.1,
       omega (arith, a.0, b.0, a.2, b.2),
       omega (arith, a.3, b.3),
     )
@@ -33,25 +40,30 @@ told_all count whole least moved h (w ∷ ws) lt =
 pub lanes_come : (ones fine coarse least far ON FI CO t7 p1 m1 t15 p2 t10 m2 r : ℕ)
     → ones % 4294967296 ≡ ON % 4294967296 → fine % 4294967296 ≡ FI % 4294967296 → coarse % 4294967296 ≡ CO % 4294967296
     → (m1 + far) % 4294967296 ≡ coarse % 4294967296 → t15 % 4294967296 ≡ 32768 * m1 % 4294967296
-    → t7 % 4294967296 ≡ 128 * ones % 4294967296 → p1 % 4294967296 ≡ (t7 + fine) % 4294967296 → p2 % 4294967296 ≡ (p1 + t15) % 4294967296
+    → t7 % 4294967296 ≡ 128 * ones % 4294967296 → p1 % 4294967296 ≡ (t7 + fine) % 4294967296
+    → p2 % 4294967296 ≡ (p1 + t15) % 4294967296
     → t10 % 4294967296 ≡ 1024 * least % 4294967296 → (m2 + t10) % 4294967296 ≡ p2 % 4294967296 → r ≡ m2 % 4294967296
     → (r + 128 * (8 * least + 256 * far)) % 4294967296 ≡ (128 * ON + FI + 32768 * CO) % 4294967296
 lanes_come ones fine coarse least far ON FI CO t7 p1 m1 t15 p2 t10 m2 r e1 e2 e3 e4 e5 e6 e7 e8 e9 e10 e11 =
     omega (arith, e1, e2, e3, e4, e5, e6, e7, e8, e9, e10, e11)
 
 -- 2^20 more than the sum of the differences
-pub raised : (r W L : ℕ) → (r + 128 * L) % 4294967296 ≡ W % 4294967296 → r < 4294967296 → W % 128 ≡ 0 → W / 128 ≤ 1048576 → L ≤ 524288
+pub raised : (r W L : ℕ) → (r + 128 * L) % 4294967296 ≡ W % 4294967296 → r < 4294967296 → W % 128 ≡ 0
+    → W / 128 ≤ 1048576 → L ≤ 524288
     → (r + 134217728) % 4294967296 / 128 + L ≡ W / 128 + 1048576
 raised r W L e lt even w l = omega (arith, e, lt, even, w, l)
 
 pub lowered : (n Y L : ℕ) (T : ℤ) → n + L ≡ Y + 1048576 → pos Y ≡ T +ℤ pos L → pos n -ℤ pos 1048576 ≡ T
 lowered n Y L T e f = omega (arith, ints, e, f)
 
-three_sums : (o f c : ℕ → ℕ) (ws : List ℕ) → sum_l (map (λ w. 128 * o w + f w + 32768 * c w) ws) ≡ 128 * sum_l (map o ws) + sum_l (map f ws) + 32768 * sum_l (map c ws)
+three_sums : (o f c : ℕ → ℕ) (ws : List ℕ)
+    → sum_l (map (λ w. 128 * o w + f w + 32768 * c w) ws) ≡ 128 * sum_l (map o ws) + sum_l (map f ws) + 32768 * sum_l
+    (map c ws)
 three_sums o f c [] = refl
 three_sums o f c (w ∷ ws) = let ih = three_sums o f c ws in omega (arith, ih)
 
-least_sums : (l c : ℕ → ℕ) (ws : List ℕ) → sum_l (map (λ w. 8 * l w + 256 * c w) ws) ≡ 8 * sum_l (map l ws) + 256 * sum_l (map c ws)
+least_sums : (l c : ℕ → ℕ) (ws : List ℕ)
+    → sum_l (map (λ w. 8 * l w + 256 * c w) ws) ≡ 8 * sum_l (map l ws) + 256 * sum_l (map c ws)
 least_sums l c [] = refl
 least_sums l c (w ∷ ws) = let ih = least_sums l c ws in omega (arith, ih)
 
@@ -65,38 +77,59 @@ top_small a b c d A B C D = omega arith
 pub row_small : (f : List ℕ) (from : ℕ) → ((k : ℕ) → get_or f k 0 < 256) → (w : ℕ) → row_at f from w < 16
 row_small f from h w =
     let c = code_small (nat_lt w from) (word_at f 0 / 2 ^ (30 - 2 * w)) in
-    let t = top_small (byte_at f 0 w) (byte_at f 1 w) (byte_at f 2 w) (byte_at f 3 w) (h (4 * w + 0)) (h (4 * w + 1)) (h (4 * w + 2)) (h (4 * w + 3)) in
+    let t = top_small (byte_at f 0 w) (byte_at f 1 w) (byte_at f 2 w) (byte_at f 3 w) (h (4 * w + 0)) (h (4 * w + 1))
+        (h (4 * w + 2)) (h (4 * w + 3)) in
     omega (arith, c, t)
 
 abbrev pub whole_at : List ℕ → ℕ → ℕ → ℕ
 whole_at f from w = whole (row_at f from w) (byte_at f 0 w) (byte_at f 1 w) (byte_at f 2 w) (byte_at f 3 w)
 
 told : (f : List ℕ) (from : ℕ) → ((k : ℕ) → get_or f k 0 < 256) → (w : ℕ)
-    → Told (λ w. get_or counts_two (row_at f from w) 0) (whole_at f from) (λ w. least (row_at f from w)) (moved_two f from) w
+    → Told (λ w. get_or counts_two (row_at f from w) 0) (whole_at f from) (λ w. least (row_at f from w))
+    (moved_two f from) w
 told f from h w =
-    tells (byte_at f 0 w) (byte_at f 1 w) (byte_at f 2 w) (byte_at f 3 w) (h (4 * w + 0)) (h (4 * w + 1)) (h (4 * w + 2)) (h (4 * w + 3)) (row_at f from w) (row_small f from h w)
+    tells (byte_at f 0 w) (byte_at f 1 w) (byte_at f 2 w) (byte_at f 3 w) (h (4 * w + 0)) (h (4 * w + 1))
+        (h (4 * w + 2)) (h (4 * w + 3)) (row_at f from w) (row_small f from h w)
 
 pub cast_back : (n : ℕ) → n < 33554432 → to_z w32 (of_z w32 (to_z w32 n -ℤ pos 1048576)) ≡ pos n -ℤ pos 1048576
-cast_back n lt = ap (λ z. to_z w32 (of_z w32 (z -ℤ pos 1048576))) (to_z_pos w32 n (omega arith)) ∙ to_z-of_z w32 (pos n -ℤ pos 1048576) (search rules)
+cast_back n lt = ap (λ z. to_z w32 (of_z w32 (z -ℤ pos 1048576))) (to_z_pos w32 n (omega arith))
+    ∙ to_z-of_z w32 (pos n -ℤ pos 1048576) (search rules)
 
 pub frame_sum : (f : List ℕ) (from : ℕ) → ((k : ℕ) → get_or f k 0 < 256) → (r le far ON FI CO : ℕ)
     → (r + 128 * (8 * le + 256 * far)) % 4294967296 ≡ (128 * ON + FI + 32768 * CO) % 4294967296 → r < 4294967296
-    → ON ≡ sum_l (map (λ w. ones_two (row_at f from w) (turned_a (row_at f from w) (byte_at f 0 w)) (turned_b (row_at f from w) (byte_at f 1 w)) (turned_c (row_at f from w) (byte_at f 2 w)) (turned_d (row_at f from w) (byte_at f 3 w))) words)
-    → FI ≡ sum_l (map (λ w. fine_two (row_at f from w) (turned_a (row_at f from w) (byte_at f 0 w)) (turned_b (row_at f from w) (byte_at f 1 w)) (turned_c (row_at f from w) (byte_at f 2 w)) (turned_d (row_at f from w) (byte_at f 3 w))) words)
-    → CO ≡ sum_l (map (λ w. coarse_two (row_at f from w) (turned_a (row_at f from w) (byte_at f 0 w)) (turned_b (row_at f from w) (byte_at f 1 w)) (turned_c (row_at f from w) (byte_at f 2 w)) (turned_d (row_at f from w) (byte_at f 3 w))) words)
-    → le ≡ sum_l (map (λ w. least_two (row_at f from w)) words) → far ≡ sum_l (map (λ w. least_coarse_two (row_at f from w)) words)
+    → ON ≡ sum_l (map (λ w. ones_two (row_at f from w) (turned_a (row_at f from w) (byte_at f 0 w))
+    (turned_b (row_at f from w) (byte_at f 1 w)) (turned_c (row_at f from w) (byte_at f 2 w))
+    (turned_d (row_at f from w) (byte_at f 3 w))) words)
+    → FI ≡ sum_l (map (λ w. fine_two (row_at f from w) (turned_a (row_at f from w) (byte_at f 0 w))
+    (turned_b (row_at f from w) (byte_at f 1 w)) (turned_c (row_at f from w) (byte_at f 2 w))
+    (turned_d (row_at f from w) (byte_at f 3 w))) words)
+    → CO ≡ sum_l (map (λ w. coarse_two (row_at f from w) (turned_a (row_at f from w) (byte_at f 0 w))
+    (turned_b (row_at f from w) (byte_at f 1 w)) (turned_c (row_at f from w) (byte_at f 2 w))
+    (turned_d (row_at f from w) (byte_at f 3 w))) words)
+    → le ≡ sum_l (map (λ w. least_two (row_at f from w)) words)
+    → far ≡ sum_l (map (λ w. least_coarse_two (row_at f from w)) words)
     → sum_l (map (λ w. get_or counts_two (row_at f from w) 0) words) < 128
-    → to_z w32 (of_z w32 (to_z w32 ((r + 134217728) % 4294967296 / 128) -ℤ pos 1048576)) ≡ sum_z (map (moved_two f from) words)
+    → to_z w32 (of_z w32 (to_z w32 ((r + 134217728) % 4294967296 / 128) -ℤ pos 1048576))
+    ≡ sum_z (map (moved_two f from) words)
 frame_sum f from h r le far ON FI CO come small on fi co l c few =
-    let all = told_all (λ w. get_or counts_two (row_at f from w) 0) (whole_at f from) (λ w. least (row_at f from w)) (moved_two f from) (told f from h) words few in
+    let all = told_all (λ w. get_or counts_two (row_at f from w) 0) (whole_at f from) (λ w. least (row_at f from w))
+        (moved_two f from) (told f from h) words few in
     let W : ℕ = sum_l (map (whole_at f from) words) in
     let L : ℕ = sum_l (map (λ w. least (row_at f from w)) words) in
     let is_w : 128 * ON + FI + 32768 * CO ≡ W =
     rw (on, fi, co) (sym (three_sums
-    (λ w. ones_two (row_at f from w) (turned_a (row_at f from w) (byte_at f 0 w)) (turned_b (row_at f from w) (byte_at f 1 w)) (turned_c (row_at f from w) (byte_at f 2 w)) (turned_d (row_at f from w) (byte_at f 3 w)))
-    (λ w. fine_two (row_at f from w) (turned_a (row_at f from w) (byte_at f 0 w)) (turned_b (row_at f from w) (byte_at f 1 w)) (turned_c (row_at f from w) (byte_at f 2 w)) (turned_d (row_at f from w) (byte_at f 3 w)))
-    (λ w. coarse_two (row_at f from w) (turned_a (row_at f from w) (byte_at f 0 w)) (turned_b (row_at f from w) (byte_at f 1 w)) (turned_c (row_at f from w) (byte_at f 2 w)) (turned_d (row_at f from w) (byte_at f 3 w))) words)) in
-    let is_l : 8 * le + 256 * far ≡ L = rw (l, c) (sym (least_sums (λ w. least_two (row_at f from w)) (λ w. least_coarse_two (row_at f from w)) words)) in
+    (λ w. ones_two (row_at f from w) (turned_a (row_at f from w) (byte_at f 0 w))
+        (turned_b (row_at f from w) (byte_at f 1 w)) (turned_c (row_at f from w) (byte_at f 2 w))
+        (turned_d (row_at f from w) (byte_at f 3 w)))
+    (λ w. fine_two (row_at f from w) (turned_a (row_at f from w) (byte_at f 0 w))
+        (turned_b (row_at f from w) (byte_at f 1 w)) (turned_c (row_at f from w) (byte_at f 2 w))
+        (turned_d (row_at f from w) (byte_at f 3 w)))
+    (λ w. coarse_two (row_at f from w) (turned_a (row_at f from w) (byte_at f 0 w))
+        (turned_b (row_at f from w) (byte_at f 1 w)) (turned_c (row_at f from w) (byte_at f 2 w))
+        (turned_d (row_at f from w) (byte_at f 3 w))) words)) in
+    let is_l : 8 * le + 256 * far ≡ L =
+        rw (l, c) (sym (least_sums (λ w. least_two (row_at f from w)) (λ w. least_coarse_two (row_at f from w))
+        words)) in
     let e : (r + 128 * L) % 4294967296 ≡ W % 4294967296 =
     ap (λ n. (r + 128 * n) % 4294967296) (sym is_l) ∙ come ∙ ap (λ n. n % 4294967296) is_w in
     let bound_w : W / 128 ≤ 1048576 = subst (λ n. W / 128 ≤ 65536 * n) long_words all.2 in

@@ -1,5 +1,6 @@
 -- A frame's words, unpacked one after another, spell what they say.
-use Rattle.std.proofs.Common.{◌≡◌, ◌≢◌, ℕ, zero, suc, ◌+◌, ◌-◌, ◌*◌, ◌%◌, ◌^◌, ◌<◌, ◌≤◌, List, ◌∷◌, ◌++◌, length, map, take, drop, get_or, ℤ, refl, sym, ap, subst, ◌∙◌, append_assoc, append-nil, arith, inl, inr, Some, Ok, Result}
+use Rattle.std.proofs.Common.{◌≡◌, ◌≢◌, ℕ, zero, suc, ◌+◌, ◌-◌, ◌*◌, ◌%◌, ◌^◌, ◌<◌, ◌≤◌, List, ◌∷◌, ◌++◌, length, map,
+    take, drop, get_or, ℤ, refl, sym, ap, subst, ◌∙◌, append_assoc, append-nil, arith, inl, inr, Some, Ok, Result}
 use Rattle.std.specs.List.{range_with_len}
 use Rattle.std.proofs.lemmas.List.{map-append, take_all}
 use lib.Lanes.{sum_l}
@@ -13,7 +14,8 @@ use Rattle.mseed_steim.specs.Items.{items_of}
 use Rattle.mseed_steim.specs.Lanes.{span, words, word_at as lanes_word_at, row_at, Begins}
 use Rattle.mseed_steim.specs.Unpacked.{AreNarrow, Unpacks, counts_of, widths_of, lanes_of, differences_at, unpacked}
 use Rattle.mseed_steim.proofs.Walking.{words_none, words_step, items_group}
-use Rattle.mseed_steim.proofs.FrameItems.{Reads, reads_by, rows_one, rows_two, zeros_one, zeros_two, word_is, none_at, span-append}
+use Rattle.mseed_steim.proofs.FrameItems.{Reads, reads_by, rows_one, rows_two, zeros_one, zeros_two, word_is, none_at,
+    span-append}
 use Rattle.mseed_steim.proofs.LaneDigits.{at_word, one_of_sum}
 use Rattle.mseed_steim.proofs.FrameNear.{frame_near_one, frame_near_two}
 
@@ -25,7 +27,8 @@ word_in f j long less =
     rw at at (word_is f f 0 j whole less)
 
 -- one word more
-pub unpacked_more : (s : Scheme) (f : List ℕ) (from j n : ℕ) → unpacked s f from j (n + 1) ≡ unpacked s f from j n ++ differences_at s f from (j + n)
+pub unpacked_more : (s : Scheme) (f : List ℕ) (from j n : ℕ)
+    → unpacked s f from j (n + 1) ≡ unpacked s f from j n ++ differences_at s f from (j + n)
 unfolding unpacked
 unpacked_more s f from j zero =
     let at : j + 0 ≡ j = omega arith in
@@ -34,11 +37,15 @@ unpacked_more s f from j (suc n) =
     let at : j + 1 + n ≡ j + suc n = omega arith in
     let later = rw at at (unpacked_more s f from (j + 1) n) in
     let bigger : suc n + 1 ≡ suc (n + 1) = omega arith in
-    rw bigger (ap (λ (xs : List ℤ). differences_at s f from j ++ xs) later ∙ sym (append_assoc (differences_at s f from j) (unpacked s f from (j + 1) n) (differences_at s f from (j + suc n))))
+    rw bigger (ap (λ (xs : List ℤ). differences_at s f from j ++ xs) later
+        ∙ sym (append_assoc (differences_at s f from j) (unpacked s f from (j + 1) n)
+        (differences_at s f from (j + suc n))))
 
 -- what the words from one on spell
-spelled : (s : Scheme) (p f : List ℕ) (k from : ℕ) → Reads s (counts_of s) (widths_of s) p f k from → AreNarrow s f from → (n j : ℕ) → 0 < j → from ≤ j → j + n ≡ 16
-    → (rest : List DataWord) → items_of s (words_from p (16 * k + j) n ++ rest) ≡ map Ok (unpacked s f from j n) ++ items_of s rest
+spelled : (s : Scheme) (p f : List ℕ) (k from : ℕ) → Reads s (counts_of s) (widths_of s) p f k from
+    → AreNarrow s f from → (n j : ℕ) → 0 < j → from ≤ j → j + n ≡ 16
+    → (rest : List DataWord) → items_of s (words_from p (16 * k + j) n ++ rest) ≡ map Ok (unpacked s f from j n)
+    ++ items_of s rest
 unfolding unpacked
 spelled s p f k from reads narrow zero j some behind end rest = rw (words_none p (16 * k + j)) refl
 spelled s p f k from reads narrow (suc n) j some behind end rest =
@@ -47,19 +54,24 @@ spelled s p f k from reads narrow (suc n) j some behind end rest =
     let next : 16 * k + j + 1 ≡ 16 * k + (j + 1) = omega arith in
     let group : List ℤ = differences_at s f from j in
     let others : List ℤ = unpacked s f from (j + 1) n in
-    let cut : words_from p (16 * k + j) (suc n) ≡ data_word p (16 * k + j) ∷ words_from p (16 * k + (j + 1)) n = rw (← next) (words_step p (16 * k + j) n data_place) in
-    let one : differences_of s (code_at p (16 * k + j)) (word_at p (16 * k + j)) ≡ Some group = reads.word j (omega arith) behind (narrow j (omega arith)) in
-    items_group s (words_from p (16 * k + j) (suc n) ++ rest) (words_from p (16 * k + (j + 1)) n ++ rest) (data_word p (16 * k + j)) group (ap (λ (ws : List DataWord). ws ++ rest) cut) one
+    let cut : words_from p (16 * k + j) (suc n) ≡ data_word p (16 * k + j) ∷ words_from p (16 * k + (j + 1)) n =
+        rw (← next) (words_step p (16 * k + j) n data_place) in
+    let one : differences_of s (code_at p (16 * k + j)) (word_at p (16 * k + j)) ≡ Some group =
+        reads.word j (omega arith) behind (narrow j (omega arith)) in
+    items_group s (words_from p (16 * k + j) (suc n) ++ rest) (words_from p (16 * k + (j + 1)) n ++ rest)
+        (data_word p (16 * k + j)) group (ap (λ (ws : List DataWord). ws ++ rest) cut) one
     ∙ ap (λ (xs : List (Result ℤ BadWordAt)). map Ok group ++ xs) later
     ∙ sym (append_assoc (map Ok group) (map Ok others) (items_of s rest))
     ∙ ap (λ (xs : List (Result ℤ BadWordAt)). xs ++ items_of s rest) (sym (map-append Ok group others))
 
-reads_as : (s : Scheme) (p f : List ℕ) (k from : ℕ) → f ≡ take 64 (drop (64 * k) p) → ((i : ℕ) → get_or f i 0 < 256) → Reads s (counts_of s) (widths_of s) p f k from
+reads_as : (s : Scheme) (p f : List ℕ) (k from : ℕ) → f ≡ take 64 (drop (64 * k) p) → ((i : ℕ) → get_or f i 0 < 256)
+    → Reads s (counts_of s) (widths_of s) p f k from
 reads_as One p f k from = reads_by One _ _ p f k from rows_one zeros_one
 reads_as Two p f k from = reads_by Two _ _ p f k from rows_two zeros_two
 
 -- no word before the first has any
-behind_4 : (s : Scheme) (p f : List ℕ) (k : ℕ) → Reads s (counts_of s) (widths_of s) p f k 4 → unpacked s f 4 1 15 ≡ unpacked s f 4 4 12
+behind_4 : (s : Scheme) (p f : List ℕ) (k : ℕ) → Reads s (counts_of s) (widths_of s) p f k 4
+    → unpacked s f 4 1 15 ≡ unpacked s f 4 4 12
 unfolding unpacked
 behind_4 s p f k reads =
     let n1 = none_at (counts_of s) (widths_of s) f 4 1 (reads.empty 1 (omega arith)) in
@@ -68,25 +80,32 @@ behind_4 s p f k reads =
     rw (n1, n2, n3) refl
 
 -- what the words of the frame spell
-pub all_spelled : (s : Scheme) (p f begin : List ℕ) (k from : ℕ) → Begins begin from → f ≡ take 64 (drop (64 * k) p) → ((i : ℕ) → get_or f i 0 < 256) → AreNarrow s f from
-    → (rest : List DataWord) → items_of s (words_from p (16 * k + from) (16 - from) ++ rest) ≡ map Ok (unpacked s f from 1 15) ++ items_of s rest
-all_spelled s p f begin k from (inl h) e octets = rw h.0 (λ narrow. spelled s p f k 1 (reads_as s p f k 1 e octets) narrow 15 1 (omega arith) (omega arith) refl)
+pub all_spelled : (s : Scheme) (p f begin : List ℕ) (k from : ℕ) → Begins begin from → f ≡ take 64 (drop (64 * k) p)
+    → ((i : ℕ) → get_or f i 0 < 256) → AreNarrow s f from
+    → (rest : List DataWord) → items_of s (words_from p (16 * k + from) (16 - from) ++ rest)
+    ≡ map Ok (unpacked s f from 1 15) ++ items_of s rest
+all_spelled s p f begin k from (inl h) e octets =
+    rw h.0 (λ narrow. spelled s p f k 1 (reads_as s p f k 1 e octets) narrow 15 1 (omega arith) (omega arith) refl)
 all_spelled s p f begin k from (inr h) e octets = rw h.0 (λ narrow.
     let reads = reads_as s p f k 4 e octets in
     rw (behind_4 s p f k reads) (spelled s p f k 4 reads narrow 12 4 (omega arith) (omega arith) refl))
 
 -- how far they go in all
-span_unpacked : (s : Scheme) (f : List ℕ) (from n j : ℕ) → span (unpacked s f from j n) ≡ sum_l (map (λ w. span (differences_at s f from w)) (range_with_len j n))
+span_unpacked : (s : Scheme) (f : List ℕ) (from n j : ℕ)
+    → span (unpacked s f from j n) ≡ sum_l (map (λ w. span (differences_at s f from w)) (range_with_len j n))
 unfolding unpacked
 span_unpacked s f from zero j = refl
 span_unpacked s f from (suc n) j =
-    span-append (differences_at s f from j) (unpacked s f from (j + 1) n) ∙ ap (λ (m : ℕ). span (differences_at s f from j) + m) (span_unpacked s f from n (j + 1))
+    span-append (differences_at s f from j) (unpacked s f from (j + 1) n)
+        ∙ ap (λ (m : ℕ). span (differences_at s f from j) + m) (span_unpacked s f from n (j + 1))
 
-near_sum : (s : Scheme) (f : List ℕ) (from : ℕ) → sum_l (map (λ w. span (differences_at s f from w)) words) ≤ 1048576 → span (unpacked s f from 1 15) ≤ 2 ^ 20
+near_sum : (s : Scheme) (f : List ℕ) (from : ℕ) → sum_l (map (λ w. span (differences_at s f from w)) words) ≤ 1048576
+    → span (unpacked s f from 1 15) ≤ 2 ^ 20
 unfolding words
 near_sum s f from most = let all = span_unpacked s f from 15 1 in omega (arith, all, most)
 
-pub all_near : (s : Scheme) (f : List ℕ) (from : ℕ) → ((i : ℕ) → get_or f i 0 < 256) → sum_l (map (λ w. get_or (counts_of s) (row_at f from w) 0) words) < 128 → span (unpacked s f from 1 15) ≤ 2 ^ 20
+pub all_near : (s : Scheme) (f : List ℕ) (from : ℕ) → ((i : ℕ) → get_or f i 0 < 256)
+    → sum_l (map (λ w. get_or (counts_of s) (row_at f from w) 0) words) < 128 → span (unpacked s f from 1 15) ≤ 2 ^ 20
 all_near One f from octets few = near_sum One f from (frame_near_one f from octets few)
 all_near Two f from octets few = near_sum Two f from (frame_near_two f from octets few)
 
@@ -99,14 +118,16 @@ pub by_own_count : (count width : ℕ) (by : Unpacking) → Unpacks count width 
 by_own_count count width by u = subst (λ (n : ℕ). Unpacks n width by) (sym u.as_many) u
 
 -- where the words have few differences in all, none is bad or has a wide one
-pub all_narrow : (s : Scheme) (f : List ℕ) (from : ℕ) → sum_l (map (λ w. get_or (counts_of s) (row_at f from w) 0) words) < 128 → AreNarrow s f from
+pub all_narrow : (s : Scheme) (f : List ℕ) (from : ℕ)
+    → sum_l (map (λ w. get_or (counts_of s) (row_at f from w) 0) words) < 128 → AreNarrow s f from
 all_narrow s f from few word less =
     let one = one_of_sum (map (λ w. get_or (counts_of s) (row_at f from w) 0) words) word in
     let at = at_word (λ w. get_or (counts_of s) (row_at f from w) 0) word less in
     omega (arith, one, at, few)
 
 -- the words in two parts
-unpacked_cut : (s : Scheme) (f : List ℕ) (from n m j : ℕ) → unpacked s f from j (n + m) ≡ unpacked s f from j n ++ unpacked s f from (j + n) m
+unpacked_cut : (s : Scheme) (f : List ℕ) (from n m j : ℕ)
+    → unpacked s f from j (n + m) ≡ unpacked s f from j n ++ unpacked s f from (j + n) m
 unfolding unpacked
 unpacked_cut s f from zero m j =
     let none : 0 + m ≡ m = omega arith in
@@ -116,9 +137,13 @@ unpacked_cut s f from (suc n) m j =
     let more : suc n + m ≡ suc (n + m) = omega arith in
     let at : j + 1 + n ≡ j + suc n = omega arith in
     let later = rw at at (unpacked_cut s f from n m (j + 1)) in
-    rw more (ap (λ (xs : List ℤ). differences_at s f from j ++ xs) later ∙ sym (append_assoc (differences_at s f from j) (unpacked s f from (j + 1) n) (unpacked s f from (j + suc n) m)))
+    rw more (ap (λ (xs : List ℤ). differences_at s f from j ++ xs) later
+        ∙ sym (append_assoc (differences_at s f from j) (unpacked s f from (j + 1) n)
+        (unpacked s f from (j + suc n) m)))
 
 -- a frame's words, five by five
-pub unpacked_fives : (s : Scheme) (f : List ℕ) (from : ℕ) → (unpacked s f from 1 5 ++ unpacked s f from 6 5) ++ unpacked s f from 11 5 ≡ unpacked s f from 1 15
+pub unpacked_fives : (s : Scheme) (f : List ℕ) (from : ℕ)
+    → (unpacked s f from 1 5 ++ unpacked s f from 6 5) ++ unpacked s f from 11 5 ≡ unpacked s f from 1 15
 unpacked_fives s f from =
-    ap (λ (xs : List ℤ). xs ++ unpacked s f from 11 5) (sym (unpacked_cut s f from 5 5 1)) ∙ sym (unpacked_cut s f from 10 5 1)
+    ap (λ (xs : List ℤ). xs ++ unpacked s f from 11 5) (sym (unpacked_cut s f from 5 5 1))
+        ∙ sym (unpacked_cut s f from 10 5 1)

@@ -7,7 +7,8 @@ use Rattle.mseed_steim.specs.Frames.{DataWord}
 use Rattle.mseed_steim.specs.Runs.{SpellsRun, place_of, Gives, all, broken}
 
 -- some differences in front of items
-fronts_all : (ds es : List ℤ) (more : List (Result ℤ BadWordAt)) → map Ok es ≡ map Ok ds ++ more → (t : List ℤ) × (es ≡ ds ++ t)
+fronts_all : (ds es : List ℤ) (more : List (Result ℤ BadWordAt)) → map Ok es ≡ map Ok ds ++ more
+    → (t : List ℤ) × (es ≡ ds ++ t)
 fronts_all [] es more e = (es, refl)
 fronts_all (d ∷ ds) [] more e = cc
 fronts_all (d ∷ ds) (x ∷ es) more e =
@@ -15,7 +16,8 @@ fronts_all (d ∷ ds) (x ∷ es) more e =
     let found = fronts_all ds es more rest in
     (found.0, cc (found.1))
 
-fronts_broken : (ds es : List ℤ) (at : BadWordAt) (more : List (Result ℤ BadWordAt)) → map Ok es ++ Err at ∷ [] ≡ map Ok ds ++ more → (t : List ℤ) × (es ≡ ds ++ t)
+fronts_broken : (ds es : List ℤ) (at : BadWordAt) (more : List (Result ℤ BadWordAt))
+    → map Ok es ++ Err at ∷ [] ≡ map Ok ds ++ more → (t : List ℤ) × (es ≡ ds ++ t)
 fronts_broken [] es at more e = (es, refl)
 fronts_broken (d ∷ ds) [] at more e = cc
 fronts_broken (d ∷ ds) (x ∷ es) at more e =
@@ -41,7 +43,8 @@ not_broken (d ∷ ds) (x ∷ es) at e =
     let rest : map Ok es ++ Err at ∷ [] ≡ map Ok ds = cc in
     not_broken ds es at rest
 
-not_all : (ds es : List ℤ) (at : BadWordAt) (more : List (Result ℤ BadWordAt)) → map Ok es ≡ map Ok ds ++ Err at ∷ more → ⊥
+not_all : (ds es : List ℤ) (at : BadWordAt) (more : List (Result ℤ BadWordAt)) → map Ok es ≡ map Ok ds ++ Err at ∷ more
+    → ⊥
 not_all [] [] at more e = cc
 not_all [] (x ∷ es) at more e = cc
 not_all (d ∷ ds) [] at more e = cc
@@ -49,7 +52,8 @@ not_all (d ∷ ds) (x ∷ es) at more e =
     let rest : map Ok es ≡ map Ok ds ++ Err at ∷ more = cc in
     not_all ds es at more rest
 
-same_broken : (ds es : List ℤ) (at bt : BadWordAt) (more : List (Result ℤ BadWordAt)) → map Ok es ++ Err bt ∷ [] ≡ map Ok ds ++ Err at ∷ more → (es ≡ ds) × (bt ≡ at)
+same_broken : (ds es : List ℤ) (at bt : BadWordAt) (more : List (Result ℤ BadWordAt))
+    → map Ok es ++ Err bt ∷ [] ≡ map Ok ds ++ Err at ∷ more → (es ≡ ds) × (bt ≡ at)
 same_broken [] [] at bt more e = (refl, cc)
 same_broken [] (x ∷ es) at bt more e = cc
 same_broken (d ∷ ds) [] at bt more e = cc
@@ -68,18 +72,24 @@ pub record Fronted (s : Scheme) (words : List DataWord) (ds : List ℤ) : Type 0
   pub tail : List ℤ
   pub longer : differences ≡ ds ++ tail
 
-pub fronted : (s : Scheme) (words : List DataWord) (items : List (Result ℤ BadWordAt)) (ds : List ℤ) (more : List (Result ℤ BadWordAt)) → Gives s words items → items ≡ map Ok ds ++ more → Fronted s words ds
+pub fronted : (s : Scheme) (words : List DataWord) (items : List (Result ℤ BadWordAt)) (ds : List ℤ)
+    (more : List (Result ℤ BadWordAt)) → Gives s words items → items ≡ map Ok ds ++ more → Fronted s words ds
 fronted s words items ds more (all es run e) q =
     let found = fronts_all ds es more (sym e ∙ q) in
-    record { front = words; rest = []; cut = sym (append-nil words); differences = es; spelled = run; tail = found.0; longer = found.1 }
+    record { front = words; rest = []; cut = sym (append-nil words); differences = es; spelled = run; tail = found.0;
+        longer = found.1 }
 fronted s words items ds more (broken before bad after es cut run none e) q =
     let found = fronts_broken ds es (place_of bad) more (sym e ∙ q) in
-    record { front = before; rest = bad ∷ after; cut = cut; differences = es; spelled = run; tail = found.0; longer = found.1 }
+    record { front = before; rest = bad ∷ after; cut = cut; differences = es; spelled = run; tail = found.0;
+        longer = found.1 }
 
 -- the words spell these differences alone
-pub spelled_all : (s : Scheme) (words : List DataWord) (items : List (Result ℤ BadWordAt)) (ds : List ℤ) → Gives s words items → items ≡ map Ok ds → SpellsRun s words ds
-spelled_all s words items ds (all es run e) q = subst (λ (xs : List ℤ). SpellsRun s words xs) (same_all ds es (sym e ∙ q)) run
-spelled_all s words items ds (broken before bad after es cut run none e) q = absurd (not_broken ds es (place_of bad) (sym e ∙ q))
+pub spelled_all : (s : Scheme) (words : List DataWord) (items : List (Result ℤ BadWordAt)) (ds : List ℤ)
+    → Gives s words items → items ≡ map Ok ds → SpellsRun s words ds
+spelled_all s words items ds (all es run e) q =
+    subst (λ (xs : List ℤ). SpellsRun s words xs) (same_all ds es (sym e ∙ q)) run
+spelled_all s words items ds (broken before bad after es cut run none e) q =
+    absurd (not_broken ds es (place_of bad) (sym e ∙ q))
 
 -- a word that spells nothing, and what those before it spell
 pub record Broken (s : Scheme) (words : List DataWord) (ds : List ℤ) (at : BadWordAt) : Type 0 where
@@ -91,8 +101,10 @@ pub record Broken (s : Scheme) (words : List DataWord) (ds : List ℤ) (at : Bad
   pub none : SpellsNone s bad.code bad.bits
   pub place : place_of bad ≡ at
 
-pub broken_at : (s : Scheme) (words : List DataWord) (items : List (Result ℤ BadWordAt)) (ds : List ℤ) (at : BadWordAt) (more : List (Result ℤ BadWordAt)) → Gives s words items → items ≡ map Ok ds ++ Err at ∷ more → Broken s words ds at
+pub broken_at : (s : Scheme) (words : List DataWord) (items : List (Result ℤ BadWordAt)) (ds : List ℤ) (at : BadWordAt)
+    (more : List (Result ℤ BadWordAt)) → Gives s words items → items ≡ map Ok ds ++ Err at ∷ more → Broken s words ds at
 broken_at s words items ds at more (all es run e) q = absurd (not_all ds es at more (sym e ∙ q))
 broken_at s words items ds at more (broken before bad after es cut run none e) q =
     let found = same_broken ds es at (place_of bad) more (sym e ∙ q) in
-    record { before = before; bad = bad; after = after; cut = cut; spelled = subst (λ (xs : List ℤ). SpellsRun s before xs) found.0 run; none = none; place = found.1 }
+    record { before = before; bad = bad; after = after; cut = cut;
+        spelled = subst (λ (xs : List ℤ). SpellsRun s before xs) found.0 run; none = none; place = found.1 }

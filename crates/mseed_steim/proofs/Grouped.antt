@@ -10,14 +10,18 @@ use Rattle.mseed_steim.proofs.Spelled.{by_row, by_no_row, no_differences}
 
 -- what a group that was found says of a word
 abbrev pub Finds : Scheme → ℕ → ℕ → Option Group → Type 0
-Finds s c word r = MatchOption r (differences_of s c word ≡ None) (λ g. differences_of s c word ≡ Some (digits g.width word g.count))
+Finds s c word r = MatchOption r (differences_of s c word ≡ None)
+    (λ g. differences_of s c word ≡ Some (digits g.width word g.count))
 
 abbrev Is : ℕ → ℕ → Option Group → Type 0
 Is k w r = MatchOption r ⊥ (λ g. (g.count ≡ k) × (g.width ≡ w))
 
-pub finds_row : (s : Scheme) (c word : ℕ) (m : Bool) (j k w : ℕ) (r : Option Group) → 0 < c → group_of s c (word / 2 ^ 30) ≡ Some (record { marked = m; spare = j; count = k; width = w }) → Is k w r → Finds s c word r
+pub finds_row : (s : Scheme) (c word : ℕ) (m : Bool) (j k w : ℕ) (r : Option Group) → 0 < c
+    → group_of s c (word / 2 ^ 30) ≡ Some (record { marked = m; spare = j; count = k; width = w }) → Is k w r
+    → Finds s c word r
 finds_row s c word m j k w None p e h = absurd h
-finds_row s c word m j k w (Some g) p e h = by_row s c word m j k w (digits g.width word g.count) p e (rw (h.0, h.1) refl)
+finds_row s c word m j k w (Some g) p e h =
+    by_row s c word m j k w (digits g.width word g.count) p e (rw (h.0, h.1) refl)
 
 -- code 0
 pub finds_empty : (s : Scheme) (c word w : ℕ) (r : Option Group) → c ≡ 0 → Is 0 w r → Finds s c word r

@@ -1,5 +1,6 @@
 -- A payload of integers.
-use Rattle.std.proofs.Common.{◌≡◌, ℕ, zero, suc, ◌+◌, ◌-◌, ◌*◌, ◌/◌, ◌<◌, ◌≤◌, ◌^◌, List, [], ◌∷◌, length, get_or, ℤ, pos, negsuc, ◌-ℤ◌, arith, refl, ap, sym, ◌∙◌, subst, slice_get, ⊎_elim, Some, Ok}
+use Rattle.std.proofs.Common.{◌≡◌, ℕ, zero, suc, ◌+◌, ◌-◌, ◌*◌, ◌/◌, ◌<◌, ◌≤◌, ◌^◌, List, [], ◌∷◌, length, get_or, ℤ,
+    pos, negsuc, ◌-ℤ◌, arith, refl, ap, sym, ◌∙◌, subst, slice_get, ⊎_elim, Some, Ok}
 use Rattle.std.proofs.lemmas.Bool.{cases_lt, lt-ltb, le-ltb}
 use Rattle.std.proofs.Math.Nat.{mul-suc}
 use Rattle.byteorder.specs.Endian.{twos_complement}
@@ -17,7 +18,8 @@ use Rattle.mseed_steim.specs.Samples.{bytes_of, BeginsWith, IsChecked, IsPayload
 use Rattle.mseed_steim.proofs.Spelled.{signed_within, signed_residue}
 use Rattle.mseed_steim.proofs.Framed.{minus}
 
-pub number_lt : (order : Order) (w place : ℕ) (p : List ℕ) → ((i : ℕ) → get_or p i 0 < 256) → number_at order w place p < 256 ^ w
+pub number_lt : (order : Order) (w place : ℕ) (p : List ℕ) → ((i : ℕ) → get_or p i 0 < 256)
+    → number_at order w place p < 256 ^ w
 number_lt Big w place p octets = big_from-lt place w p octets
 number_lt Little w place p octets = little_from-lt place w p octets
 
@@ -42,7 +44,8 @@ unfolding integers
 length-integers order w p place zero = refl
 length-integers order w p place (suc n) = ap suc (length-integers order w p (place + w) n)
 
-pub get-integers : (order : Order) (w : ℕ) (p : List ℕ) (place n k : ℕ) → k < n → slice_get (integers order w p place n) k ≡ Some (twos_complement w (number_at order w (place + w * k) p))
+pub get-integers : (order : Order) (w : ℕ) (p : List ℕ) (place n k : ℕ) → k < n
+    → slice_get (integers order w p place n) k ≡ Some (twos_complement w (number_at order w (place + w * k) p))
 unfolding integers
 get-integers order w p place zero k h = absurd (omega arith)
 get-integers order w p place (suc n) zero h = let same : place + w * 0 ≡ place = omega arith in rw same refl
@@ -50,7 +53,9 @@ get-integers order w p place (suc n) (suc k) h =
     let same : place + w + w * k ≡ place + w * suc k = omega (arith, mul-suc w k) in
     rw (← same) (get-integers order w p (place + w) n k (omega arith))
 
-begins_by : (order : Order) (w : ℕ) (p : List ℕ) (place n : ℕ) → 0 < w → 256 ^ w ≡ 2 ^ (8 * w) → ((i : ℕ) → get_or p i 0 < 256) → place + w * n ≤ length p → BeginsWith order w p place (integers order w p place n)
+begins_by : (order : Order) (w : ℕ) (p : List ℕ) (place n : ℕ) → 0 < w → 256 ^ w ≡ 2 ^ (8 * w)
+    → ((i : ℕ) → get_or p i 0 < 256) → place + w * n ≤ length p
+    → BeginsWith order w p place (integers order w p place n)
 unfolding integers
 begins_by order w p place zero some e octets h = tt
 begins_by order w p place (suc n) some e octets h =
@@ -65,26 +70,34 @@ begins_by order w p place (suc n) some e octets h =
       begins_by order w p (place + w) n some e octets (omega (arith, long)),
     )
 
-pub begins : (order : Order) (width : Width) (p : List ℕ) (n : ℕ) → ((i : ℕ) → get_or p i 0 < 256) → bytes_of width * n ≤ length p → BeginsWith order (bytes_of width) p 0 (integers order (bytes_of width) p 0 n)
+pub begins : (order : Order) (width : Width) (p : List ℕ) (n : ℕ) → ((i : ℕ) → get_or p i 0 < 256)
+    → bytes_of width * n ≤ length p → BeginsWith order (bytes_of width) p 0 (integers order (bytes_of width) p 0 n)
 begins order Two p n octets h = begins_by order 2 p 0 n (omega arith) refl octets (omega arith)
 begins order Four p n octets h = begins_by order 4 p 0 n (omega arith) refl octets (omega arith)
 
-pub integers_checked : (order : Order) (width : Width) (p : List ℕ) (n : ℕ) (ends : Ends) → 0 < n → ((i : ℕ) → get_or p i 0 < 256) → bytes_of width * n ≤ length p → ends.first ≡ twos_complement (bytes_of width) (number_at order (bytes_of width) 0 p)
-    → ends.last ≡ twos_complement (bytes_of width) (number_at order (bytes_of width) (bytes_of width * (n - 1)) p) → IsChecked (Integers width) order p n (Ok ends)
+pub integers_checked : (order : Order) (width : Width) (p : List ℕ) (n : ℕ) (ends : Ends) → 0 < n
+    → ((i : ℕ) → get_or p i 0 < 256) → bytes_of width * n ≤ length p
+    → ends.first ≡ twos_complement (bytes_of width) (number_at order (bytes_of width) 0 p)
+    → ends.last ≡ twos_complement (bytes_of width) (number_at order (bytes_of width) (bytes_of width * (n - 1)) p)
+    → IsChecked (Integers width) order p n (Ok ends)
 integers_checked order width p n ends h octets long first last =
     let count = length-integers order (bytes_of width) p 0 n in
     let zeroth : 0 + bytes_of width * 0 ≡ 0 = omega arith in
     let at_first = rw zeroth at (get-integers order (bytes_of width) p 0 n 0 h) in
     let plain : 0 + bytes_of width * (n - 1) ≡ bytes_of width * (n - 1) = omega arith in
     let at_last = rw plain at (get-integers order (bytes_of width) p 0 n (n - 1) (omega arith)) in
-    (integers order (bytes_of width) p 0 n, ((count, begins order width p n octets long), tt, (at_first ∙ ap (λ (z : ℤ). Some z) (sym first), rw count (at_last ∙ ap (λ (z : ℤ). Some z) (sym last)))))
+    (integers order (bytes_of width) p 0 n,
+        ((count, begins order width p n octets long), tt,
+        (at_first ∙ ap (λ (z : ℤ). Some z) (sym first), rw count (at_last ∙ ap (λ (z : ℤ). Some z) (sym last)))))
 
 pub whole_count : (width : Width) (n long : ℕ) → n ≤ long / bytes_of width → bytes_of width * n ≤ long
 whole_count Two n long h = omega arith
 whole_count Four n long h = omega arith
 
 -- one integer after another
-pub integers_step : (order : Order) (w : ℕ) (p : List ℕ) (n i : ℕ) → i < n → integers order w p (w * i) (n - i) ≡ twos_complement w (number_at order w (w * i) p) ∷ integers order w p (w * (i + 1)) (n - (i + 1))
+pub integers_step : (order : Order) (w : ℕ) (p : List ℕ) (n i : ℕ) → i < n
+    → integers order w p (w * i) (n - i) ≡ twos_complement w (number_at order w (w * i) p) ∷ integers order w p
+    (w * (i + 1)) (n - (i + 1))
 unfolding integers
 integers_step order w p n i h =
     let more : n - i ≡ suc (n - (i + 1)) = omega arith in
@@ -95,9 +108,14 @@ pub integers_over : (order : Order) (w : ℕ) (p : List ℕ) (n i : ℕ) → n �
 unfolding integers
 integers_over order w p n i h = let none : n - i ≡ 0 = omega arith in rw none refl
 
-pub integers_begin : (order : Order) (w : ℕ) (p : List ℕ) (n : ℕ) → integers order w p (w * 0) (n - 0) ≡ integers order w p 0 n
-integers_begin order w p n = let zeroth : w * 0 ≡ 0 = omega arith in let all : n - 0 ≡ n = omega arith in rw (zeroth, all) refl
+pub integers_begin : (order : Order) (w : ℕ) (p : List ℕ) (n : ℕ)
+    → integers order w p (w * 0) (n - 0) ≡ integers order w p 0 n
+integers_begin order w p n = let zeroth : w * 0 ≡ 0 = omega arith in let all : n - 0 ≡ n = omega arith in
+    rw (zeroth, all) refl
 
-pub filled : (order : Order) (width : Width) (p : List ℕ) (n : ℕ) (out : List ℤ) → ((i : ℕ) → get_or p i 0 < 256) → bytes_of width * n ≤ length p → out ≡ integers order (bytes_of width) p 0 n → IsPayloadReading (Integers width) order p n out
+pub filled : (order : Order) (width : Width) (p : List ℕ) (n : ℕ) (out : List ℤ) → ((i : ℕ) → get_or p i 0 < 256)
+    → bytes_of width * n ≤ length p → out ≡ integers order (bytes_of width) p 0 n
+    → IsPayloadReading (Integers width) order p n out
 filled order width p n out octets long e =
-    subst (λ (xs : List ℤ). IsPayloadReading (Integers width) order p n xs) (sym e) (length-integers order (bytes_of width) p 0 n, begins order width p n octets long)
+    subst (λ (xs : List ℤ). IsPayloadReading (Integers width) order p n xs) (sym e)
+        (length-integers order (bytes_of width) p 0 n, begins order width p n octets long)

@@ -1,5 +1,6 @@
 -- A word's differences, lane by lane.
-use Rattle.std.proofs.Common.{◌≡◌, ℕ, zero, suc, ◌+◌, ◌-◌, ◌<◌, ◌≤◌, [], ◌++◌, ◌∷◌, ◌∙◌, List, ℤ, take, set, map, get_or, length, refl, arith, ⊎_elim}
+use Rattle.std.proofs.Common.{◌≡◌, ℕ, zero, suc, ◌+◌, ◌-◌, ◌<◌, ◌≤◌, [], ◌++◌, ◌∷◌, ◌∙◌, List, ℤ, take, set, map,
+    get_or, length, refl, arith, ⊎_elim}
 use lib.Lanes.{Each1, sum_l}
 use Rattle.std.specs.Prelude.{min}
 use Rattle.std.proofs.Math.Nat.{min-eq_left, min-eq_right}
@@ -12,15 +13,18 @@ use Rattle.mseed_steim.proofs.Spelled.{digits_step, digits_over}
 use Rattle.mseed_steim.proofs.Folded.{take_put}
 
 -- one lane more
-pub next_lane : (out front : List ℤ) (at lane count w word : ℕ) (z : ℤ) → at + lane < length out → (lane < count → z ≡ digit_at w word (count - 1 - lane))
-    → take (at + min lane count) out ++ digits w word (count - lane) ≡ front → take (at + min (lane + 1) count) (set out (at + lane) z) ++ digits w word (count - (lane + 1)) ≡ front
+pub next_lane : (out front : List ℤ) (at lane count w word : ℕ) (z : ℤ) → at + lane < length out
+    → (lane < count → z ≡ digit_at w word (count - 1 - lane))
+    → take (at + min lane count) out ++ digits w word (count - lane) ≡ front
+    → take (at + min (lane + 1) count) (set out (at + lane) z) ++ digits w word (count - (lane + 1)) ≡ front
 next_lane out front at lane count w word z inside value so_far = ⊎_elim
     (λ (less : lane < count).
     let now : min lane count ≡ lane = min-eq_left (omega (arith, less)) in
     let next : min (lane + 1) count ≡ lane + 1 = min-eq_left (omega (arith, less)) in
     let step = digits_step w word count lane less in
     let cut = rw (now, step, ← value less) at so_far in
-    rw next (take_put out (at + lane) (at + (lane + 1)) z (digits w word (count - (lane + 1))) inside (omega arith) ∙ cut))
+    rw next (take_put out (at + lane) (at + (lane + 1)) z (digits w word (count - (lane + 1))) inside (omega arith)
+        ∙ cut))
     (λ (over : count ≤ lane).
     let now : min lane count ≡ count = min-eq_right over in
     let next : min (lane + 1) count ≡ count = min-eq_right (omega (arith, over)) in
@@ -33,7 +37,8 @@ next_lane out front at lane count w word z inside value so_far = ⊎_elim
 -- a table's number of a word
 pub at_word : (f : ℕ → ℕ) (w : ℕ) → w < 16 → get_or (map f words) w 0 ≡ f w
 unfolding words
-at_word f = sixteen (λ w. get_or (map f words) w 0 ≡ f w) refl refl refl refl refl refl refl refl refl refl refl refl refl refl refl refl
+at_word f = sixteen (λ w. get_or (map f words) w 0 ≡ f w) refl refl refl refl refl refl refl refl refl refl refl refl
+    refl refl refl refl
 
 -- no number of a list is more than their sum
 pub one_of_sum : (xs : List ℕ) (i : ℕ) → get_or xs i 0 ≤ sum_l xs

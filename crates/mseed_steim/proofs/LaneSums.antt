@@ -1,5 +1,6 @@
 -- Sums of lanes, modulo 2^32.
-use Rattle.std.proofs.Common.{◌≡◌, ℕ, zero, suc, ◌+◌, ◌-◌, ◌*◌, ◌%◌, ◌^◌, ◌<◌, ◌≤◌, List, [], ◌∷◌, length, map, get_or, bit_and, bit_xor, refl, sym, ap, ◌∙◌, arith, Fits, w32}
+use Rattle.std.proofs.Common.{◌≡◌, ℕ, zero, suc, ◌+◌, ◌-◌, ◌*◌, ◌%◌, ◌^◌, ◌<◌, ◌≤◌, List, [], ◌∷◌, length, map, get_or,
+    bit_and, bit_xor, refl, sym, ap, ◌∙◌, arith, Fits, w32}
 use Rattle.std.proofs.lemmas.Simd.{pick_l_whole, zip2_of_maps, map-map, sum_dots}
 use Rattle.std.specs.List.{range_with_len}
 use lib.Lanes.{zip2, sum_l, fold_l, dots, Each1}
@@ -7,7 +8,8 @@ use lib.ListN.{replicate}
 use Rattle.mseed_steim.specs.Lanes.{words, counts_two, counts_one}
 use Rattle.mseed_steim.proofs.LaneTables.{each_of_all}
 
-pub plus_sum : (xs ys : List ℕ) → length xs ≡ length ys → sum_l (zip2 (λ a b. (a + b) % 4294967296) xs ys) % 4294967296 ≡ (sum_l xs + sum_l ys) % 4294967296
+pub plus_sum : (xs ys : List ℕ) → length xs ≡ length ys → sum_l (zip2 (λ a b. (a + b) % 4294967296) xs ys) % 4294967296
+    ≡ (sum_l xs + sum_l ys) % 4294967296
 plus_sum [] [] e = refl
 plus_sum [] (y ∷ ys) e = absurd (omega arith)
 plus_sum (x ∷ xs) [] e = absurd (omega arith)
@@ -23,32 +25,38 @@ minus_sum (x ∷ xs) (y ∷ ys) e h =
     let small : y < 4294967296 = h.0.fits in
     omega (arith, ih, small)
 
-pub shl7_sum : (n : ℕ) (xs : List ℕ) → length xs ≡ n → sum_l (zip2 (λ a b. a * 2 ^ b % 4294967296) xs (replicate n 7)) % 4294967296 ≡ 128 * sum_l xs % 4294967296
+pub shl7_sum : (n : ℕ) (xs : List ℕ) → length xs ≡ n
+    → sum_l (zip2 (λ a b. a * 2 ^ b % 4294967296) xs (replicate n 7)) % 4294967296 ≡ 128 * sum_l xs % 4294967296
 shl7_sum n [] e = refl
 shl7_sum zero (x ∷ xs) e = absurd (omega arith)
 shl7_sum (suc n) (x ∷ xs) e = let ih = shl7_sum n xs (omega arith) in omega (arith, ih)
 
-pub shl10_sum : (n : ℕ) (xs : List ℕ) → length xs ≡ n → sum_l (zip2 (λ a b. a * 2 ^ b % 4294967296) xs (replicate n 10)) % 4294967296 ≡ 1024 * sum_l xs % 4294967296
+pub shl10_sum : (n : ℕ) (xs : List ℕ) → length xs ≡ n
+    → sum_l (zip2 (λ a b. a * 2 ^ b % 4294967296) xs (replicate n 10)) % 4294967296 ≡ 1024 * sum_l xs % 4294967296
 shl10_sum n [] e = refl
 shl10_sum zero (x ∷ xs) e = absurd (omega arith)
 shl10_sum (suc n) (x ∷ xs) e = let ih = shl10_sum n xs (omega arith) in omega (arith, ih)
 
-pub shl15_sum : (n : ℕ) (xs : List ℕ) → length xs ≡ n → sum_l (zip2 (λ a b. a * 2 ^ b % 4294967296) xs (replicate n 15)) % 4294967296 ≡ 32768 * sum_l xs % 4294967296
+pub shl15_sum : (n : ℕ) (xs : List ℕ) → length xs ≡ n
+    → sum_l (zip2 (λ a b. a * 2 ^ b % 4294967296) xs (replicate n 15)) % 4294967296 ≡ 32768 * sum_l xs % 4294967296
 shl15_sum n [] e = refl
 shl15_sum zero (x ∷ xs) e = absurd (omega arith)
 shl15_sum (suc n) (x ∷ xs) e = let ih = shl15_sum n xs (omega arith) in omega (arith, ih)
 
-pub shl8_sum : (n : ℕ) (xs : List ℕ) → length xs ≡ n → sum_l (zip2 (λ a b. a * 2 ^ b % 4294967296) xs (replicate n 8)) % 4294967296 ≡ 256 * sum_l xs % 4294967296
+pub shl8_sum : (n : ℕ) (xs : List ℕ) → length xs ≡ n
+    → sum_l (zip2 (λ a b. a * 2 ^ b % 4294967296) xs (replicate n 8)) % 4294967296 ≡ 256 * sum_l xs % 4294967296
 shl8_sum n [] e = refl
 shl8_sum zero (x ∷ xs) e = absurd (omega arith)
 shl8_sum (suc n) (x ∷ xs) e = let ih = shl8_sum n xs (omega arith) in omega (arith, ih)
 
-pub shl9_sum : (n : ℕ) (xs : List ℕ) → length xs ≡ n → sum_l (zip2 (λ a b. a * 2 ^ b % 4294967296) xs (replicate n 9)) % 4294967296 ≡ 512 * sum_l xs % 4294967296
+pub shl9_sum : (n : ℕ) (xs : List ℕ) → length xs ≡ n
+    → sum_l (zip2 (λ a b. a * 2 ^ b % 4294967296) xs (replicate n 9)) % 4294967296 ≡ 512 * sum_l xs % 4294967296
 shl9_sum n [] e = refl
 shl9_sum zero (x ∷ xs) e = absurd (omega arith)
 shl9_sum (suc n) (x ∷ xs) e = let ih = shl9_sum n xs (omega arith) in omega (arith, ih)
 
-pub fold_sum : (a : ℕ) (xs : List ℕ) → fold_l (λ s x. (s + x) % 4294967296) (a % 4294967296) xs ≡ (a + sum_l xs) % 4294967296
+pub fold_sum : (a : ℕ) (xs : List ℕ)
+    → fold_l (λ s x. (s + x) % 4294967296) (a % 4294967296) xs ≡ (a + sum_l xs) % 4294967296
 fold_sum a [] = omega arith
 fold_sum a (x ∷ xs) =
     let ih = fold_sum (a % 4294967296 + x) xs in
@@ -66,30 +74,40 @@ pub sums_plus : (f g : ℕ → ℕ) (ws : List ℕ) → sum_l (map (λ w. f w + 
 sums_plus f g [] = refl
 sums_plus f g (w ∷ ws) = let ih = sums_plus f g ws in omega (arith, ih)
 
-pub two_sums : (f g : ℕ → ℕ) (ws : List ℕ) (s t u : ℕ) → s ≡ sum_l (map f ws) → t ≡ sum_l (map g ws) → u % 4294967296 ≡ (s + t) % 4294967296
+pub two_sums : (f g : ℕ → ℕ) (ws : List ℕ) (s t u : ℕ) → s ≡ sum_l (map f ws) → t ≡ sum_l (map g ws)
+    → u % 4294967296 ≡ (s + t) % 4294967296
     → u % 4294967296 ≡ sum_l (map (λ w. f w + g w) ws) % 4294967296
-two_sums f g ws s t u d e h = h ∙ ap (λ n. n % 4294967296) (ap (λ n. n + t) d ∙ ap (λ n. sum_l (map f ws) + n) e ∙ sym (sums_plus f g ws))
+two_sums f g ws s t u d e h = h ∙ ap (λ n. n % 4294967296) (ap (λ n. n + t) d ∙ ap (λ n. sum_l (map f ws) + n) e
+    ∙ sym (sums_plus f g ws))
 
-pub more_sums : (f g : ℕ → ℕ) (ws : List ℕ) (s t u : ℕ) → s % 4294967296 ≡ sum_l (map f ws) % 4294967296 → t ≡ sum_l (map g ws) → u % 4294967296 ≡ (s + t) % 4294967296
+pub more_sums : (f g : ℕ → ℕ) (ws : List ℕ) (s t u : ℕ) → s % 4294967296 ≡ sum_l (map f ws) % 4294967296
+    → t ≡ sum_l (map g ws) → u % 4294967296 ≡ (s + t) % 4294967296
     → u % 4294967296 ≡ sum_l (map (λ w. f w + g w) ws) % 4294967296
 more_sums f g ws s t u d e h = let k = sums_plus f g ws in omega (arith, d, e, h, k)
 
 -- a plane's part, word by word
-pub turn_words : (p t rows : List ℕ) (table : List ℕ) (byte row : ℕ → ℕ) (ws : List ℕ) → t ≡ map (λ r. get_or table r 0) rows → p ≡ map byte ws → rows ≡ map row ws
+pub turn_words : (p t rows : List ℕ) (table : List ℕ) (byte row : ℕ → ℕ) (ws : List ℕ)
+    → t ≡ map (λ r. get_or table r 0) rows → p ≡ map byte ws → rows ≡ map row ws
     → zip2 bit_xor p t ≡ map (λ w. bit_xor (byte w) (get_or table (row w) 0)) ws
 turn_words p t rows table byte row ws e f g =
-    zip2_of_maps bit_xor byte (λ w. get_or table (row w) 0) ws f (e ∙ ap (λ z. map (λ r. get_or table r 0) z) g ∙ map-map (λ r. get_or table r 0) row ws)
+    zip2_of_maps bit_xor byte (λ w. get_or table (row w) 0) ws f (e ∙ ap (λ z. map (λ r. get_or table r 0) z) g
+        ∙ map-map (λ r. get_or table r 0) row ws)
 
-pub kept_words : (p t rows : List ℕ) (table : List ℕ) (byte row : ℕ → ℕ) (ws : List ℕ) → t ≡ map (λ r. get_or table r 0) rows → p ≡ map byte ws → rows ≡ map row ws
+pub kept_words : (p t rows : List ℕ) (table : List ℕ) (byte row : ℕ → ℕ) (ws : List ℕ)
+    → t ≡ map (λ r. get_or table r 0) rows → p ≡ map byte ws → rows ≡ map row ws
     → zip2 bit_and p t ≡ map (λ w. bit_and (byte w) (get_or table (row w) 0)) ws
 kept_words p t rows table byte row ws e f g =
-    zip2_of_maps bit_and byte (λ w. get_or table (row w) 0) ws f (e ∙ ap (λ z. map (λ r. get_or table r 0) z) g ∙ map-map (λ r. get_or table r 0) row ws)
+    zip2_of_maps bit_and byte (λ w. get_or table (row w) 0) ws f (e ∙ ap (λ z. map (λ r. get_or table r 0) z) g
+        ∙ map-map (λ r. get_or table r 0) row ws)
 
-pub table_words : (t rows : List ℕ) (table : List ℕ) (row : ℕ → ℕ) (ws : List ℕ) → t ≡ map (λ r. get_or table r 0) rows → rows ≡ map row ws
+pub table_words : (t rows : List ℕ) (table : List ℕ) (row : ℕ → ℕ) (ws : List ℕ) → t ≡ map (λ r. get_or table r 0) rows
+    → rows ≡ map row ws
     → t ≡ map (λ w. get_or table (row w) 0) ws
-table_words t rows table row ws e g = e ∙ ap (λ z. map (λ r. get_or table r 0) z) g ∙ map-map (λ r. get_or table r 0) row ws
+table_words t rows table row ws e g = e ∙ ap (λ z. map (λ r. get_or table r 0) z) g
+    ∙ map-map (λ r. get_or table r 0) row ws
 
-pub weighed_words : (xs vs : List ℕ) (f g : ℕ → ℕ) (ws : List ℕ) → length xs ≡ 16 → length vs ≡ 16 → xs ≡ map f ws → vs ≡ map g ws
+pub weighed_words : (xs vs : List ℕ) (f g : ℕ → ℕ) (ws : List ℕ) → length xs ≡ 16 → length vs ≡ 16 → xs ≡ map f ws
+    → vs ≡ map g ws
     → sum_l (dots xs vs) ≡ sum_l (map (λ w. f w * g w) ws)
 weighed_words xs vs f g ws l m e h = (sum_dots 4 xs vs l m).0 ∙ ap sum_l (zip2_of_maps (λ x y. x * y) f g ws e h)
 
@@ -98,7 +116,8 @@ unfolding words
 long_words = refl
 
 -- a table of no more than 128 each adds up to less than 2^32
-counted_in : (t : List ℕ) → Each1 (λ x. x < 129) t → (row : ℕ → ℕ) (ws : List ℕ) → sum_l (map (λ w. get_or t (row w) 0) ws) ≤ 128 * length ws
+counted_in : (t : List ℕ) → Each1 (λ x. x < 129) t → (row : ℕ → ℕ) (ws : List ℕ)
+    → sum_l (map (λ w. get_or t (row w) 0) ws) ≤ 128 * length ws
 counted_in t h row [] = omega arith
 counted_in t h row (w ∷ ws) =
     let ih = counted_in t h row ws in
@@ -110,14 +129,16 @@ counted_in t h row (w ∷ ws) =
     at_most (x ∷ t) h zero = h.0
     at_most (x ∷ t) h (suc i) = at_most t h.1 i
 
-pub counted : (row : ℕ → ℕ) → sum_l (map (λ w. get_or counts_two (row w) 0) words) % 4294967296 ≡ sum_l (map (λ w. get_or counts_two (row w) 0) words)
+pub counted : (row : ℕ → ℕ) → sum_l (map (λ w. get_or counts_two (row w) 0) words) % 4294967296
+    ≡ sum_l (map (λ w. get_or counts_two (row w) 0) words)
 unfolding counts_two
 counted row =
     let small = each_of_all 129 counts_two tt in
     let h = counted_in counts_two small row words in
     omega (arith, h, long_words)
 
-pub counted_one : (row : ℕ → ℕ) → sum_l (map (λ w. get_or counts_one (row w) 0) words) % 4294967296 ≡ sum_l (map (λ w. get_or counts_one (row w) 0) words)
+pub counted_one : (row : ℕ → ℕ) → sum_l (map (λ w. get_or counts_one (row w) 0) words) % 4294967296
+    ≡ sum_l (map (λ w. get_or counts_one (row w) 0) words)
 unfolding counts_one
 counted_one row =
     let small = each_of_all 129 counts_one tt in

@@ -1,5 +1,7 @@
 -- A record has one reading at most, or one fault.
-use Rattle.std.proofs.Common.{◌≡◌, ◌≢◌, ℕ, ◌+◌, ◌-◌, ◌*◌, ◌/◌, ◌<◌, ◌≤◌, List, [], ◌∷◌, ◌++◌, length, ℤ, arith, refl, ap, sym, ◌∙◌, subst, slice_get, true, false, Some, Result, Ok, Err, IsOk, IsOkAnd, IfOk, IfErr, MatchResult, inl, inr, ◌↔◌, All}
+use Rattle.std.proofs.Common.{◌≡◌, ◌≢◌, ℕ, ◌+◌, ◌-◌, ◌*◌, ◌/◌, ◌<◌, ◌≤◌, List, [], ◌∷◌, ◌++◌, length, ℤ, arith, refl,
+    ap, sym, ◌∙◌, subst, slice_get, true, false, Some, Result, Ok, Err, IsOk, IsOkAnd, IfOk, IfErr, MatchResult, inl,
+    inr, ◌↔◌, All}
 use Rattle.std.proofs.Math.Nat.{mul-suc}
 use Rattle.mseed_time.specs.declared.order.Order.{Order}
 use Rattle.mseed_time.specs.declared.order.Order.TheVariants.{Big, Little}
@@ -11,15 +13,20 @@ use Rattle.mseed_steim.specs.declared.form.Form.{Form}
 use Rattle.mseed_steim.specs.declared.form.Form.TheVariants.{Integers, Frames}
 use Rattle.mseed_steim.specs.declared.fault.Ends.{Ends}
 use Rattle.mseed_steim.specs.declared.fault.ReadFault.{ReadFault}
-use Rattle.mseed_steim.specs.declared.fault.ReadFault.TheVariants.{Blockette100, Encoding, LittleSteim, DataOffset, Short, BadWord, Overflow, LastDiffers, Memory}
+use Rattle.mseed_steim.specs.declared.fault.ReadFault.TheVariants.{Blockette100, Encoding, LittleSteim, DataOffset,
+    Short, BadWord, Overflow, LastDiffers, Memory}
 use Rattle.mseed_steim.specs.Frames.{last_constant}
-use Rattle.mseed_steim.specs.Samples.{bytes_of, form_of, BeginsWith, IsPayloadReading, EndsOnConstant, IsPayloadFault, IsSample, AreEnds, short, bad_word, overflow, last_differs, IsFrameFault, IsChecked, IsFilled}
-use Rattle.mseed_steim.specs.Reading.{count_of, IsReading, EndsOnConstants, HasOneReading, IsReadable, IsFault, blockette_100, encoding, little_steim, data_offset, in_payload, Denies, HoldsIn, IsAnswer, is_little_steim, IsWhole, IsRefusal}
+use Rattle.mseed_steim.specs.Samples.{bytes_of, form_of, BeginsWith, IsPayloadReading, EndsOnConstant, IsPayloadFault,
+    IsSample, AreEnds, short, bad_word, overflow, last_differs, IsFrameFault, IsChecked, IsFilled}
+use Rattle.mseed_steim.specs.Reading.{count_of, IsReading, EndsOnConstants, HasOneReading, IsReadable, IsFault,
+    blockette_100, encoding, little_steim, data_offset, in_payload, Denies, HoldsIn, IsAnswer, is_little_steim, IsWhole,
+    IsRefusal}
 use Rattle.mseed_steim.proofs.Words.{residue_one}
 use Rattle.mseed_steim.proofs.Runs.{sums_one, fault_one, not_short, not_bad, not_in}
 use Rattle.mseed_steim.proofs.Ended.{get_pushed}
 
-begins_one : (order : Order) (w : ℕ) (p : List ℕ) (place : ℕ) (ss ts : List ℤ) → 0 < w → length ss ≡ length ts → BeginsWith order w p place ss → BeginsWith order w p place ts → ss ≡ ts
+begins_one : (order : Order) (w : ℕ) (p : List ℕ) (place : ℕ) (ss ts : List ℤ) → 0 < w → length ss ≡ length ts
+    → BeginsWith order w p place ss → BeginsWith order w p place ts → ss ≡ ts
 begins_one order w p place [] [] some l h k = refl
 begins_one order w p place [] (t ∷ ts) some l h k = absurd (omega arith)
 begins_one order w p place (s ∷ ss) [] some l h k = absurd (omega arith)
@@ -29,13 +36,15 @@ begins_one order w p place (s ∷ ss) (t ∷ ts) some l h k =
     let later : ss ≡ ts = begins_one order w p (place + w) ss ts some (omega arith) h.3 k.3 in
     cc
 
-begins_long : (order : Order) (w : ℕ) (p : List ℕ) (place : ℕ) (ss : List ℤ) → place ≤ length p → BeginsWith order w p place ss → place + w * length ss ≤ length p
+begins_long : (order : Order) (w : ℕ) (p : List ℕ) (place : ℕ) (ss : List ℤ) → place ≤ length p
+    → BeginsWith order w p place ss → place + w * length ss ≤ length p
 begins_long order w p place [] within h = omega arith
 begins_long order w p place (s ∷ ss) within h =
     let later = begins_long order w p (place + w) ss h.0 h.3 in
     omega (arith, later, mul-suc w (length ss))
 
-payload_one : (form : Form) (order : Order) (p : List ℕ) (n : ℕ) (ss ts : List ℤ) → IsPayloadReading form order p n ss → IsPayloadReading form order p n ts → ss ≡ ts
+payload_one : (form : Form) (order : Order) (p : List ℕ) (n : ℕ) (ss ts : List ℤ) → IsPayloadReading form order p n ss
+    → IsPayloadReading form order p n ts → ss ≡ ts
 payload_one (Integers Two) order p n ss ts h k = begins_one order 2 p 0 ss ts (omega arith) (h.0 ∙ sym k.0) h.1 k.1
 payload_one (Integers Four) order p n ss ts h k = begins_one order 4 p 0 ss ts (omega arith) (h.0 ∙ sym k.0) h.1 k.1
 payload_one (Frames scheme) order p n ss ts h k = sums_one scheme p n ss ts h.1 k.1
@@ -44,14 +53,20 @@ payload_one (Frames scheme) order p n ss ts h k = sums_one scheme p n ss ts h.1 
 pub reading_one : (v : View) → HasOneReading v
 reading_one v ss ts a b =
     let same : a.form ≡ b.form = cc (a.encoding, b.encoding) in
-    payload_one b.form v.payload_order (payload_of v) (count_of v) ss ts (subst (λ (form : Form). IsPayloadReading form v.payload_order (payload_of v) (count_of v) ss) same a.spelled) b.spelled
+    payload_one b.form v.payload_order (payload_of v) (count_of v) ss ts
+        (subst (λ (form : Form). IsPayloadReading form v.payload_order (payload_of v) (count_of v) ss) same a.spelled)
+        b.spelled
 
 -- integers that are there leave no fault
-integers_fit : (width : Width) (order : Order) (p : List ℕ) (n : ℕ) (ss : List ℤ) → IsPayloadReading (Integers width) order p n ss → length p / bytes_of width < n → ⊥
-integers_fit Two order p n ss h less = let long = begins_long order 2 p 0 ss (omega arith) h.1 in omega (arith, long, h.0)
-integers_fit Four order p n ss h less = let long = begins_long order 4 p 0 ss (omega arith) h.1 in omega (arith, long, h.0)
+integers_fit : (width : Width) (order : Order) (p : List ℕ) (n : ℕ) (ss : List ℤ)
+    → IsPayloadReading (Integers width) order p n ss → length p / bytes_of width < n → ⊥
+integers_fit Two order p n ss h less = let long = begins_long order 2 p 0 ss (omega arith) h.1 in
+    omega (arith, long, h.0)
+integers_fit Four order p n ss h less = let long = begins_long order 4 p 0 ss (omega arith) h.1 in
+    omega (arith, long, h.0)
 
-payload_fault_one : (form : Form) (p : List ℕ) (n : ℕ) (f g : ReadFault) → IsPayloadFault form p n f → IsPayloadFault form p n g → f ≡ g
+payload_fault_one : (form : Form) (p : List ℕ) (n : ℕ) (f g : ReadFault) → IsPayloadFault form p n f
+    → IsPayloadFault form p n g → f ≡ g
 payload_fault_one (Integers width) p n f g h k = h.1 ∙ sym k.1
 payload_fault_one (Frames scheme) p n f g h k = fault_one scheme p n f g h k
 
@@ -74,32 +89,41 @@ record_fault_one v f g (encoding a d) (in_payload b form e r p fault h) = cc (d,
 record_fault_one v f g (little_steim a s d l) (blockette_100 b) = cc (a, b)
 record_fault_one v f g (little_steim a s d l) (encoding b e) = cc (d, e)
 record_fault_one v f g (little_steim a s d l) (little_steim b t e m) = refl
-record_fault_one v f g (little_steim a s d l) (data_offset b form e r p) = absurd (not_readable form v.payload_order s (cc (d, e)) l r)
-record_fault_one v f g (little_steim a s d l) (in_payload b form e r p fault h) = absurd (not_readable form v.payload_order s (cc (d, e)) l r)
+record_fault_one v f g (little_steim a s d l) (data_offset b form e r p) =
+    absurd (not_readable form v.payload_order s (cc (d, e)) l r)
+record_fault_one v f g (little_steim a s d l) (in_payload b form e r p fault h) =
+    absurd (not_readable form v.payload_order s (cc (d, e)) l r)
 record_fault_one v f g (data_offset a form d r p) (blockette_100 b) = cc (a, b)
 record_fault_one v f g (data_offset a form d r p) (encoding b e) = cc (d, e)
-record_fault_one v f g (data_offset a form d r p) (little_steim b s e l) = absurd (not_readable form v.payload_order s (cc (d, e)) l r)
+record_fault_one v f g (data_offset a form d r p) (little_steim b s e l) =
+    absurd (not_readable form v.payload_order s (cc (d, e)) l r)
 record_fault_one v f g (data_offset a form d r p) (data_offset b form' e r' p') = refl
 record_fault_one v f g (data_offset a form d r p) (in_payload b form' e r' p' fault h) = absurd (p p')
 record_fault_one v f g (in_payload a form d r p fault h) (blockette_100 b) = cc (a, b)
 record_fault_one v f g (in_payload a form d r p fault h) (encoding b e) = cc (d, e)
-record_fault_one v f g (in_payload a form d r p fault h) (little_steim b s e l) = absurd (not_readable form v.payload_order s (cc (d, e)) l r)
+record_fault_one v f g (in_payload a form d r p fault h) (little_steim b s e l) =
+    absurd (not_readable form v.payload_order s (cc (d, e)) l r)
 record_fault_one v f g (in_payload a form d r p fault h) (data_offset b form' e r' p') = absurd (p' p)
 record_fault_one v f g (in_payload a form d r p fault h) (in_payload b form' e r' p' fault' h') =
     let same : form ≡ form' = cc (d, e) in
-    payload_fault_one form' (payload_of v) (count_of v) f g (subst (λ (x : Form). IsPayloadFault x (payload_of v) (count_of v) f) same h) h'
+    payload_fault_one form' (payload_of v) (count_of v) f g
+        (subst (λ (x : Form). IsPayloadFault x (payload_of v) (count_of v) f) same h) h'
 
 -- two forms of one encoding
-pub same_payload : (v : View) (form : Form) (s : List ℤ) → form_of v.encoding ≡ Some form → IsReading v s → IsPayloadReading form v.payload_order (payload_of v) (count_of v) s
+pub same_payload : (v : View) (form : Form) (s : List ℤ) → form_of v.encoding ≡ Some form → IsReading v s
+    → IsPayloadReading form v.payload_order (payload_of v) (count_of v) s
 same_payload v form s e a =
     let same : a.form ≡ form = cc (a.encoding, e) in
     subst (λ (x : Form). IsPayloadReading x v.payload_order (payload_of v) (count_of v) s) same a.spelled
 
 -- what a fault of frames denies
-differs : (v : View) (scheme : Scheme) (front : List ℤ) (last : ℤ) → 0 < count_of v → v.has_rate_blockette ≡ false → form_of v.encoding ≡ Some (Frames scheme) → v.payload_order ≡ Big → HasPayload v
-    → IsPayloadReading (Frames scheme) v.payload_order (payload_of v) (count_of v) (front ++ last ∷ []) → last ≢ last_constant (payload_of v) → Denies v (LastDiffers last (last_constant (payload_of v)))
+differs : (v : View) (scheme : Scheme) (front : List ℤ) (last : ℤ) → 0 < count_of v → v.has_rate_blockette ≡ false
+    → form_of v.encoding ≡ Some (Frames scheme) → v.payload_order ≡ Big → HasPayload v
+    → IsPayloadReading (Frames scheme) v.payload_order (payload_of v) (count_of v) (front ++ last ∷ [])
+    → last ≢ last_constant (payload_of v) → Denies v (LastDiffers last (last_constant (payload_of v)))
 differs v scheme front last some a e big p h not =
-    let whole : IsReading v (front ++ last ∷ []) = record { some = some; one_rate = a; form = Frames scheme; encoding = e; payload = p; spelled = h } in (
+    let whole : IsReading v (front ++ last ∷ []) =
+        record { some = some; one_rate = a; form = Frames scheme; encoding = e; payload = p; spelled = h } in (
       front ++ last ∷ [],
       (
         whole,
@@ -107,21 +131,29 @@ differs v scheme front last some a e big p h not =
             let one : front ++ last ∷ [] ≡ t = reading_one v (front ++ last ∷ []) t whole b in (
               one,
               λ ends.
-                  let end : slice_get (front ++ last ∷ []) (length (front ++ last ∷ []) - 1) ≡ Some (last_constant (payload_of v)) = subst (λ (xs : List ℤ). slice_get xs (length xs - 1) ≡ Some (last_constant (payload_of v))) (sym one) (ends (Frames scheme) e) in
+                  let end : slice_get (front ++ last ∷ []) (length (front ++ last ∷ []) - 1)
+                      ≡ Some (last_constant (payload_of v)) =
+                      subst (λ (xs : List ℤ). slice_get xs (length xs - 1) ≡ Some (last_constant (payload_of v)))
+                      (sym one) (ends (Frames scheme) e) in
                   not (cc (end, get_pushed front last)),
             ),
       ),
     )
 
-frames_deny : (v : View) (scheme : Scheme) (f : ReadFault) → 0 < count_of v → v.has_rate_blockette ≡ false → form_of v.encoding ≡ Some (Frames scheme) → v.payload_order ≡ Big → HasPayload v → IsFrameFault scheme (payload_of v) (count_of v) f → Denies v f
+frames_deny : (v : View) (scheme : Scheme) (f : ReadFault) → 0 < count_of v → v.has_rate_blockette ≡ false
+    → form_of v.encoding ≡ Some (Frames scheme) → v.payload_order ≡ Big → HasPayload v
+    → IsFrameFault scheme (payload_of v) (count_of v) f → Denies v f
 frames_deny v scheme f some a e big p (short ds h less) = λ s r.
     let q = same_payload v (Frames scheme) s e r in not_short scheme (payload_of v) (count_of v) s ds q.1 h less
 frames_deny v scheme f some a e big p (bad_word before bad after ds cut h less none) = λ s r.
-    let q = same_payload v (Frames scheme) s e r in not_bad scheme (payload_of v) (count_of v) s before bad after ds q.1 cut h less none
+    let q = same_payload v (Frames scheme) s e r in
+        not_bad scheme (payload_of v) (count_of v) s before bad after ds q.1 cut h less none
 frames_deny v scheme f some a e big p (overflow front sum rest sums all not) = λ s r.
     let q = same_payload v (Frames scheme) s e r in
-    not_in front sum rest (subst (λ (xs : List ℤ). All IsSample xs) (sums_one scheme (payload_of v) (count_of v) s (front ++ sum ∷ rest) q.1 sums) q.2) not
-frames_deny v scheme f some a e big p (last_differs front last sums all not) = differs v scheme front last some a e big p (big, sums, all) not
+    not_in front sum rest (subst (λ (xs : List ℤ). All IsSample xs)
+        (sums_one scheme (payload_of v) (count_of v) s (front ++ sum ∷ rest) q.1 sums) q.2) not
+frames_deny v scheme f some a e big p (last_differs front last sums all not) =
+    differs v scheme front last some a e big p (big, sums, all) not
 
 -- What a fault says of readings.
 pub fault_denies : (v : View) (f : ReadFault) → 0 < count_of v → IsFault v f → Denies v f
@@ -130,7 +162,8 @@ fault_denies v f some (encoding a d) = λ s r. cc (d, r.encoding)
 fault_denies v f some (little_steim a scheme d l) = λ s r. let q = same_payload v (Frames scheme) s d r in cc (q.0, l)
 fault_denies v f some (data_offset a form d readable p) = λ s r. p r.payload
 fault_denies v f some (in_payload a (Integers width) d readable p fault h) =
-    subst (λ (x : ReadFault). Denies v x) (sym h.1) (λ s r. integers_fit width v.payload_order (payload_of v) (count_of v) s (same_payload v (Integers width) s d r) h.0)
+    subst (λ (x : ReadFault). Denies v x) (sym h.1) (λ s r. integers_fit width v.payload_order (payload_of v)
+        (count_of v) s (same_payload v (Integers width) s d r) h.0)
 fault_denies v f some (in_payload a (Frames scheme) d readable p fault h) = frames_deny v scheme f some a d readable p h
 
 -- So a record with a fault has no reading that ends on its constants.
@@ -146,24 +179,29 @@ denied v (LastDiffers found constant) s h r e = (h.1.1 s r).1 e
 denied v Memory s h r e = h s r
 
 -- what the answer of a check means
-pub answer_ends : (v : View) (r : Result Ends ReadFault) → IsAnswer v r → IfOk r (λ ends. (s : List ℤ) × (IsReading v s × EndsOnConstants v s × AreEnds ends s))
+pub answer_ends : (v : View) (r : Result Ends ReadFault) → IsAnswer v r
+    → IfOk r (λ ends. (s : List ℤ) × (IsReading v s × EndsOnConstants v s × AreEnds ends s))
 answer_ends v (Ok ends) h = h
 answer_ends v (Err f) h = tt
 
-pub answer_only : (v : View) (r : Result Ends ReadFault) → 0 < count_of v → IsAnswer v r → (s : List ℤ) → IsReading v s → EndsOnConstants v s → IsOkAnd r (λ ends. AreEnds ends s)
+pub answer_only : (v : View) (r : Result Ends ReadFault) → 0 < count_of v → IsAnswer v r → (s : List ℤ) → IsReading v s
+    → EndsOnConstants v s → IsOkAnd r (λ ends. AreEnds ends s)
 answer_only v (Ok ends) some h s a e = subst (λ (xs : List ℤ). AreEnds ends xs) (reading_one v h.0 s h.1.0 a) h.1.2
 answer_only v (Err f) some h s a e = absurd (denied v f s (fault_denies v f some h) a e)
 
-pub answer_fault : (v : View) (r : Result Ends ReadFault) → 0 < count_of v → IsAnswer v r → (f : ReadFault) → (r ≡ Err f) ↔ IsFault v f
+pub answer_fault : (v : View) (r : Result Ends ReadFault) → 0 < count_of v → IsAnswer v r → (f : ReadFault)
+    → (r ≡ Err f) ↔ IsFault v f
 answer_fault v (Ok ends) some h f = ((λ e. cc), (λ q. absurd (denied v f h.0 (fault_denies v f some q) h.1.0 h.1.1)))
-answer_fault v (Err g) some h f = ((λ e. let same : g ≡ f = cc in subst (λ (x : ReadFault). IsFault v x) same h), (λ q. ap Err (record_fault_one v g f h q)))
+answer_fault v (Err g) some h f = ((λ e. let same : g ≡ f = cc in subst (λ (x : ReadFault). IsFault v x) same h),
+    (λ q. ap Err (record_fault_one v g f h q)))
 
 pub answer_denies : (v : View) (r : Result Ends ReadFault) → 0 < count_of v → IsAnswer v r → IfErr r (λ f. Denies v f)
 answer_denies v (Ok ends) some h = tt
 answer_denies v (Err f) some h = fault_denies v f some h
 
 -- a check of the payload is one of the record
-pub payload_answer : (v : View) (form : Form) (p : List ℕ) (r : Result Ends ReadFault) → 0 < count_of v → HoldsIn v form p → IsChecked form v.payload_order p (count_of v) r → IsAnswer v r
+pub payload_answer : (v : View) (form : Form) (p : List ℕ) (r : Result Ends ReadFault) → 0 < count_of v
+    → HoldsIn v form p → IsChecked form v.payload_order p (count_of v) r → IsAnswer v r
 payload_answer v form p (Ok ends) some holds h =
     let e : form_of v.encoding ≡ Some form = holds.1 in (
       h.0,
@@ -177,20 +215,24 @@ payload_answer v form p (Ok ends) some holds h =
           spelled = subst (λ (xs : List ℕ). IsPayloadReading form v.payload_order xs (count_of v) h.0) holds.4 h.1.0;
         },
         (λ other q. let same : form ≡ other = cc (e, q) in
-            subst (λ (x : Form). EndsOnConstant x (payload_of v) h.0) same (subst (λ (xs : List ℕ). EndsOnConstant form xs h.0) holds.4 h.1.1)),
+            subst (λ (x : Form). EndsOnConstant x (payload_of v) h.0) same
+                (subst (λ (xs : List ℕ). EndsOnConstant form xs h.0) holds.4 h.1.1)),
         h.1.2,
       ),
     )
 payload_answer v form p (Err f) some holds h =
-    in_payload holds.0 form holds.1 holds.2 holds.3 f (subst (λ (xs : List ℕ). IsPayloadFault form xs (count_of v) f) holds.4 h)
+    in_payload holds.0 form holds.1 holds.2 holds.3 f
+        (subst (λ (xs : List ℕ). IsPayloadFault form xs (count_of v) f) holds.4 h)
 
-little_in : (v : View) (form : Form) (order : Order) → v.has_rate_blockette ≡ false → form_of v.encoding ≡ Some form → v.payload_order ≡ order → is_little_steim form order ≡ true → IsFault v LittleSteim
+little_in : (v : View) (form : Form) (order : Order) → v.has_rate_blockette ≡ false → form_of v.encoding ≡ Some form
+    → v.payload_order ≡ order → is_little_steim form order ≡ true → IsFault v LittleSteim
 little_in v (Integers width) order a e l h = cc
 little_in v (Frames scheme) Big a e l h = cc
 little_in v (Frames scheme) Little a e l h = little_steim a scheme e l
 
 -- what the test of little-endian frames tells
-pub little_fault : (v : View) (form : Form) → v.has_rate_blockette ≡ false → form_of v.encoding ≡ Some form → is_little_steim form v.payload_order ≡ true → IsFault v LittleSteim
+pub little_fault : (v : View) (form : Form) → v.has_rate_blockette ≡ false → form_of v.encoding ≡ Some form
+    → is_little_steim form v.payload_order ≡ true → IsFault v LittleSteim
 little_fault v form a e h = little_in v form v.payload_order a e refl h
 
 pub readable_else : (form : Form) (order : Order) → is_little_steim form order ≡ false → IsReadable form order
@@ -199,7 +241,9 @@ readable_else (Frames scheme) Big h = refl
 readable_else (Frames scheme) Little h = cc
 
 -- a filled payload is a record's
-pub payload_filled : (v : View) (form : Form) (p : List ℕ) (out : List ℤ) (r : Result (Unit {0}) ReadFault) → 0 < count_of v → HoldsIn v form p → IsFilled form v.payload_order p (count_of v) out r → MatchResult r (λ _. IsWhole v out) (λ f. IsFault v f)
+pub payload_filled : (v : View) (form : Form) (p : List ℕ) (out : List ℤ) (r : Result (Unit {0}) ReadFault)
+    → 0 < count_of v → HoldsIn v form p → IsFilled form v.payload_order p (count_of v) out r
+    → MatchResult r (λ _. IsWhole v out) (λ f. IsFault v f)
 payload_filled v form p out (Ok done) some holds h =
     let e : form_of v.encoding ≡ Some form = holds.1 in (
       record {
@@ -211,44 +255,56 @@ payload_filled v form p out (Ok done) some holds h =
         spelled = subst (λ (xs : List ℕ). IsPayloadReading form v.payload_order xs (count_of v) out) holds.4 h.0;
       },
       (λ other q. let same : form ≡ other = cc (e, q) in
-          subst (λ (x : Form). EndsOnConstant x (payload_of v) out) same (subst (λ (xs : List ℕ). EndsOnConstant form xs out) holds.4 h.1)),
+          subst (λ (x : Form). EndsOnConstant x (payload_of v) out) same
+              (subst (λ (xs : List ℕ). EndsOnConstant form xs out) holds.4 h.1)),
     )
 payload_filled v form p out (Err f) some holds h =
-    in_payload holds.0 form holds.1 holds.2 holds.3 f (subst (λ (xs : List ℕ). IsPayloadFault form xs (count_of v) f) holds.4 h)
+    in_payload holds.0 form holds.1 holds.2 holds.3 f
+        (subst (λ (xs : List ℕ). IsPayloadFault form xs (count_of v) f) holds.4 h)
 
 -- what the answer of a read means
-pub read_only : {X : Type 0} (v : View) (items : X → List ℤ) (r : Result X ReadFault) → 0 < count_of v → MatchResult r (λ x. IsWhole v (items x)) (λ f. IsRefusal v f) → (s : List ℤ) → IsWhole v s → MatchResult r (λ x. items x ≡ s) (λ f. f ≡ Memory)
+pub read_only : {X : Type 0} (v : View) (items : X → List ℤ) (r : Result X ReadFault) → 0 < count_of v
+    → MatchResult r (λ x. IsWhole v (items x)) (λ f. IsRefusal v f) → (s : List ℤ) → IsWhole v s
+    → MatchResult r (λ x. items x ≡ s) (λ f. f ≡ Memory)
 read_only v items (Ok x) some h s w = reading_one v (items x) s h.0 w.0
 read_only v items (Err f) some (inl h) s w = absurd (denied v f s (fault_denies v f some h) w.0 w.1)
 read_only v items (Err f) some (inr h) s w = h.0
 
-pub read_fault : {X : Type 0} (v : View) (items : X → List ℤ) (r : Result X ReadFault) → 0 < count_of v → MatchResult r (λ x. IsWhole v (items x)) (λ f. IsRefusal v f) → (f : ReadFault) → IsFault v f → r ≡ Err f
+pub read_fault : {X : Type 0} (v : View) (items : X → List ℤ) (r : Result X ReadFault) → 0 < count_of v
+    → MatchResult r (λ x. IsWhole v (items x)) (λ f. IsRefusal v f) → (f : ReadFault) → IsFault v f → r ≡ Err f
 read_fault v items (Ok x) some h f q = absurd (denied v f (items x) (fault_denies v f some q) h.0 h.1)
 read_fault v items (Err g) some (inl h) f q = ap Err (record_fault_one v g f h q)
 read_fault v items (Err g) some (inr h) f q = absurd (denied v f h.1.0 (fault_denies v f some q) h.1.1.0 h.1.1.1)
 
-pub read_denies : {X : Type 0} (v : View) (items : X → List ℤ) (r : Result X ReadFault) → 0 < count_of v → MatchResult r (λ x. IsWhole v (items x)) (λ f. IsRefusal v f) → IfErr r (λ f. f ≢ Memory → Denies v f)
+pub read_denies : {X : Type 0} (v : View) (items : X → List ℤ) (r : Result X ReadFault) → 0 < count_of v
+    → MatchResult r (λ x. IsWhole v (items x)) (λ f. IsRefusal v f) → IfErr r (λ f. f ≢ Memory → Denies v f)
 read_denies v items (Ok x) some h = tt
 read_denies v items (Err f) some (inl h) = λ not. fault_denies v f some h
 read_denies v items (Err f) some (inr h) = λ not. absurd (not h.0)
 
-pub read_whole : {X : Type 0} (v : View) (items : X → List ℤ) (r : Result X ReadFault) → MatchResult r (λ x. IsWhole v (items x)) (λ f. IsRefusal v f) → IfOk r (λ x. IsWhole v (items x))
+pub read_whole : {X : Type 0} (v : View) (items : X → List ℤ) (r : Result X ReadFault)
+    → MatchResult r (λ x. IsWhole v (items x)) (λ f. IsRefusal v f) → IfOk r (λ x. IsWhole v (items x))
 read_whole v items (Ok x) h = h
 read_whole v items (Err f) h = tt
 
-pub read_refused : {X : Type 0} (v : View) (items : X → List ℤ) (r : Result X ReadFault) → MatchResult r (λ x. IsWhole v (items x)) (λ f. IsRefusal v f) → IfErr r (λ f. IsRefusal v f)
+pub read_refused : {X : Type 0} (v : View) (items : X → List ℤ) (r : Result X ReadFault)
+    → MatchResult r (λ x. IsWhole v (items x)) (λ f. IsRefusal v f) → IfErr r (λ f. IsRefusal v f)
 read_refused v items (Ok x) h = tt
 read_refused v items (Err f) h = h
 
 -- what the answer of a fill means
-pub filled_only : (v : View) (out : List ℤ) (r : Result (Unit {0}) ReadFault) → 0 < count_of v → MatchResult r (λ _. IsWhole v out) (λ f. IsFault v f) → (s : List ℤ) → IsWhole v s → IsOk r × (out ≡ s)
+pub filled_only : (v : View) (out : List ℤ) (r : Result (Unit {0}) ReadFault) → 0 < count_of v
+    → MatchResult r (λ _. IsWhole v out) (λ f. IsFault v f) → (s : List ℤ) → IsWhole v s → IsOk r × (out ≡ s)
 filled_only v out (Ok done) some h s w = (refl, reading_one v out s h.0 w.0)
 filled_only v out (Err f) some h s w = absurd (denied v f s (fault_denies v f some h) w.0 w.1)
 
-pub filled_fault : (v : View) (out : List ℤ) (r : Result (Unit {0}) ReadFault) → 0 < count_of v → MatchResult r (λ _. IsWhole v out) (λ f. IsFault v f) → (f : ReadFault) → (r ≡ Err f) ↔ IsFault v f
+pub filled_fault : (v : View) (out : List ℤ) (r : Result (Unit {0}) ReadFault) → 0 < count_of v
+    → MatchResult r (λ _. IsWhole v out) (λ f. IsFault v f) → (f : ReadFault) → (r ≡ Err f) ↔ IsFault v f
 filled_fault v out (Ok done) some h f = ((λ e. cc), (λ q. absurd (denied v f out (fault_denies v f some q) h.0 h.1)))
-filled_fault v out (Err g) some h f = ((λ e. let same : g ≡ f = cc in subst (λ (x : ReadFault). IsFault v x) same h), (λ q. ap Err (record_fault_one v g f h q)))
+filled_fault v out (Err g) some h f = ((λ e. let same : g ≡ f = cc in subst (λ (x : ReadFault). IsFault v x) same h),
+    (λ q. ap Err (record_fault_one v g f h q)))
 
-pub filled_denies : (v : View) (out : List ℤ) (r : Result (Unit {0}) ReadFault) → 0 < count_of v → MatchResult r (λ _. IsWhole v out) (λ f. IsFault v f) → IfErr r (λ f. Denies v f)
+pub filled_denies : (v : View) (out : List ℤ) (r : Result (Unit {0}) ReadFault) → 0 < count_of v
+    → MatchResult r (λ _. IsWhole v out) (λ f. IsFault v f) → IfErr r (λ f. Denies v f)
 filled_denies v out (Ok done) some h = tt
 filled_denies v out (Err f) some h = fault_denies v f some h

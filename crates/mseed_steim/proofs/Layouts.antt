@@ -9,12 +9,17 @@ use Rattle.mseed_steim.specs.Rows.{row_for}
 use Rattle.mseed_steim.specs.Ahead.{IsLayout, taken}
 
 eight : (P : ℕ → Type 0) → P 0 → P 1 → P 2 → P 3 → P 4 → P 5 → P 6 → P 7 → (i : ℕ) → i < 8 → P i
-eight P a b c d e f g h = below_more P 7 (below_more P 6 (below_more P 5 (below_more P 4 (below_more P 3 (below_more P 2 (below_more P 1 (below_more P 0 (below_none P) a) b) c) d) e) f) g) h
+eight P a b c d e f g h =
+    below_more P 7 (below_more P 6
+    (below_more P 5 (below_more P 4
+    (below_more P 3 (below_more P 2 (below_more P 1 (below_more P 0 (below_none P) a) b) c) d) e) f) g) h
 
 abbrev InTable : Scheme → List Layout → Layout → ℕ → Type 0
-InTable s table none k = (r : Row) → row_for s (taken s k) ≡ Some r → ((get_or table k none).row ≡ r) × IsLayout s (get_or table k none)
+InTable s table none k = (r : Row) → row_for s (taken s k) ≡ Some r → ((get_or table k none).row ≡ r)
+    × IsLayout s (get_or table k none)
 
-by_row : (s : Scheme) (table : List Layout) (none : Layout) (k : ℕ) (row : Row) → row_for s (taken s k) ≡ Some row → (get_or table k none).row ≡ row → IsLayout s (get_or table k none) → InTable s table none k
+by_row : (s : Scheme) (table : List Layout) (none : Layout) (k : ℕ) (row : Row) → row_for s (taken s k) ≡ Some row
+    → (get_or table k none).row ≡ row → IsLayout s (get_or table k none) → InTable s table none k
 by_row s table none k row found same layout r e =
     let one : row ≡ r = cc in
     (same ∙ one, layout)

@@ -1,5 +1,7 @@
 -- Samples that are near one another, by the words or integers that say them.
-use Rattle.std.proofs.Common.{◌≡◌, ◌≢◌, ℕ, zero, suc, ◌+◌, ◌-◌, ◌*◌, ◌/◌, ◌%◌, ◌^◌, ◌<◌, ◌≤◌, List, [], ◌∷◌, ◌++◌, length, map, not, eqb, get_or, refl, sym, ap, ◌∙◌, subst, arith, ℤ, ◌-ℤ◌, Option, Some, None, All, cond, to_z, w32, Bool, ⊎_elim, false, bit_and, below_none, below_more}
+use Rattle.std.proofs.Common.{◌≡◌, ◌≢◌, ℕ, zero, suc, ◌+◌, ◌-◌, ◌*◌, ◌/◌, ◌%◌, ◌^◌, ◌<◌, ◌≤◌, List, [], ◌∷◌, ◌++◌,
+    length, map, not, eqb, get_or, refl, sym, ap, ◌∙◌, subst, arith, ℤ, ◌-ℤ◌, Option, Some, None, All, cond, to_z, w32,
+    Bool, ⊎_elim, false, bit_and, below_none, below_more}
 use Rattle.std.specs.Int.{bit_at}
 use Rattle.std.specs.List.{AllByRecursion, filter, range_with_len}
 use Rattle.std.specs.Prelude.{IsTrue, ◌↔◌}
@@ -18,7 +20,8 @@ use Rattle.mseed_steim.specs.declared.form.Width.TheVariants.{Two, Four}
 use Rattle.mseed_steim.specs.declared.form.Form.{Form}
 use Rattle.mseed_steim.specs.declared.form.Form.TheVariants.{Integers, Frames}
 use Rattle.mseed_steim.specs.Digits.{signed}
-use Rattle.mseed_steim.specs.Frames.{DataWord, code_at, data_word, data_words, first_constant, is_data, word_at, word_count, words_from}
+use Rattle.mseed_steim.specs.Frames.{DataWord, code_at, data_word, data_words, first_constant, is_data, word_at,
+    word_count, words_from}
 use Rattle.mseed_steim.specs.Groups.{Group, group_of, plain}
 use Rattle.mseed_steim.specs.Nearness.{AreNear, AreNearFrom, IsNarrowAt, IsSurelyNear}
 use Rattle.mseed_steim.specs.Reading.{HoldsIn, IsWhole, count_of}
@@ -39,7 +42,8 @@ IsNearWord s w = (ds : List ℤ) → Spells s w.code w.bits ds → All (IsWithin
 -- two's complement of four bytes is the number that they spell
 value_is : (x : ℕ) (z : ℤ) → x < 2 ^ 32 → IsWithin 32 z → x ≡ residue (2 ^ 32) z → z ≡ twos_complement 4 x
 value_is x z small range e =
-    residue_one 32 z (signed 32 x) (omega arith) range (signed_within 32 x (omega arith) small) (sym e ∙ sym (signed_residue 32 x (omega arith) small)) ∙ sym (signed_is 4 x small)
+    residue_one 32 z (signed 32 x) (omega arith) range (signed_within 32 x (omega arith) small) (sym e
+        ∙ sym (signed_residue 32 x (omega arith) small)) ∙ sym (signed_is 4 x small)
 
 -- Steim-2
 near_two : (w : DataWord) → IsNearWord Steim2 w
@@ -57,51 +61,72 @@ all_near_two [] = tt
 all_near_two (w ∷ ws) = (near_two w, all_near_two ws)
 
 -- Steim-1: a word of one difference is that difference
-by_group : (code : ℕ) (dnib : ℕ) (g : Group) (ds : List ℤ) → group_of Steim1 code dnib ≡ Some g → All (IsWithin g.width) ds → (code ≡ 3 → g ≡ record { marked = false; spare = 1; count = 1; width = 32 } → All (IsWithin 30) ds) → All (IsWithin 30) ds
+by_group : (code : ℕ) (dnib : ℕ) (g : Group) (ds : List ℤ) → group_of Steim1 code dnib ≡ Some g
+    → All (IsWithin g.width) ds → (code ≡ 3 → g ≡ record { marked = false; spare = 1; count = 1; width = 32 }
+    → All (IsWithin 30) ds) → All (IsWithin 30) ds
 by_group code dnib g ds e range wide =
-    cond_both (eqb code 1) (plain 4 8) (cond (eqb code 2) (plain 2 16) (cond (eqb code 3) (plain 1 32) None)) (λ (o : Option Group). o ≡ Some g → All (IsWithin 30) ds)
-    (λ _. λ q. let same : g ≡ record { marked = false; spare = 1; count = 4; width = 8 } = cc in all_wider g.width 30 ds (omega (arith, ap (λ (x : Group). x.width) same)) range)
-    (λ _. cond_both (eqb code 2) (plain 2 16) (cond (eqb code 3) (plain 1 32) None) (λ (o : Option Group). o ≡ Some g → All (IsWithin 30) ds)
-    (λ _. λ q. let same : g ≡ record { marked = false; spare = 1; count = 2; width = 16 } = cc in all_wider g.width 30 ds (omega (arith, ap (λ (x : Group). x.width) same)) range)
+    cond_both (eqb code 1) (plain 4 8) (cond (eqb code 2) (plain 2 16) (cond (eqb code 3) (plain 1 32) None))
+        (λ (o : Option Group). o ≡ Some g → All (IsWithin 30) ds)
+    (λ _. λ q. let same : g ≡ record { marked = false; spare = 1; count = 4; width = 8 } = cc in
+        all_wider g.width 30 ds (omega (arith, ap (λ (x : Group). x.width) same)) range)
+    (λ _. cond_both (eqb code 2) (plain 2 16) (cond (eqb code 3) (plain 1 32) None) (λ (o : Option Group). o ≡ Some g
+        → All (IsWithin 30) ds)
+    (λ _. λ q. let same : g ≡ record { marked = false; spare = 1; count = 2; width = 16 } = cc in
+        all_wider g.width 30 ds (omega (arith, ap (λ (x : Group). x.width) same)) range)
     (λ _. cond_both (eqb code 3) (plain 1 32) None (λ (o : Option Group). o ≡ Some g → All (IsWithin 30) ds)
-    (λ is. λ q. let same : g ≡ record { marked = false; spare = 1; count = 1; width = 32 } = cc in wide (eqb-true code 3 is) same)
+    (λ is. λ q. let same : g ≡ record { marked = false; spare = 1; count = 1; width = 32 } = cc in
+        wide (eqb-true code 3 is) same)
     (λ _. λ q. cc)))
     e
 
-one_near : (dnib bits : ℕ) (ds : List ℤ) → bits < 2 ^ 32 → IsGroup (record { marked = false; spare = 1; count = 1; width = 32 }) dnib bits ds → IsWithin 30 (twos_complement 4 bits) → All (IsWithin 30) ds
+one_near : (dnib bits : ℕ) (ds : List ℤ) → bits < 2 ^ 32
+    → IsGroup (record { marked = false; spare = 1; count = 1; width = 32 }) dnib bits ds
+    → IsWithin 30 (twos_complement 4 bits) → All (IsWithin 30) ds
 one_near dnib bits [] small p narrow = All-nil (IsWithin 30)
-one_near dnib bits (d ∷ e ∷ ds) small p narrow = let one : length (d ∷ e ∷ ds) ≡ 1 = p.count in absurd (omega (arith, one))
+one_near dnib bits (d ∷ e ∷ ds) small p narrow = let one : length (d ∷ e ∷ ds) ≡ 1 = p.count in
+    absurd (omega (arith, one))
 one_near dnib bits (d ∷ []) small p narrow =
     let none : p.sum.0 ≡ 0 = omega (arith, p.sum.1) in
     let sum : bits ≡ 0 + p.sum.0 * 2 ^ 28 + (residue (2 ^ 32) d * 1 + 0) = p.sum.2 in
     let is : bits ≡ residue (2 ^ 32) d = omega (arith, sum, none) in
     let range : IsWithin 32 d = p.range 0 d (omega arith) in
-    All-from_recursion (IsWithin 30) (d ∷ []) (subst (λ (z : ℤ). IsWithin 30 z) (sym (value_is bits d small range is)) narrow, tt)
+    All-from_recursion (IsWithin 30) (d ∷ []) (subst (λ (z : ℤ). IsWithin 30 z) (sym (value_is bits d small range is))
+        narrow, tt)
 
 near_one : (p : List ℕ) (k : ℕ) → ((i : ℕ) → get_or p i 0 < 256) → IsNarrowAt p k → IsNearWord Steim1 (data_word p k)
-near_one p k octets narrow ds (empty e q) = subst (λ (xs : List ℤ). All (IsWithin 30) xs) (sym q) (All-nil (IsWithin 30))
+near_one p k octets narrow ds (empty e q) =
+    subst (λ (xs : List ℤ). All (IsWithin 30) xs) (sym q) (All-nil (IsWithin 30))
 near_one p k octets narrow ds (Spells.row g dnib e is) =
     by_group (code_at p k) dnib g ds e is.range (λ three same.
-    one_near dnib (word_at p k) ds (word_small p k octets) (subst (λ (x : Group). IsGroup x dnib (word_at p k) ds) same is) (narrow three))
+    one_near dnib (word_at p k) ds (word_small p k octets)
+        (subst (λ (x : Group). IsGroup x dnib (word_at p k) ds) same is) (narrow three))
 
-all_near_one : (p : List ℕ) → ((i : ℕ) → get_or p i 0 < 256) → (k n : ℕ) → ((j : ℕ) → k ≤ j → j < k + n → j % 16 ≢ 0 → IsNarrowAt p j) → AllByRecursion (IsNearWord Steim1) (map (data_word p) (filter is_data (range_with_len k n)))
+all_near_one : (p : List ℕ) → ((i : ℕ) → get_or p i 0 < 256) → (k n : ℕ)
+    → ((j : ℕ) → k ≤ j → j < k + n → j % 16 ≢ 0 → IsNarrowAt p j)
+    → AllByRecursion (IsNearWord Steim1) (map (data_word p) (filter is_data (range_with_len k n)))
 all_near_one p octets k zero narrow = tt
 all_near_one p octets k (suc n) narrow =
-    let later = all_near_one p octets (k + 1) n (λ j from less other. narrow j (omega (arith, from)) (omega (arith, less)) other) in
-    cond_both (not (eqb (k % 16) 0)) (k ∷ filter is_data (range_with_len (k + 1) n)) (filter is_data (range_with_len (k + 1) n))
+    let later = all_near_one p octets (k + 1) n
+        (λ j from less other. narrow j (omega (arith, from)) (omega (arith, less)) other) in
+    cond_both (not (eqb (k % 16) 0)) (k ∷ filter is_data (range_with_len (k + 1) n))
+        (filter is_data (range_with_len (k + 1) n))
     (λ (ks : List ℕ). AllByRecursion (IsNearWord Steim1) (map (data_word p) ks))
     (λ other. (near_one p k octets (narrow k (omega arith) (omega arith) (λ e. false≢true (rw e at other))), later))
     (λ _. later)
 
-words_near_one : (p : List ℕ) → ((i : ℕ) → get_or p i 0 < 256) → (k n : ℕ) → ((j : ℕ) → k ≤ j → j < k + n → j % 16 ≢ 0 → IsNarrowAt p j) → AllByRecursion (IsNearWord Steim1) (words_from p k n)
+words_near_one : (p : List ℕ) → ((i : ℕ) → get_or p i 0 < 256) → (k n : ℕ)
+    → ((j : ℕ) → k ≤ j → j < k + n → j % 16 ≢ 0 → IsNarrowAt p j)
+    → AllByRecursion (IsNearWord Steim1) (words_from p k n)
 unfolding words_from
 words_near_one p octets k n narrow = all_near_one p octets k n narrow
 
-front_of : (P : DataWord → Type 0) (front rest : List DataWord) → AllByRecursion P (front ++ rest) → AllByRecursion P front
+front_of : (P : DataWord → Type 0) (front rest : List DataWord) → AllByRecursion P (front ++ rest)
+    → AllByRecursion P front
 front_of P [] rest h = tt
 front_of P (w ∷ front) rest h = (h.0, front_of P front rest h.1)
 
-run_near : (s : Scheme) (ws : List DataWord) (ds : List ℤ) → AllByRecursion (IsNearWord s) ws → SpellsRun s ws ds → All (IsWithin 30) ds
+run_near : (s : Scheme) (ws : List DataWord) (ds : List ℤ) → AllByRecursion (IsNearWord s) ws → SpellsRun s ws ds
+    → All (IsWithin 30) ds
 run_near s [] ds near e = subst (λ (xs : List ℤ). All (IsWithin 30) xs) (sym e) (All-nil (IsWithin 30))
 run_near s (w ∷ ws) ds near h =
     subst (λ (xs : List ℤ). All (IsWithin 30) xs) (sym h.1.1.0)
@@ -111,32 +136,40 @@ adds_near : (before : ℤ) (ds ss : List ℤ) → Adds before ds ss → AllByRec
 adds_near before ds [] h all = tt
 adds_near before [] (s ∷ ss) h all = absurd h
 adds_near before (d ∷ ds) (s ∷ ss) h all =
-    let is : s -ℤ before ≡ d = omega (arith, ints, h.0) in (subst (λ (z : ℤ). IsWithin 30 z) (sym is) all.0, adds_near s ds ss h.1 all.1)
+    let is : s -ℤ before ≡ d = omega (arith, ints, h.0) in
+        (subst (λ (z : ℤ). IsWithin 30 z) (sym is) all.0, adds_near s ds ss h.1 all.1)
 
 starts_near : (first : ℤ) (ds ss : List ℤ) → StartsAndAdds first ds ss → AllByRecursion (IsWithin 30) ds → AreNear ss
 starts_near first ds [] h all = tt
 starts_near first [] (s ∷ ss) h all = absurd h
 starts_near first (d ∷ ds) (s ∷ ss) h all = adds_near s ds ss (subst (λ (z : ℤ). Adds z ds ss) (sym h.0) h.1) all.1
 
-sums_near : (s : Scheme) (p : List ℕ) (n : ℕ) (ss : List ℤ) → AreSums s p n ss → AllByRecursion (IsNearWord s) (data_words p) → AreNear ss
+sums_near : (s : Scheme) (p : List ℕ) (n : ℕ) (ss : List ℤ) → AreSums s p n ss
+    → AllByRecursion (IsNearWord s) (data_words p) → AreNear ss
 sums_near s p n ss sums near =
-    let front = front_of (IsNearWord s) sums.front sums.rest (subst (λ (ws : List DataWord). AllByRecursion (IsNearWord s) ws) sums.cut near) in
-    starts_near (first_constant p) sums.differences ss sums.sums (recursion_from_All (IsWithin 30) sums.differences (run_near s sums.front sums.differences front sums.spelled))
+    let front = front_of (IsNearWord s) sums.front sums.rest
+        (subst (λ (ws : List DataWord). AllByRecursion (IsNearWord s) ws) sums.cut near) in
+    starts_near (first_constant p) sums.differences ss sums.sums
+        (recursion_from_All (IsWithin 30) sums.differences (run_near s sums.front sums.differences front sums.spelled))
 
 -- integers
 short_from : (before : ℤ) (ss : List ℤ) → IsWithin 29 before → AllByRecursion (IsWithin 29) ss → AreNearFrom before ss
 short_from before [] b all = tt
-short_from before (s ∷ ss) b all = ((omega (arith, ints, b, all.0), omega (arith, ints, b, all.0)), short_from s ss all.0 all.1)
+short_from before (s ∷ ss) b all =
+    ((omega (arith, ints, b, all.0), omega (arith, ints, b, all.0)), short_from s ss all.0 all.1)
 
 short_near : (ss : List ℤ) → AllByRecursion (IsWithin 29) ss → AreNear ss
 short_near [] all = tt
 short_near (s ∷ ss) all = short_from s ss all.0 all.1
 
-two_short : (order : Order) (p : List ℕ) (place : ℕ) (ss : List ℤ) → BeginsWith order 2 p place ss → AllByRecursion (IsWithin 29) ss
+two_short : (order : Order) (p : List ℕ) (place : ℕ) (ss : List ℤ) → BeginsWith order 2 p place ss
+    → AllByRecursion (IsWithin 29) ss
 two_short order p place [] h = tt
 two_short order p place (s ∷ ss) h = (within_wider 16 29 s (omega arith) h.1, two_short order p (place + 2) ss h.3)
 
-four_short : (order : Order) (p : List ℕ) (place : ℕ) (ss : List ℤ) → ((i : ℕ) → get_or p i 0 < 256) → BeginsWith order 4 p place ss → ((i : ℕ) → i < length ss → IsWithin 29 (twos_complement 4 (number_at order 4 (place + 4 * i) p)))
+four_short : (order : Order) (p : List ℕ) (place : ℕ) (ss : List ℤ) → ((i : ℕ) → get_or p i 0 < 256)
+    → BeginsWith order 4 p place ss
+    → ((i : ℕ) → i < length ss → IsWithin 29 (twos_complement 4 (number_at order 4 (place + 4 * i) p)))
     → AllByRecursion (IsWithin 29) ss
 four_short order p place [] octets h short = tt
 four_short order p place (s ∷ ss) octets h short =
@@ -144,52 +177,75 @@ four_short order p place (s ∷ ss) octets h short =
     let here : place + 4 * 0 ≡ place = omega arith in
     let first : IsWithin 29 (twos_complement 4 x) = rw here at (short 0 (omega arith)) in (
       subst (λ (z : ℤ). IsWithin 29 z) (sym (value_is x s (number_lt order 4 place p octets) h.1 h.2)) first,
-      four_short order p (place + 4) ss octets h.3 (λ i less. let next : place + 4 * (i + 1) ≡ place + 4 + 4 * i = omega arith in rw next at (short (i + 1) (omega (arith, less)))),
+      four_short order p (place + 4) ss octets h.3
+          (λ i less. let next : place + 4 * (i + 1) ≡ place + 4 + 4 * i = omega arith in
+          rw next at (short (i + 1) (omega (arith, less)))),
     )
 
 -- samples whose words or integers show it are near one another
-pub shown_near : (form : Form) (order : Order) (p : List ℕ) (n : ℕ) (ss : List ℤ) → ((i : ℕ) → get_or p i 0 < 256) → IsSurelyNear form order p n → IsPayloadReading form order p n ss → AreNear ss
+pub shown_near : (form : Form) (order : Order) (p : List ℕ) (n : ℕ) (ss : List ℤ) → ((i : ℕ) → get_or p i 0 < 256)
+    → IsSurelyNear form order p n → IsPayloadReading form order p n ss → AreNear ss
 shown_near (Integers Two) order p n ss octets shows h = short_near ss (two_short order p 0 ss h.1)
 shown_near (Integers Four) order p n ss octets shows h =
-    short_near ss (four_short order p 0 ss octets h.1 (λ i less. let place : 0 + 4 * i ≡ 4 * i = omega arith in rw place (shows.1 i (omega (arith, less, h.0)))))
+    short_near ss (four_short order p 0 ss octets h.1 (λ i less. let place : 0 + 4 * i ≡ 4 * i = omega arith in
+        rw place (shows.1 i (omega (arith, less, h.0)))))
 shown_near (Frames Steim1) order p n ss octets shows h =
-    sums_near Steim1 p n ss h.1 (words_near_one p octets 3 (word_count p - 3) (λ j from less other. shows j (omega (arith, from, less)) other))
+    sums_near Steim1 p n ss h.1
+        (words_near_one p octets 3 (word_count p - 3) (λ j from less other. shows j (omega (arith, from, less)) other))
 shown_near (Frames Steim2) order p n ss octets shows h = sums_near Steim2 p n ss h.1 (all_near_two (data_words p))
 
 -- a code is 3 where both of its bits are set
 mask_bit : (j : ℕ) → j < 16 → 0 < j → bit_at 357913941 (30 - 2 * j) ≡ 1
 mask_bit =
     let P : ℕ → Type 0 = λ j. 0 < j → bit_at 357913941 (30 - 2 * j) ≡ 1 in
-    below_more P 15 (below_more P 14 (below_more P 13 (below_more P 12 (below_more P 11 (below_more P 10 (below_more P 9 (below_more P 8 (below_more P 7 (below_more P 6 (below_more P 5 (below_more P 4 (below_more P 3 (below_more P 2 (below_more P 1 (below_more P 0 (below_none P) (λ some. absurd (omega (arith, some)))) (λ _. refl)) (λ _. refl)) (λ _. refl)) (λ _. refl)) (λ _. refl)) (λ _. refl)) (λ _. refl)) (λ _. refl)) (λ _. refl)) (λ _. refl)) (λ _. refl)) (λ _. refl)) (λ _. refl)) (λ _. refl)) (λ _. refl)
+    below_more P 15 (below_more P 14
+        (below_more P 13 (below_more P 12
+        (below_more P 11 (below_more P 10
+        (below_more P 9 (below_more P 8
+        (below_more P 7 (below_more P 6
+        (below_more P 5 (below_more P 4
+        (below_more P 3 (below_more P 2
+        (below_more P 1 (below_more P 0 (below_none P) (λ some. absurd (omega (arith, some)))) (λ _. refl))
+        (λ _. refl)) (λ _. refl)) (λ _. refl)) (λ _. refl)) (λ _. refl)) (λ _. refl)) (λ _. refl)) (λ _. refl))
+        (λ _. refl)) (λ _. refl)) (λ _. refl)) (λ _. refl)) (λ _. refl)) (λ _. refl)
 
-pub no_code_3 : (codes j : ℕ) → bit_and (bit_and codes (codes / 2)) 357913941 ≡ 0 → 0 < j → j < 16 → codes / 2 ^ (30 - 2 * j) % 4 ≢ 3
+pub no_code_3 : (codes j : ℕ) → bit_and (bit_and codes (codes / 2)) 357913941 ≡ 0 → 0 < j → j < 16
+    → codes / 2 ^ (30 - 2 * j) % 4 ≢ 3
 no_code_3 codes j none some less three =
     let e : ℕ = 30 - 2 * j in
     let q : ℕ = codes / 2 ^ e in
     let low : bit_at codes e ≡ 1 = omega (arith, three) in
-    let halves : codes / 2 / 2 ^ e ≡ q / 2 = div-div-eq-div-mul codes 2 (2 ^ e) ∙ ap (λ m. codes / m) (mul_comm 2 (2 ^ e)) ∙ sym (div-div-eq-div-mul codes (2 ^ e) 2) in
+    let halves : codes / 2 / 2 ^ e ≡ q / 2 = div-div-eq-div-mul codes 2 (2 ^ e)
+        ∙ ap (λ m. codes / m) (mul_comm 2 (2 ^ e)) ∙ sym (div-div-eq-div-mul codes (2 ^ e) 2) in
     let high : bit_at (codes / 2) e ≡ 1 = ap (λ m. m % 2) halves ∙ (omega (arith, three)) in
     let both : bit_at (bit_and codes (codes / 2)) e ≡ 1 = bit_at_and codes (codes / 2) e ∙ rw (low, high) refl in
-    let all : bit_at (bit_and (bit_and codes (codes / 2)) 357913941) e ≡ 1 = bit_at_and (bit_and codes (codes / 2)) 357913941 e ∙ rw (both, mask_bit j less some) refl in
-    let zeroth : bit_at (bit_and (bit_and codes (codes / 2)) 357913941) e ≡ 0 = ap (λ n. bit_at n e) none ∙ bit_at-zero e in
+    let all : bit_at (bit_and (bit_and codes (codes / 2)) 357913941) e ≡ 1 =
+        bit_at_and (bit_and codes (codes / 2)) 357913941 e ∙ rw (both, mask_bit j less some) refl in
+    let zeroth : bit_at (bit_and (bit_and codes (codes / 2)) 357913941) e ≡ 0 = ap (λ n. bit_at n e) none
+        ∙ bit_at-zero e in
     omega (arith, all, zeroth)
 
 -- a word's bits in two's complement
-pub word_value : (p : List ℕ) (k : ℕ) → ((i : ℕ) → get_or p i 0 < 256) → twos_complement 4 (word_at p k) ≡ to_z w32 (word_at p k)
-word_value p k octets = let small = word_small p k octets in signed_is 4 (word_at p k) small ∙ signed_32 (word_at p k) small
+pub word_value : (p : List ℕ) (k : ℕ) → ((i : ℕ) → get_or p i 0 < 256)
+    → twos_complement 4 (word_at p k) ≡ to_z w32 (word_at p k)
+word_value p k octets = let small = word_small p k octets in signed_is 4 (word_at p k) small
+    ∙ signed_32 (word_at p k) small
 
 -- the code of a frame's word
-pub code_is : (p : List ℕ) (codes frame place : ℕ) → place < 16 → codes ≡ word_at p (16 * frame) → codes / 2 ^ (30 - 2 * ((16 * frame + place) % 16)) % 4 ≡ code_at p (16 * frame + place)
+pub code_is : (p : List ℕ) (codes frame place : ℕ) → place < 16 → codes ≡ word_at p (16 * frame)
+    → codes / 2 ^ (30 - 2 * ((16 * frame + place) % 16)) % 4 ≡ code_at p (16 * frame + place)
 code_is p codes frame place less e =
     let whole : (16 * frame + place) / 16 ≡ frame = omega (arith, less) in
     rw (whole, e) refl
 
 -- a record whose payload shows it
-pub near_whole : (v : View) (form : Form) (p : List ℕ) (n : ℕ) → HoldsIn v form p → n ≡ count_of v → ((s : List ℤ) → IsPayloadReading form v.payload_order p n s → AreNear s) → (s : List ℤ) → IsWhole v s → AreNear s
+pub near_whole : (v : View) (form : Form) (p : List ℕ) (n : ℕ) → HoldsIn v form p → n ≡ count_of v
+    → ((s : List ℤ) → IsPayloadReading form v.payload_order p n s → AreNear s) → (s : List ℤ) → IsWhole v s → AreNear s
 near_whole v form p n held count near s whole = near s (rw (held.4, count) (same_payload v form s held.1 whole.0))
 
 -- what holds of all places up to one more
-pub all_and_next : (P : ℕ → Type 0) (flag : Bool) (n : ℕ) → IsTrue flag ↔ ((i : ℕ) → i < n → P i) → P n → IsTrue flag ↔ ((i : ℕ) → i < n + 1 → P i)
+pub all_and_next : (P : ℕ → Type 0) (flag : Bool) (n : ℕ) → IsTrue flag ↔ ((i : ℕ) → i < n → P i) → P n → IsTrue flag
+    ↔ ((i : ℕ) → i < n + 1 → P i)
 all_and_next P flag n all next = (
   λ e i less. ⊎_elim
       (λ (before : i < n). all.0 e i before)

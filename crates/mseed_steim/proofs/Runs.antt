@@ -1,5 +1,6 @@
 -- What two runs over the same words have in common.
-use Rattle.std.proofs.Common.{◌≡◌, ◌≢◌, ℕ, suc, ◌+◌, ◌<◌, ◌≤◌, List, [], ◌∷◌, ◌++◌, length, ℤ, ◌+ℤ◌, arith, refl, ap, sym, ◌∙◌, subst, length-append, All}
+use Rattle.std.proofs.Common.{◌≡◌, ◌≢◌, ℕ, suc, ◌+◌, ◌<◌, ◌≤◌, List, [], ◌∷◌, ◌++◌, length, ℤ, ◌+ℤ◌, arith, refl, ap,
+    sym, ◌∙◌, subst, length-append, All}
 use Rattle.std.proofs.lemmas.List.Elements.{All-head, All-tail}
 use Rattle.mseed_steim.specs.declared.scheme.Scheme.{Scheme}
 use Rattle.mseed_steim.specs.declared.fault.ReadFault.{ReadFault}
@@ -7,7 +8,8 @@ use Rattle.mseed_steim.specs.declared.fault.ReadFault.TheVariants.{Short, BadWor
 use Rattle.mseed_steim.specs.Spelling.{Spells, SpellsNone}
 use Rattle.mseed_steim.specs.Frames.{DataWord, data_words, first_constant, last_constant}
 use Rattle.mseed_steim.specs.Runs.{SpellsRun}
-use Rattle.mseed_steim.specs.Samples.{IsSample, Adds, StartsAndAdds, AreSums, IsFrameFault, short, bad_word, overflow, last_differs}
+use Rattle.mseed_steim.specs.Samples.{IsSample, Adds, StartsAndAdds, AreSums, IsFrameFault, short, bad_word, overflow,
+    last_differs}
 use Rattle.mseed_steim.proofs.Table.{spells_one}
 
 -- as far as both go, two lists are the same
@@ -24,17 +26,20 @@ agree_append : (xs ds es : List ℤ) → Agree ds es → Agree (xs ++ ds) (xs ++
 agree_append [] ds es h = h
 agree_append (x ∷ xs) ds es h = (refl, agree_append xs ds es h)
 
-runs_agree : (s : Scheme) (fa ra fb rb : List DataWord) (ds es : List ℤ) → fa ++ ra ≡ fb ++ rb → SpellsRun s fa ds → SpellsRun s fb es → Agree ds es
+runs_agree : (s : Scheme) (fa ra fb rb : List DataWord) (ds es : List ℤ) → fa ++ ra ≡ fb ++ rb → SpellsRun s fa ds
+    → SpellsRun s fb es → Agree ds es
 runs_agree s [] ra fb rb ds es e h k = subst (λ (xs : List ℤ). Agree xs es) (sym h) tt
 runs_agree s (w ∷ fa) ra [] rb ds es e h k = subst (λ (xs : List ℤ). Agree ds xs) (sym k) (agree_nil ds)
 runs_agree s (w ∷ fa) ra (v ∷ fb) rb ds es e h k =
     let same : w ≡ v = cc in
     let rest : fa ++ ra ≡ fb ++ rb = cc in
-    let one : h.0 ≡ k.0 = spells_one s v.code v.bits h.0 k.0 (subst (λ (u : DataWord). Spells s u.code u.bits h.0) same h.1.1.1.0) k.1.1.1.0 in
+    let one : h.0 ≡ k.0 = spells_one s v.code v.bits h.0 k.0
+        (subst (λ (u : DataWord). Spells s u.code u.bits h.0) same h.1.1.1.0) k.1.1.1.0 in
     let later : Agree h.1.0 k.1.0 = runs_agree s fa ra fb rb h.1.0 k.1.0 rest h.1.1.1.1 k.1.1.1.1 in
     let both : Agree (k.0 ++ h.1.0) (k.0 ++ k.1.0) = agree_append k.0 h.1.0 k.1.0 later in
     let left : ds ≡ k.0 ++ h.1.0 = h.1.1.0 ∙ ap (λ (xs : List ℤ). xs ++ h.1.0) one in
-    subst (λ (xs : List ℤ). Agree ds xs) (sym k.1.1.0) (subst (λ (xs : List ℤ). Agree xs (k.0 ++ k.1.0)) (sym left) both)
+    subst (λ (xs : List ℤ). Agree ds xs) (sym k.1.1.0)
+        (subst (λ (xs : List ℤ). Agree xs (k.0 ++ k.1.0)) (sym left) both)
 
 adds_one : (x : ℤ) (ds es ss ts : List ℤ) → Agree ds es → length ss ≡ length ts → Adds x ds ss → Adds x es ts → ss ≡ ts
 adds_one x ds es [] [] g l h k = refl
@@ -47,7 +52,8 @@ adds_one x (d ∷ ds) (e ∷ es) (s ∷ ss) (t ∷ ts) g l h k =
     let later : ss ≡ ts = adds_one t ds es ss ts g.1 (omega arith) (subst (λ (z : ℤ). Adds z ds ss) first h.1) k.1 in
     cc
 
-starts_one : (x : ℤ) (ds es ss ts : List ℤ) → Agree ds es → length ss ≡ length ts → StartsAndAdds x ds ss → StartsAndAdds x es ts → ss ≡ ts
+starts_one : (x : ℤ) (ds es ss ts : List ℤ) → Agree ds es → length ss ≡ length ts → StartsAndAdds x ds ss
+    → StartsAndAdds x es ts → ss ≡ ts
 starts_one x ds es [] [] g l h k = refl
 starts_one x ds es [] (t ∷ ts) g l h k = absurd (omega arith)
 starts_one x ds es (s ∷ ss) [] g l h k = absurd (omega arith)
@@ -61,42 +67,57 @@ starts_one x (d ∷ ds) (e ∷ es) (s ∷ ss) (t ∷ ts) g l h k =
 -- Frames have one list of sums at most.
 pub sums_one : (s : Scheme) (p : List ℕ) (n : ℕ) (ss ts : List ℤ) → AreSums s p n ss → AreSums s p n ts → ss ≡ ts
 sums_one s p n ss ts a b =
-    starts_one (first_constant p) a.differences b.differences ss ts (runs_agree s a.front a.rest b.front b.rest a.differences b.differences (sym a.cut ∙ b.cut) a.spelled b.spelled)
+    starts_one (first_constant p) a.differences b.differences ss ts
+        (runs_agree s a.front a.rest b.front b.rest a.differences b.differences (sym a.cut ∙ b.cut) a.spelled b.spelled)
     (a.count ∙ sym b.count) a.sums b.sums
 
 -- a front of words spells no more than all of them do
-front_shorter : (s : Scheme) (fa fb rb : List DataWord) (ds es : List ℤ) → fa ≡ fb ++ rb → SpellsRun s fa ds → SpellsRun s fb es → length es ≤ length ds
-front_shorter s fa [] rb ds es e h k = let none : length es ≡ 0 = ap (λ (xs : List ℤ). length xs) k in omega (arith, none)
+front_shorter : (s : Scheme) (fa fb rb : List DataWord) (ds es : List ℤ) → fa ≡ fb ++ rb → SpellsRun s fa ds
+    → SpellsRun s fb es → length es ≤ length ds
+front_shorter s fa [] rb ds es e h k = let none : length es ≡ 0 = ap (λ (xs : List ℤ). length xs) k in
+    omega (arith, none)
 front_shorter s [] (v ∷ fb) rb ds es e h k = cc
 front_shorter s (w ∷ fa) (v ∷ fb) rb ds es e h k =
     let same : w ≡ v = cc in
     let rest : fa ≡ fb ++ rb = cc in
-    let one : h.0 ≡ k.0 = spells_one s v.code v.bits h.0 k.0 (subst (λ (u : DataWord). Spells s u.code u.bits h.0) same h.1.1.1.0) k.1.1.1.0 in
+    let one : h.0 ≡ k.0 = spells_one s v.code v.bits h.0 k.0
+        (subst (λ (u : DataWord). Spells s u.code u.bits h.0) same h.1.1.1.0) k.1.1.1.0 in
     let later : length k.1.0 ≤ length h.1.0 = front_shorter s fa fb rb h.1.0 k.1.0 rest h.1.1.1.1 k.1.1.1.1 in
-    let left : length ds ≡ length k.0 + length h.1.0 = ap (λ (xs : List ℤ). length xs) (h.1.1.0 ∙ ap (λ (xs : List ℤ). xs ++ h.1.0) one) ∙ length-append k.0 h.1.0 in
-    let right : length es ≡ length k.0 + length k.1.0 = ap (λ (xs : List ℤ). length xs) k.1.1.0 ∙ length-append k.0 k.1.0 in
+    let left : length ds ≡ length k.0 + length h.1.0 =
+        ap (λ (xs : List ℤ). length xs) (h.1.1.0 ∙ ap (λ (xs : List ℤ). xs ++ h.1.0) one) ∙ length-append k.0 h.1.0 in
+    let right : length es ≡ length k.0 + length k.1.0 = ap (λ (xs : List ℤ). length xs) k.1.1.0
+        ∙ length-append k.0 k.1.0 in
     omega (arith, later, left, right)
 
 -- nor does one that is spelled go past a bad word
-bad_bounds : (s : Scheme) (before : List DataWord) (bad : DataWord) (after fb rb : List DataWord) (ds es : List ℤ) → before ++ bad ∷ after ≡ fb ++ rb → SpellsRun s before ds → SpellsNone s bad.code bad.bits → SpellsRun s fb es → length es ≤ length ds
-bad_bounds s before bad after [] rb ds es e h none k = let nil : length es ≡ 0 = ap (λ (xs : List ℤ). length xs) k in omega (arith, nil)
+bad_bounds : (s : Scheme) (before : List DataWord) (bad : DataWord) (after fb rb : List DataWord) (ds es : List ℤ)
+    → before ++ bad ∷ after ≡ fb ++ rb → SpellsRun s before ds → SpellsNone s bad.code bad.bits → SpellsRun s fb es
+    → length es ≤ length ds
+bad_bounds s before bad after [] rb ds es e h none k = let nil : length es ≡ 0 = ap (λ (xs : List ℤ). length xs) k in
+    omega (arith, nil)
 bad_bounds s [] bad after (v ∷ fb) rb ds es e h none k =
     let same : v ≡ bad = cc in
     absurd (none k.0 (subst (λ (u : DataWord). Spells s u.code u.bits k.0) same k.1.1.1.0))
 bad_bounds s (w ∷ before) bad after (v ∷ fb) rb ds es e h none k =
     let same : w ≡ v = cc in
     let rest : before ++ bad ∷ after ≡ fb ++ rb = cc in
-    let one : h.0 ≡ k.0 = spells_one s v.code v.bits h.0 k.0 (subst (λ (u : DataWord). Spells s u.code u.bits h.0) same h.1.1.1.0) k.1.1.1.0 in
-    let later : length k.1.0 ≤ length h.1.0 = bad_bounds s before bad after fb rb h.1.0 k.1.0 rest h.1.1.1.1 none k.1.1.1.1 in
-    let left : length ds ≡ length k.0 + length h.1.0 = ap (λ (xs : List ℤ). length xs) (h.1.1.0 ∙ ap (λ (xs : List ℤ). xs ++ h.1.0) one) ∙ length-append k.0 h.1.0 in
-    let right : length es ≡ length k.0 + length k.1.0 = ap (λ (xs : List ℤ). length xs) k.1.1.0 ∙ length-append k.0 k.1.0 in
+    let one : h.0 ≡ k.0 = spells_one s v.code v.bits h.0 k.0
+        (subst (λ (u : DataWord). Spells s u.code u.bits h.0) same h.1.1.1.0) k.1.1.1.0 in
+    let later : length k.1.0 ≤ length h.1.0 =
+        bad_bounds s before bad after fb rb h.1.0 k.1.0 rest h.1.1.1.1 none k.1.1.1.1 in
+    let left : length ds ≡ length k.0 + length h.1.0 =
+        ap (λ (xs : List ℤ). length xs) (h.1.1.0 ∙ ap (λ (xs : List ℤ). xs ++ h.1.0) one) ∙ length-append k.0 h.1.0 in
+    let right : length es ≡ length k.0 + length k.1.0 = ap (λ (xs : List ℤ). length xs) k.1.1.0
+        ∙ length-append k.0 k.1.0 in
     omega (arith, later, left, right)
 
-not_spelled : (s : Scheme) (before : List DataWord) (bad : DataWord) (after : List DataWord) (ds : List ℤ) → SpellsRun s (before ++ bad ∷ after) ds → SpellsNone s bad.code bad.bits → ⊥
+not_spelled : (s : Scheme) (before : List DataWord) (bad : DataWord) (after : List DataWord) (ds : List ℤ)
+    → SpellsRun s (before ++ bad ∷ after) ds → SpellsNone s bad.code bad.bits → ⊥
 not_spelled s [] bad after ds h none = none h.0 h.1.1.1.0
 not_spelled s (w ∷ before) bad after ds h none = not_spelled s before bad after h.1.0 h.1.1.1.1 none
 
-first_bad : (s : Scheme) (ba : List DataWord) (a : DataWord) (aa bb : List DataWord) (b : DataWord) (ab : List DataWord) (ds es : List ℤ) → ba ++ a ∷ aa ≡ bb ++ b ∷ ab → SpellsRun s ba ds → SpellsRun s bb es
+first_bad : (s : Scheme) (ba : List DataWord) (a : DataWord) (aa bb : List DataWord) (b : DataWord)
+    (ab : List DataWord) (ds es : List ℤ) → ba ++ a ∷ aa ≡ bb ++ b ∷ ab → SpellsRun s ba ds → SpellsRun s bb es
     → SpellsNone s a.code a.bits → SpellsNone s b.code b.bits → a ≡ b
 first_bad s [] a aa [] b ab ds es e h k na nb = cc
 first_bad s [] a aa (v ∷ bb) b ab ds es e h k na nb =
@@ -121,10 +142,13 @@ pub not_in : (front : List ℤ) (sum : ℤ) (rest : List ℤ) → All IsSample (
 not_in [] sum rest h not = not (All-head IsSample sum rest h)
 not_in (x ∷ front) sum rest h not = not_in front sum rest (All-tail IsSample x (front ++ sum ∷ rest) h) not
 
-first_over : (fa : List ℤ) (a : ℤ) (ra fb : List ℤ) (b : ℤ) (rb : List ℤ) → fa ++ a ∷ ra ≡ fb ++ b ∷ rb → All IsSample fa → All IsSample fb → ¬ (IsSample a) → ¬ (IsSample b) → length fa ≡ length fb
+first_over : (fa : List ℤ) (a : ℤ) (ra fb : List ℤ) (b : ℤ) (rb : List ℤ) → fa ++ a ∷ ra ≡ fb ++ b ∷ rb
+    → All IsSample fa → All IsSample fb → ¬ (IsSample a) → ¬ (IsSample b) → length fa ≡ length fb
 first_over [] a ra [] b rb e ha hb na nb = refl
-first_over [] a ra (y ∷ fb) b rb e ha hb na nb = let same : y ≡ a = cc in absurd (na (subst IsSample same (All-head IsSample y fb hb)))
-first_over (x ∷ fa) a ra [] b rb e ha hb na nb = let same : x ≡ b = cc in absurd (nb (subst IsSample same (All-head IsSample x fa ha)))
+first_over [] a ra (y ∷ fb) b rb e ha hb na nb = let same : y ≡ a = cc in
+    absurd (na (subst IsSample same (All-head IsSample y fb hb)))
+first_over (x ∷ fa) a ra [] b rb e ha hb na nb = let same : x ≡ b = cc in
+    absurd (nb (subst IsSample same (All-head IsSample x fa ha)))
 first_over (x ∷ fa) a ra (y ∷ fb) b rb e ha hb na nb =
     let rest : fa ++ a ∷ ra ≡ fb ++ b ∷ rb = cc in
     ap suc (first_over fa a ra fb b rb rest (All-tail IsSample x fa ha) (All-tail IsSample y fb hb) na nb)
@@ -138,45 +162,73 @@ last_one (x ∷ z ∷ fa) a [] b e = cc
 last_one (x ∷ fa) a (y ∷ fb) b e = let rest : fa ++ a ∷ [] ≡ fb ++ b ∷ [] = cc in last_one fa a fb b rest
 
 -- sums leave no room for a fault of the words
-pub not_short : (s : Scheme) (p : List ℕ) (n : ℕ) (ss ds : List ℤ) → AreSums s p n ss → SpellsRun s (data_words p) ds → length ds < n → ⊥
+pub not_short : (s : Scheme) (p : List ℕ) (n : ℕ) (ss ds : List ℤ) → AreSums s p n ss → SpellsRun s (data_words p) ds
+    → length ds < n → ⊥
 not_short s p n ss ds a h less =
     let most = front_shorter s (data_words p) a.front a.rest ds a.differences a.cut h a.spelled in
     omega (arith, most, a.enough)
 
-pub not_bad : (s : Scheme) (p : List ℕ) (n : ℕ) (ss : List ℤ) (before : List DataWord) (bad : DataWord) (after : List DataWord) (ds : List ℤ) → AreSums s p n ss → data_words p ≡ before ++ bad ∷ after
+pub not_bad : (s : Scheme) (p : List ℕ) (n : ℕ) (ss : List ℤ) (before : List DataWord) (bad : DataWord)
+    (after : List DataWord) (ds : List ℤ) → AreSums s p n ss → data_words p ≡ before ++ bad ∷ after
     → SpellsRun s before ds → length ds < n → SpellsNone s bad.code bad.bits → ⊥
 not_bad s p n ss before bad after ds a cut h less none =
     let most = bad_bounds s before bad after a.front a.rest ds a.differences (sym cut ∙ a.cut) h none a.spelled in
     omega (arith, most, a.enough)
 
 -- Frames have one fault at most.
-pub fault_one : (s : Scheme) (p : List ℕ) (n : ℕ) (f g : ReadFault) → IsFrameFault s p n f → IsFrameFault s p n g → f ≡ g
-fault_one s p n f g (short ds h less) (short es k less') = ap (λ (xs : List ℤ). Short (length xs)) (run_one s (data_words p) ds es h k)
-fault_one s p n f g (short ds h less) (bad_word before bad after es cut k less' none) = absurd (not_spelled s before bad after ds (subst (λ (ws : List DataWord). SpellsRun s ws ds) cut h) none)
-fault_one s p n f g (short ds h less) (overflow front sum rest a all not) = absurd (not_short s p n (front ++ sum ∷ rest) ds a h less)
-fault_one s p n f g (short ds h less) (last_differs front last a all not) = absurd (not_short s p n (front ++ last ∷ []) ds a h less)
-fault_one s p n f g (bad_word before bad after es cut k less' none) (short ds h less) = absurd (not_spelled s before bad after ds (subst (λ (ws : List DataWord). SpellsRun s ws ds) cut h) none)
-fault_one s p n f g (bad_word before bad after es cut k less none) (bad_word before' bad' after' es' cut' k' less' none') =
-    ap (λ (w : DataWord). BadWord w.frame w.place) (first_bad s before bad after before' bad' after' es es' (sym cut ∙ cut') k k' none none')
-fault_one s p n f g (bad_word before bad after es cut k less none) (overflow front sum rest a all not) = absurd (not_bad s p n (front ++ sum ∷ rest) before bad after es a cut k less none)
-fault_one s p n f g (bad_word before bad after es cut k less none) (last_differs front last a all not) = absurd (not_bad s p n (front ++ last ∷ []) before bad after es a cut k less none)
-fault_one s p n f g (overflow front sum rest a all not) (short ds h less) = absurd (not_short s p n (front ++ sum ∷ rest) ds a h less)
-fault_one s p n f g (overflow front sum rest a all not) (bad_word before bad after es cut k less none) = absurd (not_bad s p n (front ++ sum ∷ rest) before bad after es a cut k less none)
+pub fault_one : (s : Scheme) (p : List ℕ) (n : ℕ) (f g : ReadFault) → IsFrameFault s p n f → IsFrameFault s p n g
+    → f ≡ g
+fault_one s p n f g (short ds h less) (short es k less') =
+    ap (λ (xs : List ℤ). Short (length xs)) (run_one s (data_words p) ds es h k)
+fault_one s p n f g (short ds h less) (bad_word before bad after es cut k less' none) =
+    absurd (not_spelled s before bad after ds (subst (λ (ws : List DataWord). SpellsRun s ws ds) cut h) none)
+fault_one s p n f g (short ds h less) (overflow front sum rest a all not) =
+    absurd (not_short s p n (front ++ sum ∷ rest) ds a h less)
+fault_one s p n f g (short ds h less) (last_differs front last a all not) =
+    absurd (not_short s p n (front ++ last ∷ []) ds a h less)
+fault_one s p n f g (bad_word before bad after es cut k less' none) (short ds h less) =
+    absurd (not_spelled s before bad after ds (subst (λ (ws : List DataWord). SpellsRun s ws ds) cut h) none)
+fault_one s p n f g (bad_word before bad after es cut k less none)
+    (bad_word before' bad' after' es' cut' k' less' none') =
+    ap (λ (w : DataWord). BadWord w.frame w.place) (first_bad s before bad after before' bad' after' es es' (sym cut
+        ∙ cut') k k' none none')
+fault_one s p n f g (bad_word before bad after es cut k less none) (overflow front sum rest a all not) =
+    absurd (not_bad s p n (front ++ sum ∷ rest) before bad after es a cut k less none)
+fault_one s p n f g (bad_word before bad after es cut k less none) (last_differs front last a all not) =
+    absurd (not_bad s p n (front ++ last ∷ []) before bad after es a cut k less none)
+fault_one s p n f g (overflow front sum rest a all not) (short ds h less) =
+    absurd (not_short s p n (front ++ sum ∷ rest) ds a h less)
+fault_one s p n f g (overflow front sum rest a all not) (bad_word before bad after es cut k less none) =
+    absurd (not_bad s p n (front ++ sum ∷ rest) before bad after es a cut k less none)
 fault_one s p n f g (overflow front sum rest a all not) (overflow front' sum' rest' b all' not') =
-    ap Overflow (first_over front sum rest front' sum' rest' (sums_one s p n (front ++ sum ∷ rest) (front' ++ sum' ∷ rest') a b) all all' not not')
+    ap Overflow (first_over front sum rest front' sum' rest'
+        (sums_one s p n (front ++ sum ∷ rest) (front' ++ sum' ∷ rest') a b) all all' not not')
 fault_one s p n f g (overflow front sum rest a all not) (last_differs front' last b all' not') =
-    absurd (not_in front sum rest (subst (λ (xs : List ℤ). All IsSample xs) (sums_one s p n (front' ++ last ∷ []) (front ++ sum ∷ rest) b a) all') not)
-fault_one s p n f g (last_differs front last a all not) (short ds h less) = absurd (not_short s p n (front ++ last ∷ []) ds a h less)
-fault_one s p n f g (last_differs front last a all not) (bad_word before bad after es cut k less none) = absurd (not_bad s p n (front ++ last ∷ []) before bad after es a cut k less none)
+    absurd (not_in front sum rest
+        (subst (λ (xs : List ℤ). All IsSample xs) (sums_one s p n (front' ++ last ∷ []) (front ++ sum ∷ rest) b a)
+        all') not)
+fault_one s p n f g (last_differs front last a all not) (short ds h less) =
+    absurd (not_short s p n (front ++ last ∷ []) ds a h less)
+fault_one s p n f g (last_differs front last a all not) (bad_word before bad after es cut k less none) =
+    absurd (not_bad s p n (front ++ last ∷ []) before bad after es a cut k less none)
 fault_one s p n f g (last_differs front' last b all' not') (overflow front sum rest a all not) =
-    absurd (not_in front sum rest (subst (λ (xs : List ℤ). All IsSample xs) (sums_one s p n (front' ++ last ∷ []) (front ++ sum ∷ rest) b a) all') not)
+    absurd (not_in front sum rest
+        (subst (λ (xs : List ℤ). All IsSample xs) (sums_one s p n (front' ++ last ∷ []) (front ++ sum ∷ rest) b a)
+        all') not)
 fault_one s p n f g (last_differs front last a all not) (last_differs front' last' b all' not') =
-    ap (λ (z : ℤ). LastDiffers z (last_constant p)) (last_one front last front' last' (sums_one s p n (front ++ last ∷ []) (front' ++ last' ∷ []) a b))
+    ap (λ (z : ℤ). LastDiffers z (last_constant p))
+        (last_one front last front' last' (sums_one s p n (front ++ last ∷ []) (front' ++ last' ∷ []) a b))
 
 -- sums within 32 bits leave one fault alone: that the last isn't the constant
-pub fault_of_sums : (s : Scheme) (p : List ℕ) (n : ℕ) (ss : List ℤ) (f : ReadFault) → AreSums s p n ss → All IsSample ss → IsFrameFault s p n f
-    → (front : List ℤ) × ((last : ℤ) × ((ss ≡ front ++ last ∷ []) × (last ≢ last_constant p) × (f ≡ LastDiffers last (last_constant p))))
+pub fault_of_sums : (s : Scheme) (p : List ℕ) (n : ℕ) (ss : List ℤ) (f : ReadFault) → AreSums s p n ss
+    → All IsSample ss → IsFrameFault s p n f
+    → (front : List ℤ) × ((last : ℤ)
+    × ((ss ≡ front ++ last ∷ []) × (last ≢ last_constant p) × (f ≡ LastDiffers last (last_constant p))))
 fault_of_sums s p n ss f a all (short ds h less) = absurd (not_short s p n ss ds a h less)
-fault_of_sums s p n ss f a all (bad_word before bad after es cut k less none) = absurd (not_bad s p n ss before bad after es a cut k less none)
-fault_of_sums s p n ss f a all (overflow front sum rest b all' not) = absurd (not_in front sum rest (subst (λ (xs : List ℤ). All IsSample xs) (sums_one s p n ss (front ++ sum ∷ rest) a b) all) not)
-fault_of_sums s p n ss f a all (last_differs front last b all' not) = (front, (last, (sums_one s p n ss (front ++ last ∷ []) a b, not, refl)))
+fault_of_sums s p n ss f a all (bad_word before bad after es cut k less none) =
+    absurd (not_bad s p n ss before bad after es a cut k less none)
+fault_of_sums s p n ss f a all (overflow front sum rest b all' not) =
+    absurd (not_in front sum rest
+    (subst (λ (xs : List ℤ). All IsSample xs) (sums_one s p n ss (front ++ sum ∷ rest) a b) all) not)
+fault_of_sums s p n ss f a all (last_differs front last b all' not) =
+    (front, (last, (sums_one s p n ss (front ++ last ∷ []) a b, not, refl)))

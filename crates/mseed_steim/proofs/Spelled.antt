@@ -1,5 +1,6 @@
 -- A word's digits are what it spells, and nothing else is.
-use Rattle.std.proofs.Common.{◌≡◌, ℕ, zero, suc, ◌+◌, ◌-◌, ◌*◌, ◌/◌, ◌%◌, ◌^◌, ◌<◌, ◌≤◌, List, [], ◌∷◌, length, ℤ, arith, sym, ap, subst, refl, All, ⊎_elim, Bool, true, false, cond, eqb, Option, Some, None, w32, to_z}
+use Rattle.std.proofs.Common.{◌≡◌, ℕ, zero, suc, ◌+◌, ◌-◌, ◌*◌, ◌/◌, ◌%◌, ◌^◌, ◌<◌, ◌≤◌, List, [], ◌∷◌, length, ℤ,
+    arith, sym, ap, subst, refl, All, ⊎_elim, Bool, true, false, cond, eqb, Option, Some, None, w32, to_z}
 use Rattle.std.proofs.lemmas.Nat.{pow_pos, mod-pow-add}
 use Rattle.std.proofs.lemmas.Int.{ints}
 use Rattle.std.proofs.lemmas.Bool.{cases_lt, lt-ltb, le-ltb, ne_eqb, eqb-true}
@@ -17,7 +18,8 @@ use Rattle.mseed_steim.proofs.Table.{Sized, Kind, whole, full, short, group_size
 pub signed_within : (w n : ℕ) → 0 < w → n < 2 ^ w → IsWithin w (signed w n)
 signed_within w n p h = ⊎_elim
     (λ (low : n < 2 ^ (w - 1)). rw (lt-ltb n (2 ^ (w - 1)) low) (omega (arith, ints), omega (arith, ints)))
-    (λ (high : 2 ^ (w - 1) ≤ n). let e = twice_half w p in rw (le-ltb n (2 ^ (w - 1)) high) (omega (arith, ints), omega (arith, ints)))
+    (λ (high : 2 ^ (w - 1) ≤ n). let e = twice_half w p in
+        rw (le-ltb n (2 ^ (w - 1)) high) (omega (arith, ints), omega (arith, ints)))
     (cases_lt n (2 ^ (w - 1)))
 
 pub signed_residue : (w n : ℕ) → 0 < w → n < 2 ^ w → residue (2 ^ w) (signed w n) ≡ n
@@ -38,57 +40,74 @@ digits_within : (w word k : ℕ) → 0 < w → All (IsWithin w) (digits w word k
 unfolding digits
 digits_within w word zero p = All-nil (IsWithin w)
 digits_within w word (suc k) p =
-    All-cons (IsWithin w) (digit_at w word k) (digits w word k) (signed_within w (word / 2 ^ (w * k) % 2 ^ w) p (mod-lt (word / 2 ^ (w * k)) (pow_pos w))) (digits_within w word k p)
+    All-cons (IsWithin w) (digit_at w word k) (digits w word k)
+        (signed_within w (word / 2 ^ (w * k) % 2 ^ w) p (mod-lt (word / 2 ^ (w * k)) (pow_pos w)))
+        (digits_within w word k p)
 
 digits_positional : (w word k : ℕ) → 0 < w → positional w (digits w word k) ≡ word % 2 ^ (w * k)
 unfolding digits
 digits_positional w word zero p = rw mul-zero (sym (mod-one word))
 digits_positional w word (suc k) p =
-    let digit : residue (2 ^ w) (digit_at w word k) ≡ word / 2 ^ (w * k) % 2 ^ w = signed_residue w (word / 2 ^ (w * k) % 2 ^ w) p (mod-lt (word / 2 ^ (w * k)) (pow_pos w)) in
+    let digit : residue (2 ^ w) (digit_at w word k) ≡ word / 2 ^ (w * k) % 2 ^ w =
+        signed_residue w (word / 2 ^ (w * k) % 2 ^ w) p (mod-lt (word / 2 ^ (w * k)) (pow_pos w)) in
     let long : w * suc k ≡ w + w * k = omega (arith, mul-suc w k) in
     rw (digit, length-digits w word k, digits_positional w word k p, long) (sym (mod-pow-add word w (w * k)))
 
 -- the digits are the word's differences, by the three kinds of rows
-is_group : (g : Group) (word : ℕ) → word < 2 ^ 32 → 0 < g.width → Kind g → IsGroup g (word / 2 ^ 30) word (digits g.width word g.count)
+is_group : (g : Group) (word : ℕ) → word < 2 ^ 32 → 0 < g.width → Kind g
+    → IsGroup g (word / 2 ^ 30) word (digits g.width word g.count)
 is_group g word small p (whole m j l) =
-    let sum : positional g.width (digits g.width word g.count) ≡ word % 2 ^ 32 = rw l at (digits_positional g.width word g.count p) in
-    record { count = length-digits g.width word g.count; range = digits_within g.width word g.count p; sum = (0, omega (arith, j), rw m (omega (arith, sum))) }
+    let sum : positional g.width (digits g.width word g.count) ≡ word % 2 ^ 32 =
+        rw l at (digits_positional g.width word g.count p) in
+    record { count = length-digits g.width word g.count; range = digits_within g.width word g.count p;
+        sum = (0, omega (arith, j), rw m (omega (arith, sum))) }
 is_group g word small p (full m j l) =
-    let sum : positional g.width (digits g.width word g.count) ≡ word % 2 ^ 30 = rw l at (digits_positional g.width word g.count p) in
-    record { count = length-digits g.width word g.count; range = digits_within g.width word g.count p; sum = (0, omega (arith, j), rw m (omega (arith, sum))) }
+    let sum : positional g.width (digits g.width word g.count) ≡ word % 2 ^ 30 =
+        rw l at (digits_positional g.width word g.count p) in
+    record { count = length-digits g.width word g.count; range = digits_within g.width word g.count p;
+        sum = (0, omega (arith, j), rw m (omega (arith, sum))) }
 is_group g word small p (short m j l) =
-    let sum : positional g.width (digits g.width word g.count) ≡ word % 2 ^ 28 = rw l at (digits_positional g.width word g.count p) in
-    record { count = length-digits g.width word g.count; range = digits_within g.width word g.count p; sum = (word / 2 ^ 28 % 4, omega (arith, j), rw m (omega (arith, sum))) }
+    let sum : positional g.width (digits g.width word g.count) ≡ word % 2 ^ 28 =
+        rw l at (digits_positional g.width word g.count p) in
+    record { count = length-digits g.width word g.count; range = digits_within g.width word g.count p;
+        sum = (word / 2 ^ 28 % 4, omega (arith, j), rw m (omega (arith, sum))) }
 
-from_group : (s : Scheme) (c word : ℕ) (o : Option Group) (ds : List ℤ) → word < 2 ^ 32 → group_of s c (word / 2 ^ 30) ≡ o → differences_in word o ≡ Some ds → Spells s c word ds
+from_group : (s : Scheme) (c word : ℕ) (o : Option Group) (ds : List ℤ) → word < 2 ^ 32
+    → group_of s c (word / 2 ^ 30) ≡ o → differences_in word o ≡ Some ds → Spells s c word ds
 from_group s c word None ds small e h = cc
 from_group s c word (Some g) ds small e h =
     let z : Sized g = group_sized s c (word / 2 ^ 30) g e in
     let same : digits g.width word g.count ≡ ds = cc in
     subst (λ (xs : List ℤ). Spells s c word xs) same (row g (word / 2 ^ 30) e (is_group g word small z.wide z.kind))
 
-by_code : (s : Scheme) (c word : ℕ) (b : Bool) (ds : List ℤ) → word < 2 ^ 32 → eqb c 0 ≡ b → cond b (Some []) (differences_in word (group_of s c (word / 2 ^ 30))) ≡ Some ds → Spells s c word ds
+by_code : (s : Scheme) (c word : ℕ) (b : Bool) (ds : List ℤ) → word < 2 ^ 32 → eqb c 0 ≡ b
+    → cond b (Some []) (differences_in word (group_of s c (word / 2 ^ 30))) ≡ Some ds → Spells s c word ds
 by_code s c word true ds small e h = empty (eqb-true c 0 e) (cc)
 by_code s c word false ds small e h = from_group s c word (group_of s c (word / 2 ^ 30)) ds small refl h
 
 -- What the digits are is spelled.
-pub differences_spelled : (s : Scheme) (c word : ℕ) (ds : List ℤ) → word < 2 ^ 32 → differences_of s c word ≡ Some ds → Spells s c word ds
+pub differences_spelled : (s : Scheme) (c word : ℕ) (ds : List ℤ) → word < 2 ^ 32 → differences_of s c word ≡ Some ds
+    → Spells s c word ds
 unfolding differences_of
 differences_spelled s c word ds small h = by_code s c word (eqb c 0) ds small refl h
 
 -- What is spelled is the digits.
-pub spelled_differences : (s : Scheme) (c word : ℕ) (ds : List ℤ) → word < 2 ^ 32 → Spells s c word ds → differences_of s c word ≡ Some ds
+pub spelled_differences : (s : Scheme) (c word : ℕ) (ds : List ℤ) → word < 2 ^ 32 → Spells s c word ds
+    → differences_of s c word ≡ Some ds
 unfolding differences_of
 spelled_differences s c word ds small (empty e q) = rw (e, q) refl
 spelled_differences s c word ds small (row g d e p) =
     let z : Sized g = group_sized s c d g e in
     let found = at_top s c d word g ds z.kind e p in
-    let same : digits g.width word g.count ≡ ds = spelled_as_one g (word / 2 ^ 30) word (digits g.width word g.count) ds z (is_group g word small z.wide z.kind) found.1 in
+    let same : digits g.width word g.count ≡ ds =
+        spelled_as_one g (word / 2 ^ 30) word (digits g.width word g.count) ds z (is_group g word small z.wide z.kind)
+        found.1 in
     let some : eqb c 0 ≡ false = ne_eqb c 0 (λ (z : c ≡ 0). absurd (no_row s d g (rw z at e))) in
     rw (some, found.0, same) refl
 
 -- the next digit, and those after it
-pub digits_step : (w word count i : ℕ) → i < count → digits w word (count - i) ≡ digit_at w word (count - 1 - i) ∷ digits w word (count - (i + 1))
+pub digits_step : (w word count i : ℕ) → i < count
+    → digits w word (count - i) ≡ digit_at w word (count - 1 - i) ∷ digits w word (count - (i + 1))
 unfolding digits
 digits_step w word count i h =
     let more : count - i ≡ suc (count - 1 - i) = omega arith in
@@ -99,7 +118,8 @@ digits_step w word count i h =
 pub signed_32 : (n : ℕ) → n < 2 ^ 32 → signed 32 n ≡ to_z w32 n
 signed_32 n h = ⊎_elim
     (λ (low : n < 2 ^ 31). rw (lt-ltb n (2 ^ 31) low) refl)
-    (λ (high : 2 ^ 31 ≤ n). let same : 2 ^ 32 - 1 - n ≡ 2 ^ 32 - suc n = omega arith in rw (le-ltb n (2 ^ 31) high, same) refl)
+    (λ (high : 2 ^ 31 ≤ n). let same : 2 ^ 32 - 1 - n ≡ 2 ^ 32 - suc n = omega arith in
+        rw (le-ltb n (2 ^ 31) high, same) refl)
     (cases_lt n (2 ^ 31))
 
 -- after the last digit there's none
@@ -108,9 +128,12 @@ unfolding digits
 digits_over w word count i h = let over : count - i ≡ 0 = omega arith in rw over refl
 
 -- the differences of a word by its row of the table
-pub by_row : (s : Scheme) (c word : ℕ) (m : Bool) (j k w : ℕ) (ds : List ℤ) → 0 < c → group_of s c (word / 2 ^ 30) ≡ Some (record { marked = m; spare = j; count = k; width = w }) → ds ≡ digits w word k → differences_of s c word ≡ Some ds
+pub by_row : (s : Scheme) (c word : ℕ) (m : Bool) (j k w : ℕ) (ds : List ℤ) → 0 < c
+    → group_of s c (word / 2 ^ 30) ≡ Some (record { marked = m; spare = j; count = k; width = w })
+    → ds ≡ digits w word k → differences_of s c word ≡ Some ds
 unfolding differences_of
-by_row s c word m j k w ds p e q = let some : eqb c 0 ≡ false = ne_eqb c 0 (λ (z : c ≡ 0). omega arith) in rw (some, e, q) refl
+by_row s c word m j k w ds p e q = let some : eqb c 0 ≡ false = ne_eqb c 0 (λ (z : c ≡ 0). omega arith) in
+    rw (some, e, q) refl
 
 pub by_no_row : (s : Scheme) (c word : ℕ) → 0 < c → group_of s c (word / 2 ^ 30) ≡ None → differences_of s c word ≡ None
 unfolding differences_of

@@ -1,5 +1,6 @@
 -- What the table's rows have in common.
-use Rattle.std.proofs.Common.{◌≡◌, ℕ, ◌+◌, ◌*◌, ◌/◌, ◌%◌, ◌^◌, ◌<◌, List, length, ℤ, arith, refl, subst, Bool, true, false, cond, Option, Some, None, eqb}
+use Rattle.std.proofs.Common.{◌≡◌, ℕ, ◌+◌, ◌*◌, ◌/◌, ◌%◌, ◌^◌, ◌<◌, List, length, ℤ, arith, refl, subst, Bool, true,
+    false, cond, Option, Some, None, eqb}
 use Rattle.mseed_steim.specs.declared.scheme.Scheme.{Scheme}
 use Rattle.mseed_steim.specs.declared.scheme.Scheme.TheVariants.{One, Two}
 use Rattle.mseed_steim.specs.Groups.{wide_group, narrow_group, Group, group_of, plain, marked}
@@ -64,19 +65,23 @@ no_row One d g e = cc
 no_row Two d g e = cc
 
 -- the word without its spare: the dnib's term and the digits, by the kind of the row
-sum_full : (g : Group) (d word : ℕ) (ds : List ℤ) → g.marked ≡ true → g.spare ≡ 1 → g.width * g.count ≡ 30 → IsGroup g d word ds → (word ≡ d * 2 ^ 30 + positional g.width ds) × (positional g.width ds < 2 ^ 30)
+sum_full : (g : Group) (d word : ℕ) (ds : List ℤ) → g.marked ≡ true → g.spare ≡ 1 → g.width * g.count ≡ 30
+    → IsGroup g d word ds → (word ≡ d * 2 ^ 30 + positional g.width ds) × (positional g.width ds < 2 ^ 30)
 sum_full g d word ds m j l a =
     let whole : word ≡ d * 2 ^ 30 + a.sum.0 * 2 ^ 28 + positional g.width ds = rw m at a.sum.2 in
     let small : positional g.width ds < 2 ^ 30 = rw (a.count, l) at (positional_lt g.width ds) in
     (omega (arith, whole, a.sum.1, j), small)
 
-sum_short : (g : Group) (d word : ℕ) (ds : List ℤ) → g.marked ≡ true → g.spare ≡ 4 → g.width * g.count ≡ 28 → IsGroup g d word ds → (word ≡ d * 2 ^ 30 + (word / 2 ^ 28 % 4) * 2 ^ 28 + positional g.width ds) × (positional g.width ds < 2 ^ 28)
+sum_short : (g : Group) (d word : ℕ) (ds : List ℤ) → g.marked ≡ true → g.spare ≡ 4 → g.width * g.count ≡ 28
+    → IsGroup g d word ds → (word ≡ d * 2 ^ 30 + (word / 2 ^ 28 % 4) * 2 ^ 28 + positional g.width ds)
+    × (positional g.width ds < 2 ^ 28)
 sum_short g d word ds m j l a =
     let whole : word ≡ d * 2 ^ 30 + a.sum.0 * 2 ^ 28 + positional g.width ds = rw m at a.sum.2 in
     let small : positional g.width ds < 2 ^ 28 = rw (a.count, l) at (positional_lt g.width ds) in
     (omega (arith, whole, small, a.sum.1, j), small)
 
-sum_whole : (g : Group) (d word : ℕ) (ds : List ℤ) → g.marked ≡ false → g.spare ≡ 1 → IsGroup g d word ds → word ≡ positional g.width ds
+sum_whole : (g : Group) (d word : ℕ) (ds : List ℤ) → g.marked ≡ false → g.spare ≡ 1 → IsGroup g d word ds
+    → word ≡ positional g.width ds
 sum_whole g d word ds m j a =
     let whole : word ≡ 0 + a.sum.0 * 2 ^ 28 + positional g.width ds = rw m at a.sum.2 in
     omega (arith, whole, a.sum.1, j)
@@ -88,12 +93,15 @@ top_is g d word ds (full m j l) t a = omega (arith, sum_full g d word ds m j l a
 top_is g d word ds (short m j l) t a = omega (arith, sum_short g d word ds m j l a)
 
 -- one sum has one list of digits
-digits_one : (g : Group) (d word : ℕ) (ds es : List ℤ) → Kind g → IsGroup g d word ds → IsGroup g d word es → positional g.width ds ≡ positional g.width es
+digits_one : (g : Group) (d word : ℕ) (ds es : List ℤ) → Kind g → IsGroup g d word ds → IsGroup g d word es
+    → positional g.width ds ≡ positional g.width es
 digits_one g d word ds es (whole m j l) a b = omega (arith, sum_whole g d word ds m j a, sum_whole g d word es m j b)
 digits_one g d word ds es (full m j l) a b = omega (arith, sum_full g d word ds m j l a, sum_full g d word es m j l b)
-digits_one g d word ds es (short m j l) a b = omega (arith, sum_short g d word ds m j l a, sum_short g d word es m j l b)
+digits_one g d word ds es (short m j l) a b =
+    omega (arith, sum_short g d word ds m j l a, sum_short g d word es m j l b)
 
-pub spelled_as_one : (g : Group) (d word : ℕ) (ds es : List ℤ) → Sized g → IsGroup g d word ds → IsGroup g d word es → ds ≡ es
+pub spelled_as_one : (g : Group) (d word : ℕ) (ds es : List ℤ) → Sized g → IsGroup g d word ds → IsGroup g d word es
+    → ds ≡ es
 spelled_as_one g d word ds es z a b =
     let long : length ds ≡ length es = omega (arith, a.count, b.count) in
     positional_one g.width ds es z.wide long a.range b.range (digits_one g d word ds es z.kind a b)
@@ -109,25 +117,38 @@ none_marked : AllMarked None
 none_marked g e = cc
 
 wide_marked : (d : ℕ) → AllMarked (wide_group d)
-wide_marked d = cond_holds AllMarked (eqb d 1) _ _ (is_marked _ refl) (cond_holds AllMarked (eqb d 2) _ _ (is_marked _ refl) (cond_holds AllMarked (eqb d 3) _ _ (is_marked _ refl) none_marked))
+wide_marked d = cond_holds AllMarked (eqb d 1) _ _ (is_marked _ refl)
+    (cond_holds AllMarked (eqb d 2) _ _ (is_marked _ refl)
+    (cond_holds AllMarked (eqb d 3) _ _ (is_marked _ refl) none_marked))
 
 narrow_marked : (d : ℕ) → AllMarked (narrow_group d)
-narrow_marked d = cond_holds AllMarked (eqb d 0) _ _ (is_marked _ refl) (cond_holds AllMarked (eqb d 1) _ _ (is_marked _ refl) (cond_holds AllMarked (eqb d 2) _ _ (is_marked _ refl) none_marked))
+narrow_marked d = cond_holds AllMarked (eqb d 0) _ _ (is_marked _ refl)
+    (cond_holds AllMarked (eqb d 1) _ _ (is_marked _ refl)
+    (cond_holds AllMarked (eqb d 2) _ _ (is_marked _ refl) none_marked))
 
-first_or_marked : (b : Bool) (x y z : Option Group) (g : Group) → AllMarked y → g.marked ≡ false → cond b x y ≡ Some g → cond b x z ≡ Some g
+first_or_marked : (b : Bool) (x y z : Option Group) (g : Group) → AllMarked y → g.marked ≡ false → cond b x y ≡ Some g
+    → cond b x z ≡ Some g
 first_or_marked true x y z g m f e = e
 first_or_marked false x y z g m f e = let t : g.marked ≡ true = m g e in cc
 
 same_row : (s : Scheme) (c d e : ℕ) (g : Group) → g.marked ≡ false → group_of s c d ≡ Some g → group_of s c e ≡ Some g
 same_row One c d e g m h = h
 same_row Two c d e g m h =
-    first_or_marked (eqb c 1) _ _ _ g (cond_holds AllMarked (eqb c 2) _ _ (wide_marked d) (cond_holds AllMarked (eqb c 3) _ _ (narrow_marked d) none_marked)) m h
+    first_or_marked (eqb c 1) _ _ _ g
+        (cond_holds AllMarked (eqb c 2) _ _ (wide_marked d)
+        (cond_holds AllMarked (eqb c 3) _ _ (narrow_marked d) none_marked)) m h
 
 -- what a row spells at some dnib it spells at the word's top two bits
-pub at_top : (s : Scheme) (c d word : ℕ) (g : Group) (ds : List ℤ) → Kind g → group_of s c d ≡ Some g → IsGroup g d word ds → (group_of s c (word / 2 ^ 30) ≡ Some g) × IsGroup g (word / 2 ^ 30) word ds
-at_top s c d word g ds (whole m j l) h a = (same_row s c d (word / 2 ^ 30) g m h, record { count = a.count; range = a.range; sum = (0, omega (arith, j), rw m (omega (arith, sum_whole g d word ds m j a))) })
-at_top s c d word g ds (full m j l) h a = let e : word / 2 ^ 30 ≡ d = top_is g d word ds (full m j l) m a in (rw e h, rw e a)
-at_top s c d word g ds (short m j l) h a = let e : word / 2 ^ 30 ≡ d = top_is g d word ds (short m j l) m a in (rw e h, rw e a)
+pub at_top : (s : Scheme) (c d word : ℕ) (g : Group) (ds : List ℤ) → Kind g → group_of s c d ≡ Some g
+    → IsGroup g d word ds → (group_of s c (word / 2 ^ 30) ≡ Some g) × IsGroup g (word / 2 ^ 30) word ds
+at_top s c d word g ds (whole m j l) h a =
+    (same_row s c d (word / 2 ^ 30) g m h,
+    record { count = a.count; range = a.range;
+    sum = (0, omega (arith, j), rw m (omega (arith, sum_whole g d word ds m j a))) })
+at_top s c d word g ds (full m j l) h a = let e : word / 2 ^ 30 ≡ d = top_is g d word ds (full m j l) m a in
+    (rw e h, rw e a)
+at_top s c d word g ds (short m j l) h a = let e : word / 2 ^ 30 ≡ d = top_is g d word ds (short m j l) m a in
+    (rw e h, rw e a)
 
 -- A word spells one list at most.
 pub spells_one : (s : Scheme) (c word : ℕ) (ds es : List ℤ) → Spells s c word ds → Spells s c word es → ds ≡ es

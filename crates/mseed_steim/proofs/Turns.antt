@@ -7,7 +7,8 @@ use Rattle.mseed_steim.specs.Lanes.{span}
 use Rattle.mseed_steim.proofs.FrameItems.{span-append}
 
 -- the differences of a turn, and those behind it
-pub items_cut : (ds : List ℤ) (k n : ℕ) (more : List (Result ℤ BadWordAt)) → map Ok (drop k ds) ++ more ≡ map Ok (take n (drop k ds)) ++ (map Ok (drop (k + n) ds) ++ more)
+pub items_cut : (ds : List ℤ) (k n : ℕ) (more : List (Result ℤ BadWordAt))
+    → map Ok (drop k ds) ++ more ≡ map Ok (take n (drop k ds)) ++ (map Ok (drop (k + n) ds) ++ more)
 items_cut ds k n more =
     ap (λ (xs : List ℤ). map Ok xs ++ more) (chunk-drop k n ds)
     ∙ ap (λ (xs : List (Result ℤ BadWordAt)). xs ++ more) (map-append Ok (take n (drop k ds)) (drop (k + n) ds))

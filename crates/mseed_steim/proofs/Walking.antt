@@ -1,6 +1,7 @@
 -- One word after another: what the words from a place on give.
 use Rattle.std.specs.Simd.{first_chunks}
-use Rattle.std.proofs.Common.{◌≡◌, ◌≢◌, ◌⊎◌, ⊎_elim, take, drop, get_or, ◌*◌, ◌∙◌, inl, inr, ℕ, zero, suc, ◌+◌, ◌%◌, ◌/◌, ◌<◌, ◌≤◌, List, [], ◌∷◌, ◌++◌, map, length, ℤ, arith, refl, ap, Option, Some, None, Ok, Err}
+use Rattle.std.proofs.Common.{◌≡◌, ◌≢◌, ◌⊎◌, ⊎_elim, take, drop, get_or, ◌*◌, ◌∙◌, inl, inr, ℕ, zero, suc, ◌+◌, ◌%◌,
+    ◌/◌, ◌<◌, ◌≤◌, List, [], ◌∷◌, ◌++◌, map, length, ℤ, arith, refl, ap, Option, Some, None, Ok, Err}
 use Rattle.std.proofs.lemmas.Bool.{ne_eqb, cases_lt}
 use Rattle.std.proofs.lemmas.List.{drop-drop}
 use Rattle.mseed_steim.specs.declared.scheme.Scheme.{Scheme}
@@ -24,11 +25,13 @@ unfolding words_from
 words_step p k n h = rw (ne_eqb (k % 16) 0 h) refl
 
 -- a word's items, and those of the words behind it
-pub items_group : (s : Scheme) (before after : List DataWord) (w : DataWord) (ds : List ℤ) → before ≡ w ∷ after → differences_of s w.code w.bits ≡ Some ds → items_of s before ≡ map Ok ds ++ items_of s after
+pub items_group : (s : Scheme) (before after : List DataWord) (w : DataWord) (ds : List ℤ) → before ≡ w ∷ after
+    → differences_of s w.code w.bits ≡ Some ds → items_of s before ≡ map Ok ds ++ items_of s after
 unfolding items_of
 items_group s before after w ds cut e = rw cut (ap (λ (o : Option (List ℤ)). with_items w o (items_of s after)) e)
 
-pub items_bad : (s : Scheme) (before after : List DataWord) (w : DataWord) → before ≡ w ∷ after → differences_of s w.code w.bits ≡ None → items_of s before ≡ Err (place_of w) ∷ []
+pub items_bad : (s : Scheme) (before after : List DataWord) (w : DataWord) → before ≡ w ∷ after
+    → differences_of s w.code w.bits ≡ None → items_of s before ≡ Err (place_of w) ∷ []
 unfolding items_of
 items_bad s before after w cut e = rw cut (ap (λ (o : Option (List ℤ)). with_items w o (items_of s after)) e)
 
@@ -37,14 +40,17 @@ unfolding items_of
 no_items s before e = rw e refl
 
 pub is_head : (k : ℕ) → (k % 16 ≡ 0) ⊎ (k % 16 ≢ 0)
-is_head k = ⊎_elim (λ (some : 0 < k % 16). inr (λ e. omega arith)) (λ (none : k % 16 ≤ 0). inl (omega arith)) (cases_lt 0 (k % 16))
+is_head k = ⊎_elim (λ (some : 0 < k % 16). inr (λ e. omega arith)) (λ (none : k % 16 ≤ 0). inl (omega arith))
+    (cases_lt 0 (k % 16))
 
 -- how many data words there are: all but the first of each frame
 pub length-words_from : (p : List ℕ) (k n : ℕ) → length (words_from p k n) + (k + n + 15) / 16 ≡ n + (k + 15) / 16
 length-words_from p k zero = rw (words_none p k) (omega arith)
 length-words_from p k (suc n) = ⊎_elim
-    (λ (head : k % 16 ≡ 0). let later = length-words_from p (k + 1) n in rw (words_skip p k n head) (omega (arith, later)))
-    (λ (data_word : k % 16 ≢ 0). let later = length-words_from p (k + 1) n in rw (words_step p k n data_word) (omega (arith, later)))
+    (λ (head : k % 16 ≡ 0). let later = length-words_from p (k + 1) n in
+        rw (words_skip p k n head) (omega (arith, later)))
+    (λ (data_word : k % 16 ≢ 0). let later = length-words_from p (k + 1) n in
+        rw (words_step p k n data_word) (omega (arith, later)))
     (is_head k)
 
 -- words that are cut in two
@@ -56,10 +62,12 @@ words_cut p k zero m =
 words_cut p k (suc n) m =
     let next : k + 1 + n ≡ k + suc n = omega arith in
     let more : suc n + m ≡ suc (n + m) = omega arith in
-    let later : words_from p (k + 1) (n + m) ≡ words_from p (k + 1) n ++ words_from p (k + suc n) m = rw next at (words_cut p (k + 1) n m) in
+    let later : words_from p (k + 1) (n + m) ≡ words_from p (k + 1) n ++ words_from p (k + suc n) m =
+        rw next at (words_cut p (k + 1) n m) in
     ⊎_elim
     (λ (head : k % 16 ≡ 0). rw (more, words_skip p k (n + m) head, words_skip p k n head) later)
-    (λ (data_place : k % 16 ≢ 0). rw (more, words_step p k (n + m) data_place, words_step p k n data_place) (ap (λ (ws : List DataWord). data_word p k ∷ ws) later))
+    (λ (data_place : k % 16 ≢ 0). rw (more, words_step p k (n + m) data_place, words_step p k n data_place)
+        (ap (λ (ws : List DataWord). data_word p k ∷ ws) later))
     (is_head k)
 
 -- a frame of a payload

@@ -1,5 +1,6 @@
 -- Words as sums of signed digits.
-use Rattle.std.proofs.Common.{◌≡◌, ℕ, suc, ◌+◌, ◌-◌, ◌*◌, ◌^◌, ◌<◌, ◌≤ℤ◌, ◌<ℤ◌, List, [], ◌∷◌, length, ℤ, pos, negsuc, neg_ℤ, arith, ap, refl, All}
+use Rattle.std.proofs.Common.{◌≡◌, ℕ, suc, ◌+◌, ◌-◌, ◌*◌, ◌^◌, ◌<◌, ◌≤ℤ◌, ◌<ℤ◌, List, [], ◌∷◌, length, ℤ, pos, negsuc,
+    neg_ℤ, arith, ap, refl, All}
 use Rattle.std.proofs.lemmas.Nat.{pow_pos, pow-add, same_from_place, mul-add-lt}
 use Rattle.std.proofs.lemmas.Int.{ints}
 use Rattle.std.proofs.lemmas.List.Elements.{All-head, All-tail}
@@ -20,7 +21,8 @@ residue_lt m (pos n) p = mod-lt n p
 residue_lt m (negsuc n) p = omega (arith, mod-lt n p)
 
 -- two numbers in range with one residue are one
-residue_one_half : (m h : ℕ) (d e : ℤ) → m ≡ 2 * h → (neg_ℤ (pos h) ≤ℤ d) → d <ℤ pos h → (neg_ℤ (pos h) ≤ℤ e) → e <ℤ pos h → residue m d ≡ residue m e → d ≡ e
+residue_one_half : (m h : ℕ) (d e : ℤ) → m ≡ 2 * h → (neg_ℤ (pos h) ≤ℤ d) → d <ℤ pos h → (neg_ℤ (pos h) ≤ℤ e)
+    → e <ℤ pos h → residue m d ≡ residue m e → d ≡ e
 residue_one_half m h (pos a) (pos b) s d1 d2 e1 e2 r =
     let al : a < m = omega (arith, ints) in
     let bl : b < m = omega (arith, ints) in
@@ -44,7 +46,8 @@ residue_one_half m h (negsuc a) (negsuc b) s d1 d2 e1 e2 r =
     let bm : b < m = omega arith in
     ap negsuc (omega (arith, r, mod-eq_of_lt am, mod-eq_of_lt bm))
 
-pub residue_one : (w : ℕ) (d e : ℤ) → 0 < w → IsWithin w d → IsWithin w e → residue (2 ^ w) d ≡ residue (2 ^ w) e → d ≡ e
+pub residue_one : (w : ℕ) (d e : ℤ) → 0 < w → IsWithin w d → IsWithin w e → residue (2 ^ w) d ≡ residue (2 ^ w) e
+    → d ≡ e
 residue_one w d e p h k s = residue_one_half (2 ^ w) (2 ^ (w - 1)) d e (twice_half w p) h.0 h.1 k.0 k.1 s
 
 pub positional_lt : (w : ℕ) (ds : List ℤ) → positional w ds < 2 ^ (w * length ds)
@@ -57,15 +60,20 @@ positional_lt w (d ∷ ds) =
     omega (arith, mul-add-lt (residue (2 ^ w) d) (2 ^ (w * length ds)) (positional w ds) (2 ^ w) h k, e, f)
 
 -- The word's digits are one list.
-pub positional_one : (w : ℕ) (ds es : List ℤ) → 0 < w → length ds ≡ length es → All (IsWithin w) ds → All (IsWithin w) es → positional w ds ≡ positional w es → ds ≡ es
+pub positional_one : (w : ℕ) (ds es : List ℤ) → 0 < w → length ds ≡ length es → All (IsWithin w) ds
+    → All (IsWithin w) es → positional w ds ≡ positional w es → ds ≡ es
 positional_one w [] [] p l h k s = refl
 positional_one w [] (e ∷ es) p l h k s = absurd (omega arith)
 positional_one w (d ∷ ds) [] p l h k s = absurd (omega arith)
 positional_one w (d ∷ ds) (e ∷ es) p l h k s =
     let same : length ds ≡ length es = omega arith in
     let below : positional w ds < 2 ^ (w * length es) = rw same at (positional_lt w ds) in
-    let both : residue (2 ^ w) d * 2 ^ (w * length es) + positional w ds ≡ residue (2 ^ w) e * 2 ^ (w * length es) + positional w es = rw same at s in
-    let parts : (residue (2 ^ w) d ≡ residue (2 ^ w) e) × (positional w ds ≡ positional w es) = same_from_place (residue (2 ^ w) d) (positional w ds) (residue (2 ^ w) e) (positional w es) (2 ^ (w * length es)) below (positional_lt w es) both in
+    let both : residue (2 ^ w) d * 2 ^ (w * length es) + positional w ds ≡ residue (2 ^ w) e * 2 ^ (w * length es)
+        + positional w es = rw same at s in
+    let parts : (residue (2 ^ w) d ≡ residue (2 ^ w) e) × (positional w ds ≡ positional w es) =
+        same_from_place (residue (2 ^ w) d) (positional w ds) (residue (2 ^ w) e) (positional w es)
+        (2 ^ (w * length es)) below (positional_lt w es) both in
     let first : d ≡ e = residue_one w d e p (All-head (IsWithin w) d ds h) (All-head (IsWithin w) e es k) parts.0 in
-    let rest : ds ≡ es = positional_one w ds es p same (All-tail (IsWithin w) d ds h) (All-tail (IsWithin w) e es k) parts.1 in
+    let rest : ds ≡ es = positional_one w ds es p same (All-tail (IsWithin w) d ds h) (All-tail (IsWithin w) e es k)
+        parts.1 in
     cc

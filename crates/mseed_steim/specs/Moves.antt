@@ -15,4 +15,6 @@ pub record Moves (moved : Moved) (ds : List ℤ) : Type 0 where
 -- it moves by the differences of these words; said where none of them is bad or holds one of 30 or 32 bits
 abbrev pub MovesBy : Scheme → List DataWord → Moved → Type 0
 MovesBy scheme words moved =
-    moved.count < 128 → (ds : List ℤ) × (Moves moved ds × ((rest : List DataWord) → items_of scheme (words ++ rest) ≡ map Ok ds ++ items_of scheme rest))
+    moved.count < 128 → (ds : List ℤ)
+        × (Moves moved ds × ((rest : List DataWord)
+        → items_of scheme (words ++ rest) ≡ map Ok ds ++ items_of scheme rest))

@@ -1,5 +1,6 @@
 -- How differences are packed into words as full as words can be (SEED manual, appendix B).
-use Rattle.std.specs.Prelude.{◌≡◌, ℕ, ◌/◌, ◌%◌, ◌^◌, ◌<◌, ◌≤◌, List, [], ◌∷◌, ◌++◌, take, drop, length, slice_index_or, ℤ, pos}
+use Rattle.std.specs.Prelude.{◌≡◌, ℕ, ◌/◌, ◌%◌, ◌^◌, ◌<◌, ◌≤◌, List, [], ◌∷◌, ◌++◌, take, drop, length, slice_index_or,
+    ℤ, pos}
 use Rattle.mseed_steim.specs.declared.scheme.Scheme.{Scheme}
 use Rattle.mseed_steim.specs.declared.scheme.Scheme.TheVariants.{Two}
 use Rattle.mseed_steim.specs.Spelling.{IsWithin, Spells}
@@ -22,7 +23,8 @@ pub record IsFullest (scheme : Scheme) (ds : List ℤ) (code word used : ℕ) : 
 -- Each word in turn takes the largest number of the differences that are left; `rest` is what no word took.
 abbrev pub PacksRun : Scheme → List DataWord → List ℤ → List ℤ → Type 0
 PacksRun scheme [] ds rest = ds ≡ rest
-PacksRun scheme (w ∷ ws) ds rest = (used : ℕ) × (IsFullest scheme ds w.code w.bits used × PacksRun scheme ws (drop used ds) rest)
+PacksRun scheme (w ∷ ws) ds rest =
+    (used : ℕ) × (IsFullest scheme ds w.code w.bits used × PacksRun scheme ws (drop used ds) rest)
 
 -- the words are of Steim-2, and the difference at a place is too large for one: the widest has 30 bits
 abbrev pub IsTooLargeAt : Scheme → List ℤ → ℕ → Type 0
@@ -46,7 +48,8 @@ pub record IsFewest (ds : List ℤ) (m : ℕ) : Type 0 where
 -- No list of at most m words of Steim-2 spells a list that begins with more than the first `used` differences.
 abbrev pub IsFarthest : List ℤ → ℕ → ℕ → Type 0
 IsFarthest ds m used =
-    (ws : List DataWord) (k : ℕ) (more : List ℤ) → length ws ≤ m → used < k → k ≤ length ds → ¬ (SpellsRun Two ws (take k ds ++ more))
+    (ws : List DataWord) (k : ℕ) (more : List ℤ) → length ws ≤ m → used < k → k ≤ length ds
+        → ¬ (SpellsRun Two ws (take k ds ++ more))
 
 -- a data word that holds nothing
 abbrev pub IsEmptyWord : DataWord → Type 0

@@ -9,7 +9,8 @@ use Rattle.mseed_steim.specs.declared.form.Form.{Form}
 use Rattle.mseed_steim.specs.declared.form.Form.TheVariants.{Integers, Frames}
 use Rattle.mseed_steim.specs.declared.fault.Ends.{Ends}
 use Rattle.mseed_steim.specs.declared.fault.ReadFault.{ReadFault}
-use Rattle.mseed_steim.specs.declared.fault.ReadFault.TheVariants.{Blockette100, Encoding, LittleSteim, DataOffset, LastDiffers, Memory}
+use Rattle.mseed_steim.specs.declared.fault.ReadFault.TheVariants.{Blockette100, Encoding, LittleSteim, DataOffset,
+    LastDiffers, Memory}
 use Rattle.mseed_steim.specs.Samples.{form_of, IsPayloadReading, EndsOnConstant, IsPayloadFault, AreEnds}
 
 -- the number of samples
@@ -48,21 +49,26 @@ is_little_steim (Frames scheme) Little = true
 pub data IsFault (v : View) : ReadFault → Type 0 where
   blockette_100 : v.has_rate_blockette ≡ true → IsFault v Blockette100
   encoding : v.has_rate_blockette ≡ false → form_of v.encoding ≡ None → IsFault v (Encoding v.encoding)
-  little_steim : v.has_rate_blockette ≡ false → (scheme : Scheme) → form_of v.encoding ≡ Some (Frames scheme) → v.payload_order ≡ Little → IsFault v LittleSteim
-  data_offset : v.has_rate_blockette ≡ false → (form : Form) → form_of v.encoding ≡ Some form → IsReadable form v.payload_order → ¬ (HasPayload v) → IsFault v DataOffset
-  in_payload : v.has_rate_blockette ≡ false → (form : Form) → form_of v.encoding ≡ Some form → IsReadable form v.payload_order → HasPayload v
+  little_steim : v.has_rate_blockette ≡ false → (scheme : Scheme) → form_of v.encoding ≡ Some (Frames scheme)
+      → v.payload_order ≡ Little → IsFault v LittleSteim
+  data_offset : v.has_rate_blockette ≡ false → (form : Form) → form_of v.encoding ≡ Some form
+      → IsReadable form v.payload_order → ¬ (HasPayload v) → IsFault v DataOffset
+  in_payload : v.has_rate_blockette ≡ false → (form : Form) → form_of v.encoding ≡ Some form
+      → IsReadable form v.payload_order → HasPayload v
       → (fault : ReadFault) → IsPayloadFault form (payload_of v) (count_of v) fault → IsFault v fault
 
 -- What a fault says of readings: there's none; or, where the last sample differs, the only one doesn't end on
 -- the payload's constant.
 abbrev pub Denies : View → ReadFault → Type 0
-Denies v (LastDiffers found constant) = (s : List ℤ) × (IsReading v s × ((t : List ℤ) → IsReading v t → (s ≡ t) × (¬ (EndsOnConstants v t))))
+Denies v (LastDiffers found constant) =
+    (s : List ℤ) × (IsReading v s × ((t : List ℤ) → IsReading v t → (s ≡ t) × (¬ (EndsOnConstants v t))))
 Denies v fault = (s : List ℤ) → ¬ (IsReading v s)
 
 -- How a record holds its samples, and where; or the fault that comes before its payload is read.
 abbrev pub HoldsIn : View → Form → List ℕ → Type 0
 HoldsIn v form payload =
-    (v.has_rate_blockette ≡ false) × (form_of v.encoding ≡ Some form) × IsReadable form v.payload_order × HasPayload v × (payload ≡ payload_of v)
+    (v.has_rate_blockette ≡ false) × (form_of v.encoding ≡ Some form) × IsReadable form v.payload_order × HasPayload v
+        × (payload ≡ payload_of v)
 
 -- the ends of a reading that ends on its constants, or why there's none
 abbrev pub IsAnswer : View → Result Ends ReadFault → Type 0

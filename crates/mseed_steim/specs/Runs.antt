@@ -9,7 +9,8 @@ use Rattle.mseed_steim.specs.Frames.{DataWord}
 abbrev pub SpellsRun : Scheme → List DataWord → List ℤ → Type 0
 SpellsRun scheme [] ds = ds ≡ []
 SpellsRun scheme (w ∷ ws) ds =
-    (first : List ℤ) × ((rest : List ℤ) × ((ds ≡ first ++ rest) × (Spells scheme w.code w.bits first × SpellsRun scheme ws rest)))
+    (first : List ℤ) × ((rest : List ℤ)
+        × ((ds ≡ first ++ rest) × (Spells scheme w.code w.bits first × SpellsRun scheme ws rest)))
 
 -- where a bad word stands
 abbrev pub place_of : DataWord → BadWordAt
@@ -23,6 +24,7 @@ word_of at code bits = record { frame = at.frame; place = at.word; code = code; 
 -- words before it, and then its place.
 pub data Gives (scheme : Scheme) (words : List DataWord) (items : List (Result ℤ BadWordAt)) : Type 0 where
   all : (ds : List ℤ) → SpellsRun scheme words ds → items ≡ map Ok ds → Gives scheme words items
-  broken : (before : List DataWord) (bad : DataWord) (after : List DataWord) (ds : List ℤ) → words ≡ before ++ bad ∷ after
+  broken : (before : List DataWord) (bad : DataWord) (after : List DataWord) (ds : List ℤ)
+      → words ≡ before ++ bad ∷ after
       → SpellsRun scheme before ds → SpellsNone scheme bad.code bad.bits → items ≡ map Ok ds ++ Err (place_of bad) ∷ []
       → Gives scheme words items

@@ -1,5 +1,6 @@
 -- The samples that a payload's bytes say (SEED manual, chapter 8, blockette 1000, field 4, and appendix B).
-use Rattle.std.specs.Prelude.{◌≡◌, ◌≢◌, ⊤, ℕ, ◌+◌, ◌-◌, ◌*◌, ◌/◌, ◌^◌, ◌<◌, ◌≤◌, ◌==◌, if◌then◌else◌, List, [], ◌∷◌, ◌++◌, length, slice_get, ℤ, ◌+ℤ◌, Option, Some, None, Result, Ok, Err, All}
+use Rattle.std.specs.Prelude.{◌≡◌, ◌≢◌, ⊤, ℕ, ◌+◌, ◌-◌, ◌*◌, ◌/◌, ◌^◌, ◌<◌, ◌≤◌, ◌==◌, if◌then◌else◌, List, [], ◌∷◌,
+    ◌++◌, length, slice_get, ℤ, ◌+ℤ◌, Option, Some, None, Result, Ok, Err, All}
 use Rattle.mseed_time.specs.declared.order.Order.{Order}
 use Rattle.mseed_time.specs.declared.order.Order.TheVariants.{Big}
 use Rattle.mseed_time.specs.Fields.{number_at}
@@ -39,7 +40,8 @@ IsSample s = IsWithin 32 s
 abbrev pub BeginsWith : Order → ℕ → List ℕ → ℕ → List ℤ → Type 0
 BeginsWith order width bytes place [] = ⊤
 BeginsWith order width bytes place (z ∷ zs) =
-    (place + width ≤ length bytes) × IsWithin (8 * width) z × (number_at order width place bytes ≡ residue (2 ^ (8 * width)) z)
+    (place + width ≤ length bytes) × IsWithin (8 * width) z
+        × (number_at order width place bytes ≡ residue (2 ^ (8 * width)) z)
     × BeginsWith order width bytes (place + width) zs
 
 -- each of the samples is the one before it plus its difference, as whole numbers
@@ -67,8 +69,10 @@ pub record AreSums (scheme : Scheme) (payload : List ℕ) (n : ℕ) (samples : L
 
 -- the n samples of a payload of this form and order; Steim frames are read in the order of their words alone
 abbrev pub IsPayloadReading : Form → Order → List ℕ → ℕ → List ℤ → Type 0
-IsPayloadReading (Integers width) order payload n samples = (length samples ≡ n) × BeginsWith order (bytes_of width) payload 0 samples
-IsPayloadReading (Frames scheme) order payload n samples = (order ≡ Big) × AreSums scheme payload n samples × All IsSample samples
+IsPayloadReading (Integers width) order payload n samples =
+    (length samples ≡ n) × BeginsWith order (bytes_of width) payload 0 samples
+IsPayloadReading (Frames scheme) order payload n samples = (order ≡ Big) × AreSums scheme payload n samples
+    × All IsSample samples
 
 -- where the samples of Steim frames end on Xn; integers have no such constant
 abbrev pub EndsOnConstant : Form → List ℕ → List ℤ → Type 0
@@ -79,30 +83,39 @@ EndsOnConstant (Frames scheme) payload samples = slice_get samples (length sampl
 -- and those before it fewer than n; the sum at a place is the first that 32 bits don't hold; the last sum
 -- isn't Xn.
 pub data IsFrameFault (scheme : Scheme) (payload : List ℕ) (n : ℕ) : ReadFault → Type 0 where
-  short : (ds : List ℤ) → SpellsRun scheme (data_words payload) ds → length ds < n → IsFrameFault scheme payload n (Short (length ds))
-  bad_word : (before : List DataWord) (bad : DataWord) (after : List DataWord) (ds : List ℤ) → data_words payload ≡ before ++ bad ∷ after
-      → SpellsRun scheme before ds → length ds < n → SpellsNone scheme bad.code bad.bits → IsFrameFault scheme payload n (BadWord bad.frame bad.place)
-  overflow : (front : List ℤ) (sum : ℤ) (rest : List ℤ) → AreSums scheme payload n (front ++ sum ∷ rest) → All IsSample front → ¬ (IsSample sum)
+  short : (ds : List ℤ) → SpellsRun scheme (data_words payload) ds → length ds < n
+      → IsFrameFault scheme payload n (Short (length ds))
+  bad_word : (before : List DataWord) (bad : DataWord) (after : List DataWord) (ds : List ℤ)
+      → data_words payload ≡ before ++ bad ∷ after
+      → SpellsRun scheme before ds → length ds < n → SpellsNone scheme bad.code bad.bits
+      → IsFrameFault scheme payload n (BadWord bad.frame bad.place)
+  overflow : (front : List ℤ) (sum : ℤ) (rest : List ℤ) → AreSums scheme payload n (front ++ sum ∷ rest)
+      → All IsSample front → ¬ (IsSample sum)
       → IsFrameFault scheme payload n (Overflow (length front))
-  last_differs : (front : List ℤ) (last : ℤ) → AreSums scheme payload n (front ++ last ∷ []) → All IsSample (front ++ last ∷ []) → last ≢ last_constant payload
+  last_differs : (front : List ℤ) (last : ℤ) → AreSums scheme payload n (front ++ last ∷ [])
+      → All IsSample (front ++ last ∷ []) → last ≢ last_constant payload
       → IsFrameFault scheme payload n (LastDiffers last (last_constant payload))
 
 -- Why n samples of a payload can't be read; of integers, since it has fewer whole ones.
 abbrev pub IsPayloadFault : Form → List ℕ → ℕ → ReadFault → Type 0
-IsPayloadFault (Integers width) payload n fault = (length payload / bytes_of width < n) × (fault ≡ Short (length payload / bytes_of width))
+IsPayloadFault (Integers width) payload n fault = (length payload / bytes_of width < n)
+    × (fault ≡ Short (length payload / bytes_of width))
 IsPayloadFault (Frames scheme) payload n fault = IsFrameFault scheme payload n fault
 
 -- the first and the last of some samples
 abbrev pub AreEnds : Ends → List ℤ → Type 0
-AreEnds ends samples = (slice_get samples 0 ≡ Some ends.first) × (slice_get samples (length samples - 1) ≡ Some ends.last)
+AreEnds ends samples = (slice_get samples 0 ≡ Some ends.first)
+    × (slice_get samples (length samples - 1) ≡ Some ends.last)
 
 -- the ends of samples that are a reading and end on their constant, or why there are none
 abbrev pub IsChecked : Form → Order → List ℕ → ℕ → Result Ends ReadFault → Type 0
 IsChecked form order payload n (Ok ends) =
-    (samples : List ℤ) × (IsPayloadReading form order payload n samples × EndsOnConstant form payload samples × AreEnds ends samples)
+    (samples : List ℤ) × (IsPayloadReading form order payload n samples × EndsOnConstant form payload samples
+        × AreEnds ends samples)
 IsChecked form order payload n (Err fault) = IsPayloadFault form payload n fault
 
 -- samples that are a reading and end on their constant, or why there are none
 abbrev pub IsFilled : Form → Order → List ℕ → ℕ → List ℤ → Result (Unit {0}) ReadFault → Type 0
-IsFilled form order payload n samples (Ok done) = IsPayloadReading form order payload n samples × EndsOnConstant form payload samples
+IsFilled form order payload n samples (Ok done) = IsPayloadReading form order payload n samples
+    × EndsOnConstant form payload samples
 IsFilled form order payload n samples (Err fault) = IsPayloadFault form payload n fault

@@ -1,6 +1,7 @@
 -- What a word of a Steim frame spells (SEED manual, appendix B): differences in two's complement, the
 -- earlier ones in the higher bits.
-use Rattle.std.specs.Prelude.{◌≡◌, ℕ, ◌+◌, ◌-◌, ◌*◌, ◌%◌, ◌^◌, ◌<◌, ◌≤ℤ◌, ◌<ℤ◌, if◌then◌else◌, List, [], ◌∷◌, length, ℤ, pos, negsuc, neg_ℤ, Some, All}
+use Rattle.std.specs.Prelude.{◌≡◌, ℕ, ◌+◌, ◌-◌, ◌*◌, ◌%◌, ◌^◌, ◌<◌, ◌≤ℤ◌, ◌<ℤ◌, if◌then◌else◌, List, [], ◌∷◌, length, ℤ,
+    pos, negsuc, neg_ℤ, Some, All}
 use Rattle.mseed_steim.specs.declared.scheme.Scheme.{Scheme}
 use Rattle.mseed_steim.specs.Groups.{Group, group_of}
 
@@ -30,7 +31,8 @@ pub record IsGroup (g : Group) (dnib word : ℕ) (ds : List ℤ) : Type 0 where
 -- some dnib.
 pub data Spells (scheme : Scheme) (code word : ℕ) (ds : List ℤ) : Type 0 where
   empty : code ≡ 0 → ds ≡ [] → Spells scheme code word ds
-  row : (g : Group) (dnib : ℕ) → group_of scheme code dnib ≡ Some g → IsGroup g dnib word ds → Spells scheme code word ds
+  row : (g : Group) (dnib : ℕ) → group_of scheme code dnib ≡ Some g → IsGroup g dnib word ds
+      → Spells scheme code word ds
 
 -- the word spells nothing, not even the empty list
 abbrev pub SpellsNone : Scheme → ℕ → ℕ → Type 0

@@ -1,5 +1,6 @@
 -- A walk over items that adds them up. What it answers is said in Samples.
-use Rattle.std.specs.Prelude.{◌≡◌, ⊤, ℕ, ◌+◌, ◌^◌, ◌==◌, nat_lt, Bool, if◌then◌else◌, List, [], ◌∷◌, ◌++◌, take, ℤ, pos, negsuc, ◌+ℤ◌, Option, Some, None, Result, Ok, Err}
+use Rattle.std.specs.Prelude.{◌≡◌, ⊤, ℕ, ◌+◌, ◌^◌, ◌==◌, nat_lt, Bool, if◌then◌else◌, List, [], ◌∷◌, ◌++◌, take, ℤ, pos,
+    negsuc, ◌+ℤ◌, Option, Some, None, Result, Ok, Err}
 use Rattle.mseed_steim.specs.declared.differences.BadWordAt.{BadWordAt}
 use Rattle.mseed_steim.specs.declared.fault.ReadFault.{ReadFault}
 use Rattle.mseed_steim.specs.declared.fault.ReadFault.TheVariants.{Short, BadWord, Overflow}
@@ -47,6 +48,8 @@ GoesOn n sum items behind (Err fault) = (fold n sum items ≡ Err fault)
 
 -- Where the walk goes on, what stands in the places before and after it is the same front of all samples: those
 -- that have been put in their places, and behind them those that are still to be met.
-abbrev pub Keeps : ℕ → Sum → List ℤ → List (Result ℤ BadWordAt) → List (Result ℤ BadWordAt) → List ℤ → Result Sum ReadFault → Type 0
-Keeps n sum before items behind after (Ok next) = take next.met after ++ met_in n next behind ≡ take sum.met before ++ met_in n sum items
+abbrev pub Keeps : ℕ → Sum → List ℤ → List (Result ℤ BadWordAt) → List (Result ℤ BadWordAt) → List ℤ
+    → Result Sum ReadFault → Type 0
+Keeps n sum before items behind after (Ok next) =
+    take next.met after ++ met_in n next behind ≡ take sum.met before ++ met_in n sum items
 Keeps n sum before items behind after (Err fault) = ⊤

@@ -1,5 +1,6 @@
 -- The differences of a frame's words, unpacked word by word.
-use Rattle.std.specs.Prelude.{◌≡◌, ℕ, zero, suc, ◌+◌, ◌-◌, ◌*◌, ◌^◌, ◌<◌, ◌≤◌, List, [], ◌++◌, ℤ, slice_index, slice_index_or}
+use Rattle.std.specs.Prelude.{◌≡◌, ℕ, zero, suc, ◌+◌, ◌-◌, ◌*◌, ◌^◌, ◌<◌, ◌≤◌, List, [], ◌++◌, ℤ, slice_index,
+    slice_index_or}
 use Rattle.mseed_steim.specs.declared.scheme.Scheme.{Scheme}
 use Rattle.mseed_steim.specs.declared.scheme.Scheme.TheVariants.{One, Two}
 use Rattle.mseed_steim.specs.declared.unpack.Unpacking.{Unpacking}
@@ -36,9 +37,11 @@ AreNarrow scheme frame from = (word : ℕ) → word < 16 → slice_index (counts
 -- the differences of a word by its row
 abbrev pub differences_at : Scheme → List ℕ → ℕ → ℕ → List ℤ
 differences_at scheme frame from word =
-    digits (slice_index (widths_of scheme) (row_at frame from word)) (word_at frame word) (slice_index (counts_of scheme) (row_at frame from word))
+    digits (slice_index (widths_of scheme) (row_at frame from word)) (word_at frame word)
+        (slice_index (counts_of scheme) (row_at frame from word))
 
 -- those of n words, one after another
 unfoldable pub unpacked : Scheme → List ℕ → ℕ → ℕ → ℕ → List ℤ
 unpacked scheme frame from word zero = []
-unpacked scheme frame from word (suc n) = differences_at scheme frame from word ++ unpacked scheme frame from (word + 1) n
+unpacked scheme frame from word (suc n) =
+    differences_at scheme frame from word ++ unpacked scheme frame from (word + 1) n

@@ -5,20 +5,25 @@ use Rattle.mseed_steim.proofs.Held.{is_ahead, near_small}
 use Rattle.mseed_steim.proofs.ahead.look_ahead.Goals as goal
 
 pub put_most-requires : goal.put_most-requires
-put_most-requires c = λ i h. subst (λ (x : ℕ). x < 32768) (sym (c.put_sizes.ensures i h)) (near_small c.args.scheme (get_or c.args.diffs.now i (pos 0)))
+put_most-requires c = λ i h. subst (λ (x : ℕ). x < 32768) (sym (c.put_sizes.ensures i h))
+    (near_small c.args.scheme (get_or c.args.diffs.now i (pos 0)))
 
 pub loop-index-init : goal.loop-index-init
 loop-index-init c = record {
-  ahead = λ i h. is_ahead c.args.scheme c.args.diffs.now c.put_most.new.most i _ c.requires h (λ x l. c.put_most.ensures x l ∙ ap (most_with c.args.scheme) (c.put_sizes.ensures x l)) (c.bound.ensures i (omega (arith, h)));
+  ahead = λ i h. is_ahead c.args.scheme c.args.diffs.now c.put_most.new.most i _ c.requires h
+      (λ x l. c.put_most.ensures x l ∙ ap (most_with c.args.scheme) (c.put_sizes.ensures x l))
+      (c.bound.ensures i (omega (arith, h)));
   none = λ i h l. absurd (omega (arith, h, l));
 }
 
 pub returns : goal.returns
 returns c =
-    let none : (i : ℕ) → 57 ≤ i → i < 80 → get_or c.loop-index.most i 0 ≡ 0 = λ i b h. c.loop-index.invariant.none i b (omega (arith, h, c.loop-index-test.false)) in record {
+    let none : (i : ℕ) → 57 ≤ i → i < 80 → get_or c.loop-index.most i 0 ≡ 0 =
+        λ i b h. c.loop-index.invariant.none i b (omega (arith, h, c.loop-index-test.false)) in record {
       ahead = λ i h. ⊎_elim
           (λ (a : i < 57). c.loop-index.invariant.ahead i a)
-          (λ (b : 57 ≤ i). subst (λ (x : ℕ). IsAhead c.args.scheme (drop i c.args.diffs.now) x) (sym (none i b h)) (λ some. absurd (omega (arith, some))))
+          (λ (b : 57 ≤ i). subst (λ (x : ℕ). IsAhead c.args.scheme (drop i c.args.diffs.now) x) (sym (none i b h))
+              (λ some. absurd (omega (arith, some))))
           (cases_lt i 57);
       none = none;
     }

@@ -12,4 +12,5 @@ pub returns-clause-fault : goal.returns-clause-fault
 returns-clause-fault c = answer_fault (view_of c.args.view.now) c.check_record.result c.requires c.check_record.ensures
 
 pub returns-clause-denied : goal.returns-clause-denied
-returns-clause-denied c = answer_denies (view_of c.args.view.now) c.check_record.result c.requires c.check_record.ensures
+returns-clause-denied c =
+    answer_denies (view_of c.args.view.now) c.check_record.result c.requires c.check_record.ensures

@@ -3,4 +3,5 @@ use Rattle.mseed_steim.proofs.ByteRun.{past_head}
 use Rattle.mseed_steim.proofs.data_words.front_of.Goals as goal
 
 pub returns-then-from-eq0-clause-same : goal.returns-then-from-eq0-clause-same
-returns-then-from-eq0-clause-same c = sym (past_head c.args.payload.now c.args.from c.args.end c.if-from-end.true c.if-from-eq0.true)
+returns-then-from-eq0-clause-same c =
+    sym (past_head c.args.payload.now c.args.from c.args.end c.if-from-end.true c.if-from-eq0.true)

@@ -6,4 +6,5 @@ use Rattle.mseed_steim.specs.Spelling.{IsWithin}
 use Rattle.mseed_steim.proofs.ends.are_short.Given as goal
 
 abbrev pub invariant-loop-index : goal.invariant-loop-index
-invariant-loop-index l = IsTrue l.short ↔ ((i : ℕ) → i < l.index → IsWithin 29 (twos_complement 4 (number_at l.order 4 (4 * i) l.payload)))
+invariant-loop-index l = IsTrue l.short
+    ↔ ((i : ℕ) → i < l.index → IsWithin 29 (twos_complement 4 (number_at l.order 4 (4 * i) l.payload)))

@@ -3,4 +3,5 @@ use Rattle.mseed_steim.proofs.LaneSums.{turn_words}
 use Rattle.mseed_steim.proofs.lanes.turn.Goals as goal
 
 pub returns : goal.returns
-returns c = λ byte row e f. turn_words c.args.plane c.look_up.result c.args.rows c.args.table byte row words c.look_up.ensures.value e f
+returns c = λ byte row e f. turn_words c.args.plane c.look_up.result c.args.rows c.args.table byte row words
+    c.look_up.ensures.value e f

@@ -5,7 +5,8 @@ use Rattle.mseed_steim.specs.declared.form.Form.TheVariants.{Integers, Frames}
 use Rattle.mseed_steim.specs.Samples.{IsPayloadReading}
 use Rattle.mseed_steim.proofs.law.reading_has_count.Goals as goal
 
-counted : (form : Form) (order : Order) (payload : List ℕ) (n : ℕ) (samples : List ℤ) → IsPayloadReading form order payload n samples → length samples ≡ n
+counted : (form : Form) (order : Order) (payload : List ℕ) (n : ℕ) (samples : List ℤ)
+    → IsPayloadReading form order payload n samples → length samples ≡ n
 counted (Integers width) order payload n samples h = h.0
 counted (Frames scheme) order payload n samples h = h.1.count
 

@@ -11,4 +11,5 @@ returns-clause-spelled c = front_spelled
 
 pub returns-clause-fewest : goal.returns-clause-fewest
 returns-clause-fewest c = λ ws ds used run. is_fewest ws (take used ds)
-    (run_front Two ws (take used ds) (drop used ds) (subst (λ (xs : List ℤ). PacksRun Two ws xs (drop used ds)) (sym (take-append-drop used ds)) run))
+    (run_front Two ws (take used ds) (drop used ds) (subst (λ (xs : List ℤ). PacksRun Two ws xs (drop used ds))
+        (sym (take-append-drop used ds)) run))

@@ -8,6 +8,9 @@ abbrev pub invariant-loop-word : goal.invariant-loop-word
 invariant-loop-word l = record {
   places : length l.out ≡ l.samples;
   met : l.sum.met ≤ l.samples;
-  same : (rest : List DataWord) → fold l.samples l.fn.sum (items_of l.scheme (l.fn.words ++ rest)) ≡ fold l.samples l.sum (items_of l.scheme (l.word-iterator ++ rest));
-  kept : (rest : List DataWord) → take l.sum.met l.out ++ met_in l.samples l.sum (items_of l.scheme (l.word-iterator ++ rest)) ≡ take l.fn.sum.met l.fn.out ++ met_in l.samples l.fn.sum (items_of l.scheme (l.fn.words ++ rest));
+  same : (rest : List DataWord) → fold l.samples l.fn.sum (items_of l.scheme (l.fn.words ++ rest))
+      ≡ fold l.samples l.sum (items_of l.scheme (l.word-iterator ++ rest));
+  kept : (rest : List DataWord)
+      → take l.sum.met l.out ++ met_in l.samples l.sum (items_of l.scheme (l.word-iterator ++ rest))
+      ≡ take l.fn.sum.met l.fn.out ++ met_in l.samples l.fn.sum (items_of l.scheme (l.fn.words ++ rest));
 }

@@ -6,7 +6,8 @@ use Rattle.mseed_steim.proofs.Walking.{words_skip}
 use Rattle.mseed_steim.proofs.put.put_frame.Goals.{In-Some}
 use Rattle.mseed_steim.proofs.put.put_frame.Goals as goal
 
-skip : (c : In-Some) → words_from c.args.payload.now (16 * c.args.index) 16 ≡ words_from c.args.payload.now (16 * c.args.index + 1) 15
+skip : (c : In-Some) → words_from c.args.payload.now (16 * c.args.index) 16 ≡ words_from c.args.payload.now
+    (16 * c.args.index + 1) 15
 skip c = words_skip c.args.payload.now (16 * c.args.index) 15 (omega arith)
 
 pub returns-in-Some-clause-goes_on : goal.returns-in-Some-clause-goes_on
@@ -17,7 +18,8 @@ returns-in-Some-clause-goes_on c = λ rest.
 pub returns-in-Some-clause-kept : goal.returns-in-Some-clause-kept
 returns-in-Some-clause-kept c = λ rest.
     c.in-Some.ensures.kept c.args.payload.now c.args.index 1 rest (inl (refl, refl)) c.requires.at
-    ∙ ap (λ (ws : List DataWord). take c.args.sum.met c.args.out.now ++ met_in c.args.samples c.args.sum (items_of c.args.scheme (ws ++ rest))) (sym (skip c))
+    ∙ ap (λ (ws : List DataWord). take c.args.sum.met c.args.out.now ++ met_in c.args.samples c.args.sum
+    (items_of c.args.scheme (ws ++ rest))) (sym (skip c))
 
 pub returns-in-None-clause-goes_on : goal.returns-in-None-clause-goes_on
 returns-in-None-clause-goes_on c =

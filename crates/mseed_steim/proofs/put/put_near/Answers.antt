@@ -1,4 +1,5 @@
-use Rattle.std.proofs.Common.{◌≡◌, ◌+◌, ◌-◌, ◌*◌, ◌≤◌, ◌++◌, ◌∙◌, ℕ, List, ℤ, Result, Ok, map, take, drop, length, ap, sym, arith}
+use Rattle.std.proofs.Common.{◌≡◌, ◌+◌, ◌-◌, ◌*◌, ◌≤◌, ◌++◌, ◌∙◌, ℕ, List, ℤ, Result, Ok, map, take, drop, length, ap,
+    sym, arith}
 use Rattle.std.proofs.lemmas.Simd.{length-chunk}
 use Rattle.mseed_steim.specs.declared.differences.BadWordAt.{BadWordAt}
 use Rattle.mseed_steim.specs.Sums.{fold, met_in}
@@ -23,10 +24,12 @@ loop-turn-preserved c =
       met = omega (arith, met_one, long, c.loop-turn.invariant.met);
       near = rw next (omega (arith, near_one, spans, c.loop-turn.invariant.near));
       same = λ more. rw next (c.loop-turn.invariant.same more
-          ∙ ap (λ (items : List (Result ℤ BadWordAt)). fold c.args.samples c.loop-turn.sum items) (items_cut ds k 8 more)
+          ∙ ap (λ (items : List (Result ℤ BadWordAt)). fold c.args.samples c.loop-turn.sum items)
+          (items_cut ds k 8 more)
           ∙ goes (map Ok (drop (k + 8) ds) ++ more));
       kept = λ more. rw next (kept_one (map Ok (drop (k + 8) ds) ++ more)
-          ∙ ap (λ (items : List (Result ℤ BadWordAt)). take c.loop-turn.sum.met c.loop-turn.out ++ met_in c.args.samples c.loop-turn.sum items) (sym (items_cut ds k 8 more))
+          ∙ ap (λ (items : List (Result ℤ BadWordAt)). take c.loop-turn.sum.met c.loop-turn.out
+          ++ met_in c.args.samples c.loop-turn.sum items) (sym (items_cut ds k 8 more))
           ∙ c.loop-turn.invariant.kept more);
     }
 

@@ -8,6 +8,10 @@ abbrev pub invariant-loop-index : goal.invariant-loop-index
 invariant-loop-index l = record {
   places : length l.out ≡ l.samples;
   met : l.sum.met ≤ l.samples;
-  same : fold l.samples (record { met = 0; last = l.first }) (items_of l.scheme (data_words l.payload)) ≡ fold l.samples l.sum (items_of l.scheme (words_from l.payload (16 * l.index) (word_count l.payload - 16 * l.index)));
-  kept : take l.sum.met l.out ++ met_in l.samples l.sum (items_of l.scheme (words_from l.payload (16 * l.index) (word_count l.payload - 16 * l.index))) ≡ met_in l.samples (record { met = 0; last = l.first }) (items_of l.scheme (data_words l.payload));
+  same : fold l.samples (record { met = 0; last = l.first }) (items_of l.scheme (data_words l.payload))
+      ≡ fold l.samples l.sum (items_of l.scheme
+      (words_from l.payload (16 * l.index) (word_count l.payload - 16 * l.index)));
+  kept : take l.sum.met l.out ++ met_in l.samples l.sum
+      (items_of l.scheme (words_from l.payload (16 * l.index) (word_count l.payload - 16 * l.index)))
+      ≡ met_in l.samples (record { met = 0; last = l.first }) (items_of l.scheme (data_words l.payload));
 }

@@ -7,6 +7,10 @@ abbrev pub invariant-loop-i : goal.invariant-loop-i
 invariant-loop-i l = record {
   room : length l.out ≡ l.samples;
   met : l.sum.met ≤ l.samples;
-  same : (more : List (Result ℤ BadWordAt)) → fold l.samples l.fn.sum (map Ok l.differences ++ more) ≡ fold l.samples l.sum (map Ok (drop l.i l.differences) ++ more);
-  kept : (more : List (Result ℤ BadWordAt)) → take l.sum.met l.out ++ met_in l.samples l.sum (map Ok (drop l.i l.differences) ++ more) ≡ take l.fn.sum.met l.fn.out ++ met_in l.samples l.fn.sum (map Ok l.differences ++ more);
+  same : (more : List (Result ℤ BadWordAt))
+      → fold l.samples l.fn.sum (map Ok l.differences ++ more) ≡ fold l.samples l.sum
+      (map Ok (drop l.i l.differences) ++ more);
+  kept : (more : List (Result ℤ BadWordAt))
+      → take l.sum.met l.out ++ met_in l.samples l.sum (map Ok (drop l.i l.differences) ++ more)
+      ≡ take l.fn.sum.met l.fn.out ++ met_in l.samples l.fn.sum (map Ok l.differences ++ more);
 }

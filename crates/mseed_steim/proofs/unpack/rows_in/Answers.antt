@@ -19,6 +19,8 @@ returns-clause-count c = λ from begins.
     let row : ℕ → ℕ = row_at c.args.frame.now from in
     let rows = c.rows_of-rows.ensures.value from begins in
     elim c.match-scheme.branch [
-      | in-One w ↦ rw w.in-One.is (w.count-is ∙ w.sum_of-count.ensures ∙ ap (λ (n : ℕ). n % 4294967296) (w.tally.ensures row rows) ∙ counted_one row)
-      | in-Two w ↦ rw w.in-Two.is (w.count-is ∙ w.sum_of-count-in-Two.ensures ∙ ap (λ (n : ℕ). n % 4294967296) (w.tally-in-Two.ensures row rows) ∙ counted row)
+      | in-One w ↦ rw w.in-One.is (w.count-is ∙ w.sum_of-count.ensures
+      ∙ ap (λ (n : ℕ). n % 4294967296) (w.tally.ensures row rows) ∙ counted_one row)
+      | in-Two w ↦ rw w.in-Two.is (w.count-is ∙ w.sum_of-count-in-Two.ensures
+      ∙ ap (λ (n : ℕ). n % 4294967296) (w.tally-in-Two.ensures row rows) ∙ counted row)
     ]

@@ -8,5 +8,6 @@ returns-clause-unpacked c = λ from rows narrow.
     let s = c.args.scheme in
     let f = c.args.frame.now in
     c.unpack_five.ensures.unpacked from rows narrow
-    ∙ ap (λ (xs : List ℤ). xs ++ unpacked s f from 11 5) (c.unpack_five-met-2.ensures.unpacked from rows narrow ∙ ap (λ (xs : List ℤ). xs ++ unpacked s f from 6 5) (c.unpack_five-met.ensures.unpacked from rows narrow))
+    ∙ ap (λ (xs : List ℤ). xs ++ unpacked s f from 11 5) (c.unpack_five-met-2.ensures.unpacked from rows narrow
+    ∙ ap (λ (xs : List ℤ). xs ++ unpacked s f from 6 5) (c.unpack_five-met.ensures.unpacked from rows narrow))
     ∙ unpacked_fives s f from

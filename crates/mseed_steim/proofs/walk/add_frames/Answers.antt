@@ -9,7 +9,8 @@ use Rattle.mseed_steim.proofs.walk.add_frames.Goals.{Start, Else-sum-samples}
 use Rattle.mseed_steim.proofs.walk.add_frames.Goals as goal
 
 -- the words of the first frame, and those behind it
-first : (c : Start) → data_words c.args.payload.now ≡ words_from c.args.payload.now 3 13 ++ words_from c.args.payload.now 16 (word_count c.args.payload.now - 16)
+first : (c : Start) → data_words c.args.payload.now ≡ words_from c.args.payload.now 3 13
+    ++ words_from c.args.payload.now 16 (word_count c.args.payload.now - 16)
 first c =
     let count : 13 + (word_count c.args.payload.now - 16) ≡ word_count c.args.payload.now - 3 = omega arith in
     rw (← count) (words_cut c.args.payload.now 3 13 (word_count c.args.payload.now - 16))
@@ -17,16 +18,20 @@ first c =
 pub returns-in-Err : goal.returns-in-Err
 returns-in-Err c =
     let fits : FitsSigned w32 c.args.first = c.ranges.first in
-    let step = rw to_z-of_z at (c.in-Err.ensures.goes_on (words_from c.args.payload.now 16 (word_count c.args.payload.now - 16))) in
-    sym (ap (λ (ws : List DataWord). fold c.args.samples (record { met = 0; last = c.args.first }) (items_of c.args.scheme ws)) (first (goal.at.returns-in-Err c).Start) ∙ step)
+    let step = rw to_z-of_z at
+        (c.in-Err.ensures.goes_on (words_from c.args.payload.now 16 (word_count c.args.payload.now - 16))) in
+    sym (ap (λ (ws : List DataWord). fold c.args.samples (record { met = 0; last = c.args.first })
+        (items_of c.args.scheme ws)) (first (goal.at.returns-in-Err c).Start) ∙ step)
 
 pub loop-index-init : goal.loop-index-init
 loop-index-init c =
     let fits : FitsSigned w32 c.args.first = c.ranges.first in
-    let step = rw to_z-of_z at (c.in-Ok.ensures.goes_on (words_from c.args.payload.now 16 (word_count c.args.payload.now - 16))) in
+    let step = rw to_z-of_z at
+        (c.in-Ok.ensures.goes_on (words_from c.args.payload.now 16 (word_count c.args.payload.now - 16))) in
     record {
       met = c.in-Ok.ensures.met;
-      same = rw to_z-of_z (ap (λ (ws : List DataWord). fold c.args.samples (record { met = 0; last = c.args.first }) (items_of c.args.scheme ws)) (first (goal.at.loop-index-init c).Start) ∙ step);
+      same = rw to_z-of_z (ap (λ (ws : List DataWord). fold c.args.samples (record { met = 0; last = c.args.first })
+          (items_of c.args.scheme ws)) (first (goal.at.loop-index-init c).Start) ∙ step);
     }
 
 pub returns-then-sum-samples : goal.returns-then-sum-samples
@@ -38,29 +43,36 @@ returns-then-sum-samples c =
 pub add_frame-requires-clause-at : goal.add_frame-requires-clause-at
 add_frame-requires-clause-at c =
     let inside : c.loop-index.index < length c.args.payload.now / 64 = omega arith in
-    rw c.as_chunks.ensures.front (frame_at (length c.args.payload.now / 64) c.args.payload.now c.loop-index.index inside)
+    rw c.as_chunks.ensures.front (frame_at (length c.args.payload.now / 64) c.args.payload.now c.loop-index.index
+        inside)
 
 -- the words of a later frame, and those behind it
-cut : (c : Else-sum-samples) → words_from c.args.payload.now (16 * c.loop-index.index) (word_count c.args.payload.now - 16 * c.loop-index.index)
-    ≡ words_from c.args.payload.now (16 * c.loop-index.index) 16 ++ words_from c.args.payload.now (16 * (c.loop-index.index + 1)) (word_count c.args.payload.now - 16 * (c.loop-index.index + 1))
+cut : (c : Else-sum-samples)
+    → words_from c.args.payload.now (16 * c.loop-index.index) (word_count c.args.payload.now - 16 * c.loop-index.index)
+    ≡ words_from c.args.payload.now (16 * c.loop-index.index) 16 ++ words_from c.args.payload.now
+    (16 * (c.loop-index.index + 1)) (word_count c.args.payload.now - 16 * (c.loop-index.index + 1))
 cut c =
     let inside : c.loop-index.index < length c.args.payload.now / 64 = omega arith in
-    let count : 16 + (word_count c.args.payload.now - 16 * (c.loop-index.index + 1)) ≡ word_count c.args.payload.now - 16 * c.loop-index.index = omega arith in
+    let count : 16 + (word_count c.args.payload.now - 16 * (c.loop-index.index + 1)) ≡ word_count c.args.payload.now
+        - 16 * c.loop-index.index = omega arith in
     let place : 16 * c.loop-index.index + 16 ≡ 16 * (c.loop-index.index + 1) = omega arith in
-    rw (count, place) at (words_cut c.args.payload.now (16 * c.loop-index.index) 16 (word_count c.args.payload.now - 16 * (c.loop-index.index + 1)))
+    rw (count, place) at (words_cut c.args.payload.now (16 * c.loop-index.index) 16
+        (word_count c.args.payload.now - 16 * (c.loop-index.index + 1)))
 
 pub returns-in-Err-add_frame : goal.returns-in-Err-add_frame
 returns-in-Err-add_frame c =
     let fits : FitsSigned w32 c.args.first = c.ranges.first in
     let same = rw to_z-of_z at c.loop-index.invariant.same in
-    sym (same ∙ ap (λ (ws : List DataWord). fold c.args.samples c.loop-index.sum (items_of c.args.scheme ws)) (cut (goal.at.returns-in-Err-add_frame c).Else-sum-samples)
+    sym (same ∙ ap (λ (ws : List DataWord). fold c.args.samples c.loop-index.sum (items_of c.args.scheme ws))
+        (cut (goal.at.returns-in-Err-add_frame c).Else-sum-samples)
     ∙ c.in-Err-add_frame.ensures.goes_on _)
 
 pub loop-index-preserved : goal.loop-index-preserved
 loop-index-preserved c = record {
   met = c.in-Ok-add_frame.ensures.met;
   same = c.loop-index.invariant.same
-      ∙ ap (λ (ws : List DataWord). fold c.args.samples c.loop-index.sum (items_of c.args.scheme ws)) (cut (goal.at.loop-index-preserved c).Else-sum-samples)
+      ∙ ap (λ (ws : List DataWord). fold c.args.samples c.loop-index.sum (items_of c.args.scheme ws))
+      (cut (goal.at.loop-index-preserved c).Else-sum-samples)
       ∙ c.in-Ok-add_frame.ensures.goes_on _;
 }
 
@@ -75,5 +87,7 @@ returns-else-sum-samples-2 c =
     let fits : FitsSigned w32 c.args.first = c.ranges.first in
     let same = rw to_z-of_z at c.loop-index.invariant.same in
     let over : word_count c.args.payload.now - 16 * c.loop-index.index ≡ 0 = omega arith in
-    let none = no_items c.args.scheme (words_from c.args.payload.now (16 * c.loop-index.index) (word_count c.args.payload.now - 16 * c.loop-index.index)) (rw over (words_none c.args.payload.now (16 * c.loop-index.index))) in
+    let none = no_items c.args.scheme (words_from c.args.payload.now (16 * c.loop-index.index)
+        (word_count c.args.payload.now - 16 * c.loop-index.index))
+        (rw over (words_none c.args.payload.now (16 * c.loop-index.index))) in
     sym (same ∙ (rw none (fold_short c.args.samples c.loop-index.sum (λ e. c.if-sum-samples-2.false e))))

@@ -7,5 +7,7 @@ use Rattle.mseed_steim.proofs.walk.add_frames.Given as goal
 abbrev pub invariant-loop-index : goal.invariant-loop-index
 invariant-loop-index l = record {
   met : l.sum.met ≤ l.samples;
-  same : fold l.samples (record { met = 0; last = l.first }) (items_of l.scheme (data_words l.payload)) ≡ fold l.samples l.sum (items_of l.scheme (words_from l.payload (16 * l.index) (word_count l.payload - 16 * l.index)));
+  same : fold l.samples (record { met = 0; last = l.first }) (items_of l.scheme (data_words l.payload))
+      ≡ fold l.samples l.sum (items_of l.scheme
+      (words_from l.payload (16 * l.index) (word_count l.payload - 16 * l.index)));
 }

@@ -7,5 +7,6 @@ use Rattle.mseed_steim.proofs.walk.find_lack.Given as goal
 abbrev pub invariant-loop-word : goal.invariant-loop-word
 invariant-loop-word l = record {
   met : l.met < l.samples;
-  same : lack l.samples 0 (items_of l.scheme (data_words l.payload)) ≡ lack l.samples l.met (items_of l.scheme l.word-iterator);
+  same : lack l.samples 0 (items_of l.scheme (data_words l.payload)) ≡ lack l.samples l.met
+      (items_of l.scheme l.word-iterator);
 }

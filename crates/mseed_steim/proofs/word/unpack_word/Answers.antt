@@ -4,13 +4,15 @@ use Rattle.mseed_steim.proofs.Spelled.{differences_spelled, spelled_differences}
 use Rattle.mseed_steim.proofs.word.unpack_word.Goals.{After-differences_in}
 use Rattle.mseed_steim.proofs.word.unpack_word.Goals as goal
 
-found : (c : After-differences_in) → differences_of c.args.scheme c.args.code c.args.word ≡ Some c.differences_in.result.items
+found : (c : After-differences_in)
+    → differences_of c.args.scheme c.args.code c.args.word ≡ Some c.differences_in.result.items
 found c = rw c.differences_in.ensures c.in-Some.ensures
 
 pub returns-in-Some-clause-spelled : goal.returns-in-Some-clause-spelled
 returns-in-Some-clause-spelled c =
     let small : c.args.word < 2 ^ 32 = omega arith in
-    differences_spelled c.args.scheme c.args.code c.args.word c.differences_in.result.items small (found (goal.at.returns-in-Some-clause-spelled c).After-differences_in)
+    differences_spelled c.args.scheme c.args.code c.args.word c.differences_in.result.items small
+        (found (goal.at.returns-in-Some-clause-spelled c).After-differences_in)
 
 pub returns-in-Some-clause-only : goal.returns-in-Some-clause-only
 returns-in-Some-clause-only c = λ ds p.
