@@ -5,12 +5,14 @@ use Rattle.slink_wire.specs.declared.lines.What.TheVariants.{More, Line, TooLong
 use Rattle.slink_wire.specs.Lines.{lines_of}
 use Rattle.slink_wire.specs.Taking.{AreCalls, Call, Tells, bytes_in, line_in, lines_in}
 
-told : (what : What) (before after : List ℕ) → Tells what before after → (lines_of after).lines ≡ (lines_of before).lines ++ line_in what
+told : (what : What) (before after : List ℕ) → Tells what before after
+    → (lines_of after).lines ≡ (lines_of before).lines ++ line_in what
 told More before after h = h.0 ∙ sym (append-nil (lines_of before).lines)
 told (Line line) before after h = h.0
 told TooLong before after h = h.0 ∙ sym (append-nil (lines_of before).lines)
 
-behind : (stream : List ℕ) (calls : List Call) → AreCalls stream calls → (lines_of (stream ++ bytes_in calls)).lines ≡ (lines_of stream).lines ++ lines_in calls
+behind : (stream : List ℕ) (calls : List Call) → AreCalls stream calls
+    → (lines_of (stream ++ bytes_in calls)).lines ≡ (lines_of stream).lines ++ lines_in calls
 behind stream [] h = ap (λ s. (lines_of s).lines) (append-nil stream) ∙ sym (append-nil (lines_of stream).lines)
 behind stream (call ∷ calls) h =
     ap (λ s. (lines_of s).lines) (sym (append_assoc stream call.bytes (bytes_in calls)))

@@ -1,17 +1,21 @@
 -- Digits to the base sixteen.
-use Rattle.std.proofs.Common.{◌≡◌, ℕ, ◌+◌, ◌-◌, ◌*◌, ◌/◌, ◌%◌, ◌^◌, ◌<◌, ◌≤◌, zero, suc, refl, sym, ap, ◌∙◌, arith, ◌⊎◌, inl, inr, cond, List, [], ◌∷◌, ◌++◌, length, get_or, take, map, nat_lt, if◌then◌else◌, length-append, add-one}
+use Rattle.std.proofs.Common.{◌≡◌, ℕ, ◌+◌, ◌-◌, ◌*◌, ◌/◌, ◌%◌, ◌^◌, ◌<◌, ◌≤◌, zero, suc, refl, sym, ap, ◌∙◌, arith, ◌⊎◌,
+    inl, inr, cond, List, [], ◌∷◌, ◌++◌, length, get_or, take, map, nat_lt, if◌then◌else◌, length-append, add-one}
 use Rattle.std.specs.Char.{to_ascii_uppercase}
 use Rattle.std.proofs.lemmas.Bool.Decides.{leb_tells}
-use Rattle.std.proofs.lemmas.List.{map_push, same_from_push, take_more, take_all, get_or_push, get_or_append_left, get_or-map}
+use Rattle.std.proofs.lemmas.List.{map_push, same_from_push, take_more, take_all, get_or_push, get_or_append_left,
+    get_or-map}
 use Rattle.std.proofs.Math.Nat.{pow-suc, pow-le-pow_right}
 use Rattle.slink_wire.specs.Hexadecimal.{SaysNumber, digit_byte, hexadecimal}
 
 same_digits : (a b c d e a' b' c' d' e' f : ℕ) → a ≡ a' → b ≡ b' → c ≡ c' → d ≡ d' → e ≡ e'
-    → digit_byte a ∷ digit_byte b ∷ digit_byte c ∷ digit_byte d ∷ digit_byte e ∷ digit_byte f ∷ [] ≡ digit_byte a' ∷ digit_byte b' ∷ digit_byte c' ∷ digit_byte d' ∷ digit_byte e' ∷ digit_byte f ∷ []
+    → digit_byte a ∷ digit_byte b ∷ digit_byte c ∷ digit_byte d ∷ digit_byte e ∷ digit_byte f ∷ [] ≡ digit_byte a'
+    ∷ digit_byte b' ∷ digit_byte c' ∷ digit_byte d' ∷ digit_byte e' ∷ digit_byte f ∷ []
 same_digits a b c d e a' b' c' d' e' f p q r s t = cc
 
 -- the six digits of a number, each on its own
-pub six : (n : ℕ) → n < 2 ^ 24 → hexadecimal 6 n ≡ digit_byte (n / 1048576) ∷ digit_byte (n / 65536 % 16) ∷ digit_byte (n / 4096 % 16) ∷ digit_byte (n / 256 % 16) ∷ digit_byte (n / 16 % 16) ∷ digit_byte (n % 16) ∷ []
+pub six : (n : ℕ) → n < 2 ^ 24 → hexadecimal 6 n ≡ digit_byte (n / 1048576) ∷ digit_byte (n / 65536 % 16) ∷ digit_byte
+    (n / 4096 % 16) ∷ digit_byte (n / 256 % 16) ∷ digit_byte (n / 16 % 16) ∷ digit_byte (n % 16) ∷ []
 unfolding hexadecimal
 six n h = same_digits _ _ _ _ _ _ _ _ _ _ (n % 16) (omega arith) (omega arith) (omega arith) (omega arith) refl
 
@@ -26,7 +30,8 @@ hexadecimal_more k n d h =
 pub length-hexadecimal : (k n : ℕ) → length (hexadecimal k n) ≡ k
 unfolding hexadecimal
 length-hexadecimal zero n = refl
-length-hexadecimal (suc k) n = omega (arith, length-append (hexadecimal k (n / 16)) (digit_byte (n % 16) ∷ []), length-hexadecimal k (n / 16))
+length-hexadecimal (suc k) n = omega (arith, length-append (hexadecimal k (n / 16)) (digit_byte (n % 16) ∷ []),
+    length-hexadecimal k (n / 16))
 
 -- the two rows of digits
 digit_rows : (d : ℕ) → ((d < 10) × (digit_byte d ≡ 48 + d)) ⊎ ((10 ≤ d) × (digit_byte d ≡ 55 + d))
@@ -57,17 +62,21 @@ pub hexadecimal_stays : (k n : ℕ) → map to_ascii_uppercase (hexadecimal k n)
 unfolding hexadecimal
 hexadecimal_stays zero n = refl
 hexadecimal_stays (suc k) n = map_push to_ascii_uppercase (hexadecimal k (n / 16)) (digit_byte (n % 16))
-    ∙ (ap (λ ds. ds ++ to_ascii_uppercase (digit_byte (n % 16)) ∷ []) (hexadecimal_stays k (n / 16)) ∙ ap (λ d. hexadecimal k (n / 16) ++ d ∷ []) (digit_stays (n % 16) (omega arith)))
+    ∙ (ap (λ ds. ds ++ to_ascii_uppercase (digit_byte (n % 16)) ∷ []) (hexadecimal_stays k (n / 16))
+    ∙ ap (λ d. hexadecimal k (n / 16) ++ d ∷ []) (digit_stays (n % 16) (omega arith)))
 
 -- digits say one number
 one_number : (k n m : ℕ) → n < 16 ^ k → m < 16 ^ k → hexadecimal k n ≡ hexadecimal k m → n ≡ m
 unfolding hexadecimal
 one_number zero n m hn hm same = omega arith
 one_number (suc k) n m hn hm same =
-    let parts : (hexadecimal k (n / 16) ≡ hexadecimal k (m / 16)) × (digit_byte (n % 16) ≡ digit_byte (m % 16)) = same_from_push (hexadecimal k (n / 16)) (hexadecimal k (m / 16)) (digit_byte (n % 16)) (digit_byte (m % 16)) same in
+    let parts : (hexadecimal k (n / 16) ≡ hexadecimal k (m / 16)) × (digit_byte (n % 16) ≡ digit_byte (m % 16)) =
+        same_from_push (hexadecimal k (n / 16)) (hexadecimal k (m / 16)) (digit_byte (n % 16)) (digit_byte (m % 16))
+        same in
     let low : n % 16 ≡ m % 16 = one_digit (n % 16) (m % 16) (omega arith) (omega arith) parts.1 in
     let wide : 16 ^ suc k ≡ 16 ^ k * 16 = pow-suc 16 k in
-    let high : n / 16 ≡ m / 16 = one_number k (n / 16) (m / 16) (omega (arith, wide, hn)) (omega (arith, wide, hm)) parts.0 in
+    let high : n / 16 ≡ m / 16 =
+        one_number k (n / 16) (m / 16) (omega (arith, wide, hn)) (omega (arith, wide, hm)) parts.0 in
     omega (arith, low, high)
 
 pub says_one : (digits : List ℕ) (n m : ℕ) → SaysNumber digits n → SaysNumber digits m → n ≡ m
@@ -79,15 +88,20 @@ unfolding hexadecimal
 digit_within zero n i h = absurd (omega arith)
 digit_within (suc k) n i h = elim (leb_tells (suc i) k) [
   | inl before ↦
-      let earlier : (d : ℕ) × (d < 16) × (get_or (hexadecimal k (n / 16)) i 0 ≡ digit_byte d) = digit_within k (n / 16) i before.1 in
-      (earlier.0, earlier.1, get_or_append_left (hexadecimal k (n / 16)) (digit_byte (n % 16) ∷ []) 0 i (omega (arith, length-hexadecimal k (n / 16), before.1)) ∙ earlier.2)
-  | inr last ↦ (n % 16, omega arith, get_or_push (hexadecimal k (n / 16)) (digit_byte (n % 16)) 0 i (omega (arith, length-hexadecimal k (n / 16), last.1)))
+      let earlier : (d : ℕ) × (d < 16) × (get_or (hexadecimal k (n / 16)) i 0 ≡ digit_byte d) =
+          digit_within k (n / 16) i before.1 in
+      (earlier.0, earlier.1, get_or_append_left (hexadecimal k (n / 16)) (digit_byte (n % 16) ∷ []) 0 i
+          (omega (arith, length-hexadecimal k (n / 16), before.1)) ∙ earlier.2)
+  | inr last ↦ (n % 16, omega arith, get_or_push (hexadecimal k (n / 16)) (digit_byte (n % 16)) 0 i
+  (omega (arith, length-hexadecimal k (n / 16), last.1)))
 ]
 
-pub none_said : (digits : List ℕ) (i : ℕ) → i < length digits → ((d : ℕ) → d < 16 → to_ascii_uppercase (get_or digits i 0) ≡ digit_byte d → ⊥)
+pub none_said : (digits : List ℕ) (i : ℕ) → i < length digits
+    → ((d : ℕ) → d < 16 → to_ascii_uppercase (get_or digits i 0) ≡ digit_byte d → ⊥)
     → (n : ℕ) → SaysNumber digits n → ⊥
 none_said digits i lt other n h =
-    let d : (d : ℕ) × (d < 16) × (get_or (hexadecimal (length digits) n) i 0 ≡ digit_byte d) = digit_within (length digits) n i lt in
+    let d : (d : ℕ) × (d < 16) × (get_or (hexadecimal (length digits) n) i 0 ≡ digit_byte d) =
+        digit_within (length digits) n i lt in
     other d.0 d.1 (sym (get_or-map to_ascii_uppercase digits i 0 0 lt) ∙ (ap (λ ds. get_or ds i 0) h.1 ∙ d.2))
 
 -- the digits so far, and one more
@@ -99,15 +113,19 @@ pub reads_none : (digits : List ℕ) → Reads digits 0 0
 unfolding hexadecimal
 reads_none digits = record { small = omega arith; said = refl }
 
-pub reads_more : (digits : List ℕ) (i n d : ℕ) → i < length digits → d < 16 → to_ascii_uppercase (get_or digits i 0) ≡ digit_byte d → Reads digits i n → Reads digits (i + 1) (n * 16 + d)
+pub reads_more : (digits : List ℕ) (i n d : ℕ) → i < length digits → d < 16
+    → to_ascii_uppercase (get_or digits i 0) ≡ digit_byte d → Reads digits i n → Reads digits (i + 1) (n * 16 + d)
 reads_more digits i n d lt h digit r = record {
   small = (let wide : 16 ^ (i + 1) ≡ 16 ^ i * 16 = rw add-one (pow-suc 16 i) in omega (arith, wide, r.small));
-  said = ap (map to_ascii_uppercase) (take_more digits i 0 lt) ∙ (map_push to_ascii_uppercase (take i digits) (get_or digits i 0)
-      ∙ (ap (λ ds. ds ++ to_ascii_uppercase (get_or digits i 0) ∷ []) r.said ∙ (ap (λ b. hexadecimal i n ++ b ∷ []) digit ∙ sym (hexadecimal_more i n d h))));
+  said = ap (map to_ascii_uppercase) (take_more digits i 0 lt)
+      ∙ (map_push to_ascii_uppercase (take i digits) (get_or digits i 0)
+      ∙ (ap (λ ds. ds ++ to_ascii_uppercase (get_or digits i 0) ∷ []) r.said
+      ∙ (ap (λ b. hexadecimal i n ++ b ∷ []) digit ∙ sym (hexadecimal_more i n d h))));
 }
 
 pub reads_all : (digits : List ℕ) (n : ℕ) → Reads digits (length digits) n → SaysNumber digits n
-reads_all digits n r = (r.small, ap (map to_ascii_uppercase) (sym (take_all (length digits) digits (omega arith))) ∙ r.said)
+reads_all digits n r = (r.small, ap (map to_ascii_uppercase) (sym (take_all (length digits) digits (omega arith)))
+    ∙ r.said)
 
 -- a number of at most six digits fits
 pub reads_fits : (digits : List ℕ) (i n d : ℕ) → i < 6 → d < 16 → Reads digits i n → n * 16 + d < 2 ^ 24

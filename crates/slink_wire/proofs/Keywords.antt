@@ -4,7 +4,8 @@ use Rattle.slink_wire.specs.declared.keyword.Keyword.{Keyword}
 use Rattle.slink_wire.specs.declared.keyword.Keyword.TheVariants.{Hello, Station, Select, Data, Fetch, End, Bye}
 use Rattle.slink_wire.specs.Parsing.{text_of}
 
-pub no_keyword : (w : List ℕ) → w ≢ codes "hello" → w ≢ codes "station" → w ≢ codes "select" → w ≢ codes "data" → w ≢ codes "fetch" → w ≢ codes "end" → w ≢ codes "bye" → (k : Keyword) → w ≢ text_of k
+pub no_keyword : (w : List ℕ) → w ≢ codes "hello" → w ≢ codes "station" → w ≢ codes "select" → w ≢ codes "data"
+    → w ≢ codes "fetch" → w ≢ codes "end" → w ≢ codes "bye" → (k : Keyword) → w ≢ text_of k
 no_keyword w a b c d e f g Hello = a
 no_keyword w a b c d e f g Station = b
 no_keyword w a b c d e f g Select = c

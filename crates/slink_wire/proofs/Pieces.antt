@@ -23,9 +23,11 @@ cond_has false ps qs p q = q
 
 pub has_piece : (p : ℕ → Bool) (xs : List ℕ) → HasPiece (slice_split p xs)
 has_piece p [] = tt
-has_piece p (x ∷ xs) = cond_has (p x) ([] ∷ slice_split p xs) (onto_first x (slice_split p xs)) tt (onto_first_has x (slice_split p xs))
+has_piece p (x ∷ xs) = cond_has (p x) ([] ∷ slice_split p xs) (onto_first x (slice_split p xs)) tt
+    (onto_first_has x (slice_split p xs))
 
-first_and_last : (x y : ℕ) (ps : List (List ℕ)) → HasPiece ps → onto_first x (onto_last y ps) ≡ onto_last y (onto_first x ps)
+first_and_last : (x y : ℕ) (ps : List (List ℕ)) → HasPiece ps
+    → onto_first x (onto_last y ps) ≡ onto_last y (onto_first x ps)
 first_and_last x y [] h = absurd h
 first_and_last x y (p ∷ []) h = refl
 first_and_last x y (p ∷ q ∷ ps) h = refl
@@ -38,23 +40,29 @@ first_and_more : (x : ℕ) (ps : List (List ℕ)) → HasPiece ps → onto_first
 first_and_more x [] h = absurd h
 first_and_more x (p ∷ ps) h = refl
 
-both_ways : (t : Bool) (ps qs : List (List ℕ)) (f : List (List ℕ) → List (List ℕ)) → cond t (f ps) (f qs) ≡ f (cond t ps qs)
+both_ways : (t : Bool) (ps qs : List (List ℕ)) (f : List (List ℕ) → List (List ℕ))
+    → cond t (f ps) (f qs) ≡ f (cond t ps qs)
 both_ways true ps qs f = refl
 both_ways false ps qs f = refl
 
 -- an element that passes begins a piece
-pub split_there : (p : ℕ → Bool) (xs : List ℕ) (y : ℕ) → p y ≡ true → slice_split p (xs ++ y ∷ []) ≡ slice_split p xs ++ [] ∷ []
+pub split_there : (p : ℕ → Bool) (xs : List ℕ) (y : ℕ) → p y ≡ true
+    → slice_split p (xs ++ y ∷ []) ≡ slice_split p xs ++ [] ∷ []
 split_there p [] y h = ap (λ t. cond t ([] ∷ [] ∷ []) ((y ∷ []) ∷ [])) h
 split_there p (x ∷ xs) y h =
     ap (λ ps. cond (p x) ([] ∷ ps) (onto_first x ps)) (split_there p xs y h)
-    ∙ (ap (λ ps. cond (p x) ([] ∷ (slice_split p xs ++ [] ∷ [])) ps) (first_and_more x (slice_split p xs) (has_piece p xs))
+    ∙ (ap (λ ps. cond (p x) ([] ∷ (slice_split p xs ++ [] ∷ [])) ps)
+    (first_and_more x (slice_split p xs) (has_piece p xs))
     ∙ both_ways (p x) ([] ∷ slice_split p xs) (onto_first x (slice_split p xs)) (λ ps. ps ++ [] ∷ []))
 
 -- another goes on the last one
-pub split_on : (p : ℕ → Bool) (xs : List ℕ) (y : ℕ) → p y ≡ false → slice_split p (xs ++ y ∷ []) ≡ onto_last y (slice_split p xs)
+pub split_on : (p : ℕ → Bool) (xs : List ℕ) (y : ℕ) → p y ≡ false
+    → slice_split p (xs ++ y ∷ []) ≡ onto_last y (slice_split p xs)
 split_on p [] y h = ap (λ t. cond t ([] ∷ [] ∷ []) ((y ∷ []) ∷ [])) h
 split_on p (x ∷ xs) y h =
     ap (λ ps. cond (p x) ([] ∷ ps) (onto_first x ps)) (split_on p xs y h)
-    ∙ (ap (λ ps. cond (p x) ps (onto_first x (onto_last y (slice_split p xs)))) (empty_and_last y (slice_split p xs) (has_piece p xs))
-    ∙ (ap (λ ps. cond (p x) (onto_last y ([] ∷ slice_split p xs)) ps) (first_and_last x y (slice_split p xs) (has_piece p xs))
+    ∙ (ap (λ ps. cond (p x) ps (onto_first x (onto_last y (slice_split p xs))))
+    (empty_and_last y (slice_split p xs) (has_piece p xs))
+    ∙ (ap (λ ps. cond (p x) (onto_last y ([] ∷ slice_split p xs)) ps)
+    (first_and_last x y (slice_split p xs) (has_piece p xs))
     ∙ both_ways (p x) ([] ∷ slice_split p xs) (onto_first x (slice_split p xs)) (onto_last y)))

@@ -1,5 +1,6 @@
 -- The line of a request stands in a stream as it is.
-use Rattle.std.proofs.Common.{◌≡◌, ℕ, ◌+◌, ◌/◌, ◌%◌, ◌≤◌, inl, inr, zero, suc, refl, ap, ◌∙◌, arith, true, not, ◌==◌, ◌&&◌, List, [], ◌∷◌, ◌++◌, length, length-append, codes, Option, Some, None}
+use Rattle.std.proofs.Common.{◌≡◌, ℕ, ◌+◌, ◌/◌, ◌%◌, ◌≤◌, inl, inr, zero, suc, refl, ap, ◌∙◌, arith, true, not, ◌==◌,
+    ◌&&◌, List, [], ◌∷◌, ◌++◌, length, length-append, codes, Option, Some, None}
 use Rattle.std.specs.List.{list_all}
 use Rattle.std.proofs.lemmas.Bool.Decides.{eqb_tells}
 use Rattle.std.proofs.lemmas.List.Folds.{list_all-append}
@@ -16,13 +17,16 @@ use Rattle.slink_wire.proofs.Digits.{digit_above, length-hexadecimal}
 use Rattle.slink_wire.proofs.Requests.{data_said, end_said, fetch_said, station_said}
 
 lacks_both : (xs ys : List ℕ) → Lacks 13 xs → Lacks 13 ys → Lacks 13 (xs ++ ys)
-lacks_both xs ys p q = list_all-append (λ b. not (b == 13)) xs ys ∙ (ap (λ t. t && list_all (λ b. not (b == 13)) ys) p ∙ q)
+lacks_both xs ys p q = list_all-append (λ b. not (b == 13)) xs ys
+    ∙ (ap (λ t. t && list_all (λ b. not (b == 13)) ys) p ∙ q)
 
 digits_lack : (k n : ℕ) → Lacks 13 (hexadecimal k n)
 unfolding hexadecimal
 digits_lack zero n = refl
 digits_lack (suc k) n =
-    let other : not (digit_byte (n % 16) == 13) ≡ true = elim (eqb_tells (digit_byte (n % 16)) 13) [ inl same ↦ absurd (omega (arith, same.1, digit_above (n % 16))) | inr other ↦ ap not other.0 ] in
+    let other : not (digit_byte (n % 16) == 13) ≡ true =
+        elim (eqb_tells (digit_byte (n % 16)) 13) [ inl same ↦ absurd (omega (arith, same.1, digit_above (n % 16)))
+        | inr other ↦ ap not other.0 ] in
     lacks_both (hexadecimal k (n / 16)) (digit_byte (n % 16) ∷ []) (digits_lack k (n / 16)) (ap (λ t. t && true) other)
 
 number_lacks : (number : Option ℕ) → Lacks 13 (number_bytes number)
@@ -33,15 +37,19 @@ number_long : (number : Option ℕ) → length (number_bytes number) ≤ 7
 number_long None = omega arith
 number_long (Some n) = omega (arith, length-hexadecimal 6 n)
 
-pub station_line : (place : Fields) → IsField 5 place.station → IsField 2 place.network → IsLine (request_line (Station place))
+pub station_line : (place : Fields) → IsField 5 place.station → IsField 2 place.network
+    → IsLine (request_line (Station place))
 station_line place p q =
     let sta : List ℕ = code_in place.station in
     let net : List ℕ = code_in place.network in
-    let long : length ((sta ++ 32 ∷ []) ++ net) ≡ length sta + 1 + length net = length-append (sta ++ 32 ∷ []) net ∙ ap (λ n. n + length net) (length-append sta (32 ∷ [])) in
+    let long : length ((sta ++ 32 ∷ []) ++ net) ≡ length sta + 1 + length net = length-append (sta ++ 32 ∷ []) net
+        ∙ ap (λ n. n + length net) (length-append sta (32 ∷ [])) in
     record {
       some = omega arith;
       short = omega (arith, long, p.0.1, q.0.1);
-      no_cr = lacks_both (codes "STATION ") ((sta ++ 32 ∷ []) ++ net) refl (lacks_both (sta ++ 32 ∷ []) net (lacks_both sta (32 ∷ []) (without 13 refl sta p.0.2) refl) (without 13 refl net q.0.2));
+      no_cr = lacks_both (codes "STATION ") ((sta ++ 32 ∷ []) ++ net) refl
+          (lacks_both (sta ++ 32 ∷ []) net (lacks_both sta (32 ∷ []) (without 13 refl sta p.0.2) refl)
+          (without 13 refl net q.0.2));
       no_lf = refl;
     }
 

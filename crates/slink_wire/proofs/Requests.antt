@@ -1,5 +1,6 @@
 -- The line of a request is its command.
-use Rattle.std.proofs.Common.{◌≡◌, ℕ, ◌≤◌, ◌<◌, ◌/◌, ◌%◌, ◌^◌, zero, suc, inl, inr, refl, sym, subst, ap, ◌∙◌, arith, not, true, ◌==◌, ◌&&◌, Option, Some, None, List, [], ◌∷◌, ◌++◌, length, append_assoc, codes}
+use Rattle.std.proofs.Common.{◌≡◌, ℕ, ◌≤◌, ◌<◌, ◌/◌, ◌%◌, ◌^◌, zero, suc, inl, inr, refl, sym, subst, ap, ◌∙◌, arith,
+    not, true, ◌==◌, ◌&&◌, Option, Some, None, List, [], ◌∷◌, ◌++◌, length, append_assoc, codes}
 use Rattle.std.proofs.lemmas.Bool.Decides.{eqb_tells}
 use Rattle.std.proofs.lemmas.List.Folds.{list_all-append}
 use Rattle.slink_wire.specs.declared.command.Command.TheVariants.{Station, Data, Fetch, End}
@@ -17,23 +18,31 @@ digits_lack : (k n : ℕ) → Lacks 32 (hexadecimal k n)
 unfolding hexadecimal
 digits_lack zero n = refl
 digits_lack (suc k) n =
-    let other : not (digit_byte (n % 16) == 32) ≡ true = elim (eqb_tells (digit_byte (n % 16)) 32) [ inl same ↦ absurd (omega (arith, same.1, digit_above (n % 16))) | inr other ↦ ap not other.0 ] in
+    let other : not (digit_byte (n % 16) == 32) ≡ true =
+        elim (eqb_tells (digit_byte (n % 16)) 32) [ inl same ↦ absurd (omega (arith, same.1, digit_above (n % 16)))
+        | inr other ↦ ap not other.0 ] in
     list_all-append (λ b. not (b == 32)) (hexadecimal k (n / 16)) (digit_byte (n % 16) ∷ [])
     ∙ (ap (λ t. t && (not (digit_byte (n % 16) == 32) && true)) (digits_lack k (n / 16)) ∙ ap (λ t. t && true) other)
 
 is_number : (n : ℕ) → n < 2 ^ 24 → IsNumber (hexadecimal 6 n) n
 is_number n h = (omega (arith, length-hexadecimal 6 n), omega (arith, length-hexadecimal 6 n), says_itself n h)
 
-two_words : (keyword : List ℕ) (n : ℕ) → 1 ≤ length keyword → Lacks 32 keyword → words (keyword ++ 32 ∷ hexadecimal 6 n) ≡ keyword ∷ hexadecimal 6 n ∷ []
-two_words keyword n h lacks = words_then keyword (hexadecimal 6 n) h lacks ∙ ap (λ ws. keyword ∷ ws) (words_last (hexadecimal 6 n) (omega (arith, length-hexadecimal 6 n)) (digits_lack 6 n))
+two_words : (keyword : List ℕ) (n : ℕ) → 1 ≤ length keyword → Lacks 32 keyword
+    → words (keyword ++ 32 ∷ hexadecimal 6 n) ≡ keyword ∷ hexadecimal 6 n ∷ []
+two_words keyword n h lacks = words_then keyword (hexadecimal 6 n) h lacks
+    ∙ ap (λ ws. keyword ∷ ws) (words_last (hexadecimal 6 n) (omega (arith, length-hexadecimal 6 n)) (digits_lack 6 n))
 
 pub data_said : (number : Option ℕ) → IsShort number → IsCommand (codes "DATA" ++ number_bytes number) (Data number)
-data_said None h = subst (λ ws. IsRow (Data None) (folded ws)) (sym (words_last (codes "DATA") (omega arith) refl)) (inl refl)
-data_said (Some n) h = subst (λ ws. IsRow (Data (Some n)) (folded ws)) (sym (two_words (codes "DATA") n (omega arith) refl)) (inl (hexadecimal 6 n, is_number n h, refl))
+data_said None h = subst (λ ws. IsRow (Data None) (folded ws)) (sym (words_last (codes "DATA") (omega arith) refl))
+    (inl refl)
+data_said (Some n) h = subst (λ ws. IsRow (Data (Some n)) (folded ws))
+    (sym (two_words (codes "DATA") n (omega arith) refl)) (inl (hexadecimal 6 n, is_number n h, refl))
 
 pub fetch_said : (number : Option ℕ) → IsShort number → IsCommand (codes "FETCH" ++ number_bytes number) (Fetch number)
-fetch_said None h = subst (λ ws. IsRow (Fetch None) (folded ws)) (sym (words_last (codes "FETCH") (omega arith) refl)) (inl refl)
-fetch_said (Some n) h = subst (λ ws. IsRow (Fetch (Some n)) (folded ws)) (sym (two_words (codes "FETCH") n (omega arith) refl)) (inl (hexadecimal 6 n, is_number n h, refl))
+fetch_said None h = subst (λ ws. IsRow (Fetch None) (folded ws)) (sym (words_last (codes "FETCH") (omega arith) refl))
+    (inl refl)
+fetch_said (Some n) h = subst (λ ws. IsRow (Fetch (Some n)) (folded ws))
+    (sym (two_words (codes "FETCH") n (omega arith) refl)) (inl (hexadecimal 6 n, is_number n h, refl))
 
 pub end_said : IsCommand (codes "END") End
 end_said = subst (λ ws. IsRow End (folded ws)) (sym (words_last (codes "END") (omega arith) refl)) (inl refl)
@@ -43,7 +52,11 @@ pub station_said : (station network : List ℕ) → IsField 5 station → IsFiel
 station_said station network p q =
     let sta : List ℕ = code_in station in
     let net : List ℕ = code_in network in
-    let behind : words (sta ++ 32 ∷ net) ≡ sta ∷ net ∷ [] = words_then sta net p.0.0 (without 32 refl sta p.0.2) ∙ ap (λ ws. sta ∷ ws) (words_last net q.0.0 (without 32 refl net q.0.2)) in
+    let behind : words (sta ++ 32 ∷ net) ≡ sta ∷ net ∷ [] = words_then sta net p.0.0 (without 32 refl sta p.0.2)
+        ∙ ap (λ ws. sta ∷ ws) (words_last net q.0.0 (without 32 refl net q.0.2)) in
     let line : words (codes "STATION " ++ sta ++ codes " " ++ net) ≡ codes "STATION" ∷ sta ∷ net ∷ [] =
-    ap (λ x. words (codes "STATION " ++ x)) (append_assoc sta (32 ∷ []) net) ∙ (words_then (codes "STATION") (sta ++ 32 ∷ net) (omega arith) refl ∙ ap (λ ws. codes "STATION" ∷ ws) behind) in
-    subst (λ ws. IsRow (Station station (Some network)) (folded ws)) (sym line) (inl (sta, net, p.0, q.0, sym p.1, sym q.1, refl))
+    ap (λ x. words (codes "STATION " ++ x)) (append_assoc sta (32 ∷ []) net)
+        ∙ (words_then (codes "STATION") (sta ++ 32 ∷ net) (omega arith) refl
+        ∙ ap (λ ws. codes "STATION" ∷ ws) behind) in
+    subst (λ ws. IsRow (Station station (Some network)) (folded ws)) (sym line)
+        (inl (sta, net, p.0, q.0, sym p.1, sym q.1, refl))

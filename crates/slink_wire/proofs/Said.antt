@@ -1,7 +1,9 @@
 -- Words say at most one command.
-use Rattle.std.proofs.Common.{◌≡◌, ◌≢◌, inl, inr, ℕ, ap, sym, subst, ◌∙◌, refl, ◌+◌, ◌*◌, arith, length, get_or, List, [], ◌∷◌, Option, Some, None}
+use Rattle.std.proofs.Common.{◌≡◌, ◌≢◌, inl, inr, ℕ, ap, sym, subst, ◌∙◌, refl, ◌+◌, ◌*◌, arith, length, get_or, List,
+    [], ◌∷◌, Option, Some, None}
 use Rattle.slink_wire.specs.declared.command.Command.{Command}
-use Rattle.slink_wire.specs.declared.command.Command.TheVariants.{Hello, Station, SelectAll, Data, Fetch, End, Bye, Other}
+use Rattle.slink_wire.specs.declared.command.Command.TheVariants.{Hello, Station, SelectAll, Data, Fetch, End, Bye,
+    Other}
 use Rattle.slink_wire.specs.declared.keyword.Keyword.{Keyword}
 use Rattle.slink_wire.specs.declared.keyword.Keyword.TheVariants as keyword
 use Rattle.slink_wire.specs.Hexadecimal.{SaysNumber}
@@ -40,12 +42,14 @@ begins End ws h = subst (Begins (Some keyword.End)) (sym h) refl
 begins Bye ws h = subst (Begins (Some keyword.Bye)) (sym h) refl
 begins Other ws h = h
 
-no_first : (k : Option Keyword) (w : List ℕ) (ws : List (List ℕ)) → ((j : Keyword) → w ≢ text_of j) → Begins k (w ∷ ws) → ⊥
+no_first : (k : Option Keyword) (w : List ℕ) (ws : List (List ℕ)) → ((j : Keyword) → w ≢ text_of j) → Begins k (w ∷ ws)
+    → ⊥
 no_first None w ws n h = h
 no_first (Some k) w ws n h = n k h
 
 -- a first word that is no keyword says none
-pub unknown : (w : List ℕ) (ws : List (List ℕ)) → ((k : Keyword) → w ≢ text_of k) → (d : Command) → IsSaid d (w ∷ ws) → ⊥
+pub unknown : (w : List ℕ) (ws : List (List ℕ)) → ((k : Keyword) → w ≢ text_of k) → (d : Command) → IsSaid d (w ∷ ws)
+    → ⊥
 unknown w ws n d h = no_first (keyword_at d) w ws n (begins d (w ∷ ws) h)
 
 -- keywords differ in their length or their first letter
@@ -73,27 +77,32 @@ one_number g h n m e p q = says_one h n m (subst (λ x. SaysNumber x n) e p) q
 
 said_alike : (ws : List (List ℕ)) (c d : Command) → keyword_at c ≡ keyword_at d → IsSaid c ws → IsSaid d ws → c ≡ d
 said_alike ws Hello Hello k p q = refl
-said_alike ws (Station s None) (Station t None) k p q = (let e : p.0 ≡ q.0 = cc in ap (λ x. Station x None) (p.2 ∙ (ap (filled 5) e ∙ sym q.2)))
+said_alike ws (Station s None) (Station t None) k p q =
+    (let e : p.0 ≡ q.0 = cc in ap (λ x. Station x None) (p.2 ∙ (ap (filled 5) e ∙ sym q.2)))
 said_alike ws (Station s None) (Station t (Some m)) k p q = cc
 said_alike ws (Station s (Some n)) (Station t None) k p q = cc
 said_alike ws (Station s (Some n)) (Station t (Some m)) k p q = (let e : p.0 ≡ q.0 = cc in let f : p.1 ≡ q.1 = cc in
-    ap (λ x. Station x (Some n)) (p.4 ∙ (ap (filled 5) e ∙ sym q.4)) ∙ ap (λ x. Station t (Some x)) (p.5 ∙ (ap (filled 2) f ∙ sym q.5)))
+    ap (λ x. Station x (Some n)) (p.4 ∙ (ap (filled 5) e ∙ sym q.4))
+        ∙ ap (λ x. Station t (Some x)) (p.5 ∙ (ap (filled 2) f ∙ sym q.5)))
 said_alike ws SelectAll SelectAll k p q = refl
 said_alike ws (Data None) (Data None) k p q = refl
 said_alike ws (Data None) (Data (Some m)) k p q = cc
 said_alike ws (Data (Some n)) (Data None) k p q = cc
-said_alike ws (Data (Some n)) (Data (Some m)) k p q = (let e : p.0 ≡ q.0 = cc in ap (λ x. Data (Some x)) (one_number p.0 q.0 n m e p.1.2 q.1.2))
+said_alike ws (Data (Some n)) (Data (Some m)) k p q =
+    (let e : p.0 ≡ q.0 = cc in ap (λ x. Data (Some x)) (one_number p.0 q.0 n m e p.1.2 q.1.2))
 said_alike ws (Fetch None) (Fetch None) k p q = refl
 said_alike ws (Fetch None) (Fetch (Some m)) k p q = cc
 said_alike ws (Fetch (Some n)) (Fetch None) k p q = cc
-said_alike ws (Fetch (Some n)) (Fetch (Some m)) k p q = (let e : p.0 ≡ q.0 = cc in ap (λ x. Fetch (Some x)) (one_number p.0 q.0 n m e p.1.2 q.1.2))
+said_alike ws (Fetch (Some n)) (Fetch (Some m)) k p q =
+    (let e : p.0 ≡ q.0 = cc in ap (λ x. Fetch (Some x)) (one_number p.0 q.0 n m e p.1.2 q.1.2))
 said_alike ws End End k p q = refl
 said_alike ws Bye Bye k p q = refl
 said_alike ws Other Other k p q = refl
 said_alike ws _ _ k p q = cc k
 
 pub one_command : (ws : List (List ℕ)) (c d : Command) → IsRow c ws → IsRow d ws → c ≡ d
-one_command ws c d (inl p) (inl q) = said_alike ws c d (one_keyword (keyword_at c) (keyword_at d) ws (begins c ws p) (begins d ws q)) p q
+one_command ws c d (inl p) (inl q) =
+    said_alike ws c d (one_keyword (keyword_at c) (keyword_at d) ws (begins c ws p) (begins d ws q)) p q
 one_command ws c d (inl p) (inr q) = absurd (q.1 c p)
 one_command ws c d (inr p) (inl q) = absurd (p.1 d q)
 one_command ws c d (inr p) (inr q) = p.0 ∙ sym q.0

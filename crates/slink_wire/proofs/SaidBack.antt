@@ -1,5 +1,6 @@
 -- Lines that are said are spelled again, and of a front of the stream a front of them.
-use Rattle.std.proofs.Common.{◌≡◌, ℕ, ◌<◌, ◌≤◌, inl, inr, suc, refl, sym, ap, subst, ◌∙◌, arith, Bool, true, false, not, cond, ◌==◌, ◌&&◌, nat_lt, if◌then◌else◌, List, [], ◌∷◌, ◌++◌, append-nil, append_assoc, length, length-append}
+use Rattle.std.proofs.Common.{◌≡◌, ℕ, ◌<◌, ◌≤◌, inl, inr, suc, refl, sym, ap, subst, ◌∙◌, arith, Bool, true, false, not,
+    cond, ◌==◌, ◌&&◌, nat_lt, if◌then◌else◌, List, [], ◌∷◌, ◌++◌, append-nil, append_assoc, length, length-append}
 use Rattle.std.specs.List.{list_all, onto_first, slice_split}
 use Rattle.std.proofs.lemmas.Bool.Decides.{eqb_tells, leb_tells}
 use Rattle.std.proofs.lemmas.List.{append_cancel_left}
@@ -21,43 +22,54 @@ choice_short false xs ys n p q = q
 
 stripped_short : (line : List ℕ) → length (stripped line) ≤ length line
 stripped_short [] = omega arith
-stripped_short (x ∷ xs) = choice_short (x == 10) (stripped xs) (x ∷ xs) (length (x ∷ xs)) (let less : length (stripped xs) ≤ length xs = stripped_short xs in omega (arith, less)) (omega arith)
+stripped_short (x ∷ xs) =
+    choice_short (x == 10) (stripped xs) (x ∷ xs) (length (x ∷ xs))
+    (let less : length (stripped xs) ≤ length xs = stripped_short xs in omega (arith, less)) (omega arith)
 
 not_long : (n : ℕ) → n ≤ 255 → nat_lt 255 n ≡ false
 not_long n h = elim (leb_tells 256 n) [ inl far ↦ absurd (omega (arith, far.1, h)) | inr other ↦ other.0 ]
 
-split_then : (line rest : List ℕ) → Lacks 13 line → slice_split (λ b. b == 13) (line ++ 13 ∷ rest) ≡ line ∷ slice_split (λ b. b == 13) rest
+split_then : (line rest : List ℕ) → Lacks 13 line
+    → slice_split (λ b. b == 13) (line ++ 13 ∷ rest) ≡ line ∷ slice_split (λ b. b == 13) rest
 split_then [] rest h = refl
 split_then (x ∷ xs) rest h =
-    let parts : (not (x == 13) ≡ true) × (list_all (λ b. not (b == 13)) xs ≡ true) = both (not (x == 13)) (list_all (λ b. not (b == 13)) xs) h in
-    ap (λ t. cond t ([] ∷ slice_split (λ b. b == 13) (xs ++ 13 ∷ rest)) (onto_first x (slice_split (λ b. b == 13) (xs ++ 13 ∷ rest)))) (not_true (x == 13) parts.0)
+    let parts : (not (x == 13) ≡ true) × (list_all (λ b. not (b == 13)) xs ≡ true) =
+        both (not (x == 13)) (list_all (λ b. not (b == 13)) xs) h in
+    ap (λ t. cond t ([] ∷ slice_split (λ b. b == 13) (xs ++ 13 ∷ rest))
+        (onto_first x (slice_split (λ b. b == 13) (xs ++ 13 ∷ rest)))) (not_true (x == 13) parts.0)
     ∙ ap (onto_first x) (split_then xs rest parts.1)
 
 split_none : (line : List ℕ) → Lacks 13 line → slice_split (λ b. b == 13) line ≡ line ∷ []
 split_none [] h = refl
 split_none (x ∷ xs) h =
-    let parts : (not (x == 13) ≡ true) × (list_all (λ b. not (b == 13)) xs ≡ true) = both (not (x == 13)) (list_all (λ b. not (b == 13)) xs) h in
-    ap (λ t. cond t ([] ∷ slice_split (λ b. b == 13) xs) (onto_first x (slice_split (λ b. b == 13) xs))) (not_true (x == 13) parts.0)
+    let parts : (not (x == 13) ≡ true) × (list_all (λ b. not (b == 13)) xs ≡ true) =
+        both (not (x == 13)) (list_all (λ b. not (b == 13)) xs) h in
+    ap (λ t. cond t ([] ∷ slice_split (λ b. b == 13) xs) (onto_first x (slice_split (λ b. b == 13) xs)))
+        (not_true (x == 13) parts.0)
     ∙ ap (onto_first x) (split_none xs parts.1)
 
 -- before these lines
 abbrev pub behind : List ℕ → Spelled → Spelled
 behind line s = record s { lines = line ∷ s.lines }
 
-line_first : (line : List ℕ) (s : Spelled) → 0 < length line → record s { lines = unless_empty line ++ s.lines } ≡ behind line s
+line_first : (line : List ℕ) (s : Spelled) → 0 < length line
+    → record s { lines = unless_empty line ++ s.lines } ≡ behind line s
 line_first [] s some = absurd (omega (arith, some))
 line_first (x ∷ xs) s some = refl
 
-line_spelled : (line : List ℕ) (ps : List (List ℕ)) → HasPiece ps → IsLine line → spelled_by (line ∷ ps) ≡ behind line (spelled_by ps)
+line_spelled : (line : List ℕ) (ps : List (List ℕ)) → HasPiece ps → IsLine line
+    → spelled_by (line ∷ ps) ≡ behind line (spelled_by ps)
 line_spelled line [] has is = absurd has
 line_spelled line (p ∷ ps) has is =
     ap (λ l. if nat_lt 255 (length l) then too_long else with_piece l (p ∷ ps) (spelled_by (p ∷ ps))) (is.no_lf)
-    ∙ (ap (λ t. if t then too_long else with_piece line (p ∷ ps) (spelled_by (p ∷ ps))) (not_long (length line) is.short) ∙ line_first line (spelled_by (p ∷ ps)) is.some)
+    ∙ (ap (λ t. if t then too_long else with_piece line (p ∷ ps) (spelled_by (p ∷ ps)))
+    (not_long (length line) is.short) ∙ line_first line (spelled_by (p ∷ ps)) is.some)
 
 -- a line, and what is behind its CR
 pub lines_then : (line rest : List ℕ) → IsLine line → lines_of (line ++ 13 ∷ rest) ≡ behind line (lines_of rest)
 unfolding lines_of
-lines_then line rest is = ap spelled_by (split_then line rest is.no_cr) ∙ line_spelled line (slice_split (λ b. b == 13) rest) (has_piece (λ b. b == 13) rest) is
+lines_then line rest is = ap spelled_by (split_then line rest is.no_cr)
+    ∙ line_spelled line (slice_split (λ b. b == 13) rest) (has_piece (λ b. b == 13) rest) is
 
 lf_spelled : (ps : List (List ℕ)) → HasPiece ps → spelled_by (onto_first 10 ps) ≡ spelled_by ps
 lf_spelled [] has = absurd has
@@ -72,14 +84,17 @@ lines_lf rest = lf_spelled (slice_split (λ b. b == 13) rest) (has_piece (λ b. 
 abbrev pub Quiet : List ℕ → Type 0
 Quiet bytes = ((lines_of bytes).lines ≡ []) × ((lines_of bytes).is_too_long ≡ false)
 
-part_spelled : (t : Bool) (piece : List ℕ) (s : Spelled) → t ≡ false → s ≡ (if t then too_long else with_piece piece [] (spelled_by [])) → (s.lines ≡ []) × (s.is_too_long ≡ false)
+part_spelled : (t : Bool) (piece : List ℕ) (s : Spelled) → t ≡ false
+    → s ≡ (if t then too_long else with_piece piece [] (spelled_by [])) → (s.lines ≡ []) × (s.is_too_long ≡ false)
 part_spelled true piece s fails is = absurd (let bad : true ≡ false = fails in cc bad)
 part_spelled false piece s fails is = (ap (λ (x : Spelled). x.lines) is, ap (λ (x : Spelled). x.is_too_long) is)
 
 pub part_quiet : (part : List ℕ) → Lacks 13 part → length part ≤ 255 → Quiet part
 unfolding lines_of
 part_quiet part lacks short =
-    part_spelled (nat_lt 255 (length (stripped part))) (stripped part) (lines_of part) (not_long (length (stripped part)) (let less : length (stripped part) ≤ length part = stripped_short part in omega (arith, less, short))) (ap spelled_by (split_none part lacks))
+    part_spelled (nat_lt 255 (length (stripped part))) (stripped part) (lines_of part)
+        (not_long (length (stripped part)) (let less : length (stripped part) ≤ length part = stripped_short part in
+        omega (arith, less, short))) (ap spelled_by (split_none part lacks))
 
 pub none_quiet : Quiet []
 none_quiet = part_quiet [] refl (omega arith)
@@ -87,7 +102,8 @@ none_quiet = part_quiet [] refl (omega arith)
 none_told : (bytes : List ℕ) (lines : List (List ℕ)) → Quiet bytes → SpellsFront bytes lines
 none_told bytes lines quiet = (0, omega arith, quiet.0, quiet.1)
 
-one_told : (line rest : List ℕ) (lines : List (List ℕ)) → IsLine line → SpellsFront rest lines → SpellsFront (line ++ 13 ∷ rest) (line ∷ lines)
+one_told : (line rest : List ℕ) (lines : List (List ℕ)) → IsLine line → SpellsFront rest lines
+    → SpellsFront (line ++ 13 ∷ rest) (line ∷ lines)
 one_told line rest lines is told = (
   suc told.0,
   omega (arith, told.1),
@@ -96,39 +112,48 @@ one_told line rest lines is told = (
 )
 
 pub lacks_front : (t z : List ℕ) → Lacks 13 (t ++ z) → Lacks 13 t
-lacks_front t z h = (both (list_all (λ b. not (b == 13)) t) (list_all (λ b. not (b == 13)) z) (sym (list_all-append (λ b. not (b == 13)) t z) ∙ h)).0
+lacks_front t z h = (both (list_all (λ b. not (b == 13)) t) (list_all (λ b. not (b == 13)) z)
+    (sym (list_all-append (λ b. not (b == 13)) t z) ∙ h)).0
 
 front_told : (line t z : List ℕ) (lines : List (List ℕ)) → IsLine line → line ≡ t ++ z → SpellsFront t lines
 front_told line t z lines is e =
-    none_told t lines (part_quiet t (lacks_front t z (subst (Lacks 13) e is.no_cr)) (let long : length line ≡ length (t ++ z) = ap length e in omega (arith, long, length-append t z, is.short)))
+    none_told t lines (part_quiet t (lacks_front t z (subst (Lacks 13) e is.no_cr))
+        (let long : length line ≡ length (t ++ z) = ap length e in omega (arith, long, length-append t z, is.short)))
 
 -- what stands behind a line's CR
-behind_told : (z w rest : List ℕ) (lines : List (List ℕ)) → z ++ w ≡ 10 ∷ rest → ((u : List ℕ) → u ++ w ≡ rest → SpellsFront u lines) → SpellsFront z lines
+behind_told : (z w rest : List ℕ) (lines : List (List ℕ)) → z ++ w ≡ 10 ∷ rest
+    → ((u : List ℕ) → u ++ w ≡ rest → SpellsFront u lines) → SpellsFront z lines
 behind_told [] w rest lines e more = none_told [] lines none_quiet
 behind_told (x ∷ u) w rest lines e more =
     let first : x ≡ 10 = cc e in
     let others : u ++ w ≡ rest = cc e in
     let told : SpellsFront u lines = more u others in
-    subst (λ b. SpellsFront (b ∷ u) lines) (sym first) (told.0, told.1, ap (λ (s : Spelled). s.lines) (lines_lf u) ∙ told.2, ap (λ (s : Spelled). s.is_too_long) (lines_lf u) ∙ told.3)
+    subst (λ b. SpellsFront (b ∷ u) lines) (sym first) (told.0, told.1, ap (λ (s : Spelled). s.lines) (lines_lf u)
+        ∙ told.2, ap (λ (s : Spelled). s.is_too_long) (lines_lf u) ∙ told.3)
 
-ended_told : (line t z w rest : List ℕ) (lines : List (List ℕ)) → IsLine line → t ≡ line ++ z → z ++ w ≡ 13 ∷ 10 ∷ rest → ((u : List ℕ) → u ++ w ≡ rest → SpellsFront u lines) → SpellsFront t (line ∷ lines)
-ended_told line t [] w rest lines is e left more = front_told line t [] (line ∷ lines) is (let same : t ≡ line = e ∙ append-nil line in sym same ∙ sym (append-nil t))
+ended_told : (line t z w rest : List ℕ) (lines : List (List ℕ)) → IsLine line → t ≡ line ++ z → z ++ w ≡ 13 ∷ 10 ∷ rest
+    → ((u : List ℕ) → u ++ w ≡ rest → SpellsFront u lines) → SpellsFront t (line ∷ lines)
+ended_told line t [] w rest lines is e left more =
+    front_told line t [] (line ∷ lines) is (let same : t ≡ line = e ∙ append-nil line in sym same ∙ sym (append-nil t))
 ended_told line t (x ∷ z) w rest lines is e left more =
     let first : x ≡ 13 = cc left in
     let others : z ++ w ≡ 10 ∷ rest = cc left in
-    subst (λ b. SpellsFront b (line ∷ lines)) (sym (e ∙ ap (λ b. line ++ b ∷ z) first)) (one_told line z lines is (behind_told z w rest lines others more))
+    subst (λ b. SpellsFront b (line ∷ lines)) (sym (e ∙ ap (λ b. line ++ b ∷ z) first))
+        (one_told line z lines is (behind_told z w rest lines others more))
 
 pub nothing_left : (t w : List ℕ) → t ++ w ≡ [] → t ≡ []
 nothing_left [] w e = refl
 nothing_left (x ∷ t) w e = absurd (let bad : x ∷ (t ++ w) ≡ [] = e in cc bad)
 
 -- of a front of the lines' bytes
-pub front_spelled : (lines : List (List ℕ)) (t w : List ℕ) → AreLines lines → t ++ w ≡ said_bytes lines → SpellsFront t lines
+pub front_spelled : (lines : List (List ℕ)) (t w : List ℕ) → AreLines lines → t ++ w ≡ said_bytes lines
+    → SpellsFront t lines
 front_spelled [] t w are e = subst (λ b. SpellsFront b []) (sym (nothing_left t w e)) (none_told [] [] none_quiet)
 front_spelled (line ∷ lines) t w are e = elim (fronts t line w (13 ∷ 10 ∷ said_bytes lines) e) [
   | inl more ↦ front_told line t more.0 (line ∷ lines) are.0 more.1
   | inr more ↦ ended_told line t more.0 w (said_bytes lines) lines are.0 more.1
-      (append_cancel_left line (more.0 ++ w) (13 ∷ 10 ∷ said_bytes lines) (sym (append_assoc line more.0 w) ∙ (ap (λ b. b ++ w) (sym more.1) ∙ e)))
+      (append_cancel_left line (more.0 ++ w) (13 ∷ 10 ∷ said_bytes lines) (sym (append_assoc line more.0 w)
+          ∙ (ap (λ b. b ++ w) (sym more.1) ∙ e)))
       (λ u same. front_spelled lines u w are.1 same)
 ]
 
@@ -140,7 +165,8 @@ none_spelled = refl
 pub whole_spelled : (lines : List (List ℕ)) → AreLines lines → lines_of (said_bytes lines) ≡ only_lines lines
 whole_spelled [] are = none_spelled
 whole_spelled (line ∷ lines) are =
-    lines_then line (10 ∷ said_bytes lines) are.0 ∙ (ap (behind line) (lines_lf (said_bytes lines)) ∙ ap (behind line) (whole_spelled lines are.1))
+    lines_then line (10 ∷ said_bytes lines) are.0
+        ∙ (ap (behind line) (lines_lf (said_bytes lines)) ∙ ap (behind line) (whole_spelled lines are.1))
 
 -- each line that is spelled is one that a stream has as it stands
 choice_lacks : (t : Bool) (xs ys : List ℕ) → Lacks 13 xs → Lacks 13 ys → Lacks 13 (if t then xs else ys)
@@ -150,13 +176,15 @@ choice_lacks false xs ys p q = q
 stripped_lacks : (piece : List ℕ) → Lacks 13 piece → Lacks 13 (stripped piece)
 stripped_lacks [] h = refl
 stripped_lacks (x ∷ xs) h =
-    let parts : (not (x == 13) ≡ true) × (list_all (λ b. not (b == 13)) xs ≡ true) = both (not (x == 13)) (list_all (λ b. not (b == 13)) xs) h in
+    let parts : (not (x == 13) ≡ true) × (list_all (λ b. not (b == 13)) xs ≡ true) =
+        both (not (x == 13)) (list_all (λ b. not (b == 13)) xs) h in
     choice_lacks (x == 10) (stripped xs) (x ∷ xs) (stripped_lacks xs parts.1) h
 
 stripped_twice : (piece : List ℕ) → stripped (stripped piece) ≡ stripped piece
 stripped_twice [] = refl
 stripped_twice (x ∷ xs) = elim (eqb_tells x 10) [
-  | inl lf ↦ ap (λ t. stripped (if t then stripped xs else x ∷ xs)) lf.0 ∙ (stripped_twice xs ∙ ap (λ t. if t then stripped xs else x ∷ xs) (sym lf.0))
+  | inl lf ↦ ap (λ t. stripped (if t then stripped xs else x ∷ xs)) lf.0
+  ∙ (stripped_twice xs ∙ ap (λ t. if t then stripped xs else x ∷ xs) (sym lf.0))
   | inr other ↦ ap (λ t. stripped (if t then stripped xs else x ∷ xs)) other.0
 ]
 
@@ -170,25 +198,32 @@ onto_lacks x (p ∷ ps) h all = (ap (λ t. t && list_all (λ b. not (b == 13)) p
 
 pieces_lack : (xs : List ℕ) → AllLack (slice_split (λ b. b == 13) xs)
 pieces_lack [] = (refl, tt)
-pieces_lack (x ∷ xs) = elim (x == 13) as (λ t. (x == 13) ≡ t → AllLack (cond t ([] ∷ slice_split (λ b. b == 13) xs) (onto_first x (slice_split (λ b. b == 13) xs)))) [
+pieces_lack (x ∷ xs) = elim (x == 13) as (λ t. (x == 13) ≡ t
+    → AllLack (cond t ([] ∷ slice_split (λ b. b == 13) xs) (onto_first x (slice_split (λ b. b == 13) xs)))) [
   | true ↦ λ e. (refl, pieces_lack xs)
   | false ↦ λ e. onto_lacks x (slice_split (λ b. b == 13) xs) (ap not e) (pieces_lack xs)
 ] refl
 
-unless_lines : (piece : List ℕ) (lines : List (List ℕ)) → length piece ≤ 255 → Lacks 13 piece → stripped piece ≡ piece → AreLines lines → AreLines (unless_empty piece ++ lines)
+unless_lines : (piece : List ℕ) (lines : List (List ℕ)) → length piece ≤ 255 → Lacks 13 piece → stripped piece ≡ piece
+    → AreLines lines → AreLines (unless_empty piece ++ lines)
 unless_lines [] lines short lacks same are = are
-unless_lines (b ∷ bs) lines short lacks same are = (record { some = omega arith; short = short; no_cr = lacks; no_lf = same }, are)
+unless_lines (b ∷ bs) lines short lacks same are =
+    (record { some = omega arith; short = short; no_cr = lacks; no_lf = same }, are)
 
-first_lines : (t : Bool) (piece : List ℕ) (others : List (List ℕ)) (rest : Spelled) → (t ≡ false → length piece ≤ 255) → Lacks 13 piece → stripped piece ≡ piece → AreLines rest.lines
+first_lines : (t : Bool) (piece : List ℕ) (others : List (List ℕ)) (rest : Spelled) → (t ≡ false → length piece ≤ 255)
+    → Lacks 13 piece → stripped piece ≡ piece → AreLines rest.lines
     → AreLines (if t then too_long else with_piece piece others rest).lines
 first_lines true piece others rest fits lacks same are = tt
 first_lines false piece [] rest fits lacks same are = tt
-first_lines false piece (other ∷ others) rest fits lacks same are = unless_lines piece rest.lines (fits refl) lacks same are
+first_lines false piece (other ∷ others) rest fits lacks same are =
+    unless_lines piece rest.lines (fits refl) lacks same are
 
 pieces_lines : (pieces : List (List ℕ)) → AllLack pieces → AreLines (spelled_by pieces).lines
 pieces_lines [] all = tt
 pieces_lines (piece ∷ others) all =
-    first_lines (nat_lt 255 (length (stripped piece))) (stripped piece) others (spelled_by others) (fits_of (length (stripped piece))) (stripped_lacks piece all.0) (stripped_twice piece) (pieces_lines others all.1)
+    first_lines (nat_lt 255 (length (stripped piece))) (stripped piece) others (spelled_by others)
+        (fits_of (length (stripped piece))) (stripped_lacks piece all.0) (stripped_twice piece)
+        (pieces_lines others all.1)
 
 pub spelled_lines : (stream : List ℕ) → AreLines (lines_of stream).lines
 unfolding lines_of

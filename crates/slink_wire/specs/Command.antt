@@ -3,7 +3,8 @@ use Rattle.std.specs.Prelude.{◌≡◌, ℕ, ◌==◌, ◌≤◌, ◌⊎◌, no
 use Rattle.std.specs.List.{filter, slice_split}
 use Rattle.std.specs.Char.{to_ascii_lowercase}
 use Rattle.slink_wire.specs.declared.command.Command.{Command}
-use Rattle.slink_wire.specs.declared.command.Command.TheVariants.{Hello, Station, SelectAll, Data, Fetch, End, Bye, Other}
+use Rattle.slink_wire.specs.declared.command.Command.TheVariants.{Hello, Station, SelectAll, Data, Fetch, End, Bye,
+    Other}
 use Rattle.slink_wire.specs.Hexadecimal.{SaysNumber}
 use Rattle.slink_wire.specs.Place.{IsCode, filled}
 
@@ -27,7 +28,8 @@ IsNumber word n = (1 ≤ length word) × (length word ≤ 6) × SaysNumber word 
 abbrev pub IsSaid : Command → List (List ℕ) → Type 0
 IsSaid Hello ws = ws ≡ codes "hello" ∷ []
 IsSaid (Station sta None) ws = (s : List ℕ) × IsCode 5 s × (sta ≡ filled 5 s) × (ws ≡ codes "station" ∷ s ∷ [])
-IsSaid (Station sta (Some net)) ws = (s n : List ℕ) × IsCode 5 s × IsCode 2 n × (sta ≡ filled 5 s) × (net ≡ filled 2 n) × (ws ≡ codes "station" ∷ s ∷ n ∷ [])
+IsSaid (Station sta (Some net)) ws = (s n : List ℕ) × IsCode 5 s × IsCode 2 n × (sta ≡ filled 5 s) × (net ≡ filled 2 n)
+    × (ws ≡ codes "station" ∷ s ∷ n ∷ [])
 IsSaid SelectAll ws = ws ≡ codes "select" ∷ []
 IsSaid (Data None) ws = ws ≡ codes "data" ∷ []
 IsSaid (Data (Some n)) ws = (h : List ℕ) × IsNumber h n × (ws ≡ codes "data" ∷ h ∷ [])

@@ -31,7 +31,8 @@ with_piece piece (other ∷ others) rest = record rest { lines = unless_empty pi
 -- what pieces spell, one after another
 abbrev pub spelled_by : List (List ℕ) → Spelled
 spelled_by [] = record { lines = []; begun = []; is_too_long = false }
-spelled_by (piece ∷ others) = if nat_lt 255 (length (stripped piece)) then too_long else with_piece (stripped piece) others (spelled_by others)
+spelled_by (piece ∷ others) =
+    if nat_lt 255 (length (stripped piece)) then too_long else with_piece (stripped piece) others (spelled_by others)
 
 -- what a stream spells: it is cut at each CR
 unfoldable pub lines_of : List ℕ → Spelled

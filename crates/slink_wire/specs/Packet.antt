@@ -14,7 +14,8 @@ HasHead bytes number = (take 2 bytes ≡ codes "SL") × SaysNumber (slice_range 
 
 -- a packet as it may be read: its digits stand in either case
 abbrev pub IsPacket : List ℕ → ℕ → List ℕ → Type 0
-IsPacket packet number bytes = (take 2 packet ≡ codes "SL") × SaysNumber (slice_range packet 2 8) number × (drop 8 packet ≡ bytes)
+IsPacket packet number bytes = (take 2 packet ≡ codes "SL") × SaysNumber (slice_range packet 2 8) number
+    × (drop 8 packet ≡ bytes)
 
 -- a packet with its digits in capitals
 abbrev pub in_capitals : List ℕ → List ℕ

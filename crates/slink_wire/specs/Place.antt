@@ -1,6 +1,8 @@
--- Stations and their networks, as commands spell them and as a header's fields have them (SEED manual, chapter 8, "Fixed
+-- Stations and their networks, as commands spell them and as a header's fields have them (SEED manual, chapter 8,
+-- "Fixed
 -- section of data header").
-use Rattle.std.specs.Prelude.{◌≡◌, ℕ, Bool, ◌-◌, ◌≤◌, ◌==◌, ◌&&◌, IsTrue, Option, Some, None, bytes_eq, List, ◌∷◌, ◌++◌, length, replicate, slice_range}
+use Rattle.std.specs.Prelude.{◌≡◌, ℕ, Bool, ◌-◌, ◌≤◌, ◌==◌, ◌&&◌, IsTrue, Option, Some, None, bytes_eq, List, ◌∷◌, ◌++◌,
+    length, replicate, slice_range}
 use Rattle.std.specs.List.{list_all, before_first}
 use Rattle.std.specs.Char.{is_ascii_alphanumeric}
 
@@ -35,7 +37,8 @@ Bears bytes fields = (slice_range bytes 8 13 ≡ fields.station) × (slice_range
 
 -- The text is the network's code, an underscore, and the station's code.
 abbrev pub SpellsPlace : List ℕ → Fields → Type 0
-SpellsPlace text fields = (sta net : List ℕ) × IsCode 5 sta × IsCode 2 net × (text ≡ net ++ 95 ∷ sta) × (fields ≡ fields_of sta net)
+SpellsPlace text fields = (sta net : List ℕ) × IsCode 5 sta × IsCode 2 net × (text ≡ net ++ 95 ∷ sta)
+    × (fields ≡ fields_of sta net)
 
 -- the place has this station, in this network or in any
 abbrev pub matches : Fields → List ℕ → Option (List ℕ) → Bool

@@ -25,4 +25,5 @@ only_lines lines = record { lines = lines; begun = []; is_too_long = false }
 
 -- The stream spells lines from the front of these on, and none that is too long.
 abbrev pub SpellsFront : List ℕ → List (List ℕ) → Type 0
-SpellsFront stream lines = (count : ℕ) × (count ≤ length lines) × ((lines_of stream).lines ≡ take count lines) × ((lines_of stream).is_too_long ≡ false)
+SpellsFront stream lines = (count : ℕ) × (count ≤ length lines) × ((lines_of stream).lines ≡ take count lines)
+    × ((lines_of stream).is_too_long ≡ false)

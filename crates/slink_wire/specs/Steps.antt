@@ -12,7 +12,8 @@ abbrev pub cr_step : List ℕ → Held × What
 cr_step line = if length line == 0 then (begun [], More) else (begun [], Line (record { items = line }))
 
 abbrev pub other_step : List ℕ → ℕ → Held × What
-other_step line b = if length line == 255 then (record { begun = []; is_too_long = true }, TooLong) else (begun (line ++ b ∷ []), More)
+other_step line b = if length line == 255 then (record { begun = []; is_too_long = true }, TooLong) else
+    (begun (line ++ b ∷ []), More)
 
 abbrev pub lf_step : List ℕ → ℕ → Held × What
 lf_step line b = if length line == 0 then (begun [], More) else other_step line b

@@ -7,7 +7,8 @@ use Rattle.slink_wire.specs.Lines.{TellsNothing, lines_of}
 -- from the one stream to the other: no line more, this line more, or one that is too long
 abbrev pub Tells : What → List ℕ → List ℕ → Type 0
 Tells More before after = TellsNothing before after
-Tells (Line line) before after = ((lines_of after).lines ≡ (lines_of before).lines ++ line.items ∷ []) × ((lines_of after).is_too_long ≡ false)
+Tells (Line line) before after = ((lines_of after).lines ≡ (lines_of before).lines ++ line.items ∷ [])
+    × ((lines_of after).is_too_long ≡ false)
 Tells TooLong before after = ((lines_of after).lines ≡ (lines_of before).lines) × ((lines_of after).is_too_long ≡ true)
 
 -- a call: the bytes that it took, and what it told

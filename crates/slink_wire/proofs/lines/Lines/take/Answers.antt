@@ -4,14 +4,18 @@ use Rattle.slink_wire.proofs.Stepped.{never, taken_byte, taken_more}
 use Rattle.slink_wire.proofs.lines.Lines.take.Goals as goal
 
 pub loop-i-preserved : goal.loop-i-preserved
-loop-i-preserved c = taken_more c.args.self.now c.loop-i.self c.take_byte.new.self c.args.piece.now c.loop-i.i c.loop-i-test.true c.in-More.ensures c.loop-i.invariant
+loop-i-preserved c = taken_more c.args.self.now c.loop-i.self c.take_byte.new.self c.args.piece.now c.loop-i.i
+    c.loop-i-test.true c.in-More.ensures c.loop-i.invariant
 
 pub returns-in_default : goal.returns-in_default
 returns-in_default c = record {
-  held = (λ stream h. (taken_byte c.args.self.now c.loop-i.self c.take_byte.new.self c.args.piece.now c.loop-i.i c.take_byte.result c.loop-i-test.true c.take_byte.ensures c.loop-i.invariant stream h).0);
-  told = (λ stream h. (taken_byte c.args.self.now c.loop-i.self c.take_byte.new.self c.args.piece.now c.loop-i.i c.take_byte.result c.loop-i-test.true c.take_byte.ensures c.loop-i.invariant stream h).1);
+  held = (λ stream h. (taken_byte c.args.self.now c.loop-i.self c.take_byte.new.self c.args.piece.now c.loop-i.i
+      c.take_byte.result c.loop-i-test.true c.take_byte.ensures c.loop-i.invariant stream h).0);
+  told = (λ stream h. (taken_byte c.args.self.now c.loop-i.self c.take_byte.new.self c.args.piece.now c.loop-i.i
+      c.take_byte.result c.loop-i-test.true c.take_byte.ensures c.loop-i.invariant stream h).1);
   first = (λ stream k h lt. c.loop-i.invariant.quiet stream k h (omega arith));
   whole = (λ e. absurd (c.in_default.not-More e));
   bound = omega arith;
-  repeats = (λ e. absurd (never c.self.inside.is_too_long (ap (λ (v : Held). v.is_too_long) c.self.view_is ∙ e) c.if-self.false));
+  repeats = (λ e. absurd (never c.self.inside.is_too_long (ap (λ (v : Held). v.is_too_long) c.self.view_is
+      ∙ e) c.if-self.false));
 }
