@@ -1,5 +1,6 @@
 -- What a client is granted that holds the records up to a number.
-use Rattle.std.proofs.Common.{◌≡◌, ℕ, ◌+◌, ◌-◌, ◌%◌, ◌^◌, ◌<◌, ◌≤◌, inl, inr, ap, ◌∙◌, arith, if◌then◌else◌, length, Some, None}
+use Rattle.std.proofs.Common.{◌≡◌, ℕ, ◌+◌, ◌-◌, ◌%◌, ◌^◌, ◌<◌, ◌≤◌, inl, inr, ap, ◌∙◌, arith, if◌then◌else◌, length,
+    Some, None}
 use Rattle.std.proofs.lemmas.Bool.Decides.{leb_tells}
 use Rattle.slink_feed.specs.declared.grant.Mode.{Mode}
 use Rattle.slink_feed.specs.declared.grant.Mode.TheVariants as modes
@@ -9,29 +10,36 @@ use Rattle.slink_feed.specs.Window.{Window, ahead_of, oldest_of, resolve_of}
 ahead_there : (o n : ℕ) → o ≤ n → n ≤ o + 1000000 → ((n % 2 ^ 24) % 2 ^ 24 + 2 ^ 24 - o % 2 ^ 24) % 2 ^ 24 ≡ n - o
 ahead_there o n le near = omega (arith, le, near)
 
-ahead_lost : (o n : ℕ) → n < o → o < n + 2 ^ 24 → ((n % 2 ^ 24) % 2 ^ 24 + 2 ^ 24 - o % 2 ^ 24) % 2 ^ 24 ≡ n + 2 ^ 24 - o
+ahead_lost : (o n : ℕ) → n < o → o < n + 2 ^ 24
+    → ((n % 2 ^ 24) % 2 ^ 24 + 2 ^ 24 - o % 2 ^ 24) % 2 ^ 24 ≡ n + 2 ^ 24 - o
 ahead_lost o n lt near = omega (arith, lt, near)
 
-resolved_there : (w : Window) (n : ℕ) → length w.records ≤ 1000000 → n ≤ w.next → oldest_of w ≤ n → resolve_of w (n % 2 ^ 24) ≡ Some n
+resolved_there : (w : Window) (n : ℕ) → length w.records ≤ 1000000 → n ≤ w.next → oldest_of w ≤ n
+    → resolve_of w (n % 2 ^ 24) ≡ Some n
 resolved_there w n few at_most there =
-    let ahead : ahead_of w (n % 2 ^ 24) ≡ n - oldest_of w = ahead_there (oldest_of w) n there (omega (arith, few, at_most)) in
+    let ahead : ahead_of w (n % 2 ^ 24) ≡ n - oldest_of w =
+        ahead_there (oldest_of w) n there (omega (arith, few, at_most)) in
     elim (leb_tells (ahead_of w (n % 2 ^ 24)) (w.next - oldest_of w)) [
-      | inl passes ↦ ap (λ t. if t then Some (oldest_of w + ahead_of w (n % 2 ^ 24)) else None) passes.0 ∙ ap (λ m. Some m) (let e : oldest_of w + ahead_of w (n % 2 ^ 24) ≡ n = omega (arith, ahead, there) in e)
+      | inl passes ↦ ap (λ t. if t then Some (oldest_of w + ahead_of w (n % 2 ^ 24)) else None) passes.0
+      ∙ ap (λ m. Some m) (let e : oldest_of w + ahead_of w (n % 2 ^ 24) ≡ n = omega (arith, ahead, there) in e)
       | inr fails ↦ absurd (omega (arith, ahead, fails.1, at_most, there))
     ]
 
 resolved_lost : (w : Window) (n : ℕ) → w.next < n + 2 ^ 24 → n < oldest_of w → resolve_of w (n % 2 ^ 24) ≡ None
 resolved_lost w n near lost =
-    let ahead : ahead_of w (n % 2 ^ 24) ≡ n + 2 ^ 24 - oldest_of w = ahead_lost (oldest_of w) n lost (omega (arith, near)) in
+    let ahead : ahead_of w (n % 2 ^ 24) ≡ n + 2 ^ 24 - oldest_of w =
+        ahead_lost (oldest_of w) n lost (omega (arith, near)) in
     elim (leb_tells (ahead_of w (n % 2 ^ 24)) (w.next - oldest_of w)) [
       | inl passes ↦ absurd (omega (arith, ahead, passes.1, near, lost))
       | inr fails ↦ ap (λ t. if t then Some (oldest_of w + ahead_of w (n % 2 ^ 24)) else None) fails.0
     ]
 
-pub granted_there : (mode : Mode) (w : Window) (n : ℕ) → length w.records ≤ 1000000 → n ≤ w.next → oldest_of w ≤ n → grant_of mode (Some (n % 2 ^ 24)) w ≡ Some n
+pub granted_there : (mode : Mode) (w : Window) (n : ℕ) → length w.records ≤ 1000000 → n ≤ w.next → oldest_of w ≤ n
+    → grant_of mode (Some (n % 2 ^ 24)) w ≡ Some n
 granted_there modes.Data w n few at_most there = resolved_there w n few at_most there
 granted_there modes.Fetch w n few at_most there = resolved_there w n few at_most there
 
-pub granted_lost : (mode : Mode) (w : Window) (n : ℕ) → w.next < n + 2 ^ 24 → n < oldest_of w → grant_of mode (Some (n % 2 ^ 24)) w ≡ None
+pub granted_lost : (mode : Mode) (w : Window) (n : ℕ) → w.next < n + 2 ^ 24 → n < oldest_of w
+    → grant_of mode (Some (n % 2 ^ 24)) w ≡ None
 granted_lost modes.Data w n near lost = resolved_lost w n near lost
 granted_lost modes.Fetch w n near lost = resolved_lost w n near lost

@@ -1,9 +1,12 @@
 -- What the link of one session takes in its turns is what it was asked for.
-use Rattle.std.proofs.Common.{◌≡◌, ℕ, ◌+◌, ◌<◌, ◌==◌, inl, inr, refl, sym, ap, subst, ◌∙◌, arith, Bool, true, false, if◌then◌else◌, List, [], ◌∷◌, ◌++◌, append_assoc, append-nil, length, take, drop, take-append-drop, Option, Some, None, slice_get}
+use Rattle.std.proofs.Common.{◌≡◌, ℕ, ◌+◌, ◌<◌, ◌==◌, inl, inr, refl, sym, ap, subst, ◌∙◌, arith, Bool, true, false,
+    if◌then◌else◌, List, [], ◌∷◌, ◌++◌, append_assoc, append-nil, length, take, drop, take-append-drop, Option, Some,
+    None, slice_get}
 use Rattle.std.proofs.lemmas.Bool.Decides.{eqb_tells}
 use Rattle.mseed_stream.specs.Device.{Heard, IsFrontOf}
 use Rattle.slink_wire.specs.declared.command.Command.{Command}
-use Rattle.slink_wire.specs.declared.command.Command.TheVariants.{Hello, Station, SelectAll, Data, Fetch, End, Bye, Other}
+use Rattle.slink_wire.specs.declared.command.Command.TheVariants.{Hello, Station, SelectAll, Data, Fetch, End, Bye,
+    Other}
 use Rattle.slink_wire.specs.declared.lines.What.{What}
 use Rattle.slink_wire.specs.declared.lines.What.TheVariants.{More, Line, TooLong}
 use Rattle.slink_wire.specs.declared.reply.Reply.{Reply}
@@ -17,19 +20,23 @@ use Rattle.slink_feed.specs.declared.session.Sent.{Sent}
 use Rattle.slink_feed.specs.declared.session.Sent.TheVariants as sents
 use Rattle.slink_feed.specs.declared.turn.LinkFault.{LinkFault}
 use Rattle.slink_feed.specs.declared.turn.Turn.{Turn}
-use Rattle.slink_feed.specs.Attending.{Attends, IsServeFault, RepliesToAll, at_read, at_reply, at_send, is_at_end, is_closed, replies}
-use Rattle.slink_feed.specs.Connection.{FailsInTurn, SendsStretches, ShowPushed, TakesTurns, bytes_sent, fails_later, fails_now, no_turn, turn_taken}
+use Rattle.slink_feed.specs.Attending.{Attends, IsServeFault, RepliesToAll, at_read, at_reply, at_send, is_at_end,
+    is_closed, replies}
+use Rattle.slink_feed.specs.Connection.{FailsInTurn, SendsStretches, ShowPushed, TakesTurns, bytes_sent, fails_later,
+    fails_now, no_turn, turn_taken}
 use Rattle.slink_feed.specs.Rounds.{Attending, Gives, SendsAll, all_sent, place_behind}
 use Rattle.slink_feed.specs.Running.{HasStream, Stands, StandsFor}
 use Rattle.slink_feed.specs.Sending.{AreAsked, AreShown, Asked, IsHeardFrom, packet_in, packets_of}
 use Rattle.slink_feed.specs.Serving.{Answers, IsAnswer, Serves, Standing, Takes, none_served, piece_served}
-use Rattle.slink_feed.specs.Session.{IsBefore, State, all_done, answered_in, at_next, grant_at, in_streaming, packet_at, reply_at_next, sent, sent_bytes, sent_in, sent_of}
+use Rattle.slink_feed.specs.Session.{IsBefore, State, all_done, answered_in, at_next, grant_at, in_streaming, packet_at,
+    reply_at_next, sent, sent_bytes, sent_in, sent_of}
 use Rattle.slink_feed.specs.Window.{Shows, Window, record_at}
 use Rattle.slink_feed.proofs.Closing.{Open, open_or}
 use Rattle.slink_feed.proofs.Sendings.{IsOn, answer_heard, heard_on, none_either, set_other, stretch_sent}
 
 -- A session streams on, or is closed, once it was asked.
-on_packet : (t : State) (place : ℕ) (h : Grant) (o : Option (List ℕ)) → t.phase ≡ Streaming → IsOn (packet_at t place h o).0.phase
+on_packet : (t : State) (place : ℕ) (h : Grant) (o : Option (List ℕ)) → t.phase ≡ Streaming
+    → IsOn (packet_at t place h o).0.phase
 on_packet t place h None on = inr refl
 on_packet t place h (Some bytes) on = inl on
 
@@ -37,36 +44,45 @@ on_next : (t : State) (done : Bool) → t.phase ≡ Streaming → IsOn (at_next 
 on_next t true on = inr refl
 on_next t false on = inl on
 
-on_from : (feed : List Window) (t : State) (place : ℕ) (h : Grant) (w : Window) (b : Bool) → t.phase ≡ Streaming → IsOn (if b then at_next (all_done feed t.grants) t else packet_at t place h (record_at w h.position)).0.phase
+on_from : (feed : List Window) (t : State) (place : ℕ) (h : Grant) (w : Window) (b : Bool) → t.phase ≡ Streaming
+    → IsOn (if b then at_next (all_done feed t.grants) t else packet_at t place h (record_at w h.position)).0.phase
 on_from feed t place h w true on = on_next t (all_done feed t.grants) on
 on_from feed t place h w false on = on_packet t place h (record_at w h.position) on
 
-on_of : (feed : List Window) (t : State) (place : ℕ) (o : Option Grant) (r : Option Window) → t.phase ≡ Streaming → IsOn (sent_of feed t place o r).0.phase
+on_of : (feed : List Window) (t : State) (place : ℕ) (o : Option Grant) (r : Option Window) → t.phase ≡ Streaming
+    → IsOn (sent_of feed t place o r).0.phase
 on_of feed t place None r on = inl on
 on_of feed t place (Some h) None on = inl on
 on_of feed t place (Some h) (Some w) on = on_from feed t place h w (h.position == w.next) on
 
 on_sent : (feed : List Window) (t : State) (place : ℕ) → IsOn t.phase → IsOn (sent feed t place).0.phase
-on_sent feed t place (inl on) = subst (λ (p : Phase). IsOn (sent_in p feed t place).0.phase) (sym on) (on_of feed t place (grant_at t.grants place) (slice_get feed place) on)
+on_sent feed t place (inl on) =
+    subst (λ (p : Phase). IsOn (sent_in p feed t place).0.phase) (sym on)
+    (on_of feed t place (grant_at t.grants place) (slice_get feed place) on)
 on_sent feed t place (inr shut) = subst (λ (p : Phase). IsOn (sent_in p feed t place).0.phase) (sym shut) (inr shut)
 
-on_given : (feed : List Window) (k last : ℕ) (s u : State) (given : List Sent) → Gives feed k s given last u → IsOn s.phase → IsOn u.phase
+on_given : (feed : List Window) (k last : ℕ) (s u : State) (given : List Sent) → Gives feed k s given last u
+    → IsOn s.phase → IsOn u.phase
 on_given feed k last s u [] gives on = subst (λ (t : State). IsOn t.phase) (sym gives.1) on
-on_given feed k last s u (a ∷ more) gives on = on_given feed (place_behind feed k) last (sent feed s k).0 u more gives.1 (on_sent feed s k on)
+on_given feed k last s u (a ∷ more) gives on =
+    on_given feed (place_behind feed k) last (sent feed s k).0 u more gives.1 (on_sent feed s k on)
 
 -- a closed session stays
-pub shut_given : (feed : List Window) (k last : ℕ) (s u : State) (given : List Sent) → Gives feed k s given last u → s.phase ≡ Closed → u ≡ s
+pub shut_given : (feed : List Window) (k last : ℕ) (s u : State) (given : List Sent) → Gives feed k s given last u
+    → s.phase ≡ Closed → u ≡ s
 shut_given feed k last s u [] gives shut = gives.1
 shut_given feed k last s u (a ∷ more) gives shut =
     let same : (sent feed s k).0 ≡ s = ap (λ (p : Phase). (sent_in p feed s k).0) shut in
-    shut_given feed (place_behind feed k) last (sent feed s k).0 u more gives.1 (ap (λ (t : State). t.phase) same ∙ shut) ∙ same
+    shut_given feed (place_behind feed k) last (sent feed s k).0 u more gives.1 (ap (λ (t : State). t.phase) same
+        ∙ shut) ∙ same
 
 -- No packet of a place without a grant is sent, and it has none afterwards.
 record Bare (k : ℕ) (place : ℕ) (x : State × Sent) : Type 0 where
   none : (if place == k then packet_in x.1 else []) ≡ []
   stays : grant_at x.0.grants k ≡ None
 
-bare_packet : (k place : ℕ) (h : Grant) (t : State) (o : Option (List ℕ)) → grant_at t.grants k ≡ None → grant_at t.grants place ≡ Some h → Bare k place (packet_at t place h o)
+bare_packet : (k place : ℕ) (h : Grant) (t : State) (o : Option (List ℕ)) → grant_at t.grants k ≡ None
+    → grant_at t.grants place ≡ Some h → Bare k place (packet_at t place h o)
 bare_packet k place h t None at_k at_place = record { none = none_either (place == k); stays = at_k }
 bare_packet k place h t (Some bytes) at_k at_place = elim (eqb_tells place k) [
   | inl same ↦ absurd (let bad : Some h ≡ None = sym at_place ∙ (ap (grant_at t.grants) same.1 ∙ at_k) in cc bad)
@@ -80,37 +96,51 @@ bare_next : (k place : ℕ) (t : State) (done : Bool) → grant_at t.grants k �
 bare_next k place t true at_k = record { none = none_either (place == k); stays = at_k }
 bare_next k place t false at_k = record { none = none_either (place == k); stays = at_k }
 
-bare_from : (k place : ℕ) (feed : List Window) (h : Grant) (t : State) (w : Window) (b : Bool) → grant_at t.grants k ≡ None → grant_at t.grants place ≡ Some h
+bare_from : (k place : ℕ) (feed : List Window) (h : Grant) (t : State) (w : Window) (b : Bool)
+    → grant_at t.grants k ≡ None → grant_at t.grants place ≡ Some h
     → Bare k place (if b then at_next (all_done feed t.grants) t else packet_at t place h (record_at w h.position))
 bare_from k place feed h t w true at_k at_place = bare_next k place t (all_done feed t.grants) at_k
 bare_from k place feed h t w false at_k at_place = bare_packet k place h t (record_at w h.position) at_k at_place
 
-bare_of : (k place : ℕ) (feed : List Window) (t : State) (o : Option Grant) (r : Option Window) → grant_at t.grants k ≡ None → grant_at t.grants place ≡ o → Bare k place (sent_of feed t place o r)
+bare_of : (k place : ℕ) (feed : List Window) (t : State) (o : Option Grant) (r : Option Window)
+    → grant_at t.grants k ≡ None → grant_at t.grants place ≡ o → Bare k place (sent_of feed t place o r)
 bare_of k place feed t None r at_k at_place = record { none = none_either (place == k); stays = at_k }
 bare_of k place feed t (Some h) None at_k at_place = record { none = none_either (place == k); stays = at_k }
-bare_of k place feed t (Some h) (Some w) at_k at_place = bare_from k place feed h t w (h.position == w.next) at_k at_place
+bare_of k place feed t (Some h) (Some w) at_k at_place =
+    bare_from k place feed h t w (h.position == w.next) at_k at_place
 
-bare_sent : (k place : ℕ) (feed : List Window) (t : State) → grant_at t.grants k ≡ None → IsOn t.phase → Bare k place (sent feed t place)
-bare_sent k place feed t at_k (inl on) = subst (λ (p : Phase). Bare k place (sent_in p feed t place)) (sym on) (bare_of k place feed t (grant_at t.grants place) (slice_get feed place) at_k refl)
-bare_sent k place feed t at_k (inr shut) = subst (λ (p : Phase). Bare k place (sent_in p feed t place)) (sym shut) (record { none = none_either (place == k); stays = at_k })
+bare_sent : (k place : ℕ) (feed : List Window) (t : State) → grant_at t.grants k ≡ None → IsOn t.phase
+    → Bare k place (sent feed t place)
+bare_sent k place feed t at_k (inl on) =
+    subst (λ (p : Phase). Bare k place (sent_in p feed t place)) (sym on)
+    (bare_of k place feed t (grant_at t.grants place) (slice_get feed place) at_k refl)
+bare_sent k place feed t at_k (inr shut) =
+    subst (λ (p : Phase). Bare k place (sent_in p feed t place)) (sym shut)
+    (record { none = none_either (place == k); stays = at_k })
 
 grants_heard : (s t : State) → IsHeardFrom s t → t.grants ≡ s.grants
 grants_heard s t (inl same) = ap (λ (u : State). u.grants) same
 grants_heard s t (inr shut) = ap (λ (u : State). u.grants) shut
 
-none_sent : (k : ℕ) (asked : List Asked) (s : State) → IsOn s.phase → grant_at s.grants k ≡ None → AreAsked s asked → packets_of k asked ≡ []
+none_sent : (k : ℕ) (asked : List Asked) (s : State) → IsOn s.phase → grant_at s.grants k ≡ None → AreAsked s asked
+    → packets_of k asked ≡ []
 none_sent k [] s on at_k are = refl
 none_sent k (a ∷ more) s on at_k are =
     let t : State = are.0 in
-    let bare : Bare k a.place (sent a.feed t a.place) = bare_sent k a.place a.feed t (ap (λ gs. grant_at gs k) (grants_heard s t are.1) ∙ at_k) (heard_on s t are.1 on) in
-    let one : (if a.place == k then packet_in a.answer else []) ≡ [] = ap (λ x. if a.place == k then packet_in x else []) (sym are.2) ∙ bare.none in
-    ap (λ ps. ps ++ packets_of k more) one ∙ none_sent k more (sent a.feed t a.place).0 (on_sent a.feed t a.place (heard_on s t are.1 on)) bare.stays are.3
+    let bare : Bare k a.place (sent a.feed t a.place) =
+        bare_sent k a.place a.feed t (ap (λ gs. grant_at gs k) (grants_heard s t are.1) ∙ at_k)
+        (heard_on s t are.1 on) in
+    let one : (if a.place == k then packet_in a.answer else []) ≡ [] =
+        ap (λ x. if a.place == k then packet_in x else []) (sym are.2) ∙ bare.none in
+    ap (λ ps. ps ++ packets_of k more) one
+        ∙ none_sent k more (sent a.feed t a.place).0 (on_sent a.feed t a.place (heard_on s t are.1 on)) bare.stays are.3
 
 -- lines, one after another
 heard_further : (s t u : State) → IsHeardFrom s t → IsHeardFrom t u → IsHeardFrom s u
 heard_further s t u (inl same) more = subst (λ (x : State). IsHeardFrom x u) same more
 heard_further s t u (inr shut) (inl same) = inr (same ∙ shut)
-heard_further s t u (inr shut) (inr again) = inr (again ∙ ap (λ gs. record { phase = Closed; grants = gs }) (ap (λ (x : State). x.grants) shut))
+heard_further s t u (inr shut) (inr again) =
+    inr (again ∙ ap (λ gs. record { phase = Closed; grants = gs }) (ap (λ (x : State). x.grants) shut))
 
 heard_first : (s t : State) (asked : List Asked) → IsHeardFrom s t → AreAsked t asked → AreAsked s asked
 heard_first s t [] heard are = tt
@@ -121,19 +151,25 @@ abbrev asks : List Window → ℕ → List Sent → List Asked
 asks feed k [] = []
 asks feed k (a ∷ more) = record { feed = feed; place = k; answer = a } ∷ asks feed (place_behind feed k) more
 
-asks_then : (feed : List Window) (k last : ℕ) (s u v : State) (given : List Sent) (rest : List Asked) → Gives feed k s given last u → IsHeardFrom u v → AreAsked v rest → AreAsked s (asks feed k given ++ rest)
-asks_then feed k last s u v [] rest gives heard are = heard_first s v rest (subst (λ (x : State). IsHeardFrom x v) gives.1 heard) are
+asks_then : (feed : List Window) (k last : ℕ) (s u v : State) (given : List Sent) (rest : List Asked)
+    → Gives feed k s given last u → IsHeardFrom u v → AreAsked v rest → AreAsked s (asks feed k given ++ rest)
+asks_then feed k last s u v [] rest gives heard are =
+    heard_first s v rest (subst (λ (x : State). IsHeardFrom x v) gives.1 heard) are
 asks_then feed k last s u v (a ∷ more) rest gives heard are =
     (s, inl refl, gives.0, asks_then feed (place_behind feed k) last (sent feed s k).0 u v more rest gives.1 heard are)
 
-asks_bytes : (feed : List Window) (k : ℕ) (given : List Sent) (rest : List Asked) → bytes_sent (asks feed k given ++ rest) ≡ all_sent given ++ bytes_sent rest
+asks_bytes : (feed : List Window) (k : ℕ) (given : List Sent) (rest : List Asked)
+    → bytes_sent (asks feed k given ++ rest) ≡ all_sent given ++ bytes_sent rest
 asks_bytes feed k [] rest = refl
-asks_bytes feed k (a ∷ more) rest = ap (λ b. sent_bytes a ++ b) (asks_bytes feed (place_behind feed k) more rest) ∙ sym (append_assoc (sent_bytes a) (all_sent more) (bytes_sent rest))
+asks_bytes feed k (a ∷ more) rest = ap (λ b. sent_bytes a ++ b) (asks_bytes feed (place_behind feed k) more rest)
+    ∙ sym (append_assoc (sent_bytes a) (all_sent more) (bytes_sent rest))
 
-asks_shown : (feed : List Window) (k j first : ℕ) (pushed : List (List ℕ)) (given : List Sent) (rest : List Asked) → ((w : Window) × (n : ℕ) × (slice_get feed k ≡ Some w) × Shows w first (take n pushed))
+asks_shown : (feed : List Window) (k j first : ℕ) (pushed : List (List ℕ)) (given : List Sent) (rest : List Asked)
+    → ((w : Window) × (n : ℕ) × (slice_get feed k ≡ Some w) × Shows w first (take n pushed))
     → AreShown k first pushed rest → AreShown k first pushed (asks feed j given ++ rest)
 asks_shown feed k j first pushed [] rest shown are = are
-asks_shown feed k j first pushed (a ∷ more) rest shown are = (shown, asks_shown feed k (place_behind feed j) first pushed more rest shown are)
+asks_shown feed k j first pushed (a ∷ more) rest shown are =
+    (shown, asks_shown feed k (place_behind feed j) first pushed more rest shown are)
 
 -- What was sent in turns.
 record Wrote (feeds : List (List Window)) (s : State) (bytes : List ℕ) : Type 0 where
@@ -145,12 +181,14 @@ record Wrote (feeds : List (List Window)) (s : State) (bytes : List ℕ) : Type 
 nothing_wrote : (s : State) → Wrote [] s []
 nothing_wrote s = record { asked = []; are_asked = tt; bytes_are = refl; shown = λ k first pushed shown. tt }
 
-stretches : (feeds : List (List Window)) (s : State) (bytes : List ℕ) → IsOn s.phase → Wrote feeds s bytes → SendsStretches feeds s bytes
+stretches : (feeds : List (List Window)) (s : State) (bytes : List ℕ) → IsOn s.phase → Wrote feeds s bytes
+    → SendsStretches feeds s bytes
 stretches feeds s bytes on w = record {
   asked = w.asked;
   are_asked = w.are_asked;
   bytes_are = w.bytes_are;
-  stretch = λ k first pushed g at_k shown. stretch_sent k first pushed w.asked s g on at_k w.are_asked (w.shown k first pushed shown);
+  stretch = λ k first pushed g at_k shown. stretch_sent k first pushed w.asked s g on at_k w.are_asked
+      (w.shown k first pushed shown);
   none = λ k at_k. none_sent k w.asked s on at_k w.are_asked;
 }
 
@@ -165,10 +203,12 @@ quiet_line s (Fetch number) = refl
 quiet_line s End = refl
 quiet_line s Other = refl
 
-reply_none : (feed : List Window) (s new : State) (what : What) (reply : Reply) → s.phase ≡ Streaming → IsAnswer feed s what new reply → reply ≡ said.Nothing
+reply_none : (feed : List Window) (s new : State) (what : What) (reply : Reply) → s.phase ≡ Streaming
+    → IsAnswer feed s what new reply → reply ≡ said.Nothing
 reply_none feed s new More reply on is = is.1
 reply_none feed s new (Line line) reply on is =
-    sym (ap (λ (x : State × Reply). x.1) is.2) ∙ (ap (λ (p : Phase). (answered_in p feed s is.0).1) on ∙ quiet_line s is.0)
+    sym (ap (λ (x : State × Reply). x.1) is.2)
+        ∙ (ap (λ (p : Phase). (answered_in p feed s is.0).1) on ∙ quiet_line s is.0)
 reply_none feed s new TooLong reply on is = sym (ap (λ (x : State × Reply). x.1) is) ∙ ap reply_at_next on
 
 streaming : (p : Phase) → IsOn p → Open p → p ≡ Streaming
@@ -182,12 +222,15 @@ record HeardOn (s last : Standing) (way all : List ℕ) : Type 0 where
   stream : HasStream last
 
 module _ (feed : List Window) where
-  piece_heard_on : (u now : Standing) (piece : List ℕ) (reply : Reply) → Takes feed u piece now reply → IsOn u.state.phase → HasStream u → HeardOn u now [] (reply_bytes reply)
+  piece_heard_on : (u now : Standing) (piece : List ℕ) (reply : Reply) → Takes feed u piece now reply
+      → IsOn u.state.phase → HasStream u → HeardOn u now [] (reply_bytes reply)
   piece_heard_on u now piece reply takes on stream = elim (open_or u.state.phase) [
     | inl shut ↦ let same : (reply ≡ said.Nothing) × (now ≡ u) = takes.closed shut in
-        record { heard = inl (ap (λ (x : Standing). x.state) same.1); quiet = ap reply_bytes same.0; stream = subst HasStream (sym same.1) stream }
+        record { heard = inl (ap (λ (x : Standing). x.state) same.1); quiet = ap reply_bytes same.0;
+            stream = subst HasStream (sym same.1) stream }
     | inr awake ↦
-        let answer : Answers feed u.state stream.0 (stream.0 ++ piece) now.state reply = takes.answers stream.0 awake (stream.1 awake) in
+        let answer : Answers feed u.state stream.0 (stream.0 ++ piece) now.state reply =
+            takes.answers stream.0 awake (stream.1 awake) in
         let at : u.state.phase ≡ Streaming = streaming u.state.phase on awake in
         record {
           heard = answer_heard feed u.state now.state answer.0 reply at answer.2;
@@ -196,11 +239,15 @@ module _ (feed : List Window) where
         }
   ]
 
-  heard_all_on : (s : Standing) (bytes way : List ℕ) (last : Standing) (all : List ℕ) → Serves feed s bytes way last all → IsOn s.state.phase → HasStream s → HeardOn s last way all
-  heard_all_on s bytes way last all (none_served u w) on stream = record { heard = inl refl; quiet = refl; stream = stream }
+  heard_all_on : (s : Standing) (bytes way : List ℕ) (last : Standing) (all : List ℕ)
+      → Serves feed s bytes way last all → IsOn s.state.phase → HasStream s → HeardOn s last way all
+  heard_all_on s bytes way last all (none_served u w) on stream =
+      record { heard = inl refl; quiet = refl; stream = stream }
   heard_all_on s bytes way last all (piece_served u now v bs piece others w sent reply split takes more) on stream =
       let one : HeardOn u now [] (reply_bytes reply) = piece_heard_on u now piece reply takes on stream in
-      let rest : HeardOn now v (w ++ reply_bytes reply) sent = heard_all_on now others (w ++ reply_bytes reply) v sent more (heard_on u.state now.state one.heard on) one.stream in
+      let rest : HeardOn now v (w ++ reply_bytes reply) sent =
+          heard_all_on now others (w ++ reply_bytes reply) v sent more (heard_on u.state now.state one.heard on)
+          one.stream in
       record {
         heard = heard_further u.state now.state v.state one.heard rest.heard;
         quiet = rest.quiet ∙ (ap (λ b. w ++ b) one.quiet ∙ append-nil w);
@@ -222,7 +269,9 @@ module _ (feed : List Window) where
   given_stream a now sends stream = (
     stream.0,
     λ awake. subst (λ h. IsHeld h stream.0) (sym sends.held)
-        (stream.1 (λ shut. awake (ap (λ (x : State). x.phase) (shut_given feed 0 sends.place a.session.state now.session.state sends.given sends.gives shut) ∙ shut))),
+        (stream.1 (λ shut. awake
+            (ap (λ (x : State). x.phase) (shut_given feed 0 sends.place a.session.state now.session.state sends.given
+            sends.gives shut) ∙ shut))),
   )
 
   sends_on : (a now : Attending) → SendsAll feed a now → IsOn a.session.state.phase → HasStream a.session → TurnOn a now
@@ -239,7 +288,8 @@ module _ (feed : List Window) where
 
   replies_on : (a now new : Attending) (bytes : List ℕ) → TurnOn a now → RepliesToAll feed now new bytes → TurnOn a new
   replies_on a now new bytes t done =
-      let rest : HeardOn now.session new.session now.said.bytes new.said.bytes = heard_all_on now.session bytes now.said.bytes new.session new.said.bytes done.serves t.on t.stream in
+      let rest : HeardOn now.session new.session now.said.bytes new.said.bytes =
+          heard_all_on now.session bytes now.said.bytes new.session new.said.bytes done.serves t.on t.stream in
       record {
         given = t.given;
         place = t.place;
@@ -251,24 +301,30 @@ module _ (feed : List Window) where
         stream = rest.stream;
       }
 
-  turn_on : (a now : Attending) (before after : Heard) (turn : Turn) → Attends feed a now before after turn → IsOn a.session.state.phase → HasStream a.session → TurnOn a now
+  turn_on : (a now : Attending) (before after : Heard) (turn : Turn) → Attends feed a now before after turn
+      → IsOn a.session.state.phase → HasStream a.session → TurnOn a now
   turn_on a now before after turn (is_closed sends shut same) on stream = sends_on a now sends on stream
   turn_on a now before after turn (is_at_end goes same) on stream = sends_on a now goes.sends on stream
-  turn_on a now before after turn (replies mid bytes goes heard some few done) on stream = replies_on a mid now bytes (sends_on a mid goes.sends on stream) done
+  turn_on a now before after turn (replies mid bytes goes heard some few done) on stream =
+      replies_on a mid now bytes (sends_on a mid goes.sends on stream) done
 
-  wrote_more : (feeds : List (List Window)) (a now : Attending) (bytes : List ℕ) (t : TurnOn a now) → Wrote feeds now.session.state bytes → Wrote (feed ∷ feeds) a.session.state (all_sent t.given ++ bytes)
+  wrote_more : (feeds : List (List Window)) (a now : Attending) (bytes : List ℕ) (t : TurnOn a now)
+      → Wrote feeds now.session.state bytes → Wrote (feed ∷ feeds) a.session.state (all_sent t.given ++ bytes)
   wrote_more feeds a now bytes t w = record {
     asked = asks feed 0 t.given ++ w.asked;
-    are_asked = asks_then feed 0 t.place a.session.state t.state now.session.state t.given w.asked t.gives t.heard w.are_asked;
+    are_asked = asks_then feed 0 t.place a.session.state t.state now.session.state t.given w.asked t.gives t.heard
+        w.are_asked;
     bytes_are = ap (λ b. all_sent t.given ++ b) w.bytes_are ∙ sym (asks_bytes feed 0 t.given w.asked);
-    shown = λ k first pushed shown. asks_shown feed k 0 first pushed t.given w.asked shown.0 (w.shown k first pushed shown.1);
+    shown = λ k first pushed shown. asks_shown feed k 0 first pushed t.given w.asked shown.0
+        (w.shown k first pushed shown.1);
   }
 
 -- all turns
 abbrev AllWrote : List (List Window) → Attending → Attending → Type 0
 AllWrote feeds a b = (bytes : List ℕ) × (b.said.bytes ≡ a.said.bytes ++ bytes) × Wrote feeds a.session.state bytes
 
-turns_wrote : (feeds : List (List Window)) (a b : Attending) → TakesTurns a feeds b → IsOn a.session.state.phase → HasStream a.session → AllWrote feeds a b
+turns_wrote : (feeds : List (List Window)) (a b : Attending) → TakesTurns a feeds b → IsOn a.session.state.phase
+    → HasStream a.session → AllWrote feeds a b
 turns_wrote feeds a b (no_turn x) on stream = ([], sym (append-nil x.said.bytes), nothing_wrote x.session.state)
 turns_wrote feeds a b (turn_taken x now y feed more before after turn one rest) on stream =
     let t : TurnOn feed x now = turn_on feed x now before after turn one on stream in
@@ -280,9 +336,11 @@ turns_wrote feeds a b (turn_taken x now y feed more before after turn one rest) 
 
 -- the last of which failed
 abbrev FrontWrote : List (List Window) → Attending → Attending → Type 0
-FrontWrote feeds a b = (bytes front : List ℕ) × IsFrontOf front bytes × (b.said.bytes ≡ a.said.bytes ++ front) × Wrote feeds a.session.state bytes
+FrontWrote feeds a b = (bytes front : List ℕ) × IsFrontOf front bytes × (b.said.bytes ≡ a.said.bytes ++ front)
+    × Wrote feeds a.session.state bytes
 
-sent_wrote : (feed : List Window) (a : Attending) (u : State) (given : List Sent) (place : ℕ) → Gives feed 0 a.session.state given place u → Wrote (feed ∷ []) a.session.state (all_sent given)
+sent_wrote : (feed : List Window) (a : Attending) (u : State) (given : List Sent) (place : ℕ)
+    → Gives feed 0 a.session.state given place u → Wrote (feed ∷ []) a.session.state (all_sent given)
 sent_wrote feed a u given place gives = record {
   asked = asks feed 0 given ++ [];
   are_asked = asks_then feed 0 place a.session.state u u given [] gives (inl refl) tt;
@@ -290,22 +348,29 @@ sent_wrote feed a u given place gives = record {
   shown = λ k first pushed shown. asks_shown feed k 0 first pushed given [] shown.0 tt;
 }
 
-fault_wrote : (feed : List Window) (a b : Attending) (before after : Heard) (fault : LinkFault) → IsServeFault feed a b before after fault → IsOn a.session.state.phase → HasStream a.session → FrontWrote (feed ∷ []) a b
+fault_wrote : (feed : List Window) (a b : Attending) (before after : Heard) (fault : LinkFault)
+    → IsServeFault feed a b before after fault → IsOn a.session.state.phase → HasStream a.session
+    → FrontWrote (feed ∷ []) a b
 fault_wrote feed a b before after fault (at_send count fails same) on stream =
     let all : List ℕ = all_sent (fails.given ++ fails.last ∷ []) in
-    (all, take count all, (drop count all, sym (take-append-drop count all)), fails.said.bytes, sent_wrote feed a b.session.state (fails.given ++ fails.last ∷ []) fails.place fails.gives)
+    (all, take count all, (drop count all, sym (take-append-drop count all)), fails.said.bytes,
+        sent_wrote feed a b.session.state (fails.given ++ fails.last ∷ []) fails.place fails.gives)
 fault_wrote feed a b before after fault (at_read goes heard) on stream =
-    (all_sent goes.sends.given, all_sent goes.sends.given, ([], sym (append-nil (all_sent goes.sends.given))), goes.sends.said.bytes, sent_wrote feed a b.session.state goes.sends.given goes.sends.place goes.sends.gives)
+    (all_sent goes.sends.given, all_sent goes.sends.given, ([], sym (append-nil (all_sent goes.sends.given))),
+        goes.sends.said.bytes, sent_wrote feed a b.session.state goes.sends.given goes.sends.place goes.sends.gives)
 fault_wrote feed a b before after fault (at_reply count now bytes goes heard few fails counted) on stream =
     let t : TurnOn feed a now = sends_on feed a now goes.sends on stream in
     let u : TurnOn feed a fails.before = replies_on feed a now fails.before fails.front t fails.replies in
-    let one : HeardOn fails.before.session b.session [] (reply_bytes fails.reply) = piece_heard_on feed fails.before.session b.session fails.piece fails.reply fails.takes u.on u.stream in
+    let one : HeardOn fails.before.session b.session [] (reply_bytes fails.reply) =
+        piece_heard_on feed fails.before.session b.session fails.piece fails.reply fails.takes u.on u.stream in
     let part : fails.count < length (reply_bytes fails.reply) = fails.said.part in
     let none : length (reply_bytes fails.reply) ≡ 0 = ap length one.quiet in
     absurd (omega (arith, part, none))
 
-fails_wrote : (feeds : List (List Window)) (a b : Attending) → FailsInTurn a feeds b → IsOn a.session.state.phase → HasStream a.session → FrontWrote feeds a b
-fails_wrote feeds a b (fails_now x y feed before after fault one) on stream = fault_wrote feed x y before after fault one on stream
+fails_wrote : (feeds : List (List Window)) (a b : Attending) → FailsInTurn a feeds b → IsOn a.session.state.phase
+    → HasStream a.session → FrontWrote feeds a b
+fails_wrote feeds a b (fails_now x y feed before after fault one) on stream =
+    fault_wrote feed x y before after fault one on stream
 fails_wrote feeds a b (fails_later x now y feed more before after turn one rest) on stream =
     let t : TurnOn feed x now = turn_on feed x now before after turn one on stream in
     let w : FrontWrote more now y = fails_wrote more now y rest t.on t.stream in (
@@ -323,15 +388,20 @@ stream_of s stands = elim (open_or s.state.phase) [
   | inr awake ↦ let some : (stream : List ℕ) × StandsFor s stream = stands awake in (some.0, λ _. some.1.0)
 ]
 
-pub turns_sent : (feeds : List (List Window)) (old new : Attending) → old.session.state.phase ≡ Streaming → Stands old.session → TakesTurns old feeds new
+pub turns_sent : (feeds : List (List Window)) (old new : Attending) → old.session.state.phase ≡ Streaming
+    → Stands old.session → TakesTurns old feeds new
     → (bytes : List ℕ) × (new.said.bytes ≡ old.said.bytes ++ bytes) × SendsStretches feeds old.session.state bytes
 turns_sent feeds old new on stands turns =
-    let w : AllWrote feeds old new = turns_wrote feeds old new turns (inl on) (stream_of old.session stands) in (w.0, w.1, stretches feeds old.session.state w.0 (inl on) w.2)
+    let w : AllWrote feeds old new = turns_wrote feeds old new turns (inl on) (stream_of old.session stands) in
+        (w.0, w.1, stretches feeds old.session.state w.0 (inl on) w.2)
 
-pub turns_failed : (feeds : List (List Window)) (old new : Attending) → old.session.state.phase ≡ Streaming → Stands old.session → FailsInTurn old feeds new
-    → (bytes front : List ℕ) × IsFrontOf front bytes × (new.said.bytes ≡ old.said.bytes ++ front) × SendsStretches feeds old.session.state bytes
+pub turns_failed : (feeds : List (List Window)) (old new : Attending) → old.session.state.phase ≡ Streaming
+    → Stands old.session → FailsInTurn old feeds new
+    → (bytes front : List ℕ) × IsFrontOf front bytes × (new.said.bytes ≡ old.said.bytes ++ front)
+    × SendsStretches feeds old.session.state bytes
 turns_failed feeds old new on stands turns =
-    let w : FrontWrote feeds old new = fails_wrote feeds old new turns (inl on) (stream_of old.session stands) in (w.0, w.1, w.2, w.3, stretches feeds old.session.state w.0 (inl on) w.4)
+    let w : FrontWrote feeds old new = fails_wrote feeds old new turns (inl on) (stream_of old.session stands) in
+        (w.0, w.1, w.2, w.3, stretches feeds old.session.state w.0 (inl on) w.4)
 
 -- before records are sent
 before_in : (p : Phase) (feed : List Window) (s : State) (k : ℕ) → IsBefore p → sent_in p feed s k ≡ (s, sents.Wait)
@@ -341,18 +411,24 @@ before_in (Granted place) feed s k is = refl
 before_in Streaming feed s k is = absurd is
 before_in Closed feed s k is = absurd is
 
-before_given : (feed : List Window) (k last : ℕ) (s u : State) (given : List Sent) → IsBefore s.phase → Gives feed k s given last u → (u ≡ s) × (all_sent given ≡ [])
+before_given : (feed : List Window) (k last : ℕ) (s u : State) (given : List Sent) → IsBefore s.phase
+    → Gives feed k s given last u → (u ≡ s) × (all_sent given ≡ [])
 before_given feed k last s u [] is gives = (gives.1, refl)
 before_given feed k last s u (a ∷ more) is gives =
     let one : sent feed s k ≡ (s, sents.Wait) = before_in s.phase feed s k is in
     let same : (sent feed s k).0 ≡ s = ap (λ (x : State × Sent). x.0) one in
     let waits : a ≡ sents.Wait = sym gives.0 ∙ ap (λ (x : State × Sent). x.1) one in
-    let rest : (u ≡ s) × (all_sent more ≡ []) = before_given feed (place_behind feed k) last s u more is (subst (λ (t : State). Gives feed (place_behind feed k) t more last u) same gives.1) in
+    let rest : (u ≡ s) × (all_sent more ≡ []) =
+        before_given feed (place_behind feed k) last s u more is
+        (subst (λ (t : State). Gives feed (place_behind feed k) t more last u) same gives.1) in
     (rest.0, ap (λ b. sent_bytes b ++ all_sent more) waits ∙ rest.1)
 
-pub before_sent : (feed : List Window) (old new : Attending) → IsBefore old.session.state.phase → SendsAll feed old new → (new.session ≡ old.session) × (new.said.bytes ≡ old.said.bytes)
+pub before_sent : (feed : List Window) (old new : Attending) → IsBefore old.session.state.phase → SendsAll feed old new
+    → (new.session ≡ old.session) × (new.said.bytes ≡ old.said.bytes)
 before_sent feed old new is sends =
-    let one : (new.session.state ≡ old.session.state) × (all_sent sends.given ≡ []) = before_given feed 0 sends.place old.session.state new.session.state sends.given is sends.gives in (
-      ap (λ (x : State). record { state = x; held = new.session.held }) one.0 ∙ ap (λ h. record { state = old.session.state; held = h }) sends.held,
+    let one : (new.session.state ≡ old.session.state) × (all_sent sends.given ≡ []) =
+        before_given feed 0 sends.place old.session.state new.session.state sends.given is sends.gives in (
+      ap (λ (x : State). record { state = x; held = new.session.held }) one.0
+          ∙ ap (λ h. record { state = old.session.state; held = h }) sends.held,
       sends.said.bytes ∙ (ap (λ b. old.said.bytes ++ b) one.1 ∙ append-nil old.said.bytes),
     )

@@ -1,24 +1,29 @@
 -- A session can be served from its feed after each command.
-use Rattle.std.proofs.Common.{◌≡◌, ℕ, ◌+◌, ◌-◌, ◌<◌, ◌≤◌, inl, inr, zero, suc, refl, sym, ap, subst, ◌∙◌, arith, Bool, true, false, List, [], ◌∷◌, length, length-set, replicate, set, Option, Some, None, slice_get, if◌then◌else◌}
+use Rattle.std.proofs.Common.{◌≡◌, ℕ, ◌+◌, ◌-◌, ◌<◌, ◌≤◌, inl, inr, zero, suc, refl, sym, ap, subst, ◌∙◌, arith, Bool,
+    true, false, List, [], ◌∷◌, length, length-set, replicate, set, Option, Some, None, slice_get, if◌then◌else◌}
 use Rattle.std.proofs.lemmas.Bool.Decides.{leb_tells}
 use Rattle.std.specs.List.{position_from}
 use Rattle.std.specs.Option.{option_and_then}
 use Rattle.slink_wire.specs.declared.command.Command.{Command}
-use Rattle.slink_wire.specs.declared.command.Command.TheVariants.{Hello, Station, SelectAll, Data, Fetch, End, Bye, Other}
+use Rattle.slink_wire.specs.declared.command.Command.TheVariants.{Hello, Station, SelectAll, Data, Fetch, End, Bye,
+    Other}
 use Rattle.slink_feed.specs.declared.grant.Mode.{Mode}
 use Rattle.slink_feed.specs.declared.grant.Mode.TheVariants as Modes
 use Rattle.slink_feed.specs.declared.session.Phase.{Phase}
 use Rattle.slink_feed.specs.declared.session.Phase.TheVariants.{Fresh, Chosen, Granted, Streaming, Closed}
 use Rattle.slink_feed.specs.Grant.{grant_of}
 use Rattle.slink_feed.specs.Rings.{station_at}
-use Rattle.slink_feed.specs.Session.{Fits, IsReached, State, IsChosenOf, at, grant_at, answered, answered_in, asked, chosen, granted, in_chosen, in_fresh, in_granted, in_streaming}
+use Rattle.slink_feed.specs.Session.{Fits, IsReached, State, IsChosenOf, at, grant_at, answered, answered_in, asked,
+    chosen, granted, in_chosen, in_fresh, in_granted, in_streaming}
 use Rattle.slink_feed.specs.Window.{Window, ahead_of, oldest_of, resolve_of, with_record}
 use Rattle.slink_feed.proofs.Reached.{reached_with, reached_without}
 
 some_is : (p q : ℕ) → Some p ≡ Some q → p ≡ q
 some_is p q e = cc e
 
-within_by : (p : Window → Bool) (i k : ℕ) (w : Window) (ws : List Window) (t : Bool) → (position_from p (i + 1) ws ≡ Some k → k < (i + 1) + length ws) → (if t then Some i else position_from p (i + 1) ws) ≡ Some k → k < i + length (w ∷ ws)
+within_by : (p : Window → Bool) (i k : ℕ) (w : Window) (ws : List Window) (t : Bool)
+    → (position_from p (i + 1) ws ≡ Some k → k < (i + 1) + length ws)
+    → (if t then Some i else position_from p (i + 1) ws) ≡ Some k → k < i + length (w ∷ ws)
 within_by p i k w ws true more e = let at : i ≡ k = some_is i k e in omega (arith, at)
 within_by p i k w ws false more e = let lt : k < (i + 1) + length ws = more e in omega (arith, lt)
 
@@ -29,9 +34,12 @@ first_within p i k (w ∷ ws) e = within_by p i k w ws (p w) (first_within p (i 
 
 resolved_within : (w : Window) (seq p : ℕ) → resolve_of w seq ≡ Some p → p ≤ w.next
 resolved_within w seq p e = elim (leb_tells (ahead_of w seq) (w.next - oldest_of w)) [
-  | inl passes ↦ let at : oldest_of w + ahead_of w seq ≡ p = some_is (oldest_of w + ahead_of w seq) p (sym (ap (λ t. if t then Some (oldest_of w + ahead_of w seq) else None) passes.0) ∙ e) in
+  | inl passes ↦ let at : oldest_of w + ahead_of w seq ≡ p =
+  some_is (oldest_of w + ahead_of w seq) p
+  (sym (ap (λ t. if t then Some (oldest_of w + ahead_of w seq) else None) passes.0) ∙ e) in
       omega (arith, at, passes.1)
-  | inr fails ↦ absurd (let bad : None ≡ Some p = sym (ap (λ t. if t then Some (oldest_of w + ahead_of w seq) else None) fails.0) ∙ e in cc bad)
+  | inr fails ↦ absurd (let bad : None ≡ Some p = sym
+  (ap (λ t. if t then Some (oldest_of w + ahead_of w seq) else None) fails.0) ∙ e in cc bad)
 ]
 
 granted_within : (mode : Mode) (number : Option ℕ) (w : Window) (p : ℕ) → grant_of mode number w ≡ Some p → p ≤ w.next
@@ -40,22 +48,33 @@ granted_within Modes.Fetch None w p e = let at : oldest_of w ≡ p = some_is (ol
 granted_within Modes.Data (Some seq) w p e = resolved_within w seq p e
 granted_within Modes.Fetch (Some seq) w p e = resolved_within w seq p e
 
-fits_chosen : (feed : List Window) (s : State) (o : Option ℕ) → ((k : ℕ) → o ≡ Some k → k < length feed) → Fits feed s → Fits feed (chosen o s).0
+fits_chosen : (feed : List Window) (s : State) (o : Option ℕ) → ((k : ℕ) → o ≡ Some k → k < length feed) → Fits feed s
+    → Fits feed (chosen o s).0
 fits_chosen feed s None within f = f
 fits_chosen feed s (Some k) within f = (within k refl, reached_without feed s.grants k f.1)
 
-fits_station : (feed : List Window) (s : State) (sta : List ℕ) (net : Option (List ℕ)) → Fits feed s → Fits feed (chosen (station_at feed sta net) s).0
-fits_station feed s sta net f = fits_chosen feed s (station_at feed sta net) (λ k e. let lt : k < 0 + length feed = first_within _ 0 k feed e in omega (arith, lt)) f
+fits_station : (feed : List Window) (s : State) (sta : List ℕ) (net : Option (List ℕ)) → Fits feed s
+    → Fits feed (chosen (station_at feed sta net) s).0
+fits_station feed s sta net f =
+    fits_chosen feed s (station_at feed sta net) (λ k e. let lt : k < 0 + length feed = first_within _ 0 k feed e in
+    omega (arith, lt)) f
 
-fits_granted : (feed : List Window) (s : State) (mode : Mode) (k : ℕ) (w : Window) (o : Option ℕ) → slice_get feed k ≡ Some w → k < length feed → ((p : ℕ) → o ≡ Some p → p ≤ w.next) → Fits feed s → Fits feed (granted mode k o s).0
+fits_granted : (feed : List Window) (s : State) (mode : Mode) (k : ℕ) (w : Window) (o : Option ℕ)
+    → slice_get feed k ≡ Some w → k < length feed → ((p : ℕ) → o ≡ Some p → p ≤ w.next) → Fits feed s
+    → Fits feed (granted mode k o s).0
 fits_granted feed s mode k w None at lt within f = f
-fits_granted feed s mode k w (Some p) at lt within f = (lt, reached_with feed s.grants k (record { mode = mode; position = p }) (w, at, within p refl) f.1)
+fits_granted feed s mode k w (Some p) at lt within f =
+    (lt, reached_with feed s.grants k (record { mode = mode; position = p }) (w, at, within p refl) f.1)
 
-fits_ring : (feed : List Window) (s : State) (mode : Mode) (k : ℕ) (number : Option ℕ) (r : Option Window) → slice_get feed k ≡ r → k < length feed → Fits feed s → Fits feed (granted mode k (option_and_then (grant_of mode number) r) s).0
+fits_ring : (feed : List Window) (s : State) (mode : Mode) (k : ℕ) (number : Option ℕ) (r : Option Window)
+    → slice_get feed k ≡ r → k < length feed → Fits feed s
+    → Fits feed (granted mode k (option_and_then (grant_of mode number) r) s).0
 fits_ring feed s mode k number None at lt f = f
-fits_ring feed s mode k number (Some w) at lt f = fits_granted feed s mode k w (grant_of mode number w) at lt (λ p e. granted_within mode number w p e) f
+fits_ring feed s mode k number (Some w) at lt f =
+    fits_granted feed s mode k w (grant_of mode number w) at lt (λ p e. granted_within mode number w p e) f
 
-fits_asked : (feed : List Window) (s : State) (mode : Mode) (k : ℕ) (number : Option ℕ) → k < length feed → Fits feed s → Fits feed (asked feed k mode number s).0
+fits_asked : (feed : List Window) (s : State) (mode : Mode) (k : ℕ) (number : Option ℕ) → k < length feed → Fits feed s
+    → Fits feed (asked feed k mode number s).0
 fits_asked feed s mode k number lt f = fits_ring feed s mode k number (slice_get feed k) refl lt f
 
 fits_fresh : (feed : List Window) (s : State) (c : Command) → Fits feed s → Fits feed (in_fresh feed s c).0
@@ -68,7 +87,8 @@ fits_fresh feed s End f = f
 fits_fresh feed s Bye f = (tt, f.1)
 fits_fresh feed s Other f = f
 
-fits_when_chosen : (feed : List Window) (k : ℕ) (s : State) (c : Command) → k < length feed → Fits feed s → Fits feed (in_chosen feed k s c).0
+fits_when_chosen : (feed : List Window) (k : ℕ) (s : State) (c : Command) → k < length feed → Fits feed s
+    → Fits feed (in_chosen feed k s c).0
 fits_when_chosen feed k s Hello lt f = f
 fits_when_chosen feed k s (Station sta net) lt f = fits_station feed s sta net f
 fits_when_chosen feed k s SelectAll lt f = f
@@ -78,7 +98,8 @@ fits_when_chosen feed k s End lt f = f
 fits_when_chosen feed k s Bye lt f = (tt, f.1)
 fits_when_chosen feed k s Other lt f = f
 
-fits_when_granted : (feed : List Window) (k : ℕ) (s : State) (c : Command) → k < length feed → Fits feed s → Fits feed (in_granted feed k s c).0
+fits_when_granted : (feed : List Window) (k : ℕ) (s : State) (c : Command) → k < length feed → Fits feed s
+    → Fits feed (in_granted feed k s c).0
 fits_when_granted feed k s Hello lt f = f
 fits_when_granted feed k s (Station sta net) lt f = fits_station feed s sta net f
 fits_when_granted feed k s SelectAll lt f = f
@@ -98,14 +119,16 @@ fits_streaming feed s (Fetch number) f = f
 fits_streaming feed s End f = f
 fits_streaming feed s Other f = f
 
-fits_in : (phase : Phase) (feed : List Window) (s : State) (c : Command) → s.phase ≡ phase → Fits feed s → Fits feed (answered_in phase feed s c).0
+fits_in : (phase : Phase) (feed : List Window) (s : State) (c : Command) → s.phase ≡ phase → Fits feed s
+    → Fits feed (answered_in phase feed s c).0
 fits_in Fresh feed s c e f = fits_fresh feed s c f
 fits_in (Chosen k) feed s c e f = fits_when_chosen feed k s c (subst (IsChosenOf feed) e f.0) f
 fits_in (Granted k) feed s c e f = fits_when_granted feed k s c (subst (IsChosenOf feed) e f.0) f
 fits_in Streaming feed s c e f = fits_streaming feed s c f
 fits_in Closed feed s c e f = f
 
-pub fits_answered : (feed : List Window) (s new : State) (c : Command) → Fits feed s → (answered feed s c).0 ≡ new → Fits feed new
+pub fits_answered : (feed : List Window) (s new : State) (c : Command) → Fits feed s → (answered feed s c).0 ≡ new
+    → Fits feed new
 fits_answered feed s new c f e = subst (Fits feed) e (fits_in s.phase feed s c refl f)
 
 -- a new session has no grant
@@ -115,25 +138,32 @@ none_at (suc n) zero = refl
 none_at (suc n) (suc k) = none_at n k
 
 pub fits_new : (feed : List Window) (s : State) → s ≡ at Fresh (replicate 16 None) → Fits feed s
-fits_new feed s e = subst (Fits feed) (sym e) (tt, λ k g is. absurd (let bad : None ≡ Some g = sym (none_at 16 k) ∙ is in cc bad))
+fits_new feed s e = subst (Fits feed) (sym e) (tt, λ k g is. absurd (let bad : None ≡ Some g = sym (none_at 16 k)
+    ∙ is in cc bad))
 
 -- once a record was pushed
-reached_pushed : (ws : List Window) (k : ℕ) (w : Window) (bytes : List ℕ) (j p : ℕ) → slice_get ws k ≡ Some w → IsReached ws j p → IsReached (set ws k (with_record w bytes)) j p
+reached_pushed : (ws : List Window) (k : ℕ) (w : Window) (bytes : List ℕ) (j p : ℕ) → slice_get ws k ≡ Some w
+    → IsReached ws j p → IsReached (set ws k (with_record w bytes)) j p
 reached_pushed [] k w bytes j p here reached = absurd (let bad : None ≡ Some w = here in cc bad)
 reached_pushed (v ∷ ws) zero w bytes zero p here reached =
     let both : Some reached.0 ≡ Some w = sym reached.1 ∙ here in
     let one : reached.0 ≡ w = cc both in
-    (with_record w bytes, refl, let le : p ≤ w.next = subst (λ (x : Window). p ≤ x.next) one reached.2 in omega (arith, le))
+    (with_record w bytes, refl, let le : p ≤ w.next = subst (λ (x : Window). p ≤ x.next) one reached.2 in
+        omega (arith, le))
 reached_pushed (v ∷ ws) zero w bytes (suc j) p here reached = reached
 reached_pushed (v ∷ ws) (suc k) w bytes zero p here reached = reached
 reached_pushed (v ∷ ws) (suc k) w bytes (suc j) p here reached = reached_pushed ws k w bytes j p here reached
 
-chosen_pushed : (phase : Phase) (ws : List Window) (k : ℕ) (v : Window) → IsChosenOf ws phase → IsChosenOf (set ws k v) phase
+chosen_pushed : (phase : Phase) (ws : List Window) (k : ℕ) (v : Window) → IsChosenOf ws phase
+    → IsChosenOf (set ws k v) phase
 chosen_pushed Fresh ws k v h = tt
 chosen_pushed (Chosen j) ws k v h = rw (length-set ws k v) h
 chosen_pushed (Granted j) ws k v h = rw (length-set ws k v) h
 chosen_pushed Streaming ws k v h = tt
 chosen_pushed Closed ws k v h = tt
 
-pub fits_pushed : (feed new : List Window) (k : ℕ) (w : Window) (bytes : List ℕ) (s : State) → slice_get feed k ≡ Some w → new ≡ set feed k (with_record w bytes) → Fits feed s → Fits new s
-fits_pushed feed new k w bytes s here e f = subst (λ ws. Fits ws s) (sym e) (chosen_pushed s.phase feed k (with_record w bytes) f.0, λ j g is. reached_pushed feed k w bytes j g.position here (f.1 j g is))
+pub fits_pushed : (feed new : List Window) (k : ℕ) (w : Window) (bytes : List ℕ) (s : State)
+    → slice_get feed k ≡ Some w → new ≡ set feed k (with_record w bytes) → Fits feed s → Fits new s
+fits_pushed feed new k w bytes s here e f =
+    subst (λ ws. Fits ws s) (sym e) (chosen_pushed s.phase feed k (with_record w bytes) f.0,
+    λ j g is. reached_pushed feed k w bytes j g.position here (f.1 j g is))

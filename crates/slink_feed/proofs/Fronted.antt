@@ -1,5 +1,7 @@
 -- Of the packets of a link that is cut off, the whole ones are told.
-use Rattle.std.proofs.Common.{◌≡◌, ℕ, ◌+◌, ◌-◌, ◌/◌, ◌^◌, ◌<◌, ◌≤◌, inl, inr, suc, refl, sym, ap, subst, ◌∙◌, arith, true, ◌==◌, if◌then◌else◌, List, [], ◌∷◌, ◌++◌, append_assoc, length, length-append, take, drop, take-append-drop, Option, Some, None, IfSome, codes}
+use Rattle.std.proofs.Common.{◌≡◌, ℕ, ◌+◌, ◌-◌, ◌/◌, ◌^◌, ◌<◌, ◌≤◌, inl, inr, suc, refl, sym, ap, subst, ◌∙◌, arith,
+    true, ◌==◌, if◌then◌else◌, List, [], ◌∷◌, ◌++◌, append_assoc, length, length-append, take, drop, take-append-drop,
+    Option, Some, None, IfSome, codes}
 use Rattle.std.proofs.lemmas.Bool.{cases_lt}
 use Rattle.std.proofs.lemmas.Bool.Decides.{eqb_tells}
 use Rattle.std.proofs.lemmas.List.{length-drop, take-append-le}
@@ -14,51 +16,69 @@ use Rattle.slink_feed.specs.declared.dialogue.Stage.{Stage}
 use Rattle.slink_feed.specs.declared.dialogue.Stage.TheVariants.{Packets}
 use Rattle.slink_feed.specs.Cutting.{IsBegun, IsWhole}
 use Rattle.slink_feed.specs.Delivered.{AreWanted, Numbered, all_packets, record_events}
-use Rattle.slink_feed.specs.Dialogue.{Talk, Whole, Packet, at_packet, bearer, ended, heard, heard_at, if_wanted, next_at, told}
+use Rattle.slink_feed.specs.Dialogue.{Talk, Whole, Packet, at_packet, bearer, ended, heard, heard_at, if_wanted,
+    next_at, told}
 use Rattle.slink_feed.specs.Listening.{AreBrought, Brought, Listening, Reads, bytes_of, events_of, talk_after, telling}
 use Rattle.slink_feed.proofs.Heard.{begun_none}
 use Rattle.slink_feed.proofs.Wholes.{front_begun}
 
 packet_long : (n : ℕ) (bytes : List ℕ) → length bytes ≡ 512 → length (packet_bytes n bytes) ≡ 520
 packet_long n bytes long =
-    let front : length (codes "SL" ++ hexadecimal 6 n) ≡ 8 = length-append (codes "SL") (hexadecimal 6 n) ∙ omega (arith, length-hexadecimal 6 n) in
+    let front : length (codes "SL" ++ hexadecimal 6 n) ≡ 8 = length-append (codes "SL") (hexadecimal 6 n)
+        ∙ omega (arith, length-hexadecimal 6 n) in
     length-append (codes "SL" ++ hexadecimal 6 n) bytes ∙ omega (arith, front, long)
 
-packet_whole : (t : Talk) (r : Numbered) → t.stage ≡ Packets → length r.bytes ≡ 512 → r.number < 2 ^ 24 → IsWhole t.stage (packet_bytes r.number r.bytes) (Packet r.number r.bytes)
-packet_whole t r at long small = subst (λ (s : Stage). IsWhole s (packet_bytes r.number r.bytes) (Packet r.number r.bytes)) (sym at) (read_back r.number r.bytes small, packet_long r.number r.bytes long)
+packet_whole : (t : Talk) (r : Numbered) → t.stage ≡ Packets → length r.bytes ≡ 512 → r.number < 2 ^ 24
+    → IsWhole t.stage (packet_bytes r.number r.bytes) (Packet r.number r.bytes)
+packet_whole t r at long small =
+    subst (λ (s : Stage). IsWhole s (packet_bytes r.number r.bytes) (Packet r.number r.bytes)) (sym at)
+    (read_back r.number r.bytes small, packet_long r.number r.bytes long)
 
 same_here : (n m : ℕ) → n ≡ m → (n == m) ≡ true
 same_here n m e = elim (eqb_tells n m) [ inl same ↦ same.0 | inr other ↦ absurd (other.1 e) ]
 
-pub wanted_told : (o : Option ℕ) (k n : ℕ) (bytes : List ℕ) (t : Talk) → IfSome o (λ want. n ≡ want) → if_wanted o k n bytes t ≡ told k n bytes t
+pub wanted_told : (o : Option ℕ) (k n : ℕ) (bytes : List ℕ) (t : Talk) → IfSome o (λ want. n ≡ want)
+    → if_wanted o k n bytes t ≡ told k n bytes t
 wanted_told None k n bytes t is = refl
-wanted_told (Some want) k n bytes t is = ap (λ b. if b then told k n bytes t else ended (endings.Gap k want n) t) (same_here n want is)
+wanted_told (Some want) k n bytes t is =
+    ap (λ b. if b then told k n bytes t else ended (endings.Gap k want n) t) (same_here n want is)
 
-packet_heard : (t : Talk) (r : Numbered) → t.stage ≡ Packets → bearer t.wants r.bytes ≡ Some r.place → IfSome (next_at t.wants r.place) (λ want. r.number ≡ want) → heard t (Packet r.number r.bytes) ≡ told r.place r.number r.bytes t
+packet_heard : (t : Talk) (r : Numbered) → t.stage ≡ Packets → bearer t.wants r.bytes ≡ Some r.place
+    → IfSome (next_at t.wants r.place) (λ want. r.number ≡ want)
+    → heard t (Packet r.number r.bytes) ≡ told r.place r.number r.bytes t
 packet_heard t r at bears wanted =
     ap (λ (s : Stage). heard_at s t (Packet r.number r.bytes)) at
-    ∙ (ap (λ o. at_packet o r.number r.bytes t) bears ∙ wanted_told (next_at t.wants r.place) r.place r.number r.bytes t wanted)
+    ∙ (ap (λ o. at_packet o r.number r.bytes t) bears
+    ∙ wanted_told (next_at t.wants r.place) r.place r.number r.bytes t wanted)
 
 take_past : (p rest : List ℕ) (m : ℕ) → take (length p + m) (p ++ rest) ≡ p ++ take m rest
 take_past [] rest m = ap (λ n. take n rest) (let e : 0 + m ≡ m = omega arith in e)
-take_past (x ∷ p) rest m = ap (λ n. take n (x ∷ (p ++ rest))) (let e : suc (length p) + m ≡ suc (length p + m) = omega arith in e) ∙ ap (λ xs. x ∷ xs) (take_past p rest m)
+take_past (x ∷ p) rest m =
+    ap (λ n. take n (x ∷ (p ++ rest))) (let e : suc (length p) + m ≡ suc (length p + m) = omega arith in e)
+    ∙ ap (λ xs. x ∷ xs) (take_past p rest m)
 
 -- so many bytes of the packets were delivered: what is told of them, and what the client comes to
 abbrev Fronted : Talk → List Numbered → ℕ → Type 0
 Fronted t items d = (now : Listening) × Reads t (take d (all_packets items)) (record_events (take (d / 520) items)) now
 
 none_fronted : (t : Talk) → Fronted t [] 0
-none_fronted t = (record { talk = t; kept = [] }, record { brought = []; are_brought = tt; bytes = refl; events_are = refl; talk = refl; is_begun = begun_none t.stage })
+none_fronted t = (record { talk = t; kept = [] },
+    record { brought = []; are_brought = tt; bytes = refl; events_are = refl; talk = refl;
+    is_begun = begun_none t.stage })
 
 -- the first packet isn't whole
-part_fronted : (t : Talk) (r : Numbered) (rs : List Numbered) (d : ℕ) → t.stage ≡ Packets → length r.bytes ≡ 512 → r.number < 2 ^ 24 → d < 520 → Fronted t (r ∷ rs) d
+part_fronted : (t : Talk) (r : Numbered) (rs : List Numbered) (d : ℕ) → t.stage ≡ Packets → length r.bytes ≡ 512
+    → r.number < 2 ^ 24 → d < 520 → Fronted t (r ∷ rs) d
 part_fronted t r rs d at long small lt =
     let p : List ℕ = packet_bytes r.number r.bytes in
     let all : length p ≡ 520 = packet_long r.number r.bytes long in
-    let stream : take d (p ++ all_packets rs) ≡ take d p = take-append-le d p (all_packets rs) (omega (arith, all, lt)) in
+    let stream : take d (p ++ all_packets rs) ≡ take d p =
+        take-append-le d p (all_packets rs) (omega (arith, all, lt)) in
     let none : d / 520 ≡ 0 = omega (arith, lt) in
-    let begun : IsBegun t.stage (take d p) = front_begun t.stage (take d p) (drop d p) (Packet r.number r.bytes) (omega (arith, length-drop d p, all, lt))
-    (subst (λ (xs : List ℕ). IsWhole t.stage xs (Packet r.number r.bytes)) (sym (take-append-drop d p)) (packet_whole t r at long small)) in
+    let begun : IsBegun t.stage (take d p) =
+        front_begun t.stage (take d p) (drop d p) (Packet r.number r.bytes) (omega (arith, length-drop d p, all, lt))
+    (subst (λ (xs : List ℕ). IsWhole t.stage xs (Packet r.number r.bytes)) (sym (take-append-drop d p))
+        (packet_whole t r at long small)) in
     let now : Listening = record { talk = t; kept = take d p } in (
       now,
       subst (λ (xs : List ℕ). Reads t xs (record_events (take (d / 520) (r ∷ rs))) now) (sym stream)
@@ -67,7 +87,8 @@ part_fronted t r rs d at long small lt =
     )
 
 -- the first packet is told
-whole_fronted : (t : Talk) (r : Numbered) (rs : List Numbered) (d : ℕ) → t.stage ≡ Packets → AreWanted t (r ∷ rs) → 520 ≤ d → Fronted (told r.place r.number r.bytes t).0 rs (d - 520) → Fronted t (r ∷ rs) d
+whole_fronted : (t : Talk) (r : Numbered) (rs : List Numbered) (d : ℕ) → t.stage ≡ Packets → AreWanted t (r ∷ rs)
+    → 520 ≤ d → Fronted (told r.place r.number r.bytes t).0 rs (d - 520) → Fronted t (r ∷ rs) d
 whole_fronted t r rs d at are ge more =
     let p : List ℕ = packet_bytes r.number r.bytes in
     let u : Talk = (told r.place r.number r.bytes t).0 in
@@ -76,25 +97,33 @@ whole_fronted t r rs d at are ge more =
     let h : heard t w ≡ told r.place r.number r.bytes t = packet_heard t r at are.2 are.3 in
     let all : length p ≡ 520 = packet_long r.number r.bytes are.0 in
     let stream : take d (p ++ all_packets rs) ≡ p ++ take (d - 520) (all_packets rs) =
-    ap (λ n. take n (p ++ all_packets rs)) (let e : d ≡ length p + (d - 520) = omega (arith, all, ge) in e) ∙ take_past p (all_packets rs) (d - 520) in
+    ap (λ n. take n (p ++ all_packets rs)) (let e : d ≡ length p + (d - 520) = omega (arith, all, ge) in e)
+        ∙ take_past p (all_packets rs) (d - 520) in
     let count : d / 520 ≡ suc ((d - 520) / 520) = omega (arith, ge) in
-    let reading : Reads t (p ++ take (d - 520) (all_packets rs)) (events.Record r.place r.number r.bytes ∷ record_events (take ((d - 520) / 520) rs)) more.0 = record {
+    let reading : Reads t (p ++ take (d - 520) (all_packets rs))
+        (events.Record r.place r.number r.bytes ∷ record_events (take ((d - 520) / 520) rs)) more.0 = record {
       brought = record { bytes = p; whole = w } ∷ bs;
-      are_brought = (packet_whole t r at are.0 are.1, subst (λ (x : Talk × Event). AreBrought x.0 bs) (sym h) more.1.are_brought);
+      are_brought = (packet_whole t r at are.0 are.1,
+          subst (λ (x : Talk × Event). AreBrought x.0 bs) (sym h) more.1.are_brought);
       bytes = ap (λ xs. p ++ xs) more.1.bytes ∙ sym (append_assoc p (bytes_of bs) more.0.kept);
-      events_are = ap (λ es. events.Record r.place r.number r.bytes ∷ es) more.1.events_are ∙ ap (λ (x : Talk × Event). telling x.1 ++ events_of x.0 bs) (sym h);
+      events_are = ap (λ es. events.Record r.place r.number r.bytes ∷ es) more.1.events_are
+          ∙ ap (λ (x : Talk × Event). telling x.1 ++ events_of x.0 bs) (sym h);
       talk = more.1.talk ∙ ap (λ (x : Talk × Event). talk_after x.0 bs) (sym h);
       is_begun = more.1.is_begun;
     } in (
       more.0,
       subst (λ (xs : List ℕ). Reads t xs (record_events (take (d / 520) (r ∷ rs))) more.0) (sym stream)
-          (subst (λ n. Reads t (p ++ take (d - 520) (all_packets rs)) (record_events (take n (r ∷ rs))) more.0) (sym count) reading),
+          (subst (λ n. Reads t (p ++ take (d - 520) (all_packets rs)) (record_events (take n (r ∷ rs))) more.0)
+              (sym count) reading),
     )
 
-pub fronts_told : (items : List Numbered) (t : Talk) (d : ℕ) → t.stage ≡ Packets → AreWanted t items → d ≤ length (all_packets items) → Fronted t items d
-fronts_told [] t d at are within = let none : d ≡ 0 = omega (arith, within) in subst (λ n. Fronted t [] n) (sym none) (none_fronted t)
+pub fronts_told : (items : List Numbered) (t : Talk) (d : ℕ) → t.stage ≡ Packets → AreWanted t items
+    → d ≤ length (all_packets items) → Fronted t items d
+fronts_told [] t d at are within = let none : d ≡ 0 = omega (arith, within) in
+    subst (λ n. Fronted t [] n) (sym none) (none_fronted t)
 fronts_told (r ∷ rs) t d at are within = elim (cases_lt d 520) [
   | inl lt ↦ part_fronted t r rs d at are.0 are.1 lt
   | inr ge ↦ whole_fronted t r rs d at are ge (fronts_told rs (told r.place r.number r.bytes t).0 (d - 520) at are.4
-      (omega (arith, within, ge, length-append (packet_bytes r.number r.bytes) (all_packets rs), packet_long r.number r.bytes are.0)))
+      (omega (arith, within, ge, length-append (packet_bytes r.number r.bytes) (all_packets rs),
+          packet_long r.number r.bytes are.0)))
 ]

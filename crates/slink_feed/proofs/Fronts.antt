@@ -1,5 +1,6 @@
 -- The elements of a list, by their indices.
-use Rattle.std.proofs.Common.{◌≡◌, ℕ, ◌+◌, ◌-◌, ◌<◌, zero, suc, refl, sym, ap, ◌∙◌, arith, List, [], ◌∷◌, ◌++◌, append_assoc, length, take, take-add, take_all, drop, length-drop, Some, slice_get}
+use Rattle.std.proofs.Common.{◌≡◌, ℕ, ◌+◌, ◌-◌, ◌<◌, zero, suc, refl, sym, ap, ◌∙◌, arith, List, [], ◌∷◌, ◌++◌,
+    append_assoc, length, take, take-add, take_all, drop, length-drop, Some, slice_get}
 use Rattle.std.proofs.lemmas.List.{take_rest}
 
 pub get_left : (xs ys : List ℕ) (i : ℕ) → i < length xs → slice_get (xs ++ ys) i ≡ slice_get xs i
@@ -12,11 +13,13 @@ get_here [] ys y = refl
 get_here (x ∷ xs) ys y = get_here xs ys y
 
 -- what was taken in two parts
-pub took_more : (start kept new bytes : List ℕ) (used m : ℕ) → kept ≡ start ++ take used bytes → new ≡ kept ++ take m (take (length bytes - used) (drop used bytes)) → new ≡ start ++ take (used + m) bytes
+pub took_more : (start kept new bytes : List ℕ) (used m : ℕ) → kept ≡ start ++ take used bytes
+    → new ≡ kept ++ take m (take (length bytes - used) (drop used bytes)) → new ≡ start ++ take (used + m) bytes
 took_more start kept new bytes used m before more =
     more ∙ (ap (λ ks. ks ++ take m (take (length bytes - used) (drop used bytes))) before
     ∙ (append_assoc start (take used bytes) (take m (take (length bytes - used) (drop used bytes)))
-    ∙ ap (λ r. start ++ r) (ap (λ r. take used bytes ++ take m r) (take_rest bytes used) ∙ sym (take-add used m bytes))))
+    ∙ ap (λ r. start ++ r) (ap (λ r. take used bytes ++ take m r) (take_rest bytes used)
+    ∙ sym (take-add used m bytes))))
 
 -- bytes from an offset on, as a slice has them
 pub from_offset : (bytes : List ℕ) (start : ℕ) → take (length bytes - start) (drop start bytes) ≡ drop start bytes

@@ -1,5 +1,6 @@
 -- A client that says a line or tells of a record goes on with its link.
-use Rattle.std.proofs.Common.{◌≡◌, ◌≢◌, ℕ, ◌+◌, ◌<◌, refl, sym, subst, arith, Bool, true, false, ◌==◌, if◌then◌else◌, List, [], length, ap, Option, Some, None}
+use Rattle.std.proofs.Common.{◌≡◌, ◌≢◌, ℕ, ◌+◌, ◌<◌, refl, sym, subst, arith, Bool, true, false, ◌==◌, if◌then◌else◌,
+    List, [], length, ap, Option, Some, None}
 use Rattle.slink_feed.specs.declared.dialogue.Answer.{Answer}
 use Rattle.slink_feed.specs.declared.dialogue.Answer.TheVariants.{Granted, Refusal, Neither}
 use Rattle.slink_feed.specs.declared.dialogue.Ending.{Ending}
@@ -8,7 +9,8 @@ use Rattle.slink_feed.specs.declared.dialogue.Event.{Event}
 use Rattle.slink_feed.specs.declared.dialogue.Stage.{Stage}
 use Rattle.slink_feed.specs.declared.dialogue.Stage.TheVariants.{Unlinked, Station, Number, Packets, Ended}
 use Rattle.slink_feed.specs.declared.dialogue.Wanted.{Wanted}
-use Rattle.slink_feed.specs.Dialogue.{Talk, Whole, Reply, Packet, End, Garbage, answer_of, at_packet, bearer, ended, heard_at, if_wanted, next_at, says_number, says_place, to_answer, to_place, told, want_at}
+use Rattle.slink_feed.specs.Dialogue.{Talk, Whole, Reply, Packet, End, Garbage, answer_of, at_packet, bearer, ended,
+    heard_at, if_wanted, next_at, says_number, says_place, to_answer, to_place, told, want_at}
 use Rattle.slink_feed.specs.Fetching.{line_said, record_told}
 use Rattle.slink_feed.specs.Listening.{Brings, IsLinked, Listening, begun, whole}
 
@@ -28,12 +30,14 @@ at_place : (t : Talk) (k : ℕ) (o : Option Wanted) → GoesOn (to_place o k t)
 at_place t k None = goes_on tt
 at_place t k (Some w) = goes_on tt
 
-at_answer : (t : Talk) (k : ℕ) (next : Talk × Event) (answer : Answer) → GoesOn next → GoesOn (to_answer answer k next t)
+at_answer : (t : Talk) (k : ℕ) (next : Talk × Event) (answer : Answer) → GoesOn next
+    → GoesOn (to_answer answer k next t)
 at_answer t k next Granted on = on
 at_answer t k next Refusal on = at_end t (endings.Refused k)
 at_answer t k next Neither on = at_end t endings.Garbage
 
-at_number : (t : Talk) (k n want : ℕ) (r : List ℕ) (same : Bool) → IsLinked t.stage → GoesOn (if same then told k n r t else ended (endings.Gap k want n) t)
+at_number : (t : Talk) (k n want : ℕ) (r : List ℕ) (same : Bool) → IsLinked t.stage
+    → GoesOn (if same then told k n r t else ended (endings.Gap k want n) t)
 at_number t k n want r true linked = goes_on linked
 at_number t k n want r false linked = at_end t (endings.Gap k want n)
 
@@ -50,7 +54,8 @@ at_whole t (Station k) (Reply line) is = at_answer t k (says_number k t) (answer
 at_whole t (Station k) Garbage is = at_end t endings.Garbage
 at_whole t (Station k) (Packet n r) is = stays_quiet refl refl
 at_whole t (Station k) End is = stays_quiet refl refl
-at_whole t (Number k) (Reply line) is = at_answer t k (says_place (k + 1) t) (answer_of line) (at_place t (k + 1) (want_at t.wants (k + 1)))
+at_whole t (Number k) (Reply line) is =
+    at_answer t k (says_place (k + 1) t) (answer_of line) (at_place t (k + 1) (want_at t.wants (k + 1)))
 at_whole t (Number k) Garbage is = at_end t endings.Garbage
 at_whole t (Number k) (Packet n r) is = stays_quiet refl refl
 at_whole t (Number k) End is = stays_quiet refl refl
@@ -68,17 +73,20 @@ at_whole t (Ended e) End is = stays_quiet refl refl
 at_whole t (Ended e) Garbage is = stays_quiet refl refl
 
 -- so it is with the bytes that a client takes
-pub goes_on_by : (talk : Talk) (bytes : List ℕ) (new : Listening) (event : Event) → Brings talk bytes new event → GoesOn (new.talk, event)
+pub goes_on_by : (talk : Talk) (bytes : List ℕ) (new : Listening) (event : Event) → Brings talk bytes new event
+    → GoesOn (new.talk, event)
 goes_on_by talk bytes new event (whole w is h none) = subst GoesOn h (at_whole talk talk.stage w refl)
 goes_on_by talk bytes new event (begun is same quiet) = stays_quiet (ap line_said quiet) (ap record_told quiet)
 
-pub says_on : (talk : Talk) (bytes : List ℕ) (new : Listening) (event : Event) → Brings talk bytes new event → 0 < length (line_said event) → IsLinked new.talk.stage
+pub says_on : (talk : Talk) (bytes : List ℕ) (new : Listening) (event : Event) → Brings talk bytes new event
+    → 0 < length (line_said event) → IsLinked new.talk.stage
 says_on talk bytes new event brings some = elim (goes_on_by talk bytes new event brings) [
   | goes_on linked ↦ linked
   | stays_quiet said told ↦ absurd (omega (arith, some, ap length said))
 ]
 
-pub tells_on : (talk : Talk) (bytes : List ℕ) (new : Listening) (event : Event) → Brings talk bytes new event → 0 < length (record_told event) → IsLinked new.talk.stage
+pub tells_on : (talk : Talk) (bytes : List ℕ) (new : Listening) (event : Event) → Brings talk bytes new event
+    → 0 < length (record_told event) → IsLinked new.talk.stage
 tells_on talk bytes new event brings some = elim (goes_on_by talk bytes new event brings) [
   | goes_on linked ↦ linked
   | stays_quiet said told ↦ absurd (omega (arith, some, ap length told))
@@ -89,20 +97,24 @@ says_linked : (t : Talk) (k : ℕ) (o : Option Wanted) → (to_place o k t).0.st
 says_linked t k None e = cc e
 says_linked t k (Some w) e = cc e
 
-answers_linked : (t : Talk) (k : ℕ) (next : Talk × Event) (answer : Answer) → next.0.stage ≢ Unlinked → (to_answer answer k next t).0.stage ≢ Unlinked
+answers_linked : (t : Talk) (k : ℕ) (next : Talk × Event) (answer : Answer) → next.0.stage ≢ Unlinked
+    → (to_answer answer k next t).0.stage ≢ Unlinked
 answers_linked t k next Granted on = on
 answers_linked t k next Refusal on = λ e. cc e
 answers_linked t k next Neither on = λ e. cc e
 
-number_linked : (t : Talk) (k n want : ℕ) (r : List ℕ) (same : Bool) → t.stage ≢ Unlinked → (if same then told k n r t else ended (endings.Gap k want n) t).0.stage ≢ Unlinked
+number_linked : (t : Talk) (k n want : ℕ) (r : List ℕ) (same : Bool) → t.stage ≢ Unlinked
+    → (if same then told k n r t else ended (endings.Gap k want n) t).0.stage ≢ Unlinked
 number_linked t k n want r true linked = linked
 number_linked t k n want r false linked = λ e. cc e
 
-wanted_linked : (t : Talk) (k n : ℕ) (r : List ℕ) (o : Option ℕ) → t.stage ≢ Unlinked → (if_wanted o k n r t).0.stage ≢ Unlinked
+wanted_linked : (t : Talk) (k n : ℕ) (r : List ℕ) (o : Option ℕ) → t.stage ≢ Unlinked
+    → (if_wanted o k n r t).0.stage ≢ Unlinked
 wanted_linked t k n r None linked = linked
 wanted_linked t k n r (Some want) linked = number_linked t k n want r (n == want) linked
 
-bearer_linked : (t : Talk) (n : ℕ) (r : List ℕ) (o : Option ℕ) → t.stage ≢ Unlinked → (at_packet o n r t).0.stage ≢ Unlinked
+bearer_linked : (t : Talk) (n : ℕ) (r : List ℕ) (o : Option ℕ) → t.stage ≢ Unlinked
+    → (at_packet o n r t).0.stage ≢ Unlinked
 bearer_linked t n r None linked = λ e. cc e
 bearer_linked t n r (Some k) linked = wanted_linked t k n r (next_at t.wants k) linked
 
@@ -111,7 +123,8 @@ whole_linked t (Station k) (Reply line) on = answers_linked t k (says_number k t
 whole_linked t (Station k) Garbage on = λ e. cc e
 whole_linked t (Station k) (Packet n r) on = on
 whole_linked t (Station k) End on = on
-whole_linked t (Number k) (Reply line) on = answers_linked t k (says_place (k + 1) t) (answer_of line) (says_linked t (k + 1) (want_at t.wants (k + 1)))
+whole_linked t (Number k) (Reply line) on =
+    answers_linked t k (says_place (k + 1) t) (answer_of line) (says_linked t (k + 1) (want_at t.wants (k + 1)))
 whole_linked t (Number k) Garbage on = λ e. cc e
 whole_linked t (Number k) (Packet n r) on = on
 whole_linked t (Number k) End on = on
@@ -128,7 +141,9 @@ whole_linked t (Ended e) (Packet n r) on = on
 whole_linked t (Ended e) End on = on
 whole_linked t (Ended e) Garbage on = on
 
-pub still_linked : (talk : Talk) (bytes : List ℕ) (new : Listening) (event : Event) → Brings talk bytes new event → IsLinked talk.stage → new.talk.stage ≢ Unlinked
+pub still_linked : (talk : Talk) (bytes : List ℕ) (new : Listening) (event : Event) → Brings talk bytes new event
+    → IsLinked talk.stage → new.talk.stage ≢ Unlinked
 still_linked talk bytes new event (whole w is h none) linked =
     subst (λ (x : Talk × Event). x.0.stage ≢ Unlinked) h (whole_linked talk talk.stage w (λ e. subst IsLinked e linked))
-still_linked talk bytes new event (begun is same quiet) linked = subst (λ (l : Listening). l.talk.stage ≢ Unlinked) (sym same) (λ e. subst IsLinked e linked)
+still_linked talk bytes new event (begun is same quiet) linked =
+    subst (λ (l : Listening). l.talk.stage ≢ Unlinked) (sym same) (λ e. subst IsLinked e linked)

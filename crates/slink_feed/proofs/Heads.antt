@@ -1,10 +1,12 @@
 -- The first bytes of packets.
-use Rattle.std.proofs.Common.{List, Some, ap, arith, drop, inl, inr, length, length-append, length-drop, subst, sym, take, ℕ, ◌++◌, ◌+◌, ◌∙◌, ◌≡◌, ◌≤◌}
+use Rattle.std.proofs.Common.{List, Some, ap, arith, drop, inl, inr, length, length-append, length-drop, subst, sym,
+    take, ℕ, ◌++◌, ◌+◌, ◌∙◌, ◌≡◌, ◌≤◌}
 use Rattle.std.proofs.lemmas.Bool.{cases_lt}
 use Rattle.std.proofs.lemmas.List.{take-append-le, drop-append-le}
 use Rattle.slink_wire.specs.Hexadecimal.{SaysNumber}
 use Rattle.slink_wire.specs.Packet.{HasHead}
-use Rattle.slink_feed.specs.Cutting.{Begins, IsNoPacket, IsPacketBegun, no_head, nothing, end_begun, head_begun, record_begun}
+use Rattle.slink_feed.specs.Cutting.{Begins, IsNoPacket, IsPacketBegun, no_head, nothing, end_begun, head_begun,
+    record_begun}
 use Rattle.slink_feed.specs.Parts.{IsDue}
 use Rattle.slink_feed.proofs.Fronts.{get_left}
 
@@ -12,13 +14,15 @@ use Rattle.slink_feed.proofs.Fronts.{get_left}
 pub head_same : (xs ys : List ℕ) (n : ℕ) → 8 ≤ length xs → HasHead xs n → HasHead (xs ++ ys) n
 head_same xs ys n long has = (
   take-append-le 2 xs ys (omega (arith, long)) ∙ has.0,
-  subst (λ ds. SaysNumber ds n) (sym (ap (take 6) (drop-append-le 2 xs ys (omega (arith, long))) ∙ take-append-le 6 (drop 2 xs) ys (omega (arith, long, length-drop 2 xs)))) has.1,
+  subst (λ ds. SaysNumber ds n) (sym (ap (take 6) (drop-append-le 2 xs ys (omega (arith, long)))
+      ∙ take-append-le 6 (drop 2 xs) ys (omega (arith, long, length-drop 2 xs)))) has.1,
 )
 
 pub head_before : (xs ys : List ℕ) (n : ℕ) → 8 ≤ length xs → HasHead (xs ++ ys) n → HasHead xs n
 head_before xs ys n long has = (
   sym (take-append-le 2 xs ys (omega (arith, long))) ∙ has.0,
-  subst (λ ds. SaysNumber ds n) (ap (take 6) (drop-append-le 2 xs ys (omega (arith, long))) ∙ take-append-le 6 (drop 2 xs) ys (omega (arith, long, length-drop 2 xs))) has.1,
+  subst (λ ds. SaysNumber ds n) (ap (take 6) (drop-append-le 2 xs ys (omega (arith, long)))
+      ∙ take-append-le 6 (drop 2 xs) ys (omega (arith, long, length-drop 2 xs))) has.1,
 )
 
 pub one_begins : (xs : List ℕ) (a b : ℕ) → Begins xs a → Begins xs b → a ≡ b
@@ -39,7 +43,8 @@ due_body xs ys (record_begun n begins has long' short) long most =
     }
 
 -- eight bytes that are no packet's first
-pub eight_none : (bytes : List ℕ) → Begins bytes 83 → 8 ≤ length bytes → IsDue bytes → ((n : ℕ) → ¬ (HasHead bytes n)) → IsNoPacket bytes
+pub eight_none : (bytes : List ℕ) → Begins bytes 83 → 8 ≤ length bytes → IsDue bytes → ((n : ℕ) → ¬ (HasHead bytes n))
+    → IsNoPacket bytes
 eight_none bytes begins long due lacks = elim (cases_lt 8 (length bytes)) [
   | inl past ↦ absurd (let has : (n : ℕ) × HasHead bytes n = due.head begins past in lacks has.0 has.1)
   | inr le ↦ no_head begins (omega (arith, long, le)) lacks

@@ -1,5 +1,7 @@
 -- The elements of a list, by their indices, and what a window shows.
-use Rattle.std.proofs.Common.{◌≡◌, ◌≢◌, ℕ, ◌+◌, ◌-◌, ◌<◌, ◌≤◌, ◌⊎◌, inl, inr, zero, suc, refl, sym, ap, ◌∙◌, arith, Bool, true, false, List, [], ◌∷◌, ◌++◌, length, length-append, length-drop, drop, set, get_or, Option, Some, None, slice_get, if◌then◌else◌, nat_lt, unwrap_or}
+use Rattle.std.proofs.Common.{◌≡◌, ◌≢◌, ℕ, ◌+◌, ◌-◌, ◌<◌, ◌≤◌, ◌⊎◌, inl, inr, zero, suc, refl, sym, ap, ◌∙◌, arith,
+    Bool, true, false, List, [], ◌∷◌, ◌++◌, length, length-append, length-drop, drop, set, get_or, Option, Some, None,
+    slice_get, if◌then◌else◌, nat_lt, unwrap_or}
 use Rattle.std.proofs.lemmas.Bool.Decides.{eqb_tells, nat_tests}
 use Rattle.std.proofs.lemmas.Option.{unwrap_or-slice_get}
 use Rattle.std.proofs.lemmas.List.{get_or-set_other, get_or-set_same}
@@ -16,8 +18,10 @@ module _ {X : Type 0} where
   pub put_here : (xs : List X) (k : ℕ) (x d : X) → k < length xs → unwrap_or (slice_get (set xs k x) k) d ≡ x
   put_here xs k x d lt = unwrap_or-slice_get (set xs k x) k d ∙ get_or-set_same xs k x d lt
 
-  pub put_there : (xs : List X) (k j : ℕ) (x d : X) → j ≢ k → unwrap_or (slice_get (set xs k x) j) d ≡ unwrap_or (slice_get xs j) d
-  put_there xs k j x d ne = unwrap_or-slice_get (set xs k x) j d ∙ (get_or-set_other xs k j x d ne ∙ sym (unwrap_or-slice_get xs j d))
+  pub put_there : (xs : List X) (k j : ℕ) (x d : X) → j ≢ k
+      → unwrap_or (slice_get (set xs k x) j) d ≡ unwrap_or (slice_get xs j) d
+  put_there xs k j x d ne = unwrap_or-slice_get (set xs k x) j d
+      ∙ (get_or-set_other xs k j x d ne ∙ sym (unwrap_or-slice_get xs j d))
 
   pub get_here : (xs : List X) (k : ℕ) (x : X) → k < length xs → slice_get (set xs k x) k ≡ Some x
   get_here [] k x lt = absurd (omega (arith, lt))
@@ -49,7 +53,8 @@ pub same_or_not : (j k : ℕ) → (j ≡ k) ⊎ (j ≢ k)
 same_or_not j k = elim (eqb_tells j k) [ inl same ↦ inl same.1 | inr other ↦ inr other.1 ]
 
 -- the window begins where the last records begin
-pub oldest_is : (w : Window) (first : ℕ) (F : List (List ℕ)) → Shows w first F → oldest_of w ≡ first + (length F - w.capacity)
+pub oldest_is : (w : Window) (first : ℕ) (F : List (List ℕ)) → Shows w first F
+    → oldest_of w ≡ first + (length F - w.capacity)
 oldest_is w first F h = omega (arith, h.next, ap length h.records, length-drop (length F - w.capacity) F)
 
 got_past : (t : Bool) (o : Option (List ℕ)) (r : List ℕ) → (if t then None else o) ≡ Some r → (t ≡ false) × (o ≡ Some r)
@@ -62,17 +67,21 @@ lt_false m n h = grind (arith, nat_tests)
 pub get_drop : (d : ℕ) (xs : List (List ℕ)) (i : ℕ) → slice_get (drop d xs) i ≡ slice_get xs (d + i)
 get_drop zero xs i = ap (slice_get xs) (let e : i ≡ 0 + i = omega arith in e)
 get_drop (suc d) [] i = refl
-get_drop (suc d) (x ∷ xs) i = get_drop d xs i ∙ sym (let e : suc d + i ≡ suc (d + i) = omega arith in ap (slice_get (x ∷ xs)) e)
+get_drop (suc d) (x ∷ xs) i = get_drop d xs i ∙ sym (let e : suc d + i ≡ suc (d + i) = omega arith in
+    ap (slice_get (x ∷ xs)) e)
 
 -- a record of the window is that of the list
-pub at_number : (w : Window) (first : ℕ) (F : List (List ℕ)) (p : ℕ) (r : List ℕ) → Shows w first F → record_at w p ≡ Some r → slice_get F (p - first) ≡ Some r
+pub at_number : (w : Window) (first : ℕ) (F : List (List ℕ)) (p : ℕ) (r : List ℕ) → Shows w first F
+    → record_at w p ≡ Some r → slice_get F (p - first) ≡ Some r
 at_number w first F p r h e =
     let d : ℕ = length F - w.capacity in
-    let got : (nat_lt p (oldest_of w) ≡ false) × (slice_get w.records (p - oldest_of w) ≡ Some r) = got_past (nat_lt p (oldest_of w)) (slice_get w.records (p - oldest_of w)) r e in
+    let got : (nat_lt p (oldest_of w) ≡ false) × (slice_get w.records (p - oldest_of w) ≡ Some r) =
+        got_past (nat_lt p (oldest_of w)) (slice_get w.records (p - oldest_of w)) r e in
     let from : oldest_of w ≤ p = lt_false p (oldest_of w) got.0 in
     let o : oldest_of w ≡ first + d = oldest_is w first F h in
     let at : d + (p - oldest_of w) ≡ p - first = omega (arith, o, from) in
-    ap (slice_get F) (sym at) ∙ (sym (get_drop d F (p - oldest_of w)) ∙ (ap (λ xs. slice_get xs (p - oldest_of w)) (sym h.records) ∙ got.1))
+    ap (slice_get F) (sym at)
+        ∙ (sym (get_drop d F (p - oldest_of w)) ∙ (ap (λ xs. slice_get xs (p - oldest_of w)) (sym h.records) ∙ got.1))
 
 drop_front : (d : ℕ) (xs ys : List (List ℕ)) → d ≤ length xs → drop d (xs ++ ys) ≡ drop d xs ++ ys
 drop_front zero xs ys le = refl
@@ -86,17 +95,21 @@ drop_none (suc n) = refl
 drop_twice : (m d : ℕ) (xs : List (List ℕ)) → drop m (drop d xs) ≡ drop (d + m) xs
 drop_twice m zero xs = ap (λ k. drop k xs) (let e : m ≡ 0 + m = omega arith in e)
 drop_twice m (suc d) [] = drop_none m ∙ sym (drop_none (suc d + m))
-drop_twice m (suc d) (x ∷ xs) = drop_twice m d xs ∙ sym (let e : suc d + m ≡ suc (d + m) = omega arith in ap (λ k. drop k (x ∷ xs)) e)
+drop_twice m (suc d) (x ∷ xs) = drop_twice m d xs ∙ sym (let e : suc d + m ≡ suc (d + m) = omega arith in
+    ap (λ k. drop k (x ∷ xs)) e)
 
 pub keep_more : (n : ℕ) (xs : List (List ℕ)) (r : List ℕ) → window n (window n xs ++ r ∷ []) ≡ window n (xs ++ r ∷ [])
 keep_more n xs r =
     let d : ℕ = length xs - n in
     let front : drop d xs ++ r ∷ [] ≡ drop d (xs ++ r ∷ []) = sym (drop_front d xs (r ∷ []) (omega arith)) in
-    let long : d + (length (drop d xs ++ r ∷ []) - n) ≡ length (xs ++ r ∷ []) - n = omega (arith, length-append (drop d xs) (r ∷ []), length-append xs (r ∷ []), length-drop d xs) in
-    ap (λ l. drop (length (drop d xs ++ r ∷ []) - n) l) front ∙ (drop_twice (length (drop d xs ++ r ∷ []) - n) d (xs ++ r ∷ []) ∙ ap (λ k. drop k (xs ++ r ∷ [])) long)
+    let long : d + (length (drop d xs ++ r ∷ []) - n) ≡ length (xs ++ r ∷ []) - n =
+        omega (arith, length-append (drop d xs) (r ∷ []), length-append xs (r ∷ []), length-drop d xs) in
+    ap (λ l. drop (length (drop d xs ++ r ∷ []) - n) l) front
+        ∙ (drop_twice (length (drop d xs ++ r ∷ []) - n) d (xs ++ r ∷ []) ∙ ap (λ k. drop k (xs ++ r ∷ [])) long)
 
 -- the ring shows one record more
-pub shows_more : (w : Window) (first : ℕ) (F : List (List ℕ)) (r : List ℕ) → Shows w first F → Shows (with_record w r) first (F ++ r ∷ [])
+pub shows_more : (w : Window) (first : ℕ) (F : List (List ℕ)) (r : List ℕ) → Shows w first F
+    → Shows (with_record w r) first (F ++ r ∷ [])
 shows_more w first F r h = record {
   records = ap (λ xs. window w.capacity (xs ++ r ∷ [])) h.records ∙ keep_more w.capacity F r;
   next = omega (arith, h.next, length-append F (r ∷ []));

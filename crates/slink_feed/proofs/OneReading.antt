@@ -1,5 +1,6 @@
 -- A stream of bytes reads as wholes in one way.
-use Rattle.std.proofs.Common.{◌≡◌, ℕ, inl, inr, refl, sym, ap, subst, ◌∙◌, arith, List, [], ◌∷◌, ◌++◌, append_assoc, append-nil}
+use Rattle.std.proofs.Common.{◌≡◌, ℕ, inl, inr, refl, sym, ap, subst, ◌∙◌, arith, List, [], ◌∷◌, ◌++◌, append_assoc,
+    append-nil}
 use Rattle.std.proofs.lemmas.List.{append_cancel_left}
 use Rattle.slink_wire.proofs.Fronts.{fronts}
 use Rattle.slink_feed.specs.declared.dialogue.Event.{Event}
@@ -14,16 +15,20 @@ use Rattle.slink_feed.proofs.Wholes.{begun_no_whole, front_begun, one_whole}
 no_further : (stage : Stage) (a z b : List ℕ) (w v : Whole) → IsWhole stage a w → IsWhole stage b v → b ≡ a ++ z → b ≡ a
 no_further stage a [] b w v p q e = e ∙ append-nil a
 no_further stage a (x ∷ z) b w v p q e =
-    absurd (begun_no_whole stage a [] w (subst (IsBegun stage) (sym (append-nil a)) (front_begun stage a (x ∷ z) v (omega arith) (subst (λ (bytes : List ℕ). IsWhole stage bytes v) e q))) p)
+    absurd (begun_no_whole stage a [] w
+        (subst (IsBegun stage) (sym (append-nil a))
+        (front_begun stage a (x ∷ z) v (omega arith) (subst (λ (bytes : List ℕ). IsWhole stage bytes v) e q))) p)
 
-pub one_front : (stage : Stage) (a b x y : List ℕ) (w v : Whole) → IsWhole stage a w → IsWhole stage b v → a ++ x ≡ b ++ y → a ≡ b
+pub one_front : (stage : Stage) (a b x y : List ℕ) (w v : Whole) → IsWhole stage a w → IsWhole stage b v
+    → a ++ x ≡ b ++ y → a ≡ b
 one_front stage a b x y w v p q e = elim (fronts a b x y e) [
   | inl more ↦ sym (no_further stage a more.0 b w v p q more.1)
   | inr more ↦ no_further stage b more.0 a v w q p more.1
 ]
 
 brought_same : (b c : Brought) → b.bytes ≡ c.bytes → b.whole ≡ c.whole → b ≡ c
-brought_same b c p q = ap (λ (bytes : List ℕ). record { bytes = bytes; whole = b.whole }) p ∙ ap (λ (w : Whole). record { bytes = c.bytes; whole = w }) q
+brought_same b c p q = ap (λ (bytes : List ℕ). record { bytes = bytes; whole = b.whole }) p
+    ∙ ap (λ (w : Whole). record { bytes = c.bytes; whole = w }) q
 
 -- what is left is begun, where more is taken
 abbrev pub IsRest : Stage → List ℕ → Type 0
@@ -36,30 +41,47 @@ whole_linked (Number k) a w is = tt
 whole_linked Packets a w is = tt
 whole_linked (Ended ending) a w is = is
 
-pub one_brought : (t : Talk) (bs cs : List Brought) (k m : List ℕ) → AreBrought t bs → AreBrought t cs → bytes_of bs ++ k ≡ bytes_of cs ++ m → IsRest (talk_after t bs).stage k → IsRest (talk_after t cs).stage m
+pub one_brought : (t : Talk) (bs cs : List Brought) (k m : List ℕ) → AreBrought t bs → AreBrought t cs
+    → bytes_of bs ++ k ≡ bytes_of cs ++ m → IsRest (talk_after t bs).stage k → IsRest (talk_after t cs).stage m
     → (bs ≡ cs) × (k ≡ m)
 one_brought t [] [] k m p q e f g = (refl, e)
 one_brought t [] (c ∷ cs) k m p q e f g =
-    absurd (begun_no_whole t.stage c.bytes (bytes_of cs ++ m) c.whole (subst (IsBegun t.stage) (e ∙ append_assoc c.bytes (bytes_of cs) m) (f (whole_linked t.stage c.bytes c.whole q.0))) q.0)
+    absurd (begun_no_whole t.stage c.bytes (bytes_of cs ++ m) c.whole
+        (subst (IsBegun t.stage) (e ∙ append_assoc c.bytes (bytes_of cs) m)
+        (f (whole_linked t.stage c.bytes c.whole q.0))) q.0)
 one_brought t (b ∷ bs) [] k m p q e f g =
-    absurd (begun_no_whole t.stage b.bytes (bytes_of bs ++ k) b.whole (subst (IsBegun t.stage) (sym e ∙ append_assoc b.bytes (bytes_of bs) k) (g (whole_linked t.stage b.bytes b.whole p.0))) p.0)
+    absurd (begun_no_whole t.stage b.bytes (bytes_of bs ++ k) b.whole
+        (subst (IsBegun t.stage) (sym e ∙ append_assoc b.bytes (bytes_of bs) k)
+        (g (whole_linked t.stage b.bytes b.whole p.0))) p.0)
 one_brought t (b ∷ bs) (c ∷ cs) k m p q e f g =
-    let both : b.bytes ++ (bytes_of bs ++ k) ≡ c.bytes ++ (bytes_of cs ++ m) = sym (append_assoc b.bytes (bytes_of bs) k) ∙ (e ∙ append_assoc c.bytes (bytes_of cs) m) in
-    let front : b.bytes ≡ c.bytes = one_front t.stage b.bytes c.bytes (bytes_of bs ++ k) (bytes_of cs ++ m) b.whole c.whole p.0 q.0 both in
-    let rest : bytes_of bs ++ k ≡ bytes_of cs ++ m = append_cancel_left c.bytes (bytes_of bs ++ k) (bytes_of cs ++ m) (ap (λ xs. xs ++ (bytes_of bs ++ k)) (sym front) ∙ both) in
-    let whole : b.whole ≡ c.whole = one_whole t.stage c.bytes b.whole c.whole (subst (λ (bytes : List ℕ). IsWhole t.stage bytes b.whole) front p.0) q.0 in
+    let both : b.bytes ++ (bytes_of bs ++ k) ≡ c.bytes ++ (bytes_of cs ++ m) =
+        sym (append_assoc b.bytes (bytes_of bs) k) ∙ (e ∙ append_assoc c.bytes (bytes_of cs) m) in
+    let front : b.bytes ≡ c.bytes =
+        one_front t.stage b.bytes c.bytes (bytes_of bs ++ k) (bytes_of cs ++ m) b.whole c.whole p.0 q.0 both in
+    let rest : bytes_of bs ++ k ≡ bytes_of cs ++ m =
+        append_cancel_left c.bytes (bytes_of bs ++ k) (bytes_of cs ++ m)
+        (ap (λ xs. xs ++ (bytes_of bs ++ k)) (sym front) ∙ both) in
+    let whole : b.whole ≡ c.whole =
+        one_whole t.stage c.bytes b.whole c.whole (subst (λ (bytes : List ℕ). IsWhole t.stage bytes b.whole) front p.0)
+        q.0 in
     let talk : (heard t b.whole).0 ≡ (heard t c.whole).0 = ap (λ w. (heard t w).0) whole in
-    let more : (bs ≡ cs) × (k ≡ m) = one_brought (heard t c.whole).0 bs cs k m (subst (λ u. AreBrought u bs) talk p.1) q.1 rest (subst (λ u. IsRest (talk_after u bs).stage k) talk f) g in
+    let more : (bs ≡ cs) × (k ≡ m) =
+        one_brought (heard t c.whole).0 bs cs k m (subst (λ u. AreBrought u bs) talk p.1) q.1 rest
+        (subst (λ u. IsRest (talk_after u bs).stage k) talk f) g in
     let one : b ≡ c = brought_same b c front whole in
     (ap (λ h. h ∷ bs) one ∙ ap (λ t. c ∷ t) more.0, more.1)
 
 pub seen_same : (m n : Listening) → m.talk ≡ n.talk → m.kept ≡ n.kept → m ≡ n
-seen_same m n p q = ap (λ (t : Talk). record { talk = t; kept = m.kept }) p ∙ ap (λ (k : List ℕ). record { talk = n.talk; kept = k }) q
+seen_same m n p q = ap (λ (t : Talk). record { talk = t; kept = m.kept }) p
+    ∙ ap (λ (k : List ℕ). record { talk = n.talk; kept = k }) q
 
-pub one_reading : (start : Talk) (stream : List ℕ) (a b : List Event) (m n : Listening) → Reads start stream a m → Reads start stream b n → (a ≡ b) × (m ≡ n)
+pub one_reading : (start : Talk) (stream : List ℕ) (a b : List Event) (m n : Listening) → Reads start stream a m
+    → Reads start stream b n → (a ≡ b) × (m ≡ n)
 one_reading start stream a b m n p q =
-    let one : (p.brought ≡ q.brought) × (m.kept ≡ n.kept) = one_brought start p.brought q.brought m.kept n.kept p.are_brought q.are_brought (sym p.bytes ∙ q.bytes)
-    (λ _. subst (λ (t : Talk). IsBegun t.stage m.kept) p.talk p.is_begun) (λ _. subst (λ (t : Talk). IsBegun t.stage n.kept) q.talk q.is_begun) in (
+    let one : (p.brought ≡ q.brought) × (m.kept ≡ n.kept) =
+        one_brought start p.brought q.brought m.kept n.kept p.are_brought q.are_brought (sym p.bytes ∙ q.bytes)
+    (λ _. subst (λ (t : Talk). IsBegun t.stage m.kept) p.talk p.is_begun)
+        (λ _. subst (λ (t : Talk). IsBegun t.stage n.kept) q.talk q.is_begun) in (
       p.events_are ∙ (ap (events_of start) one.0 ∙ sym q.events_are),
       seen_same m n (p.talk ∙ (ap (talk_after start) one.0 ∙ sym q.talk)) one.1,
     )

@@ -1,5 +1,7 @@
 -- A turn of a session comes to one thing.
-use Rattle.std.proofs.Common.{◌≡◌, ℕ, ◌+◌, ◌≤◌, ◌<◌, ◌⊎◌, ◌==◌, zero, suc, inl, inr, refl, sym, ap, subst, ◌∙◌, arith, Bool, true, false, if◌then◌else◌, List, [], ◌∷◌, ◌++◌, append_assoc, append-nil, length, length-append, replicate, take, Option, Some, None, slice_get}
+use Rattle.std.proofs.Common.{◌≡◌, ℕ, ◌+◌, ◌≤◌, ◌<◌, ◌⊎◌, ◌==◌, zero, suc, inl, inr, refl, sym, ap, subst, ◌∙◌, arith,
+    Bool, true, false, if◌then◌else◌, List, [], ◌∷◌, ◌++◌, append_assoc, append-nil, length, length-append, replicate,
+    take, Option, Some, None, slice_get}
 use Rattle.std.proofs.lemmas.Bool.Decides.{eqb_tells, leb_tells}
 use Rattle.std.proofs.lemmas.List.{append_cancel_left}
 use Rattle.mseed_stream.specs.Device.{Heard}
@@ -13,7 +15,8 @@ use Rattle.slink_feed.specs.declared.session.Sent.TheVariants as sents
 use Rattle.slink_feed.specs.declared.turn.LinkFault.{LinkFault}
 use Rattle.slink_feed.specs.declared.turn.LinkFault.TheVariants as faults
 use Rattle.slink_feed.specs.declared.turn.Turn.{Turn}
-use Rattle.slink_feed.specs.Attending.{Attends, FailsToReply, GoesOn, IsServeFault, RepliesToAll, at_read, at_reply, at_send, is_at_end, is_closed, replies}
+use Rattle.slink_feed.specs.Attending.{Attends, FailsToReply, GoesOn, IsServeFault, RepliesToAll, at_read, at_reply,
+    at_send, is_at_end, is_closed, replies}
 use Rattle.slink_feed.specs.Connection.{AreAlike, TookAlike}
 use Rattle.slink_feed.specs.Rounds.{Attending, FailsToSend, Gives, HasWaited, SendsAll, all_sent, place_behind}
 use Rattle.slink_feed.specs.Running.{Stands, StandsFor}
@@ -38,11 +41,13 @@ idle_packet : (s : State) (k : ℕ) (g : Grant) (o : Option (List ℕ)) → Idle
 idle_packet s k g None = λ e. absurd (let bad : sents.Overrun ≡ sents.Wait = e in cc bad)
 idle_packet s k g (Some bytes) = λ e. cc e
 
-idle_from : (feed : List Window) (s : State) (k : ℕ) (g : Grant) (w : Window) (b : Bool) → Idle s (if b then at_next (all_done feed s.grants) s else packet_at s k g (record_at w g.position))
+idle_from : (feed : List Window) (s : State) (k : ℕ) (g : Grant) (w : Window) (b : Bool)
+    → Idle s (if b then at_next (all_done feed s.grants) s else packet_at s k g (record_at w g.position))
 idle_from feed s k g w true = idle_next s (all_done feed s.grants)
 idle_from feed s k g w false = idle_packet s k g (record_at w g.position)
 
-idle_of : (feed : List Window) (s : State) (k : ℕ) (o : Option Grant) (r : Option Window) → Idle s (sent_of feed s k o r)
+idle_of : (feed : List Window) (s : State) (k : ℕ) (o : Option Grant) (r : Option Window)
+    → Idle s (sent_of feed s k o r)
 idle_of feed s k None r = λ e. refl
 idle_of feed s k (Some g) None = λ e. refl
 idle_of feed s k (Some g) (Some w) = idle_from feed s k g w (g.position == w.next)
@@ -62,10 +67,12 @@ still_waits : (feed : List Window) (s : State) (k : ℕ) → (sent feed s k).1 �
 still_waits feed s k waits = (idle_in s.phase feed s k waits, ap sent_bytes waits)
 
 still_closed : (feed : List Window) (s : State) (k : ℕ) → s.phase ≡ Closed → Still feed s k
-still_closed feed s k shut = (ap (λ (p : Phase). (sent_in p feed s k).0) shut, ap (λ (p : Phase). sent_bytes (sent_in p feed s k).1) shut)
+still_closed feed s k shut =
+    (ap (λ (p : Phase). (sent_in p feed s k).0) shut, ap (λ (p : Phase). sent_bytes (sent_in p feed s k).1) shut)
 
 -- Without places there is nothing to give.
-still_of : (s : State) (k : ℕ) (o : Option Grant) → ((sent_of [] s k o None).0 ≡ s) × (sent_bytes (sent_of [] s k o None).1 ≡ [])
+still_of : (s : State) (k : ℕ) (o : Option Grant) → ((sent_of [] s k o None).0 ≡ s)
+    × (sent_bytes (sent_of [] s k o None).1 ≡ [])
 still_of s k None = (refl, refl)
 still_of s k (Some g) = (refl, refl)
 
@@ -77,27 +84,40 @@ still_in Streaming s k = still_of s k (grant_at s.grants k)
 still_in Closed s k = (refl, refl)
 
 -- All further asks leave it so.
-module _ (feed : List Window) (s : State) (P : ℕ → Type 0) (next : (k : ℕ) → P k → P (place_behind feed k)) (still : (k : ℕ) → P k → Still feed s k) where
-  still_given : (k last : ℕ) (u : State) (given : List Sent) → P k → Gives feed k s given last u → (u ≡ s) × (all_sent given ≡ [])
+module _ (feed : List Window) (s : State) (P : ℕ → Type 0) (next : (k : ℕ) → P k → P (place_behind feed k))
+    (still : (k : ℕ) → P k → Still feed s k) where
+  still_given : (k last : ℕ) (u : State) (given : List Sent) → P k → Gives feed k s given last u
+      → (u ≡ s) × (all_sent given ≡ [])
   still_given k last u [] p gives = (gives.1, refl)
   still_given k last u (a ∷ more) p gives =
-      let rest : (u ≡ s) × (all_sent more ≡ []) = still_given (place_behind feed k) last u more (next k p) (subst (λ (t : State). Gives feed (place_behind feed k) t more last u) (still k p).0 gives.1) in
+      let rest : (u ≡ s) × (all_sent more ≡ []) =
+          still_given (place_behind feed k) last u more (next k p)
+          (subst (λ (t : State). Gives feed (place_behind feed k) t more last u) (still k p).0 gives.1) in
       (rest.0, ap (λ b. b ++ all_sent more) (ap sent_bytes (sym gives.0) ∙ (still k p).1) ∙ rest.1)
 
-gives_split : (feed : List Window) (k last : ℕ) (s v : State) (some more : List Sent) → Gives feed k s (some ++ more) last v → (p : ℕ) × (u : State) × Gives feed k s some p u × Gives feed p u more last v
+gives_split : (feed : List Window) (k last : ℕ) (s v : State) (some more : List Sent)
+    → Gives feed k s (some ++ more) last v → (p : ℕ) × (u : State) × Gives feed k s some p u
+    × Gives feed p u more last v
 gives_split feed k last s v [] more gives = (k, s, (refl, refl), gives)
 gives_split feed k last s v (a ∷ some) more gives =
-    let rest : (p : ℕ) × (u : State) × Gives feed (place_behind feed k) (sent feed s k).0 some p u × Gives feed p u more last v = gives_split feed (place_behind feed k) last (sent feed s k).0 v some more gives.1 in
+    let rest : (p : ℕ) × (u : State) × Gives feed (place_behind feed k) (sent feed s k).0 some p u
+        × Gives feed p u more last v =
+        gives_split feed (place_behind feed k) last (sent feed s k).0 v some more gives.1 in
     (rest.0, rest.1, (gives.0, rest.2), rest.3)
 
-within_given : (feed : List Window) (k last : ℕ) (s u : State) (given : List Sent) → k < length feed → Gives feed k s given last u → last < length feed
+within_given : (feed : List Window) (k last : ℕ) (s u : State) (given : List Sent) → k < length feed
+    → Gives feed k s given last u → last < length feed
 within_given feed k last s u [] lt gives = omega (arith, lt, gives.0)
-within_given feed k last s u (a ∷ more) lt gives = within_given feed (place_behind feed k) last (sent feed s k).0 u more (place_within feed k lt) gives.1
+within_given feed k last s u (a ∷ more) lt gives =
+    within_given feed (place_behind feed k) last (sent feed s k).0 u more (place_within feed k lt) gives.1
 
 -- A round in which each place has nothing to give.
 module _ (feed : List Window) where
-  waits_next : (m p last : ℕ) (u v : State) → Gives feed p u (replicate (suc m) sents.Wait) last v → Gives feed (place_behind feed p) u (replicate m sents.Wait) last v
-  waits_next m p last u v gives = subst (λ (t : State). Gives feed (place_behind feed p) t (replicate m sents.Wait) last v) (idle_in u.phase feed u p gives.0) gives.1
+  waits_next : (m p last : ℕ) (u v : State) → Gives feed p u (replicate (suc m) sents.Wait) last v
+      → Gives feed (place_behind feed p) u (replicate m sents.Wait) last v
+  waits_next m p last u v gives =
+      subst (λ (t : State). Gives feed (place_behind feed p) t (replicate m sents.Wait) last v)
+      (idle_in u.phase feed u p gives.0) gives.1
 
   waits_stay : (m p last : ℕ) (u v : State) → Gives feed p u (replicate m sents.Wait) last v → v ≡ u
   waits_stay zero p last u v gives = gives.1
@@ -109,61 +129,83 @@ module _ (feed : List Window) where
     | inr other ↦ ap (λ b. if b then 0 else p + 1) other.0
   ]
 
-  waits_above : (m p last k : ℕ) (u v : State) → Gives feed p u (replicate m sents.Wait) last v → p ≤ k → k < length feed → k < p + m → (sent feed u k).1 ≡ sents.Wait
+  waits_above : (m p last k : ℕ) (u v : State) → Gives feed p u (replicate m sents.Wait) last v → p ≤ k
+      → k < length feed → k < p + m → (sent feed u k).1 ≡ sents.Wait
   waits_above zero p last k u v gives above lt far = absurd (omega (arith, above, far))
   waits_above (suc m) p last k u v gives above lt far = elim (eqb_tells p k) [
     | inl same ↦ ap (λ j. (sent feed u j).1) (sym same.1) ∙ gives.0
     | inr other ↦
         let less : p + 1 ≤ k = omega (arith, above, other.1) in
-        waits_above m (p + 1) last k u v (subst (λ j. Gives feed j u (replicate m sents.Wait) last v) (behind_is p (omega (arith, less, lt))) (waits_next m p last u v gives)) less lt (omega (arith, far))
+        waits_above m (p + 1) last k u v (subst (λ j. Gives feed j u (replicate m sents.Wait) last v)
+            (behind_is p (omega (arith, less, lt))) (waits_next m p last u v gives)) less lt (omega (arith, far))
   ]
 
-  waits_below : (m p last k : ℕ) (u v : State) → Gives feed p u (replicate m sents.Wait) last v → k < p → p < length feed → k + length feed < p + m → (sent feed u k).1 ≡ sents.Wait
+  waits_below : (m p last k : ℕ) (u v : State) → Gives feed p u (replicate m sents.Wait) last v → k < p
+      → p < length feed → k + length feed < p + m → (sent feed u k).1 ≡ sents.Wait
   waits_below zero p last k u v gives below lt far = absurd (omega (arith, below, lt, far))
   waits_below (suc m) p last k u v gives below lt far = elim (eqb_tells (p + 1) (length feed)) [
     | inl same ↦
         let first : place_behind feed p ≡ 0 = ap (λ b. if b then 0 else p + 1) same.0 in
-        waits_above m 0 last k u v (subst (λ j. Gives feed j u (replicate m sents.Wait) last v) first (waits_next m p last u v gives)) (omega arith) (omega (arith, below, lt)) (omega (arith, far, same.1))
+        waits_above m 0 last k u v (subst (λ j. Gives feed j u (replicate m sents.Wait) last v) first
+            (waits_next m p last u v gives)) (omega arith) (omega (arith, below, lt)) (omega (arith, far, same.1))
     | inr other ↦
         let less : p + 1 < length feed = omega (arith, lt, other.1) in
-        waits_below m (p + 1) last k u v (subst (λ j. Gives feed j u (replicate m sents.Wait) last v) (behind_is p less) (waits_next m p last u v gives)) (omega (arith, below)) less (omega (arith, far))
+        waits_below m (p + 1) last k u v (subst (λ j. Gives feed j u (replicate m sents.Wait) last v)
+            (behind_is p less) (waits_next m p last u v gives)) (omega (arith, below)) less (omega (arith, far))
   ]
 
-  waits_all : (p last k : ℕ) (u v : State) → Gives feed p u (replicate (length feed) sents.Wait) last v → p < length feed → k < length feed → (sent feed u k).1 ≡ sents.Wait
+  waits_all : (p last k : ℕ) (u v : State) → Gives feed p u (replicate (length feed) sents.Wait) last v
+      → p < length feed → k < length feed → (sent feed u k).1 ≡ sents.Wait
   waits_all p last k u v gives within lt = elim (leb_tells p k) [
     | inl above ↦ waits_above (length feed) p last k u v gives above.1 lt (omega (arith, lt))
     | inr below ↦ waits_below (length feed) p last k u v gives (omega (arith, below.1)) within (omega (arith, below.1))
   ]
 
 -- What comes once nothing was given in a round.
-round_over : (feed : List Window) (s v w : State) (p last : ℕ) (given rest : List Sent) → HasWaited (length feed) given → Gives feed 0 s given p v → Gives feed p v rest last w → (w ≡ v) × (all_sent rest ≡ [])
-round_over [] s v w p last given rest waited gives more = still_given [] v (λ k. Unit {0}) (λ k is. tt) (λ k is. still_in v.phase v k) p last w rest tt more
+round_over : (feed : List Window) (s v w : State) (p last : ℕ) (given rest : List Sent) → HasWaited (length feed) given
+    → Gives feed 0 s given p v → Gives feed p v rest last w → (w ≡ v) × (all_sent rest ≡ [])
+round_over [] s v w p last given rest waited gives more =
+    still_given [] v (λ k. Unit {0}) (λ k is. tt) (λ k is. still_in v.phase v k) p last w rest tt more
 round_over (ring ∷ rings) s v w p last given rest waited gives more =
     let feed : List Window = ring ∷ rings in
-    let parts : (q : ℕ) × (u : State) × Gives feed 0 s waited.0 q u × Gives feed q u (replicate (length feed) sents.Wait) p v =
-    gives_split feed 0 p s v waited.0 (replicate (length feed) sents.Wait) (subst (λ xs. Gives feed 0 s xs p v) waited.1 gives) in
+    let parts : (q : ℕ) × (u : State) × Gives feed 0 s waited.0 q u
+        × Gives feed q u (replicate (length feed) sents.Wait) p v =
+    gives_split feed 0 p s v waited.0 (replicate (length feed) sents.Wait)
+        (subst (λ xs. Gives feed 0 s xs p v) waited.1 gives) in
     let some : 0 < length feed = omega arith in
     let within : parts.0 < length feed = within_given feed 0 parts.0 s parts.1 waited.0 some parts.2 in
     let same : v ≡ parts.1 = waits_stay feed (length feed) parts.0 p parts.1 v parts.3 in
-    let still : (k : ℕ) → k < length feed → Still feed v k = λ k lt. still_waits feed v k (ap (λ (t : State). (sent feed t k).1) same ∙ waits_all feed parts.0 p k parts.1 v parts.3 within lt) in
-    still_given feed v (λ k. k < length feed) (λ k lt. place_within feed k lt) still p last w rest (within_given feed 0 p s v given some gives) more
+    let still : (k : ℕ) → k < length feed → Still feed v k =
+        λ k lt. still_waits feed v k (ap (λ (t : State). (sent feed t k).1) same
+        ∙ waits_all feed parts.0 p k parts.1 v parts.3 within lt) in
+    still_given feed v (λ k. k < length feed) (λ k lt. place_within feed k lt) still p last w rest
+        (within_given feed 0 p s v given some gives) more
 
 abbrev NothingMore : List Window → ℕ → State → Type 0
-NothingMore feed p v = (last : ℕ) (w : State) (rest : List Sent) → Gives feed p v rest last w → (w ≡ v) × (all_sent rest ≡ [])
+NothingMore feed p v = (last : ℕ) (w : State) (rest : List Sent) → Gives feed p v rest last w
+    → (w ≡ v) × (all_sent rest ≡ [])
 
-nothing_more : (feed : List Window) (old a : Attending) (sends : SendsAll feed old a) → NothingMore feed sends.place a.session.state
+nothing_more : (feed : List Window) (old a : Attending) (sends : SendsAll feed old a)
+    → NothingMore feed sends.place a.session.state
 nothing_more feed old a sends last w rest more = elim sends.ends [
-  | inl shut ↦ still_given feed a.session.state (λ k. Unit {0}) (λ k is. tt) (λ k is. still_closed feed a.session.state k shut) sends.place last w rest tt more
-  | inr waited ↦ round_over feed old.session.state a.session.state w sends.place last sends.given rest waited sends.gives more
+  | inl shut ↦ still_given feed a.session.state (λ k. Unit {0}) (λ k is. tt)
+  (λ k is. still_closed feed a.session.state k shut) sends.place last w rest tt more
+  | inr waited ↦ round_over feed old.session.state a.session.state w sends.place last sends.given rest waited
+  sends.gives more
 ]
 
 -- Of two runs of asks one goes on with the other.
 abbrev GoesFurther : List Window → List Sent → ℕ → State → List Sent → ℕ → State → Type 0
 GoesFurther feed some p u more q v = (rest : List Sent) × (more ≡ some ++ rest) × Gives feed p u rest q v
 
-one_run : (feed : List Window) (k p q : ℕ) (s u v : State) (a b : List Sent) → Gives feed k s a p u → Gives feed k s b q v → GoesFurther feed a p u b q v ⊎ GoesFurther feed b q v a p u
-one_run feed k p q s u v [] b x y = inl (b, refl, subst (λ (j : ℕ). Gives feed j u b q v) (sym x.0) (subst (λ (t : State). Gives feed k t b q v) (sym x.1) y))
-one_run feed k p q s u v (a ∷ more) [] x y = inr (a ∷ more, refl, subst (λ (j : ℕ). Gives feed j v (a ∷ more) p u) (sym y.0) (subst (λ (t : State). Gives feed k t (a ∷ more) p u) (sym y.1) x))
+one_run : (feed : List Window) (k p q : ℕ) (s u v : State) (a b : List Sent) → Gives feed k s a p u
+    → Gives feed k s b q v → GoesFurther feed a p u b q v ⊎ GoesFurther feed b q v a p u
+one_run feed k p q s u v [] b x y =
+    inl (b, refl, subst (λ (j : ℕ). Gives feed j u b q v) (sym x.0)
+    (subst (λ (t : State). Gives feed k t b q v) (sym x.1) y))
+one_run feed k p q s u v (a ∷ more) [] x y =
+    inr (a ∷ more, refl, subst (λ (j : ℕ). Gives feed j v (a ∷ more) p u) (sym y.0)
+    (subst (λ (t : State). Gives feed k t (a ∷ more) p u) (sym y.1) x))
 one_run feed k p q s u v (a ∷ more) (b ∷ others) x y =
     let first : a ≡ b = sym x.0 ∙ y.0 in
     elim (one_run feed (place_behind feed k) p q (sent feed s k).0 u v more others x.1 y.1) [
@@ -173,18 +215,26 @@ one_run feed k p q s u v (a ∷ more) (b ∷ others) x y =
 
 all_joined : (some more : List Sent) → all_sent (some ++ more) ≡ all_sent some ++ all_sent more
 all_joined [] more = refl
-all_joined (a ∷ some) more = ap (λ b. sent_bytes a ++ b) (all_joined some more) ∙ sym (append_assoc (sent_bytes a) (all_sent some) (all_sent more))
+all_joined (a ∷ some) more = ap (λ b. sent_bytes a ++ b) (all_joined some more)
+    ∙ sym (append_assoc (sent_bytes a) (all_sent some) (all_sent more))
 
-ended_alike : (feed : List Window) (p q : ℕ) (u v : State) (a b : List Sent) → NothingMore feed p u → GoesFurther feed a p u b q v → (v ≡ u) × (all_sent b ≡ all_sent a)
+ended_alike : (feed : List Window) (p q : ℕ) (u v : State) (a b : List Sent) → NothingMore feed p u
+    → GoesFurther feed a p u b q v → (v ≡ u) × (all_sent b ≡ all_sent a)
 ended_alike feed p q u v a b over far =
     let none : (v ≡ u) × (all_sent far.0 ≡ []) = over q v far.0 far.2 in
     (none.0, ap all_sent far.1 ∙ (all_joined a far.0 ∙ (ap (λ x. all_sent a ++ x) none.1 ∙ append-nil (all_sent a))))
 
 pub sent_once : (feed : List Window) (old a b : Attending) → SendsAll feed old a → SendsAll feed old b → AreAlike a b
 sent_once feed old a b p q =
-    let both : (a.session.state ≡ b.session.state) × (all_sent p.given ≡ all_sent q.given) = elim (one_run feed 0 p.place q.place old.session.state a.session.state b.session.state p.given q.given p.gives q.gives) [
-      | inl far ↦ (let one : (b.session.state ≡ a.session.state) × (all_sent q.given ≡ all_sent p.given) = ended_alike feed p.place q.place a.session.state b.session.state p.given q.given (nothing_more feed old a p) far in (sym one.0, sym one.1))
-      | inr far ↦ ended_alike feed q.place p.place b.session.state a.session.state q.given p.given (nothing_more feed old b q) far
+    let both : (a.session.state ≡ b.session.state) × (all_sent p.given ≡ all_sent q.given) =
+        elim (one_run feed 0 p.place q.place old.session.state a.session.state b.session.state p.given q.given p.gives
+        q.gives) [
+      | inl far ↦ (let one : (b.session.state ≡ a.session.state)
+      × (all_sent q.given ≡ all_sent p.given) =
+      ended_alike feed p.place q.place a.session.state b.session.state p.given q.given (nothing_more feed old a p)
+      far in (sym one.0, sym one.1))
+      | inr far ↦ ended_alike feed q.place p.place b.session.state a.session.state q.given p.given
+      (nothing_more feed old b q) far
     ] in
     record {
       state = both.0;
@@ -194,7 +244,8 @@ sent_once feed old a b p q =
     }
 
 -- A link that failed at a write took no more than what came before and a part of that.
-last_behind : (given more rest : List Sent) (last x : Sent) → given ++ last ∷ [] ≡ more ++ x ∷ rest → (some : List Sent) × (given ≡ more ++ some)
+last_behind : (given more rest : List Sent) (last x : Sent) → given ++ last ∷ [] ≡ more ++ x ∷ rest
+    → (some : List Sent) × (given ≡ more ++ some)
 last_behind given [] rest last x e = (given, refl)
 last_behind [] (y ∷ []) rest last x e = absurd (let bad : [] ≡ x ∷ rest = cc e in cc bad)
 last_behind [] (y ∷ z ∷ more) rest last x e = absurd (let bad : [] ≡ z ∷ (more ++ x ∷ rest) = cc e in cc bad)
@@ -205,21 +256,30 @@ last_behind (g ∷ given) (y ∷ more) rest last x e =
     (one.0, ap (λ z. z ∷ given) heads ∙ ap (λ zs. y ∷ zs) one.1)
 
 -- the first of two such runs isn't shorter
-failed_alike : (feed : List Window) (p q n : ℕ) (u v : State) (a given : List Sent) (last : Sent) → n < length (all_sent a) → length (all_sent given) ≤ n → GoesFurther feed a p u (given ++ last ∷ []) q v
+failed_alike : (feed : List Window) (p q n : ℕ) (u v : State) (a given : List Sent) (last : Sent)
+    → n < length (all_sent a) → length (all_sent given) ≤ n → GoesFurther feed a p u (given ++ last ∷ []) q v
     → (v ≡ u) × (all_sent (given ++ last ∷ []) ≡ all_sent a)
 failed_alike feed p q n u v a given last part behind ([], same, more) = (more.1, ap all_sent (same ∙ append-nil a))
 failed_alike feed p q n u v a given last part behind (x ∷ rest, same, more) =
     let some : (xs : List Sent) × (given ≡ a ++ xs) = last_behind given a rest last x same in
-    let long : length (all_sent given) ≡ length (all_sent a) + length (all_sent some.0) = ap (λ g. length (all_sent g)) some.1 ∙ (ap length (all_joined a some.0) ∙ length-append (all_sent a) (all_sent some.0)) in
+    let long : length (all_sent given) ≡ length (all_sent a) + length (all_sent some.0) =
+        ap (λ g. length (all_sent g)) some.1
+        ∙ (ap length (all_joined a some.0) ∙ length-append (all_sent a) (all_sent some.0)) in
     absurd (omega (arith, part, behind, long))
 
-pub sending_failed_once : (feed : List Window) (old a b : Attending) (n : ℕ) → FailsToSend feed old a n → FailsToSend feed old b n → AreAlike a b
+pub sending_failed_once : (feed : List Window) (old a b : Attending) (n : ℕ) → FailsToSend feed old a n
+    → FailsToSend feed old b n → AreAlike a b
 sending_failed_once feed old a b n p q =
     let x : List Sent = p.given ++ p.last ∷ [] in
     let y : List Sent = q.given ++ q.last ∷ [] in
-    let both : (a.session.state ≡ b.session.state) × (all_sent x ≡ all_sent y) = elim (one_run feed 0 p.place q.place old.session.state a.session.state b.session.state x y p.gives q.gives) [
-      | inl far ↦ (let one : (b.session.state ≡ a.session.state) × (all_sent y ≡ all_sent x) = failed_alike feed p.place q.place n a.session.state b.session.state x q.given q.last p.said.part q.behind far in (sym one.0, sym one.1))
-      | inr far ↦ failed_alike feed q.place p.place n b.session.state a.session.state y p.given p.last q.said.part p.behind far
+    let both : (a.session.state ≡ b.session.state) × (all_sent x ≡ all_sent y) =
+        elim (one_run feed 0 p.place q.place old.session.state a.session.state b.session.state x y p.gives q.gives) [
+      | inl far ↦ (let one : (b.session.state ≡ a.session.state)
+      × (all_sent y ≡ all_sent x) =
+      failed_alike feed p.place q.place n a.session.state b.session.state x q.given q.last p.said.part q.behind far in
+      (sym one.0, sym one.1))
+      | inr far ↦ failed_alike feed q.place p.place n b.session.state a.session.state y p.given p.last q.said.part
+      p.behind far
     ] in
     record {
       state = both.0;
@@ -230,37 +290,55 @@ sending_failed_once feed old a b n p q =
 
 -- What one read told is told by what was heard.
 still_unread : (before : Heard) (bytes : List ℕ) → before ≡ told_once before bytes → ⊥
-still_unread before bytes e = let calls : before.calls ≡ before.calls + 1 = ap (λ (h : Heard). h.calls) e in omega (arith, calls)
+still_unread before bytes e = let calls : before.calls ≡ before.calls + 1 = ap (λ (h : Heard). h.calls) e in
+    omega (arith, calls)
 
 told_same : (before : Heard) (some more : List ℕ) → told_once before some ≡ told_once before more → some ≡ more
 told_same before some more e = append_cancel_left before.bytes some more (ap (λ (h : Heard). h.bytes) e)
 
 nothing_told : (before : Heard) (bytes : List ℕ) → 0 < length bytes → told_once before [] ≡ told_once before bytes → ⊥
-nothing_told before bytes some e = let none : 0 ≡ length bytes = ap length (told_same before [] bytes e) in omega (arith, some, none)
+nothing_told before bytes some e = let none : 0 ≡ length bytes = ap length (told_same before [] bytes e) in
+    omega (arith, some, none)
 
-replied_alike : (feed : List Window) (old m n a b : Attending) (bytes more : List ℕ) → Stands old.session → GoesOn feed old m → GoesOn feed old n → more ≡ bytes → RepliesToAll feed m a bytes → RepliesToAll feed n b more → AreAlike a b
+replied_alike : (feed : List Window) (old m n a b : Attending) (bytes more : List ℕ) → Stands old.session
+    → GoesOn feed old m → GoesOn feed old n → more ≡ bytes → RepliesToAll feed m a bytes → RepliesToAll feed n b more
+    → AreAlike a b
 replied_alike feed old m n a b bytes more stands g h same p q =
     let mid : AreAlike m n = sent_once feed old m n g.sends h.sends in
     let session : n.session ≡ m.session = sym (standings_same m.session n.session mid.state (mid.held g.open_still)) in
-    let awake : Open old.session.state.phase = λ shut. g.open_still (ap (λ (s : State). s.phase) (shut_given feed 0 g.sends.place old.session.state m.session.state g.sends.given g.sends.gives shut) ∙ shut) in
+    let awake : Open old.session.state.phase =
+        λ shut. g.open_still (ap (λ (s : State). s.phase)
+        (shut_given feed 0 g.sends.place old.session.state m.session.state g.sends.given g.sends.gives shut) ∙ shut) in
     let some : (stream : List ℕ) × StandsFor old.session stream = stands awake in
     let held : IsHeld m.session.held some.0 = subst (λ h. IsHeld h some.0) (sym g.sends.held) some.1.0 in
     let other : Serves feed m.session bytes m.said.bytes b.session b.said.bytes =
     subst (λ (s : Standing). Serves feed s bytes m.said.bytes b.session b.said.bytes) session
-    (subst (λ w. Serves feed n.session bytes w b.session b.said.bytes) (sym mid.bytes) (subst (λ bs. Serves feed n.session bs n.said.bytes b.session b.said.bytes) same q.serves)) in
+    (subst (λ w. Serves feed n.session bytes w b.session b.said.bytes) (sym mid.bytes)
+        (subst (λ bs. Serves feed n.session bs n.said.bytes b.session b.said.bytes) same q.serves)) in
     let one : Same feed a.session b.session a.said.bytes b.said.bytes =
-    served_once feed m.session a.session b.session some.0 bytes m.said.bytes a.said.bytes b.said.bytes (λ _. held) (sym some.1.0.1 ∙ some.1.1) p.serves other in
-    record { state = one.state; held = one.held; bytes = one.out; failures = p.failures ∙ (mid.failures ∙ sym q.failures) }
+    served_once feed m.session a.session b.session some.0 bytes m.said.bytes a.said.bytes b.said.bytes (λ _. held)
+        (sym some.1.0.1 ∙ some.1.1) p.serves other in
+    record { state = one.state; held = one.held; bytes = one.out; failures = p.failures
+        ∙ (mid.failures ∙ sym q.failures) }
 
-pub turned_once : (feed : List Window) (old a b : Attending) (before after : Heard) (t u : Turn) → Stands old.session → Attends feed old a before after t → Attends feed old b before after u → (t ≡ u) × AreAlike a b
-turned_once feed old a b before after t u stands (is_closed p shut e) (is_closed q over f) = (refl, sent_once feed old a b p q)
-turned_once feed old a b before after t u stands (is_closed p shut e) (is_at_end h f) = absurd (still_unread before [] (sym e ∙ f))
-turned_once feed old a b before after t u stands (is_closed p shut e) (replies n more h f some few q) = absurd (still_unread before more (sym e ∙ f))
-turned_once feed old a b before after t u stands (is_at_end g e) (is_closed q over f) = absurd (still_unread before [] (sym f ∙ e))
-turned_once feed old a b before after t u stands (is_at_end g e) (is_at_end h f) = (refl, sent_once feed old a b g.sends h.sends)
-turned_once feed old a b before after t u stands (is_at_end g e) (replies n more h f some few q) = absurd (nothing_told before more some (sym e ∙ f))
-turned_once feed old a b before after t u stands (replies m bytes g e some few p) (is_closed q over f) = absurd (still_unread before bytes (sym f ∙ e))
-turned_once feed old a b before after t u stands (replies m bytes g e some few p) (is_at_end h f) = absurd (nothing_told before bytes some (sym f ∙ e))
+pub turned_once : (feed : List Window) (old a b : Attending) (before after : Heard) (t u : Turn) → Stands old.session
+    → Attends feed old a before after t → Attends feed old b before after u → (t ≡ u) × AreAlike a b
+turned_once feed old a b before after t u stands (is_closed p shut e) (is_closed q over f) =
+    (refl, sent_once feed old a b p q)
+turned_once feed old a b before after t u stands (is_closed p shut e) (is_at_end h f) =
+    absurd (still_unread before [] (sym e ∙ f))
+turned_once feed old a b before after t u stands (is_closed p shut e) (replies n more h f some few q) =
+    absurd (still_unread before more (sym e ∙ f))
+turned_once feed old a b before after t u stands (is_at_end g e) (is_closed q over f) =
+    absurd (still_unread before [] (sym f ∙ e))
+turned_once feed old a b before after t u stands (is_at_end g e) (is_at_end h f) =
+    (refl, sent_once feed old a b g.sends h.sends)
+turned_once feed old a b before after t u stands (is_at_end g e) (replies n more h f some few q) =
+    absurd (nothing_told before more some (sym e ∙ f))
+turned_once feed old a b before after t u stands (replies m bytes g e some few p) (is_closed q over f) =
+    absurd (still_unread before bytes (sym f ∙ e))
+turned_once feed old a b before after t u stands (replies m bytes g e some few p) (is_at_end h f) =
+    absurd (nothing_told before bytes some (sym f ∙ e))
 turned_once feed old a b before after t u stands (replies m bytes g e some few p) (replies n more h f much short q) =
     (refl, replied_alike feed old m n a b bytes more stands g h (told_same before more bytes (sym f ∙ e)) p q)
 
@@ -269,33 +347,54 @@ took_alike : (a b : Attending) → AreAlike a b → TookAlike a b
 took_alike a b same = record { state = same.state; bytes = same.bytes; failures = same.failures }
 
 -- it failed in a reply
-cut_alike : (feed : List Window) (old m n a b : Attending) (bytes more : List ℕ) (count : ℕ) → Stands old.session → GoesOn feed old m → GoesOn feed old n → more ≡ bytes → FailsToReply feed m a bytes → FailsToReply feed n b more
-    → length a.said.bytes ≡ length old.said.bytes + count → length b.said.bytes ≡ length old.said.bytes + count → TookAlike a b
+cut_alike : (feed : List Window) (old m n a b : Attending) (bytes more : List ℕ) (count : ℕ) → Stands old.session
+    → GoesOn feed old m → GoesOn feed old n → more ≡ bytes → FailsToReply feed m a bytes → FailsToReply feed n b more
+    → length a.said.bytes ≡ length old.said.bytes + count → length b.said.bytes ≡ length old.said.bytes + count
+    → TookAlike a b
 cut_alike feed old m n a b bytes more count stands g h same p q long short =
     let mid : AreAlike m n = sent_once feed old m n g.sends h.sends in
     let session : n.session ≡ m.session = sym (standings_same m.session n.session mid.state (mid.held g.open_still)) in
-    let awake : Open old.session.state.phase = λ shut. g.open_still (ap (λ (s : State). s.phase) (shut_given feed 0 g.sends.place old.session.state m.session.state g.sends.given g.sends.gives shut) ∙ shut) in
+    let awake : Open old.session.state.phase =
+        λ shut. g.open_still (ap (λ (s : State). s.phase)
+        (shut_given feed 0 g.sends.place old.session.state m.session.state g.sends.given g.sends.gives shut) ∙ shut) in
     let some : (stream : List ℕ) × StandsFor old.session stream = stands awake in
     let held : IsHeld m.session.held some.0 = subst (λ h. IsHeld h some.0) (sym g.sends.held) some.1.0 in
     let other : Serves feed m.session q.front m.said.bytes q.before.session q.before.said.bytes =
     subst (λ (s : Standing). Serves feed s q.front m.said.bytes q.before.session q.before.said.bytes) session
-    (subst (λ w. Serves feed n.session q.front w q.before.session q.before.said.bytes) (sym mid.bytes) q.replies.serves) in
-    let total : length (p.before.said.bytes ++ take p.count (reply_bytes p.reply)) ≡ length (q.before.said.bytes ++ take q.count (reply_bytes q.reply)) =
+    (subst (λ w. Serves feed n.session q.front w q.before.session q.before.said.bytes) (sym mid.bytes)
+        q.replies.serves) in
+    let total : length (p.before.said.bytes ++ take p.count (reply_bytes p.reply))
+        ≡ length (q.before.said.bytes ++ take q.count (reply_bytes q.reply)) =
     ap length (sym p.said.bytes) ∙ (long ∙ (sym short ∙ ap length q.said.bytes)) in
-    let one : (a.session.state ≡ b.session.state) × (p.before.said.bytes ++ take p.count (reply_bytes p.reply) ≡ q.before.said.bytes ++ take q.count (reply_bytes q.reply)) =
-    cut_in_once feed m.session p.before.session q.before.session a.session b.session some.0 bytes p.front p.piece p.rest q.front q.piece q.rest m.said.bytes p.before.said.bytes q.before.said.bytes p.reply q.reply p.count q.count
-    (λ _. held) (sym some.1.0.1 ∙ some.1.1) (p.bytes_are ∙ append_assoc p.front p.piece p.rest) p.replies.serves p.takes p.said.part (sym same ∙ (q.bytes_are ∙ append_assoc q.front q.piece q.rest)) other q.takes q.said.part total in
+    let one : (a.session.state ≡ b.session.state)
+        × (p.before.said.bytes ++ take p.count (reply_bytes p.reply) ≡ q.before.said.bytes ++ take q.count
+        (reply_bytes q.reply)) =
+    cut_in_once feed m.session p.before.session q.before.session a.session b.session some.0 bytes p.front p.piece
+        p.rest q.front q.piece q.rest m.said.bytes p.before.said.bytes q.before.said.bytes p.reply q.reply p.count
+        q.count
+    (λ _. held) (sym some.1.0.1 ∙ some.1.1) (p.bytes_are ∙ append_assoc p.front p.piece p.rest) p.replies.serves
+        p.takes p.said.part (sym same ∙ (q.bytes_are ∙ append_assoc q.front q.piece q.rest)) other q.takes q.said.part
+        total in
     record {
       state = one.0;
       bytes = p.said.bytes ∙ (one.1 ∙ sym q.said.bytes);
-      failures = p.said.failures ∙ (ap (λ n. n + 1) (p.replies.failures ∙ (mid.failures ∙ sym q.replies.failures)) ∙ sym q.said.failures);
+      failures = p.said.failures ∙ (ap (λ n. n + 1) (p.replies.failures ∙ (mid.failures ∙ sym q.replies.failures))
+          ∙ sym q.said.failures);
     }
 
-pub cut_once : (feed : List Window) (old a b : Attending) (before after : Heard) (fault : LinkFault) → Stands old.session → IsServeFault feed old a before after fault → IsServeFault feed old b before after fault → TookAlike a b
-cut_once feed old a b before after (faults.Write count) stands (at_send n p e) (at_send m q f) = took_alike a b (sending_failed_once feed old a b count p q)
-cut_once feed old a b before after (faults.Write count) stands (at_send n p e) (at_reply m mid bytes h f few q long) = absurd (still_unread before bytes (sym e ∙ f))
-cut_once feed old a b before after faults.Read stands (at_read g e) (at_read h f) = took_alike a b (sent_once feed old a b g.sends h.sends)
-cut_once feed old a b before after (faults.Write count) stands (at_reply m mid bytes h f few q long) (at_send n p e) = absurd (still_unread before bytes (sym e ∙ f))
-cut_once feed old a b before after (faults.Write count) stands (at_reply n mid bytes g e few p long) (at_reply m other more h f short q total) =
-    cut_alike feed old mid other a b bytes more count stands g h (told_same before more bytes (sym f ∙ e)) p q long total
+pub cut_once : (feed : List Window) (old a b : Attending) (before after : Heard) (fault : LinkFault)
+    → Stands old.session → IsServeFault feed old a before after fault → IsServeFault feed old b before after fault
+    → TookAlike a b
+cut_once feed old a b before after (faults.Write count) stands (at_send n p e) (at_send m q f) =
+    took_alike a b (sending_failed_once feed old a b count p q)
+cut_once feed old a b before after (faults.Write count) stands (at_send n p e) (at_reply m mid bytes h f few q long) =
+    absurd (still_unread before bytes (sym e ∙ f))
+cut_once feed old a b before after faults.Read stands (at_read g e) (at_read h f) =
+    took_alike a b (sent_once feed old a b g.sends h.sends)
+cut_once feed old a b before after (faults.Write count) stands (at_reply m mid bytes h f few q long) (at_send n p e) =
+    absurd (still_unread before bytes (sym e ∙ f))
+cut_once feed old a b before after (faults.Write count) stands (at_reply n mid bytes g e few p long)
+    (at_reply m other more h f short q total) =
+    cut_alike feed old mid other a b bytes more count stands g h (told_same before more bytes (sym f ∙ e)) p q long
+        total
 cut_once feed old a b before after (faults.Output count) stands p q = elim p [ ]

@@ -1,5 +1,6 @@
 -- Grants that the rings of a feed reach.
-use Rattle.std.proofs.Common.{◌≡◌, ℕ, ◌+◌, ◌<◌, ◌≤◌, ◌⊎◌, inl, inr, zero, suc, refl, sym, ap, subst, ◌∙◌, arith, List, [], ◌∷◌, set, Option, Some, None, slice_get}
+use Rattle.std.proofs.Common.{◌≡◌, ℕ, ◌+◌, ◌<◌, ◌≤◌, ◌⊎◌, inl, inr, zero, suc, refl, sym, ap, subst, ◌∙◌, arith, List,
+    [], ◌∷◌, set, Option, Some, None, slice_get}
 use Rattle.slink_feed.specs.declared.grant.Grant.{Grant}
 use Rattle.slink_feed.specs.declared.session.Phase.{Phase}
 use Rattle.slink_feed.specs.declared.session.Phase.TheVariants.{Streaming}
@@ -8,19 +9,23 @@ use Rattle.slink_feed.specs.Session.{AreReached, Grants, IsReached, State, grant
 use Rattle.slink_feed.specs.Window.{Window}
 
 -- a grant once another was written
-grant_set : (gs : Grants) (k j : ℕ) (o : Option Grant) → ((j ≡ k) × (grant_at (set gs k o) j ≡ o)) ⊎ (grant_at (set gs k o) j ≡ grant_at gs j)
+grant_set : (gs : Grants) (k j : ℕ) (o : Option Grant) → ((j ≡ k) × (grant_at (set gs k o) j ≡ o))
+    ⊎ (grant_at (set gs k o) j ≡ grant_at gs j)
 grant_set [] k j o = inr refl
 grant_set (x ∷ gs) zero zero o = inl (refl, refl)
 grant_set (x ∷ gs) zero (suc j) o = inr refl
 grant_set (x ∷ gs) (suc k) zero o = inr refl
-grant_set (x ∷ gs) (suc k) (suc j) o = elim (grant_set gs k j o) [ inl here ↦ inl (ap suc here.0, here.1) | inr there ↦ inr there ]
+grant_set (x ∷ gs) (suc k) (suc j) o =
+    elim (grant_set gs k j o) [ inl here ↦ inl (ap suc here.0, here.1) | inr there ↦ inr there ]
 
 -- a grant that the rings reach is written
-pub reached_with : (feed : List Window) (gs : Grants) (k : ℕ) (g : Grant) → IsReached feed k g.position → AreReached feed gs → AreReached feed (set gs k (Some g))
+pub reached_with : (feed : List Window) (gs : Grants) (k : ℕ) (g : Grant) → IsReached feed k g.position
+    → AreReached feed gs → AreReached feed (set gs k (Some g))
 reached_with feed gs k g reached before j h is = elim (grant_set gs k j (Some g)) [
   | inl here ↦ let same : Some g ≡ Some h = sym here.1 ∙ is in
       let one : g ≡ h = cc same in
-      subst (λ (x : Grant). IsReached feed j x.position) one (subst (λ i. IsReached feed i g.position) (sym here.0) reached)
+      subst (λ (x : Grant). IsReached feed j x.position) one
+          (subst (λ i. IsReached feed i g.position) (sym here.0) reached)
   | inr there ↦ before j h (sym there ∙ is)
 ]
 
@@ -32,7 +37,8 @@ reached_without feed gs k before j h is = elim (grant_set gs k j None) [
 ]
 
 -- the position of a grant
-pub position_reached : (feed : List Window) (gs : Grants) (k : ℕ) (g : Grant) (w : Window) (o : Option Grant) → AreReached feed gs → o ≡ grant_at gs k → o ≡ Some g → slice_get feed k ≡ Some w → g.position ≤ w.next
+pub position_reached : (feed : List Window) (gs : Grants) (k : ℕ) (g : Grant) (w : Window) (o : Option Grant)
+    → AreReached feed gs → o ≡ grant_at gs k → o ≡ Some g → slice_get feed k ≡ Some w → g.position ≤ w.next
 position_reached feed gs k g w o before read is here =
     let reached : IsReached feed k g.position = before k g (sym read ∙ is) in
     let both : Some reached.0 ≡ Some w = sym reached.1 ∙ here in
@@ -40,12 +46,15 @@ position_reached feed gs k g w o before read is here =
     subst (λ (x : Window). g.position ≤ x.next) one reached.2
 
 -- a position that goes on to the next record
-pub reached_next : (feed : List Window) (k : ℕ) (w : Window) (p : ℕ) → slice_get feed k ≡ Some w → p < w.next → IsReached feed k (p + 1)
+pub reached_next : (feed : List Window) (k : ℕ) (w : Window) (p : ℕ) → slice_get feed k ≡ Some w → p < w.next
+    → IsReached feed k (p + 1)
 reached_next feed k w p here lt = (w, here, omega (arith, lt))
 
 -- what is sent, by the grant and the ring
-pub sent_is : (feed : List Window) (s : State) (k : ℕ) (g : Grant) (w : Window) (o : Option Grant) (x : State × Sent) → s.phase ≡ Streaming → o ≡ grant_at s.grants k → o ≡ Some g → slice_get feed k ≡ Some w
+pub sent_is : (feed : List Window) (s : State) (k : ℕ) (g : Grant) (w : Window) (o : Option Grant) (x : State × Sent)
+    → s.phase ≡ Streaming → o ≡ grant_at s.grants k → o ≡ Some g → slice_get feed k ≡ Some w
     → sent_from feed s k g w ≡ x → sent feed s k ≡ x
 sent_is feed s k g w o x phase read is here e =
     ap (λ (p : Phase). sent_in p feed s k) phase
-    ∙ (ap (λ (h : Option Grant). sent_of feed s k h (slice_get feed k)) (sym read ∙ is) ∙ (ap (λ (r : Option Window). sent_of feed s k (Some g) r) here ∙ e))
+    ∙ (ap (λ (h : Option Grant). sent_of feed s k h (slice_get feed k)) (sym read ∙ is)
+    ∙ (ap (λ (r : Option Window). sent_of feed s k (Some g) r) here ∙ e))

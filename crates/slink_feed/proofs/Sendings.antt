@@ -1,9 +1,12 @@
 -- What one session sends of a place is a stretch of its pushed records.
-use Rattle.std.proofs.Common.{◌≡◌, ◌≢◌, ℕ, ◌+◌, ◌-◌, ◌%◌, ◌^◌, ◌≤◌, ◌⊎◌, inl, inr, zero, suc, refl, sym, ap, subst, ◌∙◌, arith, Bool, true, false, ◌==◌, if◌then◌else◌, List, [], ◌∷◌, ◌++◌, length, length-drop, take, drop, set, Option, Some, None, slice_get}
+use Rattle.std.proofs.Common.{◌≡◌, ◌≢◌, ℕ, ◌+◌, ◌-◌, ◌%◌, ◌^◌, ◌≤◌, ◌⊎◌, inl, inr, zero, suc, refl, sym, ap, subst, ◌∙◌,
+    arith, Bool, true, false, ◌==◌, if◌then◌else◌, List, [], ◌∷◌, ◌++◌, length, length-drop, take, drop, set, Option,
+    Some, None, slice_get}
 use Rattle.std.proofs.lemmas.Bool.Decides.{eqb_tells, leb_tells}
 use Rattle.slink_wire.specs.Packet.{packet_bytes}
 use Rattle.slink_wire.specs.declared.command.Command.{Command}
-use Rattle.slink_wire.specs.declared.command.Command.TheVariants.{Hello, Station, SelectAll, Data, Fetch, End, Bye, Other}
+use Rattle.slink_wire.specs.declared.command.Command.TheVariants.{Hello, Station, SelectAll, Data, Fetch, End, Bye,
+    Other}
 use Rattle.slink_wire.specs.declared.lines.What.{What}
 use Rattle.slink_wire.specs.declared.lines.What.TheVariants.{More, Line, TooLong}
 use Rattle.slink_wire.specs.declared.reply.Reply.{Reply}
@@ -13,12 +16,15 @@ use Rattle.slink_feed.specs.declared.session.Phase.TheVariants.{Streaming, Close
 use Rattle.slink_feed.specs.declared.session.Sent.{Sent}
 use Rattle.slink_feed.specs.declared.session.Sent.TheVariants as Sents
 use Rattle.slink_feed.specs.Serving.{IsAnswer}
-use Rattle.slink_feed.specs.Session.{Grants, State, all_done, answered_in, at_next, grant_at, in_streaming, packet_at, sent, sent_in, sent_of}
-use Rattle.slink_feed.specs.Sending.{AreAsked, AreShown, Asked, IsHeardFrom, IsStretch, packet_in, packets_from, packets_of}
+use Rattle.slink_feed.specs.Session.{Grants, State, all_done, answered_in, at_next, grant_at, in_streaming, packet_at,
+    sent, sent_in, sent_of}
+use Rattle.slink_feed.specs.Sending.{AreAsked, AreShown, Asked, IsHeardFrom, IsStretch, packet_in, packets_from,
+    packets_of}
 use Rattle.slink_feed.specs.Window.{Shows, Window, oldest_of, record_at}
 
 -- the records that a window shows, by their numbers
-get_dropped : (xs : List (List ℕ)) (d i j : ℕ) (x : List ℕ) → j ≡ d + i → slice_get (drop d xs) i ≡ Some x → slice_get xs j ≡ Some x
+get_dropped : (xs : List (List ℕ)) (d i j : ℕ) (x : List ℕ) → j ≡ d + i → slice_get (drop d xs) i ≡ Some x
+    → slice_get xs j ≡ Some x
 get_dropped xs zero i j x e h = let same : j ≡ i = omega (arith, e) in ap (slice_get xs) same ∙ h
 get_dropped [] (suc d) i j x e h = absurd (let bad : None ≡ Some x = h in cc bad)
 get_dropped (y ∷ ys) (suc d) i zero x e h = absurd (omega (arith, e))
@@ -30,25 +36,32 @@ get_taken [] (suc n) i x h = h
 get_taken (y ∷ ys) (suc n) zero x h = h
 get_taken (y ∷ ys) (suc n) (suc i) x h = get_taken ys n i x h
 
-shown_in : (w : Window) (first p : ℕ) (pushed : List (List ℕ)) (x : List ℕ) → Shows w first pushed → oldest_of w ≤ p → slice_get w.records (p - oldest_of w) ≡ Some x → (first ≤ p) × (slice_get pushed (p - first) ≡ Some x)
+shown_in : (w : Window) (first p : ℕ) (pushed : List (List ℕ)) (x : List ℕ) → Shows w first pushed → oldest_of w ≤ p
+    → slice_get w.records (p - oldest_of w) ≡ Some x → (first ≤ p) × (slice_get pushed (p - first) ≡ Some x)
 shown_in w first p pushed x shows above h =
     let d : ℕ = length pushed - w.capacity in
     let long : length w.records ≡ length pushed - d = ap length shows.records ∙ length-drop d pushed in
     let at : oldest_of w ≡ first + d = omega (arith, long, shows.next) in (
       omega (arith, at, above),
-      get_dropped pushed d (p - oldest_of w) (p - first) x (omega (arith, at, above)) (ap (λ (rs : List (List ℕ)). slice_get rs (p - oldest_of w)) (sym shows.records) ∙ h),
+      get_dropped pushed d (p - oldest_of w) (p - first) x (omega (arith, at, above))
+          (ap (λ (rs : List (List ℕ)). slice_get rs (p - oldest_of w)) (sym shows.records) ∙ h),
     )
 
-pub read_at : (w : Window) (p : ℕ) (x : List ℕ) → record_at w p ≡ Some x → (oldest_of w ≤ p) × (slice_get w.records (p - oldest_of w) ≡ Some x)
+pub read_at : (w : Window) (p : ℕ) (x : List ℕ) → record_at w p ≡ Some x
+    → (oldest_of w ≤ p) × (slice_get w.records (p - oldest_of w) ≡ Some x)
 read_at w p x h = elim (leb_tells (suc p) (oldest_of w)) [
-  | inl below ↦ absurd (let bad : None ≡ Some x = sym (ap (λ t. if t then None else slice_get w.records (p - oldest_of w)) below.0) ∙ h in cc bad)
-  | inr above ↦ (omega (arith, above.1), sym (ap (λ t. if t then None else slice_get w.records (p - oldest_of w)) above.0) ∙ h)
+  | inl below ↦ absurd (let bad : None ≡ Some x = sym
+  (ap (λ t. if t then None else slice_get w.records (p - oldest_of w)) below.0) ∙ h in cc bad)
+  | inr above ↦ (omega (arith, above.1),
+  sym (ap (λ t. if t then None else slice_get w.records (p - oldest_of w)) above.0) ∙ h)
 ]
 
-shown_at : (w : Window) (first n p : ℕ) (pushed : List (List ℕ)) (x : List ℕ) → Shows w first (take n pushed) → record_at w p ≡ Some x → (first ≤ p) × (slice_get pushed (p - first) ≡ Some x)
+shown_at : (w : Window) (first n p : ℕ) (pushed : List (List ℕ)) (x : List ℕ) → Shows w first (take n pushed)
+    → record_at w p ≡ Some x → (first ≤ p) × (slice_get pushed (p - first) ≡ Some x)
 shown_at w first n p pushed x shows h =
     let read : (oldest_of w ≤ p) × (slice_get w.records (p - oldest_of w) ≡ Some x) = read_at w p x h in
-    let shown : (first ≤ p) × (slice_get (take n pushed) (p - first) ≡ Some x) = shown_in w first p (take n pushed) x shows read.0 read.1 in
+    let shown : (first ≤ p) × (slice_get (take n pushed) (p - first) ≡ Some x) =
+        shown_in w first p (take n pushed) x shows read.0 read.1 in
     (shown.0, get_taken pushed n (p - first) x shown.1)
 
 drop_next : (xs : List (List ℕ)) (i : ℕ) (x : List ℕ) → slice_get xs i ≡ Some x → drop i xs ≡ x ∷ drop (suc i) xs
@@ -57,12 +70,14 @@ drop_next (y ∷ ys) zero x h = let same : Some y ≡ Some x = h in let one : y 
 drop_next (y ∷ ys) (suc i) x h = drop_next ys i x h
 
 -- one packet more in front of a stretch
-stretch_more : (first p : ℕ) (pushed packets : List (List ℕ)) (x : List ℕ) → first ≤ p → slice_get pushed (p - first) ≡ Some x → IsStretch first pushed (p + 1) packets
+stretch_more : (first p : ℕ) (pushed packets : List (List ℕ)) (x : List ℕ) → first ≤ p
+    → slice_get pushed (p - first) ≡ Some x → IsStretch first pushed (p + 1) packets
     → IsStretch first pushed p (packet_bytes (p % 2 ^ 24) x ∷ packets)
 stretch_more first p pushed packets x above here rest =
     let i : ℕ = p - first in
     let next : p + 1 - first ≡ suc i = omega (arith, above) in
-    ap (λ ps. packet_bytes (p % 2 ^ 24) x ∷ ps) (rest ∙ ap (λ n. packets_from (p + 1) (take (length packets) (drop n pushed))) next)
+    ap (λ ps. packet_bytes (p % 2 ^ 24) x ∷ ps) (rest
+        ∙ ap (λ n. packets_from (p + 1) (take (length packets) (drop n pushed))) next)
     ∙ ap (λ xs. packets_from p (take (suc (length packets)) xs)) (sym (drop_next pushed i x here))
 
 -- grants once one was written
@@ -84,48 +99,65 @@ IsOn phase = (phase ≡ Streaming) ⊎ (phase ≡ Closed)
 
 -- A call sends no packet of the place, whose grant stays; or the one at its position, which goes on.
 data Stepped (k : ℕ) (g : Grant) (feed : List Window) (place : ℕ) (x : State × Sent) : Type 0 where
-  quiet : (if place == k then packet_in x.1 else []) ≡ [] → grant_at x.0.grants k ≡ Some g → IsOn x.0.phase → Stepped k g feed place x
-  went : (w : Window) (bytes : List ℕ) → place ≡ k → x.1 ≡ Sents.Packet (packet_bytes (g.position % 2 ^ 24) bytes) → slice_get feed k ≡ Some w → record_at w g.position ≡ Some bytes
-      → grant_at x.0.grants k ≡ Some (record { mode = g.mode; position = g.position + 1 }) → IsOn x.0.phase → Stepped k g feed place x
+  quiet : (if place == k then packet_in x.1 else []) ≡ [] → grant_at x.0.grants k ≡ Some g → IsOn x.0.phase
+      → Stepped k g feed place x
+  went : (w : Window) (bytes : List ℕ) → place ≡ k → x.1 ≡ Sents.Packet (packet_bytes (g.position % 2 ^ 24) bytes)
+      → slice_get feed k ≡ Some w → record_at w g.position ≡ Some bytes
+      → grant_at x.0.grants k ≡ Some (record { mode = g.mode; position = g.position + 1 }) → IsOn x.0.phase
+      → Stepped k g feed place x
 
 pub none_either : (t : Bool) → ◌≡◌ {A = List (List ℕ)} (if t then [] else []) []
 none_either true = refl
 none_either false = refl
 
-step_packet : (k place : ℕ) (g h : Grant) (feed : List Window) (t : State) (w : Window) (o : Option (List ℕ)) → grant_at t.grants k ≡ Some g → grant_at t.grants place ≡ Some h → slice_get feed place ≡ Some w
+step_packet : (k place : ℕ) (g h : Grant) (feed : List Window) (t : State) (w : Window) (o : Option (List ℕ))
+    → grant_at t.grants k ≡ Some g → grant_at t.grants place ≡ Some h → slice_get feed place ≡ Some w
     → record_at w h.position ≡ o → t.phase ≡ Streaming → Stepped k g feed place (packet_at t place h o)
 step_packet k place g h feed t w None at_k at_place here read on = quiet (none_either (place == k)) at_k (inr refl)
 step_packet k place g h feed t w (Some bytes) at_k at_place here read on = elim (eqb_tells place k) [
   | inl same ↦ let both : Some h ≡ Some g = sym at_place ∙ (ap (grant_at t.grants) same.1 ∙ at_k) in
       let one : h ≡ g = cc both in
-      went w bytes same.1 (ap (λ (y : Grant). Sents.Packet (packet_bytes (y.position % 2 ^ 24) bytes)) one) (ap (slice_get feed) (sym same.1) ∙ here)
+      went w bytes same.1 (ap (λ (y : Grant). Sents.Packet (packet_bytes (y.position % 2 ^ 24) bytes)) one)
+          (ap (slice_get feed) (sym same.1) ∙ here)
       (ap (λ (y : Grant). record_at w y.position) (sym one) ∙ read)
       (ap (grant_at (set t.grants place (Some (record { mode = h.mode; position = h.position + 1 })))) (sym same.1)
-      ∙ (set_here t.grants place (Some (record { mode = h.mode; position = h.position + 1 })) h at_place ∙ ap (λ (y : Grant). Some (record { mode = y.mode; position = y.position + 1 })) one))
+      ∙ (set_here t.grants place (Some (record { mode = h.mode; position = h.position + 1 })) h at_place
+      ∙ ap (λ (y : Grant). Some (record { mode = y.mode; position = y.position + 1 })) one))
       (inl on)
-  | inr other ↦ quiet (ap (λ b. if b then packet_bytes (h.position % 2 ^ 24) bytes ∷ [] else []) other.0) (set_other t.grants place k (Some (record { mode = h.mode; position = h.position + 1 })) other.1 ∙ at_k) (inl on)
+  | inr other ↦ quiet (ap (λ b. if b then packet_bytes (h.position % 2 ^ 24) bytes ∷ [] else []) other.0)
+  (set_other t.grants place k (Some (record { mode = h.mode; position = h.position + 1 })) other.1 ∙ at_k) (inl on)
 ]
 
-step_next : (k place : ℕ) (g : Grant) (feed : List Window) (t : State) (done : Bool) → grant_at t.grants k ≡ Some g → t.phase ≡ Streaming → Stepped k g feed place (at_next done t)
+step_next : (k place : ℕ) (g : Grant) (feed : List Window) (t : State) (done : Bool) → grant_at t.grants k ≡ Some g
+    → t.phase ≡ Streaming → Stepped k g feed place (at_next done t)
 step_next k place g feed t true at_k on = quiet (none_either (place == k)) at_k (inr refl)
 step_next k place g feed t false at_k on = quiet (none_either (place == k)) at_k (inl on)
 
-step_from : (k place : ℕ) (g h : Grant) (feed : List Window) (t : State) (w : Window) (b : Bool) → grant_at t.grants k ≡ Some g → grant_at t.grants place ≡ Some h → slice_get feed place ≡ Some w → t.phase ≡ Streaming
-    → Stepped k g feed place (if b then at_next (all_done feed t.grants) t else packet_at t place h (record_at w h.position))
+step_from : (k place : ℕ) (g h : Grant) (feed : List Window) (t : State) (w : Window) (b : Bool)
+    → grant_at t.grants k ≡ Some g → grant_at t.grants place ≡ Some h → slice_get feed place ≡ Some w
+    → t.phase ≡ Streaming
+    → Stepped k g feed place (if b then at_next (all_done feed t.grants) t else packet_at t place h
+    (record_at w h.position))
 step_from k place g h feed t w true at_k at_place here on = step_next k place g feed t (all_done feed t.grants) at_k on
-step_from k place g h feed t w false at_k at_place here on = step_packet k place g h feed t w (record_at w h.position) at_k at_place here refl on
+step_from k place g h feed t w false at_k at_place here on =
+    step_packet k place g h feed t w (record_at w h.position) at_k at_place here refl on
 
-step_of : (k place : ℕ) (g : Grant) (feed : List Window) (t : State) (o : Option Grant) (r : Option Window) → grant_at t.grants k ≡ Some g → grant_at t.grants place ≡ o → slice_get feed place ≡ r → t.phase ≡ Streaming
+step_of : (k place : ℕ) (g : Grant) (feed : List Window) (t : State) (o : Option Grant) (r : Option Window)
+    → grant_at t.grants k ≡ Some g → grant_at t.grants place ≡ o → slice_get feed place ≡ r → t.phase ≡ Streaming
     → Stepped k g feed place (sent_of feed t place o r)
 step_of k place g feed t None r at_k at_place here on = quiet (none_either (place == k)) at_k (inl on)
 step_of k place g feed t (Some h) None at_k at_place here on = quiet (none_either (place == k)) at_k (inl on)
-step_of k place g feed t (Some h) (Some w) at_k at_place here on = step_from k place g h feed t w (h.position == w.next) at_k at_place here on
+step_of k place g feed t (Some h) (Some w) at_k at_place here on =
+    step_from k place g h feed t w (h.position == w.next) at_k at_place here on
 
-step_sent : (k place : ℕ) (g : Grant) (feed : List Window) (t : State) → grant_at t.grants k ≡ Some g → IsOn t.phase → Stepped k g feed place (sent feed t place)
+step_sent : (k place : ℕ) (g : Grant) (feed : List Window) (t : State) → grant_at t.grants k ≡ Some g → IsOn t.phase
+    → Stepped k g feed place (sent feed t place)
 step_sent k place g feed t at_k (inl on) =
-    subst (λ (p : Phase). Stepped k g feed place (sent_in p feed t place)) (sym on) (step_of k place g feed t (grant_at t.grants place) (slice_get feed place) at_k refl refl on)
+    subst (λ (p : Phase). Stepped k g feed place (sent_in p feed t place)) (sym on)
+        (step_of k place g feed t (grant_at t.grants place) (slice_get feed place) at_k refl refl on)
 step_sent k place g feed t at_k (inr closed) =
-    subst (λ (p : Phase). Stepped k g feed place (sent_in p feed t place)) (sym closed) (quiet (none_either (place == k)) at_k (inr closed))
+    subst (λ (p : Phase). Stepped k g feed place (sent_in p feed t place)) (sym closed)
+        (quiet (none_either (place == k)) at_k (inr closed))
 
 pub heard_on : (s t : State) → IsHeardFrom s t → IsOn s.phase → IsOn t.phase
 heard_on s t (inl same) on = subst (λ (u : State). IsOn u.phase) (sym same) on
@@ -138,28 +170,38 @@ heard_grants s t (inr closed) = ap (λ (u : State). u.grants) closed
 same_here : (n : ℕ) → (n == n) ≡ true
 same_here n = elim (eqb_tells n n) [ inl same ↦ same.0 | inr other ↦ absurd (other.1 refl) ]
 
-sent_more : (k first : ℕ) (pushed : List (List ℕ)) (a : Asked) (packets : List (List ℕ)) (g : Grant) (w : Window) (n : ℕ) (bytes : List ℕ) → a.place ≡ k → a.answer ≡ Sents.Packet (packet_bytes (g.position % 2 ^ 24) bytes)
-    → Shows w first (take n pushed) → record_at w g.position ≡ Some bytes → IsStretch first pushed (g.position + 1) packets
+sent_more : (k first : ℕ) (pushed : List (List ℕ)) (a : Asked) (packets : List (List ℕ)) (g : Grant) (w : Window)
+    (n : ℕ) (bytes : List ℕ) → a.place ≡ k → a.answer ≡ Sents.Packet (packet_bytes (g.position % 2 ^ 24) bytes)
+    → Shows w first (take n pushed) → record_at w g.position ≡ Some bytes
+    → IsStretch first pushed (g.position + 1) packets
     → IsStretch first pushed g.position ((if a.place == k then packet_in a.answer else []) ++ packets)
 sent_more k first pushed a packets g w n bytes same is shows read rest =
-    let shown : (first ≤ g.position) × (slice_get pushed (g.position - first) ≡ Some bytes) = shown_at w first n g.position pushed bytes shows read in
+    let shown : (first ≤ g.position) × (slice_get pushed (g.position - first) ≡ Some bytes) =
+        shown_at w first n g.position pushed bytes shows read in
     let one : (if a.place == k then packet_in a.answer else []) ≡ packet_bytes (g.position % 2 ^ 24) bytes ∷ [] =
-    ap (λ j. if j == k then packet_in a.answer else []) same ∙ (ap (λ b. if b then packet_in a.answer else []) (same_here k) ∙ ap packet_in is) in
-    subst (λ ps. IsStretch first pushed g.position (ps ++ packets)) (sym one) (stretch_more first g.position pushed packets bytes shown.0 shown.1 rest)
+    ap (λ j. if j == k then packet_in a.answer else []) same
+        ∙ (ap (λ b. if b then packet_in a.answer else []) (same_here k) ∙ ap packet_in is) in
+    subst (λ ps. IsStretch first pushed g.position (ps ++ packets)) (sym one)
+        (stretch_more first g.position pushed packets bytes shown.0 shown.1 rest)
 
-pub stretch_sent : (k first : ℕ) (pushed : List (List ℕ)) (more : List Asked) (s : State) (g : Grant) → IsOn s.phase → grant_at s.grants k ≡ Some g → AreAsked s more → AreShown k first pushed more → IsStretch first pushed g.position (packets_of k more)
+pub stretch_sent : (k first : ℕ) (pushed : List (List ℕ)) (more : List Asked) (s : State) (g : Grant) → IsOn s.phase
+    → grant_at s.grants k ≡ Some g → AreAsked s more → AreShown k first pushed more
+    → IsStretch first pushed g.position (packets_of k more)
 stretch_sent k first pushed [] s g on at_k asked shown = refl
 stretch_sent k first pushed (a ∷ more) s g on at_k asked shown =
     let t : State = asked.0 in
     let grant : grant_at t.grants k ≡ Some g = ap (λ gs. grant_at gs k) (heard_grants s t asked.1) ∙ at_k in
     elim (step_sent k a.place g a.feed t grant (heard_on s t asked.1 on)) [
-      | quiet none stays goes ↦ subst (λ ps. IsStretch first pushed g.position (ps ++ packets_of k more)) (sym (ap (λ y. if a.place == k then packet_in y else []) (sym asked.2) ∙ none))
+      | quiet none stays goes ↦ subst (λ ps. IsStretch first pushed g.position (ps ++ packets_of k more))
+      (sym (ap (λ y. if a.place == k then packet_in y else []) (sym asked.2) ∙ none))
           (stretch_sent k first pushed more (sent a.feed t a.place).0 g goes stays asked.3 shown.1)
       | went w bytes same is here read stays goes ↦
           let both : Some shown.0.0 ≡ Some w = sym shown.0.2 ∙ here in
           let one : shown.0.0 ≡ w = cc both in
-          sent_more k first pushed a (packets_of k more) g w shown.0.1 bytes same (sym asked.2 ∙ is) (subst (λ (v : Window). Shows v first (take shown.0.1 pushed)) one shown.0.3) read
-          (stretch_sent k first pushed more (sent a.feed t a.place).0 (record { mode = g.mode; position = g.position + 1 }) goes stays asked.3 shown.1)
+          sent_more k first pushed a (packets_of k more) g w shown.0.1 bytes same (sym asked.2 ∙ is)
+              (subst (λ (v : Window). Shows v first (take shown.0.1 pushed)) one shown.0.3) read
+          (stretch_sent k first pushed more (sent a.feed t a.place).0
+              (record { mode = g.mode; position = g.position + 1 }) goes stays asked.3 shown.1)
     ]
 
 -- what a line leaves of a session that streams
@@ -173,8 +215,10 @@ line_heard s (Fetch number) = inl refl
 line_heard s End = inl refl
 line_heard s Other = inl refl
 
-pub answer_heard : (feed : List Window) (s new : State) (what : What) (reply : Reply) → s.phase ≡ Streaming → IsAnswer feed s what new reply → IsHeardFrom s new
+pub answer_heard : (feed : List Window) (s new : State) (what : What) (reply : Reply) → s.phase ≡ Streaming
+    → IsAnswer feed s what new reply → IsHeardFrom s new
 answer_heard feed s new More reply on is = inl is.0
 answer_heard feed s new (Line line) reply on is =
-    subst (IsHeardFrom s) (ap (λ (p : Phase). (answered_in p feed s is.0).0) (sym on) ∙ ap (λ (x : State × Reply). x.0) is.2) (line_heard s is.0)
+    subst (IsHeardFrom s) (ap (λ (p : Phase). (answered_in p feed s is.0).0) (sym on)
+        ∙ ap (λ (x : State × Reply). x.0) is.2) (line_heard s is.0)
 answer_heard feed s new TooLong reply on is = inr (sym (ap (λ (x : State × Reply). x.0) is))

@@ -1,5 +1,7 @@
 -- What a session gave so far, and which of the bytes it took were answered.
-use Rattle.std.proofs.Common.{◌≡◌, ℕ, ◌+◌, ◌-◌, ◌*◌, ◌≤◌, ◌<◌, ◌⊎◌, zero, suc, refl, sym, ap, subst, ◌∙◌, arith, inl, inr, if◌then◌else◌, List, [], ◌∷◌, ◌++◌, append_assoc, append-nil, length, length-append, replicate, take, take_all, drop, Result, Err, IfErr}
+use Rattle.std.proofs.Common.{◌≡◌, ℕ, ◌+◌, ◌-◌, ◌*◌, ◌≤◌, ◌<◌, ◌⊎◌, zero, suc, refl, sym, ap, subst, ◌∙◌, arith, inl,
+    inr, if◌then◌else◌, List, [], ◌∷◌, ◌++◌, append_assoc, append-nil, length, length-append, replicate, take, take_all,
+    drop, Result, Err, IfErr}
 use Rattle.std.proofs.lemmas.Bool.Decides.{eqb_tells}
 use Rattle.slink_wire.specs.declared.reply.Reply.{Reply}
 use Rattle.slink_wire.specs.declared.reply.Reply.TheVariants as replies
@@ -10,7 +12,8 @@ use Rattle.slink_feed.specs.declared.session.Sent.TheVariants as sents
 use Rattle.slink_feed.specs.declared.turn.LinkFault.{LinkFault}
 use Rattle.slink_feed.specs.declared.turn.LinkFault.TheVariants as faults
 use Rattle.slink_feed.specs.Attending.{RepliesToAll}
-use Rattle.slink_feed.specs.Replying.{HasFailed, HasSent, IsReplyFault, IsSaid, IsSayFault, IsSendFault, IsUnsaid, waits_after}
+use Rattle.slink_feed.specs.Replying.{HasFailed, HasSent, IsReplyFault, IsSaid, IsSayFault, IsSendFault, IsUnsaid,
+    waits_after}
 use Rattle.slink_feed.specs.Rounds.{Attending, FailsToSend, Gives, HasWaited, all_sent, place_behind}
 use Rattle.slink_feed.specs.Serving.{Serves, Standing, Takes, none_served, piece_served}
 use Rattle.slink_feed.specs.Session.{State, sent, sent_bytes}
@@ -43,15 +46,20 @@ nothing_sent feed s = record {
   waits_few = omega arith;
 }
 
-gives_more : (feed : List Window) (k last : ℕ) (s t : State) (given : List Sent) (x : State × Sent) → sent feed t last ≡ x → Gives feed k s given last t → Gives feed k s (given ++ x.1 ∷ []) (place_behind feed last) x.0
+gives_more : (feed : List Window) (k last : ℕ) (s t : State) (given : List Sent) (x : State × Sent)
+    → sent feed t last ≡ x → Gives feed k s given last t
+    → Gives feed k s (given ++ x.1 ∷ []) (place_behind feed last) x.0
 gives_more feed k last s t [] x is gives =
-    let same : sent feed s k ≡ x = ap (λ n. sent feed s n) (sym gives.0) ∙ (ap (λ (u : State). sent feed u last) (sym gives.1) ∙ is) in
+    let same : sent feed s k ≡ x = ap (λ n. sent feed s n) (sym gives.0)
+        ∙ (ap (λ (u : State). sent feed u last) (sym gives.1) ∙ is) in
     (ap (λ (p : State × Sent). p.1) same, (ap (place_behind feed) gives.0, ap (λ (p : State × Sent). p.0) (sym same)))
-gives_more feed k last s t (a ∷ more) x is gives = (gives.0, gives_more feed (place_behind feed k) last (sent feed s k).0 t more x is gives.1)
+gives_more feed k last s t (a ∷ more) x is gives =
+    (gives.0, gives_more feed (place_behind feed k) last (sent feed s k).0 t more x is gives.1)
 
 all_more : (given : List Sent) (a : Sent) → all_sent (given ++ a ∷ []) ≡ all_sent given ++ sent_bytes a
 all_more [] a = append-nil (sent_bytes a)
-all_more (g ∷ given) a = ap (λ s. sent_bytes g ++ s) (all_more given a) ∙ sym (append_assoc (sent_bytes g) (all_sent given) (sent_bytes a))
+all_more (g ∷ given) a = ap (λ s. sent_bytes g ++ s) (all_more given a)
+    ∙ sym (append_assoc (sent_bytes g) (all_sent given) (sent_bytes a))
 
 wait_last : (n : ℕ) → replicate n sents.Wait ++ sents.Wait ∷ [] ≡ replicate (suc n) sents.Wait
 wait_last zero = refl
@@ -61,10 +69,12 @@ wait_more : (n : ℕ) → replicate n sents.Wait ++ sents.Wait ∷ [] ≡ replic
 wait_more n = wait_last n ∙ ap (λ m. replicate m sents.Wait) (let e : suc n ≡ n + 1 = omega arith in e)
 
 waited_more : (given : List Sent) (a : Sent) (n : ℕ) → HasWaited n given → HasWaited (waits_after a n) (given ++ a ∷ [])
-waited_more given (sents.Packet bytes) n waited = (given ++ sents.Packet bytes ∷ [], sym (append-nil (given ++ sents.Packet bytes ∷ [])))
+waited_more given (sents.Packet bytes) n waited =
+    (given ++ sents.Packet bytes ∷ [], sym (append-nil (given ++ sents.Packet bytes ∷ [])))
 waited_more given sents.Wait n waited = (
   waited.0,
-  ap (λ s. s ++ sents.Wait ∷ []) waited.1 ∙ (append_assoc waited.0 (replicate n sents.Wait) (sents.Wait ∷ []) ∙ ap (λ s. waited.0 ++ s) (wait_more n)),
+  ap (λ s. s ++ sents.Wait ∷ []) waited.1 ∙ (append_assoc waited.0 (replicate n sents.Wait) (sents.Wait ∷ [])
+      ∙ ap (λ s. waited.0 ++ s) (wait_more n)),
 )
 waited_more given sents.Done n waited = (given ++ sents.Done ∷ [], sym (append-nil (given ++ sents.Done ∷ [])))
 waited_more given sents.Overrun n waited = (given ++ sents.Overrun ∷ [], sym (append-nil (given ++ sents.Overrun ∷ [])))
@@ -80,11 +90,13 @@ waits_within sents.Closed n most lt = omega arith
 pub place_within : (feed : List Window) (k : ℕ) → k < length feed → place_behind feed k < length feed
 place_within feed k lt = elim (eqb_tells (k + 1) (length feed)) [
   | inl same ↦ let e : place_behind feed k ≡ 0 = ap (λ b. if b then 0 else k + 1) same.0 in omega (arith, e, lt)
-  | inr other ↦ let e : place_behind feed k ≡ k + 1 = ap (λ b. if b then 0 else k + 1) other.0 in omega (arith, e, lt, other.1)
+  | inr other ↦ let e : place_behind feed k ≡ k + 1 = ap (λ b. if b then 0 else k + 1) other.0 in
+  omega (arith, e, lt, other.1)
 ]
 
 -- nothing was given, so that nothing was written
-few_more : (feed : List Window) (s : State) (x : State × Sent) (said count all : ℕ) → Moves feed s x → count ≤ 520 → (x.1 ≡ sents.Wait → count ≡ 0) → said + 520 * due feed s ≤ all → (said + count) + 520 * due feed x.0 ≤ all
+few_more : (feed : List Window) (s : State) (x : State × Sent) (said count all : ℕ) → Moves feed s x → count ≤ 520
+    → (x.1 ≡ sents.Wait → count ≡ 0) → said + 520 * due feed s ≤ all → (said + count) + 520 * due feed x.0 ≤ all
 few_more feed s x said count all (waits is same) short none before =
     let e : due feed x.0 ≡ due feed s = ap (due feed) same in
     omega (arith, none is, e, before)
@@ -93,24 +105,32 @@ few_more feed s x said count all (moves is less) short none before = omega (arit
 none_waits : (a : Sent) → a ≡ sents.Wait → length (sent_bytes a) ≡ 0
 none_waits a is = ap (λ b. length (sent_bytes b)) is
 
-module _ (feed : List Window) (old now new : Attending) (k waits_now said : ℕ) (so_far : SentSoFar feed old now k waits_now said) (x : State × Sent) (is : sent feed now.session.state k ≡ x) (state : new.session.state ≡ x.0) (held : new.session.held ≡ now.session.held) where
+module _ (feed : List Window) (old now new : Attending) (k waits_now said : ℕ)
+    (so_far : SentSoFar feed old now k waits_now said) (x : State × Sent) (is : sent feed now.session.state k ≡ x)
+    (state : new.session.state ≡ x.0) (held : new.session.held ≡ now.session.held) where
   given : List Sent
   given = so_far.given ++ x.1 ∷ []
 
   gives : Gives feed 0 old.session.state (so_far.given ++ x.1 ∷ []) (place_behind feed k) new.session.state
-  gives = subst (λ (s : State). Gives feed 0 old.session.state (so_far.given ++ x.1 ∷ []) (place_behind feed k) s) (sym state) (gives_more feed 0 k old.session.state now.session.state so_far.given x is so_far.gives)
+  gives = subst (λ (s : State). Gives feed 0 old.session.state (so_far.given ++ x.1 ∷ []) (place_behind feed k) s)
+      (sym state) (gives_more feed 0 k old.session.state now.session.state so_far.given x is so_far.gives)
 
-  pub one_sent : (after : ℕ) → Moves feed now.session.state x → waits_now < length feed → k < length feed → length (sent_bytes x.1) ≤ 520 → IsSaid now.said new.said (sent_bytes x.1) said after → SentSoFar feed old new (place_behind feed k) (waits_after x.1 waits_now) after
+  pub one_sent : (after : ℕ) → Moves feed now.session.state x → waits_now < length feed → k < length feed
+      → length (sent_bytes x.1) ≤ 520 → IsSaid now.said new.said (sent_bytes x.1) said after
+      → SentSoFar feed old new (place_behind feed k) (waits_after x.1 waits_now) after
   one_sent after moved lt within short done = record {
     given = so_far.given ++ x.1 ∷ [];
     gives = gives;
     waited = waited_more so_far.given x.1 waits_now so_far.waited;
     held = held ∙ so_far.held;
-    took = took_further old.said now.said new.said (all_sent so_far.given) (sent_bytes x.1) (all_sent (so_far.given ++ x.1 ∷ [])) (all_more so_far.given x.1) so_far.took done.said;
-    counted = done.count ∙ (ap (λ n. n + length (sent_bytes x.1)) so_far.counted ∙ (sym (length-append (all_sent so_far.given) (sent_bytes x.1)) ∙ ap length (sym (all_more so_far.given x.1))));
+    took = took_further old.said now.said new.said (all_sent so_far.given) (sent_bytes x.1)
+        (all_sent (so_far.given ++ x.1 ∷ [])) (all_more so_far.given x.1) so_far.took done.said;
+    counted = done.count ∙ (ap (λ n. n + length (sent_bytes x.1)) so_far.counted
+        ∙ (sym (length-append (all_sent so_far.given) (sent_bytes x.1)) ∙ ap length (sym (all_more so_far.given x.1))));
     few =
         let more : (said + length (sent_bytes x.1)) + 520 * due feed x.0 ≤ 520 * due feed old.session.state =
-        few_more feed now.session.state x said (length (sent_bytes x.1)) (520 * due feed old.session.state) moved short (none_waits x.1) so_far.few in
+        few_more feed now.session.state x said (length (sent_bytes x.1)) (520 * due feed old.session.state) moved short
+            (none_waits x.1) so_far.few in
         let e : due feed new.session.state ≡ due feed x.0 = ap (due feed) state in
         omega (arith, more, e, done.count);
     within = λ some. place_within feed k within;
@@ -119,31 +139,39 @@ module _ (feed : List Window) (old now new : Attending) (k waits_now said : ℕ)
 
   unsent : (after : ℕ) → IsUnsaid now.said new.said (sent_bytes x.1) said after → FailsToSend feed old new after
   unsent after cut =
-      let counted : after ≡ length (all_sent so_far.given) + cut.more = cut.count ∙ ap (λ n. n + cut.more) so_far.counted in
+      let counted : after ≡ length (all_sent so_far.given) + cut.more =
+          cut.count ∙ ap (λ n. n + cut.more) so_far.counted in
       record {
         given = so_far.given;
         last = x.1;
         place = place_behind feed k;
         gives = gives;
         held = held ∙ so_far.held;
-        said = front_further old.said now.said new.said (all_sent so_far.given) (sent_bytes x.1) (all_sent (so_far.given ++ x.1 ∷ [])) after cut.more (all_more so_far.given x.1) counted so_far.took cut.said;
+        said = front_further old.said now.said new.said (all_sent so_far.given) (sent_bytes x.1)
+            (all_sent (so_far.given ++ x.1 ∷ [])) after cut.more (all_more so_far.given x.1) counted so_far.took
+            cut.said;
         behind = omega (arith, counted);
       }
 
-  pub not_sent : (fault : LinkFault) → IsSayFault fault now.said new.said (sent_bytes x.1) said → IsSendFault fault feed old new
+  pub not_sent : (fault : LinkFault) → IsSayFault fault now.said new.said (sent_bytes x.1) said
+      → IsSendFault fault feed old new
   not_sent faults.Read cut = absurd cut
   not_sent (faults.Write after) cut = unsent after cut
   not_sent (faults.Output after) cut = absurd cut
 
 -- less is due, or one more ask had nothing to give
-pub less_left : (feed : List Window) (s new : State) (x : State × Sent) (n : ℕ) → Moves feed s x → new ≡ x.0 → n < 16 → 17 * due feed new + (16 - waits_after x.1 n) < 17 * due feed s + (16 - n)
+pub less_left : (feed : List Window) (s new : State) (x : State × Sent) (n : ℕ) → Moves feed s x → new ≡ x.0 → n < 16
+    → 17 * due feed new + (16 - waits_after x.1 n) < 17 * due feed s + (16 - n)
 less_left feed s new x n (waits is same) e lt =
     let one : due feed new ≡ due feed s = ap (due feed) (e ∙ same) in
     let more : waits_after x.1 n ≡ n + 1 = ap (λ a. waits_after a n) is in
     omega (arith, one, more, lt)
-less_left feed s new x n (moves is less) e lt = let one : due feed new ≡ due feed x.0 = ap (due feed) e in omega (arith, one, less, lt)
+less_left feed s new x n (moves is less) e lt = let one : due feed new ≡ due feed x.0 = ap (due feed) e in
+    omega (arith, one, less, lt)
 
-pub has_sent : (feed : List Window) (old now : Attending) (k n said : ℕ) → length feed ≤ 16 → (now.session.state.phase ≡ Closed) ⊎ (length feed ≤ n) → SentSoFar feed old now k n said → HasSent feed old now said
+pub has_sent : (feed : List Window) (old now : Attending) (k n said : ℕ) → length feed ≤ 16
+    → (now.session.state.phase ≡ Closed) ⊎ (length feed ≤ n) → SentSoFar feed old now k n said
+    → HasSent feed old now said
 has_sent feed old now k n said most ends so_far = record {
   sends = record {
     given = so_far.given;
@@ -151,34 +179,46 @@ has_sent feed old now k n said most ends so_far = record {
     gives = so_far.gives;
     ends = elim ends [
       | inl shut ↦ inl shut
-      | inr all ↦ inr (let same : n ≡ length feed = omega (arith, all, so_far.waits_few) in subst (λ m. HasWaited m so_far.given) same so_far.waited)
+      | inr all ↦ inr (let same : n ≡ length feed = omega (arith, all, so_far.waits_few) in
+      subst (λ m. HasWaited m so_far.given) same so_far.waited)
     ];
     held = so_far.held;
     said = so_far.took;
   };
-  counted = ap length so_far.took.bytes ∙ (length-append old.said.bytes (all_sent so_far.given) ∙ ap (λ m. length old.said.bytes + m) (sym so_far.counted));
+  counted = ap length so_far.took.bytes
+      ∙ (length-append old.said.bytes (all_sent so_far.given)
+      ∙ ap (λ m. length old.said.bytes + m) (sym so_far.counted));
   few = omega (arith, so_far.few, few_due feed old.session.state, most);
 }
 
-pub few_said : (feed : List Window) (old now : Attending) (k n said : ℕ) → length feed ≤ 16 → SentSoFar feed old now k n said → said ≤ 1099511627776
+pub few_said : (feed : List Window) (old now : Attending) (k n said : ℕ) → length feed ≤ 16
+    → SentSoFar feed old now k n said → said ≤ 1099511627776
 few_said feed old now k n said most so_far = omega (arith, so_far.few, few_due feed old.session.state, most)
 
 -- the bytes that a session took are answered
-pub record RepliedSoFar (feed : List Window) (old now : Attending) (bytes : List ℕ) (start before said : ℕ) : Type 0 where
+pub record RepliedSoFar (feed : List Window) (old now : Attending) (bytes : List ℕ) (start before said : ℕ) : Type
+    0 where
   pub within : start ≤ length bytes
   pub serves : Serves feed old.session (take start bytes) old.said.bytes now.session now.said.bytes
   pub failures : now.said.failures ≡ old.said.failures
   pub counted : length now.said.bytes + before ≡ length old.said.bytes + said
   pub few : said ≤ before + 35 * start
 
-pub nothing_replied : (feed : List Window) (s : Attending) (bytes : List ℕ) (before : ℕ) → RepliedSoFar feed s s bytes 0 before before
-nothing_replied feed s bytes before = record { within = omega arith; serves = none_served s.session s.said.bytes; failures = refl; counted = refl; few = omega arith }
+pub nothing_replied : (feed : List Window) (s : Attending) (bytes : List ℕ) (before : ℕ)
+    → RepliedSoFar feed s s bytes 0 before before
+nothing_replied feed s bytes before = record { within = omega arith; serves = none_served s.session s.said.bytes;
+    failures = refl; counted = refl; few = omega arith }
 
-serves_piece : (feed : List Window) (s now last : Standing) (bytes piece way on : List ℕ) (reply : Reply) → Serves feed s bytes way now on → Takes feed now piece last reply → Serves feed s (bytes ++ piece) way last (on ++ reply_bytes reply)
+serves_piece : (feed : List Window) (s now last : Standing) (bytes piece way on : List ℕ) (reply : Reply)
+    → Serves feed s bytes way now on → Takes feed now piece last reply
+    → Serves feed s (bytes ++ piece) way last (on ++ reply_bytes reply)
 serves_piece feed s now last bytes piece way on reply (none_served t w) takes =
-    piece_served t last last piece piece [] w (w ++ reply_bytes reply) reply (sym (append-nil piece)) takes (none_served last (w ++ reply_bytes reply))
-serves_piece feed s now last bytes piece way on reply (piece_served t u v bs front rest w all other split one more) takes =
-    piece_served t u last (bs ++ piece) front (rest ++ piece) w (all ++ reply_bytes reply) other (ap (λ xs. xs ++ piece) split ∙ append_assoc front rest piece) one
+    piece_served t last last piece piece [] w (w ++ reply_bytes reply) reply (sym (append-nil piece)) takes
+        (none_served last (w ++ reply_bytes reply))
+serves_piece feed s now last bytes piece way on reply (piece_served t u v bs front rest w all other split one more)
+    takes =
+    piece_served t u last (bs ++ piece) front (rest ++ piece) w (all ++ reply_bytes reply) other
+        (ap (λ xs. xs ++ piece) split ∙ append_assoc front rest piece) one
     (serves_piece feed u v last rest piece (w ++ reply_bytes other) all reply more takes)
 
 pub reply_short : (reply : Reply) → length (reply_bytes reply) ≤ 35
@@ -197,23 +237,36 @@ length_front xs zero lt = refl
 length_front [] (suc n) lt = absurd (omega (arith, lt))
 length_front (x ∷ xs) (suc n) lt = ap suc (length_front xs n (omega (arith, lt)))
 
-split_piece : (bytes : List ℕ) (start used : ℕ) → bytes ≡ (take start bytes ++ take used (take (length bytes - start) (drop start bytes))) ++ drop (start + used) bytes
-split_piece bytes start used = front bytes (start + used) ∙ ap (λ s. s ++ drop (start + used) bytes) (sym (piece_is bytes start used))
+split_piece : (bytes : List ℕ) (start used : ℕ)
+    → bytes ≡ (take start bytes ++ take used (take (length bytes - start) (drop start bytes))) ++ drop (start + used)
+    bytes
+split_piece bytes start used = front bytes (start + used)
+    ∙ ap (λ s. s ++ drop (start + used) bytes) (sym (piece_is bytes start used))
 
-module _ (feed : List Window) (old now new : Attending) (bytes : List ℕ) (start before said used : ℕ) (reply : Reply) (so_far : RepliedSoFar feed old now bytes start before said)
-    (takes : Takes feed now.session (take used (take (length bytes - start) (drop start bytes))) new.session reply) where
-  pub one_replied : (after : ℕ) → 0 < used → used ≤ length bytes - start → IsSaid now.said new.said (reply_bytes reply) said after → RepliedSoFar feed old new bytes (start + used) before after
+module _ (feed : List Window) (old now new : Attending) (bytes : List ℕ) (start before said used : ℕ) (reply : Reply)
+    (so_far : RepliedSoFar feed old now bytes start before said)
+    (takes : Takes feed now.session (take used (take (length bytes - start) (drop start bytes))) new.session
+        reply) where
+  pub one_replied : (after : ℕ) → 0 < used → used ≤ length bytes - start
+      → IsSaid now.said new.said (reply_bytes reply) said after
+      → RepliedSoFar feed old new bytes (start + used) before after
   one_replied after some bound done = record {
     within = omega (arith, so_far.within, bound);
-    serves = subst (λ (on : List ℕ). Serves feed old.session (take (start + used) bytes) old.said.bytes new.session on) (sym done.said.bytes)
-        (subst (λ (bs : List ℕ). Serves feed old.session bs old.said.bytes new.session (now.said.bytes ++ reply_bytes reply)) (piece_is bytes start used)
-        (serves_piece feed old.session now.session new.session (take start bytes) (take used (take (length bytes - start) (drop start bytes))) old.said.bytes now.said.bytes reply so_far.serves takes));
+    serves = subst (λ (on : List ℕ). Serves feed old.session (take (start + used) bytes) old.said.bytes new.session on)
+        (sym done.said.bytes)
+        (subst (λ (bs : List ℕ). Serves feed old.session bs old.said.bytes new.session
+            (now.said.bytes ++ reply_bytes reply)) (piece_is bytes start used)
+        (serves_piece feed old.session now.session new.session (take start bytes)
+            (take used (take (length bytes - start) (drop start bytes))) old.said.bytes now.said.bytes reply
+            so_far.serves takes));
     failures = done.said.failures ∙ so_far.failures;
-    counted = omega (arith, ap length done.said.bytes, length-append now.said.bytes (reply_bytes reply), done.count, so_far.counted);
+    counted = omega (arith, ap length done.said.bytes, length-append now.said.bytes (reply_bytes reply), done.count,
+        so_far.counted);
     few = omega (arith, done.count, reply_short reply, so_far.few, some);
   }
 
-  unreplied : (after : ℕ) → IsUnsaid now.said new.said (reply_bytes reply) said after → HasFailed feed old new bytes before after
+  unreplied : (after : ℕ) → IsUnsaid now.said new.said (reply_bytes reply) said after
+      → HasFailed feed old new bytes before after
   unreplied after cut = record {
     fails = record {
       front = take start bytes;
@@ -227,20 +280,25 @@ module _ (feed : List Window) (old now new : Attending) (bytes : List ℕ) (star
       count = cut.more;
       said = cut.said;
     };
-    counted = omega (arith, ap length cut.said.bytes, length-append now.said.bytes (take cut.more (reply_bytes reply)), length_front (reply_bytes reply) cut.more cut.said.part, cut.count, so_far.counted);
+    counted = omega (arith, ap length cut.said.bytes, length-append now.said.bytes (take cut.more (reply_bytes reply)),
+        length_front (reply_bytes reply) cut.more cut.said.part, cut.count, so_far.counted);
   }
 
-  pub not_replied : (fault : LinkFault) → IsSayFault fault now.said new.said (reply_bytes reply) said → IsReplyFault fault feed old new bytes before
+  pub not_replied : (fault : LinkFault) → IsSayFault fault now.said new.said (reply_bytes reply) said
+      → IsReplyFault fault feed old new bytes before
   not_replied faults.Read cut = absurd cut
   not_replied (faults.Write after) cut = unreplied after cut
   not_replied (faults.Output after) cut = absurd cut
 
-pub all_replied : (feed : List Window) (old now : Attending) (bytes : List ℕ) (start before said : ℕ) → length bytes ≤ start → RepliedSoFar feed old now bytes start before said → RepliesToAll feed old now bytes
+pub all_replied : (feed : List Window) (old now : Attending) (bytes : List ℕ) (start before said : ℕ)
+    → length bytes ≤ start → RepliedSoFar feed old now bytes start before said → RepliesToAll feed old now bytes
 all_replied feed old now bytes start before said all so_far = record {
-  serves = subst (λ (bs : List ℕ). Serves feed old.session bs old.said.bytes now.session now.said.bytes) (take_all start bytes all) so_far.serves;
+  serves = subst (λ (bs : List ℕ). Serves feed old.session bs old.said.bytes now.session now.said.bytes)
+      (take_all start bytes all) so_far.serves;
   failures = so_far.failures;
 }
 
 -- the fault that a `?` passes on
-pub passed_on : {T : Type 0} (r : Result T LinkFault) (fault : LinkFault) (P : LinkFault → Type 0) → ((x : LinkFault) × (r ≡ Err x) × (x ≡ fault)) → P fault → IfErr r P
+pub passed_on : {T : Type 0} (r : Result T LinkFault) (fault : LinkFault) (P : LinkFault → Type 0)
+    → ((x : LinkFault) × (r ≡ Err x) × (x ≡ fault)) → P fault → IfErr r P
 passed_on r fault P got fails = subst (λ s. IfErr s P) (sym got.1) (subst P (sym got.2) fails)

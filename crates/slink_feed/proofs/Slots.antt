@@ -1,5 +1,7 @@
 -- Slots of which none is empty, as the list of what stands in them.
-use Rattle.std.proofs.Common.{◌≡◌, ℕ, ◌<◌, ◌∙◌, zero, suc, ap, refl, sym, arith, List, [], ◌∷◌, ◌++◌, length, length-set, get_or, set, take, take_all, drop_of_length-le, append-nil, subst, Option, Some, None, option_map, slice_get}
+use Rattle.std.proofs.Common.{◌≡◌, ℕ, ◌<◌, ◌∙◌, zero, suc, ap, refl, sym, arith, List, [], ◌∷◌, ◌++◌, length,
+    length-set, get_or, set, take, take_all, drop_of_length-le, append-nil, subst, Option, Some, None, option_map,
+    slice_get}
 use Rattle.std.specs.List.{refill}
 use Rattle.slink_feed.specs.Rings.{AreFilled, filled_of}
 
@@ -7,38 +9,47 @@ module _ {X : Type 0} where
   pub filled_length : (slots : List (Option X)) → AreFilled slots → length (filled_of slots) ≡ length slots
   filled_length [] filled = refl
   filled_length (None ∷ slots) filled = absurd filled
-  filled_length (Some x ∷ slots) filled = let more : length (filled_of slots) ≡ length slots = filled_length slots filled in omega (arith, more)
+  filled_length (Some x ∷ slots) filled = let more : length (filled_of slots) ≡ length slots =
+      filled_length slots filled in omega (arith, more)
 
-  pub filled_more : (slots : List (Option X)) (y : X) → AreFilled slots → AreFilled (slots ++ Some y ∷ []) × (filled_of (slots ++ Some y ∷ []) ≡ filled_of slots ++ y ∷ [])
+  pub filled_more : (slots : List (Option X)) (y : X) → AreFilled slots → AreFilled (slots ++ Some y ∷ [])
+      × (filled_of (slots ++ Some y ∷ []) ≡ filled_of slots ++ y ∷ [])
   filled_more [] y filled = (tt, refl)
   filled_more (None ∷ slots) y filled = absurd filled
   filled_more (Some x ∷ slots) y filled =
-      let more : AreFilled (slots ++ Some y ∷ []) × (filled_of (slots ++ Some y ∷ []) ≡ filled_of slots ++ y ∷ []) = filled_more slots y filled in
+      let more : AreFilled (slots ++ Some y ∷ []) × (filled_of (slots ++ Some y ∷ []) ≡ filled_of slots ++ y ∷ []) =
+          filled_more slots y filled in
       (more.0, ap (λ t. x ∷ t) more.1)
 
   -- what is read of a slot stands at its place in the list
-  pub filled_at : (slots : List (Option X)) (k : ℕ) (o : Option X) → AreFilled slots → k < length slots → (x : X) × (get_or slots k o ≡ Some x) × (slice_get (filled_of slots) k ≡ Some x)
+  pub filled_at : (slots : List (Option X)) (k : ℕ) (o : Option X) → AreFilled slots → k < length slots
+      → (x : X) × (get_or slots k o ≡ Some x) × (slice_get (filled_of slots) k ≡ Some x)
   filled_at [] k o filled lt = absurd (omega (arith, lt))
   filled_at (None ∷ slots) k o filled lt = absurd filled
   filled_at (Some x ∷ slots) zero o filled lt = (x, refl, refl)
   filled_at (Some x ∷ slots) (suc k) o filled lt = filled_at slots k o filled (omega (arith, lt))
 
-  filled_set : (slots : List (Option X)) (k : ℕ) (y : X) → AreFilled slots → AreFilled (set slots k (Some y)) × (filled_of (set slots k (Some y)) ≡ set (filled_of slots) k y)
+  filled_set : (slots : List (Option X)) (k : ℕ) (y : X) → AreFilled slots → AreFilled (set slots k (Some y))
+      × (filled_of (set slots k (Some y)) ≡ set (filled_of slots) k y)
   filled_set [] k y filled = (tt, refl)
   filled_set (None ∷ slots) k y filled = absurd filled
   filled_set (Some x ∷ slots) zero y filled = (filled, refl)
   filled_set (Some x ∷ slots) (suc k) y filled =
-      let more : AreFilled (set slots k (Some y)) × (filled_of (set slots k (Some y)) ≡ set (filled_of slots) k y) = filled_set slots k y filled in
+      let more : AreFilled (set slots k (Some y)) × (filled_of (set slots k (Some y)) ≡ set (filled_of slots) k y) =
+          filled_set slots k y filled in
       (more.0, ap (λ t. x ∷ t) more.1)
 
-  pub same_length : (items : List (Option X)) (now : List X) → AreFilled items → filled_of items ≡ now → length now ≡ length items
+  pub same_length : (items : List (Option X)) (now : List X) → AreFilled items → filled_of items ≡ now
+      → length now ≡ length items
   same_length items now filled view = ap length (sym view) ∙ filled_length items filled
 
   -- the slot that is read
-  pub slot_at : (items slots : List (Option X)) (now : List X) (k : ℕ) (o : Option X) → AreFilled items → filled_of items ≡ now → slots ≡ items → o ≡ get_or slots k o → k < length now
+  pub slot_at : (items slots : List (Option X)) (now : List X) (k : ℕ) (o : Option X) → AreFilled items
+      → filled_of items ≡ now → slots ≡ items → o ≡ get_or slots k o → k < length now
       → (x : X) × (o ≡ Some x) × (slice_get now k ≡ Some x)
   slot_at items slots now k o filled view s read lt =
-      let at : (x : X) × (get_or items k o ≡ Some x) × (slice_get (filled_of items) k ≡ Some x) = filled_at items k o filled (omega (arith, lt, same_length items now filled view)) in
+      let at : (x : X) × (get_or items k o ≡ Some x) × (slice_get (filled_of items) k ≡ Some x) =
+          filled_at items k o filled (omega (arith, lt, same_length items now filled view)) in
       (at.0, read ∙ (ap (λ xs. get_or xs k o) s ∙ at.1), ap (λ xs. slice_get xs k) (sym view) ∙ at.2)
 
   pub no_slot : (o : Option X) → ((x : X) × (o ≡ Some x)) → o ≡ None → ⊥
@@ -53,17 +64,25 @@ module _ {X : Type 0} where
       ∙ (ap (take (length items)) (append-nil ws) ∙ take_all (length items) ws (omega (arith, e)))
 
   -- one slot is written
-  pub slot_written : (items slots : List (Option X)) (now : List X) (k : ℕ) (o new : Option X) (f : X → X) → AreFilled items → filled_of items ≡ now → slots ≡ items → o ≡ get_or slots k o → k < length now
+  pub slot_written : (items slots : List (Option X)) (now : List X) (k : ℕ) (o new : Option X) (f : X → X)
+      → AreFilled items → filled_of items ≡ now → slots ≡ items → o ≡ get_or slots k o → k < length now
       → new ≡ option_map f o
       → AreFilled (refill (length items) items (set slots k new))
-      × ((x : X) → slice_get now k ≡ Some x → filled_of (refill (length items) items (set slots k new)) ≡ set now k (f x))
+      × ((x : X) → slice_get now k ≡ Some x
+      → filled_of (refill (length items) items (set slots k new)) ≡ set now k (f x))
   slot_written items slots now k o new f filled view s read lt e =
-      let at : (x : X) × (o ≡ Some x) × (slice_get now k ≡ Some x) = slot_at items slots now k o filled view s read lt in
+      let at : (x : X) × (o ≡ Some x) × (slice_get now k ≡ Some x) =
+          slot_at items slots now k o filled view s read lt in
       let is : new ≡ Some (f at.0) = e ∙ ap (option_map f) at.1 in
       let ws : set slots k new ≡ set items k (Some (f at.0)) = ap (λ xs. set xs k new) s ∙ ap (set items k) is in
       let all : refill (length items) items (set slots k new) ≡ set items k (Some (f at.0)) =
-      ap (refill (length items) items) ws ∙ refill_same items (set items k (Some (f at.0))) (length-set items k (Some (f at.0))) in
-      let done : AreFilled (set items k (Some (f at.0))) × (filled_of (set items k (Some (f at.0))) ≡ set (filled_of items) k (f at.0)) = filled_set items k (f at.0) filled in (
+      ap (refill (length items) items) ws
+          ∙ refill_same items (set items k (Some (f at.0))) (length-set items k (Some (f at.0))) in
+      let done : AreFilled (set items k (Some (f at.0)))
+          × (filled_of (set items k (Some (f at.0))) ≡ set (filled_of items) k (f at.0)) =
+          filled_set items k (f at.0) filled in (
         subst AreFilled (sym all) done.0,
-        λ x here. ap filled_of all ∙ (done.1 ∙ (ap (λ xs. set xs k (f at.0)) view ∙ ap (λ y. set now k (f y)) (one_value (slice_get now k) at.0 x at.2 here))),
+        λ x here. ap filled_of all
+            ∙ (done.1 ∙ (ap (λ xs. set xs k (f at.0)) view
+            ∙ ap (λ y. set now k (f y)) (one_value (slice_get now k) at.0 x at.2 here))),
       )

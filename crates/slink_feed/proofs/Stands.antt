@@ -1,5 +1,7 @@
 -- A session stands for the stream that its link brought.
-use Rattle.std.proofs.Common.{◌≡◌, ◌≢◌, ℕ, ◌+◌, ◌-◌, ◌<◌, ◌≤◌, ◌⊎◌, inl, inr, zero, suc, refl, sym, ap, subst, ◌∙◌, arith, true, false, List, [], ◌∷◌, ◌++◌, append-nil, append_assoc, length, length-append, take, drop, Option, Some, None, IfSome}
+use Rattle.std.proofs.Common.{◌≡◌, ◌≢◌, ℕ, ◌+◌, ◌-◌, ◌<◌, ◌≤◌, ◌⊎◌, inl, inr, zero, suc, refl, sym, ap, subst, ◌∙◌,
+    arith, true, false, List, [], ◌∷◌, ◌++◌, append-nil, append_assoc, length, length-append, take, drop, Option, Some,
+    None, IfSome}
 use Rattle.slink_wire.specs.declared.lines.What.{What}
 use Rattle.slink_wire.specs.declared.lines.What.TheVariants.{More, Line, TooLong}
 use Rattle.slink_wire.specs.declared.reply.Reply.{Reply}
@@ -24,21 +26,26 @@ true_false : (b : Rattle.std.proofs.Common.Bool) → b ≡ true → b ≡ false 
 true_false b t f = let bad : true ≡ false = sym t ∙ f in cc bad
 
 -- something is told of no byte at all only where a line was too long
-nothing_told : (what : What) (stream : List ℕ) (count : ℕ) → 0 < count → (lines_of stream).is_too_long ≡ false → Tells what stream stream → (what ≡ More → 0 ≡ count) → ⊥
+nothing_told : (what : What) (stream : List ℕ) (count : ℕ) → 0 < count → (lines_of stream).is_too_long ≡ false
+    → Tells what stream stream → (what ≡ More → 0 ≡ count) → ⊥
 nothing_told More stream count some short tells whole = let e : 0 ≡ count = whole refl in omega (arith, e, some)
 nothing_told (Line line) stream count some short tells whole =
-    let long : length (lines_of stream).lines ≡ length ((lines_of stream).lines ++ line.items ∷ []) = ap length tells.0 in
+    let long : length (lines_of stream).lines ≡ length ((lines_of stream).lines ++ line.items ∷ []) =
+        ap length tells.0 in
     omega (arith, long, length-append (lines_of stream).lines (line.items ∷ []))
 nothing_told TooLong stream count some short tells whole = true_false (lines_of stream).is_too_long tells.1 short
 
 -- some bytes are taken
-takes_some : (stream bytes : List ℕ) (used : ℕ) → 0 < length bytes → (lines_of stream).is_too_long ≡ false → TakesWhole stream (stream ++ take used bytes) used (length bytes) → 0 < used
+takes_some : (stream bytes : List ℕ) (used : ℕ) → 0 < length bytes → (lines_of stream).is_too_long ≡ false
+    → TakesWhole stream (stream ++ take used bytes) used (length bytes) → 0 < used
 takes_some stream bytes zero some short whole =
-    absurd (nothing_told whole.0 stream (length bytes) some short (subst (λ s. Tells whole.0 stream s) (append-nil stream) whole.1) whole.2)
+    absurd (nothing_told whole.0 stream (length bytes) some short
+        (subst (λ s. Tells whole.0 stream s) (append-nil stream) whole.1) whole.2)
 takes_some stream bytes (suc n) some short whole = omega arith
 
 pub piece_taken : (old new : Standing) (bytes : List ℕ) (used : ℕ) → 0 < length bytes → Stands old
-    → ((stream : List ℕ) → ¬ (old.state.phase ≡ Closed) → IsHeld old.held stream → TakesWhole stream (stream ++ take used bytes) used (length bytes))
+    → ((stream : List ℕ) → ¬ (old.state.phase ≡ Closed) → IsHeld old.held stream
+    → TakesWhole stream (stream ++ take used bytes) used (length bytes))
     → (old.state.phase ≡ Closed → used ≡ length bytes) → 0 < used
 piece_taken old new bytes used some stands whole closed = elim (closed_or old.state.phase) [
   | inl shut ↦ let all : used ≡ length bytes = closed shut in omega (arith, all, some)
@@ -48,18 +55,23 @@ piece_taken old new bytes used some stands whole closed = elim (closed_or old.st
 ]
 
 -- no line is too long, since the session isn't closed
-short_after : (feed : List Window) (s new : State) (before after : List ℕ) (reply : Reply) → ¬ (new.phase ≡ Closed) → (what : What) → Tells what before after → IsAnswer feed s what new reply → (lines_of after).is_too_long ≡ false
+short_after : (feed : List Window) (s new : State) (before after : List ℕ) (reply : Reply) → ¬ (new.phase ≡ Closed)
+    → (what : What) → Tells what before after → IsAnswer feed s what new reply → (lines_of after).is_too_long ≡ false
 short_after feed s new before after reply unshut More tells answer = tells.1
 short_after feed s new before after reply unshut (Line line) tells answer = tells.1
-short_after feed s new before after reply unshut TooLong tells answer = absurd (unshut (sym (ap (λ (p : State × Reply). p.0.phase) answer)))
+short_after feed s new before after reply unshut TooLong tells answer =
+    absurd (unshut (sym (ap (λ (p : State × Reply). p.0.phase) answer)))
 
-pub still_stands : (feed : List Window) (old new : Standing) (piece : List ℕ) (reply : Reply) → Stands old → Takes feed old piece new reply → Stands new
+pub still_stands : (feed : List Window) (old new : Standing) (piece : List ℕ) (reply : Reply) → Stands old
+    → Takes feed old piece new reply → Stands new
 still_stands feed old new piece reply stands takes unshut =
-    let unshut_before : ¬ (old.state.phase ≡ Closed) = λ shut. unshut (ap (λ (s : Standing). s.state.phase) (takes.closed shut).1 ∙ shut) in
+    let unshut_before : ¬ (old.state.phase ≡ Closed) =
+        λ shut. unshut (ap (λ (s : Standing). s.state.phase) (takes.closed shut).1 ∙ shut) in
     let s : (stream : List ℕ) × StandsFor old stream = stands unshut_before in
     let held : IsHeld new.held (s.0 ++ piece) = takes.held s.0 unshut_before s.1.0 in
     let answers : Answers feed old.state s.0 (s.0 ++ piece) new.state reply = takes.answers s.0 unshut_before s.1.0 in
-    (s.0 ++ piece, (held, held.1 ∙ short_after feed old.state new.state s.0 (s.0 ++ piece) reply unshut answers.0 answers.1 answers.2))
+    (s.0 ++ piece, (held, held.1 ∙ short_after feed old.state new.state s.0 (s.0 ++ piece) reply unshut answers.0
+        answers.1 answers.2))
 
 -- a session that has taken nothing
 pub new_stands : (s : Standing) → IsHeld s.held [] → Stands s
@@ -67,7 +79,8 @@ unfolding lines_of
 new_stands s held unshut = ([], (held, held.1))
 
 -- A packet was sent.
-pub sent_stands : (feed : List Window) (old new : Standing) (k : ℕ) (what : Sent) → Stands old → sent feed old.state k ≡ (new.state, what) → new.held ≡ old.held → Stands new
+pub sent_stands : (feed : List Window) (old new : Standing) (k : ℕ) (what : Sent) → Stands old
+    → sent feed old.state k ≡ (new.state, what) → new.held ≡ old.held → Stands new
 sent_stands feed old new k what stands is same unshut =
     let unshut_before : ¬ (old.state.phase ≡ Closed) = λ shut.
     let stays : sent feed old.state k ≡ (old.state, _) = ap (λ (p : Phase). sent_in p feed old.state k) shut in

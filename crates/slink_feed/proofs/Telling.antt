@@ -1,5 +1,7 @@
 -- What a client tells of over a link, and over one link after another.
-use Rattle.std.proofs.Common.{◌≡◌, ℕ, ◌+◌, ◌%◌, ◌^◌, ◌<◌, refl, sym, ap, subst, ◌∙◌, arith, Bool, true, false, not, cond, nat_lt, ◌==◌, ◌&&◌, bytes_eq, if◌then◌else◌, List, [], ◌∷◌, ◌++◌, append_assoc, append-nil, length, length-drop, drop, map, slice_range, Option, Some, None, IfSome, option_map}
+use Rattle.std.proofs.Common.{◌≡◌, ℕ, ◌+◌, ◌%◌, ◌^◌, ◌<◌, refl, sym, ap, subst, ◌∙◌, arith, Bool, true, false, not,
+    cond, nat_lt, ◌==◌, ◌&&◌, bytes_eq, if◌then◌else◌, List, [], ◌∷◌, ◌++◌, append_assoc, append-nil, length,
+    length-drop, drop, map, slice_range, Option, Some, None, IfSome, option_map}
 use Rattle.std.specs.List.{position, position_or_len}
 use Rattle.std.proofs.lemmas.List.{length-map}
 use Rattle.std.proofs.Math.Seq.{map-set_same}
@@ -14,7 +16,9 @@ use Rattle.slink_feed.specs.declared.dialogue.Stage.TheVariants.{Unlinked, Stati
 use Rattle.slink_feed.specs.declared.dialogue.Wanted.{Wanted}
 use Rattle.slink_feed.specs.Cutting.{IsWhole}
 use Rattle.slink_feed.specs.Delivered.{Numbered}
-use Rattle.slink_feed.specs.Dialogue.{Talk, Wants, Whole, Reply, Packet, End, Garbage, answer_of, at_packet, bearer, ended, heard, heard_at, if_wanted, is_borne, next_at, next_set, says_number, says_place, to_answer, to_place, told, want_at}
+use Rattle.slink_feed.specs.Dialogue.{Talk, Wants, Whole, Reply, Packet, End, Garbage, answer_of, at_packet, bearer,
+    ended, heard, heard_at, if_wanted, is_borne, next_at, next_set, says_number, says_place, to_answer, to_place, told,
+    want_at}
 use Rattle.slink_feed.specs.Holding.{GoOn}
 use Rattle.slink_feed.specs.Listening.{AreBrought, Brought, Listening, Reads, events_of, talk_after, telling}
 use Rattle.slink_feed.specs.Told.{AreOf, HasTold, bytes_in, numbers_at, places_of, record_in, records_told}
@@ -23,7 +27,8 @@ use Rattle.slink_feed.proofs.Numbers.{Moved, moves, stays, bearer_some, get_want
 -- what comes of a whole: nothing is told of; or a record, of the place that it bears and of the number that this wants
 data Comes (t : Talk) (x : Talk × Event) : Type 0 where
   nothing : records_told (telling x.1) ≡ [] → x.0.wants ≡ t.wants → Comes t x
-  a_record : (k n : ℕ) (bytes : List ℕ) → length bytes ≡ 512 → bearer t.wants bytes ≡ Some k → IfSome (next_at t.wants k) (λ want. n ≡ want)
+  a_record : (k n : ℕ) (bytes : List ℕ) → length bytes ≡ 512 → bearer t.wants bytes ≡ Some k
+      → IfSome (next_at t.wants k) (λ want. n ≡ want)
       → x ≡ told k n bytes t → Comes t x
 
 comes_end : (t : Talk) (ending : Ending) → Comes t (ended ending t)
@@ -37,21 +42,28 @@ comes_place : (k : ℕ) (t : Talk) (o : Option Wanted) → Comes t (to_place o k
 comes_place k t None = nothing refl refl
 comes_place k t (Some w) = nothing refl refl
 
-comes_answer : (k : ℕ) (t : Talk) (next : Talk × Event) (answer : Answer) → Comes t next → Comes t (to_answer answer k next t)
+comes_answer : (k : ℕ) (t : Talk) (next : Talk × Event) (answer : Answer) → Comes t next
+    → Comes t (to_answer answer k next t)
 comes_answer k t next Granted comes = comes
 comes_answer k t next Refusal comes = comes_end t (endings.Refused k)
 comes_answer k t next Neither comes = comes_end t endings.Garbage
 
-comes_if : (k n : ℕ) (bytes : List ℕ) (t : Talk) (b : Bool) (want : ℕ) → length bytes ≡ 512 → bearer t.wants bytes ≡ Some k → next_at t.wants k ≡ Some want → (b ≡ true → n ≡ want)
+comes_if : (k n : ℕ) (bytes : List ℕ) (t : Talk) (b : Bool) (want : ℕ) → length bytes ≡ 512
+    → bearer t.wants bytes ≡ Some k → next_at t.wants k ≡ Some want → (b ≡ true → n ≡ want)
     → Comes t (if b then told k n bytes t else ended (endings.Gap k want n) t)
-comes_if k n bytes t true want long bears is same = a_record k n bytes long bears (subst (λ o. IfSome o (λ x. n ≡ x)) (sym is) (same refl)) refl
+comes_if k n bytes t true want long bears is same =
+    a_record k n bytes long bears (subst (λ o. IfSome o (λ x. n ≡ x)) (sym is) (same refl)) refl
 comes_if k n bytes t false want long bears is same = comes_end t (endings.Gap k want n)
 
-comes_wanted : (k n : ℕ) (bytes : List ℕ) (t : Talk) (o : Option ℕ) → length bytes ≡ 512 → bearer t.wants bytes ≡ Some k → next_at t.wants k ≡ o → Comes t (if_wanted o k n bytes t)
-comes_wanted k n bytes t None long bears is = a_record k n bytes long bears (subst (λ o. IfSome o (λ x. n ≡ x)) (sym is) tt) refl
-comes_wanted k n bytes t (Some want) long bears is = comes_if k n bytes t (n == want) want long bears is (same_number n want)
+comes_wanted : (k n : ℕ) (bytes : List ℕ) (t : Talk) (o : Option ℕ) → length bytes ≡ 512
+    → bearer t.wants bytes ≡ Some k → next_at t.wants k ≡ o → Comes t (if_wanted o k n bytes t)
+comes_wanted k n bytes t None long bears is =
+    a_record k n bytes long bears (subst (λ o. IfSome o (λ x. n ≡ x)) (sym is) tt) refl
+comes_wanted k n bytes t (Some want) long bears is =
+    comes_if k n bytes t (n == want) want long bears is (same_number n want)
 
-comes_packet : (n : ℕ) (bytes : List ℕ) (t : Talk) (o : Option ℕ) → length bytes ≡ 512 → bearer t.wants bytes ≡ o → Comes t (at_packet o n bytes t)
+comes_packet : (n : ℕ) (bytes : List ℕ) (t : Talk) (o : Option ℕ) → length bytes ≡ 512 → bearer t.wants bytes ≡ o
+    → Comes t (at_packet o n bytes t)
 comes_packet n bytes t None long bears = comes_end t endings.Foreign
 comes_packet n bytes t (Some k) long bears = comes_wanted k n bytes t (next_at t.wants k) long bears refl
 
@@ -59,16 +71,20 @@ comes_packet n bytes t (Some k) long bears = comes_wanted k n bytes t (next_at t
 record_long : (packet bytes : List ℕ) → drop 8 packet ≡ bytes → length packet ≡ 520 → length bytes ≡ 512
 record_long packet bytes is long = ap length (sym is) ∙ (length-drop 8 packet ∙ omega (arith, long))
 
-comes_heard : (t : Talk) (stage : Stage) (bytes : List ℕ) (w : Whole) → IsWhole stage bytes w → Comes t (heard_at stage t w)
-comes_heard t (Station j) bytes (Reply line) is = comes_answer j t (says_number j t) (answer_of line) (nothing refl refl)
+comes_heard : (t : Talk) (stage : Stage) (bytes : List ℕ) (w : Whole) → IsWhole stage bytes w
+    → Comes t (heard_at stage t w)
+comes_heard t (Station j) bytes (Reply line) is =
+    comes_answer j t (says_number j t) (answer_of line) (nothing refl refl)
 comes_heard t (Station j) bytes Garbage is = comes_end t endings.Garbage
 comes_heard t (Station j) bytes (Packet n r) is = absurd is
 comes_heard t (Station j) bytes End is = absurd is
-comes_heard t (Number j) bytes (Reply line) is = comes_answer j t (says_place (j + 1) t) (answer_of line) (comes_place (j + 1) t (want_at t.wants (j + 1)))
+comes_heard t (Number j) bytes (Reply line) is =
+    comes_answer j t (says_place (j + 1) t) (answer_of line) (comes_place (j + 1) t (want_at t.wants (j + 1)))
 comes_heard t (Number j) bytes Garbage is = comes_end t endings.Garbage
 comes_heard t (Number j) bytes (Packet n r) is = absurd is
 comes_heard t (Number j) bytes End is = absurd is
-comes_heard t Packets bytes (Packet n r) is = comes_packet n r t (bearer t.wants r) (record_long bytes r is.0.2 is.1) refl
+comes_heard t Packets bytes (Packet n r) is =
+    comes_packet n r t (bearer t.wants r) (record_long bytes r is.0.2 is.1) refl
 comes_heard t Packets bytes End is = comes_end t endings.End
 comes_heard t Packets bytes Garbage is = comes_end t endings.Garbage
 comes_heard t Packets bytes (Reply line) is = absurd is
@@ -87,7 +103,8 @@ borne_place : (bytes : List ℕ) (o : Option Wanted) → is_borne bytes o ≡ is
 borne_place bytes None = refl
 borne_place bytes (Some w) = refl
 
-first_place : (bytes : List ℕ) (wants : Wants) → position_or_len (is_borne bytes) wants ≡ position_or_len (is_place bytes) (map place_of wants)
+first_place : (bytes : List ℕ) (wants : Wants)
+    → position_or_len (is_borne bytes) wants ≡ position_or_len (is_place bytes) (map place_of wants)
 first_place bytes [] = refl
 first_place bytes (o ∷ wants) =
     ap (λ b. cond (not b) (1 + position_or_len (is_borne bytes) wants) 0) (borne_place bytes o)
@@ -96,27 +113,33 @@ first_place bytes (o ∷ wants) =
 bearer_place : (wants : Wants) (bytes : List ℕ) → bearer wants bytes ≡ position (is_place bytes) (places_of wants)
 bearer_place wants bytes =
     ap (λ m. cond (nat_lt m (length wants)) (Some m) None) (first_place bytes wants)
-    ∙ ap (λ l. cond (nat_lt (position_or_len (is_place bytes) (map place_of wants)) l) (Some (position_or_len (is_place bytes) (map place_of wants))) None) (sym (length-map wants place_of))
+    ∙ ap (λ l. cond (nat_lt (position_or_len (is_place bytes) (map place_of wants)) l)
+    (Some (position_or_len (is_place bytes) (map place_of wants))) None) (sym (length-map wants place_of))
 
 -- The same places bear the same records.
 bearer_same : (old new : Wants) (bytes : List ℕ) → places_of new ≡ places_of old → bearer new bytes ≡ bearer old bytes
-bearer_same old new bytes same = bearer_place new bytes ∙ (ap (position (is_place bytes)) same ∙ sym (bearer_place old bytes))
+bearer_same old new bytes same = bearer_place new bytes
+    ∙ (ap (position (is_place bytes)) same ∙ sym (bearer_place old bytes))
 
-of_same : (old new : Wants) (records : List Numbered) → places_of new ≡ places_of old → AreOf new records → AreOf old records
+of_same : (old new : Wants) (records : List Numbered) → places_of new ≡ places_of old → AreOf new records
+    → AreOf old records
 of_same old new [] same are = tt
-of_same old new (r ∷ rs) same are = (are.0, sym (bearer_same old new r.bytes same) ∙ are.1, of_same old new rs same are.2)
+of_same old new (r ∷ rs) same are =
+    (are.0, sym (bearer_same old new r.bytes same) ∙ are.1, of_same old new rs same are.2)
 
 of_both : (wants : Wants) (some more : List Numbered) → AreOf wants some → AreOf wants more → AreOf wants (some ++ more)
 of_both wants [] more are too = too
 of_both wants (r ∷ rs) more are too = (are.0, are.1, of_both wants rs more are.2 too)
 
-numbers_both : (k : ℕ) (some more : List Numbered) → numbers_at k (some ++ more) ≡ numbers_at k some ++ numbers_at k more
+numbers_both : (k : ℕ) (some more : List Numbered)
+    → numbers_at k (some ++ more) ≡ numbers_at k some ++ numbers_at k more
 numbers_both k [] more = refl
 numbers_both k (r ∷ rs) more =
     let here : List ℕ = if r.place == k then r.number ∷ [] else [] in
     ap (λ ns. here ++ ns) (numbers_both k rs more) ∙ sym (append_assoc here (numbers_at k rs) (numbers_at k more))
 
-go_both : (want now last : Option ℕ) (some more : List ℕ) → GoOn want some now → GoOn now more last → GoOn want (some ++ more) last
+go_both : (want now last : Option ℕ) (some more : List ℕ) → GoOn want some now → GoOn now more last
+    → GoOn want (some ++ more) last
 go_both want now last [] more on too = subst (λ o. GoOn o more last) on too
 go_both None now last (n ∷ ns) more on too = go_both (Some ((n + 1) % 2 ^ 24)) now last ns more on too
 go_both (Some want) now last (n ∷ ns) more on too = (on.0, go_both (Some ((n + 1) % 2 ^ 24)) now last ns more on.1 too)
@@ -126,27 +149,37 @@ pub told_none : (wants : Wants) → HasTold wants wants []
 told_none wants = record { places = refl; are_of = tt; go_on = λ k. refl }
 
 -- one link after another
-pub told_both : (old now new : Wants) (some more : List Numbered) → HasTold old now some → HasTold now new more → HasTold old new (some ++ more)
+pub told_both : (old now new : Wants) (some more : List Numbered) → HasTold old now some → HasTold now new more
+    → HasTold old new (some ++ more)
 told_both old now new some more h too = record {
   places = too.places ∙ h.places;
   are_of = of_both old some more h.are_of (of_same old now more h.places too.are_of);
-  go_on = λ k. subst (λ ns. GoOn (next_at old k) ns (next_at new k)) (sym (numbers_both k some more)) (go_both (next_at old k) (next_at now k) (next_at new k) (numbers_at k some) (numbers_at k more) (h.go_on k) (too.go_on k));
+  go_on = λ k. subst (λ ns. GoOn (next_at old k) ns (next_at new k)) (sym (numbers_both k some more))
+      (go_both (next_at old k) (next_at now k) (next_at new k) (numbers_at k some) (numbers_at k more) (h.go_on k)
+      (too.go_on k));
 }
 
-places_next : (wants : Wants) (k n : ℕ) (o : Option Wanted) → want_at wants k ≡ o → places_of (next_set o wants k n) ≡ places_of wants
+places_next : (wants : Wants) (k n : ℕ) (o : Option Wanted) → want_at wants k ≡ o
+    → places_of (next_set o wants k n) ≡ places_of wants
 places_next wants k n None at = refl
-places_next wants k n (Some w) at = map-set_same place_of wants k (Some (record { place = w.place; next = Some n })) None (sym (ap place_of (get_want wants k ∙ at)))
+places_next wants k n (Some w) at =
+    map-set_same place_of wants k (Some (record { place = w.place; next = Some n })) None
+    (sym (ap place_of (get_want wants k ∙ at)))
 
-go_one : (j k n : ℕ) (bytes : List ℕ) (t : Talk) → Moved j t (told k n bytes t) → GoOn (next_at t.wants j) (numbers_at j (record { place = k; number = n; bytes = bytes } ∷ [])) (next_at (told k n bytes t).0.wants j)
+go_one : (j k n : ℕ) (bytes : List ℕ) (t : Talk) → Moved j t (told k n bytes t)
+    → GoOn (next_at t.wants j) (numbers_at j (record { place = k; number = n; bytes = bytes } ∷ []))
+    (next_at (told k n bytes t).0.wants j)
 go_one j k n bytes t moved =
     let last : Option ℕ = next_at (told k n bytes t).0.wants j in
     let here : List ℕ = if k == j then n ∷ [] else [] in
     elim moved [
       | stays none same ↦ subst (λ ns. GoOn (next_at t.wants j) ns last) (sym (append-nil here ∙ none)) same
-      | moves m one wanted next ↦ subst (λ ns. GoOn (next_at t.wants j) ns last) (sym (append-nil here ∙ one)) (go_on_more (next_at t.wants j) last m [] wanted next)
+      | moves m one wanted next ↦ subst (λ ns. GoOn (next_at t.wants j) ns last) (sym (append-nil here ∙ one))
+      (go_on_more (next_at t.wants j) last m [] wanted next)
     ]
 
-told_record : (k n : ℕ) (bytes : List ℕ) (t : Talk) → length bytes ≡ 512 → bearer t.wants bytes ≡ Some k → IfSome (next_at t.wants k) (λ want. n ≡ want)
+told_record : (k n : ℕ) (bytes : List ℕ) (t : Talk) → length bytes ≡ 512 → bearer t.wants bytes ≡ Some k
+    → IfSome (next_at t.wants k) (λ want. n ≡ want)
     → HasTold t.wants (told k n bytes t).0.wants (record { place = k; number = n; bytes = bytes } ∷ [])
 told_record k n bytes t long bears wanted =
     let some : (w : Wanted) × (want_at t.wants k ≡ Some w) = bearer_some t.wants bytes k bears in record {
@@ -157,45 +190,61 @@ told_record k n bytes t long bears wanted =
 
 told_one : (t : Talk) (x : Talk × Event) → Comes t x → HasTold t.wants x.0.wants (records_told (telling x.1))
 told_one t x comes = elim comes [
-  | nothing none same ↦ subst (λ rs. HasTold t.wants x.0.wants rs) (sym none) (subst (λ ws. HasTold t.wants ws []) (sym same) (told_none t.wants))
-  | a_record k n bytes long bears wanted is ↦ subst (λ (y : Talk × Event). HasTold t.wants y.0.wants (records_told (telling y.1))) (sym is) (told_record k n bytes t long bears wanted)
+  | nothing none same ↦ subst (λ rs. HasTold t.wants x.0.wants rs) (sym none)
+  (subst (λ ws. HasTold t.wants ws []) (sym same) (told_none t.wants))
+  | a_record k n bytes long bears wanted is ↦ subst
+  (λ (y : Talk × Event). HasTold t.wants y.0.wants (records_told (telling y.1))) (sym is)
+  (told_record k n bytes t long bears wanted)
 ]
 
 pub records_both : (some more : List Event) → records_told (some ++ more) ≡ records_told some ++ records_told more
 records_both [] more = refl
-records_both (e ∷ es) more = ap (λ rs. record_in e ++ rs) (records_both es more) ∙ sym (append_assoc (record_in e) (records_told es) (records_told more))
+records_both (e ∷ es) more = ap (λ rs. record_in e ++ rs) (records_both es more)
+    ∙ sym (append_assoc (record_in e) (records_told es) (records_told more))
 
 pub bytes_both : (some more : List Numbered) → bytes_in (some ++ more) ≡ bytes_in some ++ bytes_in more
 bytes_both [] more = refl
-bytes_both (r ∷ rs) more = ap (λ bytes. r.bytes ++ bytes) (bytes_both rs more) ∙ sym (append_assoc r.bytes (bytes_in rs) (bytes_in more))
+bytes_both (r ∷ rs) more = ap (λ bytes. r.bytes ++ bytes) (bytes_both rs more)
+    ∙ sym (append_assoc r.bytes (bytes_in rs) (bytes_in more))
 
-told_brought : (t : Talk) (bs : List Brought) → AreBrought t bs → HasTold t.wants (talk_after t bs).wants (records_told (events_of t bs))
+told_brought : (t : Talk) (bs : List Brought) → AreBrought t bs
+    → HasTold t.wants (talk_after t bs).wants (records_told (events_of t bs))
 told_brought t [] are = told_none t.wants
 told_brought t (b ∷ bs) are =
     let x : Talk × Event = heard t b.whole in
-    let one : HasTold t.wants x.0.wants (records_told (telling x.1)) = told_one t x (comes_heard t t.stage b.bytes b.whole are.0) in
-    let more : HasTold x.0.wants (talk_after x.0 bs).wants (records_told (events_of x.0 bs)) = told_brought x.0 bs are.1 in
+    let one : HasTold t.wants x.0.wants (records_told (telling x.1)) =
+        told_one t x (comes_heard t t.stage b.bytes b.whole are.0) in
+    let more : HasTold x.0.wants (talk_after x.0 bs).wants (records_told (events_of x.0 bs)) =
+        told_brought x.0 bs are.1 in
     subst (λ rs. HasTold t.wants (talk_after x.0 bs).wants rs) (sym (records_both (telling x.1) (events_of x.0 bs)))
-    (told_both t.wants x.0.wants (talk_after x.0 bs).wants (records_told (telling x.1)) (records_told (events_of x.0 bs)) one more)
+    (told_both t.wants x.0.wants (talk_after x.0 bs).wants (records_told (telling x.1))
+        (records_told (events_of x.0 bs)) one more)
 
 -- what a client tells of a link
-pub told_link : (start : Talk) (stream : List ℕ) (events : List Event) (now : Listening) → Reads start stream events now → HasTold start.wants now.talk.wants (records_told events)
+pub told_link : (start : Talk) (stream : List ℕ) (events : List Event) (now : Listening)
+    → Reads start stream events now → HasTold start.wants now.talk.wants (records_told events)
 told_link start stream events now reads =
     subst (λ es. HasTold start.wants now.talk.wants (records_told es)) (sym reads.events_are)
-    (subst (λ (u : Talk). HasTold start.wants u.wants (records_told (events_of start reads.brought))) (sym reads.talk) (told_brought start reads.brought reads.are_brought))
+    (subst (λ (u : Talk). HasTold start.wants u.wants (records_told (events_of start reads.brought))) (sym reads.talk)
+        (told_brought start reads.brought reads.are_brought))
 
 -- A new link changes nothing of what is wanted.
 pub wants_said : (t : Talk) (o : Option Wanted) → (to_place o 0 t).0.wants ≡ t.wants
 wants_said t None = refl
 wants_said t (Some w) = refl
 
-go_far : (n : ℕ) (ns : List ℕ) (last : Option ℕ) → n < 2 ^ 24 → GoOn (Some n) ns last → last ≡ Some ((n + length ns) % 2 ^ 24)
+go_far : (n : ℕ) (ns : List ℕ) (last : Option ℕ) → n < 2 ^ 24 → GoOn (Some n) ns last
+    → last ≡ Some ((n + length ns) % 2 ^ 24)
 go_far n [] last short on = on ∙ ap (λ m. Some m) (let e : n ≡ (n + 0) % 2 ^ 24 = omega (arith, short) in e)
 go_far n (m ∷ ns) last short on =
     go_far ((m + 1) % 2 ^ 24) ns last (omega arith) on.1
-    ∙ ap (λ x. Some x) (let e : ((m + 1) % 2 ^ 24 + length ns) % 2 ^ 24 ≡ (n + length (m ∷ ns)) % 2 ^ 24 = omega (arith, on.0) in e)
+    ∙ ap (λ x. Some x) (let e : ((m + 1) % 2 ^ 24 + length ns) % 2 ^ 24 ≡ (n + length (m ∷ ns)) % 2 ^ 24 = omega
+    (arith, on.0) in e)
 
 -- the number of the records is what a place's number moves by
-pub told_far : (old new : Wants) (records : List Numbered) (k n : ℕ) → HasTold old new records → n < 2 ^ 24 → next_at old k ≡ Some n
+pub told_far : (old new : Wants) (records : List Numbered) (k n : ℕ) → HasTold old new records → n < 2 ^ 24
+    → next_at old k ≡ Some n
     → next_at new k ≡ Some ((n + length (numbers_at k records)) % 2 ^ 24)
-told_far old new records k n h short at = go_far n (numbers_at k records) (next_at new k) short (subst (λ o. GoOn o (numbers_at k records) (next_at new k)) at (h.go_on k))
+told_far old new records k n h short at =
+    go_far n (numbers_at k records) (next_at new k) short
+    (subst (λ o. GoOn o (numbers_at k records) (next_at new k)) at (h.go_on k))

@@ -1,5 +1,6 @@
 -- The places that a client asks for.
-use Rattle.std.proofs.Common.{◌≡◌, ℕ, ◌+◌, ◌-◌, ◌<◌, ◌≤◌, ◌^◌, suc, zero, refl, sym, ap, subst, ◌∙◌, arith, List, [], ◌∷◌, ◌++◌, length, map, replicate, take, set, get_or, append_assoc, length-take-le, Option, Some, None, IfSome}
+use Rattle.std.proofs.Common.{◌≡◌, ℕ, ◌+◌, ◌-◌, ◌<◌, ◌≤◌, ◌^◌, suc, zero, refl, sym, ap, subst, ◌∙◌, arith, List, [],
+    ◌∷◌, ◌++◌, length, map, replicate, take, set, get_or, append_assoc, length-take-le, Option, Some, None, IfSome}
 use Rattle.std.proofs.lemmas.List.{length-map, map_more, set_at}
 use Rattle.std.specs.Option.{option_and_then}
 use Rattle.slink_wire.specs.Place.{Fields}
@@ -7,8 +8,10 @@ use Rattle.slink_feed.specs.declared.dialogue.Wanted.{Wanted}
 use Rattle.slink_feed.specs.Dialogue.{AreNumbers, AreShort, Wants, next_at, want_at, wanted_of, wants_of}
 
 -- one place more is written
-pub wanted_more : (places : List (Fields × Option ℕ)) (k : ℕ) (p : Fields × Option ℕ) → k < length places → length places ≤ 16 → p ≡ get_or places k p
-    → set (map wanted_of (take k places) ++ replicate (16 - k) None) k (wanted_of p) ≡ map wanted_of (take (k + 1) places) ++ replicate (16 - (k + 1)) None
+pub wanted_more : (places : List (Fields × Option ℕ)) (k : ℕ) (p : Fields × Option ℕ) → k < length places
+    → length places ≤ 16 → p ≡ get_or places k p
+    → set (map wanted_of (take k places) ++ replicate (16 - k) None) k (wanted_of p) ≡ map wanted_of
+    (take (k + 1) places) ++ replicate (16 - (k + 1)) None
 wanted_more places k p lt most read =
     let front : List (Option Wanted) = map wanted_of (take k places) in
     let rest : List (Option Wanted) = replicate (16 - (k + 1)) None in
@@ -17,14 +20,16 @@ wanted_more places k p lt most read =
     ap (λ n. set (front ++ replicate n None) k (wanted_of p)) left
     ∙ (set_at front None rest (wanted_of p) k long
     ∙ (sym (append_assoc front (wanted_of p ∷ []) rest)
-    ∙ (ap (λ (q : Fields × Option ℕ). (front ++ wanted_of q ∷ []) ++ rest) read ∙ ap (λ ws. ws ++ rest) (sym (map_more wanted_of places k p lt)))))
+    ∙ (ap (λ (q : Fields × Option ℕ). (front ++ wanted_of q ∷ []) ++ rest) read
+    ∙ ap (λ ws. ws ++ rest) (sym (map_more wanted_of places k p lt)))))
 
 -- the number of a place is short
 short_number : (m : Option ℕ) → ((n : ℕ) → m ≡ Some n → n < 2 ^ 24) → IfSome m (λ n. n < 2 ^ 24)
 short_number None short = tt
 short_number (Some n) short = short n refl
 
-pub short_next : (inside now : Wants) (k : ℕ) (o : Option Wanted) (w : Wanted) → AreShort inside → inside ≡ now → o ≡ want_at now k → o ≡ Some w → IfSome w.next (λ n. n < 2 ^ 24)
+pub short_next : (inside now : Wants) (k : ℕ) (o : Option Wanted) (w : Wanted) → AreShort inside → inside ≡ now
+    → o ≡ want_at now k → o ≡ Some w → IfSome w.next (λ n. n < 2 ^ 24)
 short_next inside now k o w short same read is =
     let at : want_at inside k ≡ Some w = ap (λ ws. want_at ws k) same ∙ (sym read ∙ is) in
     short_number w.next (λ n e. short k n (ap (option_and_then (λ (v : Wanted). v.next)) at ∙ e))
@@ -38,11 +43,13 @@ number_short : (m : Option ℕ) (n : ℕ) → IfSome m (λ x. x < 2 ^ 24) → m 
 number_short None n short is = absurd (let bad : None ≡ Some n = is in cc bad)
 number_short (Some x) n short is = let same : x ≡ n = cc is in omega (arith, short, same)
 
-short_each : (places : List (Fields × Option ℕ)) (m : ℕ) → ((j : ℕ) (d : Fields × Option ℕ) → j < length places → IfSome (get_or places j d).1 (λ x. x < 2 ^ 24))
+short_each : (places : List (Fields × Option ℕ)) (m : ℕ)
+    → ((j : ℕ) (d : Fields × Option ℕ) → j < length places → IfSome (get_or places j d).1 (λ x. x < 2 ^ 24))
     → AreShort (map wanted_of places ++ replicate m None)
 short_each [] m each k n is = absurd (let bad : None ≡ Some n = sym (none_next m k) ∙ is in cc bad)
 short_each (p ∷ ps) m each zero n is = number_short p.1 n (each 0 p (omega arith)) is
 short_each (p ∷ ps) m each (suc k) n is = short_each ps m (λ j d lt. each (suc j) d (omega (arith, lt))) k n is
 
-pub short_all : (places : List (Fields × Option ℕ)) (wants : Wants) → AreNumbers places → wants ≡ wants_of places → AreShort wants
+pub short_all : (places : List (Fields × Option ℕ)) (wants : Wants) → AreNumbers places → wants ≡ wants_of places
+    → AreShort wants
 short_all places wants each e = subst AreShort (sym e) (short_each places (16 - length places) each)

@@ -1,5 +1,6 @@
 -- No front of a whole is another, and bytes are one whole at most.
-use Rattle.std.proofs.Common.{◌≡◌, ◌≢◌, ℕ, ◌+◌, ◌<◌, inl, inr, refl, sym, ap, subst, ◌∙◌, arith, List, [], ◌∷◌, ◌++◌, append_assoc, append-nil, length, length-append, Some, slice_get, codes}
+use Rattle.std.proofs.Common.{◌≡◌, ◌≢◌, ℕ, ◌+◌, ◌<◌, inl, inr, refl, sym, ap, subst, ◌∙◌, arith, List, [], ◌∷◌, ◌++◌,
+    append_assoc, append-nil, length, length-append, Some, slice_get, codes}
 use Rattle.std.proofs.lemmas.Bool.{cases_lt}
 use Rattle.std.proofs.lemmas.List.{append_cancel_right}
 use Rattle.std.proofs.lemmas.Option.{slice_get_within}
@@ -8,7 +9,8 @@ use Rattle.slink_wire.specs.Reply.{line_end}
 use Rattle.slink_wire.proofs.Packets.{one_packet}
 use Rattle.slink_feed.specs.declared.dialogue.Stage.{Stage}
 use Rattle.slink_feed.specs.declared.dialogue.Stage.TheVariants.{Unlinked, Station, Number, Packets, Ended}
-use Rattle.slink_feed.specs.Cutting.{Begins, IsBegun, IsNoPacket, IsPacketBegun, IsReply, IsReplyBegun, IsWhole, IsWholePacket, IsWholeReply, LacksEnd, no_first, no_end, no_head, nothing, end_begun, head_begun, record_begun}
+use Rattle.slink_feed.specs.Cutting.{Begins, IsBegun, IsNoPacket, IsPacketBegun, IsReply, IsReplyBegun, IsWhole,
+    IsWholePacket, IsWholeReply, LacksEnd, no_first, no_end, no_head, nothing, end_begun, head_begun, record_begun}
 use Rattle.slink_feed.specs.Dialogue.{Whole, Reply, Packet, End, Garbage}
 use Rattle.slink_feed.proofs.Fronts.{get_left, get_here}
 use Rattle.slink_feed.proofs.Heads.{head_before, one_begins}
@@ -32,29 +34,38 @@ end_begins bytes is = (ap (λ (xs : List ℕ). slice_get xs 0) is, ap length is)
 packet_begins : (bytes r : List ℕ) (n : ℕ) → IsPacket bytes n r → Begins bytes 83
 packet_begins [] r n is = absurd (let bad : [] ≡ codes "SL" = is.0 in cc bad)
 packet_begins (x ∷ []) r n is = absurd (let bad : x ∷ [] ≡ codes "SL" = is.0 in cc bad)
-packet_begins (x ∷ y ∷ xs) r n is = let both : x ∷ y ∷ [] ≡ 83 ∷ 76 ∷ [] = is.0 in let one : x ≡ 83 = cc both in ap (λ z. Some z) one
+packet_begins (x ∷ y ∷ xs) r n is = let both : x ∷ y ∷ [] ≡ 83 ∷ 76 ∷ [] = is.0 in let one : x ≡ 83 = cc both in
+    ap (λ z. Some z) one
 
 -- A CR LF ends the bytes of a reply.
 reply_end : (a z line : List ℕ) → a ≡ line ++ line_end → LacksEnd (a ++ z) → ⊥
 reply_end a z line is lacks =
     let long : length a ≡ length line + 2 = ap length is ∙ length-append line line_end in
-    let cr : slice_get a (length line) ≡ Some 13 = ap (λ (xs : List ℕ). slice_get xs (length line)) is ∙ get_here line (10 ∷ []) 13 in
+    let cr : slice_get a (length line) ≡ Some 13 = ap (λ (xs : List ℕ). slice_get xs (length line)) is
+        ∙ get_here line (10 ∷ []) 13 in
     let split : line ++ line_end ≡ (line ++ 13 ∷ []) ++ 10 ∷ [] = sym (append_assoc line (13 ∷ []) (10 ∷ [])) in
     let at : length (line ++ 13 ∷ []) ≡ length line + 1 = length-append line (13 ∷ []) in
-    let lf : slice_get a (length line + 1) ≡ Some 10 = ap (λ (xs : List ℕ). slice_get xs (length line + 1)) (is ∙ split) ∙ (ap (slice_get ((line ++ 13 ∷ []) ++ 10 ∷ [])) (sym at) ∙ get_here (line ++ 13 ∷ []) [] 10) in
-    lacks (length line) (get_left a z (length line) (omega (arith, long)) ∙ cr) (get_left a z (length line + 1) (omega (arith, long)) ∙ lf)
+    let lf : slice_get a (length line + 1) ≡ Some 10 =
+        ap (λ (xs : List ℕ). slice_get xs (length line + 1)) (is ∙ split)
+        ∙ (ap (slice_get ((line ++ 13 ∷ []) ++ 10 ∷ [])) (sym at) ∙ get_here (line ++ 13 ∷ []) [] 10) in
+    lacks (length line) (get_left a z (length line) (omega (arith, long)) ∙ cr)
+        (get_left a z (length line + 1) (omega (arith, long)) ∙ lf)
 
 lacks_front : (a z : List ℕ) → LacksEnd (a ++ z) → LacksEnd a
-lacks_front a z lacks i cr lf = lacks i (get_left a z i (slice_get_within a i 13 cr) ∙ cr) (get_left a z (i + 1) (slice_get_within a (i + 1) 10 lf) ∙ lf)
+lacks_front a z lacks i cr lf =
+    lacks i (get_left a z i (slice_get_within a i 13 cr) ∙ cr) (get_left a z (i + 1) (slice_get_within a (i + 1) 10 lf)
+    ∙ lf)
 
 -- a front of a reply without its last byte
 lacks_before : (a z line : List ℕ) → a ++ z ≡ line ++ line_end → 0 < length z → LacksEnd (line ++ 13 ∷ []) → LacksEnd a
 lacks_before a z line is some lacks i cr lf =
     let split : a ++ z ≡ (line ++ 13 ∷ []) ++ 10 ∷ [] = is ∙ sym (append_assoc line (13 ∷ []) (10 ∷ [])) in
     let within : i + 1 < length a = slice_get_within a (i + 1) 10 lf in
-    let long : length a + length z ≡ length (line ++ 13 ∷ []) + 1 = sym (length-append a z) ∙ (ap length split ∙ length-append (line ++ 13 ∷ []) (10 ∷ [])) in
+    let long : length a + length z ≡ length (line ++ 13 ∷ []) + 1 = sym (length-append a z)
+        ∙ (ap length split ∙ length-append (line ++ 13 ∷ []) (10 ∷ [])) in
     let here : (j : ℕ) → j < length a → slice_get (line ++ 13 ∷ []) j ≡ slice_get a j = λ j lt.
-    sym (get_left (line ++ 13 ∷ []) (10 ∷ []) j (omega (arith, lt, long, some))) ∙ (ap (λ (xs : List ℕ). slice_get xs j) (sym split) ∙ get_left a z j lt) in
+    sym (get_left (line ++ 13 ∷ []) (10 ∷ []) j (omega (arith, lt, long, some)))
+        ∙ (ap (λ (xs : List ℕ). slice_get xs j) (sym split) ∙ get_left a z j lt) in
     lacks i (here i (omega (arith, within)) ∙ cr) (here (i + 1) within ∙ lf)
 
 -- bytes that are begun have no whole in front
@@ -66,7 +77,8 @@ reply_begun_no a z Garbage begun is = omega (arith, begun.1, is.1, length-append
 
 -- a front of a whole is begun
 reply_front : (a z : List ℕ) (w : Whole) → 0 < length z → IsWholeReply (a ++ z) w → IsReplyBegun a
-reply_front a z (Reply line) some is = (lacks_before a z line is.0 some is.1, omega (arith, is.2, some, length-append a z))
+reply_front a z (Reply line) some is =
+    (lacks_before a z line is.0 some is.1, omega (arith, is.2, some, length-append a z))
 reply_front a z (Packet n r) some is = absurd is
 reply_front a z End some is = absurd is
 reply_front a z Garbage some is = (lacks_front a z is.0, omega (arith, is.1, some, length-append a z))
@@ -91,15 +103,20 @@ begun_no_garbage : (a z : List ℕ) → IsPacketBegun (a ++ z) → IsNoPacket a 
 begun_no_garbage a z (nothing e) (no_first b is s t one) = omega (arith, e, one, length-append a z)
 begun_no_garbage a z (nothing e) (no_end is three other) = omega (arith, e, three, length-append a z)
 begun_no_garbage a z (nothing e) (no_head is eight lacks) = omega (arith, e, eight, length-append a z)
-begun_no_garbage a z (end_begun e short) (no_first b is s t one) = t (one_begins (a ++ z) b 69 (begins_front a z b is) e)
+begun_no_garbage a z (end_begun e short) (no_first b is s t one) =
+    t (one_begins (a ++ z) b 69 (begins_front a z b is) e)
 begun_no_garbage a z (end_begun e short) (no_end is three other) = omega (arith, short, three, length-append a z)
 begun_no_garbage a z (end_begun e short) (no_head is eight lacks) = omega (arith, short, eight, length-append a z)
-begun_no_garbage a z (head_begun e short) (no_first b is s t one) = s (one_begins (a ++ z) b 83 (begins_front a z b is) e)
+begun_no_garbage a z (head_begun e short) (no_first b is s t one) =
+    s (one_begins (a ++ z) b 83 (begins_front a z b is) e)
 begun_no_garbage a z (head_begun e short) (no_end is three other) = not_both (a ++ z) (begins_front a z 69 is) e
 begun_no_garbage a z (head_begun e short) (no_head is eight lacks) = omega (arith, short, eight, length-append a z)
-begun_no_garbage a z (record_begun n e has long short) (no_first b is s t one) = s (one_begins (a ++ z) b 83 (begins_front a z b is) e)
-begun_no_garbage a z (record_begun n e has long short) (no_end is three other) = not_both (a ++ z) (begins_front a z 69 is) e
-begun_no_garbage a z (record_begun n e has long short) (no_head is eight lacks) = lacks n (head_before a z n (omega (arith, eight)) has)
+begun_no_garbage a z (record_begun n e has long short) (no_first b is s t one) =
+    s (one_begins (a ++ z) b 83 (begins_front a z b is) e)
+begun_no_garbage a z (record_begun n e has long short) (no_end is three other) =
+    not_both (a ++ z) (begins_front a z 69 is) e
+begun_no_garbage a z (record_begun n e has long short) (no_head is eight lacks) =
+    lacks n (head_before a z n (omega (arith, eight)) has)
 
 begun_no_end : (a z : List ℕ) → IsPacketBegun (a ++ z) → Begins a 69 → length a ≡ 3 → ⊥
 begun_no_end a z (nothing e) is three = omega (arith, e, three, length-append a z)
@@ -116,7 +133,8 @@ begun_short a (record_begun n e has long short) = short
 packet_begun_no : (a z : List ℕ) (w : Whole) → IsPacketBegun (a ++ z) → IsWholePacket a w → ⊥
 packet_begun_no a z (Reply line) begun is = is
 packet_begun_no a z (Packet n r) begun is = omega (arith, begun_short (a ++ z) begun, is.1, length-append a z)
-packet_begun_no a z End begun is = let e : (Begins a 69) × (length a ≡ 3) = end_begins a is in begun_no_end a z begun e.0 e.1
+packet_begun_no a z End begun is = let e : (Begins a 69) × (length a ≡ 3) = end_begins a is in
+    begun_no_end a z begun e.0 e.1
 packet_begun_no a z Garbage begun is = begun_no_garbage a z begun is
 
 garbage_front : (a z : List ℕ) → 0 < length z → IsNoPacket (a ++ z) → IsPacketBegun a
@@ -134,7 +152,8 @@ record_front : (a z r : List ℕ) (n : ℕ) → 0 < length z → IsPacket (a ++ 
 record_front a z r n some is long = elim (cases_lt 0 (length a)) [
   | inl front ↦ elim (cases_lt (length a) 8) [
     | inl short ↦ head_begun (front_begins a z 83 front (packet_begins (a ++ z) r n is)) short
-    | inr head ↦ record_begun n (front_begins a z 83 front (packet_begins (a ++ z) r n is)) (head_before a z n head (is.0, is.1)) head (omega (arith, long, some, length-append a z))
+    | inr head ↦ record_begun n (front_begins a z 83 front (packet_begins (a ++ z) r n is))
+    (head_before a z n head (is.0, is.1)) head (omega (arith, long, some, length-append a z))
   ]
   | inr none ↦ nothing (omega (arith, none))
 ]
@@ -167,10 +186,13 @@ packets_same : (n m : ℕ) (r s : List ℕ) → n ≡ m → r ≡ s → Packet n
 packets_same n m r s p q = cc
 
 one_of_packets : (a : List ℕ) (w v : Whole) → IsWholePacket a w → IsWholePacket a v → w ≡ v
-one_of_packets a (Packet n r) (Packet m s) p q = let same : (n ≡ m) × (r ≡ s) = one_packet a n m r s p.0 q.0 in packets_same n m r s same.0 same.1
-one_of_packets a (Packet n r) End p q = absurd (let three : length a ≡ 3 = (end_begins a q).1 in omega (arith, p.1, three))
+one_of_packets a (Packet n r) (Packet m s) p q = let same : (n ≡ m) × (r ≡ s) = one_packet a n m r s p.0 q.0 in
+    packets_same n m r s same.0 same.1
+one_of_packets a (Packet n r) End p q = absurd (let three : length a ≡ 3 = (end_begins a q).1 in
+    omega (arith, p.1, three))
 one_of_packets a (Packet n r) Garbage p q = absurd (packet_no_garbage a r n p.0 p.1 q)
-one_of_packets a End (Packet m s) p q = absurd (let three : length a ≡ 3 = (end_begins a p).1 in omega (arith, q.1, three))
+one_of_packets a End (Packet m s) p q = absurd (let three : length a ≡ 3 = (end_begins a p).1 in
+    omega (arith, q.1, three))
 one_of_packets a End End p q = refl
 one_of_packets a End Garbage p q = absurd (end_no_garbage a p q)
 one_of_packets a Garbage (Packet m s) p q = absurd (packet_no_garbage a s m q.0 q.1 p)

@@ -39,18 +39,23 @@ pub record GoesOn (feed : List Window) (old new : Attending) : Type 0 where
 -- A turn: the session is closed, so that nothing is read; or the link is at its end; or the bytes that it told, at most
 -- 512, are answered.
 pub data Attends (feed : List Window) (old new : Attending) (before after : Heard) : Turn → Type 0 where
-  is_closed : SendsAll feed old new → new.session.state.phase ≡ Closed → after ≡ before → Attends feed old new before after turns.Closed
+  is_closed : SendsAll feed old new → new.session.state.phase ≡ Closed → after ≡ before
+      → Attends feed old new before after turns.Closed
   is_at_end : GoesOn feed old new → after ≡ told_once before [] → Attends feed old new before after turns.Closed
-  replies : (now : Attending) (bytes : List ℕ) → GoesOn feed old now → after ≡ told_once before bytes → 0 < length bytes → length bytes ≤ 512
+  replies : (now : Attending) (bytes : List ℕ) → GoesOn feed old now → after ≡ told_once before bytes
+      → 0 < length bytes → length bytes ≤ 512
       → RepliesToAll feed now new bytes → Attends feed old new before after turns.Goes
 
 -- A turn in which the link failed: at a write of what was due, at the read, or at a write of a reply. The bytes that it
 -- took in the turn are counted.
 pub data IsServeFault (feed : List Window) (old new : Attending) (before after : Heard) : LinkFault → Type 0 where
-  at_send : (count : ℕ) → FailsToSend feed old new count → after ≡ before → IsServeFault feed old new before after (faults.Write count)
+  at_send : (count : ℕ) → FailsToSend feed old new count → after ≡ before
+      → IsServeFault feed old new before after (faults.Write count)
   at_read : GoesOn feed old new → after ≡ failed_once before → IsServeFault feed old new before after faults.Read
-  at_reply : (count : ℕ) (now : Attending) (bytes : List ℕ) → GoesOn feed old now → after ≡ told_once before bytes → length bytes ≤ 512
-      → FailsToReply feed now new bytes → length new.said.bytes ≡ length old.said.bytes + count → IsServeFault feed old new before after (faults.Write count)
+  at_reply : (count : ℕ) (now : Attending) (bytes : List ℕ) → GoesOn feed old now → after ≡ told_once before bytes
+      → length bytes ≤ 512
+      → FailsToReply feed now new bytes → length new.said.bytes ≡ length old.said.bytes + count
+      → IsServeFault feed old new before after (faults.Write count)
 
 -- a session with what its link took so far
 abbrev pub attending : Standing → Said → Attending

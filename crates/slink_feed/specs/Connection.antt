@@ -14,28 +14,32 @@ use Rattle.slink_feed.specs.Window.{Shows, Window}
 -- Turns one after another, each with the feed as it then stands.
 pub data TakesTurns : Attending → List (List Window) → Attending → Type 0 where
   no_turn : (a : Attending) → TakesTurns a [] a
-  turn_taken : (a now b : Attending) (feed : List Window) (feeds : List (List Window)) (before after : Heard) (turn : Turn)
+  turn_taken : (a now b : Attending) (feed : List Window) (feeds : List (List Window)) (before after : Heard)
+      (turn : Turn)
       → Attends feed a now before after turn → TakesTurns now feeds b → TakesTurns a (feed ∷ feeds) b
 
 -- In the last of them the link failed.
 pub data FailsInTurn : Attending → List (List Window) → Attending → Type 0 where
   fails_now : (a b : Attending) (feed : List Window) (before after : Heard) (fault : LinkFault)
       → IsServeFault feed a b before after fault → FailsInTurn a (feed ∷ []) b
-  fails_later : (a now b : Attending) (feed : List Window) (feeds : List (List Window)) (before after : Heard) (turn : Turn)
+  fails_later : (a now b : Attending) (feed : List Window) (feeds : List (List Window)) (before after : Heard)
+      (turn : Turn)
       → Attends feed a now before after turn → FailsInTurn now feeds b → FailsInTurn a (feed ∷ feeds) b
 
 -- At each turn the ring of the place shows the last of the records that were pushed so far, which are a front of these.
 abbrev pub ShowPushed : ℕ → ℕ → List (List ℕ) → List (List Window) → Type 0
 ShowPushed k first pushed [] = Unit {0}
 ShowPushed k first pushed (feed ∷ feeds) =
-    ((w : Window) × (n : ℕ) × (slice_get feed k ≡ Some w) × Shows w first (take n pushed)) × ShowPushed k first pushed feeds
+    ((w : Window) × (n : ℕ) × (slice_get feed k ≡ Some w) × Shows w first (take n pushed))
+        × ShowPushed k first pushed feeds
 
 -- the bytes of what was sent, one after another
 abbrev pub bytes_sent : List Asked → List ℕ
 bytes_sent [] = []
 bytes_sent (a ∷ more) = sent_bytes a.answer ++ bytes_sent more
 
--- In these turns a session sent these bytes, of packets, and `END` where all that was asked for was sent: the packets of
+-- In these turns a session sent these bytes, of packets, and `END` where all that was asked for was sent: the packets
+-- of
 -- each place that has a grant are those of a stretch of its pushed records from the grant on, and there is none of any
 -- other place.
 pub record SendsStretches (feeds : List (List Window)) (s : State) (bytes : List ℕ) : Type 0 where

@@ -36,7 +36,8 @@ pub data IsPacketBegun (bytes : List ℕ) : Type 0 where
   nothing : length bytes ≡ 0 → IsPacketBegun bytes
   end_begun : Begins bytes 69 → length bytes < 3 → IsPacketBegun bytes
   head_begun : Begins bytes 83 → length bytes < 8 → IsPacketBegun bytes
-  record_begun : (n : ℕ) → Begins bytes 83 → HasHead bytes n → 8 ≤ length bytes → length bytes < 520 → IsPacketBegun bytes
+  record_begun : (n : ℕ) → Begins bytes 83 → HasHead bytes n → 8 ≤ length bytes → length bytes < 520
+      → IsPacketBegun bytes
 
 abbrev pub IsWholeReply : List ℕ → Whole → Type 0
 IsWholeReply bytes (Reply line) = IsReply bytes line

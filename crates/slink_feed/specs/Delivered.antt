@@ -14,7 +14,8 @@ pub record Numbered : Type 0 where
 -- Each is a record of the place that it bears, and of the number that this place then wants, if it wants one.
 abbrev pub AreWanted : Talk → List Numbered → Type 0
 AreWanted t [] = Unit {0}
-AreWanted t (r ∷ rs) = (length r.bytes ≡ 512) × (r.number < 2 ^ 24) × (bearer t.wants r.bytes ≡ Some r.place) × IfSome (next_at t.wants r.place) (λ want. r.number ≡ want)
+AreWanted t (r ∷ rs) = (length r.bytes ≡ 512) × (r.number < 2 ^ 24) × (bearer t.wants r.bytes ≡ Some r.place)
+    × IfSome (next_at t.wants r.place) (λ want. r.number ≡ want)
     × AreWanted (told r.place r.number r.bytes t).0 rs
 
 -- the bytes of their packets, one after another

@@ -9,7 +9,8 @@ use Rattle.slink_feed.specs.Fetching.{line_said, record_told}
 use Rattle.slink_feed.specs.Turns.{Took, TookFront}
 
 -- Its line went to the link, and its record to the output; so many bytes each of them took now.
-pub record IsDelivered (event : Event) (before after : Counts) (said_old said_new output_old output_new : Said) : Type 0 where
+pub record IsDelivered (event : Event) (before after : Counts) (said_old said_new output_old output_new : Said) : Type
+    0 where
   pub said : Took said_old said_new (line_said event)
   pub output : Took output_old output_new (record_told event)
   pub said_count : after.said ≡ before.said + length (line_said event)
@@ -25,7 +26,8 @@ pub record IsUnsaid (event : Event) (before count : ℕ) (said_old said_new outp
   pub output : output_new ≡ output_old
 
 -- The output failed within the event's record.
-pub record IsUnwritten (event : Event) (before count : ℕ) (said_old said_new output_old output_new : Said) : Type 0 where
+pub record IsUnwritten (event : Event) (before count : ℕ) (said_old said_new output_old output_new : Said) : Type
+    0 where
   pub more : ℕ
   pub count_is : count ≡ before + more
   pub said : said_new ≡ said_old

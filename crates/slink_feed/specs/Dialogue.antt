@@ -1,5 +1,7 @@
 -- What a client says over a link, and what it makes of what the link brings.
-use Rattle.std.specs.Prelude.{◌≡◌, ℕ, Bool, false, ◌+◌, ◌-◌, ◌%◌, ◌^◌, ◌<◌, ◌==◌, ◌&&◌, List, ◌++◌, length, map, replicate, bytes_eq, codes, Option, Some, None, IfSome, All, nat_eq, unwrap_or, position, slice_get, slice_range, slice_set, if◌then◌else◌}
+use Rattle.std.specs.Prelude.{◌≡◌, ℕ, Bool, false, ◌+◌, ◌-◌, ◌%◌, ◌^◌, ◌<◌, ◌==◌, ◌&&◌, List, ◌++◌, length, map,
+    replicate, bytes_eq, codes, Option, Some, None, IfSome, All, nat_eq, unwrap_or, position, slice_get, slice_range,
+    slice_set, if◌then◌else◌}
 use Rattle.std.specs.List.{starts_with}
 use Rattle.std.specs.Option.{option_and_then}
 use Rattle.slink_wire.specs.declared.request.Request.{Request}
@@ -97,7 +99,8 @@ says_number k t = says t (Number k) (numbered t.mode (next_at t.wants k))
 
 -- a reply: `OK`, or what begins with `ERROR`
 abbrev pub answer_of : List ℕ → Answer
-answer_of line = if bytes_eq line (codes "OK") then Granted else if starts_with nat_eq line (codes "ERROR") then Refusal else Neither
+answer_of line = if bytes_eq line (codes "OK") then Granted else if starts_with nat_eq line (codes "ERROR") then
+    Refusal else Neither
 
 abbrev pub to_answer : Answer → ℕ → Talk × Event → Talk → Talk × Event
 to_answer Granted k next t = next
@@ -107,7 +110,8 @@ to_answer Neither k next t = ended endings.Garbage t
 -- whether a record's header has the station and network of a place
 abbrev pub is_borne : List ℕ → Option Wanted → Bool
 is_borne bytes None = false
-is_borne bytes (Some w) = bytes_eq (slice_range bytes 8 13) w.place.station && bytes_eq (slice_range bytes 18 20) w.place.network
+is_borne bytes (Some w) = bytes_eq (slice_range bytes 8 13) w.place.station
+    && bytes_eq (slice_range bytes 18 20) w.place.network
 
 -- the first place that a record bears
 abbrev pub bearer : Wants → List ℕ → Option ℕ
@@ -127,7 +131,8 @@ told k number bytes t = (record t { wants = with_next t.wants k ((number + 1) % 
 -- unless another number is wanted
 abbrev pub if_wanted : Option ℕ → ℕ → ℕ → List ℕ → Talk → Talk × Event
 if_wanted None k number bytes t = told k number bytes t
-if_wanted (Some want) k number bytes t = if number == want then told k number bytes t else ended (endings.Gap k want number) t
+if_wanted (Some want) k number bytes t =
+    if number == want then told k number bytes t else ended (endings.Gap k want number) t
 
 -- a packet: its place is sought first
 abbrev pub at_packet : Option ℕ → ℕ → List ℕ → Talk → Talk × Event

@@ -32,7 +32,8 @@ abbrev pub talk_behind : Talk → List Turn → Talk
 talk_behind t [] = t
 talk_behind t (turn ∷ turns) = talk_behind (turned t turn).0 turns
 
--- Each number is the one wanted, if any is, and the next one is wanted behind it: none is left out, and none comes twice.
+-- Each number is the one wanted, if any is, and the next one is wanted behind it: none is left out, and none comes
+-- twice.
 abbrev pub GoOn : Option ℕ → List ℕ → Option ℕ → Type 0
 GoOn want [] last = last ≡ want
 GoOn None (n ∷ ns) last = GoOn (Some ((n + 1) % 2 ^ 24)) ns last

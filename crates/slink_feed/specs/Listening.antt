@@ -31,8 +31,10 @@ IsLinked (Ended ending) = ⊥
 -- What comes of bytes that are there since the last whole: they are one, which is heard, and nothing is kept; or they
 -- are kept, and more are awaited.
 pub data Brings (talk : Talk) (bytes : List ℕ) (new : Listening) (event : Event) : Type 0 where
-  whole : (w : Whole) → IsWhole talk.stage bytes w → heard talk w ≡ (new.talk, event) → new.kept ≡ [] → Brings talk bytes new event
-  begun : IsBegun talk.stage bytes → new ≡ record { talk = talk; kept = bytes } → event ≡ events.None → Brings talk bytes new event
+  whole : (w : Whole) → IsWhole talk.stage bytes w → heard talk w ≡ (new.talk, event) → new.kept ≡ []
+      → Brings talk bytes new event
+  begun : IsBegun talk.stage bytes → new ≡ record { talk = talk; kept = bytes } → event ≡ events.None
+      → Brings talk bytes new event
 
 -- an event, where there is one
 abbrev pub telling : Event → List Event

@@ -17,7 +17,8 @@ place_behind feed k = if k + 1 == length feed then 0 else k + 1
 -- place and state.
 abbrev pub Gives : List Window → ℕ → State → List Sent → ℕ → State → Type 0
 Gives feed k s [] last new = (last ≡ k) × (new ≡ s)
-Gives feed k s (a ∷ more) last new = ((sent feed s k).1 ≡ a) × Gives feed (place_behind feed k) (sent feed s k).0 more last new
+Gives feed k s (a ∷ more) last new =
+    ((sent feed s k).1 ≡ a) × Gives feed (place_behind feed k) (sent feed s k).0 more last new
 
 -- the bytes of all that is given
 abbrev pub all_sent : List Sent → List ℕ
@@ -33,7 +34,8 @@ pub record Attending : Type 0 where
   pub session : Standing
   pub said : Said
 
--- A session was asked from the first place on, until it is closed or a whole round of the places gives nothing. All that
+-- A session was asked from the first place on, until it is closed or a whole round of the places gives nothing. All
+-- that
 -- it gave was written.
 pub record SendsAll (feed : List Window) (old new : Attending) : Type 0 where
   pub given : List Sent

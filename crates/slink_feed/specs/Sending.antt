@@ -1,5 +1,6 @@
 -- What one session sends of a place.
-use Rattle.std.specs.Prelude.{◌≡◌, ℕ, ◌+◌, ◌-◌, ◌%◌, ◌^◌, ◌==◌, ◌⊎◌, List, [], ◌∷◌, ◌++◌, length, take, drop, if◌then◌else◌, Some, slice_get}
+use Rattle.std.specs.Prelude.{◌≡◌, ℕ, ◌+◌, ◌-◌, ◌%◌, ◌^◌, ◌==◌, ◌⊎◌, List, [], ◌∷◌, ◌++◌, length, take, drop,
+    if◌then◌else◌, Some, slice_get}
 use Rattle.slink_wire.specs.Packet.{packet_bytes}
 use Rattle.slink_feed.specs.declared.session.Phase.TheVariants.{Closed}
 use Rattle.slink_feed.specs.declared.session.Sent.{Sent}
@@ -20,7 +21,8 @@ IsHeardFrom s new = (new ≡ s) ⊎ (new ≡ at Closed s.grants)
 -- It was asked again and again, with any lines in between.
 abbrev pub AreAsked : State → List Asked → Type 0
 AreAsked s [] = Unit {0}
-AreAsked s (a ∷ more) = (t : State) × IsHeardFrom s t × ((sent a.feed t a.place).1 ≡ a.answer) × AreAsked (sent a.feed t a.place).0 more
+AreAsked s (a ∷ more) = (t : State) × IsHeardFrom s t × ((sent a.feed t a.place).1 ≡ a.answer)
+    × AreAsked (sent a.feed t a.place).0 more
 
 -- the packets that were sent of a place
 abbrev pub packet_in : Sent → List (List ℕ)
@@ -38,7 +40,8 @@ packets_of k (a ∷ more) = (if a.place == k then packet_in a.answer else []) ++
 abbrev pub AreShown : ℕ → ℕ → List (List ℕ) → List Asked → Type 0
 AreShown k first pushed [] = Unit {0}
 AreShown k first pushed (a ∷ more) =
-    ((w : Window) × (n : ℕ) × (slice_get a.feed k ≡ Some w) × Shows w first (take n pushed)) × AreShown k first pushed more
+    ((w : Window) × (n : ℕ) × (slice_get a.feed k ≡ Some w) × Shows w first (take n pushed))
+        × AreShown k first pushed more
 
 -- records with their numbers from one on, as packets
 abbrev pub packets_from : ℕ → List (List ℕ) → List (List ℕ)
@@ -47,4 +50,5 @@ packets_from number (r ∷ rs) = packet_bytes (number % 2 ^ 24) r ∷ packets_fr
 
 -- The packets are those of a stretch of the pushed records that begins at a number, one after another.
 abbrev pub IsStretch : ℕ → List (List ℕ) → ℕ → List (List ℕ) → Type 0
-IsStretch first pushed number packets = packets ≡ packets_from number (take (length packets) (drop (number - first) pushed))
+IsStretch first pushed number packets =
+    packets ≡ packets_from number (take (length packets) (drop (number - first) pushed))

@@ -1,9 +1,11 @@
 -- What a session answers, and what it sends.
-use Rattle.std.specs.Prelude.{◌≡◌, ℕ, Bool, true, false, ◌+◌, ◌%◌, ◌^◌, ◌≤◌, ◌<◌, ◌==◌, ◌&&◌, List, [], length, codes, Option, Some, None, unwrap_or, slice_get, slice_set, if◌then◌else◌}
+use Rattle.std.specs.Prelude.{◌≡◌, ℕ, Bool, true, false, ◌+◌, ◌%◌, ◌^◌, ◌≤◌, ◌<◌, ◌==◌, ◌&&◌, List, [], length, codes,
+    Option, Some, None, unwrap_or, slice_get, slice_set, if◌then◌else◌}
 use Rattle.std.specs.List.{list_all, zip}
 use Rattle.std.specs.Option.{option_and_then}
 use Rattle.slink_wire.specs.declared.command.Command.{Command}
-use Rattle.slink_wire.specs.declared.command.Command.TheVariants.{Hello, Station, SelectAll, Data, Fetch, End, Bye, Other}
+use Rattle.slink_wire.specs.declared.command.Command.TheVariants.{Hello, Station, SelectAll, Data, Fetch, End, Bye,
+    Other}
 use Rattle.slink_wire.specs.declared.reply.Reply.{Reply}
 use Rattle.slink_wire.specs.declared.reply.Reply.TheVariants as Replies
 use Rattle.slink_wire.specs.Packet.{packet_bytes}
@@ -62,7 +64,8 @@ chosen (Some k) s = (at (Chosen k) (slice_set s.grants k None), Replies.Ok)
 -- DATA and FETCH: the chosen place has the grant, if there is one
 abbrev pub granted : Mode → ℕ → Option ℕ → State → State × Reply
 granted mode k None s = (s, Replies.Error)
-granted mode k (Some position) s = (at (Granted k) (slice_set s.grants k (Some (record { mode = mode; position = position }))), Replies.Ok)
+granted mode k (Some position) s =
+    (at (Granted k) (slice_set s.grants k (Some (record { mode = mode; position = position }))), Replies.Ok)
 
 abbrev pub asked : List Window → ℕ → Mode → Option ℕ → State → State × Reply
 asked feed k mode number s = granted mode k (option_and_then (grant_of mode number) (slice_get feed k)) s
@@ -139,7 +142,8 @@ at_next false s = (s, Sents.Wait)
 abbrev pub packet_at : State → ℕ → Grant → Option (List ℕ) → State × Sent
 packet_at s k g None = (at Closed s.grants, Sents.Overrun)
 packet_at s k g (Some bytes) =
-    (at s.phase (slice_set s.grants k (Some (record { mode = g.mode; position = g.position + 1 }))), Sents.Packet (packet_bytes (g.position % 2 ^ 24) bytes))
+    (at s.phase (slice_set s.grants k (Some (record { mode = g.mode; position = g.position + 1 }))),
+        Sents.Packet (packet_bytes (g.position % 2 ^ 24) bytes))
 
 abbrev pub sent_from : List Window → State → ℕ → Grant → Window → State × Sent
 sent_from feed s k g w =

@@ -4,17 +4,22 @@ use Rattle.slink_feed.proofs.Heard.{has_packet, packet_short, same_packet}
 use Rattle.slink_feed.proofs.client.hear_packet.Goals as goal
 
 pub hear_packet-requires : goal.hear_packet-requires
-hear_packet-requires c = packet_short c.args.bytes.now c.in-Some.packet.now c.in-Ok.record.now c.in-Ok.number c.requires.2 c.in-Some.ensures.cases.same c.in-Ok.ensures.packet
+hear_packet-requires c =
+    packet_short c.args.bytes.now c.in-Some.packet.now c.in-Ok.record.now c.in-Ok.number c.requires.2
+    c.in-Some.ensures.cases.same c.in-Ok.ensures.packet
 
 pub unreachable-requires-in-Err : goal.unreachable-requires-in-Err
 unreachable-requires-in-Err c =
     c.in-Err.ensures.refused c.requires.0 (drop 8 c.in-Some.packet.now)
-    (has_packet c.args.bytes.now c.in-Some.packet.now c.requires.0 (same_packet c.args.bytes.now c.in-Some.packet.now c.requires.2 c.in-Some.ensures.cases.same) c.requires.1)
+    (has_packet c.args.bytes.now c.in-Some.packet.now c.requires.0
+        (same_packet c.args.bytes.now c.in-Some.packet.now c.requires.2 c.in-Some.ensures.cases.same) c.requires.1)
 
 pub returns-clause-heard : goal.returns-clause-heard
 returns-clause-heard c = (
   c.in-Ok.number,
   c.in-Ok.record.now,
-  subst (λ (b : List ℕ). IsPacket b c.in-Ok.number c.in-Ok.record.now) (same_packet c.args.bytes.now c.in-Some.packet.now c.requires.2 c.in-Some.ensures.cases.same) c.in-Ok.ensures.packet,
+  subst (λ (b : List ℕ). IsPacket b c.in-Ok.number c.in-Ok.record.now)
+      (same_packet c.args.bytes.now c.in-Some.packet.now c.requires.2 c.in-Some.ensures.cases.same)
+      c.in-Ok.ensures.packet,
   c.hear_packet.ensures.heard,
 )

@@ -7,19 +7,28 @@ use Rattle.slink_feed.proofs.cutting.take_packet.Goals as goal
 
 pub loop-used-preserved : goal.loop-used-preserved
 loop-used-preserved c = record {
-  kept = took_more c.args.kept.now.items c.loop-used.kept.items c.take_part-more.new.kept.items c.args.bytes.now c.loop-used.used c.take_part-more.result.0 c.loop-used.invariant.kept c.take_part-more.ensures.kept;
-  begun = subst (λ (p : Part). IsPacketPart c.take_part-more.new.kept.items p) c.in-Begun.is c.take_part-more.ensures.part;
-  within = omega (arith, c.take_part-more.ensures.bound, length-take (length c.args.bytes.now - c.loop-used.used) (drop c.loop-used.used c.args.bytes.now), length-drop c.loop-used.used c.args.bytes.now, c.loop-used.invariant.within);
+  kept = took_more c.args.kept.now.items c.loop-used.kept.items c.take_part-more.new.kept.items c.args.bytes.now
+      c.loop-used.used c.take_part-more.result.0 c.loop-used.invariant.kept c.take_part-more.ensures.kept;
+  begun = subst (λ (p : Part). IsPacketPart c.take_part-more.new.kept.items p) c.in-Begun.is
+      c.take_part-more.ensures.part;
+  within = omega (arith, c.take_part-more.ensures.bound, length-take (length c.args.bytes.now - c.loop-used.used)
+      (drop c.loop-used.used c.args.bytes.now), length-drop c.loop-used.used c.args.bytes.now,
+      c.loop-used.invariant.within);
 }
 
 pub returns-in_default : goal.returns-in_default
 returns-in_default c = record {
-  kept = took_more c.args.kept.now.items c.loop-used.kept.items c.take_part-more.new.kept.items c.args.bytes.now c.loop-used.used c.take_part-more.result.0 c.loop-used.invariant.kept c.take_part-more.ensures.kept;
+  kept = took_more c.args.kept.now.items c.loop-used.kept.items c.take_part-more.new.kept.items c.args.bytes.now
+      c.loop-used.used c.take_part-more.result.0 c.loop-used.invariant.kept c.take_part-more.ensures.kept;
   part = c.take_part-more.ensures.part;
   whole = λ e. absurd (c.in_default.not-Begun e);
   some = λ _.
-      let left : 0 < length (take (length c.args.bytes.now - c.loop-used.used) (drop c.loop-used.used c.args.bytes.now)) =
-      omega (arith, length-take (length c.args.bytes.now - c.loop-used.used) (drop c.loop-used.used c.args.bytes.now), length-drop c.loop-used.used c.args.bytes.now, c.loop-used-test.true) in
+      let left : 0 < length (take (length c.args.bytes.now - c.loop-used.used)
+          (drop c.loop-used.used c.args.bytes.now)) =
+      omega (arith, length-take (length c.args.bytes.now - c.loop-used.used) (drop c.loop-used.used c.args.bytes.now),
+          length-drop c.loop-used.used c.args.bytes.now, c.loop-used-test.true) in
       omega (arith, c.take_part-more.ensures.some left);
-  bound = omega (arith, c.take_part-more.ensures.bound, length-take (length c.args.bytes.now - c.loop-used.used) (drop c.loop-used.used c.args.bytes.now), length-drop c.loop-used.used c.args.bytes.now, c.loop-used.invariant.within);
+  bound = omega (arith, c.take_part-more.ensures.bound, length-take (length c.args.bytes.now - c.loop-used.used)
+      (drop c.loop-used.used c.args.bytes.now), length-drop c.loop-used.used c.args.bytes.now,
+      c.loop-used.invariant.within);
 }

@@ -9,13 +9,15 @@ returns-then-ends-clause-part c =
     let P : List ℕ → Type 0 = λ xs. (line : List ℕ) × IsReply xs line in
     subst P (sym c.push.ensures.items)
     (whole_reply c.args.kept.now.items c.args.byte c.requires
-    (ap (λ (xs : List ℕ). ends_reply xs c.args.byte) (sym c.as_slice.ensures.value) ∙ (sym c.ends_reply-ends.ensures ∙ c.if-ends.true)))
+    (ap (λ (xs : List ℕ). ends_reply xs c.args.byte) (sym c.as_slice.ensures.value)
+        ∙ (sym c.ends_reply-ends.ensures ∙ c.if-ends.true)))
 
 pub returns-then-len-eq-LONGEST_REPLY-clause-part : goal.returns-then-len-eq-LONGEST_REPLY-clause-part
 returns-then-len-eq-LONGEST_REPLY-clause-part c = (
   subst LacksEnd (sym c.push.ensures.items)
       (lacks_more c.args.kept.now.items c.args.byte c.requires.0
-      (ap (λ (xs : List ℕ). ends_reply xs c.args.byte) (sym c.as_slice.ensures.value) ∙ (sym c.ends_reply-ends.ensures ∙ c.if-ends.false))),
+      (ap (λ (xs : List ℕ). ends_reply xs c.args.byte) (sym c.as_slice.ensures.value)
+          ∙ (sym c.ends_reply-ends.ensures ∙ c.if-ends.false))),
   omega arith,
 )
 
@@ -23,6 +25,7 @@ pub returns-else-len-eq-LONGEST_REPLY-clause-part : goal.returns-else-len-eq-LON
 returns-else-len-eq-LONGEST_REPLY-clause-part c = (
   subst LacksEnd (sym c.push.ensures.items)
       (lacks_more c.args.kept.now.items c.args.byte c.requires.0
-      (ap (λ (xs : List ℕ). ends_reply xs c.args.byte) (sym c.as_slice.ensures.value) ∙ (sym c.ends_reply-ends.ensures ∙ c.if-ends.false))),
+      (ap (λ (xs : List ℕ). ends_reply xs c.args.byte) (sym c.as_slice.ensures.value)
+          ∙ (sym c.ends_reply-ends.ensures ∙ c.if-ends.false))),
   omega (arith, c.requires.1, c.push.ensures.len, c.len.ensures.value, c.if-len-eq-LONGEST_REPLY.false),
 )

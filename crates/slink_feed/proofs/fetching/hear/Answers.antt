@@ -10,11 +10,16 @@ loop-offset-init g c = record { so_far = nothing_so_far _ c.args.bytes.now; besi
 pub returns-in_err-counts-clause-fault : goal.returns-in_err-counts-clause-fault
 returns-in_err-counts-clause-fault g c =
     let old : Fetching = fetching c.args.client.now (g.L.Sink.said c.args.link.now) (g.W.Sink.said c.args.output.now) in
-    let now : Fetching = fetching c.loop-offset.client (g.L.Sink.said c.loop-offset.link) (g.W.Sink.said c.loop-offset.output) in
-    let new : Fetching = fetching c.take-used.new.self (g.L.Sink.said c.deliver.new.link) (g.W.Sink.said c.deliver.new.output) in
+    let now : Fetching = fetching c.loop-offset.client (g.L.Sink.said c.loop-offset.link)
+        (g.W.Sink.said c.loop-offset.output) in
+    let new : Fetching = fetching c.take-used.new.self (g.L.Sink.said c.deliver.new.link)
+        (g.W.Sink.said c.deliver.new.output) in
     let linked : IsLinked c.loop-offset.client.talk.stage = c.if-not-is_linked.ensures.yes in
-    let long : length (take (length c.args.bytes.now - c.loop-offset.offset) (drop c.loop-offset.offset c.args.bytes.now)) ≡ length c.args.bytes.now - c.loop-offset.offset = piece_length c.args.bytes.now c.loop-offset.offset in
-    let piece : IsPiece c.loop-offset.client c.take-used.new.self c.args.bytes.now c.loop-offset.offset c.take-used.result.0 c.take-used.result.1 = record {
+    let long : length (take (length c.args.bytes.now - c.loop-offset.offset)
+        (drop c.loop-offset.offset c.args.bytes.now)) ≡ length c.args.bytes.now - c.loop-offset.offset = piece_length
+        c.args.bytes.now c.loop-offset.offset in
+    let piece : IsPiece c.loop-offset.client c.take-used.new.self c.args.bytes.now c.loop-offset.offset
+        c.take-used.result.0 c.take-used.result.1 = record {
       linked = linked;
       brings = c.take-used.ensures.brings linked;
       reads = λ start stream before. c.take-used.ensures.reads start stream before linked;
@@ -22,17 +27,24 @@ returns-in_err-counts-clause-fault g c =
       bound = omega (arith, long, c.take-used.ensures.bound);
     } in
     let fails : FailsAt c.in_err-counts.field-0.0 old new c.args.bytes.now =
-    fails_here old now new c.args.bytes.now c.loop-offset.offset c.take-used.result.0 c.take-used.result.1 c.loop-offset.counts c.loop-offset.invariant.so_far piece c.in_err-counts.field-0.0 c.in_err-counts.ensures.fault in
+    fails_here old now new c.args.bytes.now c.loop-offset.offset c.take-used.result.0 c.take-used.result.1
+        c.loop-offset.counts c.loop-offset.invariant.so_far piece c.in_err-counts.field-0.0
+        c.in_err-counts.ensures.fault in
     search (rules, fails)
 
 pub loop-offset-preserved : goal.loop-offset-preserved
 loop-offset-preserved g c =
     let old : Fetching = fetching c.args.client.now (g.L.Sink.said c.args.link.now) (g.W.Sink.said c.args.output.now) in
-    let now : Fetching = fetching c.loop-offset.client (g.L.Sink.said c.loop-offset.link) (g.W.Sink.said c.loop-offset.output) in
-    let new : Fetching = fetching c.take-used.new.self (g.L.Sink.said c.deliver.new.link) (g.W.Sink.said c.deliver.new.output) in
+    let now : Fetching = fetching c.loop-offset.client (g.L.Sink.said c.loop-offset.link)
+        (g.W.Sink.said c.loop-offset.output) in
+    let new : Fetching = fetching c.take-used.new.self (g.L.Sink.said c.deliver.new.link)
+        (g.W.Sink.said c.deliver.new.output) in
     let linked : IsLinked c.loop-offset.client.talk.stage = c.if-not-is_linked.ensures.yes in
-    let long : length (take (length c.args.bytes.now - c.loop-offset.offset) (drop c.loop-offset.offset c.args.bytes.now)) ≡ length c.args.bytes.now - c.loop-offset.offset = piece_length c.args.bytes.now c.loop-offset.offset in
-    let piece : IsPiece c.loop-offset.client c.take-used.new.self c.args.bytes.now c.loop-offset.offset c.take-used.result.0 c.take-used.result.1 = record {
+    let long : length (take (length c.args.bytes.now - c.loop-offset.offset)
+        (drop c.loop-offset.offset c.args.bytes.now)) ≡ length c.args.bytes.now - c.loop-offset.offset = piece_length
+        c.args.bytes.now c.loop-offset.offset in
+    let piece : IsPiece c.loop-offset.client c.take-used.new.self c.args.bytes.now c.loop-offset.offset
+        c.take-used.result.0 c.take-used.result.1 = record {
       linked = linked;
       brings = c.take-used.ensures.brings linked;
       reads = λ start stream before. c.take-used.ensures.reads start stream before linked;
@@ -40,12 +52,17 @@ loop-offset-preserved g c =
       bound = omega (arith, long, c.take-used.ensures.bound);
     } in
     record {
-      so_far = one_more old now new c.args.bytes.now c.loop-offset.offset c.take-used.result.0 c.take-used.result.1 c.loop-offset.counts c.loop-offset.invariant.so_far piece c.in_ok-counts.counts c.in_ok-counts.ensures.ok;
+      so_far = one_more old now new c.args.bytes.now c.loop-offset.offset c.take-used.result.0 c.take-used.result.1
+          c.loop-offset.counts c.loop-offset.invariant.so_far piece c.in_ok-counts.counts c.in_ok-counts.ensures.ok;
       beside = c.deliver.ensures.beside ∙ c.loop-offset.invariant.beside;
     }
 
 pub returns-after-loop-offset-clause-ok : goal.returns-after-loop-offset-clause-ok
-returns-after-loop-offset-clause-ok g c = all_delivered _ _ c.args.bytes.now c.loop-offset.offset c.loop-offset.counts.said c.loop-offset.counts.written (λ linked. c.loop-offset-test.false) c.loop-offset.invariant.so_far
+returns-after-loop-offset-clause-ok g c =
+    all_delivered _ _ c.args.bytes.now c.loop-offset.offset c.loop-offset.counts.said c.loop-offset.counts.written
+    (λ linked. c.loop-offset-test.false) c.loop-offset.invariant.so_far
 
 pub returns-then-not-is_linked-clause-ok : goal.returns-then-not-is_linked-clause-ok
-returns-then-not-is_linked-clause-ok g c = all_delivered _ _ c.args.bytes.now c.loop-offset.offset c.loop-offset.counts.said c.loop-offset.counts.written (λ linked. absurd (c.if-not-is_linked.ensures.no linked)) c.loop-offset.invariant.so_far
+returns-then-not-is_linked-clause-ok g c =
+    all_delivered _ _ c.args.bytes.now c.loop-offset.offset c.loop-offset.counts.said c.loop-offset.counts.written
+    (λ linked. absurd (c.if-not-is_linked.ensures.no linked)) c.loop-offset.invariant.so_far

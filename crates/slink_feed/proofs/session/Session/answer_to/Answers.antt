@@ -5,4 +5,6 @@ use Rattle.slink_feed.proofs.Fitting.{fits_answered}
 use Rattle.slink_feed.proofs.session.Session.answer_to.Goals as goal
 
 pub returns-in-Line-clause-fits : goal.returns-in-Line-clause-fits
-returns-in-Line-clause-fits g c = fits_answered c.args.feed.now c.args.self.now.state c.answer.new.self.state c.read.result c.requires (ap (λ (p : State × Reply). p.0) c.answer.ensures.answered)
+returns-in-Line-clause-fits g c =
+    fits_answered c.args.feed.now c.args.self.now.state c.answer.new.self.state c.read.result c.requires
+    (ap (λ (p : State × Reply). p.0) c.answer.ensures.answered)
