@@ -1,5 +1,6 @@
 -- Turns with a link, one after another, and links one after another.
-use Rattle.std.proofs.Common.{◌≡◌, ◌⊎◌, ℕ, ◌+◌, ◌<◌, ◌≤◌, inl, inr, refl, sym, ap, subst, ◌∙◌, arith, List, [], ◌∷◌, ◌++◌, append_assoc, append-nil, length, length-append, take, Option, Some, None, Result, Ok, Err, IfOk, IfErr}
+use Rattle.std.proofs.Common.{◌≡◌, ◌⊎◌, ℕ, ◌+◌, ◌<◌, ◌≤◌, inl, inr, refl, sym, ap, subst, ◌∙◌, arith, List, [], ◌∷◌,
+    ◌++◌, append_assoc, append-nil, length, length-append, take, Option, Some, None, Result, Ok, Err, IfOk, IfErr}
 use Rattle.std.proofs.Math.Seq.{take-append-add}
 use Rattle.mseed_stream.specs.Device.{Heard, IsFrontOf, Said, nothing_heard, nothing_said}
 use Rattle.mseed_stream.specs.Exchanges.{Exchange, exchange}
@@ -15,7 +16,8 @@ use Rattle.slink_feed.specs.declared.turn.LinkFault.TheVariants as faults
 use Rattle.slink_feed.specs.declared.turn.Turn.{Turn}
 use Rattle.slink_feed.specs.Delivered.{Numbered}
 use Rattle.slink_feed.specs.Dialogue.{Talk, Wants, says_place, to_place, want_at}
-use Rattle.slink_feed.specs.Fetching.{Delivers, FailsToSay, FailsToWrite, Fetches, IsFetchFault, ReadsOn, bytes_told, fetching, line_said, lines_said, record_told, turn_after, turn_of}
+use Rattle.slink_feed.specs.Fetching.{Delivers, FailsToSay, FailsToWrite, Fetches, IsFetchFault, ReadsOn, bytes_told,
+    fetching, line_said, lines_said, record_told, turn_after, turn_of}
 use Rattle.slink_feed.specs.Listening.{IsLinked, Listening, Reads}
 use Rattle.slink_feed.specs.Told.{HasTold, bytes_in, record_in, records_told}
 use Rattle.slink_feed.specs.Turns.{Took, TookFront}
@@ -23,7 +25,9 @@ use Rattle.slink_feed.proofs.OneReading as one
 use Rattle.slink_feed.proofs.Telling.{bytes_both, records_both, told_both, told_far, told_link, told_none, wants_said}
 use Rattle.slink_links.specs.declared.fetching.FetchEnd.{FetchEnd}
 use Rattle.slink_links.specs.declared.fetching.FetchEnd.TheVariants.{Done, Refused, BadFeed, WriteFailed, LinkFailed}
-use Rattle.slink_links.specs.Fetched.{AreTaken, HasFetched, HasReadEach, HasReadLink, HasReadLinks, HasTurned, HaveMoved, IsFetchedOver, IsReading, IsUnended, StandsAt, StandsBy, TakesRecords, all, but_last, end_by, failures_by, over_none, over_one_more, over_the_last}
+use Rattle.slink_links.specs.Fetched.{AreTaken, HasFetched, HasReadEach, HasReadLink, HasReadLinks, HasTurned,
+    HaveMoved, IsFetchedOver, IsReading, IsUnended, StandsAt, StandsBy, TakesRecords, all, but_last, end_by,
+    failures_by, over_none, over_one_more, over_the_last}
 
 -- What the output takes, one part after another.
 took_none : (old : Said) → Took old old []
@@ -35,9 +39,11 @@ took_both a b c xs ys p q = record {
   failures = q.failures ∙ p.failures;
 }
 
-took_front : (a b c : Said) (xs ys : List ℕ) (n : ℕ) → Took a b xs → TookFront b c ys n → TookFront a c (xs ++ ys) (length xs + n)
+took_front : (a b c : Said) (xs ys : List ℕ) (n : ℕ) → Took a b xs → TookFront b c ys n
+    → TookFront a c (xs ++ ys) (length xs + n)
 took_front a b c xs ys n p q = record {
-  bytes = q.bytes ∙ (ap (λ z. z ++ take n ys) p.bytes ∙ (append_assoc a.bytes xs (take n ys) ∙ ap (λ z. a.bytes ++ z) (sym (take-append-add xs ys n))));
+  bytes = q.bytes ∙ (ap (λ z. z ++ take n ys) p.bytes
+      ∙ (append_assoc a.bytes xs (take n ys) ∙ ap (λ z. a.bytes ++ z) (sym (take-append-add xs ys n))));
   part = omega (arith, q.part, length-append xs ys);
   failures = q.failures ∙ ap (λ f. f + 1) p.failures;
 }
@@ -46,24 +52,31 @@ took_front a b c xs ys n p q = record {
 pub took_as : (a b : Said) (xs ys : List ℕ) → b.bytes ≡ a.bytes ++ xs → b.failures ≡ a.failures → xs ≡ ys → Took a b ys
 took_as a b xs ys bytes fine same = subst (Took a b) same (record { bytes = bytes; failures = fine })
 
-pub took_front_as : (a b : Said) (xs ys : List ℕ) (n : ℕ) → b.bytes ≡ a.bytes ++ take n xs → n < length xs → b.failures ≡ a.failures + 1 → xs ≡ ys → TookFront a b ys n
-took_front_as a b xs ys n bytes within failed same = subst (λ zs. TookFront a b zs n) same (record { bytes = bytes; part = within; failures = failed })
+pub took_front_as : (a b : Said) (xs ys : List ℕ) (n : ℕ) → b.bytes ≡ a.bytes ++ take n xs → n < length xs
+    → b.failures ≡ a.failures + 1 → xs ≡ ys → TookFront a b ys n
+took_front_as a b xs ys n bytes within failed same =
+    subst (λ zs. TookFront a b zs n) same (record { bytes = bytes; part = within; failures = failed })
 
 takes_none : (old : Said) → TakesRecords [] old old
 takes_none old = all (took_none old)
 
-takes_both : (a b c : Said) (some more : List Numbered) → Took a b (bytes_in some) → TakesRecords more b c → TakesRecords (some ++ more) a c
+takes_both : (a b c : Said) (some more : List Numbered) → Took a b (bytes_in some) → TakesRecords more b c
+    → TakesRecords (some ++ more) a c
 takes_both a b c some more p q = elim q [
-  | all took ↦ all (subst (Took a c) (sym (bytes_both some more)) (took_both a b c (bytes_in some) (bytes_in more) p took))
+  | all took ↦ all (subst (Took a c) (sym (bytes_both some more))
+  (took_both a b c (bytes_in some) (bytes_in more) p took))
   | but_last front last n is behind took ↦
-      but_last (some ++ front) last (length (bytes_in some) + n) (ap (λ rs. some ++ rs) is ∙ sym (append_assoc some front (last ∷ [])))
+      but_last (some ++ front) last (length (bytes_in some) + n) (ap (λ rs. some ++ rs) is
+          ∙ sym (append_assoc some front (last ∷ [])))
       (omega (arith, behind, ap length (bytes_both some front), length-append (bytes_in some) (bytes_in front)))
-      (subst (λ bytes. TookFront a c bytes (length (bytes_in some) + n)) (sym (bytes_both some more)) (took_front a b c (bytes_in some) (bytes_in more) n p took))
+      (subst (λ bytes. TookFront a c bytes (length (bytes_in some) + n)) (sym (bytes_both some more))
+          (took_front a b c (bytes_in some) (bytes_in more) n p took))
 ]
 
 -- Where the output didn't fail, it took all.
 all_taken : (rs : List Numbered) (a b : Said) → TakesRecords rs a b → b.failures ≡ a.failures → Took a b (bytes_in rs)
-all_taken rs a b takes fine = elim takes [ all took ↦ took | but_last front last n is behind took ↦ absurd (omega (arith, took.failures, fine)) ]
+all_taken rs a b takes fine =
+    elim takes [ all took ↦ took | but_last front last n is behind took ↦ absurd (omega (arith, took.failures, fine)) ]
 
 -- the bytes of the records that events tell of
 record_bytes : (e : Event) → record_told e ≡ bytes_in (record_in e)
@@ -78,11 +91,13 @@ record_bytes events.Foreign = refl
 
 told_bytes : (es : List Event) → bytes_told es ≡ bytes_in (records_told es)
 told_bytes [] = refl
-told_bytes (e ∷ es) = ap (λ bytes. bytes ++ bytes_told es) (record_bytes e) ∙ (ap (λ bytes. bytes_in (record_in e) ++ bytes) (told_bytes es) ∙ sym (bytes_both (record_in e) (records_told es)))
+told_bytes (e ∷ es) = ap (λ bytes. bytes ++ bytes_told es) (record_bytes e)
+    ∙ (ap (λ bytes. bytes_in (record_in e) ++ bytes) (told_bytes es) ∙ sym (bytes_both (record_in e) (records_told es)))
 
 lines_both : (es : List Event) (e : Event) → lines_said (es ++ e ∷ []) ≡ lines_said es ++ line_said e
 lines_both [] e = append-nil (line_said e)
-lines_both (x ∷ es) e = ap (λ bytes. line_said x ++ bytes) (lines_both es e) ∙ sym (append_assoc (line_said x) (lines_said es) (line_said e))
+lines_both (x ∷ es) e = ap (λ bytes. line_said x ++ bytes) (lines_both es e)
+    ∙ sym (append_assoc (line_said x) (lines_said es) (line_said e))
 
 records_last : (es : List Event) (e : Event) → records_told (es ++ e ∷ []) ≡ records_told es ++ record_in e
 records_last es e = records_both es (e ∷ []) ∙ ap (λ rs. records_told es ++ rs) (append-nil (record_in e))
@@ -110,17 +125,24 @@ record_alone events.Garbage some = absurd (omega (arith, some))
 record_alone events.Foreign some = absurd (omega (arith, some))
 
 -- a line that wasn't taken whole
-unsaid_none : (es : List Event) (e : Event) (n : ℕ) → n < length (lines_said (es ++ e ∷ [])) → length (lines_said es) ≤ n → records_told (es ++ e ∷ []) ≡ records_told es
+unsaid_none : (es : List Event) (e : Event) (n : ℕ) → n < length (lines_said (es ++ e ∷ []))
+    → length (lines_said es) ≤ n → records_told (es ++ e ∷ []) ≡ records_told es
 unsaid_none es e n part behind =
-    let long : 0 < length (line_said e) = omega (arith, part, behind, ap length (lines_both es e), length-append (lines_said es) (line_said e)) in
+    let long : 0 < length (line_said e) =
+        omega (arith, part, behind, ap length (lines_both es e), length-append (lines_said es) (line_said e)) in
     records_last es e ∙ (ap (λ rs. records_told es ++ rs) (line_alone e long) ∙ append-nil (records_told es))
 
 -- a record that wasn't taken whole
-unwritten : (es : List Event) (e : Event) (n : ℕ) (old new : Said) → TookFront old new (bytes_told (es ++ e ∷ [])) n → length (bytes_told es) ≤ n → TakesRecords (records_told (es ++ e ∷ [])) old new
+unwritten : (es : List Event) (e : Event) (n : ℕ) (old new : Said) → TookFront old new (bytes_told (es ++ e ∷ [])) n
+    → length (bytes_told es) ≤ n → TakesRecords (records_told (es ++ e ∷ [])) old new
 unwritten es e n old new took behind =
-    let whole : bytes_told (es ++ e ∷ []) ≡ bytes_in (records_told es) ++ bytes_in (record_in e) = told_bytes (es ++ e ∷ []) ∙ (ap bytes_in (records_last es e) ∙ bytes_both (records_told es) (record_in e)) in
-    let sum : length (bytes_told (es ++ e ∷ [])) ≡ length (bytes_in (records_told es)) + length (bytes_in (record_in e)) = ap length whole ∙ length-append (bytes_in (records_told es)) (bytes_in (record_in e)) in
-    let long : 0 < length (record_told e) = omega (arith, took.part, behind, sum, ap length (told_bytes es), ap length (record_bytes e)) in
+    let whole : bytes_told (es ++ e ∷ []) ≡ bytes_in (records_told es) ++ bytes_in (record_in e) =
+        told_bytes (es ++ e ∷ []) ∙ (ap bytes_in (records_last es e) ∙ bytes_both (records_told es) (record_in e)) in
+    let sum : length (bytes_told (es ++ e ∷ [])) ≡ length (bytes_in (records_told es)) + length
+        (bytes_in (record_in e)) =
+        ap length whole ∙ length-append (bytes_in (records_told es)) (bytes_in (record_in e)) in
+    let long : 0 < length (record_told e) =
+        omega (arith, took.part, behind, sum, ap length (told_bytes es), ap length (record_bytes e)) in
     let last : (r : Numbered) × (record_in e ≡ r ∷ []) = record_alone e long in
     but_last (records_told es) last.0 n (records_last es e ∙ ap (λ rs. records_told es ++ rs) last.1)
     (omega (arith, behind, ap length (told_bytes es)))
@@ -129,26 +151,32 @@ unwritten es e n old new took behind =
 -- Reading on, one turn after another.
 on_none : (now : Listening) → ReadsOn now [] [] now
 on_none now start stream before reads =
-    subst (λ s. Reads start s (before ++ []) now) (sym (append-nil stream)) (subst (λ es. Reads start stream es now) (sym (append-nil before)) reads)
+    subst (λ s. Reads start s (before ++ []) now) (sym (append-nil stream))
+        (subst (λ es. Reads start stream es now) (sym (append-nil before)) reads)
 
-on_both : (a b c : Listening) (xs ys : List ℕ) (some more : List Event) → ReadsOn a xs some b → ReadsOn b ys more c → ReadsOn a (xs ++ ys) (some ++ more) c
+on_both : (a b c : Listening) (xs ys : List ℕ) (some more : List Event) → ReadsOn a xs some b → ReadsOn b ys more c
+    → ReadsOn a (xs ++ ys) (some ++ more) c
 on_both a b c xs ys some more p q start stream before reads =
     subst (λ s. Reads start s (before ++ (some ++ more)) c) (append_assoc stream xs ys)
-    (subst (λ es. Reads start ((stream ++ xs) ++ ys) es c) (append_assoc before some more) (q start (stream ++ xs) (before ++ some) (p start stream before reads)))
+    (subst (λ es. Reads start ((stream ++ xs) ++ ys) es c) (append_assoc before some more)
+        (q start (stream ++ xs) (before ++ some) (p start stream before reads)))
 
 -- By no bytes nothing changes.
 same_by_none : (old new : Listening) (told : List Event) → IsReading old → ReadsOn old [] told new → new ≡ old
 same_by_none old new told reading on =
     let again : Reads reading.0 reading.1 (reading.2 ++ told) new =
-    subst (λ s. Reads reading.0 s (reading.2 ++ told) new) (append-nil reading.1) (on reading.0 reading.1 reading.2 reading.3) in
+    subst (λ s. Reads reading.0 s (reading.2 ++ told) new) (append-nil reading.1)
+        (on reading.0 reading.1 reading.2 reading.3) in
     sym (one.one_reading reading.0 reading.1 reading.2 (reading.2 ++ told) old new reading.3 again).1
 
 no_front : (xs ys : List ℕ) → IsFrontOf xs ys → ys ≡ [] → xs ≡ []
 no_front [] ys front none = refl
 no_front (x ∷ xs) ys front none = absurd (let bad : [] ≡ x ∷ (xs ++ front.0) = sym none ∙ front.1 in cc bad)
 
-reading_on : (old new : Listening) (bytes : List ℕ) (told : List Event) → IsReading old → ReadsOn old bytes told new → IsReading new
-reading_on old new bytes told reading on = (reading.0, reading.1 ++ bytes, reading.2 ++ told, on reading.0 reading.1 reading.2 reading.3)
+reading_on : (old new : Listening) (bytes : List ℕ) (told : List Event) → IsReading old → ReadsOn old bytes told new
+    → IsReading new
+reading_on old new bytes told reading on =
+    (reading.0, reading.1 ++ bytes, reading.2 ++ told, on reading.0 reading.1 reading.2 reading.3)
 
 linked_unended : (stage : Stage) → IsLinked stage → IsUnended stage
 linked_unended Unlinked linked = tt
@@ -158,14 +186,16 @@ linked_unended Packets linked = tt
 linked_unended (Ended ending) linked = absurd linked
 
 -- By a turn that no device failed in, the client goes on, stands at an end, or is to have another link.
-stands_stopped : (ending : Ending) (old new : Listening) → new.talk.stage ≡ Ended ending → StandsBy (end_by (Ok (turn_of ending))) old new
+stands_stopped : (ending : Ending) (old new : Listening) → new.talk.stage ≡ Ended ending
+    → StandsBy (end_by (Ok (turn_of ending))) old new
 stands_stopped endings.End old new at = at
 stands_stopped (endings.Refused k) old new at = (k, at)
 stands_stopped (endings.Gap k want got) old new at = (endings.Gap k want got, at, tt)
 stands_stopped endings.Garbage old new at = (endings.Garbage, at, tt)
 stands_stopped endings.Foreign old new at = (endings.Foreign, at, tt)
 
-stands_turn : (bytes : List ℕ) (stage : Stage) (old new : Listening) → new.talk.stage ≡ stage → ¬ (stage ≡ Unlinked) → (bytes ≡ [] → IsUnended new.talk.stage) → StandsBy (end_by (Ok (turn_after bytes stage))) old new
+stands_turn : (bytes : List ℕ) (stage : Stage) (old new : Listening) → new.talk.stage ≡ stage → ¬ (stage ≡ Unlinked)
+    → (bytes ≡ [] → IsUnended new.talk.stage) → StandsBy (end_by (Ok (turn_after bytes stage))) old new
 stands_turn [] stage old new at some unended = inl (unended refl)
 stands_turn (b ∷ bs) Unlinked old new at some unended = absurd (some refl)
 stands_turn (b ∷ bs) (Station k) old new at some unended = subst IsLinked (sym at) tt
@@ -184,7 +214,8 @@ never_goes (endings.Gap k want got) e = some_end BadFeed e
 never_goes endings.Garbage e = some_end BadFeed e
 never_goes endings.Foreign e = some_end BadFeed e
 
-goes_linked : (bytes : List ℕ) (stage : Stage) → ¬ (stage ≡ Unlinked) → end_by (Ok (turn_after bytes stage)) ≡ None → IsLinked stage
+goes_linked : (bytes : List ℕ) (stage : Stage) → ¬ (stage ≡ Unlinked) → end_by (Ok (turn_after bytes stage)) ≡ None
+    → IsLinked stage
 goes_linked [] stage some e = absurd (some_end LinkFailed e)
 goes_linked (b ∷ bs) Unlinked some e = absurd (some refl)
 goes_linked (b ∷ bs) (Station k) some e = tt
@@ -192,18 +223,23 @@ goes_linked (b ∷ bs) (Number k) some e = tt
 goes_linked (b ∷ bs) Packets some e = tt
 goes_linked (b ∷ bs) (Ended ending) some e = absurd (never_goes ending e)
 
-front_taken : (end : Option FetchEnd) (before after : Heard) (bytes taken : List ℕ) → after.bytes ≡ before.bytes ++ bytes → IsFrontOf taken bytes → (end ≡ None → taken ≡ bytes) → AreTaken end taken before after
+front_taken : (end : Option FetchEnd) (before after : Heard) (bytes taken : List ℕ)
+    → after.bytes ≡ before.bytes ++ bytes → IsFrontOf taken bytes → (end ≡ None → taken ≡ bytes)
+    → AreTaken end taken before after
 front_taken end before after bytes taken heard front whole = record {
   front = (front.0, heard ∙ (ap (λ xs. before.bytes ++ xs) front.1 ∙ sym (append_assoc before.bytes taken front.0)));
   whole = λ goes. heard ∙ ap (λ xs. before.bytes ++ xs) (sym (whole goes));
 }
 
 none_taken : (end : Option FetchEnd) (before after : Heard) → after.bytes ≡ before.bytes → AreTaken end [] before after
-none_taken end before after same = front_taken end before after [] [] (same ∙ sym (append-nil before.bytes)) ([], refl) (λ goes. refl)
+none_taken end before after same = front_taken end before after [] [] (same ∙ sym (append-nil before.bytes)) ([], refl)
+    (λ goes. refl)
 
-taken_both : (end : Option FetchEnd) (a b c : Heard) (xs ys : List ℕ) → AreTaken None xs a b → AreTaken end ys b c → AreTaken end (xs ++ ys) a c
+taken_both : (end : Option FetchEnd) (a b c : Heard) (xs ys : List ℕ) → AreTaken None xs a b → AreTaken end ys b c
+    → AreTaken end (xs ++ ys) a c
 taken_both end a b c xs ys p q =
-    let joined : (zs : List ℕ) → (b.bytes ++ ys) ++ zs ≡ (a.bytes ++ (xs ++ ys)) ++ zs = λ zs. ap (λ ws. ws ++ zs) (ap (λ ws. ws ++ ys) (p.whole refl) ∙ append_assoc a.bytes xs ys) in record {
+    let joined : (zs : List ℕ) → (b.bytes ++ ys) ++ zs ≡ (a.bytes ++ (xs ++ ys)) ++ zs =
+        λ zs. ap (λ ws. ws ++ zs) (ap (λ ws. ws ++ ys) (p.whole refl) ∙ append_assoc a.bytes xs ys) in record {
       front = (q.front.0, q.front.1 ∙ joined q.front.0);
       whole = λ goes. q.whole goes ∙ (ap (λ ws. ws ++ ys) (p.whole refl) ∙ append_assoc a.bytes xs ys);
     }
@@ -223,29 +259,39 @@ fine_turn (b ∷ bs) (Number k) = refl
 fine_turn (b ∷ bs) Packets = refl
 fine_turn (b ∷ bs) (Ended ending) = fine_stopped ending
 
-unended_none : (old new : Listening) (bytes taken : List ℕ) (told : List Event) → IsReading old → IsUnended old.talk.stage → ReadsOn old taken told new → IsFrontOf taken bytes → bytes ≡ [] → IsUnended new.talk.stage
+unended_none : (old new : Listening) (bytes taken : List ℕ) (told : List Event) → IsReading old
+    → IsUnended old.talk.stage → ReadsOn old taken told new → IsFrontOf taken bytes → bytes ≡ []
+    → IsUnended new.talk.stage
 unended_none old new bytes taken told reading unended on front none =
     let nothing : taken ≡ [] = no_front taken bytes front none in
-    subst (λ (now : Listening). IsUnended now.talk.stage) (sym (same_by_none old new told reading (subst (λ xs. ReadsOn old xs told new) nothing on))) unended
+    subst (λ (now : Listening). IsUnended now.talk.stage)
+        (sym (same_by_none old new told reading (subst (λ xs. ReadsOn old xs told new) nothing on))) unended
 
-turned_ok : (turn : Turn) (old new : Listening) (s0 s1 w0 w1 : Said) (h0 h1 : Heard) → Fetches (fetching old s0 w0) (fetching new s1 w1) h0 h1 turn → IsReading old → IsLinked old.talk.stage
+turned_ok : (turn : Turn) (old new : Listening) (s0 s1 w0 w1 : Said) (h0 h1 : Heard)
+    → Fetches (fetching old s0 w0) (fetching new s1 w1) h0 h1 turn → IsReading old → IsLinked old.talk.stage
     → HasTurned (end_by (Ok turn)) old new h0 h1 w0 w1
 turned_ok turn old new s0 s1 w0 w1 h0 h1 f reading linked =
     let d : Delivers (fetching old s0 w0) (fetching new s1 w1) f.bytes = f.delivers in
     let took : Took w0 w1 (bytes_in (records_told d.told)) = subst (Took w0 w1) (told_bytes d.told) d.output in
     let some : ¬ (new.talk.stage ≡ Unlinked) = d.linked linked in
-    let by : end_by (Ok turn) ≡ end_by (Ok (turn_after f.bytes new.talk.stage)) = ap (λ t. end_by (Ok t)) f.turn_is in record {
+    let by : end_by (Ok turn) ≡ end_by (Ok (turn_after f.bytes new.talk.stage)) = ap (λ t. end_by (Ok t)) f.turn_is in
+        record {
       bytes = d.takes.taken;
-      taken = front_taken (end_by (Ok turn)) h0 h1 f.bytes d.takes.taken (ap (λ (h : Heard). h.bytes) f.heard) d.takes.front (λ goes. d.whole (goes_linked f.bytes new.talk.stage some (sym by ∙ goes)));
+      taken = front_taken (end_by (Ok turn)) h0 h1 f.bytes d.takes.taken (ap (λ (h : Heard). h.bytes) f.heard)
+          d.takes.front (λ goes. d.whole (goes_linked f.bytes new.talk.stage some (sym by ∙ goes)));
       told = d.told;
       reads = d.takes.reads;
       took = all took;
       stands = subst (λ end. StandsBy end old new) (sym by)
-          (stands_turn f.bytes new.talk.stage old new refl some (unended_none old new f.bytes d.takes.taken d.told reading (linked_unended old.talk.stage linked) d.takes.reads d.takes.front));
-      failures = took.failures ∙ let none : failures_by (end_by (Ok turn)) ≡ 0 = ap failures_by by ∙ fine_turn f.bytes new.talk.stage in omega (arith, none);
+          (stands_turn f.bytes new.talk.stage old new refl some
+              (unended_none old new f.bytes d.takes.taken d.told reading (linked_unended old.talk.stage linked)
+              d.takes.reads d.takes.front));
+      failures = took.failures ∙ let none : failures_by (end_by (Ok turn)) ≡ 0 =
+          ap failures_by by ∙ fine_turn f.bytes new.talk.stage in omega (arith, none);
     }
 
-turned_err : (fault : LinkFault) (old new : Listening) (s0 s1 w0 w1 : Said) (h0 h1 : Heard) → IsFetchFault fault (fetching old s0 w0) (fetching new s1 w1) h0 h1 → IsReading old → IsLinked old.talk.stage
+turned_err : (fault : LinkFault) (old new : Listening) (s0 s1 w0 w1 : Said) (h0 h1 : Heard)
+    → IsFetchFault fault (fetching old s0 w0) (fetching new s1 w1) h0 h1 → IsReading old → IsLinked old.talk.stage
     → HasTurned (end_by (Err fault)) old new h0 h1 w0 w1
 turned_err faults.Read old new s0 s1 w0 w1 h0 h1 f reading linked =
     let client : new ≡ old = ap (λ x. x.client) f.0 in
@@ -255,14 +301,16 @@ turned_err faults.Read old new s0 s1 w0 w1 h0 h1 f reading linked =
       told = [];
       reads = subst (ReadsOn old [] []) (sym client) (on_none old);
       took = subst (TakesRecords [] w0) (sym output) (takes_none w0);
-      stands = inl (subst (λ (now : Listening). IsUnended now.talk.stage) (sym client) (linked_unended old.talk.stage linked));
+      stands = inl (subst (λ (now : Listening). IsUnended now.talk.stage) (sym client)
+          (linked_unended old.talk.stage linked));
       failures = ap (λ (w : Said). w.failures) output ∙ omega arith;
     }
 turned_err (faults.Write n) old new s0 s1 w0 w1 h0 h1 f reading linked =
     let x : FailsToSay (fetching old s0 w0) (fetching new s1 w1) f.bytes n = f.fails in
     let took : Took w0 w1 (bytes_in (records_told x.told)) = subst (Took w0 w1) (told_bytes x.told) x.output in record {
       bytes = x.takes.taken;
-      taken = front_taken (Some LinkFailed) h0 h1 f.bytes x.takes.taken (ap (λ (h : Heard). h.bytes) f.heard) x.takes.front (λ goes. absurd (some_end LinkFailed goes));
+      taken = front_taken (Some LinkFailed) h0 h1 f.bytes x.takes.taken (ap (λ (h : Heard). h.bytes) f.heard)
+          x.takes.front (λ goes. absurd (some_end LinkFailed goes));
       told = x.told ++ x.last ∷ [];
       reads = x.takes.reads;
       took = subst (λ rs. TakesRecords rs w0 w1) (sym (unsaid_none x.told x.last n x.said.part x.behind)) (all took);
@@ -272,7 +320,8 @@ turned_err (faults.Write n) old new s0 s1 w0 w1 h0 h1 f reading linked =
 turned_err (faults.Output n) old new s0 s1 w0 w1 h0 h1 f reading linked =
     let x : FailsToWrite (fetching old s0 w0) (fetching new s1 w1) f.bytes n = f.fails in record {
       bytes = x.takes.taken;
-      taken = front_taken (Some WriteFailed) h0 h1 f.bytes x.takes.taken (ap (λ (h : Heard). h.bytes) f.heard) x.takes.front (λ goes. absurd (some_end WriteFailed goes));
+      taken = front_taken (Some WriteFailed) h0 h1 f.bytes x.takes.taken (ap (λ (h : Heard). h.bytes) f.heard)
+          x.takes.front (λ goes. absurd (some_end WriteFailed goes));
       told = x.told ++ x.last ∷ [];
       reads = x.takes.reads;
       took = unwritten x.told x.last n w0 w1 x.output x.behind;
@@ -281,13 +330,18 @@ turned_err (faults.Output n) old new s0 s1 w0 w1 h0 h1 f reading linked =
     }
 
 -- what one turn comes to
-pub turned : (r : Result Turn LinkFault) (old new : Listening) (s0 s1 w0 w1 : Said) (h0 h1 : Heard) → IfOk r (λ turn. Fetches (fetching old s0 w0) (fetching new s1 w1) h0 h1 turn)
-    → IfErr r (λ fault. IsFetchFault fault (fetching old s0 w0) (fetching new s1 w1) h0 h1) → IsReading old → IsLinked old.talk.stage → HasTurned (end_by r) old new h0 h1 w0 w1
-turned (Ok turn) old new s0 s1 w0 w1 h0 h1 ok fault reading linked = turned_ok turn old new s0 s1 w0 w1 h0 h1 ok reading linked
-turned (Err e) old new s0 s1 w0 w1 h0 h1 ok fault reading linked = turned_err e old new s0 s1 w0 w1 h0 h1 fault reading linked
+pub turned : (r : Result Turn LinkFault) (old new : Listening) (s0 s1 w0 w1 : Said) (h0 h1 : Heard)
+    → IfOk r (λ turn. Fetches (fetching old s0 w0) (fetching new s1 w1) h0 h1 turn)
+    → IfErr r (λ fault. IsFetchFault fault (fetching old s0 w0) (fetching new s1 w1) h0 h1) → IsReading old
+    → IsLinked old.talk.stage → HasTurned (end_by r) old new h0 h1 w0 w1
+turned (Ok turn) old new s0 s1 w0 w1 h0 h1 ok fault reading linked =
+    turned_ok turn old new s0 s1 w0 w1 h0 h1 ok reading linked
+turned (Err e) old new s0 s1 w0 w1 h0 h1 ok fault reading linked =
+    turned_err e old new s0 s1 w0 w1 h0 h1 fault reading linked
 
 -- no turn yet
-pub turned_none : (now : Listening) (heard : Heard) (said : Said) → IsLinked now.talk.stage → HasTurned None now now heard heard said said
+pub turned_none : (now : Listening) (heard : Heard) (said : Said) → IsLinked now.talk.stage
+    → HasTurned None now now heard heard said said
 turned_none now heard said linked = record {
   bytes = [];
   taken = none_taken None heard heard refl;
@@ -305,23 +359,29 @@ stands_on (Some Refused) a b c linked stands = stands
 stands_on (Some BadFeed) a b c linked stands = stands
 stands_on (Some WriteFailed) a b c linked stands = stands
 stands_on (Some LinkFailed) a b c linked stands =
-    elim stands [ inl now ↦ inl now | inr same ↦ inl (subst (λ (now : Listening). IsUnended now.talk.stage) (sym same) (linked_unended b.talk.stage linked)) ]
+    elim stands [ inl now ↦ inl now
+        | inr same ↦ inl (subst (λ (now : Listening). IsUnended now.talk.stage) (sym same)
+        (linked_unended b.talk.stage linked)) ]
 
 -- one turn after another
-pub turned_both : (end : Option FetchEnd) (a b c : Listening) (h i j : Heard) (s t u : Said) → HasTurned None a b h i s t → HasTurned end b c i j t u → HasTurned end a c h j s u
+pub turned_both : (end : Option FetchEnd) (a b c : Listening) (h i j : Heard) (s t u : Said)
+    → HasTurned None a b h i s t → HasTurned end b c i j t u → HasTurned end a c h j s u
 turned_both end a b c h i j s t u p q =
-    let took : Took s t (bytes_in (records_told p.told)) = all_taken (records_told p.told) s t p.took (p.failures ∙ omega arith) in record {
+    let took : Took s t (bytes_in (records_told p.told)) =
+        all_taken (records_told p.told) s t p.took (p.failures ∙ omega arith) in record {
       bytes = p.bytes ++ q.bytes;
       taken = taken_both end h i j p.bytes q.bytes p.taken q.taken;
       told = p.told ++ q.told;
       reads = on_both a b c p.bytes q.bytes p.told q.told p.reads q.reads;
-      took = subst (λ rs. TakesRecords rs s u) (sym (records_both p.told q.told)) (takes_both s t u (records_told p.told) (records_told q.told) took q.took);
+      took = subst (λ rs. TakesRecords rs s u) (sym (records_both p.told q.told))
+          (takes_both s t u (records_told p.told) (records_told q.told) took q.took);
       stands = stands_on end a b c p.stands q.stands;
       failures = omega (arith, p.failures, q.failures);
     }
 
 -- as many turns as there may be
-pub turned_out : (a b : Listening) (h i : Heard) (s t : Said) → HasTurned None a b h i s t → HasTurned (Some LinkFailed) a b h i s t
+pub turned_out : (a b : Listening) (h i : Heard) (s t : Said) → HasTurned None a b h i s t
+    → HasTurned (Some LinkFailed) a b h i s t
 turned_out a b h i s t p = record {
   bytes = p.bytes;
   taken = record { front = p.taken.front; whole = λ goes. absurd (some_end LinkFailed goes) };
@@ -332,7 +392,8 @@ turned_out a b h i s t p = record {
   failures = p.failures;
 }
 
-pub turned_reading : (end : Option FetchEnd) (a b : Listening) (h i : Heard) (s t : Said) → IsReading a → HasTurned end a b h i s t → IsReading b
+pub turned_reading : (end : Option FetchEnd) (a b : Listening) (h i : Heard) (s t : Said) → IsReading a
+    → HasTurned end a b h i s t → IsReading b
 turned_reading end a b h i s t reading p = reading_on a b p.bytes p.told reading p.reads
 
 -- A new link changes nothing of what is wanted.
@@ -341,30 +402,39 @@ said_linked t None = tt
 said_linked t (Some w) = tt
 
 pub connected_linked : (old : Talk) (new : Talk) (event : Event) → says_place 0 old ≡ (new, event) → IsLinked new.stage
-connected_linked old new event says = subst (λ (t : Talk). IsLinked t.stage) (ap (λ p. p.0) says) (said_linked old (want_at old.wants 0))
+connected_linked old new event says =
+    subst (λ (t : Talk). IsLinked t.stage) (ap (λ p. p.0) says) (said_linked old (want_at old.wants 0))
 
 connected_unended : (old : Talk) (new : Talk) (event : Event) → says_place 0 old ≡ (new, event) → IsUnended new.stage
 connected_unended old new event says = linked_unended new.stage (connected_linked old new event says)
 
-pub connected_wants : (old : Talk) (new : Talk) (event : Event) → says_place 0 old ≡ (new, event) → new.wants ≡ old.wants
+pub connected_wants : (old : Talk) (new : Talk) (event : Event) → says_place 0 old ≡ (new, event)
+    → new.wants ≡ old.wants
 connected_wants old new event says = ap (λ p. p.0.wants) (sym says) ∙ wants_said old (want_at old.wants 0)
 
 moved_by : (old new : Wants) (records : List Numbered) → HasTold old new records → HaveMoved old new records
 moved_by old new records told k n short at = told_far old new records k n told short at
 
-stands_linked : (end : FetchEnd) (old now new : Listening) → IsUnended now.talk.stage → StandsAt end now new → StandsAt end old new
+stands_linked : (end : FetchEnd) (old now new : Listening) → IsUnended now.talk.stage → StandsAt end now new
+    → StandsAt end old new
 stands_linked Done old now new unended stands = stands
 stands_linked Refused old now new unended stands = stands
 stands_linked BadFeed old now new unended stands = stands
 stands_linked WriteFailed old now new unended stands = stands
-stands_linked LinkFailed old now new unended stands = elim stands [ inl there ↦ inl there | inr same ↦ inl (subst (λ (x : Listening). IsUnended x.talk.stage) (sym same) unended) ]
+stands_linked LinkFailed old now new unended stands =
+    elim stands [ inl there ↦ inl there
+    | inr same ↦ inl (subst (λ (x : Listening). IsUnended x.talk.stage) (sym same) unended) ]
 
 -- a link, from its first byte on
-pub fetched_link : (end : FetchEnd) (old now new : Listening) (event : Event) (h i : Heard) (s t : Said) → says_place 0 old.talk ≡ (now.talk, event) → Reads now.talk [] [] now → HasTurned (Some end) now new h i s t → HasFetched end old new s t
+pub fetched_link : (end : FetchEnd) (old now new : Listening) (event : Event) (h i : Heard) (s t : Said)
+    → says_place 0 old.talk ≡ (now.talk, event) → Reads now.talk [] [] now → HasTurned (Some end) now new h i s t
+    → HasFetched end old new s t
 fetched_link end old now new event h i s t says reads p =
-    let linked : HasTold now.talk.wants new.talk.wants (records_told p.told) = told_link now.talk p.bytes p.told new (p.reads now.talk [] [] reads) in
+    let linked : HasTold now.talk.wants new.talk.wants (records_told p.told) =
+        told_link now.talk p.bytes p.told new (p.reads now.talk [] [] reads) in
     let told : HasTold old.talk.wants new.talk.wants (records_told p.told) =
-    subst (λ ws. HasTold ws new.talk.wants (records_told p.told)) (connected_wants old.talk now.talk event says) linked in record {
+    subst (λ ws. HasTold ws new.talk.wants (records_told p.told)) (connected_wants old.talk now.talk event says)
+        linked in record {
       records = records_told p.told;
       told = told;
       moved = moved_by old.talk.wants new.talk.wants (records_told p.told) told;
@@ -373,7 +443,9 @@ fetched_link end old now new event h i s t says reads p =
       failures = p.failures;
     }
 
-pub read_link : (end : FetchEnd) (old now new : Listening) (event : Event) (h i : Heard) (s t : Said) → says_place 0 old.talk ≡ (now.talk, event) → Reads now.talk [] [] now → HasTurned (Some end) now new h i s t → HasReadLink old new h i s t
+pub read_link : (end : FetchEnd) (old now new : Listening) (event : Event) (h i : Heard) (s t : Said)
+    → says_place 0 old.talk ≡ (now.talk, event) → Reads now.talk [] [] now → HasTurned (Some end) now new h i s t
+    → HasReadLink old new h i s t
 read_link end old now new event h i s t says reads p = record {
   begun = now;
   line = event;
@@ -407,10 +479,12 @@ stands_behind LinkFailed a b c before stands = elim stands [
 ]
 
 -- one link after another
-pub fetched_both : (end : FetchEnd) (a b c : Listening) (s t u : Said) → HasFetched LinkFailed a b s t → HasFetched end b c t u → HasFetched end a c s u
+pub fetched_both : (end : FetchEnd) (a b c : Listening) (s t u : Said) → HasFetched LinkFailed a b s t
+    → HasFetched end b c t u → HasFetched end a c s u
 fetched_both end a b c s t u p q =
     let took : Took s t (bytes_in p.records) = all_taken p.records s t p.took (p.failures ∙ omega arith) in
-    let told : HasTold a.talk.wants c.talk.wants (p.records ++ q.records) = told_both a.talk.wants b.talk.wants c.talk.wants p.records q.records p.told q.told in record {
+    let told : HasTold a.talk.wants c.talk.wants (p.records ++ q.records) =
+        told_both a.talk.wants b.talk.wants c.talk.wants p.records q.records p.told q.told in record {
       records = p.records ++ q.records;
       told = told;
       moved = moved_by a.talk.wants c.talk.wants (p.records ++ q.records) told;
@@ -420,16 +494,21 @@ fetched_both end a b c s t u p q =
     }
 
 -- no link given back yet
-pub reads_none : (now : Listening) (links : List Exchange) (said : Said) → HasReadEach LinkFailed now now links links said said
+pub reads_none : (now : Listening) (links : List Exchange) (said : Said)
+    → HasReadEach LinkFailed now now links links said said
 reads_none now links said = record { links = []; given_back = sym (append-nil links); read = over_none now said }
 
-links_both : (end : FetchEnd) (a b c : Listening) (some others : List Exchange) (s t u : Said) → HasReadLinks LinkFailed a b some s t → HasReadLinks end b c others t u → HasReadLinks end a c (some ++ others) s u
+links_both : (end : FetchEnd) (a b c : Listening) (some others : List Exchange) (s t u : Said)
+    → HasReadLinks LinkFailed a b some s t → HasReadLinks end b c others t u → HasReadLinks end a c (some ++ others) s u
 links_both end _ _ c _ others _ _ u (over_none now said) q = q
-links_both end _ _ c _ others _ _ u (over_one_more _ a now b link links s r t p ps) q = over_one_more end a now c link (links ++ others) s r u p (links_both end now b c links others r t u ps q)
+links_both end _ _ c _ others _ _ u (over_one_more _ a now b link links s r t p ps) q =
+    over_one_more end a now c link (links ++ others) s r u p (links_both end now b c links others r t u ps q)
 links_both end _ _ c _ others _ _ u (over_the_last _ a b link s t p) q = over_one_more end a b c link others s t u p q
 
 -- some and then others
-pub reads_both : (end : FetchEnd) (a b c : Listening) (before now after : List Exchange) (s t u : Said) → HasReadEach LinkFailed a b before now s t → HasReadEach end b c now after t u → HasReadEach end a c before after s u
+pub reads_both : (end : FetchEnd) (a b c : Listening) (before now after : List Exchange) (s t u : Said)
+    → HasReadEach LinkFailed a b before now s t → HasReadEach end b c now after t u
+    → HasReadEach end a c before after s u
 reads_both end a b c before now after s t u p q = record {
   links = p.links ++ q.links;
   given_back = q.given_back ∙ (ap (λ xs. xs ++ q.links) p.given_back ∙ append_assoc before p.links q.links);

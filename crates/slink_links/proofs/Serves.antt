@@ -1,21 +1,25 @@
 -- Turns of a session with its link, one after another.
 use Rattle.std.specs.Prelude.{⊤}
-use Rattle.std.proofs.Common.{◌≡◌, ◌⊎◌, inl, inr, ℕ, ◌+◌, ◌<◌, ◌^◌, Bool, true, false, nat_lt, not, if◌then◌else◌, List, ◌++◌, append_assoc, Result, Ok, Err, refl, sym, ap, subst, ◌∙◌, arith}
+use Rattle.std.proofs.Common.{◌≡◌, ◌⊎◌, inl, inr, ℕ, ◌+◌, ◌<◌, ◌^◌, Bool, true, false, nat_lt, not, if◌then◌else◌, List,
+    ◌++◌, append_assoc, Result, Ok, Err, refl, sym, ap, subst, ◌∙◌, arith}
 use Rattle.std.proofs.lemmas.List.Elements.{All-append}
 use Rattle.std.specs.Result.{IsErrAnd, is_ok}
 use Rattle.mseed_stream.specs.Device.{Heard, Said, nothing_heard, nothing_said}
 use Rattle.mseed_stream.specs.Exchanges.{Exchange}
-use Rattle.slink_feed.specs.Attending.{Attends, IsServeFault, attending, is_closed, is_at_end, replies, at_send, at_read, at_reply}
+use Rattle.slink_feed.specs.Attending.{Attends, IsServeFault, attending, is_closed, is_at_end, replies, at_send,
+    at_read, at_reply}
 use Rattle.slink_feed.specs.Rounds.{Attending}
 use Rattle.slink_feed.specs.Serving.{Standing}
 use Rattle.slink_feed.specs.Window.{Window}
 use Rattle.slink_feed.specs.declared.dialogue.Event.{Event}
 use Rattle.slink_feed.specs.declared.turn.LinkFault.{LinkFault}
 use Rattle.slink_feed.specs.declared.turn.Turn.{Turn}
-use Rattle.slink_links.specs.Served.{HasServedEach, HasTakenAll, HasTakenTurns, IsFresh, IsServed, WasServed, has_failed, none, more, to_the_end, for_long, to_a_fault}
+use Rattle.slink_links.specs.Served.{HasServedEach, HasTakenAll, HasTakenTurns, IsFresh, IsServed, WasServed,
+    has_failed, none, more, to_the_end, for_long, to_a_fault}
 
 -- a session of its own has taken so many turns
-pub record IsServing (feed : List Window) (n : ℕ) (heard_old heard_now : Heard) (said_old said_now : Said) (now : Standing) : Type 0 where
+pub record IsServing (feed : List Window) (n : ℕ) (heard_old heard_now : Heard) (said_old said_now : Said)
+    (now : Standing) : Type 0 where
   pub first : Standing
   pub fresh : IsFresh first
   pub taken : HasTakenTurns feed (attending first said_old) heard_old n (attending now said_now) heard_now
@@ -24,50 +28,71 @@ pub record IsServing (feed : List Window) (n : ℕ) (heard_old heard_now : Heard
 abbrev failures_of : Heard → Said → ℕ
 failures_of heard said = heard.failures + said.failures
 
-turn_fine : (feed : List Window) (old new : Attending) (before after : Heard) (turn : Turn) → Attends feed old new before after turn → failures_of after new.said ≡ failures_of before old.said
-turn_fine feed old new before after _ (is_closed sends closed same) = omega (arith, sends.said.failures, ap (λ (h : Heard). h.failures) same)
-turn_fine feed old new before after _ (is_at_end goes told) = omega (arith, goes.sends.said.failures, ap (λ (h : Heard). h.failures) told)
-turn_fine feed old new before after _ (replies now bytes goes told some few answered) = omega (arith, goes.sends.said.failures, answered.failures, ap (λ (h : Heard). h.failures) told)
+turn_fine : (feed : List Window) (old new : Attending) (before after : Heard) (turn : Turn)
+    → Attends feed old new before after turn → failures_of after new.said ≡ failures_of before old.said
+turn_fine feed old new before after _ (is_closed sends closed same) =
+    omega (arith, sends.said.failures, ap (λ (h : Heard). h.failures) same)
+turn_fine feed old new before after _ (is_at_end goes told) =
+    omega (arith, goes.sends.said.failures, ap (λ (h : Heard). h.failures) told)
+turn_fine feed old new before after _ (replies now bytes goes told some few answered) =
+    omega (arith, goes.sends.said.failures, answered.failures, ap (λ (h : Heard). h.failures) told)
 
-fault_counted : (feed : List Window) (old new : Attending) (before after : Heard) (fault : LinkFault) → IsServeFault feed old new before after fault → failures_of after new.said ≡ failures_of before old.said + 1
-fault_counted feed old new before after _ (at_send count fails same) = omega (arith, fails.said.failures, ap (λ (h : Heard). h.failures) same)
-fault_counted feed old new before after _ (at_read goes failed) = omega (arith, goes.sends.said.failures, ap (λ (h : Heard). h.failures) failed)
+fault_counted : (feed : List Window) (old new : Attending) (before after : Heard) (fault : LinkFault)
+    → IsServeFault feed old new before after fault → failures_of after new.said ≡ failures_of before old.said + 1
+fault_counted feed old new before after _ (at_send count fails same) =
+    omega (arith, fails.said.failures, ap (λ (h : Heard). h.failures) same)
+fault_counted feed old new before after _ (at_read goes failed) =
+    omega (arith, goes.sends.said.failures, ap (λ (h : Heard). h.failures) failed)
 fault_counted feed old new before after _ (at_reply count now bytes goes told few fails size) =
-    omega (arith, goes.sends.said.failures, fails.replies.failures, fails.said.failures, ap (λ (h : Heard). h.failures) told)
+    omega (arith, goes.sends.said.failures, fails.replies.failures, fails.said.failures,
+        ap (λ (h : Heard). h.failures) told)
 
-turns_fine : (feed : List Window) (first : Attending) (before : Heard) (n : ℕ) (now : Attending) (mid : Heard) → HasTakenTurns feed first before n now mid → failures_of mid now.said ≡ failures_of before first.said
+turns_fine : (feed : List Window) (first : Attending) (before : Heard) (n : ℕ) (now : Attending) (mid : Heard)
+    → HasTakenTurns feed first before n now mid → failures_of mid now.said ≡ failures_of before first.said
 turns_fine feed first before _ _ _ none = refl
-turns_fine feed first before _ _ _ (more n now new mid after taken turn) = turn_fine feed now new mid after _ turn ∙ turns_fine feed first before n now mid taken
+turns_fine feed first before _ _ _ (more n now new mid after taken turn) = turn_fine feed now new mid after _ turn
+    ∙ turns_fine feed first before n now mid taken
 
 -- whether a call failed, by the result
 abbrev pub is_fault : Result ⊤ LinkFault → Bool
 is_fault result = not (is_ok result)
 
-served_failures : (feed : List Window) (first last : Attending) (before after : Heard) (result : Result ⊤ LinkFault) → HasTakenAll feed first before result last after
+served_failures : (feed : List Window) (first last : Attending) (before after : Heard) (result : Result ⊤ LinkFault)
+    → HasTakenAll feed first before result last after
     → failures_of after last.said ≡ failures_of before first.said + (if is_fault result then 1 else 0)
-served_failures feed first _ before _ _ (to_the_end u n now last mid after few taken turn) = omega (arith, turn_fine feed now last mid after _ turn, turns_fine feed first before n now mid taken)
-served_failures feed first _ before _ _ (for_long u last after taken) = omega (arith, turns_fine feed first before (2 ^ 40) last after taken)
-served_failures feed first _ before _ _ (to_a_fault fault n now last mid after few taken turn) = omega (arith, fault_counted feed now last mid after fault turn, turns_fine feed first before n now mid taken)
+served_failures feed first _ before _ _ (to_the_end u n now last mid after few taken turn) =
+    omega (arith, turn_fine feed now last mid after _ turn, turns_fine feed first before n now mid taken)
+served_failures feed first _ before _ _ (for_long u last after taken) =
+    omega (arith, turns_fine feed first before (2 ^ 40) last after taken)
+served_failures feed first _ before _ _ (to_a_fault fault n now last mid after few taken turn) =
+    omega (arith, fault_counted feed now last mid after fault turn, turns_fine feed first before n now mid taken)
 
-failed_by : (result : Result ⊤ LinkFault) (n : ℕ) → n ≡ (if is_fault result then 1 else 0) → is_fault result ≡ nat_lt 0 n
+failed_by : (result : Result ⊤ LinkFault) (n : ℕ) → n ≡ (if is_fault result then 1 else 0)
+    → is_fault result ≡ nat_lt 0 n
 failed_by (Ok u) n e = ap (nat_lt 0) (sym e)
 failed_by (Err fault) n e = ap (nat_lt 0) (sym e)
 
 -- of a new link a call has failed exactly where the result is a fault
-pub failed_exactly : (feed : List Window) (result : Result ⊤ LinkFault) (h h' : Heard) (s s' : Said) → h ≡ nothing_heard → s ≡ nothing_said → IsServed feed result h h' s s' → is_fault result ≡ has_failed h' s'
+pub failed_exactly : (feed : List Window) (result : Result ⊤ LinkFault) (h h' : Heard) (s s' : Said)
+    → h ≡ nothing_heard → s ≡ nothing_said → IsServed feed result h h' s s' → is_fault result ≡ has_failed h' s'
 failed_exactly feed result h h' s s' unheard unsaid is =
     failed_by result (failures_of h' s')
-    (omega (arith, served_failures feed (attending is.first s) (attending is.last s') h h' result is.turns, ap (λ (x : Heard). x.failures) unheard, ap (λ (x : Said). x.failures) unsaid))
+    (omega (arith, served_failures feed (attending is.first s) (attending is.last s') h h' result is.turns,
+        ap (λ (x : Heard). x.failures) unheard, ap (λ (x : Said). x.failures) unsaid))
 
-pub serving_none : (feed : List Window) (h : Heard) (s : Said) (first : Standing) → IsFresh first → IsServing feed 0 h h s s first
+pub serving_none : (feed : List Window) (h : Heard) (s : Said) (first : Standing) → IsFresh first
+    → IsServing feed 0 h h s s first
 serving_none feed h s first fresh = record { first = first; fresh = fresh; taken = none }
 
-pub serving_more : (feed : List Window) (n : ℕ) (h0 h1 h2 : Heard) (s0 s1 s2 : Said) (now new : Standing) → IsServing feed n h0 h1 s0 s1 now
-    → (turn : Turn) → Attends feed (attending now s1) (attending new s2) h1 h2 turn → turn ≡ Turn.Goes → IsServing feed (n + 1) h0 h2 s0 s2 new
+pub serving_more : (feed : List Window) (n : ℕ) (h0 h1 h2 : Heard) (s0 s1 s2 : Said) (now new : Standing)
+    → IsServing feed n h0 h1 s0 s1 now
+    → (turn : Turn) → Attends feed (attending now s1) (attending new s2) h1 h2 turn → turn ≡ Turn.Goes
+    → IsServing feed (n + 1) h0 h2 s0 s2 new
 serving_more feed n h0 h1 h2 s0 s1 s2 now new p turn a goes = record {
   first = p.first;
   fresh = p.fresh;
-  taken = more n (attending now s1) (attending new s2) h1 h2 p.taken (subst (Attends feed (attending now s1) (attending new s2) h1 h2) goes a);
+  taken = more n (attending now s1) (attending new s2) h1 h2 p.taken
+      (subst (Attends feed (attending now s1) (attending new s2) h1 h2) goes a);
 }
 
 -- a turn by which a link ends
@@ -79,30 +104,36 @@ goes_ends (inl e) = cc
 goes_ends (inr (inl e)) = cc
 goes_ends (inr (inr (event, e))) = cc
 
-closes : (feed : List Window) (old new : Attending) (before after : Heard) (turn : Turn) → Attends feed old new before after turn → Ends turn → turn ≡ Turn.Closed
+closes : (feed : List Window) (old new : Attending) (before after : Heard) (turn : Turn)
+    → Attends feed old new before after turn → Ends turn → turn ≡ Turn.Closed
 closes feed old new before after _ (is_closed sends closed same) ends = refl
 closes feed old new before after _ (is_at_end goes told) ends = refl
 closes feed old new before after _ (replies now bytes goes told some few answered) ends = absurd (goes_ends ends)
 
-pub served_end : (feed : List Window) (n : ℕ) (h0 h1 h2 : Heard) (s0 s1 s2 : Said) (now last : Standing) (turn : Turn) → n < 2 ^ 40 → IsServing feed n h0 h1 s0 s1 now
+pub served_end : (feed : List Window) (n : ℕ) (h0 h1 h2 : Heard) (s0 s1 s2 : Said) (now last : Standing) (turn : Turn)
+    → n < 2 ^ 40 → IsServing feed n h0 h1 s0 s1 now
     → Attends feed (attending now s1) (attending last s2) h1 h2 turn → Ends turn → IsServed feed (Ok tt) h0 h2 s0 s2
 served_end feed n h0 h1 h2 s0 s1 s2 now last turn few p a ends =
     let closed : turn ≡ Turn.Closed = closes feed (attending now s1) (attending last s2) h1 h2 turn a ends in record {
       first = p.first;
       fresh = p.fresh;
       last = last;
-      turns = to_the_end tt n (attending now s1) (attending last s2) h1 h2 few p.taken (subst (Attends feed (attending now s1) (attending last s2) h1 h2) closed a);
+      turns = to_the_end tt n (attending now s1) (attending last s2) h1 h2 few p.taken
+          (subst (Attends feed (attending now s1) (attending last s2) h1 h2) closed a);
     }
 
-pub served_for_long : (feed : List Window) (n : ℕ) (h0 h1 : Heard) (s0 s1 : Said) (now : Standing) → n ≡ 2 ^ 40 → IsServing feed n h0 h1 s0 s1 now → IsServed feed (Ok tt) h0 h1 s0 s1
+pub served_for_long : (feed : List Window) (n : ℕ) (h0 h1 : Heard) (s0 s1 : Said) (now : Standing) → n ≡ 2 ^ 40
+    → IsServing feed n h0 h1 s0 s1 now → IsServed feed (Ok tt) h0 h1 s0 s1
 served_for_long feed n h0 h1 s0 s1 now all p = record {
   first = p.first;
   fresh = p.fresh;
   last = now;
-  turns = for_long tt (attending now s1) h1 (subst (λ (k : ℕ). HasTakenTurns feed (attending p.first s0) h0 k (attending now s1) h1) all p.taken);
+  turns = for_long tt (attending now s1) h1
+      (subst (λ (k : ℕ). HasTakenTurns feed (attending p.first s0) h0 k (attending now s1) h1) all p.taken);
 }
 
-pub served_to_a_fault : (feed : List Window) (n : ℕ) (h0 h1 h2 : Heard) (s0 s1 s2 : Said) (now last : Standing) (fault : LinkFault) → n < 2 ^ 40 → IsServing feed n h0 h1 s0 s1 now
+pub served_to_a_fault : (feed : List Window) (n : ℕ) (h0 h1 h2 : Heard) (s0 s1 s2 : Said) (now last : Standing)
+    (fault : LinkFault) → n < 2 ^ 40 → IsServing feed n h0 h1 s0 s1 now
     → IsServeFault feed (attending now s1) (attending last s2) h1 h2 fault → IsServed feed (Err fault) h0 h2 s0 s2
 served_to_a_fault feed n h0 h1 h2 s0 s1 s2 now last fault few p a = record {
   first = p.first;
@@ -112,10 +143,12 @@ served_to_a_fault feed n h0 h1 h2 s0 s1 s2 now last fault few p a = record {
 }
 
 -- an error that is passed on
-pub served_by_err : (feed : List Window) (r : Result ⊤ LinkFault) (Q : LinkFault → Type 0) (fault : LinkFault) (h h' : Heard) (s s' : Said) → IsErrAnd r Q → ((e : LinkFault) → Q e → e ≡ fault)
+pub served_by_err : (feed : List Window) (r : Result ⊤ LinkFault) (Q : LinkFault → Type 0) (fault : LinkFault)
+    (h h' : Heard) (s s' : Said) → IsErrAnd r Q → ((e : LinkFault) → Q e → e ≡ fault)
     → IsServed feed (Err fault) h h' s s' → IsServed feed r h h' s s'
 served_by_err feed (Ok u) Q fault h h' s s' is q p = absurd is
-served_by_err feed (Err e) Q fault h h' s s' is q p = subst (λ (f : LinkFault). IsServed feed (Err f) h h' s s') (sym (q e is)) p
+served_by_err feed (Err e) Q fault h h' s s' is q p =
+    subst (λ (f : LinkFault). IsServed feed (Err f) h h' s s') (sym (q e is)) p
 
 -- how many were lost by it
 pub lost_by : (fine : Bool) → ◌≡◌ {A = ℕ} (if not fine then 1 else 0) (if fine then 0 else 1)
@@ -123,7 +156,8 @@ lost_by true = refl
 lost_by false = refl
 
 -- some and then others
-pub each_both : (feed : List Window) (a b c : List Exchange) → HasServedEach feed a b → HasServedEach feed b c → HasServedEach feed a c
+pub each_both : (feed : List Window) (a b c : List Exchange) → HasServedEach feed a b → HasServedEach feed b c
+    → HasServedEach feed a c
 each_both feed a b c p q = record {
   links = p.links ++ q.links;
   given_back = q.given_back ∙ (ap (λ xs. xs ++ q.links) p.given_back ∙ append_assoc a p.links q.links);
@@ -131,14 +165,17 @@ each_both feed a b c p q = record {
 }
 
 -- one more failed, whether one had failed before or not
-pub fails_more : (was result : Bool) (f0 f1 f2 l0 l1 l2 : ℕ) → (was ≡ true → (f1 ≡ f0) × (l1 ≡ l0)) → (was ≡ false → f0 + l0 < f1 + l1) → result ≡ false
+pub fails_more : (was result : Bool) (f0 f1 f2 l0 l1 l2 : ℕ) → (was ≡ true → (f1 ≡ f0) × (l1 ≡ l0))
+    → (was ≡ false → f0 + l0 < f1 + l1) → result ≡ false
     → f2 + l2 ≡ f1 + l1 + (if result then 0 else 1) → f0 + l0 < f2 + l2
 fails_more was true f0 f1 f2 l0 l1 l2 fine failed is e = absurd (let bad : true ≡ false = is in cc bad)
 fails_more true false f0 f1 f2 l0 l1 l2 fine failed is e = omega (arith, (fine refl).0, (fine refl).1, e)
 fails_more false false f0 f1 f2 l0 l1 l2 fine failed is e = omega (arith, failed refl, e)
 
 -- and where this one didn't fail
-pub fails_still : (was now result : Bool) (f0 f1 f2 l0 l1 l2 : ℕ) → (was ≡ true → (f1 ≡ f0) × (l1 ≡ l0)) → (was ≡ false → f0 + l0 < f1 + l1) → now ≡ was → result ≡ true
+pub fails_still : (was now result : Bool) (f0 f1 f2 l0 l1 l2 : ℕ) → (was ≡ true → (f1 ≡ f0) × (l1 ≡ l0))
+    → (was ≡ false → f0 + l0 < f1 + l1) → now ≡ was → result ≡ true
     → (result ≡ true → (f2 ≡ f1) × (l2 ≡ l1)) → (now ≡ true → (f2 ≡ f0) × (l2 ≡ l0)) × (now ≡ false → f0 + l0 < f2 + l2)
 fails_still was now result f0 f1 f2 l0 l1 l2 fine failed same is kept =
-    ((λ yes. ((kept is).0 ∙ (fine (sym same ∙ yes)).0, (kept is).1 ∙ (fine (sym same ∙ yes)).1)), (λ no. omega (arith, (kept is).0, (kept is).1, failed (sym same ∙ no))))
+    ((λ yes. ((kept is).0 ∙ (fine (sym same ∙ yes)).0, (kept is).1 ∙ (fine (sym same ∙ yes)).1)),
+        (λ no. omega (arith, (kept is).0, (kept is).1, failed (sym same ∙ no))))

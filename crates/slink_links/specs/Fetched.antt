@@ -1,5 +1,6 @@
 -- How fetching over one link after another ends, and what the output took by then.
-use Rattle.std.specs.Prelude.{◌≡◌, ◌⊎◌, ℕ, ◌+◌, ◌%◌, ◌^◌, ◌<◌, ◌≤◌, List, ◌∷◌, ◌++◌, [], length, Option, Some, None, Result, Ok, Err, IfOk, IfErr, codes}
+use Rattle.std.specs.Prelude.{◌≡◌, ◌⊎◌, ℕ, ◌+◌, ◌%◌, ◌^◌, ◌<◌, ◌≤◌, List, ◌∷◌, ◌++◌, [], length, Option, Some, None,
+    Result, Ok, Err, IfOk, IfErr, codes}
 use Rattle.mseed_stream.specs.Device.{Heard, IsFrontOf, Said, nothing_heard, nothing_said}
 use Rattle.mseed_stream.specs.Exchanges.{Exchange}
 use Rattle.slink_feed.specs.declared.dialogue.Ending.{Ending}
@@ -25,7 +26,8 @@ use Rattle.mseed_stream.specs.Telling.{Tells}
 -- The output took these records: all of them; or, where it failed, those before the last one, and a front of that.
 pub data TakesRecords (records : List Numbered) (old new : Said) : Type 0 where
   all : Took old new (bytes_in records) → TakesRecords records old new
-  but_last : (some : List Numbered) (last : Numbered) (count : ℕ) → records ≡ some ++ last ∷ [] → length (bytes_in some) ≤ count
+  but_last : (some : List Numbered) (last : Numbered) (count : ℕ) → records ≡ some ++ last ∷ []
+      → length (bytes_in some) ≤ count
       → TookFront old new (bytes_in records) count → TakesRecords records old new
 
 -- The number that a place wanted moved by how many records of it there are.
@@ -135,7 +137,8 @@ pub record AreTaken (end : Option FetchEnd) (bytes : List ℕ) (heard_old heard_
 
 -- Turns were taken with a link, up to an end or not: a client read on by what the link told, and the output took the
 -- records that it told of.
-pub record HasTurned (end : Option FetchEnd) (old new : Listening) (heard_old heard_new : Heard) (said_old said_new : Said) : Type 0 where
+pub record HasTurned (end : Option FetchEnd) (old new : Listening) (heard_old heard_new : Heard)
+    (said_old said_new : Said) : Type 0 where
   pub bytes : List ℕ
   pub taken : AreTaken end bytes heard_old heard_new
   pub told : List Event
@@ -175,9 +178,11 @@ pub data HasTakenTurns (first : Fetching) (before : Heard) : ℕ → Fetching �
 
 -- Turns were taken up to the one by which the fetch ends so; or 2^40 of them.
 pub data HasTakenAll (first : Fetching) (before : Heard) : FetchEnd → Fetching → Heard → Type 0 where
-  to_the_end : (end : FetchEnd) (n : ℕ) (now last : Fetching) (mid after : Heard) → n < 2 ^ 40 → HasTakenTurns first before n now mid
+  to_the_end : (end : FetchEnd) (n : ℕ) (now last : Fetching) (mid after : Heard) → n < 2 ^ 40
+      → HasTakenTurns first before n now mid
       → IsTurnBy (Some end) now last mid after → HasTakenAll first before end last after
-  for_long : (last : Fetching) (after : Heard) → HasTakenTurns first before (2 ^ 40) last after → HasTakenAll first before LinkFailed last after
+  for_long : (last : Fetching) (after : Heard) → HasTakenTurns first before (2 ^ 40) last after
+      → HasTakenAll first before LinkFailed last after
 
 -- A client begins on a link by this line, and nothing is kept of the link before.
 pub record Begins (old begun : Listening) (line : Event) : Type 0 where
@@ -186,26 +191,34 @@ pub record Begins (old begun : Listening) (line : Event) : Type 0 where
 
 -- The line was written to the link, and turns were taken; or the link failed within the line, and wasn't read.
 pub data IsFetchedOver (old : Fetching) (before : Heard) : FetchEnd → Fetching → Heard → Type 0 where
-  by_turns : (end : FetchEnd) (begun : Listening) (line : Event) (said : Said) (new : Fetching) (after : Heard) → Begins old.client begun line
-      → Took old.said said (line_said line) → HasTakenAll (fetching begun said old.output) before end new after → IsFetchedOver old before end new after
+  by_turns : (end : FetchEnd) (begun : Listening) (line : Event) (said : Said) (new : Fetching) (after : Heard)
+      → Begins old.client begun line
+      → Took old.said said (line_said line) → HasTakenAll (fetching begun said old.output) before end new after
+      → IsFetchedOver old before end new after
   unsaid : (begun : Listening) (line : Event) (said : Said) (count : ℕ) → Begins old.client begun line
-      → TookFront old.said said (line_said line) count → IsFetchedOver old before LinkFailed (fetching begun said old.output) before
+      → TookFront old.said said (line_said line) count
+      → IsFetchedOver old before LinkFailed (fetching begun said old.output) before
 
 -- A link was fetched over from its first byte on: what it told was read, and turns were taken with it up to the one by
 -- which the fetch ended so.
-pub record WasFetchedOver (end : FetchEnd) (old new : Listening) (link : Exchange) (said_old said_new : Said) : Type 0 where
+pub record WasFetchedOver (end : FetchEnd) (old new : Listening) (link : Exchange) (said_old said_new : Said) : Type
+    0 where
   pub read : HasReadLink old new nothing_heard link.heard said_old said_new
-  pub turns : IsFetchedOver (fetching old nothing_said said_old) nothing_heard end (fetching new link.said said_new) link.heard
+  pub turns : IsFetchedOver (fetching old nothing_said said_old) nothing_heard end (fetching new link.said said_new)
+      link.heard
 
 -- One link after another was fetched over, each up to where it failed, and the last one up to this end.
 pub data HasReadLinks : FetchEnd → Listening → Listening → List Exchange → Said → Said → Type 0 where
   over_none : (now : Listening) (said : Said) → HasReadLinks LinkFailed now now [] said said
-  over_one_more : (end : FetchEnd) (old now new : Listening) (link : Exchange) (links : List Exchange) (a b c : Said) → WasFetchedOver LinkFailed old now link a b
+  over_one_more : (end : FetchEnd) (old now new : Listening) (link : Exchange) (links : List Exchange) (a b c : Said)
+      → WasFetchedOver LinkFailed old now link a b
       → HasReadLinks end now new links b c → HasReadLinks end old new (link ∷ links) a c
-  over_the_last : (end : FetchEnd) (old new : Listening) (link : Exchange) (a b : Said) → WasFetchedOver end old new link a b → HasReadLinks end old new (link ∷ []) a b
+  over_the_last : (end : FetchEnd) (old new : Listening) (link : Exchange) (a b : Said)
+      → WasFetchedOver end old new link a b → HasReadLinks end old new (link ∷ []) a b
 
 -- Some links were given back behind those before, and these were fetched over in turn.
-pub record HasReadEach (end : FetchEnd) (old new : Listening) (before after : List Exchange) (said_old said_new : Said) : Type 0 where
+pub record HasReadEach (end : FetchEnd) (old new : Listening) (before after : List Exchange)
+    (said_old said_new : Said) : Type 0 where
   pub links : List Exchange
   pub given_back : after ≡ before ++ links
   pub read : HasReadLinks end old new links said_old said_new

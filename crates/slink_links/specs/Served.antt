@@ -1,5 +1,6 @@
 -- How serving one connection after another ends.
-use Rattle.std.specs.Prelude.{⊤, ◌≡◌, ℕ, ◌+◌, ◌<◌, ◌^◌, nat_lt, Bool, List, [], ◌++◌, All, replicate, None, Result, Ok, Err, codes}
+use Rattle.std.specs.Prelude.{⊤, ◌≡◌, ℕ, ◌+◌, ◌<◌, ◌^◌, nat_lt, Bool, List, [], ◌++◌, All, replicate, None, Result, Ok,
+    Err, codes}
 use Rattle.mseed_stream.specs.Device.{Heard, Said, nothing_heard, nothing_said}
 use Rattle.mseed_stream.specs.Exchanges.{Exchange}
 use Rattle.slink_wire.specs.Lines.{IsHeld}
@@ -24,12 +25,15 @@ pub data HasTakenTurns (feed : List Window) (first : Attending) (before : Heard)
       → Attends feed now new mid after Goes → HasTakenTurns feed first before (n + 1) new after
 
 -- Turns were taken up to one behind which nothing more is to be sent, or in which the link failed; or 2^40 of them.
-pub data HasTakenAll (feed : List Window) (first : Attending) (before : Heard) : Result ⊤ LinkFault → Attending → Heard → Type 0 where
-  to_the_end : (u : ⊤) (n : ℕ) (now last : Attending) (mid after : Heard) → n < 2 ^ 40 → HasTakenTurns feed first before n now mid
+pub data HasTakenAll (feed : List Window) (first : Attending) (before : Heard) : Result ⊤ LinkFault → Attending → Heard
+    → Type 0 where
+  to_the_end : (u : ⊤) (n : ℕ) (now last : Attending) (mid after : Heard) → n < 2 ^ 40
+      → HasTakenTurns feed first before n now mid
       → Attends feed now last mid after Closed → HasTakenAll feed first before (Ok u) last after
   for_long : (u : ⊤) (last : Attending) (after : Heard) → HasTakenTurns feed first before (2 ^ 40) last after
       → HasTakenAll feed first before (Ok u) last after
-  to_a_fault : (fault : LinkFault) (n : ℕ) (now last : Attending) (mid after : Heard) → n < 2 ^ 40 → HasTakenTurns feed first before n now mid
+  to_a_fault : (fault : LinkFault) (n : ℕ) (now last : Attending) (mid after : Heard) → n < 2 ^ 40
+      → HasTakenTurns feed first before n now mid
       → IsServeFault feed now last mid after fault → HasTakenAll feed first before (Err fault) last after
 
 -- The session has heard nothing, and granted nothing.
@@ -38,7 +42,8 @@ pub record IsFresh (s : Standing) : Type 0 where
   pub held : IsHeld s.held []
 
 -- A link was served by a session of its own.
-pub record IsServed (feed : List Window) (result : Result ⊤ LinkFault) (heard_old heard_new : Heard) (said_old said_new : Said) : Type 0 where
+pub record IsServed (feed : List Window) (result : Result ⊤ LinkFault) (heard_old heard_new : Heard)
+    (said_old said_new : Said) : Type 0 where
   pub first : Standing
   pub fresh : IsFresh first
   pub last : Standing
@@ -46,7 +51,8 @@ pub record IsServed (feed : List Window) (result : Result ⊤ LinkFault) (heard_
 
 -- A link was served from its first byte on.
 abbrev pub WasServed : List Window → Exchange → Type 0
-WasServed feed link = (result : Result ⊤ LinkFault) × IsServed feed result nothing_heard link.heard nothing_said link.said
+WasServed feed link = (result : Result ⊤ LinkFault) × IsServed feed result nothing_heard link.heard nothing_said
+    link.said
 
 -- Some links were given back behind those before, and each of them was served.
 pub record HasServedEach (feed : List Window) (before after : List Exchange) : Type 0 where
@@ -57,4 +63,5 @@ pub record HasServedEach (feed : List Window) (before after : List Exchange) : T
 -- the exit status, and what standard error took
 pub data HasServed (status : ℕ) (told_old told_new : Said) : Type 0 where
   all_went_well : status ≡ 0 → told_new ≡ told_old → HasServed status told_old told_new
-  something_failed : status ≡ 2 → Tells (codes "mseed: link failed\n") told_old told_new → HasServed status told_old told_new
+  something_failed : status ≡ 2 → Tells (codes "mseed: link failed\n") told_old told_new
+      → HasServed status told_old told_new
