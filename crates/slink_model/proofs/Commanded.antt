@@ -1,9 +1,11 @@
 -- What answers leave of the grants of a session.
-use Rattle.std.proofs.Common.{◌≡◌, ℕ, ◌+◌, ◌-◌, ◌≤◌, ◌⊎◌, inl, inr, zero, suc, refl, sym, ap, subst, ◌∙◌, arith, List, [], ◌∷◌, set, Option, Some, None, slice_get, if◌then◌else◌}
+use Rattle.std.proofs.Common.{◌≡◌, ℕ, ◌+◌, ◌-◌, ◌≤◌, ◌⊎◌, inl, inr, zero, suc, refl, sym, ap, subst, ◌∙◌, arith, List,
+    [], ◌∷◌, set, Option, Some, None, slice_get, if◌then◌else◌}
 use Rattle.std.proofs.lemmas.Bool.Decides.{leb_tells}
 use Rattle.std.specs.Option.{option_and_then}
 use Rattle.slink_wire.specs.declared.command.Command.{Command}
-use Rattle.slink_wire.specs.declared.command.Command.TheVariants.{Hello, Station, SelectAll, Data, Fetch, End, Bye, Other}
+use Rattle.slink_wire.specs.declared.command.Command.TheVariants.{Hello, Station, SelectAll, Data, Fetch, End, Bye,
+    Other}
 use Rattle.slink_wire.specs.declared.lines.What.{What}
 use Rattle.slink_wire.specs.declared.lines.What.TheVariants.{More, Line, TooLong}
 use Rattle.slink_wire.specs.declared.reply.Reply.{Reply}
@@ -16,7 +18,8 @@ use Rattle.slink_feed.specs.declared.session.Phase.TheVariants.{Fresh, Chosen, G
 use Rattle.slink_feed.specs.Grant.{grant_of}
 use Rattle.slink_feed.specs.Rings.{station_at}
 use Rattle.slink_feed.specs.Serving.{IsAnswer}
-use Rattle.slink_feed.specs.Session.{Grants, IsBefore, State, answered_in, asked, at, chosen, grant_at, granted, in_chosen, in_fresh, in_granted, in_streaming, reply_at_next}
+use Rattle.slink_feed.specs.Session.{Grants, IsBefore, State, answered_in, asked, at, chosen, grant_at, granted,
+    in_chosen, in_fresh, in_granted, in_streaming, reply_at_next}
 use Rattle.slink_model.specs.Ties.{IsGranted, Leaves, dropped, given, same}
 use Rattle.slink_feed.specs.Window.{Window, ahead_of, oldest_of, resolve_of}
 
@@ -25,24 +28,31 @@ some_is p q e = cc e
 
 resolved_at : (w : Window) (seq p : ℕ) → resolve_of w seq ≡ Some p → (oldest_of w ≤ p) × (p ≤ w.next)
 resolved_at w seq p e = elim (leb_tells (ahead_of w seq) (w.next - oldest_of w)) [
-  | inl passes ↦ let at : oldest_of w + ahead_of w seq ≡ p = some_is (oldest_of w + ahead_of w seq) p (sym (ap (λ t. if t then Some (oldest_of w + ahead_of w seq) else None) passes.0) ∙ e) in
+  | inl passes ↦ let at : oldest_of w + ahead_of w seq ≡ p =
+  some_is (oldest_of w + ahead_of w seq) p
+  (sym (ap (λ t. if t then Some (oldest_of w + ahead_of w seq) else None) passes.0) ∙ e) in
       (omega (arith, at), omega (arith, at, passes.1))
-  | inr fails ↦ absurd (let bad : None ≡ Some p = sym (ap (λ t. if t then Some (oldest_of w + ahead_of w seq) else None) fails.0) ∙ e in cc bad)
+  | inr fails ↦ absurd (let bad : None ≡ Some p = sym
+  (ap (λ t. if t then Some (oldest_of w + ahead_of w seq) else None) fails.0) ∙ e in cc bad)
 ]
 
-granted_at : (mode : Mode) (number : Option ℕ) (w : Window) (p : ℕ) → grant_of mode number w ≡ Some p → (oldest_of w ≤ p) × (p ≤ w.next)
+granted_at : (mode : Mode) (number : Option ℕ) (w : Window) (p : ℕ) → grant_of mode number w ≡ Some p
+    → (oldest_of w ≤ p) × (p ≤ w.next)
 granted_at modes.Data None w p e = let at : w.next ≡ p = some_is w.next p e in (omega (arith, at), omega (arith, at))
-granted_at modes.Fetch None w p e = let at : oldest_of w ≡ p = some_is (oldest_of w) p e in (omega (arith, at), omega (arith, at))
+granted_at modes.Fetch None w p e = let at : oldest_of w ≡ p = some_is (oldest_of w) p e in
+    (omega (arith, at), omega (arith, at))
 granted_at modes.Data (Some seq) w p e = resolved_at w seq p e
 granted_at modes.Fetch (Some seq) w p e = resolved_at w seq p e
 
 -- a grant once another was written
-pub grant_set : (gs : Grants) (k j : ℕ) (o : Option Grant) → ((j ≡ k) × (grant_at (set gs k o) j ≡ o)) ⊎ (grant_at (set gs k o) j ≡ grant_at gs j)
+pub grant_set : (gs : Grants) (k j : ℕ) (o : Option Grant) → ((j ≡ k) × (grant_at (set gs k o) j ≡ o))
+    ⊎ (grant_at (set gs k o) j ≡ grant_at gs j)
 grant_set [] k j o = inr refl
 grant_set (x ∷ gs) zero zero o = inl (refl, refl)
 grant_set (x ∷ gs) zero (suc j) o = inr refl
 grant_set (x ∷ gs) (suc k) zero o = inr refl
-grant_set (x ∷ gs) (suc k) (suc j) o = elim (grant_set gs k j o) [ inl here ↦ inl (ap suc here.0, here.1) | inr there ↦ inr there ]
+grant_set (x ∷ gs) (suc k) (suc j) o =
+    elim (grant_set gs k j o) [ inl here ↦ inl (ap suc here.0, here.1) | inr there ↦ inr there ]
 
 module _ (feed : List Window) (s : State) where
   abbrev pub Grants_stay : State → Type 0
@@ -55,14 +65,17 @@ module _ (feed : List Window) (s : State) where
   choose None k = same refl
   choose (Some j) k = elim (grant_set s.grants j k None) [ inl here ↦ dropped here.1 | inr there ↦ same there ]
 
-  give : (mode : Mode) (j : ℕ) (w : Window) (o : Option ℕ) → slice_get feed j ≡ Some w → ((p : ℕ) → o ≡ Some p → (oldest_of w ≤ p) × (p ≤ w.next)) → Grants_stay (granted mode j o s).0
+  give : (mode : Mode) (j : ℕ) (w : Window) (o : Option ℕ) → slice_get feed j ≡ Some w
+      → ((p : ℕ) → o ≡ Some p → (oldest_of w ≤ p) × (p ≤ w.next)) → Grants_stay (granted mode j o s).0
   give mode j w None here within k = same refl
   give mode j w (Some p) here within k = elim (grant_set s.grants j k (Some (record { mode = mode; position = p }))) [
-    | inl at ↦ given (record { mode = mode; position = p }) w at.1 (subst (λ i. slice_get feed i ≡ Some w) (sym at.0) here) (within p refl).0 (within p refl).1
+    | inl at ↦ given (record { mode = mode; position = p }) w at.1
+    (subst (λ i. slice_get feed i ≡ Some w) (sym at.0) here) (within p refl).0 (within p refl).1
     | inr there ↦ same there
   ]
 
-  ask_of : (mode : Mode) (j : ℕ) (number : Option ℕ) (r : Option Window) → slice_get feed j ≡ r → Grants_stay (granted mode j (option_and_then (grant_of mode number) r) s).0
+  ask_of : (mode : Mode) (j : ℕ) (number : Option ℕ) (r : Option Window) → slice_get feed j ≡ r
+      → Grants_stay (granted mode j (option_and_then (grant_of mode number) r) s).0
   ask_of mode j number None here = stay
   ask_of mode j number (Some w) here = give mode j w (grant_of mode number w) here (λ p e. granted_at mode number w p e)
 
@@ -137,7 +150,9 @@ module _ (feed : List Window) (s : State) where
   leaves_nothing Closed e = (refl, refl, shut e)
 
   -- whatever line came
-  pub leaves : (what : What) (new : State) (reply : Reply) → IsAnswer feed s what new reply → Leaves s.phase feed s (new, reply)
-  leaves More new reply is = let a : new ≡ s = is.0 in let b : reply ≡ replies.Nothing = is.1 in let p : (s, replies.Nothing) ≡ (new, reply) = cc in subst (Leaves s.phase feed s) p (leaves_nothing s.phase refl)
+  pub leaves : (what : What) (new : State) (reply : Reply) → IsAnswer feed s what new reply
+      → Leaves s.phase feed s (new, reply)
+  leaves More new reply is = let a : new ≡ s = is.0 in let b : reply ≡ replies.Nothing = is.1 in
+      let p : (s, replies.Nothing) ≡ (new, reply) = cc in subst (Leaves s.phase feed s) p (leaves_nothing s.phase refl)
   leaves (Line line) new reply is = subst (Leaves s.phase feed s) is.2 (leaves_in s.phase is.0 refl)
   leaves TooLong new reply is = subst (Leaves s.phase feed s) is (leaves_ended s.phase refl)

@@ -1,5 +1,6 @@
 -- What a client hears of items, by how many bytes of them it took.
-use Rattle.std.proofs.Common.{◌≡◌, ◌≢◌, ℕ, ◌+◌, ◌-◌, ◌%◌, ◌^◌, ◌<◌, inl, inr, refl, sym, ap, subst, ◌∙◌, arith, List, [], ◌∷◌, ◌++◌, length, length-drop, map, set, take, drop, take-append-drop, codes, Option, Some, None, slice_get}
+use Rattle.std.proofs.Common.{◌≡◌, ◌≢◌, ℕ, ◌+◌, ◌-◌, ◌%◌, ◌^◌, ◌<◌, inl, inr, refl, sym, ap, subst, ◌∙◌, arith, List,
+    [], ◌∷◌, ◌++◌, length, length-drop, map, set, take, drop, take-append-drop, codes, Option, Some, None, slice_get}
 use Rattle.std.specs.Option.{option_and_then}
 use Rattle.std.proofs.lemmas.List.{take-append-le}
 use Rattle.slink_wire.specs.declared.request.Request.{Request}
@@ -15,12 +16,15 @@ use Rattle.slink_feed.specs.declared.dialogue.Stage.TheVariants.{Station, Number
 use Rattle.slink_feed.specs.declared.dialogue.Wanted.{Wanted}
 use Rattle.slink_feed.specs.declared.session.Phase.{Phase}
 use Rattle.slink_feed.specs.declared.session.Phase.TheVariants.{Granted, Chosen, Closed}
-use Rattle.slink_model.specs.Counted.{Gained, behind, events_upon, on_item, part, talk_upon, wholes, with_event, with_events}
+use Rattle.slink_model.specs.Counted.{Gained, behind, events_upon, on_item, part, talk_upon, wholes, with_event,
+    with_events}
 use Rattle.slink_feed.specs.Cutting.{IsBegun, IsWhole}
-use Rattle.slink_feed.specs.Dialogue.{Talk, Wants, Reply, Packet, End, at_packet, bearer, ended, heard, heard_at, next_at, next_set, numbered, says, to_place, told, want_at, with_next}
+use Rattle.slink_feed.specs.Dialogue.{Talk, Wants, Reply, Packet, End, at_packet, bearer, ended, heard, heard_at,
+    next_at, next_set, numbered, says, to_place, told, want_at, with_next}
 use Rattle.slink_feed.specs.Listening.{AreBrought, IsLinked, events_of, talk_after, telling}
 use Rattle.slink_feed.specs.Session.{Grants, State, grant_at}
-use Rattle.slink_model.specs.Ties.{Item, Accepted, Refused, Greeted, Carried, Finished, Places, item_bytes, of_place, way_bytes}
+use Rattle.slink_model.specs.Ties.{Item, Accepted, Refused, Greeted, Carried, Finished, Places, item_bytes, of_place,
+    way_bytes}
 use Rattle.slink_model.specs.World.{Differ, Numbers}
 use Rattle.slink_feed.proofs.Closing.{Open}
 use Rattle.slink_model.proofs.Calling.{open_at}
@@ -36,29 +40,37 @@ use Rattle.slink_model.proofs.OneWorld.{told_events}
 use Rattle.slink_model.proofs.Outcomes.{packet_length}
 use Rattle.slink_wire.proofs.RequestLines.{end_line, station_line}
 use Rattle.slink_model.proofs.Requested.{also_at, number_line}
-use Rattle.slink_model.proofs.Shaken.{asked_next, bearer_found, lacks_end, some_if, suited_next, suited_wanted, want_slot}
-use Rattle.slink_model.proofs.Shaking.{AreAsked, AreBorne, AreSent, IsSuited, Shakes, asks_end, asks_number, asks_place, has_none, has_number, has_place, streams}
+use Rattle.slink_model.proofs.Shaken.{asked_next, bearer_found, lacks_end, some_if, suited_next, suited_wanted,
+    want_slot}
+use Rattle.slink_model.proofs.Shaking.{AreAsked, AreBorne, AreSent, IsSuited, Shakes, asks_end, asks_number, asks_place,
+    has_none, has_number, has_place, streams}
 use Rattle.slink_feed.proofs.Wholes.{front_begun}
 
 -- what the client's table makes of items is what they are
 abbrev pub Same : Talk → List Item → Type 0
-Same t ws = (talk_after t (map brought_of ws) ≡ talk_upon t ws) × ((f : Numbers) (g : Gained) → with_events f (events_of t (map brought_of ws)) g ≡ with_events f (events_upon t ws) g)
+Same t ws = (talk_after t (map brought_of ws) ≡ talk_upon t ws) × ((f : Numbers) (g : Gained)
+    → with_events f (events_of t (map brought_of ws)) g ≡ with_events f (events_upon t ws) g)
 
-same_more : (t : Talk) (i : Item) (ws : List Item) → heard t (whole_of i) ≡ on_item t.stage i t → Same (heard t (whole_of i)).0 ws → Same t (i ∷ ws)
+same_more : (t : Talk) (i : Item) (ws : List Item) → heard t (whole_of i) ≡ on_item t.stage i t
+    → Same (heard t (whole_of i)).0 ws → Same t (i ∷ ws)
 same_more t i ws h more = (
   more.0 ∙ ap (λ (x : Talk × Event). talk_upon x.0 ws) h,
   λ f g. told_events f (heard t (whole_of i)).1 (events_of (heard t (whole_of i)).0 (map brought_of ws)) g
-      ∙ (more.1 f (with_event f (heard t (whole_of i)).1 g) ∙ ap (λ (x : Talk × Event). with_events f (events_upon x.0 ws) (with_event f x.1 g)) h),
+      ∙ (more.1 f (with_event f (heard t (whole_of i)).1 g)
+      ∙ ap (λ (x : Talk × Event). with_events f (events_upon x.0 ws) (with_event f x.1 g)) h),
 )
 
 -- a front of an item that isn't whole is begun
-part_begun : (stage : Stage) (i : Item) (is : List Item) (d : ℕ) → IsWhole stage (item_bytes i) (whole_of i) → d < length (item_bytes i) → IsBegun stage (take d (way_bytes (i ∷ is)))
+part_begun : (stage : Stage) (i : Item) (is : List Item) (d : ℕ) → IsWhole stage (item_bytes i) (whole_of i)
+    → d < length (item_bytes i) → IsBegun stage (take d (way_bytes (i ∷ is)))
 part_begun stage i is d whole lt =
     subst (IsBegun stage) (sym (take-append-le d (item_bytes i) (way_bytes is) (omega (arith, lt))))
-    (front_begun stage (take d (item_bytes i)) (drop d (item_bytes i)) (whole_of i) (omega (arith, lt, length-drop d (item_bytes i)))
+    (front_begun stage (take d (item_bytes i)) (drop d (item_bytes i)) (whole_of i)
+        (omega (arith, lt, length-drop d (item_bytes i)))
     (subst (λ b. IsWhole stage b (whole_of i)) (sym (take-append-drop d (item_bytes i))) whole))
 
-module _ (places : Places) (differ : Differ places) (codes_are : (k : ℕ) (p : Fields × Option ℕ) → slice_get places k ≡ Some p → IsField 5 p.0.station × IsField 2 p.0.network) where
+module _ (places : Places) (differ : Differ places) (codes_are : (k : ℕ) (p : Fields × Option ℕ)
+    → slice_get places k ≡ Some p → IsField 5 p.0.station × IsField 2 p.0.network) where
   -- packets on their way
   pub record Streams (grants : Grants) (phase : Phase) (t : Talk) (items : List Item) : Type 0 where
     pub stage : t.stage ≡ Packets
@@ -72,14 +84,19 @@ module _ (places : Places) (differ : Differ places) (codes_are : (k : ℕ) (p : 
   pub record Front (grants : Grants) (phase : Phase) (t : Talk) (ws bs : List Item) (p : ℕ) : Type 0 where
     pub are : AreBrought t (map brought_of ws)
     pub is_begun : IsRest (talk_after t (map brought_of ws)).stage (take p (way_bytes bs))
-    pub unsaid : (f : Numbers) (g : Gained) → (with_events f (events_of t (map brought_of ws)) g).to_server ≡ g.to_server
+    pub unsaid : (f : Numbers) (g : Gained) → (with_events f (events_of t (map brought_of ws)) g).to_server
+        ≡ g.to_server
     pub same : Same t ws
-    pub after : IsLinked (talk_after t (map brought_of ws)).stage → Streams grants phase (talk_after t (map brought_of ws)) bs
+    pub after : IsLinked (talk_after t (map brought_of ws)).stage
+        → Streams grants phase (talk_after t (map brought_of ws)) bs
 
-  at_stage : (t : Talk) (i : Item) → t.stage ≡ Packets → IsWhole Packets (item_bytes i) (whole_of i) → IsWhole t.stage (item_bytes i) (whole_of i)
+  at_stage : (t : Talk) (i : Item) → t.stage ≡ Packets → IsWhole Packets (item_bytes i) (whole_of i)
+      → IsWhole t.stage (item_bytes i) (whole_of i)
   at_stage t i stage is = subst (λ (s : Stage). IsWhole s (item_bytes i) (whole_of i)) (sym stage) is
 
-  none_front : (grants : Grants) (phase : Phase) (t : Talk) (i : Item) (is : List Item) (d : ℕ) → IsWhole Packets (item_bytes i) (whole_of i) → d < length (item_bytes i) → Streams grants phase t (i ∷ is) → Front grants phase t [] (i ∷ is) d
+  none_front : (grants : Grants) (phase : Phase) (t : Talk) (i : Item) (is : List Item) (d : ℕ)
+      → IsWhole Packets (item_bytes i) (whole_of i) → d < length (item_bytes i) → Streams grants phase t (i ∷ is)
+      → Front grants phase t [] (i ∷ is) d
   none_front grants phase t i is d whole lt s = record {
     are = tt;
     is_begun = λ _. part_begun t.stage i is d (at_stage t i s.stage whole) lt;
@@ -88,11 +105,13 @@ module _ (places : Places) (differ : Differ places) (codes_are : (k : ℕ) (p : 
     after = λ _. s;
   }
 
-  carried_whole : (k n : ℕ) (r : List ℕ) → length r ≡ 512 → IsWhole Packets (packet_bytes (n % 2 ^ 24) r) (Packet (n % 2 ^ 24) r)
+  carried_whole : (k n : ℕ) (r : List ℕ) → length r ≡ 512
+      → IsWhole Packets (packet_bytes (n % 2 ^ 24) r) (Packet (n % 2 ^ 24) r)
   carried_whole k n r long = (read_back (n % 2 ^ 24) r (omega arith), packet_length (n % 2 ^ 24) r long)
 
   -- a packet is heard
-  module _ (grants : Grants) (phase : Phase) (t : Talk) (k n : ℕ) (r : List ℕ) (rest : List Item) (s : Streams grants phase t (Carried k n r ∷ rest)) where
+  module _ (grants : Grants) (phase : Phase) (t : Talk) (k n : ℕ) (r : List ℕ) (rest : List Item)
+      (s : Streams grants phase t (Carried k n r ∷ rest)) where
     abbrev m : ℕ
     m = n % 2 ^ 24
 
@@ -109,25 +128,34 @@ module _ (places : Places) (differ : Differ places) (codes_are : (k : ℕ) (p : 
     suited_k = subst (IsSuited (next_at t.wants k) (grant_at grants k)) of_k (s.suited k)
 
     pub packet_told : heard t (Packet m r) ≡ told k m r t
-    packet_told = ap (λ (y : Stage). heard_at y t (Packet m r)) s.stage ∙ (ap (λ (o : Option ℕ). at_packet o m r t) found.0
-        ∙ wanted_told (next_at t.wants k) k m r t (some_if (next_at t.wants k) m (suited_wanted (next_at t.wants k) (grant_at grants k) n r (of_place k rest) suited_k)))
+    packet_told = ap (λ (y : Stage). heard_at y t (Packet m r)) s.stage
+        ∙ (ap (λ (o : Option ℕ). at_packet o m r t) found.0
+        ∙ wanted_told (next_at t.wants k) k m r t
+        (some_if (next_at t.wants k) m (suited_wanted (next_at t.wants k) (grant_at grants k) n r (of_place k rest)
+        suited_k)))
 
     pub packet_next : Streams grants phase (told k m r t).0 rest
     packet_next =
         let ws : Wants = with_next t.wants k x in
         let v : Wanted = record { place = found.1.place; next = Some x } in
         let becomes : ws ≡ set t.wants k (Some v) = ap (λ (o : Option Wanted). next_set o t.wants k x) found.2 in
-        let lt : k < length t.wants = is_within t.wants k (Some found.1) (want_slot (slice_get t.wants k) found.1 found.2) in
-        let next_k : next_at ws k ≡ Some x = ap (λ (y : Wants). next_at y k) becomes ∙ ap (option_and_then (λ (z : Wanted). z.next)) (put_here t.wants k (Some v) None lt) in
-        let next_i : (i : ℕ) → i ≢ k → next_at ws i ≡ next_at t.wants i = λ i ne. ap (λ (y : Wants). next_at y i) becomes ∙ ap (option_and_then (λ (z : Wanted). z.next)) (put_there t.wants k i (Some v) None ne) in
-        let of_i : (i : ℕ) → i ≢ k → of_place i (Carried k n r ∷ rest) ≡ of_place i rest = λ i ne. ap (λ b. b ++ of_place i rest) (carried_there k i n r (λ q. ne (sym q))) in
+        let lt : k < length t.wants =
+            is_within t.wants k (Some found.1) (want_slot (slice_get t.wants k) found.1 found.2) in
+        let next_k : next_at ws k ≡ Some x = ap (λ (y : Wants). next_at y k) becomes
+            ∙ ap (option_and_then (λ (z : Wanted). z.next)) (put_here t.wants k (Some v) None lt) in
+        let next_i : (i : ℕ) → i ≢ k → next_at ws i ≡ next_at t.wants i =
+            λ i ne. ap (λ (y : Wants). next_at y i) becomes
+            ∙ ap (option_and_then (λ (z : Wanted). z.next)) (put_there t.wants k i (Some v) None ne) in
+        let of_i : (i : ℕ) → i ≢ k → of_place i (Carried k n r ∷ rest) ≡ of_place i rest =
+            λ i ne. ap (λ b. b ++ of_place i rest) (carried_there k i n r (λ q. ne (sym q))) in
         record {
           stage = s.stage;
           asked = asked_next places differ codes_are t.wants k x found.1 found.2 (omega arith) s.asked;
           borne = s.borne.1;
           suited = λ i. elim (same_or_not i k) [
             | inl q ↦ subst (λ y. IsSuited (next_at ws y) (grant_at grants y) (of_place y rest)) (sym q)
-                (subst (λ (o : Option ℕ). IsSuited o (grant_at grants k) (of_place k rest)) (sym next_k) (suited_next (next_at t.wants k) (grant_at grants k) n r (of_place k rest) suited_k))
+                (subst (λ (o : Option ℕ). IsSuited o (grant_at grants k) (of_place k rest)) (sym next_k)
+                    (suited_next (next_at t.wants k) (grant_at grants k) n r (of_place k rest) suited_k))
             | inr ne ↦ subst (λ (o : Option ℕ). IsSuited o (grant_at grants i) (of_place i rest)) (sym (next_i i ne))
                 (subst (IsSuited (next_at t.wants i) (grant_at grants i)) (of_i i ne) (s.suited i))
           ];
@@ -135,20 +163,26 @@ module _ (places : Places) (differ : Differ places) (codes_are : (k : ℕ) (p : 
           ends = s.ends;
         }
 
-    pub packet_front : (ws bs : List Item) (p : ℕ) → Front grants phase (told k m r t).0 ws bs p → Front grants phase t (Carried k n r ∷ ws) bs p
+    pub packet_front : (ws bs : List Item) (p : ℕ) → Front grants phase (told k m r t).0 ws bs p
+        → Front grants phase t (Carried k n r ∷ ws) bs p
     packet_front ws bs p h =
-        let h' : Front grants phase (heard t (Packet m r)).0 ws bs p = subst (λ (y : Talk × Event). Front grants phase y.0 ws bs p) (sym packet_told) h in
+        let h' : Front grants phase (heard t (Packet m r)).0 ws bs p =
+            subst (λ (y : Talk × Event). Front grants phase y.0 ws bs p) (sym packet_told) h in
         record {
           are = (at_stage t (Carried k n r) s.stage (carried_whole k n r s.borne.0.2), h'.are);
           is_begun = h'.is_begun;
-          unsaid = λ f g. ap (λ (z : Gained). z.to_server) (told_events f (heard t (Packet m r)).1 (events_of (heard t (Packet m r)).0 (map brought_of ws)) g)
-              ∙ (h'.unsaid f (with_event f (heard t (Packet m r)).1 g) ∙ ap (λ (y : Talk × Event). (with_event f y.1 g).to_server) packet_told);
-          same = same_more t (Carried k n r) ws (packet_told ∙ ap (λ (y : Stage). on_item y (Carried k n r) t) (sym s.stage)) h'.same;
+          unsaid = λ f g. ap (λ (z : Gained). z.to_server)
+              (told_events f (heard t (Packet m r)).1 (events_of (heard t (Packet m r)).0 (map brought_of ws)) g)
+              ∙ (h'.unsaid f (with_event f (heard t (Packet m r)).1 g)
+              ∙ ap (λ (y : Talk × Event). (with_event f y.1 g).to_server) packet_told);
+          same = same_more t (Carried k n r) ws (packet_told
+              ∙ ap (λ (y : Stage). on_item y (Carried k n r) t) (sym s.stage)) h'.same;
           after = h'.after;
         }
 
   -- the end is heard
-  end_front : (grants : Grants) (phase : Phase) (t : Talk) → Streams grants phase t (Finished ∷ []) → Front grants phase t (Finished ∷ []) [] 0
+  end_front : (grants : Grants) (phase : Phase) (t : Talk) → Streams grants phase t (Finished ∷ [])
+      → Front grants phase t (Finished ∷ []) [] 0
   end_front grants phase t s =
       let h : heard t End ≡ ended endings.End t = ap (λ (y : Stage). heard_at y t End) s.stage in
       record {
@@ -160,19 +194,24 @@ module _ (places : Places) (differ : Differ places) (codes_are : (k : ℕ) (p : 
       }
 
   -- so many bytes are heard
-  pub streamed_front : (items : List Item) (grants : Grants) (phase : Phase) (t : Talk) (d : ℕ) → Streams grants phase t items → Front grants phase t (wholes d items) (behind d items) (part d items)
-  streamed_front [] grants phase t d s = record { are = tt; is_begun = λ _. begun_none t.stage; unsaid = λ f g. refl; same = (refl, λ f g. refl); after = λ _. s }
+  pub streamed_front : (items : List Item) (grants : Grants) (phase : Phase) (t : Talk) (d : ℕ)
+      → Streams grants phase t items → Front grants phase t (wholes d items) (behind d items) (part d items)
+  streamed_front [] grants phase t d s = record { are = tt; is_begun = λ _. begun_none t.stage; unsaid = λ f g. refl;
+      same = (refl, λ f g. refl); after = λ _. s }
   streamed_front (Accepted ∷ rest) grants phase t d s = absurd s.sent.0
   streamed_front (Refused ∷ rest) grants phase t d s = absurd s.sent.0
   streamed_front (Greeted ∷ rest) grants phase t d s = absurd s.sent.0
   streamed_front (Carried k n r ∷ rest) grants phase t d s =
       let size : ℕ = length (item_bytes (Carried k n r)) in
       whole_or (Carried k n r) rest d (λ ws bs p. Front grants phase t ws bs p)
-      (λ fits. packet_front grants phase t k n r rest s (wholes (d - size) rest) (behind (d - size) rest) (part (d - size) rest)
-      (streamed_front rest grants phase (told k (n % 2 ^ 24) r t).0 (d - size) (packet_next grants phase t k n r rest s)))
+      (λ fits. packet_front grants phase t k n r rest s (wholes (d - size) rest) (behind (d - size) rest)
+          (part (d - size) rest)
+      (streamed_front rest grants phase (told k (n % 2 ^ 24) r t).0 (d - size)
+          (packet_next grants phase t k n r rest s)))
       (λ lt. none_front grants phase t (Carried k n r) rest d (carried_whole k n r s.borne.0.2) lt s)
   streamed_front (Finished ∷ []) grants phase t d s =
-      whole_or Finished [] d (λ ws bs p. Front grants phase t ws bs p) (λ fits. end_front grants phase t s) (λ lt. none_front grants phase t Finished [] d refl lt s)
+      whole_or Finished [] d (λ ws bs p. Front grants phase t ws bs p) (λ fits. end_front grants phase t s)
+          (λ lt. none_front grants phase t Finished [] d refl lt s)
   streamed_front (Finished ∷ i ∷ rest) grants phase t d s = absurd (let bad : i ∷ rest ≡ [] = s.ends.0 in cc bad)
 
   -- what is on its way once a client has heard
@@ -186,13 +225,18 @@ module _ (places : Places) (differ : Differ places) (codes_are : (k : ℕ) (p : 
     pub are : AreBrought t (map brought_of ws)
     pub is_begun : IsRest (talk_after t (map brought_of ws)).stage (take p (way_bytes bs))
     pub same : Same t ws
-    pub unsaid : s.phase ≡ Closed → (f : Numbers) (g : Gained) → (with_events f (events_of t (map brought_of ws)) g).to_server ≡ g.to_server
-    pub after : (f : Numbers) (g : Gained) → g.to_server ≡ way → IsLinked (talk_after t (map brought_of ws)).stage → Left s taken (talk_after t (map brought_of ws)) (with_events f (events_of t (map brought_of ws)) g).to_server bs
-    pub quiet : (f : Numbers) (g : Gained) → g.to_server ≡ way → ¬ (IsLinked (talk_after t (map brought_of ws)).stage) → Open s.phase → IsAnswered taken (with_events f (events_of t (map brought_of ws)) g).to_server
+    pub unsaid : s.phase ≡ Closed → (f : Numbers) (g : Gained)
+        → (with_events f (events_of t (map brought_of ws)) g).to_server ≡ g.to_server
+    pub after : (f : Numbers) (g : Gained) → g.to_server ≡ way → IsLinked (talk_after t (map brought_of ws)).stage
+        → Left s taken (talk_after t (map brought_of ws)) (with_events f (events_of t (map brought_of ws)) g).to_server
+        bs
+    pub quiet : (f : Numbers) (g : Gained) → g.to_server ≡ way → ¬ (IsLinked (talk_after t (map brought_of ws)).stage)
+        → Open s.phase → IsAnswered taken (with_events f (events_of t (map brought_of ws)) g).to_server
 
   module _ (s : State) (taken way : List ℕ) (t : Talk) where
     -- nothing is whole
-    nothing_heard : (items : List Item) (p : ℕ) → IsBegun t.stage (take p (way_bytes items)) → IsLinked t.stage → Left s taken t way items → Outcome s taken way t [] items p
+    nothing_heard : (items : List Item) (p : ℕ) → IsBegun t.stage (take p (way_bytes items)) → IsLinked t.stage
+        → Left s taken t way items → Outcome s taken way t [] items p
     nothing_heard items p begun linked left = record {
       are = tt;
       is_begun = λ _. begun;
@@ -203,32 +247,46 @@ module _ (places : Places) (differ : Differ places) (codes_are : (k : ℕ) (p : 
     }
 
     -- a line is said
-    line_said : (i : Item) (stage : Stage) (request : Request) → Open s.phase → heard t (whole_of i) ≡ on_item t.stage i t → IsWhole t.stage (item_bytes i) (whole_of i) → heard t (whole_of i) ≡ says t stage request → IsLinked stage
-        → ((k : ℕ) → IsSuited (next_at t.wants k) (grant_at s.grants k) []) → Shakes (record t { stage = stage }) s.phase taken (way ++ request_bytes request) [] → Outcome s taken way t (i ∷ []) [] 0
+    line_said : (i : Item) (stage : Stage) (request : Request) → Open s.phase
+        → heard t (whole_of i) ≡ on_item t.stage i t → IsWhole t.stage (item_bytes i) (whole_of i)
+        → heard t (whole_of i) ≡ says t stage request → IsLinked stage
+        → ((k : ℕ) → IsSuited (next_at t.wants k) (grant_at s.grants k) [])
+        → Shakes (record t { stage = stage }) s.phase taken (way ++ request_bytes request) []
+        → Outcome s taken way t (i ∷ []) [] 0
     line_said i stage request awake on whole h linked suited shakes = record {
       are = (whole, tt);
       is_begun = λ _. begun_none (heard t (whole_of i)).0.stage;
       same = same_more t i [] on (refl, λ f g. refl);
       unsaid = λ shut f g. absurd (awake shut);
-      after = λ f g same _. subst (λ (y : Talk × Event). Left s taken y.0 (with_events f (telling y.1 ++ []) g).to_server []) (sym h)
-          (subst (λ b. Left s taken (record t { stage = stage }) (b ++ request_bytes request) []) (sym same) (record { borne = tt; suited = suited; shakes = shakes; ends = tt }));
+      after = λ f g same _. subst
+          (λ (y : Talk × Event). Left s taken y.0 (with_events f (telling y.1 ++ []) g).to_server []) (sym h)
+          (subst (λ b. Left s taken (record t { stage = stage }) (b ++ request_bytes request) []) (sym same)
+              (record { borne = tt; suited = suited; shakes = shakes; ends = tt }));
       quiet = λ f g same over. absurd (over (subst (λ (y : Talk × Event). IsLinked y.0.stage) (sym h) linked));
     }
 
     -- a place is refused
-    refusal_heard : (k : ℕ) → Open s.phase → heard t (Reply (codes "ERROR")) ≡ on_item t.stage Refused t → IsWhole t.stage (item_bytes Refused) (whole_of Refused) → heard t (Reply (codes "ERROR")) ≡ ended (endings.Refused k) t → IsAnswered taken way → Outcome s taken way t (Refused ∷ []) [] 0
+    refusal_heard : (k : ℕ) → Open s.phase → heard t (Reply (codes "ERROR")) ≡ on_item t.stage Refused t
+        → IsWhole t.stage (item_bytes Refused) (whole_of Refused)
+        → heard t (Reply (codes "ERROR")) ≡ ended (endings.Refused k) t → IsAnswered taken way
+        → Outcome s taken way t (Refused ∷ []) [] 0
     refusal_heard k awake on whole h told = record {
       are = (whole, tt);
       is_begun = λ _. begun_none (heard t (Reply (codes "ERROR"))).0.stage;
       same = same_more t Refused [] on (refl, λ f g. refl);
       unsaid = λ shut f g. absurd (awake shut);
       after = λ f g same linked. absurd (subst (λ (y : Talk × Event). IsLinked y.0.stage) h linked);
-      quiet = λ f g same _ _. subst (λ (y : Talk × Event). IsAnswered taken (with_events f (telling y.1 ++ []) g).to_server) (sym h) (subst (IsAnswered taken) (sym same) told);
+      quiet = λ f g same _ _. subst
+          (λ (y : Talk × Event). IsAnswered taken (with_events f (telling y.1 ++ []) g).to_server) (sym h)
+          (subst (IsAnswered taken) (sym same) told);
     }
 
-    one_or : (i : Item) (d : ℕ) → IsLinked t.stage → IsWhole t.stage (item_bytes i) (whole_of i) → Outcome s taken way t (i ∷ []) [] 0 → Left s taken t way (i ∷ []) → Outcome s taken way t (wholes d (i ∷ [])) (behind d (i ∷ [])) (part d (i ∷ []))
+    one_or : (i : Item) (d : ℕ) → IsLinked t.stage → IsWhole t.stage (item_bytes i) (whole_of i)
+        → Outcome s taken way t (i ∷ []) [] 0 → Left s taken t way (i ∷ [])
+        → Outcome s taken way t (wholes d (i ∷ [])) (behind d (i ∷ [])) (part d (i ∷ []))
     one_or i d linked whole done left =
-        whole_or i [] d (λ ws bs p. Outcome s taken way t ws bs p) (λ fits. done) (λ lt. nothing_heard (i ∷ []) d (part_begun t.stage i [] d whole lt) linked left)
+        whole_or i [] d (λ ws bs p. Outcome s taken way t ws bs p) (λ fits. done)
+            (λ lt. nothing_heard (i ∷ []) d (part_begun t.stage i [] d whole lt) linked left)
 
     ok_reply : (k : ℕ) → IsWhole (Station k) (item_bytes Accepted) (whole_of Accepted)
     ok_reply k = (refl, lacks_end (codes "OK" ++ 13 ∷ []) refl, omega arith)
@@ -236,18 +294,32 @@ module _ (places : Places) (differ : Differ places) (codes_are : (k : ℕ) (p : 
     error_reply : (k : ℕ) → IsWhole (Number k) (item_bytes Refused) (whole_of Refused)
     error_reply k = (refl, lacks_end (codes "ERROR" ++ 13 ∷ []) refl, omega arith)
 
-    next_said : (k : ℕ) (o : Option Wanted) → AreAsked places t.wants → t.stage ≡ Number k → s.phase ≡ Granted k → IsAnswered taken way → want_at t.wants (k + 1) ≡ o → heard t (Reply (codes "OK")) ≡ on_item t.stage Accepted t → heard t (Reply (codes "OK")) ≡ to_place o (k + 1) t
+    next_said : (k : ℕ) (o : Option Wanted) → AreAsked places t.wants → t.stage ≡ Number k → s.phase ≡ Granted k
+        → IsAnswered taken way → want_at t.wants (k + 1) ≡ o
+        → heard t (Reply (codes "OK")) ≡ on_item t.stage Accepted t
+        → heard t (Reply (codes "OK")) ≡ to_place o (k + 1) t
         → ((i : ℕ) → IsSuited (next_at t.wants i) (grant_at s.grants i) []) → Outcome s taken way t (Accepted ∷ []) [] 0
     next_said k None asked stage phase told want on h suited =
-        line_said Accepted Packets requests.End (open_at s.phase (Granted k) phase tt) on (subst (λ (y : Stage). IsWhole y (item_bytes Accepted) (whole_of Accepted)) (sym stage) (ok_reply k)) h tt suited (asks_end k refl phase (asks_more (request_line requests.End) taken way end_line told) refl)
+        line_said Accepted Packets requests.End (open_at s.phase (Granted k) phase tt) on
+            (subst (λ (y : Stage). IsWhole y (item_bytes Accepted) (whole_of Accepted)) (sym stage) (ok_reply k)) h tt
+            suited (asks_end k refl phase (asks_more (request_line requests.End) taken way end_line told) refl)
     next_said k (Some w) asked stage phase told want on h suited =
-        let q : (p : Fields × Option ℕ) × (slice_get places (k + 1) ≡ Some p) × (w.place ≡ p.0) = also_at (λ (x : Wanted). x.place) (λ (p : Fields × Option ℕ). p.0) (want_at t.wants (k + 1)) (slice_get places (k + 1)) w (asked.alike (k + 1)) want in
-        let fields : IsField 5 w.place.station × IsField 2 w.place.network = subst (λ (f : Fields). IsField 5 f.station × IsField 2 f.network) (sym q.2) (codes_are (k + 1) q.0 q.1) in
-        line_said Accepted (Station (k + 1)) (requests.Station w.place) (open_at s.phase (Granted k) phase tt) on (subst (λ (y : Stage). IsWhole y (item_bytes Accepted) (whole_of Accepted)) (sym stage) (ok_reply k)) h tt suited
-        (asks_place (k + 1) w refl want (inr (k, refl, phase)) (asks_more (request_line (requests.Station w.place)) taken way (station_line w.place fields.0 fields.1) told) refl)
+        let q : (p : Fields × Option ℕ) × (slice_get places (k + 1) ≡ Some p) × (w.place ≡ p.0) =
+            also_at (λ (x : Wanted). x.place) (λ (p : Fields × Option ℕ). p.0) (want_at t.wants (k + 1))
+            (slice_get places (k + 1)) w (asked.alike (k + 1)) want in
+        let fields : IsField 5 w.place.station × IsField 2 w.place.network =
+            subst (λ (f : Fields). IsField 5 f.station × IsField 2 f.network) (sym q.2) (codes_are (k + 1) q.0 q.1) in
+        line_said Accepted (Station (k + 1)) (requests.Station w.place) (open_at s.phase (Granted k) phase tt) on
+            (subst (λ (y : Stage). IsWhole y (item_bytes Accepted) (whole_of Accepted)) (sym stage) (ok_reply k)) h tt
+            suited
+        (asks_place (k + 1) w refl want (inr (k, refl, phase))
+            (asks_more (request_line (requests.Station w.place)) taken way (station_line w.place fields.0 fields.1)
+            told) refl)
 
     -- by who has said what
-    module _ (items : List Item) (d : ℕ) (asked : AreAsked places t.wants) (borne : AreBorne places items) (suited : (k : ℕ) → IsSuited (next_at t.wants k) (grant_at s.grants k) (of_place k items)) (ends : EndsIn s.phase items)
+    module _ (items : List Item) (d : ℕ) (asked : AreAsked places t.wants) (borne : AreBorne places items)
+        (suited : (k : ℕ) → IsSuited (next_at t.wants k) (grant_at s.grants k) (of_place k items))
+        (ends : EndsIn s.phase items)
         (shakes : Shakes t s.phase taken way items) where
       abbrev Result : List Item → Type 0
       Result is = Outcome s taken way t (wholes d is) (behind d is) (part d is)
@@ -256,47 +328,70 @@ module _ (places : Places) (differ : Differ places) (codes_are : (k : ℕ) (p : 
       left = record { borne = borne; suited = suited; shakes = shakes; ends = ends }
 
       empty : items ≡ [] → IsLinked t.stage → Result items
-      empty none linked = subst Result (sym none) (nothing_heard [] 0 (begun_none t.stage) linked (subst (Left s taken t way) none left))
+      empty none linked = subst Result (sym none)
+          (nothing_heard [] 0 (begun_none t.stage) linked (subst (Left s taken t way) none left))
 
-      suits : (i : Item) → ((k : ℕ) → of_place k (i ∷ []) ≡ []) → items ≡ i ∷ [] → (k : ℕ) → IsSuited (next_at t.wants k) (grant_at s.grants k) []
-      suits i none one k = subst (IsSuited (next_at t.wants k) (grant_at s.grants k)) (ap (of_place k) one ∙ none k) (suited k)
+      suits : (i : Item) → ((k : ℕ) → of_place k (i ∷ []) ≡ []) → items ≡ i ∷ [] → (k : ℕ)
+          → IsSuited (next_at t.wants k) (grant_at s.grants k) []
+      suits i none one k = subst (IsSuited (next_at t.wants k) (grant_at s.grants k)) (ap (of_place k) one ∙ none k)
+          (suited k)
 
       there : (stage : Stage) → t.stage ≡ stage → IsLinked stage → IsLinked t.stage
       there stage is linked = subst IsLinked (sym is) linked
 
-      whole_at : (stage : Stage) (i : Item) → t.stage ≡ stage → IsWhole stage (item_bytes i) (whole_of i) → IsWhole t.stage (item_bytes i) (whole_of i)
+      whole_at : (stage : Stage) (i : Item) → t.stage ≡ stage → IsWhole stage (item_bytes i) (whole_of i)
+          → IsWhole t.stage (item_bytes i) (whole_of i)
       whole_at stage i is whole = subst (λ (y : Stage). IsWhole y (item_bytes i) (whole_of i)) (sym is) whole
 
       -- the table says the same at this stage
-      on_is : (i : Item) (stage : Stage) → t.stage ≡ stage → heard_at stage t (whole_of i) ≡ on_item stage i t → heard t (whole_of i) ≡ on_item t.stage i t
+      on_is : (i : Item) (stage : Stage) → t.stage ≡ stage → heard_at stage t (whole_of i) ≡ on_item stage i t
+          → heard t (whole_of i) ≡ on_item t.stage i t
       on_is i stage is at = subst (λ (y : Stage). heard_at y t (whole_of i) ≡ on_item y i t) (sym is) at
 
       by_shakes : Shakes t s.phase taken way items → Result items
       by_shakes (asks_place k w stage want ready asks none) = empty none (there (Station k) stage tt)
       by_shakes (has_place k stage phase said one) =
           let request : Request = numbered t.mode (next_at t.wants k) in
-          subst Result (sym one) (one_or Accepted d (there (Station k) stage tt) (whole_at (Station k) Accepted stage (ok_reply k))
-          (line_said Accepted (Number k) request (open_at s.phase (Chosen k) phase tt) (on_is Accepted (Station k) stage refl) (whole_at (Station k) Accepted stage (ok_reply k)) (ap (λ (y : Stage). heard_at y t (Reply (codes "OK"))) stage) tt (suits Accepted (λ i. refl) one)
-          (asks_number k refl phase (asks_more (request_line request) taken way (number_line t.mode (next_at t.wants k)) said) refl)) (subst (Left s taken t way) one left))
+          subst Result (sym one) (one_or Accepted d (there (Station k) stage tt)
+              (whole_at (Station k) Accepted stage (ok_reply k))
+          (line_said Accepted (Number k) request (open_at s.phase (Chosen k) phase tt)
+              (on_is Accepted (Station k) stage refl) (whole_at (Station k) Accepted stage (ok_reply k))
+              (ap (λ (y : Stage). heard_at y t (Reply (codes "OK"))) stage) tt (suits Accepted (λ i. refl) one)
+          (asks_number k refl phase
+              (asks_more (request_line request) taken way (number_line t.mode (next_at t.wants k)) said) refl))
+              (subst (Left s taken t way) one left))
       by_shakes (asks_number k stage phase asks none) = empty none (there (Number k) stage tt)
       by_shakes (has_number k stage phase said one) =
-          subst Result (sym one) (one_or Accepted d (there (Number k) stage tt) (whole_at (Number k) Accepted stage (ok_reply k))
-          (next_said k (want_at t.wants (k + 1)) asked stage phase said refl (on_is Accepted (Number k) stage refl) (ap (λ (y : Stage). heard_at y t (Reply (codes "OK"))) stage) (suits Accepted (λ i. refl) one)) (subst (Left s taken t way) one left))
+          subst Result (sym one) (one_or Accepted d (there (Number k) stage tt)
+              (whole_at (Number k) Accepted stage (ok_reply k))
+          (next_said k (want_at t.wants (k + 1)) asked stage phase said refl (on_is Accepted (Number k) stage refl)
+              (ap (λ (y : Stage). heard_at y t (Reply (codes "OK"))) stage) (suits Accepted (λ i. refl) one))
+              (subst (Left s taken t way) one left))
       by_shakes (has_none k stage phase said one) =
-          subst Result (sym one) (one_or Refused d (there (Number k) stage tt) (whole_at (Number k) Refused stage (error_reply k))
-          (refusal_heard k (open_at s.phase (Chosen k) phase tt) (on_is Refused (Number k) stage refl) (whole_at (Number k) Refused stage (error_reply k)) (ap (λ (y : Stage). heard_at y t (Reply (codes "ERROR"))) stage) said) (subst (Left s taken t way) one left))
+          subst Result (sym one) (one_or Refused d (there (Number k) stage tt)
+              (whole_at (Number k) Refused stage (error_reply k))
+          (refusal_heard k (open_at s.phase (Chosen k) phase tt) (on_is Refused (Number k) stage refl)
+              (whole_at (Number k) Refused stage (error_reply k))
+              (ap (λ (y : Stage). heard_at y t (Reply (codes "ERROR"))) stage) said)
+              (subst (Left s taken t way) one left))
       by_shakes (asks_end k stage phase asks none) = empty none (there Packets stage tt)
       by_shakes (streams stage later sent said) =
-          let front : Front s.grants s.phase t (wholes d items) (behind d items) (part d items) = streamed_front items s.grants s.phase t d (record { stage = stage; asked = asked; borne = borne; suited = suited; sent = sent; ends = ends }) in
+          let front : Front s.grants s.phase t (wholes d items) (behind d items) (part d items) =
+              streamed_front items s.grants s.phase t d
+              (record { stage = stage; asked = asked; borne = borne; suited = suited; sent = sent; ends = ends }) in
           record {
             are = front.are;
             is_begun = front.is_begun;
             same = front.same;
             unsaid = λ _ f g. front.unsaid f g;
             after = λ f g same linked.
-                let u : Streams s.grants s.phase (talk_after t (map brought_of (wholes d items))) (behind d items) = front.after linked in
-                let same_way : (with_events f (events_of t (map brought_of (wholes d items))) g).to_server ≡ way = front.unsaid f g ∙ same in
-                subst (λ b. Left s taken (talk_after t (map brought_of (wholes d items))) b (behind d items)) (sym same_way) (record { borne = u.borne; suited = u.suited; shakes = streams u.stage later u.sent said; ends = u.ends });
+                let u : Streams s.grants s.phase (talk_after t (map brought_of (wholes d items))) (behind d items) =
+                    front.after linked in
+                let same_way : (with_events f (events_of t (map brought_of (wholes d items))) g).to_server ≡ way =
+                    front.unsaid f g ∙ same in
+                subst (λ b. Left s taken (talk_after t (map brought_of (wholes d items))) b (behind d items))
+                    (sym same_way) (record { borne = u.borne; suited = u.suited;
+                    shakes = streams u.stage later u.sent said; ends = u.ends });
             quiet = λ f g same over awake. subst (IsAnswered taken) (sym (front.unsaid f g ∙ same)) (said awake);
           }
 

@@ -1,5 +1,7 @@
 -- What a link was sent: two replies to each place, then packets.
-use Rattle.std.proofs.Common.{◌≡◌, ℕ, ◌+◌, ◌-◌, ◌*◌, ◌<◌, ◌≤◌, inl, inr, zero, suc, refl, sym, ap, subst, ◌∙◌, arith, Bool, true, false, ◌&&◌, not, List, [], ◌∷◌, ◌++◌, append_assoc, length, replicate, Option, Some, None, option_map, slice_get}
+use Rattle.std.proofs.Common.{◌≡◌, ℕ, ◌+◌, ◌-◌, ◌*◌, ◌<◌, ◌≤◌, inl, inr, zero, suc, refl, sym, ap, subst, ◌∙◌, arith,
+    Bool, true, false, ◌&&◌, not, List, [], ◌∷◌, ◌++◌, append_assoc, length, replicate, Option, Some, None, option_map,
+    slice_get}
 use Rattle.slink_wire.specs.Place.{Fields}
 use Rattle.slink_feed.specs.declared.dialogue.Stage.{Stage}
 use Rattle.slink_feed.specs.declared.dialogue.Stage.TheVariants.{Unlinked, Station, Number, Packets, Ended}
@@ -8,11 +10,14 @@ use Rattle.slink_feed.specs.declared.session.Phase.{Phase}
 use Rattle.slink_model.specs.declared.world.Setup.{Setup}
 use Rattle.slink_model.specs.declared.world.Step.{Step}
 use Rattle.slink_model.specs.declared.world.Step.TheVariants.{Append, Connect, ToServer, ToClient, Send, Cut}
-use Rattle.slink_model.specs.Counted.{AreItems, ArePackets, AreStreamed, Counted, CountedLink, answer_at, behind, counted_step, delivered_by, heard_by, if_come, items_sent, new_link, news, on_item, part, sent_by, served_by, taken_by, talk_upon, waits, wholes, windows_of}
+use Rattle.slink_model.specs.Counted.{AreItems, ArePackets, AreStreamed, Counted, CountedLink, answer_at, behind,
+    counted_step, delivered_by, heard_by, if_come, items_sent, new_link, news, on_item, part, sent_by, served_by,
+    taken_by, talk_upon, waits, wholes, windows_of}
 use Rattle.slink_feed.specs.Dialogue.{Talk, to_place, want_at}
 use Rattle.slink_feed.specs.Listening.{AwaitsReply, IsLinked}
 use Rattle.slink_feed.specs.Session.{sent}
-use Rattle.slink_model.specs.Ties.{Item, Accepted, Refused, Greeted, Carried, Finished, Places, item_bytes, items_of, way_bytes}
+use Rattle.slink_model.specs.Ties.{Item, Accepted, Refused, Greeted, Carried, Finished, Places, item_bytes, items_of,
+    way_bytes}
 use Rattle.slink_feed.specs.Window.{Window}
 use Rattle.slink_model.specs.World.{said}
 use Rattle.slink_model.proofs.CountedHeard.{unlinked_upon}
@@ -21,7 +26,8 @@ use Rattle.slink_model.proofs.Counts.{EndsIn}
 use Rattle.slink_feed.proofs.Items.{is_within, within_is}
 use Rattle.slink_model.proofs.OneWorld.{linked_or}
 use Rattle.slink_model.proofs.Requested.{also_at}
-use Rattle.slink_model.proofs.Shaking.{AreAsked, AreBorne, AreSent, IsBorne, IsSent, Shakes, asks_end, asks_number, asks_place, has_none, has_number, has_place, streams}
+use Rattle.slink_model.proofs.Shaking.{AreAsked, AreBorne, AreSent, IsBorne, IsSent, Shakes, asks_end, asks_number,
+    asks_place, has_none, has_number, has_place, streams}
 
 -- how many replies a client heard that waits for this
 abbrev replies_at : Places → Stage → ℕ
@@ -65,32 +71,38 @@ AreShaped places talk None = Unit {0}
 AreShaped places talk (Some c) = IsLinked talk.stage → Shape places talk.stage c.sent c.delivered
 
 -- what goes behind while packets are awaited
-shape_more : (places : Places) (talk : Talk) (sent ys : List Item) (d : ℕ) → d ≤ length (way_bytes sent) → Shape places talk.stage sent d → Shape places talk.stage (sent ++ ys) d
+shape_more : (places : Places) (talk : Talk) (sent ys : List Item) (d : ℕ) → d ≤ length (way_bytes sent)
+    → Shape places talk.stage sent d → Shape places talk.stage (sent ++ ys) d
 shape_more places talk sent ys d few h =
     let b : behind d (sent ++ ys) ≡ behind d sent ++ ys = behind_more sent ys d few in
     record {
       packets = h.packets ++ ys;
-      sent_is = ap (λ (x : List Item). x ++ ys) h.sent_is ∙ append_assoc (replicate (replies_at places talk.stage) Accepted) h.packets ys;
+      sent_is = ap (λ (x : List Item). x ++ ys) h.sent_is
+          ∙ append_assoc (replicate (replies_at places talk.stage) Accepted) h.packets ys;
       done = h.done;
       still = λ awaits. ap (λ (x : List Item). x ++ ys) (h.still awaits) ∙ sym b;
       within = h.within;
       are = λ p. (
         (h.are p).0,
-        ap (λ (x : List Item). x ++ ys) (h.are p).1 ∙ (append_assoc (h.are p).0 (behind d sent) ys ∙ ap (λ (x : List Item). (h.are p).0 ++ x) (sym b)),
+        ap (λ (x : List Item). x ++ ys) (h.are p).1
+            ∙ (append_assoc (h.are p).0 (behind d sent) ys ∙ ap (λ (x : List Item). (h.are p).0 ++ x) (sym b)),
         (h.are p).2,
       );
     }
 
 -- a line that comes is answered
-come_shape : (places : Places) (t : Bool) (feed : List Window) (talk : Talk) (l : CountedLink) → l.delivered ≤ length (way_bytes l.sent) → Shape places talk.stage l.sent l.delivered
+come_shape : (places : Places) (t : Bool) (feed : List Window) (talk : Talk) (l : CountedLink)
+    → l.delivered ≤ length (way_bytes l.sent) → Shape places talk.stage l.sent l.delivered
     → Shape places talk.stage (if_come t feed talk l).sent (if_come t feed talk l).delivered
-come_shape places true feed talk l few h = shape_more places talk l.sent (items_of (answer_at talk.stage feed talk l.session).1) l.delivered few h
+come_shape places true feed talk l few h =
+    shape_more places talk l.sent (items_of (answer_at talk.stage feed talk l.session).1) l.delivered few h
 come_shape places false feed talk l few h = h
 
 -- one reply more
 replies_more : (m : ℕ) → replicate m Accepted ++ Accepted ∷ [] ≡ replicate (m + 1) Accepted ++ []
 replies_more zero = refl
-replies_more (suc m) = ap (λ is. Accepted ∷ is) (replies_more m) ∙ ap (λ k. replicate k Accepted ++ []) (let e : suc (m + 1) ≡ suc m + 1 = omega arith in e)
+replies_more (suc m) = ap (λ is. Accepted ∷ is) (replies_more m)
+    ∙ ap (λ k. replicate k Accepted ++ []) (let e : suc (m + 1) ≡ suc m + 1 = omega arith in e)
 
 all_there : (m d : ℕ) → behind d (replicate m Accepted ++ []) ≡ [] → 4 * m ≤ d
 all_there zero d none = omega arith
@@ -99,19 +111,25 @@ all_there (suc m) d none = whole_or Accepted (replicate m Accepted ++ []) d (λ 
     (λ lt none. absurd (let bad : Accepted ∷ (replicate m Accepted ++ []) ≡ [] = none in cc bad)) none
 
 -- what a client hears that goes on to await packets
-heard_packets : (places : Places) (is : List Item) (t : Talk) → t.stage ≡ Packets → AreSent is → AreBorne places is → IsLinked (talk_upon t is).stage → ArePackets is × ((talk_upon t is).stage ≡ Packets)
+heard_packets : (places : Places) (is : List Item) (t : Talk) → t.stage ≡ Packets → AreSent is → AreBorne places is
+    → IsLinked (talk_upon t is).stage → ArePackets is × ((talk_upon t is).stage ≡ Packets)
 heard_packets places [] t p sent borne linked = (tt, p)
 heard_packets places (i ∷ is) t p sent borne linked =
     let same : (on_item t.stage i t).0 ≡ (on_item Packets i t).0 = ap (λ (s : Stage). (on_item s i t).0) p in
     elim (linked_or (on_item t.stage i t).0.stage) [
       | inl there ↦
-          let next : ((on_item Packets i t).0.stage ≡ Packets) × (ArePackets is → ArePackets (i ∷ is)) = one_heard i sent.0 borne.0 (subst (λ (u : Talk). IsLinked u.stage) same there) in
-          let rest : ArePackets is × ((talk_upon (on_item t.stage i t).0 is).stage ≡ Packets) = heard_packets places is (on_item t.stage i t).0 (ap (λ (u : Talk). u.stage) same ∙ next.0) sent.1 borne.1 linked in
+          let next : ((on_item Packets i t).0.stage ≡ Packets) × (ArePackets is → ArePackets (i ∷ is)) =
+              one_heard i sent.0 borne.0 (subst (λ (u : Talk). IsLinked u.stage) same there) in
+          let rest : ArePackets is × ((talk_upon (on_item t.stage i t).0 is).stage ≡ Packets) =
+              heard_packets places is (on_item t.stage i t).0 (ap (λ (u : Talk). u.stage) same ∙ next.0) sent.1 borne.1
+              linked in
           (next.1 rest.0, rest.1)
-      | inr over ↦ absurd (over (subst (λ (u : Talk). IsLinked u.stage) (unlinked_upon (on_item t.stage i t).0 is over).0 linked))
+      | inr over ↦ absurd (over
+      (subst (λ (u : Talk). IsLinked u.stage) (unlinked_upon (on_item t.stage i t).0 is over).0 linked))
     ]
   where
-    one_heard : (i : Item) → IsSent i → IsBorne places i → IsLinked (on_item Packets i t).0.stage → ((on_item Packets i t).0.stage ≡ Packets) × (ArePackets is → ArePackets (i ∷ is))
+    one_heard : (i : Item) → IsSent i → IsBorne places i → IsLinked (on_item Packets i t).0.stage
+        → ((on_item Packets i t).0.stage ≡ Packets) × (ArePackets is → ArePackets (i ∷ is))
     one_heard Accepted sent borne there = absurd sent
     one_heard Refused sent borne there = absurd sent
     one_heard Greeted sent borne there = absurd sent
@@ -121,7 +139,9 @@ heard_packets places (i ∷ is) t p sent borne linked =
 -- the items that are whole, and the others
 wholes_behind : (is : List Item) (d : ℕ) → is ≡ wholes d is ++ behind d is
 wholes_behind [] d = refl
-wholes_behind (i ∷ is) d = whole_or i is d (λ ws bs p. i ∷ is ≡ ws ++ bs) (λ fits. ap (λ xs. i ∷ xs) (wholes_behind is (d - length (item_bytes i)))) (λ lt. refl)
+wholes_behind (i ∷ is) d =
+    whole_or i is d (λ ws bs p. i ∷ is ≡ ws ++ bs)
+    (λ fits. ap (λ xs. i ∷ xs) (wholes_behind is (d - length (item_bytes i)))) (λ lt. refl)
 
 sent_front : (xs ys : List Item) → AreSent (xs ++ ys) → AreSent xs
 sent_front [] ys h = tt
@@ -139,7 +159,8 @@ packets_more (Greeted ∷ xs) ys a b = absurd a
 packets_more (Carried k n r ∷ xs) ys a b = (a.0, packets_more xs ys a.1 b)
 packets_more (Finished ∷ xs) ys a b = absurd a
 
-module _ (places : Places) (talk : Talk) (asked : AreAsked places talk.wants) (n : ℕ) (l : CountedLink) (f : LinkFacts places talk l) (h : Shape places talk.stage l.sent l.delivered) where
+module _ (places : Places) (talk : Talk) (asked : AreAsked places talk.wants) (n : ℕ) (l : CountedLink)
+    (f : LinkFacts places talk l) (h : Shape places talk.stage l.sent l.delivered) where
   abbrev its : List Item
   its = behind l.delivered l.sent
 
@@ -162,10 +183,14 @@ module _ (places : Places) (talk : Talk) (asked : AreAsked places talk.wants) (n
     are = λ p. ((h.are p).0, (h.are p).1 ∙ ap (λ (x : List Item). (h.are p).0 ++ x) (sym rest), (h.are p).2);
   })
 
-  reply_heard : (new : Stage) → its ≡ Accepted ∷ [] → AwaitsReply talk.stage → replies_at places new ≡ replies_at places talk.stage + 1 → IsWithin places new → behind d l.sent ≡ [] → Shape places new l.sent d
+  reply_heard : (new : Stage) → its ≡ Accepted ∷ [] → AwaitsReply talk.stage
+      → replies_at places new ≡ replies_at places talk.stage + 1 → IsWithin places new → behind d l.sent ≡ []
+      → Shape places new l.sent d
   reply_heard new one awaits more within none =
       let m : ℕ = replies_at places talk.stage in
-      let is : l.sent ≡ replicate (replies_at places new) Accepted ++ [] = h.sent_is ∙ (ap (λ (ps : List Item). replicate m Accepted ++ ps) (h.still awaits ∙ one) ∙ (replies_more m ∙ ap (λ k. replicate k Accepted ++ []) (sym more))) in
+      let is : l.sent ≡ replicate (replies_at places new) Accepted ++ [] =
+          h.sent_is ∙ (ap (λ (ps : List Item). replicate m Accepted ++ ps) (h.still awaits ∙ one)
+          ∙ (replies_more m ∙ ap (λ k. replicate k Accepted ++ []) (sym more))) in
       record {
         packets = [];
         sent_is = is;
@@ -175,12 +200,14 @@ module _ (places : Places) (talk : Talk) (asked : AreAsked places talk.wants) (n
         are = λ _. ([], sym none, tt);
       }
 
-  packets_heard : talk.stage ≡ Packets → AreSent its → behind d l.sent ≡ behind e its → IsLinked (talk_upon talk (wholes e its)).stage → Shape places (talk_upon talk (wholes e its)).stage l.sent d
+  packets_heard : talk.stage ≡ Packets → AreSent its → behind d l.sent ≡ behind e its
+      → IsLinked (talk_upon talk (wholes e its)).stage → Shape places (talk_upon talk (wholes e its)).stage l.sent d
   packets_heard p sent same linked =
       let ws : List Item = wholes e its in
       let split : its ≡ ws ++ behind d l.sent = wholes_behind its e ∙ ap (λ (x : List Item). ws ++ x) (sym same) in
       let heard : ArePackets ws × ((talk_upon talk ws).stage ≡ Packets) =
-      heard_packets places ws talk p (sent_front ws (behind d l.sent) (subst AreSent split sent)) (borne_front places ws (behind d l.sent) (subst (AreBorne places) split f.borne)) linked in
+      heard_packets places ws talk p (sent_front ws (behind d l.sent) (subst AreSent split sent))
+          (borne_front places ws (behind d l.sent) (subst (AreBorne places) split f.borne)) linked in
       let front : List Item = (h.are p).0 in
       subst (λ (s : Stage). Shape places s l.sent d) (p ∙ sym heard.1) (record {
         packets = h.packets;
@@ -196,42 +223,60 @@ module _ (places : Places) (talk : Talk) (asked : AreAsked places talk.wants) (n
       })
 
   abbrev Result : List Item → Type 0
-  Result is = behind d l.sent ≡ behind e is → IsLinked (talk_upon talk (wholes e is)).stage → Shape places (talk_upon talk (wholes e is)).stage l.sent d
+  Result is = behind d l.sent ≡ behind e is → IsLinked (talk_upon talk (wholes e is)).stage
+      → Shape places (talk_upon talk (wholes e is)).stage l.sent d
 
   nothing : its ≡ [] → Result its
   nothing none = subst Result (sym none) (λ same linked. stays talk.stage refl (same ∙ sym none))
 
-  one_item : (i : Item) → its ≡ i ∷ [] → (behind d l.sent ≡ [] → IsLinked (on_item talk.stage i talk).0.stage → Shape places (on_item talk.stage i talk).0.stage l.sent d) → Result its
-  one_item i one next = subst Result (sym one) (whole_or i [] e (λ ws bs p. behind d l.sent ≡ bs → IsLinked (talk_upon talk ws).stage → Shape places (talk_upon talk ws).stage l.sent d)
+  one_item : (i : Item) → its ≡ i ∷ [] → (behind d l.sent ≡ [] → IsLinked (on_item talk.stage i talk).0.stage
+      → Shape places (on_item talk.stage i talk).0.stage l.sent d) → Result its
+  one_item i one next = subst Result (sym one) (whole_or i [] e (λ ws bs p. behind d l.sent ≡ bs
+      → IsLinked (talk_upon talk ws).stage → Shape places (talk_upon talk ws).stage l.sent d)
       (λ fits same linked. next same linked) (λ lt same linked. stays talk.stage refl (same ∙ sym one)))
 
-  after_number : (k : ℕ) (o : Option Wanted) → its ≡ Accepted ∷ [] → talk.stage ≡ Number k → want_at talk.wants (k + 1) ≡ o → behind d l.sent ≡ [] → Shape places (to_place o (k + 1) talk).0.stage l.sent d
+  after_number : (k : ℕ) (o : Option Wanted) → its ≡ Accepted ∷ [] → talk.stage ≡ Number k
+      → want_at talk.wants (k + 1) ≡ o → behind d l.sent ≡ [] → Shape places (to_place o (k + 1) talk).0.stage l.sent d
   after_number k None one stage want none =
       let lt : k < length places = subst (IsWithin places) stage h.within in
       let last : length places ≤ k + 1 = past (within_or) in
-      reply_heard Packets one (subst AwaitsReply (sym stage) tt) (let r : replies_at places talk.stage ≡ 2 * k + 1 = ap (replies_at places) stage in omega (arith, r, lt, last)) tt none
+      reply_heard Packets one (subst AwaitsReply (sym stage) tt)
+          (let r : replies_at places talk.stage ≡ 2 * k + 1 = ap (replies_at places) stage in
+          omega (arith, r, lt, last)) tt none
     where
       within_or : (k + 1 < length places) → ⊥
       within_or more =
           let q : (p : Fields × Option ℕ) × (slice_get places (k + 1) ≡ Some p) = within_is places (k + 1) more in
-          let w : (x : Wanted) × (want_at talk.wants (k + 1) ≡ Some x) × (q.0.0 ≡ x.place) = also_at (λ (p : Fields × Option ℕ). p.0) (λ (x : Wanted). x.place) (slice_get places (k + 1)) (want_at talk.wants (k + 1)) q.0 (sym (asked.alike (k + 1))) q.1 in
+          let w : (x : Wanted) × (want_at talk.wants (k + 1) ≡ Some x) × (q.0.0 ≡ x.place) =
+              also_at (λ (p : Fields × Option ℕ). p.0) (λ (x : Wanted). x.place) (slice_get places (k + 1))
+              (want_at talk.wants (k + 1)) q.0 (sym (asked.alike (k + 1))) q.1 in
           let bad : None ≡ Some w.0 = sym want ∙ w.1 in cc bad
 
       past : ((k + 1 < length places) → ⊥) → length places ≤ k + 1
-      past never = elim (Rattle.std.proofs.lemmas.Bool.cases_lt (k + 1) (length places)) [ inl lt ↦ absurd (never lt) | inr le ↦ omega (arith, le) ]
+      past never = elim (Rattle.std.proofs.lemmas.Bool.cases_lt (k + 1) (length places)) [ inl lt ↦ absurd (never lt)
+          | inr le ↦ omega (arith, le) ]
   after_number k (Some w) one stage want none =
-      let q : (p : Fields × Option ℕ) × (slice_get places (k + 1) ≡ Some p) × (w.place ≡ p.0) = also_at (λ (x : Wanted). x.place) (λ (p : Fields × Option ℕ). p.0) (want_at talk.wants (k + 1)) (slice_get places (k + 1)) w (asked.alike (k + 1)) want in
-      reply_heard (Station (k + 1)) one (subst AwaitsReply (sym stage) tt) (let r : replies_at places talk.stage ≡ 2 * k + 1 = ap (replies_at places) stage in omega (arith, r)) (is_within places (k + 1) q.0 q.1) none
+      let q : (p : Fields × Option ℕ) × (slice_get places (k + 1) ≡ Some p) × (w.place ≡ p.0) =
+          also_at (λ (x : Wanted). x.place) (λ (p : Fields × Option ℕ). p.0) (want_at talk.wants (k + 1))
+          (slice_get places (k + 1)) w (asked.alike (k + 1)) want in
+      reply_heard (Station (k + 1)) one (subst AwaitsReply (sym stage) tt)
+          (let r : replies_at places talk.stage ≡ 2 * k + 1 = ap (replies_at places) stage in
+          omega (arith, r)) (is_within places (k + 1) q.0 q.1) none
 
   by_shakes : Shakes talk f.phase f.taken f.way its → Result its
   by_shakes (asks_place k w stage want ready asks none) = nothing none
   by_shakes (has_place k stage phase told one) = one_item Accepted one (λ none linked.
       subst (λ (t : Stage). Shape places (on_item t Accepted talk).0.stage l.sent d) (sym stage)
-      (reply_heard (Number k) one (subst AwaitsReply (sym stage) tt) (let r : replies_at places talk.stage ≡ 2 * k = ap (replies_at places) stage in omega (arith, r)) (subst (IsWithin places) stage h.within) none))
+      (reply_heard (Number k) one (subst AwaitsReply (sym stage) tt)
+          (let r : replies_at places talk.stage ≡ 2 * k = ap (replies_at places) stage in
+          omega (arith, r)) (subst (IsWithin places) stage h.within) none))
   by_shakes (asks_number k stage phase asks none) = nothing none
   by_shakes (has_number k stage phase told one) = one_item Accepted one (λ none linked.
-      subst (λ (t : Stage). Shape places (on_item t Accepted talk).0.stage l.sent d) (sym stage) (after_number k (want_at talk.wants (k + 1)) one stage refl none))
-  by_shakes (has_none k stage phase told one) = one_item Refused one (λ none linked. absurd (subst (λ (t : Stage). IsLinked (on_item t Refused talk).0.stage) stage linked))
+      subst (λ (t : Stage). Shape places (on_item t Accepted talk).0.stage l.sent d) (sym stage)
+          (after_number k (want_at talk.wants (k + 1)) one stage refl none))
+  by_shakes (has_none k stage phase told one) =
+      one_item Refused one (λ none linked.
+      absurd (subst (λ (t : Stage). IsLinked (on_item t Refused talk).0.stage) stage linked))
   by_shakes (asks_end k stage phase asks none) = nothing none
   by_shakes (streams stage later sent told) = packets_heard stage sent
 
@@ -239,10 +284,13 @@ module _ (places : Places) (talk : Talk) (asked : AreAsked places talk.wants) (n
   shape_heard linked = by_shakes f.shakes left linked
 
 -- what a step makes of it
-connect_shaped : (places : Places) (talk : Talk) (o : Option Wanted) → 0 < length places → AreAsked places talk.wants → want_at talk.wants 0 ≡ o → AreShaped places (to_place o 0 talk).0 (Some (new_link (said (to_place o 0 talk).1)))
+connect_shaped : (places : Places) (talk : Talk) (o : Option Wanted) → 0 < length places → AreAsked places talk.wants
+    → want_at talk.wants 0 ≡ o → AreShaped places (to_place o 0 talk).0 (Some (new_link (said (to_place o 0 talk).1)))
 connect_shaped places talk None some asked want =
     let p : (p : Fields × Option ℕ) × (slice_get places 0 ≡ Some p) = within_is places 0 some in
-    let first : (x : Wanted) × (want_at talk.wants 0 ≡ Some x) × (p.0.0 ≡ x.place) = also_at (λ (x : Fields × Option ℕ). x.0) (λ (x : Wanted). x.place) (slice_get places 0) (want_at talk.wants 0) p.0 (sym (asked.alike 0)) p.1 in
+    let first : (x : Wanted) × (want_at talk.wants 0 ≡ Some x) × (p.0.0 ≡ x.place) =
+        also_at (λ (x : Fields × Option ℕ). x.0) (λ (x : Wanted). x.place) (slice_get places 0) (want_at talk.wants 0)
+        p.0 (sym (asked.alike 0)) p.1 in
     absurd (let bad : None ≡ Some first.0 = sym want ∙ first.1 in cc bad)
 connect_shaped places talk (Some w) some asked want = λ _. record {
   packets = [];
@@ -253,41 +301,60 @@ connect_shaped places talk (Some w) some asked want = λ _. record {
   are = λ p. absurd (let bad : Station 0 ≡ Packets = p in cc bad);
 }
 
-served_shaped : (places : Places) (feed : List Window) (talk : Talk) (n : ℕ) (q : Option CountedLink) → AreFacts places talk q → AreShaped places talk q → AreShaped places talk (option_map (served_by feed talk n) q)
+served_shaped : (places : Places) (feed : List Window) (talk : Talk) (n : ℕ) (q : Option CountedLink)
+    → AreFacts places talk q → AreShaped places talk q → AreShaped places talk (option_map (served_by feed talk n) q)
 served_shaped places feed talk n None f h = tt
-served_shaped places feed talk n (Some l) f h = λ linked. come_shape places (waits l.taken l.said && not (waits (taken_by n l) l.said)) feed talk (record l { taken = taken_by n l }) (f linked).few (h linked)
+served_shaped places feed talk n (Some l) f h =
+    λ linked. come_shape places (waits l.taken l.said && not (waits (taken_by n l) l.said)) feed talk
+    (record l { taken = taken_by n l }) (f linked).few (h linked)
 
-sent_shaped : (places : Places) (feed : List Window) (talk : Talk) (k : ℕ) (q : Option CountedLink) → AreFacts places talk q → AreShaped places talk q → AreShaped places talk (option_map (sent_by feed k) q)
+sent_shaped : (places : Places) (feed : List Window) (talk : Talk) (k : ℕ) (q : Option CountedLink)
+    → AreFacts places talk q → AreShaped places talk q → AreShaped places talk (option_map (sent_by feed k) q)
 sent_shaped places feed talk k None f h = tt
-sent_shaped places feed talk k (Some l) f h = λ linked. shape_more places talk l.sent (items_sent feed l.session.grants k (sent feed l.session k).1) l.delivered (f linked).few (h linked)
+sent_shaped places feed talk k (Some l) f h =
+    λ linked. shape_more places talk l.sent (items_sent feed l.session.grants k (sent feed l.session k).1) l.delivered
+    (f linked).few (h linked)
 
-heard_shaped : (places : Places) (c : Counted) (n : ℕ) (q : Option CountedLink) → AreAsked places c.talk.wants → AreFacts places c.talk q → AreShaped places c.talk q → AreShaped places c.talk c.link → AreShaped places (heard_by n c q).talk (heard_by n c q).link
+heard_shaped : (places : Places) (c : Counted) (n : ℕ) (q : Option CountedLink) → AreAsked places c.talk.wants
+    → AreFacts places c.talk q → AreShaped places c.talk q → AreShaped places c.talk c.link
+    → AreShaped places (heard_by n c q).talk (heard_by n c q).link
 heard_shaped places c n None asked f h same = same
 heard_shaped places c n (Some l) asked f h same = λ linked. elim (linked_or c.talk.stage) [
   | inl there ↦ shape_heard places c.talk asked n l (f there) (h there) linked
   | inr over ↦ absurd (over (subst (λ (t : Talk). IsLinked t.stage) (unlinked_upon c.talk (news n l) over).0 linked))
 ]
 
-pub step_shaped : (setup : Setup) (c : Counted) (step : Step) → 0 < length setup.places.items → AreAsked setup.places.items c.talk.wants → AreFacts setup.places.items c.talk c.link
-    → AreShaped setup.places.items c.talk c.link → AreShaped setup.places.items (counted_step setup c step).talk (counted_step setup c step).link
+pub step_shaped : (setup : Setup) (c : Counted) (step : Step) → 0 < length setup.places.items
+    → AreAsked setup.places.items c.talk.wants → AreFacts setup.places.items c.talk c.link
+    → AreShaped setup.places.items c.talk c.link
+    → AreShaped setup.places.items (counted_step setup c step).talk (counted_step setup c step).link
 step_shaped setup c (Append k b) some asked f h = h
-step_shaped setup c Connect some asked f h = connect_shaped setup.places.items c.talk (want_at c.talk.wants 0) some asked refl
-step_shaped setup c (ToServer n) some asked f h = served_shaped setup.places.items (windows_of setup c) c.talk n c.link f h
+step_shaped setup c Connect some asked f h =
+    connect_shaped setup.places.items c.talk (want_at c.talk.wants 0) some asked refl
+step_shaped setup c (ToServer n) some asked f h =
+    served_shaped setup.places.items (windows_of setup c) c.talk n c.link f h
 step_shaped setup c (ToClient n) some asked f h = heard_shaped setup.places.items c n c.link asked f h h
 step_shaped setup c (Send k) some asked f h = sent_shaped setup.places.items (windows_of setup c) c.talk k c.link f h
 step_shaped setup c Cut some asked f h = tt
 
 -- what is told of it
-packets_sent : (talk : Talk) (phase : Phase) (taken way : List ℕ) (is : List Item) → talk.stage ≡ Packets → Shakes talk phase taken way is → AreSent is
-packets_sent talk phase taken way is p (asks_place k w stage want ready asks none) = absurd (let bad : Station k ≡ Packets = sym stage ∙ p in cc bad)
-packets_sent talk phase taken way is p (has_place k stage at told one) = absurd (let bad : Station k ≡ Packets = sym stage ∙ p in cc bad)
-packets_sent talk phase taken way is p (asks_number k stage at asks none) = absurd (let bad : Number k ≡ Packets = sym stage ∙ p in cc bad)
-packets_sent talk phase taken way is p (has_number k stage at told one) = absurd (let bad : Number k ≡ Packets = sym stage ∙ p in cc bad)
-packets_sent talk phase taken way is p (has_none k stage at told one) = absurd (let bad : Number k ≡ Packets = sym stage ∙ p in cc bad)
+packets_sent : (talk : Talk) (phase : Phase) (taken way : List ℕ) (is : List Item) → talk.stage ≡ Packets
+    → Shakes talk phase taken way is → AreSent is
+packets_sent talk phase taken way is p (asks_place k w stage want ready asks none) =
+    absurd (let bad : Station k ≡ Packets = sym stage ∙ p in cc bad)
+packets_sent talk phase taken way is p (has_place k stage at told one) =
+    absurd (let bad : Station k ≡ Packets = sym stage ∙ p in cc bad)
+packets_sent talk phase taken way is p (asks_number k stage at asks none) =
+    absurd (let bad : Number k ≡ Packets = sym stage ∙ p in cc bad)
+packets_sent talk phase taken way is p (has_number k stage at told one) =
+    absurd (let bad : Number k ≡ Packets = sym stage ∙ p in cc bad)
+packets_sent talk phase taken way is p (has_none k stage at told one) =
+    absurd (let bad : Number k ≡ Packets = sym stage ∙ p in cc bad)
 packets_sent talk phase taken way is p (asks_end k stage at asks none) = subst AreSent (sym none) tt
 packets_sent talk phase taken way is p (streams stage later sent told) = sent
 
-items_are : (places : Places) (phase : Phase) (front is : List Item) → ArePackets front → AreSent is → AreBorne places is → EndsIn phase is → AreItems (front ++ is)
+items_are : (places : Places) (phase : Phase) (front is : List Item) → ArePackets front → AreSent is
+    → AreBorne places is → EndsIn phase is → AreItems (front ++ is)
 items_are places phase [] [] a s b e = tt
 items_are places phase [] (Accepted ∷ is) a s b e = absurd s.0
 items_are places phase [] (Refused ∷ is) a s b e = absurd s.0
@@ -300,7 +367,8 @@ items_are places phase (Greeted ∷ front) is a s b e = absurd a
 items_are places phase (Carried k n r ∷ front) is a s b e = (a.0, items_are places phase front is a.1 s b e)
 items_are places phase (Finished ∷ front) is a s b e = absurd a
 
-pub streamed_of : (places : Places) (talk : Talk) (q : Option CountedLink) → AreFacts places talk q → AreShaped places talk q → AreStreamed (length places) talk q
+pub streamed_of : (places : Places) (talk : Talk) (q : Option CountedLink) → AreFacts places talk q
+    → AreShaped places talk q → AreStreamed (length places) talk q
 streamed_of places talk None f h = tt
 streamed_of places talk (Some l) f h = λ p.
     let linked : IsLinked talk.stage = subst IsLinked (sym p) tt in
@@ -311,6 +379,8 @@ streamed_of places talk (Some l) f h = λ p.
     record {
       packets = x.packets;
       sent_is = x.sent_is ∙ ap (λ m. replicate m Accepted ++ x.packets) count;
-      are = subst AreItems (sym (x.are p).1) (items_are places y.phase (x.are p).0 its (x.are p).2 (packets_sent talk y.phase y.taken y.way its p y.shakes) y.borne y.ends);
+      are = subst AreItems (sym (x.are p).1)
+          (items_are places y.phase (x.are p).0 its (x.are p).2
+          (packets_sent talk y.phase y.taken y.way its p y.shakes) y.borne y.ends);
       replies = omega (arith, x.done, count);
     }

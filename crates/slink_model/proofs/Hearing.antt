@@ -51,44 +51,67 @@ module _ (first_sent : Numbers) (held : Lists) (start : Numbers) (to_server : Li
   abbrev of : Listening → Taking
   of c = record { client = c; held = held; start = start; to_server = to_server }
 
-  by_place : (old new : Listening) (bytes rest : List ℕ) (used : ℕ) (event : Event) (last : Taking) → Place old.talk.stage → Heard old bytes used new event
-      → Hears first_sent (noted first_sent event (of new)) rest last → Hears first_sent (of old) (take used bytes ++ rest) last
+  by_place : (old new : Listening) (bytes rest : List ℕ) (used : ℕ) (event : Event) (last : Taking)
+      → Place old.talk.stage → Heard old bytes used new event
+      → Hears first_sent (noted first_sent event (of new)) rest last
+      → Hears first_sent (of old) (take used bytes ++ rest) last
   by_place old new bytes rest used event last (linked is) h more =
       piece_heard (of old) last new (take used bytes ++ rest) (take used bytes) rest event refl is (h.brings is) more
   by_place old new bytes rest used event last (unlinked is) h more =
-      let same : noted first_sent event (of new) ≡ of old = ap (λ (e : Event). noted first_sent e (of new)) (h.unlinked is).1 ∙ ap of (h.unlinked is).2 in
-      piece_lost (of old) last (take used bytes ++ rest) (take used bytes) rest refl (not_unlinked old.talk.stage is) (subst (λ (t : Taking). Hears first_sent t rest last) same more)
+      let same : noted first_sent event (of new) ≡ of old =
+          ap (λ (e : Event). noted first_sent e (of new)) (h.unlinked is).1 ∙ ap of (h.unlinked is).2 in
+      piece_lost (of old) last (take used bytes ++ rest) (take used bytes) rest refl (not_unlinked old.talk.stage is)
+          (subst (λ (t : Taking). Hears first_sent t rest last) same more)
   by_place old new bytes rest used event last (ended ending is) h more =
-      let same : noted first_sent event (of new) ≡ of old = ap (λ (e : Event). noted first_sent e (of new)) (h.ended ending is).1 ∙ (nothing_noted first_sent ending (of new) ∙ ap of (h.ended ending is).2) in
-      piece_lost (of old) last (take used bytes ++ rest) (take used bytes) rest refl (not_ended old.talk.stage ending is) (subst (λ (t : Taking). Hears first_sent t rest last) same more)
+      let same : noted first_sent event (of new) ≡ of old =
+          ap (λ (e : Event). noted first_sent e (of new)) (h.ended ending is).1
+          ∙ (nothing_noted first_sent ending (of new) ∙ ap of (h.ended ending is).2) in
+      piece_lost (of old) last (take used bytes ++ rest) (take used bytes) rest refl
+          (not_ended old.talk.stage ending is) (subst (λ (t : Taking). Hears first_sent t rest last) same more)
 
-  pub hears_more : (old new : Listening) (bytes rest : List ℕ) (used : ℕ) (event : Event) (last : Taking) → Heard old bytes used new event
-      → Hears first_sent (noted first_sent event (of new)) rest last → Hears first_sent (of old) (take used bytes ++ rest) last
-  hears_more old new bytes rest used event last h more = by_place old new bytes rest used event last (place_of old.talk.stage) h more
+  pub hears_more : (old new : Listening) (bytes rest : List ℕ) (used : ℕ) (event : Event) (last : Taking)
+      → Heard old bytes used new event
+      → Hears first_sent (noted first_sent event (of new)) rest last
+      → Hears first_sent (of old) (take used bytes ++ rest) last
+  hears_more old new bytes rest used event last h more =
+      by_place old new bytes rest used event last (place_of old.talk.stage) h more
 
-brings_some : (old new : Listening) (bytes : List ℕ) (used : ℕ) (event : Event) → 0 < length bytes → Keeps old → Heard old bytes used new event → used ≡ 0 → Brings old.talk (old.kept ++ take used bytes) new event → ⊥
+brings_some : (old new : Listening) (bytes : List ℕ) (used : ℕ) (event : Event) → 0 < length bytes → Keeps old
+    → Heard old bytes used new event → used ≡ 0 → Brings old.talk (old.kept ++ take used bytes) new event → ⊥
 brings_some old new bytes used event some keeps h none (whole w is heard empty) =
     let same : old.kept ++ take used bytes ≡ old.kept ++ [] = ap (λ n. old.kept ++ take n bytes) none in
     begun_no_whole old.talk.stage old.kept [] w (subst (IsBegun old.talk.stage) (sym (append-nil old.kept)) keeps)
     (subst (λ (b : List ℕ). IsWhole old.talk.stage b w) (same ∙ append-nil old.kept) is)
-brings_some old new bytes used event some keeps h none (begun is same quiet) = let all : used ≡ length bytes = h.all quiet in omega (arith, all, none, some)
+brings_some old new bytes used event some keeps h none (begun is same quiet) = let all : used ≡ length bytes =
+    h.all quiet in omega (arith, all, none, some)
 
-heard_none : (old new : Listening) (bytes : List ℕ) (used : ℕ) (event : Event) → Place old.talk.stage → 0 < length bytes → Keeps old → Heard old bytes used new event → used ≡ 0 → (¬ (IsLinked old.talk.stage)) × (new ≡ old)
-heard_none old new bytes used event (linked is) some keeps h none = absurd (brings_some old new bytes used event some keeps h none (h.brings is))
-heard_none old new bytes used event (unlinked is) some keeps h none = (not_unlinked old.talk.stage is, (h.unlinked is).2)
-heard_none old new bytes used event (ended ending is) some keeps h none = (not_ended old.talk.stage ending is, (h.ended ending is).2)
+heard_none : (old new : Listening) (bytes : List ℕ) (used : ℕ) (event : Event) → Place old.talk.stage
+    → 0 < length bytes → Keeps old → Heard old bytes used new event → used ≡ 0 → (¬ (IsLinked old.talk.stage))
+    × (new ≡ old)
+heard_none old new bytes used event (linked is) some keeps h none =
+    absurd (brings_some old new bytes used event some keeps h none (h.brings is))
+heard_none old new bytes used event (unlinked is) some keeps h none =
+    (not_unlinked old.talk.stage is, (h.unlinked is).2)
+heard_none old new bytes used event (ended ending is) some keeps h none =
+    (not_ended old.talk.stage ending is, (h.ended ending is).2)
 
-pub nothing_heard : (old new : Listening) (bytes : List ℕ) (used : ℕ) (event : Event) → 0 < length bytes → Keeps old → Heard old bytes used new event → used ≡ 0 → (¬ (IsLinked old.talk.stage)) × (new ≡ old)
-nothing_heard old new bytes used event some keeps h none = heard_none old new bytes used event (place_of old.talk.stage) some keeps h none
+pub nothing_heard : (old new : Listening) (bytes : List ℕ) (used : ℕ) (event : Event) → 0 < length bytes → Keeps old
+    → Heard old bytes used new event → used ≡ 0 → (¬ (IsLinked old.talk.stage)) × (new ≡ old)
+nothing_heard old new bytes used event some keeps h none =
+    heard_none old new bytes used event (place_of old.talk.stage) some keeps h none
 
 begun_once : (talk : Talk) (bytes : List ℕ) (new : Listening) (e : Event) → Brings talk bytes new e → Keeps new
-begun_once talk bytes new e (whole w is h empty) = subst (IsBegun new.talk.stage) (sym empty) (begun_none new.talk.stage)
+begun_once talk bytes new e (whole w is h empty) =
+    subst (IsBegun new.talk.stage) (sym empty) (begun_none new.talk.stage)
 begun_once talk bytes new e (begun is same quiet) = subst Keeps (sym same) is
 
-still_kept : (old new : Listening) (bytes : List ℕ) (used : ℕ) (event : Event) → Place old.talk.stage → Keeps old → Heard old bytes used new event → Keeps new
-still_kept old new bytes used event (linked is) keeps h = begun_once old.talk (old.kept ++ take used bytes) new event (h.brings is)
+still_kept : (old new : Listening) (bytes : List ℕ) (used : ℕ) (event : Event) → Place old.talk.stage → Keeps old
+    → Heard old bytes used new event → Keeps new
+still_kept old new bytes used event (linked is) keeps h =
+    begun_once old.talk (old.kept ++ take used bytes) new event (h.brings is)
 still_kept old new bytes used event (unlinked is) keeps h = subst Keeps (sym (h.unlinked is).2) keeps
 still_kept old new bytes used event (ended ending is) keeps h = subst Keeps (sym (h.ended ending is).2) keeps
 
-pub still_keeps : (old new : Listening) (bytes : List ℕ) (used : ℕ) (event : Event) → Keeps old → Heard old bytes used new event → Keeps new
+pub still_keeps : (old new : Listening) (bytes : List ℕ) (used : ℕ) (event : Event) → Keeps old
+    → Heard old bytes used new event → Keeps new
 still_keeps old new bytes used event keeps h = still_kept old new bytes used event (place_of old.talk.stage) keeps h

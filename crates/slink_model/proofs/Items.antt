@@ -1,18 +1,22 @@
 -- What is on its way, item by item.
-use Rattle.std.proofs.Common.{◌≡◌, ◌≢◌, ℕ, ◌+◌, ◌≤◌, inl, inr, refl, sym, ap, ◌∙◌, arith, ◌==◌, List, [], ◌∷◌, ◌++◌, append_assoc, append-nil, length, length-append, Option, Some, if◌then◌else◌}
+use Rattle.std.proofs.Common.{◌≡◌, ◌≢◌, ℕ, ◌+◌, ◌≤◌, inl, inr, refl, sym, ap, ◌∙◌, arith, ◌==◌, List, [], ◌∷◌, ◌++◌,
+    append_assoc, append-nil, length, length-append, Option, Some, if◌then◌else◌}
 use Rattle.std.proofs.lemmas.Bool.Decides.{eqb_tells}
 use Rattle.slink_wire.specs.declared.reply.Reply.{Reply}
 use Rattle.slink_wire.specs.declared.reply.Reply.TheVariants as replies
 use Rattle.slink_wire.specs.Reply.{reply_bytes}
-use Rattle.slink_model.specs.Ties.{AreWhole, Item, Accepted, Refused, Greeted, Carried, Finished, Holds, carried_of, item_bytes, items_of, of_place, way_bytes}
+use Rattle.slink_model.specs.Ties.{AreWhole, Item, Accepted, Refused, Greeted, Carried, Finished, Holds, carried_of,
+    item_bytes, items_of, of_place, way_bytes}
 
 pub way_more : (xs ys : List Item) → way_bytes (xs ++ ys) ≡ way_bytes xs ++ way_bytes ys
 way_more [] ys = refl
-way_more (x ∷ xs) ys = ap (λ b. item_bytes x ++ b) (way_more xs ys) ∙ sym (append_assoc (item_bytes x) (way_bytes xs) (way_bytes ys))
+way_more (x ∷ xs) ys = ap (λ b. item_bytes x ++ b) (way_more xs ys)
+    ∙ sym (append_assoc (item_bytes x) (way_bytes xs) (way_bytes ys))
 
 pub of_more : (k : ℕ) (xs ys : List Item) → of_place k (xs ++ ys) ≡ of_place k xs ++ of_place k ys
 of_more k [] ys = refl
-of_more k (x ∷ xs) ys = ap (λ b. carried_of k x ++ b) (of_more k xs ys) ∙ sym (append_assoc (carried_of k x) (of_place k xs) (of_place k ys))
+of_more k (x ∷ xs) ys = ap (λ b. carried_of k x ++ b) (of_more k xs ys)
+    ∙ sym (append_assoc (carried_of k x) (of_place k xs) (of_place k ys))
 
 pub whole_more : (xs ys : List Item) → AreWhole xs → AreWhole ys → AreWhole (xs ++ ys)
 whole_more [] ys a b = b
@@ -23,8 +27,10 @@ whole_more (Carried k n r ∷ xs) ys a b = (a.0, whole_more xs ys a.1 b)
 whole_more (Finished ∷ xs) ys a b = whole_more xs ys a b
 
 -- what is sent goes behind what is on its way
-pub flow_more : (kept way bytes : List ℕ) (xs ys : List Item) → bytes ≡ way_bytes ys → kept ++ way ≡ way_bytes xs → kept ++ (way ++ bytes) ≡ way_bytes (xs ++ ys)
-flow_more kept way bytes xs ys more flow = sym (append_assoc kept way bytes) ∙ (ap (λ b. b ++ bytes) flow ∙ (ap (λ b. way_bytes xs ++ b) more ∙ sym (way_more xs ys)))
+pub flow_more : (kept way bytes : List ℕ) (xs ys : List Item) → bytes ≡ way_bytes ys → kept ++ way ≡ way_bytes xs
+    → kept ++ (way ++ bytes) ≡ way_bytes (xs ++ ys)
+flow_more kept way bytes xs ys more flow = sym (append_assoc kept way bytes)
+    ∙ (ap (λ b. b ++ bytes) flow ∙ (ap (λ b. way_bytes xs ++ b) more ∙ sym (way_more xs ys)))
 
 pub reply_items : (reply : Reply) → reply_bytes reply ≡ way_bytes (items_of reply)
 reply_items replies.Nothing = refl
@@ -48,10 +54,12 @@ pub carries_none : (k : ℕ) (xs ys : List Item) → of_place k ys ≡ [] → of
 carries_none k xs ys none = of_more k xs ys ∙ (ap (λ b. of_place k xs ++ b) none ∙ append-nil (of_place k xs))
 
 choice_here : (k : ℕ) (x y : List (ℕ × List ℕ)) → (if k == k then x else y) ≡ x
-choice_here k x y = elim (eqb_tells k k) [ inl same ↦ ap (λ t. if t then x else y) same.0 | inr other ↦ absurd (other.1 refl) ]
+choice_here k x y = elim (eqb_tells k k) [ inl same ↦ ap (λ t. if t then x else y) same.0
+    | inr other ↦ absurd (other.1 refl) ]
 
 choice_there : (j k : ℕ) (x y : List (ℕ × List ℕ)) → j ≢ k → (if j == k then x else y) ≡ y
-choice_there j k x y ne = elim (eqb_tells j k) [ inl same ↦ absurd (ne same.1) | inr other ↦ ap (λ t. if t then x else y) other.0 ]
+choice_there j k x y ne =
+    elim (eqb_tells j k) [ inl same ↦ absurd (ne same.1) | inr other ↦ ap (λ t. if t then x else y) other.0 ]
 
 pub carried_here : (k n : ℕ) (r : List ℕ) → carried_of k (Carried k n r) ≡ (n, r) ∷ []
 carried_here k n r = choice_here k ((n, r) ∷ []) []
@@ -60,5 +68,7 @@ pub carried_there : (j k n : ℕ) (r : List ℕ) → j ≢ k → carried_of k (C
 carried_there j k n r ne = choice_there j k ((n, r) ∷ []) [] ne
 
 -- what is held isn't past the last record
-pub held_to : (first s : ℕ) (F : List (List ℕ)) (next : Option ℕ) (held : List (List ℕ)) → Holds first F next held (Some s) → s + length held ≤ first + length F
-held_to first s F next held h = omega (arith, h.3, ap length h.2, length-append h.0 (held ++ h.1), length-append held h.1)
+pub held_to : (first s : ℕ) (F : List (List ℕ)) (next : Option ℕ) (held : List (List ℕ))
+    → Holds first F next held (Some s) → s + length held ≤ first + length F
+held_to first s F next held h =
+    omega (arith, h.3, ap length h.2, length-append h.0 (held ++ h.1), length-append held h.1)

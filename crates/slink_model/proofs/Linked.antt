@@ -1,5 +1,7 @@
 -- A link after each answer of the session, and after each packet that is asked for.
-use Rattle.std.proofs.Common.{◌≡◌, ◌≢◌, ℕ, ◌+◌, ◌-◌, ◌%◌, ◌^◌, ◌<◌, ◌≤◌, inl, inr, zero, suc, refl, sym, ap, subst, ◌∙◌, arith, Bool, true, false, ◌==◌, List, [], ◌∷◌, ◌++◌, append-nil, length, length-set, get_or, Option, Some, None, option_map, slice_get, if◌then◌else◌, codes}
+use Rattle.std.proofs.Common.{◌≡◌, ◌≢◌, ℕ, ◌+◌, ◌-◌, ◌%◌, ◌^◌, ◌<◌, ◌≤◌, inl, inr, zero, suc, refl, sym, ap, subst, ◌∙◌,
+    arith, Bool, true, false, ◌==◌, List, [], ◌∷◌, ◌++◌, append-nil, length, length-set, get_or, Option, Some, None,
+    option_map, slice_get, if◌then◌else◌, codes}
 use Rattle.slink_wire.specs.declared.reply.Reply.{Reply}
 use Rattle.slink_wire.specs.declared.reply.Reply.TheVariants as replies
 use Rattle.slink_wire.specs.Packet.{packet_bytes}
@@ -10,62 +12,86 @@ use Rattle.slink_feed.specs.declared.session.Phase.TheVariants.{Fresh, Chosen, G
 use Rattle.slink_feed.specs.declared.session.Sent.{Sent}
 use Rattle.slink_feed.specs.Listening.{Listening}
 use Rattle.slink_feed.specs.Dialogue.{next_at}
-use Rattle.slink_feed.specs.Session.{Grants, IsBefore, State, all_done, at, at_next, grant_at, packet_at, sent, sent_bytes, sent_in, sent_of}
-use Rattle.slink_model.specs.Ties.{AllHold, AreShown, AreWhole, Carried, Finished, Holds, IsGranted, IsNear, IsOnWay, Item, Leaves, LinkTies, Places, dropped, given, items_of, of_place, same, way_bytes}
+use Rattle.slink_feed.specs.Session.{Grants, IsBefore, State, all_done, at, at_next, grant_at, packet_at, sent,
+    sent_bytes, sent_in, sent_of}
+use Rattle.slink_model.specs.Ties.{AllHold, AreShown, AreWhole, Carried, Finished, Holds, IsGranted, IsNear, IsOnWay,
+    Item, Leaves, LinkTies, Places, dropped, given, items_of, of_place, same, way_bytes}
 use Rattle.slink_feed.specs.Window.{Shows, Window, oldest_of, record_at}
 use Rattle.slink_model.specs.World.{Lists, Numbers, first_after, number_at, or_else, with_first}
 use Rattle.slink_feed.proofs.Items.{at_number, oldest_is, one_value, put_here, put_there, same_or_not}
-use Rattle.slink_model.proofs.Items.{carried_here, carried_there, carries_none, flow_more, held_to, of_more, reply_carries, reply_items, reply_whole, whole_more}
+use Rattle.slink_model.proofs.Items.{carried_here, carried_there, carries_none, flow_more, held_to, of_more,
+    reply_carries, reply_items, reply_whole, whole_more}
 use Rattle.slink_model.proofs.Following.{way_granted, way_sent}
 
 abbrev pub any : ℕ → Type 0
 any x = Unit {0}
 
-near_granted : (first p : ℕ) (F : List (List ℕ)) (next : Option ℕ) (held : List (List ℕ)) (start : Option ℕ) → first + length F ≤ p + 1000000 → Holds first F next held start → IsNear any p start (length held)
+near_granted : (first p : ℕ) (F : List (List ℕ)) (next : Option ℕ) (held : List (List ℕ)) (start : Option ℕ)
+    → first + length F ≤ p + 1000000 → Holds first F next held start → IsNear any p start (length held)
 near_granted first p F next held None near h = tt
 near_granted first p F next held (Some s) near h = inr (omega (arith, near, held_to first s F next held h), tt)
 
 -- one place, once a command was answered
-place_granted : (feed : List Window) (k first : ℕ) (w : Window) (F held : List (List ℕ)) (next start sent : Option ℕ) (old new : Option Grant) (rest : List (ℕ × List ℕ)) → slice_get feed k ≡ Some w → Shows w first F → w.capacity ≤ 1000000
-    → Holds first F next held start → rest ≡ [] → sent ≡ None → IsGranted feed k old new → IsOnWay any first F held start sent old rest → IsOnWay any first F held start sent new rest
-place_granted feed k first w F held next start sent old new rest here shows room h none unsent (same e) way = subst (λ o. IsOnWay any first F held start sent o rest) (sym e) way
-place_granted feed k first w F held next start sent old new rest here shows room h none unsent (dropped e) way = subst (λ o. IsOnWay any first F held start sent o rest) (sym e) none
-place_granted feed k first w F held next start sent old new rest here shows room h none unsent (given g v e at lo hi) way =
+place_granted : (feed : List Window) (k first : ℕ) (w : Window) (F held : List (List ℕ)) (next start sent : Option ℕ)
+    (old new : Option Grant) (rest : List (ℕ × List ℕ)) → slice_get feed k ≡ Some w → Shows w first F
+    → w.capacity ≤ 1000000
+    → Holds first F next held start → rest ≡ [] → sent ≡ None → IsGranted feed k old new
+    → IsOnWay any first F held start sent old rest → IsOnWay any first F held start sent new rest
+place_granted feed k first w F held next start sent old new rest here shows room h none unsent (same e) way =
+    subst (λ o. IsOnWay any first F held start sent o rest) (sym e) way
+place_granted feed k first w F held next start sent old new rest here shows room h none unsent (dropped e) way =
+    subst (λ o. IsOnWay any first F held start sent o rest) (sym e) none
+place_granted feed k first w F held next start sent old new rest here shows room h none unsent (given g v e at lo hi)
+    way =
     let one : v ≡ w = one_value (slice_get feed k) v w at here in
     let from : oldest_of w ≤ g.position = subst (λ (x : Window). oldest_of x ≤ g.position) one lo in
     let o : oldest_of w ≡ first + (length F - w.capacity) = oldest_is w first F shows in
-    let begins : IsOnWay any first F held start sent (Some g) [] = way_granted any first F held start sent g (omega (arith, from, o)) (near_granted first g.position F next held start (omega (arith, from, o, room)) h) unsent in
-    subst (λ x. IsOnWay any first F held start sent x rest) (sym e) (subst (IsOnWay any first F held start sent (Some g)) (sym none) begins)
+    let begins : IsOnWay any first F held start sent (Some g) [] =
+        way_granted any first F held start sent g (omega (arith, from, o))
+        (near_granted first g.position F next held start (omega (arith, from, o, room)) h) unsent in
+    subst (λ x. IsOnWay any first F held start sent x rest) (sym e)
+        (subst (IsOnWay any first F held start sent (Some g)) (sym none) begins)
 
 grant_within : (gs : Grants) (k : ℕ) (g : Grant) → grant_at gs k ≡ Some g → k < length gs
 grant_within [] k g h = absurd (let bad : None ≡ Some g = h in cc bad)
 grant_within (x ∷ gs) zero g h = omega arith
 grant_within (x ∷ gs) (suc k) g h = let more : k < length gs = grant_within gs k g h in omega (arith, more)
 
-module _ (places : Places) (first : ℕ) (windows : List Window) (pushed : Lists) (client : Listening) (held : Lists) (start : Numbers) (shown : AreShown places first windows pushed)
+module _ (places : Places) (first : ℕ) (windows : List Window) (pushed : Lists) (client : Listening) (held : Lists)
+    (start : Numbers) (shown : AreShown places first windows pushed)
     (holds : AllHold places first pushed client.talk.wants held start) where
   abbrev pub Linked : State → Numbers → List ℕ → Type 0
   Linked state first_sent way = LinkTies places first (λ k. any) pushed client held start state first_sent way
 
-  before_answered : (s : State) (first_sent : Numbers) (way : List ℕ) (new : State) (reply : Reply) → IsBefore s.phase → ((k : ℕ) → IsGranted windows k (grant_at s.grants k) (grant_at new.grants k)) → Linked s first_sent way
+  before_answered : (s : State) (first_sent : Numbers) (way : List ℕ) (new : State) (reply : Reply) → IsBefore s.phase
+      → ((k : ℕ) → IsGranted windows k (grant_at s.grants k) (grant_at new.grants k)) → Linked s first_sent way
       → Linked new first_sent (way ++ reply_bytes reply)
   before_answered s first_sent way new reply before kept l = record {
     items = l.items ++ items_of reply;
     are_whole = whole_more l.items (items_of reply) l.are_whole (reply_whole reply);
-    flow = λ linked. flow_more client.kept way (reply_bytes reply) l.items (items_of reply) (reply_items reply) (l.flow linked);
-    before = λ still k. (carries_none k l.items (items_of reply) (reply_carries k reply) ∙ (l.before before k).0, (l.before before k).1);
+    flow = λ linked. flow_more client.kept way (reply_bytes reply) l.items (items_of reply) (reply_items reply)
+        (l.flow linked);
+    before = λ still k. (carries_none k l.items (items_of reply) (reply_carries k reply) ∙ (l.before before k).0,
+        (l.before before k).1);
     within = λ k past. carries_none k l.items (items_of reply) (reply_carries k reply) ∙ l.within k past;
     places_are = λ k lt.
-        let w : (v : Window) × (slice_get windows k ≡ Some v) × Shows v first (get_or pushed k []) × (v.capacity ≤ 1000000) = shown k lt in
-        let granted : IsOnWay any first (get_or pushed k []) (get_or held k []) (number_at start k) (number_at first_sent k) (grant_at new.grants k) (of_place k l.items)
-        = place_granted windows k first w.0 (get_or pushed k []) (get_or held k []) (next_at client.talk.wants k) (number_at start k) (number_at first_sent k) (grant_at s.grants k) (grant_at new.grants k) (of_place k l.items)
+        let w : (v : Window) × (slice_get windows k ≡ Some v) × Shows v first (get_or pushed k [])
+            × (v.capacity ≤ 1000000) = shown k lt in
+        let granted : IsOnWay any first (get_or pushed k []) (get_or held k []) (number_at start k)
+            (number_at first_sent k) (grant_at new.grants k) (of_place k l.items)
+        = place_granted windows k first w.0 (get_or pushed k []) (get_or held k []) (next_at client.talk.wants k)
+            (number_at start k) (number_at first_sent k) (grant_at s.grants k) (grant_at new.grants k)
+            (of_place k l.items)
         w.1 w.2 w.3 (holds k lt) (l.before before k).0 (l.before before k).1 (kept k) (l.places_are k lt) in
-        subst (IsOnWay any first (get_or pushed k []) (get_or held k []) (number_at start k) (number_at first_sent k) (grant_at new.grants k)) (sym (carries_none k l.items (items_of reply) (reply_carries k reply))) granted;
+        subst (IsOnWay any first (get_or pushed k []) (get_or held k []) (number_at start k) (number_at first_sent k)
+            (grant_at new.grants k)) (sym (carries_none k l.items (items_of reply) (reply_carries k reply))) granted;
     room = l.room;
   }
 
   -- what is sent carries no record, and the grants stay
-  stays_on : (s : State) (first_sent : Numbers) (way : List ℕ) (new : State) (more : List Item) (bytes : List ℕ) → ((IsBefore new.phase) → IsBefore s.phase) → new.grants ≡ s.grants → bytes ≡ way_bytes more → AreWhole more → ((k : ℕ) → of_place k more ≡ []) → Linked s first_sent way
+  stays_on : (s : State) (first_sent : Numbers) (way : List ℕ) (new : State) (more : List Item) (bytes : List ℕ)
+      → ((IsBefore new.phase) → IsBefore s.phase) → new.grants ≡ s.grants → bytes ≡ way_bytes more → AreWhole more
+      → ((k : ℕ) → of_place k more ≡ []) → Linked s first_sent way
       → Linked new first_sent (way ++ bytes)
   stays_on s first_sent way new more bytes was stay e whole none l = record {
     items = l.items ++ more;
@@ -74,120 +100,194 @@ module _ (places : Places) (first : ℕ) (windows : List Window) (pushed : Lists
     before = λ still k. (carries_none k l.items more (none k) ∙ (l.before (was still) k).0, (l.before (was still) k).1);
     within = λ k past. carries_none k l.items more (none k) ∙ l.within k past;
     places_are = λ k lt.
-        subst (IsOnWay any first (get_or pushed k []) (get_or held k []) (number_at start k) (number_at first_sent k) (grant_at new.grants k)) (sym (carries_none k l.items more (none k)))
-        (subst (λ (gs : Grants). IsOnWay any first (get_or pushed k []) (get_or held k []) (number_at start k) (number_at first_sent k) (grant_at gs k) (of_place k l.items)) (sym stay) (l.places_are k lt));
+        subst (IsOnWay any first (get_or pushed k []) (get_or held k []) (number_at start k) (number_at first_sent k)
+            (grant_at new.grants k)) (sym (carries_none k l.items more (none k)))
+        (subst (λ (gs : Grants). IsOnWay any first (get_or pushed k []) (get_or held k []) (number_at start k)
+            (number_at first_sent k) (grant_at gs k) (of_place k l.items)) (sym stay) (l.places_are k lt));
     room = l.room;
   }
 
-  later_answered : (s : State) (first_sent : Numbers) (way : List ℕ) (new : State) (reply : Reply) → new.grants ≡ s.grants → reply ≡ replies.Nothing → ¬ (IsBefore new.phase) → Linked s first_sent way → Linked new first_sent (way ++ reply_bytes reply)
-  later_answered s first_sent way new reply stay none later l = stays_on s first_sent way new [] (reply_bytes reply) (λ b. absurd (later b)) stay (ap reply_bytes none) tt (λ k. refl) l
+  later_answered : (s : State) (first_sent : Numbers) (way : List ℕ) (new : State) (reply : Reply)
+      → new.grants ≡ s.grants → reply ≡ replies.Nothing → ¬ (IsBefore new.phase) → Linked s first_sent way
+      → Linked new first_sent (way ++ reply_bytes reply)
+  later_answered s first_sent way new reply stay none later l =
+      stays_on s first_sent way new [] (reply_bytes reply) (λ b. absurd (later b)) stay (ap reply_bytes none) tt
+      (λ k. refl) l
 
-  answered_in_phase : (phase : Phase) (s : State) (first_sent : Numbers) (way : List ℕ) (new : State) (reply : Reply) → s.phase ≡ phase → Leaves phase windows s (new, reply) → Linked s first_sent way → Linked new first_sent (way ++ reply_bytes reply)
-  answered_in_phase Fresh s first_sent way new reply e leaves l = before_answered s first_sent way new reply (subst IsBefore (sym e) tt) leaves l
-  answered_in_phase (Chosen k) s first_sent way new reply e leaves l = before_answered s first_sent way new reply (subst IsBefore (sym e) tt) leaves l
-  answered_in_phase (Granted k) s first_sent way new reply e leaves l = before_answered s first_sent way new reply (subst IsBefore (sym e) tt) leaves l
-  answered_in_phase Streaming s first_sent way new reply e leaves l = later_answered s first_sent way new reply leaves.0 leaves.1 leaves.2 l
-  answered_in_phase Closed s first_sent way new reply e leaves l = later_answered s first_sent way new reply leaves.0 leaves.1 leaves.2 l
+  answered_in_phase : (phase : Phase) (s : State) (first_sent : Numbers) (way : List ℕ) (new : State) (reply : Reply)
+      → s.phase ≡ phase → Leaves phase windows s (new, reply) → Linked s first_sent way
+      → Linked new first_sent (way ++ reply_bytes reply)
+  answered_in_phase Fresh s first_sent way new reply e leaves l =
+      before_answered s first_sent way new reply (subst IsBefore (sym e) tt) leaves l
+  answered_in_phase (Chosen k) s first_sent way new reply e leaves l =
+      before_answered s first_sent way new reply (subst IsBefore (sym e) tt) leaves l
+  answered_in_phase (Granted k) s first_sent way new reply e leaves l =
+      before_answered s first_sent way new reply (subst IsBefore (sym e) tt) leaves l
+  answered_in_phase Streaming s first_sent way new reply e leaves l =
+      later_answered s first_sent way new reply leaves.0 leaves.1 leaves.2 l
+  answered_in_phase Closed s first_sent way new reply e leaves l =
+      later_answered s first_sent way new reply leaves.0 leaves.1 leaves.2 l
 
   -- once a line was answered
-  pub answered_link : (s : State) (first_sent : Numbers) (way : List ℕ) (new : State) (reply : Reply) → Leaves s.phase windows s (new, reply) → Linked s first_sent way → Linked new first_sent (way ++ reply_bytes reply)
+  pub answered_link : (s : State) (first_sent : Numbers) (way : List ℕ) (new : State) (reply : Reply)
+      → Leaves s.phase windows s (new, reply) → Linked s first_sent way
+      → Linked new first_sent (way ++ reply_bytes reply)
   answered_link s first_sent way new reply leaves l = answered_in_phase s.phase s first_sent way new reply refl leaves l
 
   abbrev Goes : Numbers → Grants → ℕ → List ℕ → State × Sent → Type 0
   Goes first_sent grants k way x = Linked x.0 (first_after first_sent grants k x.1) (way ++ sent_bytes x.1)
 
-  nothing_sent : (s : State) (first_sent : Numbers) (way : List ℕ) (new : State) → ((IsBefore new.phase) → IsBefore s.phase) → new.grants ≡ s.grants → Linked s first_sent way → Linked new first_sent (way ++ [])
+  nothing_sent : (s : State) (first_sent : Numbers) (way : List ℕ) (new : State)
+      → ((IsBefore new.phase) → IsBefore s.phase) → new.grants ≡ s.grants → Linked s first_sent way
+      → Linked new first_sent (way ++ [])
   nothing_sent s first_sent way new was stay l = stays_on s first_sent way new [] [] was stay refl tt (λ k. refl) l
 
-  sent_here : (s : State) (first_sent : Numbers) (items : List Item) (k : ℕ) (g : Grant) (r : List ℕ) → k < length first_sent → grant_at s.grants k ≡ Some g → slice_get (get_or pushed k []) (g.position - first) ≡ Some r
-      → IsOnWay any first (get_or pushed k []) (get_or held k []) (number_at start k) (number_at first_sent k) (grant_at s.grants k) (of_place k items)
-      → IsOnWay any first (get_or pushed k []) (get_or held k []) (number_at start k) (number_at (with_first first_sent k (option_map (λ (x : Grant). x.position) (grant_at s.grants k))) k)
+  sent_here : (s : State) (first_sent : Numbers) (items : List Item) (k : ℕ) (g : Grant) (r : List ℕ)
+      → k < length first_sent → grant_at s.grants k ≡ Some g
+      → slice_get (get_or pushed k []) (g.position - first) ≡ Some r
+      → IsOnWay any first (get_or pushed k []) (get_or held k []) (number_at start k) (number_at first_sent k)
+      (grant_at s.grants k) (of_place k items)
+      → IsOnWay any first (get_or pushed k []) (get_or held k []) (number_at start k)
+      (number_at (with_first first_sent k (option_map (λ (x : Grant). x.position) (grant_at s.grants k))) k)
       (grant_at (packet_at s k g (Some r)).0.grants k) (of_place k (items ++ Carried k g.position r ∷ []))
   sent_here s first_sent items k g r room grant at way =
       let h : Grant = record { mode = g.mode; position = g.position + 1 } in
-      let number : number_at (with_first first_sent k (option_map (λ (x : Grant). x.position) (grant_at s.grants k))) k ≡ or_else (number_at first_sent k) (Some g.position)
-      = put_here first_sent k (or_else (number_at first_sent k) (option_map (λ (x : Grant). x.position) (grant_at s.grants k))) None room
+      let number : number_at (with_first first_sent k (option_map (λ (x : Grant). x.position) (grant_at s.grants k))) k
+          ≡ or_else (number_at first_sent k) (Some g.position)
+      = put_here first_sent k (or_else (number_at first_sent k)
+          (option_map (λ (x : Grant). x.position) (grant_at s.grants k))) None room
       ∙ ap (λ (o : Option Grant). or_else (number_at first_sent k) (option_map (λ (x : Grant). x.position) o)) grant in
-      let now : grant_at (packet_at s k g (Some r)).0.grants k ≡ Some h = put_here s.grants k (Some h) None (grant_within s.grants k g grant) in
-      let of : of_place k (items ++ Carried k g.position r ∷ []) ≡ of_place k items ++ (g.position, r) ∷ [] = of_more k items (Carried k g.position r ∷ []) ∙ ap (λ b. of_place k items ++ (b ++ [])) (carried_here k g.position r) in
-      let before : IsOnWay any first (get_or pushed k []) (get_or held k []) (number_at start k) (number_at first_sent k) (Some g) (of_place k items)
-      = subst (λ (o : Option Grant). IsOnWay any first (get_or pushed k []) (get_or held k []) (number_at start k) (number_at first_sent k) o (of_place k items)) grant way in
-      let after : IsOnWay any first (get_or pushed k []) (get_or held k []) (number_at start k) (or_else (number_at first_sent k) (Some g.position)) (Some h) (of_place k items ++ (g.position, r) ∷ [])
-      = way_sent any first (get_or pushed k []) (get_or held k []) (number_at start k) (number_at first_sent k) g h (of_place k items) r refl at before in
-      subst (λ (f : Option ℕ). IsOnWay any first (get_or pushed k []) (get_or held k []) (number_at start k) f (grant_at (packet_at s k g (Some r)).0.grants k) (of_place k (items ++ Carried k g.position r ∷ []))) (sym number)
-      (subst (λ (o : Option Grant). IsOnWay any first (get_or pushed k []) (get_or held k []) (number_at start k) (or_else (number_at first_sent k) (Some g.position)) o (of_place k (items ++ Carried k g.position r ∷ []))) (sym now)
-      (subst (IsOnWay any first (get_or pushed k []) (get_or held k []) (number_at start k) (or_else (number_at first_sent k) (Some g.position)) (Some h)) (sym of) after))
+      let now : grant_at (packet_at s k g (Some r)).0.grants k ≡ Some h =
+          put_here s.grants k (Some h) None (grant_within s.grants k g grant) in
+      let of : of_place k (items ++ Carried k g.position r ∷ []) ≡ of_place k items ++ (g.position, r) ∷ [] =
+          of_more k items (Carried k g.position r ∷ [])
+          ∙ ap (λ b. of_place k items ++ (b ++ [])) (carried_here k g.position r) in
+      let before : IsOnWay any first (get_or pushed k []) (get_or held k []) (number_at start k)
+          (number_at first_sent k) (Some g) (of_place k items)
+      = subst (λ (o : Option Grant). IsOnWay any first (get_or pushed k []) (get_or held k []) (number_at start k)
+          (number_at first_sent k) o (of_place k items)) grant way in
+      let after : IsOnWay any first (get_or pushed k []) (get_or held k []) (number_at start k)
+          (or_else (number_at first_sent k) (Some g.position)) (Some h) (of_place k items ++ (g.position, r) ∷ [])
+      = way_sent any first (get_or pushed k []) (get_or held k []) (number_at start k) (number_at first_sent k) g h
+          (of_place k items) r refl at before in
+      subst (λ (f : Option ℕ). IsOnWay any first (get_or pushed k []) (get_or held k []) (number_at start k) f
+          (grant_at (packet_at s k g (Some r)).0.grants k) (of_place k (items ++ Carried k g.position r ∷ [])))
+          (sym number)
+      (subst (λ (o : Option Grant). IsOnWay any first (get_or pushed k []) (get_or held k []) (number_at start k)
+          (or_else (number_at first_sent k) (Some g.position)) o (of_place k (items ++ Carried k g.position r ∷ [])))
+          (sym now)
+      (subst (IsOnWay any first (get_or pushed k []) (get_or held k []) (number_at start k)
+          (or_else (number_at first_sent k) (Some g.position)) (Some h)) (sym of) after))
 
   sent_there : (s : State) (first_sent : Numbers) (items : List Item) (k j : ℕ) (g : Grant) (r : List ℕ) → j ≢ k
-      → IsOnWay any first (get_or pushed j []) (get_or held j []) (number_at start j) (number_at first_sent j) (grant_at s.grants j) (of_place j items)
-      → IsOnWay any first (get_or pushed j []) (get_or held j []) (number_at start j) (number_at (with_first first_sent k (option_map (λ (x : Grant). x.position) (grant_at s.grants k))) j)
+      → IsOnWay any first (get_or pushed j []) (get_or held j []) (number_at start j) (number_at first_sent j)
+      (grant_at s.grants j) (of_place j items)
+      → IsOnWay any first (get_or pushed j []) (get_or held j []) (number_at start j)
+      (number_at (with_first first_sent k (option_map (λ (x : Grant). x.position) (grant_at s.grants k))) j)
       (grant_at (packet_at s k g (Some r)).0.grants j) (of_place j (items ++ Carried k g.position r ∷ []))
   sent_there s first_sent items k j g r ne way =
       let h : Grant = record { mode = g.mode; position = g.position + 1 } in
-      let number : number_at (with_first first_sent k (option_map (λ (x : Grant). x.position) (grant_at s.grants k))) j ≡ number_at first_sent j
-      = put_there first_sent k j (or_else (number_at first_sent k) (option_map (λ (x : Grant). x.position) (grant_at s.grants k))) None ne in
-      let now : grant_at (packet_at s k g (Some r)).0.grants j ≡ grant_at s.grants j = put_there s.grants k j (Some h) None ne in
-      let of : of_place j (items ++ Carried k g.position r ∷ []) ≡ of_place j items = carries_none j items (Carried k g.position r ∷ []) (ap (λ b. b ++ []) (carried_there k j g.position r (λ e. ne (sym e)))) in
-      subst (λ (f : Option ℕ). IsOnWay any first (get_or pushed j []) (get_or held j []) (number_at start j) f (grant_at (packet_at s k g (Some r)).0.grants j) (of_place j (items ++ Carried k g.position r ∷ []))) (sym number)
-      (subst (λ (o : Option Grant). IsOnWay any first (get_or pushed j []) (get_or held j []) (number_at start j) (number_at first_sent j) o (of_place j (items ++ Carried k g.position r ∷ []))) (sym now)
-      (subst (IsOnWay any first (get_or pushed j []) (get_or held j []) (number_at start j) (number_at first_sent j) (grant_at s.grants j)) (sym of) way))
+      let number : number_at (with_first first_sent k (option_map (λ (x : Grant). x.position) (grant_at s.grants k))) j
+          ≡ number_at first_sent j
+      = put_there first_sent k j
+          (or_else (number_at first_sent k) (option_map (λ (x : Grant). x.position) (grant_at s.grants k))) None ne in
+      let now : grant_at (packet_at s k g (Some r)).0.grants j ≡ grant_at s.grants j =
+          put_there s.grants k j (Some h) None ne in
+      let of : of_place j (items ++ Carried k g.position r ∷ []) ≡ of_place j items =
+          carries_none j items (Carried k g.position r ∷ [])
+          (ap (λ b. b ++ []) (carried_there k j g.position r (λ e. ne (sym e)))) in
+      subst (λ (f : Option ℕ). IsOnWay any first (get_or pushed j []) (get_or held j []) (number_at start j) f
+          (grant_at (packet_at s k g (Some r)).0.grants j) (of_place j (items ++ Carried k g.position r ∷ [])))
+          (sym number)
+      (subst (λ (o : Option Grant). IsOnWay any first (get_or pushed j []) (get_or held j []) (number_at start j)
+          (number_at first_sent j) o (of_place j (items ++ Carried k g.position r ∷ []))) (sym now)
+      (subst (IsOnWay any first (get_or pushed j []) (get_or held j []) (number_at start j) (number_at first_sent j)
+          (grant_at s.grants j)) (sym of) way))
 
-  record_sent : (s : State) (first_sent : Numbers) (way : List ℕ) (k : ℕ) (g : Grant) (w : Window) (r : List ℕ) → k < length places → length places ≤ 16 → s.phase ≡ Streaming → grant_at s.grants k ≡ Some g → slice_get windows k ≡ Some w → length r ≡ 512 → record_at w g.position ≡ Some r
+  record_sent : (s : State) (first_sent : Numbers) (way : List ℕ) (k : ℕ) (g : Grant) (w : Window) (r : List ℕ)
+      → k < length places → length places ≤ 16 → s.phase ≡ Streaming → grant_at s.grants k ≡ Some g
+      → slice_get windows k ≡ Some w → length r ≡ 512 → record_at w g.position ≡ Some r
       → Linked s first_sent way → Goes first_sent s.grants k way (packet_at s k g (Some r))
   record_sent s first_sent way k g w r lt most phase grant here long at l =
       let h : Grant = record { mode = g.mode; position = g.position + 1 } in
       let new : State = (packet_at s k g (Some r)).0 in
-      let shows : (v : Window) × (slice_get windows k ≡ Some v) × Shows v first (get_or pushed k []) × (v.capacity ≤ 1000000) = shown k lt in
+      let shows : (v : Window) × (slice_get windows k ≡ Some v) × Shows v first (get_or pushed k [])
+          × (v.capacity ≤ 1000000) = shown k lt in
       let one : shows.0 ≡ w = one_value (slice_get windows k) shows.0 w shows.1 here in
-      let record_is : slice_get (get_or pushed k []) (g.position - first) ≡ Some r = at_number w first (get_or pushed k []) g.position r (subst (λ (v : Window). Shows v first (get_or pushed k [])) one shows.2) at in
+      let record_is : slice_get (get_or pushed k []) (g.position - first) ≡ Some r =
+          at_number w first (get_or pushed k []) g.position r
+          (subst (λ (v : Window). Shows v first (get_or pushed k [])) one shows.2) at in
       let item : List Item = Carried k g.position r ∷ [] in
       let sent_now : Numbers = first_after first_sent s.grants k (packet_at s k g (Some r)).1 in
       record {
         items = l.items ++ item;
         are_whole = whole_more l.items item l.are_whole (long, tt);
-        flow = λ linked. flow_more client.kept way (packet_bytes (g.position % 2 ^ 24) r) l.items item (sym (append-nil (packet_bytes (g.position % 2 ^ 24) r))) (l.flow linked);
+        flow = λ linked. flow_more client.kept way (packet_bytes (g.position % 2 ^ 24) r) l.items item
+            (sym (append-nil (packet_bytes (g.position % 2 ^ 24) r))) (l.flow linked);
         before = λ still. absurd (subst IsBefore phase still);
-        within = λ j past. carries_none j l.items item (ap (λ b. b ++ []) (carried_there k j g.position r (λ e. omega (arith, e, past, lt)))) ∙ l.within j past;
+        within = λ j past. carries_none j l.items item
+            (ap (λ b. b ++ []) (carried_there k j g.position r (λ e. omega (arith, e, past, lt)))) ∙ l.within j past;
         places_are = λ j below. elim (same_or_not j k) [
-          | inl e ↦ subst (λ i. IsOnWay any first (get_or pushed i []) (get_or held i []) (number_at start i) (number_at sent_now i) (grant_at new.grants i) (of_place i (l.items ++ item))) (sym e)
-              (sent_here s first_sent l.items k g r (omega (arith, l.room, lt, most)) grant record_is (l.places_are k lt))
+          | inl e ↦ subst (λ i. IsOnWay any first (get_or pushed i []) (get_or held i []) (number_at start i)
+          (number_at sent_now i) (grant_at new.grants i) (of_place i (l.items ++ item))) (sym e)
+              (sent_here s first_sent l.items k g r (omega (arith, l.room, lt, most)) grant record_is
+                  (l.places_are k lt))
           | inr ne ↦ sent_there s first_sent l.items k j g r ne (l.places_are j below)
         ];
         room = length-set first_sent k _ ∙ l.room;
       }
 
-  at_ring : (s : State) (first_sent : Numbers) (way : List ℕ) (k : ℕ) (g : Grant) (w : Window) (o : Option (List ℕ)) → k < length places → length places ≤ 16 → s.phase ≡ Streaming → grant_at s.grants k ≡ Some g → slice_get windows k ≡ Some w
-      → ((r : List ℕ) → o ≡ Some r → length r ≡ 512) → record_at w g.position ≡ o → Linked s first_sent way → Goes first_sent s.grants k way (packet_at s k g o)
-  at_ring s first_sent way k g w None lt most phase grant here long found l = nothing_sent s first_sent way (at Closed s.grants) (λ b. absurd b) refl l
-  at_ring s first_sent way k g w (Some r) lt most phase grant here long found l = record_sent s first_sent way k g w r lt most phase grant here (long r refl) found l
+  at_ring : (s : State) (first_sent : Numbers) (way : List ℕ) (k : ℕ) (g : Grant) (w : Window) (o : Option (List ℕ))
+      → k < length places → length places ≤ 16 → s.phase ≡ Streaming → grant_at s.grants k ≡ Some g
+      → slice_get windows k ≡ Some w
+      → ((r : List ℕ) → o ≡ Some r → length r ≡ 512) → record_at w g.position ≡ o → Linked s first_sent way
+      → Goes first_sent s.grants k way (packet_at s k g o)
+  at_ring s first_sent way k g w None lt most phase grant here long found l =
+      nothing_sent s first_sent way (at Closed s.grants) (λ b. absurd b) refl l
+  at_ring s first_sent way k g w (Some r) lt most phase grant here long found l =
+      record_sent s first_sent way k g w r lt most phase grant here (long r refl) found l
 
-  at_end : (s : State) (first_sent : Numbers) (way : List ℕ) (k : ℕ) (b : Bool) → Linked s first_sent way → Goes first_sent s.grants k way (at_next b s)
-  at_end s first_sent way k true l = stays_on s first_sent way (at Closed s.grants) (Finished ∷ []) (codes "END") (λ b. absurd b) refl refl tt (λ k. refl) l
+  at_end : (s : State) (first_sent : Numbers) (way : List ℕ) (k : ℕ) (b : Bool) → Linked s first_sent way
+      → Goes first_sent s.grants k way (at_next b s)
+  at_end s first_sent way k true l = stays_on s first_sent way (at Closed s.grants) (Finished ∷ []) (codes "END")
+      (λ b. absurd b) refl refl tt (λ k. refl) l
   at_end s first_sent way k false l = nothing_sent s first_sent way s (λ b. b) refl l
 
   choice : (Q : State × Sent → Type 0) (t : Bool) (x y : State × Sent) → Q x → Q y → Q (if t then x else y)
   choice Q true x y p q = p
   choice Q false x y p q = q
 
-  streamed : (s : State) (first_sent : Numbers) (way : List ℕ) (k : ℕ) (o : Option Grant) (ring : Option Window) → k < length places → length places ≤ 16 → s.phase ≡ Streaming → grant_at s.grants k ≡ o → slice_get windows k ≡ ring
-      → ((w : Window) (n : ℕ) (r : List ℕ) → slice_get windows k ≡ Some w → record_at w n ≡ Some r → length r ≡ 512) → Linked s first_sent way → Goes first_sent s.grants k way (sent_of windows s k o ring)
-  streamed s first_sent way k None ring lt most phase grant here long l = nothing_sent s first_sent way s (λ b. b) refl l
-  streamed s first_sent way k (Some g) None lt most phase grant here long l = nothing_sent s first_sent way s (λ b. b) refl l
+  streamed : (s : State) (first_sent : Numbers) (way : List ℕ) (k : ℕ) (o : Option Grant) (ring : Option Window)
+      → k < length places → length places ≤ 16 → s.phase ≡ Streaming → grant_at s.grants k ≡ o
+      → slice_get windows k ≡ ring
+      → ((w : Window) (n : ℕ) (r : List ℕ) → slice_get windows k ≡ Some w → record_at w n ≡ Some r → length r ≡ 512)
+      → Linked s first_sent way → Goes first_sent s.grants k way (sent_of windows s k o ring)
+  streamed s first_sent way k None ring lt most phase grant here long l =
+      nothing_sent s first_sent way s (λ b. b) refl l
+  streamed s first_sent way k (Some g) None lt most phase grant here long l =
+      nothing_sent s first_sent way s (λ b. b) refl l
   streamed s first_sent way k (Some g) (Some w) lt most phase grant here long l =
-      choice (Goes first_sent s.grants k way) (g.position == w.next) (at_next (all_done windows s.grants) s) (packet_at s k g (record_at w g.position))
+      choice (Goes first_sent s.grants k way) (g.position == w.next) (at_next (all_done windows s.grants) s)
+          (packet_at s k g (record_at w g.position))
       (at_end s first_sent way k (all_done windows s.grants) l)
-      (at_ring s first_sent way k g w (record_at w g.position) lt most phase grant here (λ r e. long w g.position r here e) refl l)
+      (at_ring s first_sent way k g w (record_at w g.position) lt most phase grant here
+          (λ r e. long w g.position r here e) refl l)
 
-  sent_in_phase : (phase : Phase) (s : State) (first_sent : Numbers) (way : List ℕ) (k : ℕ) → k < length places → length places ≤ 16 → s.phase ≡ phase
-      → ((w : Window) (n : ℕ) (r : List ℕ) → slice_get windows k ≡ Some w → record_at w n ≡ Some r → length r ≡ 512) → Linked s first_sent way → Goes first_sent s.grants k way (sent_in phase windows s k)
+  sent_in_phase : (phase : Phase) (s : State) (first_sent : Numbers) (way : List ℕ) (k : ℕ) → k < length places
+      → length places ≤ 16 → s.phase ≡ phase
+      → ((w : Window) (n : ℕ) (r : List ℕ) → slice_get windows k ≡ Some w → record_at w n ≡ Some r → length r ≡ 512)
+      → Linked s first_sent way → Goes first_sent s.grants k way (sent_in phase windows s k)
   sent_in_phase Fresh s first_sent way k lt most phase long l = nothing_sent s first_sent way s (λ b. b) refl l
   sent_in_phase (Chosen j) s first_sent way k lt most phase long l = nothing_sent s first_sent way s (λ b. b) refl l
   sent_in_phase (Granted j) s first_sent way k lt most phase long l = nothing_sent s first_sent way s (λ b. b) refl l
-  sent_in_phase Streaming s first_sent way k lt most phase long l = streamed s first_sent way k (grant_at s.grants k) (slice_get windows k) lt most phase refl refl long l
+  sent_in_phase Streaming s first_sent way k lt most phase long l =
+      streamed s first_sent way k (grant_at s.grants k) (slice_get windows k) lt most phase refl refl long l
   sent_in_phase Closed s first_sent way k lt most phase long l = nothing_sent s first_sent way s (λ b. b) refl l
 
   -- once a packet was asked for
   pub sent_link : (s : State) (first_sent : Numbers) (way : List ℕ) (k : ℕ) → k < length places → length places ≤ 16
-      → ((w : Window) (n : ℕ) (r : List ℕ) → slice_get windows k ≡ Some w → record_at w n ≡ Some r → length r ≡ 512) → Linked s first_sent way
-      → Linked (sent windows s k).0 (first_after first_sent s.grants k (sent windows s k).1) (way ++ sent_bytes (sent windows s k).1)
+      → ((w : Window) (n : ℕ) (r : List ℕ) → slice_get windows k ≡ Some w → record_at w n ≡ Some r → length r ≡ 512)
+      → Linked s first_sent way
+      → Linked (sent windows s k).0 (first_after first_sent s.grants k (sent windows s k).1)
+      (way ++ sent_bytes (sent windows s k).1)
   sent_link s first_sent way k lt most long l = sent_in_phase s.phase s first_sent way k lt most refl long l

@@ -1,5 +1,6 @@
 -- The steps of a schedule lead to one world.
-use Rattle.std.proofs.Common.{◌≡◌, ℕ, ◌<◌, ◌⊎◌, inl, inr, refl, sym, ap, subst, ◌∙◌, List, [], ◌∷◌, ◌++◌, append-nil, append_assoc, length, replicate, take, drop, take-append-drop, Option, Some, None, slice_get}
+use Rattle.std.proofs.Common.{◌≡◌, ℕ, ◌<◌, ◌⊎◌, inl, inr, refl, sym, ap, subst, ◌∙◌, List, [], ◌∷◌, ◌++◌, append-nil,
+    append_assoc, length, replicate, take, drop, take-append-drop, Option, Some, None, slice_get}
 use Rattle.slink_wire.specs.declared.reply.Reply.{Reply}
 use Rattle.slink_wire.specs.Lines.{IsHeld}
 use Rattle.slink_wire.specs.Place.{Fields, IsField}
@@ -16,14 +17,17 @@ use Rattle.slink_model.specs.declared.world.Step.TheVariants.{Append, Connect, T
 use Rattle.slink_model.specs.Counted.{Gained, with_event, with_events}
 use Rattle.slink_feed.specs.Cutting.{IsBegun, IsWhole}
 use Rattle.slink_feed.specs.Dialogue.{Talk, Whole, heard, says_place}
-use Rattle.slink_feed.specs.Listening.{AreBrought, Brings, Brought, IsLinked, Listening, begun, bytes_of, events_of, talk_after, telling, whole}
+use Rattle.slink_feed.specs.Listening.{AreBrought, Brings, Brought, IsLinked, Listening, begun, bytes_of, events_of,
+    talk_after, telling, whole}
 use Rattle.slink_feed.specs.Serving.{Serves, Standing}
 use Rattle.slink_feed.specs.Session.{State}
 use Rattle.slink_model.specs.Spared.{AreAskable}
 use Rattle.slink_model.specs.Stretch.{IsSchedule}
 use Rattle.slink_model.specs.Ties.{Places}
 use Rattle.slink_feed.specs.Window.{Window}
-use Rattle.slink_model.specs.World.{AllHappen, Both, Connects, Delivers, Differ, Happens, Hears, IsHeard, IsServed, LinkState, Numbers, Taking, WorldState, none_heard, noted, opening, piece_heard, piece_lost, pushed_to, said, taking}
+use Rattle.slink_model.specs.World.{AllHappen, Both, Connects, Delivers, Differ, Happens, Hears, IsHeard, IsServed,
+    LinkState, Numbers, Taking, WorldState, none_heard, noted, opening, piece_heard, piece_lost, pushed_to, said,
+    taking}
 use Rattle.slink_model.proofs.Answering.{Comes, IsOn, IsPending, asked_on, it_came, not_both, not_yet, quiet_on}
 use Rattle.slink_feed.proofs.Closing.{Open, open_or, shut_on, held_same, standings_same}
 use Rattle.slink_model.proofs.Calling.{pending_or}
@@ -49,7 +53,8 @@ same_gained f (events.Gap k want got) t = refl
 same_gained f events.Garbage t = refl
 same_gained f events.Foreign t = refl
 
-pub told_events : (f : Numbers) (e : Event) (es : List Event) (g : Gained) → with_events f (telling e ++ es) g ≡ with_events f es (with_event f e g)
+pub told_events : (f : Numbers) (e : Event) (es : List Event) (g : Gained)
+    → with_events f (telling e ++ es) g ≡ with_events f es (with_event f e g)
 told_events f (events.Say line) es g = refl
 told_events f (events.Record k n bytes) es g = refl
 told_events f events.None es g = refl
@@ -70,80 +75,111 @@ pub record HeardAll (f : Numbers) (t : Taking) (bytes : List ℕ) (last : Taking
   pub is_begun : IsBegun last.client.talk.stage last.client.kept
   pub all : IsLinked last.client.talk.stage → lost ≡ []
 
-pub lost_all : (f : Numbers) (t : Taking) (bytes : List ℕ) (last : Taking) → Hears f t bytes last → ¬ (IsLinked t.client.talk.stage) → last ≡ t
+pub lost_all : (f : Numbers) (t : Taking) (bytes : List ℕ) (last : Taking) → Hears f t bytes last
+    → ¬ (IsLinked t.client.talk.stage) → last ≡ t
 lost_all f t bytes last (none_heard u) over = refl
 lost_all f t bytes last (piece_heard u v now all piece rest e split linked brings more) over = absurd (over linked)
 lost_all f t bytes last (piece_lost u v all piece rest split lost more) over = lost_all f u rest v more over
 
 -- a whole is heard, and then the rest
-heard_whole : (f : Numbers) (u v : Taking) (now : Listening) (all piece rest : List ℕ) (e : Event) (w : Whole) → all ≡ piece ++ rest → IsWhole u.client.talk.stage (u.client.kept ++ piece) w → heard u.client.talk w ≡ (now.talk, e) → now.kept ≡ []
+heard_whole : (f : Numbers) (u v : Taking) (now : Listening) (all piece rest : List ℕ) (e : Event) (w : Whole)
+    → all ≡ piece ++ rest → IsWhole u.client.talk.stage (u.client.kept ++ piece) w
+    → heard u.client.talk w ≡ (now.talk, e) → now.kept ≡ []
     → HeardAll f (noted f e (record u { client = now })) rest v → HeardAll f u all v
 heard_whole f u v now all piece rest e w split is h none more =
     let client : (noted f e (record u { client = now })).client ≡ now = same_client f e (record u { client = now }) in
     let b : Brought = record { bytes = u.client.kept ++ piece; whole = w } in
     let talk : (heard u.client.talk w).0 ≡ now.talk = ap (λ (p : Talk × Event). p.0) h in
     let event : (heard u.client.talk w).1 ≡ e = ap (λ (p : Talk × Event). p.1) h in
-    let left : rest ≡ bytes_of more.brought ++ (v.client.kept ++ more.lost) = ap (λ k. k ++ rest) (sym none) ∙ (ap (λ (c : Listening). c.kept ++ rest) (sym client) ∙ more.bytes_are) in
+    let left : rest ≡ bytes_of more.brought ++ (v.client.kept ++ more.lost) = ap (λ k. k ++ rest) (sym none)
+        ∙ (ap (λ (c : Listening). c.kept ++ rest) (sym client) ∙ more.bytes_are) in
     record {
       brought = b ∷ more.brought;
       lost = more.lost;
-      are_brought = (is, subst (λ (t : Talk). AreBrought t more.brought) (ap (λ (c : Listening). c.talk) client ∙ sym talk) more.are_brought);
-      bytes_are = ap (λ x. u.client.kept ++ x) split ∙ (sym (append_assoc u.client.kept piece rest) ∙ (ap (λ x. (u.client.kept ++ piece) ++ x) left ∙ sym (append_assoc (u.client.kept ++ piece) (bytes_of more.brought) (v.client.kept ++ more.lost))));
-      talk = more.talk ∙ ap (λ (t : Talk). talk_after t more.brought) (ap (λ (c : Listening). c.talk) client ∙ sym talk);
-      gains = more.gains ∙ (ap (λ (t : Talk). with_events f (events_of t more.brought) (gained (noted f e (record u { client = now })))) (ap (λ (c : Listening). c.talk) client ∙ sym talk)
-          ∙ (ap (with_events f (events_of (heard u.client.talk w).0 more.brought)) (same_gained f e (record u { client = now }) ∙ ap (λ (x : Event). with_event f x (gained u)) (sym event))
-          ∙ sym (told_events f (heard u.client.talk w).1 (events_of (heard u.client.talk w).0 more.brought) (gained u))));
+      are_brought = (is, subst (λ (t : Talk). AreBrought t more.brought) (ap (λ (c : Listening). c.talk) client
+          ∙ sym talk) more.are_brought);
+      bytes_are = ap (λ x. u.client.kept ++ x) split
+          ∙ (sym (append_assoc u.client.kept piece rest)
+          ∙ (ap (λ x. (u.client.kept ++ piece) ++ x) left
+          ∙ sym (append_assoc (u.client.kept ++ piece) (bytes_of more.brought) (v.client.kept ++ more.lost))));
+      talk = more.talk ∙ ap (λ (t : Talk). talk_after t more.brought) (ap (λ (c : Listening). c.talk) client
+          ∙ sym talk);
+      gains = more.gains ∙ (ap
+          (λ (t : Talk). with_events f (events_of t more.brought) (gained (noted f e (record u { client = now }))))
+          (ap (λ (c : Listening). c.talk) client ∙ sym talk)
+          ∙ (ap (with_events f (events_of (heard u.client.talk w).0 more.brought))
+          (same_gained f e (record u { client = now }) ∙ ap (λ (x : Event). with_event f x (gained u)) (sym event))
+          ∙ sym (told_events f (heard u.client.talk w).1 (events_of (heard u.client.talk w).0 more.brought)
+          (gained u))));
       is_begun = more.is_begun;
       all = more.all;
     }
 
 -- more is kept, and then the rest is heard
-heard_begun : (f : Numbers) (u v : Taking) (now : Listening) (all piece rest : List ℕ) (e : Event) → all ≡ piece ++ rest → now ≡ record { talk = u.client.talk; kept = u.client.kept ++ piece } → e ≡ events.None
+heard_begun : (f : Numbers) (u v : Taking) (now : Listening) (all piece rest : List ℕ) (e : Event)
+    → all ≡ piece ++ rest → now ≡ record { talk = u.client.talk; kept = u.client.kept ++ piece } → e ≡ events.None
     → HeardAll f (noted f e (record u { client = now })) rest v → HeardAll f u all v
 heard_begun f u v now all piece rest e split same quiet more =
     let client : (noted f e (record u { client = now })).client ≡ now = same_client f e (record u { client = now }) in
-    let talk : (noted f e (record u { client = now })).client.talk ≡ u.client.talk = ap (λ (c : Listening). c.talk) (client ∙ same) in
+    let talk : (noted f e (record u { client = now })).client.talk ≡ u.client.talk =
+        ap (λ (c : Listening). c.talk) (client ∙ same) in
     record {
       brought = more.brought;
       lost = more.lost;
       are_brought = subst (λ (t : Talk). AreBrought t more.brought) talk more.are_brought;
-      bytes_are = ap (λ x. u.client.kept ++ x) split ∙ (sym (append_assoc u.client.kept piece rest) ∙ (ap (λ (c : Listening). c.kept ++ rest) (sym (client ∙ same)) ∙ more.bytes_are));
+      bytes_are = ap (λ x. u.client.kept ++ x) split
+          ∙ (sym (append_assoc u.client.kept piece rest)
+          ∙ (ap (λ (c : Listening). c.kept ++ rest) (sym (client ∙ same)) ∙ more.bytes_are));
       talk = more.talk ∙ ap (λ (t : Talk). talk_after t more.brought) talk;
-      gains = more.gains ∙ (ap (λ (t : Talk). with_events f (events_of t more.brought) (gained (noted f e (record u { client = now })))) talk
-          ∙ ap (with_events f (events_of u.client.talk more.brought)) (same_gained f e (record u { client = now }) ∙ ap (λ (x : Event). with_event f x (gained u)) quiet));
+      gains = more.gains ∙ (ap
+          (λ (t : Talk). with_events f (events_of t more.brought) (gained (noted f e (record u { client = now })))) talk
+          ∙ ap (with_events f (events_of u.client.talk more.brought)) (same_gained f e (record u { client = now })
+          ∙ ap (λ (x : Event). with_event f x (gained u)) quiet));
       is_begun = more.is_begun;
       all = more.all;
     }
 
-heard_piece : (f : Numbers) (u v : Taking) (now : Listening) (all piece rest : List ℕ) (e : Event) → all ≡ piece ++ rest → Brings u.client.talk (u.client.kept ++ piece) now e
+heard_piece : (f : Numbers) (u v : Taking) (now : Listening) (all piece rest : List ℕ) (e : Event)
+    → all ≡ piece ++ rest → Brings u.client.talk (u.client.kept ++ piece) now e
     → HeardAll f (noted f e (record u { client = now })) rest v → HeardAll f u all v
-heard_piece f u v now all piece rest e split (whole w is h none) more = heard_whole f u v now all piece rest e w split is h none more
-heard_piece f u v now all piece rest e split (begun is same quiet) more = heard_begun f u v now all piece rest e split same quiet more
+heard_piece f u v now all piece rest e split (whole w is h none) more =
+    heard_whole f u v now all piece rest e w split is h none more
+heard_piece f u v now all piece rest e split (begun is same quiet) more =
+    heard_begun f u v now all piece rest e split same quiet more
 
-pub heard_all : (f : Numbers) (t : Taking) (bytes : List ℕ) (last : Taking) → Hears f t bytes last → IsBegun t.client.talk.stage t.client.kept → HeardAll f t bytes last
-heard_all f t bytes last (none_heard u) is = record { brought = []; lost = []; are_brought = tt; bytes_are = refl; talk = refl; gains = refl; is_begun = is; all = λ _. refl }
+pub heard_all : (f : Numbers) (t : Taking) (bytes : List ℕ) (last : Taking) → Hears f t bytes last
+    → IsBegun t.client.talk.stage t.client.kept → HeardAll f t bytes last
+heard_all f t bytes last (none_heard u) is =
+    record { brought = []; lost = []; are_brought = tt; bytes_are = refl; talk = refl; gains = refl; is_begun = is;
+    all = λ _. refl }
 heard_all f t bytes last (piece_heard u v now all piece rest e split linked brings more) is =
     heard_piece f u v now all piece rest e split brings (heard_all f (noted f e (record u { client = now })) rest v more
-    (subst (λ (c : Listening). IsBegun c.talk.stage c.kept) (sym (same_client f e (record u { client = now }))) (begun_after u.client.talk (u.client.kept ++ piece) now e brings)))
+    (subst (λ (c : Listening). IsBegun c.talk.stage c.kept) (sym (same_client f e (record u { client = now })))
+        (begun_after u.client.talk (u.client.kept ++ piece) now e brings)))
 heard_all f t bytes last (piece_lost u v all piece rest split over more) is =
     let same : v ≡ u = lost_all f u rest v more over in
-    subst (λ (x : Taking). HeardAll f u all x) (sym same) (record { brought = []; lost = all; are_brought = tt; bytes_are = refl; talk = refl; gains = refl; is_begun = is; all = λ linked. absurd (over linked) })
+    subst (λ (x : Taking). HeardAll f u all x) (sym same)
+        (record { brought = []; lost = all; are_brought = tt; bytes_are = refl; talk = refl; gains = refl;
+        is_begun = is; all = λ linked. absurd (over linked) })
 
 -- the same is kept
 kept_linked : (k m x y : List ℕ) → x ≡ [] → y ≡ [] → k ++ x ≡ m ++ y → k ≡ m
 kept_linked k m x y p q e = sym (append-nil k) ∙ (ap (λ z. k ++ z) (sym p) ∙ (e ∙ (ap (λ z. m ++ z) q ∙ append-nil m)))
 
-pub kept_same : (stage : Stage) (k m x y : List ℕ) → IsBegun stage k → IsBegun stage m → (IsLinked stage → x ≡ []) → (IsLinked stage → y ≡ []) → k ++ x ≡ m ++ y → k ≡ m
+pub kept_same : (stage : Stage) (k m x y : List ℕ) → IsBegun stage k → IsBegun stage m → (IsLinked stage → x ≡ [])
+    → (IsLinked stage → y ≡ []) → k ++ x ≡ m ++ y → k ≡ m
 kept_same Unlinked k m x y a b p q e = a ∙ sym b
 kept_same (Station j) k m x y a b p q e = kept_linked k m x y (p tt) (q tt) e
 kept_same (Number j) k m x y a b p q e = kept_linked k m x y (p tt) (q tt) e
 kept_same Packets k m x y a b p q e = kept_linked k m x y (p tt) (q tt) e
 kept_same (Ended ending) k m x y a b p q e = a ∙ sym b
 
-pub rest_is : (f : Numbers) (t : Taking) (bytes : List ℕ) (last : Taking) (h : HeardAll f t bytes last) → IsRest (talk_after t.client.talk h.brought).stage (last.client.kept ++ h.lost)
+pub rest_is : (f : Numbers) (t : Taking) (bytes : List ℕ) (last : Taking) (h : HeardAll f t bytes last)
+    → IsRest (talk_after t.client.talk h.brought).stage (last.client.kept ++ h.lost)
 rest_is f t bytes last h linked =
     let at_last : IsLinked last.client.talk.stage = subst (λ (x : Talk). IsLinked x.stage) (sym h.talk) linked in
-    subst (λ b. IsBegun (talk_after t.client.talk h.brought).stage b) (sym (ap (λ b. last.client.kept ++ b) (h.all at_last) ∙ append-nil last.client.kept))
+    subst (λ b. IsBegun (talk_after t.client.talk h.brought).stage b)
+        (sym (ap (λ b. last.client.kept ++ b) (h.all at_last) ∙ append-nil last.client.kept))
     (subst (λ (x : Talk). IsBegun x.stage last.client.kept) h.talk h.is_begun)
 
 takings_same : (a b : Taking) → a.client ≡ b.client → gained a ≡ gained b → a ≡ b
@@ -152,31 +188,44 @@ takings_same a b p q =
     ∙ ap (λ (g : Gained). record { client = b.client; held = g.held; start = g.start; to_server = g.to_server }) q
 
 -- however bytes are cut, a client comes to the same
-pub one_hearing : (f : Numbers) (t a b : Taking) (bytes : List ℕ) → Hears f t bytes a → Hears f t bytes b → IsBegun t.client.talk.stage t.client.kept → a ≡ b
+pub one_hearing : (f : Numbers) (t a b : Taking) (bytes : List ℕ) → Hears f t bytes a → Hears f t bytes b
+    → IsBegun t.client.talk.stage t.client.kept → a ≡ b
 one_hearing f t a b bytes x y is =
     let p : HeardAll f t bytes a = heard_all f t bytes a x is in
     let q : HeardAll f t bytes b = heard_all f t bytes b y is in
-    let one : (p.brought ≡ q.brought) × (a.client.kept ++ p.lost ≡ b.client.kept ++ q.lost) = one_brought t.client.talk p.brought q.brought (a.client.kept ++ p.lost) (b.client.kept ++ q.lost) p.are_brought q.are_brought (sym p.bytes_are ∙ q.bytes_are) (rest_is f t bytes a p) (rest_is f t bytes b q) in
+    let one : (p.brought ≡ q.brought) × (a.client.kept ++ p.lost ≡ b.client.kept ++ q.lost) =
+        one_brought t.client.talk p.brought q.brought (a.client.kept ++ p.lost) (b.client.kept ++ q.lost) p.are_brought
+        q.are_brought (sym p.bytes_are ∙ q.bytes_are) (rest_is f t bytes a p) (rest_is f t bytes b q) in
     let talk : a.client.talk ≡ b.client.talk = p.talk ∙ (ap (talk_after t.client.talk) one.0 ∙ sym q.talk) in
-    let kept : a.client.kept ≡ b.client.kept = kept_same b.client.talk.stage a.client.kept b.client.kept p.lost q.lost (subst (λ (x : Talk). IsBegun x.stage a.client.kept) talk p.is_begun) q.is_begun
+    let kept : a.client.kept ≡ b.client.kept =
+        kept_same b.client.talk.stage a.client.kept b.client.kept p.lost q.lost
+        (subst (λ (x : Talk). IsBegun x.stage a.client.kept) talk p.is_begun) q.is_begun
     (λ linked. p.all (subst (λ (x : Talk). IsLinked x.stage) (sym talk) linked)) q.all one.1 in
-    takings_same a b (seen_same a.client b.client talk kept) (p.gains ∙ (ap (λ bs. with_events f (events_of t.client.talk bs) (gained t)) one.0 ∙ sym q.gains))
+    takings_same a b (seen_same a.client b.client talk kept) (p.gains
+        ∙ (ap (λ bs. with_events f (events_of t.client.talk bs) (gained t)) one.0 ∙ sym q.gains))
 
 -- however bytes are cut, a session comes to the same
-module _ (feed : List Window) (s : Standing) (bytes way rest taken : List ℕ) (held : Open s.state.phase → IsHeld s.held taken) where
-  shut_once : (a b : Standing) (x y : List ℕ) → Serves feed s bytes way a x → Serves feed s bytes way b y → s.state.phase ≡ Closed → (a ≡ b) × (x ≡ y)
+module _ (feed : List Window) (s : Standing) (bytes way rest taken : List ℕ) (held : Open s.state.phase
+    → IsHeld s.held taken) where
+  shut_once : (a b : Standing) (x y : List ℕ) → Serves feed s bytes way a x → Serves feed s bytes way b y
+      → s.state.phase ≡ Closed → (a ≡ b) × (x ≡ y)
   shut_once a b x y p q shut =
       let one : (a ≡ s) × (x ≡ way) = shut_on feed s bytes way a x p shut in
       let two : (b ≡ s) × (y ≡ way) = shut_on feed s bytes way b y q shut in
       (one.0 ∙ sym two.0, one.1 ∙ sym two.1)
 
-  quiet_once : (a b : Standing) (x y : List ℕ) → Serves feed s bytes way a x → Serves feed s bytes way b y → Open s.state.phase → IsAnswered taken (bytes ++ rest) → (a ≡ b) × (x ≡ y)
+  quiet_once : (a b : Standing) (x y : List ℕ) → Serves feed s bytes way a x → Serves feed s bytes way b y
+      → Open s.state.phase → IsAnswered taken (bytes ++ rest) → (a ≡ b) × (x ≡ y)
   quiet_once a b x y p q awake told =
-      let one : IsOn feed s a way x (taken ++ bytes) rest = quiet_on feed s bytes way a x rest taken p awake (held awake) told in
-      let two : IsOn feed s b way y (taken ++ bytes) rest = quiet_on feed s bytes way b y rest taken q awake (held awake) told in
-      (standings_same a b (one.state ∙ sym two.state) (held_same a.held b.held (taken ++ bytes) one.held two.held), one.sent ∙ sym two.sent)
+      let one : IsOn feed s a way x (taken ++ bytes) rest =
+          quiet_on feed s bytes way a x rest taken p awake (held awake) told in
+      let two : IsOn feed s b way y (taken ++ bytes) rest =
+          quiet_on feed s bytes way b y rest taken q awake (held awake) told in
+      (standings_same a b (one.state ∙ sym two.state) (held_same a.held b.held (taken ++ bytes) one.held two.held),
+          one.sent ∙ sym two.sent)
 
-  pub told_once : (a b : Standing) (x y : List ℕ) → Serves feed s bytes way a x → Serves feed s bytes way b y → (Open s.state.phase → IsAnswered taken (bytes ++ rest)) → (a ≡ b) × (x ≡ y)
+  pub told_once : (a b : Standing) (x y : List ℕ) → Serves feed s bytes way a x → Serves feed s bytes way b y
+      → (Open s.state.phase → IsAnswered taken (bytes ++ rest)) → (a ≡ b) × (x ≡ y)
   told_once a b x y p q told = elim (open_or s.state.phase) [
     | inl shut ↦ shut_once a b x y p q shut
     | inr awake ↦ quiet_once a b x y p q awake (told awake)
@@ -184,20 +233,29 @@ module _ (feed : List Window) (s : Standing) (bytes way rest taken : List ℕ) (
 
   module _ (pending : IsPending feed s.state taken (bytes ++ rest)) where
     abbrev Done : Standing → List ℕ → Type 0
-    Done a x = Comes feed s.state pending.request pending.awake pending.known pending.stays_open a way x (taken ++ bytes) rest
+    Done a x = Comes feed s.state pending.request pending.awake pending.known pending.stays_open a way x
+        (taken ++ bytes) rest
 
     both_done : (a b : Standing) (x y : List ℕ) → Done a x → Done b y → (a ≡ b) × (x ≡ y)
-    both_done a b x y (not_yet p sent kept asks) (not_yet q sent' kept' asks') = (standings_same a b (p ∙ sym q) (held_same a.held b.held (taken ++ bytes) kept kept'), sent ∙ sym sent')
-    both_done a b x y (not_yet p sent kept asks) (it_came r sent' done kept' told) = absurd (not_both (request_line pending.request) (taken ++ bytes) rest asks told)
-    both_done a b x y (it_came r sent done kept told) (not_yet q sent' kept' asks') = absurd (not_both (request_line pending.request) (taken ++ bytes) rest asks' told)
+    both_done a b x y (not_yet p sent kept asks) (not_yet q sent' kept' asks') =
+        (standings_same a b (p ∙ sym q) (held_same a.held b.held (taken ++ bytes) kept kept'), sent ∙ sym sent')
+    both_done a b x y (not_yet p sent kept asks) (it_came r sent' done kept' told) =
+        absurd (not_both (request_line pending.request) (taken ++ bytes) rest asks told)
+    both_done a b x y (it_came r sent done kept told) (not_yet q sent' kept' asks') =
+        absurd (not_both (request_line pending.request) (taken ++ bytes) rest asks' told)
     both_done a b x y (it_came r sent done kept told) (it_came r' sent' done' kept' told') =
         let same : ◌≡◌ {A = State × Reply} (a.state, r) (b.state, r') = sym done ∙ done' in
-        (standings_same a b (ap (λ (z : State × Reply). z.0) same) (held_same a.held b.held (taken ++ bytes) kept kept'), sent ∙ (ap (λ (z : State × Reply). way ++ reply_bytes z.1) same ∙ sym sent'))
+        (standings_same a b (ap (λ (z : State × Reply). z.0) same)
+            (held_same a.held b.held (taken ++ bytes) kept kept'), sent
+            ∙ (ap (λ (z : State × Reply). way ++ reply_bytes z.1) same ∙ sym sent'))
 
-    pub asked_once : (a b : Standing) (x y : List ℕ) → Serves feed s bytes way a x → Serves feed s bytes way b y → (a ≡ b) × (x ≡ y)
+    pub asked_once : (a b : Standing) (x y : List ℕ) → Serves feed s bytes way a x → Serves feed s bytes way b y
+        → (a ≡ b) × (x ≡ y)
     asked_once a b x y p q = both_done a b x y
-        (asked_on feed s.state pending.request pending.awake pending.known pending.stays_open s bytes way a x rest taken p refl (held pending.awake) pending.asks)
-        (asked_on feed s.state pending.request pending.awake pending.known pending.stays_open s bytes way b y rest taken q refl (held pending.awake) pending.asks)
+        (asked_on feed s.state pending.request pending.awake pending.known pending.stays_open s bytes way a x rest
+            taken p refl (held pending.awake) pending.asks)
+        (asked_on feed s.state pending.request pending.awake pending.known pending.stays_open s bytes way b y rest
+            taken q refl (held pending.awake) pending.asks)
 
 -- a stage is linked, or not
 pub linked_or : (stage : Stage) → IsLinked stage ⊎ ¬ (IsLinked stage)
@@ -207,28 +265,42 @@ linked_or (Number k) = inl tt
 linked_or Packets = inl tt
 linked_or (Ended ending) = inr (λ l. l)
 
-links_same : (a b : LinkState) → a.session ≡ b.session → a.first_sent ≡ b.first_sent → a.to_server ≡ b.to_server → a.to_client ≡ b.to_client → a ≡ b
+links_same : (a b : LinkState) → a.session ≡ b.session → a.first_sent ≡ b.first_sent → a.to_server ≡ b.to_server
+    → a.to_client ≡ b.to_client → a ≡ b
 links_same a b p q r s =
-    ap (λ (x : Standing). record { session = x; first_sent = a.first_sent; to_server = a.to_server; to_client = a.to_client }) p
-    ∙ (ap (λ (x : Numbers). record { session = b.session; first_sent = x; to_server = a.to_server; to_client = a.to_client }) q
-    ∙ (ap (λ (x : List ℕ). record { session = b.session; first_sent = b.first_sent; to_server = x; to_client = a.to_client }) r
-    ∙ ap (λ (x : List ℕ). record { session = b.session; first_sent = b.first_sent; to_server = b.to_server; to_client = x }) s))
+    ap (λ (x : Standing). record { session = x; first_sent = a.first_sent; to_server = a.to_server;
+        to_client = a.to_client }) p
+    ∙ (ap (λ (x : Numbers). record { session = b.session; first_sent = x; to_server = a.to_server;
+    to_client = a.to_client }) q
+    ∙ (ap (λ (x : List ℕ). record { session = b.session; first_sent = b.first_sent; to_server = x;
+    to_client = a.to_client }) r
+    ∙ ap (λ (x : List ℕ). record { session = b.session; first_sent = b.first_sent; to_server = b.to_server;
+    to_client = x }) s))
 
 -- what a client keeps is begun
 abbrev pub Keeps : WorldState → Type 0
 Keeps w = IsBegun w.client.talk.stage w.client.kept
 
-module _ (places : Places) (differ : Differ places) (codes : (k : ℕ) (p : Fields × Option ℕ) → slice_get places k ≡ Some p → IsField 5 p.0.station × IsField 2 p.0.network) (w : WorldState) (t : WorldTalks places differ codes w) (keeps : Keeps w) where
+module _ (places : Places) (differ : Differ places) (codes : (k : ℕ) (p : Fields × Option ℕ)
+    → slice_get places k ≡ Some p → IsField 5 p.0.station × IsField 2 p.0.network) (w : WorldState)
+    (t : WorldTalks places differ codes w) (keeps : Keeps w) where
   -- ToServer
-  served_once : (n : ℕ) (l a b : LinkState) → IsTalking places differ codes w.client (Some l) → IsServed w.windows n l a → IsServed w.windows n l b → a ≡ b
+  served_once : (n : ℕ) (l a b : LinkState) → IsTalking places differ codes w.client (Some l)
+      → IsServed w.windows n l a → IsServed w.windows n l b → a ≡ b
   served_once n l a b talks p q = elim (linked_or w.client.talk.stage) [
     | inl linked ↦ of (let x : LinkTalks places w.client l.session l.to_server l.to_client = talks.0 linked in
         elim (pending_or places differ codes w t l x.taken x.items x.shakes) [
-          | inl pending ↦ asked_once w.windows l.session (take n l.to_server) l.to_client (drop n l.to_server) x.taken x.held (subst (IsPending w.windows l.session.state x.taken) cut pending) a.session b.session a.to_client b.to_client p.serves q.serves
-          | inr told ↦ told_once w.windows l.session (take n l.to_server) l.to_client (drop n l.to_server) x.taken x.held a.session b.session a.to_client b.to_client p.serves q.serves (λ awake. subst (IsAnswered x.taken) cut (told awake))
+          | inl pending ↦ asked_once w.windows l.session (take n l.to_server) l.to_client (drop n l.to_server) x.taken
+          x.held (subst (IsPending w.windows l.session.state x.taken) cut pending) a.session b.session a.to_client
+          b.to_client p.serves q.serves
+          | inr told ↦ told_once w.windows l.session (take n l.to_server) l.to_client (drop n l.to_server) x.taken
+          x.held a.session b.session a.to_client b.to_client p.serves q.serves
+          (λ awake. subst (IsAnswered x.taken) cut (told awake))
         ])
     | inr over ↦ of (let x : IsQuiet l.session l.to_server = talks.1 over in
-        told_once w.windows l.session (take n l.to_server) l.to_client (drop n l.to_server) x.0 (λ awake. (x.1 awake).0) a.session b.session a.to_client b.to_client p.serves q.serves (λ awake. subst (IsAnswered x.0) cut (x.1 awake).1))
+        told_once w.windows l.session (take n l.to_server) l.to_client (drop n l.to_server) x.0
+            (λ awake. (x.1 awake).0) a.session b.session a.to_client b.to_client p.serves q.serves
+            (λ awake. subst (IsAnswered x.0) cut (x.1 awake).1))
   ]
     where
       cut : l.to_server ≡ take n l.to_server ++ drop n l.to_server
@@ -237,7 +309,8 @@ module _ (places : Places) (differ : Differ places) (codes : (k : ℕ) (p : Fiel
       of : (a.session ≡ b.session) × (a.to_client ≡ b.to_client) → a ≡ b
       of same = links_same a b same.0 (p.first_sent ∙ sym q.first_sent) (p.left ∙ sym q.left) same.1
 
-  served_links : (n : ℕ) (o a b : Option LinkState) → IsTalking places differ codes w.client o → Both (IsServed w.windows n) o a → Both (IsServed w.windows n) o b → a ≡ b
+  served_links : (n : ℕ) (o a b : Option LinkState) → IsTalking places differ codes w.client o
+      → Both (IsServed w.windows n) o a → Both (IsServed w.windows n) o b → a ≡ b
   served_links n None None None talks p q = refl
   served_links n None None (Some b) talks p q = absurd q
   served_links n None (Some a) b talks p q = absurd p
@@ -246,23 +319,35 @@ module _ (places : Places) (differ : Differ places) (codes : (k : ℕ) (p : Fiel
   served_links n (Some l) (Some a) (Some b) talks p q = ap (λ (x : LinkState). Some x) (served_once n l a b talks p q)
 
   -- ToClient
-  worlds_same : (a b : WorldState) → a.windows ≡ b.windows → a.pushed ≡ b.pushed → a.client ≡ b.client → a.held ≡ b.held → a.start ≡ b.start → a.link ≡ b.link → a ≡ b
+  worlds_same : (a b : WorldState) → a.windows ≡ b.windows → a.pushed ≡ b.pushed → a.client ≡ b.client
+      → a.held ≡ b.held → a.start ≡ b.start → a.link ≡ b.link → a ≡ b
   worlds_same a b p q r s u v =
-      ap (λ x. record { windows = x; pushed = a.pushed; client = a.client; held = a.held; start = a.start; link = a.link }) p
-      ∙ (ap (λ x. record { windows = b.windows; pushed = x; client = a.client; held = a.held; start = a.start; link = a.link }) q
-      ∙ (ap (λ x. record { windows = b.windows; pushed = b.pushed; client = x; held = a.held; start = a.start; link = a.link }) r
-      ∙ (ap (λ x. record { windows = b.windows; pushed = b.pushed; client = b.client; held = x; start = a.start; link = a.link }) s
-      ∙ (ap (λ x. record { windows = b.windows; pushed = b.pushed; client = b.client; held = b.held; start = x; link = a.link }) u
-      ∙ ap (λ x. record { windows = b.windows; pushed = b.pushed; client = b.client; held = b.held; start = b.start; link = x }) v))))
+      ap (λ x. record { windows = x; pushed = a.pushed; client = a.client; held = a.held; start = a.start;
+          link = a.link }) p
+      ∙ (ap (λ x. record { windows = b.windows; pushed = x; client = a.client; held = a.held; start = a.start;
+      link = a.link }) q
+      ∙ (ap (λ x. record { windows = b.windows; pushed = b.pushed; client = x; held = a.held; start = a.start;
+      link = a.link }) r
+      ∙ (ap (λ x. record { windows = b.windows; pushed = b.pushed; client = b.client; held = x; start = a.start;
+      link = a.link }) s
+      ∙ (ap (λ x. record { windows = b.windows; pushed = b.pushed; client = b.client; held = b.held; start = x;
+      link = a.link }) u
+      ∙ ap (λ x. record { windows = b.windows; pushed = b.pushed; client = b.client; held = b.held; start = b.start;
+      link = x }) v))))
 
-  heard_once : (n : ℕ) (a b : WorldState) (l x y : LinkState) → Delivers n w a → Delivers n w b → a.link ≡ Some x → b.link ≡ Some y → IsHeard n w a l x → IsHeard n w b l y → a ≡ b
+  heard_once : (n : ℕ) (a b : WorldState) (l x y : LinkState) → Delivers n w a → Delivers n w b → a.link ≡ Some x
+      → b.link ≡ Some y → IsHeard n w a l x → IsHeard n w b l y → a ≡ b
   heard_once n a b l x y p q at_a at_b h k =
-      let one : taking a x ≡ taking b y = one_hearing l.first_sent (taking w l) (taking a x) (taking b y) (take n l.to_client) h.hears k.hears keeps in
-      let link : x ≡ y = links_same x y (h.session ∙ sym k.session) (h.first_sent ∙ sym k.first_sent) (ap (λ (z : Taking). z.to_server) one) (h.left ∙ sym k.left) in
-      worlds_same a b (p.windows ∙ sym q.windows) (p.pushed ∙ sym q.pushed) (ap (λ (z : Taking). z.client) one) (ap (λ (z : Taking). z.held) one) (ap (λ (z : Taking). z.start) one)
+      let one : taking a x ≡ taking b y =
+          one_hearing l.first_sent (taking w l) (taking a x) (taking b y) (take n l.to_client) h.hears k.hears keeps in
+      let link : x ≡ y = links_same x y (h.session ∙ sym k.session) (h.first_sent ∙ sym k.first_sent)
+          (ap (λ (z : Taking). z.to_server) one) (h.left ∙ sym k.left) in
+      worlds_same a b (p.windows ∙ sym q.windows) (p.pushed ∙ sym q.pushed) (ap (λ (z : Taking). z.client) one)
+          (ap (λ (z : Taking). z.held) one) (ap (λ (z : Taking). z.start) one)
       (at_a ∙ (ap (λ (z : LinkState). Some z) link ∙ sym at_b))
 
-  delivered_once : (n : ℕ) (a b : WorldState) (o x y : Option LinkState) → Delivers n w a → Delivers n w b → w.link ≡ o → a.link ≡ x → b.link ≡ y → Both (IsHeard n w a) o x → Both (IsHeard n w b) o y → a ≡ b
+  delivered_once : (n : ℕ) (a b : WorldState) (o x y : Option LinkState) → Delivers n w a → Delivers n w b → w.link ≡ o
+      → a.link ≡ x → b.link ≡ y → Both (IsHeard n w a) o x → Both (IsHeard n w b) o y → a ≡ b
   delivered_once n a b None x y p q was at_a at_b h k = p.unlinked was ∙ sym (q.unlinked was)
   delivered_once n a b (Some l) None y p q was at_a at_b h k = absurd h
   delivered_once n a b (Some l) (Some x) None p q was at_a at_b h k = absurd k
@@ -271,25 +356,33 @@ module _ (places : Places) (differ : Differ places) (codes : (k : ℕ) (p : Fiel
   -- Connect
   connected_once : (a b : WorldState) → Connects w a → Connects w b → a ≡ b
   connected_once a b p q =
-      let session : p.session ≡ q.session = standings_same p.session q.session (p.is_new.state ∙ sym q.is_new.state) (held_same p.session.held q.session.held [] p.is_new.held q.is_new.held) in
+      let session : p.session ≡ q.session =
+          standings_same p.session q.session (p.is_new.state ∙ sym q.is_new.state)
+          (held_same p.session.held q.session.held [] p.is_new.held q.is_new.held) in
       p.becomes ∙ (ap (λ (x : Standing). record w {
         client = record { talk = (says_place 0 w.client.talk).0; kept = [] };
-        link = Some (record { session = x; first_sent = replicate 16 None; to_server = said (says_place 0 w.client.talk).1; to_client = [] });
+        link = Some (record { session = x; first_sent = replicate 16 None;
+            to_server = said (says_place 0 w.client.talk).1; to_client = [] });
       }) session ∙ sym q.becomes)
 
   pub step_once : (step : Step) (a b : WorldState) → Happens w step a → Happens w step b → a ≡ b
   step_once (Append k bytes) a b p q = p ∙ sym q
   step_once Connect a b p q = connected_once a b p q
-  step_once (ToServer n) a b p q = p.0 ∙ (ap (λ (x : Option LinkState). record w { link = x }) (served_links n w.link a.link b.link t.link p.1 q.1) ∙ sym q.0)
+  step_once (ToServer n) a b p q =
+      p.0 ∙ (ap (λ (x : Option LinkState). record w { link = x }) (served_links n w.link a.link b.link t.link p.1 q.1)
+      ∙ sym q.0)
   step_once (ToClient n) a b p q = delivered_once n a b w.link a.link b.link p q refl refl refl p.link q.link
   step_once (Send k) a b p q = p ∙ sym q
   step_once Cut a b p q = p ∙ sym q
 
   -- what is kept stays begun
-  heard_keeps : (n : ℕ) (a : WorldState) (o x : Option LinkState) → Delivers n w a → w.link ≡ o → Both (IsHeard n w a) o x → Keeps a
+  heard_keeps : (n : ℕ) (a : WorldState) (o x : Option LinkState) → Delivers n w a → w.link ≡ o
+      → Both (IsHeard n w a) o x → Keeps a
   heard_keeps n a None x p was h = subst Keeps (sym (p.unlinked was)) keeps
   heard_keeps n a (Some l) None p was h = absurd h
-  heard_keeps n a (Some l) (Some x) p was h = let y : HeardAll l.first_sent (taking w l) (take n l.to_client) (taking a x) = heard_all l.first_sent (taking w l) (take n l.to_client) (taking a x) h.hears keeps in y.is_begun
+  heard_keeps n a (Some l) (Some x) p was h =
+      let y : HeardAll l.first_sent (taking w l) (take n l.to_client) (taking a x) =
+      heard_all l.first_sent (taking w l) (take n l.to_client) (taking a x) h.hears keeps in y.is_begun
 
   pushed_keeps : (k : ℕ) (bytes : List ℕ) (o : Option Window) → Keeps (pushed_to w k bytes o)
   pushed_keeps k bytes None = keeps
@@ -303,15 +396,21 @@ module _ (places : Places) (differ : Differ places) (codes : (k : ℕ) (p : Fiel
   step_keeps (Send k) a p = subst Keeps (sym p) keeps
   step_keeps Cut a p = subst Keeps (sym p) keeps
 
-module _ (places : Places) (differ : Differ places) (codes : (k : ℕ) (p : Fields × Option ℕ) → slice_get places k ≡ Some p → IsField 5 p.0.station × IsField 2 p.0.network) where
-  all_once : (steps : List Step) (w a b : WorldState) → 0 < length places → AreOf places steps → WorldTalks places differ codes w → Keeps w → AllHappen w steps a → AllHappen w steps b → a ≡ b
+module _ (places : Places) (differ : Differ places) (codes : (k : ℕ) (p : Fields × Option ℕ)
+    → slice_get places k ≡ Some p → IsField 5 p.0.station × IsField 2 p.0.network) where
+  all_once : (steps : List Step) (w a b : WorldState) → 0 < length places → AreOf places steps
+      → WorldTalks places differ codes w → Keeps w → AllHappen w steps a → AllHappen w steps b → a ≡ b
   all_once [] w a b some of t keeps p q = p ∙ sym q
   all_once (step ∷ steps) w a b some of t keeps p q =
       let one : p.0 ≡ q.0 = step_once places differ codes w t keeps step p.0 q.0 p.1 q.1 in
-      all_once steps p.0 a b some of.2 (step_talks places differ codes w p.0 step some of.0 of.1 p.1 t) (step_keeps places differ codes w t keeps step p.0 p.1) p.2 (subst (λ (x : WorldState). AllHappen x steps b) (sym one) q.2)
+      all_once steps p.0 a b some of.2 (step_talks places differ codes w p.0 step some of.0 of.1 p.1 t)
+          (step_keeps places differ codes w t keeps step p.0 p.1) p.2
+          (subst (λ (x : WorldState). AllHappen x steps b) (sym one) q.2)
 
 -- Any steps lead to one world.
-pub one_world : (setup : Setup) (steps : List Step) (a b : WorldState) → AllHappen (opening setup) steps a → AllHappen (opening setup) steps b → IsSchedule setup steps → AreAskable setup.places.items → a ≡ b
+pub one_world : (setup : Setup) (steps : List Step) (a b : WorldState) → AllHappen (opening setup) steps a
+    → AllHappen (opening setup) steps b → IsSchedule setup steps → AreAskable setup.places.items → a ≡ b
 one_world setup steps a b p q is askable =
-    all_once setup.places.items is.differ askable.codes steps (opening setup) a b askable.some (each_of setup.places.items steps is.of_places is.sound)
+    all_once setup.places.items is.differ askable.codes steps (opening setup) a b askable.some
+        (each_of setup.places.items steps is.of_places is.sound)
     (opening_talks setup steps a p is askable) refl p q

@@ -1,5 +1,6 @@
 -- Bytes that are taken piece by piece.
-use Rattle.std.proofs.Common.{◌≡◌, ℕ, ◌+◌, ◌≤◌, zero, suc, refl, sym, ap, subst, ◌∙◌, arith, List, [], ◌∷◌, ◌++◌, append-nil, length, take, drop}
+use Rattle.std.proofs.Common.{◌≡◌, ℕ, ◌+◌, ◌≤◌, zero, suc, refl, sym, ap, subst, ◌∙◌, arith, List, [], ◌∷◌, ◌++◌,
+    append-nil, length, take, drop}
 use Rattle.slink_wire.specs.declared.reply.Reply.{Reply}
 use Rattle.slink_wire.specs.Reply.{reply_bytes}
 use Rattle.slink_feed.specs.Listening.{IsLinked}
@@ -17,10 +18,14 @@ nothing zero = refl
 nothing (suc n) = refl
 
 -- the piece that begins at an offset, and the rest behind it
-pub at_offset : (bytes : List ℕ) (start used : ℕ) → drop start bytes ≡ take used (drop start bytes) ++ drop (start + used) bytes
-at_offset bytes zero used = let none : zero + used ≡ used = omega arith in front bytes used ∙ ap (λ n. take used bytes ++ drop n bytes) (sym none)
-at_offset [] (suc n) used = let more : suc n + used ≡ suc (n + used) = omega arith in sym (ap (λ xs. xs ++ drop (suc n + used) []) (nothing used) ∙ ap (λ k. drop k []) more)
-at_offset (b ∷ bs) (suc n) used = let more : suc n + used ≡ suc (n + used) = omega arith in at_offset bs n used ∙ ap (λ k. take used (drop n bs) ++ drop k (b ∷ bs)) (sym more)
+pub at_offset : (bytes : List ℕ) (start used : ℕ)
+    → drop start bytes ≡ take used (drop start bytes) ++ drop (start + used) bytes
+at_offset bytes zero used = let none : zero + used ≡ used = omega arith in
+    front bytes used ∙ ap (λ n. take used bytes ++ drop n bytes) (sym none)
+at_offset [] (suc n) used = let more : suc n + used ≡ suc (n + used) = omega arith in
+    sym (ap (λ xs. xs ++ drop (suc n + used) []) (nothing used) ∙ ap (λ k. drop k []) more)
+at_offset (b ∷ bs) (suc n) used = let more : suc n + used ≡ suc (n + used) = omega arith in at_offset bs n used
+    ∙ ap (λ k. take used (drop n bs) ++ drop k (b ∷ bs)) (sym more)
 
 pub nothing_left : (bytes : List ℕ) (start : ℕ) → length bytes ≤ start → drop start bytes ≡ []
 nothing_left [] zero past = refl
@@ -28,17 +33,24 @@ nothing_left [] (suc n) past = refl
 nothing_left (b ∷ bs) zero past = absurd (omega (arith, past))
 nothing_left (b ∷ bs) (suc n) past = nothing_left bs n (omega (arith, past))
 
-pub serves_more : (feed : List Window) (s now last : Standing) (bytes : List ℕ) (start used : ℕ) (way on all : List ℕ) (reply : Reply) → Takes feed s (take used (drop start bytes)) now reply → on ≡ way ++ reply_bytes reply
+pub serves_more : (feed : List Window) (s now last : Standing) (bytes : List ℕ) (start used : ℕ) (way on all : List ℕ)
+    (reply : Reply) → Takes feed s (take used (drop start bytes)) now reply → on ≡ way ++ reply_bytes reply
     → Serves feed now (drop (start + used) bytes) on last all → Serves feed s (drop start bytes) way last all
 serves_more feed s now last bytes start used way on all reply takes e more =
-    piece_served s now last (drop start bytes) (take used (drop start bytes)) (drop (start + used) bytes) way all reply (at_offset bytes start used) takes
+    piece_served s now last (drop start bytes) (take used (drop start bytes)) (drop (start + used) bytes) way all reply
+        (at_offset bytes start used) takes
     (subst (λ (w : List ℕ). Serves feed now (drop (start + used) bytes) w last all) e more)
 
-pub serves_all : (feed : List Window) (s : Standing) (bytes : List ℕ) (start : ℕ) (way : List ℕ) → length bytes ≤ start → Serves feed s (drop start bytes) way s way
-serves_all feed s bytes start way past = subst (λ (b : List ℕ). Serves feed s b way s way) (sym (nothing_left bytes start past)) (none_served s way)
+pub serves_all : (feed : List Window) (s : Standing) (bytes : List ℕ) (start : ℕ) (way : List ℕ) → length bytes ≤ start
+    → Serves feed s (drop start bytes) way s way
+serves_all feed s bytes start way past =
+    subst (λ (b : List ℕ). Serves feed s b way s way) (sym (nothing_left bytes start past)) (none_served s way)
 
-pub hears_all : (first_sent : Numbers) (t : Taking) (bytes : List ℕ) (start : ℕ) → length bytes ≤ start → Hears first_sent t (drop start bytes) t
-hears_all first_sent t bytes start past = subst (λ (b : List ℕ). Hears first_sent t b t) (sym (nothing_left bytes start past)) (none_heard t)
+pub hears_all : (first_sent : Numbers) (t : Taking) (bytes : List ℕ) (start : ℕ) → length bytes ≤ start
+    → Hears first_sent t (drop start bytes) t
+hears_all first_sent t bytes start past =
+    subst (λ (b : List ℕ). Hears first_sent t b t) (sym (nothing_left bytes start past)) (none_heard t)
 
-pub rest_lost : (first_sent : Numbers) (t : Taking) (bytes : List ℕ) → ¬ (IsLinked t.client.talk.stage) → Hears first_sent t bytes t
+pub rest_lost : (first_sent : Numbers) (t : Taking) (bytes : List ℕ) → ¬ (IsLinked t.client.talk.stage)
+    → Hears first_sent t bytes t
 rest_lost first_sent t bytes unlinked = piece_lost t t bytes bytes [] (sym (append-nil bytes)) unlinked (none_heard t)

@@ -1,5 +1,7 @@
 -- What comes of a packing that is sent through a schedule.
-use Rattle.std.proofs.Common.{◌≡◌, All, ◌≢◌, ℕ, ◌+◌, ◌-◌, ◌*◌, ◌/◌, ◌^◌, ◌<◌, ◌≤◌, inl, inr, zero, suc, refl, sym, ap, subst, ◌∙◌, arith, List, [], ◌∷◌, ◌++◌, append_assoc, append-nil, length, length-append, map, take, drop, get_or, Bool, true, false, Option, Some, None, Result, Ok, Err, IfOk, IfErr, slice_get, slice_range, if◌then◌else◌, ◌==◌}
+use Rattle.std.proofs.Common.{◌≡◌, All, ◌≢◌, ℕ, ◌+◌, ◌-◌, ◌*◌, ◌/◌, ◌^◌, ◌<◌, ◌≤◌, inl, inr, zero, suc, refl, sym, ap,
+    subst, ◌∙◌, arith, List, [], ◌∷◌, ◌++◌, append_assoc, append-nil, length, length-append, map, take, drop, get_or,
+    Bool, true, false, Option, Some, None, Result, Ok, Err, IfOk, IfErr, slice_get, slice_range, if◌then◌else◌, ◌==◌}
 use Rattle.std.specs.List.{AllByRecursion, concat}
 use Rattle.std.specs.Simd.{first_chunks}
 use Rattle.std.proofs.Math.Nat.{mul-div_cancel_left}
@@ -42,18 +44,22 @@ module _ {X : Type 0} (P : X → Type 0) where
   in_turn [] h = tt
   in_turn (x ∷ xs) h = (h 0 x (omega arith), in_turn xs (λ i d lt. h (suc i) d (omega (arith, lt))))
 
-all_joined : {X : Type 0} (P : X → Type 0) (xs ys : List X) → AllByRecursion P xs → AllByRecursion P ys → AllByRecursion P (xs ++ ys)
+all_joined : {X : Type 0} (P : X → Type 0) (xs ys : List X) → AllByRecursion P xs → AllByRecursion P ys
+    → AllByRecursion P (xs ++ ys)
 all_joined P [] ys h k = k
 all_joined P (x ∷ xs) ys h k = (h.0, all_joined P xs ys h.1 k)
 
 -- one view more
-pub viewed_more : (rs : List (List ℕ)) (r : List ℕ) (vs : List View) (v : View) → AreViewsOf rs vs → v.bytes ≡ r → IsView v → AreViewsOf (rs ++ r ∷ []) (vs ++ v ∷ [])
+pub viewed_more : (rs : List (List ℕ)) (r : List ℕ) (vs : List View) (v : View) → AreViewsOf rs vs → v.bytes ≡ r
+    → IsView v → AreViewsOf (rs ++ r ∷ []) (vs ++ v ∷ [])
 viewed_more rs r vs v h same is =
     let first = h.bytes in
-    record { bytes = map-append (λ (u : View). u.bytes) vs (v ∷ []) ∙ (λ i. first i ++ same i ∷ []); each = all_joined IsView vs (v ∷ []) h.each (is, tt) }
+    record { bytes = map-append (λ (u : View). u.bytes) vs (v ∷ []) ∙ (λ i. first i ++ same i ∷ []);
+        each = all_joined IsView vs (v ∷ []) h.each (is, tt) }
 
 -- records of one length, cut out of their bytes
-long_as : (rs : List (List ℕ)) → AllByRecursion (λ (r : List ℕ). length r ≡ 512) rs → length (concat rs) ≡ 512 * length rs
+long_as : (rs : List (List ℕ)) → AllByRecursion (λ (r : List ℕ). length r ≡ 512) rs
+    → length (concat rs) ≡ 512 * length rs
 long_as [] h = refl
 long_as (r ∷ rs) h =
     let first : length r ≡ 512 = h.0 in
@@ -61,17 +67,23 @@ long_as (r ∷ rs) h =
     let sum : length (r ++ concat rs) ≡ length r + length (concat rs) = length-append r (concat rs) in
     omega (arith, first, rest, sum)
 
-cut_at : (rs : List (List ℕ)) → AllByRecursion (λ (r : List ℕ). length r ≡ 512) rs → first_chunks 512 (length rs) (concat rs) ≡ rs
+cut_at : (rs : List (List ℕ)) → AllByRecursion (λ (r : List ℕ). length r ≡ 512) rs
+    → first_chunks 512 (length rs) (concat rs) ≡ rs
 cut_at [] h = refl
 cut_at (r ∷ rs) h =
-    let first : take 512 (r ++ concat rs) ≡ r = subst (λ (n : ℕ). take n (r ++ concat rs) ≡ r) h.0 (take-append_seam r (concat rs)) in
-    let rest : drop 512 (r ++ concat rs) ≡ concat rs = subst (λ (n : ℕ). drop n (r ++ concat rs) ≡ concat rs) h.0 (drop-append_seam r (concat rs)) in
-    let more : first_chunks 512 (length rs) (drop 512 (r ++ concat rs)) ≡ rs = ap (first_chunks 512 (length rs)) rest ∙ cut_at rs h.1 in
+    let first : take 512 (r ++ concat rs) ≡ r =
+        subst (λ (n : ℕ). take n (r ++ concat rs) ≡ r) h.0 (take-append_seam r (concat rs)) in
+    let rest : drop 512 (r ++ concat rs) ≡ concat rs =
+        subst (λ (n : ℕ). drop n (r ++ concat rs) ≡ concat rs) h.0 (drop-append_seam r (concat rs)) in
+    let more : first_chunks 512 (length rs) (drop 512 (r ++ concat rs)) ≡ rs = ap (first_chunks 512 (length rs)) rest
+        ∙ cut_at rs h.1 in
     λ i. first i ∷ more i
 
-pub cut : (rs : List (List ℕ)) (bytes : List ℕ) → AllByRecursion (λ (r : List ℕ). length r ≡ 512) rs → bytes ≡ concat rs → first_chunks 512 (length bytes / 512) bytes ≡ rs
+pub cut : (rs : List (List ℕ)) (bytes : List ℕ) → AllByRecursion (λ (r : List ℕ). length r ≡ 512) rs
+    → bytes ≡ concat rs → first_chunks 512 (length bytes / 512) bytes ≡ rs
 cut rs bytes h e =
-    let count : length bytes / 512 ≡ length rs = ap (λ (n : ℕ). n / 512) (ap length e ∙ long_as rs h) ∙ mul-div_cancel_left (length rs) (omega arith) in
+    let count : length bytes / 512 ≡ length rs = ap (λ (n : ℕ). n / 512) (ap length e ∙ long_as rs h)
+        ∙ mul-div_cancel_left (length rs) (omega arith) in
     ap (λ (n : ℕ). first_chunks 512 n bytes) count ∙ (ap (first_chunks 512 (length rs)) e ∙ cut_at rs h)
 
 -- a key's first bytes are the network's, and the next the station's
@@ -80,23 +92,28 @@ part_first xs ys e = subst (λ (n : ℕ). take n (xs ++ ys) ≡ xs) e (take-appe
 
 part_second : (xs ys zs : List ℕ) → length xs ≡ 2 → length ys ≡ 5 → slice_range (xs ++ (ys ++ zs)) 2 7 ≡ ys
 part_second xs ys zs e f =
-    let rest : drop 2 (xs ++ (ys ++ zs)) ≡ ys ++ zs = subst (λ (n : ℕ). drop n (xs ++ (ys ++ zs)) ≡ ys ++ zs) e (drop-append_seam xs (ys ++ zs)) in
+    let rest : drop 2 (xs ++ (ys ++ zs)) ≡ ys ++ zs =
+        subst (λ (n : ℕ). drop n (xs ++ (ys ++ zs)) ≡ ys ++ zs) e (drop-append_seam xs (ys ++ zs)) in
     ap (take 5) rest ∙ subst (λ (n : ℕ). take n (ys ++ zs) ≡ ys) f (take-append_seam ys zs)
 
 part_long : (xs : List ℕ) (i j : ℕ) → i ≤ j → j ≤ length xs → length (slice_range xs i j) ≡ j - i
 part_long xs i j low high = length-take-le (j - i) (drop i xs) (omega (arith, low, high, length-drop i xs))
 
-bears_key : (b codes : List ℕ) (place : Fields) → length b ≡ 512 → key_at b ≡ codes → place.network ≡ slice_range codes 0 2 → place.station ≡ slice_range codes 2 7 → Bears b place
+bears_key : (b codes : List ℕ) (place : Fields) → length b ≡ 512 → key_at b ≡ codes
+    → place.network ≡ slice_range codes 0 2 → place.station ≡ slice_range codes 2 7 → Bears b place
 bears_key b codes place long key network station =
     let two : length (slice_range b 18 20) ≡ 2 = part_long b 18 20 (omega arith) (omega (arith, long)) in
     let five : length (slice_range b 8 13) ≡ 5 = part_long b 8 13 (omega arith) (omega (arith, long)) in
-    let nested : key_at b ≡ slice_range b 18 20 ++ (slice_range b 8 13 ++ (slice_range b 13 15 ++ slice_range b 15 18)) =
+    let nested : key_at b ≡ slice_range b 18 20
+        ++ (slice_range b 8 13 ++ (slice_range b 13 15 ++ slice_range b 15 18)) =
     append_assoc (slice_range b 18 20 ++ slice_range b 8 13) (slice_range b 13 15) (slice_range b 15 18)
     ∙ append_assoc (slice_range b 18 20) (slice_range b 8 13) (slice_range b 13 15 ++ slice_range b 15 18) in
     let first : slice_range (key_at b) 0 2 ≡ slice_range b 18 20 =
-    ap (λ (k : List ℕ). slice_range k 0 2) nested ∙ part_first (slice_range b 18 20) (slice_range b 8 13 ++ (slice_range b 13 15 ++ slice_range b 15 18)) two in
+    ap (λ (k : List ℕ). slice_range k 0 2) nested
+        ∙ part_first (slice_range b 18 20) (slice_range b 8 13 ++ (slice_range b 13 15 ++ slice_range b 15 18)) two in
     let second : slice_range (key_at b) 2 7 ≡ slice_range b 8 13 =
-    ap (λ (k : List ℕ). slice_range k 2 7) nested ∙ part_second (slice_range b 18 20) (slice_range b 8 13) (slice_range b 13 15 ++ slice_range b 15 18) two five in (
+    ap (λ (k : List ℕ). slice_range k 2 7) nested ∙ part_second (slice_range b 18 20) (slice_range b 8 13)
+        (slice_range b 13 15 ++ slice_range b 15 18) two five in (
       sym second ∙ (ap (λ (k : List ℕ). slice_range k 2 7) key ∙ sym station),
       sym first ∙ (ap (λ (k : List ℕ). slice_range k 0 2) key ∙ sym network),
     )
@@ -105,38 +122,51 @@ bears_key b codes place long key network station =
 abbrev pub AllBear : Fields → List (List ℕ) → Type 0
 AllBear place rs = AllByRecursion (λ (r : List ℕ). Bears r place) rs
 
-bear_of : (s : Trace) (setup : Setup) (of : IsOfChannel setup s.codes) (vs : List View) → AllByRecursion (λ (r : List ℕ). length r ≡ 512) (map (λ (v : View). v.bytes) vs) → AllByRecursion (λ (v : View). key_at v.bytes ≡ s.codes) vs → AllBear of.place (map (λ (v : View). v.bytes) vs)
+bear_of : (s : Trace) (setup : Setup) (of : IsOfChannel setup s.codes) (vs : List View)
+    → AllByRecursion (λ (r : List ℕ). length r ≡ 512) (map (λ (v : View). v.bytes) vs)
+    → AllByRecursion (λ (v : View). key_at v.bytes ≡ s.codes) vs → AllBear of.place (map (λ (v : View). v.bytes) vs)
 bear_of s setup of [] long keys = tt
-bear_of s setup of (v ∷ vs) long keys = (bears_key v.bytes s.codes of.place long.0 keys.0 of.network of.station, bear_of s setup of vs long.1 keys.1)
+bear_of s setup of (v ∷ vs) long keys =
+    (bears_key v.bytes s.codes of.place long.0 keys.0 of.network of.station, bear_of s setup of vs long.1 keys.1)
 
-pub bear : (s : Trace) (setup : Setup) (of : IsOfChannel setup s.codes) (rs : List (List ℕ)) (vs : List View) → AreViewsOf rs vs → AllByRecursion (λ (r : List ℕ). length r ≡ 512) rs → AllByRecursion (λ (v : View). key_at v.bytes ≡ s.codes) vs → AllBear of.place rs
+pub bear : (s : Trace) (setup : Setup) (of : IsOfChannel setup s.codes) (rs : List (List ℕ)) (vs : List View)
+    → AreViewsOf rs vs → AllByRecursion (λ (r : List ℕ). length r ≡ 512) rs
+    → AllByRecursion (λ (v : View). key_at v.bytes ≡ s.codes) vs → AllBear of.place rs
 bear s setup of rs vs are long keys =
-    subst (AllBear of.place) are.bytes (bear_of s setup of vs (subst (λ (qs : List (List ℕ)). AllByRecursion (λ (r : List ℕ). length r ≡ 512) qs) (sym are.bytes) long) keys)
+    subst (AllBear of.place) are.bytes
+        (bear_of s setup of vs (subst (λ (qs : List (List ℕ)). AllByRecursion (λ (r : List ℕ). length r ≡ 512) qs)
+        (sym are.bytes) long) keys)
 
 -- The steps that are fed are of the place.
-is_at : (place : Fields) (first : Option ℕ) (k : ℕ) → k < 1 → slice_get {X = Fields × Option ℕ} ((place, first) ∷ []) k ≡ Some (place, first)
+is_at : (place : Fields) (first : Option ℕ) (k : ℕ) → k < 1
+    → slice_get {X = Fields × Option ℕ} ((place, first) ∷ []) k ≡ Some (place, first)
 is_at place first zero lt = refl
 is_at place first (suc k) lt = absurd (omega (arith, lt))
 
-fed_of : (place : Fields) (first : Option ℕ) (steps : List Step) (rs : List (List ℕ)) → AllByRecursion IsOfOne steps → AllBear place rs → AllByRecursion (IsOf ((place, first) ∷ [])) (fed steps rs)
+fed_of : (place : Fields) (first : Option ℕ) (steps : List Step) (rs : List (List ℕ)) → AllByRecursion IsOfOne steps
+    → AllBear place rs → AllByRecursion (IsOf ((place, first) ∷ [])) (fed steps rs)
 fed_of place first [] rs of bears = tt
 fed_of place first (Append k b ∷ steps) [] of bears = fed_of place first steps [] of.1 tt
-fed_of place first (Append k b ∷ steps) (r ∷ rs) of bears = (((place, first), is_at place first k of.0, bears.0), fed_of place first steps rs of.1 bears.1)
+fed_of place first (Append k b ∷ steps) (r ∷ rs) of bears =
+    (((place, first), is_at place first k of.0, bears.0), fed_of place first steps rs of.1 bears.1)
 fed_of place first (Connect ∷ steps) rs of bears = (tt, fed_of place first steps rs of.1 bears)
 fed_of place first (ToServer n ∷ steps) rs of bears = (tt, fed_of place first steps rs of.1 bears)
 fed_of place first (ToClient n ∷ steps) rs of bears = (tt, fed_of place first steps rs of.1 bears)
 fed_of place first (Send k ∷ steps) rs of bears = (of.0, fed_of place first steps rs of.1 bears)
 fed_of place first (Cut ∷ steps) rs of bears = (tt, fed_of place first steps rs of.1 bears)
 
-pub all_of : (setup : Setup) (codes : List ℕ) (of : IsOfChannel setup codes) (steps : List Step) (rs : List (List ℕ)) → All IsOfOne steps → AllBear of.place rs → All (IsOf setup.places.items) (fed steps rs)
+pub all_of : (setup : Setup) (codes : List ℕ) (of : IsOfChannel setup codes) (steps : List Step) (rs : List (List ℕ))
+    → All IsOfOne steps → AllBear of.place rs → All (IsOf setup.places.items) (fed steps rs)
 all_of setup codes of steps rs one bears =
     by_index (IsOf setup.places.items) (fed steps rs)
-    (subst (λ (ps : List (Fields × Option ℕ)). AllByRecursion (IsOf ps) (fed steps rs)) (sym of.places) (fed_of of.place of.first steps rs (in_turn IsOfOne steps one) bears))
+    (subst (λ (ps : List (Fields × Option ℕ)). AllByRecursion (IsOf ps) (fed steps rs)) (sym of.places)
+        (fed_of of.place of.first steps rs (in_turn IsOfOne steps one) bears))
 
 pub fewer : (steps : List Step) (rs : List (List ℕ)) → length (fed steps rs) ≤ length steps
 fewer [] rs = omega arith
 fewer (Append k b ∷ steps) [] = let more : length (fed steps []) ≤ length steps = fewer steps [] in omega (arith, more)
-fewer (Append k b ∷ steps) (r ∷ rs) = let more : length (fed steps rs) ≤ length steps = fewer steps rs in omega (arith, more)
+fewer (Append k b ∷ steps) (r ∷ rs) = let more : length (fed steps rs) ≤ length steps = fewer steps rs in
+    omega (arith, more)
 fewer (Connect ∷ steps) rs = let more : length (fed steps rs) ≤ length steps = fewer steps rs in omega (arith, more)
 fewer (ToServer n ∷ steps) rs = let more : length (fed steps rs) ≤ length steps = fewer steps rs in omega (arith, more)
 fewer (ToClient n ∷ steps) rs = let more : length (fed steps rs) ≤ length steps = fewer steps rs in omega (arith, more)
@@ -148,12 +178,14 @@ here : (k : ℕ) (b : List ℕ) → k < 1 → appended_by 0 (Append k b) ≡ b �
 here zero b lt = refl
 here (suc k) b lt = absurd (omega (arith, lt))
 
-pub front : (steps : List Step) (rs : List (List ℕ)) → AllByRecursion IsOfOne steps → (rest : List (List ℕ)) × (rs ≡ appended 0 (fed steps rs) ++ rest)
+pub front : (steps : List Step) (rs : List (List ℕ)) → AllByRecursion IsOfOne steps
+    → (rest : List (List ℕ)) × (rs ≡ appended 0 (fed steps rs) ++ rest)
 front [] rs of = (rs, refl)
 front (Append k b ∷ steps) [] of = front steps [] of.1
 front (Append k b ∷ steps) (r ∷ rs) of =
     let more = front steps rs of.1 in
-    (more.0, ap (λ (qs : List (List ℕ)). r ∷ qs) more.1 ∙ ap (λ (qs : List (List ℕ)). (qs ++ appended 0 (fed steps rs)) ++ more.0) (sym (here k r of.0)))
+    (more.0, ap (λ (qs : List (List ℕ)). r ∷ qs) more.1
+        ∙ ap (λ (qs : List (List ℕ)). (qs ++ appended 0 (fed steps rs)) ++ more.0) (sym (here k r of.0)))
 front (Connect ∷ steps) rs of = front steps rs of.1
 front (ToServer n ∷ steps) rs of = front steps rs of.1
 front (ToClient n ∷ steps) rs of = front steps rs of.1
@@ -166,11 +198,15 @@ pub record Between (rs held : List (List ℕ)) : Type 0 where
   pub after : List (List ℕ)
   pub is : rs ≡ before ++ (held ++ after)
 
-slice : (first : ℕ) (pushed held : List (List ℕ)) (next start : Option ℕ) → Holds first pushed next held start → Between pushed held
-slice first pushed held next None h = record { before = []; after = pushed; is = ap (λ (hs : List (List ℕ)). hs ++ pushed) (sym h) }
+slice : (first : ℕ) (pushed held : List (List ℕ)) (next start : Option ℕ) → Holds first pushed next held start
+    → Between pushed held
+slice first pushed held next None h =
+    record { before = []; after = pushed; is = ap (λ (hs : List (List ℕ)). hs ++ pushed) (sym h) }
 slice first pushed held next (Some n) h = record { before = h.0; after = h.1; is = h.2 }
 
-pub between : (rs pushed held : List (List ℕ)) (steps : List Step) (first : ℕ) (next start : Option ℕ) → AllByRecursion IsOfOne steps → pushed ≡ appended 0 (fed steps rs) → Holds first pushed next held start → Between rs held
+pub between : (rs pushed held : List (List ℕ)) (steps : List Step) (first : ℕ) (next start : Option ℕ)
+    → AllByRecursion IsOfOne steps → pushed ≡ appended 0 (fed steps rs) → Holds first pushed next held start
+    → Between rs held
 between rs pushed held steps first next start of is h =
     let part = slice first pushed held next start h in
     let whole = front steps rs of in
@@ -178,14 +214,17 @@ between rs pushed held steps first next start of is h =
       before = part.before;
       after = part.after ++ whole.0;
       is = whole.1 ∙ (ap (λ (qs : List (List ℕ)). qs ++ whole.0) (sym is ∙ part.is)
-          ∙ (append_assoc part.before (held ++ part.after) whole.0 ∙ ap (λ (qs : List (List ℕ)). part.before ++ qs) (append_assoc held part.after whole.0)));
+          ∙ (append_assoc part.before (held ++ part.after) whole.0
+          ∙ ap (λ (qs : List (List ℕ)). part.before ++ qs) (append_assoc held part.after whole.0)));
     }
 
 -- they are no more than the steps
 one_at_most : (k : ℕ) (b : List ℕ) → length (appended_by 0 (Append k b)) ≤ 1
 one_at_most k b = elim (eqb_tells k 0) [
-  | inl same ↦ let e : length (appended_by 0 (Append k b)) ≡ 1 = ap (λ (t : Bool). length (if t then b ∷ [] else [])) same.0 in omega (arith, e)
-  | inr other ↦ let e : length (appended_by 0 (Append k b)) ≡ 0 = ap (λ (t : Bool). length (if t then b ∷ [] else [])) other.0 in omega (arith, e)
+  | inl same ↦ let e : length (appended_by 0 (Append k b)) ≡ 1 =
+  ap (λ (t : Bool). length (if t then b ∷ [] else [])) same.0 in omega (arith, e)
+  | inr other ↦ let e : length (appended_by 0 (Append k b)) ≡ 0 =
+  ap (λ (t : Bool). length (if t then b ∷ [] else [])) other.0 in omega (arith, e)
 ]
 
 appended_few : (steps : List Step) → length (appended 0 steps) ≤ length steps
@@ -193,19 +232,28 @@ appended_few [] = omega arith
 appended_few (Append k b ∷ steps) =
     let more : length (appended 0 steps) ≤ length steps = appended_few steps in
     let one : length (appended_by 0 (Append k b)) ≤ 1 = one_at_most k b in
-    let sum : length (appended 0 (Append k b ∷ steps)) ≡ length (appended_by 0 (Append k b)) + length (appended 0 steps) = length-append (appended_by 0 (Append k b)) (appended 0 steps) in
+    let sum : length (appended 0 (Append k b ∷ steps)) ≡ length (appended_by 0 (Append k b)) + length
+        (appended 0 steps) = length-append (appended_by 0 (Append k b)) (appended 0 steps) in
     omega (arith, more, one, sum)
-appended_few (Connect ∷ steps) = let more : length (appended 0 steps) ≤ length steps = appended_few steps in omega (arith, more)
-appended_few (ToServer n ∷ steps) = let more : length (appended 0 steps) ≤ length steps = appended_few steps in omega (arith, more)
-appended_few (ToClient n ∷ steps) = let more : length (appended 0 steps) ≤ length steps = appended_few steps in omega (arith, more)
-appended_few (Send k ∷ steps) = let more : length (appended 0 steps) ≤ length steps = appended_few steps in omega (arith, more)
-appended_few (Cut ∷ steps) = let more : length (appended 0 steps) ≤ length steps = appended_few steps in omega (arith, more)
+appended_few (Connect ∷ steps) = let more : length (appended 0 steps) ≤ length steps = appended_few steps in
+    omega (arith, more)
+appended_few (ToServer n ∷ steps) = let more : length (appended 0 steps) ≤ length steps = appended_few steps in
+    omega (arith, more)
+appended_few (ToClient n ∷ steps) = let more : length (appended 0 steps) ≤ length steps = appended_few steps in
+    omega (arith, more)
+appended_few (Send k ∷ steps) = let more : length (appended 0 steps) ≤ length steps = appended_few steps in
+    omega (arith, more)
+appended_few (Cut ∷ steps) = let more : length (appended 0 steps) ≤ length steps = appended_few steps in
+    omega (arith, more)
 
-pub held_few : (pushed held : List (List ℕ)) (steps : List Step) (first : ℕ) (next start : Option ℕ) → pushed ≡ appended 0 steps → Holds first pushed next held start → length held ≤ length steps
+pub held_few : (pushed held : List (List ℕ)) (steps : List Step) (first : ℕ) (next start : Option ℕ)
+    → pushed ≡ appended 0 steps → Holds first pushed next held start → length held ≤ length steps
 held_few pushed held steps first next start is h =
     let part = slice first pushed held next start h in
-    let all : length pushed ≤ length steps = subst (λ (qs : List (List ℕ)). length qs ≤ length steps) (sym is) (appended_few steps) in
-    let sum : length pushed ≡ length part.before + length (held ++ part.after) = ap length part.is ∙ length-append part.before (held ++ part.after) in
+    let all : length pushed ≤ length steps =
+        subst (λ (qs : List (List ℕ)). length qs ≤ length steps) (sym is) (appended_few steps) in
+    let sum : length pushed ≡ length part.before + length (held ++ part.after) =
+        ap length part.is ∙ length-append part.before (held ++ part.after) in
     omega (arith, all, sum, length-append held part.after)
 
 -- records that have views are records
@@ -218,17 +266,21 @@ are_records rs vs are = by_index IsRecord rs (subst (AllByRecursion IsRecord) ar
 
 -- what the laws of packing say of a stretch
 abbrev pub HaveViews : Type 0
-HaveViews = (s : Trace) (before held after : List (List ℕ)) → ReadsAs s (before ++ (held ++ after)) → (views : List View) × AreViewsOf held views
+HaveViews = (s : Trace) (before held after : List (List ℕ)) → ReadsAs s (before ++ (held ++ after))
+    → (views : List View) × AreViewsOf held views
 
 abbrev pub AreAssembled : Type 0
-AreAssembled = (s : Trace) (before held after : List (List ℕ)) (views : List View) (answer : Result Trace NotContinuous) → ReadsAs s (before ++ (held ++ after)) → AreViewsOf held views
+AreAssembled = (s : Trace) (before held after : List (List ℕ)) (views : List View)
+    (answer : Result Trace NotContinuous) → ReadsAs s (before ++ (held ++ after)) → AreViewsOf held views
     → held ≢ [] → IsSeries answer (records_of s.codes (added_from 0 views)) → IsAssembled answer views
 
 abbrev pub AreParts : Type 0
-AreParts = (s part : Trace) (before held after : List (List ℕ)) (views : List View) → ReadsAs s (before ++ (held ++ after)) → AreViewsOf held views → IsSeriesOf part views
+AreParts = (s part : Trace) (before held after : List (List ℕ)) (views : List View)
+    → ReadsAs s (before ++ (held ++ after)) → AreViewsOf held views → IsSeriesOf part views
     → IsPartOf s before after part
 
-reads_parts : (s : Trace) (records held : List (List ℕ)) (among : IsAmong s records held) → ReadsAs s (among.0 ++ (held ++ among.1))
+reads_parts : (s : Trace) (records held : List (List ℕ)) (among : IsAmong s records held)
+    → ReadsAs s (among.0 ++ (held ++ among.1))
 reads_parts s records held among = subst (ReadsAs s) among.2 among.3
 
 pub records_among : HaveViews → (s : Trace) (records held : List (List ℕ)) → IsAmong s records held → All IsRecord held
@@ -236,8 +288,10 @@ records_among have s records held among =
     let viewed = have s among.0 held among.1 (reads_parts s records held among) in
     are_records held viewed.0 viewed.1
 
-pub part_held : AreAssembled → AreParts → (s t : Trace) (records held : List (List ℕ)) → held ≢ [] → IsAmong s records held → IsOfRecords (Ok t) s.codes held → IsHeldAs (Some t) s records held
-part_held assembled parts s t records held some among (inl e) = absurd (let bad : ◌≡◌ {A = Result Trace NotContinuous} (Ok t) (Err Memory) = e in cc bad)
+pub part_held : AreAssembled → AreParts → (s t : Trace) (records held : List (List ℕ)) → held ≢ []
+    → IsAmong s records held → IsOfRecords (Ok t) s.codes held → IsHeldAs (Some t) s records held
+part_held assembled parts s t records held some among (inl e) =
+    absurd (let bad : ◌≡◌ {A = Result Trace NotContinuous} (Ok t) (Err Memory) = e in cc bad)
 part_held assembled parts s t records held some among (inr is) =
     let reads = reads_parts s records held among in
     let both = assembled s among.0 held among.1 is.views (Ok t) reads is.are_views some is.series in
@@ -258,55 +312,79 @@ nothing [] e = refl
 nothing (x ∷ xs) e = absurd (omega (arith, e))
 
 pub empty_is : (xs : List (List ℕ)) → true ≡ (length xs == 0) → xs ≡ []
-empty_is xs h = elim (eqb_tells (length xs) 0) [ inl same ↦ nothing xs same.1 | inr other ↦ absurd (let bad : true ≡ false = h ∙ other.0 in cc bad) ]
+empty_is xs h = elim (eqb_tells (length xs) 0) [ inl same ↦ nothing xs same.1
+    | inr other ↦ absurd (let bad : true ≡ false = h ∙ other.0 in cc bad) ]
 
 pub some_are : (xs : List (List ℕ)) → false ≡ (length xs == 0) → xs ≢ []
-some_are xs h none = absurd (let e : (length xs == 0) ≡ true = ap (λ (ys : List (List ℕ)). length ys == 0) none in let bad : false ≡ true = h ∙ e in cc bad)
+some_are xs h none = absurd (let e : (length xs == 0) ≡ true = ap (λ (ys : List (List ℕ)). length ys == 0) none in
+    let bad : false ≡ true = h ∙ e in cc bad)
 
 -- the steps that are fed
-long_told : (rs : List (List ℕ)) → ((i : ℕ) → i < length rs → length (get_or rs i []) ≡ 512) → AllByRecursion (λ (r : List ℕ). length r ≡ 512) rs
+long_told : (rs : List (List ℕ)) → ((i : ℕ) → i < length rs → length (get_or rs i []) ≡ 512)
+    → AllByRecursion (λ (r : List ℕ). length r ≡ 512) rs
 long_told [] told = tt
 long_told (r ∷ rs) told = (told 0 (omega arith), long_told rs (λ i lt. told (suc i) (omega (arith, lt))))
 
 abbrev pub SayKeys : Type 0
-SayKeys = (s : Trace) (before held after : List (List ℕ)) (views : List View) → ReadsAs s (before ++ (held ++ after)) → AreViewsOf held views
+SayKeys = (s : Trace) (before held after : List (List ℕ)) (views : List View) → ReadsAs s (before ++ (held ++ after))
+    → AreViewsOf held views
     → AllByRecursion (λ (v : View). key_at v.bytes ≡ s.codes) views
 
-pub fed_are_of : SayKeys → (s : Trace) (setup : Setup) (of : IsOfChannel setup s.codes) (steps : List Step) (rs : List (List ℕ)) (all : List Step) → ReadsAs s rs → ((i : ℕ) → i < length rs → length (get_or rs i []) ≡ 512) → All IsOfOne steps
+pub fed_are_of : SayKeys → (s : Trace) (setup : Setup) (of : IsOfChannel setup s.codes) (steps : List Step)
+    (rs : List (List ℕ)) (all : List Step) → ReadsAs s rs → ((i : ℕ) → i < length rs → length (get_or rs i []) ≡ 512)
+    → All IsOfOne steps
     → all ≡ fed steps rs → All (IsOf setup.places.items) all
 fed_are_of say s setup of steps rs all reads told one is =
     let long = long_told rs told in
     let keys = say s [] rs [] reads.views (subst (ReadsAs s) (sym (append-nil rs)) reads) reads.are_views in
-    subst (All (IsOf setup.places.items)) (sym is) (all_of setup s.codes of steps rs one (bear s setup of rs reads.views reads.are_views long keys))
+    subst (All (IsOf setup.places.items)) (sym is)
+        (all_of setup s.codes of steps rs one (bear s setup of rs reads.views reads.are_views long keys))
 
-pub fed_few : (steps : List Step) (rs : List (List ℕ)) (all : List Step) (n : ℕ) → length steps < n → all ≡ fed steps rs → length all < n
-fed_few steps rs all n lt is = let few : length (fed steps rs) ≤ length steps = fewer steps rs in omega (arith, lt, few, ap length is)
+pub fed_few : (steps : List Step) (rs : List (List ℕ)) (all : List Step) (n : ℕ) → length steps < n
+    → all ≡ fed steps rs → length all < n
+fed_few steps rs all n lt is = let few : length (fed steps rs) ≤ length steps = fewer steps rs in
+    omega (arith, lt, few, ap length is)
 
 abbrev pub Pushes : Type 0
-Pushes = (setup : Setup) (steps : List Step) (now : WorldState) → AllHappen (opening setup) steps now → All (IsOf setup.places.items) steps → (k : ℕ) → get_or now.pushed k [] ≡ appended k steps
+Pushes = (setup : Setup) (steps : List Step) (now : WorldState) → AllHappen (opening setup) steps now
+    → All (IsOf setup.places.items) steps → (k : ℕ) → get_or now.pushed k [] ≡ appended k steps
 
 -- what is held of the one place
-holds_first : (setup : Setup) (codes : List ℕ) → IsOfChannel setup codes → (w : WorldState) → HoldsStretches setup.places.items setup.first w
-    → Holds setup.first (get_or w.pushed 0 []) (next_at w.client.talk.wants 0) (get_or w.held 0 []) (number_at w.start 0)
-holds_first setup codes of w holds = holds.stretch 0 (let e : length setup.places.items ≡ 1 = ap length of.places in omega (arith, e))
+holds_first : (setup : Setup) (codes : List ℕ) → IsOfChannel setup codes → (w : WorldState)
+    → HoldsStretches setup.places.items setup.first w
+    → Holds setup.first (get_or w.pushed 0 []) (next_at w.client.talk.wants 0) (get_or w.held 0 [])
+    (number_at w.start 0)
+holds_first setup codes of w holds = holds.stretch 0 (let e : length setup.places.items ≡ 1 = ap length of.places in
+    omega (arith, e))
 
-pub held_among : Pushes → (s : Trace) (setup : Setup) → IsOfChannel setup s.codes → (steps : List Step) (rs : List (List ℕ)) (all : List Step) (w : WorldState) (held : List (List ℕ)) → ReadsAs s rs → All IsOfOne steps
-    → all ≡ fed steps rs → All (IsOf setup.places.items) all → AllHappen (opening setup) all w → HoldsStretches setup.places.items setup.first w → held ≡ get_or w.held 0 [] → IsAmong s rs held
+pub held_among : Pushes → (s : Trace) (setup : Setup) → IsOfChannel setup s.codes
+    → (steps : List Step) (rs : List (List ℕ)) (all : List Step) (w : WorldState) (held : List (List ℕ)) → ReadsAs s rs
+    → All IsOfOne steps
+    → all ≡ fed steps rs → All (IsOf setup.places.items) all → AllHappen (opening setup) all w
+    → HoldsStretches setup.places.items setup.first w → held ≡ get_or w.held 0 [] → IsAmong s rs held
 held_among pushes s setup of steps rs all w held reads one is ofs run holds same =
     let pushed : get_or w.pushed 0 [] ≡ appended 0 (fed steps rs) = pushes setup all w run ofs 0 ∙ ap (appended 0) is in
-    let cut = between rs (get_or w.pushed 0 []) (get_or w.held 0 []) steps setup.first (next_at w.client.talk.wants 0) (number_at w.start 0) (in_turn IsOfOne steps one) pushed (holds_first setup s.codes of w holds) in
+    let cut = between rs (get_or w.pushed 0 []) (get_or w.held 0 []) steps setup.first (next_at w.client.talk.wants 0)
+        (number_at w.start 0) (in_turn IsOfOne steps one) pushed (holds_first setup s.codes of w holds) in
     (cut.before, cut.after, cut.is ∙ ap (λ (hs : List (List ℕ)). cut.before ++ (hs ++ cut.after)) (sym same), reads)
 
-pub held_are_few : Pushes → (setup : Setup) (codes : List ℕ) → IsOfChannel setup codes → (all : List Step) (w : WorldState) (held : List (List ℕ)) (n : ℕ) → length all < n
-    → All (IsOf setup.places.items) all → AllHappen (opening setup) all w → HoldsStretches setup.places.items setup.first w → held ≡ get_or w.held 0 [] → length held < n
+pub held_are_few : Pushes → (setup : Setup) (codes : List ℕ) → IsOfChannel setup codes
+    → (all : List Step) (w : WorldState) (held : List (List ℕ)) (n : ℕ) → length all < n
+    → All (IsOf setup.places.items) all → AllHappen (opening setup) all w
+    → HoldsStretches setup.places.items setup.first w → held ≡ get_or w.held 0 [] → length held < n
 held_are_few pushes setup codes of all w held n lt ofs run holds same =
-    let few : length (get_or w.held 0 []) ≤ length all = held_few (get_or w.pushed 0 []) (get_or w.held 0 []) all setup.first (next_at w.client.talk.wants 0) (number_at w.start 0) (pushes setup all w run ofs 0) (holds_first setup codes of w holds) in
+    let few : length (get_or w.held 0 []) ≤ length all =
+        held_few (get_or w.pushed 0 []) (get_or w.held 0 []) all setup.first (next_at w.client.talk.wants 0)
+        (number_at w.start 0) (pushes setup all w run ofs 0) (holds_first setup codes of w holds) in
     omega (arith, lt, few, ap length same)
 
-pub came : (s : Trace) (setup : Setup) (steps : List Step) (rs : List (List ℕ)) (all : List Step) (w : WorldState) (held : List (List ℕ)) (t : Option Trace) → all ≡ fed steps rs → AllHappen (opening setup) all w → held ≡ get_or w.held 0 []
+pub came : (s : Trace) (setup : Setup) (steps : List Step) (rs : List (List ℕ)) (all : List Step) (w : WorldState)
+    (held : List (List ℕ)) (t : Option Trace) → all ≡ fed steps rs → AllHappen (opening setup) all w
+    → held ≡ get_or w.held 0 []
     → IsHeldAs t s rs held → ComesThrough t s setup steps rs
 came s setup steps rs all w held t is run same h =
-    (w, subst (λ (ss : List Step). AllHappen (opening setup) ss w) is run, subst (λ (hs : List (List ℕ)). IsHeldAs t s rs hs) same h)
+    (w, subst (λ (ss : List Step). AllHappen (opening setup) ss w) is run,
+        subst (λ (hs : List (List ℕ)). IsHeldAs t s rs hs) same h)
 
 pub if_ok : {X E : Type 0} (r : Result X E) (P Q : X → Type 0) → ((x : X) → P x → Q x) → IfOk r P → IfOk r Q
 if_ok (Ok x) P Q f p = f x p
@@ -314,16 +392,22 @@ if_ok (Err e) P Q f p = tt
 
 -- the packed bytes, cut into records
 abbrev pub AreOfOneLength : Type 0
-AreOfOneLength = (s : Trace) (o : Options) (records : List (List ℕ)) → IsPacking s o records → AllByRecursion (λ (r : List ℕ). length r ≡ 2 ^ o.exponent) records
+AreOfOneLength = (s : Trace) (o : Options) (records : List (List ℕ)) → IsPacking s o records
+    → AllByRecursion (λ (r : List ℕ). length r ≡ 2 ^ o.exponent) records
 
-pub cut_out : AreOfOneLength → (s : Trace) (o : Options) (bytes : List ℕ) (rs : List (List ℕ)) → o.exponent ≡ 9 → (packed : IsPackedAs s o bytes) → rs ≡ first_chunks 512 (length bytes / 512) bytes → rs ≡ packed.records
+pub cut_out : AreOfOneLength → (s : Trace) (o : Options) (bytes : List ℕ) (rs : List (List ℕ)) → o.exponent ≡ 9
+    → (packed : IsPackedAs s o bytes) → rs ≡ first_chunks 512 (length bytes / 512) bytes → rs ≡ packed.records
 cut_out one s o bytes rs nine packed is =
-    let long = subst (λ (e : ℕ). AllByRecursion (λ (r : List ℕ). length r ≡ 2 ^ e) packed.records) nine (one s o packed.records packed.packing) in
+    let long = subst (λ (e : ℕ). AllByRecursion (λ (r : List ℕ). length r ≡ 2 ^ e) packed.records) nine
+        (one s o packed.records packed.packing) in
     is ∙ cut packed.records bytes long packed.bytes_are
 
 -- by the answer of the schedule
-pub relayed : (s : Trace) (o : Options) (setup : Setup) (steps : List Step) (rs : List (List ℕ)) (answer : Result (Option Trace) RelayFault) → Fits s o → IsPacking s o rs
-    → IfOk answer (λ t. ComesThrough t s setup steps rs) → IfErr answer (λ fault. fault ≡ faults.Memory) → IsRelay answer s o setup steps
+pub relayed : (s : Trace) (o : Options) (setup : Setup) (steps : List Step) (rs : List (List ℕ))
+    (answer : Result (Option Trace) RelayFault) → Fits s o → IsPacking s o rs
+    → IfOk answer (λ t. ComesThrough t s setup steps rs) → IfErr answer (λ fault. fault ≡ faults.Memory)
+    → IsRelay answer s o setup steps
 relayed s o setup steps rs (Ok t) fits packing ok err = (rs, packing, ok)
 relayed s o setup steps rs (Err faults.Memory) fits packing ok err = fits
-relayed s o setup steps rs (Err (faults.Pack fault)) fits packing ok err = absurd (let bad : faults.Pack fault ≡ faults.Memory = err in cc bad)
+relayed s o setup steps rs (Err (faults.Pack fault)) fits packing ok err =
+    absurd (let bad : faults.Pack fault ≡ faults.Memory = err in cc bad)

@@ -1,5 +1,6 @@
 -- Where a client that comes again is served from.
-use Rattle.std.proofs.Common.{◌≡◌, ℕ, ◌+◌, ◌-◌, ◌%◌, ◌^◌, ◌<◌, ◌≤◌, ◌⊎◌, inl, inr, sym, ap, subst, ◌∙◌, arith, Bool, true, ◌&&◌, List, [], length, get_or, Option, Some, None, slice_get, nat_le, if◌then◌else◌}
+use Rattle.std.proofs.Common.{◌≡◌, ℕ, ◌+◌, ◌-◌, ◌%◌, ◌^◌, ◌<◌, ◌≤◌, ◌⊎◌, inl, inr, sym, ap, subst, ◌∙◌, arith, Bool,
+    true, ◌&&◌, List, [], length, get_or, Option, Some, None, slice_get, nat_le, if◌then◌else◌}
 use Rattle.std.proofs.lemmas.Bool.Decides.{leb_tells}
 use Rattle.std.specs.Option.{option_and_then}
 use Rattle.slink_feed.specs.declared.grant.Grant.{Grant}
@@ -42,71 +43,98 @@ resumed_gone w n lo = elim (leb_tells (oldest_of w) n) [
 ]
 
 -- the number that is wanted decides, since fewer than 2^24 records are lacking
-resume_at : (w : Window) (n : ℕ) → n ≤ w.next → w.next < n + 2 ^ 24 → w.next ≤ oldest_of w + 1000000 → (oldest_of w ≤ n) ⊎ (n < oldest_of w) → resolve_of w (n % 2 ^ 24) ≡ resumed w n
+resume_at : (w : Window) (n : ℕ) → n ≤ w.next → w.next < n + 2 ^ 24 → w.next ≤ oldest_of w + 1000000
+    → (oldest_of w ≤ n) ⊎ (n < oldest_of w) → resolve_of w (n % 2 ^ 24) ≡ resumed w n
 resume_at w n past lacking near (inl lo) =
     let o : ℕ = oldest_of w in
-    let alike : (o + ahead_of w (n % 2 ^ 24)) % 2 ^ 24 ≡ n % 2 ^ 24 = ahead_alike o (n % 2 ^ 24) ∙ (let e : n % 2 ^ 24 % 2 ^ 24 ≡ n % 2 ^ 24 = omega arith in e) in
-    let same : o + ahead_of w (n % 2 ^ 24) ≡ n = near_alike (o + ahead_of w (n % 2 ^ 24)) n alike (omega (arith, lo)) (omega (arith, lo, past, near)) in
+    let alike : (o + ahead_of w (n % 2 ^ 24)) % 2 ^ 24 ≡ n % 2 ^ 24 = ahead_alike o (n % 2 ^ 24)
+        ∙ (let e : n % 2 ^ 24 % 2 ^ 24 ≡ n % 2 ^ 24 = omega arith in e) in
+    let same : o + ahead_of w (n % 2 ^ 24) ≡ n =
+        near_alike (o + ahead_of w (n % 2 ^ 24)) n alike (omega (arith, lo)) (omega (arith, lo, past, near)) in
     elim (leb_tells (ahead_of w (n % 2 ^ 24)) (w.next - o)) [
-      | inl passes ↦ ap (λ t. if t then Some (o + ahead_of w (n % 2 ^ 24)) else None) passes.0 ∙ (ap (λ m. Some m) same ∙ sym (resumed_there w n lo past))
+      | inl passes ↦ ap (λ t. if t then Some (o + ahead_of w (n % 2 ^ 24)) else None) passes.0
+      ∙ (ap (λ m. Some m) same ∙ sym (resumed_there w n lo past))
       | inr fails ↦ absurd (omega (arith, fails.1, same, lo, past))
     ]
 resume_at w n past lacking near (inr gone) =
     let o : ℕ = oldest_of w in
-    let alike : (o + ahead_of w (n % 2 ^ 24)) % 2 ^ 24 ≡ n % 2 ^ 24 = ahead_alike o (n % 2 ^ 24) ∙ (let e : n % 2 ^ 24 % 2 ^ 24 ≡ n % 2 ^ 24 = omega arith in e) in
+    let alike : (o + ahead_of w (n % 2 ^ 24)) % 2 ^ 24 ≡ n % 2 ^ 24 = ahead_alike o (n % 2 ^ 24)
+        ∙ (let e : n % 2 ^ 24 % 2 ^ 24 ≡ n % 2 ^ 24 = omega arith in e) in
     elim (leb_tells (ahead_of w (n % 2 ^ 24)) (w.next - o)) [
-      | inl passes ↦ let same : o + ahead_of w (n % 2 ^ 24) ≡ n = near_alike (o + ahead_of w (n % 2 ^ 24)) n alike (omega (arith, passes.1, gone, past, lacking)) (omega (arith, gone)) in
+      | inl passes ↦ let same : o + ahead_of w (n % 2 ^ 24) ≡ n =
+      near_alike (o + ahead_of w (n % 2 ^ 24)) n alike (omega (arith, passes.1, gone, past, lacking))
+      (omega (arith, gone)) in
           absurd (omega (arith, same, gone))
-      | inr fails ↦ ap (λ t. if t then Some (o + ahead_of w (n % 2 ^ 24)) else None) fails.0 ∙ sym (resumed_gone w n gone)
+      | inr fails ↦ ap (λ t. if t then Some (o + ahead_of w (n % 2 ^ 24)) else None) fails.0
+      ∙ sym (resumed_gone w n gone)
     ]
 
 either : (m n : ℕ) → (m ≤ n) ⊎ (n < m)
 either m n = elim (leb_tells m n) [ inl a ↦ inl a.1 | inr b ↦ inr (omega (arith, b.1)) ]
 
-granted_is : (mode : Mode) (w : Window) (n : ℕ) → n ≤ w.next → w.next < n + 2 ^ 24 → w.next ≤ oldest_of w + 1000000 → grant_of mode (Some (n % 2 ^ 24)) w ≡ resumed w n
+granted_is : (mode : Mode) (w : Window) (n : ℕ) → n ≤ w.next → w.next < n + 2 ^ 24 → w.next ≤ oldest_of w + 1000000
+    → grant_of mode (Some (n % 2 ^ 24)) w ≡ resumed w n
 granted_is modes.Data w n past lacking near = resume_at w n past lacking near (either (oldest_of w) n)
 granted_is modes.Fetch w n past lacking near = resume_at w n past lacking near (either (oldest_of w) n)
 
-pub resumes_at : (places : Places) (first : ℕ) (w : WorldState) → WorldTies places first w → LacksFew first w → Resumes w
+pub resumes_at : (places : Places) (first : ℕ) (w : WorldState) → WorldTies places first w → LacksFew first w
+    → Resumes w
 resumes_at places first w t lacks k start ring mode s held here =
     let lt : k < length places = omega (arith, is_within w.windows k ring here, t.long.0) in
-    let shown : (v : Window) × (slice_get w.windows k ≡ Some v) × Shows v first (get_or w.pushed k []) × (v.capacity ≤ 1000000) = t.shown k lt in
+    let shown : (v : Window) × (slice_get w.windows k ≡ Some v) × Shows v first (get_or w.pushed k [])
+        × (v.capacity ≤ 1000000) = t.shown k lt in
     let one : shown.0 ≡ ring = one_value (slice_get w.windows k) shown.0 ring shown.1 here in
-    let shows : Shows ring first (get_or w.pushed k []) = subst (λ (v : Window). Shows v first (get_or w.pushed k [])) one shown.2 in
+    let shows : Shows ring first (get_or w.pushed k []) =
+        subst (λ (v : Window). Shows v first (get_or w.pushed k [])) one shown.2 in
     let room : ring.capacity ≤ 1000000 = subst (λ (v : Window). v.capacity ≤ 1000000) one shown.3 in
     let holds : Holds first (get_or w.pushed k []) (next_at w.client.talk.wants k) (get_or w.held k []) (Some start)
-    = subst (Holds first (get_or w.pushed k []) (next_at w.client.talk.wants k) (get_or w.held k [])) held (t.holds k lt) in
+    = subst (Holds first (get_or w.pushed k []) (next_at w.client.talk.wants k) (get_or w.held k [])) held
+        (t.holds k lt) in
     let n : ℕ = start + length (get_or w.held k []) in
-    let to : n ≤ first + length (get_or w.pushed k []) = held_to first start (get_or w.pushed k []) (next_at w.client.talk.wants k) (get_or w.held k []) holds in
+    let to : n ≤ first + length (get_or w.pushed k []) =
+        held_to first start (get_or w.pushed k []) (next_at w.client.talk.wants k) (get_or w.held k []) holds in
     let few : first + length (get_or w.pushed k []) < n + 2 ^ 24 = lacks k start held in
-    let o : oldest_of ring ≡ first + (length (get_or w.pushed k []) - ring.capacity) = oldest_is ring first (get_or w.pushed k []) shows in
-    let is : grant_of mode (Some (n % 2 ^ 24)) ring ≡ resumed ring n = granted_is mode ring n (omega (arith, shows.next, to)) (omega (arith, shows.next, few)) (omega (arith, shows.next, o, room)) in
+    let o : oldest_of ring ≡ first + (length (get_or w.pushed k []) - ring.capacity) =
+        oldest_is ring first (get_or w.pushed k []) shows in
+    let is : grant_of mode (Some (n % 2 ^ 24)) ring ≡ resumed ring n =
+        granted_is mode ring n (omega (arith, shows.next, to)) (omega (arith, shows.next, few))
+        (omega (arith, shows.next, o, room)) in
     ap (λ (x : Option ℕ). granted mode k (option_and_then (grant_of mode x) (slice_get w.windows k)) s) holds.4
-    ∙ (ap (λ (x : Option Window). granted mode k (option_and_then (grant_of mode (Some (n % 2 ^ 24))) x) s) here ∙ ap (λ (x : Option ℕ). granted mode k x s) is)
+    ∙ (ap (λ (x : Option Window). granted mode k (option_and_then (grant_of mode (Some (n % 2 ^ 24))) x) s) here
+    ∙ ap (λ (x : Option ℕ). granted mode k x s) is)
 
-none_way : (few : ℕ → Type 0) (first : ℕ) (F held : List (List ℕ)) (start sent : Option ℕ) (o : Option Grant) (rest : List (ℕ × List ℕ)) → o ≡ None → IsOnWay few first F held start sent o rest → rest ≡ []
+none_way : (few : ℕ → Type 0) (first : ℕ) (F held : List (List ℕ)) (start sent : Option ℕ) (o : Option Grant)
+    (rest : List (ℕ × List ℕ)) → o ≡ None → IsOnWay few first F held start sent o rest → rest ≡ []
 none_way few first F held start sent None rest e way = way
 none_way few first F held start sent (Some g) rest e way = absurd (let bad : Some g ≡ None = e in cc bad)
 
-some_way : (few : ℕ → Type 0) (first : ℕ) (F held : List (List ℕ)) (start sent : Option ℕ) (g : Grant) (rest : List (ℕ × List ℕ)) → IsOnWay few first F held start sent (Some g) rest
+some_way : (few : ℕ → Type 0) (first : ℕ) (F held : List (List ℕ)) (start sent : Option ℕ) (g : Grant)
+    (rest : List (ℕ × List ℕ)) → IsOnWay few first F held start sent (Some g) rest
     → (n : ℕ) × (first ≤ n) × AreNext first F n rest × (g.position ≡ n + length rest)
 some_way few first F held start sent g rest way = (way.0, way.1, way.2, way.3)
 
-pub carried_at : (places : Places) (first : ℕ) (w : WorldState) (l : LinkState) → WorldTies places first w → w.link ≡ Some l → IsCarried places first w l
+pub carried_at : (places : Places) (first : ℕ) (w : WorldState) (l : LinkState) → WorldTies places first w
+    → w.link ≡ Some l → IsCarried places first w l
 carried_at places first w l t is =
     let tied : IsLinkTied places first w (Some l) = subst (IsLinkTied places first w) is t.link in
     record {
       items = tied.1.items;
       bytes = tied.1.flow;
-      none = λ k lt e. none_way any first (get_or w.pushed k []) (get_or w.held k []) (number_at w.start k) (number_at l.first_sent k) (grant_at l.session.state.grants k) (of_place k tied.1.items) e (tied.1.places_are k lt);
-      stretch = λ k g lt e. some_way any first (get_or w.pushed k []) (get_or w.held k []) (number_at w.start k) (number_at l.first_sent k) g (of_place k tied.1.items)
-          (subst (λ (o : Option Grant). IsOnWay any first (get_or w.pushed k []) (get_or w.held k []) (number_at w.start k) (number_at l.first_sent k) o (of_place k tied.1.items)) e (tied.1.places_are k lt));
+      none = λ k lt e. none_way any first (get_or w.pushed k []) (get_or w.held k []) (number_at w.start k)
+          (number_at l.first_sent k) (grant_at l.session.state.grants k) (of_place k tied.1.items) e
+          (tied.1.places_are k lt);
+      stretch = λ k g lt e. some_way any first (get_or w.pushed k []) (get_or w.held k []) (number_at w.start k)
+          (number_at l.first_sent k) g (of_place k tied.1.items)
+          (subst (λ (o : Option Grant). IsOnWay any first (get_or w.pushed k []) (get_or w.held k [])
+              (number_at w.start k) (number_at l.first_sent k) o (of_place k tied.1.items)) e (tied.1.places_are k lt));
     }
 
-module _ (setup : Setup) (steps : List Step) (now : WorldState) (run : AllHappen (opening setup) steps now) (is : IsSchedule setup steps) (lacks : LackFew setup.first (opening setup) steps now run) where
+module _ (setup : Setup) (steps : List Step) (now : WorldState) (run : AllHappen (opening setup) steps now)
+    (is : IsSchedule setup steps) (lacks : LackFew setup.first (opening setup) steps now run) where
   -- After any steps the record behind the last one held is granted, where it can be.
   pub resume_granted : Resumes now
-  resume_granted = resumes_at setup.places.items setup.first now (ties_after setup steps now run is lacks) (last_lacks setup.first steps (opening setup) now run lacks)
+  resume_granted = resumes_at setup.places.items setup.first now (ties_after setup steps now run is lacks)
+      (last_lacks setup.first steps (opening setup) now run lacks)
 
   -- After any steps what is on its way is carried.
   pub stretch_carried : (l : LinkState) → now.link ≡ Some l → IsCarried setup.places.items setup.first now l

@@ -1,5 +1,7 @@
 -- Each step keeps a world tied to all records that were pushed.
-use Rattle.std.proofs.Common.{◌≡◌, All, ◌≢◌, ℕ, ◌+◌, ◌-◌, ◌^◌, ◌<◌, ◌≤◌, ◌⊎◌, inl, inr, zero, suc, refl, sym, ap, subst, ◌∙◌, arith, List, [], ◌∷◌, ◌++◌, length, length-set, set, get_or, take, drop, take-append-drop, map, replicate, Option, Some, None, option_map, slice_get}
+use Rattle.std.proofs.Common.{◌≡◌, All, ◌≢◌, ℕ, ◌+◌, ◌-◌, ◌^◌, ◌<◌, ◌≤◌, ◌⊎◌, inl, inr, zero, suc, refl, sym, ap, subst,
+    ◌∙◌, arith, List, [], ◌∷◌, ◌++◌, length, length-set, set, get_or, take, drop, take-append-drop, map, replicate,
+    Option, Some, None, option_map, slice_get}
 use Rattle.std.proofs.lemmas.List.{get_or_default, length-map}
 use Rattle.std.proofs.lemmas.Option.{slice_get-map}
 use Rattle.slink_wire.specs.Place.{Bears, Fields}
@@ -13,11 +15,14 @@ use Rattle.slink_feed.specs.Listening.{Listening}
 use Rattle.slink_feed.specs.Serving.{Standing}
 use Rattle.slink_feed.specs.Session.{Grants, State, grant_at, sent_in}
 use Rattle.slink_model.specs.Stretch.{HoldsStretches, IsSchedule, IsSound, LackFew, LacksFew}
-use Rattle.slink_model.specs.Ties.{AllHold, AreOfPlaces, AreShown, AreSound, AreWanted, Holds, IsLinkTied, IsOnWay, LinkTies, Places, WantFirst, WorldTies, of_place}
+use Rattle.slink_model.specs.Ties.{AllHold, AreOfPlaces, AreShown, AreSound, AreWanted, Holds, IsLinkTied, IsOnWay,
+    LinkTies, Places, WantFirst, WorldTies, of_place}
 use Rattle.slink_feed.specs.Running.{HasStream}
 use Rattle.slink_feed.specs.Window.{Shows, Window, with_record}
-use Rattle.slink_model.specs.World.{AllHappen, Both, Connects, Differ, Happens, IsHeard, IsOf, IsServed, LinkState, Lists, Numbers, WorldState, empty_window, number_at, opening, pushed_to, sent_on, taking, with_one}
-use Rattle.slink_feed.proofs.Items.{at_number, get_here, get_there, is_within, one_value, same_or_not, set_here, set_there, shows_more, within_is}
+use Rattle.slink_model.specs.World.{AllHappen, Both, Connects, Differ, Happens, IsHeard, IsOf, IsServed, LinkState,
+    Lists, Numbers, WorldState, empty_window, number_at, opening, pushed_to, sent_on, taking, with_one}
+use Rattle.slink_feed.proofs.Items.{at_number, get_here, get_there, is_within, one_value, same_or_not, set_here,
+    set_there, shows_more, within_is}
 use Rattle.slink_model.proofs.Linked.{any, sent_link}
 use Rattle.slink_model.proofs.Outcomes.{place_said}
 use Rattle.slink_model.proofs.Served.{serves_link}
@@ -25,13 +30,15 @@ use Rattle.slink_model.proofs.Following.{holds_pushed, way_any, way_few, way_pus
 use Rattle.slink_model.proofs.Taken.{ClientTies, hears_ties}
 
 -- the last element, or one before it
-get_last : (xs : List (List ℕ)) (b : List ℕ) (i : ℕ) (r : List ℕ) → slice_get (xs ++ b ∷ []) i ≡ Some r → (slice_get xs i ≡ Some r) ⊎ (b ≡ r)
+get_last : (xs : List (List ℕ)) (b : List ℕ) (i : ℕ) (r : List ℕ) → slice_get (xs ++ b ∷ []) i ≡ Some r
+    → (slice_get xs i ≡ Some r) ⊎ (b ≡ r)
 get_last [] b zero r h = inr (let both : Some b ≡ Some r = h in cc both)
 get_last [] b (suc i) r h = absurd (let bad : None ≡ Some r = h in cc bad)
 get_last (x ∷ xs) b zero r h = inl h
 get_last (x ∷ xs) b (suc i) r h = get_last xs b i r h
 
-pub sound_more : (place : Fields) (xs : List (List ℕ)) (b : List ℕ) → length b ≡ 512 → Bears b place → AreSound place xs → AreSound place (xs ++ b ∷ [])
+pub sound_more : (place : Fields) (xs : List (List ℕ)) (b : List ℕ) → length b ≡ 512 → Bears b place
+    → AreSound place xs → AreSound place (xs ++ b ∷ [])
 sound_more place xs b long bears sound i r h = elim (get_last xs b i r h) [
   | inl before ↦ sound i r before
   | inr last ↦ (sym (ap length last) ∙ long, subst (λ x. Bears x place) last bears)
@@ -44,11 +51,14 @@ AreOf places (step ∷ steps) = IsOf places step × IsSound step × AreOf places
 
 module _ (places : Places) (first : ℕ) where
   -- Append
-  pushed_link : (w : WorldState) (k : ℕ) (b : List ℕ) (windows : List Window) (o : Option LinkState) → k < length w.pushed → IsLinkTied places first w o → IsLinkTied places first (record w { windows = windows; pushed = with_one w.pushed k b }) o
+  pushed_link : (w : WorldState) (k : ℕ) (b : List ℕ) (windows : List Window) (o : Option LinkState)
+      → k < length w.pushed → IsLinkTied places first w o
+      → IsLinkTied places first (record w { windows = windows; pushed = with_one w.pushed k b }) o
   pushed_link w k b windows None lt l = tt
   pushed_link w k b windows (Some l) lt t =
       let now : Lists = with_one w.pushed k b in
-      let ties : LinkTies places first (λ k. any) w.pushed w.client w.held w.start l.session.state l.first_sent l.to_client = t.1 in (
+      let ties : LinkTies places first (λ k. any) w.pushed w.client w.held w.start l.session.state l.first_sent
+          l.to_client = t.1 in (
         t.0,
         record {
           items = ties.items;
@@ -57,46 +67,69 @@ module _ (places : Places) (first : ℕ) where
           before = ties.before;
           within = ties.within;
           places_are = λ i below. elim (same_or_not i k) [
-            | inl e ↦ subst (λ y. IsOnWay any first (get_or now y []) (get_or w.held y []) (number_at w.start y) (number_at l.first_sent y) (grant_at l.session.state.grants y) (of_place y ties.items)) (sym e)
-                (subst (λ F. IsOnWay any first F (get_or w.held k []) (number_at w.start k) (number_at l.first_sent k) (grant_at l.session.state.grants k) (of_place k ties.items)) (sym (set_here w.pushed k (get_or w.pushed k [] ++ b ∷ []) [] lt))
-                (way_pushed any first (get_or w.pushed k []) (get_or w.held k []) (number_at w.start k) (number_at l.first_sent k) (grant_at l.session.state.grants k) (of_place k ties.items) b
-                (subst (λ y. IsOnWay any first (get_or w.pushed y []) (get_or w.held y []) (number_at w.start y) (number_at l.first_sent y) (grant_at l.session.state.grants y) (of_place y ties.items)) e (ties.places_are i below))))
-            | inr ne ↦ subst (λ F. IsOnWay any first F (get_or w.held i []) (number_at w.start i) (number_at l.first_sent i) (grant_at l.session.state.grants i) (of_place i ties.items)) (sym (set_there w.pushed k i (get_or w.pushed k [] ++ b ∷ []) [] ne)) (ties.places_are i below)
+            | inl e ↦ subst (λ y. IsOnWay any first (get_or now y []) (get_or w.held y []) (number_at w.start y)
+            (number_at l.first_sent y) (grant_at l.session.state.grants y) (of_place y ties.items)) (sym e)
+                (subst (λ F. IsOnWay any first F (get_or w.held k []) (number_at w.start k) (number_at l.first_sent k)
+                    (grant_at l.session.state.grants k) (of_place k ties.items))
+                    (sym (set_here w.pushed k (get_or w.pushed k [] ++ b ∷ []) [] lt))
+                (way_pushed any first (get_or w.pushed k []) (get_or w.held k []) (number_at w.start k)
+                    (number_at l.first_sent k) (grant_at l.session.state.grants k) (of_place k ties.items) b
+                (subst (λ y. IsOnWay any first (get_or w.pushed y []) (get_or w.held y []) (number_at w.start y)
+                    (number_at l.first_sent y) (grant_at l.session.state.grants y) (of_place y ties.items)) e
+                    (ties.places_are i below))))
+            | inr ne ↦ subst (λ F. IsOnWay any first F (get_or w.held i []) (number_at w.start i)
+            (number_at l.first_sent i) (grant_at l.session.state.grants i) (of_place i ties.items))
+            (sym (set_there w.pushed k i (get_or w.pushed k [] ++ b ∷ []) [] ne)) (ties.places_are i below)
           ];
           room = ties.room;
         },
       )
 
-  append_ties : (w : WorldState) (k : ℕ) (b : List ℕ) → IsOf places (Append k b) → length b ≡ 512 → WorldTies places first w → WorldTies places first (pushed_to w k b (slice_get w.windows k))
+  append_ties : (w : WorldState) (k : ℕ) (b : List ℕ) → IsOf places (Append k b) → length b ≡ 512
+      → WorldTies places first w → WorldTies places first (pushed_to w k b (slice_get w.windows k))
   append_ties w k b of long t =
       let lt : k < length places = is_within places k of.0 of.1 in
-      let ring : (v : Window) × (slice_get w.windows k ≡ Some v) × Shows v first (get_or w.pushed k []) × (v.capacity ≤ 1000000) = t.shown k lt in
+      let ring : (v : Window) × (slice_get w.windows k ≡ Some v) × Shows v first (get_or w.pushed k [])
+          × (v.capacity ≤ 1000000) = t.shown k lt in
       let now : Lists = with_one w.pushed k b in
       let room : k < length w.pushed = omega (arith, lt, t.long.1) in
-      let at_k : get_or now k [] ≡ get_or w.pushed k [] ++ b ∷ [] = set_here w.pushed k (get_or w.pushed k [] ++ b ∷ []) [] room in
-      let at_i : (i : ℕ) → i ≢ k → get_or now i [] ≡ get_or w.pushed i [] = λ i ne. set_there w.pushed k i (get_or w.pushed k [] ++ b ∷ []) [] ne in
+      let at_k : get_or now k [] ≡ get_or w.pushed k [] ++ b ∷ [] =
+          set_here w.pushed k (get_or w.pushed k [] ++ b ∷ []) [] room in
+      let at_i : (i : ℕ) → i ≢ k → get_or now i [] ≡ get_or w.pushed i [] =
+          λ i ne. set_there w.pushed k i (get_or w.pushed k [] ++ b ∷ []) [] ne in
       let windows : List Window = set w.windows k (with_record ring.0 b) in
       let shown : AreShown places first windows now = λ i below. elim (same_or_not i k) [
         | inl e ↦ (
           with_record ring.0 b,
-          subst (λ y. slice_get windows y ≡ Some (with_record ring.0 b)) (sym e) (get_here w.windows k (with_record ring.0 b) (omega (arith, lt, t.long.0))),
-          subst (λ y. Shows (with_record ring.0 b) first (get_or now y [])) (sym e) (subst (Shows (with_record ring.0 b) first) (sym at_k) (shows_more ring.0 first (get_or w.pushed k []) b ring.2)),
+          subst (λ y. slice_get windows y ≡ Some (with_record ring.0 b)) (sym e)
+              (get_here w.windows k (with_record ring.0 b) (omega (arith, lt, t.long.0))),
+          subst (λ y. Shows (with_record ring.0 b) first (get_or now y [])) (sym e)
+              (subst (Shows (with_record ring.0 b) first) (sym at_k)
+              (shows_more ring.0 first (get_or w.pushed k []) b ring.2)),
           ring.3,
         )
-        | inr ne ↦ let other : (v : Window) × (slice_get w.windows i ≡ Some v) × Shows v first (get_or w.pushed i []) × (v.capacity ≤ 1000000) = t.shown i below in
-            (other.0, get_there w.windows k i (with_record ring.0 b) ne ∙ other.1, subst (Shows other.0 first) (sym (at_i i ne)) other.2, other.3)
+        | inr ne ↦ let other : (v : Window) × (slice_get w.windows i ≡ Some v) × Shows v first (get_or w.pushed i [])
+        × (v.capacity ≤ 1000000) = t.shown i below in
+            (other.0, get_there w.windows k i (with_record ring.0 b) ne ∙ other.1,
+                subst (Shows other.0 first) (sym (at_i i ne)) other.2, other.3)
       ] in
       let sound : AreOfPlaces places now = λ i p here. elim (same_or_not i k) [
-        | inl e ↦ let one : of.0 ≡ p = one_value (slice_get places k) of.0 p of.1 (subst (λ y. slice_get places y ≡ Some p) e here) in
+        | inl e ↦ let one : of.0 ≡ p =
+        one_value (slice_get places k) of.0 p of.1 (subst (λ y. slice_get places y ≡ Some p) e here) in
             subst (λ y. AreSound p.0 (get_or now y [])) (sym e) (subst (AreSound p.0) (sym at_k)
-            (sound_more p.0 (get_or w.pushed k []) b long (subst (λ (q : Fields × Option ℕ). Bears b q.0) one of.2) (t.sound k p (subst (λ y. slice_get places y ≡ Some p) e here))))
+            (sound_more p.0 (get_or w.pushed k []) b long (subst (λ (q : Fields × Option ℕ). Bears b q.0) one of.2)
+                (t.sound k p (subst (λ y. slice_get places y ≡ Some p) e here))))
         | inr ne ↦ subst (AreSound p.0) (sym (at_i i ne)) (t.sound i p here)
       ] in
       let holds : AllHold places first now w.client.talk.wants w.held w.start = λ i below. elim (same_or_not i k) [
-        | inl e ↦ subst (λ y. Holds first (get_or now y []) (next_at w.client.talk.wants y) (get_or w.held y []) (number_at w.start y)) (sym e)
-            (subst (λ F. Holds first F (next_at w.client.talk.wants k) (get_or w.held k []) (number_at w.start k)) (sym at_k)
-            (holds_pushed first (get_or w.pushed k []) (next_at w.client.talk.wants k) (get_or w.held k []) (number_at w.start k) b (t.holds k lt)))
-        | inr ne ↦ subst (λ F. Holds first F (next_at w.client.talk.wants i) (get_or w.held i []) (number_at w.start i)) (sym (at_i i ne)) (t.holds i below)
+        | inl e ↦ subst (λ y. Holds first (get_or now y []) (next_at w.client.talk.wants y) (get_or w.held y [])
+        (number_at w.start y)) (sym e)
+            (subst (λ F. Holds first F (next_at w.client.talk.wants k) (get_or w.held k []) (number_at w.start k))
+                (sym at_k)
+            (holds_pushed first (get_or w.pushed k []) (next_at w.client.talk.wants k) (get_or w.held k [])
+                (number_at w.start k) b (t.holds k lt)))
+        | inr ne ↦ subst (λ F. Holds first F (next_at w.client.talk.wants i) (get_or w.held i [])
+        (number_at w.start i)) (sym (at_i i ne)) (t.holds i below)
       ] in
       subst (λ (o : Option Window). WorldTies places first (pushed_to w k b o)) (sym ring.1) (record {
         shown = shown;
@@ -104,18 +137,23 @@ module _ (places : Places) (first : ℕ) where
         wanted = t.wanted;
         holds = holds;
         want_first = t.want_first;
-        long = (length-set w.windows k (with_record ring.0 b) ∙ t.long.0, length-set w.pushed k (get_or w.pushed k [] ++ b ∷ []) ∙ t.long.1, t.long.2, t.long.3);
+        long = (length-set w.windows k (with_record ring.0 b) ∙ t.long.0,
+            length-set w.pushed k (get_or w.pushed k [] ++ b ∷ []) ∙ t.long.1, t.long.2, t.long.3);
         link = pushed_link w k b windows w.link room t.link;
       })
 
   -- Cut
   cut_ties : (w : WorldState) → WorldTies places first w → WorldTies places first (record w { link = None })
-  cut_ties w t = record { shown = t.shown; sound = t.sound; wanted = t.wanted; holds = t.holds; want_first = t.want_first; long = t.long; link = tt }
+  cut_ties w t = record { shown = t.shown; sound = t.sound; wanted = t.wanted; holds = t.holds;
+      want_first = t.want_first; long = t.long; link = tt }
 
   -- a link that changes alone
-  linked_ties : (w : WorldState) (o : Option LinkState) → WorldTies places first w → IsLinkTied places first w o → WorldTies places first (record w { link = o })
-  linked_ties w None t l = record { shown = t.shown; sound = t.sound; wanted = t.wanted; holds = t.holds; want_first = t.want_first; long = t.long; link = tt }
-  linked_ties w (Some m) t l = record { shown = t.shown; sound = t.sound; wanted = t.wanted; holds = t.holds; want_first = t.want_first; long = t.long; link = l }
+  linked_ties : (w : WorldState) (o : Option LinkState) → WorldTies places first w → IsLinkTied places first w o
+      → WorldTies places first (record w { link = o })
+  linked_ties w None t l = record { shown = t.shown; sound = t.sound; wanted = t.wanted; holds = t.holds;
+      want_first = t.want_first; long = t.long; link = tt }
+  linked_ties w (Some m) t l = record { shown = t.shown; sound = t.sound; wanted = t.wanted; holds = t.holds;
+      want_first = t.want_first; long = t.long; link = l }
 
   -- Connect
   pub none_granted : (n k : ℕ) → grant_at (replicate n None) k ≡ None
@@ -148,74 +186,104 @@ module _ (places : Places) (first : ℕ) where
             flow = λ _. refl;
             before = λ _ k. (refl, none_sent 16 k);
             within = λ k _. refl;
-            places_are = λ k lt. subst (λ (o : Option Grant). IsOnWay any first (get_or w.pushed k []) (get_or w.held k []) (number_at w.start k) (number_at (replicate 16 None) k) o []) (sym (ap (λ (gs : Grants). grant_at gs k) grants ∙ none_granted 16 k)) refl;
+            places_are = λ k lt. subst (λ (o : Option Grant). IsOnWay any first (get_or w.pushed k [])
+                (get_or w.held k []) (number_at w.start k) (number_at (replicate 16 None) k) o [])
+                (sym (ap (λ (gs : Grants). grant_at gs k) grants ∙ none_granted 16 k)) refl;
             room = refl;
           },
         );
       })
 
   -- ToServer
-  served_tied : (w : WorldState) (n : ℕ) (o p : Option LinkState) → WorldTies places first w → IsLinkTied places first w o → Both (IsServed w.windows n) o p → IsLinkTied places first w p
+  served_tied : (w : WorldState) (n : ℕ) (o p : Option LinkState) → WorldTies places first w
+      → IsLinkTied places first w o → Both (IsServed w.windows n) o p → IsLinkTied places first w p
   served_tied w n None None t l s = tt
   served_tied w n None (Some m) t l s = absurd s
   served_tied w n (Some l) None t tied s = absurd s
   served_tied w n (Some l) (Some m) t tied s =
-      let done : HasStream m.session × LinkTies places first (λ k. any) w.pushed w.client w.held w.start m.session.state l.first_sent m.to_client
-      = serves_link places first w.windows w.pushed w.client w.held w.start t.shown t.holds l.first_sent l.session (take n l.to_server) l.to_client m.session m.to_client s.serves tied.0 tied.1 in
-      (done.0, subst (λ (f : Numbers). LinkTies places first (λ k. any) w.pushed w.client w.held w.start m.session.state f m.to_client) (sym s.first_sent) done.1)
+      let done : HasStream m.session × LinkTies places first (λ k. any) w.pushed w.client w.held w.start
+          m.session.state l.first_sent m.to_client
+      = serves_link places first w.windows w.pushed w.client w.held w.start t.shown t.holds l.first_sent l.session
+          (take n l.to_server) l.to_client m.session m.to_client s.serves tied.0 tied.1 in
+      (done.0, subst (λ (f : Numbers). LinkTies places first (λ k. any) w.pushed w.client w.held w.start
+          m.session.state f m.to_client) (sym s.first_sent) done.1)
 
   -- Send
-  sent_tied : (w : WorldState) (k : ℕ) (o : Option LinkState) → length places ≤ 16 → k < length places → WorldTies places first w → IsLinkTied places first w o → IsLinkTied places first w (option_map (sent_on w.windows k) o)
+  sent_tied : (w : WorldState) (k : ℕ) (o : Option LinkState) → length places ≤ 16 → k < length places
+      → WorldTies places first w → IsLinkTied places first w o
+      → IsLinkTied places first w (option_map (sent_on w.windows k) o)
   sent_tied w k None most lt t l = tt
   sent_tied w k (Some l) most lt t tied =
       let q : (p : Fields × Option ℕ) × (slice_get places k ≡ Some p) = within_is places k lt in
-      let ring : (v : Window) × (slice_get w.windows k ≡ Some v) × Shows v first (get_or w.pushed k []) × (v.capacity ≤ 1000000) = t.shown k lt in (
+      let ring : (v : Window) × (slice_get w.windows k ≡ Some v) × Shows v first (get_or w.pushed k [])
+          × (v.capacity ≤ 1000000) = t.shown k lt in (
         (tied.0.0, λ over. tied.0.1 (λ e. over (ap (λ ph. (sent_in ph w.windows l.session.state k).0.phase) e ∙ e))),
-        sent_link places first w.windows w.pushed w.client w.held w.start t.shown t.holds l.session.state l.first_sent l.to_client k lt most
+        sent_link places first w.windows w.pushed w.client w.held w.start t.shown t.holds l.session.state l.first_sent
+            l.to_client k lt most
             (λ v n r here found. let one : ring.0 ≡ v = one_value (slice_get w.windows k) ring.0 v ring.1 here in
-            (t.sound k q.0 q.1 (n - first) r (at_number v first (get_or w.pushed k []) n r (subst (λ (x : Window). Shows x first (get_or w.pushed k [])) one ring.2) found)).0) tied.1,
+            (t.sound k q.0 q.1 (n - first) r
+                (at_number v first (get_or w.pushed k []) n r
+                (subst (λ (x : Window). Shows x first (get_or w.pushed k [])) one ring.2) found)).0) tied.1,
       )
 
   -- ToClient
-  relaxed : (few : ℕ → ℕ → Type 0) (pushed : Lists) (client : Listening) (held : Lists) (start : Numbers) (state : State) (sent : Numbers) (way : List ℕ) → LinkTies places first few pushed client held start state sent way → LinkTies places first (λ k. any) pushed client held start state sent way
+  relaxed : (few : ℕ → ℕ → Type 0) (pushed : Lists) (client : Listening) (held : Lists) (start : Numbers)
+      (state : State) (sent : Numbers) (way : List ℕ)
+      → LinkTies places first few pushed client held start state sent way
+      → LinkTies places first (λ k. any) pushed client held start state sent way
   relaxed few pushed client held start state sent way l = record {
     items = l.items;
     are_whole = l.are_whole;
     flow = l.flow;
     before = l.before;
     within = l.within;
-    places_are = λ k lt. way_any (few k) first (get_or pushed k []) (get_or held k []) (number_at start k) (number_at sent k) (grant_at state.grants k) (of_place k l.items) (l.places_are k lt);
+    places_are = λ k lt. way_any (few k) first (get_or pushed k []) (get_or held k []) (number_at start k)
+        (number_at sent k) (grant_at state.grants k) (of_place k l.items) (l.places_are k lt);
     room = l.room;
   }
 
-  bounded : (w : WorldState) (state : State) (sent : Numbers) (way : List ℕ) → LacksFew first w → LinkTies places first (λ k. any) w.pushed w.client w.held w.start state sent way
-      → LinkTies places first (λ k x. first + length (get_or w.pushed k []) < x + 2 ^ 24) w.pushed w.client w.held w.start state sent way
+  bounded : (w : WorldState) (state : State) (sent : Numbers) (way : List ℕ) → LacksFew first w
+      → LinkTies places first (λ k. any) w.pushed w.client w.held w.start state sent way
+      → LinkTies places first (λ k x. first + length (get_or w.pushed k []) < x + 2 ^ 24) w.pushed w.client w.held
+      w.start state sent way
   bounded w state sent way lacks l = record {
     items = l.items;
     are_whole = l.are_whole;
     flow = l.flow;
     before = l.before;
     within = l.within;
-    places_are = λ k lt. way_few (λ x. first + length (get_or w.pushed k []) < x + 2 ^ 24) first (get_or w.pushed k []) (get_or w.held k []) (number_at w.start k) (number_at sent k) (grant_at state.grants k) (of_place k l.items) (λ s e. lacks k s e) (l.places_are k lt);
+    places_are = λ k lt. way_few (λ x. first + length (get_or w.pushed k []) < x + 2 ^ 24) first (get_or w.pushed k [])
+        (get_or w.held k []) (number_at w.start k) (number_at sent k) (grant_at state.grants k) (of_place k l.items)
+        (λ s e. lacks k s e) (l.places_are k lt);
     room = l.room;
   }
 
-  heard_ties : (w v : WorldState) (n : ℕ) (l m : LinkState) → Differ places → LacksFew first w → v.windows ≡ w.windows → v.pushed ≡ w.pushed → v.link ≡ Some m → IsHeard n w v l m → WorldTies places first w → IsLinkTied places first w (Some l) → WorldTies places first v
+  heard_ties : (w v : WorldState) (n : ℕ) (l m : LinkState) → Differ places → LacksFew first w → v.windows ≡ w.windows
+      → v.pushed ≡ w.pushed → v.link ≡ Some m → IsHeard n w v l m → WorldTies places first w
+      → IsLinkTied places first w (Some l) → WorldTies places first v
   heard_ties w v n l m differ lacks windows pushed link s t tied =
       let all : l.to_client ≡ take n l.to_client ++ drop n l.to_client = sym (take-append-drop n l.to_client) in
-      let c : ClientTies places first w.pushed l.session.state l.first_sent differ t.sound w.client w.held w.start (take n l.to_client ++ drop n l.to_client) = record {
+      let c : ClientTies places first w.pushed l.session.state l.first_sent differ t.sound w.client w.held w.start
+          (take n l.to_client ++ drop n l.to_client) = record {
         wanted = t.wanted;
         holds = t.holds;
         want_first = t.want_first;
         long = (t.long.2, t.long.3);
-        link = bounded w l.session.state l.first_sent (take n l.to_client ++ drop n l.to_client) lacks (subst (LinkTies places first (λ k. any) w.pushed w.client w.held w.start l.session.state l.first_sent) all tied.1);
+        link = bounded w l.session.state l.first_sent (take n l.to_client ++ drop n l.to_client) lacks
+            (subst (LinkTies places first (λ k. any) w.pushed w.client w.held w.start l.session.state l.first_sent) all
+            tied.1);
       } in
-      let d : ClientTies places first w.pushed l.session.state l.first_sent differ t.sound v.client v.held v.start (drop n l.to_client)
-      = hears_ties places first w.pushed l.session.state l.first_sent differ t.sound (taking w l) (take n l.to_client) (taking v m) (drop n l.to_client) s.hears c in
-      let now : LinkTies places first (λ k. any) w.pushed v.client v.held v.start l.session.state l.first_sent (drop n l.to_client)
-      = relaxed (λ k x. first + length (get_or w.pushed k []) < x + 2 ^ 24) w.pushed v.client v.held v.start l.session.state l.first_sent (drop n l.to_client) d.link in
+      let d : ClientTies places first w.pushed l.session.state l.first_sent differ t.sound v.client v.held v.start
+          (drop n l.to_client)
+      = hears_ties places first w.pushed l.session.state l.first_sent differ t.sound (taking w l) (take n l.to_client)
+          (taking v m) (drop n l.to_client) s.hears c in
+      let now : LinkTies places first (λ k. any) w.pushed v.client v.held v.start l.session.state l.first_sent
+          (drop n l.to_client)
+      = relaxed (λ k x. first + length (get_or w.pushed k []) < x + 2 ^ 24) w.pushed v.client v.held v.start
+          l.session.state l.first_sent (drop n l.to_client) d.link in
       record {
-        shown = subst (λ (x : List Window). AreShown places first x v.pushed) (sym windows) (subst (AreShown places first w.windows) (sym pushed) t.shown);
+        shown = subst (λ (x : List Window). AreShown places first x v.pushed) (sym windows)
+            (subst (AreShown places first w.windows) (sym pushed) t.shown);
         sound = subst (AreOfPlaces places) (sym pushed) t.sound;
         wanted = d.wanted;
         holds = subst (λ (x : Lists). AllHold places first x v.client.talk.wants v.held v.start) (sym pushed) d.holds;
@@ -223,32 +291,51 @@ module _ (places : Places) (first : ℕ) where
         long = (ap length windows ∙ t.long.0, ap length pushed ∙ t.long.1, d.long.0, d.long.1);
         link = subst (IsLinkTied places first v) (sym link) (
           subst HasStream (sym s.session) tied.0,
-          subst (λ (x : Lists). LinkTies places first (λ k. any) x v.client v.held v.start m.session.state m.first_sent m.to_client) (sym pushed)
-              (subst (λ (x : Standing). LinkTies places first (λ k. any) w.pushed v.client v.held v.start x.state m.first_sent m.to_client) (sym s.session)
-              (subst (λ (x : Numbers). LinkTies places first (λ k. any) w.pushed v.client v.held v.start l.session.state x m.to_client) (sym s.first_sent)
-              (subst (LinkTies places first (λ k. any) w.pushed v.client v.held v.start l.session.state l.first_sent) (sym s.left) now))),
+          subst (λ (x : Lists). LinkTies places first (λ k. any) x v.client v.held v.start m.session.state m.first_sent
+              m.to_client) (sym pushed)
+              (subst (λ (x : Standing). LinkTies places first (λ k. any) w.pushed v.client v.held v.start x.state
+                  m.first_sent m.to_client) (sym s.session)
+              (subst (λ (x : Numbers). LinkTies places first (λ k. any) w.pushed v.client v.held v.start
+                  l.session.state x m.to_client) (sym s.first_sent)
+              (subst (LinkTies places first (λ k. any) w.pushed v.client v.held v.start l.session.state l.first_sent)
+                  (sym s.left) now))),
         );
       }
 
-  delivered_ties : (w v : WorldState) (n : ℕ) (o p : Option LinkState) → Differ places → LacksFew first w → v.windows ≡ w.windows → v.pushed ≡ w.pushed → w.link ≡ o → v.link ≡ p → Both (IsHeard n w v) o p → (w.link ≡ None → v ≡ w) → WorldTies places first w → WorldTies places first v
-  delivered_ties w v n None None differ lacks windows pushed was is s unlinked t = subst (WorldTies places first) (sym (unlinked was)) t
+  delivered_ties : (w v : WorldState) (n : ℕ) (o p : Option LinkState) → Differ places → LacksFew first w
+      → v.windows ≡ w.windows → v.pushed ≡ w.pushed → w.link ≡ o → v.link ≡ p → Both (IsHeard n w v) o p
+      → (w.link ≡ None → v ≡ w) → WorldTies places first w → WorldTies places first v
+  delivered_ties w v n None None differ lacks windows pushed was is s unlinked t =
+      subst (WorldTies places first) (sym (unlinked was)) t
   delivered_ties w v n None (Some m) differ lacks windows pushed was is s unlinked t = absurd s
   delivered_ties w v n (Some l) None differ lacks windows pushed was is s unlinked t = absurd s
-  delivered_ties w v n (Some l) (Some m) differ lacks windows pushed was is s unlinked t = heard_ties w v n l m differ lacks windows pushed is s t (subst (IsLinkTied places first w) was t.link)
+  delivered_ties w v n (Some l) (Some m) differ lacks windows pushed was is s unlinked t =
+      heard_ties w v n l m differ lacks windows pushed is s t (subst (IsLinkTied places first w) was t.link)
 
-  pub step_ties : (w v : WorldState) (step : Step) → length places ≤ 16 → Differ places → IsOf places step → IsSound step → LacksFew first w → Happens w step v → WorldTies places first w → WorldTies places first v
-  step_ties w v (Append k b) most differ of sound lacks h t = subst (WorldTies places first) (sym h) (append_ties w k b of sound t)
+  pub step_ties : (w v : WorldState) (step : Step) → length places ≤ 16 → Differ places → IsOf places step
+      → IsSound step → LacksFew first w → Happens w step v → WorldTies places first w → WorldTies places first v
+  step_ties w v (Append k b) most differ of sound lacks h t =
+      subst (WorldTies places first) (sym h) (append_ties w k b of sound t)
   step_ties w v Connect most differ of sound lacks h t = connect_ties w v h t
-  step_ties w v (ToServer n) most differ of sound lacks h t = subst (WorldTies places first) (sym h.0) (linked_ties w v.link t (served_tied w n w.link v.link t t.link h.1))
-  step_ties w v (ToClient n) most differ of sound lacks h t = delivered_ties w v n w.link v.link differ lacks h.windows h.pushed refl refl h.link h.unlinked t
-  step_ties w v (Send k) most differ of sound lacks h t = subst (WorldTies places first) (sym h) (linked_ties w (option_map (sent_on w.windows k) w.link) t (sent_tied w k w.link most of t t.link))
+  step_ties w v (ToServer n) most differ of sound lacks h t =
+      subst (WorldTies places first) (sym h.0) (linked_ties w v.link t (served_tied w n w.link v.link t t.link h.1))
+  step_ties w v (ToClient n) most differ of sound lacks h t =
+      delivered_ties w v n w.link v.link differ lacks h.windows h.pushed refl refl h.link h.unlinked t
+  step_ties w v (Send k) most differ of sound lacks h t =
+      subst (WorldTies places first) (sym h) (linked_ties w (option_map (sent_on w.windows k) w.link) t
+      (sent_tied w k w.link most of t t.link))
   step_ties w v Cut most differ of sound lacks h t = subst (WorldTies places first) (sym h) (cut_ties w t)
 
-  pub all_ties : (steps : List Step) (w v : WorldState) (run : AllHappen w steps v) → length places ≤ 16 → Differ places → AreOf places steps → LackFew first w steps v run → WorldTies places first w → WorldTies places first v
+  pub all_ties : (steps : List Step) (w v : WorldState) (run : AllHappen w steps v) → length places ≤ 16
+      → Differ places → AreOf places steps → LackFew first w steps v run → WorldTies places first w
+      → WorldTies places first v
   all_ties [] w v run most differ of lacks t = subst (WorldTies places first) (sym run) t
-  all_ties (step ∷ steps) w v run most differ of lacks t = all_ties steps run.0 v run.2 most differ of.2 lacks.1 (step_ties w run.0 step most differ of.0 of.1 lacks.0 run.1 t)
+  all_ties (step ∷ steps) w v run most differ of lacks t =
+      all_ties steps run.0 v run.2 most differ of.2 lacks.1
+      (step_ties w run.0 step most differ of.0 of.1 lacks.0 run.1 t)
 
-pub last_lacks : (first : ℕ) (steps : List Step) (w v : WorldState) (run : AllHappen w steps v) → LackFew first w steps v run → LacksFew first v
+pub last_lacks : (first : ℕ) (steps : List Step) (w v : WorldState) (run : AllHappen w steps v)
+    → LackFew first w steps v run → LacksFew first v
 last_lacks first [] w v run lacks = subst (LacksFew first) (sym run) lacks
 last_lacks first (step ∷ steps) w v run lacks = last_lacks first steps run.0 v run.2 lacks.1
 
@@ -265,12 +352,16 @@ none_wanted (suc m) (suc k) = none_wanted m k
 wanted_is : (v w : Wanted) → Some v ≡ Some w → v ≡ w
 wanted_is v w e = cc e
 
-opening_wanted : (ps : Places) (m k : ℕ) (w : Wanted) → want_at (map wanted_of ps ++ replicate m None) k ≡ Some w → (p : Fields × Option ℕ) × (slice_get ps k ≡ Some p) × (w.place ≡ p.0)
+opening_wanted : (ps : Places) (m k : ℕ) (w : Wanted) → want_at (map wanted_of ps ++ replicate m None) k ≡ Some w
+    → (p : Fields × Option ℕ) × (slice_get ps k ≡ Some p) × (w.place ≡ p.0)
 opening_wanted [] m k w h = absurd (let bad : None ≡ Some w = sym (none_wanted m k) ∙ h in cc bad)
-opening_wanted (p ∷ ps) m zero w h = let both : Some (record { place = p.0; next = p.1 }) ≡ Some w = h in let one : record { place = p.0; next = p.1 } ≡ w = wanted_is (record { place = p.0; next = p.1 }) w both in (p, refl, ap (λ (x : Wanted). x.place) (sym one))
+opening_wanted (p ∷ ps) m zero w h = let both : Some (record { place = p.0; next = p.1 }) ≡ Some w = h in
+    let one : record { place = p.0; next = p.1 } ≡ w = wanted_is (record { place = p.0; next = p.1 }) w both in
+    (p, refl, ap (λ (x : Wanted). x.place) (sym one))
 opening_wanted (p ∷ ps) m (suc k) w h = opening_wanted ps m k w h
 
-opening_first : (ps : Places) (m k : ℕ) (p : Fields × Option ℕ) → slice_get ps k ≡ Some p → next_at (map wanted_of ps ++ replicate m None) k ≡ p.1
+opening_first : (ps : Places) (m k : ℕ) (p : Fields × Option ℕ) → slice_get ps k ≡ Some p
+    → next_at (map wanted_of ps ++ replicate m None) k ≡ p.1
 opening_first [] m k p h = absurd (let bad : None ≡ Some p = h in cc bad)
 opening_first (q ∷ ps) m zero p h = ap (λ (x : Fields × Option ℕ). x.1) (one_value (Some q) q p refl h)
 opening_first (q ∷ ps) m (suc k) p h = opening_first ps m k p h
@@ -293,24 +384,31 @@ opening_ties setup room =
       shown = λ k lt. let q : (p : Fields × Option ℕ) × (slice_get ps k ≡ Some p) = within_is ps k lt in (
         empty_window setup q.0,
         slice_get-map (empty_window setup) ps k ∙ ap (option_map (empty_window setup)) q.1,
-        subst (Shows (empty_window setup q.0) setup.first) (sym (nothing_at ps k)) (record { records = sym (drop_none (0 - setup.capacity)); next = omega arith }),
+        subst (Shows (empty_window setup q.0) setup.first) (sym (nothing_at ps k))
+            (record { records = sym (drop_none (0 - setup.capacity)); next = omega arith }),
         room,
       );
-      sound = λ k p here. subst (AreSound p.0) (sym (nothing_at ps k)) (λ i r h. absurd (let bad : None ≡ Some r = h in cc bad));
+      sound = λ k p here. subst (AreSound p.0) (sym (nothing_at ps k)) (λ i r h. absurd (let bad : None ≡ Some r = h in
+          cc bad));
       wanted = λ k w h. opening_wanted ps (16 - n) k w h;
-      holds = λ k lt. subst (λ (o : Option ℕ). Holds setup.first (get_or (map (λ _. []) ps) k []) (next_at (wants_of ps) k) (get_or (map (λ _. []) ps) k []) o) (sym (none_number ps k)) (nothing_at ps k);
+      holds = λ k lt. subst (λ (o : Option ℕ). Holds setup.first (get_or (map (λ _. []) ps) k [])
+          (next_at (wants_of ps) k) (get_or (map (λ _. []) ps) k []) o) (sym (none_number ps k)) (nothing_at ps k);
       want_first = λ k p here unheld. opening_first ps (16 - n) k p here;
-      long = (length-map ps (empty_window setup), length-map ps (λ _. []), length-map ps (λ _. []), length-map ps (λ _. None));
+      long = (length-map ps (empty_window setup), length-map ps (λ _. []), length-map ps (λ _. []),
+          length-map ps (λ _. None));
       link = tt;
     }
 
 pub each_of : (places : Places) (steps : List Step) → All (IsOf places) steps → All IsSound steps → AreOf places steps
 each_of places [] of sound = tt
 each_of places (step ∷ steps) of sound =
-    (of 0 step (omega arith), sound 0 step (omega arith), each_of places steps (λ k d lt. of (suc k) d (omega (arith, lt))) (λ k d lt. sound (suc k) d (omega (arith, lt))))
+    (of 0 step (omega arith), sound 0 step (omega arith),
+        each_of places steps (λ k d lt. of (suc k) d (omega (arith, lt)))
+        (λ k d lt. sound (suc k) d (omega (arith, lt))))
 
 -- each record of a schedule has 512 bytes, one after another
-pub schedule_is : (setup : Setup) (steps : List Step) → length setup.places.items ≤ 16 → setup.capacity ≤ 1000000 → Differ setup.places.items → All (IsOf setup.places.items) steps
+pub schedule_is : (setup : Setup) (steps : List Step) → length setup.places.items ≤ 16 → setup.capacity ≤ 1000000
+    → Differ setup.places.items → All (IsOf setup.places.items) steps
     → ((k : ℕ) → k < length steps → IsSound (get_or steps k (Append 0 []))) → IsSchedule setup steps
 schedule_is setup steps few room differ of sound = record {
   few_places = few;
@@ -320,9 +418,11 @@ schedule_is setup steps few room differ of sound = record {
   sound = λ k d lt. subst IsSound (get_or_default steps k (Append 0 []) d lt) (sound k lt);
 }
 
-module _ (setup : Setup) (steps : List Step) (now : WorldState) (run : AllHappen (opening setup) steps now) (is : IsSchedule setup steps) (lacks : LackFew setup.first (opening setup) steps now run) where
+module _ (setup : Setup) (steps : List Step) (now : WorldState) (run : AllHappen (opening setup) steps now)
+    (is : IsSchedule setup steps) (lacks : LackFew setup.first (opening setup) steps now run) where
   pub ties_after : WorldTies setup.places.items setup.first now
-  ties_after = all_ties setup.places.items setup.first steps (opening setup) now run is.few_places is.differ (each_of setup.places.items steps is.of_places is.sound) lacks (opening_ties setup is.capacity)
+  ties_after = all_ties setup.places.items setup.first steps (opening setup) now run is.few_places is.differ
+      (each_of setup.places.items steps is.of_places is.sound) lacks (opening_ties setup is.capacity)
 
   -- After any steps one stretch of its records is held of each place.
   pub stretch_held : HoldsStretches setup.places.items setup.first now

@@ -1,7 +1,10 @@
 -- The counted world: where the steps of a schedule lead to, by lists and counts alone. A place has the list of all
--- records that were pushed. A link has what the client said, what the server sent, in whole replies and packets, and how
+-- records that were pushed. A link has what the client said, what the server sent, in whole replies and packets, and
+-- how
 -- many bytes of each were taken. There is no ring, no buffer, and no part of a line, a reply or a packet.
-use Rattle.std.specs.Prelude.{◌≡◌, ℕ, Bool, true, false, not, min, ◌+◌, ◌-◌, ◌*◌, ◌%◌, ◌^◌, ◌≤◌, ◌&&◌, List, [], ◌∷◌, ◌++◌, length, map, take, drop, replicate, Option, Some, None, option_map, nat_le, unwrap_or, slice_get, if◌then◌else◌}
+use Rattle.std.specs.Prelude.{◌≡◌, ℕ, Bool, true, false, not, min, ◌+◌, ◌-◌, ◌*◌, ◌%◌, ◌^◌, ◌≤◌, ◌&&◌, List, [], ◌∷◌,
+    ◌++◌, length, map, take, drop, replicate, Option, Some, None, option_map, nat_le, unwrap_or, slice_get,
+    if◌then◌else◌}
 use Rattle.slink_wire.specs.Lines.{IsHeld}
 use Rattle.slink_wire.specs.Place.{Fields}
 use Rattle.slink_wire.specs.declared.reply.Reply.{Reply as ServerReply}
@@ -23,7 +26,8 @@ use Rattle.slink_feed.specs.Listening.{IsLinked}
 use Rattle.slink_feed.specs.Session.{Grants, State, asked, at, chosen, grant_at, sent}
 use Rattle.slink_model.specs.Ties.{Item, Accepted, Refused, Greeted, Carried, Finished, item_bytes, items_of, way_bytes}
 use Rattle.slink_feed.specs.Window.{Window, record_at, window}
-use Rattle.slink_model.specs.World.{LinkState, Lists, Numbers, WorldState, first_after, number_at, said, with_first, with_one}
+use Rattle.slink_model.specs.World.{LinkState, Lists, Numbers, WorldState, first_after, number_at, said, with_first,
+    with_one}
 
 -- a link: where its session stands, the number of the first packet that was sent of each place; the bytes of all lines
 -- that the client said, and how many of them the server took; all that the server sent, and how many bytes of it the
@@ -36,7 +40,8 @@ pub record CountedLink : Type 0 where
   pub sent : List Item
   pub delivered : ℕ
 
--- all records that were pushed of each place, what the client has come to, what it holds of each place, the number of the
+-- all records that were pushed of each place, what the client has come to, what it holds of each place, the number of
+-- the
 -- first record that it holds of each, and the link
 pub record Counted : Type 0 where
   pub pushed : List (List (List ℕ))
@@ -47,7 +52,8 @@ pub record Counted : Type 0 where
 
 -- What a server shows of a place: the last of its records, as many as it keeps.
 abbrev pub shown_of : Setup → Fields × Option ℕ → List (List ℕ) → Window
-shown_of setup p pushed = record { place = p.0; capacity = setup.capacity; records = window setup.capacity pushed; next = setup.first + length pushed }
+shown_of setup p pushed = record { place = p.0; capacity = setup.capacity; records = window setup.capacity pushed;
+    next = setup.first + length pushed }
 
 abbrev pub shown_all : Setup → List (Fields × Option ℕ) → Lists → List Window
 shown_all setup [] pushed = []
@@ -57,7 +63,8 @@ shown_all setup (p ∷ ps) (records ∷ pushed) = shown_of setup p records ∷ s
 abbrev pub windows_of : Setup → Counted → List Window
 windows_of setup c = shown_all setup setup.places.items c.pushed
 
--- What answers the line that a client said last, by what it waits for: its place is chosen; what it asks for is granted, if
+-- What answers the line that a client said last, by what it waits for: its place is chosen; what it asks for is
+-- granted, if
 -- there is that grant; or packets may follow.
 abbrev pub answer_at : Stage → List Window → Talk → State → State × ServerReply
 answer_at Unlinked feed t s = (s, replies.Nothing)
@@ -83,7 +90,8 @@ taken_by n l = min (l.taken + n) (length l.said)
 
 -- So many bytes come to the server.
 abbrev pub served_by : List Window → Talk → ℕ → CountedLink → CountedLink
-served_by feed talk n l = if_come (waits l.taken l.said && not (waits (taken_by n l) l.said)) feed talk (record l { taken = taken_by n l })
+served_by feed talk n l = if_come (waits l.taken l.said && not (waits (taken_by n l) l.said)) feed talk
+    (record l { taken = taken_by n l })
 
 -- what a session sends of a place: the packet of the record at its position, or the end
 abbrev pub carried_at : ℕ → Option Grant → Option Window → List Item
@@ -119,7 +127,8 @@ abbrev pub part : ℕ → List Item → ℕ
 part d [] = 0
 part d (i ∷ is) = if nat_le (length (item_bytes i)) d then part (d - length (item_bytes i)) is else d
 
--- What a client makes of what is sent to it, by what it waits for: `OK` lets it say its next line, and `ERROR` ends the link;
+-- What a client makes of what is sent to it, by what it waits for: `OK` lets it say its next line, and `ERROR` ends the
+-- link;
 -- a packet brings a record of its place, and the number behind it is wanted next.
 abbrev pub on_item : Stage → Item → Talk → Talk × Event
 on_item (Station k) Accepted t = says_number k t
@@ -146,7 +155,8 @@ pub record Gained : Type 0 where
 
 abbrev pub with_event : Numbers → Event → Gained → Gained
 with_event f (events.Say line) g = record g { to_server = g.to_server ++ line.items }
-with_event f (events.Record k n bytes) g = record g { held = with_one g.held k bytes; start = with_first g.start k (number_at f k) }
+with_event f (events.Record k n bytes) g =
+    record g { held = with_one g.held k bytes; start = with_first g.start k (number_at f k) }
 with_event f events.None g = g
 with_event f events.End g = g
 with_event f (events.Refused k) g = g
@@ -166,7 +176,8 @@ abbrev pub delivered_by : ℕ → CountedLink → ℕ
 delivered_by n l = min (l.delivered + n) (length (way_bytes l.sent))
 
 abbrev pub gained_by : ℕ → Counted → CountedLink → Gained
-gained_by n c l = with_events l.first_sent (events_upon c.talk (news n l)) (record { held = c.held; start = c.start; to_server = l.said })
+gained_by n c l = with_events l.first_sent (events_upon c.talk (news n l))
+    (record { held = c.held; start = c.start; to_server = l.said })
 
 -- The client hears it.
 abbrev pub heard_by : ℕ → Counted → Option CountedLink → Counted
@@ -179,12 +190,14 @@ heard_by n c (Some l) = record c {
 }
 
 abbrev pub new_link : List ℕ → CountedLink
-new_link said = record { session = at Fresh (replicate 16 None); first_sent = replicate 16 None; said = said; taken = 0; sent = []; delivered = 0 }
+new_link said = record { session = at Fresh (replicate 16 None); first_sent = replicate 16 None; said = said;
+    taken = 0; sent = []; delivered = 0 }
 
 -- what a step makes of a counted world
 abbrev pub counted_step : Setup → Counted → Step → Counted
 counted_step setup c (Append k bytes) = record c { pushed = with_one c.pushed k bytes }
-counted_step setup c Connect = record c { talk = (says_place 0 c.talk).0; link = Some (new_link (said (says_place 0 c.talk).1)) }
+counted_step setup c Connect =
+    record c { talk = (says_place 0 c.talk).0; link = Some (new_link (said (says_place 0 c.talk).1)) }
 counted_step setup c (ToServer n) = record c { link = option_map (served_by (windows_of setup c) c.talk n) c.link }
 counted_step setup c (ToClient n) = heard_by n c c.link
 counted_step setup c (Send k) = record c { link = option_map (sent_by (windows_of setup c) k) c.link }

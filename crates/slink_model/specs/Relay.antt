@@ -1,5 +1,6 @@
 -- A series that is packed, sent through a schedule, and put together from what the client holds.
-use Rattle.std.specs.Prelude.{◌≡◌, ◌≢◌, ◌<◌, ℕ, List, [], ◌∷◌, ◌++◌, Option, Some, None, Result, Ok, Err, slice_index_or, slice_range}
+use Rattle.std.specs.Prelude.{◌≡◌, ◌≢◌, ◌<◌, ℕ, List, [], ◌∷◌, ◌++◌, Option, Some, None, Result, Ok, Err,
+    slice_index_or, slice_range}
 use Rattle.slink_wire.specs.Place.{Fields}
 use Rattle.slink_model.specs.declared.world.Setup.{Setup}
 use Rattle.slink_model.specs.declared.world.Step.{Step}
@@ -71,6 +72,7 @@ ComesThrough t s setup steps records =
 
 -- by the answer: what comes through of the records that the series is packed into; why it isn't packed; or no memory
 abbrev pub IsRelay : Result (Option Trace) RelayFault → Trace → Options → Setup → List Step → Type 0
-IsRelay (Ok t) s o setup steps = (records : List (List ℕ)) × IsPacking s o records × ComesThrough t s setup steps records
+IsRelay (Ok t) s o setup steps = (records : List (List ℕ)) × IsPacking s o records
+    × ComesThrough t s setup steps records
 IsRelay (Err (Pack fault)) s o setup steps = IsMisfit s o fault
 IsRelay (Err Memory) s o setup steps = Fits s o

@@ -26,7 +26,8 @@ IsSpared (Ended ending) = IsFair ending
 
 -- Each place has codes for its station and network.
 abbrev pub HaveCodes : List (Fields × Option ℕ) → Type 0
-HaveCodes places = (k : ℕ) (p : Fields × Option ℕ) → slice_get places k ≡ Some p → IsField 5 p.0.station × IsField 2 p.0.network
+HaveCodes places = (k : ℕ) (p : Fields × Option ℕ) → slice_get places k ≡ Some p
+    → IsField 5 p.0.station × IsField 2 p.0.network
 
 -- There is a place, each has codes for its station and network, and a number that is wanted first is below 2^24.
 pub record AreAskable (places : List (Fields × Option ℕ)) : Type 0 where

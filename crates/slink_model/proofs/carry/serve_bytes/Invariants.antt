@@ -10,7 +10,8 @@ invariant-loop-start l = record {
   within : l.start ≤ length l.bytes;
   fits : Fits l.feed l.session.state;
   stands : Stands l.session;
-  rest : (last : Standing) (all : List ℕ) → Serves l.feed l.session (drop l.start l.bytes) l.to_client.items last all → Serves l.feed l.fn.session l.bytes l.fn.to_client.items last all;
+  rest : (last : Standing) (all : List ℕ) → Serves l.feed l.session (drop l.start l.bytes) l.to_client.items last all
+      → Serves l.feed l.fn.session l.bytes l.fn.to_client.items last all;
 }
 
 abbrev pub decreases-loop-start : goal.decreases-loop-start

@@ -11,5 +11,6 @@ invariant-loop-step l = record {
   running : IsRunning (seen l.world);
   rings : AreRings l.setup.places.items (2 ^ 24 + l.step-index) l.world.feed;
   sound : (k : ℕ) → k < l.step-index → IsSound (get_or l.steps k (Append 0 []));
-  rest : (last : WorldState) → AllHappen (seen l.world) (drop l.step-index l.steps) last → AllHappen (opening l.setup) l.steps last;
+  rest : (last : WorldState) → AllHappen (seen l.world) (drop l.step-index l.steps) last
+      → AllHappen (opening l.setup) l.steps last;
 }
