@@ -7,7 +7,7 @@ use Rattle.mseed_record.specs.declared.chain.Blockettes.{Blockettes}
 use Rattle.mseed_record.specs.Header.{blockette_at}
 use Rattle.mseed_record.specs.Chain.{type_at, next_at, Passes, Rest, IsWholeChain}
 use Rattle.mseed_record.specs.Record.{IsRecordBy}
-use Rattle.mseed_record.specs.Blockettes.{AreBlockettes}
+use Rattle.mseed_record.specs.private.Blockettes.{AreBlockettes}
 use Rattle.mseed_record.specs.View.{View, IsViewBy, IsView, word_order_at, microseconds_at}
 
 -- two chains to a first 1000 are one

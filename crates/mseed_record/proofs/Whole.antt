@@ -10,7 +10,7 @@ use Rattle.mseed_record.specs.Chain.{type_at, next_at, head_of, goes_on, Passes,
 use Rattle.mseed_record.specs.declared.chain.Blockettes.{Blockettes}
 use Rattle.mseed_record.specs.Header.{blockette_at}
 use Rattle.mseed_record.specs.Record.{IsRecordBy}
-use Rattle.mseed_record.specs.Blockettes.{AreBlockettes}
+use Rattle.mseed_record.specs.private.Blockettes.{AreBlockettes}
 use Rattle.mseed_record.proofs.Framed.{passes_above}
 
 -- the chain goes on from o through these blockettes to p

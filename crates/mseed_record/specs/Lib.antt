@@ -5,7 +5,7 @@ pub mod Record
 pub mod Scan
 pub mod Framer
 pub mod View
-pub mod Blockettes
 pub mod Viewing
 pub mod Written
 pub mod Fields
+pub mod private

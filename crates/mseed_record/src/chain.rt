@@ -5,7 +5,7 @@ ghost use Rattle.std.specs.Option.{option_or};
 ghost use Rattle.mseed_record.specs.Header.{blockette_at};
 ghost use Rattle.mseed_record.specs.Chain.{IsWholeChain, type_at, next_at, head_of, goes_on, first_of, has_type};
 ghost use Rattle.mseed_record.specs.Record.{IsRecordBy};
-ghost use Rattle.mseed_record.specs.Blockettes.{AreBlockettes};
+ghost use Rattle.mseed_record.specs.private.Blockettes.{AreBlockettes};
 
 use mseed_time::Order;
 

@@ -10,9 +10,9 @@ use Rattle.byteorder.specs.Endian.{twos_complement, big_number}
 use Rattle.mseed_steim.specs.declared.scheme.Scheme.{Scheme}
 use Rattle.mseed_steim.specs.declared.differences.BadWordAt.{BadWordAt}
 use Rattle.mseed_steim.specs.ByteRuns.{run_in, byte_run, begins_empty, past_empty}
-use Rattle.mseed_steim.specs.Digits.{signed, digits, differences_of}
+use Rattle.mseed_steim.specs.private.Digits.{signed, digits, differences_of}
 use Rattle.mseed_steim.specs.Frames.{DataWord, data_word, word_at, code_at, words_from}
-use Rattle.mseed_steim.specs.Items.{items_of}
+use Rattle.mseed_steim.specs.private.Items.{items_of}
 use Rattle.mseed_steim.specs.Runs.{SpellsRun}
 use Rattle.mseed_steim.proofs.Given.{word_small}
 use Rattle.mseed_steim.proofs.Spelled.{by_row, bytes_row, differences_spelled}

@@ -9,10 +9,10 @@ use Rattle.mseed_steim.specs.declared.fault.ReadFault.{ReadFault}
 use Rattle.mseed_steim.specs.declared.fault.ReadFault.TheVariants.{Short, LastDiffers}
 use Rattle.mseed_steim.specs.declared.sum.Sum.{Sum}
 use Rattle.mseed_steim.specs.Frames.{word_count, data_words, first_constant, last_constant}
-use Rattle.mseed_steim.specs.Items.{items_of}
+use Rattle.mseed_steim.specs.private.Items.{items_of}
 use Rattle.mseed_steim.specs.Samples.{IsSample, AreSums, IsFrameFault, short, last_differs, IsChecked, IsPayloadReading,
     EndsOnConstant}
-use Rattle.mseed_steim.specs.Sums.{fold, met_in, lack}
+use Rattle.mseed_steim.specs.private.Sums.{fold, met_in, lack}
 use Rattle.mseed_steim.proofs.Walking.{words_none}
 use Rattle.mseed_steim.proofs.Given.{items_given, words_small}
 use Rattle.mseed_steim.proofs.Folded.{last_of, Lacks, lacks}

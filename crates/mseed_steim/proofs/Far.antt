@@ -6,8 +6,8 @@ use Rattle.std.proofs.lemmas.Int.{ints}
 use Rattle.std.proofs.lemmas.Bool.{lt-ltb}
 use Rattle.mseed_steim.specs.declared.differences.BadWordAt.{BadWordAt}
 use Rattle.mseed_steim.specs.declared.sum.Sum.{Sum}
-use Rattle.mseed_steim.specs.Lanes.{total, span}
-use Rattle.mseed_steim.specs.Sums.{fits, fold, one_more}
+use Rattle.mseed_steim.specs.private.Lanes.{total, span}
+use Rattle.mseed_steim.specs.private.Sums.{fits, fold, one_more}
 use Rattle.mseed_steim.proofs.Folds.{fold_add}
 
 pub abs_sum : (a b : ℤ) → nat_abs (a +ℤ b) ≤ nat_abs a + nat_abs b

@@ -7,9 +7,9 @@ use Rattle.mseed_steim.specs.declared.scheme.Scheme.{Scheme}
 use Rattle.mseed_steim.specs.declared.scheme.Scheme.TheVariants.{One, Two}
 use Rattle.mseed_steim.specs.declared.differences.BadWordAt.{BadWordAt}
 use Rattle.mseed_steim.specs.Groups.{Group, group_of}
-use Rattle.mseed_steim.specs.Digits.{differences_in, differences_of}
+use Rattle.mseed_steim.specs.private.Digits.{differences_in, differences_of}
 use Rattle.mseed_steim.specs.Frames.{DataWord}
-use Rattle.mseed_steim.specs.Items.{with_items, items_of}
+use Rattle.mseed_steim.specs.private.Items.{with_items, items_of}
 use Rattle.mseed_steim.proofs.Table.{cond_holds}
 use Rattle.mseed_steim.proofs.Spelled.{length-digits}
 

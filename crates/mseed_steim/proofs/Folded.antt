@@ -13,7 +13,7 @@ use Rattle.mseed_steim.specs.declared.fault.ReadFault.{ReadFault}
 use Rattle.mseed_steim.specs.declared.fault.ReadFault.TheVariants.{Short, BadWord, Overflow}
 use Rattle.mseed_steim.specs.declared.sum.Sum.{Sum}
 use Rattle.mseed_steim.specs.Samples.{IsSample, Adds}
-use Rattle.mseed_steim.specs.Sums.{fits, fold, met_in, lack, one_more}
+use Rattle.mseed_steim.specs.private.Sums.{fits, fold, met_in, lack, one_more}
 use Rattle.mseed_steim.proofs.Folds.{fold_enough, fold_add, fold_over, fold_bad, fold_short}
 
 -- the last of some samples, or the one before them

@@ -6,7 +6,7 @@ use Rattle.mseed_steim.specs.declared.differences.BadWordAt.{BadWordAt}
 use Rattle.mseed_steim.specs.declared.fault.ReadFault.{ReadFault}
 use Rattle.mseed_steim.specs.declared.fault.ReadFault.TheVariants.{Short, BadWord, Overflow}
 use Rattle.mseed_steim.specs.declared.sum.Sum.{Sum}
-use Rattle.mseed_steim.specs.Sums.{GoesOn, Keeps, fits, fold, met_in, one_more}
+use Rattle.mseed_steim.specs.private.Sums.{GoesOn, Keeps, fits, fold, met_in, one_more}
 
 pub fold_enough : (n : ℕ) (s : Sum) (items : List (Result ℤ BadWordAt)) → s.met ≡ n → fold n s items ≡ Ok s
 unfolding fold

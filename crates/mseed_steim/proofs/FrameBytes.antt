@@ -3,8 +3,8 @@ use Rattle.std.proofs.Common.{◌≡◌, ℕ, zero, suc, ◌+◌, ◌*◌, ◌/�
     bit_xor, refl, sym, ap, subst, ◌∙◌, inl, inr, arith, eqb→eq, ⊎_elim, ℤ, pos, ◌+ℤ◌}
 use Rattle.std.proofs.lemmas.Int.{ints}
 use Rattle.std.proofs.lemmas.Bool.{cases_lt, lt-ltb, le-ltb}
-use Rattle.mseed_steim.specs.Digits.{signed, digits}
-use Rattle.mseed_steim.specs.Lanes.{total, word_of}
+use Rattle.mseed_steim.specs.private.Digits.{signed, digits}
+use Rattle.mseed_steim.specs.private.Lanes.{total, word_of}
 use mir.ValLaws.{and_both}
 
 abbrev all_below : (ℕ → Bool) → ℕ → Bool

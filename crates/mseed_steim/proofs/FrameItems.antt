@@ -11,12 +11,12 @@ use Rattle.mseed_steim.specs.declared.scheme.Scheme.{Scheme}
 use Rattle.mseed_steim.specs.declared.scheme.Scheme.TheVariants.{One, Two}
 use Rattle.mseed_steim.specs.declared.differences.BadWordAt.{BadWordAt}
 use Rattle.mseed_steim.specs.declared.frame.Moved.{Moved}
-use Rattle.mseed_steim.specs.Moves.{MovesBy}
-use Rattle.mseed_steim.specs.Digits.{digits, differences_of}
+use Rattle.mseed_steim.specs.private.Moves.{MovesBy}
+use Rattle.mseed_steim.specs.private.Digits.{digits, differences_of}
 use Rattle.mseed_steim.specs.Frames.{DataWord, data_word, word_at, code_at, words_from}
-use Rattle.mseed_steim.specs.Items.{items_of}
-use Rattle.mseed_steim.specs.Lanes.{total, span, sum_z, words, word_at as lanes_word_at, row_at, Begins, counts_two,
-    widths_two, moved_two, spanned_two, counts_one, widths_one, moved_one, spanned_one}
+use Rattle.mseed_steim.specs.private.Items.{items_of}
+use Rattle.mseed_steim.specs.private.Lanes.{total, span, sum_z, words, word_at as lanes_word_at, row_at, Begins,
+    counts_two, widths_two, moved_two, spanned_two, counts_one, widths_one, moved_one, spanned_one}
 use Rattle.mseed_steim.proofs.Spelled.{length-digits}
 use Rattle.mseed_steim.proofs.Walking.{words_none, words_step, items_group}
 

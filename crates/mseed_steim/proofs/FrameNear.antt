@@ -4,10 +4,10 @@ use Rattle.std.proofs.Common.{◌≡◌, ℕ, zero, suc, ◌+◌, ◌-◌, ◌*�
 use Rattle.std.proofs.lemmas.Bool.{cases_lt, lt-ltb, le-ltb}
 use Rattle.std.proofs.Math.Nat.{mul-suc}
 use lib.Lanes.{sum_l}
-use Rattle.mseed_steim.specs.Digits.{signed, digits}
-use Rattle.mseed_steim.specs.Lanes.{span}
-use Rattle.mseed_steim.specs.Lanes.{words, word_at, row_at, counts_two, widths_two, spanned_two, counts_one, widths_one,
-    spanned_one}
+use Rattle.mseed_steim.specs.private.Digits.{signed, digits}
+use Rattle.mseed_steim.specs.private.Lanes.{span}
+use Rattle.mseed_steim.specs.private.Lanes.{words, word_at, row_at, counts_two, widths_two, spanned_two, counts_one,
+    widths_one, spanned_one}
 use Rattle.mseed_steim.proofs.LaneSums.{long_words}
 use Rattle.mseed_steim.proofs.FrameSums.{row_small}
 

@@ -3,10 +3,10 @@ use Rattle.std.proofs.Common.{to_z, w32, negsuc, ◌≡◌, ℕ, suc, ◌+◌, �
     map, get_or, bit_and, bit_xor, refl, sym, ap, subst, ◌∙◌, arith, ℤ, pos, ◌+ℤ◌, below_none, below_more}
 use Rattle.std.proofs.lemmas.Int.{ints, to_z_pos}
 use lib.Lanes.{sum_l}
-use Rattle.mseed_steim.specs.Digits.{signed, digits}
-use Rattle.mseed_steim.specs.Lanes.{total, word_of}
-use Rattle.mseed_steim.specs.Lanes.{words, sum_z, byte_at, row_at, low_one, high_one, flipped, flipped_low, least_one,
-    counts_one, widths_one, moved_one}
+use Rattle.mseed_steim.specs.private.Digits.{signed, digits}
+use Rattle.mseed_steim.specs.private.Lanes.{total, word_of}
+use Rattle.mseed_steim.specs.private.Lanes.{words, sum_z, byte_at, row_at, low_one, high_one, flipped, flipped_low,
+    least_one, counts_one, widths_one, moved_one}
 use Rattle.mseed_steim.proofs.FrameBytes.{same, four_is, four_p0}
 use Rattle.mseed_steim.proofs.LaneSums.{long_words}
 use Rattle.mseed_steim.proofs.FrameWords.{gone}

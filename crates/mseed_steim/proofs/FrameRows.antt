@@ -2,7 +2,7 @@
 use Rattle.std.proofs.Common.{◌≡◌, ℕ, ◌+◌, ◌*◌, ◌/◌, ◌%◌, ◌<◌, List, [], ◌∷◌, map, get_or, bit_and, bit_or, refl, sym,
     ap, ◌∙◌, arith}
 use Rattle.mseed_steim.proofs.FrameBytes.{same}
-use Rattle.mseed_steim.specs.Lanes.{words, word_at, row_at}
+use Rattle.mseed_steim.specs.private.Lanes.{words, word_at, row_at}
 
 abbrev pub codes : List ℕ
 codes = 0 ∷ 4 ∷ 8 ∷ 12 ∷ 4 ∷ 0 ∷ 0 ∷ 0 ∷ 8 ∷ 0 ∷ 0 ∷ 0 ∷ 12 ∷ 0 ∷ 0 ∷ 0 ∷ []

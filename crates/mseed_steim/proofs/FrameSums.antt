@@ -4,9 +4,9 @@ use Rattle.std.proofs.Common.{to_z, of_z, ◌≡◌, ◌-◌, ◌^◌, Bool, tru
 use Rattle.std.proofs.lemmas.Int.{ints}
 use lib.Lanes.{sum_l}
 use Rattle.std.proofs.lemmas.Int.{to_z_pos, to_z-of_z}
-use Rattle.mseed_steim.specs.Lanes.{word_of}
-use Rattle.mseed_steim.specs.Lanes.{words, sum_z, byte_at, word_at, row_at, moved_two, counts_two, ones_two, fine_two,
-    coarse_two, turned_a, turned_b, turned_c, turned_d, least_two, least_coarse_two}
+use Rattle.mseed_steim.specs.private.Lanes.{word_of}
+use Rattle.mseed_steim.specs.private.Lanes.{words, sum_z, byte_at, word_at, row_at, moved_two, counts_two, ones_two,
+    fine_two, coarse_two, turned_a, turned_b, turned_c, turned_d, least_two, least_coarse_two}
 use Rattle.mseed_steim.proofs.LaneSums.{long_words}
 use Rattle.mseed_steim.proofs.FrameWords.{tells, whole, least}
 

@@ -8,11 +8,12 @@ use Rattle.mseed_steim.specs.declared.scheme.Scheme.{Scheme}
 use Rattle.mseed_steim.specs.declared.scheme.Scheme.TheVariants.{One, Two}
 use Rattle.mseed_steim.specs.declared.differences.BadWordAt.{BadWordAt}
 use Rattle.mseed_steim.specs.declared.unpack.Unpacking.{Unpacking}
-use Rattle.mseed_steim.specs.Digits.{differences_of}
+use Rattle.mseed_steim.specs.private.Digits.{differences_of}
 use Rattle.mseed_steim.specs.Frames.{DataWord, data_word, word_at, code_at, words_from}
-use Rattle.mseed_steim.specs.Items.{items_of}
-use Rattle.mseed_steim.specs.Lanes.{span, words, word_at as lanes_word_at, row_at, Begins}
-use Rattle.mseed_steim.specs.Unpacked.{AreNarrow, Unpacks, counts_of, widths_of, lanes_of, differences_at, unpacked}
+use Rattle.mseed_steim.specs.private.Items.{items_of}
+use Rattle.mseed_steim.specs.private.Lanes.{span, words, word_at as lanes_word_at, row_at, Begins}
+use Rattle.mseed_steim.specs.private.Unpacked.{AreNarrow, Unpacks, counts_of, widths_of, lanes_of, differences_at,
+    unpacked}
 use Rattle.mseed_steim.proofs.Walking.{words_none, words_step, items_group}
 use Rattle.mseed_steim.proofs.FrameItems.{Reads, reads_by, rows_one, rows_two, zeros_one, zeros_two, word_is, none_at,
     span-append}

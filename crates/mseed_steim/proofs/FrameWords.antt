@@ -2,10 +2,10 @@
 use Rattle.std.proofs.Common.{◌≡◌, ℕ, ◌+◌, ◌*◌, ◌/◌, ◌%◌, ◌<◌, ◌≤◌, get_or, bit_and, bit_xor, refl, ap, ◌∙◌, arith, pos,
     ◌+ℤ◌, below_none, below_more}
 use Rattle.std.specs.Int.Bits.{and_zero_r}
-use Rattle.mseed_steim.specs.Digits.{digits}
-use Rattle.mseed_steim.specs.Lanes.{total, word_of}
-use Rattle.mseed_steim.specs.Lanes.{fine_two, ones_two, coarse_two, turned_a, turned_b, turned_c, turned_d, least_two,
-    least_coarse_two, counts_two, widths_two}
+use Rattle.mseed_steim.specs.private.Digits.{digits}
+use Rattle.mseed_steim.specs.private.Lanes.{total, word_of}
+use Rattle.mseed_steim.specs.private.Lanes.{fine_two, ones_two, coarse_two, turned_a, turned_b, turned_c, turned_d,
+    least_two, least_coarse_two, counts_two, widths_two}
 use Rattle.mseed_steim.proofs.FrameBytes.{four_is, two_is, three_is, five_is, six_is, seven_is, four_p0, four_p1,
     four_p2, four_p3, two_p0, two_p1, two_p2, two_p3, two_p4, three_p0, three_p1, three_p2, three_p3, three_p4,
     three_p5, five_p0, five_p1, five_p2, five_p3, five_p4, five_p5, five_p6, six_p0, six_p1, six_p2, six_p3, six_p4,

@@ -12,7 +12,7 @@ use Rattle.mseed_steim.specs.declared.scheme.Scheme.TheVariants.{One, Two}
 use Rattle.mseed_steim.specs.declared.row.Row.{Row}
 use Rattle.mseed_steim.specs.Spelling.{IsWithin}
 use Rattle.mseed_steim.specs.Packing.{CanSpell}
-use Rattle.mseed_steim.specs.Rows.{row_for, size_limit, IsBestRow}
+use Rattle.mseed_steim.specs.private.Rows.{row_for, size_limit, IsBestRow}
 use Rattle.mseed_steim.proofs.Rows.{FitsRow, spelled_fits, row_is}
 
 max_by : (t e : Bool) (a b : ℕ) → ltb b a ≡ t → cond (is_lt (cond t Less (cond e Equal Greater))) a b ≡ cond t a b

@@ -8,11 +8,11 @@ use Rattle.std.proofs.lemmas.Bool.{cond_both}
 use Rattle.byteorder.specs.Numbers.{big_from-lt}
 use Rattle.mseed_steim.specs.declared.scheme.Scheme.{Scheme}
 use Rattle.mseed_steim.specs.declared.differences.BadWordAt.{BadWordAt}
-use Rattle.mseed_steim.specs.Digits.{differences_of}
+use Rattle.mseed_steim.specs.private.Digits.{differences_of}
 use Rattle.mseed_steim.specs.Spelling.{Spells, SpellsNone}
 use Rattle.mseed_steim.specs.Frames.{DataWord, data_word, is_data, word_at, words_from}
 use Rattle.mseed_steim.specs.Runs.{SpellsRun, place_of, Gives, all, broken}
-use Rattle.mseed_steim.specs.Items.{with_items, items_of}
+use Rattle.mseed_steim.specs.private.Items.{with_items, items_of}
 use Rattle.mseed_steim.proofs.Spelled.{differences_spelled, spelled_differences}
 
 -- a word of 32 bits

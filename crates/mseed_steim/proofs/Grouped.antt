@@ -5,7 +5,7 @@ use Rattle.mseed_steim.specs.declared.scheme.Scheme.{Scheme}
 use Rattle.mseed_steim.specs.declared.scheme.Scheme.TheVariants.{One, Two}
 use Rattle.mseed_steim.specs.declared.group.Group.{Group}
 use Rattle.mseed_steim.specs.Groups.{group_of}
-use Rattle.mseed_steim.specs.Digits.{digits, differences_of}
+use Rattle.mseed_steim.specs.private.Digits.{digits, differences_of}
 use Rattle.mseed_steim.proofs.Spelled.{by_row, by_no_row, no_differences}
 
 -- what a group that was found says of a word

@@ -9,9 +9,9 @@ use Rattle.mseed_steim.specs.declared.scheme.Scheme.TheVariants.{One, Two}
 use Rattle.mseed_steim.specs.declared.row.Row.{Row}
 use Rattle.mseed_steim.specs.Spelling.{IsWithin}
 use Rattle.mseed_steim.specs.Packing.{CanSpell, IsFullest}
-use Rattle.mseed_steim.specs.Rows.{row_with, row_for}
-use Rattle.mseed_steim.specs.Ahead.{size_of, near, near_size, most_one, most_two, most_with, IsMost, IsAhead, Tells,
-    taken}
+use Rattle.mseed_steim.specs.private.Rows.{row_with, row_for}
+use Rattle.mseed_steim.specs.private.Ahead.{size_of, near, near_size, most_one, most_two, most_with, IsMost, IsAhead,
+    Tells, taken}
 use Rattle.mseed_steim.specs.declared.ahead.Ahead.{Ahead}
 use Rattle.mseed_steim.proofs.Rows.{row_is, spelled_fits}
 use Rattle.mseed_steim.proofs.Sizes.{one_3, two_6}

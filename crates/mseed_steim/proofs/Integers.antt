@@ -13,7 +13,7 @@ use Rattle.mseed_steim.specs.declared.form.Width.TheVariants.{Two, Four}
 use Rattle.mseed_steim.specs.declared.form.Form.TheVariants.{Integers}
 use Rattle.mseed_steim.specs.declared.fault.Ends.{Ends}
 use Rattle.mseed_steim.specs.Spelling.{IsWithin}
-use Rattle.mseed_steim.specs.Digits.{signed}
+use Rattle.mseed_steim.specs.private.Digits.{signed}
 use Rattle.mseed_steim.specs.Samples.{bytes_of, BeginsWith, IsChecked, IsPayloadReading}
 use Rattle.mseed_steim.proofs.Spelled.{signed_within, signed_residue}
 use Rattle.mseed_steim.proofs.Framed.{minus}

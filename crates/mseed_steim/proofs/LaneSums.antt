@@ -5,7 +5,7 @@ use Rattle.std.proofs.lemmas.Simd.{pick_l_whole, zip2_of_maps, map-map, sum_dots
 use Rattle.std.specs.List.{range_with_len}
 use lib.Lanes.{zip2, sum_l, fold_l, dots, Each1}
 use lib.ListN.{replicate}
-use Rattle.mseed_steim.specs.Lanes.{words, counts_two, counts_one}
+use Rattle.mseed_steim.specs.private.Lanes.{words, counts_two, counts_one}
 use Rattle.mseed_steim.proofs.LaneTables.{each_of_all}
 
 pub plus_sum : (xs ys : List ℕ) → length xs ≡ length ys → sum_l (zip2 (λ a b. (a + b) % 4294967296) xs ys) % 4294967296

@@ -5,8 +5,8 @@ use Rattle.mseed_steim.specs.declared.scheme.Scheme.TheVariants.{One, Two}
 use Rattle.mseed_steim.specs.declared.row.Row.{Row}
 use Rattle.mseed_steim.specs.declared.layout.Layout.{Layout}
 use Rattle.mseed_steim.specs.declared.layout.TheConstants.{LAYOUTS_ONE, LAYOUTS_TWO}
-use Rattle.mseed_steim.specs.Rows.{row_for}
-use Rattle.mseed_steim.specs.Ahead.{IsLayout, taken}
+use Rattle.mseed_steim.specs.private.Rows.{row_for}
+use Rattle.mseed_steim.specs.private.Ahead.{IsLayout, taken}
 
 eight : (P : ℕ → Type 0) → P 0 → P 1 → P 2 → P 3 → P 4 → P 5 → P 6 → P 7 → (i : ℕ) → i < 8 → P i
 eight P a b c d e f g h =

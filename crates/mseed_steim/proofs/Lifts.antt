@@ -2,8 +2,8 @@
 use Rattle.std.proofs.Common.{◌≡◌, ℕ, ◌-◌, ◌*◌, ◌^◌, ◌<◌, ◌≤◌, get_or, refl, arith, below_none, below_more}
 use Rattle.mseed_steim.specs.declared.unpack.Unpacking.{Unpacking}
 use Rattle.mseed_steim.specs.declared.unpack.TheConstants.{ROWS_ONE, ROWS_TWO}
-use Rattle.mseed_steim.specs.Lanes.{counts_one, counts_two, widths_one, widths_two}
-use Rattle.mseed_steim.specs.Unpacked.{Unpacks}
+use Rattle.mseed_steim.specs.private.Lanes.{counts_one, counts_two, widths_one, widths_two}
+use Rattle.mseed_steim.specs.private.Unpacked.{Unpacks}
 
 pub sixteen : (P : ℕ → Type 0) → P 0 → P 1 → P 2 → P 3 → P 4 → P 5 → P 6 → P 7 → P 8 → P 9 → P 10 → P 11 → P 12 → P 13
     → P 14 → P 15 → (i : ℕ) → i < 16 → P i

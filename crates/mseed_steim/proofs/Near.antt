@@ -2,7 +2,7 @@
 use Rattle.std.proofs.Common.{ℕ, ◌-◌, ◌*◌, ◌/◌, ◌%◌, ◌^◌, ◌<◌, ◌≤◌, nat_abs, arith}
 use Rattle.std.proofs.lemmas.Nat.{pow_pos, mod_below}
 use Rattle.std.proofs.Math.Pow.{pow_mono}
-use Rattle.mseed_steim.specs.Digits.{digit_at}
+use Rattle.mseed_steim.specs.private.Digits.{digit_at}
 use Rattle.mseed_steim.proofs.Words.{twice_half}
 use Rattle.mseed_steim.proofs.FrameNear.{near}
 

@@ -19,7 +19,7 @@ use Rattle.mseed_steim.specs.declared.scheme.Scheme.TheVariants.{One as Steim1, 
 use Rattle.mseed_steim.specs.declared.form.Width.TheVariants.{Two, Four}
 use Rattle.mseed_steim.specs.declared.form.Form.{Form}
 use Rattle.mseed_steim.specs.declared.form.Form.TheVariants.{Integers, Frames}
-use Rattle.mseed_steim.specs.Digits.{signed}
+use Rattle.mseed_steim.specs.private.Digits.{signed}
 use Rattle.mseed_steim.specs.Frames.{DataWord, code_at, data_word, data_words, first_constant, is_data, word_at,
     word_count, words_from}
 use Rattle.mseed_steim.specs.Groups.{Group, group_of, plain}

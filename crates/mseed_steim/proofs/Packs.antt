@@ -13,7 +13,7 @@ use Rattle.mseed_steim.specs.Spelling.{Spells, IsWithin, positional}
 use Rattle.mseed_steim.specs.Frames.{DataWord}
 use Rattle.mseed_steim.specs.Runs.{SpellsRun}
 use Rattle.mseed_steim.specs.Packing.{CanSpell, IsFullest, PacksRun, IsTooLargeAt, IsFirstTooLarge, LeavesRoom}
-use Rattle.mseed_steim.specs.Rows.{row_with, row_for, NoneSpelled, IsBestRow}
+use Rattle.mseed_steim.specs.private.Rows.{row_with, row_for, NoneSpelled, IsBestRow}
 use Rattle.mseed_steim.proofs.Words.{positional_lt}
 use Rattle.mseed_steim.proofs.Rows.{FitsRow, row_is, row_spells, fits_spelled, spelled_fits, narrower_by, within_wider}
 

@@ -12,7 +12,7 @@ use Rattle.mseed_steim.specs.declared.row.Row.{Row}
 use Rattle.mseed_steim.specs.Groups.{Group, group_of}
 use Rattle.mseed_steim.specs.Spelling.{Spells, IsGroup, empty, IsWithin, positional}
 use Rattle.mseed_steim.specs.Packing.{CanSpell}
-use Rattle.mseed_steim.specs.Rows.{row_with, row_for}
+use Rattle.mseed_steim.specs.private.Rows.{row_with, row_for}
 use Rattle.mseed_steim.proofs.Words.{positional_lt}
 
 -- a row is one of the table's, and has the bits of a word at the most

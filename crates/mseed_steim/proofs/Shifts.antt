@@ -5,7 +5,7 @@ use Rattle.std.specs.Int.Signed.{shr_z}
 use Rattle.std.proofs.lemmas.Bool.{lt-ltb, le-ltb, cases_lt}
 use Rattle.std.proofs.lemmas.Nat.{pow_pos, pow-add, shl-shr, shr-shr, shr_high, mod-pow-add, mod_below, mul-add-lt}
 use Rattle.std.proofs.Math.Nat.{add-mul, mul-le-mul_left, mul-le-mul_right, pow-le-pow_right}
-use Rattle.mseed_steim.specs.Digits.{signed, digit_at}
+use Rattle.mseed_steim.specs.private.Digits.{signed, digit_at}
 use Rattle.mseed_steim.proofs.Spelled.{signed_32}
 use Rattle.mseed_steim.proofs.Words.{twice_half}
 

@@ -12,7 +12,7 @@ use lib.ListN.{replicate, length-replicate}
 use Rattle.std.proofs.lemmas.Bool.{cases_lt, lt-ltb, le-ltb}
 use Rattle.std.proofs.lemmas.Simd.{length-put_chunk, Each1-from_get_or, get_or-put_chunk_at, get_or-put_chunk_above,
     get_or-replicate, get_or-chunk, length-chunk}
-use Rattle.mseed_steim.specs.Ahead.{raised, most_one, most_two, IsMost}
+use Rattle.mseed_steim.specs.private.Ahead.{raised, most_one, most_two, IsMost}
 
 -- of numbers below 2^15 the signed comparison is the plain one
 lt_small : (a b : ℕ) → a < 32768 → b < 32768 → lt_z (to_z w16 a) (to_z w16 b) ≡ ltb a b

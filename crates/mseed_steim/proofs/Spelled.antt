@@ -10,7 +10,7 @@ use Rattle.mseed_steim.specs.declared.scheme.Scheme.{Scheme}
 use Rattle.mseed_steim.specs.declared.scheme.Scheme.TheVariants.{One, Two}
 use Rattle.mseed_steim.specs.Groups.{Group, group_of, plain, wide_group, narrow_group}
 use Rattle.mseed_steim.specs.Spelling.{Spells, IsGroup, empty, row, residue, IsWithin, positional}
-use Rattle.mseed_steim.specs.Digits.{signed, digit_at, digits, differences_in, differences_of}
+use Rattle.mseed_steim.specs.private.Digits.{signed, digit_at, digits, differences_in, differences_of}
 use Rattle.mseed_steim.proofs.Words.{twice_half}
 use Rattle.mseed_steim.proofs.Table.{Sized, Kind, whole, full, short, group_sized, no_row, at_top, spelled_as_one}
 

@@ -3,7 +3,7 @@ use Rattle.std.proofs.Common.{◌≡◌, ℕ, ◌+◌, List, ◌++◌, map, take
 use Rattle.std.proofs.lemmas.List.{map-append}
 use Rattle.std.proofs.lemmas.Simd.{chunk-drop}
 use Rattle.mseed_steim.specs.declared.differences.BadWordAt.{BadWordAt}
-use Rattle.mseed_steim.specs.Lanes.{span}
+use Rattle.mseed_steim.specs.private.Lanes.{span}
 use Rattle.mseed_steim.proofs.FrameItems.{span-append}
 
 -- the differences of a turn, and those behind it

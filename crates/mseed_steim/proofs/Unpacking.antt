@@ -10,13 +10,13 @@ use Rattle.mseed_steim.specs.declared.scheme.Scheme.{Scheme}
 use Rattle.mseed_steim.specs.declared.differences.BadWordAt.{BadWordAt}
 use Rattle.mseed_steim.specs.declared.data_words.Word.{Word}
 use Rattle.mseed_steim.specs.ByteRuns.{byte_run, begins_empty, past_empty}
-use Rattle.mseed_steim.specs.Digits.{digits, differences_in, differences_of}
+use Rattle.mseed_steim.specs.private.Digits.{digits, differences_in, differences_of}
 use Rattle.mseed_steim.specs.Frames.{DataWord}
 use Rattle.mseed_steim.specs.Groups.{Group, group_of}
-use Rattle.mseed_steim.specs.Items.{items_of}
+use Rattle.mseed_steim.specs.private.Items.{items_of}
 use Rattle.mseed_steim.specs.Left.{Left}
-use Rattle.mseed_steim.specs.Reads.{as_data}
-use Rattle.mseed_steim.specs.Steps.{IsStep}
+use Rattle.mseed_steim.specs.private.Reads.{as_data}
+use Rattle.mseed_steim.specs.private.Steps.{IsStep}
 use Rattle.mseed_steim.proofs.Spelled.{no_differences, length-digits}
 use Rattle.mseed_steim.proofs.Table.{Kind, whole, full, short, AllSized, group_sized}
 use Rattle.mseed_steim.proofs.Walking.{items_group, no_items}

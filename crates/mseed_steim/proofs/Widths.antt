@@ -6,7 +6,7 @@ use lib.IntN.{nat_abs}
 use Rattle.std.proofs.lemmas.Bool.{lt-ltb, ltb-true}
 use Rattle.std.proofs.lemmas.Int.{ints, to_z-of_z}
 use Rattle.mseed_steim.specs.Spelling.{IsWithin}
-use Rattle.mseed_steim.specs.Ahead.{size_of}
+use Rattle.mseed_steim.specs.private.Ahead.{size_of}
 
 not_below : (n : ℕ) → lt_z (pos n) (pos 0) ≡ true → ⊥
 not_below n e = let t : ltb n 0 ≡ true = e in absurd (omega (arith, ltb-true n 0 t))

@@ -3,7 +3,8 @@
 ghost use Rattle.std.specs.Prelude.{◌≡◌, ◌⊎◌, ◌↔◌, ◌≤◌, ◌<◌, ◌+◌, ℕ, ℤ, List, pos, drop, length, map, slice_index};
 ghost use Rattle.std.specs.Prelude.{slice_index_or};
 ghost use Rattle.std.specs.Simd.Lanes.{Each1};
-ghost use Rattle.mseed_steim.specs.Ahead.{near_size, raised, most_one, most_two, most_with, IsAhead, IsMost, Tells};
+ghost use Rattle.mseed_steim.specs.private.Ahead.{near_size, raised, most_one, most_two, most_with};
+ghost use Rattle.mseed_steim.specs.private.Ahead.{IsAhead, IsMost, Tells};
 
 use crate::scheme::Scheme;
 use std::simd::prelude::*;

@@ -7,8 +7,8 @@ ghost use Rattle.mseed_steim.specs.Frames.{AreOctets, DataWord, word_at, words_f
 ghost use Rattle.byteorder.specs.Endian.{twos_complement};
 ghost use Rattle.mseed_steim.specs.declared.scheme.Scheme.{Scheme};
 ghost use Rattle.mseed_steim.specs.ByteRuns.{begins_empty, byte_run};
-ghost use Rattle.mseed_steim.specs.Items.{items_of};
-ghost use Rattle.mseed_steim.specs.Reads.{as_data};
+ghost use Rattle.mseed_steim.specs.private.Items.{items_of};
+ghost use Rattle.mseed_steim.specs.private.Reads.{as_data};
 ghost use Rattle.mseed_steim.specs.Runs.{SpellsRun};
 
 use byteorder::{BigEndian, ByteOrder};

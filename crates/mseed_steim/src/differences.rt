@@ -8,10 +8,10 @@ ghost use Rattle.mseed_steim.specs.declared.differences.BadWordAt.{BadWordAt};
 ghost use Rattle.mseed_steim.specs.declared.scheme.Scheme.{Scheme};
 ghost use Rattle.mseed_steim.specs.ByteRuns.{UnpacksRun, past_empty, words_behind};
 ghost use Rattle.mseed_steim.specs.Frames.{data_words};
-ghost use Rattle.mseed_steim.specs.Items.{items_of};
+ghost use Rattle.mseed_steim.specs.private.Items.{items_of};
 ghost use Rattle.mseed_steim.specs.Left.{most_left};
 ghost use Rattle.mseed_steim.specs.Runs.{Gives};
-ghost use Rattle.mseed_steim.specs.Steps.{IsStep};
+ghost use Rattle.mseed_steim.specs.private.Steps.{IsStep};
 
 use crate::data_words::Words;
 use crate::group::group_of;
@@ -38,7 +38,7 @@ pub struct Differences<'a> {
 
 impl<'a> Model for Differences<'a> {
     ghost use Rattle.std.specs.Prelude.{◌++◌, map, Ok};
-    ghost use Rattle.mseed_steim.specs.Items.{items_of};
+    ghost use Rattle.mseed_steim.specs.private.Items.{items_of};
     ghost use Rattle.mseed_steim.specs.Left.{Left};
 
     ghost Value = { Left };

@@ -2,11 +2,12 @@
 
 ghost use Rattle.std.specs.Prelude.{◌≡◌, ◌<◌, ◌≤◌, ◌+◌, ◌-◌, ◌*◌, ◌%◌, ℕ, List, map, take, drop, slice_index};
 ghost use Rattle.std.specs.Simd.Lanes.{Each1, sum_l};
-ghost use Rattle.mseed_steim.specs.Lanes.{words, row_at, spanned_two, spanned_one, Begins, fine_two, ones_two};
-ghost use Rattle.mseed_steim.specs.Lanes.{coarse_two, counts_two, moved_two, sum_z, low_one, high_one, counts_one};
-ghost use Rattle.mseed_steim.specs.Lanes.{moved_one};
+ghost use Rattle.mseed_steim.specs.private.Lanes.{words, row_at, spanned_two, spanned_one, Begins, fine_two, ones_two};
+ghost use Rattle.mseed_steim.specs.private.Lanes.{coarse_two, counts_two, moved_two, sum_z};
+ghost use Rattle.mseed_steim.specs.private.Lanes.{low_one, high_one, counts_one};
+ghost use Rattle.mseed_steim.specs.private.Lanes.{moved_one};
 ghost use Rattle.mseed_steim.specs.Frames.{words_from};
-ghost use Rattle.mseed_steim.specs.Moves.{MovesBy};
+ghost use Rattle.mseed_steim.specs.private.Moves.{MovesBy};
 
 use crate::lanes::{
     Rows, minus, part, part_by, planes, plus, rows_of, sum_of, tally, times_128, times_256,

@@ -2,7 +2,7 @@
 //! appendix B).
 
 ghost use Rattle.std.specs.Prelude.{◌≡◌, ◌<◌, ◌≤◌, ◌*◌, None, Some, MatchOption};
-ghost use Rattle.mseed_steim.specs.Digits.{digits, differences_of};
+ghost use Rattle.mseed_steim.specs.private.Digits.{digits, differences_of};
 
 use crate::scheme::Scheme;
 

@@ -7,7 +7,7 @@
 ghost use Rattle.std.specs.Prelude.{◌≡◌, ◌<◌, ◌≤◌, ◌+◌, ◌*◌, ◌%◌, ℕ, length, map, slice_index, bit_and};
 ghost use Rattle.std.specs.Simd.Lanes.{Each1, all_below, sum_l};
 ghost use lib.Dec.{T};
-ghost use Rattle.mseed_steim.specs.Lanes.{words, byte_at, row_at, Begins, kept, kept_by, turned};
+ghost use Rattle.mseed_steim.specs.private.Lanes.{words, byte_at, row_at, Begins, kept, kept_by, turned};
 
 use std::simd::prelude::*;
 

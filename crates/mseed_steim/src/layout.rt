@@ -1,9 +1,9 @@
 //! How the rows of the table lay their differences out in a word, and words of them that are joined at once.
 
 ghost use Rattle.std.specs.Prelude.{◌≡◌, ◌*◌, ◌+◌, ◌<◌, ◌≤◌, ◌^◌, Some, length, take};
-ghost use Rattle.mseed_steim.specs.Ahead.{IsLayout, IsAhead, taken};
+ghost use Rattle.mseed_steim.specs.private.Ahead.{IsLayout, IsAhead, taken};
 ghost use Rattle.mseed_steim.specs.Packing.{IsFullest};
-ghost use Rattle.mseed_steim.specs.Rows.{row_for};
+ghost use Rattle.mseed_steim.specs.private.Rows.{row_for};
 ghost use Rattle.mseed_steim.specs.Spelling.{positional};
 ghost use Rattle.mseed_steim.specs.declared.row.Row.{Row};
 

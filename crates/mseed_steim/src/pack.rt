@@ -5,7 +5,7 @@ ghost use Rattle.std.specs.Prelude.{bit_or, Err, IfOk};
 ghost use Rattle.std.specs.Prelude.{MatchResult, length, take, drop};
 ghost use Rattle.std.specs.List.{AllByRecursion};
 ghost use Rattle.mseed_steim.specs.declared.scheme.Scheme.TheVariants.{Two};
-ghost use Rattle.mseed_steim.specs.Ahead.{IsAhead};
+ghost use Rattle.mseed_steim.specs.private.Ahead.{IsAhead};
 ghost use Rattle.mseed_steim.specs.Frames.{code_at, data_words, word_at, word_count};
 ghost use Rattle.mseed_steim.specs.Packing.{IsEmptyWord, IsFarthest, IsFewest, IsFirstTooLarge, IsFullest};
 ghost use Rattle.mseed_steim.specs.Packing.{IsTooLargeAt, LeavesRoom, PacksRun};

@@ -3,12 +3,12 @@
 ghost use Rattle.std.specs.Prelude.{◌≡◌, ◌+◌, ◌-◌, ◌*◌, ◌^◌, ◌≤◌, ◌<◌, ◌∷◌, ◌++◌, ℕ, List, ℤ, nat_abs, Result, Ok};
 ghost use Rattle.std.specs.Prelude.{IfNone, IfOk, IfSome, OnOk, drop, map, take, length};
 ghost use Rattle.mseed_steim.specs.declared.differences.BadWordAt.{BadWordAt};
-ghost use Rattle.mseed_steim.specs.Digits.{digits};
+ghost use Rattle.mseed_steim.specs.private.Digits.{digits};
 ghost use Rattle.mseed_steim.specs.Frames.{DataWord, data_words, words_from};
-ghost use Rattle.mseed_steim.specs.Items.{items_of};
-ghost use Rattle.mseed_steim.specs.Lanes.{Begins, span};
-ghost use Rattle.mseed_steim.specs.Reads.{as_data};
-ghost use Rattle.mseed_steim.specs.Sums.{GoesOn, Keeps, fold, met_in};
+ghost use Rattle.mseed_steim.specs.private.Items.{items_of};
+ghost use Rattle.mseed_steim.specs.private.Lanes.{Begins, span};
+ghost use Rattle.mseed_steim.specs.private.Reads.{as_data};
+ghost use Rattle.mseed_steim.specs.private.Sums.{GoesOn, Keeps, fold, met_in};
 
 use crate::data_words::{FRAME, Word, Words};
 use crate::fault::ReadFault;

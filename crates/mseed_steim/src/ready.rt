@@ -2,7 +2,7 @@
 
 ghost use Rattle.std.specs.Prelude.{◌≡◌, ◌≤◌, [], ◌∷◌, MatchOption, map, length};
 ghost use Rattle.byteorder.specs.Endian.{twos_complement};
-ghost use Rattle.mseed_steim.specs.Digits.{digits};
+ghost use Rattle.mseed_steim.specs.private.Digits.{digits};
 
 use crate::group::Group;
 use crate::widen::widen_bytes;

@@ -3,8 +3,8 @@
 ghost use Rattle.std.specs.Prelude.{◌≡◌, ◌≤◌, ◌++◌, List, ℤ, Result, Ok, IfOk, OnOk, map, take, length};
 ghost use Rattle.mseed_steim.specs.declared.differences.BadWordAt.{BadWordAt};
 ghost use Rattle.mseed_steim.specs.Frames.{data_words};
-ghost use Rattle.mseed_steim.specs.Items.{items_of};
-ghost use Rattle.mseed_steim.specs.Sums.{GoesOn, fold, met_in};
+ghost use Rattle.mseed_steim.specs.private.Items.{items_of};
+ghost use Rattle.mseed_steim.specs.private.Sums.{GoesOn, fold, met_in};
 
 use crate::data_words::Words;
 use crate::fault::ReadFault;

@@ -1,7 +1,7 @@
 //! The rows of the table of groups, by how many differences they have, and the fullest word.
 
 ghost use Rattle.std.specs.Prelude.{◌≡◌, ◌↔◌, ◌+◌, ◌-◌, ◌*◌, ◌^◌, ◌<◌, ◌≤◌, ℕ, length, pos, slice_index_or, take};
-ghost use Rattle.mseed_steim.specs.Rows.{row_with, row_for, size_limit, IsBestRow};
+ghost use Rattle.mseed_steim.specs.private.Rows.{row_with, row_for, size_limit, IsBestRow};
 ghost use Rattle.mseed_steim.specs.Spelling.{IsWithin, positional};
 
 use crate::scheme::Scheme;

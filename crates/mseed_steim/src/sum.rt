@@ -2,8 +2,8 @@
 
 ghost use Rattle.std.specs.Prelude.{◌≡◌, ◌+◌, ◌^◌, ◌≤◌, ◌<◌, List, ◌∷◌, ◌++◌, map, ℤ, ◌+ℤ◌, nat_abs, Result, Ok, IfOk};
 ghost use Rattle.mseed_steim.specs.declared.differences.BadWordAt.{BadWordAt};
-ghost use Rattle.mseed_steim.specs.Digits.{digits};
-ghost use Rattle.mseed_steim.specs.Sums.{GoesOn, fold, met_in};
+ghost use Rattle.mseed_steim.specs.private.Digits.{digits};
+ghost use Rattle.mseed_steim.specs.private.Sums.{GoesOn, fold, met_in};
 
 use crate::fault::ReadFault;
 use crate::group::Group;

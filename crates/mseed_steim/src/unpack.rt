@@ -8,11 +8,11 @@
 ghost use Rattle.std.specs.Prelude.{◌≡◌, ◌<◌, ◌≤◌, ◌+◌, ◌-◌, ◌*◌, ◌^◌, ℕ, List, ◌++◌, ℤ, Ok, IfSome, map, take, drop};
 ghost use Rattle.std.specs.Prelude.{slice_index, slice_index_or};
 ghost use Rattle.std.specs.Simd.Lanes.{sum_l};
-ghost use Rattle.mseed_steim.specs.Digits.{digit_at, digits};
+ghost use Rattle.mseed_steim.specs.private.Digits.{digit_at, digits};
 ghost use Rattle.mseed_steim.specs.Frames.{DataWord, words_from};
-ghost use Rattle.mseed_steim.specs.Items.{items_of};
-ghost use Rattle.mseed_steim.specs.Lanes.{Begins, row_at, span, word_at, words};
-ghost use Rattle.mseed_steim.specs.Unpacked.{AreNarrow, Unpacks, counts_of, lanes_of, unpacked, widths_of};
+ghost use Rattle.mseed_steim.specs.private.Items.{items_of};
+ghost use Rattle.mseed_steim.specs.private.Lanes.{Begins, row_at, span, word_at, words};
+ghost use Rattle.mseed_steim.specs.private.Unpacked.{AreNarrow, Unpacks, counts_of, lanes_of, unpacked, widths_of};
 
 use crate::data_words::read_word;
 use crate::frame::{COUNT_ONE, COUNT_TWO};

@@ -4,10 +4,10 @@ ghost use Rattle.std.specs.Prelude.{◌≡◌, ◌≤◌, ◌<◌, ◌+◌, ◌*
 ghost use Rattle.std.specs.Prelude.{drop, length};
 ghost use Rattle.mseed_steim.specs.declared.differences.BadWordAt.{BadWordAt};
 ghost use Rattle.mseed_steim.specs.Frames.{DataWord, data_words, words_from};
-ghost use Rattle.mseed_steim.specs.Items.{items_of};
-ghost use Rattle.mseed_steim.specs.Moves.{Moves};
-ghost use Rattle.mseed_steim.specs.Reads.{as_data};
-ghost use Rattle.mseed_steim.specs.Sums.{GoesOn, fold, lack};
+ghost use Rattle.mseed_steim.specs.private.Items.{items_of};
+ghost use Rattle.mseed_steim.specs.private.Moves.{Moves};
+ghost use Rattle.mseed_steim.specs.private.Reads.{as_data};
+ghost use Rattle.mseed_steim.specs.private.Sums.{GoesOn, fold, lack};
 
 use crate::data_words::{FRAME, Word, Words};
 use crate::fault::ReadFault;

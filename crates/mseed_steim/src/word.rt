@@ -1,7 +1,7 @@
 //! What a word of a Steim frame spells.
 
 ghost use Rattle.std.specs.Prelude.{◌≡◌, ℕ, ◌+◌, ◌*◌, ◌<◌, ◌≤◌, IsOkAnd, IfOk, OnErr, List, ℤ};
-ghost use Rattle.mseed_steim.specs.Digits.{digit_at, digits};
+ghost use Rattle.mseed_steim.specs.private.Digits.{digit_at, digits};
 ghost use Rattle.mseed_steim.specs.Spelling.{Spells, SpellsNone};
 
 use crate::group::{Group, group_of};

@@ -11,7 +11,7 @@ use Rattle.mseed_stream.specs.Archive.{is_truncated}
 use Rattle.mseed_stream.specs.Device.{Heard}
 use Rattle.mseed_stream.specs.Standing.{Standing}
 use Rattle.mseed_stream.specs.Cutting.{IsStop, IsReadTo, is_short, asks_of}
-use Rattle.mseed_stream.specs.Steps.{IsFillFault, IsCuttingFault, IsAnswerAtEnd}
+use Rattle.mseed_stream.specs.private.Steps.{IsFillFault, IsCuttingFault, IsAnswerAtEnd}
 use Rattle.mseed_stream.specs.declared.fault.StreamFault.{StreamFault}
 use Rattle.mseed_stream.specs.declared.fault.StreamFault.TheVariants.{Frame, Truncated, Read, Turns, Memory}
 use Rattle.mseed_record.proofs.Asked.{record_more}

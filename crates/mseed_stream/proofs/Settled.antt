@@ -11,7 +11,7 @@ use Rattle.mseed_stream.specs.Device.{Heard}
 use Rattle.mseed_stream.specs.Standing.{Standing}
 use Rattle.mseed_stream.specs.Cutting.{IsStop, at_start, told_from, IsHeard, IsAlong, IsEnding, FallsShort, IsReadTo,
     is_short, IsCutFault, IsCleanEnd, answer_of, held_of, asks_of, count_of}
-use Rattle.mseed_stream.specs.Steps.{IsCuttingFault, lent_of, settled}
+use Rattle.mseed_stream.specs.private.Steps.{IsCuttingFault, lent_of, settled}
 use Rattle.mseed_stream.specs.declared.cutter.Ending.{Ending}
 use Rattle.mseed_stream.specs.declared.cutter.Ending.TheVariants.{Clean, Fault}
 use Rattle.mseed_stream.specs.declared.fault.StreamFault.{StreamFault}

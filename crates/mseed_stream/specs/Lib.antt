@@ -7,6 +7,6 @@ pub mod Exchanges
 pub mod Fault
 pub mod Split
 pub mod Standing
-pub mod Steps
 pub mod Telling
 pub mod Walk
+pub mod private

@@ -15,7 +15,7 @@ ghost use Rattle.mseed_stream.specs.Cutting.{asks_of, count_of, IsCutFault, IsCl
 ghost use Rattle.mseed_stream.specs.Cutting.{told_from, moves_by, failed_by, answer_of, kept_of, handed_by};
 ghost use Rattle.mseed_stream.specs.Cutting.{IfEnds, IsAhead, told_whole};
 ghost use Rattle.mseed_stream.specs.Walk.{HasHandedOut, AreAllViews, IfGoesOn, end_of};
-ghost use Rattle.mseed_stream.specs.Steps.{IsFillFault, IsAnswerAtEnd, IsCut, MayCut, lent_of, settled};
+ghost use Rattle.mseed_stream.specs.private.Steps.{IsFillFault, IsAnswerAtEnd, IsCut, MayCut, lent_of, settled};
 
 use crate::device::{Failed, Sink, Source};
 use crate::fault::StreamFault;

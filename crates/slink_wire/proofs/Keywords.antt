@@ -2,7 +2,7 @@
 use Rattle.std.proofs.Common.{◌≢◌, ℕ, List, codes}
 use Rattle.slink_wire.specs.declared.keyword.Keyword.{Keyword}
 use Rattle.slink_wire.specs.declared.keyword.Keyword.TheVariants.{Hello, Station, Select, Data, Fetch, End, Bye}
-use Rattle.slink_wire.specs.Parsing.{text_of}
+use Rattle.slink_wire.specs.private.Parsing.{text_of}
 
 pub no_keyword : (w : List ℕ) → w ≢ codes "hello" → w ≢ codes "station" → w ≢ codes "select" → w ≢ codes "data"
     → w ≢ codes "fetch" → w ≢ codes "end" → w ≢ codes "bye" → (k : Keyword) → w ≢ text_of k

@@ -9,7 +9,7 @@ use Rattle.slink_wire.specs.declared.keyword.Keyword.TheVariants as keyword
 use Rattle.slink_wire.specs.Hexadecimal.{SaysNumber}
 use Rattle.slink_wire.specs.Command.{IsCommand, IsRow, IsSaid, folded, words}
 use Rattle.slink_wire.specs.Place.{filled}
-use Rattle.slink_wire.specs.Parsing.{text_of}
+use Rattle.slink_wire.specs.private.Parsing.{text_of}
 use Rattle.slink_wire.proofs.Digits.{says_one}
 
 -- the keyword of a command

@@ -6,7 +6,7 @@ use Rattle.std.proofs.lemmas.List.{take_more}
 use Rattle.slink_wire.specs.declared.lines.What.{What}
 use Rattle.slink_wire.specs.declared.lines.What.TheVariants.{More, Line, TooLong}
 use Rattle.slink_wire.specs.Lines.{Held, IsHeld, TellsNothing, Spelled, lines_of, stripped, unless_empty}
-use Rattle.slink_wire.specs.Steps.{begun, cr_step, lf_step, other_step, step}
+use Rattle.slink_wire.specs.private.Steps.{begun, cr_step, lf_step, other_step, step}
 use Rattle.slink_wire.specs.Taking.{Tells}
 use Rattle.slink_wire.proofs.Spelled.{IsStripped, begun_fits, lines_byte, lines_cr, stripped_on, with_byte, with_cr,
     continued, checked}

@@ -4,8 +4,7 @@ pub mod Packet
 pub mod Lines
 pub mod Said
 pub mod Taking
-pub mod Steps
 pub mod Command
-pub mod Parsing
 pub mod Reply
 pub mod Request
+pub mod private

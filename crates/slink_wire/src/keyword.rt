@@ -2,7 +2,7 @@
 ghost use Rattle.std.specs.Prelude.{◌≡◌, ◌≢◌, MatchOption, codes};
 ghost use Rattle.slink_wire.specs.declared.keyword.Keyword.{Keyword};
 ghost use Rattle.slink_wire.specs.Command.{in_small_letters};
-ghost use Rattle.slink_wire.specs.Parsing.{text_of};
+ghost use Rattle.slink_wire.specs.private.Parsing.{text_of};
 
 /// The word that a command begins with.
 #[derive(Clone, Copy)]

@@ -1,7 +1,7 @@
 //! Command lines out of a stream that comes in any pieces.
 ghost use Rattle.std.specs.Prelude.{◌≡◌, ◌<◌, ◌≤◌, ◌++◌, List, ℕ, [], true, false, length, take};
 ghost use Rattle.slink_wire.specs.Lines.{Held, IsHeld, TellsNothing};
-ghost use Rattle.slink_wire.specs.Steps.{step};
+ghost use Rattle.slink_wire.specs.private.Steps.{step};
 ghost use Rattle.slink_wire.specs.Taking.{Tells};
 
 use arrayvec::ArrayVec;

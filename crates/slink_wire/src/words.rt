@@ -1,7 +1,7 @@
 //! The words of a line.
 ghost use Rattle.std.specs.Prelude.{◌≡◌, ◌∷◌, [], MatchOption};
 ghost use Rattle.slink_wire.specs.Command.{words};
-ghost use Rattle.slink_wire.specs.Parsing.{AreWords};
+ghost use Rattle.slink_wire.specs.private.Parsing.{AreWords};
 
 use crate::cut::{first, first_other};
 

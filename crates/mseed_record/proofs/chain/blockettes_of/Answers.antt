@@ -1,7 +1,7 @@
 use Rattle.std.proofs.Common.{◌≤◌, ◌+◌, ◌++◌, ℕ, List, [], ◌∷◌, length, refl, sym, ◌∙◌, subst, arith}
 use Rattle.mseed_record.specs.Header.{blockette_at}
 use Rattle.mseed_record.specs.Chain.{type_at, next_at, head_of, goes_on}
-use Rattle.mseed_record.specs.Blockettes.{AreBlockettes}
+use Rattle.mseed_record.specs.private.Blockettes.{AreBlockettes}
 use Rattle.mseed_record.proofs.Whole.{Visits, goes_on_within, visits_more, visits_whole, passes_visits, first_1000,
     found_more, head_small, begins_within, if_some, if_none, within_more}
 use Rattle.mseed_record.proofs.chain.blockettes_of.Goals as goal

@@ -1,7 +1,7 @@
 use Rattle.std.proofs.Common.{ℕ, ◌-◌, ◌+◌, ◌≤◌, List, length, IfSome}
 use Rattle.mseed_record.specs.Header.{blockette_at}
 use Rattle.mseed_record.specs.Chain.{type_at, head_of}
-use Rattle.mseed_record.specs.Blockettes.{AreBlockettes}
+use Rattle.mseed_record.specs.private.Blockettes.{AreBlockettes}
 use Rattle.mseed_record.proofs.Whole.{Visits}
 use Rattle.mseed_record.proofs.chain.blockettes_of.Given as goal
 

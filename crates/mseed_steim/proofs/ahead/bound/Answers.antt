@@ -1,6 +1,6 @@
 use Rattle.std.proofs.Common.{◌≡◌, ◌<◌, ◌≤◌, ◌+◌, ◌-◌, ◌*◌, ◌∙◌, ℕ, arith, length, get_or, subst, sym, ⊎_elim}
 use Rattle.std.proofs.lemmas.Bool.{cases_lt}
-use Rattle.mseed_steim.specs.Ahead.{IsMost}
+use Rattle.mseed_steim.specs.private.Ahead.{IsMost}
 use Rattle.mseed_steim.proofs.Sizes.{put_below, put_at, put_above, put_length, most_later}
 use Rattle.mseed_steim.proofs.ahead.bound.Goals as goal
 

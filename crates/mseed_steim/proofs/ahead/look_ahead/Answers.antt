@@ -1,6 +1,6 @@
 use Rattle.std.proofs.Common.{◌≡◌, ◌∙◌, ◌<◌, ◌≤◌, ℕ, get_or, drop, ap, sym, subst, arith, pos, ⊎_elim}
 use Rattle.std.proofs.lemmas.Bool.{cases_lt}
-use Rattle.mseed_steim.specs.Ahead.{IsAhead, most_with}
+use Rattle.mseed_steim.specs.private.Ahead.{IsAhead, most_with}
 use Rattle.mseed_steim.proofs.Held.{is_ahead, near_small}
 use Rattle.mseed_steim.proofs.ahead.look_ahead.Goals as goal
 

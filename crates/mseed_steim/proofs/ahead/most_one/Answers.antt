@@ -1,7 +1,7 @@
 use Rattle.std.proofs.Common.{◌≡◌, ◌<◌, ℕ, arith, map, subst, sym, List}
 use Rattle.std.proofs.lemmas.Simd.{splat_is_map}
 use lib.Lanes.{Each1}
-use Rattle.mseed_steim.specs.Ahead.{most_one}
+use Rattle.mseed_steim.specs.private.Ahead.{most_one}
 use Rattle.mseed_steim.proofs.Sizes.{two_1, one_2, one_3, each_map}
 use Rattle.mseed_steim.proofs.ahead.most_one.Goals as goal
 

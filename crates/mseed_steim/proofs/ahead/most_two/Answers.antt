@@ -1,7 +1,7 @@
 use Rattle.std.proofs.Common.{◌≡◌, ◌<◌, ℕ, arith, map, subst, sym, List}
 use Rattle.std.proofs.lemmas.Simd.{splat_is_map}
 use lib.Lanes.{Each1}
-use Rattle.mseed_steim.specs.Ahead.{most_two}
+use Rattle.mseed_steim.specs.private.Ahead.{most_two}
 use Rattle.mseed_steim.proofs.Sizes.{two_1, two_2, two_3, two_4, two_5, two_6, each_map}
 use Rattle.mseed_steim.proofs.ahead.most_two.Goals as goal
 

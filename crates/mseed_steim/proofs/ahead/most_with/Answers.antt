@@ -1,7 +1,7 @@
 use Rattle.std.proofs.Common.{◌≡◌, ◌<◌, arith, map}
 use Rattle.std.proofs.lemmas.Simd.{Each1-weaker}
 use lib.Lanes.{Each1}
-use Rattle.mseed_steim.specs.Ahead.{most_with}
+use Rattle.mseed_steim.specs.private.Ahead.{most_with}
 use Rattle.mseed_steim.proofs.Sizes.{same_lanes}
 use Rattle.mseed_steim.proofs.ahead.most_with.Goals.{in-One, in-Two}
 use Rattle.mseed_steim.proofs.ahead.most_with.Goals as goal

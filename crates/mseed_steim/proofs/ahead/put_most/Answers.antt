@@ -1,6 +1,6 @@
 use Rattle.std.proofs.Common.{◌≡◌, ◌<◌, ◌≤◌, ◌+◌, ◌*◌, ◌∙◌, arith, length, ⊎_elim}
 use Rattle.std.proofs.lemmas.Bool.{cases_lt}
-use Rattle.mseed_steim.specs.Ahead.{most_with}
+use Rattle.mseed_steim.specs.private.Ahead.{most_with}
 use Rattle.mseed_steim.proofs.Sizes.{put_length, put_below, put_at, near_part, length_part, mapped_part, length_lanes}
 use Rattle.mseed_steim.proofs.ahead.put_most.Goals as goal
 

@@ -1,5 +1,5 @@
 use Rattle.std.proofs.Common.{◌≡◌, ◌<◌, ◌*◌, ℕ, get_or, length}
-use Rattle.mseed_steim.specs.Ahead.{most_with}
+use Rattle.mseed_steim.specs.private.Ahead.{most_with}
 use Rattle.mseed_steim.proofs.ahead.put_most.Given as goal
 
 abbrev pub invariant-loop-turn : goal.invariant-loop-turn

@@ -1,5 +1,5 @@
 use Rattle.std.proofs.Common.{◌≡◌, ◌<◌, ℕ, get_or, pos}
-use Rattle.mseed_steim.specs.Ahead.{near_size}
+use Rattle.mseed_steim.specs.private.Ahead.{near_size}
 use Rattle.mseed_steim.proofs.ahead.put_sizes.Given as goal
 
 abbrev pub invariant-loop-index : goal.invariant-loop-index

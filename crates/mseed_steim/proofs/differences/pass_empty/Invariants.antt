@@ -1,7 +1,7 @@
 use Rattle.std.proofs.Common.{◌≡◌, ◌≤◌, length}
 use Rattle.mseed_steim.specs.declared.scheme.Scheme.{Scheme}
 use Rattle.mseed_steim.specs.ByteRuns.{past_empty}
-use Rattle.mseed_steim.specs.Items.{items_of}
+use Rattle.mseed_steim.specs.private.Items.{items_of}
 use Rattle.mseed_steim.proofs.differences.pass_empty.Given as goal
 
 abbrev pub invariant-empty : goal.invariant-empty

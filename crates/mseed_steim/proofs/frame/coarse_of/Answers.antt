@@ -1,4 +1,4 @@
-use Rattle.mseed_steim.specs.Lanes.{words, coarse_two}
+use Rattle.mseed_steim.specs.private.Lanes.{words, coarse_two}
 use Rattle.mseed_steim.proofs.LaneSums.{two_sums}
 use Rattle.mseed_steim.proofs.frame.coarse_of.Goals as goal
 

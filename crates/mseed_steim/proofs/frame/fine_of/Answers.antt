@@ -1,4 +1,4 @@
-use Rattle.mseed_steim.specs.Lanes.{words, fine_two}
+use Rattle.mseed_steim.specs.private.Lanes.{words, fine_two}
 use Rattle.mseed_steim.proofs.LaneSums.{two_sums, more_sums}
 use Rattle.mseed_steim.proofs.frame.fine_of.Goals as goal
 

@@ -1,6 +1,6 @@
 use Rattle.std.proofs.Common.{to_z, of_z, w32, refl, ◌∙◌, ap, ◌%◌, ◌<◌, ℕ, subst}
 use Rattle.std.proofs.lemmas.Int.{of_z-to_z}
-use Rattle.mseed_steim.specs.Lanes.{counts_one, row_at, byte_at, flipped, flipped_low, least_one}
+use Rattle.mseed_steim.specs.private.Lanes.{counts_one, row_at, byte_at, flipped, flipped_low, least_one}
 use Rattle.mseed_steim.proofs.FrameNear.{frame_near_one}
 use Rattle.mseed_steim.proofs.LaneSums.{counted_one}
 use Rattle.mseed_steim.proofs.FrameOne.{lanes_come_one, frame_sum_one}

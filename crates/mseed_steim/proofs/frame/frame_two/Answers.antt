@@ -1,6 +1,6 @@
 use Rattle.std.proofs.Common.{refl, ◌∙◌, ap, ◌%◌, ◌<◌, ℕ, subst}
-use Rattle.mseed_steim.specs.Lanes.{counts_two, row_at, byte_at, turned_a, turned_b, turned_c, turned_d, least_two,
-    least_coarse_two}
+use Rattle.mseed_steim.specs.private.Lanes.{counts_two, row_at, byte_at, turned_a, turned_b, turned_c, turned_d,
+    least_two, least_coarse_two}
 use Rattle.mseed_steim.proofs.FrameNear.{frame_near_two}
 use Rattle.mseed_steim.proofs.LaneSums.{counted}
 use Rattle.mseed_steim.proofs.FrameSums.{lanes_come, frame_sum}

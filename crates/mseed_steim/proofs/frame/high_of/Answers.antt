@@ -1,4 +1,4 @@
-use Rattle.mseed_steim.specs.Lanes.{words, high_one}
+use Rattle.mseed_steim.specs.private.Lanes.{words, high_one}
 use Rattle.mseed_steim.proofs.LaneSums.{two_sums}
 use Rattle.mseed_steim.proofs.frame.high_of.Goals as goal
 

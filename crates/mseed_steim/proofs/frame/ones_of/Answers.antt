@@ -1,4 +1,4 @@
-use Rattle.mseed_steim.specs.Lanes.{words, ones_two}
+use Rattle.mseed_steim.specs.private.Lanes.{words, ones_two}
 use Rattle.mseed_steim.proofs.LaneSums.{two_sums, more_sums}
 use Rattle.mseed_steim.proofs.frame.ones_of.Goals as goal
 

@@ -2,7 +2,7 @@ use Rattle.std.proofs.Common.{◌∙◌, ap, refl, length, arith, get_or, ◌<�
 use Rattle.std.proofs.lemmas.Simd.{dot4_Fits, length-zip2, Each1-replicate, splat_is_map}
 use Rattle.std.specs.Int.Bits.{bit_and}
 use lib.ListN.{replicate}
-use Rattle.mseed_steim.specs.Lanes.{words}
+use Rattle.mseed_steim.specs.private.Lanes.{words}
 use Rattle.mseed_steim.proofs.LaneTables.{all_of_each, more_below, and_fits, length_of_table}
 use Rattle.mseed_steim.proofs.LaneSums.{kept_words, weighed_words, long_words}
 use Rattle.mseed_steim.proofs.lanes.part_by.Goals as goal

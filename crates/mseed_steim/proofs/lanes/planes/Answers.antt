@@ -1,5 +1,5 @@
 use Rattle.std.proofs.Common.{refl, arith}
-use Rattle.mseed_steim.specs.Lanes.{words}
+use Rattle.mseed_steim.specs.private.Lanes.{words}
 use Rattle.mseed_steim.proofs.LaneSums.{spelled}
 use Rattle.mseed_steim.proofs.lanes.planes.Goals as goal
 

@@ -1,5 +1,5 @@
 use Rattle.std.proofs.Common.{ℕ, arith, get_or, inl, inr, ◌<◌}
-use Rattle.mseed_steim.specs.Lanes.{words}
+use Rattle.mseed_steim.specs.private.Lanes.{words}
 use Rattle.mseed_steim.proofs.LaneSums.{spelled}
 use Rattle.mseed_steim.proofs.FrameRows.{rows_later, rows_first}
 use Rattle.mseed_steim.proofs.lanes.rows_of.Goals as goal

@@ -1,6 +1,6 @@
 use Rattle.std.proofs.Common.{◌∙◌, ap}
 use lib.Lanes.{sum_l}
-use Rattle.mseed_steim.specs.Lanes.{words}
+use Rattle.mseed_steim.specs.private.Lanes.{words}
 use Rattle.mseed_steim.proofs.LaneSums.{table_words}
 use Rattle.mseed_steim.proofs.lanes.tally.Goals as goal
 

@@ -1,4 +1,4 @@
-use Rattle.mseed_steim.specs.Lanes.{words}
+use Rattle.mseed_steim.specs.private.Lanes.{words}
 use Rattle.mseed_steim.proofs.LaneSums.{turn_words}
 use Rattle.mseed_steim.proofs.lanes.turn.Goals as goal
 

@@ -2,7 +2,7 @@ use Rattle.std.proofs.Common.{◌≡◌, ◌+◌, ◌*◌, ◌%◌, ◌^◌, ari
 use Rattle.std.proofs.lemmas.List.{length-take-le}
 use Rattle.mseed_steim.specs.declared.row.Row.{Row}
 use Rattle.mseed_steim.specs.Spelling.{positional}
-use Rattle.mseed_steim.specs.Rows.{IsBestRow}
+use Rattle.mseed_steim.specs.private.Rows.{IsBestRow}
 use Rattle.mseed_steim.proofs.Rows.{row_is}
 use Rattle.mseed_steim.proofs.Packs.{is_fullest}
 use Rattle.mseed_steim.proofs.Joins.{dnib_joined}

@@ -2,7 +2,7 @@ use Rattle.std.proofs.Common.{◌<◌, ℕ, ℤ, List, drop, arith, subst, lengt
 use Rattle.std.proofs.lemmas.List.{take_rest, drop_all, length-drop}
 use Rattle.mseed_steim.specs.declared.scheme.Scheme.TheVariants.{Two}
 use Rattle.mseed_steim.specs.Packing.{IsFewest, IsFirstTooLarge, PacksRun}
-use Rattle.mseed_steim.specs.Rows.{IsBestRow}
+use Rattle.mseed_steim.specs.private.Rows.{IsBestRow}
 use Rattle.mseed_steim.proofs.Packs.{least_more, first_large, none_large, refused_least, taken_not_large}
 use Rattle.mseed_steim.proofs.Rows.{row_is}
 use Rattle.mseed_steim.proofs.Fewest.{is_fewest}

@@ -1,5 +1,5 @@
 use Rattle.std.proofs.Common.{◌≡◌, ◌≤◌, ◌+◌, ◌-◌, ◌*◌, ◌%◌}
-use Rattle.mseed_steim.specs.Ahead.{Tells}
+use Rattle.mseed_steim.specs.private.Ahead.{Tells}
 use Rattle.mseed_steim.proofs.Coding.{Coding}
 use Rattle.mseed_steim.proofs.pack.pack_words.Given as goal
 

@@ -1,8 +1,8 @@
 use Rattle.std.proofs.Common.{◌≡◌, ◌<◌, ◌+◌, ◌-◌, ◌++◌, map, take, length, List, ℤ, Ok, arith, ◌∙◌, ap, sym, rules, w32,
     FitsSigned}
 use Rattle.std.proofs.lemmas.Int.{to_z-of_z}
-use Rattle.mseed_steim.specs.Digits.{digits, digit_at}
-use Rattle.mseed_steim.specs.Sums.{met_in}
+use Rattle.mseed_steim.specs.private.Digits.{digits, digit_at}
+use Rattle.mseed_steim.specs.private.Sums.{met_in}
 use Rattle.mseed_steim.proofs.Shifts.{room_at}
 use Rattle.mseed_steim.proofs.Spelled.{digits_step, digits_over}
 use Rattle.mseed_steim.proofs.Folds.{fold_enough}

@@ -1,7 +1,7 @@
 use Rattle.std.proofs.Common.{◌≡◌, ◌-◌, ◌≤◌, ◌++◌, map, take, length, List, ℤ, Result, Ok}
 use Rattle.mseed_steim.specs.declared.differences.BadWordAt.{BadWordAt}
-use Rattle.mseed_steim.specs.Digits.{digits}
-use Rattle.mseed_steim.specs.Sums.{fold, met_in}
+use Rattle.mseed_steim.specs.private.Digits.{digits}
+use Rattle.mseed_steim.specs.private.Sums.{fold, met_in}
 use Rattle.mseed_steim.proofs.put.put_each.Given as goal
 
 abbrev pub invariant-loop-i : goal.invariant-loop-i

@@ -1,9 +1,9 @@
 use Rattle.std.proofs.Common.{◌≡◌, ◌≢◌, ◌%◌, ◌∷◌, ◌++◌, ◌∙◌, List, take, ap, sym, refl, inr, arith, w32, FitsSigned}
 use Rattle.std.proofs.lemmas.Int.{to_z-of_z}
 use Rattle.mseed_steim.specs.Frames.{DataWord, data_word, words_from}
-use Rattle.mseed_steim.specs.Items.{items_of}
-use Rattle.mseed_steim.specs.Reads.{as_data}
-use Rattle.mseed_steim.specs.Sums.{fold, met_in}
+use Rattle.mseed_steim.specs.private.Items.{items_of}
+use Rattle.mseed_steim.specs.private.Reads.{as_data}
+use Rattle.mseed_steim.specs.private.Sums.{fold, met_in}
 use Rattle.mseed_steim.proofs.Walking.{words_step}
 use Rattle.mseed_steim.proofs.Folds.{goes_from, keeps_from}
 use Rattle.mseed_steim.proofs.put.put_first_frame.Goals.{In-Ok}

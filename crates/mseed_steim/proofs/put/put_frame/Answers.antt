@@ -1,7 +1,7 @@
 use Rattle.std.proofs.Common.{◌≡◌, ◌+◌, ◌-◌, ◌*◌, ◌++◌, ◌∙◌, List, take, ap, sym, refl, inl, arith}
 use Rattle.mseed_steim.specs.Frames.{DataWord, words_from}
-use Rattle.mseed_steim.specs.Items.{items_of}
-use Rattle.mseed_steim.specs.Sums.{fold, met_in}
+use Rattle.mseed_steim.specs.private.Items.{items_of}
+use Rattle.mseed_steim.specs.private.Sums.{fold, met_in}
 use Rattle.mseed_steim.proofs.Walking.{words_skip}
 use Rattle.mseed_steim.proofs.put.put_frame.Goals.{In-Some}
 use Rattle.mseed_steim.proofs.put.put_frame.Goals as goal

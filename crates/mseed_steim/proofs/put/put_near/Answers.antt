@@ -2,7 +2,7 @@ use Rattle.std.proofs.Common.{◌≡◌, ◌+◌, ◌-◌, ◌*◌, ◌≤◌, �
     sym, arith}
 use Rattle.std.proofs.lemmas.Simd.{length-chunk}
 use Rattle.mseed_steim.specs.declared.differences.BadWordAt.{BadWordAt}
-use Rattle.mseed_steim.specs.Sums.{fold, met_in}
+use Rattle.mseed_steim.specs.private.Sums.{fold, met_in}
 use Rattle.mseed_steim.proofs.Turns.{items_cut, span_cut}
 use Rattle.mseed_steim.proofs.put.put_near.Goals as goal
 

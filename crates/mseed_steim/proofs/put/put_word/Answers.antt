@@ -1,10 +1,10 @@
 use Rattle.std.proofs.Common.{◌≡◌, ◌∷◌, ◌++◌, ◌∙◌, subst, refl, sym, ap, take, List, ℤ, Result, arith}
 use Rattle.mseed_steim.specs.declared.differences.BadWordAt.{BadWordAt}
-use Rattle.mseed_steim.specs.Digits.{digits}
-use Rattle.mseed_steim.specs.Items.{items_of}
-use Rattle.mseed_steim.specs.Reads.{as_data}
+use Rattle.mseed_steim.specs.private.Digits.{digits}
+use Rattle.mseed_steim.specs.private.Items.{items_of}
+use Rattle.mseed_steim.specs.private.Reads.{as_data}
 use Rattle.mseed_steim.specs.Runs.{place_of}
-use Rattle.mseed_steim.specs.Sums.{GoesOn, Keeps, fold}
+use Rattle.mseed_steim.specs.private.Sums.{GoesOn, Keeps, fold}
 use Rattle.mseed_steim.proofs.Walking.{items_group, items_bad}
 use Rattle.mseed_steim.proofs.Folds.{fold_enough, fold_bad}
 use Rattle.mseed_steim.proofs.Folded.{met_enough}

@@ -2,7 +2,7 @@ use Rattle.std.proofs.Common.{◌<◌, ◌+◌, ◌++◌, ◌∙◌, List, ℤ, 
     sym, rules, w32, FitsSigned}
 use Rattle.std.proofs.lemmas.Int.{to_z-of_z}
 use Rattle.mseed_steim.specs.declared.differences.BadWordAt.{BadWordAt}
-use Rattle.mseed_steim.specs.Sums.{fold, met_in}
+use Rattle.mseed_steim.specs.private.Sums.{fold, met_in}
 use Rattle.mseed_steim.proofs.Folds.{fold_enough}
 use Rattle.mseed_steim.proofs.Folded.{met_enough, drop_step, take_put}
 use Rattle.mseed_steim.proofs.reference.put_all.Goals as goal

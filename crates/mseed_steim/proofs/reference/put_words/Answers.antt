@@ -1,11 +1,11 @@
 use Rattle.std.proofs.Common.{◌≡◌, ◌++◌, ◌∙◌, Some, [], List, ℤ, Result, take, arith, ap, sym, rules}
 use Rattle.std.proofs.lemmas.Int.{to_z-of_z}
 use Rattle.mseed_steim.specs.declared.differences.BadWordAt.{BadWordAt}
-use Rattle.mseed_steim.specs.Digits.{differences_of}
-use Rattle.mseed_steim.specs.Items.{items_of}
-use Rattle.mseed_steim.specs.Reads.{as_data}
+use Rattle.mseed_steim.specs.private.Digits.{differences_of}
+use Rattle.mseed_steim.specs.private.Items.{items_of}
+use Rattle.mseed_steim.specs.private.Reads.{as_data}
 use Rattle.mseed_steim.specs.Runs.{place_of}
-use Rattle.mseed_steim.specs.Sums.{fold, met_in}
+use Rattle.mseed_steim.specs.private.Sums.{fold, met_in}
 use Rattle.mseed_steim.proofs.Walking.{items_group, items_bad, no_items}
 use Rattle.mseed_steim.proofs.Folds.{fold_enough, fold_short, fold_bad}
 use Rattle.mseed_steim.proofs.Folded.{all_kept}

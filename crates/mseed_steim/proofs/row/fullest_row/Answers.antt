@@ -1,6 +1,6 @@
 use Rattle.std.proofs.Common.{sym, arith, length, subst, Option}
 use Rattle.mseed_steim.specs.declared.row.Row.{Row}
-use Rattle.mseed_steim.specs.Rows.{IsBestRow}
+use Rattle.mseed_steim.specs.private.Rows.{IsBestRow}
 use Rattle.mseed_steim.proofs.Fullest.{best_all}
 use Rattle.mseed_steim.proofs.row.fullest_row.Goals.{then-diffs-lt-MOST, else-diffs-lt-MOST+in-One,
     else-diffs-lt-MOST+in-Two}

@@ -1,6 +1,6 @@
 use Rattle.std.proofs.Common.{◌≡◌, ◌<◌, ◌+◌, arith, length, subst, get_or, pos, rules, w32, FitsSigned}
 use Rattle.std.proofs.lemmas.Int.{to_z-of_z}
-use Rattle.mseed_steim.specs.Rows.{row_for, IsBestRow}
+use Rattle.mseed_steim.specs.private.Rows.{row_for, IsBestRow}
 use Rattle.mseed_steim.proofs.Fullest.{Sized, sized_none, sized_more, first_fits, best_none, best_more, best_same}
 use Rattle.mseed_steim.proofs.Widths.{fits_within}
 use Rattle.mseed_steim.proofs.row.most_held.Goals.{then-size-size_limit, else-size-size_limit}

@@ -1,4 +1,4 @@
-use Rattle.mseed_steim.specs.Rows.{row_for, IsBestRow}
+use Rattle.mseed_steim.specs.private.Rows.{row_for, IsBestRow}
 use Rattle.mseed_steim.proofs.Fullest.{Sized}
 use Rattle.mseed_steim.proofs.row.most_held.Given as goal
 

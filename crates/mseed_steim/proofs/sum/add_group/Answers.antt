@@ -1,6 +1,6 @@
 use Rattle.std.proofs.Common.{◌≡◌, ◌+◌, ◌-◌, ◌++◌, map, Ok, ◌∙◌, sym, rules, w32, FitsSigned}
 use Rattle.std.proofs.lemmas.Int.{to_z-of_z}
-use Rattle.mseed_steim.specs.Digits.{digits, digit_at}
+use Rattle.mseed_steim.specs.private.Digits.{digits, digit_at}
 use Rattle.mseed_steim.proofs.Shifts.{room_at}
 use Rattle.mseed_steim.proofs.Spelled.{digits_step, digits_over}
 use Rattle.mseed_steim.proofs.Folds.{fold_enough}

@@ -1,7 +1,7 @@
 use Rattle.std.proofs.Common.{◌-◌, ◌^◌, ◌∙◌, ap, rules, w32, to_z, of_z, ℤ, FitsSigned}
 use Rattle.std.specs.Int.Signed.{shr_z}
 use Rattle.std.proofs.lemmas.Int.{to_z-of_z}
-use Rattle.mseed_steim.specs.Digits.{digit_at}
+use Rattle.mseed_steim.specs.private.Digits.{digit_at}
 use Rattle.mseed_steim.proofs.Shifts.{shifted, digit_fits, narrow}
 use Rattle.mseed_steim.proofs.unpack.digit_by.Goals as goal
 

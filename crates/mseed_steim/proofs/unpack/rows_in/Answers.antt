@@ -1,5 +1,5 @@
 use Rattle.std.proofs.Common.{ℕ, ◌∙◌, ap, ◌%◌}
-use Rattle.mseed_steim.specs.Lanes.{counts_one, counts_two, row_at}
+use Rattle.mseed_steim.specs.private.Lanes.{counts_one, counts_two, row_at}
 use Rattle.mseed_steim.proofs.LaneDigits.{at_word, each_small}
 use Rattle.mseed_steim.proofs.LaneSums.{counted, counted_one}
 use Rattle.mseed_steim.proofs.unpack.rows_in.Goals.{in-One, in-Two}

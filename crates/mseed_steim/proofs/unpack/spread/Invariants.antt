@@ -1,7 +1,7 @@
 use Rattle.std.proofs.Common.{◌≡◌, ℕ, ◌+◌, ◌-◌, ◌++◌, take, length}
 use Rattle.std.specs.Prelude.{min}
-use Rattle.mseed_steim.specs.Digits.{digits}
-use Rattle.mseed_steim.specs.Unpacked.{Unpacks}
+use Rattle.mseed_steim.specs.private.Digits.{digits}
+use Rattle.mseed_steim.specs.private.Unpacked.{Unpacks}
 use Rattle.mseed_steim.proofs.unpack.spread.Given as goal
 
 abbrev pub invariant-loop-lane : goal.invariant-loop-lane

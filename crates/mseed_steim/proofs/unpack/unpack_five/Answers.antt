@@ -1,8 +1,8 @@
 use Rattle.std.proofs.Common.{◌≡◌, ◌<◌, ◌≤◌, ◌+◌, ◌++◌, ◌∙◌, ℕ, List, ℤ, take, get_or, ap, sym, refl, arith, append-nil,
     append_assoc}
-use Rattle.mseed_steim.specs.Digits.{digits}
-use Rattle.mseed_steim.specs.Lanes.{row_at, word_at}
-use Rattle.mseed_steim.specs.Unpacked.{lanes_of, differences_at, unpacked, widths_of}
+use Rattle.mseed_steim.specs.private.Digits.{digits}
+use Rattle.mseed_steim.specs.private.Lanes.{row_at, word_at}
+use Rattle.mseed_steim.specs.private.Unpacked.{lanes_of, differences_at, unpacked, widths_of}
 use Rattle.mseed_steim.proofs.FrameUnpacked.{by_own_count, lanes_few, unpacked_more, word_in}
 use Rattle.mseed_steim.proofs.unpack.unpack_five.Goals as goal
 

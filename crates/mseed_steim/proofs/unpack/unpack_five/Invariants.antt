@@ -1,6 +1,6 @@
 use Rattle.std.proofs.Common.{◌≡◌, ℕ, ◌+◌, ◌*◌, ◌<◌, ◌≤◌, ◌++◌, take, length, get_or}
-use Rattle.mseed_steim.specs.Lanes.{row_at}
-use Rattle.mseed_steim.specs.Unpacked.{AreNarrow, unpacked}
+use Rattle.mseed_steim.specs.private.Lanes.{row_at}
+use Rattle.mseed_steim.specs.private.Unpacked.{AreNarrow, unpacked}
 use Rattle.mseed_steim.proofs.unpack.unpack_five.Given as goal
 
 abbrev pub invariant-loop-index : goal.invariant-loop-index

@@ -1,5 +1,5 @@
 use Rattle.std.proofs.Common.{◌++◌, ◌∙◌, List, ℤ, ap}
-use Rattle.mseed_steim.specs.Unpacked.{unpacked}
+use Rattle.mseed_steim.specs.private.Unpacked.{unpacked}
 use Rattle.mseed_steim.proofs.FrameUnpacked.{unpacked_fives}
 use Rattle.mseed_steim.proofs.unpack.unpack_words.Goals as goal
 

@@ -1,6 +1,6 @@
 use Rattle.std.proofs.Common.{◌+◌, ◌<◌, ◌≤◌, ◌^◌, length, ◌+ℤ◌, nat_abs, arith, rules, w32, FitsSigned, ◌∙◌}
 use Rattle.std.proofs.lemmas.Int.{to_z-of_z, wrapping_add_is, int_wrap_fits}
-use Rattle.mseed_steim.specs.Lanes.{total, span}
+use Rattle.mseed_steim.specs.private.Lanes.{total, span}
 use Rattle.mseed_steim.proofs.Far.{fold_far, total_near, abs_sum, near_signed}
 use Rattle.mseed_steim.proofs.walk.add_at_once.Goals as goal
 

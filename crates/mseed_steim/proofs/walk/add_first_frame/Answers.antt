@@ -3,9 +3,9 @@ use Rattle.std.proofs.Common.{◌≡◌, ◌≢◌, ◌%◌, ◌∷◌, ◌++◌
 use Rattle.std.proofs.lemmas.Int.{to_z-of_z}
 use Rattle.mseed_steim.specs.declared.differences.BadWordAt.{BadWordAt}
 use Rattle.mseed_steim.specs.Frames.{DataWord, data_word, words_from}
-use Rattle.mseed_steim.specs.Items.{items_of}
-use Rattle.mseed_steim.specs.Reads.{as_data}
-use Rattle.mseed_steim.specs.Sums.{fold}
+use Rattle.mseed_steim.specs.private.Items.{items_of}
+use Rattle.mseed_steim.specs.private.Reads.{as_data}
+use Rattle.mseed_steim.specs.private.Sums.{fold}
 use Rattle.mseed_steim.proofs.Walking.{words_step}
 use Rattle.mseed_steim.proofs.Folds.{goes_from}
 use Rattle.mseed_steim.proofs.walk.add_first_frame.Goals.{In-Ok}

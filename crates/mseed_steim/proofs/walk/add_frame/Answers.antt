@@ -1,8 +1,8 @@
 use Rattle.std.proofs.Common.{◌≡◌, ◌+◌, ◌-◌, ◌*◌, ◌++◌, ◌∙◌, List, ℤ, Result, ap, refl, inl, arith}
 use Rattle.mseed_steim.specs.declared.differences.BadWordAt.{BadWordAt}
 use Rattle.mseed_steim.specs.Frames.{DataWord, words_from}
-use Rattle.mseed_steim.specs.Items.{items_of}
-use Rattle.mseed_steim.specs.Sums.{fold}
+use Rattle.mseed_steim.specs.private.Items.{items_of}
+use Rattle.mseed_steim.specs.private.Sums.{fold}
 use Rattle.mseed_steim.proofs.Walking.{words_skip}
 use Rattle.mseed_steim.proofs.walk.add_frame.Goals as goal
 

@@ -1,8 +1,8 @@
 use Rattle.std.proofs.Common.{◌≡◌, ◌+◌, ◌-◌, ◌*◌, ◌/◌, ◌<◌, ◌++◌, ◌∙◌, List, length, ap, sym, arith, w32, FitsSigned}
 use Rattle.std.proofs.lemmas.Int.{to_z-of_z}
 use Rattle.mseed_steim.specs.Frames.{DataWord, data_words, words_from, word_count}
-use Rattle.mseed_steim.specs.Items.{items_of}
-use Rattle.mseed_steim.specs.Sums.{fold}
+use Rattle.mseed_steim.specs.private.Items.{items_of}
+use Rattle.mseed_steim.specs.private.Sums.{fold}
 use Rattle.mseed_steim.proofs.Walking.{words_cut, words_none, no_items, frame_at}
 use Rattle.mseed_steim.proofs.Folds.{fold_enough, fold_short}
 use Rattle.mseed_steim.proofs.walk.add_frames.Goals.{Start, Else-sum-samples}

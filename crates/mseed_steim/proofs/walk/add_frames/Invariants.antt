@@ -1,7 +1,7 @@
 use Rattle.std.proofs.Common.{◌≡◌, ◌≤◌, ◌-◌, ◌*◌}
 use Rattle.mseed_steim.specs.Frames.{data_words, words_from, word_count}
-use Rattle.mseed_steim.specs.Items.{items_of}
-use Rattle.mseed_steim.specs.Sums.{fold}
+use Rattle.mseed_steim.specs.private.Items.{items_of}
+use Rattle.mseed_steim.specs.private.Sums.{fold}
 use Rattle.mseed_steim.proofs.walk.add_frames.Given as goal
 
 abbrev pub invariant-loop-index : goal.invariant-loop-index

@@ -1,10 +1,10 @@
 use Rattle.std.proofs.Common.{◌≤◌, ◌<◌, ◌+◌, ◌∙◌, [], List, ℤ, Result, arith, ap, sym, length}
 use Rattle.mseed_steim.specs.declared.differences.BadWordAt.{BadWordAt}
-use Rattle.mseed_steim.specs.Digits.{digits}
-use Rattle.mseed_steim.specs.Items.{items_of}
-use Rattle.mseed_steim.specs.Reads.{as_data}
+use Rattle.mseed_steim.specs.private.Digits.{digits}
+use Rattle.mseed_steim.specs.private.Items.{items_of}
+use Rattle.mseed_steim.specs.private.Reads.{as_data}
 use Rattle.mseed_steim.specs.Runs.{place_of}
-use Rattle.mseed_steim.specs.Sums.{lack}
+use Rattle.mseed_steim.specs.private.Sums.{lack}
 use Rattle.mseed_steim.proofs.Spelled.{length-digits}
 use Rattle.mseed_steim.proofs.Walking.{items_group, items_bad, no_items}
 use Rattle.mseed_steim.proofs.Folded.{lack_group, lack_none, lack_bad, lack_short}

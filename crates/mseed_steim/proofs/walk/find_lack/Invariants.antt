@@ -1,7 +1,7 @@
 use Rattle.std.proofs.Common.{◌≡◌, ◌<◌}
 use Rattle.mseed_steim.specs.Frames.{data_words}
-use Rattle.mseed_steim.specs.Items.{items_of}
-use Rattle.mseed_steim.specs.Sums.{lack}
+use Rattle.mseed_steim.specs.private.Items.{items_of}
+use Rattle.mseed_steim.specs.private.Sums.{lack}
 use Rattle.mseed_steim.proofs.walk.find_lack.Given as goal
 
 abbrev pub invariant-loop-word : goal.invariant-loop-word

@@ -1,6 +1,6 @@
 use Rattle.std.proofs.Common.{◌≡◌, ◌-◌, rules, w32, FitsSigned, append_assoc, append-nil}
 use Rattle.std.proofs.lemmas.Int.{to_z-of_z}
-use Rattle.mseed_steim.specs.Digits.{digit_at}
+use Rattle.mseed_steim.specs.private.Digits.{digit_at}
 use Rattle.mseed_steim.proofs.Spelled.{digits_step, digits_over}
 use Rattle.mseed_steim.proofs.Shifts.{room_at}
 use Rattle.mseed_steim.proofs.word.differences_in.Goals as goal

@@ -1,5 +1,5 @@
 use Rattle.std.proofs.Common.{◌≡◌, ◌-◌, ◌++◌, length}
-use Rattle.mseed_steim.specs.Digits.{digits}
+use Rattle.mseed_steim.specs.private.Digits.{digits}
 use Rattle.mseed_steim.proofs.word.differences_in.Given as goal
 
 abbrev pub invariant-loop-i : goal.invariant-loop-i

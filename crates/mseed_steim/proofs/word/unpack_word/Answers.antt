@@ -1,5 +1,5 @@
 use Rattle.std.proofs.Common.{◌≡◌, ◌<◌, ◌^◌, arith, Some}
-use Rattle.mseed_steim.specs.Digits.{differences_of}
+use Rattle.mseed_steim.specs.private.Digits.{differences_of}
 use Rattle.mseed_steim.proofs.Spelled.{differences_spelled, spelled_differences}
 use Rattle.mseed_steim.proofs.word.unpack_word.Goals.{After-differences_in}
 use Rattle.mseed_steim.proofs.word.unpack_word.Goals as goal

@@ -1,6 +1,6 @@
 use Rattle.std.proofs.Common.{◌≡◌, ◌-◌, ℕ, arith, drop, subst, sym, refl}
 use Rattle.std.proofs.lemmas.List.{take_rest}
-use Rattle.mseed_steim.specs.Ahead.{IsAhead, Tells}
+use Rattle.mseed_steim.specs.private.Ahead.{IsAhead, Tells}
 use Rattle.mseed_steim.proofs.Held.{tells_at, tells_none, tells_again}
 use Rattle.mseed_steim.proofs.ahead.Ahead.look_again.Goals.{then-diffs-place-lt-AHEAD, else-diffs-place-lt-AHEAD}
 use Rattle.mseed_steim.proofs.ahead.Ahead.look_again.Goals as goal

@@ -1,5 +1,5 @@
 use Rattle.std.proofs.Common.{◌-◌, ℕ, arith, drop, subst, sym}
-use Rattle.mseed_steim.specs.Ahead.{IsAhead}
+use Rattle.mseed_steim.specs.private.Ahead.{IsAhead}
 use Rattle.mseed_steim.proofs.Held.{tells_at}
 use Rattle.mseed_steim.proofs.ahead.Ahead.most_at.Goals as goal
 

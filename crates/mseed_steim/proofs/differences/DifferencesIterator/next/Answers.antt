@@ -1,5 +1,5 @@
 use Rattle.std.proofs.Common.{◌≡◌, ap, sym}
-use Rattle.mseed_steim.specs.Items.{items_of}
+use Rattle.mseed_steim.specs.private.Items.{items_of}
 use Rattle.mseed_steim.specs.Left.{Left}
 use Rattle.mseed_steim.proofs.Unpacking.{stepped, progressed}
 use Rattle.mseed_steim.proofs.differences.DifferencesIterator.next.Goals.{In-None}

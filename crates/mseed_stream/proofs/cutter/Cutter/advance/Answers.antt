@@ -7,7 +7,7 @@ use Rattle.mseed_stream.specs.Device.{Heard}
 use Rattle.mseed_stream.specs.Standing.{Standing}
 use Rattle.mseed_stream.specs.Archive.{IsEndOf, clean}
 use Rattle.mseed_stream.specs.Cutting.{IsAlong, IsCutFault, told_from}
-use Rattle.mseed_stream.specs.Steps.{lent_of}
+use Rattle.mseed_stream.specs.private.Steps.{lent_of}
 use Rattle.mseed_stream.proofs.Handed.{records_after, archive_at}
 use Rattle.mseed_stream.proofs.Settled.{along_settled, clean_end, nothing_found, told_is, record_found, fault_found,
     fault_again, end_again}

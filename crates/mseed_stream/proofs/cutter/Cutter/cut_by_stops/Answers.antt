@@ -10,7 +10,7 @@ use Rattle.mseed_stream.specs.Archive.{is_frame}
 use Rattle.mseed_stream.specs.Device.{Heard}
 use Rattle.mseed_stream.specs.Standing.{Standing}
 use Rattle.mseed_stream.specs.Cutting.{IsStop, IsReadTo, is_short}
-use Rattle.mseed_stream.specs.Steps.{IsCut, IsCuttingFault}
+use Rattle.mseed_stream.specs.private.Steps.{IsCut, IsCuttingFault}
 use Rattle.mseed_stream.specs.declared.fault.StreamFault.{StreamFault}
 use Rattle.mseed_stream.proofs.Stops.{stop_grows, stop_next}
 use Rattle.mseed_stream.proofs.Filled.{held_grows, held_stays}

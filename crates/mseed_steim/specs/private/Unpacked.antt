@@ -4,8 +4,8 @@ use Rattle.std.specs.Prelude.{◌≡◌, ℕ, zero, suc, ◌+◌, ◌-◌, ◌*�
 use Rattle.mseed_steim.specs.declared.scheme.Scheme.{Scheme}
 use Rattle.mseed_steim.specs.declared.scheme.Scheme.TheVariants.{One, Two}
 use Rattle.mseed_steim.specs.declared.unpack.Unpacking.{Unpacking}
-use Rattle.mseed_steim.specs.Digits.{digits}
-use Rattle.mseed_steim.specs.Lanes.{row_at, word_at, counts_one, counts_two, widths_one, widths_two}
+use Rattle.mseed_steim.specs.private.Digits.{digits}
+use Rattle.mseed_steim.specs.private.Lanes.{row_at, word_at, counts_one, counts_two, widths_one, widths_two}
 
 -- how many differences a word of a row has, and of how many bits
 abbrev pub counts_of : Scheme → List ℕ

@@ -3,8 +3,8 @@ use Rattle.std.specs.Prelude.{◌≡◌, ◌<◌, ◌≤◌, ◌^◌, List, ◌+
 use Rattle.mseed_steim.specs.declared.scheme.Scheme.{Scheme}
 use Rattle.mseed_steim.specs.declared.frame.Moved.{Moved}
 use Rattle.mseed_steim.specs.Frames.{DataWord}
-use Rattle.mseed_steim.specs.Items.{items_of}
-use Rattle.mseed_steim.specs.Lanes.{total, span}
+use Rattle.mseed_steim.specs.private.Items.{items_of}
+use Rattle.mseed_steim.specs.private.Lanes.{total, span}
 
 -- the differences are as many as it counts, and their sum is its own; none of their sums is further from 0 than 2^20
 pub record Moves (moved : Moved) (ds : List ℤ) : Type 0 where

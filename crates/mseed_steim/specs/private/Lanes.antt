@@ -1,7 +1,7 @@
 -- The sixteen words of a frame, as they stand in lanes: what a word adds by its row, and by which parts of its bytes.
 use Rattle.std.specs.Prelude.{◌≡◌, ◌⊎◌, ℕ, ℤ, pos, ◌+ℤ◌, ◌+◌, ◌-◌, ◌*◌, ◌/◌, ◌%◌, ◌^◌, nat_lt, if◌then◌else◌, nat_abs,
     List, [], ◌∷◌, slice_index, bit_and, bit_xor}
-use Rattle.mseed_steim.specs.Digits.{digits}
+use Rattle.mseed_steim.specs.private.Digits.{digits}
 
 -- the word of four bytes
 abbrev pub word_of : ℕ → ℕ → ℕ → ℕ → ℕ

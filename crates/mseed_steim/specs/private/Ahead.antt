@@ -4,7 +4,7 @@ use Rattle.std.specs.Prelude.{◌≡◌, ◌↔◌, ℕ, ◌+◌, ◌-◌, ◌*�
 use Rattle.mseed_steim.specs.declared.row.Row.{Row}
 use Rattle.mseed_steim.specs.declared.layout.Layout.{Layout}
 use Rattle.mseed_steim.specs.declared.ahead.Ahead.{Ahead}
-use Rattle.mseed_steim.specs.Rows.{row_for, IsBestRow, ArePlaces}
+use Rattle.mseed_steim.specs.private.Rows.{row_for, IsBestRow, ArePlaces}
 use Rattle.mseed_steim.specs.declared.scheme.Scheme.{Scheme}
 use Rattle.mseed_steim.specs.declared.scheme.Scheme.TheVariants.{One, Two}
 
