@@ -1,6 +1,6 @@
 -- Where a record is there, the framing steps answer it.
-use Rattle.std.proofs.Common.{◌≡◌, ℕ, ◌+◌, ◌^◌, ◌<◌, ◌≤◌, List, [], ◌∷◌, length, take, Option, Some, None, sym, ap,
-    subst, arith, true, ◌∙◌}
+use Rattle.std.proofs.Common.{◌≡◌, ℕ, ◌+◌, ◌^◌, ◌<◌, ◌≤◌, List, [], ◌∷◌, length, take, Option, Some, None, sym, ap}
+use Rattle.std.proofs.Common.{subst, arith, true, ◌∙◌}
 use Rattle.std.proofs.lemmas.Bool.{false≢true}
 use Rattle.std.proofs.lemmas.Bool.Decides.{nat_tests}
 use Rattle.std.proofs.lemmas.List.{get_or-take, length-take-le}
@@ -11,8 +11,8 @@ use Rattle.mseed_record.specs.Header.{has_fixed_bytes, blockette_at}
 use Rattle.mseed_record.specs.Order.{order_of}
 use Rattle.mseed_record.specs.Chain.{type_at, next_at, Passes}
 use Rattle.mseed_record.specs.Record.{exponent_at, IsRecordBy, IsRecord}
-use Rattle.mseed_record.specs.Scan.{is_version3, at_offset, DecidesFrom, Decides, version3, short, no_data, no_order,
-    by_chain}
+use Rattle.mseed_record.specs.Scan.{is_version3, at_offset, DecidesFrom, Decides, version3, short, no_data, no_order}
+use Rattle.mseed_record.specs.Scan.{by_chain}
 use Rattle.mseed_record.proofs.Framed.{Stands, number_front, fixed_front, order_front, passes_above}
 
 pub none_at : (order : Order) (front : List ℕ) (low o : ℕ) → low ≤ o → 0 < low → o + 4 ≤ length front
@@ -21,8 +21,16 @@ none_at order front low o h z l t = grind (arith, nat_tests, t)
 
 some_at : (order : Order) (front : List ℕ) (low o k : ℕ) → low ≤ o → 0 < low → Stands order front o k
     → at_offset order front low o ≡ Some (Record k)
-some_at order front low o k h z s = grind (arith, nat_tests, s.type, s.exponent_low, s.exponent_high, s.inside,
-    s.whole, s.size)
+some_at order front low o k h z s = grind (
+  arith,
+  nat_tests,
+  s.type,
+  s.exponent_low,
+  s.exponent_high,
+  s.inside,
+  s.whole,
+  s.size,
+)
 
 -- the steps along the chain of the first k bytes
 decided : (order : Order) (front : List ℕ) (k low o : ℕ) (os : List ℕ) (last : ℕ) → low ≤ o → 0 < low → last + 8 ≤ k
@@ -83,7 +91,7 @@ there order front k os last l r =
       size = size_front;
     } in
     let steps = decided order front k 48 (blockette_at order b) os last r.chain.low (omega arith) inside l
-        r.chain.others stands in
+    r.chain.others stands in
     record {
       stands = stands;
       long = long;
@@ -106,7 +114,7 @@ answer_there order front k os last _ l t (no_order v s f o) = absurd (cc (o, t.o
 answer_there order front k os last a l t (by_chain other ps answer v s f o d) =
     let same = one_order (order_of front) other order o t.order_is in
     one_from order front 48 (blockette_at order front) ps os answer (Record k)
-        (subst (λ (x : Order). DecidesFrom x front 48 (blockette_at x front) ps answer) same d) t.decides
+    (subst (λ (x : Order). DecidesFrom x front 48 (blockette_at x front) ps answer) same d) t.decides
 
 -- the steps answer k where the first k bytes are a record
 pub answered : (front : List ℕ) (k : ℕ) (a : Scan) → Decides front a → k ≤ length front → IsRecord (take k front)

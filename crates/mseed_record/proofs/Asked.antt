@@ -1,6 +1,6 @@
 -- What the framing steps ask for: no more than a record has that may come, and no more than the longest has.
-use Rattle.std.proofs.Common.{◌≡◌, ◌≢◌, ℕ, suc, ◌+◌, ◌^◌, ◌<◌, ◌≤◌, ◌++◌, List, [], ◌∷◌, length, take, get_or, Some,
-    sym, ap, subst, ◌∙◌, arith, ⊎_elim}
+use Rattle.std.proofs.Common.{◌≡◌, ◌≢◌, ℕ, suc, ◌+◌, ◌^◌, ◌<◌, ◌≤◌, ◌++◌, List, [], ◌∷◌, length, take, get_or, Some}
+use Rattle.std.proofs.Common.{sym, ap, subst, ◌∙◌, arith, ⊎_elim}
 use Rattle.std.proofs.lemmas.Bool.{cases_lt}
 use Rattle.std.proofs.lemmas.Bool.Decides.{nat_tests}
 use Rattle.std.proofs.Math.Nat.{pow-le-pow_right}
@@ -11,8 +11,8 @@ use Rattle.mseed_record.specs.declared.frame.Scan.TheVariants.{Need}
 use Rattle.mseed_record.specs.Header.{blockette_at}
 use Rattle.mseed_record.specs.Chain.{type_at, next_at, Passes}
 use Rattle.mseed_record.specs.Record.{exponent_at, IsRecordBy, IsRecord}
-use Rattle.mseed_record.specs.Scan.{at_offset, DecidesFrom, Decides, short, by_chain, Needs, header, blockette,
-    exponent, record_end}
+use Rattle.mseed_record.specs.Scan.{at_offset, DecidesFrom, Decides, short, by_chain, Needs, header, blockette}
+use Rattle.mseed_record.specs.Scan.{exponent, record_end}
 use Rattle.mseed_record.proofs.Passing.{none_within}
 use Rattle.mseed_record.proofs.Framed.{passes_above, other_at, record_room}
 use Rattle.mseed_record.proofs.Fronts.{Alike, alike_cut, byte_alike, number_alike, order_alike}
@@ -58,7 +58,7 @@ asks order front low o n e = ⊎_elim
     (λ (l : o + 4 ≤ length front). ⊎_elim
     (λ (s : length front < o + 8). rest (asks_eight order front low o n e l s))
     (λ (g : o + 8 ≤ length front). whole (asks_type order front low o n e l) g (asks_most order front low o n e g)
-        (asks_whole order front low o n e g))
+    (asks_whole order front low o n e g))
     (cases_lt (length front) (o + 8)))
     (cases_lt (length front) (o + 4))
 
@@ -86,7 +86,7 @@ asks_other order b front o last n alike ends other on (head e) = omega (arith, e
 asks_other order b front o last n alike ends other on (rest e) = omega (arith, ends.room)
 asks_other order b front o last n alike ends other on (whole t l m e) =
     let same : type_at order b o ≡ type_at order front o =
-        number_alike order 2 o b front alike (omega (arith, ends.room)) (omega arith) in
+    number_alike order 2 o b front alike (omega (arith, ends.room)) (omega arith) in
     absurd (other (same ∙ t))
 
 -- along one chain in the front and in a record that begins with it
@@ -94,22 +94,22 @@ asks_along : (order : Order) (b front : List ℕ) (low o : ℕ) (passed os : Lis
     → Ends order b last → DecidesFrom order front low o passed (Need n) → Passes order b o os last → n ≤ length b
 asks_along order b front low o [] [] last n alike ends asked there =
     asks_last order b front o n alike (subst (λ (k : ℕ). Ends order b k) (sym there) ends)
-        (asks order front low o n asked)
+    (asks order front low o n asked)
 asks_along order b front low o [] (q ∷ os) last n alike ends asked there =
     let further : next_at order b o ≤ last = passes_above order b (next_at order b o) os last there.3 in
     asks_other order b front o last n alike ends there.1 (omega (arith, there.2)) (asks order front low o n asked)
 asks_along order b front low o (p ∷ passed) [] last n alike ends asked there =
     let within : o + 4 ≤ length front = (none_within order front low o asked.1).1 in
     let same : type_at order b o ≡ type_at order front o =
-        number_alike order 2 o b front alike (omega (arith, there, ends.room)) (omega arith) in
+    number_alike order 2 o b front alike (omega (arith, there, ends.room)) (omega arith) in
     absurd (other_at order front low o asked.1 (sym same ∙ (ap (λ (k : ℕ). type_at order b k) there ∙ ends.type)))
 asks_along order b front low o (p ∷ passed) (q ∷ os) last n alike ends asked there =
     let within : o + 4 ≤ length front = (none_within order front low o asked.1).1 in
     let further : next_at order b o ≤ last = passes_above order b (next_at order b o) os last there.3 in
     let same : next_at order b o ≡ next_at order front o =
-        number_alike order 2 (o + 2) b front alike (omega (arith, there.2, ends.room)) (omega arith) in
+    number_alike order 2 (o + 2) b front alike (omega (arith, there.2, ends.room)) (omega arith) in
     asks_along order b front (o + 4) (next_at order front o) passed os last n alike ends asked.2
-        (subst (λ (k : ℕ). Passes order b k os last) same there.3)
+    (subst (λ (k : ℕ). Passes order b k os last) same there.3)
 
 asked_by : (front b : List ℕ) (n : ℕ) (order : Order) (os : List ℕ) (last : ℕ) → Alike b front
     → IsRecordBy order os last b → Decides front (Need n) → n ≤ length b
@@ -119,17 +119,17 @@ asked_by front b n order os last alike r (short _ s) =
 asked_by front b n order os last alike r (by_chain found passed answer _ long _ dated asked) =
     let room = record_room order os last b r in
     let one : Some found ≡ Some order =
-        sym dated ∙ (sym (order_alike b front alike (omega (arith, room)) long) ∙ r.order_is) in
+    sym dated ∙ (sym (order_alike b front alike (omega (arith, room)) long) ∙ r.order_is) in
     let same : found ≡ order = grind arith in
     let start : blockette_at order b ≡ blockette_at order front =
-        number_alike order 2 46 b front alike (omega (arith, room)) (omega (arith, long)) in
+    number_alike order 2 46 b front alike (omega (arith, room)) (omega (arith, long)) in
     let there : Passes order b (blockette_at order front) os last =
-        subst (λ (k : ℕ). Passes order b k os last) start r.chain.others in
+    subst (λ (k : ℕ). Passes order b k os last) start r.chain.others in
     let steps : DecidesFrom order front 48 (blockette_at order front) passed (Need n) =
-        subst (λ (chosen : Order). DecidesFrom chosen front 48 (blockette_at chosen front) passed (Need n)) same
-        asked in
+    subst (λ (chosen : Order). DecidesFrom chosen front 48 (blockette_at chosen front) passed (Need n)) same
+    asked in
     asks_along order b front 48 (blockette_at order front) passed os last n alike
-        (record { room = room.1; type = r.chain.found; size = r.size }) steps there
+    (record { room = room.1; type = r.chain.found; size = r.size }) steps there
 
 -- a record has all the bytes that are asked for at its front
 pub asked : (front more : List ℕ) (n k : ℕ) → Decides front (Need n) → IsRecord (take k (front ++ more))

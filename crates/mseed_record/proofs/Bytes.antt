@@ -1,6 +1,6 @@
 -- Fields within slices.
-use Rattle.std.proofs.Common.{◌≡◌, ℕ, zero, suc, [], ◌∷◌, ◌+◌, ◌<◌, ◌≤◌, List, take, drop, get_or, length, arith, lit<,
-    ◌∙◌, refl}
+use Rattle.std.proofs.Common.{◌≡◌, ℕ, zero, suc, [], ◌∷◌, ◌+◌, ◌<◌, ◌≤◌, List, take, drop, get_or, length, arith, lit<}
+use Rattle.std.proofs.Common.{◌∙◌, refl}
 use Rattle.std.proofs.lemmas.List.{get_or-take, get_or-drop, drop_more}
 use Rattle.mseed_record.specs.Header.{key_at}
 use Rattle.mseed_time.specs.declared.order.Order.{Order}
@@ -13,13 +13,29 @@ byte_at b i h = get_or-take 10 (drop 20 b) i 0 h ∙ get_or-drop 20 b i 0
 -- a time that is read from its own ten bytes
 pub parts_at-slice : (order : Order) (b : List ℕ) → parts_at order 0 (take 10 (drop 20 b)) ≡ parts_at order 20 b
 parts_at-slice Big b =
-    cc (byte_at b 0 (lit< tt), byte_at b 1 (lit< tt), byte_at b 2 (lit< tt), byte_at b 3 (lit< tt),
-        byte_at b 4 (lit< tt), byte_at b 5 (lit< tt), byte_at b 6 (lit< tt), byte_at b 8 (lit< tt),
-        byte_at b 9 (lit< tt))
+    cc (
+      byte_at b 0 (lit< tt),
+      byte_at b 1 (lit< tt),
+      byte_at b 2 (lit< tt),
+      byte_at b 3 (lit< tt),
+      byte_at b 4 (lit< tt),
+      byte_at b 5 (lit< tt),
+      byte_at b 6 (lit< tt),
+      byte_at b 8 (lit< tt),
+      byte_at b 9 (lit< tt),
+    )
 parts_at-slice Little b =
-    cc (byte_at b 0 (lit< tt), byte_at b 1 (lit< tt), byte_at b 2 (lit< tt), byte_at b 3 (lit< tt),
-        byte_at b 4 (lit< tt), byte_at b 5 (lit< tt), byte_at b 6 (lit< tt), byte_at b 8 (lit< tt),
-        byte_at b 9 (lit< tt))
+    cc (
+      byte_at b 0 (lit< tt),
+      byte_at b 1 (lit< tt),
+      byte_at b 2 (lit< tt),
+      byte_at b 3 (lit< tt),
+      byte_at b 4 (lit< tt),
+      byte_at b 5 (lit< tt),
+      byte_at b 6 (lit< tt),
+      byte_at b 8 (lit< tt),
+      byte_at b 9 (lit< tt),
+    )
 
 -- n bytes from a place on, one by one
 abbrev pub bytes_from : List ℕ → ℕ → ℕ → List ℕ

@@ -1,6 +1,6 @@
 -- Where the framing steps answer a record, one is there.
-use Rattle.std.proofs.Common.{◌≡◌, ◌≢◌, ℕ, suc, ◌+◌, ◌^◌, ◌<◌, ◌≤◌, List, [], ◌∷◌, length, take, get_or, Some, None,
-    refl, sym, ap, subst, arith, lit<, ⊎_elim, length-take, true, ◌∙◌}
+use Rattle.std.proofs.Common.{◌≡◌, ◌≢◌, ℕ, suc, ◌+◌, ◌^◌, ◌<◌, ◌≤◌, List, [], ◌∷◌, length, take, get_or, Some, None}
+use Rattle.std.proofs.Common.{refl, sym, ap, subst, arith, lit<, ⊎_elim, length-take, true, ◌∙◌}
 use Rattle.std.proofs.lemmas.Bool.Decides.{nat_tests}
 use Rattle.std.proofs.lemmas.List.{get_or-take, take-take, length-take-le}
 use Rattle.std.proofs.lemmas.Bool.{cases_lt}
@@ -63,9 +63,14 @@ found order front low o [] k e =
     let there = record_at order front low o k e in
     (o, (there.0, refl, there.1))
 found order front low o (p ∷ os) k e =
-    let later = found order front (o + 4) (next_at order front o) os k e.2 in
-    (later.0, ((none_within order front low o e.1).0, (e.0, other_at order front low o e.1, later.1.0, later.1.1),
-        later.1.2))
+    let later = found order front (o + 4) (next_at order front o) os k e.2 in (
+      later.0,
+      (
+        (none_within order front low o e.1).0,
+        (e.0, other_at order front low o e.1, later.1.0, later.1.1),
+        later.1.2,
+      ),
+    )
 
 pub passes_above : (order : Order) (b : List ℕ) (o : ℕ) (os : List ℕ) (last : ℕ) → Passes order b o os last → o ≤ last
 passes_above order b o [] last h = omega (arith, h)
@@ -111,7 +116,7 @@ octets_front : (b : List ℕ) (k : ℕ) → ((i : ℕ) → get_or b i 0 < 256) �
 octets_front b k octets i = ⊎_elim
     (λ (l : i < k). rw (get_or-take k b i 0 l) (octets i))
     (λ (g : k ≤ i). let out : length (take k b) ≤ i = omega (arith, length-take k b) in
-        rw (get_or-eq_default (take k b) 0 out) (lit< tt))
+    rw (get_or-eq_default (take k b) 0 out) (lit< tt))
     (cases_lt i k)
 
 -- the first k bytes are a record where the steps answer k
@@ -127,11 +132,11 @@ framed order front os k octets long fixed dated decided =
     let least : 48 ≤ k = omega (arith, it.1.0) in
     let whole : k ≤ length front = subst (λ (n : ℕ). n ≤ length front) (sym stands.size) stands.whole in
     let exponent : exponent_at (take k front) last ≡ exponent_at front last =
-        get_or-take k front (last + 6) 0 (omega arith) in
+    get_or-take k front (last + 6) 0 (omega arith) in
     let begins : blockette_at order (take k front) ≡ blockette_at order front =
-        number_front order front 46 k (omega arith) in
+    number_front order front 46 k (omega arith) in
     let type : type_at order (take k front) last ≡ type_at order front last =
-        number_front order front last k (omega arith) in
+    number_front order front last k (omega arith) in
     let chain : IsChain order (take k front) os last = record {
       low = rw begins it.1.0;
       others = subst (λ (n : ℕ). Passes order (take k front) n os last) (sym begins)

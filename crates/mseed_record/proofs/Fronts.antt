@@ -24,19 +24,19 @@ pub byte_alike : (b front : List ℕ) (i : ℕ) → Alike b front → i < length
 byte_alike b front i alike there here =
     let within : i < i + 1 = omega arith in
     sym (get_or-take (i + 1) b i 0 within)
-        ∙ ap (λ (bytes : List ℕ). get_or bytes i 0) (alike (i + 1) (omega arith) (omega arith))
-        ∙ get_or-take (i + 1) front i 0 within
+    ∙ ap (λ (bytes : List ℕ). get_or bytes i 0) (alike (i + 1) (omega arith) (omega arith))
+    ∙ get_or-take (i + 1) front i 0 within
 
 pub number_alike : (order : Order) (n o : ℕ) (b front : List ℕ) → Alike b front → o + n ≤ length b
     → o + n ≤ length front → number_at order n o b ≡ number_at order n o front
 number_alike Big n o b front alike there here =
     sym (big_from-take o n (o + n) b (omega arith))
-        ∙ ap (λ (bytes : List ℕ). big_from o n bytes) (alike (o + n) there here)
-        ∙ big_from-take o n (o + n) front (omega arith)
+    ∙ ap (λ (bytes : List ℕ). big_from o n bytes) (alike (o + n) there here)
+    ∙ big_from-take o n (o + n) front (omega arith)
 number_alike Little n o b front alike there here =
     sym (little_from-take o n (o + n) b (omega arith))
-        ∙ ap (λ (bytes : List ℕ). little_from o n bytes) (alike (o + n) there here)
-        ∙ little_from-take o n (o + n) front (omega arith)
+    ∙ ap (λ (bytes : List ℕ). little_from o n bytes) (alike (o + n) there here)
+    ∙ little_from-take o n (o + n) front (omega arith)
 
 pub fixed_alike : (b front : List ℕ) → Alike b front → 48 ≤ length b → 48 ≤ length front
     → has_fixed_bytes b ≡ has_fixed_bytes front
@@ -49,11 +49,11 @@ fixed_alike b front alike there here =
 pub order_alike : (b front : List ℕ) → Alike b front → 48 ≤ length b → 48 ≤ length front → order_of b ≡ order_of front
 order_alike b front alike there here =
     let big_year : number_at Big 2 20 b ≡ number_at Big 2 20 front =
-        number_alike Big 2 20 b front alike (omega arith) (omega arith) in
+    number_alike Big 2 20 b front alike (omega arith) (omega arith) in
     let big_day : number_at Big 2 22 b ≡ number_at Big 2 22 front =
-        number_alike Big 2 22 b front alike (omega arith) (omega arith) in
+    number_alike Big 2 22 b front alike (omega arith) (omega arith) in
     let little_year : number_at Little 2 20 b ≡ number_at Little 2 20 front =
-        number_alike Little 2 20 b front alike (omega arith) (omega arith) in
+    number_alike Little 2 20 b front alike (omega arith) (omega arith) in
     let little_day : number_at Little 2 22 b ≡ number_at Little 2 22 front =
-        number_alike Little 2 22 b front alike (omega arith) (omega arith) in
+    number_alike Little 2 22 b front alike (omega arith) (omega arith) in
     rw (big_year, big_day, little_year, little_day)

@@ -1,7 +1,7 @@
 -- Bytes that begin with a written header are a record, and its fields read back.
-use Rattle.std.proofs.Common.{◌≡◌, ℕ, ◌+◌, ◌*◌, ◌/◌, ◌%◌, ◌^◌, ◌<◌, ◌≤◌, ◌==◌, ◌&&◌, Bool, true, false, List, [], ◌∷◌,
-    ◌++◌, length, take, drop, get_or, Some, refl, sym, ap, subst, ◌∙◌, arith, lit≤, ℤ, pos, negsuc, ◌+ℤ◌, FitsSigned,
-    w8, w16}
+use Rattle.std.proofs.Common.{◌≡◌, ℕ, ◌+◌, ◌*◌, ◌/◌, ◌%◌, ◌^◌, ◌<◌, ◌≤◌, ◌==◌, ◌&&◌, Bool, true, false, List, [], ◌∷◌}
+use Rattle.std.proofs.Common.{◌++◌, length, take, drop, get_or, Some, refl, sym, ap, subst, ◌∙◌, arith, lit≤, ℤ, pos}
+use Rattle.std.proofs.Common.{negsuc, ◌+ℤ◌, FitsSigned, w8, w16}
 use Rattle.std.proofs.lemmas.List.{take-append-drop}
 use Rattle.std.proofs.lemmas.Bool.Decides.{nat_tests}
 use Rattle.std.proofs.lemmas.Int.{ints}
@@ -12,14 +12,14 @@ use Rattle.byteorder.specs.Endian.{twos_complement}
 use Rattle.mseed_time.specs.declared.order.Order.TheVariants.{Big}
 use Rattle.mseed_time.specs.Fields.{number_at}
 use Rattle.mseed_time.specs.Btime.{Parts, IsTime, parts_at, microsecond_of, instant_of, is_within}
-use Rattle.mseed_record.specs.Header.{is_sequence_byte, has_fixed_bytes, key_at, time_at, samples_at, activity_at,
-    correction_at, data_at, blockette_at}
+use Rattle.mseed_record.specs.Header.{is_sequence_byte, has_fixed_bytes, key_at, time_at, samples_at, activity_at}
+use Rattle.mseed_record.specs.Header.{correction_at, data_at, blockette_at}
 use Rattle.mseed_record.specs.Order.{order_of}
 use Rattle.mseed_record.specs.Chain.{type_at, next_at, goes_on}
 use Rattle.mseed_record.specs.Record.{IsRecordBy}
 use Rattle.mseed_record.specs.View.{IsViewBy}
-use Rattle.mseed_record.specs.Written.{Header, header_bytes, name_bytes, time_bytes, IsWritable, IsHeaded, ReadsBack,
-    headed_view}
+use Rattle.mseed_record.specs.Written.{Header, header_bytes, name_bytes, time_bytes, IsWritable, IsHeaded, ReadsBack}
+use Rattle.mseed_record.specs.Written.{headed_view}
 use Rattle.mseed_record.proofs.Bytes.{bytes_from}
 use Rattle.mseed_record.proofs.Puts.{each_byte}
 
@@ -33,7 +33,7 @@ spelled h = header_bytes (record h { key = bytes_from h.key 0 12 })
 begun : (h : Header) (b : List ℕ) → IsWritable h → IsHeaded h b → b ≡ spelled h ++ drop 64 b
 begun h b w e =
     let begins : take 64 b ≡ spelled h =
-        e.begins ∙ ap (λ (ks : List ℕ). header_bytes (record h { key = ks })) (key_bytes h.key w.key) in
+    e.begins ∙ ap (λ (ks : List ℕ). header_bytes (record h { key = ks })) (key_bytes h.key w.key) in
     sym (take-append-drop 64 b) ∙ ap (λ (front : List ℕ). front ++ drop 64 b) begins
 
 -- the bytes before the start are twenty
@@ -131,7 +131,7 @@ is_ordered : (h : Header) (b : List ℕ) → IsTime h.start → Spells h b → o
 is_ordered h b t s =
     let year : is_within 1900 2100 (number_at Big 2 20 b) ≡ true = rw s.year (within 1900 2100 h.start.year t.0 t.1) in
     let day : is_within 1 366 (number_at Big 2 22 b) ≡ true =
-        rw s.day (within 1 366 h.start.day t.2 (day_high h.start t)) in
+    rw s.day (within 1 366 h.start.day t.2 (day_high h.start t)) in
     rw (year, day) refl
 
 long_enough : (h : Header) (b : List ℕ) → IsHeaded h b → 128 ≤ length b
@@ -171,8 +171,14 @@ is_view_by h b w e s =
     }
 
 time_is : (h : Header) (b : List ℕ) → Spells h b → time_at Big b ≡ h.start
-time_is h b s = λ i. record { year = s.year i; day = s.day i; hour = s.hour i; minute = s.minute i;
-    second = s.second i; fraction = s.fraction i }
+time_is h b s = λ i. record {
+  year = s.year i;
+  day = s.day i;
+  hour = s.hour i;
+  minute = s.minute i;
+  second = s.second i;
+  fraction = s.fraction i;
+}
 
 no_shift : (t : Parts) (is_applied : Bool) (u : ℤ) → instant_of t (pos 0) is_applied u ≡ microsecond_of t +ℤ u
 no_shift t true u = omega (arith, ints)
@@ -204,11 +210,11 @@ pub time_written : (t : Parts) (bytes : List ℕ) → length bytes ≡ 10 → ((
     → parts_at Big 0 bytes ≡ t → get_or bytes 7 0 ≡ 0 → bytes ≡ time_bytes t
 time_written t bytes size octets parts unused =
     sym (each_byte bytes 10 size) ∙ same t (get_or bytes 0 0) (get_or bytes 1 0) (get_or bytes 2 0) (get_or bytes 3 0)
-        (get_or bytes 4 0) (get_or bytes 5 0) (get_or bytes 6 0) (get_or bytes 7 0) (get_or bytes 8 0)
-        (get_or bytes 9 0) (octets 0) (octets 1) (octets 2) (octets 3) (octets 8) (octets 9)
-        (ap (λ (p : Parts). p.year) parts) (ap (λ (p : Parts). p.day) parts) (ap (λ (p : Parts). p.hour) parts)
-        (ap (λ (p : Parts). p.minute) parts) (ap (λ (p : Parts). p.second) parts)
-        (ap (λ (p : Parts). p.fraction) parts) unused
+    (get_or bytes 4 0) (get_or bytes 5 0) (get_or bytes 6 0) (get_or bytes 7 0) (get_or bytes 8 0)
+    (get_or bytes 9 0) (octets 0) (octets 1) (octets 2) (octets 3) (octets 8) (octets 9)
+    (ap (λ (p : Parts). p.year) parts) (ap (λ (p : Parts). p.day) parts) (ap (λ (p : Parts). p.hour) parts)
+    (ap (λ (p : Parts). p.minute) parts) (ap (λ (p : Parts). p.second) parts)
+    (ap (λ (p : Parts). p.fraction) parts) unused
   where
     high : (x y z : ℕ) → x < 256 → y < 256 → x * 256 ^ 1 + (y * 256 ^ 0 + 0) ≡ z → (x ≡ byte_at 1 z) × (y ≡ byte_at 0 z)
     high x y z a b e = (omega arith, omega arith)

@@ -1,6 +1,6 @@
 -- Where the framing steps need more bytes, and which.
-use Rattle.std.proofs.Common.{◌≡◌, ℕ, zero, suc, ◌+◌, ◌-◌, ◌^◌, ◌<◌, ◌≤◌, ◌++◌, List, [], ◌∷◌, length, take, get_or,
-    replicate, Some, refl, sym, ap, subst, arith, lit<, ⊎_elim, true, ◌∙◌}
+use Rattle.std.proofs.Common.{◌≡◌, ℕ, zero, suc, ◌+◌, ◌-◌, ◌^◌, ◌<◌, ◌≤◌, ◌++◌, List, [], ◌∷◌, length, take, get_or}
+use Rattle.std.proofs.Common.{replicate, Some, refl, sym, ap, subst, arith, lit<, ⊎_elim, true, ◌∙◌}
 use Rattle.std.specs.Prelude.{⊤}
 use Rattle.std.proofs.lemmas.Bool.{cases_lt}
 use Rattle.std.proofs.lemmas.Bool.Decides.{nat_tests}
@@ -16,8 +16,8 @@ use Rattle.mseed_record.specs.Header.{has_fixed_bytes, blockette_at}
 use Rattle.mseed_record.specs.Order.{order_of}
 use Rattle.mseed_record.specs.Chain.{type_at, next_at, Passes}
 use Rattle.mseed_record.specs.Record.{exponent_at, IsRecordBy, IsRecord}
-use Rattle.mseed_record.specs.Scan.{at_offset, DecidesFrom, Decides, version3, short, no_data, no_order, by_chain,
-    HasRecord, Needs, header, blockette, exponent, record_end}
+use Rattle.mseed_record.specs.Scan.{at_offset, DecidesFrom, Decides, version3, short, no_data, no_order, by_chain}
+use Rattle.mseed_record.specs.Scan.{HasRecord, Needs, header, blockette, exponent, record_end}
 use Rattle.mseed_record.proofs.Passing.{none_within}
 use Rattle.mseed_record.proofs.Framed.{number_front, fixed_front, order_front, other_at}
 
@@ -25,7 +25,7 @@ pub number_more : (order : Order) (front more : List ℕ) (o : ℕ) → o + 2 �
     → number_at order 2 o (front ++ more) ≡ number_at order 2 o front
 number_more order front more o h =
     sym (number_front order (front ++ more) o (length front) h)
-        ∙ ap (λ (b : List ℕ). number_at order 2 o b) (take-append_seam front more)
+    ∙ ap (λ (b : List ℕ). number_at order 2 o b) (take-append_seam front more)
 
 -- what the first 1000 of a record that may come says
 record Grows (order : Order) (front : List ℕ) (o k : ℕ) : Type 0 where
@@ -103,10 +103,14 @@ passes_more order front more o (q ∷ os) last w h =
     let place : o + 4 ≤ length front = subst (λ (n : ℕ). n + 4 ≤ length front) h.0 w.0 in
     let type : type_at order (front ++ more) o ≡ type_at order front o = number_more order front more o (omega arith) in
     let next : next_at order (front ++ more) o ≡ next_at order front o =
-        number_more order front more (o + 2) (omega arith) in
-    let later = passes_more order front more (next_at order front o) os last w.1 h.3 in
-    (h.0, λ t. h.1 (sym type ∙ t), rw next h.2, subst (λ (n : ℕ). Passes order (front ++ more) n os last)
-        (sym next) later)
+    number_more order front more (o + 2) (omega arith) in
+    let later = passes_more order front more (next_at order front o) os last w.1 h.3 in (
+      h.0,
+      λ t. h.1 (sym type ∙ t),
+      rw next h.2,
+      subst (λ (n : ℕ). Passes order (front ++ more) n os last)
+          (sym next) later,
+    )
 
 within_more : (front more : List ℕ) (os : List ℕ) → Within front os → Within (front ++ more) os
 within_more front more [] w = tt
@@ -171,11 +175,11 @@ grown order front os last k h g =
     let headed = headed_more order front more os last (octets_zeros (k - length front)) h in
     let short : length front < k = subst (λ (n : ℕ). length front < n) (sym g.size) g.short in
     let size : length all ≡ k =
-        omega (arith, length-append front more, length-replicate {A = ℕ} (k - length front) 0) in
+    omega (arith, length-append front more, length-replicate {A = ℕ} (k - length front) 0) in
     let same : exponent_at all last ≡ exponent_at front last =
-        get_or-append front more 0 (last + 6) (omega (arith, g.there)) in
+    get_or-append front more 0 (last + 6) (omega (arith, g.there)) in
     let type : type_at order all last ≡ type_at order front last =
-        number_more order front more last (omega (arith, g.there)) in
+    number_more order front more last (omega (arith, g.there)) in
     let facts : IsRecordBy order os last all = record {
       octets = headed.octets;
       fixed = headed.fixed;
@@ -208,7 +212,7 @@ passes_small order b o (q ∷ os) last octets s h =
 last_small : (order : Order) (b : List ℕ) (os : List ℕ) (last : ℕ) → Headed order b os last → last + 8 < 2 ^ 20
 last_small order b os last h =
     let small = passes_small order b (blockette_at order b) os last h.octets (number_small order b 46 h.octets)
-        h.passes in
+    h.passes in
     omega arith
 
 -- bytes behind a front
@@ -258,12 +262,12 @@ longest_type : (order : Order) (front : List ℕ) (last : ℕ) → length front 
 longest_type Big front last e =
     let one : get_or (front ++ longest Big) last 0 ≡ 3 = behind front (longest Big) last 0 (omega (arith, e)) in
     let two : get_or (front ++ longest Big) (suc last) 0 ≡ 232 =
-        behind front (longest Big) (suc last) 1 (omega (arith, e)) in
+    behind front (longest Big) (suc last) 1 (omega (arith, e)) in
     rw (one, two) refl
 longest_type Little front last e =
     let one : get_or (front ++ longest Little) last 0 ≡ 232 = behind front (longest Little) last 0 (omega (arith, e)) in
     let two : get_or (front ++ longest Little) (suc last) 0 ≡ 3 =
-        behind front (longest Little) (suc last) 1 (omega (arith, e)) in
+    behind front (longest Little) (suc last) 1 (omega (arith, e)) in
     rw (one, two) refl
 
 seven_twenty : 7 ≤ 20
@@ -292,11 +296,11 @@ at_its_place order front os last e h =
     let headed = headed_more order front (longest order) os last (octets_longest order) h in
     let size : last + 8 ≡ length all = omega (arith, e, length-append front (longest order), longest_length order) in
     let exponent : exponent_at all last ≡ 20 = behind front (longest order) (last + 6) 6 (omega (arith, e))
-        ∙ longest_exponent order in
+    ∙ longest_exponent order in
     let small = last_small order all os last headed in
     before front (longest order)
-        (grown order all os last (2 ^ 20) headed
-        (grows_by order all last (longest_type order front last e) exponent size small))
+    (grown order all os last (2 ^ 20) headed
+    (grows_by order all last (longest_type order front last e) exponent size small))
 
 ahead_of_it : (order : Order) (front : List ℕ) (os : List ℕ) (last : ℕ) → length front ≤ last
     → Headed order front os last → HasRecord front
@@ -304,7 +308,7 @@ ahead_of_it order front os last l h =
     let zeros : List ℕ = replicate (last - length front) 0 in
     let headed = headed_more order front zeros os last (octets_zeros (last - length front)) h in
     let size : length (front ++ zeros) ≡ last =
-        omega (arith, l, length-append front zeros, length-replicate {A = ℕ} (last - length front) 0) in
+    omega (arith, l, length-append front zeros, length-replicate {A = ℕ} (last - length front) 0) in
     before front zeros (at_its_place order (front ++ zeros) os last size headed)
 
 at_its_exponent : (order : Order) (front : List ℕ) (os : List ℕ) (last : ℕ) → length front ≡ last + 4
@@ -317,7 +321,7 @@ at_its_exponent order front os last e t h =
     let exponent : exponent_at all last ≡ 20 = behind front exponent_bytes (last + 6) 2 (omega (arith, e)) in
     let small = last_small order all os last headed in
     before front exponent_bytes
-        (grown order all os last (2 ^ 20) headed (grows_by order all last type exponent size small))
+    (grown order all os last (2 ^ 20) headed (grows_by order all last type exponent size small))
 
 needs_by : (order : Order) (front : List ℕ) (os : List ℕ) (last k : ℕ) → Headed order front os last
     → Lacks order front last k → Needs front k
@@ -328,7 +332,7 @@ needs_by order front os last k h (four s e) = subst (λ (n : ℕ). Needs front n
 needs_by order front os last k h (eight t l s e) = subst (λ (n : ℕ). Needs front n) (sym e) (⊎_elim
     (λ (i : last + 4 < length front). exponent order os last h.dated h.passes t i s)
     (λ (o : length front ≤ last + 4). record_end (last + 8) s
-        (at_its_exponent order front os last (omega (arith, l, o)) t h))
+    (at_its_exponent order front os last (omega (arith, l, o)) t h))
     (cases_lt (last + 4) (length front)))
 needs_by order front os last k h (rest g) =
     let short : length front < k = subst (λ (n : ℕ). length front < n) (sym g.size) g.short in
@@ -344,9 +348,9 @@ needs_of front k _ octets (no_data v s f) e = cc
 needs_of front k _ octets (no_order v s f o) e = cc
 needs_of front k a octets (by_chain order ps answer v s f o d) e =
     let it = lacking order front 48 (blockette_at order front) ps k
-        (subst (λ (x : Scan). DecidesFrom order front 48 (blockette_at order front) ps x) e d) in
+    (subst (λ (x : Scan). DecidesFrom order front 48 (blockette_at order front) ps x) e d) in
     let headed : Headed order front ps it.0 =
-        record { octets = octets; long = s; fixed = f; dated = o; begins = it.1.0; passes = it.1.1; within = it.1.2 } in
+    record { octets = octets; long = s; fixed = f; dated = o; begins = it.1.0; passes = it.1.1; within = it.1.2 } in
     needs_by order front ps it.0 k headed it.1.3
 
 -- the steps ask for bytes only where they are needed

@@ -42,7 +42,7 @@ one_settled b a c (late order os d o f) (early e) = cc (d, e)
 one_settled b a c (late order os d o f) (late other ps e p g) =
     let same : order ≡ other = cc (o, p) in
     one_from other b 48 (blockette_at other b) os ps a c
-        (subst (λ (x : Order). DecidesFrom x b 48 (blockette_at x b) os a) same f) g
+    (subst (λ (x : Order). DecidesFrom x b 48 (blockette_at x b) os a) same f) g
 
 -- the framing steps decide one thing
 pub one_answer : (b : List ℕ) (a c : Scan) → Decides b a → Decides b c → a ≡ c

@@ -17,20 +17,20 @@ one_last order b c o [] [] last other alike room space found there d e = sym d �
 one_last order b c o [] (q ∷ ps) last other alike room space found there d e =
     let further : next_at order c o ≤ other = passes_above order c (next_at order c o) ps other e.3 in
     let same : type_at order b o ≡ type_at order c o =
-        number_alike order 2 o b c alike (omega (arith, d)) (omega (arith, e.2)) in
+    number_alike order 2 o b c alike (omega (arith, d)) (omega (arith, e.2)) in
     absurd (e.1 (sym same ∙ (ap (λ (n : ℕ). type_at order b n) d ∙ found)))
 one_last order b c o (p ∷ os) [] last other alike room space found there d e =
     let further : next_at order b o ≤ last = passes_above order b (next_at order b o) os last d.3 in
     let same : type_at order b o ≡ type_at order c o =
-        number_alike order 2 o b c alike (omega (arith, d.2)) (omega (arith, e)) in
+    number_alike order 2 o b c alike (omega (arith, d.2)) (omega (arith, e)) in
     absurd (d.1 (same ∙ (ap (λ (n : ℕ). type_at order c n) e ∙ there)))
 one_last order b c o (p ∷ os) (q ∷ ps) last other alike room space found there d e =
     let further : next_at order b o ≤ last = passes_above order b (next_at order b o) os last d.3 in
     let beyond : next_at order c o ≤ other = passes_above order c (next_at order c o) ps other e.3 in
     let same : next_at order b o ≡ next_at order c o =
-        number_alike order 2 (o + 2) b c alike (omega (arith, d.2)) (omega (arith, e.2)) in
+    number_alike order 2 (o + 2) b c alike (omega (arith, d.2)) (omega (arith, e.2)) in
     one_last order b c (next_at order c o) os ps last other alike room space found there
-        (subst (λ (n : ℕ). Passes order b n os last) same d.3) e.3
+    (subst (λ (n : ℕ). Passes order b n os last) same d.3) e.3
 
 same_length : (b c : List ℕ) (order chosen : Order) (os ps : List ℕ) (last other : ℕ) → Alike b c
     → IsRecordBy order os last b → IsRecordBy chosen ps other c → length b ≡ length c
@@ -38,16 +38,16 @@ same_length b c order chosen os ps last other alike r s =
     let room = record_room order os last b r in
     let space = record_room chosen ps other c s in
     let orders : Some order ≡ Some chosen =
-        sym r.order_is ∙ (order_alike b c alike (omega (arith, room)) (omega (arith, space)) ∙ s.order_is) in
+    sym r.order_is ∙ (order_alike b c alike (omega (arith, room)) (omega (arith, space)) ∙ s.order_is) in
     let same : order ≡ chosen = cc in
     let others : IsRecordBy order ps other c = subst (λ (x : Order). IsRecordBy x ps other c) (sym same) s in
     let start : blockette_at order b ≡ blockette_at order c =
-        number_alike order 2 46 b c alike (omega (arith, room)) (omega (arith, space)) in
+    number_alike order 2 46 b c alike (omega (arith, room)) (omega (arith, space)) in
     let at_last : last ≡ other =
-        one_last order b c (blockette_at order c) os ps last other alike room.1 space.1 r.chain.found others.chain.found
+    one_last order b c (blockette_at order c) os ps last other alike room.1 space.1 r.chain.found others.chain.found
     (subst (λ (n : ℕ). Passes order b n os last) start r.chain.others) others.chain.others in
     let exponent : exponent_at b last ≡ exponent_at c last =
-        byte_alike b c (last + 6) alike (omega (arith, room)) (omega (arith, space, at_last)) in
+    byte_alike b c (last + 6) alike (omega (arith, room)) (omega (arith, space, at_last)) in
     r.size ∙ (ap (λ (n : ℕ). 2 ^ n) (exponent ∙ ap (λ (n : ℕ). exponent_at c n) at_last) ∙ sym s.size)
 
 two_cuts : (b : List ℕ) (j k : ℕ) → j ≤ length b → k ≤ length b → Alike (take j b) (take k b)
@@ -61,7 +61,7 @@ pub one_record : (b : List ℕ) (j k : ℕ) → j ≤ length b → k ≤ length 
     → j ≡ k
 one_record b j k h l r s =
     let same : length (take j b) ≡ length (take k b) =
-        same_length (take j b) (take k b) r.0 s.0 r.1.0 s.1.0 r.1.1.0 s.1.1.0 (two_cuts b j k h l) r.1.1.1 s.1.1.1 in
+    same_length (take j b) (take k b) r.0 s.0 r.1.0 s.1.0 r.1.1.0 s.1.1.0 (two_cuts b j k h l) r.1.1.1 s.1.1.1 in
     sym (length-take-le j b h) ∙ (same ∙ length-take-le k b l)
 
 -- a front of a record that is one is all of it

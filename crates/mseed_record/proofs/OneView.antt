@@ -1,6 +1,6 @@
 -- That a record has a view holds in one way, so that a field can keep it truncated.
-use Rattle.std.proofs.Common.{◌≡◌, ◌≢◌, ℕ, ◌+◌, ◌^◌, ◌≤◌, ◌<◌, List, [], ◌∷◌, ◌++◌, length, slice_index, Some, IsTrue,
-    true, false, ap, subst}
+use Rattle.std.proofs.Common.{◌≡◌, ◌≢◌, ℕ, ◌+◌, ◌^◌, ◌≤◌, ◌<◌, List, [], ◌∷◌, ◌++◌, length, slice_index, Some, IsTrue}
+use Rattle.std.proofs.Common.{true, false, ap, subst}
 use mathlib.Core.Logic.{∥∥₁_elim}
 use denote.Struct.Props.{props}
 use Rattle.mseed_time.specs.declared.order.Order.{Order}
@@ -68,9 +68,9 @@ IsViewBy-prop os last rest v x y =
     let encoding : IsProp (v.encoding ≡ slice_index v.bytes (last + 4)) = hlevel props in
     let payload_order : IsProp (v.payload_order ≡ word_order_at v.bytes last) = hlevel props in
     let microseconds : IsProp
-        (v.microseconds ≡ microseconds_at v.bytes (first_of v.order 1001 v.bytes (os ++ last ∷ rest))) = hlevel props in
+    (v.microseconds ≡ microseconds_at v.bytes (first_of v.order 1001 v.bytes (os ++ last ∷ rest))) = hlevel props in
     let rate_blockette : IsProp (v.has_rate_blockette ≡ has_type v.order 100 v.bytes (os ++ last ∷ rest)) =
-        hlevel props in
+    hlevel props in
     λ i. record {
       record_is = IsRecordBy-prop v.order os last v.bytes x.record_is y.record_is i;
       chain_is = IsWholeChain-prop v.order v.bytes os last rest x.chain_is y.chain_is i;
@@ -93,7 +93,7 @@ same_rest v os last rest qs h k =
 IsView-prop : (v : View) → IsProp (IsView v)
 IsView-prop v (os, (last, (rest, h))) (ps, (end, (qs, k))) =
     let once = passes_once v.order v.bytes (blockette_at v.order v.bytes) os ps last end h.chain_is.chain.others
-        h.chain_is.chain.found k.chain_is.chain.others k.chain_is.chain.found in
+    h.chain_is.chain.found k.chain_is.chain.others k.chain_is.chain.found in
     subst (λ (xs : List ℕ). (k : IsViewBy xs end qs v) → by_these os last rest h ≡ by_these xs end qs k) once.0
     (subst (λ (n : ℕ). (k : IsViewBy os n qs v) → by_these os last rest h ≡ by_these os n qs k) once.1
     (λ (k : IsViewBy os last qs v). same_rest v os last rest qs h k)) k

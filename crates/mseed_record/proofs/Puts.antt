@@ -23,8 +23,8 @@ put_next old before after front part n m sizes begins put =
     let size = sym begins.size in
     let kept : take n before ≡ front = rw (bytes, size) (take-append_seam front (drop (length front) old)) in
     let rest : drop (n + length part) before ≡ drop (n + length part) old =
-        rw (bytes, size) (drop-append-add front (drop (length front) old) (length part)
-        ∙ drop-drop (length part) (length front) old) in
+    rw (bytes, size) (drop-append-add front (drop (length front) old) (length part)
+    ∙ drop-drop (length part) (length front) old) in
     record {
       bytes = put ∙ (rw (kept, rest, sizes) refl);
       size = omega (arith, length-append front part);

@@ -1,6 +1,6 @@
 -- Framing goes on along a chain, and where it ended stays where more bytes come.
-use Rattle.std.proofs.Common.{◌≡◌, ℕ, ◌+◌, ◌^◌, ◌<◌, ◌≤◌, ◌++◌, List, [], ◌∷◌, length, take, Some, None, Option, IfSome,
-    refl, sym, ap, subst, ◌∙◌, arith, length-append}
+use Rattle.std.proofs.Common.{◌≡◌, ℕ, ◌+◌, ◌^◌, ◌<◌, ◌≤◌, ◌++◌, List, [], ◌∷◌, length, take, Some, None, Option, IfSome}
+use Rattle.std.proofs.Common.{refl, sym, ap, subst, ◌∙◌, arith, length-append}
 use Rattle.std.proofs.Math.Seq.{take-append_seam}
 use Rattle.mseed_time.specs.declared.order.Order.{Order}
 use Rattle.mseed_record.specs.declared.frame.Scan.{Scan}
@@ -21,7 +21,7 @@ pub reached_decides : (r : Reached) (front : List ℕ) (answer : Scan) → HasRe
     → at_offset r.order front r.low r.offset ≡ Some answer → Decides front answer
 reached_decides r front answer h e =
     by_chain r.order h.passed.0 answer h.other_version h.header h.fixed h.order_is
-        (passes_decides r.order front 48 (blockette_at r.order front) h.passed.0 r.low r.offset answer h.passed.1 e)
+    (passes_decides r.order front 48 (blockette_at r.order front) h.passed.0 r.low r.offset answer h.passed.1 e)
 
 -- one blockette further on
 pub reached_next : (r : Reached) (front : List ℕ) (next : ℕ) → HasReached r front
@@ -37,8 +37,11 @@ reached_next r front next h e is small =
       order_is = h.order_is;
       low = (none_within r.order front r.low r.offset e).1;
       small = small;
-      passed = (passed, subst (λ (n : ℕ). PassesTo r.order front 48 (blockette_at r.order front) passed (r.offset + 4)
-          n) (sym is) more);
+      passed = (
+        passed,
+        subst (λ (n : ℕ). PassesTo r.order front 48 (blockette_at r.order front) passed (r.offset + 4)
+            n) (sym is) more,
+      );
     }
 
 -- what is said of a header is said of all bytes that begin with it
@@ -55,7 +58,7 @@ none_more order front more low o some e =
     let within = none_within order front low o e in
     let wide : o + 4 ≤ length (front ++ more) = omega (arith, within.1, length-append front more) in
     let type : type_at order (front ++ more) o ≡ type_at order front o =
-        number_more order front more o (omega (arith, within.1)) in
+    number_more order front more o (omega (arith, within.1)) in
     none_at order (front ++ more) low o within.0 some wide (λ t. other_at order front low o e (sym type ∙ t))
 
 passes_to_more : (order : Order) (front more : List ℕ) (low o : ℕ) (os : List ℕ) (least q : ℕ) → 0 < low
@@ -64,10 +67,12 @@ passes_to_more order front more low o [] least q some h = h
 passes_to_more order front more low o (p ∷ os) least q some h =
     let within = none_within order front low o h.1 in
     let next : next_at order (front ++ more) o ≡ next_at order front o =
-        number_more order front more (o + 2) (omega (arith, within.1)) in
-    let later = passes_to_more order front more (o + 4) (next_at order front o) os least q (omega arith) h.2 in
-    (h.0, none_more order front more low o some h.1,
-        subst (λ (n : ℕ). PassesTo order (front ++ more) (o + 4) n os least q) (sym next) later)
+    number_more order front more (o + 2) (omega (arith, within.1)) in
+    let later = passes_to_more order front more (o + 4) (next_at order front o) os least q (omega arith) h.2 in (
+      h.0,
+      none_more order front more low o some h.1,
+      subst (λ (n : ℕ). PassesTo order (front ++ more) (o + 4) n os least q) (sym next) later,
+    )
 
 pub reached_more : (r : Reached) (front more : List ℕ) → HasReached r front → HasReached r (front ++ more)
 reached_more r front more h =
@@ -75,9 +80,9 @@ reached_more r front more h =
     let long = h.header in
     let cut : take (length front) all ≡ front = take-append_seam front more in
     let begins : blockette_at r.order all ≡ blockette_at r.order front =
-        number_more r.order front more 46 (omega arith) in
+    number_more r.order front more 46 (omega arith) in
     let passed = passes_to_more r.order front more 48 (blockette_at r.order front) h.passed.0 r.low r.offset
-        (omega arith) h.passed.1 in
+    (omega arith) h.passed.1 in
     let wide : length front ≤ length all = omega (arith, length-append front more) in
     record {
       other_version = version3_more front more (omega arith) ∙ h.other_version;

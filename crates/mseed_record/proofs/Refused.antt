@@ -1,6 +1,6 @@
 -- What is refused by its first bytes isn't made a record by any bytes that follow.
-use Rattle.std.proofs.Common.{◌≡◌, ◌≢◌, ℕ, ◌+◌, ◌^◌, ◌<◌, ◌≤◌, ◌++◌, List, [], ◌∷◌, length, take, get_or, true, Some,
-    None, sym, ap, subst, ◌∙◌, arith}
+use Rattle.std.proofs.Common.{◌≡◌, ◌≢◌, ℕ, ◌+◌, ◌^◌, ◌<◌, ◌≤◌, ◌++◌, List, [], ◌∷◌, length, take, get_or, true, Some}
+use Rattle.std.proofs.Common.{None, sym, ap, subst, ◌∙◌, arith}
 use Rattle.std.proofs.lemmas.Bool.{both_ways}
 use Rattle.std.proofs.lemmas.Bool.Decides.{nat_tests}
 use Rattle.mseed_time.specs.declared.order.Order.{Order}
@@ -9,8 +9,8 @@ use Rattle.mseed_record.specs.declared.frame.FrameFault.{FrameFault}
 use Rattle.mseed_record.specs.Header.{has_fixed_bytes, blockette_at}
 use Rattle.mseed_record.specs.Chain.{type_at, next_at, Passes}
 use Rattle.mseed_record.specs.Record.{IsRecordBy, exponent_at}
-use Rattle.mseed_record.specs.Scan.{is_version3, at_1000, at_offset, DecidesFrom, Decides, version3, no_data, no_order,
-    by_chain, HasNoRecord}
+use Rattle.mseed_record.specs.Scan.{is_version3, at_1000, at_offset, DecidesFrom, Decides, version3, no_data, no_order}
+use Rattle.mseed_record.specs.Scan.{by_chain, HasNoRecord}
 use Rattle.mseed_record.proofs.Fronts.{Alike, alike_cut, byte_alike, number_alike, fixed_alike, order_alike}
 use Rattle.mseed_record.proofs.Framed.{passes_above, other_at, record_room}
 use Rattle.mseed_record.proofs.Passing.{none_within}
@@ -43,32 +43,32 @@ chain_goes_on : (order : Order) (b front : List ℕ) (low o : ℕ) (passed os : 
 chain_goes_on order b front low o [] [] last f alike positive on room found low_enough high inside refused there =
     let at_o = refused_at order front low o f positive on refused in
     let exponent : get_or b (o + 6) 0 ≡ get_or front (o + 6) 0 =
-        byte_alike b front (o + 6) alike (omega (arith, there, room)) (omega (arith, at_o.1)) in
+    byte_alike b front (o + 6) alike (omega (arith, there, room)) (omega (arith, at_o.1)) in
     let same : exponent_at b last ≡ exponent_at front o = ap (λ (n : ℕ). exponent_at b n) (sym there) ∙ exponent in
     not_refused front o f (rw same at low_enough) (rw same at high) (rw (same, sym there) at inside) at_o.2
 chain_goes_on order b front low o [] (q ∷ os) last f alike positive on room found low_enough high inside refused there =
     let at_o = refused_at order front low o f positive on refused in
     let further : next_at order b o ≤ last = passes_above order b (next_at order b o) os last there.3 in
     let same : type_at order b o ≡ type_at order front o =
-        number_alike order 2 o b front alike (omega (arith, there.2, further, room)) (omega (arith, at_o.1)) in
+    number_alike order 2 o b front alike (omega (arith, there.2, further, room)) (omega (arith, at_o.1)) in
     there.1 (same ∙ at_o.0)
 chain_goes_on order b front low o (p ∷ passed) [] last f alike positive on room found low_enough high inside refused
     there =
     let within : o + 4 ≤ length front = (none_within order front low o refused.1).1 in
     let same : type_at order b o ≡ type_at order front o =
-        number_alike order 2 o b front alike (omega (arith, there, room)) (omega (arith, within)) in
+    number_alike order 2 o b front alike (omega (arith, there, room)) (omega (arith, within)) in
     other_at order front low o refused.1 (sym same ∙ (ap (λ (n : ℕ). type_at order b n) there ∙ found))
 chain_goes_on order b front low o (p ∷ passed) (q ∷ os) last f alike positive on room found low_enough high inside
     refused there =
     let within : o + 4 ≤ length front = (none_within order front low o refused.1).1 in
     let further : next_at order b o ≤ last = passes_above order b (next_at order b o) os last there.3 in
     let same : next_at order b o ≡ next_at order front o =
-        number_alike order 2 (o + 2) b front alike (omega (arith, there.2, further, room)) (omega (arith, within)) in
+    number_alike order 2 (o + 2) b front alike (omega (arith, there.2, further, room)) (omega (arith, within)) in
     let rest : Passes order b (next_at order front o) os last =
-        subst (λ (n : ℕ). Passes order b n os last) same there.3 in
+    subst (λ (n : ℕ). Passes order b n os last) same there.3 in
     let on_there : o + 4 ≤ next_at order front o = subst (λ (n : ℕ). o + 4 ≤ n) same there.2 in
     chain_goes_on order b front (o + 4) (next_at order front o) passed os last f alike (omega arith) on_there room
-        found low_enough high inside refused.2 rest
+    found low_enough high inside refused.2 rest
 
 refused_by : (front b : List ℕ) (f : FrameFault) (order : Order) (os : List ℕ) (last : ℕ) → Alike b front
     → IsRecordBy order os last b → Decides front (Not f) → ⊥
@@ -87,21 +87,21 @@ refused_by front b f order os last alike r (no_order _ long _ none) =
 refused_by front b f order os last alike r (by_chain found passed answer _ long _ dated refused) =
     let room = record_room order os last b r in
     let one : Some found ≡ Some order =
-        sym dated ∙ (sym (order_alike b front alike (omega (arith, room)) long) ∙ r.order_is) in
+    sym dated ∙ (sym (order_alike b front alike (omega (arith, room)) long) ∙ r.order_is) in
     let same : found ≡ order = grind arith in
     let start : blockette_at order b ≡ blockette_at order front =
-        number_alike order 2 46 b front alike (omega (arith, room)) (omega (arith, long)) in
+    number_alike order 2 46 b front alike (omega (arith, room)) (omega (arith, long)) in
     let there : Passes order b (blockette_at order front) os last =
-        subst (λ (n : ℕ). Passes order b n os last) start r.chain.others in
+    subst (λ (n : ℕ). Passes order b n os last) start r.chain.others in
     let low : 48 ≤ blockette_at order front = subst (λ (n : ℕ). 48 ≤ n) start r.chain.low in
     let steps : DecidesFrom order front 48 (blockette_at order front) passed (Not f) =
-        subst (λ (chosen : Order). DecidesFrom chosen front 48 (blockette_at chosen front) passed (Not f)) same
-        refused in
+    subst (λ (chosen : Order). DecidesFrom chosen front 48 (blockette_at chosen front) passed (Not f)) same
+    refused in
     chain_goes_on order b front 48 (blockette_at order front) passed os last f alike (omega arith) low room.1
-        r.chain.found r.exponent_low r.exponent_high r.inside steps there
+    r.chain.found r.exponent_low r.exponent_high r.inside steps there
 
 -- refused for good: no bytes that follow make a record of such a front
 pub refused : (front : List ℕ) (f : FrameFault) → Decides front (Not f) → HasNoRecord front
 refused front f decided more k whole =
     refused_by front (take k (front ++ more)) f whole.0 whole.1.0 whole.1.1.0 (alike_cut front more k) whole.1.1.1
-        decided
+    decided

@@ -4,8 +4,8 @@ use Rattle.mseed_record.specs.declared.frame.Scan.{Scan}
 use Rattle.mseed_record.specs.declared.frame.Scan.TheVariants.{Need, Record, Not}
 use Rattle.mseed_record.specs.declared.frame.FrameFault.{FrameFault}
 use Rattle.mseed_record.specs.Record.{IsRecord}
-use Rattle.mseed_record.specs.Scan.{Decides, HasNoRecord, HasNoShorter, Needs, version3, short, no_data, no_order,
-    by_chain}
+use Rattle.mseed_record.specs.Scan.{Decides, HasNoRecord, HasNoShorter, Needs, version3, short, no_data, no_order}
+use Rattle.mseed_record.specs.Scan.{by_chain}
 use Rattle.mseed_record.specs.Header.{blockette_at}
 use Rattle.mseed_record.specs.Scan.{DecidesFrom}
 use Rattle.mseed_record.proofs.Framed.{framed}
@@ -23,7 +23,7 @@ framed_by front k _ octets (no_data v s f) e = cc
 framed_by front k _ octets (no_order v s f o) e = cc
 framed_by front k a octets (by_chain order os answer v s f o d) e =
     framed order front os k octets s f o
-        (subst (λ (x : Scan). DecidesFrom order front 48 (blockette_at order front) os x) e d)
+    (subst (λ (x : Scan). DecidesFrom order front 48 (blockette_at order front) os x) e d)
 
 -- an answer by the steps, and what follows
 pub record Scanned (front : List ℕ) (a : Scan) : Type 0 where

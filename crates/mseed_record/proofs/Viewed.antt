@@ -1,6 +1,6 @@
 -- A record has one view.
-use Rattle.std.proofs.Common.{◌≡◌, ℕ, ◌+◌, ◌≤◌, ◌++◌, List, [], ◌∷◌, length, slice_index, Some, Option, Bool, ℤ, refl,
-    sym, ap, ◌∙◌, subst}
+use Rattle.std.proofs.Common.{◌≡◌, ℕ, ◌+◌, ◌≤◌, ◌++◌, List, [], ◌∷◌, length, slice_index, Some, Option, Bool, ℤ, refl}
+use Rattle.std.proofs.Common.{sym, ap, ◌∙◌, subst}
 use Rattle.std.proofs.lemmas.Bool.{false≢true}
 use Rattle.mseed_time.specs.declared.order.Order.{Order}
 use Rattle.mseed_record.specs.declared.chain.Blockettes.{Blockettes}
@@ -50,8 +50,14 @@ pub view_by : (order : Order) (b : List ℕ) (found : Blockettes) (o : ℕ) (enc
     (microseconds : ℤ) → Found order b found → found.first_1000 ≡ Some o
     → encoding ≡ slice_index b (o + 4) → payload_order ≡ word_order_at b o
     → microseconds ≡ microseconds_at b found.first_1001
-    → IsView (record { bytes = b; order = order; encoding = encoding; payload_order = payload_order;
-    microseconds = microseconds; has_rate_blockette = found.has_100 })
+    → IsView (record {
+      bytes = b;
+      order = order;
+      encoding = encoding;
+      payload_order = payload_order;
+      microseconds = microseconds;
+      has_rate_blockette = found.has_100;
+    })
 view_by order b found o encoding payload_order microseconds (os, (last, (rest, (r, w, f, l)))) e coded ordered timed =
     let same : o ≡ last = cc (l, e) in (
       os,
@@ -72,8 +78,14 @@ view_by order b found o encoding payload_order microseconds (os, (last, (rest, (
     )
 
 abbrev view_of : List ℕ → Order → ℕ → Order → ℤ → Bool → View
-view_of b o e g m r = record { bytes = b; order = o; encoding = e; payload_order = g; microseconds = m;
-    has_rate_blockette = r }
+view_of b o e g m r = record {
+  bytes = b;
+  order = o;
+  encoding = e;
+  payload_order = g;
+  microseconds = m;
+  has_rate_blockette = r;
+}
 
 view_same : (b c : List ℕ) (o p : Order) (e f : ℕ) (g h : Order) (m n : ℤ) (r s : Bool) → b ≡ c → o ≡ p → e ≡ f → g ≡ h
     → m ≡ n → r ≡ s
@@ -85,26 +97,26 @@ same_fields : (os : List ℕ) (last : ℕ) (rest : List ℕ) (v w : View) → v.
     → IsViewBy os last rest v → IsViewBy os last rest w → v ≡ w
 same_fields os last rest v w same dated h k =
     view_same v.bytes w.bytes v.order w.order v.encoding w.encoding v.payload_order w.payload_order v.microseconds
-        w.microseconds v.has_rate_blockette w.has_rate_blockette same dated
+    w.microseconds v.has_rate_blockette w.has_rate_blockette same dated
     (cc (h.encoding_is, k.encoding_is, same)) (cc (h.payload_order_is, k.payload_order_is, same))
     (cc (h.microseconds_is, k.microseconds_is, same, dated))
-        (cc (h.rate_blockette_is, k.rate_blockette_is, same, dated))
+    (cc (h.rate_blockette_is, k.rate_blockette_is, same, dated))
 
 -- two views of the same bytes are one
 pub view_once : (v w : View) → IsView v → IsView w → w.bytes ≡ v.bytes → w ≡ v
 view_once v w (os, (last, (rest, h))) (ps, (end, (qs, k))) same =
     let dated : w.order ≡ v.order = cc (h.record_is.order_is, k.record_is.order_is, same) in
     let chained = passes_once v.order v.bytes (blockette_at v.order v.bytes) os ps last end h.chain_is.chain.others
-        h.chain_is.chain.found
+    h.chain_is.chain.found
     (subst (λ (o : Order). Passes o v.bytes (blockette_at o v.bytes) ps end) dated
-        (subst (λ (b : List ℕ). Passes w.order b (blockette_at w.order b) ps end) same k.chain_is.chain.others))
+    (subst (λ (b : List ℕ). Passes w.order b (blockette_at w.order b) ps end) same k.chain_is.chain.others))
     (subst (λ (o : Order). type_at o v.bytes end ≡ 1000) dated
-        (subst (λ (b : List ℕ). type_at w.order b end ≡ 1000) same k.chain_is.chain.found)) in
+    (subst (λ (b : List ℕ). type_at w.order b end ≡ 1000) same k.chain_is.chain.found)) in
     let rested = rest_once v.order v.bytes last rest qs h.chain_is.others
     (subst (λ (n : ℕ). Rest v.order v.bytes n qs) (sym chained.1)
-        (subst (λ (o : Order). Rest o v.bytes end qs) dated
-        (subst (λ (b : List ℕ). Rest w.order b end qs) same k.chain_is.others))) in
+    (subst (λ (o : Order). Rest o v.bytes end qs) dated
+    (subst (λ (b : List ℕ). Rest w.order b end qs) same k.chain_is.others))) in
     let there = subst (λ (xs : List ℕ). IsViewBy xs last rest w) (sym chained.0)
-        (subst (λ (n : ℕ). IsViewBy ps n rest w) (sym chained.1)
-        (subst (λ (xs : List ℕ). IsViewBy ps end xs w) (sym rested) k)) in
+    (subst (λ (n : ℕ). IsViewBy ps n rest w) (sym chained.1)
+    (subst (λ (xs : List ℕ). IsViewBy ps end xs w) (sym rested) k)) in
     sym (same_fields os last rest v w (sym same) (sym dated) h there)

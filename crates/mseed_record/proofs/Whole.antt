@@ -1,6 +1,6 @@
 -- Along the whole chain of a record.
-use Rattle.std.proofs.Common.{◌≡◌, ◌≢◌, ℕ, ◌+◌, ◌≤◌, ◌++◌, ◌==◌, ◌||◌, if◌then◌else◌, Bool, List, [], ◌∷◌, length, true,
-    false, Some, None, Option, IfSome, refl, sym, ap, ◌∙◌, subst, arith}
+use Rattle.std.proofs.Common.{◌≡◌, ◌≢◌, ℕ, ◌+◌, ◌≤◌, ◌++◌, ◌==◌, ◌||◌, if◌then◌else◌, Bool, List, [], ◌∷◌, length, true}
+use Rattle.std.proofs.Common.{false, Some, None, Option, IfSome, refl, sym, ap, ◌∙◌, subst, arith}
 use Rattle.std.proofs.lemmas.Bool.Decides.{nat_tests}
 use Rattle.std.proofs.lemmas.Bool.{false≢true}
 use Rattle.std.proofs.lemmas.List.Folds.{find-append, list_any-append}
@@ -86,7 +86,7 @@ has_type_more : (order : Order) (kind : ℕ) (b : List ℕ) (vs : List ℕ) (o :
     → (has_type order kind b vs || (type_at order b o == kind)) ≡ has_type order kind b (vs ++ o ∷ [])
 has_type_more order kind b vs o =
     ap (λ (x : Bool). has_type order kind b vs || x) (sym (or_false (type_at order b o == kind)))
-        ∙ sym (list_any-append (λ p. type_at order b p == kind) vs (o ∷ []))
+    ∙ sym (list_any-append (λ p. type_at order b p == kind) vs (o ∷ []))
 
 -- what counts, with one more blockette
 pub found_more : (order : Order) (b : List ℕ) (vs : List ℕ) (o : ℕ) (kind : ℕ) (found more : Blockettes)
@@ -129,4 +129,4 @@ pub within_more : (len o kind : ℕ) (found more : Option ℕ)
 within_more len o kind (Some q) more e h w = subst (λ (r : Option ℕ). IfSome r (λ p. p + 8 ≤ len)) (sym e) h
 within_more len o kind None more e h w =
     first_within len o (kind == 1001) more e
-        (λ (t : (kind == 1001) ≡ true). subst (λ (x : Bool). o + (if x then 8 else 4) ≤ len) t w)
+    (λ (t : (kind == 1001) ≡ true). subst (λ (x : Bool). o + (if x then 8 else 4) ≤ len) t w)

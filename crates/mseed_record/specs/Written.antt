@@ -1,7 +1,8 @@
 -- The header that this project writes: a big-endian fixed section, then a blockette 1000 and a blockette
 -- 1001, 64 bytes (SEED manual, chapter 8).
-use Rattle.std.specs.Prelude.{◌≡◌, ℕ, ◌-◌, ◌^◌, ◌≤◌, ◌<◌, ◌&&◌, nat_le, not, Bool, false, if◌then◌else◌, replicate,
-    List, [], ◌∷◌, ◌++◌, length, take, drop, slice_index, slice_range, codes, Option, Some, None, ℤ, ◌+ℤ◌, FitsSigned}
+use Rattle.std.specs.Prelude.{◌≡◌, ℕ, ◌-◌, ◌^◌, ◌≤◌, ◌<◌, ◌&&◌, nat_le, not, Bool, false, if◌then◌else◌, replicate}
+use Rattle.std.specs.Prelude.{List, [], ◌∷◌, ◌++◌, length, take, drop, slice_index, slice_range, codes, Option, Some}
+use Rattle.std.specs.Prelude.{None, ℤ, ◌+ℤ◌, FitsSigned}
 use Rattle.std.specs.Int.{w8, w16, cast_unsigned}
 use Rattle.std.specs.List.{list_all}
 use Rattle.byteorder.specs.Endian.{big_bytes}

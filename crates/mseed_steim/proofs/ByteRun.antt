@@ -1,7 +1,7 @@
 -- Words of code 01: their differences are their bytes.
-use Rattle.std.proofs.Common.{◌≡◌, ◌≢◌, ℕ, zero, suc, ◌+◌, ◌-◌, ◌*◌, ◌/◌, ◌%◌, ◌^◌, ◌<◌, ◌≤◌, List, [], ◌∷◌, ◌++◌,
-    length, map, take, drop, get_or, length-drop, ℤ, refl, sym, ap, ◌∙◌, append_assoc, arith, eqb, cond, true, false,
-    Bool, Some, Ok, Result, ⊎_elim}
+use Rattle.std.proofs.Common.{◌≡◌, ◌≢◌, ℕ, zero, suc, ◌+◌, ◌-◌, ◌*◌, ◌/◌, ◌%◌, ◌^◌, ◌<◌, ◌≤◌, List, [], ◌∷◌, ◌++◌}
+use Rattle.std.proofs.Common.{length, map, take, drop, get_or, length-drop, ℤ, refl, sym, ap, ◌∙◌, append_assoc, arith}
+use Rattle.std.proofs.Common.{eqb, cond, true, false, Bool, Some, Ok, Result, ⊎_elim}
 use Rattle.std.proofs.lemmas.Int.{ints}
 use Rattle.std.proofs.lemmas.Bool.{ne_eqb, eq-eqb, cases_lt, lt-ltb, le-ltb}
 use Rattle.std.proofs.lemmas.List.{map-append, drop-drop, get_or-drop, length-take-le}
@@ -55,8 +55,8 @@ pub word_bytes : (s : Scheme) (p : List ℕ) → ((i : ℕ) → get_or p i 0 < 2
 word_bytes s p octets k e h =
     let long : 4 ≤ length (drop (4 * k) p) = rw length-drop (omega (arith, h)) in
     let found = by_row s 1 (word_at p k) false 1 4 8 (widened (take 4 (drop (4 * k) p))) (omega arith)
-        (bytes_row s (word_at p k / 2 ^ 30))
-        (byte_digits (drop (4 * k) p) long (λ i. rw (get_or-drop (4 * k) p i 0) (octets (4 * k + i)))) in
+    (bytes_row s (word_at p k / 2 ^ 30))
+    (byte_digits (drop (4 * k) p) long (λ i. rw (get_or-drop (4 * k) p i 0) (octets (4 * k + i)))) in
     rw e found
 
 -- the words of a run: each is of code 01, in one frame, and not the frame's first
@@ -86,8 +86,13 @@ run_words p frame (suc m) k n h stop =
     let more : suc m + n ≡ suc (m + n) = omega arith in
     let next : k + suc m ≡ k + 1 + m = omega arith in
     let later = run_words p frame m (k + 1) n (next_bytes p frame k m h) (rw next at stop) in
-    rw (more, words_step p k (m + n) one.1, words_step p k m one.1, eq-eqb (k / 16) frame one.0,
-        eq-eqb (code_at p k) 1 one.2) (ap (λ (ws : List DataWord). data_word p k ∷ ws) later)
+    rw (
+      more,
+      words_step p k (m + n) one.1,
+      words_step p k m one.1,
+      eq-eqb (k / 16) frame one.0,
+      eq-eqb (code_at p k) 1 one.2,
+    ) (ap (λ (ws : List DataWord). data_word p k ∷ ws) later)
 
 neither : {X : Type 0} (b : Bool) (x y : X) → cond (cond b false false) x y ≡ y
 neither true x y = refl
@@ -107,7 +112,7 @@ run_stops p frame k zero other past = rw (words_none p k) refl
 run_stops p frame k (suc n) other past = ⊎_elim
     (λ (head : k % 16 ≡ 0). rw (words_skip p k n head) (other_frame p frame k n head (past head)))
     (λ (data_place : k % 16 ≢ 0). rw (words_step p k n data_place, ne_eqb (code_at p k) 1 (other data_place))
-        (neither (eqb (k / 16) frame) _ _))
+    (neither (eqb (k / 16) frame) _ _))
     (is_head k)
 
 -- the bytes of a word, and those of the words behind it
@@ -117,9 +122,9 @@ bytes_cut p k m =
     let more : 4 * suc m ≡ 4 + 4 * m = omega arith in
     let next : 4 * k + 4 ≡ 4 * (k + 1) = omega arith in
     let behind : drop 4 (drop (4 * k) p) ≡ drop (4 * (k + 1)) p = drop-drop 4 (4 * k) p
-        ∙ ap (λ (i : ℕ). drop i p) next in
+    ∙ ap (λ (i : ℕ). drop i p) next in
     ap (λ (i : ℕ). take i (drop (4 * k) p)) more ∙ take-add 4 (4 * m) (drop (4 * k) p)
-        ∙ ap (λ (xs : List ℕ). take 4 (drop (4 * k) p) ++ take (4 * m) xs) behind
+    ∙ ap (λ (xs : List ℕ). take 4 (drop (4 * k) p) ++ take (4 * m) xs) behind
 
 widened_cut : (p : List ℕ) (k m : ℕ) → widened (take (4 * suc m) (drop (4 * k) p)) ≡ widened (take 4 (drop (4 * k) p))
     ++ widened (take (4 * m) (drop (4 * (k + 1)) p))
@@ -133,10 +138,12 @@ run_spelled s p octets frame zero k h inside = rw (words_none p k) refl
 run_spelled s p octets frame (suc m) k h inside =
     let one = first_bytes p frame k m h in
     let word = differences_spelled s (code_at p k) (word_at p k) (widened (take 4 (drop (4 * k) p)))
-        (word_small p k octets) (word_bytes s p octets k one.2 (omega (arith, inside))) in
+    (word_small p k octets) (word_bytes s p octets k one.2 (omega (arith, inside))) in
     let later = run_spelled s p octets frame m (k + 1) (next_bytes p frame k m h) (omega (arith, inside)) in
-    rw (words_step p k m one.1) (widened (take 4 (drop (4 * k) p)),
-        (widened (take (4 * m) (drop (4 * (k + 1)) p)), (widened_cut p k m, (word, later))))
+    rw (words_step p k m one.1) (
+      widened (take 4 (drop (4 * k) p)),
+      (widened (take (4 * m) (drop (4 * (k + 1)) p)), (widened_cut p k m, (word, later))),
+    )
 
 pub run_items : (s : Scheme) (p : List ℕ) → ((i : ℕ) → get_or p i 0 < 256) → (frame m k n : ℕ) → AreBytes p frame k m
     → 4 * (k + m) ≤ length p → items_of s (words_from p k (m + n)) ≡ map Ok (widened (take (4 * m) (drop (4 * k) p)))
@@ -153,14 +160,14 @@ run_items s p octets frame (suc m) k n h inside =
     let others : List ℤ = widened (take (4 * m) (drop (4 * (k + 1)) p)) in
     let behind : List (Result ℤ BadWordAt) = items_of s (words_from p (k + suc m) n) in
     let step = items_group s (words_from p k (suc (m + n))) (words_from p (k + 1) (m + n)) (data_word p k) first
-        (words_step p k (m + n) one.1) (word_bytes s p octets k one.2 (omega (arith, inside))) in
+    (words_step p k (m + n) one.1) (word_bytes s p octets k one.2 (omega (arith, inside))) in
     let later : items_of s (words_from p (k + 1) (m + n)) ≡ map Ok others ++ behind =
-        rw next at (run_items s p octets frame m (k + 1) n (next_bytes p frame k m h) (omega (arith, inside))) in
+    rw next at (run_items s p octets frame m (k + 1) n (next_bytes p frame k m h) (omega (arith, inside))) in
     let joined : map Ok (widened (take (4 * suc m) (drop (4 * k) p))) ≡ map Ok first ++ map Ok others =
-        ap (λ (zs : List ℤ). map {B = Result ℤ BadWordAt} Ok zs) (widened_cut p k m) ∙ map-append Ok first others in
+    ap (λ (zs : List ℤ). map {B = Result ℤ BadWordAt} Ok zs) (widened_cut p k m) ∙ map-append Ok first others in
     rw more (step ∙ ap (λ (zs : List (Result ℤ BadWordAt)). map Ok first ++ zs) later
-        ∙ sym (append_assoc (map Ok first) (map Ok others) behind)
-        ∙ ap (λ (zs : List (Result ℤ BadWordAt)). zs ++ behind) (sym joined))
+    ∙ sym (append_assoc (map Ok first) (map Ok others) behind)
+    ∙ ap (λ (zs : List (Result ℤ BadWordAt)). zs ++ behind) (sym joined))
 
 -- how many words there are
 pub run_count : (p : List ℕ) (frame m k : ℕ) → AreBytes p frame k m → length (words_from p k m) ≡ m

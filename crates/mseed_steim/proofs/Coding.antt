@@ -1,6 +1,6 @@
 -- Frames that are filled word by word, where the codes of the frame that is being filled aren't written yet.
-use Rattle.std.proofs.Common.{◌≡◌, ◌≢◌, ℕ, ◌+◌, ◌-◌, ◌*◌, ◌/◌, ◌%◌, ◌^◌, ◌<◌, ◌≤◌, List, length, drop, ℤ, arith, refl,
-    ap, sym, ◌∙◌, subst, ⊎_elim, cond, eqb, bit_or, replicate}
+use Rattle.std.proofs.Common.{◌≡◌, ◌≢◌, ℕ, ◌+◌, ◌-◌, ◌*◌, ◌/◌, ◌%◌, ◌^◌, ◌<◌, ◌≤◌, List, length, drop, ℤ, arith, refl}
+use Rattle.std.proofs.Common.{ap, sym, ◌∙◌, subst, ⊎_elim, cond, eqb, bit_or, replicate}
 use Rattle.std.proofs.lemmas.Bool.{cases_eq, ne_eqb, eq-eqb}
 use Rattle.byteorder.specs.Endian.{big_bytes}
 use Rattle.mseed_steim.specs.declared.scheme.Scheme.{Scheme}
@@ -15,9 +15,9 @@ filling_same : (s : Scheme) (ds : List ℤ) (p q : List ℕ) (index used words :
     → Filling s ds p index used words → Filling s ds q index used words
 filling_same s ds p q index used words same f =
     let code : (k : ℕ) → code_at q k ≡ code_at p k =
-        λ k. ap (λ (w : ℕ). w / 2 ^ (30 - 2 * (k % 16)) % 4) (same (16 * (k / 16))) in
+    λ k. ap (λ (w : ℕ). w / 2 ^ (30 - 2 * (k % 16)) % 4) (same (16 * (k / 16))) in
     let all : words_from q 3 (index - 3) ≡ words_from p 3 (index - 3) =
-        words_same q p 3 (index - 3) (λ i low high d. let c = code i in let w = same i in cc (c, w)) in record {
+    words_same q p 3 (index - 3) (λ i low high d. let c = code i in let w = same i in cc (c, w)) in record {
       from = f.from;
       inside = f.inside;
       count = ap (λ (ws : List DataWord). length ws) all ∙ f.count;
@@ -59,7 +59,7 @@ coding_past s ds p q head codes index used words first says f =
     let at = f.at in
     let before : head < index = omega (arith, at, from, first) in
     let other : (k : ℕ) → index ≤ k → word_at q k ≡ 0 =
-        λ k h. says k ∙ (rw (ne_eqb k head (λ e. omega (arith, e, before, h))) (f.zeros k h)) in record {
+    λ k h. says k ∙ (rw (ne_eqb k head (λ e. omega (arith, e, before, h))) (f.zeros k h)) in record {
       whole = q;
       same = λ k. ⊎_elim (λ (h : k ≡ index). rw (eq-eqb k index h) (other k (omega (arith, h))))
           (λ (h : k ≡ index → ⊥). rw (ne_eqb k index h) refl) (cases_eq k index);
@@ -83,20 +83,20 @@ coding_more s ds p q head codes index used words code word n new plain room fits
     let before : head < index = omega (arith, place, plain) in
     let whole = with_bytes (4 * head) q (big_bytes 4 new) in
     let same : (k : ℕ) → word_at whole k ≡ cond (eqb k head) new (word_at q k) =
-        λ k. word_with (4 * head) new q k head refl (omega (arith, room, before)) fits in
+    λ k. word_with (4 * head) new q k head refl (omega (arith, room, before)) fits in
     let at_head : word_at f.whole head ≡ codes = f.same head ∙ (rw (eq-eqb head head refl) refl) in
     let kept : (k : ℕ) → k ≢ head → word_at f.whole k ≡ word_at p k = λ k h. f.same k ∙ (rw (ne_eqb k head h) refl) in
     let written : (k : ℕ) → k ≢ head → word_at whole k ≡ cond (eqb k index) word (word_at f.whole k) =
-        λ k h. same k ∙ (rw (ne_eqb k head h, kept k h) (says k)) in
+    λ k h. same k ∙ (rw (ne_eqb k head h, kept k h) (says k)) in
     let bits : (k : ℕ) → k % 16 ≢ 0 → word_at whole k ≡ cond (eqb k index) word (word_at f.whole k) =
-        λ k d. written k (λ h. d (omega (arith, h, place))) in
+    λ k d. written k (λ h. d (omega (arith, h, place))) in
     let all : (k : ℕ) → word_at whole k ≡ cond (eqb k index) word
-        (cond (eqb k (index / 16 * 16))
-        (bit_or (word_at f.whole (index / 16 * 16)) ((code * 2 ^ (30 - 2 * (index % 16))) % 2 ^ 32))
-        (word_at f.whole k)) =
+    (cond (eqb k (index / 16 * 16))
+    (bit_or (word_at f.whole (index / 16 * 16)) ((code * 2 ^ (30 - 2 * (index % 16))) % 2 ^ 32))
+    (word_at f.whole k)) =
     λ k. rw (← place, at_head) (⊎_elim
     (λ (h : k ≡ head). let other : k ≢ index = λ i. omega (arith, i, h, before) in
-        same k ∙ (rw (ne_eqb k index other, eq-eqb k head h) e))
+    same k ∙ (rw (ne_eqb k index other, eq-eqb k head h) e))
     (λ (h : k ≡ head → ⊥). rw (ne_eqb k head h) (written k h))
     (cases_eq k head)) in
     record {

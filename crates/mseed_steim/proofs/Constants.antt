@@ -1,6 +1,6 @@
 -- The ends of a record's reading, none of which is read.
-use Rattle.std.proofs.Common.{◌≡◌, ℕ, ◌-◌, ◌<◌, List, [], ◌∷◌, length, ap, sym, subst, ◌∙◌, arith, ℤ, slice_get, Some,
-    Ok, Err, Result, IfOk, IfErr}
+use Rattle.std.proofs.Common.{◌≡◌, ℕ, ◌-◌, ◌<◌, List, [], ◌∷◌, length, ap, sym, subst, ◌∙◌, arith, ℤ, slice_get, Some}
+use Rattle.std.proofs.Common.{Ok, Err, Result, IfOk, IfErr}
 use Rattle.mseed_record.specs.View.{View, payload_of}
 use Rattle.mseed_steim.specs.declared.scheme.Scheme.{Scheme}
 use Rattle.mseed_steim.specs.declared.form.Form.TheVariants.{Frames}
@@ -37,17 +37,19 @@ constants_end v scheme p ends held first last s whole =
     let end : slice_get s (length s - 1) ≡ Some (last_constant (payload_of v)) = whole.1 (Frames scheme) held.1 in
     let same : p ≡ payload_of v = held.4 in
     let begin : slice_get s 0 ≡ Some (first_constant (payload_of v)) =
-        first_is (first_constant (payload_of v)) read.1.differences s (omega (arith, read.1.count, whole.0.some))
-        read.1.sums in
-    (begin ∙ ap (λ (q : List ℕ). Some (first_constant q)) (sym same) ∙ ap (λ (z : ℤ). Some z) (sym first), end
-        ∙ ap (λ (q : List ℕ). Some (last_constant q)) (sym same) ∙ ap (λ (z : ℤ). Some z) (sym last))
+    first_is (first_constant (payload_of v)) read.1.differences s (omega (arith, read.1.count, whole.0.some))
+    read.1.sums in (
+      begin ∙ ap (λ (q : List ℕ). Some (first_constant q)) (sym same) ∙ ap (λ (z : ℤ). Some z) (sym first),
+      end
+          ∙ ap (λ (q : List ℕ). Some (last_constant q)) (sym same) ∙ ap (λ (z : ℤ). Some z) (sym last),
+    )
 
 pub frameless : (v : View) (scheme : Scheme) (p : List ℕ) → 0 < count_of v → HoldsIn v (Frames scheme) p
     → length p < 64 → IsFault v (Short 0)
 frameless v scheme p some held small =
     in_payload held.0 (Frames scheme) held.1 held.2 held.3 (Short 0)
-        (subst (λ (q : List ℕ). IsFrameFault scheme q (count_of v) (Short 0)) held.4
-        (no_frame scheme p (count_of v) small some))
+    (subst (λ (q : List ℕ). IsFrameFault scheme q (count_of v) (Short 0)) held.4
+    (no_frame scheme p (count_of v) small some))
 
 -- a record with a reading that ends on its constants has no fault
 pub whole_fault : (v : View) (s : List ℤ) (f : ReadFault) → IsWhole v s → IsFault v f → ⊥

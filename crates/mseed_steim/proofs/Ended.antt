@@ -1,6 +1,6 @@
 -- The ends of samples.
-use Rattle.std.proofs.Common.{◌≡◌, ◌≢◌, ℕ, ◌-◌, ◌<◌, List, [], ◌∷◌, ◌++◌, length, get_or, ℤ, arith, refl, ap, sym, ◌∙◌,
-    subst, slice_get, Option, Some, None, Result, Ok, Err, All}
+use Rattle.std.proofs.Common.{◌≡◌, ◌≢◌, ℕ, ◌-◌, ◌<◌, List, [], ◌∷◌, ◌++◌, length, get_or, ℤ, arith, refl, ap, sym, ◌∙◌}
+use Rattle.std.proofs.Common.{subst, slice_get, Option, Some, None, Result, Ok, Err, All}
 use Rattle.mseed_time.specs.declared.order.Order.TheVariants.{Big}
 use Rattle.mseed_steim.specs.declared.scheme.Scheme.{Scheme}
 use Rattle.mseed_steim.specs.declared.form.Form.TheVariants.{Frames}
@@ -10,8 +10,8 @@ use Rattle.mseed_steim.specs.declared.fault.ReadFault.TheVariants.{Short, LastDi
 use Rattle.mseed_steim.specs.declared.sum.Sum.{Sum}
 use Rattle.mseed_steim.specs.Frames.{word_count, data_words, first_constant, last_constant}
 use Rattle.mseed_steim.specs.private.Items.{items_of}
-use Rattle.mseed_steim.specs.Samples.{IsSample, AreSums, IsFrameFault, short, last_differs, IsChecked, IsPayloadReading,
-    EndsOnConstant}
+use Rattle.mseed_steim.specs.Samples.{IsSample, AreSums, IsFrameFault, short, last_differs, IsChecked, IsPayloadReading}
+use Rattle.mseed_steim.specs.Samples.{EndsOnConstant}
 use Rattle.mseed_steim.specs.private.Sums.{fold, met_in, lack}
 use Rattle.mseed_steim.proofs.Walking.{words_none}
 use Rattle.mseed_steim.proofs.Given.{items_given, words_small}
@@ -36,10 +36,10 @@ pub walked : (s : Scheme) (p : List ℕ) (n : ℕ) (sum : Sum) → 0 < n → ((i
     → Met s p n (met_in n (record { met = 0; last = first_constant p }) (items_of s (data_words p))) sum.last
 walked s p n sum h octets e =
     let b = subst (λ (r : Result Sum ReadFault). Begins n (first_constant p)
-        (met_in n (record { met = 0; last = first_constant p }) (items_of s (data_words p)))
-        (items_of s (data_words p)) r) (sym e) (begins n (first_constant p) (items_of s (data_words p)) h) in
+    (met_in n (record { met = 0; last = first_constant p }) (items_of s (data_words p)))
+    (items_of s (data_words p)) r) (sym e) (begins n (first_constant p) (items_of s (data_words p)) h) in
     all_met s p n _ (items_of s (data_words p)) sum (items_given s (data_words p) (words_small p octets 3 _))
-        (constant_fits p octets 1) b
+    (constant_fits p octets 1) b
 
 pub ends_met : (s : Scheme) (p : List ℕ) (n : ℕ) (sum : Sum) → 0 < n → ((i : ℕ) → get_or p i 0 < 256)
     → Ok sum ≡ fold n (record { met = 0; last = first_constant p }) (items_of s (data_words p))
@@ -48,10 +48,14 @@ pub ends_met : (s : Scheme) (p : List ℕ) (n : ℕ) (sum : Sum) → 0 < n → (
 ends_met s p n sum h octets e ends first last same =
     let m = walked s p n sum h octets e in
     let found : slice_get (first_constant p ∷ m.others) (length (first_constant p ∷ m.others) - 1)
-        ≡ Some (last_constant p) = get_end (first_constant p) m.others ∙ ap (λ (z : ℤ). Some z) (sym m.ends ∙ same) in
-    (first_constant p ∷ m.others,
-        ((refl, m.sums, m.range), found,
-        (ap (λ (z : ℤ). Some z) (sym first), found ∙ ap (λ (z : ℤ). Some z) (sym last))))
+    ≡ Some (last_constant p) = get_end (first_constant p) m.others ∙ ap (λ (z : ℤ). Some z) (sym m.ends ∙ same) in (
+      first_constant p ∷ m.others,
+      (
+        (refl, m.sums, m.range),
+        found,
+        (ap (λ (z : ℤ). Some z) (sym first), found ∙ ap (λ (z : ℤ). Some z) (sym last)),
+      ),
+    )
 
 pub ends_differ : (s : Scheme) (p : List ℕ) (n : ℕ) (sum : Sum) → 0 < n → ((i : ℕ) → get_or p i 0 < 256)
     → Ok sum ≡ fold n (record { met = 0; last = first_constant p }) (items_of s (data_words p))
@@ -63,14 +67,14 @@ ends_differ s p n sum h octets e a c found constant differ =
     let whole : first_constant p ∷ m.others ≡ split.0 ++ a ∷ [] = rw last split.1 in
     subst (λ (z : ℤ). IsFrameFault s p n (LastDiffers a z)) (sym constant)
     (last_differs split.0 a (subst (λ (xs : List ℤ). AreSums s p n xs) whole m.sums)
-        (subst (λ (xs : List ℤ). All IsSample xs) whole m.range) (λ q. differ (q ∙ sym constant)))
+    (subst (λ (xs : List ℤ). All IsSample xs) whole m.range) (λ q. differ (q ∙ sym constant)))
 
 -- a walk that ended with a fault
 pub lacking_fault : (s : Scheme) (p : List ℕ) (n : ℕ) (f : ReadFault) → ((i : ℕ) → get_or p i 0 < 256)
     → Some f ≡ lack n 0 (items_of s (data_words p)) → IsFrameFault s p n f
 lacking_fault s p n f octets e =
     let l = subst (λ (o : Option ReadFault). Lacks n 0 (items_of s (data_words p)) o) (sym e)
-        (lacks n 0 (items_of s (data_words p)) (omega arith)) in
+    (lacks n 0 (items_of s (data_words p)) (omega arith)) in
     is_lacking s p n (items_of s (data_words p)) f (items_given s (data_words p) (words_small p octets 3 _)) l
 
 pub walk_fault : (s : Scheme) (p : List ℕ) (n : ℕ) (f : ReadFault) → 0 < n → ((i : ℕ) → get_or p i 0 < 256)
@@ -78,12 +82,12 @@ pub walk_fault : (s : Scheme) (p : List ℕ) (n : ℕ) (f : ReadFault) → 0 < n
     → None ≡ lack n 0 (items_of s (data_words p)) → IsFrameFault s p n f
 walk_fault s p n f h octets e o =
     let l = subst (λ (o : Option ReadFault). Lacks n 0 (items_of s (data_words p)) o) (sym o)
-        (lacks n 0 (items_of s (data_words p)) (omega arith)) in
+    (lacks n 0 (items_of s (data_words p)) (omega arith)) in
     let b = subst (λ (r : Result Sum ReadFault). Begins n (first_constant p)
-        (met_in n (record { met = 0; last = first_constant p }) (items_of s (data_words p)))
-        (items_of s (data_words p)) r) (sym e) (begins n (first_constant p) (items_of s (data_words p)) h) in
+    (met_in n (record { met = 0; last = first_constant p }) (items_of s (data_words p)))
+    (items_of s (data_words p)) r) (sym e) (begins n (first_constant p) (items_of s (data_words p)) h) in
     is_fault s p n _ (items_of s (data_words p)) f h (items_given s (data_words p) (words_small p octets 3 _))
-        (constant_fits p octets 1) b l
+    (constant_fits p octets 1) b l
 
 last_pushed : (x : ℤ) (front : List ℤ) (last : ℤ) → last_of x (front ++ last ∷ []) ≡ last
 last_pushed x [] last = refl
@@ -103,9 +107,9 @@ pub filled_met : (s : Scheme) (p : List ℕ) (n : ℕ) (sum : Sum) (out : List �
 filled_met s p n sum out h octets e put same =
     let m = walked s p n sum h octets e in
     let found : slice_get (first_constant p ∷ m.others) (length (first_constant p ∷ m.others) - 1)
-        ≡ Some (last_constant p) = get_end (first_constant p) m.others ∙ ap (λ (z : ℤ). Some z) (sym m.ends ∙ same) in
+    ≡ Some (last_constant p) = get_end (first_constant p) m.others ∙ ap (λ (z : ℤ). Some z) (sym m.ends ∙ same) in
     subst (λ (xs : List ℤ). IsPayloadReading (Frames s) Big p n xs × EndsOnConstant (Frames s) p xs)
-        (sym (put ∙ m.kept)) ((refl, m.sums, m.range), found)
+    (sym (put ∙ m.kept)) ((refl, m.sums, m.range), found)
 
 -- without a frame there are no words
 pub no_frame : (s : Scheme) (p : List ℕ) (n : ℕ) → length p < 64 → 0 < n → IsFrameFault s p n (Short 0)

@@ -1,6 +1,6 @@
 -- Differences that are added up at once, while the limits of 32 bits are out of reach.
-use Rattle.std.proofs.Common.{◌≡◌, ℕ, ◌+◌, ◌<◌, ◌≤◌, ◌^◌, suc, List, [], ◌∷◌, ◌++◌, map, drop, get_or, length, ℤ, pos,
-    negsuc, ◌+ℤ◌, nat_abs, w32, FitsSigned, arith, refl, ap, ◌∙◌, true, Ok, Result}
+use Rattle.std.proofs.Common.{◌≡◌, ℕ, ◌+◌, ◌<◌, ◌≤◌, ◌^◌, suc, List, [], ◌∷◌, ◌++◌, map, drop, get_or, length, ℤ, pos}
+use Rattle.std.proofs.Common.{negsuc, ◌+ℤ◌, nat_abs, w32, FitsSigned, arith, refl, ap, ◌∙◌, true, Ok, Result}
 use Rattle.std.proofs.Math.Seq.{drop-cons}
 use Rattle.std.proofs.lemmas.Int.{ints}
 use Rattle.std.proofs.lemmas.Bool.{lt-ltb}
@@ -49,5 +49,5 @@ pub span_step : (ds : List ℤ) (i : ℕ) (z : ℤ) → i < length ds
 span_step ds i z h =
     let next : suc i ≡ i + 1 = omega arith in
     let cut : drop i ds ≡ get_or ds i z ∷ drop (i + 1) ds = drop-cons ds i z h
-        ∙ ap (λ (k : ℕ). get_or ds i z ∷ drop k ds) next in
+    ∙ ap (λ (k : ℕ). get_or ds i z ∷ drop k ds) next in
     ap span cut

@@ -1,6 +1,6 @@
 -- How many differences words have: seven each at the most.
-use Rattle.std.proofs.Common.{ℕ, ◌+◌, ◌*◌, ◌/◌, ◌^◌, ◌≤◌, List, [], ◌∷◌, length, ℤ, arith, length-append, eqb, Option,
-    Some, None, Result}
+use Rattle.std.proofs.Common.{ℕ, ◌+◌, ◌*◌, ◌/◌, ◌^◌, ◌≤◌, List, [], ◌∷◌, length, ℤ, arith, length-append, eqb, Option}
+use Rattle.std.proofs.Common.{Some, None, Result}
 use Rattle.std.proofs.lemmas.Bool.{cond_both}
 use Rattle.std.proofs.lemmas.List.{length-map}
 use Rattle.mseed_steim.specs.declared.scheme.Scheme.{Scheme}

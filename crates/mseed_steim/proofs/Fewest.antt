@@ -1,9 +1,9 @@
 -- In Steim-2, words that take the largest number in turn are never behind any other words.
-use Rattle.std.proofs.Common.{◌≡◌, ℕ, suc, ◌+◌, ◌-◌, ◌<◌, ◌≤◌, List, [], ◌∷◌, ◌++◌, length, take, drop, ℤ, arith, refl,
-    ap, sym, ◌∙◌, subst, ⊎_elim, ◌⊎◌, inl, inr, length-append}
+use Rattle.std.proofs.Common.{◌≡◌, ℕ, suc, ◌+◌, ◌-◌, ◌<◌, ◌≤◌, List, [], ◌∷◌, ◌++◌, length, take, drop, ℤ, arith, refl}
+use Rattle.std.proofs.Common.{ap, sym, ◌∙◌, subst, ⊎_elim, ◌⊎◌, inl, inr, length-append}
 use Rattle.std.proofs.lemmas.Bool.{cases_lt}
-use Rattle.std.proofs.lemmas.List.{nil_from_length, length-take-le, length-drop, take-append-drop, take-append-le,
-    drop_at, append_assoc, append-nil}
+use Rattle.std.proofs.lemmas.List.{nil_from_length, length-take-le, length-drop, take-append-drop, take-append-le}
+use Rattle.std.proofs.lemmas.List.{drop_at, append_assoc, append-nil}
 use Rattle.mseed_steim.specs.declared.scheme.Scheme.TheVariants.{Two}
 use Rattle.mseed_steim.specs.Spelling.{Spells}
 use Rattle.mseed_steim.specs.Frames.{DataWord}
@@ -26,8 +26,10 @@ append_cases (x ∷ xs) ys (a ∷ hs) bs e =
     (append_cases xs ys hs bs rest)
 
 spelled_word : (ds : List ℤ) → CanSpell Two ds → (w : DataWord) × SpellsRun Two (w ∷ []) ds
-spelled_word ds can = (record { frame = 0; place = 0; code = can.0; bits = can.1.0 },
-    (ds, ([], (sym (append-nil ds), (can.1.1, refl)))))
+spelled_word ds can = (
+  record { frame = 0; place = 0; code = can.0; bits = can.1.0 },
+  (ds, ([], (sym (append-nil ds), (can.1.1, refl)))),
+)
 
 -- as many words spell what is left where a front of the differences goes
 abbrev SpelledBy : ℕ → List ℤ → Type 0
@@ -35,9 +37,10 @@ SpelledBy n ds = (us : List DataWord) × ((length us ≤ n) × SpellsRun Two us 
 
 rest_of_word : (m bs : List ℤ) (vs : List DataWord) → SpellsRun Two vs bs → CanSpell Two m
     → SpelledBy (suc (length vs)) (m ++ bs)
-rest_of_word m bs vs run can =
-    (record { frame = 0; place = 0; code = can.0; bits = can.1.0 } ∷ vs,
-    (omega arith, (m, (bs, (refl, (can.1.1, run))))))
+rest_of_word m bs vs run can = (
+  record { frame = 0; place = 0; code = can.0; bits = can.1.0 } ∷ vs,
+  (omega arith, (m, (bs, (refl, (can.1.1, run))))),
+)
 
 by_rest : (xs m bs : List ℤ) (vs : List DataWord) → SpellsRun Two vs bs → CanSpell Two (xs ++ m)
     → SpelledBy (suc (length vs)) (m ++ bs)
@@ -45,7 +48,7 @@ by_rest xs [] bs vs run can = (vs, (omega arith, run))
 by_rest xs (z ∷ m) bs vs run can =
     let whole : xs ++ (z ∷ m) ≡ xs ++ ((z ∷ m) ++ []) = ap (λ (l : List ℤ). xs ++ l) (sym (append-nil (z ∷ m))) in
     rest_of_word (z ∷ m) bs vs run
-        (part_spelled xs (z ∷ m) [] (omega arith) (subst (λ (l : List ℤ). CanSpell Two l) whole can))
+    (part_spelled xs (z ∷ m) [] (omega arith) (subst (λ (l : List ℤ). CanSpell Two l) whole can))
 
 drop_front : (vs : List DataWord) (xs ys : List ℤ) → SpellsRun Two vs (xs ++ ys) → SpelledBy (length vs) ys
 drop_front [] xs ys run =
@@ -55,8 +58,10 @@ drop_front [] xs ys run =
 drop_front (v ∷ vs) xs ys run = ⊎_elim
     (λ (h : (m : List ℤ) × ((run.0 ≡ xs ++ m) × (ys ≡ m ++ run.1.0))).
     subst (λ (l : List ℤ). SpelledBy (suc (length vs)) l) (sym h.1.1)
-    (by_rest xs h.0 run.1.0 vs run.1.1.1.1 (v.code,
-        (v.bits, subst (λ (l : List ℤ). Spells Two v.code v.bits l) h.1.0 run.1.1.1.0))))
+    (by_rest xs h.0 run.1.0 vs run.1.1.1.1 (
+      v.code,
+      (v.bits, subst (λ (l : List ℤ). Spells Two v.code v.bits l) h.1.0 run.1.1.1.0),
+    )))
     (λ (h : (m : List ℤ) × ((xs ≡ run.0 ++ m) × (run.1.0 ≡ m ++ ys))).
     let later = drop_front vs h.0 ys (subst (λ (l : List ℤ). SpellsRun Two vs l) h.1.1 run.1.1.1.1) in
     (later.0, (omega (arith, later.1.0), later.1.1)))
@@ -72,15 +77,17 @@ no_more ds front behind more hs bs code word used wcode wbits full e less cut sp
     let most : used + 1 ≤ length hs = omega (arith, over) in
     let same : take (used + 1) hs ≡ take (used + 1) ds =
     sym (take-append-le (used + 1) hs bs most) ∙ ap (λ (l : List ℤ). take (used + 1) l) (sym cut)
-        ∙ take-append-le (used + 1) front more long ∙ sym (take-append-le (used + 1) front behind long)
-        ∙ ap (λ (l : List ℤ). take (used + 1) l) (sym e) in
+    ∙ take-append-le (used + 1) front more long ∙ sym (take-append-le (used + 1) front behind long)
+    ∙ ap (λ (l : List ℤ). take (used + 1) l) (sym e) in
     let some : 0 < length (take (used + 1) hs) = omega (arith, length-take-le (used + 1) hs most) in
     let can : CanSpell Two (take (used + 1) hs) =
-        part_spelled [] (take (used + 1) hs) (drop (used + 1) hs) some (wcode,
-        (wbits, subst (λ (l : List ℤ). Spells Two wcode wbits l) (sym (take-append-drop (used + 1) hs)) spells)) in
+    part_spelled [] (take (used + 1) hs) (drop (used + 1) hs) some (
+      wcode,
+      (wbits, subst (λ (l : List ℤ). Spells Two wcode wbits l) (sym (take-append-drop (used + 1) hs)) spells),
+    ) in
     let all : length ds ≡ length front + length behind = ap (λ (l : List ℤ). length l) e ∙ length-append front behind in
     absurd (full.largest (used + 1) (omega arith) (omega (arith, all, less))
-        (subst (λ (l : List ℤ). CanSpell Two l) same can)))
+    (subst (λ (l : List ℤ). CanSpell Two l) same can)))
     (λ (under : length hs ≤ used). under)
     (cases_lt used (length hs))
 
@@ -101,21 +108,21 @@ run_ahead (w ∷ ws) (v ∷ vs) ds rest front behind more run few e spelled =
     ⊎_elim
     (λ (less : run.0 < length front).
     let short : length spelled.0 ≤ run.0 =
-        no_more ds front behind more spelled.0 spelled.1.0 w.code w.bits run.0 v.code v.bits run.1.0 e less
-        spelled.1.1.0 spelled.1.1.1.0 in
+    no_more ds front behind more spelled.0 spelled.1.0 w.code w.bits run.0 v.code v.bits run.1.0 e less
+    spelled.1.1.0 spelled.1.1.1.0 in
     let f1 = take run.0 front in
     let f2 = drop run.0 front in
     let both : f1 ++ f2 ≡ front = take-append-drop run.0 front in
     let count : length f1 ≡ run.0 = length-take-le run.0 front (omega (arith, less)) in
     let ds_left : drop run.0 ds ≡ f2 ++ behind =
-        ap (λ (l : List ℤ). drop run.0 l) (e ∙ ap (λ (l : List ℤ). l ++ behind) (sym both) ∙ append_assoc f1 f2 behind)
-        ∙ drop_at f1 (f2 ++ behind) run.0 count in
+    ap (λ (l : List ℤ). drop run.0 l) (e ∙ ap (λ (l : List ℤ). l ++ behind) (sym both) ∙ append_assoc f1 f2 behind)
+    ∙ drop_at f1 (f2 ++ behind) run.0 count in
     let cut : f1 ++ (f2 ++ more) ≡ spelled.0 ++ spelled.1.0 = sym (append_assoc f1 f2 more)
-        ∙ ap (λ (l : List ℤ). l ++ more) both ∙ spelled.1.1.0 in
+    ∙ ap (λ (l : List ℤ). l ++ more) both ∙ spelled.1.1.0 in
     let fewer : SpelledBy (length vs) (f2 ++ more) =
-        cut_off f1 (f2 ++ more) spelled.0 spelled.1.0 vs cut (omega (arith, short, count)) spelled.1.1.1.1 in
+    cut_off f1 (f2 ++ more) spelled.0 spelled.1.0 vs cut (omega (arith, short, count)) spelled.1.1.1.1 in
     let later = run_ahead ws fewer.0 (drop run.0 ds) rest f2 behind more run.1.1 (omega (arith, few, fewer.1.0))
-        ds_left fewer.1.1 in
+    ds_left fewer.1.1 in
     omega (arith, later, fewer.1.0))
     (λ (more' : length front ≤ run.0).
     let later = rest_shorter Two ws (drop run.0 ds) rest run.1.1 in
@@ -131,14 +138,14 @@ run_ahead (w ∷ ws) (v ∷ vs) ds rest front behind more run few e spelled =
         let same : l ≡ bs = h.1.1 ∙ ap (λ (x : List ℤ). x ++ bs) nil in
         (vs, (omega arith, subst (λ (x : List ℤ). SpellsRun Two vs x) (sym same) run)))
         (λ (h : (m : List ℤ) × ((f1 ≡ hs ++ m) × (bs ≡ m ++ l))). drop_front vs h.0 l
-            (subst (λ (x : List ℤ). SpellsRun Two vs x) h.1.1 run))
+        (subst (λ (x : List ℤ). SpellsRun Two vs x) h.1.1 run))
         (append_cases f1 l hs bs cut)
 
 pub is_farthest : (ws : List DataWord) (ds : List ℤ) (used : ℕ) → PacksRun Two ws ds (drop used ds) → used ≤ length ds
     → IsFarthest ds (length ws) used
 is_farthest ws ds used run h = λ vs k more few over in' spelled.
     let ahead = run_ahead ws vs ds (drop used ds) (take k ds) (drop k ds) more run few (sym (take-append-drop k ds))
-        spelled in
+    spelled in
     omega (arith, ahead, few, over, in', h, length-drop used ds, length-drop k ds)
 
 pub is_fewest : (ws : List DataWord) (ds : List ℤ) → PacksRun Two ws ds [] → IsFewest ds (length ws)
@@ -157,12 +164,12 @@ is_fewest ws ds run =
 pub one_fewest : (ds : List ℤ) (m n : ℕ) → IsFewest ds m → IsFewest ds n → m ≡ n
 one_fewest ds m n a b = ⊎_elim
     (λ (less : m < n). absurd
-        (b.least a.words [] (omega (arith, less, a.count))
-        (subst (λ (l : List ℤ). SpellsRun Two a.words l) (sym (append-nil ds)) a.spelled)))
+    (b.least a.words [] (omega (arith, less, a.count))
+    (subst (λ (l : List ℤ). SpellsRun Two a.words l) (sym (append-nil ds)) a.spelled)))
     (λ (more : n ≤ m). ⊎_elim
     (λ (less : n < m). absurd
-        (a.least b.words [] (omega (arith, less, b.count))
-        (subst (λ (l : List ℤ). SpellsRun Two b.words l) (sym (append-nil ds)) b.spelled)))
+    (a.least b.words [] (omega (arith, less, b.count))
+    (subst (λ (l : List ℤ). SpellsRun Two b.words l) (sym (append-nil ds)) b.spelled)))
     (λ (same : m ≤ n). omega (arith, more, same))
     (cases_lt n m))
     (cases_lt m n)
@@ -175,8 +182,15 @@ no_room ws vs ds used i run h large few front =
     let found = run_spelled Two vs (take i ds) [] front in
     let all : found.0 ++ [] ≡ take i ds ++ [] = sym found.1.0 ∙ sym (append-nil (take i ds)) in
     let spelled : SpellsRun Two vs (take i ds ++ []) =
-        subst (λ (l : List ℤ). SpellsRun Two vs l) (sym (append-nil found.0) ∙ all) found.1.1 in
+    subst (λ (l : List ℤ). SpellsRun Two vs l) (sym (append-nil found.0) ∙ all) found.1.1 in
     let ahead = run_ahead ws vs ds (drop used ds) (take i ds) (drop i ds) [] run (omega (arith, few))
-        (sym (take-append-drop i ds)) spelled in
-    taken_not_large Two ws ds (drop used ds) i run (omega (arith, ahead, few, inside, h, length-drop used ds,
-        length-drop i ds)) large
+    (sym (take-append-drop i ds)) spelled in
+    taken_not_large Two ws ds (drop used ds) i run (omega (
+      arith,
+      ahead,
+      few,
+      inside,
+      h,
+      length-drop used ds,
+      length-drop i ds,
+    )) large

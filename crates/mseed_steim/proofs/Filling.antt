@@ -1,7 +1,7 @@
 -- Frames that are filled word by word.
-use Rattle.std.proofs.Common.{◌≡◌, ◌≢◌, ℕ, zero, suc, ◌+◌, ◌-◌, ◌*◌, ◌/◌, ◌%◌, ◌^◌, ◌<◌, ◌≤◌, List, [], ◌∷◌, ◌++◌,
-    length, take, drop, get_or, ℤ, arith, refl, ap, sym, ◌∙◌, subst, ⊎_elim, ◌⊎◌, inl, inr, cond, eqb, length-append,
-    replicate}
+use Rattle.std.proofs.Common.{◌≡◌, ◌≢◌, ℕ, zero, suc, ◌+◌, ◌-◌, ◌*◌, ◌/◌, ◌%◌, ◌^◌, ◌<◌, ◌≤◌, List, [], ◌∷◌, ◌++◌}
+use Rattle.std.proofs.Common.{length, take, drop, get_or, ℤ, arith, refl, ap, sym, ◌∙◌, subst, ⊎_elim, ◌⊎◌, inl, inr}
+use Rattle.std.proofs.Common.{cond, eqb, length-append, replicate}
 use Rattle.std.specs.List.{AllByRecursion}
 use Rattle.std.proofs.Math.Nat.{zero-div}
 use Rattle.std.proofs.lemmas.Bool.{cases_eq, ne_eqb, eq-eqb}
@@ -10,8 +10,8 @@ use Rattle.mseed_steim.specs.declared.scheme.Scheme.{Scheme}
 use Rattle.mseed_steim.specs.declared.scheme.Scheme.TheVariants.{Two}
 use Rattle.mseed_steim.specs.Frames.{DataWord, data_word, words_from, data_words, word_at, code_at, word_count}
 use Rattle.mseed_steim.specs.Runs.{SpellsRun}
-use Rattle.mseed_steim.specs.Packing.{IsFullest, PacksRun, IsEmptyWord, IsTooLargeAt, IsFirstTooLarge, IsFewest,
-    IsFarthest, LeavesRoom}
+use Rattle.mseed_steim.specs.Packing.{IsFullest, PacksRun, IsEmptyWord, IsTooLargeAt, IsFirstTooLarge, IsFewest}
+use Rattle.mseed_steim.specs.Packing.{IsFarthest, LeavesRoom}
 use Rattle.mseed_steim.proofs.Packs.{run_more, run_front, front_spelled, first_large, taken_not_large}
 use Rattle.mseed_steim.proofs.Fewest.{is_fewest, is_farthest, no_room}
 
@@ -38,12 +38,12 @@ words_push p k (suc n) h =
     let place : k + suc n ≡ k + 1 + n = omega arith in
     let later : words_from p (k + 1) (suc n) ≡ words_from p (k + 1) n ++ data_word p (k + suc n) ∷ [] =
     subst (λ (i : ℕ). words_from p (k + 1) (suc n) ≡ words_from p (k + 1) n ++ data_word p i ∷ []) (sym place)
-        (words_push p (k + 1) n (λ e. h (ap (λ (i : ℕ). i % 16) place ∙ e))) in
+    (words_push p (k + 1) n (λ e. h (ap (λ (i : ℕ). i % 16) place ∙ e))) in
     ⊎_elim
     (λ (first : k % 16 ≡ 0). words_skip p k (suc n) first ∙ later
-        ∙ ap (λ (ws : List DataWord). ws ++ data_word p (k + suc n) ∷ []) (sym (words_skip p k n first)))
+    ∙ ap (λ (ws : List DataWord). ws ++ data_word p (k + suc n) ∷ []) (sym (words_skip p k n first)))
     (λ (plain : k % 16 ≡ 0 → ⊥). words_step p k (suc n) plain ∙ ap (λ (ws : List DataWord). data_word p k ∷ ws) later
-        ∙ ap (λ (ws : List DataWord). ws ++ data_word p (k + suc n) ∷ []) (sym (words_step p k n plain)))
+    ∙ ap (λ (ws : List DataWord). ws ++ data_word p (k + suc n) ∷ []) (sym (words_step p k n plain)))
     (cases_eq (k % 16) 0)
 
 words_pass : (p : List ℕ) (k n : ℕ) → (k + n) % 16 ≡ 0 → words_from p k (suc n) ≡ words_from p k n
@@ -53,11 +53,11 @@ words_pass p k zero h =
 words_pass p k (suc n) h =
     let place : k + suc n ≡ k + 1 + n = omega arith in
     let later : words_from p (k + 1) (suc n) ≡ words_from p (k + 1) n =
-        words_pass p (k + 1) n (sym (ap (λ (i : ℕ). i % 16) place) ∙ h) in
+    words_pass p (k + 1) n (sym (ap (λ (i : ℕ). i % 16) place) ∙ h) in
     ⊎_elim
     (λ (first : k % 16 ≡ 0). words_skip p k (suc n) first ∙ later ∙ sym (words_skip p k n first))
     (λ (plain : k % 16 ≡ 0 → ⊥). words_step p k (suc n) plain ∙ ap (λ (ws : List DataWord). data_word p k ∷ ws) later
-        ∙ sym (words_step p k n plain))
+    ∙ sym (words_step p k n plain))
     (cases_eq (k % 16) 0)
 
 -- a cut
@@ -70,13 +70,13 @@ words_split p k (suc n) m =
     let all : suc n + m ≡ suc (n + m) = omega arith in
     let place : k + suc n ≡ k + 1 + n = omega arith in
     let later : words_from p (k + 1) (n + m) ≡ words_from p (k + 1) n ++ words_from p (k + suc n) m =
-        words_split p (k + 1) n m ∙ ap (λ (i : ℕ). words_from p (k + 1) n ++ words_from p i m) (sym place) in
+    words_split p (k + 1) n m ∙ ap (λ (i : ℕ). words_from p (k + 1) n ++ words_from p i m) (sym place) in
     ap (λ (i : ℕ). words_from p k i) all
     ∙ ⊎_elim
     (λ (first : k % 16 ≡ 0). words_skip p k (n + m) first ∙ later
-        ∙ ap (λ (ws : List DataWord). ws ++ words_from p (k + suc n) m) (sym (words_skip p k n first)))
+    ∙ ap (λ (ws : List DataWord). ws ++ words_from p (k + suc n) m) (sym (words_skip p k n first)))
     (λ (plain : k % 16 ≡ 0 → ⊥). words_step p k (n + m) plain ∙ ap (λ (ws : List DataWord). data_word p k ∷ ws) later
-        ∙ ap (λ (ws : List DataWord). ws ++ words_from p (k + suc n) m) (sym (words_step p k n plain)))
+    ∙ ap (λ (ws : List DataWord). ws ++ words_from p (k + suc n) m) (sym (words_step p k n plain)))
     (cases_eq (k % 16) 0)
 
 pub words_same : (p q : List ℕ) (k n : ℕ) → ((i : ℕ) → k ≤ i → i < k + n → i % 16 ≢ 0 → data_word p i ≡ data_word q i)
@@ -84,11 +84,11 @@ pub words_same : (p q : List ℕ) (k n : ℕ) → ((i : ℕ) → k ≤ i → i <
 words_same p q k zero h = words_none p k ∙ sym (words_none q k)
 words_same p q k (suc n) h =
     let later : words_from p (k + 1) n ≡ words_from q (k + 1) n =
-        words_same p q (k + 1) n (λ i low high. h i (omega (arith, low)) (omega (arith, high))) in
+    words_same p q (k + 1) n (λ i low high. h i (omega (arith, low)) (omega (arith, high))) in
     ⊎_elim
     (λ (first : k % 16 ≡ 0). words_skip p k n first ∙ later ∙ sym (words_skip q k n first))
     (λ (plain : k % 16 ≡ 0 → ⊥). let here : data_word p k ≡ data_word q k = h k (omega arith) (omega arith) plain in
-        words_step p k n plain ∙ cc (here, later) ∙ sym (words_step q k n plain))
+    words_step p k n plain ∙ cc (here, later) ∙ sym (words_step q k n plain))
     (cases_eq (k % 16) 0)
 
 words_empty : (p : List ℕ) (k n : ℕ)
@@ -99,9 +99,9 @@ words_empty p k (suc n) h =
     let later = words_empty p (k + 1) n (λ i low high. h i (omega (arith, low)) (omega (arith, high))) in
     ⊎_elim
     (λ (first : k % 16 ≡ 0). subst (λ (ws : List DataWord). AllByRecursion IsEmptyWord ws)
-        (sym (words_skip p k n first)) later)
+    (sym (words_skip p k n first)) later)
     (λ (plain : k % 16 ≡ 0 → ⊥). subst (λ (ws : List DataWord). AllByRecursion IsEmptyWord ws)
-        (sym (words_step p k n plain)) (h k (omega arith) (omega arith) plain, later))
+    (sym (words_step p k n plain)) (h k (omega arith) (omega arith) plain, later))
     (cases_eq (k % 16) 0)
 
 -- The words before a place hold what was packed, and all else is 0.
@@ -124,7 +124,7 @@ get_zero (suc n) (suc i) = get_zero n i
 pub word_zero : (n k : ℕ) → word_at (replicate n 0) k ≡ 0
 word_zero n k =
     let byte : (i : ℕ) → get_or (drop (4 * k) (replicate n 0)) i 0 ≡ 0 = λ i. get_or-drop (4 * k) (replicate n 0) i 0
-        ∙ get_zero n (4 * k + i) in
+    ∙ get_zero n (4 * k + i) in
     rw (byte 0, byte 1, byte 2, byte 3) refl
 
 code_zero : (n k : ℕ) → code_at (replicate n 0) k ≡ 0
@@ -151,7 +151,7 @@ filling_past s ds p index used words e f =
     let place : 3 + (index - 3) ≡ index = omega (arith, from) in
     let next : index + 1 - 3 ≡ suc (index - 3) = omega (arith, from) in
     let same : words_from p 3 (index + 1 - 3) ≡ words_from p 3 (index - 3) = ap (λ (i : ℕ). words_from p 3 i) next
-        ∙ words_pass p 3 (index - 3) (ap (λ (i : ℕ). i % 16) place ∙ e) in record {
+    ∙ words_pass p 3 (index - 3) (ap (λ (i : ℕ). i % 16) place ∙ e) in record {
       from = omega (arith, from);
       inside = f.inside;
       count = ap (λ (ws : List DataWord). length ws) same ∙ f.count;
@@ -176,24 +176,24 @@ filling_more s ds p q index used words code word n plain f full bits codes =
     let next : index + 1 - 3 ≡ suc (index - 3) = omega (arith, from) in
     let other_code : (k : ℕ) → k ≢ index → code_at q k ≡ code_at p k = λ k h. codes k ∙ rw (ne_eqb k index h) refl in
     let other_word : (k : ℕ) → k % 16 ≢ 0 → k ≢ index → word_at q k ≡ word_at p k =
-        λ k d h. bits k d ∙ rw (ne_eqb k index h) refl in
+    λ k d h. bits k d ∙ rw (ne_eqb k index h) refl in
     let code_is : code_at q index ≡ code = codes index ∙ rw (eq-eqb index index refl) refl in
     let word_is : word_at q index ≡ word = bits index plain ∙ rw (eq-eqb index index refl) refl in
     let before : words_from q 3 (index - 3) ≡ words_from p 3 (index - 3) =
     words_same q p 3 (index - 3) (λ i low high d. let apart : i ≢ index = λ e. omega (arith, e, high, from) in
-        let c = other_code i apart in let w = other_word i d apart in cc (c, w)) in
+    let c = other_code i apart in let w = other_word i d apart in cc (c, w)) in
     let last : words_from q 3 (index + 1 - 3) ≡ words_from p 3 (index - 3) ++ data_word q index ∷ [] =
     ap (λ (i : ℕ). words_from q 3 i) next
-        ∙ words_push q 3 (index - 3) (λ e. plain (sym (ap (λ (i : ℕ). i % 16) place) ∙ e))
-        ∙ ap (λ (i : ℕ). words_from q 3 (index - 3) ++ data_word q i ∷ []) place
-        ∙ ap (λ (ws : List DataWord). ws ++ data_word q index ∷ []) before in
+    ∙ words_push q 3 (index - 3) (λ e. plain (sym (ap (λ (i : ℕ). i % 16) place) ∙ e))
+    ∙ ap (λ (i : ℕ). words_from q 3 (index - 3) ++ data_word q i ∷ []) place
+    ∙ ap (λ (ws : List DataWord). ws ++ data_word q index ∷ []) before in
     let full_at : IsFullest s (drop used ds) (code_at q index) (word_at q index) n =
-        subst (λ (x : ℕ). IsFullest s (drop used ds) x (word_at q index) n) (sym code_is)
-        (subst (λ (x : ℕ). IsFullest s (drop used ds) code x n) (sym word_is) full) in
+    subst (λ (x : ℕ). IsFullest s (drop used ds) x (word_at q index) n) (sym code_is)
+    (subst (λ (x : ℕ). IsFullest s (drop used ds) code x n) (sym word_is) full) in
     let run : PacksRun s (words_from p 3 (index - 3) ++ data_word q index ∷ []) ds (drop (used + n) ds) =
     subst (λ (xs : List ℤ). PacksRun s (words_from p 3 (index - 3) ++ data_word q index ∷ []) ds xs)
-        (drop-drop n used ds) (run_more s (words_from p 3 (index - 3)) (data_word q index) ds (drop used ds) n f.run
-        full_at) in record {
+    (drop-drop n used ds) (run_more s (words_from p 3 (index - 3)) (data_word q index) ds (drop used ds) n f.run
+    full_at) in record {
       from = omega (arith, from);
       inside = omega (arith, inside, taken, length-drop used ds);
       count = ap (λ (ws : List DataWord). length ws) last
@@ -201,8 +201,10 @@ filling_more s ds p q index used words code word n plain f full bits codes =
       run = subst (λ (ws : List DataWord). PacksRun s ws ds (drop (used + n) ds)) (sym last) run;
       no_codes = λ k h. other_code k (λ e. omega (arith, e, h)) ∙ f.no_codes k (omega (arith, h));
       no_words = λ k h d. other_word k d (λ e. omega (arith, e, h)) ∙ f.no_words k (omega (arith, h)) d;
-      constants = (other_word 1 (λ e. cc) (λ e. omega (arith, e, from)) ∙ f.constants.0,
-          other_word 2 (λ e. cc) (λ e. omega (arith, e, from)) ∙ f.constants.1);
+      constants = (
+        other_word 1 (λ e. cc) (λ e. omega (arith, e, from)) ∙ f.constants.0,
+        other_word 2 (λ e. cc) (λ e. omega (arith, e, from)) ∙ f.constants.1,
+      );
       codes = λ k h. ⊎_elim
           (λ (low : k < 3). other_code k (λ e. omega (arith, e, low, from)) ∙ f.codes k h)
           (λ (first : k % 16 ≡ 0). other_code k (λ e. plain (sym (ap (λ (i : ℕ). i % 16) e) ∙ first)) ∙ f.codes k h)
@@ -227,27 +229,27 @@ filled s ds p index used words f h end =
     let ws = words_from p 3 (index - 3) in
     let place : 3 + (index - 3) ≡ index = omega (arith, from) in
     let split : PacksRun s ws (take used ds ++ drop used ds) (drop used ds) =
-        subst (λ (xs : List ℤ). PacksRun s ws xs (drop used ds)) (sym (take-append-drop used ds)) f.run in
+    subst (λ (xs : List ℤ). PacksRun s ws xs (drop used ds)) (sym (take-append-drop used ds)) f.run in
     let cut : word_count p - 3 ≡ index - 3 + (word_count p - index) = omega (arith, from, h) in
     let both : data_words p ≡ ws ++ words_from p index (word_count p - index) =
     ap (λ (i : ℕ). words_from p 3 i) cut ∙ words_split p 3 (index - 3) (word_count p - index)
-        ∙ ap (λ (i : ℕ). ws ++ words_from p i (word_count p - index)) place in
+    ∙ ap (λ (i : ℕ). ws ++ words_from p i (word_count p - index)) place in
     let front : take words (data_words p) ≡ ws = ap (λ (xs : List DataWord). take words xs) both
-        ∙ take_at ws (words_from p index (word_count p - index)) words f.count in
+    ∙ take_at ws (words_from p index (word_count p - index)) words f.count in
     let rest : drop words (data_words p) ≡ words_from p index (word_count p - index) =
-        ap (λ (xs : List DataWord). drop words xs) both
-        ∙ drop_at ws (words_from p index (word_count p - index)) words f.count in
+    ap (λ (xs : List DataWord). drop words xs) both
+    ∙ drop_at ws (words_from p index (word_count p - index)) words f.count in
     let packed : PacksRun s (take words (data_words p)) ds (drop used ds) =
-        subst (λ (xs : List DataWord). PacksRun s xs ds (drop used ds)) (sym front) f.run in
+    subst (λ (xs : List DataWord). PacksRun s xs ds (drop used ds)) (sym front) f.run in
     let long : length (data_words p) ≡ words + length (words_from p index (word_count p - index)) =
-        ap (λ (xs : List DataWord). length xs) both ∙ length-append ws (words_from p index (word_count p - index))
-        ∙ ap (λ (i : ℕ). i + length (words_from p index (word_count p - index))) f.count in
+    ap (λ (xs : List DataWord). length xs) both ∙ length-append ws (words_from p index (word_count p - index))
+    ∙ ap (λ (i : ℕ). i + length (words_from p index (word_count p - index))) f.count in
     let over : (used ≡ length ds) ⊎ (words ≡ length (data_words p)) = ⊎_elim (λ (e : used ≡ length ds). inl e)
     (λ (e : index ≡ word_count p).
     let none : word_count p - index ≡ 0 = omega (arith, e) in
     let empty : length (words_from p index (word_count p - index)) ≡ 0 =
-        ap (λ (i : ℕ). length (words_from p index i)) none
-        ∙ ap (λ (xs : List DataWord). length xs) (words_none p index) in
+    ap (λ (i : ℕ). length (words_from p index i)) none
+    ∙ ap (λ (xs : List DataWord). length xs) (words_none p index) in
     inr (omega (arith, long, empty))) end in record {
       packed = packed;
       spelled = front_spelled s (take words (data_words p)) ds used packed;
@@ -262,12 +264,12 @@ filled s ds p index used words f h end =
           (is_farthest ws ds used (subst (λ (x : Scheme). PacksRun x ws ds (drop used ds)) two f.run) f.inside);
       refused = λ i large room. ⊎_elim
           (λ (e : used ≡ length ds). let here = large.0.0 in
-              taken_not_large s ws ds (drop used ds) i f.run (omega (arith, e, here, length-drop used ds)) large.0)
+          taken_not_large s ws ds (drop used ds) i f.run (omega (arith, e, here, length-drop used ds)) large.0)
           (λ (e : words ≡ length (data_words p)).
           let two = large.0.1 in
           no_room ws room.0 ds used i (subst (λ (x : Scheme). PacksRun x ws ds (drop used ds)) two f.run) f.inside
-              (subst (λ (x : Scheme). IsTooLargeAt x ds i) two large.0) (omega (arith, e, f.count, room.1.0))
-              (subst (λ (x : Scheme). PacksRun x room.0 (take i ds) []) two room.1.1))
+          (subst (λ (x : Scheme). IsTooLargeAt x ds i) two large.0) (omega (arith, e, f.count, room.1.0))
+          (subst (λ (x : Scheme). PacksRun x room.0 (take i ds) []) two room.1.1))
           over;
     }
 
@@ -282,29 +284,34 @@ filling_refused s ds p q index used words f h plain e large =
     let place : 3 + (index - 3) ≡ index = omega (arith, from) in
     let cut : word_count q - 3 ≡ suc (index - 3) + (word_count q - (index + 1)) = omega (arith, from, h, e) in
     let both : length (data_words q) ≡ length (words_from q 3 (suc (index - 3))) + length
-        (words_from q (3 + suc (index - 3)) (word_count q - (index + 1))) =
+    (words_from q (3 + suc (index - 3)) (word_count q - (index + 1))) =
     ap (λ (i : ℕ). length (words_from q 3 i)) cut
-        ∙ ap (λ (xs : List DataWord). length xs) (words_split q 3 (suc (index - 3)) (word_count q - (index + 1)))
-        ∙ length-append (words_from q 3 (suc (index - 3)))
-        (words_from q (3 + suc (index - 3)) (word_count q - (index + 1))) in
+    ∙ ap (λ (xs : List DataWord). length xs) (words_split q 3 (suc (index - 3)) (word_count q - (index + 1)))
+    ∙ length-append (words_from q 3 (suc (index - 3)))
+    (words_from q (3 + suc (index - 3)) (word_count q - (index + 1))) in
     let more : length (words_from q 3 (suc (index - 3))) ≡ length (words_from q 3 (index - 3)) + 1 =
     ap (λ (xs : List DataWord). length xs)
-        (words_push q 3 (index - 3) (λ z. plain (sym (ap (λ (i : ℕ). i % 16) place) ∙ z)))
-        ∙ length_push (words_from q 3 (index - 3)) (data_word q (3 + (index - 3))) in
+    (words_push q 3 (index - 3) (λ z. plain (sym (ap (λ (i : ℕ). i % 16) place) ∙ z)))
+    ∙ length_push (words_from q 3 (index - 3)) (data_word q (3 + (index - 3))) in
     let same : length (words_from q 3 (index - 3)) ≡ length ws = words_count q p 3 (index - 3) in
     let split : ds ≡ take used ds ++ drop used ds = sym (take-append-drop used ds) in (
       first_large s ws ds used f.inside f.run large,
-      (ws, (omega (arith, both, more, same),
+      (
+        ws,
+        (
+          omega (arith, both, more, same),
           run_front s ws (take used ds) (drop used ds)
-          (subst (λ (xs : List ℤ). PacksRun s ws xs (drop used ds)) split f.run))),
+              (subst (λ (xs : List ℤ). PacksRun s ws xs (drop used ds)) split f.run),
+        ),
+      ),
     )
   where
     words_count : (p q : List ℕ) (k n : ℕ) → length (words_from p k n) ≡ length (words_from q k n)
     words_count p q k zero = ap (λ (xs : List DataWord). length xs) (words_none p k ∙ sym (words_none q k))
     words_count p q k (suc n) = ⊎_elim
         (λ (first : k % 16 ≡ 0). ap (λ (xs : List DataWord). length xs) (words_skip p k n first)
-            ∙ words_count p q (k + 1) n ∙ ap (λ (xs : List DataWord). length xs) (sym (words_skip q k n first)))
+        ∙ words_count p q (k + 1) n ∙ ap (λ (xs : List DataWord). length xs) (sym (words_skip q k n first)))
         (λ (plain : k % 16 ≡ 0 → ⊥). ap (λ (xs : List DataWord). length xs) (words_step p k n plain)
-            ∙ ap suc (words_count p q (k + 1) n)
-            ∙ ap (λ (xs : List DataWord). length xs) (sym (words_step q k n plain)))
+        ∙ ap suc (words_count p q (k + 1) n)
+        ∙ ap (λ (xs : List DataWord). length xs) (sym (words_step q k n plain)))
         (cases_eq (k % 16) 0)

@@ -1,9 +1,9 @@
 -- What a walk over items answers, in the words of lists.
 use Rattle.std.proofs.Math.Seq.{drop-cons, take-suc-set, take-length}
 use Rattle.std.proofs.Math.ListN.{set}
-use Rattle.std.proofs.Common.{take, drop, get_or, append_assoc, append-nil, ◌≡◌, ℕ, ◌+◌, ◌<◌, ◌≤◌, ◌^◌, List, [], ◌∷◌,
-    ◌++◌, map, length, ℤ, pos, negsuc, ◌+ℤ◌, arith, refl, ap, sym, ◌∙◌, subst, false, true, Option, Some, None, Result,
-    Ok, Err, All, ⊎_elim, eqb, suc}
+use Rattle.std.proofs.Common.{take, drop, get_or, append_assoc, append-nil, ◌≡◌, ℕ, ◌+◌, ◌<◌, ◌≤◌, ◌^◌, List, [], ◌∷◌}
+use Rattle.std.proofs.Common.{◌++◌, map, length, ℤ, pos, negsuc, ◌+ℤ◌, arith, refl, ap, sym, ◌∙◌, subst, false, true}
+use Rattle.std.proofs.Common.{Option, Some, None, Result, Ok, Err, All, ⊎_elim, eqb, suc}
 use Rattle.std.proofs.lemmas.Int.{ints}
 use Rattle.std.proofs.lemmas.Bool.{ne_eqb, eq-eqb, cases_lt}
 use Rattle.std.proofs.lemmas.Bool.Decides.{nat_tests}
@@ -49,15 +49,15 @@ more_folded : (n m : ℕ) (l d : ℤ) (items : List (Result ℤ BadWordAt)) (met
     → IsSample (l +ℤ d) → Folds n (m + 1) (l +ℤ d) items mets r → Folds n m l (Ok d ∷ items) ((l +ℤ d) ∷ mets) r
 more_folded n m l d items mets r fit (done next ds ss more e count same adds all met last kept) =
     done next (d ∷ ds) ((l +ℤ d) ∷ ss) more (ap (λ (xs : List (Result ℤ BadWordAt)). Ok d ∷ xs) e) (omega arith)
-        (omega arith) (refl, adds) (All-cons IsSample (l +ℤ d) ss fit all) met last
-        (ap (λ (xs : List ℤ). (l +ℤ d) ∷ xs) kept)
+    (omega arith) (refl, adds) (All-cons IsSample (l +ℤ d) ss fit all) met last
+    (ap (λ (xs : List ℤ). (l +ℤ d) ∷ xs) kept)
 more_folded n m l d items mets r fit (short k ds e count less) =
     short k (d ∷ ds) (ap (λ (xs : List (Result ℤ BadWordAt)). Ok d ∷ xs) e) (omega arith) less
 more_folded n m l d items mets r fit (bad ds at more e less) =
     bad (d ∷ ds) at more (ap (λ (xs : List (Result ℤ BadWordAt)). Ok d ∷ xs) e) (omega arith)
 more_folded n m l d items mets r fit (over k ds x ss more e count less same adds all not) =
     over k (d ∷ ds) x ((l +ℤ d) ∷ ss) more (ap (λ (xs : List (Result ℤ BadWordAt)). Ok d ∷ xs) e) (omega arith) less
-        (omega arith) (refl, adds) (All-cons IsSample (l +ℤ d) ss fit all) not
+    (omega arith) (refl, adds) (All-cons IsSample (l +ℤ d) ss fit all) not
 
 -- the samples that a walk meets
 pub met_enough : (n : ℕ) (s : Sum) (items : List (Result ℤ BadWordAt)) → s.met ≡ n → met_in n s items ≡ []
@@ -90,26 +90,28 @@ pub folds : (n : ℕ) (s : Sum) (items : List (Result ℤ BadWordAt)) → 0 < s.
     → Folds n s.met s.last items (met_in n s items) (fold n s items)
 folds n s [] p h = ⊎_elim
     (λ (less : s.met < n). subst (λ r. Folds n s.met s.last [] (met_in n s []) r)
-        (sym (fold_short n s (λ (z : s.met ≡ n). omega arith))) (short s.met [] refl (omega arith) less))
+    (sym (fold_short n s (λ (z : s.met ≡ n). omega arith))) (short s.met [] refl (omega arith) less))
     (λ (most : n ≤ s.met). enough n s [] (omega arith))
     (cases_lt s.met n)
 folds n s (Err at ∷ more) p h = ⊎_elim
     (λ (less : s.met < n). subst (λ r. Folds n s.met s.last (Err at ∷ more) (met_in n s (Err at ∷ more)) r)
-        (sym (fold_bad n s at more less)) (bad [] at more refl (omega arith)))
+    (sym (fold_bad n s at more less)) (bad [] at more refl (omega arith)))
     (λ (most : n ≤ s.met). enough n s (Err at ∷ more) (omega arith))
     (cases_lt s.met n)
 folds n s (Ok d ∷ more) p h = ⊎_elim
     (λ (less : s.met < n).
     let later = folds n (one_more s (s.last +ℤ d)) more (omega arith) (omega arith) in
     (elim (fits (s.last +ℤ d)) as (λ b. fits (s.last +ℤ d) ≡ b
-        → Folds n s.met s.last (Ok d ∷ more) (met_in n s (Ok d ∷ more)) (fold n s (Ok d ∷ more))) [
+    → Folds n s.met s.last (Ok d ∷ more) (met_in n s (Ok d ∷ more)) (fold n s (Ok d ∷ more))) [
       | true ↦ λ e. subst (λ r. Folds n s.met s.last (Ok d ∷ more) (met_in n s (Ok d ∷ more)) r)
-      (sym (fold_add n s d more less p e))
-      (subst (λ (xs : List ℤ). Folds n s.met s.last (Ok d ∷ more) xs (fold n (one_more s (s.last +ℤ d)) more))
-      (sym (met_add n s d more less p e)) (more_folded n s.met s.last d more _ _ (fits_sample (s.last +ℤ d) e) later))
+          (sym (fold_add n s d more less p e))
+          (subst (λ (xs : List ℤ). Folds n s.met s.last (Ok d ∷ more) xs (fold n (one_more s (s.last +ℤ d)) more))
+          (sym (met_add n s d more less p e)) (more_folded n s.met s.last d more _ _ (fits_sample (s.last +ℤ d) e)
+          later))
       | false ↦ λ e. subst (λ r. Folds n s.met s.last (Ok d ∷ more) (met_in n s (Ok d ∷ more)) r)
-      (sym (fold_over n s d more less p e)) (over s.met [] d [] more refl (omega arith) less refl tt (All-nil IsSample)
-      (fits_not (s.last +ℤ d) e))
+          (sym (fold_over n s d more less p e)) (over s.met [] d [] more refl (omega arith) less refl tt
+          (All-nil IsSample)
+          (fits_not (s.last +ℤ d) e))
     ]) refl)
     (λ (most : n ≤ s.met). enough n s (Ok d ∷ more) (omega arith))
     (cases_lt s.met n)
@@ -155,19 +157,19 @@ pub lacks : (n m : ℕ) (items : List (Result ℤ BadWordAt)) → m ≤ n → La
 lacks n m [] h = ⊎_elim
     (λ (less : m < n). subst (λ o. Lacks n m [] o) (sym (lack_short n m less)) (short m [] refl (omega arith) less))
     (λ (most : n ≤ m). subst (λ o. Lacks n m [] o) (sym (lack_enough n m [] (omega arith)))
-        (nothing [] [] refl (omega arith)))
+    (nothing [] [] refl (omega arith)))
     (cases_lt m n)
 lacks n m (Err at ∷ more) h = ⊎_elim
     (λ (less : m < n). subst (λ o. Lacks n m (Err at ∷ more) o) (sym (lack_bad n m at more less))
-        (bad [] at more refl (omega arith)))
+    (bad [] at more refl (omega arith)))
     (λ (most : n ≤ m). subst (λ o. Lacks n m (Err at ∷ more) o) (sym (lack_enough n m (Err at ∷ more) (omega arith)))
-        (nothing [] (Err at ∷ more) refl (omega arith)))
+    (nothing [] (Err at ∷ more) refl (omega arith)))
     (cases_lt m n)
 lacks n m (Ok d ∷ more) h = ⊎_elim
     (λ (less : m < n). subst (λ o. Lacks n m (Ok d ∷ more) o) (sym (lack_more n m d more less))
-        (more_lacked n m d more _ (lacks n (m + 1) more (omega arith))))
+    (more_lacked n m d more _ (lacks n (m + 1) more (omega arith))))
     (λ (most : n ≤ m). subst (λ o. Lacks n m (Ok d ∷ more) o) (sym (lack_enough n m (Ok d ∷ more) (omega arith)))
-        (nothing [] (Ok d ∷ more) refl (omega arith)))
+    (nothing [] (Ok d ∷ more) refl (omega arith)))
     (cases_lt m n)
 
 -- past a word's differences
@@ -176,7 +178,7 @@ pub lack_group : (n m : ℕ) (ds : List ℤ) (more : List (Result ℤ BadWordAt)
 lack_group n m [] more h = ap (λ (k : ℕ). lack n k more) (omega arith)
 lack_group n m (d ∷ ds) more h =
     lack_more n m d (map Ok ds ++ more) (omega arith) ∙ lack_group n (m + 1) ds more (omega arith)
-        ∙ ap (λ (k : ℕ). lack n k more) (omega arith)
+    ∙ ap (λ (k : ℕ). lack n k more) (omega arith)
 
 -- the differences are enough
 pub lack_none : (n m : ℕ) (ds : List ℤ) (more : List (Result ℤ BadWordAt)) → m < n → n ≤ m + length ds
@@ -185,7 +187,7 @@ lack_none n m [] more h e = absurd (omega arith)
 lack_none n m (d ∷ ds) more h e = ⊎_elim
     (λ (less : m + 1 < n). lack_more n m d (map Ok ds ++ more) h ∙ lack_none n (m + 1) ds more less (omega arith))
     (λ (most : n ≤ m + 1). lack_more n m d (map Ok ds ++ more) h
-        ∙ lack_enough n (m + 1) (map Ok ds ++ more) (omega arith))
+    ∙ lack_enough n (m + 1) (map Ok ds ++ more) (omega arith))
     (cases_lt (m + 1) n)
 
 -- the next of some differences, and those after it
@@ -194,7 +196,7 @@ pub drop_step : (ds : List ℤ) (i : ℕ) (z : ℤ) (more : List (Result ℤ Bad
 drop_step ds i z more h =
     let next : suc i ≡ i + 1 = omega arith in
     let cut : drop i ds ≡ get_or ds i z ∷ drop (i + 1) ds = drop-cons ds i z h
-        ∙ ap (λ (k : ℕ). get_or ds i z ∷ drop k ds) next in
+    ∙ ap (λ (k : ℕ). get_or ds i z ∷ drop k ds) next in
     ap (λ (xs : List ℤ). map Ok xs ++ more) cut
 
 -- a sample put in its place
@@ -203,7 +205,7 @@ pub take_put : (out : List ℤ) (i k : ℕ) (z : ℤ) (xs : List ℤ) → i < le
 take_put out i k z xs h e =
     let next : k ≡ suc i = omega arith in
     ap (λ (m : ℕ). take m (set out i z) ++ xs) next ∙ ap (λ (ys : List ℤ). ys ++ xs) (take-suc-set out i z h)
-        ∙ append_assoc (take i out) (z ∷ []) xs
+    ∙ append_assoc (take i out) (z ∷ []) xs
 
 -- all places are filled
 pub all_kept : (n : ℕ) (s : Sum) (out : List ℤ) (items : List (Result ℤ BadWordAt)) → length out ≡ n → s.met ≡ n

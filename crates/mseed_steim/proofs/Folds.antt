@@ -1,6 +1,6 @@
 -- One item after another: how a walk goes on.
-use Rattle.std.proofs.Common.{◌≡◌, ◌≢◌, ℕ, ◌<◌, ◌^◌, List, [], ◌∷◌, ◌++◌, take, ◌∙◌, ℤ, pos, negsuc, ◌+ℤ◌, arith, refl,
-    eqb, false, true, Result, Ok, Err, w32, FitsSigned}
+use Rattle.std.proofs.Common.{◌≡◌, ◌≢◌, ℕ, ◌<◌, ◌^◌, List, [], ◌∷◌, ◌++◌, take, ◌∙◌, ℤ, pos, negsuc, ◌+ℤ◌, arith, refl}
+use Rattle.std.proofs.Common.{eqb, false, true, Result, Ok, Err, w32, FitsSigned}
 use Rattle.std.proofs.lemmas.Bool.{ne_eqb, eq-eqb, lt-ltb, le-ltb}
 use Rattle.mseed_steim.specs.declared.differences.BadWordAt.{BadWordAt}
 use Rattle.mseed_steim.specs.declared.fault.ReadFault.{ReadFault}

@@ -1,6 +1,6 @@
 -- What a byte's parts count for.
-use Rattle.std.proofs.Common.{◌≡◌, ℕ, zero, suc, ◌+◌, ◌*◌, ◌/◌, ◌%◌, ◌<◌, ◌≤◌, Bool, true, ◌&&◌, eqb, T, bit_and,
-    bit_xor, refl, sym, ap, subst, ◌∙◌, inl, inr, arith, eqb→eq, ⊎_elim, ℤ, pos, ◌+ℤ◌}
+use Rattle.std.proofs.Common.{◌≡◌, ℕ, zero, suc, ◌+◌, ◌*◌, ◌/◌, ◌%◌, ◌<◌, ◌≤◌, Bool, true, ◌&&◌, eqb, T, bit_and}
+use Rattle.std.proofs.Common.{bit_xor, refl, sym, ap, subst, ◌∙◌, inl, inr, arith, eqb→eq, ⊎_elim, ℤ, pos, ◌+ℤ◌}
 use Rattle.std.proofs.lemmas.Int.{ints}
 use Rattle.std.proofs.lemmas.Bool.{cases_lt, lt-ltb, le-ltb}
 use Rattle.mseed_steim.specs.private.Digits.{signed, digits}
@@ -77,7 +77,7 @@ four_raised : (x3 x2 x1 x0 : ℕ) → x3 < 256 → x2 < 256 → x1 < 256 → x0 
     ≡ (signed 8 x3 +ℤ (signed 8 x2 +ℤ (signed 8 x1 +ℤ (signed 8 x0 +ℤ pos 0)))) +ℤ pos 512
 four_raised x3 x2 x1 x0 h0 h1 h2 h3 =
     go (signed 8 x3) (signed 8 x2) (signed 8 x1) (signed 8 x0) (raised8 x3 h0) (raised8 x2 h1) (raised8 x1 h2)
-        (raised8 x0 h3)
+    (raised8 x0 h3)
   where
     go : (s3 s2 s1 s0 : ℤ) → s3 +ℤ pos 128 ≡ pos ((x3 + 128) % 256) → s2 +ℤ pos 128 ≡ pos ((x2 + 128) % 256)
         → s1 +ℤ pos 128 ≡ pos ((x1 + 128) % 256) → s0 +ℤ pos 128 ≡ pos ((x0 + 128) % 256)
@@ -213,7 +213,7 @@ three_parts : (a b c d : ℕ) → a < 256 → b < 256 → c < 256 → d < 256
     + (c / 1 % 4 * 256 + d / 1 % 256 + 512) % 1024
 three_parts a b c d A B C D =
     let f : (128 * ((b / 16 + 0) % 16) + 128 * ((c / 4 + 0) % 64)) / 128 ≡ 1 * ((b / 16 + 0) % 16)
-        + 1 * ((c / 4 + 0) % 64) = omega arith in
+    + 1 * ((c / 4 + 0) % 64) = omega arith in
     omega (arith, three_r2 a b c d A B C D, three_r1 a b c d A B C D, three_r0 a b c d A B C D, f)
 
 raised10 : (x : ℕ) → x < 1024 → signed 10 x +ℤ pos 512 ≡ pos ((x + 512) % 1024)
@@ -307,9 +307,16 @@ five_parts : (a b c d : ℕ) → a < 256 → b < 256 → c < 256 → d < 256
     + (c / 1 % 16 * 4 + d / 64 % 4 + 32) % 64 + (d / 1 % 64 + 32) % 64
 five_parts a b c d A B C D =
     let f : (128 * ((b / 4 + 32) % 64) + 128 * ((c / 16 + 0) % 16) + 128 * ((d / 64 + 0) % 4)) / 128
-        ≡ 1 * ((b / 4 + 32) % 64) + 1 * ((c / 16 + 0) % 16) + 1 * ((d / 64 + 0) % 4) = omega arith in
-    omega (arith, five_r4 a b c d A B C D, five_r3 a b c d A B C D, five_r2 a b c d A B C D, five_r1 a b c d A B C D,
-        five_r0 a b c d A B C D, f)
+    ≡ 1 * ((b / 4 + 32) % 64) + 1 * ((c / 16 + 0) % 16) + 1 * ((d / 64 + 0) % 4) = omega arith in
+    omega (
+      arith,
+      five_r4 a b c d A B C D,
+      five_r3 a b c d A B C D,
+      five_r2 a b c d A B C D,
+      five_r1 a b c d A B C D,
+      five_r0 a b c d A B C D,
+      f,
+    )
 
 raised6 : (x : ℕ) → x < 64 → signed 6 x +ℤ pos 32 ≡ pos ((x + 32) % 64)
 raised6 x lt = ⊎_elim
@@ -322,7 +329,7 @@ five_raised : (x4 x3 x2 x1 x0 : ℕ) → x4 < 64 → x3 < 64 → x2 < 64 → x1 
     ≡ (signed 6 x4 +ℤ (signed 6 x3 +ℤ (signed 6 x2 +ℤ (signed 6 x1 +ℤ (signed 6 x0 +ℤ pos 0))))) +ℤ pos 160
 five_raised x4 x3 x2 x1 x0 h0 h1 h2 h3 h4 =
     go (signed 6 x4) (signed 6 x3) (signed 6 x2) (signed 6 x1) (signed 6 x0) (raised6 x4 h0) (raised6 x3 h1)
-        (raised6 x2 h2) (raised6 x1 h3) (raised6 x0 h4)
+    (raised6 x2 h2) (raised6 x1 h3) (raised6 x0 h4)
   where
     go : (s4 s3 s2 s1 s0 : ℤ) → s4 +ℤ pos 32 ≡ pos ((x4 + 32) % 64) → s3 +ℤ pos 32 ≡ pos ((x3 + 32) % 64)
         → s2 +ℤ pos 32 ≡ pos ((x2 + 32) % 64) → s1 +ℤ pos 32 ≡ pos ((x1 + 32) % 64)
@@ -340,8 +347,13 @@ five_is a b c d A B C D =
     ap pos (five_parts a b c d A B C D)
     ∙ five_raised (a / 1 % 64) (b / 4 % 64) (b / 1 % 4 * 16 + c / 16 % 16) (c / 1 % 16 * 4 + d / 64 % 4) (d / 1 % 64)
     (omega arith) (omega arith) (omega arith) (omega arith) (omega arith)
-    ∙ sym (rw (five_4 a b c d A B C D, five_3 a b c d A B C D, five_2 a b c d A B C D, five_1 a b c d A B C D,
-    five_0 a b c d A B C D) refl)
+    ∙ sym (rw (
+      five_4 a b c d A B C D,
+      five_3 a b c d A B C D,
+      five_2 a b c d A B C D,
+      five_1 a b c d A B C D,
+      five_0 a b c d A B C D,
+    ) refl)
 
 -- ---- 6 differences of 5 bits
 pub six_p0 : (a : ℕ) → a < 256 → bit_and (bit_xor a 33) 62 * 64 ≡ 128 * ((a / 2 + 16) % 32)
@@ -420,11 +432,19 @@ six_parts : (a b c d : ℕ) → a < 256 → b < 256 → c < 256 → d < 256
     + (c / 4 % 32 + 16) % 32 + (c / 1 % 4 * 8 + d / 32 % 8 + 16) % 32 + (d / 1 % 32 + 16) % 32
 six_parts a b c d A B C D =
     let f : (128 * ((a / 2 + 16) % 32) + 128 * ((b / 16 + 0) % 16) + 128 * ((c / 4 + 16) % 32)
-        + 128 * ((c / 128 + 0) % 2) + 128 * ((d / 32 + 0) % 8)) / 128 ≡ 1 * ((a / 2 + 16) % 32)
-        + 1 * ((b / 16 + 0) % 16) + 1 * ((c / 4 + 16) % 32) + 1 * ((c / 128 + 0) % 2) + 1 * ((d / 32 + 0) % 8) =
-        omega arith in
-    omega (arith, six_r5 a b c d A B C D, six_r4 a b c d A B C D, six_r3 a b c d A B C D, six_r2 a b c d A B C D,
-        six_r1 a b c d A B C D, six_r0 a b c d A B C D, f)
+    + 128 * ((c / 128 + 0) % 2) + 128 * ((d / 32 + 0) % 8)) / 128 ≡ 1 * ((a / 2 + 16) % 32)
+    + 1 * ((b / 16 + 0) % 16) + 1 * ((c / 4 + 16) % 32) + 1 * ((c / 128 + 0) % 2) + 1 * ((d / 32 + 0) % 8) =
+    omega arith in
+    omega (
+      arith,
+      six_r5 a b c d A B C D,
+      six_r4 a b c d A B C D,
+      six_r3 a b c d A B C D,
+      six_r2 a b c d A B C D,
+      six_r1 a b c d A B C D,
+      six_r0 a b c d A B C D,
+      f,
+    )
 
 raised5 : (x : ℕ) → x < 32 → signed 5 x +ℤ pos 16 ≡ pos ((x + 16) % 32)
 raised5 x lt = ⊎_elim
@@ -439,7 +459,7 @@ six_raised : (x5 x4 x3 x2 x1 x0 : ℕ) → x5 < 32 → x4 < 32 → x3 < 32 → x
     pos 96
 six_raised x5 x4 x3 x2 x1 x0 h0 h1 h2 h3 h4 h5 =
     go (signed 5 x5) (signed 5 x4) (signed 5 x3) (signed 5 x2) (signed 5 x1) (signed 5 x0) (raised5 x5 h0)
-        (raised5 x4 h1) (raised5 x3 h2) (raised5 x2 h3) (raised5 x1 h4) (raised5 x0 h5)
+    (raised5 x4 h1) (raised5 x3 h2) (raised5 x2 h3) (raised5 x1 h4) (raised5 x0 h5)
   where
     go : (s5 s4 s3 s2 s1 s0 : ℤ) → s5 +ℤ pos 16 ≡ pos ((x5 + 16) % 32) → s4 +ℤ pos 16 ≡ pos ((x4 + 16) % 32)
         → s3 +ℤ pos 16 ≡ pos ((x3 + 16) % 32) → s2 +ℤ pos 16 ≡ pos ((x2 + 16) % 32)
@@ -458,8 +478,14 @@ six_is a b c d A B C D =
     ∙ six_raised (a / 2 % 32) (a / 1 % 2 * 16 + b / 16 % 16) (b / 1 % 16 * 2 + c / 128 % 2) (c / 4 % 32)
     (c / 1 % 4 * 8 + d / 32 % 8) (d / 1 % 32) (omega arith) (omega arith) (omega arith) (omega arith) (omega arith)
     (omega arith)
-    ∙ sym (rw (six_5 a b c d A B C D, six_4 a b c d A B C D, six_3 a b c d A B C D, six_2 a b c d A B C D,
-    six_1 a b c d A B C D, six_0 a b c d A B C D) refl)
+    ∙ sym (rw (
+      six_5 a b c d A B C D,
+      six_4 a b c d A B C D,
+      six_3 a b c d A B C D,
+      six_2 a b c d A B C D,
+      six_1 a b c d A B C D,
+      six_0 a b c d A B C D,
+    ) refl)
 
 -- ---- 7 differences of 4 bits
 pub seven_p0 : (b : ℕ) → b < 256 → bit_and (bit_xor b 136) 240 * 8 ≡ 128 * ((b / 16 + 8) % 16)
@@ -532,9 +558,18 @@ seven_parts : (a b c d : ℕ) → a < 256 → b < 256 → c < 256 → d < 256
     + (c / 1 % 16 + 8) % 16 + (d / 16 % 16 + 8) % 16 + (d / 1 % 16 + 8) % 16
 seven_parts a b c d A B C D =
     let f : (128 * ((b / 16 + 8) % 16) + 128 * ((c / 16 + 8) % 16) + 128 * ((d / 16 + 8) % 16)) / 128
-        ≡ 1 * ((b / 16 + 8) % 16) + 1 * ((c / 16 + 8) % 16) + 1 * ((d / 16 + 8) % 16) = omega arith in
-    omega (arith, seven_r6 a b c d A B C D, seven_r5 a b c d A B C D, seven_r4 a b c d A B C D,
-        seven_r3 a b c d A B C D, seven_r2 a b c d A B C D, seven_r1 a b c d A B C D, seven_r0 a b c d A B C D, f)
+    ≡ 1 * ((b / 16 + 8) % 16) + 1 * ((c / 16 + 8) % 16) + 1 * ((d / 16 + 8) % 16) = omega arith in
+    omega (
+      arith,
+      seven_r6 a b c d A B C D,
+      seven_r5 a b c d A B C D,
+      seven_r4 a b c d A B C D,
+      seven_r3 a b c d A B C D,
+      seven_r2 a b c d A B C D,
+      seven_r1 a b c d A B C D,
+      seven_r0 a b c d A B C D,
+      f,
+    )
 
 raised4 : (x : ℕ) → x < 16 → signed 4 x +ℤ pos 8 ≡ pos ((x + 8) % 16)
 raised4 x lt = ⊎_elim
@@ -549,7 +584,7 @@ seven_raised : (x6 x5 x4 x3 x2 x1 x0 : ℕ) → x6 < 16 → x5 < 16 → x4 < 16 
     (signed 4 x4 +ℤ (signed 4 x3 +ℤ (signed 4 x2 +ℤ (signed 4 x1 +ℤ (signed 4 x0 +ℤ pos 0))))))) +ℤ pos 56
 seven_raised x6 x5 x4 x3 x2 x1 x0 h0 h1 h2 h3 h4 h5 h6 =
     go (signed 4 x6) (signed 4 x5) (signed 4 x4) (signed 4 x3) (signed 4 x2) (signed 4 x1) (signed 4 x0)
-        (raised4 x6 h0) (raised4 x5 h1) (raised4 x4 h2) (raised4 x3 h3) (raised4 x2 h4) (raised4 x1 h5) (raised4 x0 h6)
+    (raised4 x6 h0) (raised4 x5 h1) (raised4 x4 h2) (raised4 x3 h3) (raised4 x2 h4) (raised4 x1 h5) (raised4 x0 h6)
   where
     go : (s6 s5 s4 s3 s2 s1 s0 : ℤ) → s6 +ℤ pos 8 ≡ pos ((x6 + 8) % 16) → s5 +ℤ pos 8 ≡ pos ((x5 + 8) % 16)
         → s4 +ℤ pos 8 ≡ pos ((x4 + 8) % 16) → s3 +ℤ pos 8 ≡ pos ((x3 + 8) % 16) → s2 +ℤ pos 8 ≡ pos ((x2 + 8) % 16)
@@ -567,5 +602,12 @@ seven_is a b c d A B C D =
     ap pos (seven_parts a b c d A B C D)
     ∙ seven_raised (a / 1 % 16) (b / 16 % 16) (b / 1 % 16) (c / 16 % 16) (c / 1 % 16) (d / 16 % 16) (d / 1 % 16)
     (omega arith) (omega arith) (omega arith) (omega arith) (omega arith) (omega arith) (omega arith)
-    ∙ sym (rw (seven_6 a b c d A B C D, seven_5 a b c d A B C D, seven_4 a b c d A B C D, seven_3 a b c d A B C D,
-    seven_2 a b c d A B C D, seven_1 a b c d A B C D, seven_0 a b c d A B C D) refl)
+    ∙ sym (rw (
+      seven_6 a b c d A B C D,
+      seven_5 a b c d A B C D,
+      seven_4 a b c d A B C D,
+      seven_3 a b c d A B C D,
+      seven_2 a b c d A B C D,
+      seven_1 a b c d A B C D,
+      seven_0 a b c d A B C D,
+    ) refl)

@@ -1,7 +1,7 @@
 -- A frame's words in lanes are the payload's data words, and a row of lanes is the group of the word.
-use Rattle.std.proofs.Common.{◌≡◌, ◌≢◌, ℕ, zero, suc, ◌+◌, ◌-◌, ◌*◌, ◌/◌, ◌%◌, ◌^◌, ◌<◌, ◌≤◌, List, [], ◌∷◌, ◌++◌,
-    length, map, take, drop, get_or, ℤ, ◌+ℤ◌, refl, sym, ap, ◌∙◌, append_assoc, length-append, arith, inl, inr,
-    below_none, below_more, Some, Ok, Result}
+use Rattle.std.proofs.Common.{◌≡◌, ◌≢◌, ℕ, zero, suc, ◌+◌, ◌-◌, ◌*◌, ◌/◌, ◌%◌, ◌^◌, ◌<◌, ◌≤◌, List, [], ◌∷◌, ◌++◌}
+use Rattle.std.proofs.Common.{length, map, take, drop, get_or, ℤ, ◌+ℤ◌, refl, sym, ap, ◌∙◌, append_assoc, length-append}
+use Rattle.std.proofs.Common.{arith, inl, inr, below_none, below_more, Some, Ok, Result}
 use Rattle.std.specs.List.{range_with_len}
 use Rattle.std.proofs.lemmas.Int.{ints}
 use Rattle.std.proofs.lemmas.Bool.{le-ltb, lt-ltb}
@@ -15,8 +15,9 @@ use Rattle.mseed_steim.specs.private.Moves.{MovesBy}
 use Rattle.mseed_steim.specs.private.Digits.{digits, differences_of}
 use Rattle.mseed_steim.specs.Frames.{DataWord, data_word, word_at, code_at, words_from}
 use Rattle.mseed_steim.specs.private.Items.{items_of}
-use Rattle.mseed_steim.specs.private.Lanes.{total, span, sum_z, words, word_at as lanes_word_at, row_at, Begins,
-    counts_two, widths_two, moved_two, spanned_two, counts_one, widths_one, moved_one, spanned_one}
+use Rattle.mseed_steim.specs.private.Lanes.{total, span, sum_z, words, word_at as lanes_word_at, row_at, Begins}
+use Rattle.mseed_steim.specs.private.Lanes.{counts_two, widths_two, moved_two, spanned_two, counts_one, widths_one}
+use Rattle.mseed_steim.specs.private.Lanes.{moved_one, spanned_one}
 use Rattle.mseed_steim.proofs.Spelled.{length-digits}
 use Rattle.mseed_steim.proofs.Walking.{words_none, words_step, items_group}
 
@@ -49,7 +50,7 @@ row_two_0 : (word t : ℕ) → t < 4 → Row Two counts_two widths_two 0 word t
 unfolding counts_two
 row_two_0 word = each_of_4 (Row Two counts_two widths_two 0 word)
     (none_row Two counts_two widths_two word 0 refl) (none_row Two counts_two widths_two word 1 refl)
-        (none_row Two counts_two widths_two word 2 refl) (none_row Two counts_two widths_two word 3 refl)
+    (none_row Two counts_two widths_two word 2 refl) (none_row Two counts_two widths_two word 3 refl)
 
 row_two_1 : (word t : ℕ) → t < 4 → Row Two counts_two widths_two 1 word t
 unfolding counts_two widths_two
@@ -60,7 +61,7 @@ row_two_2 : (word t : ℕ) → t < 4 → Row Two counts_two widths_two 2 word t
 unfolding counts_two widths_two differences_of
 row_two_2 word = each_of_4 (Row Two counts_two widths_two 2 word)
     (λ e few. absurd (omega (arith, few))) (λ e few. absurd (omega (arith, few))) (λ e few. rw e refl)
-        (λ e few. rw e refl)
+    (λ e few. rw e refl)
 
 row_two_3 : (word t : ℕ) → t < 4 → Row Two counts_two widths_two 3 word t
 unfolding counts_two widths_two differences_of
@@ -70,7 +71,7 @@ row_two_3 word = each_of_4 (Row Two counts_two widths_two 3 word)
 pub rows_two : Rows Two counts_two widths_two
 rows_two c word h small few =
     each_of_4 (λ n. (t : ℕ) → t < 4 → Row Two counts_two widths_two n word t) (row_two_0 word) (row_two_1 word)
-        (row_two_2 word) (row_two_3 word) c h (word / 2 ^ 30) (omega arith) refl few
+    (row_two_2 word) (row_two_3 word) c h (word / 2 ^ 30) (omega arith) refl few
 
 bytes_one : (word t : ℕ) → get_or counts_one (4 * 1 + t) 0 ≡ 4 → get_or widths_one (4 * 1 + t) 0 ≡ 8
     → Row One counts_one widths_one 1 word t
@@ -86,7 +87,7 @@ row_one_0 : (word t : ℕ) → t < 4 → Row One counts_one widths_one 0 word t
 unfolding counts_one
 row_one_0 word = each_of_4 (Row One counts_one widths_one 0 word)
     (none_row One counts_one widths_one word 0 refl) (none_row One counts_one widths_one word 1 refl)
-        (none_row One counts_one widths_one word 2 refl) (none_row One counts_one widths_one word 3 refl)
+    (none_row One counts_one widths_one word 2 refl) (none_row One counts_one widths_one word 3 refl)
 
 row_one_1 : (word t : ℕ) → t < 4 → Row One counts_one widths_one 1 word t
 unfolding counts_one widths_one
@@ -102,12 +103,12 @@ row_one_3 : (word t : ℕ) → t < 4 → Row One counts_one widths_one 3 word t
 unfolding counts_one
 row_one_3 word = each_of_4 (Row One counts_one widths_one 3 word)
     (λ e few. absurd (omega (arith, few))) (λ e few. absurd (omega (arith, few)))
-        (λ e few. absurd (omega (arith, few))) (λ e few. absurd (omega (arith, few)))
+    (λ e few. absurd (omega (arith, few))) (λ e few. absurd (omega (arith, few)))
 
 pub rows_one : Rows One counts_one widths_one
 rows_one c word h small few =
     each_of_4 (λ n. (t : ℕ) → t < 4 → Row One counts_one widths_one n word t) (row_one_0 word) (row_one_1 word)
-        (row_one_2 word) (row_one_3 word) c h (word / 2 ^ 30) (omega arith) refl few
+    (row_one_2 word) (row_one_3 word) c h (word / 2 ^ 30) (omega arith) refl few
 
 -- ---- the bytes of a frame of a payload
 byte_is : (p f : List ℕ) (k i n : ℕ) → f ≡ take 64 (drop (64 * k) p) → i < 64 → n ≡ 64 * k + i
@@ -119,7 +120,7 @@ pub word_is : (p f : List ℕ) (k j : ℕ) → f ≡ take 64 (drop (64 * k) p) �
     → word_at p (16 * k + j) ≡ lanes_word_at f j
 word_is p f k j e h =
     let at = λ (i : ℕ) (less : i < 4). get_or-drop (4 * (16 * k + j)) p i 0
-        ∙ sym (byte_is p f k (4 * j + i) (4 * (16 * k + j) + i) e (omega arith) (omega arith)) in
+    ∙ sym (byte_is p f k (4 * j + i) (4 * (16 * k + j) + i) e (omega arith) (omega arith)) in
     rw (at 0 (omega arith), at 1 (omega arith), at 2 (omega arith), at 3 (omega arith)) (omega arith)
 
 -- its code
@@ -169,20 +170,20 @@ found s counts widths p f k from reads zero j some behind end few =
     record { ds = []; items = λ rest. rw (words_none p (16 * k + j)) refl; count = refl; by = refl; near = refl }
 found s counts widths p f k from reads (suc n) j some behind end few =
     let later = found s counts widths p f k from reads n (j + 1) (omega arith) (omega arith) (omega arith)
-        (omega (arith, few)) in
+    (omega (arith, few)) in
     let data_place : (16 * k + j) % 16 ≢ 0 = λ e. omega arith in
     let next : 16 * k + j + 1 ≡ 16 * k + (j + 1) = omega arith in
     let group : List ℤ = group_at counts widths f from j in
     let cut : words_from p (16 * k + j) (suc n) ≡ data_word p (16 * k + j) ∷ words_from p (16 * k + (j + 1)) n =
-        rw (← next) (words_step p (16 * k + j) n data_place) in
+    rw (← next) (words_step p (16 * k + j) n data_place) in
     let one : differences_of s (code_at p (16 * k + j)) (word_at p (16 * k + j)) ≡ Some group =
-        reads.word j (omega arith) behind (omega (arith, few)) in
+    reads.word j (omega arith) behind (omega (arith, few)) in
     let long : length group ≡ count_at counts f from j =
-        length-digits (get_or widths (row_at f from j) 0) (lanes_word_at f j) (get_or counts (row_at f from j) 0) in
+    length-digits (get_or widths (row_at f from j) 0) (lanes_word_at f j) (get_or counts (row_at f from j) 0) in
     let whole : length (group ++ later.ds) ≡ length group + length later.ds = length-append group later.ds in
     let items = λ (rest : List DataWord).
     items_group s (words_from p (16 * k + j) (suc n) ++ rest) (words_from p (16 * k + (j + 1)) n ++ rest)
-        (data_word p (16 * k + j)) group (ap (λ (ws : List DataWord). ws ++ rest) cut) one
+    (data_word p (16 * k + j)) group (ap (λ (ws : List DataWord). ws ++ rest) cut) one
     ∙ ap (λ (xs : List (Result ℤ BadWordAt)). map Ok group ++ xs) (later.items rest)
     ∙ sym (append_assoc (map Ok group) (map Ok later.ds) (items_of s rest))
     ∙ ap (λ (xs : List (Result ℤ BadWordAt)). xs ++ items_of s rest) (sym (map-append Ok group later.ds)) in
@@ -212,10 +213,18 @@ moves_1 s counts widths p f k m reads count by near = λ few.
     let none = none_at counts widths f 1 0 z in
     let all = found s counts widths p f k 1 reads 15 1 (omega arith) (omega arith) refl (omega (arith, few, count)) in
     let sum = by few in
-    let span_all = near few in
-    (all.ds, (record { count = omega (arith, all.count, count, z); by = all.by
-        ∙ sym (sum ∙ (rw none (omega (arith, ints)))); near = omega (arith, all.near, rw none at span_all) },
-        all.items))
+    let span_all = near few in (
+      all.ds,
+      (
+        record {
+          count = omega (arith, all.count, count, z);
+          by = all.by
+              ∙ sym (sum ∙ (rw none (omega (arith, ints))));
+          near = omega (arith, all.near, rw none at span_all);
+        },
+        all.items,
+      ),
+    )
 
 moves_4 : (s : Scheme) (counts widths p f : List ℕ) (k : ℕ) (m : Moved) → Reads s counts widths p f k 4
     → m.count ≡ sum_l (map (count_at counts f 4) words)
@@ -234,10 +243,19 @@ moves_4 s counts widths p f k m reads count by near = λ few.
     let n3 = none_at counts widths f 4 3 z3 in
     let all = found s counts widths p f k 4 reads 12 4 (omega arith) (omega arith) refl (omega (arith, few, count)) in
     let sum = by few in
-    let span_all = near few in
-    (all.ds, (record { count = omega (arith, all.count, count, z0, z1, z2, z3); by = all.by
-        ∙ sym (sum ∙ (rw (n0, n1, n2, n3) (omega (arith, ints)))); near =
-        omega (arith, all.near, rw (n0, n1, n2, n3) at span_all) }, all.items))
+    let span_all = near few in (
+      all.ds,
+      (
+        record {
+          count = omega (arith, all.count, count, z0, z1, z2, z3);
+          by = all.by
+              ∙ sym (sum ∙ (rw (n0, n1, n2, n3) (omega (arith, ints))));
+          near =
+              omega (arith, all.near, rw (n0, n1, n2, n3) at span_all);
+        },
+        all.items,
+      ),
+    )
 
 moves : (s : Scheme) (counts widths p f begin : List ℕ) (k from : ℕ) (m : Moved) → Begins begin from
     → Reads s counts widths p f k from
@@ -258,10 +276,10 @@ pub reads_by : (s : Scheme) (counts widths p f : List ℕ) (k from : ℕ) → Ro
 reads_by s counts widths p f k from rows zeros e h = record {
   word = λ j less behind few.
       let row : row_at f from j ≡ 4 * (lanes_word_at f 0 / 2 ^ (30 - 2 * j) % 4) + lanes_word_at f j / 2 ^ 30 =
-          rw (le-ltb j from behind) refl in
+      rw (le-ltb j from behind) refl in
       rw (code_is p f k j e less, word_is p f k j e less, row)
-          (rows (lanes_word_at f 0 / 2 ^ (30 - 2 * j) % 4) (lanes_word_at f j) (omega arith) (word_small f j h)
-          (rw row at few));
+      (rows (lanes_word_at f 0 / 2 ^ (30 - 2 * j) % 4) (lanes_word_at f j) (omega arith) (word_small f j h)
+      (rw row at few));
   empty = λ j less.
       let small = word_small f j h in
       let row : row_at f from j ≡ lanes_word_at f j / 2 ^ 30 = rw (lt-ltb j from less) (omega arith) in

@@ -1,13 +1,14 @@
 -- How far a frame's differences go.
-use Rattle.std.proofs.Common.{◌≡◌, ℕ, zero, suc, ◌+◌, ◌-◌, ◌*◌, ◌/◌, ◌%◌, ◌^◌, ◌<◌, ◌≤◌, List, [], ◌∷◌, length, map,
-    get_or, refl, subst, ◌∙◌, arith, ⊎_elim, pos, negsuc, nat_abs, below_none, below_more, if◌then◌else◌, nat_lt}
+use Rattle.std.proofs.Common.{◌≡◌, ℕ, zero, suc, ◌+◌, ◌-◌, ◌*◌, ◌/◌, ◌%◌, ◌^◌, ◌<◌, ◌≤◌, List, [], ◌∷◌, length, map}
+use Rattle.std.proofs.Common.{get_or, refl, subst, ◌∙◌, arith, ⊎_elim, pos, negsuc, nat_abs, below_none, below_more}
+use Rattle.std.proofs.Common.{if◌then◌else◌, nat_lt}
 use Rattle.std.proofs.lemmas.Bool.{cases_lt, lt-ltb, le-ltb}
 use Rattle.std.proofs.Math.Nat.{mul-suc}
 use lib.Lanes.{sum_l}
 use Rattle.mseed_steim.specs.private.Digits.{signed, digits}
 use Rattle.mseed_steim.specs.private.Lanes.{span}
-use Rattle.mseed_steim.specs.private.Lanes.{words, word_at, row_at, counts_two, widths_two, spanned_two, counts_one,
-    widths_one, spanned_one}
+use Rattle.mseed_steim.specs.private.Lanes.{words, word_at, row_at, counts_two, widths_two, spanned_two, counts_one}
+use Rattle.mseed_steim.specs.private.Lanes.{widths_one, spanned_one}
 use Rattle.mseed_steim.proofs.LaneSums.{long_words}
 use Rattle.mseed_steim.proofs.FrameSums.{row_small}
 
@@ -101,15 +102,15 @@ near_two : (word row : ℕ) → row < 16 → Near widths_two counts_two word row
 near_two word =
     let P : ℕ → Type 0 = λ row. Near widths_two counts_two word row in
     below_more P 15 (below_more P 14
-        (below_more P 13 (below_more P 12
-        (below_more P 11 (below_more P 10
-        (below_more P 9 (below_more P 8
-        (below_more P 7 (below_more P 6
-        (below_more P 5 (below_more P 4
-        (below_more P 3 (below_more P 2 (below_more P 1 (below_more P 0 (below_none P) (near_two_0 word))
-        (near_two_1 word)) (near_two_2 word)) (near_two_3 word)) (near_two_4 word)) (near_two_5 word))
-        (near_two_6 word)) (near_two_7 word)) (near_two_8 word)) (near_two_9 word)) (near_two_10 word))
-        (near_two_11 word)) (near_two_12 word)) (near_two_13 word)) (near_two_14 word)) (near_two_15 word)
+    (below_more P 13 (below_more P 12
+    (below_more P 11 (below_more P 10
+    (below_more P 9 (below_more P 8
+    (below_more P 7 (below_more P 6
+    (below_more P 5 (below_more P 4
+    (below_more P 3 (below_more P 2 (below_more P 1 (below_more P 0 (below_none P) (near_two_0 word))
+    (near_two_1 word)) (near_two_2 word)) (near_two_3 word)) (near_two_4 word)) (near_two_5 word))
+    (near_two_6 word)) (near_two_7 word)) (near_two_8 word)) (near_two_9 word)) (near_two_10 word))
+    (near_two_11 word)) (near_two_12 word)) (near_two_13 word)) (near_two_14 word)) (near_two_15 word)
 
 near_one_0 : (word : ℕ) → Near widths_one counts_one word 0
 unfolding widths_one counts_one digits
@@ -179,15 +180,15 @@ near_one : (word row : ℕ) → row < 16 → Near widths_one counts_one word row
 near_one word =
     let P : ℕ → Type 0 = λ row. Near widths_one counts_one word row in
     below_more P 15 (below_more P 14
-        (below_more P 13 (below_more P 12
-        (below_more P 11 (below_more P 10
-        (below_more P 9 (below_more P 8
-        (below_more P 7 (below_more P 6
-        (below_more P 5 (below_more P 4
-        (below_more P 3 (below_more P 2 (below_more P 1 (below_more P 0 (below_none P) (near_one_0 word))
-        (near_one_1 word)) (near_one_2 word)) (near_one_3 word)) (near_one_4 word)) (near_one_5 word))
-        (near_one_6 word)) (near_one_7 word)) (near_one_8 word)) (near_one_9 word)) (near_one_10 word))
-        (near_one_11 word)) (near_one_12 word)) (near_one_13 word)) (near_one_14 word)) (near_one_15 word)
+    (below_more P 13 (below_more P 12
+    (below_more P 11 (below_more P 10
+    (below_more P 9 (below_more P 8
+    (below_more P 7 (below_more P 6
+    (below_more P 5 (below_more P 4
+    (below_more P 3 (below_more P 2 (below_more P 1 (below_more P 0 (below_none P) (near_one_0 word))
+    (near_one_1 word)) (near_one_2 word)) (near_one_3 word)) (near_one_4 word)) (near_one_5 word))
+    (near_one_6 word)) (near_one_7 word)) (near_one_8 word)) (near_one_9 word)) (near_one_10 word))
+    (near_one_11 word)) (near_one_12 word)) (near_one_13 word)) (near_one_14 word)) (near_one_15 word)
 
 all_near : (count far : ℕ → ℕ) → ((w : ℕ) → count w < 128 → far w ≤ 65536) → (ws : List ℕ) → sum_l (map count ws) < 128
     → sum_l (map far ws) ≤ 65536 * length ws
@@ -203,7 +204,7 @@ pub frame_near_two : (f : List ℕ) (from : ℕ) → ((k : ℕ) → get_or f k 0
 frame_near_two f from h few =
     subst (λ n. sum_l (map (spanned_two f from) words) ≤ 65536 * n) long_words
     (all_near (λ w. get_or counts_two (row_at f from w) 0) (spanned_two f from)
-        (λ w. near_two (word_at f w) (row_at f from w) (row_small f from h w)) words few)
+    (λ w. near_two (word_at f w) (row_at f from w) (row_small f from h w)) words few)
 
 pub frame_near_one : (f : List ℕ) (from : ℕ) → ((k : ℕ) → get_or f k 0 < 256)
     → sum_l (map (λ w. get_or counts_one (row_at f from w) 0) words) < 128
@@ -211,4 +212,4 @@ pub frame_near_one : (f : List ℕ) (from : ℕ) → ((k : ℕ) → get_or f k 0
 frame_near_one f from h few =
     subst (λ n. sum_l (map (spanned_one f from) words) ≤ 65536 * n) long_words
     (all_near (λ w. get_or counts_one (row_at f from w) 0) (spanned_one f from)
-        (λ w. near_one (word_at f w) (row_at f from w) (row_small f from h w)) words few)
+    (λ w. near_one (word_at f w) (row_at f from w) (row_small f from h w)) words few)

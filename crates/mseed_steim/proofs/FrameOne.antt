@@ -1,12 +1,13 @@
 -- Steim-1: what a word's parts add up to, by its row, and a frame's words.
-use Rattle.std.proofs.Common.{to_z, w32, negsuc, ◌≡◌, ℕ, suc, ◌+◌, ◌-◌, ◌*◌, ◌/◌, ◌%◌, ◌<◌, ◌≤◌, List, [], ◌∷◌, length,
-    map, get_or, bit_and, bit_xor, refl, sym, ap, subst, ◌∙◌, arith, ℤ, pos, ◌+ℤ◌, below_none, below_more}
+use Rattle.std.proofs.Common.{to_z, w32, negsuc, ◌≡◌, ℕ, suc, ◌+◌, ◌-◌, ◌*◌, ◌/◌, ◌%◌, ◌<◌, ◌≤◌, List, [], ◌∷◌, length}
+use Rattle.std.proofs.Common.{map, get_or, bit_and, bit_xor, refl, sym, ap, subst, ◌∙◌, arith, ℤ, pos, ◌+ℤ◌, below_none}
+use Rattle.std.proofs.Common.{below_more}
 use Rattle.std.proofs.lemmas.Int.{ints, to_z_pos}
 use lib.Lanes.{sum_l}
 use Rattle.mseed_steim.specs.private.Digits.{signed, digits}
 use Rattle.mseed_steim.specs.private.Lanes.{total, word_of}
-use Rattle.mseed_steim.specs.private.Lanes.{words, sum_z, byte_at, row_at, low_one, high_one, flipped, flipped_low,
-    least_one, counts_one, widths_one, moved_one}
+use Rattle.mseed_steim.specs.private.Lanes.{words, sum_z, byte_at, row_at, low_one, high_one, flipped, flipped_low}
+use Rattle.mseed_steim.specs.private.Lanes.{least_one, counts_one, widths_one, moved_one}
 use Rattle.mseed_steim.proofs.FrameBytes.{same, four_is, four_p0}
 use Rattle.mseed_steim.proofs.LaneSums.{long_words}
 use Rattle.mseed_steim.proofs.FrameWords.{gone}
@@ -19,7 +20,7 @@ use Rattle.std.proofs.Common.{⊎_elim}
 abbrev pub whole_one : ℕ → ℕ → ℕ → ℕ → ℕ → ℕ
 whole_one row a b c d =
     low_one row (flipped row a) (flipped_low row b) (flipped row c) (flipped_low row d) + 256 * high_one row
-        (flipped row a) (flipped_low row b) (flipped row c) (flipped_low row d)
+    (flipped row a) (flipped_low row b) (flipped row c) (flipped_low row d)
 
 abbrev pub Tells_one : ℕ → ℕ → ℕ → ℕ → ℕ → Type 0
 Tells_one row a b c d =
@@ -80,22 +81,41 @@ scaled_one row a b c d k e small is low = (ap pos e ∙ is, omega (arith, e, sma
 none_one : (a b c d : ℕ) → a < 256 → b < 256 → c < 256 → d < 256
     → (bit_and (bit_xor a 0) 0 * 1 + bit_and (bit_xor b 0) 0 * 1 + bit_and (bit_xor c 0) 0 * 1 + bit_and (bit_xor d 0)
     0 * 1) + 256 * (bit_and (bit_xor a 0) 0 * 1 + bit_and (bit_xor c 0) 0 * 1) ≡ 0
-none_one a b c d A B C D = omega (arith, gone (bit_xor a 0) 1, gone (bit_xor b 0) 1, gone (bit_xor c 0) 1,
-    gone (bit_xor d 0) 1)
+none_one a b c d A B C D = omega (
+  arith,
+  gone (bit_xor a 0) 1,
+  gone (bit_xor b 0) 1,
+  gone (bit_xor c 0) 1,
+  gone (bit_xor d 0) 1,
+)
 
 four_one : (a b c d : ℕ) → a < 256 → b < 256 → c < 256 → d < 256
     → (bit_and (bit_xor a 128) 255 * 1 + bit_and (bit_xor b 128) 255 * 1 + bit_and (bit_xor c 128) 255 * 1 + bit_and
     (bit_xor d 128) 255 * 1) + 256 * (bit_and (bit_xor a 128) 0 * 1 + bit_and (bit_xor c 128) 0 * 1)
     ≡ 1 * ((a / 1 + 128) % 256) + 1 * ((b / 1 + 128) % 256) + 1 * ((c / 1 + 128) % 256) + 1 * ((d / 1 + 128) % 256)
-four_one a b c d A B C D = omega (arith, four_p0 a A, four_p0 b B, four_p0 c C, four_p0 d D, gone (bit_xor a 128) 1,
-    gone (bit_xor c 128) 1)
+four_one a b c d A B C D = omega (
+  arith,
+  four_p0 a A,
+  four_p0 b B,
+  four_p0 c C,
+  four_p0 d D,
+  gone (bit_xor a 128) 1,
+  gone (bit_xor c 128) 1,
+)
 
 wide_one : (a b c d : ℕ) → a < 256 → b < 256 → c < 256 → d < 256
     → (bit_and (bit_xor a 128) 0 * 1 + bit_and (bit_xor b 0) 255 * 1 + bit_and (bit_xor c 128) 0 * 1 + bit_and
     (bit_xor d 0) 255 * 1) + 256 * (bit_and (bit_xor a 128) 255 * 1 + bit_and (bit_xor c 128) 255 * 1)
     ≡ b + d + 256 * ((a + 128) % 256 + (c + 128) % 256)
-wide_one a b c d A B C D = omega (arith, plain b B, plain d D, top_turned a A, top_turned c C, gone (bit_xor a 128) 1,
-    gone (bit_xor c 128) 1)
+wide_one a b c d A B C D = omega (
+  arith,
+  plain b B,
+  plain d D,
+  top_turned a A,
+  top_turned c C,
+  gone (bit_xor a 128) 1,
+  gone (bit_xor c 128) 1,
+)
 
 one_0 : (a b c d : ℕ) → a < 256 → b < 256 → c < 256 → d < 256 → Tells_one 0 a b c d
 unfolding low_one high_one flipped flipped_low least_one counts_one widths_one digits
@@ -177,16 +197,16 @@ pub tells_one : (a b c d : ℕ) → a < 256 → b < 256 → c < 256 → d < 256 
 tells_one a b c d A B C D =
     let P : ℕ → Type 0 = λ row. Tells_one row a b c d in
     below_more P 15 (below_more P 14
-        (below_more P 13 (below_more P 12
-        (below_more P 11 (below_more P 10
-        (below_more P 9 (below_more P 8
-        (below_more P 7 (below_more P 6
-        (below_more P 5 (below_more P 4
-        (below_more P 3 (below_more P 2 (below_more P 1 (below_more P 0 (below_none P) (one_0 a b c d A B C D))
-        (one_1 a b c d A B C D)) (one_2 a b c d A B C D)) (one_3 a b c d A B C D)) (one_4 a b c d A B C D))
-        (one_5 a b c d A B C D)) (one_6 a b c d A B C D)) (one_7 a b c d A B C D)) (one_8 a b c d A B C D))
-        (one_9 a b c d A B C D)) (one_10 a b c d A B C D)) (one_11 a b c d A B C D)) (one_12 a b c d A B C D))
-        (one_13 a b c d A B C D)) (one_14 a b c d A B C D)) (one_15 a b c d A B C D)
+    (below_more P 13 (below_more P 12
+    (below_more P 11 (below_more P 10
+    (below_more P 9 (below_more P 8
+    (below_more P 7 (below_more P 6
+    (below_more P 5 (below_more P 4
+    (below_more P 3 (below_more P 2 (below_more P 1 (below_more P 0 (below_none P) (one_0 a b c d A B C D))
+    (one_1 a b c d A B C D)) (one_2 a b c d A B C D)) (one_3 a b c d A B C D)) (one_4 a b c d A B C D))
+    (one_5 a b c d A B C D)) (one_6 a b c d A B C D)) (one_7 a b c d A B C D)) (one_8 a b c d A B C D))
+    (one_9 a b c d A B C D)) (one_10 a b c d A B C D)) (one_11 a b c d A B C D)) (one_12 a b c d A B C D))
+    (one_13 a b c d A B C D)) (one_14 a b c d A B C D)) (one_15 a b c d A B C D)
 
 abbrev pub Told_one : (ℕ → ℕ) → (ℕ → ℕ) → (ℕ → ℕ) → (ℕ → ℤ) → ℕ → Type 0
 Told_one count whole least moved w = count w < 128 → (pos (whole w) ≡ moved w +ℤ pos (least w)) × (whole w ≤ 131072)
@@ -251,7 +271,7 @@ told_one : (f : List ℕ) (from : ℕ) → ((k : ℕ) → get_or f k 0 < 256) �
     (λ w. 512 * least_one (row_at f from w)) (moved_one f from) w
 told_one f from h w =
     tells_one (byte_at f 0 w) (byte_at f 1 w) (byte_at f 2 w) (byte_at f 3 w) (h (4 * w + 0)) (h (4 * w + 1))
-        (h (4 * w + 2)) (h (4 * w + 3)) (row_at f from w) (row_small f from h w)
+    (h (4 * w + 2)) (h (4 * w + 3)) (row_at f from w) (row_small f from h w)
 
 pub frame_sum_one : (f : List ℕ) (from : ℕ) → ((k : ℕ) → get_or f k 0 < 256) → (r le LO HI : ℕ)
     → (r + 512 * le) % 4294967296 ≡ (LO + 256 * HI) % 4294967296 → r < 4294967296
@@ -266,16 +286,16 @@ pub frame_sum_one : (f : List ℕ) (from : ℕ) → ((k : ℕ) → get_or f k 0 
     → to_z w32 r ≡ sum_z (map (moved_one f from) words)
 frame_sum_one f from h r le LO HI come small lo hi l few =
     let all = told_all_one (λ w. get_or counts_one (row_at f from w) 0) (whole_at_one f from)
-        (λ w. 512 * least_one (row_at f from w)) (moved_one f from) (told_one f from h) words few in
+    (λ w. 512 * least_one (row_at f from w)) (moved_one f from) (told_one f from h) words few in
     let W : ℕ = sum_l (map (whole_at_one f from) words) in
     let L : ℕ = sum_l (map (λ w. 512 * least_one (row_at f from w)) words) in
     let is_w : LO + 256 * HI ≡ W =
-        rw (lo, hi) (sym (sums_256 (λ w. low_one (row_at f from w) (flipped (row_at f from w) (byte_at f 0 w))
-        (flipped_low (row_at f from w) (byte_at f 1 w)) (flipped (row_at f from w) (byte_at f 2 w))
-        (flipped_low (row_at f from w) (byte_at f 3 w)))
-        (λ w. high_one (row_at f from w) (flipped (row_at f from w) (byte_at f 0 w))
-        (flipped_low (row_at f from w) (byte_at f 1 w)) (flipped (row_at f from w) (byte_at f 2 w))
-        (flipped_low (row_at f from w) (byte_at f 3 w))) words)) in
+    rw (lo, hi) (sym (sums_256 (λ w. low_one (row_at f from w) (flipped (row_at f from w) (byte_at f 0 w))
+    (flipped_low (row_at f from w) (byte_at f 1 w)) (flipped (row_at f from w) (byte_at f 2 w))
+    (flipped_low (row_at f from w) (byte_at f 3 w)))
+    (λ w. high_one (row_at f from w) (flipped (row_at f from w) (byte_at f 0 w))
+    (flipped_low (row_at f from w) (byte_at f 1 w)) (flipped (row_at f from w) (byte_at f 2 w))
+    (flipped_low (row_at f from w) (byte_at f 3 w))) words)) in
     let is_l : 512 * le ≡ L = rw l (sym (sums_512 (λ w. least_one (row_at f from w)) words)) in
     let e : (r + L) % 4294967296 ≡ W % 4294967296 =
     ap (λ n. (r + n) % 4294967296) (sym is_l) ∙ come ∙ ap (λ n. n % 4294967296) is_w in

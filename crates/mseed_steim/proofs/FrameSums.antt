@@ -1,12 +1,14 @@
 -- What a frame's words add up to.
-use Rattle.std.proofs.Common.{to_z, of_z, ◌≡◌, ◌-◌, ◌^◌, Bool, true, false, if◌then◌else◌, nat_lt, w32, rules, ℕ, ◌+◌,
-    ◌*◌, ◌/◌, ◌%◌, ◌<◌, ◌≤◌, List, [], ◌∷◌, length, map, get_or, refl, sym, ap, subst, ◌∙◌, arith, ℤ, pos, ◌+ℤ◌, ◌-ℤ◌}
+use Rattle.std.proofs.Common.{to_z, of_z, ◌≡◌, ◌-◌, ◌^◌, Bool, true, false, if◌then◌else◌, nat_lt, w32, rules, ℕ, ◌+◌}
+use Rattle.std.proofs.Common.{◌*◌, ◌/◌, ◌%◌, ◌<◌, ◌≤◌, List, [], ◌∷◌, length, map, get_or, refl, sym, ap, subst, ◌∙◌}
+use Rattle.std.proofs.Common.{arith, ℤ, pos, ◌+ℤ◌, ◌-ℤ◌}
 use Rattle.std.proofs.lemmas.Int.{ints}
 use lib.Lanes.{sum_l}
 use Rattle.std.proofs.lemmas.Int.{to_z_pos, to_z-of_z}
 use Rattle.mseed_steim.specs.private.Lanes.{word_of}
-use Rattle.mseed_steim.specs.private.Lanes.{words, sum_z, byte_at, word_at, row_at, moved_two, counts_two, ones_two,
-    fine_two, coarse_two, turned_a, turned_b, turned_c, turned_d, least_two, least_coarse_two}
+use Rattle.mseed_steim.specs.private.Lanes.{words, sum_z, byte_at, word_at, row_at, moved_two, counts_two, ones_two}
+use Rattle.mseed_steim.specs.private.Lanes.{fine_two, coarse_two, turned_a, turned_b, turned_c, turned_d, least_two}
+use Rattle.mseed_steim.specs.private.Lanes.{least_coarse_two}
 use Rattle.mseed_steim.proofs.LaneSums.{long_words}
 use Rattle.mseed_steim.proofs.FrameWords.{tells, whole, least}
 
@@ -78,7 +80,7 @@ pub row_small : (f : List ℕ) (from : ℕ) → ((k : ℕ) → get_or f k 0 < 25
 row_small f from h w =
     let c = code_small (nat_lt w from) (word_at f 0 / 2 ^ (30 - 2 * w)) in
     let t = top_small (byte_at f 0 w) (byte_at f 1 w) (byte_at f 2 w) (byte_at f 3 w) (h (4 * w + 0)) (h (4 * w + 1))
-        (h (4 * w + 2)) (h (4 * w + 3)) in
+    (h (4 * w + 2)) (h (4 * w + 3)) in
     omega (arith, c, t)
 
 abbrev pub whole_at : List ℕ → ℕ → ℕ → ℕ
@@ -89,7 +91,7 @@ told : (f : List ℕ) (from : ℕ) → ((k : ℕ) → get_or f k 0 < 256) → (w
     (moved_two f from) w
 told f from h w =
     tells (byte_at f 0 w) (byte_at f 1 w) (byte_at f 2 w) (byte_at f 3 w) (h (4 * w + 0)) (h (4 * w + 1))
-        (h (4 * w + 2)) (h (4 * w + 3)) (row_at f from w) (row_small f from h w)
+    (h (4 * w + 2)) (h (4 * w + 3)) (row_at f from w) (row_small f from h w)
 
 pub cast_back : (n : ℕ) → n < 33554432 → to_z w32 (of_z w32 (to_z w32 n -ℤ pos 1048576)) ≡ pos n -ℤ pos 1048576
 cast_back n lt = ap (λ z. to_z w32 (of_z w32 (z -ℤ pos 1048576))) (to_z_pos w32 n (omega arith))
@@ -113,23 +115,23 @@ pub frame_sum : (f : List ℕ) (from : ℕ) → ((k : ℕ) → get_or f k 0 < 25
     ≡ sum_z (map (moved_two f from) words)
 frame_sum f from h r le far ON FI CO come small on fi co l c few =
     let all = told_all (λ w. get_or counts_two (row_at f from w) 0) (whole_at f from) (λ w. least (row_at f from w))
-        (moved_two f from) (told f from h) words few in
+    (moved_two f from) (told f from h) words few in
     let W : ℕ = sum_l (map (whole_at f from) words) in
     let L : ℕ = sum_l (map (λ w. least (row_at f from w)) words) in
     let is_w : 128 * ON + FI + 32768 * CO ≡ W =
     rw (on, fi, co) (sym (three_sums
     (λ w. ones_two (row_at f from w) (turned_a (row_at f from w) (byte_at f 0 w))
-        (turned_b (row_at f from w) (byte_at f 1 w)) (turned_c (row_at f from w) (byte_at f 2 w))
-        (turned_d (row_at f from w) (byte_at f 3 w)))
+    (turned_b (row_at f from w) (byte_at f 1 w)) (turned_c (row_at f from w) (byte_at f 2 w))
+    (turned_d (row_at f from w) (byte_at f 3 w)))
     (λ w. fine_two (row_at f from w) (turned_a (row_at f from w) (byte_at f 0 w))
-        (turned_b (row_at f from w) (byte_at f 1 w)) (turned_c (row_at f from w) (byte_at f 2 w))
-        (turned_d (row_at f from w) (byte_at f 3 w)))
+    (turned_b (row_at f from w) (byte_at f 1 w)) (turned_c (row_at f from w) (byte_at f 2 w))
+    (turned_d (row_at f from w) (byte_at f 3 w)))
     (λ w. coarse_two (row_at f from w) (turned_a (row_at f from w) (byte_at f 0 w))
-        (turned_b (row_at f from w) (byte_at f 1 w)) (turned_c (row_at f from w) (byte_at f 2 w))
-        (turned_d (row_at f from w) (byte_at f 3 w))) words)) in
+    (turned_b (row_at f from w) (byte_at f 1 w)) (turned_c (row_at f from w) (byte_at f 2 w))
+    (turned_d (row_at f from w) (byte_at f 3 w))) words)) in
     let is_l : 8 * le + 256 * far ≡ L =
-        rw (l, c) (sym (least_sums (λ w. least_two (row_at f from w)) (λ w. least_coarse_two (row_at f from w))
-        words)) in
+    rw (l, c) (sym (least_sums (λ w. least_two (row_at f from w)) (λ w. least_coarse_two (row_at f from w))
+    words)) in
     let e : (r + 128 * L) % 4294967296 ≡ W % 4294967296 =
     ap (λ n. (r + 128 * n) % 4294967296) (sym is_l) ∙ come ∙ ap (λ n. n % 4294967296) is_w in
     let bound_w : W / 128 ≤ 1048576 = subst (λ n. W / 128 ≤ 65536 * n) long_words all.2 in

@@ -1,6 +1,7 @@
 -- A frame's words, unpacked one after another, spell what they say.
-use Rattle.std.proofs.Common.{◌≡◌, ◌≢◌, ℕ, zero, suc, ◌+◌, ◌-◌, ◌*◌, ◌%◌, ◌^◌, ◌<◌, ◌≤◌, List, ◌∷◌, ◌++◌, length, map,
-    take, drop, get_or, ℤ, refl, sym, ap, subst, ◌∙◌, append_assoc, append-nil, arith, inl, inr, Some, Ok, Result}
+use Rattle.std.proofs.Common.{◌≡◌, ◌≢◌, ℕ, zero, suc, ◌+◌, ◌-◌, ◌*◌, ◌%◌, ◌^◌, ◌<◌, ◌≤◌, List, ◌∷◌, ◌++◌, length, map}
+use Rattle.std.proofs.Common.{take, drop, get_or, ℤ, refl, sym, ap, subst, ◌∙◌, append_assoc, append-nil, arith, inl}
+use Rattle.std.proofs.Common.{inr, Some, Ok, Result}
 use Rattle.std.specs.List.{range_with_len}
 use Rattle.std.proofs.lemmas.List.{map-append, take_all}
 use lib.Lanes.{sum_l}
@@ -12,11 +13,11 @@ use Rattle.mseed_steim.specs.private.Digits.{differences_of}
 use Rattle.mseed_steim.specs.Frames.{DataWord, data_word, word_at, code_at, words_from}
 use Rattle.mseed_steim.specs.private.Items.{items_of}
 use Rattle.mseed_steim.specs.private.Lanes.{span, words, word_at as lanes_word_at, row_at, Begins}
-use Rattle.mseed_steim.specs.private.Unpacked.{AreNarrow, Unpacks, counts_of, widths_of, lanes_of, differences_at,
-    unpacked}
+use Rattle.mseed_steim.specs.private.Unpacked.{AreNarrow, Unpacks, counts_of, widths_of, lanes_of, differences_at}
+use Rattle.mseed_steim.specs.private.Unpacked.{unpacked}
 use Rattle.mseed_steim.proofs.Walking.{words_none, words_step, items_group}
-use Rattle.mseed_steim.proofs.FrameItems.{Reads, reads_by, rows_one, rows_two, zeros_one, zeros_two, word_is, none_at,
-    span-append}
+use Rattle.mseed_steim.proofs.FrameItems.{Reads, reads_by, rows_one, rows_two, zeros_one, zeros_two, word_is, none_at}
+use Rattle.mseed_steim.proofs.FrameItems.{span-append}
 use Rattle.mseed_steim.proofs.LaneDigits.{at_word, one_of_sum}
 use Rattle.mseed_steim.proofs.FrameNear.{frame_near_one, frame_near_two}
 
@@ -39,8 +40,8 @@ unpacked_more s f from j (suc n) =
     let later = rw at at (unpacked_more s f from (j + 1) n) in
     let bigger : suc n + 1 ≡ suc (n + 1) = omega arith in
     rw bigger (ap (λ (xs : List ℤ). differences_at s f from j ++ xs) later
-        ∙ sym (append_assoc (differences_at s f from j) (unpacked s f from (j + 1) n)
-        (differences_at s f from (j + suc n))))
+    ∙ sym (append_assoc (differences_at s f from j) (unpacked s f from (j + 1) n)
+    (differences_at s f from (j + suc n))))
 
 -- what the words from one on spell
 spelled : (s : Scheme) (p f : List ℕ) (k from : ℕ) → Reads s (counts_of s) (widths_of s) p f k from
@@ -56,11 +57,11 @@ spelled s p f k from reads narrow (suc n) j some behind end rest =
     let group : List ℤ = differences_at s f from j in
     let others : List ℤ = unpacked s f from (j + 1) n in
     let cut : words_from p (16 * k + j) (suc n) ≡ data_word p (16 * k + j) ∷ words_from p (16 * k + (j + 1)) n =
-        rw (← next) (words_step p (16 * k + j) n data_place) in
+    rw (← next) (words_step p (16 * k + j) n data_place) in
     let one : differences_of s (code_at p (16 * k + j)) (word_at p (16 * k + j)) ≡ Some group =
-        reads.word j (omega arith) behind (narrow j (omega arith)) in
+    reads.word j (omega arith) behind (narrow j (omega arith)) in
     items_group s (words_from p (16 * k + j) (suc n) ++ rest) (words_from p (16 * k + (j + 1)) n ++ rest)
-        (data_word p (16 * k + j)) group (ap (λ (ws : List DataWord). ws ++ rest) cut) one
+    (data_word p (16 * k + j)) group (ap (λ (ws : List DataWord). ws ++ rest) cut) one
     ∙ ap (λ (xs : List (Result ℤ BadWordAt)). map Ok group ++ xs) later
     ∙ sym (append_assoc (map Ok group) (map Ok others) (items_of s rest))
     ∙ ap (λ (xs : List (Result ℤ BadWordAt)). xs ++ items_of s rest) (sym (map-append Ok group others))
@@ -98,7 +99,7 @@ unfolding unpacked
 span_unpacked s f from zero j = refl
 span_unpacked s f from (suc n) j =
     span-append (differences_at s f from j) (unpacked s f from (j + 1) n)
-        ∙ ap (λ (m : ℕ). span (differences_at s f from j) + m) (span_unpacked s f from n (j + 1))
+    ∙ ap (λ (m : ℕ). span (differences_at s f from j) + m) (span_unpacked s f from n (j + 1))
 
 near_sum : (s : Scheme) (f : List ℕ) (from : ℕ) → sum_l (map (λ w. span (differences_at s f from w)) words) ≤ 1048576
     → span (unpacked s f from 1 15) ≤ 2 ^ 20
@@ -139,12 +140,12 @@ unpacked_cut s f from (suc n) m j =
     let at : j + 1 + n ≡ j + suc n = omega arith in
     let later = rw at at (unpacked_cut s f from n m (j + 1)) in
     rw more (ap (λ (xs : List ℤ). differences_at s f from j ++ xs) later
-        ∙ sym (append_assoc (differences_at s f from j) (unpacked s f from (j + 1) n)
-        (unpacked s f from (j + suc n) m)))
+    ∙ sym (append_assoc (differences_at s f from j) (unpacked s f from (j + 1) n)
+    (unpacked s f from (j + suc n) m)))
 
 -- a frame's words, five by five
 pub unpacked_fives : (s : Scheme) (f : List ℕ) (from : ℕ)
     → (unpacked s f from 1 5 ++ unpacked s f from 6 5) ++ unpacked s f from 11 5 ≡ unpacked s f from 1 15
 unpacked_fives s f from =
     ap (λ (xs : List ℤ). xs ++ unpacked s f from 11 5) (sym (unpacked_cut s f from 5 5 1))
-        ∙ sym (unpacked_cut s f from 10 5 1)
+    ∙ sym (unpacked_cut s f from 10 5 1)

@@ -1,15 +1,17 @@
 -- What a word's parts add up to, by its row.
-use Rattle.std.proofs.Common.{◌≡◌, ℕ, ◌+◌, ◌*◌, ◌/◌, ◌%◌, ◌<◌, ◌≤◌, get_or, bit_and, bit_xor, refl, ap, ◌∙◌, arith, pos,
-    ◌+ℤ◌, below_none, below_more}
+use Rattle.std.proofs.Common.{◌≡◌, ℕ, ◌+◌, ◌*◌, ◌/◌, ◌%◌, ◌<◌, ◌≤◌, get_or, bit_and, bit_xor, refl, ap, ◌∙◌, arith, pos}
+use Rattle.std.proofs.Common.{◌+ℤ◌, below_none, below_more}
 use Rattle.std.specs.Int.Bits.{and_zero_r}
 use Rattle.mseed_steim.specs.private.Digits.{digits}
 use Rattle.mseed_steim.specs.private.Lanes.{total, word_of}
-use Rattle.mseed_steim.specs.private.Lanes.{fine_two, ones_two, coarse_two, turned_a, turned_b, turned_c, turned_d,
-    least_two, least_coarse_two, counts_two, widths_two}
-use Rattle.mseed_steim.proofs.FrameBytes.{four_is, two_is, three_is, five_is, six_is, seven_is, four_p0, four_p1,
-    four_p2, four_p3, two_p0, two_p1, two_p2, two_p3, two_p4, three_p0, three_p1, three_p2, three_p3, three_p4,
-    three_p5, five_p0, five_p1, five_p2, five_p3, five_p4, five_p5, five_p6, six_p0, six_p1, six_p2, six_p3, six_p4,
-    six_p5, six_p6, six_p7, six_p8, seven_p0, seven_p1, seven_p2, seven_p3, seven_p4, seven_p5, seven_p6}
+use Rattle.mseed_steim.specs.private.Lanes.{fine_two, ones_two, coarse_two, turned_a, turned_b, turned_c, turned_d}
+use Rattle.mseed_steim.specs.private.Lanes.{least_two, least_coarse_two, counts_two, widths_two}
+use Rattle.mseed_steim.proofs.FrameBytes.{four_is, two_is, three_is, five_is, six_is, seven_is, four_p0, four_p1}
+use Rattle.mseed_steim.proofs.FrameBytes.{four_p2, four_p3, two_p0, two_p1, two_p2, two_p3, two_p4, three_p0, three_p1}
+use Rattle.mseed_steim.proofs.FrameBytes.{three_p2, three_p3, three_p4, three_p5, five_p0, five_p1, five_p2, five_p3}
+use Rattle.mseed_steim.proofs.FrameBytes.{five_p4, five_p5, five_p6, six_p0, six_p1, six_p2, six_p3, six_p4, six_p5}
+use Rattle.mseed_steim.proofs.FrameBytes.{six_p6, six_p7, six_p8, seven_p0, seven_p1, seven_p2, seven_p3, seven_p4}
+use Rattle.mseed_steim.proofs.FrameBytes.{seven_p5, seven_p6}
 
 pub gone : (x w : ℕ) → bit_and x 0 * w ≡ 0
 gone x w = ap (λ n. n * w) (and_zero_r x) ∙ omega arith
@@ -18,7 +20,7 @@ gone x w = ap (λ n. n * w) (and_zero_r x) ∙ omega arith
 abbrev pub whole : ℕ → ℕ → ℕ → ℕ → ℕ → ℕ
 whole row a b c d =
     128 * ones_two row (turned_a row a) (turned_b row b) (turned_c row c) (turned_d row d) + fine_two row
-        (turned_a row a) (turned_b row b) (turned_c row c) (turned_d row d)
+    (turned_a row a) (turned_b row b) (turned_c row c) (turned_d row d)
     + 32768 * coarse_two row (turned_a row a) (turned_b row b) (turned_c row c) (turned_d row d)
 
 -- what they count for more than the differences
@@ -49,8 +51,17 @@ none_whole : (a b c d : ℕ) → a < 256 → b < 256 → c < 256 → d < 256
     (bit_xor d 0) 0 * 1) + (bit_and (bit_xor a 0) 0 * 64 + bit_and (bit_xor b 0) 0 * 0 + bit_and (bit_xor c 0) 0 * 0
     + bit_and (bit_xor c 0) 0 * 1 + bit_and (bit_xor d 0) 0 * 0) + 32768
     * (bit_and (bit_xor a 0) 0 * 2 + bit_and (bit_xor c 0) 0 * 1) ≡ 128 * (0)
-none_whole a b c d A B C D = omega (arith, gone (bit_xor a 0) 0, gone (bit_xor b 0) 0, gone (bit_xor c 0) 0,
-    gone (bit_xor d 0) 1, gone (bit_xor a 0) 64, gone (bit_xor c 0) 1, gone (bit_xor d 0) 0, gone (bit_xor a 0) 2)
+none_whole a b c d A B C D = omega (
+  arith,
+  gone (bit_xor a 0) 0,
+  gone (bit_xor b 0) 0,
+  gone (bit_xor c 0) 0,
+  gone (bit_xor d 0) 1,
+  gone (bit_xor a 0) 64,
+  gone (bit_xor c 0) 1,
+  gone (bit_xor d 0) 0,
+  gone (bit_xor a 0) 2,
+)
 
 tells_0 : (a b c d : ℕ) → a < 256 → b < 256 → c < 256 → d < 256 → Tells 0 a b c d
 unfolding fine_two ones_two coarse_two turned_a turned_b turned_c turned_d least_two least_coarse_two counts_two
@@ -79,9 +90,19 @@ four_whole : (a b c d : ℕ) → a < 256 → b < 256 → c < 256 → d < 256
     * (bit_and (bit_xor a 128) 0 * 2 + bit_and (bit_xor c 128) 0 * 1)
     ≡ 128 * (1 * ((a / 1 + 128) % 256) + 1 * ((b / 1 + 128) % 256) + 1 * ((c / 1 + 128) % 256)
     + 1 * ((d / 1 + 128) % 256))
-four_whole a b c d A B C D = omega (arith, four_p0 a A, four_p1 b B, four_p2 c C, four_p3 d D, gone (bit_xor a 128) 64,
-    gone (bit_xor b 128) 0, gone (bit_xor c 128) 0, gone (bit_xor c 128) 1, gone (bit_xor d 128) 0,
-    gone (bit_xor a 128) 2)
+four_whole a b c d A B C D = omega (
+  arith,
+  four_p0 a A,
+  four_p1 b B,
+  four_p2 c C,
+  four_p3 d D,
+  gone (bit_xor a 128) 64,
+  gone (bit_xor b 128) 0,
+  gone (bit_xor c 128) 0,
+  gone (bit_xor c 128) 1,
+  gone (bit_xor d 128) 0,
+  gone (bit_xor a 128) 2,
+)
 
 tells_4 : (a b c d : ℕ) → a < 256 → b < 256 → c < 256 → d < 256 → Tells 4 a b c d
 unfolding fine_two ones_two coarse_two turned_a turned_b turned_c turned_d least_two least_coarse_two counts_two
@@ -118,8 +139,19 @@ two_whole : (a b c d : ℕ) → a < 256 → b < 256 → c < 256 → d < 256
     * (bit_and (bit_xor a 32) 63 * 2 + bit_and (bit_xor c 64) 127 * 1)
     ≡ 128 * (2 * ((b / 1 + 0) % 256) + 1 * ((d / 1 + 0) % 256) + (128 * ((c / 128 + 0) % 2)) / 128
     + 256 * (2 * ((a / 1 + 32) % 64) + 1 * ((c / 1 + 64) % 128)))
-two_whole a b c d A B C D = omega (arith, gone (bit_xor a 32) 0, two_p1 b B, gone (bit_xor c 64) 0, two_p2 d D,
-    gone (bit_xor a 32) 64, gone (bit_xor b 0) 0, two_p0 c C, gone (bit_xor d 0) 0, two_p3 a A, two_p4 c C)
+two_whole a b c d A B C D = omega (
+  arith,
+  gone (bit_xor a 32) 0,
+  two_p1 b B,
+  gone (bit_xor c 64) 0,
+  two_p2 d D,
+  gone (bit_xor a 32) 64,
+  gone (bit_xor b 0) 0,
+  two_p0 c C,
+  gone (bit_xor d 0) 0,
+  two_p3 a A,
+  two_p4 c C,
+)
 
 tells_10 : (a b c d : ℕ) → a < 256 → b < 256 → c < 256 → d < 256 → Tells 10 a b c d
 unfolding fine_two ones_two coarse_two turned_a turned_b turned_c turned_d least_two least_coarse_two counts_two
@@ -136,9 +168,20 @@ three_whole : (a b c d : ℕ) → a < 256 → b < 256 → c < 256 → d < 256
     * (bit_and (bit_xor a 32) 0 * 2 + bit_and (bit_xor c 2) 3 * 1)
     ≡ 128 * (16 * ((a / 1 + 32) % 64) + 64 * ((b / 1 + 8) % 16) + 1 * ((d / 1 + 0) % 256)
     + (128 * ((b / 16 + 0) % 16) + 128 * ((c / 4 + 0) % 64)) / 128 + 256 * (1 * ((c / 1 + 2) % 4)))
-three_whole a b c d A B C D = omega (arith, three_p2 a A, three_p3 b B, gone (bit_xor c 2) 0, three_p4 d D,
-    gone (bit_xor a 32) 64, three_p0 b B, three_p1 c C, gone (bit_xor c 2) 1, gone (bit_xor d 0) 0,
-    gone (bit_xor a 32) 2, three_p5 c C)
+three_whole a b c d A B C D = omega (
+  arith,
+  three_p2 a A,
+  three_p3 b B,
+  gone (bit_xor c 2) 0,
+  three_p4 d D,
+  gone (bit_xor a 32) 64,
+  three_p0 b B,
+  three_p1 c C,
+  gone (bit_xor c 2) 1,
+  gone (bit_xor d 0) 0,
+  gone (bit_xor a 32) 2,
+  three_p5 c C,
+)
 
 tells_11 : (a b c d : ℕ) → a < 256 → b < 256 → c < 256 → d < 256 → Tells 11 a b c d
 unfolding fine_two ones_two coarse_two turned_a turned_b turned_c turned_d least_two least_coarse_two counts_two
@@ -155,8 +198,19 @@ five_whole : (a b c d : ℕ) → a < 256 → b < 256 → c < 256 → d < 256
     * (bit_and (bit_xor a 32) 0 * 2 + bit_and (bit_xor c 8) 0 * 1)
     ≡ 128 * (1 * ((a / 1 + 32) % 64) + 16 * ((b / 1 + 2) % 4) + 4 * ((c / 1 + 8) % 16) + 1 * ((d / 1 + 32) % 64)
     + (128 * ((b / 4 + 32) % 64) + 128 * ((c / 16 + 0) % 16) + 128 * ((d / 64 + 0) % 4)) / 128)
-five_whole a b c d A B C D = omega (arith, five_p3 a A, five_p4 b B, five_p5 c C, five_p6 d D, gone (bit_xor a 32) 64,
-    five_p0 b B, five_p1 c C, gone (bit_xor c 8) 1, five_p2 d D, gone (bit_xor a 32) 2)
+five_whole a b c d A B C D = omega (
+  arith,
+  five_p3 a A,
+  five_p4 b B,
+  five_p5 c C,
+  five_p6 d D,
+  gone (bit_xor a 32) 64,
+  five_p0 b B,
+  five_p1 c C,
+  gone (bit_xor c 8) 1,
+  five_p2 d D,
+  gone (bit_xor a 32) 2,
+)
 
 tells_12 : (a b c d : ℕ) → a < 256 → b < 256 → c < 256 → d < 256 → Tells 12 a b c d
 unfolding fine_two ones_two coarse_two turned_a turned_b turned_c turned_d least_two least_coarse_two counts_two
@@ -174,8 +228,20 @@ six_whole : (a b c d : ℕ) → a < 256 → b < 256 → c < 256 → d < 256
     ≡ 128 * (16 * ((a / 1 + 1) % 2) + 2 * ((b / 1 + 8) % 16) + 8 * ((c / 1 + 2) % 4) + 1 * ((d / 1 + 16) % 32)
     + (128 * ((a / 2 + 16) % 32) + 128 * ((b / 16 + 0) % 16) + 128 * ((c / 4 + 16) % 32) + 128 * ((c / 128 + 0) % 2)
     + 128 * ((d / 32 + 0) % 8)) / 128)
-six_whole a b c d A B C D = omega (arith, six_p5 a A, six_p6 b B, six_p7 c C, six_p8 d D, six_p0 a A, six_p1 b B,
-    six_p2 c C, six_p3 c C, six_p4 d D, gone (bit_xor a 33) 2, gone (bit_xor c 66) 1)
+six_whole a b c d A B C D = omega (
+  arith,
+  six_p5 a A,
+  six_p6 b B,
+  six_p7 c C,
+  six_p8 d D,
+  six_p0 a A,
+  six_p1 b B,
+  six_p2 c C,
+  six_p3 c C,
+  six_p4 d D,
+  gone (bit_xor a 33) 2,
+  gone (bit_xor c 66) 1,
+)
 
 tells_13 : (a b c d : ℕ) → a < 256 → b < 256 → c < 256 → d < 256 → Tells 13 a b c d
 unfolding fine_two ones_two coarse_two turned_a turned_b turned_c turned_d least_two least_coarse_two counts_two
@@ -194,8 +260,19 @@ seven_whole : (a b c d : ℕ) → a < 256 → b < 256 → c < 256 → d < 256
     ≡ 128 * (1 * ((a / 1 + 8) % 16) + 1 * ((b / 1 + 8) % 16) + 1 * ((c / 1 + 8) % 16) + 1 * ((d / 1 + 8) % 16)
     + (128 * ((b / 16 + 8) % 16) + 128 * ((c / 16 + 8) % 16) + 128 * ((d / 16 + 8) % 16)) / 128)
 seven_whole a b c d A B C D =
-    omega (arith, seven_p3 a A, seven_p4 b B, seven_p5 c C, seven_p6 d D, gone (bit_xor a 8) 64, seven_p0 b B,
-    seven_p1 c C, gone (bit_xor c 136) 1, seven_p2 d D, gone (bit_xor a 8) 2)
+    omega (
+      arith,
+      seven_p3 a A,
+      seven_p4 b B,
+      seven_p5 c C,
+      seven_p6 d D,
+      gone (bit_xor a 8) 64,
+      seven_p0 b B,
+      seven_p1 c C,
+      gone (bit_xor c 136) 1,
+      seven_p2 d D,
+      gone (bit_xor a 8) 2,
+    )
 
 tells_14 : (a b c d : ℕ) → a < 256 → b < 256 → c < 256 → d < 256 → Tells 14 a b c d
 unfolding fine_two ones_two coarse_two turned_a turned_b turned_c turned_d least_two least_coarse_two counts_two
@@ -221,13 +298,13 @@ pub tells : (a b c d : ℕ) → a < 256 → b < 256 → c < 256 → d < 256 → 
 tells a b c d A B C D =
     let P : ℕ → Type 0 = λ row. Tells row a b c d in
     below_more P 15 (below_more P 14
-        (below_more P 13 (below_more P 12
-        (below_more P 11 (below_more P 10
-        (below_more P 9 (below_more P 8
-        (below_more P 7 (below_more P 6
-        (below_more P 5 (below_more P 4
-        (below_more P 3 (below_more P 2 (below_more P 1 (below_more P 0 (below_none P) (tells_0 a b c d A B C D))
-        (tells_1 a b c d A B C D)) (tells_2 a b c d A B C D)) (tells_3 a b c d A B C D)) (tells_4 a b c d A B C D))
-        (tells_5 a b c d A B C D)) (tells_6 a b c d A B C D)) (tells_7 a b c d A B C D)) (tells_8 a b c d A B C D))
-        (tells_9 a b c d A B C D)) (tells_10 a b c d A B C D)) (tells_11 a b c d A B C D)) (tells_12 a b c d A B C D))
-        (tells_13 a b c d A B C D)) (tells_14 a b c d A B C D)) (tells_15 a b c d A B C D)
+    (below_more P 13 (below_more P 12
+    (below_more P 11 (below_more P 10
+    (below_more P 9 (below_more P 8
+    (below_more P 7 (below_more P 6
+    (below_more P 5 (below_more P 4
+    (below_more P 3 (below_more P 2 (below_more P 1 (below_more P 0 (below_none P) (tells_0 a b c d A B C D))
+    (tells_1 a b c d A B C D)) (tells_2 a b c d A B C D)) (tells_3 a b c d A B C D)) (tells_4 a b c d A B C D))
+    (tells_5 a b c d A B C D)) (tells_6 a b c d A B C D)) (tells_7 a b c d A B C D)) (tells_8 a b c d A B C D))
+    (tells_9 a b c d A B C D)) (tells_10 a b c d A B C D)) (tells_11 a b c d A B C D)) (tells_12 a b c d A B C D))
+    (tells_13 a b c d A B C D)) (tells_14 a b c d A B C D)) (tells_15 a b c d A B C D)

@@ -1,6 +1,7 @@
 -- What a walk over a payload's frames answers is what its words say.
-use Rattle.std.proofs.Common.{◌≡◌, ℕ, suc, ◌+◌, ◌-◌, ◌<◌, ◌≤◌, ◌^◌, List, [], ◌∷◌, ◌++◌, map, length, get_or, ℤ, pos,
-    negsuc, ◌+ℤ◌, arith, refl, ap, sym, ◌∙◌, subst, length-append, Some, None, Result, Ok, Err, All, ⊎_elim}
+use Rattle.std.proofs.Common.{◌≡◌, ℕ, suc, ◌+◌, ◌-◌, ◌<◌, ◌≤◌, ◌^◌, List, [], ◌∷◌, ◌++◌, map, length, get_or, ℤ, pos}
+use Rattle.std.proofs.Common.{negsuc, ◌+ℤ◌, arith, refl, ap, sym, ◌∙◌, subst, length-append, Some, None, Result, Ok}
+use Rattle.std.proofs.Common.{Err, All, ⊎_elim}
 use Rattle.std.proofs.lemmas.Int.{ints}
 use Rattle.std.proofs.lemmas.Bool.{cases_lt, lt-ltb, le-ltb}
 use Rattle.std.proofs.lemmas.List.Elements.{All-cons}
@@ -16,8 +17,8 @@ use Rattle.mseed_steim.specs.Samples.{IsSample, Adds, StartsAndAdds, AreSums, Is
 use Rattle.mseed_steim.specs.private.Sums.{fold, met_in}
 use Rattle.mseed_steim.proofs.Given.{word_small}
 use Rattle.mseed_steim.proofs.Folds.{fold_first, fold_bad, fold_short}
-use Rattle.mseed_steim.proofs.Folded.{last_of, Folds, done, short as short_folds, bad as bad_folds, over as over_folds,
-    folds, met_first, Lacks, nothing, short as short_lacks, bad as bad_lacks}
+use Rattle.mseed_steim.proofs.Folded.{last_of, Folds, done, short as short_folds, bad as bad_folds, over as over_folds}
+use Rattle.mseed_steim.proofs.Folded.{folds, met_first, Lacks, nothing, short as short_lacks, bad as bad_lacks}
 use Rattle.mseed_steim.proofs.Fronts.{Fronted, fronted, spelled_all, broken_at}
 
 -- the payload's first constant is a sample
@@ -29,8 +30,10 @@ minus x m h =
 number_fits : (x : ℕ) → x < 2 ^ 32 → IsSample (twos_complement 4 x)
 number_fits x small = ⊎_elim
     (λ (low : x < 2 ^ 31). rw (lt-ltb x (2 ^ 31) low) (omega (arith, ints), omega (arith, ints)))
-    (λ (high : 2 ^ 31 ≤ x). rw (le-ltb x (2 ^ 31) high, minus x (2 ^ 32 - 1) small) (omega (arith, ints),
-        omega (arith, ints)))
+    (λ (high : 2 ^ 31 ≤ x). rw (le-ltb x (2 ^ 31) high, minus x (2 ^ 32 - 1) small) (
+      omega (arith, ints),
+      omega (arith, ints),
+    ))
     (cases_lt x (2 ^ 31))
 
 pub constant_fits : (p : List ℕ) → ((i : ℕ) → get_or p i 0 < 256) → (k : ℕ) → IsSample (twos_complement 4 (word_at p k))
@@ -53,9 +56,9 @@ begins n x (Err at ∷ items) h =
     (sym (fold_bad n (record { met = 0; last = x }) at items h)) (broken at items)
 begins n x (Ok d ∷ items) h =
     subst (λ r. Begins n x (met_in n (record { met = 0; last = x }) (Ok d ∷ items)) (Ok d ∷ items) r)
-        (sym (fold_first n (record { met = 0; last = x }) d items h refl))
+    (sym (fold_first n (record { met = 0; last = x }) d items h refl))
     (some d items _ _ (met_first n (record { met = 0; last = x }) d items h refl)
-        (folds n (record { met = 1; last = x }) items (omega arith) (omega arith)))
+    (folds n (record { met = 1; last = x }) items (omega arith) (omega arith)))
 
 -- the samples of a walk that met them all
 pub record Met (s : Scheme) (p : List ℕ) (n : ℕ) (mets : List ℤ) (last : ℤ) : Type 0 where
@@ -75,7 +78,7 @@ sums_of : (s : Scheme) (p : List ℕ) (n : ℕ) (d : ℤ) (ds ss : List ℤ) →
     → length ds + 1 ≡ n → length ss ≡ length ds → Adds (first_constant p) ds ss → AreSums s p n (first_constant p ∷ ss)
 sums_of s p n d ds ss f count same adds =
     let long : length f.differences ≡ length (d ∷ ds) + length f.tail = ap (λ (xs : List ℤ). length xs) f.longer
-        ∙ length-append (d ∷ ds) f.tail in
+    ∙ length-append (d ∷ ds) f.tail in
     record {
       count = omega arith;
       front = f.front;
@@ -84,8 +87,10 @@ sums_of s p n d ds ss f count same adds =
       differences = f.differences;
       spelled = f.spelled;
       enough = omega (arith, long);
-      sums = subst (λ (xs : List ℤ). StartsAndAdds (first_constant p) xs (first_constant p ∷ ss)) (sym f.longer) (refl,
-          adds_longer (first_constant p) ds ss f.tail adds);
+      sums = subst (λ (xs : List ℤ). StartsAndAdds (first_constant p) xs (first_constant p ∷ ss)) (sym f.longer) (
+        refl,
+        adds_longer (first_constant p) ds ss f.tail adds,
+      );
     }
 
 pub all_met : (s : Scheme) (p : List ℕ) (n : ℕ) (mets : List ℤ) (items : List (Result ℤ BadWordAt)) (next : Sum)
@@ -94,16 +99,21 @@ pub all_met : (s : Scheme) (p : List ℕ) (n : ℕ) (mets : List ℤ) (items : L
 all_met s p n mets items next g fit
     (some d later others r q (done next' ds ss more e count same adds all met last kept)) =
     let front = fronted s (data_words p) items (d ∷ ds) more g (ap (λ (xs : List (Result ℤ BadWordAt)). Ok d ∷ xs) e) in
-    record { others = ss; sums = sums_of s p n d ds ss front count same adds;
-        range = All-cons IsSample (first_constant p) ss fit all; ends = last; kept =
-        q ∙ ap (λ (xs : List ℤ). first_constant p ∷ xs) kept }
+    record {
+      others = ss;
+      sums = sums_of s p n d ds ss front count same adds;
+      range = All-cons IsSample (first_constant p) ss fit all;
+      ends = last;
+      kept =
+          q ∙ ap (λ (xs : List ℤ). first_constant p ∷ xs) kept;
+    }
 
 -- fewer differences than samples
 is_short : (s : Scheme) (p : List ℕ) (n k : ℕ) (items : List (Result ℤ BadWordAt)) (ds : List ℤ)
     → Gives s (data_words p) items → items ≡ map Ok ds → length ds ≡ k → k < n → IsFrameFault s p n (Short k)
 is_short s p n k items ds g e count less =
     subst (λ (m : ℕ). IsFrameFault s p n (Short m)) count
-        (short ds (spelled_all s (data_words p) items ds g e) (omega arith))
+    (short ds (spelled_all s (data_words p) items ds g e) (omega arith))
 
 -- a bad word before the last difference
 is_bad : (s : Scheme) (p : List ℕ) (n : ℕ) (items : List (Result ℤ BadWordAt)) (ds : List ℤ) (at : BadWordAt)
@@ -112,7 +122,7 @@ is_bad : (s : Scheme) (p : List ℕ) (n : ℕ) (items : List (Result ℤ BadWord
 is_bad s p n items ds at more g e less =
     let b = broken_at s (data_words p) items ds at more g e in
     subst (λ (a : BadWordAt). IsFrameFault s p n (BadWord a.frame a.word)) b.place
-        (bad_word b.before b.bad b.after ds b.cut b.spelled less b.none)
+    (bad_word b.before b.bad b.after ds b.cut b.spelled less b.none)
 
 pub is_lacking : (s : Scheme) (p : List ℕ) (n : ℕ) (items : List (Result ℤ BadWordAt)) (f : ReadFault)
     → Gives s (data_words p) items → Lacks n 0 items (Some f) → IsFrameFault s p n f
@@ -162,16 +172,16 @@ is_over s p n k c d ds ss es more later g fit e count place less same adds all n
     let sum : ℤ = last_of (first_constant p) ss +ℤ d in
     let rest : List ℤ = more_sums sum found.0 in
     let whole : length es ≡ length (c ∷ ds) + suc (length found.0) = ap (λ (xs : List ℤ). length xs) found.1
-        ∙ length-append (c ∷ ds) (d ∷ found.0) in
+    ∙ length-append (c ∷ ds) (d ∷ found.0) in
     let front = fronted s (data_words p) (Ok c ∷ map Ok ds ++ Ok d ∷ more) es later g e in
     let front' : Fronted s (data_words p) (c ∷ (ds ++ d ∷ found.0)) =
-        subst (λ (xs : List ℤ). Fronted s (data_words p) xs) found.1 front in
+    subst (λ (xs : List ℤ). Fronted s (data_words p) xs) found.1 front in
     let added : Adds (first_constant p) (ds ++ d ∷ found.0) (ss ++ sum ∷ rest) =
-        adds_past (first_constant p) ds ss (d ∷ found.0) (sum ∷ rest) same adds (refl, more_adds sum found.0) in
+    adds_past (first_constant p) ds ss (d ∷ found.0) (sum ∷ rest) same adds (refl, more_adds sum found.0) in
     let sums = sums_of s p n c (ds ++ d ∷ found.0) (ss ++ sum ∷ rest) front'
     (omega (arith, whole, length-append ds (d ∷ found.0)))
-        (omega (arith, length-append ds (d ∷ found.0), length-append ss (sum ∷ rest), length-more_sums sum found.0))
-        added in
+    (omega (arith, length-append ds (d ∷ found.0), length-append ss (sum ∷ rest), length-more_sums sum found.0))
+    added in
     subst (λ (m : ℕ). IsFrameFault s p n (Overflow m)) (omega arith)
     (overflow (first_constant p ∷ ss) sum rest sums (All-cons IsSample (first_constant p) ss fit all) not)
 
@@ -184,12 +194,12 @@ is_fault s p n mets items f h g fit (broken at more) (nothing es later e count) 
 is_fault s p n mets items f h g fit (some c items' others r q0 (short_folds k ds q count' less))
     (nothing es later e count) =
     is_short s p n k (Ok c ∷ items') (c ∷ ds) g (ap (λ (xs : List (Result ℤ BadWordAt)). Ok c ∷ xs) q) (omega arith)
-        less
+    less
 is_fault s p n mets items f h g fit (some c items' others r q0 (bad_folds ds at more q less))
     (nothing es later e count) =
     is_bad s p n (Ok c ∷ items') (c ∷ ds) at more g (ap (λ (xs : List (Result ℤ BadWordAt)). Ok c ∷ xs) q) (omega arith)
 is_fault s p n mets items f h g fit
     (some c items' others r q0 (over_folds k ds d ss more q place less same adds all not)) (nothing es later e count) =
     is_over s p n k c d ds ss es more later
-        (subst (λ (xs : List (Result ℤ BadWordAt)). Gives s (data_words p) (Ok c ∷ xs)) q g) fit
+    (subst (λ (xs : List (Result ℤ BadWordAt)). Gives s (data_words p) (Ok c ∷ xs)) q g) fit
     (sym (ap (λ (xs : List (Result ℤ BadWordAt)). Ok c ∷ xs) q) ∙ e) (omega arith) place less same adds all not

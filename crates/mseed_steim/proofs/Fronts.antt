@@ -76,12 +76,26 @@ pub fronted : (s : Scheme) (words : List DataWord) (items : List (Result ℤ Bad
     (more : List (Result ℤ BadWordAt)) → Gives s words items → items ≡ map Ok ds ++ more → Fronted s words ds
 fronted s words items ds more (all es run e) q =
     let found = fronts_all ds es more (sym e ∙ q) in
-    record { front = words; rest = []; cut = sym (append-nil words); differences = es; spelled = run; tail = found.0;
-        longer = found.1 }
+    record {
+      front = words;
+      rest = [];
+      cut = sym (append-nil words);
+      differences = es;
+      spelled = run;
+      tail = found.0;
+      longer = found.1;
+    }
 fronted s words items ds more (broken before bad after es cut run none e) q =
     let found = fronts_broken ds es (place_of bad) more (sym e ∙ q) in
-    record { front = before; rest = bad ∷ after; cut = cut; differences = es; spelled = run; tail = found.0;
-        longer = found.1 }
+    record {
+      front = before;
+      rest = bad ∷ after;
+      cut = cut;
+      differences = es;
+      spelled = run;
+      tail = found.0;
+      longer = found.1;
+    }
 
 -- the words spell these differences alone
 pub spelled_all : (s : Scheme) (words : List DataWord) (items : List (Result ℤ BadWordAt)) (ds : List ℤ)
@@ -106,5 +120,12 @@ pub broken_at : (s : Scheme) (words : List DataWord) (items : List (Result ℤ B
 broken_at s words items ds at more (all es run e) q = absurd (not_all ds es at more (sym e ∙ q))
 broken_at s words items ds at more (broken before bad after es cut run none e) q =
     let found = same_broken ds es at (place_of bad) more (sym e ∙ q) in
-    record { before = before; bad = bad; after = after; cut = cut;
-        spelled = subst (λ (xs : List ℤ). SpellsRun s before xs) found.0 run; none = none; place = found.1 }
+    record {
+      before = before;
+      bad = bad;
+      after = after;
+      cut = cut;
+      spelled = subst (λ (xs : List ℤ). SpellsRun s before xs) found.0 run;
+      none = none;
+      place = found.1;
+    }

@@ -1,7 +1,7 @@
 -- The fullest row of some differences, found by the largest size of more and more of them.
-use Rattle.std.proofs.Common.{◌≡◌, ◌↔◌, ℕ, ◌+◌, ◌-◌, ◌^◌, ◌<◌, ◌≤◌, List, length, take, get_or, ℤ, pos, arith, refl,
-    sym, ap, ◌∙◌, subst, All, ⊎_elim, Bool, true, false, cond, ltb, eqb, Option, Some, None, ◌⊎◌, inl, inr, min, Less,
-    Equal, Greater}
+use Rattle.std.proofs.Common.{◌≡◌, ◌↔◌, ℕ, ◌+◌, ◌-◌, ◌^◌, ◌<◌, ◌≤◌, List, length, take, get_or, ℤ, pos, arith, refl}
+use Rattle.std.proofs.Common.{sym, ap, ◌∙◌, subst, All, ⊎_elim, Bool, true, false, cond, ltb, eqb, Option, Some, None}
+use Rattle.std.proofs.Common.{◌⊎◌, inl, inr, min, Less, Equal, Greater}
 use Rattle.std.specs.Ordering.{nat_cmp, ord_max, is_lt}
 use Rattle.std.proofs.lemmas.Nat.{pow_pos}
 use Rattle.std.proofs.lemmas.Bool.{cases_lt, ltb-true, ltb-false}
@@ -46,12 +46,12 @@ sized_more ds i size next m less known one small e =
           ((one w).0 (omega (arith, top.1, h)));
       least = λ w h.
           let front : All (IsWithin w) (take i ds) =
-              rw (take-take i (i + 1) ds (omega arith)) at (All-take (IsWithin w) i (take (i + 1) ds) h) in
+          rw (take-take i (i + 1) ds (omega arith)) at (All-take (IsWithin w) i (take (i + 1) ds) h) in
           let long : i < length (take (i + 1) ds) =
-              rw (length-take-le (i + 1) ds (omega (arith, less))) (omega arith) in
+          rw (length-take-le (i + 1) ds (omega (arith, less))) (omega arith) in
           let last : IsWithin w (get_or ds i (pos 0)) =
-              rw (get_or-take (i + 1) ds i (pos 0) (omega arith)) at
-              (All-get_or (IsWithin w) (take (i + 1) ds) i (pos 0) long h) in
+          rw (get_or-take (i + 1) ds i (pos 0) (omega arith)) at
+          (All-get_or (IsWithin w) (take (i + 1) ds) i (pos 0) long h) in
           let old = known.least w front in
           let new = (one w).1 last in
           ⊎_elim (λ (q : m ≡ size). omega (arith, q, old)) (λ (q : m ≡ next). omega (arith, q, new)) top.2;
@@ -65,7 +65,7 @@ pub first_fits : (ds : List ℤ) (i size : ℕ) → 0 < i → i ≤ length ds �
 first_fits ds i size p h known =
     let long : 0 < length (take i ds) = rw (length-take-le i ds h) p in
     rw (get_or-take i ds 0 (pos 0) p) at
-        (All-get_or (IsWithin 32) (take i ds) 0 (pos 0) long (known.fits 32 known.small))
+    (All-get_or (IsWithin 32) (take i ds) 0 (pos 0) long (known.fits 32 known.small))
 
 -- a front that a word spells fits the row of its length
 pub front_fits : (s : Scheme) (ds : List ℤ) (k : ℕ) → 0 < k → k ≤ length ds → CanSpell s (take k ds)
@@ -89,17 +89,23 @@ pub best_extends : (s : Scheme) (ds : List ℤ) (i high : ℕ) (o : Option Row) 
 best_extends s ds i high None le none best =
     λ k h l. ⊎_elim (λ (m : k < i + 1). best k h (omega (arith, m))) (λ (m : i + 1 ≤ k). none k (omega (arith, m)) l)
     (cases_lt k (i + 1))
-best_extends s ds i high (Some r) le none best =
-    (best.0, omega (arith, best.1, le), best.2, λ k h l. ⊎_elim (λ (m : k < i + 1). best.3 k h (omega (arith, m)))
-        (λ (m : i + 1 ≤ k). none k (omega (arith, m)) l) (cases_lt k (i + 1)))
+best_extends s ds i high (Some r) le none best = (
+  best.0,
+  omega (arith, best.1, le),
+  best.2,
+  λ k h l. ⊎_elim (λ (m : k < i + 1). best.3 k h (omega (arith, m)))
+      (λ (m : i + 1 ≤ k). none k (omega (arith, m)) l) (cases_lt k (i + 1)),
+)
 
 best_found : (s : Scheme) (ds : List ℤ) (k size : ℕ) (r : Row) → Sized ds k size → row_for s k ≡ Some r
     → size < 2 ^ (r.width - 1) → IsBestRow s ds k (Some r)
 best_found s ds k size r known found fits =
-    let is = row_is s k r found in
-    (subst (λ (n : ℕ). row_for s n ≡ Some r) (sym is.1) found, omega (arith, is.1),
-        subst (λ (n : ℕ). All (IsWithin r.width) (take n ds)) (sym is.1) (known.fits r.width fits),
-        λ k h l. absurd (omega (arith, is.1, h, l)))
+    let is = row_is s k r found in (
+      subst (λ (n : ℕ). row_for s n ≡ Some r) (sym is.1) found,
+      omega (arith, is.1),
+      subst (λ (n : ℕ). All (IsWithin r.width) (take n ds)) (sym is.1) (known.fits r.width fits),
+      λ k h l. absurd (omega (arith, is.1, h, l)),
+    )
 
 best_at : (s : Scheme) (ds : List ℤ) (k size : ℕ) (o : Option Row) → row_for s k ≡ o → Sized ds k size
     → size < size_limit o → IsBestRow s ds k o
@@ -117,7 +123,7 @@ pub best_same : (s : Scheme) (ds : List ℤ) (i size : ℕ) (o : Option Row) →
 best_same s ds i size o less known wide best =
     best_extends s ds i (i + 1) o (omega arith)
     (λ k h l. let same : k ≡ i + 1 = omega (arith, h, l) in
-        rw same (not_spelled s ds (i + 1) size (omega arith) (omega (arith, less)) known wide)) best
+    rw same (not_spelled s ds (i + 1) size (omega arith) (omega (arith, less)) known wide)) best
 
 -- none of them are
 pub best_none : (s : Scheme) (ds : List ℤ) → IsBestRow s ds 0 (row_for s 0)

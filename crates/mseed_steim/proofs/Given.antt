@@ -1,6 +1,7 @@
 -- What the digits of words give is what the words spell.
-use Rattle.std.proofs.Common.{◌≡◌, ℕ, zero, suc, ◌+◌, ◌*◌, ◌%◌, ◌^◌, ◌<◌, not, eqb, drop, List, [], ◌∷◌, ◌++◌, map, ℤ,
-    refl, ap, sym, subst, append-nil, ◌∙◌, append_assoc, get_or, Option, Some, None, Result, Ok, Err}
+use Rattle.std.proofs.Common.{◌≡◌, ℕ, zero, suc, ◌+◌, ◌*◌, ◌%◌, ◌^◌, ◌<◌, not, eqb, drop, List, [], ◌∷◌, ◌++◌, map, ℤ}
+use Rattle.std.proofs.Common.{refl, ap, sym, subst, append-nil, ◌∙◌, append_assoc, get_or, Option, Some, None, Result}
+use Rattle.std.proofs.Common.{Ok, Err}
 use Rattle.std.proofs.lemmas.List.{map-append}
 use Rattle.std.specs.List.{AllByRecursion, filter, range_with_len}
 use Rattle.std.proofs.lemmas.List.{get_or-drop}
@@ -27,12 +28,12 @@ more_given : (s : Scheme) (w : DataWord) (ws : List DataWord) (ds : List ℤ) (i
     → Spells s w.code w.bits ds → Gives s ws items → Gives s (w ∷ ws) (map Ok ds ++ items)
 more_given s w ws ds items p (all es run e) =
     all (ds ++ es) (ds, (es, (refl, (p, run)))) (ap (λ (xs : List (Result ℤ BadWordAt)). map Ok ds ++ xs) e
-        ∙ sym (map-append Ok ds es))
+    ∙ sym (map-append Ok ds es))
 more_given s w ws ds items p (broken before bad after es cut run none e) =
     let joined : map Ok ds ++ items ≡ map Ok (ds ++ es) ++ Err (place_of bad) ∷ [] =
-        rw (e, map-append) (sym (append_assoc (map Ok ds) (map Ok es) (Err (place_of bad) ∷ []))) in
+    rw (e, map-append) (sym (append_assoc (map Ok ds) (map Ok es) (Err (place_of bad) ∷ []))) in
     broken (w ∷ before) bad after (ds ++ es) (ap (λ (xs : List DataWord). w ∷ xs) cut) (ds, (es, (refl, (p, run))))
-        none joined
+    none joined
 
 by_word : (s : Scheme) (w : DataWord) (ws : List DataWord) (o : Option (List ℤ)) → w.bits < 2 ^ 32
     → differences_of s w.code w.bits ≡ o → Gives s ws (items_of s ws)
@@ -57,10 +58,10 @@ all_after s (w ∷ ws) ds h run more =
     let first : List ℤ = run.0 in
     let rest : List ℤ = run.1.0 in
     let found : differences_of s w.code w.bits ≡ Some first =
-        spelled_differences s w.code w.bits first h.0 run.1.1.1.0 in
+    spelled_differences s w.code w.bits first h.0 run.1.1.1.0 in
     let later : items_of s (ws ++ more) ≡ map Ok rest ++ items_of s more = all_after s ws rest h.1 run.1.1.1.1 more in
     let joined : map Ok ds ≡ map Ok first ++ map Ok rest =
-        ap (λ (zs : List ℤ). map {B = Result ℤ BadWordAt} Ok zs) run.1.1.0 ∙ map-append Ok first rest in
+    ap (λ (zs : List ℤ). map {B = Result ℤ BadWordAt} Ok zs) run.1.1.0 ∙ map-append Ok first rest in
     rw (found, later, joined) (sym (append_assoc (map Ok first) (map Ok rest) (items_of s more)))
 
 front_words : (before after : List DataWord) → AllByRecursion IsWord (before ++ after) → AllByRecursion IsWord before
@@ -94,14 +95,14 @@ pub given_items : (s : Scheme) (ws : List DataWord) (items : List (Result ℤ Ba
 given_items s ws items h (all ds run e) =
     let whole : items_of s (ws ++ []) ≡ map Ok ds ++ items_of s [] = all_after s ws ds h run [] in
     e ∙ sym (append-nil (map Ok ds)) ∙ ap (λ (xs : List (Result ℤ BadWordAt)). map Ok ds ++ xs) (sym (none_of s))
-        ∙ sym whole ∙ ap (λ (xs : List DataWord). items_of s xs) (append-nil ws)
+    ∙ sym whole ∙ ap (λ (xs : List DataWord). items_of s xs) (append-nil ws)
 given_items s ws items h (broken before bad after ds cut run fails e) =
     let there : AllByRecursion IsWord (before ++ bad ∷ after) =
-        subst (λ (xs : List DataWord). AllByRecursion IsWord xs) cut h in
+    subst (λ (xs : List DataWord). AllByRecursion IsWord xs) cut h in
     let front : items_of s (before ++ bad ∷ after) ≡ map Ok ds ++ items_of s (bad ∷ after) =
-        all_after s before ds (front_words before (bad ∷ after) there) run (bad ∷ after) in
+    all_after s before ds (front_words before (bad ∷ after) there) run (bad ∷ after) in
     let last : items_of s (bad ∷ after) ≡ Err (place_of bad) ∷ [] =
-        bad_items s bad after (word_behind before bad after there) fails in
+    bad_items s bad after (word_behind before bad after there) fails in
     rw cut (e ∙ sym (front ∙ ap (λ (xs : List (Result ℤ BadWordAt)). map Ok ds ++ xs) last))
 
 -- the words of a payload have 32 bits

@@ -1,6 +1,7 @@
 -- How many differences of a size a word holds, and so how many of the next differences.
-use Rattle.std.proofs.Common.{◌≡◌, ◌↔◌, ℕ, ◌+◌, ◌-◌, ◌/◌, ◌^◌, ◌<◌, ◌≤◌, List, length, take, drop, get_or, ℤ, pos,
-    arith, refl, ap, sym, ◌∙◌, subst, ⊎_elim, All, Some, below_none, below_more, replicate, zero, suc}
+use Rattle.std.proofs.Common.{◌≡◌, ◌↔◌, ℕ, ◌+◌, ◌-◌, ◌/◌, ◌^◌, ◌<◌, ◌≤◌, List, length, take, drop, get_or, ℤ, pos}
+use Rattle.std.proofs.Common.{arith, refl, ap, sym, ◌∙◌, subst, ⊎_elim, All, Some, below_none, below_more, replicate}
+use Rattle.std.proofs.Common.{zero, suc}
 use Rattle.std.proofs.lemmas.Bool.{cases_lt, lt-ltb, le-ltb}
 use Rattle.std.proofs.lemmas.List.{get_or-take, get_or-drop, length-take-le, length-drop, drop-drop}
 use Rattle.std.proofs.lemmas.List.Elements.{All-get_or, All-from_get_or}
@@ -10,8 +11,8 @@ use Rattle.mseed_steim.specs.declared.row.Row.{Row}
 use Rattle.mseed_steim.specs.Spelling.{IsWithin}
 use Rattle.mseed_steim.specs.Packing.{CanSpell, IsFullest}
 use Rattle.mseed_steim.specs.private.Rows.{row_with, row_for}
-use Rattle.mseed_steim.specs.private.Ahead.{size_of, near, near_size, most_one, most_two, most_with, IsMost, IsAhead,
-    Tells, taken}
+use Rattle.mseed_steim.specs.private.Ahead.{size_of, near, near_size, most_one, most_two, most_with, IsMost, IsAhead}
+use Rattle.mseed_steim.specs.private.Ahead.{Tells, taken}
 use Rattle.mseed_steim.specs.declared.ahead.Ahead.{Ahead}
 use Rattle.mseed_steim.proofs.Rows.{row_is, spelled_fits}
 use Rattle.mseed_steim.proofs.Sizes.{one_3, two_6}
@@ -35,9 +36,14 @@ record Two_told (x m : ℕ) : Type 0 where
 
 level_two_7 : (x : ℕ) → x < 8 → Two_told x (most_two x)
 level_two_7 x high =
-    let value : most_two x ≡ 7 = rw (lt-ltb x 16384 (omega (arith, high)), lt-ltb x 512 (omega (arith, high)),
-        lt-ltb x 128 (omega (arith, high)), lt-ltb x 32 (omega (arith, high)), lt-ltb x 16 (omega (arith, high)),
-        lt-ltb x 8 (omega (arith, high))) refl in
+    let value : most_two x ≡ 7 = rw (
+      lt-ltb x 16384 (omega (arith, high)),
+      lt-ltb x 512 (omega (arith, high)),
+      lt-ltb x 128 (omega (arith, high)),
+      lt-ltb x 32 (omega (arith, high)),
+      lt-ltb x 16 (omega (arith, high)),
+      lt-ltb x 8 (omega (arith, high)),
+    ) refl in
     subst (λ (m : ℕ). Two_told x m) (sym value) (record {
       at_2 = yes x 16384 2 7 (omega (arith, high)) (omega arith);
       at_3 = yes x 512 3 7 (omega (arith, high)) (omega arith);
@@ -49,9 +55,14 @@ level_two_7 x high =
 
 level_two_6 : (x : ℕ) → 8 ≤ x → x < 16 → Two_told x (most_two x)
 level_two_6 x low high =
-    let value : most_two x ≡ 6 = rw (lt-ltb x 16384 (omega (arith, high)), lt-ltb x 512 (omega (arith, high)),
-        lt-ltb x 128 (omega (arith, high)), lt-ltb x 32 (omega (arith, high)), lt-ltb x 16 (omega (arith, high)),
-        le-ltb x 8 (omega (arith, low))) refl in
+    let value : most_two x ≡ 6 = rw (
+      lt-ltb x 16384 (omega (arith, high)),
+      lt-ltb x 512 (omega (arith, high)),
+      lt-ltb x 128 (omega (arith, high)),
+      lt-ltb x 32 (omega (arith, high)),
+      lt-ltb x 16 (omega (arith, high)),
+      le-ltb x 8 (omega (arith, low)),
+    ) refl in
     subst (λ (m : ℕ). Two_told x m) (sym value) (record {
       at_2 = yes x 16384 2 6 (omega (arith, high)) (omega arith);
       at_3 = yes x 512 3 6 (omega (arith, high)) (omega arith);
@@ -63,9 +74,14 @@ level_two_6 x low high =
 
 level_two_5 : (x : ℕ) → 16 ≤ x → x < 32 → Two_told x (most_two x)
 level_two_5 x low high =
-    let value : most_two x ≡ 5 = rw (lt-ltb x 16384 (omega (arith, high)), lt-ltb x 512 (omega (arith, high)),
-        lt-ltb x 128 (omega (arith, high)), lt-ltb x 32 (omega (arith, high)), le-ltb x 16 (omega (arith, low)),
-        le-ltb x 8 (omega (arith, low))) refl in
+    let value : most_two x ≡ 5 = rw (
+      lt-ltb x 16384 (omega (arith, high)),
+      lt-ltb x 512 (omega (arith, high)),
+      lt-ltb x 128 (omega (arith, high)),
+      lt-ltb x 32 (omega (arith, high)),
+      le-ltb x 16 (omega (arith, low)),
+      le-ltb x 8 (omega (arith, low)),
+    ) refl in
     subst (λ (m : ℕ). Two_told x m) (sym value) (record {
       at_2 = yes x 16384 2 5 (omega (arith, high)) (omega arith);
       at_3 = yes x 512 3 5 (omega (arith, high)) (omega arith);
@@ -77,9 +93,14 @@ level_two_5 x low high =
 
 level_two_4 : (x : ℕ) → 32 ≤ x → x < 128 → Two_told x (most_two x)
 level_two_4 x low high =
-    let value : most_two x ≡ 4 = rw (lt-ltb x 16384 (omega (arith, high)), lt-ltb x 512 (omega (arith, high)),
-        lt-ltb x 128 (omega (arith, high)), le-ltb x 32 (omega (arith, low)), le-ltb x 16 (omega (arith, low)),
-        le-ltb x 8 (omega (arith, low))) refl in
+    let value : most_two x ≡ 4 = rw (
+      lt-ltb x 16384 (omega (arith, high)),
+      lt-ltb x 512 (omega (arith, high)),
+      lt-ltb x 128 (omega (arith, high)),
+      le-ltb x 32 (omega (arith, low)),
+      le-ltb x 16 (omega (arith, low)),
+      le-ltb x 8 (omega (arith, low)),
+    ) refl in
     subst (λ (m : ℕ). Two_told x m) (sym value) (record {
       at_2 = yes x 16384 2 4 (omega (arith, high)) (omega arith);
       at_3 = yes x 512 3 4 (omega (arith, high)) (omega arith);
@@ -91,9 +112,14 @@ level_two_4 x low high =
 
 level_two_3 : (x : ℕ) → 128 ≤ x → x < 512 → Two_told x (most_two x)
 level_two_3 x low high =
-    let value : most_two x ≡ 3 = rw (lt-ltb x 16384 (omega (arith, high)), lt-ltb x 512 (omega (arith, high)),
-        le-ltb x 128 (omega (arith, low)), le-ltb x 32 (omega (arith, low)), le-ltb x 16 (omega (arith, low)),
-        le-ltb x 8 (omega (arith, low))) refl in
+    let value : most_two x ≡ 3 = rw (
+      lt-ltb x 16384 (omega (arith, high)),
+      lt-ltb x 512 (omega (arith, high)),
+      le-ltb x 128 (omega (arith, low)),
+      le-ltb x 32 (omega (arith, low)),
+      le-ltb x 16 (omega (arith, low)),
+      le-ltb x 8 (omega (arith, low)),
+    ) refl in
     subst (λ (m : ℕ). Two_told x m) (sym value) (record {
       at_2 = yes x 16384 2 3 (omega (arith, high)) (omega arith);
       at_3 = yes x 512 3 3 (omega (arith, high)) (omega arith);
@@ -105,9 +131,14 @@ level_two_3 x low high =
 
 level_two_2 : (x : ℕ) → 512 ≤ x → x < 16384 → Two_told x (most_two x)
 level_two_2 x low high =
-    let value : most_two x ≡ 2 = rw (lt-ltb x 16384 (omega (arith, high)), le-ltb x 512 (omega (arith, low)),
-        le-ltb x 128 (omega (arith, low)), le-ltb x 32 (omega (arith, low)), le-ltb x 16 (omega (arith, low)),
-        le-ltb x 8 (omega (arith, low))) refl in
+    let value : most_two x ≡ 2 = rw (
+      lt-ltb x 16384 (omega (arith, high)),
+      le-ltb x 512 (omega (arith, low)),
+      le-ltb x 128 (omega (arith, low)),
+      le-ltb x 32 (omega (arith, low)),
+      le-ltb x 16 (omega (arith, low)),
+      le-ltb x 8 (omega (arith, low)),
+    ) refl in
     subst (λ (m : ℕ). Two_told x m) (sym value) (record {
       at_2 = yes x 16384 2 2 (omega (arith, high)) (omega arith);
       at_3 = no x 512 3 2 (omega (arith, low)) (omega arith);
@@ -119,9 +150,14 @@ level_two_2 x low high =
 
 level_two_1 : (x : ℕ) → 16384 ≤ x → Two_told x (most_two x)
 level_two_1 x low =
-    let value : most_two x ≡ 1 = rw (le-ltb x 16384 (omega (arith, low)), le-ltb x 512 (omega (arith, low)),
-        le-ltb x 128 (omega (arith, low)), le-ltb x 32 (omega (arith, low)), le-ltb x 16 (omega (arith, low)),
-        le-ltb x 8 (omega (arith, low))) refl in
+    let value : most_two x ≡ 1 = rw (
+      le-ltb x 16384 (omega (arith, low)),
+      le-ltb x 512 (omega (arith, low)),
+      le-ltb x 128 (omega (arith, low)),
+      le-ltb x 32 (omega (arith, low)),
+      le-ltb x 16 (omega (arith, low)),
+      le-ltb x 8 (omega (arith, low)),
+    ) refl in
     subst (λ (m : ℕ). Two_told x m) (sym value) (record {
       at_2 = no x 16384 2 1 (omega (arith, low)) (omega arith);
       at_3 = no x 512 3 1 (omega (arith, low)) (omega arith);
@@ -140,7 +176,7 @@ two_told x =
     ⊎_elim (λ (a512 : x < 512). level_two_3 x b128 a512) (λ (b512 : 512 ≤ x).
     ⊎_elim (λ (a16384 : x < 16384). level_two_2 x b512 a16384) (λ (b16384 : 16384 ≤ x).
     level_two_1 x b16384) (cases_lt x 16384)) (cases_lt x 512)) (cases_lt x 128)) (cases_lt x 32)) (cases_lt x 16))
-        (cases_lt x 8)
+    (cases_lt x 8)
 
 record One_told (x m : ℕ) : Type 0 where
   pub at_2 : (x < 16384) ↔ (2 ≤ m)
@@ -174,7 +210,7 @@ one_told : (x : ℕ) → One_told x (most_one x)
 one_told x =
     ⊎_elim (λ (a : x < 64). level_one_4 x a) (λ (b : 64 ≤ x).
     ⊎_elim (λ (a : x < 16384). level_one_2 x b a) (λ (d : 16384 ≤ x). level_one_1 x d) (cases_lt x 16384))
-        (cases_lt x 64)
+    (cases_lt x 64)
 
 -- a limit tells the same of a size that was cut off beyond it
 near_below : (n limit : ℕ) → limit ≤ 32767 → (n < limit) ↔ (near n < limit)
@@ -263,14 +299,14 @@ fits_row One z k some r e =
     let few = (row_is One k r e).0.most in
     let same = (row_is One k r e).1 in
     eight (λ k. 2 ≤ k → Fits_row One z k) (λ h. absurd (omega (arith, h))) (λ h. absurd (omega (arith, h)))
-        (λ _. one_fits_2 z) (λ _ r e. cc) (λ _. one_fits_4 z) (λ _ r e. cc) (λ _ r e. cc) (λ _ r e. cc) k
-        (omega (arith, few, same)) some r e
+    (λ _. one_fits_2 z) (λ _ r e. cc) (λ _. one_fits_4 z) (λ _ r e. cc) (λ _ r e. cc) (λ _ r e. cc) k
+    (omega (arith, few, same)) some r e
 fits_row Two z k some r e =
     let few = (row_is Two k r e).0.most in
     let same = (row_is Two k r e).1 in
     eight (λ k. 2 ≤ k → Fits_row Two z k) (λ h. absurd (omega (arith, h))) (λ h. absurd (omega (arith, h)))
-        (λ _. two_fits_2 z) (λ _. two_fits_3 z) (λ _. two_fits_4 z) (λ _. two_fits_5 z) (λ _. two_fits_6 z)
-        (λ _. two_fits_7 z) k (omega (arith, few, same)) some r e
+    (λ _. two_fits_2 z) (λ _. two_fits_3 z) (λ _. two_fits_4 z) (λ _. two_fits_5 z) (λ _. two_fits_6 z)
+    (λ _. two_fits_7 z) k (omega (arith, few, same)) some r e
 
 -- how many are taken: a row of the table has as many, and none of more of them that are held
 pub record Takes (s : Scheme) (most : ℕ) : Type 0 where
@@ -283,13 +319,23 @@ pub record Takes (s : Scheme) (most : ℕ) : Type 0 where
 takes : (s : Scheme) (most : ℕ) → 2 ≤ most → most ≤ most_with s 0 → Takes s most
 takes One most some few = eight (λ m. 2 ≤ m → m ≤ 4 → Takes One m) (λ h _. absurd (omega (arith, h)))
     (λ h _. absurd (omega (arith, h)))
-    (λ _ _. record { row = row_with 2 0 2 16; found = refl; some = omega arith; less = omega arith;
-        all = λ k r h e. h })
-    (λ _ _. record { row = row_with 2 0 2 16; found = refl; some = omega arith; less = omega arith;
-        all = λ k r h e. three k r h e })
+    (λ _ _. record {
+      row = row_with 2 0 2 16;
+      found = refl;
+      some = omega arith;
+      less = omega arith;
+      all = λ k r h e. h;
+    })
+    (λ _ _. record {
+      row = row_with 2 0 2 16;
+      found = refl;
+      some = omega arith;
+      less = omega arith;
+      all = λ k r h e. three k r h e;
+    })
     (λ _ _. record { row = row_with 1 0 4 8; found = refl; some = omega arith; less = omega arith; all = λ k r h e. h })
     (λ _ h. absurd (omega (arith, h))) (λ _ h. absurd (omega (arith, h))) (λ _ h. absurd (omega (arith, h))) most
-        (omega (arith, few)) some few
+    (omega (arith, few)) some few
   where
     three : (k : ℕ) (r : Row) → k ≤ 3 → row_for One k ≡ Some r → k ≤ 2
     three k r h e = ⊎_elim (λ (l : k < 3). omega (arith, l)) (λ (m : 3 ≤ k). let same : k ≡ 3 = omega (arith, h, m) in
@@ -297,8 +343,8 @@ takes One most some few = eight (λ m. 2 ≤ m → m ≤ 4 → Takes One m) (λ 
 takes Two most some few =
     eight (λ m. 2 ≤ m → Takes Two m) (λ h. absurd (omega (arith, h))) (λ h. absurd (omega (arith, h)))
     (λ _. plain 2 _ refl (omega arith)) (λ _. plain 3 _ refl (omega arith)) (λ _. plain 4 _ refl (omega arith))
-        (λ _. plain 5 _ refl (omega arith)) (λ _. plain 6 _ refl (omega arith)) (λ _. plain 7 _ refl (omega arith))
-        most (omega (arith, few)) some
+    (λ _. plain 5 _ refl (omega arith)) (λ _. plain 6 _ refl (omega arith)) (λ _. plain 7 _ refl (omega arith))
+    most (omega (arith, few)) some
   where
     plain : (m : ℕ) (r : Row) → row_for Two m ≡ Some r → 2 ≤ m → Takes Two m
     plain m r e h = record { row = r; found = e; some = h; less = omega arith; all = λ k r h e. h }
@@ -312,7 +358,7 @@ is_ahead s ds held i most long early says is some =
     let room : length xs ≡ length ds - i = length-drop i ds in
     let at : (j : ℕ) → j < 6 + 1 → get_or held (i + j) 0 ≡ most_with s (near_size s (get_or xs j (pos 0))) = λ j h.
     says (i + j) (omega (arith, early, h))
-        ∙ ap (λ (z : ℤ). most_with s (near_size s z)) (sym (get_or-drop i ds j (pos 0))) in
+    ∙ ap (λ (z : ℤ). most_with s (near_size s z)) (sym (get_or-drop i ds j (pos 0))) in
     let first : most ≤ get_or held (i + 0) 0 = (is most).0 (omega arith) 0 (omega (arith, some)) (omega arith) in
     let few : most ≤ most_with s 0 = held_few s _ most (subst (λ (x : ℕ). most ≤ x) (at 0 (omega arith)) first) in
     let seven : most ≤ 7 = seven_most s most few in
@@ -326,13 +372,13 @@ is_ahead s ds held i most long early says is some =
     let each : (j : ℕ) → j < t.row.count → IsWithin t.row.width (get_or xs j (pos 0)) = λ j h.
     (fits_row s (get_or xs j (pos 0)) (taken s most) more t.row t.found).1
     (subst (λ (x : ℕ). taken s most ≤ x) (at j (omega (arith, h, count, less, seven)))
-        (let q : most ≤ get_or held (i + j) 0 = (is most).0 (omega arith) j (omega (arith, h, count, less))
-        (omega (arith, h, count, less, seven)) in omega (arith, q, less))) in
+    (let q : most ≤ get_or held (i + j) 0 = (is most).0 (omega arith) j (omega (arith, h, count, less))
+    (omega (arith, h, count, less, seven)) in omega (arith, q, less))) in
     let front : length (take t.row.count xs) ≡ t.row.count = length-take-le t.row.count xs inside in
     let range : All (IsWithin t.row.width) (take t.row.count xs) =
-        All-from_get_or (IsWithin t.row.width) (take t.row.count xs) (pos 0) (λ j h.
+    All-from_get_or (IsWithin t.row.width) (take t.row.count xs) (pos 0) (λ j h.
     let l : j < t.row.count = omega (arith, h, front) in
-        subst (λ (z : ℤ). IsWithin t.row.width z) (sym (get_or-take t.row.count xs j (pos 0) l)) (each j l)) in
+    subst (λ (z : ℤ). IsWithin t.row.width z) (sym (get_or-take t.row.count xs j (pos 0) l)) (each j l)) in
     let none : (k : ℕ) → t.row.count < k → k ≤ length xs → ¬ (CanSpell s (take k xs)) = λ k over in' can.
     let fits = front_fits s xs k (omega (arith, over)) in' can in
     let row_k = row_is s k fits.0 fits.1.0 in
@@ -340,10 +386,10 @@ is_ahead s ds held i most long early says is some =
     let long_k : length (take k xs) ≡ k = length-take-le k xs in' in
     let held_all : (j : ℕ) → j < k → j < 7 → k ≤ get_or held (i + j) 0 = λ j l m.
     let within : IsWithin fits.0.width (get_or xs j (pos 0)) =
-        rw (get_or-take k xs j (pos 0) l) at (All-get_or (IsWithin fits.0.width) (take k xs) j (pos 0)
-        (omega (arith, l, long_k)) fits.1.1) in
+    rw (get_or-take k xs j (pos 0) l) at (All-get_or (IsWithin fits.0.width) (take k xs) j (pos 0)
+    (omega (arith, l, long_k)) fits.1.1) in
     subst (λ (x : ℕ). k ≤ x) (sym (at j (omega (arith, m))))
-        ((fits_row s (get_or xs j (pos 0)) k (omega (arith, over, count, more)) fits.0 fits.1.0).0 within) in
+    ((fits_row s (get_or xs j (pos 0)) k (omega (arith, over, count, more)) fits.0 fits.1.0).0 within) in
     let is_held : k ≤ most = (is k).1 held_all in
     let taken_k : k ≤ taken s most = t.all k fits.0 is_held fits.1.0 in
     omega (arith, taken_k, over, count) in

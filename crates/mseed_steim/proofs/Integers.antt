@@ -1,6 +1,6 @@
 -- A payload of integers.
-use Rattle.std.proofs.Common.{◌≡◌, ℕ, zero, suc, ◌+◌, ◌-◌, ◌*◌, ◌/◌, ◌<◌, ◌≤◌, ◌^◌, List, [], ◌∷◌, length, get_or, ℤ,
-    pos, negsuc, ◌-ℤ◌, arith, refl, ap, sym, ◌∙◌, subst, slice_get, ⊎_elim, Some, Ok}
+use Rattle.std.proofs.Common.{◌≡◌, ℕ, zero, suc, ◌+◌, ◌-◌, ◌*◌, ◌/◌, ◌<◌, ◌≤◌, ◌^◌, List, [], ◌∷◌, length, get_or, ℤ}
+use Rattle.std.proofs.Common.{pos, negsuc, ◌-ℤ◌, arith, refl, ap, sym, ◌∙◌, subst, slice_get, ⊎_elim, Some, Ok}
 use Rattle.std.proofs.lemmas.Bool.{cases_lt, lt-ltb, le-ltb}
 use Rattle.std.proofs.Math.Nat.{mul-suc}
 use Rattle.byteorder.specs.Endian.{twos_complement}
@@ -85,10 +85,14 @@ integers_checked order width p n ends h octets long first last =
     let zeroth : 0 + bytes_of width * 0 ≡ 0 = omega arith in
     let at_first = rw zeroth at (get-integers order (bytes_of width) p 0 n 0 h) in
     let plain : 0 + bytes_of width * (n - 1) ≡ bytes_of width * (n - 1) = omega arith in
-    let at_last = rw plain at (get-integers order (bytes_of width) p 0 n (n - 1) (omega arith)) in
-    (integers order (bytes_of width) p 0 n,
-        ((count, begins order width p n octets long), tt,
-        (at_first ∙ ap (λ (z : ℤ). Some z) (sym first), rw count (at_last ∙ ap (λ (z : ℤ). Some z) (sym last)))))
+    let at_last = rw plain at (get-integers order (bytes_of width) p 0 n (n - 1) (omega arith)) in (
+      integers order (bytes_of width) p 0 n,
+      (
+        (count, begins order width p n octets long),
+        tt,
+        (at_first ∙ ap (λ (z : ℤ). Some z) (sym first), rw count (at_last ∙ ap (λ (z : ℤ). Some z) (sym last))),
+      ),
+    )
 
 pub whole_count : (width : Width) (n long : ℕ) → n ≤ long / bytes_of width → bytes_of width * n ≤ long
 whole_count Two n long h = omega arith
@@ -118,4 +122,4 @@ pub filled : (order : Order) (width : Width) (p : List ℕ) (n : ℕ) (out : Lis
     → IsPayloadReading (Integers width) order p n out
 filled order width p n out octets long e =
     subst (λ (xs : List ℤ). IsPayloadReading (Integers width) order p n xs) (sym e)
-        (length-integers order (bytes_of width) p 0 n, begins order width p n octets long)
+    (length-integers order (bytes_of width) p 0 n, begins order width p n octets long)

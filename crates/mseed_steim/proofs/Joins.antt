@@ -1,11 +1,11 @@
 -- Differences side by side in a word.
-use Rattle.std.proofs.Common.{◌≡◌, ℕ, zero, suc, ◌+◌, ◌-◌, ◌*◌, ◌/◌, ◌%◌, ◌^◌, ◌<◌, ◌≤◌, List, [], ◌∷◌, ◌++◌, length,
-    take, get_or, ℤ, pos, negsuc, arith, refl, ap, sym, ⊎_elim, if◌then◌else◌, nat_lt, ◌∙◌, length-append, bit_and,
-    bit_or, Fits, w32, of_z, FitsSigned, lit<, zero-add}
-use Rattle.std.proofs.Math.Nat.{pow-le-pow_right, mod-eq_of_lt, mul-le-mul_left, add-mul, mul-add, mul_assoc, mul-suc,
-    mul-zero}
-use Rattle.std.proofs.lemmas.Nat.{one_shl, and_mask, or_shifted, pow_pos, pow-add, shl_whole, shr_below, mod_below,
-    mod_low, div-add-mod'}
+use Rattle.std.proofs.Common.{◌≡◌, ℕ, zero, suc, ◌+◌, ◌-◌, ◌*◌, ◌/◌, ◌%◌, ◌^◌, ◌<◌, ◌≤◌, List, [], ◌∷◌, ◌++◌, length}
+use Rattle.std.proofs.Common.{take, get_or, ℤ, pos, negsuc, arith, refl, ap, sym, ⊎_elim, if◌then◌else◌, nat_lt, ◌∙◌}
+use Rattle.std.proofs.Common.{length-append, bit_and, bit_or, Fits, w32, of_z, FitsSigned, lit<, zero-add}
+use Rattle.std.proofs.Math.Nat.{pow-le-pow_right, mod-eq_of_lt, mul-le-mul_left, add-mul, mul-add, mul_assoc, mul-suc}
+use Rattle.std.proofs.Math.Nat.{mul-zero}
+use Rattle.std.proofs.lemmas.Nat.{one_shl, and_mask, or_shifted, pow_pos, pow-add, shl_whole, shr_below, mod_below}
+use Rattle.std.proofs.lemmas.Nat.{mod_low, div-add-mod'}
 use Rattle.std.proofs.lemmas.Bool.{cases_lt, lt-ltb, le-ltb}
 use Rattle.std.proofs.lemmas.List.{take_more, take_all, length-take, length-take-le, get_or-take}
 use Rattle.mseed_steim.specs.Spelling.{residue, positional}
@@ -22,7 +22,7 @@ positional_push w (x ∷ xs) d =
     let k : positional w (xs ++ (d ∷ [])) ≡ positional w xs * 2 ^ w + residue (2 ^ w) d = positional_push w xs d in
     let e : 2 ^ (w * length xs + w) ≡ 2 ^ (w * length xs) * 2 ^ w = pow-add 2 (w * length xs) w in
     let f : 2 ^ (w * length (xs ++ (d ∷ []))) ≡ 2 ^ (w * length xs) * 2 ^ w = ap (λ n. 2 ^ n) (rw l (omega arith))
-        ∙ e in
+    ∙ e in
     rw (f, k) (omega arith)
 
 -- the first of the differences are short
@@ -47,7 +47,7 @@ low_bits w n h small =
     let left = 2 ^ (32 - w) - 1 - n / 2 ^ w in
     let all : left + n / 2 ^ w + 1 ≡ 2 ^ (32 - w) = omega (arith, high) in
     let sum : (left + n / 2 ^ w + 1) * 2 ^ w ≡ left * 2 ^ w + n / 2 ^ w * 2 ^ w + 2 ^ w =
-        add-mul (left + n / 2 ^ w) 1 (2 ^ w) ∙ (let part = add-mul left (n / 2 ^ w) (2 ^ w) in omega (arith, part)) in
+    add-mul (left + n / 2 ^ w) 1 (2 ^ w) ∙ (let part = add-mul left (n / 2 ^ w) (2 ^ w) in omega (arith, part)) in
     let total = rw all at sum in
     let cut : n / 2 ^ w * 2 ^ w + n % 2 ^ w ≡ n = div-add-mod' n (2 ^ w) in
     let other : 2 ^ 32 - suc n ≡ left * 2 ^ w + (2 ^ w - 1 - n % 2 ^ w) = omega (arith, total, whole, cut, low) in
@@ -65,10 +65,18 @@ joined_more w ds i word digit p n h less e f q =
     let small : word < 2 ^ 32 = rw e (front_lt w i 32 ds h) in
     let shifted : word * 2 ^ w % 2 ^ 64 ≡ word * 2 ^ w = shl_whole word 32 w 64 small (omega (arith, n)) in
     let digit_is : digit % 2 ^ w ≡ residue (2 ^ w) (get_or ds i (pos 0)) = ap (λ (x : ℕ). x % 2 ^ w) q
-        ∙ digit_of w (get_or ds i (pos 0)) n f in
+    ∙ digit_of w (get_or ds i (pos 0)) n f in
     let low : residue (2 ^ w) (get_or ds i (pos 0)) < 2 ^ w = residue_lt (2 ^ w) (get_or ds i (pos 0)) (pow_pos w) in
-    rw (one, shifted, and_mask, digit_is, or_shifted word w (residue (2 ^ w) (get_or ds i (pos 0))) low,
-        take_more ds i (pos 0) less, positional_push w (take i ds) (get_or ds i (pos 0)), e) refl
+    rw (
+      one,
+      shifted,
+      and_mask,
+      digit_is,
+      or_shifted word w (residue (2 ^ w) (get_or ds i (pos 0))) low,
+      take_more ds i (pos 0) less,
+      positional_push w (take i ds) (get_or ds i (pos 0)),
+      e,
+    ) refl
 
 -- The first i of c differences have been joined, each for what it counts in the whole.
 abbrev pub Placed : ℕ → ℕ → List ℤ → ℕ → ℕ → Type 0
@@ -93,23 +101,23 @@ placed_more w c i ds word digit p n room inside less e f q =
     let low : r < 2 ^ w = residue_lt (2 ^ w) d (pow_pos w) in
     let grown : positional w (take (i + 1) front) ≡ before * 2 ^ w + r =
     ap (λ (l : List ℤ). positional w l) (take_more front i (pos 0) (omega (arith, long, less))
-        ∙ ap (λ (z : ℤ). take i front ++ z ∷ []) same) ∙ positional_push w (take i front) d in
+    ∙ ap (λ (z : ℤ). take i front ++ z ∷ []) same) ∙ positional_push w (take i front) d in
     let step : c - i ≡ suc (c - 1 - i) = omega (arith, less) in
     let bits : w * (c - i) ≡ w + rest = ap (λ (x : ℕ). w * x) step ∙ mul-suc w (c - 1 - i) ∙ omega arith in
     let power : 2 ^ (w * (c - i)) ≡ 2 ^ w * 2 ^ rest = ap (λ (x : ℕ). 2 ^ x) bits ∙ pow-add 2 w rest in
     let over : before * (2 ^ w * 2 ^ rest) ≡ before * 2 ^ w * 2 ^ rest = sym (mul_assoc before (2 ^ w) (2 ^ rest)) in
     let whole : (before * 2 ^ w + r) * 2 ^ rest ≡ before * 2 ^ w * 2 ^ rest + r * 2 ^ rest =
-        add-mul (before * 2 ^ w) r (2 ^ rest) in
+    add-mul (before * 2 ^ w) r (2 ^ rest) in
     let word_is : word ≡ before * 2 ^ w * 2 ^ rest = e ∙ ap (λ (x : ℕ). before * x) power ∙ over in
     let count : length (take (i + 1) front) ≡ i + 1 = length-take-le (i + 1) front (omega (arith, long, less)) in
     let small : positional w (take (i + 1) front) < 2 ^ (w * (i + 1)) =
-        rw count at (positional_lt w (take (i + 1) front)) in
+    rw count at (positional_lt w (take (i + 1) front)) in
     let all : w * (i + 1) + rest ≡ w * c = sym (mul-add w (i + 1) (c - 1 - i))
-        ∙ ap (λ (x : ℕ). w * x) (omega (arith, less)) in
+    ∙ ap (λ (x : ℕ). w * x) (omega (arith, less)) in
     let fits : positional w (take (i + 1) front) * 2 ^ rest % 2 ^ 32 ≡ positional w (take (i + 1) front) * 2 ^ rest =
-        shl_whole (positional w (take (i + 1) front)) (w * (i + 1)) rest 32 small (omega (arith, all, room)) in
+    shl_whole (positional w (take (i + 1) front)) (w * (i + 1)) rest 32 small (omega (arith, all, room)) in
     let one : r * 2 ^ rest % 2 ^ 32 ≡ r * 2 ^ rest =
-        shl_whole r w rest 32 low (omega (arith, bits, all, room, step, mul-le-mul_left w (i_most i c less))) in
+    shl_whole r w rest 32 low (omega (arith, bits, all, room, step, mul-le-mul_left w (i_most i c less))) in
     let left : c - (i + 1) ≡ c - 1 - i = omega arith in
     rw (digit_is, one, word_is, left, ← whole, ← grown) fits
   where
@@ -139,9 +147,9 @@ pub placed_next : (w c i : ℕ) (ds : List ℤ) (word digit mask place : ℕ) �
     → Placed w c ds (i + 1) ((word + bit_and digit mask * place % 2 ^ 32) % 2 ^ 32)
 placed_next w c i ds word digit mask place p n room inside e f q m h = ⊎_elim
     (λ (less : i < c). rw (m, and_mask, h, lt-ltb i c less)
-        (placed_more w c i ds word digit p n room inside less e f q))
+    (placed_more w c i ds word digit p n room inside less e f q))
     (λ (over : c ≤ i). rw (h, le-ltb i c over, mul-zero (bit_and digit mask))
-        (placed_over w c i ds word room inside over e))
+    (placed_over w c i ds word room inside over e))
     (cases_lt i c)
 
 -- all of them have been joined
@@ -163,5 +171,5 @@ dnib_joined zero w ds h room apart = or_zero (positional w ds)
 dnib_joined (suc d) w ds h room apart =
     let small : suc d * 1073741824 % 4294967296 ≡ suc d * 2 ^ 30 = mod-eq_of_lt (omega (arith, h)) in
     let below : positional w ds < 2 ^ 30 = let most : 2 ^ (w * length ds) ≤ 2 ^ 30 =
-        pow-le-pow_right (lit< tt) (apart (omega arith)) in omega (arith, positional_lt w ds, most) in
+    pow-le-pow_right (lit< tt) (apart (omega arith)) in omega (arith, positional_lt w ds, most) in
     rw small (or_shifted (suc d) 30 (positional w ds) below)

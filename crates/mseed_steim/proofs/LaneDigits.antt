@@ -1,6 +1,6 @@
 -- A word's differences, lane by lane.
-use Rattle.std.proofs.Common.{◌≡◌, ℕ, zero, suc, ◌+◌, ◌-◌, ◌<◌, ◌≤◌, [], ◌++◌, ◌∷◌, ◌∙◌, List, ℤ, take, set, map,
-    get_or, length, refl, arith, ⊎_elim}
+use Rattle.std.proofs.Common.{◌≡◌, ℕ, zero, suc, ◌+◌, ◌-◌, ◌<◌, ◌≤◌, [], ◌++◌, ◌∷◌, ◌∙◌, List, ℤ, take, set, map}
+use Rattle.std.proofs.Common.{get_or, length, refl, arith, ⊎_elim}
 use lib.Lanes.{Each1, sum_l}
 use Rattle.std.specs.Prelude.{min}
 use Rattle.std.proofs.Math.Nat.{min-eq_left, min-eq_right}
@@ -24,7 +24,7 @@ next_lane out front at lane count w word z inside value so_far = ⊎_elim
     let step = digits_step w word count lane less in
     let cut = rw (now, step, ← value less) at so_far in
     rw next (take_put out (at + lane) (at + (lane + 1)) z (digits w word (count - (lane + 1))) inside (omega arith)
-        ∙ cut))
+    ∙ cut))
     (λ (over : count ≤ lane).
     let now : min lane count ≡ count = min-eq_right over in
     let next : min (lane + 1) count ≡ count = min-eq_right (omega (arith, over)) in

@@ -1,6 +1,6 @@
 -- Sums of lanes, modulo 2^32.
-use Rattle.std.proofs.Common.{◌≡◌, ℕ, zero, suc, ◌+◌, ◌-◌, ◌*◌, ◌%◌, ◌^◌, ◌<◌, ◌≤◌, List, [], ◌∷◌, length, map, get_or,
-    bit_and, bit_xor, refl, sym, ap, ◌∙◌, arith, Fits, w32}
+use Rattle.std.proofs.Common.{◌≡◌, ℕ, zero, suc, ◌+◌, ◌-◌, ◌*◌, ◌%◌, ◌^◌, ◌<◌, ◌≤◌, List, [], ◌∷◌, length, map, get_or}
+use Rattle.std.proofs.Common.{bit_and, bit_xor, refl, sym, ap, ◌∙◌, arith, Fits, w32}
 use Rattle.std.proofs.lemmas.Simd.{pick_l_whole, zip2_of_maps, map-map, sum_dots}
 use Rattle.std.specs.List.{range_with_len}
 use lib.Lanes.{zip2, sum_l, fold_l, dots, Each1}
@@ -91,14 +91,14 @@ pub turn_words : (p t rows : List ℕ) (table : List ℕ) (byte row : ℕ → �
     → zip2 bit_xor p t ≡ map (λ w. bit_xor (byte w) (get_or table (row w) 0)) ws
 turn_words p t rows table byte row ws e f g =
     zip2_of_maps bit_xor byte (λ w. get_or table (row w) 0) ws f (e ∙ ap (λ z. map (λ r. get_or table r 0) z) g
-        ∙ map-map (λ r. get_or table r 0) row ws)
+    ∙ map-map (λ r. get_or table r 0) row ws)
 
 pub kept_words : (p t rows : List ℕ) (table : List ℕ) (byte row : ℕ → ℕ) (ws : List ℕ)
     → t ≡ map (λ r. get_or table r 0) rows → p ≡ map byte ws → rows ≡ map row ws
     → zip2 bit_and p t ≡ map (λ w. bit_and (byte w) (get_or table (row w) 0)) ws
 kept_words p t rows table byte row ws e f g =
     zip2_of_maps bit_and byte (λ w. get_or table (row w) 0) ws f (e ∙ ap (λ z. map (λ r. get_or table r 0) z) g
-        ∙ map-map (λ r. get_or table r 0) row ws)
+    ∙ map-map (λ r. get_or table r 0) row ws)
 
 pub table_words : (t rows : List ℕ) (table : List ℕ) (row : ℕ → ℕ) (ws : List ℕ) → t ≡ map (λ r. get_or table r 0) rows
     → rows ≡ map row ws

@@ -1,7 +1,7 @@
 -- A record has one reading at most, or one fault.
-use Rattle.std.proofs.Common.{◌≡◌, ◌≢◌, ℕ, ◌+◌, ◌-◌, ◌*◌, ◌/◌, ◌<◌, ◌≤◌, List, [], ◌∷◌, ◌++◌, length, ℤ, arith, refl,
-    ap, sym, ◌∙◌, subst, slice_get, true, false, Some, Result, Ok, Err, IsOk, IsOkAnd, IfOk, IfErr, MatchResult, inl,
-    inr, ◌↔◌, All}
+use Rattle.std.proofs.Common.{◌≡◌, ◌≢◌, ℕ, ◌+◌, ◌-◌, ◌*◌, ◌/◌, ◌<◌, ◌≤◌, List, [], ◌∷◌, ◌++◌, length, ℤ, arith, refl}
+use Rattle.std.proofs.Common.{ap, sym, ◌∙◌, subst, slice_get, true, false, Some, Result, Ok, Err, IsOk, IsOkAnd, IfOk}
+use Rattle.std.proofs.Common.{IfErr, MatchResult, inl, inr, ◌↔◌, All}
 use Rattle.std.proofs.Math.Nat.{mul-suc}
 use Rattle.mseed_time.specs.declared.order.Order.{Order}
 use Rattle.mseed_time.specs.declared.order.Order.TheVariants.{Big, Little}
@@ -13,14 +13,15 @@ use Rattle.mseed_steim.specs.declared.form.Form.{Form}
 use Rattle.mseed_steim.specs.declared.form.Form.TheVariants.{Integers, Frames}
 use Rattle.mseed_steim.specs.declared.fault.Ends.{Ends}
 use Rattle.mseed_steim.specs.declared.fault.ReadFault.{ReadFault}
-use Rattle.mseed_steim.specs.declared.fault.ReadFault.TheVariants.{Blockette100, Encoding, LittleSteim, DataOffset,
-    Short, BadWord, Overflow, LastDiffers, Memory}
+use Rattle.mseed_steim.specs.declared.fault.ReadFault.TheVariants.{Blockette100, Encoding, LittleSteim, DataOffset}
+use Rattle.mseed_steim.specs.declared.fault.ReadFault.TheVariants.{Short, BadWord, Overflow, LastDiffers, Memory}
 use Rattle.mseed_steim.specs.Frames.{last_constant}
-use Rattle.mseed_steim.specs.Samples.{bytes_of, form_of, BeginsWith, IsPayloadReading, EndsOnConstant, IsPayloadFault,
-    IsSample, AreEnds, short, bad_word, overflow, last_differs, IsFrameFault, IsChecked, IsFilled}
-use Rattle.mseed_steim.specs.Reading.{count_of, IsReading, EndsOnConstants, HasOneReading, IsReadable, IsFault,
-    blockette_100, encoding, little_steim, data_offset, in_payload, Denies, HoldsIn, IsAnswer, is_little_steim, IsWhole,
-    IsRefusal}
+use Rattle.mseed_steim.specs.Samples.{bytes_of, form_of, BeginsWith, IsPayloadReading, EndsOnConstant, IsPayloadFault}
+use Rattle.mseed_steim.specs.Samples.{IsSample, AreEnds, short, bad_word, overflow, last_differs, IsFrameFault}
+use Rattle.mseed_steim.specs.Samples.{IsChecked, IsFilled}
+use Rattle.mseed_steim.specs.Reading.{count_of, IsReading, EndsOnConstants, HasOneReading, IsReadable, IsFault}
+use Rattle.mseed_steim.specs.Reading.{blockette_100, encoding, little_steim, data_offset, in_payload, Denies, HoldsIn}
+use Rattle.mseed_steim.specs.Reading.{IsAnswer, is_little_steim, IsWhole, IsRefusal}
 use Rattle.mseed_steim.proofs.Words.{residue_one}
 use Rattle.mseed_steim.proofs.Runs.{sums_one, fault_one, not_short, not_bad, not_in}
 use Rattle.mseed_steim.proofs.Ended.{get_pushed}
@@ -54,8 +55,8 @@ pub reading_one : (v : View) → HasOneReading v
 reading_one v ss ts a b =
     let same : a.form ≡ b.form = cc (a.encoding, b.encoding) in
     payload_one b.form v.payload_order (payload_of v) (count_of v) ss ts
-        (subst (λ (form : Form). IsPayloadReading form v.payload_order (payload_of v) (count_of v) ss) same a.spelled)
-        b.spelled
+    (subst (λ (form : Form). IsPayloadReading form v.payload_order (payload_of v) (count_of v) ss) same a.spelled)
+    b.spelled
 
 -- integers that are there leave no fault
 integers_fit : (width : Width) (order : Order) (p : List ℕ) (n : ℕ) (ss : List ℤ)
@@ -107,7 +108,7 @@ record_fault_one v f g (in_payload a form d r p fault h) (data_offset b form' e 
 record_fault_one v f g (in_payload a form d r p fault h) (in_payload b form' e r' p' fault' h') =
     let same : form ≡ form' = cc (d, e) in
     payload_fault_one form' (payload_of v) (count_of v) f g
-        (subst (λ (x : Form). IsPayloadFault x (payload_of v) (count_of v) f) same h) h'
+    (subst (λ (x : Form). IsPayloadFault x (payload_of v) (count_of v) f) same h) h'
 
 -- two forms of one encoding
 pub same_payload : (v : View) (form : Form) (s : List ℤ) → form_of v.encoding ≡ Some form → IsReading v s
@@ -123,7 +124,7 @@ differs : (v : View) (scheme : Scheme) (front : List ℤ) (last : ℤ) → 0 < c
     → last ≢ last_constant (payload_of v) → Denies v (LastDiffers last (last_constant (payload_of v)))
 differs v scheme front last some a e big p h not =
     let whole : IsReading v (front ++ last ∷ []) =
-        record { some = some; one_rate = a; form = Frames scheme; encoding = e; payload = p; spelled = h } in (
+    record { some = some; one_rate = a; form = Frames scheme; encoding = e; payload = p; spelled = h } in (
       front ++ last ∷ [],
       (
         whole,
@@ -132,9 +133,9 @@ differs v scheme front last some a e big p h not =
               one,
               λ ends.
                   let end : slice_get (front ++ last ∷ []) (length (front ++ last ∷ []) - 1)
-                      ≡ Some (last_constant (payload_of v)) =
-                      subst (λ (xs : List ℤ). slice_get xs (length xs - 1) ≡ Some (last_constant (payload_of v)))
-                      (sym one) (ends (Frames scheme) e) in
+                  ≡ Some (last_constant (payload_of v)) =
+                  subst (λ (xs : List ℤ). slice_get xs (length xs - 1) ≡ Some (last_constant (payload_of v)))
+                  (sym one) (ends (Frames scheme) e) in
                   not (cc (end, get_pushed front last)),
             ),
       ),
@@ -147,11 +148,11 @@ frames_deny v scheme f some a e big p (short ds h less) = λ s r.
     let q = same_payload v (Frames scheme) s e r in not_short scheme (payload_of v) (count_of v) s ds q.1 h less
 frames_deny v scheme f some a e big p (bad_word before bad after ds cut h less none) = λ s r.
     let q = same_payload v (Frames scheme) s e r in
-        not_bad scheme (payload_of v) (count_of v) s before bad after ds q.1 cut h less none
+    not_bad scheme (payload_of v) (count_of v) s before bad after ds q.1 cut h less none
 frames_deny v scheme f some a e big p (overflow front sum rest sums all not) = λ s r.
     let q = same_payload v (Frames scheme) s e r in
     not_in front sum rest (subst (λ (xs : List ℤ). All IsSample xs)
-        (sums_one scheme (payload_of v) (count_of v) s (front ++ sum ∷ rest) q.1 sums) q.2) not
+    (sums_one scheme (payload_of v) (count_of v) s (front ++ sum ∷ rest) q.1 sums) q.2) not
 frames_deny v scheme f some a e big p (last_differs front last sums all not) =
     differs v scheme front last some a e big p (big, sums, all) not
 
@@ -163,7 +164,7 @@ fault_denies v f some (little_steim a scheme d l) = λ s r. let q = same_payload
 fault_denies v f some (data_offset a form d readable p) = λ s r. p r.payload
 fault_denies v f some (in_payload a (Integers width) d readable p fault h) =
     subst (λ (x : ReadFault). Denies v x) (sym h.1) (λ s r. integers_fit width v.payload_order (payload_of v)
-        (count_of v) s (same_payload v (Integers width) s d r) h.0)
+    (count_of v) s (same_payload v (Integers width) s d r) h.0)
 fault_denies v f some (in_payload a (Frames scheme) d readable p fault h) = frames_deny v scheme f some a d readable p h
 
 -- So a record with a fault has no reading that ends on its constants.
@@ -192,8 +193,10 @@ answer_only v (Err f) some h s a e = absurd (denied v f s (fault_denies v f some
 pub answer_fault : (v : View) (r : Result Ends ReadFault) → 0 < count_of v → IsAnswer v r → (f : ReadFault)
     → (r ≡ Err f) ↔ IsFault v f
 answer_fault v (Ok ends) some h f = ((λ e. cc), (λ q. absurd (denied v f h.0 (fault_denies v f some q) h.1.0 h.1.1)))
-answer_fault v (Err g) some h f = ((λ e. let same : g ≡ f = cc in subst (λ (x : ReadFault). IsFault v x) same h),
-    (λ q. ap Err (record_fault_one v g f h q)))
+answer_fault v (Err g) some h f = (
+  (λ e. let same : g ≡ f = cc in subst (λ (x : ReadFault). IsFault v x) same h),
+  (λ q. ap Err (record_fault_one v g f h q)),
+)
 
 pub answer_denies : (v : View) (r : Result Ends ReadFault) → 0 < count_of v → IsAnswer v r → IfErr r (λ f. Denies v f)
 answer_denies v (Ok ends) some h = tt
@@ -216,13 +219,13 @@ payload_answer v form p (Ok ends) some holds h =
         },
         (λ other q. let same : form ≡ other = cc (e, q) in
             subst (λ (x : Form). EndsOnConstant x (payload_of v) h.0) same
-                (subst (λ (xs : List ℕ). EndsOnConstant form xs h.0) holds.4 h.1.1)),
+            (subst (λ (xs : List ℕ). EndsOnConstant form xs h.0) holds.4 h.1.1)),
         h.1.2,
       ),
     )
 payload_answer v form p (Err f) some holds h =
     in_payload holds.0 form holds.1 holds.2 holds.3 f
-        (subst (λ (xs : List ℕ). IsPayloadFault form xs (count_of v) f) holds.4 h)
+    (subst (λ (xs : List ℕ). IsPayloadFault form xs (count_of v) f) holds.4 h)
 
 little_in : (v : View) (form : Form) (order : Order) → v.has_rate_blockette ≡ false → form_of v.encoding ≡ Some form
     → v.payload_order ≡ order → is_little_steim form order ≡ true → IsFault v LittleSteim
@@ -256,11 +259,11 @@ payload_filled v form p out (Ok done) some holds h =
       },
       (λ other q. let same : form ≡ other = cc (e, q) in
           subst (λ (x : Form). EndsOnConstant x (payload_of v) out) same
-              (subst (λ (xs : List ℕ). EndsOnConstant form xs out) holds.4 h.1)),
+          (subst (λ (xs : List ℕ). EndsOnConstant form xs out) holds.4 h.1)),
     )
 payload_filled v form p out (Err f) some holds h =
     in_payload holds.0 form holds.1 holds.2 holds.3 f
-        (subst (λ (xs : List ℕ). IsPayloadFault form xs (count_of v) f) holds.4 h)
+    (subst (λ (xs : List ℕ). IsPayloadFault form xs (count_of v) f) holds.4 h)
 
 -- what the answer of a read means
 pub read_only : {X : Type 0} (v : View) (items : X → List ℤ) (r : Result X ReadFault) → 0 < count_of v
@@ -301,8 +304,10 @@ filled_only v out (Err f) some h s w = absurd (denied v f s (fault_denies v f so
 pub filled_fault : (v : View) (out : List ℤ) (r : Result (Unit {0}) ReadFault) → 0 < count_of v
     → MatchResult r (λ _. IsWhole v out) (λ f. IsFault v f) → (f : ReadFault) → (r ≡ Err f) ↔ IsFault v f
 filled_fault v out (Ok done) some h f = ((λ e. cc), (λ q. absurd (denied v f out (fault_denies v f some q) h.0 h.1)))
-filled_fault v out (Err g) some h f = ((λ e. let same : g ≡ f = cc in subst (λ (x : ReadFault). IsFault v x) same h),
-    (λ q. ap Err (record_fault_one v g f h q)))
+filled_fault v out (Err g) some h f = (
+  (λ e. let same : g ≡ f = cc in subst (λ (x : ReadFault). IsFault v x) same h),
+  (λ q. ap Err (record_fault_one v g f h q)),
+)
 
 pub filled_denies : (v : View) (out : List ℤ) (r : Result (Unit {0}) ReadFault) → 0 < count_of v
     → MatchResult r (λ _. IsWhole v out) (λ f. IsFault v f) → IfErr r (λ f. Denies v f)

@@ -9,9 +9,9 @@ pub sixteen : (P : ℕ → Type 0) → P 0 → P 1 → P 2 → P 3 → P 4 → P
     → P 14 → P 15 → (i : ℕ) → i < 16 → P i
 sixteen P a b c d e f g h i j k l m n o p =
     below_more P 15 (below_more P 14
-        (below_more P 13 (below_more P 12 (below_more P 11 (below_more P 10 (below_more P 9 (below_more P 8
+    (below_more P 13 (below_more P 12 (below_more P 11 (below_more P 10 (below_more P 9 (below_more P 8
     (below_more P 7 (below_more P 6
-        (below_more P 5 (below_more P 4 (below_more P 3 (below_more P 2 (below_more P 1 (below_more P 0 (below_none P)
+    (below_more P 5 (below_more P 4 (below_more P 3 (below_more P 2 (below_more P 1 (below_more P 0 (below_none P)
     a) b) c) d) e) f) g) h) i) j) k) l) m) n) o) p
 
 abbrev Lift : ℕ → ℕ → Unpacking → ℕ → Type 0
@@ -83,9 +83,9 @@ unfolding counts_two widths_two
 rows_two none = sixteen (InTwo none)
     (λ few. of_none _ refl) (λ few. of_none _ refl) (λ few. of_none _ refl) (λ few. of_none _ refl)
     (λ few. of_four 8 _ refl (omega arith) refl (omega arith) refl refl refl refl)
-        (λ few. of_four 8 _ refl (omega arith) refl (omega arith) refl refl refl refl)
     (λ few. of_four 8 _ refl (omega arith) refl (omega arith) refl refl refl refl)
-        (λ few. of_four 8 _ refl (omega arith) refl (omega arith) refl refl refl refl)
+    (λ few. of_four 8 _ refl (omega arith) refl (omega arith) refl refl refl refl)
+    (λ few. of_four 8 _ refl (omega arith) refl (omega arith) refl refl refl refl)
     (λ few. absurd (omega (arith, few))) (λ few. absurd (omega (arith, few)))
     (λ few. of_two 15 _ refl (omega arith) refl (omega arith) refl refl)
     (λ few. of_three 10 _ refl (omega arith) refl (omega arith) refl refl refl)
@@ -103,12 +103,12 @@ unfolding counts_one widths_one
 rows_one none = sixteen (InOne none)
     (λ few. of_none _ refl) (λ few. of_none _ refl) (λ few. of_none _ refl) (λ few. of_none _ refl)
     (λ few. of_four 8 _ refl (omega arith) refl (omega arith) refl refl refl refl)
-        (λ few. of_four 8 _ refl (omega arith) refl (omega arith) refl refl refl refl)
     (λ few. of_four 8 _ refl (omega arith) refl (omega arith) refl refl refl refl)
-        (λ few. of_four 8 _ refl (omega arith) refl (omega arith) refl refl refl refl)
+    (λ few. of_four 8 _ refl (omega arith) refl (omega arith) refl refl refl refl)
+    (λ few. of_four 8 _ refl (omega arith) refl (omega arith) refl refl refl refl)
     (λ few. of_two 16 _ refl (omega arith) refl (omega arith) refl refl)
-        (λ few. of_two 16 _ refl (omega arith) refl (omega arith) refl refl)
     (λ few. of_two 16 _ refl (omega arith) refl (omega arith) refl refl)
-        (λ few. of_two 16 _ refl (omega arith) refl (omega arith) refl refl)
+    (λ few. of_two 16 _ refl (omega arith) refl (omega arith) refl refl)
+    (λ few. of_two 16 _ refl (omega arith) refl (omega arith) refl refl)
     (λ few. absurd (omega (arith, few))) (λ few. absurd (omega (arith, few)))
     (λ few. absurd (omega (arith, few))) (λ few. absurd (omega (arith, few)))

@@ -11,5 +11,5 @@ digit_near w place word p n =
     let half : w - 1 ≤ 15 = omega arith in
     let most : 2 ^ (w - 1) ≤ 2 ^ 15 = pow_mono half in
     let one = near (2 ^ (w - 1)) (2 ^ w) (word / 2 ^ (w * place) % 2 ^ w) (twice_half w p)
-        (mod_below (word / 2 ^ (w * place)) (2 ^ w) (pow_pos w)) in
+    (mod_below (word / 2 ^ (w * place)) (2 ^ w) (pow_pos w)) in
     omega (arith, most, one)

@@ -1,7 +1,7 @@
 -- Samples that are near one another, by the words or integers that say them.
-use Rattle.std.proofs.Common.{◌≡◌, ◌≢◌, ℕ, zero, suc, ◌+◌, ◌-◌, ◌*◌, ◌/◌, ◌%◌, ◌^◌, ◌<◌, ◌≤◌, List, [], ◌∷◌, ◌++◌,
-    length, map, not, eqb, get_or, refl, sym, ap, ◌∙◌, subst, arith, ℤ, ◌-ℤ◌, Option, Some, None, All, cond, to_z, w32,
-    Bool, ⊎_elim, false, bit_and, below_none, below_more}
+use Rattle.std.proofs.Common.{◌≡◌, ◌≢◌, ℕ, zero, suc, ◌+◌, ◌-◌, ◌*◌, ◌/◌, ◌%◌, ◌^◌, ◌<◌, ◌≤◌, List, [], ◌∷◌, ◌++◌}
+use Rattle.std.proofs.Common.{length, map, not, eqb, get_or, refl, sym, ap, ◌∙◌, subst, arith, ℤ, ◌-ℤ◌, Option, Some}
+use Rattle.std.proofs.Common.{None, All, cond, to_z, w32, Bool, ⊎_elim, false, bit_and, below_none, below_more}
 use Rattle.std.specs.Int.{bit_at}
 use Rattle.std.specs.List.{AllByRecursion, filter, range_with_len}
 use Rattle.std.specs.Prelude.{IsTrue, ◌↔◌}
@@ -20,8 +20,8 @@ use Rattle.mseed_steim.specs.declared.form.Width.TheVariants.{Two, Four}
 use Rattle.mseed_steim.specs.declared.form.Form.{Form}
 use Rattle.mseed_steim.specs.declared.form.Form.TheVariants.{Integers, Frames}
 use Rattle.mseed_steim.specs.private.Digits.{signed}
-use Rattle.mseed_steim.specs.Frames.{DataWord, code_at, data_word, data_words, first_constant, is_data, word_at,
-    word_count, words_from}
+use Rattle.mseed_steim.specs.Frames.{DataWord, code_at, data_word, data_words, first_constant, is_data, word_at}
+use Rattle.mseed_steim.specs.Frames.{word_count, words_from}
 use Rattle.mseed_steim.specs.Groups.{Group, group_of, plain}
 use Rattle.mseed_steim.specs.Nearness.{AreNear, AreNearFrom, IsNarrowAt, IsSurelyNear}
 use Rattle.mseed_steim.specs.Reading.{HoldsIn, IsWhole, count_of}
@@ -43,7 +43,7 @@ IsNearWord s w = (ds : List ℤ) → Spells s w.code w.bits ds → All (IsWithin
 value_is : (x : ℕ) (z : ℤ) → x < 2 ^ 32 → IsWithin 32 z → x ≡ residue (2 ^ 32) z → z ≡ twos_complement 4 x
 value_is x z small range e =
     residue_one 32 z (signed 32 x) (omega arith) range (signed_within 32 x (omega arith) small) (sym e
-        ∙ sym (signed_residue 32 x (omega arith) small)) ∙ sym (signed_is 4 x small)
+    ∙ sym (signed_residue 32 x (omega arith) small)) ∙ sym (signed_is 4 x small)
 
 -- Steim-2
 near_two : (w : DataWord) → IsNearWord Steim2 w
@@ -66,16 +66,16 @@ by_group : (code : ℕ) (dnib : ℕ) (g : Group) (ds : List ℤ) → group_of St
     → All (IsWithin 30) ds) → All (IsWithin 30) ds
 by_group code dnib g ds e range wide =
     cond_both (eqb code 1) (plain 4 8) (cond (eqb code 2) (plain 2 16) (cond (eqb code 3) (plain 1 32) None))
-        (λ (o : Option Group). o ≡ Some g → All (IsWithin 30) ds)
+    (λ (o : Option Group). o ≡ Some g → All (IsWithin 30) ds)
     (λ _. λ q. let same : g ≡ record { marked = false; spare = 1; count = 4; width = 8 } = cc in
-        all_wider g.width 30 ds (omega (arith, ap (λ (x : Group). x.width) same)) range)
+    all_wider g.width 30 ds (omega (arith, ap (λ (x : Group). x.width) same)) range)
     (λ _. cond_both (eqb code 2) (plain 2 16) (cond (eqb code 3) (plain 1 32) None) (λ (o : Option Group). o ≡ Some g
-        → All (IsWithin 30) ds)
+    → All (IsWithin 30) ds)
     (λ _. λ q. let same : g ≡ record { marked = false; spare = 1; count = 2; width = 16 } = cc in
-        all_wider g.width 30 ds (omega (arith, ap (λ (x : Group). x.width) same)) range)
+    all_wider g.width 30 ds (omega (arith, ap (λ (x : Group). x.width) same)) range)
     (λ _. cond_both (eqb code 3) (plain 1 32) None (λ (o : Option Group). o ≡ Some g → All (IsWithin 30) ds)
     (λ is. λ q. let same : g ≡ record { marked = false; spare = 1; count = 1; width = 32 } = cc in
-        wide (eqb-true code 3 is) same)
+    wide (eqb-true code 3 is) same)
     (λ _. λ q. cc)))
     e
 
@@ -90,8 +90,11 @@ one_near dnib bits (d ∷ []) small p narrow =
     let sum : bits ≡ 0 + p.sum.0 * 2 ^ 28 + (residue (2 ^ 32) d * 1 + 0) = p.sum.2 in
     let is : bits ≡ residue (2 ^ 32) d = omega (arith, sum, none) in
     let range : IsWithin 32 d = p.range 0 d (omega arith) in
-    All-from_recursion (IsWithin 30) (d ∷ []) (subst (λ (z : ℤ). IsWithin 30 z) (sym (value_is bits d small range is))
-        narrow, tt)
+    All-from_recursion (IsWithin 30) (d ∷ []) (
+      subst (λ (z : ℤ). IsWithin 30 z) (sym (value_is bits d small range is))
+          narrow,
+      tt,
+    )
 
 near_one : (p : List ℕ) (k : ℕ) → ((i : ℕ) → get_or p i 0 < 256) → IsNarrowAt p k → IsNearWord Steim1 (data_word p k)
 near_one p k octets narrow ds (empty e q) =
@@ -99,7 +102,7 @@ near_one p k octets narrow ds (empty e q) =
 near_one p k octets narrow ds (Spells.row g dnib e is) =
     by_group (code_at p k) dnib g ds e is.range (λ three same.
     one_near dnib (word_at p k) ds (word_small p k octets)
-        (subst (λ (x : Group). IsGroup x dnib (word_at p k) ds) same is) (narrow three))
+    (subst (λ (x : Group). IsGroup x dnib (word_at p k) ds) same is) (narrow three))
 
 all_near_one : (p : List ℕ) → ((i : ℕ) → get_or p i 0 < 256) → (k n : ℕ)
     → ((j : ℕ) → k ≤ j → j < k + n → j % 16 ≢ 0 → IsNarrowAt p j)
@@ -107,9 +110,9 @@ all_near_one : (p : List ℕ) → ((i : ℕ) → get_or p i 0 < 256) → (k n : 
 all_near_one p octets k zero narrow = tt
 all_near_one p octets k (suc n) narrow =
     let later = all_near_one p octets (k + 1) n
-        (λ j from less other. narrow j (omega (arith, from)) (omega (arith, less)) other) in
+    (λ j from less other. narrow j (omega (arith, from)) (omega (arith, less)) other) in
     cond_both (not (eqb (k % 16) 0)) (k ∷ filter is_data (range_with_len (k + 1) n))
-        (filter is_data (range_with_len (k + 1) n))
+    (filter is_data (range_with_len (k + 1) n))
     (λ (ks : List ℕ). AllByRecursion (IsNearWord Steim1) (map (data_word p) ks))
     (λ other. (near_one p k octets (narrow k (omega arith) (omega arith) (λ e. false≢true (rw e at other))), later))
     (λ _. later)
@@ -137,7 +140,7 @@ adds_near before ds [] h all = tt
 adds_near before [] (s ∷ ss) h all = absurd h
 adds_near before (d ∷ ds) (s ∷ ss) h all =
     let is : s -ℤ before ≡ d = omega (arith, ints, h.0) in
-        (subst (λ (z : ℤ). IsWithin 30 z) (sym is) all.0, adds_near s ds ss h.1 all.1)
+    (subst (λ (z : ℤ). IsWithin 30 z) (sym is) all.0, adds_near s ds ss h.1 all.1)
 
 starts_near : (first : ℤ) (ds ss : List ℤ) → StartsAndAdds first ds ss → AllByRecursion (IsWithin 30) ds → AreNear ss
 starts_near first ds [] h all = tt
@@ -148,9 +151,9 @@ sums_near : (s : Scheme) (p : List ℕ) (n : ℕ) (ss : List ℤ) → AreSums s 
     → AllByRecursion (IsNearWord s) (data_words p) → AreNear ss
 sums_near s p n ss sums near =
     let front = front_of (IsNearWord s) sums.front sums.rest
-        (subst (λ (ws : List DataWord). AllByRecursion (IsNearWord s) ws) sums.cut near) in
+    (subst (λ (ws : List DataWord). AllByRecursion (IsNearWord s) ws) sums.cut near) in
     starts_near (first_constant p) sums.differences ss sums.sums
-        (recursion_from_All (IsWithin 30) sums.differences (run_near s sums.front sums.differences front sums.spelled))
+    (recursion_from_All (IsWithin 30) sums.differences (run_near s sums.front sums.differences front sums.spelled))
 
 -- integers
 short_from : (before : ℤ) (ss : List ℤ) → IsWithin 29 before → AllByRecursion (IsWithin 29) ss → AreNearFrom before ss
@@ -188,10 +191,10 @@ pub shown_near : (form : Form) (order : Order) (p : List ℕ) (n : ℕ) (ss : Li
 shown_near (Integers Two) order p n ss octets shows h = short_near ss (two_short order p 0 ss h.1)
 shown_near (Integers Four) order p n ss octets shows h =
     short_near ss (four_short order p 0 ss octets h.1 (λ i less. let place : 0 + 4 * i ≡ 4 * i = omega arith in
-        rw place (shows.1 i (omega (arith, less, h.0)))))
+    rw place (shows.1 i (omega (arith, less, h.0)))))
 shown_near (Frames Steim1) order p n ss octets shows h =
     sums_near Steim1 p n ss h.1
-        (words_near_one p octets 3 (word_count p - 3) (λ j from less other. shows j (omega (arith, from, less)) other))
+    (words_near_one p octets 3 (word_count p - 3) (λ j from less other. shows j (omega (arith, from, less)) other))
 shown_near (Frames Steim2) order p n ss octets shows h = sums_near Steim2 p n ss h.1 (all_near_two (data_words p))
 
 -- a code is 3 where both of its bits are set
@@ -199,15 +202,15 @@ mask_bit : (j : ℕ) → j < 16 → 0 < j → bit_at 357913941 (30 - 2 * j) ≡ 
 mask_bit =
     let P : ℕ → Type 0 = λ j. 0 < j → bit_at 357913941 (30 - 2 * j) ≡ 1 in
     below_more P 15 (below_more P 14
-        (below_more P 13 (below_more P 12
-        (below_more P 11 (below_more P 10
-        (below_more P 9 (below_more P 8
-        (below_more P 7 (below_more P 6
-        (below_more P 5 (below_more P 4
-        (below_more P 3 (below_more P 2
-        (below_more P 1 (below_more P 0 (below_none P) (λ some. absurd (omega (arith, some)))) (λ _. refl))
-        (λ _. refl)) (λ _. refl)) (λ _. refl)) (λ _. refl)) (λ _. refl)) (λ _. refl)) (λ _. refl)) (λ _. refl))
-        (λ _. refl)) (λ _. refl)) (λ _. refl)) (λ _. refl)) (λ _. refl)) (λ _. refl)
+    (below_more P 13 (below_more P 12
+    (below_more P 11 (below_more P 10
+    (below_more P 9 (below_more P 8
+    (below_more P 7 (below_more P 6
+    (below_more P 5 (below_more P 4
+    (below_more P 3 (below_more P 2
+    (below_more P 1 (below_more P 0 (below_none P) (λ some. absurd (omega (arith, some)))) (λ _. refl))
+    (λ _. refl)) (λ _. refl)) (λ _. refl)) (λ _. refl)) (λ _. refl)) (λ _. refl)) (λ _. refl)) (λ _. refl))
+    (λ _. refl)) (λ _. refl)) (λ _. refl)) (λ _. refl)) (λ _. refl)) (λ _. refl)
 
 pub no_code_3 : (codes j : ℕ) → bit_and (bit_and codes (codes / 2)) 357913941 ≡ 0 → 0 < j → j < 16
     → codes / 2 ^ (30 - 2 * j) % 4 ≢ 3
@@ -216,13 +219,13 @@ no_code_3 codes j none some less three =
     let q : ℕ = codes / 2 ^ e in
     let low : bit_at codes e ≡ 1 = omega (arith, three) in
     let halves : codes / 2 / 2 ^ e ≡ q / 2 = div-div-eq-div-mul codes 2 (2 ^ e)
-        ∙ ap (λ m. codes / m) (mul_comm 2 (2 ^ e)) ∙ sym (div-div-eq-div-mul codes (2 ^ e) 2) in
+    ∙ ap (λ m. codes / m) (mul_comm 2 (2 ^ e)) ∙ sym (div-div-eq-div-mul codes (2 ^ e) 2) in
     let high : bit_at (codes / 2) e ≡ 1 = ap (λ m. m % 2) halves ∙ (omega (arith, three)) in
     let both : bit_at (bit_and codes (codes / 2)) e ≡ 1 = bit_at_and codes (codes / 2) e ∙ rw (low, high) refl in
     let all : bit_at (bit_and (bit_and codes (codes / 2)) 357913941) e ≡ 1 =
-        bit_at_and (bit_and codes (codes / 2)) 357913941 e ∙ rw (both, mask_bit j less some) refl in
+    bit_at_and (bit_and codes (codes / 2)) 357913941 e ∙ rw (both, mask_bit j less some) refl in
     let zeroth : bit_at (bit_and (bit_and codes (codes / 2)) 357913941) e ≡ 0 = ap (λ n. bit_at n e) none
-        ∙ bit_at-zero e in
+    ∙ bit_at-zero e in
     omega (arith, all, zeroth)
 
 -- a word's bits in two's complement

@@ -1,6 +1,6 @@
 -- Differences are packed in one way.
-use Rattle.std.proofs.Common.{◌≡◌, refl, ℕ, ◌+◌, ◌*◌, ◌/◌, ◌%◌, ◌^◌, ◌<◌, ◌≤◌, List, [], ◌∷◌, length, take, drop, ℤ,
-    arith, ap, sym, ◌∙◌, subst, ⊎_elim}
+use Rattle.std.proofs.Common.{◌≡◌, refl, ℕ, ◌+◌, ◌*◌, ◌/◌, ◌%◌, ◌^◌, ◌<◌, ◌≤◌, List, [], ◌∷◌, length, take, drop, ℤ}
+use Rattle.std.proofs.Common.{arith, ap, sym, ◌∙◌, subst, ⊎_elim}
 use Rattle.std.proofs.lemmas.Bool.{cases_lt}
 use Rattle.std.proofs.lemmas.List.{length-take-le}
 use Rattle.mseed_steim.specs.declared.scheme.Scheme.{Scheme}
@@ -15,7 +15,7 @@ one_count : (s : Scheme) (ds : List ℤ) (c w u d v t : ℕ) → IsFullest s ds 
 one_count s ds c w u d v t a b = ⊎_elim
     (λ (less : u < t). absurd (a.largest t less b.inside (d, (v, b.spelled))))
     (λ (more : t ≤ u). ⊎_elim (λ (less : t < u). absurd (b.largest u less a.inside (c, (w, a.spelled))))
-        (λ (same : u ≤ t). omega (arith, more, same)) (cases_lt t u))
+    (λ (same : u ≤ t). omega (arith, more, same)) (cases_lt t u))
     (cases_lt u t)
 
 same_word : (s : Scheme) (xs : List ℤ) (c w d v : ℕ) → 0 < length xs → Spells s c w xs → Spells s d v xs
@@ -24,9 +24,11 @@ same_word : (s : Scheme) (xs : List ℤ) (c w d v : ℕ) → 0 < length xs → S
 same_word s xs c w d v h a b p q =
     let one = plain_word s c w xs h a p in
     let two = plain_word s d v xs h b q in
-    let row : one.0 ≡ two.0 = cc (one.1.0, two.1.0) in
-    (one.1.1 ∙ ap (λ (r : Row). r.code) row ∙ sym two.1.1, one.1.2
-        ∙ ap (λ (r : Row). r.dnib * 2 ^ 30 + positional r.width xs) row ∙ sym two.1.2)
+    let row : one.0 ≡ two.0 = cc (one.1.0, two.1.0) in (
+      one.1.1 ∙ ap (λ (r : Row). r.code) row ∙ sym two.1.1,
+      one.1.2
+          ∙ ap (λ (r : Row). r.dnib * 2 ^ 30 + positional r.width xs) row ∙ sym two.1.2,
+    )
 
 -- one word takes the largest number
 pub one_word : (s : Scheme) (ds : List ℤ) (c w u d v t : ℕ) → IsFullest s ds c w u → IsFullest s ds d v t
@@ -37,7 +39,7 @@ one_word s ds c w u d v t a b =
     let some : 0 < length (take u ds) = omega (arith, long, a.some) in
     let spelled : Spells s d v (take u ds) = subst (λ (n : ℕ). Spells s d v (take n ds)) (sym count) b.spelled in
     let both = same_word s (take u ds) c w d v some a.spelled spelled (λ two seven. a.plain two (sym long ∙ seven))
-        (λ two seven. b.plain two (sym count ∙ sym long ∙ seven)) in
+    (λ two seven. b.plain two (sym count ∙ sym long ∙ seven)) in
     (both.0, both.1, count)
 
 -- as many words that take it in turn are the same words, and leave the same
@@ -49,6 +51,6 @@ one_run s (w ∷ ws) [] ds rest more a b e = absurd (omega (arith, e))
 one_run s (w ∷ ws) (v ∷ vs) ds rest more a b e =
     let word = one_word s ds w.code w.bits a.0 v.code v.bits b.0 a.1.0 b.1.0 in
     let left : PacksRun s vs (drop a.0 ds) more =
-        subst (λ (n : ℕ). PacksRun s vs (drop n ds) more) (sym word.2) b.1.1 in
+    subst (λ (n : ℕ). PacksRun s vs (drop n ds) more) (sym word.2) b.1.1 in
     let later = one_run s ws vs (drop a.0 ds) rest more a.1.1 left (omega (arith, e)) in
     (cc (word.0, word.1, later.0), later.1)

@@ -1,9 +1,11 @@
 -- Words that take the largest number of the differences that are left.
-use Rattle.std.proofs.Common.{◌≡◌, ℕ, ◌+◌, ◌-◌, ◌*◌, ◌/◌, ◌%◌, ◌^◌, ◌<◌, ◌≤◌, List, [], ◌∷◌, ◌++◌, length, take, drop,
-    get_or, ℤ, pos, arith, refl, ap, sym, ◌∙◌, subst, All, ⊎_elim, Some, length-append, Result, Err, ◌↔◌}
+use Rattle.std.proofs.Common.{◌≡◌, ℕ, ◌+◌, ◌-◌, ◌*◌, ◌/◌, ◌%◌, ◌^◌, ◌<◌, ◌≤◌, List, [], ◌∷◌, ◌++◌, length, take, drop}
+use Rattle.std.proofs.Common.{get_or, ℤ, pos, arith, refl, ap, sym, ◌∙◌, subst, All, ⊎_elim, Some, length-append}
+use Rattle.std.proofs.Common.{Result, Err, ◌↔◌}
 use Rattle.std.proofs.lemmas.Bool.{cases_lt}
-use Rattle.std.proofs.lemmas.List.{length_push, drop-drop, length-take-le, length-drop, take_more, get_or-take,
-    get_or-drop, append_cancel_right, drop-append-le, take-append-le, take-append-drop, append_assoc}
+use Rattle.std.proofs.lemmas.List.{length_push, drop-drop, length-take-le, length-drop, take_more, get_or-take}
+use Rattle.std.proofs.lemmas.List.{get_or-drop, append_cancel_right, drop-append-le, take-append-le, take-append-drop}
+use Rattle.std.proofs.lemmas.List.{append_assoc}
 use Rattle.std.proofs.lemmas.List.Elements.{All-weaker, All-get_or, All-cons, All-nil}
 use Rattle.mseed_steim.specs.declared.scheme.Scheme.{Scheme}
 use Rattle.mseed_steim.specs.declared.scheme.Scheme.TheVariants.{One, Two}
@@ -73,7 +75,7 @@ one_row s ds r e h fit =
     let long : length (take 1 ds) ≡ 1 = length-take-le 1 ds h in
     let front : take (0 + 1) ds ≡ take 0 ds ++ get_or ds 0 (pos 0) ∷ [] = take_more ds 0 (pos 0) h in
     let range : All (IsWithin r.width) (take 1 ds) =
-        rw front (All-cons (IsWithin r.width) (get_or ds 0 (pos 0)) [] fit (All-nil (IsWithin r.width))) in
+    rw front (All-cons (IsWithin r.width) (get_or ds 0 (pos 0)) [] fit (All-nil (IsWithin r.width))) in
     fits_spelled s (take 1 ds) (record { row = r; found = rw long e; range = range })
 
 pub none_large : (s : Scheme) (ds : List ℤ) → 0 < length ds → IsWithin 32 (get_or ds 0 (pos 0))
@@ -96,9 +98,13 @@ rest_shorter s (w ∷ ws) ds rest run =
 -- one more word
 pub run_more : (s : Scheme) (ws : List DataWord) (w : DataWord) (ds mid : List ℤ) (used : ℕ) → PacksRun s ws ds mid
     → IsFullest s mid w.code w.bits used → PacksRun s (ws ++ w ∷ []) ds (drop used mid)
-run_more s [] w ds mid used run full =
-    (used, (subst (λ (xs : List ℤ). IsFullest s xs w.code w.bits used) (sym run) full,
-    ap (λ (xs : List ℤ). drop used xs) run))
+run_more s [] w ds mid used run full = (
+  used,
+  (
+    subst (λ (xs : List ℤ). IsFullest s xs w.code w.bits used) (sym run) full,
+    ap (λ (xs : List ℤ). drop used xs) run,
+  ),
+)
 run_more s (v ∷ ws) w ds mid used run full = (run.0, (run.1.0, run_more s ws w (drop run.0 ds) mid used run.1.1 full))
 
 -- what is packed is spelled
@@ -108,7 +114,7 @@ run_spelled s [] ds rest run = ([], (run, refl))
 run_spelled s (w ∷ ws) ds rest run =
     let later = run_spelled s ws (drop run.0 ds) rest run.1.1 in
     let whole : ds ≡ (take run.0 ds ++ later.0) ++ rest = sym (take-append-drop run.0 ds)
-        ∙ ap (λ (xs : List ℤ). take run.0 ds ++ xs) later.1.0 ∙ sym (append_assoc (take run.0 ds) later.0 rest) in
+    ∙ ap (λ (xs : List ℤ). take run.0 ds ++ xs) later.1.0 ∙ sym (append_assoc (take run.0 ds) later.0 rest) in
     (take run.0 ds ++ later.0, (whole, (take run.0 ds, (later.0, (refl, (run.1.0.spelled, later.1.1))))))
 
 pub front_spelled : (s : Scheme) (ws : List DataWord) (ds : List ℤ) (used : ℕ) → PacksRun s ws ds (drop used ds)
@@ -116,7 +122,7 @@ pub front_spelled : (s : Scheme) (ws : List DataWord) (ds : List ℤ) (used : �
 front_spelled s ws ds used run =
     let found = run_spelled s ws ds (drop used ds) run in
     let same : found.0 ≡ take used ds =
-        append_cancel_right found.0 (take used ds) (drop used ds) (sym found.1.0 ∙ sym (take-append-drop used ds)) in
+    append_cancel_right found.0 (take used ds) (drop used ds) (sym found.1.0 ∙ sym (take-append-drop used ds)) in
     subst (λ (xs : List ℤ). SpellsRun s ws xs) same found.1.1
 
 -- it's a packing of those differences alone, too
@@ -138,20 +144,26 @@ run_front s (w ∷ ws) front rest run =
     let later = rest_shorter s ws (drop run.0 (front ++ rest)) rest run.1.1 in
     let inside = run.1.0.inside in
     let less : run.0 ≤ length front =
-        omega (arith, later, inside, length-drop run.0 (front ++ rest), length-append front rest) in
-    let cut : drop run.0 (front ++ rest) ≡ drop run.0 front ++ rest = drop-append-le run.0 front rest less in
-    (run.0, (front_fullest s front rest w.code w.bits run.0 run.1.0 less,
-        run_front s ws (drop run.0 front) rest (subst (λ (xs : List ℤ). PacksRun s ws xs rest) cut run.1.1)))
+    omega (arith, later, inside, length-drop run.0 (front ++ rest), length-append front rest) in
+    let cut : drop run.0 (front ++ rest) ≡ drop run.0 front ++ rest = drop-append-le run.0 front rest less in (
+      run.0,
+      (
+        front_fullest s front rest w.code w.bits run.0 run.1.0 less,
+        run_front s ws (drop run.0 front) rest (subst (λ (xs : List ℤ). PacksRun s ws xs rest) cut run.1.1),
+      ),
+    )
 
 -- none of the differences that words took is too large
 large_later : (s : Scheme) (ds : List ℤ) (used k : ℕ) → used ≤ k → IsTooLargeAt s ds k
     → IsTooLargeAt s (drop used ds) (k - used)
 large_later s ds used k h large =
     let place : used + (k - used) ≡ k = omega (arith, h) in
-    let inside = large.0 in
-    (omega (arith, inside, h, length-drop used ds), large.1,
-        subst (λ (z : ℤ). ¬ (IsWithin 30 z))
-        (sym (get_or-drop used ds (k - used) (pos 0) ∙ ap (λ (n : ℕ). get_or ds n (pos 0)) place)) large.2)
+    let inside = large.0 in (
+      omega (arith, inside, h, length-drop used ds),
+      large.1,
+      subst (λ (z : ℤ). ¬ (IsWithin 30 z))
+          (sym (get_or-drop used ds (k - used) (pos 0) ∙ ap (λ (n : ℕ). get_or ds n (pos 0)) place)) large.2,
+    )
 
 pub taken_not_large : (s : Scheme) (ws : List DataWord) (ds rest : List ℤ) (k : ℕ) → PacksRun s ws ds rest
     → k + length rest < length ds → ¬ (IsTooLargeAt s ds k)
@@ -161,7 +173,7 @@ taken_not_large s (w ∷ ws) ds rest k run h large = ⊎_elim
     (λ (more : run.0 ≤ k).
     let inside = run.1.0.inside in
     taken_not_large s ws (drop run.0 ds) rest (k - run.0) run.1.1
-        (omega (arith, h, more, inside, length-drop run.0 ds)) (large_later s ds run.0 k more large))
+    (omega (arith, h, more, inside, length-drop run.0 ds)) (large_later s ds run.0 k more large))
     (cases_lt k run.0)
 
 pub first_large : (s : Scheme) (ws : List DataWord) (ds : List ℤ) (used : ℕ) → used ≤ length ds
@@ -170,8 +182,12 @@ first_large s ws ds used h run large =
     let inside = large.0 in
     let place : used + 0 ≡ used = omega arith in
     let here : used < length ds = omega (arith, inside, length-drop used ds) in (
-      (here, large.1, subst (λ (z : ℤ). ¬ (IsWithin 30 z)) (get_or-drop used ds 0 (pos 0)
-          ∙ ap (λ (n : ℕ). get_or ds n (pos 0)) place) large.2),
+      (
+        here,
+        large.1,
+        subst (λ (z : ℤ). ¬ (IsWithin 30 z)) (get_or-drop used ds 0 (pos 0)
+            ∙ ap (λ (n : ℕ). get_or ds n (pos 0)) place) large.2,
+      ),
       λ k less. taken_not_large s ws ds (drop used ds) k run (omega (arith, less, here, length-drop used ds)),
     )
 
@@ -179,7 +195,7 @@ pub one_first_large : (s : Scheme) (ds : List ℤ) (i j : ℕ) → IsFirstTooLar
 one_first_large s ds i j a b = ⊎_elim
     (λ (less : i < j). absurd (b.1 i less a.0))
     (λ (more : j ≤ i). ⊎_elim (λ (less : j < i). absurd (a.1 j less b.0)) (λ (same : i ≤ j). omega (arith, more, same))
-        (cases_lt j i))
+    (cases_lt j i))
     (cases_lt i j)
 
 -- one more word of Steim-2, by the best row
@@ -188,13 +204,21 @@ pub least_more : (ds : List ℤ) (used words : ℕ) (r : Row)
     → IsBestRow Two (drop used ds) (length (drop used ds)) (Some r)
     → (ws : List DataWord) × ((length ws ≡ words + 1) × PacksRun Two ws ds (drop (used + r.count) ds))
 least_more ds used words r run best =
-    let w : DataWord = record { frame = 0; place = 0; code = r.code;
-        bits = r.dnib * 2 ^ 30 + positional r.width (take r.count (drop used ds)) } in
+    let w : DataWord = record {
+      frame = 0;
+      place = 0;
+      code = r.code;
+      bits = r.dnib * 2 ^ 30 + positional r.width (take r.count (drop used ds));
+    } in
     let full : IsFullest Two (drop used ds) w.code w.bits r.count =
-        is_fullest Two (drop used ds) r w.bits best.0 best.1 best.2 best.3 refl in
-    (run.0 ++ w ∷ [], (length_push run.0 w ∙ ap (λ (n : ℕ). n + 1) run.1.0,
+    is_fullest Two (drop used ds) r w.bits best.0 best.1 best.2 best.3 refl in (
+      run.0 ++ w ∷ [],
+      (
+        length_push run.0 w ∙ ap (λ (n : ℕ). n + 1) run.1.0,
         subst (λ (xs : List ℤ). PacksRun Two (run.0 ++ w ∷ []) ds xs) (drop-drop r.count used ds)
-        (run_more Two run.0 w ds (drop used ds) r.count run.1.1 full)))
+            (run_more Two run.0 w ds (drop used ds) r.count run.1.1 full),
+      ),
+    )
 
 -- a fault names one place
 pub same_index : (T : Type 0) (a b : ℕ)
@@ -205,14 +229,16 @@ same_index T a b e = let one : ◌≡◌ {A = TooLargeAt} (record { index = a })
 pub refused_least : (T : Type 0) (ds : List ℤ) (used : ℕ) → IsFirstTooLarge Two ds used → (i : ℕ)
     → (◌≡◌ {A = Result T TooLargeAt} (Err (record { index = used })) (Err (record { index = i })))
     ↔ IsFirstTooLarge Two ds i
-refused_least T ds used large i =
-    (λ e. subst (λ (n : ℕ). IsFirstTooLarge Two ds n) (same_index T used i e) large,
-        λ h. ap (λ (n : ℕ). Err (record { index = n })) (one_first_large Two ds used i large h))
+refused_least T ds used large i = (
+  λ e. subst (λ (n : ℕ). IsFirstTooLarge Two ds n) (same_index T used i e) large,
+  λ h. ap (λ (n : ℕ). Err (record { index = n })) (one_first_large Two ds used i large h),
+)
 
 pub refused_packed : (T : Type 0) (s : Scheme) (ds : List ℤ) (used room : ℕ)
     → IsFirstTooLarge s ds used × LeavesRoom s (take used ds) room
     → (i : ℕ) → (◌≡◌ {A = Result T TooLargeAt} (Err (record { index = used })) (Err (record { index = i })))
     ↔ (IsFirstTooLarge s ds i × LeavesRoom s (take i ds) room)
-refused_packed T s ds used room large i =
-    (λ e. subst (λ (n : ℕ). IsFirstTooLarge s ds n × LeavesRoom s (take n ds) room) (same_index T used i e) large,
-        λ h. ap (λ (n : ℕ). Err (record { index = n })) (one_first_large s ds used i large.0 h.0))
+refused_packed T s ds used room large i = (
+  λ e. subst (λ (n : ℕ). IsFirstTooLarge s ds n × LeavesRoom s (take n ds) room) (same_index T used i e) large,
+  λ h. ap (λ (n : ℕ). Err (record { index = n })) (one_first_large s ds used i large.0 h.0),
+)

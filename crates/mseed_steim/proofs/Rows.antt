@@ -1,6 +1,7 @@
 -- The rows of the table, by how many differences they have, and what words of them spell.
-use Rattle.std.proofs.Common.{◌≡◌, ℕ, zero, suc, ◌+◌, ◌-◌, ◌*◌, ◌^◌, ◌<◌, ◌≤◌, List, ◌++◌, length, ℤ, arith, refl, ap,
-    sym, ◌∙◌, subst, All, ⊎_elim, ◌⊎◌, inl, inr, ◌/◌, ◌%◌, cond, eqb, Option, Some, None, length-append, lit<}
+use Rattle.std.proofs.Common.{◌≡◌, ℕ, zero, suc, ◌+◌, ◌-◌, ◌*◌, ◌^◌, ◌<◌, ◌≤◌, List, ◌++◌, length, ℤ, arith, refl, ap}
+use Rattle.std.proofs.Common.{sym, ◌∙◌, subst, All, ⊎_elim, ◌⊎◌, inl, inr, ◌/◌, ◌%◌, cond, eqb, Option, Some, None}
+use Rattle.std.proofs.Common.{length-append, lit<}
 use Rattle.std.proofs.Math.Nat.{pow-le-pow_right}
 use Rattle.std.proofs.lemmas.Bool.{cond_both, eqb-true, cases_lt}
 use Rattle.std.proofs.lemmas.Int.{ints}
@@ -43,40 +44,74 @@ at_count : (s : Scheme) (k n : ℕ) (r : Row) (more : Option Row) → IsRow s r 
 at_count s k n r more is same rest =
     cond_both (eqb k n) (Some r) more (AllRows s k)
     (λ e. λ q p. let one : r ≡ q = cc in let found : k ≡ n = eqb-true k n e in
-        subst (λ (x : Row). IsRow s x × (x.count ≡ k)) one (is, same ∙ sym found))
+    subst (λ (x : Row). IsRow s x × (x.count ≡ k)) one (is, same ∙ sym found))
     (λ _. rest)
 
 is_row : (s : Scheme) (r : Row) (g : Group) → group_of s r.code r.dnib ≡ Some g → g.count ≡ r.count → g.width ≡ r.width
     → cond g.marked (r.dnib * 2 ^ 30) 0 ≡ r.dnib * 2 ^ 30 → 0 < g.spare → r.code < 4 → r.dnib < 4
     → (0 < r.count) × (r.count ≤ 7)
     → (0 < r.width) × (r.width ≤ 32) → r.width * r.count ≤ 32 → (0 < r.dnib → r.width * r.count ≤ 30) → IsRow s r
-is_row s r g t c w h p a b n x m k = record { group = g; in_table = t; count = c; width = w; head = h; spare = p;
-    code = a; dnib = b; some = n.0; most = n.1; wide = x.0; narrow = x.1; room = m; apart = k }
+is_row s r g t c w h p a b n x m k = record {
+  group = g;
+  in_table = t;
+  count = c;
+  width = w;
+  head = h;
+  spare = p;
+  code = a;
+  dnib = b;
+  some = n.0;
+  most = n.1;
+  wide = x.0;
+  narrow = x.1;
+  room = m;
+  apart = k;
+}
 
 -- what stands in the table by count is a row of the table
 pub row_is : (s : Scheme) (k : ℕ) → AllRows s k (row_for s k)
 row_is One k =
-    at_count One k 1 _ _ (is_row One _ _ refl refl refl refl (omega arith) (omega arith) (omega arith) (omega arith,
-        omega arith) (omega arith, omega arith) (omega arith) (λ h. omega arith)) refl
-    (at_count One k 2 _ _ (is_row One _ _ refl refl refl refl (omega arith) (omega arith) (omega arith) (omega arith,
-        omega arith) (omega arith, omega arith) (omega arith) (λ h. omega arith)) refl
-    (at_count One k 4 _ _ (is_row One _ _ refl refl refl refl (omega arith) (omega arith) (omega arith) (omega arith,
-        omega arith) (omega arith, omega arith) (omega arith) (λ h. omega arith)) refl (no_rows One k)))
+    at_count One k 1 _ _ (is_row One _ _ refl refl refl refl (omega arith) (omega arith) (omega arith) (
+      omega arith,
+      omega arith,
+    ) (omega arith, omega arith) (omega arith) (λ h. omega arith)) refl
+    (at_count One k 2 _ _ (is_row One _ _ refl refl refl refl (omega arith) (omega arith) (omega arith) (
+      omega arith,
+      omega arith,
+    ) (omega arith, omega arith) (omega arith) (λ h. omega arith)) refl
+    (at_count One k 4 _ _ (is_row One _ _ refl refl refl refl (omega arith) (omega arith) (omega arith) (
+      omega arith,
+      omega arith,
+    ) (omega arith, omega arith) (omega arith) (λ h. omega arith)) refl (no_rows One k)))
 row_is Two k =
-    at_count Two k 1 _ _ (is_row Two _ _ refl refl refl refl (omega arith) (omega arith) (omega arith) (omega arith,
-        omega arith) (omega arith, omega arith) (omega arith) (λ h. omega arith)) refl
-    (at_count Two k 2 _ _ (is_row Two _ _ refl refl refl refl (omega arith) (omega arith) (omega arith) (omega arith,
-        omega arith) (omega arith, omega arith) (omega arith) (λ h. omega arith)) refl
-    (at_count Two k 3 _ _ (is_row Two _ _ refl refl refl refl (omega arith) (omega arith) (omega arith) (omega arith,
-        omega arith) (omega arith, omega arith) (omega arith) (λ h. omega arith)) refl
-    (at_count Two k 4 _ _ (is_row Two _ _ refl refl refl refl (omega arith) (omega arith) (omega arith) (omega arith,
-        omega arith) (omega arith, omega arith) (omega arith) (λ h. omega arith)) refl
-    (at_count Two k 5 _ _ (is_row Two _ _ refl refl refl refl (omega arith) (omega arith) (omega arith) (omega arith,
-        omega arith) (omega arith, omega arith) (omega arith) (λ h. omega arith)) refl
-    (at_count Two k 6 _ _ (is_row Two _ _ refl refl refl refl (omega arith) (omega arith) (omega arith) (omega arith,
-        omega arith) (omega arith, omega arith) (omega arith) (λ h. omega arith)) refl
-    (at_count Two k 7 _ _ (is_row Two _ _ refl refl refl refl (omega arith) (omega arith) (omega arith) (omega arith,
-        omega arith) (omega arith, omega arith) (omega arith) (λ h. omega arith)) refl (no_rows Two k)))))))
+    at_count Two k 1 _ _ (is_row Two _ _ refl refl refl refl (omega arith) (omega arith) (omega arith) (
+      omega arith,
+      omega arith,
+    ) (omega arith, omega arith) (omega arith) (λ h. omega arith)) refl
+    (at_count Two k 2 _ _ (is_row Two _ _ refl refl refl refl (omega arith) (omega arith) (omega arith) (
+      omega arith,
+      omega arith,
+    ) (omega arith, omega arith) (omega arith) (λ h. omega arith)) refl
+    (at_count Two k 3 _ _ (is_row Two _ _ refl refl refl refl (omega arith) (omega arith) (omega arith) (
+      omega arith,
+      omega arith,
+    ) (omega arith, omega arith) (omega arith) (λ h. omega arith)) refl
+    (at_count Two k 4 _ _ (is_row Two _ _ refl refl refl refl (omega arith) (omega arith) (omega arith) (
+      omega arith,
+      omega arith,
+    ) (omega arith, omega arith) (omega arith) (λ h. omega arith)) refl
+    (at_count Two k 5 _ _ (is_row Two _ _ refl refl refl refl (omega arith) (omega arith) (omega arith) (
+      omega arith,
+      omega arith,
+    ) (omega arith, omega arith) (omega arith) (λ h. omega arith)) refl
+    (at_count Two k 6 _ _ (is_row Two _ _ refl refl refl refl (omega arith) (omega arith) (omega arith) (
+      omega arith,
+      omega arith,
+    ) (omega arith, omega arith) (omega arith) (λ h. omega arith)) refl
+    (at_count Two k 7 _ _ (is_row Two _ _ refl refl refl refl (omega arith) (omega arith) (omega arith) (
+      omega arith,
+      omega arith,
+    ) (omega arith, omega arith) (omega arith) (λ h. omega arith)) refl (no_rows Two k)))))))
 
 -- each group of the table has a row of its count, with its code and its dnib, where one is marked
 record HasRow (s : Scheme) (c d : ℕ) (g : Group) : Type 0 where
@@ -107,23 +142,23 @@ groups_have One c d =
     by_test One c d c 1 _ _ (λ e. has One c d _ (row_with 1 0 4 8) refl refl (omega arith) e refl (inl refl))
     (by_test One c d c 2 _ _ (λ e. has One c d _ (row_with 2 0 2 16) refl refl (omega arith) e refl (inl refl))
     (by_test One c d c 3 _ _ (λ e. has One c d _ (row_with 3 0 1 32) refl refl (omega arith) e refl (inl refl))
-        nothing))
+    nothing))
 groups_have Two c d =
     by_test Two c d c 1 _ _ (λ e. has Two c d _ (row_with 1 0 4 8) refl refl (omega arith) e refl (inl refl))
     (by_test Two c d c 2 _ _
     (λ e. by_test Two c d d 1 _ _ (λ f. has Two c d _ (row_with 2 1 1 30) refl refl (omega arith) e (omega (arith, f))
-        (inl refl))
+    (inl refl))
     (by_test Two c d d 2 _ _ (λ f. has Two c d _ (row_with 2 2 2 15) refl refl (omega arith) e (omega (arith, f))
-        (inl refl))
+    (inl refl))
     (by_test Two c d d 3 _ _ (λ f. has Two c d _ (row_with 2 3 3 10) refl refl (omega arith) e (omega (arith, f))
-        (inl refl)) nothing)))
+    (inl refl)) nothing)))
     (by_test Two c d c 3 _ _
     (λ e. by_test Two c d d 0 _ _ (λ f. has Two c d _ (row_with 3 0 5 6) refl refl (omega arith) e (omega (arith, f))
-        (inl refl))
+    (inl refl))
     (by_test Two c d d 1 _ _ (λ f. has Two c d _ (row_with 3 1 6 5) refl refl (omega arith) e (omega (arith, f))
-        (inl refl))
+    (inl refl))
     (by_test Two c d d 2 _ _ (λ f. has Two c d _ (row_with 3 2 7 4) refl refl (omega arith) e (omega (arith, f))
-        (inr (refl, refl, refl, refl))) nothing))) nothing))
+    (inr (refl, refl, refl, refl))) nothing))) nothing))
 
 group_has : (s : Scheme) (c d : ℕ) (o : Option Group) (g : Group) → AllHave s c d o → o ≡ Some g → HasRow s c d g
 group_has s c d None g nothing e = cc
@@ -154,7 +189,7 @@ plain_sum s c d word g ds found p plain = ⊎_elim
     let long : length ds ≡ 7 = p.count ∙ seven.1 in
     let bits : g.width * length ds ≡ 28 = ap (λ (n : ℕ). n * length ds) seven.2 ∙ ap (λ (n : ℕ). 4 * n) long in
     let below : positional g.width ds < 2 ^ 28 =
-        subst (λ (n : ℕ). positional g.width ds < 2 ^ n) bits (positional_lt g.width ds) in
+    subst (λ (n : ℕ). positional g.width ds < 2 ^ n) bits (positional_lt g.width ds) in
     let head : cond g.marked (d * 2 ^ 30) 0 ≡ found.row.dnib * 2 ^ 30 = found.head in
     let none : word / 2 ^ 28 % 4 ≡ 0 = plain seven.0 long in
     omega (arith, p.sum.1, p.sum.2, seven.3, head, none, below))
@@ -169,18 +204,27 @@ plain_word s c word ds h (Spells.row g d e p) plain =
     let found : HasRow s c d g = group_has s c d (group_of s c d) g (groups_have s c d) e in
     let sum : word ≡ cond g.marked (d * 2 ^ 30) 0 + positional g.width ds = plain_sum s c d word g ds found p plain in
     let head : cond g.marked (d * 2 ^ 30) 0 + positional g.width ds ≡ found.row.dnib * 2 ^ 30 + positional g.width ds =
-        ap (λ (n : ℕ). n + positional g.width ds) found.head in
-    (found.row, (subst (λ (n : ℕ). row_for s n ≡ Some found.row) (sym p.count) found.found, found.code, sum ∙ head
-        ∙ ap (λ (w : ℕ). found.row.dnib * 2 ^ 30 + positional w ds) found.same))
+    ap (λ (n : ℕ). n + positional g.width ds) found.head in (
+      found.row,
+      (
+        subst (λ (n : ℕ). row_for s n ≡ Some found.row) (sym p.count) found.found,
+        found.code,
+        sum ∙ head
+            ∙ ap (λ (w : ℕ). found.row.dnib * 2 ^ 30 + positional w ds) found.same,
+      ),
+    )
 
 -- a word of a row spells differences that fit it
 pub row_spells : (s : Scheme) (r : Row) (ds : List ℤ) → IsRow s r → length ds ≡ r.count → All (IsWithin r.width) ds
     → Spells s r.code (r.dnib * 2 ^ 30 + positional r.width ds) ds
 row_spells s r ds is long range =
     let sum : r.dnib * 2 ^ 30 + positional r.width ds ≡ cond is.group.marked (r.dnib * 2 ^ 30) 0 + 0 * 2 ^ 28
-        + positional is.group.width ds = rw (is.head, is.width) (omega arith) in
-    Spells.row is.group r.dnib is.in_table (record { count = long ∙ sym is.count; range = rw is.width range;
-        sum = (0, is.spare, sum) })
+    + positional is.group.width ds = rw (is.head, is.width) (omega arith) in
+    Spells.row is.group r.dnib is.in_table (record {
+      count = long ∙ sym is.count;
+      range = rw is.width range;
+      sum = (0, is.spare, sum);
+    })
 
 pub fits_spelled : (s : Scheme) (ds : List ℤ) → FitsRow s ds → CanSpell s ds
 fits_spelled s ds f =
@@ -199,7 +243,7 @@ narrower_at : (k n : ℕ) (r w : Row) (more : Option Row) → row_for Two n ≡ 
 narrower_at k n r w more e less rest =
     cond_both (eqb (suc k) (suc n)) (Some r) more (Narrower k)
     (λ t. λ q p h. let one : r ≡ q = cc in let found : suc k ≡ suc n = eqb-true (suc k) (suc n) t in
-        let same : k ≡ n = omega (arith, found) in (w, (rw same e, subst (λ (x : Row). x.width ≤ w.width) one less)))
+    let same : k ≡ n = omega (arith, found) in (w, (rw same e, subst (λ (x : Row). x.width ≤ w.width) one less)))
     (λ _. rest)
 
 narrower_zero : (k : ℕ) (r : Row) (more : Option Row) → Narrower k more
@@ -212,9 +256,9 @@ narrower_zero k r more rest =
 narrower : (k : ℕ) → Narrower k (row_for Two (suc k))
 narrower k =
     narrower_zero k _ _ (narrower_at k 1 _ _ _ refl (omega arith)
-        (narrower_at k 2 _ _ _ refl (omega arith) (narrower_at k 3 _ _ _ refl (omega arith)
+    (narrower_at k 2 _ _ _ refl (omega arith) (narrower_at k 3 _ _ _ refl (omega arith)
     (narrower_at k 4 _ _ _ refl (omega arith)
-        (narrower_at k 5 _ _ _ refl (omega arith) (narrower_at k 6 _ _ _ refl (omega arith) (narrower_none k)))))))
+    (narrower_at k 5 _ _ _ refl (omega arith) (narrower_at k 6 _ _ _ refl (omega arith) (narrower_none k)))))))
 
 pub narrower_by : (k j : ℕ) (r : Row) → 0 < j → j ≤ k → row_for Two k ≡ Some r
     → (w : Row) × ((row_for Two j ≡ Some w) × (r.width ≤ w.width))
@@ -240,13 +284,16 @@ all_wider v w ds l h = All-weaker (IsWithin v) (IsWithin w) (λ d p. within_wide
 pub part_spelled : (xs ys zs : List ℤ) → 0 < length ys → CanSpell Two (xs ++ (ys ++ zs)) → CanSpell Two ys
 part_spelled xs ys zs h can =
     let long : length (xs ++ (ys ++ zs)) ≡ length xs + (length ys + length zs) = length-append xs (ys ++ zs)
-        ∙ ap (λ (n : ℕ). length xs + n) (length-append ys zs) in
+    ∙ ap (λ (n : ℕ). length xs + n) (length-append ys zs) in
     let whole = spelled_fits Two (xs ++ (ys ++ zs)) (omega (arith, long, h)) can in
     let wider = narrower_by (length (xs ++ (ys ++ zs))) (length ys) whole.row h (omega (arith, long)) whole.found in
     let behind : All (IsWithin whole.row.width) (ys ++ zs) =
-        rw (drop_at xs (ys ++ zs) (length xs) refl) at
-        (All-drop (IsWithin whole.row.width) (length xs) (xs ++ (ys ++ zs)) whole.range) in
+    rw (drop_at xs (ys ++ zs) (length xs) refl) at
+    (All-drop (IsWithin whole.row.width) (length xs) (xs ++ (ys ++ zs)) whole.range) in
     let part : All (IsWithin whole.row.width) ys =
-        rw (take_at ys zs (length ys) refl) at (All-take (IsWithin whole.row.width) (length ys) (ys ++ zs) behind) in
-    fits_spelled Two ys (record { row = wider.0; found = wider.1.0;
-        range = all_wider whole.row.width wider.0.width ys wider.1.1 part })
+    rw (take_at ys zs (length ys) refl) at (All-take (IsWithin whole.row.width) (length ys) (ys ++ zs) behind) in
+    fits_spelled Two ys (record {
+      row = wider.0;
+      found = wider.1.0;
+      range = all_wider whole.row.width wider.0.width ys wider.1.1 part;
+    })

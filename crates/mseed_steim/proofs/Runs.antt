@@ -1,6 +1,6 @@
 -- What two runs over the same words have in common.
-use Rattle.std.proofs.Common.{◌≡◌, ◌≢◌, ℕ, suc, ◌+◌, ◌<◌, ◌≤◌, List, [], ◌∷◌, ◌++◌, length, ℤ, ◌+ℤ◌, arith, refl, ap,
-    sym, ◌∙◌, subst, length-append, All}
+use Rattle.std.proofs.Common.{◌≡◌, ◌≢◌, ℕ, suc, ◌+◌, ◌<◌, ◌≤◌, List, [], ◌∷◌, ◌++◌, length, ℤ, ◌+ℤ◌, arith, refl, ap}
+use Rattle.std.proofs.Common.{sym, ◌∙◌, subst, length-append, All}
 use Rattle.std.proofs.lemmas.List.Elements.{All-head, All-tail}
 use Rattle.mseed_steim.specs.declared.scheme.Scheme.{Scheme}
 use Rattle.mseed_steim.specs.declared.fault.ReadFault.{ReadFault}
@@ -8,8 +8,8 @@ use Rattle.mseed_steim.specs.declared.fault.ReadFault.TheVariants.{Short, BadWor
 use Rattle.mseed_steim.specs.Spelling.{Spells, SpellsNone}
 use Rattle.mseed_steim.specs.Frames.{DataWord, data_words, first_constant, last_constant}
 use Rattle.mseed_steim.specs.Runs.{SpellsRun}
-use Rattle.mseed_steim.specs.Samples.{IsSample, Adds, StartsAndAdds, AreSums, IsFrameFault, short, bad_word, overflow,
-    last_differs}
+use Rattle.mseed_steim.specs.Samples.{IsSample, Adds, StartsAndAdds, AreSums, IsFrameFault, short, bad_word, overflow}
+use Rattle.mseed_steim.specs.Samples.{last_differs}
 use Rattle.mseed_steim.proofs.Table.{spells_one}
 
 -- as far as both go, two lists are the same
@@ -34,12 +34,12 @@ runs_agree s (w ∷ fa) ra (v ∷ fb) rb ds es e h k =
     let same : w ≡ v = cc in
     let rest : fa ++ ra ≡ fb ++ rb = cc in
     let one : h.0 ≡ k.0 = spells_one s v.code v.bits h.0 k.0
-        (subst (λ (u : DataWord). Spells s u.code u.bits h.0) same h.1.1.1.0) k.1.1.1.0 in
+    (subst (λ (u : DataWord). Spells s u.code u.bits h.0) same h.1.1.1.0) k.1.1.1.0 in
     let later : Agree h.1.0 k.1.0 = runs_agree s fa ra fb rb h.1.0 k.1.0 rest h.1.1.1.1 k.1.1.1.1 in
     let both : Agree (k.0 ++ h.1.0) (k.0 ++ k.1.0) = agree_append k.0 h.1.0 k.1.0 later in
     let left : ds ≡ k.0 ++ h.1.0 = h.1.1.0 ∙ ap (λ (xs : List ℤ). xs ++ h.1.0) one in
     subst (λ (xs : List ℤ). Agree ds xs) (sym k.1.1.0)
-        (subst (λ (xs : List ℤ). Agree xs (k.0 ++ k.1.0)) (sym left) both)
+    (subst (λ (xs : List ℤ). Agree xs (k.0 ++ k.1.0)) (sym left) both)
 
 adds_one : (x : ℤ) (ds es ss ts : List ℤ) → Agree ds es → length ss ≡ length ts → Adds x ds ss → Adds x es ts → ss ≡ ts
 adds_one x ds es [] [] g l h k = refl
@@ -68,7 +68,7 @@ starts_one x (d ∷ ds) (e ∷ es) (s ∷ ss) (t ∷ ts) g l h k =
 pub sums_one : (s : Scheme) (p : List ℕ) (n : ℕ) (ss ts : List ℤ) → AreSums s p n ss → AreSums s p n ts → ss ≡ ts
 sums_one s p n ss ts a b =
     starts_one (first_constant p) a.differences b.differences ss ts
-        (runs_agree s a.front a.rest b.front b.rest a.differences b.differences (sym a.cut ∙ b.cut) a.spelled b.spelled)
+    (runs_agree s a.front a.rest b.front b.rest a.differences b.differences (sym a.cut ∙ b.cut) a.spelled b.spelled)
     (a.count ∙ sym b.count) a.sums b.sums
 
 -- a front of words spells no more than all of them do
@@ -81,12 +81,12 @@ front_shorter s (w ∷ fa) (v ∷ fb) rb ds es e h k =
     let same : w ≡ v = cc in
     let rest : fa ≡ fb ++ rb = cc in
     let one : h.0 ≡ k.0 = spells_one s v.code v.bits h.0 k.0
-        (subst (λ (u : DataWord). Spells s u.code u.bits h.0) same h.1.1.1.0) k.1.1.1.0 in
+    (subst (λ (u : DataWord). Spells s u.code u.bits h.0) same h.1.1.1.0) k.1.1.1.0 in
     let later : length k.1.0 ≤ length h.1.0 = front_shorter s fa fb rb h.1.0 k.1.0 rest h.1.1.1.1 k.1.1.1.1 in
     let left : length ds ≡ length k.0 + length h.1.0 =
-        ap (λ (xs : List ℤ). length xs) (h.1.1.0 ∙ ap (λ (xs : List ℤ). xs ++ h.1.0) one) ∙ length-append k.0 h.1.0 in
+    ap (λ (xs : List ℤ). length xs) (h.1.1.0 ∙ ap (λ (xs : List ℤ). xs ++ h.1.0) one) ∙ length-append k.0 h.1.0 in
     let right : length es ≡ length k.0 + length k.1.0 = ap (λ (xs : List ℤ). length xs) k.1.1.0
-        ∙ length-append k.0 k.1.0 in
+    ∙ length-append k.0 k.1.0 in
     omega (arith, later, left, right)
 
 -- nor does one that is spelled go past a bad word
@@ -102,13 +102,13 @@ bad_bounds s (w ∷ before) bad after (v ∷ fb) rb ds es e h none k =
     let same : w ≡ v = cc in
     let rest : before ++ bad ∷ after ≡ fb ++ rb = cc in
     let one : h.0 ≡ k.0 = spells_one s v.code v.bits h.0 k.0
-        (subst (λ (u : DataWord). Spells s u.code u.bits h.0) same h.1.1.1.0) k.1.1.1.0 in
+    (subst (λ (u : DataWord). Spells s u.code u.bits h.0) same h.1.1.1.0) k.1.1.1.0 in
     let later : length k.1.0 ≤ length h.1.0 =
-        bad_bounds s before bad after fb rb h.1.0 k.1.0 rest h.1.1.1.1 none k.1.1.1.1 in
+    bad_bounds s before bad after fb rb h.1.0 k.1.0 rest h.1.1.1.1 none k.1.1.1.1 in
     let left : length ds ≡ length k.0 + length h.1.0 =
-        ap (λ (xs : List ℤ). length xs) (h.1.1.0 ∙ ap (λ (xs : List ℤ). xs ++ h.1.0) one) ∙ length-append k.0 h.1.0 in
+    ap (λ (xs : List ℤ). length xs) (h.1.1.0 ∙ ap (λ (xs : List ℤ). xs ++ h.1.0) one) ∙ length-append k.0 h.1.0 in
     let right : length es ≡ length k.0 + length k.1.0 = ap (λ (xs : List ℤ). length xs) k.1.1.0
-        ∙ length-append k.0 k.1.0 in
+    ∙ length-append k.0 k.1.0 in
     omega (arith, later, left, right)
 
 not_spelled : (s : Scheme) (before : List DataWord) (bad : DataWord) (after : List DataWord) (ds : List ℤ)
@@ -191,7 +191,7 @@ fault_one s p n f g (bad_word before bad after es cut k less' none) (short ds h 
 fault_one s p n f g (bad_word before bad after es cut k less none)
     (bad_word before' bad' after' es' cut' k' less' none') =
     ap (λ (w : DataWord). BadWord w.frame w.place) (first_bad s before bad after before' bad' after' es es' (sym cut
-        ∙ cut') k k' none none')
+    ∙ cut') k k' none none')
 fault_one s p n f g (bad_word before bad after es cut k less none) (overflow front sum rest a all not) =
     absurd (not_bad s p n (front ++ sum ∷ rest) before bad after es a cut k less none)
 fault_one s p n f g (bad_word before bad after es cut k less none) (last_differs front last a all not) =
@@ -202,22 +202,22 @@ fault_one s p n f g (overflow front sum rest a all not) (bad_word before bad aft
     absurd (not_bad s p n (front ++ sum ∷ rest) before bad after es a cut k less none)
 fault_one s p n f g (overflow front sum rest a all not) (overflow front' sum' rest' b all' not') =
     ap Overflow (first_over front sum rest front' sum' rest'
-        (sums_one s p n (front ++ sum ∷ rest) (front' ++ sum' ∷ rest') a b) all all' not not')
+    (sums_one s p n (front ++ sum ∷ rest) (front' ++ sum' ∷ rest') a b) all all' not not')
 fault_one s p n f g (overflow front sum rest a all not) (last_differs front' last b all' not') =
     absurd (not_in front sum rest
-        (subst (λ (xs : List ℤ). All IsSample xs) (sums_one s p n (front' ++ last ∷ []) (front ++ sum ∷ rest) b a)
-        all') not)
+    (subst (λ (xs : List ℤ). All IsSample xs) (sums_one s p n (front' ++ last ∷ []) (front ++ sum ∷ rest) b a)
+    all') not)
 fault_one s p n f g (last_differs front last a all not) (short ds h less) =
     absurd (not_short s p n (front ++ last ∷ []) ds a h less)
 fault_one s p n f g (last_differs front last a all not) (bad_word before bad after es cut k less none) =
     absurd (not_bad s p n (front ++ last ∷ []) before bad after es a cut k less none)
 fault_one s p n f g (last_differs front' last b all' not') (overflow front sum rest a all not) =
     absurd (not_in front sum rest
-        (subst (λ (xs : List ℤ). All IsSample xs) (sums_one s p n (front' ++ last ∷ []) (front ++ sum ∷ rest) b a)
-        all') not)
+    (subst (λ (xs : List ℤ). All IsSample xs) (sums_one s p n (front' ++ last ∷ []) (front ++ sum ∷ rest) b a)
+    all') not)
 fault_one s p n f g (last_differs front last a all not) (last_differs front' last' b all' not') =
     ap (λ (z : ℤ). LastDiffers z (last_constant p))
-        (last_one front last front' last' (sums_one s p n (front ++ last ∷ []) (front' ++ last' ∷ []) a b))
+    (last_one front last front' last' (sums_one s p n (front ++ last ∷ []) (front' ++ last' ∷ []) a b))
 
 -- sums within 32 bits leave one fault alone: that the last isn't the constant
 pub fault_of_sums : (s : Scheme) (p : List ℕ) (n : ℕ) (ss : List ℤ) (f : ReadFault) → AreSums s p n ss

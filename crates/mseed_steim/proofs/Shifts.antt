@@ -1,6 +1,6 @@
 -- A digit that is shifted up to the top of a word, and down again.
-use Rattle.std.proofs.Common.{◌≡◌, ℕ, ◌+◌, ◌-◌, ◌*◌, ◌/◌, ◌%◌, ◌^◌, ◌<◌, ◌≤◌, ℤ, pos, negsuc, arith, sym, ap, ◌∙◌, w32,
-    to_z, FitsSigned, lit<, ⊎_elim}
+use Rattle.std.proofs.Common.{◌≡◌, ℕ, ◌+◌, ◌-◌, ◌*◌, ◌/◌, ◌%◌, ◌^◌, ◌<◌, ◌≤◌, ℤ, pos, negsuc, arith, sym, ap, ◌∙◌, w32}
+use Rattle.std.proofs.Common.{to_z, FitsSigned, lit<, ⊎_elim}
 use Rattle.std.specs.Int.Signed.{shr_z}
 use Rattle.std.proofs.lemmas.Bool.{lt-ltb, le-ltb, cases_lt}
 use Rattle.std.proofs.lemmas.Nat.{pow_pos, pow-add, shl-shr, shr-shr, shr_high, mod-pow-add, mod_below, mul-add-lt}
@@ -22,9 +22,9 @@ at_top w place k word n e =
     let whole : w + (32 - w) ≡ 32 = omega arith in
     let up : (word * 2 ^ k) / 2 ^ (32 - w) ≡ word / 2 ^ (w * place) =
     ap (λ (i : ℕ). (word * 2 ^ k) / 2 ^ i) (sym e) ∙ sym (shr-shr (word * 2 ^ k) k (w * place))
-        ∙ ap (λ (i : ℕ). i / 2 ^ (w * place)) (shl-shr word k) in
+    ∙ ap (λ (i : ℕ). i / 2 ^ (w * place)) (shl-shr word k) in
     ap (λ (i : ℕ). (word * 2 ^ k) % 2 ^ i) (sym whole) ∙ mod-pow-add (word * 2 ^ k) w (32 - w)
-        ∙ ap (λ (i : ℕ). i % 2 ^ w * 2 ^ (32 - w) + below_top w k word) up
+    ∙ ap (λ (i : ℕ). i % 2 ^ w * 2 ^ (32 - w) + below_top w k word) up
 
 -- its shift down
 down : (w q r x : ℕ) → 0 < w → w ≤ 32 → q < 2 ^ w → r < 2 ^ (32 - w) → x < 2 ^ 32 → x ≡ q * 2 ^ (32 - w) + r
@@ -36,24 +36,24 @@ down w q r x p n small rest fits e =
     ⊎_elim
     (λ (low : q < 2 ^ (w - 1)).
     let under : q * 2 ^ (32 - w) + r < 2 ^ (w - 1) * 2 ^ (32 - w) = let row =
-        mul-add-lt q (2 ^ (32 - w)) r (2 ^ (w - 1)) low rest in omega (arith, row) in
+    mul-add-lt q (2 ^ (32 - w)) r (2 ^ (w - 1)) low rest in omega (arith, row) in
     let less : x < 2 ^ 31 = omega (arith, under, whole, e) in
     rw (lt-ltb x (2 ^ 31) less, lt-ltb q (2 ^ (w - 1)) low)
-        (ap pos (ap (λ (i : ℕ). i / 2 ^ (32 - w)) e ∙ shr_high q (32 - w) r rest)))
+    (ap pos (ap (λ (i : ℕ). i / 2 ^ (32 - w)) e ∙ shr_high q (32 - w) r rest)))
     (λ (high : 2 ^ (w - 1) ≤ q).
     let over : 2 ^ (w - 1) * 2 ^ (32 - w) ≤ q * 2 ^ (32 - w) = mul-le-mul_right (2 ^ (32 - w)) high in
     let most : 2 ^ 31 ≤ x = omega (arith, over, whole, e) in
     let left = 2 ^ w - 1 - q in
     let all : left + q + 1 ≡ 2 ^ w = omega arith in
     let sum : (left + q + 1) * 2 ^ (32 - w) ≡ left * 2 ^ (32 - w) + q * 2 ^ (32 - w) + 2 ^ (32 - w) =
-        add-mul (left + q) 1 (2 ^ (32 - w)) ∙ (let part = add-mul left q (2 ^ (32 - w)) in omega (arith, part)) in
+    add-mul (left + q) 1 (2 ^ (32 - w)) ∙ (let part = add-mul left q (2 ^ (32 - w)) in omega (arith, part)) in
     let word_bits : w + (32 - w) ≡ 32 = omega arith in
     let twice : 2 ^ w * 2 ^ (32 - w) ≡ 2 ^ 32 = sym (pow-add 2 w (32 - w)) ∙ ap (λ (i : ℕ). 2 ^ i) word_bits in
     let total = rw all at sum in
     let other : 2 ^ 32 - 1 - x ≡ left * 2 ^ (32 - w) + (2 ^ (32 - w) - 1 - r) = omega (arith, total, twice, e, rest) in
     rw (le-ltb x (2 ^ 31) most, le-ltb q (2 ^ (w - 1)) high)
-        (ap negsuc (ap (λ (i : ℕ). i / 2 ^ (32 - w)) other
-        ∙ shr_high left (32 - w) (2 ^ (32 - w) - 1 - r) (omega arith))))
+    (ap negsuc (ap (λ (i : ℕ). i / 2 ^ (32 - w)) other
+    ∙ shr_high left (32 - w) (2 ^ (32 - w) - 1 - r) (omega arith))))
     (cases_lt q (2 ^ (w - 1)))
 
 fitting : (w q : ℕ) → 0 < w → w ≤ 32 → q < 2 ^ w → FitsSigned w32 (signed w q)

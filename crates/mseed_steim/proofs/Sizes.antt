@@ -1,17 +1,17 @@
 -- Sizes in lanes, and how many differences of such sizes a word holds.
-use Rattle.std.proofs.Common.{◌≡◌, ◌↔◌, ℕ, zero, suc, ◌+◌, ◌-◌, ◌%◌, ◌<◌, ◌≤◌, List, [], ◌∷◌, ◌++◌, length, take, drop,
-    get_or, map, arith, refl, ap, sym, ◌∙◌, subst, ⊎_elim, cond, ltb, to_z, w16, Bool, true, false, ◌⊎◌, inl, inr,
-    below_none, below_more, length-append}
-use Rattle.std.proofs.lemmas.List.{length-map, take_rest, drop_all, append-nil, get_or_append_left, get_or-append_right,
-    get_or-take, get_or-drop, length-take-le, length-drop}
+use Rattle.std.proofs.Common.{◌≡◌, ◌↔◌, ℕ, zero, suc, ◌+◌, ◌-◌, ◌%◌, ◌<◌, ◌≤◌, List, [], ◌∷◌, ◌++◌, length, take, drop}
+use Rattle.std.proofs.Common.{get_or, map, arith, refl, ap, sym, ◌∙◌, subst, ⊎_elim, cond, ltb, to_z, w16, Bool, true}
+use Rattle.std.proofs.Common.{false, ◌⊎◌, inl, inr, below_none, below_more, length-append}
+use Rattle.std.proofs.lemmas.List.{length-map, take_rest, drop_all, append-nil, get_or_append_left, get_or-append_right}
+use Rattle.std.proofs.lemmas.List.{get_or-take, get_or-drop, length-take-le, length-drop}
 use lib.Signed.{lt_z}
 use lib.Dec.{leb}
 use lib.Lanes.{zip2, sel_l, top, chunk, put_chunk, Each1}
 use borrow.Rule.Slice.PartMut.{put_mid, mid_of, post_of}
 use lib.ListN.{replicate, length-replicate}
 use Rattle.std.proofs.lemmas.Bool.{cases_lt, lt-ltb, le-ltb}
-use Rattle.std.proofs.lemmas.Simd.{length-put_chunk, Each1-from_get_or, get_or-put_chunk_at, get_or-put_chunk_above,
-    get_or-replicate, get_or-chunk, length-chunk}
+use Rattle.std.proofs.lemmas.Simd.{length-put_chunk, Each1-from_get_or, get_or-put_chunk_at, get_or-put_chunk_above}
+use Rattle.std.proofs.lemmas.Simd.{get_or-replicate, get_or-chunk, length-chunk}
 use Rattle.mseed_steim.specs.private.Ahead.{raised, most_one, most_two, IsMost}
 
 -- of numbers below 2^15 the signed comparison is the plain one
@@ -117,13 +117,17 @@ at_least_both : (m h p k : ℕ) → (k ≤ cond (ltb m (cond (ltb h p) p h)) m (
 at_least_both m h p k = ⊎_elim
     (λ (a : h < p). rw (lt-ltb h p a) (⊎_elim
     (λ (b : m < p). rw (lt-ltb m p b) (λ q. (q, inr (omega (arith, q, b))), λ q. q.0))
-    (λ (b : p ≤ m). rw (le-ltb m p b) (λ q. (omega (arith, q, b), inr q),
-        λ q. ⊎_elim (λ (x : k ≤ h). omega (arith, x, a)) (λ (x : k ≤ p). x) q.1))
+    (λ (b : p ≤ m). rw (le-ltb m p b) (
+      λ q. (omega (arith, q, b), inr q),
+      λ q. ⊎_elim (λ (x : k ≤ h). omega (arith, x, a)) (λ (x : k ≤ p). x) q.1,
+    ))
     (cases_lt m p)))
     (λ (a : p ≤ h). rw (le-ltb h p a) (⊎_elim
     (λ (b : m < h). rw (lt-ltb m h b) (λ q. (q, inl (omega (arith, q, b))), λ q. q.0))
-    (λ (b : h ≤ m). rw (le-ltb m h b) (λ q. (omega (arith, q, b), inl q),
-        λ q. ⊎_elim (λ (x : k ≤ h). x) (λ (x : k ≤ p). omega (arith, x, a)) q.1))
+    (λ (b : h ≤ m). rw (le-ltb m h b) (
+      λ q. (omega (arith, q, b), inl q),
+      λ q. ⊎_elim (λ (x : k ≤ h). x) (λ (x : k ≤ p). omega (arith, x, a)) q.1,
+    ))
     (cases_lt m h)))
     (cases_lt h p)
 
@@ -139,8 +143,8 @@ lanes_bounded n p ms hs i e f inside k =
     let most = length_sel hs ps ps hs long long refl in
     let inner = sel_at hs ps ps hs i long long refl in
     let outer = sel_at ms (sel_l (map (top 7) (zip2 (λ a b. cond (ltb a b) 255 0) hs ps)) ps hs) ms
-        (sel_l (map (top 7) (zip2 (λ a b. cond (ltb a b) 255 0) hs ps)) ps hs) i (most ∙ f ∙ sym e) refl (most ∙ f
-        ∙ sym e) in
+    (sel_l (map (top 7) (zip2 (λ a b. cond (ltb a b) 255 0) hs ps)) ps hs) i (most ∙ f ∙ sym e) refl (most ∙ f
+    ∙ sym e) in
     rw (outer, inner, get_or-replicate n i p 0 inside) (at_least_both (get_or ms i 0) (get_or hs i 0) p k)
 
 zero-add : (n : ℕ) → 0 + n ≡ n
@@ -151,9 +155,9 @@ pub sixteen_at : (xs : List ℕ) (from i : ℕ) → 16 + from ≤ length xs → 
     → get_or (chunk 0 16 (take (length xs - from) (drop from xs))) i 0 ≡ get_or xs (i + from) 0
 sixteen_at xs from i room inside =
     get_or-chunk 0 16 (take (length xs - from) (drop from xs)) i 0 inside
-        ∙ ap (λ (n : ℕ). get_or (take (length xs - from) (drop from xs)) n 0) (zero-add i)
-        ∙ get_or-take (length xs - from) (drop from xs) i 0 (omega (arith, room, inside)) ∙ get_or-drop from xs i 0
-        ∙ ap (λ (n : ℕ). get_or xs n 0) (omega arith)
+    ∙ ap (λ (n : ℕ). get_or (take (length xs - from) (drop from xs)) n 0) (zero-add i)
+    ∙ get_or-take (length xs - from) (drop from xs) i 0 (omega (arith, room, inside)) ∙ get_or-drop from xs i 0
+    ∙ ap (λ (n : ℕ). get_or xs n 0) (omega arith)
 
 pub length_sixteen : (xs : List ℕ) (from : ℕ) → 16 + from ≤ length xs
     → length (chunk 0 16 (take (length xs - from) (drop from xs))) ≡ 16
@@ -166,17 +170,17 @@ pub stored_below : (a i : ℕ) (xs ys : List ℕ) → a ≤ length xs → i < a
     → get_or (put_mid a (length xs - a) xs (put_chunk 0 (mid_of a (length xs - a) xs) ys)) i 0 ≡ get_or xs i 0
 stored_below a i xs ys room less =
     get_or_append_left (take a xs) (put_chunk 0 (mid_of a (length xs - a) xs) ys ++ post_of a (length xs - a) xs) 0 i
-        (rw (length-take-le a xs room) less) ∙ get_or-take a xs i 0 less
+    (rw (length-take-le a xs room) less) ∙ get_or-take a xs i 0 less
 
 behind : (a i : ℕ) (xs ys : List ℕ) → a ≤ length xs → a ≤ i
     → get_or (put_mid a (length xs - a) xs (put_chunk 0 (mid_of a (length xs - a) xs) ys)) i 0
     ≡ get_or (put_chunk 0 (drop a xs) ys) (i - a) 0
 behind a i xs ys room more =
     let none : post_of a (length xs - a) xs ≡ [] =
-        drop_all (length xs - a) (drop a xs) (omega (arith, length-drop a xs)) in
+    drop_all (length xs - a) (drop a xs) (omega (arith, length-drop a xs)) in
     let all : mid_of a (length xs - a) xs ≡ drop a xs = take_rest xs a in
     get_or-append_right (take a xs) (put_chunk 0 (mid_of a (length xs - a) xs) ys ++ post_of a (length xs - a) xs) a i
-        0 (length-take-le a xs room) more
+    0 (length-take-le a xs room) more
     ∙ ap (λ (l : List ℕ). get_or (put_chunk 0 (mid_of a (length xs - a) xs) ys ++ l) (i - a) 0) none
     ∙ ap (λ (l : List ℕ). get_or l (i - a) 0) (append-nil (put_chunk 0 (mid_of a (length xs - a) xs) ys))
     ∙ ap (λ (l : List ℕ). get_or (put_chunk 0 l ys) (i - a) 0) all
@@ -185,16 +189,16 @@ pub stored_at : (a i : ℕ) (xs ys : List ℕ) → a + 16 ≤ length xs → leng
     → get_or (put_mid a (length xs - a) xs (put_chunk 0 (mid_of a (length xs - a) xs) ys)) i 0 ≡ get_or ys (i - a) 0
 stored_at a i xs ys room long more less =
     behind a i xs ys (omega (arith, room)) more ∙ ap (λ (n : ℕ). get_or (put_chunk 0 (drop a xs) ys) n 0)
-        (sym (zero-add (i - a))) ∙ get_or-put_chunk_at 0 (drop a xs) ys (i - a) 0 (omega (arith, long, more, less))
-        (omega (arith, long, room, length-drop a xs))
+    (sym (zero-add (i - a))) ∙ get_or-put_chunk_at 0 (drop a xs) ys (i - a) 0 (omega (arith, long, more, less))
+    (omega (arith, long, room, length-drop a xs))
 
 pub stored_above : (a i : ℕ) (xs ys : List ℕ) → a + 16 ≤ length xs → length ys ≡ 16 → a + 16 ≤ i
     → get_or (put_mid a (length xs - a) xs (put_chunk 0 (mid_of a (length xs - a) xs) ys)) i 0 ≡ get_or xs i 0
 stored_above a i xs ys room long more =
     let place : a + (i - a) ≡ i = omega (arith, more) in
     behind a i xs ys (omega (arith, room)) (omega (arith, more))
-        ∙ get_or-put_chunk_above 0 (drop a xs) ys (i - a) 0 (omega (arith, long, more)) ∙ get_or-drop a xs (i - a) 0
-        ∙ ap (λ (n : ℕ). get_or xs n 0) place
+    ∙ get_or-put_chunk_above 0 (drop a xs) ys (i - a) 0 (omega (arith, long, more)) ∙ get_or-drop a xs (i - a) 0
+    ∙ ap (λ (n : ℕ). get_or xs n 0) place
 
 -- by seven tests in turn
 test_by : (items : ℕ → ℕ) (k j : ℕ) → j < 7 → ((j : ℕ) → j < k → j < 7 → k ≤ items j) → (k ≤ items j) ⊎ (k ≤ j)
@@ -210,17 +214,27 @@ pub most_is : (items : ℕ → ℕ) (m k : ℕ)
 most_is items m k h = (
   λ q j less few. let t = h.0 q in
       below_more (λ j. j < k → k ≤ items j) 6
-          (below_more (λ j. j < k → k ≤ items j) 5
-          (below_more (λ j. j < k → k ≤ items j) 4 (below_more (λ j. j < k → k ≤ items j) 3
+      (below_more (λ j. j < k → k ≤ items j) 5
+      (below_more (λ j. j < k → k ≤ items j) 4 (below_more (λ j. j < k → k ≤ items j) 3
       (below_more (λ j. j < k → k ≤ items j) 2
-          (below_more (λ j. j < k → k ≤ items j) 1
-          (below_more (λ j. j < k → k ≤ items j) 0 (below_none (λ j. j < k → k ≤ items j))
+      (below_more (λ j. j < k → k ≤ items j) 1
+      (below_more (λ j. j < k → k ≤ items j) 0 (below_none (λ j. j < k → k ≤ items j))
       (λ l. t.0.0.0.0.0.0)) (λ l. test_is items k 1 l t.0.0.0.0.0.1)) (λ l. test_is items k 2 l t.0.0.0.0.1))
-          (λ l. test_is items k 3 l t.0.0.0.1)) (λ l. test_is items k 4 l t.0.0.1)) (λ l. test_is items k 5 l t.0.1))
-          (λ l. test_is items k 6 l t.1) j few less,
-  λ all. h.1 ((((((first all, test_by items k 1 (omega arith) all), test_by items k 2 (omega arith) all),
-      test_by items k 3 (omega arith) all), test_by items k 4 (omega arith) all), test_by items k 5 (omega arith) all),
-      test_by items k 6 (omega arith) all),
+      (λ l. test_is items k 3 l t.0.0.0.1)) (λ l. test_is items k 4 l t.0.0.1)) (λ l. test_is items k 5 l t.0.1))
+      (λ l. test_is items k 6 l t.1) j few less,
+  λ all. h.1 (
+    (
+      (
+        (
+          ((first all, test_by items k 1 (omega arith) all), test_by items k 2 (omega arith) all),
+          test_by items k 3 (omega arith) all,
+        ),
+        test_by items k 4 (omega arith) all,
+      ),
+      test_by items k 5 (omega arith) all,
+    ),
+    test_by items k 6 (omega arith) all,
+  ),
 )
   where
     first : ((j : ℕ) → j < k → j < 7 → k ≤ items j) → k ≤ items 0
@@ -263,8 +277,8 @@ pub near_part : (n from : ℕ) (xs : List ℕ) → length xs ≡ n → 16 + from
 near_part n from xs e room small =
     let long = length_part n from xs e room in
     Each1-from_get_or (λ x. x < 32768) (chunk 0 16 (mid_of from (n - from) xs)) 0
-        (λ i h. subst (λ (x : ℕ). x < 32768) (sym (part_at n from i xs e room (omega (arith, h, long))))
-        (small (i + from) (omega (arith, h, long, room))))
+    (λ i h. subst (λ (x : ℕ). x < 32768) (sym (part_at n from i xs e room (omega (arith, h, long))))
+    (small (i + from) (omega (arith, h, long, room))))
 
 pub mapped_at : (f : ℕ → ℕ) (xs : List ℕ) (i : ℕ) → i < length xs → get_or (map f xs) i 0 ≡ f (get_or xs i 0)
 mapped_at f [] i h = absurd (omega (arith, h))
@@ -277,8 +291,8 @@ mapped_part f n from i xs ys e room more less q =
     let long = length_part n from xs e room in
     let place : i - from + from ≡ i = omega (arith, more) in
     ap (λ (l : List ℕ). get_or l (i - from) 0) q ∙ mapped_at f (chunk 0 16 (mid_of from (n - from) xs)) (i - from)
-        (omega (arith, long, more, less)) ∙ ap f (part_at n from (i - from) xs e room (omega (arith, more, less))
-        ∙ ap (λ (j : ℕ). get_or xs j 0) place)
+    (omega (arith, long, more, less)) ∙ ap f (part_at n from (i - from) xs e room (omega (arith, more, less))
+    ∙ ap (λ (j : ℕ). get_or xs j 0) place)
 
 pub length_lanes : (f : ℕ → ℕ) (xs ys : List ℕ) → ys ≡ map f xs → length xs ≡ 16 → length ys ≡ 16
 length_lanes f xs ys e long = ap (λ (l : List ℕ). length l) e ∙ length-map xs f ∙ long
@@ -303,8 +317,8 @@ chain xs i k a b c d e f g zero' one two three four five six =
     let none : (k ≤ a) ↔ (k ≤ get_or xs (i + 0) 0) = rw (zero', here) (λ h. h, λ h. h) in
     most_is (λ j. get_or xs (i + j) 0) g k
     (more_part k f g _ 6 _ (more_part k e f _ 5 _
-        (more_part k d e _ 4 _ (more_part k c d _ 3 _ (more_part k b c _ 2 _ (more_part k a b _ 1 _ none one) two)
-        three) four) five) six)
+    (more_part k d e _ 4 _ (more_part k c d _ 3 _ (more_part k b c _ 2 _ (more_part k a b _ 1 _ none one) two)
+    three) four) five) six)
 
 pub put_length : (n a : ℕ) (xs ys : List ℕ) → length xs ≡ n → a ≤ n
     → length (put_mid a (n - a) xs (put_chunk 0 (mid_of a (n - a) xs) ys)) ≡ n
@@ -313,22 +327,22 @@ put_length n a xs ys e room =
     let front : length (take a xs) ≡ a = length-take-le a xs (omega (arith, e, room)) in
     let mid : length (mid_of a (n - a) xs) ≡ n - a = length-take-le (n - a) (drop a xs) (omega (arith, all)) in
     let put : length (put_chunk 0 (mid_of a (n - a) xs) ys) ≡ n - a = length-put_chunk 0 (mid_of a (n - a) xs) ys
-        ∙ mid in
+    ∙ mid in
     let post : length (post_of a (n - a) xs) ≡ 0 = length-drop (n - a) (drop a xs) ∙ omega (arith, all) in
     length-append (take a xs) (put_chunk 0 (mid_of a (n - a) xs) ys ++ post_of a (n - a) xs)
-        ∙ rw (length-append (put_chunk 0 (mid_of a (n - a) xs) ys) (post_of a (n - a) xs), front, put, post)
-        (omega (arith, room))
+    ∙ rw (length-append (put_chunk 0 (mid_of a (n - a) xs) ys) (post_of a (n - a) xs), front, put, post)
+    (omega (arith, room))
 
 -- what is the most in a part of a list is so in the whole
 pub most_later : (n a i m : ℕ) (xs zs : List ℕ) → length xs ≡ n → a ≤ i
     → ((x : ℕ) → a ≤ x → get_or xs x 0 ≡ get_or zs x 0) → IsMost (mid_of a (n - a) xs) (i - a) m → IsMost zs i m
 most_later n a i m xs zs e more rest h =
     let all : mid_of a (n - a) xs ≡ drop a xs =
-        subst (λ (l : ℕ). take (l - a) (drop a xs) ≡ drop a xs) e (take_rest xs a) in
+    subst (λ (l : ℕ). take (l - a) (drop a xs) ≡ drop a xs) e (take_rest xs a) in
     let same : (j : ℕ) → get_or (mid_of a (n - a) xs) (i - a + j) 0 ≡ get_or zs (i + j) 0 = λ j.
     let place : a + (i - a + j) ≡ i + j = omega (arith, more) in
     ap (λ (l : List ℕ). get_or l (i - a + j) 0) all ∙ get_or-drop a xs (i - a + j) 0
-        ∙ ap (λ (x : ℕ). get_or xs x 0) place ∙ rest (i + j) (omega (arith, more)) in
+    ∙ ap (λ (x : ℕ). get_or xs x 0) place ∙ rest (i + j) (omega (arith, more)) in
     λ k. (
       λ q j less few. subst (λ (x : ℕ). k ≤ x) (same j) ((h k).0 q j less few),
       λ each. (h k).1 (λ j less few. subst (λ (x : ℕ). k ≤ x) (sym (same j)) (each j less few)),

@@ -1,6 +1,7 @@
 -- A word's digits are what it spells, and nothing else is.
-use Rattle.std.proofs.Common.{◌≡◌, ℕ, zero, suc, ◌+◌, ◌-◌, ◌*◌, ◌/◌, ◌%◌, ◌^◌, ◌<◌, ◌≤◌, List, [], ◌∷◌, length, ℤ,
-    arith, sym, ap, subst, refl, All, ⊎_elim, Bool, true, false, cond, eqb, Option, Some, None, w32, to_z}
+use Rattle.std.proofs.Common.{◌≡◌, ℕ, zero, suc, ◌+◌, ◌-◌, ◌*◌, ◌/◌, ◌%◌, ◌^◌, ◌<◌, ◌≤◌, List, [], ◌∷◌, length, ℤ}
+use Rattle.std.proofs.Common.{arith, sym, ap, subst, refl, All, ⊎_elim, Bool, true, false, cond, eqb, Option, Some}
+use Rattle.std.proofs.Common.{None, w32, to_z}
 use Rattle.std.proofs.lemmas.Nat.{pow_pos, mod-pow-add}
 use Rattle.std.proofs.lemmas.Int.{ints}
 use Rattle.std.proofs.lemmas.Bool.{cases_lt, lt-ltb, le-ltb, ne_eqb, eqb-true}
@@ -19,7 +20,7 @@ pub signed_within : (w n : ℕ) → 0 < w → n < 2 ^ w → IsWithin w (signed w
 signed_within w n p h = ⊎_elim
     (λ (low : n < 2 ^ (w - 1)). rw (lt-ltb n (2 ^ (w - 1)) low) (omega (arith, ints), omega (arith, ints)))
     (λ (high : 2 ^ (w - 1) ≤ n). let e = twice_half w p in
-        rw (le-ltb n (2 ^ (w - 1)) high) (omega (arith, ints), omega (arith, ints)))
+    rw (le-ltb n (2 ^ (w - 1)) high) (omega (arith, ints), omega (arith, ints)))
     (cases_lt n (2 ^ (w - 1)))
 
 pub signed_residue : (w n : ℕ) → 0 < w → n < 2 ^ w → residue (2 ^ w) (signed w n) ≡ n
@@ -41,15 +42,15 @@ unfolding digits
 digits_within w word zero p = All-nil (IsWithin w)
 digits_within w word (suc k) p =
     All-cons (IsWithin w) (digit_at w word k) (digits w word k)
-        (signed_within w (word / 2 ^ (w * k) % 2 ^ w) p (mod-lt (word / 2 ^ (w * k)) (pow_pos w)))
-        (digits_within w word k p)
+    (signed_within w (word / 2 ^ (w * k) % 2 ^ w) p (mod-lt (word / 2 ^ (w * k)) (pow_pos w)))
+    (digits_within w word k p)
 
 digits_positional : (w word k : ℕ) → 0 < w → positional w (digits w word k) ≡ word % 2 ^ (w * k)
 unfolding digits
 digits_positional w word zero p = rw mul-zero (sym (mod-one word))
 digits_positional w word (suc k) p =
     let digit : residue (2 ^ w) (digit_at w word k) ≡ word / 2 ^ (w * k) % 2 ^ w =
-        signed_residue w (word / 2 ^ (w * k) % 2 ^ w) p (mod-lt (word / 2 ^ (w * k)) (pow_pos w)) in
+    signed_residue w (word / 2 ^ (w * k) % 2 ^ w) p (mod-lt (word / 2 ^ (w * k)) (pow_pos w)) in
     let long : w * suc k ≡ w + w * k = omega (arith, mul-suc w k) in
     rw (digit, length-digits w word k, digits_positional w word k p, long) (sym (mod-pow-add word w (w * k)))
 
@@ -58,19 +59,28 @@ is_group : (g : Group) (word : ℕ) → word < 2 ^ 32 → 0 < g.width → Kind g
     → IsGroup g (word / 2 ^ 30) word (digits g.width word g.count)
 is_group g word small p (whole m j l) =
     let sum : positional g.width (digits g.width word g.count) ≡ word % 2 ^ 32 =
-        rw l at (digits_positional g.width word g.count p) in
-    record { count = length-digits g.width word g.count; range = digits_within g.width word g.count p;
-        sum = (0, omega (arith, j), rw m (omega (arith, sum))) }
+    rw l at (digits_positional g.width word g.count p) in
+    record {
+      count = length-digits g.width word g.count;
+      range = digits_within g.width word g.count p;
+      sum = (0, omega (arith, j), rw m (omega (arith, sum)));
+    }
 is_group g word small p (full m j l) =
     let sum : positional g.width (digits g.width word g.count) ≡ word % 2 ^ 30 =
-        rw l at (digits_positional g.width word g.count p) in
-    record { count = length-digits g.width word g.count; range = digits_within g.width word g.count p;
-        sum = (0, omega (arith, j), rw m (omega (arith, sum))) }
+    rw l at (digits_positional g.width word g.count p) in
+    record {
+      count = length-digits g.width word g.count;
+      range = digits_within g.width word g.count p;
+      sum = (0, omega (arith, j), rw m (omega (arith, sum)));
+    }
 is_group g word small p (short m j l) =
     let sum : positional g.width (digits g.width word g.count) ≡ word % 2 ^ 28 =
-        rw l at (digits_positional g.width word g.count p) in
-    record { count = length-digits g.width word g.count; range = digits_within g.width word g.count p;
-        sum = (word / 2 ^ 28 % 4, omega (arith, j), rw m (omega (arith, sum))) }
+    rw l at (digits_positional g.width word g.count p) in
+    record {
+      count = length-digits g.width word g.count;
+      range = digits_within g.width word g.count p;
+      sum = (word / 2 ^ 28 % 4, omega (arith, j), rw m (omega (arith, sum)));
+    }
 
 from_group : (s : Scheme) (c word : ℕ) (o : Option Group) (ds : List ℤ) → word < 2 ^ 32
     → group_of s c (word / 2 ^ 30) ≡ o → differences_in word o ≡ Some ds → Spells s c word ds
@@ -100,8 +110,8 @@ spelled_differences s c word ds small (row g d e p) =
     let z : Sized g = group_sized s c d g e in
     let found = at_top s c d word g ds z.kind e p in
     let same : digits g.width word g.count ≡ ds =
-        spelled_as_one g (word / 2 ^ 30) word (digits g.width word g.count) ds z (is_group g word small z.wide z.kind)
-        found.1 in
+    spelled_as_one g (word / 2 ^ 30) word (digits g.width word g.count) ds z (is_group g word small z.wide z.kind)
+    found.1 in
     let some : eqb c 0 ≡ false = ne_eqb c 0 (λ (z : c ≡ 0). absurd (no_row s d g (rw z at e))) in
     rw (some, found.0, same) refl
 
@@ -119,7 +129,7 @@ pub signed_32 : (n : ℕ) → n < 2 ^ 32 → signed 32 n ≡ to_z w32 n
 signed_32 n h = ⊎_elim
     (λ (low : n < 2 ^ 31). rw (lt-ltb n (2 ^ 31) low) refl)
     (λ (high : 2 ^ 31 ≤ n). let same : 2 ^ 32 - 1 - n ≡ 2 ^ 32 - suc n = omega arith in
-        rw (le-ltb n (2 ^ 31) high, same) refl)
+    rw (le-ltb n (2 ^ 31) high, same) refl)
     (cases_lt n (2 ^ 31))
 
 -- after the last digit there's none

@@ -1,6 +1,6 @@
 -- What the table's rows have in common.
-use Rattle.std.proofs.Common.{◌≡◌, ℕ, ◌+◌, ◌*◌, ◌/◌, ◌%◌, ◌^◌, ◌<◌, List, length, ℤ, arith, refl, subst, Bool, true,
-    false, cond, Option, Some, None, eqb}
+use Rattle.std.proofs.Common.{◌≡◌, ℕ, ◌+◌, ◌*◌, ◌/◌, ◌%◌, ◌^◌, ◌<◌, List, length, ℤ, arith, refl, subst, Bool, true}
+use Rattle.std.proofs.Common.{false, cond, Option, Some, None, eqb}
 use Rattle.mseed_steim.specs.declared.scheme.Scheme.{Scheme}
 use Rattle.mseed_steim.specs.declared.scheme.Scheme.TheVariants.{One, Two}
 use Rattle.mseed_steim.specs.Groups.{wide_group, narrow_group, Group, group_of, plain, marked}
@@ -135,16 +135,20 @@ same_row : (s : Scheme) (c d e : ℕ) (g : Group) → g.marked ≡ false → gro
 same_row One c d e g m h = h
 same_row Two c d e g m h =
     first_or_marked (eqb c 1) _ _ _ g
-        (cond_holds AllMarked (eqb c 2) _ _ (wide_marked d)
-        (cond_holds AllMarked (eqb c 3) _ _ (narrow_marked d) none_marked)) m h
+    (cond_holds AllMarked (eqb c 2) _ _ (wide_marked d)
+    (cond_holds AllMarked (eqb c 3) _ _ (narrow_marked d) none_marked)) m h
 
 -- what a row spells at some dnib it spells at the word's top two bits
 pub at_top : (s : Scheme) (c d word : ℕ) (g : Group) (ds : List ℤ) → Kind g → group_of s c d ≡ Some g
     → IsGroup g d word ds → (group_of s c (word / 2 ^ 30) ≡ Some g) × IsGroup g (word / 2 ^ 30) word ds
-at_top s c d word g ds (whole m j l) h a =
-    (same_row s c d (word / 2 ^ 30) g m h,
-    record { count = a.count; range = a.range;
-    sum = (0, omega (arith, j), rw m (omega (arith, sum_whole g d word ds m j a))) })
+at_top s c d word g ds (whole m j l) h a = (
+  same_row s c d (word / 2 ^ 30) g m h,
+  record {
+    count = a.count;
+    range = a.range;
+    sum = (0, omega (arith, j), rw m (omega (arith, sum_whole g d word ds m j a)));
+  },
+)
 at_top s c d word g ds (full m j l) h a = let e : word / 2 ^ 30 ≡ d = top_is g d word ds (full m j l) m a in
     (rw e h, rw e a)
 at_top s c d word g ds (short m j l) h a = let e : word / 2 ^ 30 ≡ d = top_is g d word ds (short m j l) m a in

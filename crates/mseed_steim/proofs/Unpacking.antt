@@ -1,6 +1,6 @@
 -- What is unpacked next.
-use Rattle.std.proofs.Common.{◌≡◌, ℕ, zero, suc, ◌*◌, ◌^◌, ◌/◌, ◌<◌, List, [], ◌∷◌, ◌++◌, length, map, ℤ, refl, ap, ◌∙◌,
-    arith, eqb, true, false, Bool, Option, Some, None, Result, Ok, Err}
+use Rattle.std.proofs.Common.{◌≡◌, ℕ, zero, suc, ◌*◌, ◌^◌, ◌/◌, ◌<◌, List, [], ◌∷◌, ◌++◌, length, map, ℤ, refl, ap, ◌∙◌}
+use Rattle.std.proofs.Common.{arith, eqb, true, false, Bool, Option, Some, None, Result, Ok, Err}
 use Rattle.std.proofs.lemmas.Bool.{eqb-true, false≢true}
 use Rattle.std.proofs.Math.Nat.{mul-zero}
 use Rattle.std.specs.Prelude.{⊤}
@@ -30,9 +30,12 @@ passed None before after h e = let none : false ≡ true = rw h.0 at e in absurd
 passed (Some w) before after h e =
     let code = rw h at e in
     let zeroth : w.code ≡ 0 = eqb-true w.code 0 code in
-    let cut = ap (λ (ws : List DataWord). length ws) h in
-    (rw (h, code) refl, (λ s. items_group s before after (as_data w) [] h
-        (no_differences s w.code w.bits [] zeroth refl)), omega (arith, cut))
+    let cut = ap (λ (ws : List DataWord). length ws) h in (
+      rw (h, code) refl,
+      (λ s. items_group s before after (as_data w) [] h
+          (no_differences s w.code w.bits [] zeroth refl)),
+      omega (arith, cut),
+    )
 
 -- behind the words of code 00 none is next
 past_step : (w : DataWord) (ws : List DataWord) (b : Bool) → eqb w.code 0 ≡ b → begins_empty (past_empty ws) ≡ false
@@ -66,7 +69,7 @@ some_in word None ds all e = cc
 some_in word (Some g) ds all e =
     let same : digits g.width word g.count ≡ ds = cc in
     let some : 0 < length (digits g.width word g.count) =
-        rw (length-digits g.width word g.count) (some_count g (all g refl).kind) in
+    rw (length-digits g.width word g.count) (some_count g (all g refl).kind) in
     rw same at some
 
 pub some_of : (s : Scheme) (c word : ℕ) (ds : List ℤ) → eqb c 0 ≡ false → differences_of s c word ≡ Some ds
@@ -91,5 +94,5 @@ pub progressed : (s : Scheme) (old : Left) (words after : List DataWord) (ready 
 progressed s old words after ready None e h = record { on = λ _. tt; keeps = tt; rests = λ _. tt }
 progressed s old words after ready (Some item) e h =
     let cut = ap (λ (items : List (Result ℤ BadWordAt)). length items)
-        (stepped s old words after ready (Some item) e h) in
+    (stepped s old words after ready (Some item) e h) in
     record { on = λ _. (tt, tt, omega (arith, cut)); keeps = tt; rests = λ _. tt }

@@ -1,7 +1,8 @@
 -- One word after another: what the words from a place on give.
 use Rattle.std.specs.Simd.{first_chunks}
-use Rattle.std.proofs.Common.{◌≡◌, ◌≢◌, ◌⊎◌, ⊎_elim, take, drop, get_or, ◌*◌, ◌∙◌, inl, inr, ℕ, zero, suc, ◌+◌, ◌%◌,
-    ◌/◌, ◌<◌, ◌≤◌, List, [], ◌∷◌, ◌++◌, map, length, ℤ, arith, refl, ap, Option, Some, None, Ok, Err}
+use Rattle.std.proofs.Common.{◌≡◌, ◌≢◌, ◌⊎◌, ⊎_elim, take, drop, get_or, ◌*◌, ◌∙◌, inl, inr, ℕ, zero, suc, ◌+◌, ◌%◌}
+use Rattle.std.proofs.Common.{◌/◌, ◌<◌, ◌≤◌, List, [], ◌∷◌, ◌++◌, map, length, ℤ, arith, refl, ap, Option, Some, None}
+use Rattle.std.proofs.Common.{Ok, Err}
 use Rattle.std.proofs.lemmas.Bool.{ne_eqb, cases_lt}
 use Rattle.std.proofs.lemmas.List.{drop-drop}
 use Rattle.mseed_steim.specs.declared.scheme.Scheme.{Scheme}
@@ -48,9 +49,9 @@ pub length-words_from : (p : List ℕ) (k n : ℕ) → length (words_from p k n)
 length-words_from p k zero = rw (words_none p k) (omega arith)
 length-words_from p k (suc n) = ⊎_elim
     (λ (head : k % 16 ≡ 0). let later = length-words_from p (k + 1) n in
-        rw (words_skip p k n head) (omega (arith, later)))
+    rw (words_skip p k n head) (omega (arith, later)))
     (λ (data_word : k % 16 ≢ 0). let later = length-words_from p (k + 1) n in
-        rw (words_step p k n data_word) (omega (arith, later)))
+    rw (words_step p k n data_word) (omega (arith, later)))
     (is_head k)
 
 -- words that are cut in two
@@ -63,11 +64,11 @@ words_cut p k (suc n) m =
     let next : k + 1 + n ≡ k + suc n = omega arith in
     let more : suc n + m ≡ suc (n + m) = omega arith in
     let later : words_from p (k + 1) (n + m) ≡ words_from p (k + 1) n ++ words_from p (k + suc n) m =
-        rw next at (words_cut p (k + 1) n m) in
+    rw next at (words_cut p (k + 1) n m) in
     ⊎_elim
     (λ (head : k % 16 ≡ 0). rw (more, words_skip p k (n + m) head, words_skip p k n head) later)
     (λ (data_place : k % 16 ≢ 0). rw (more, words_step p k (n + m) data_place, words_step p k n data_place)
-        (ap (λ (ws : List DataWord). data_word p k ∷ ws) later))
+    (ap (λ (ws : List DataWord). data_word p k ∷ ws) later))
     (is_head k)
 
 -- a frame of a payload

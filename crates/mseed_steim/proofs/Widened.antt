@@ -1,6 +1,6 @@
 -- Bytes that are widened in lanes.
-use Rattle.std.proofs.Common.{◌≡◌, ℕ, zero, suc, ◌+◌, ◌<◌, ◌≤◌, List, [], ◌∷◌, ◌++◌, map, length, take, ℤ, arith, refl,
-    ap, sym, ◌∙◌, w32, to_z, cond}
+use Rattle.std.proofs.Common.{◌≡◌, ℕ, zero, suc, ◌+◌, ◌<◌, ◌≤◌, List, [], ◌∷◌, ◌++◌, map, length, take, ℤ, arith, refl}
+use Rattle.std.proofs.Common.{ap, sym, ◌∙◌, w32, to_z, cond}
 use Rattle.byteorder.specs.Endian.{twos_complement}
 use Rattle.std.proofs.lemmas.List.{length-map, map-append}
 use Rattle.std.proofs.lemmas.Simd.{length-chunk, take_more_put_chunk}
@@ -19,7 +19,7 @@ widened lt sub cast lane (suc n) [] long small = absurd (omega arith)
 widened lt sub cast lane (suc n) (x ∷ v) long small =
     let later = widened lt sub cast lane n v (omega arith) small.1 in
     ap (λ (z : ℤ). z ∷ map (to_z w32) (sel_l (map (top 31) (zip2 lt (replicate n 127) (map cast v)))
-        (zip2 sub (map cast v) (replicate n 256)) (map cast v))) (lane x small.0)
+    (zip2 sub (map cast v) (replicate n 256)) (map cast v))) (lane x small.0)
     ∙ ap (λ (zs : List ℤ). twos_complement 1 x ∷ zs) later
 
 -- sixteen places more
@@ -29,7 +29,7 @@ pub stored : (i m : ℕ) (bytes : List ℕ) (out w : List ℤ) → m ≡ i + 16 
     → take m (put_chunk i out w) ≡ map (λ byte. twos_complement 1 byte) (take m bytes)
 stored i m bytes out w at inside room so_far is =
     let long : length w ≡ 16 = ap (λ (zs : List ℤ). length zs) is
-        ∙ length-map (chunk i 16 bytes) (λ byte. twos_complement 1 byte) ∙ length-chunk i 16 bytes (omega arith) in
+    ∙ length-map (chunk i 16 bytes) (λ byte. twos_complement 1 byte) ∙ length-chunk i 16 bytes (omega arith) in
     let cut : take m bytes ≡ take i bytes ++ chunk i 16 bytes = rw at (take-add i 16 bytes) in
     take_more_put_chunk i out w m (omega arith) inside
-        ∙ (rw (so_far, is, cut) (sym (map-append (λ byte. twos_complement 1 byte) (take i bytes) (chunk i 16 bytes))))
+    ∙ (rw (so_far, is, cut) (sym (map-append (λ byte. twos_complement 1 byte) (take i bytes) (chunk i 16 bytes))))

@@ -1,6 +1,6 @@
 -- The bits that a number takes in two's complement.
-use Rattle.std.proofs.Common.{◌≡◌, ◌↔◌, ℕ, suc, ◌-◌, ◌^◌, ◌<◌, ℤ, pos, negsuc, arith, refl, subst, FitsSigned, w32,
-    to_z, of_z, true, false, ltb}
+use Rattle.std.proofs.Common.{◌≡◌, ◌↔◌, ℕ, suc, ◌-◌, ◌^◌, ◌<◌, ℤ, pos, negsuc, arith, refl, subst, FitsSigned, w32}
+use Rattle.std.proofs.Common.{to_z, of_z, true, false, ltb}
 use lib.Signed.{lt_z}
 use lib.IntN.{nat_abs}
 use Rattle.std.proofs.lemmas.Bool.{lt-ltb, ltb-true}

@@ -1,6 +1,6 @@
 -- Words as sums of signed digits.
-use Rattle.std.proofs.Common.{◌≡◌, ℕ, suc, ◌+◌, ◌-◌, ◌*◌, ◌^◌, ◌<◌, ◌≤ℤ◌, ◌<ℤ◌, List, [], ◌∷◌, length, ℤ, pos, negsuc,
-    neg_ℤ, arith, ap, refl, All}
+use Rattle.std.proofs.Common.{◌≡◌, ℕ, suc, ◌+◌, ◌-◌, ◌*◌, ◌^◌, ◌<◌, ◌≤ℤ◌, ◌<ℤ◌, List, [], ◌∷◌, length, ℤ, pos, negsuc}
+use Rattle.std.proofs.Common.{neg_ℤ, arith, ap, refl, All}
 use Rattle.std.proofs.lemmas.Nat.{pow_pos, pow-add, same_from_place, mul-add-lt}
 use Rattle.std.proofs.lemmas.Int.{ints}
 use Rattle.std.proofs.lemmas.List.Elements.{All-head, All-tail}
@@ -69,11 +69,11 @@ positional_one w (d ∷ ds) (e ∷ es) p l h k s =
     let same : length ds ≡ length es = omega arith in
     let below : positional w ds < 2 ^ (w * length es) = rw same at (positional_lt w ds) in
     let both : residue (2 ^ w) d * 2 ^ (w * length es) + positional w ds ≡ residue (2 ^ w) e * 2 ^ (w * length es)
-        + positional w es = rw same at s in
+    + positional w es = rw same at s in
     let parts : (residue (2 ^ w) d ≡ residue (2 ^ w) e) × (positional w ds ≡ positional w es) =
-        same_from_place (residue (2 ^ w) d) (positional w ds) (residue (2 ^ w) e) (positional w es)
-        (2 ^ (w * length es)) below (positional_lt w es) both in
+    same_from_place (residue (2 ^ w) d) (positional w ds) (residue (2 ^ w) e) (positional w es)
+    (2 ^ (w * length es)) below (positional_lt w es) both in
     let first : d ≡ e = residue_one w d e p (All-head (IsWithin w) d ds h) (All-head (IsWithin w) e es k) parts.0 in
     let rest : ds ≡ es = positional_one w ds es p same (All-tail (IsWithin w) d ds h) (All-tail (IsWithin w) e es k)
-        parts.1 in
+    parts.1 in
     cc

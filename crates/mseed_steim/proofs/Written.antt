@@ -1,12 +1,13 @@
 -- Words that are written into frames.
-use Rattle.std.proofs.Common.{◌≡◌, ◌≢◌, ℕ, ◌+◌, ◌-◌, ◌*◌, ◌/◌, ◌%◌, ◌^◌, ◌<◌, ◌≤◌, List, [], ◌++◌, length, take, drop,
-    get_or, arith, refl, ap, sym, ◌∙◌, ⊎_elim, cond, eqb, bit_or, length-append, lit<, ◌⊎◌, inl, inr, add-zero}
+use Rattle.std.proofs.Common.{◌≡◌, ◌≢◌, ℕ, ◌+◌, ◌-◌, ◌*◌, ◌/◌, ◌%◌, ◌^◌, ◌<◌, ◌≤◌, List, [], ◌++◌, length, take, drop}
+use Rattle.std.proofs.Common.{get_or, arith, refl, ap, sym, ◌∙◌, ⊎_elim, cond, eqb, bit_or, length-append, lit<, ◌⊎◌}
+use Rattle.std.proofs.Common.{inl, inr, add-zero}
 use borrow.Rule.Slice.PartMut.{put_mid, post_of}
 use Rattle.std.proofs.Math.Nat.{pow-le-pow_right, mul_assoc}
 use Rattle.std.proofs.lemmas.Bool.{cases_lt, cases_eq, ne_eqb, eq-eqb}
 use Rattle.std.proofs.lemmas.Nat.{or_comm, or_shr, or_mod, shl_whole, shl-shr, shl_below, shr_below, mod_low, pow-add}
-use Rattle.std.proofs.lemmas.List.{length-take-le, length-drop, drop-drop, drop_at, drop_all, get_or-drop, get_or-take,
-    get_or_append_left, append_assoc, append-nil}
+use Rattle.std.proofs.lemmas.List.{length-take-le, length-drop, drop-drop, drop_at, drop_all, get_or-drop, get_or-take}
+use Rattle.std.proofs.lemmas.List.{get_or_append_left, append_assoc, append-nil}
 use Rattle.byteorder.specs.Endian.{big_number, big_bytes}
 use Rattle.byteorder.specs.Numbers.{big_number-reads_back, length-bytes_high_first}
 use Rattle.mseed_steim.specs.Frames.{word_at, code_at}
@@ -24,7 +25,7 @@ length_with a p bytes four h =
     let front : length (take a p) ≡ a = length-take-le a p (omega (arith, h)) in
     let back : length (drop (a + 4) p) ≡ length p - (a + 4) = length-drop (a + 4) p in
     let rest : length (bytes ++ drop (a + 4) p) ≡ length bytes + length (drop (a + 4) p) =
-        length-append bytes (drop (a + 4) p) in
+    length-append bytes (drop (a + 4) p) in
     omega (arith, length-append (take a p) (bytes ++ drop (a + 4) p), front, rest, four, back, h)
 
 pub word_with : (a n : ℕ) (p : List ℕ) (k j : ℕ) → a ≡ 4 * j → 4 * (j + 1) ≤ length p → n < 2 ^ 32
@@ -36,8 +37,8 @@ word_with a n p k j e h small =
     (λ (same : k ≡ j).
     let place : 4 * k ≡ a = omega (arith, e, same) in
     rw (eq-eqb k j same) (ap (λ (i : ℕ). big_number 4 (drop i (with_bytes a p (big_bytes 4 n)))) place
-        ∙ ap (λ (l : List ℕ). big_number 4 l) (drop_at (take a p) (big_bytes 4 n ++ drop (a + 4) p) a long)
-        ∙ big_number-reads_back 4 n (drop (a + 4) p) small))
+    ∙ ap (λ (l : List ℕ). big_number 4 l) (drop_at (take a p) (big_bytes 4 n ++ drop (a + 4) p) a long)
+    ∙ big_number-reads_back 4 n (drop (a + 4) p) small))
     (λ (other : k ≡ j → ⊥).
     rw (ne_eqb k j other)
     (⊎_elim
@@ -46,21 +47,21 @@ word_with a n p k j e h small =
     (λ i q.
     let before : 4 * k + i < a = omega (arith, e, less, q) in
     get_or-drop (4 * k) (with_bytes a p (big_bytes 4 n)) i 0
-        ∙ get_or_append_left (take a p) (big_bytes 4 n ++ drop (a + 4) p) 0 (4 * k + i) (omega (arith, before, long))
-        ∙ get_or-take a p (4 * k + i) 0 before ∙ sym (get_or-drop (4 * k) p i 0)))
+    ∙ get_or_append_left (take a p) (big_bytes 4 n ++ drop (a + 4) p) 0 (4 * k + i) (omega (arith, before, long))
+    ∙ get_or-take a p (4 * k + i) 0 before ∙ sym (get_or-drop (4 * k) p i 0)))
     (λ (more : j ≤ k).
     let place : a + 4 + (4 * k - (a + 4)) ≡ 4 * k = omega (arith, e, more, other) in
     let whole : with_bytes a p (big_bytes 4 n) ≡ (take a p ++ big_bytes 4 n) ++ drop (a + 4) p =
-        sym (append_assoc (take a p) (big_bytes 4 n) (drop (a + 4) p)) in
+    sym (append_assoc (take a p) (big_bytes 4 n) (drop (a + 4) p)) in
     let count : length (take a p ++ big_bytes 4 n) ≡ a + 4 =
-        omega (arith, length-append (take a p) (big_bytes 4 n), long, four) in
+    omega (arith, length-append (take a p) (big_bytes 4 n), long, four) in
     let at : drop (a + 4) (with_bytes a p (big_bytes 4 n)) ≡ drop (a + 4) p = ap (λ (l : List ℕ). drop (a + 4) l) whole
-        ∙ drop_at (take a p ++ big_bytes 4 n) (drop (a + 4) p) (a + 4) count in
+    ∙ drop_at (take a p ++ big_bytes 4 n) (drop (a + 4) p) (a + 4) count in
     let behind : drop (4 * k) (with_bytes a p (big_bytes 4 n)) ≡ drop (4 * k) p =
     ap (λ (i : ℕ). drop i (with_bytes a p (big_bytes 4 n))) (sym place)
-        ∙ sym (drop-drop (4 * k - (a + 4)) (a + 4) (with_bytes a p (big_bytes 4 n)))
-        ∙ ap (λ (l : List ℕ). drop (4 * k - (a + 4)) l) at ∙ drop-drop (4 * k - (a + 4)) (a + 4) p
-        ∙ ap (λ (i : ℕ). drop i p) place in
+    ∙ sym (drop-drop (4 * k - (a + 4)) (a + 4) (with_bytes a p (big_bytes 4 n)))
+    ∙ ap (λ (l : List ℕ). drop (4 * k - (a + 4)) l) at ∙ drop-drop (4 * k - (a + 4)) (a + 4) p
+    ∙ ap (λ (i : ℕ). drop i p) place in
     ap (λ (l : List ℕ). big_number 4 l) behind)
     (cases_lt k j)))
     (cases_eq k j)
@@ -71,12 +72,12 @@ pub word_written : (p buf : List ℕ) (n j k : ℕ) → 4 * (j + 1) ≤ length p
 word_written p buf n j k h small e =
     let left : length (drop (4 * j) p) ≡ length p - 4 * j = length-drop (4 * j) p in
     let none : post_of (4 * j) (length p - 4 * j) p ≡ [] =
-        drop_all (length p - 4 * j) (drop (4 * j) p) (omega (arith, left)) in
+    drop_all (length p - 4 * j) (drop (4 * j) p) (omega (arith, left)) in
     let buf_is : buf ++ post_of (4 * j) (length p - 4 * j) p ≡ big_bytes 4 n ++ drop (4 * j + 4) p =
-        ap (λ (l : List ℕ). buf ++ l) none ∙ append-nil buf ∙ e
-        ∙ ap (λ (l : List ℕ). big_bytes 4 n ++ l) (drop-drop 4 (4 * j) p) in
+    ap (λ (l : List ℕ). buf ++ l) none ∙ append-nil buf ∙ e
+    ∙ ap (λ (l : List ℕ). big_bytes 4 n ++ l) (drop-drop 4 (4 * j) p) in
     let whole : put_mid (4 * j) (length p - 4 * j) p buf ≡ with_bytes (4 * j) p (big_bytes 4 n) =
-        ap (λ (l : List ℕ). take (4 * j) p ++ l) buf_is in
+    ap (λ (l : List ℕ). take (4 * j) p ++ l) buf_is in
     ap (λ (l : List ℕ). word_at l k) whole ∙ word_with (4 * j) n p k j refl h small
 
 -- a code among those of a frame
@@ -95,7 +96,7 @@ pub code_same : (c code s : ℕ) → code < 4 → s ≤ 30 → c / 2 ^ s % 4 ≡
     → bit_or c ((code * 2 ^ s) % 2 ^ 32) / 2 ^ s % 4 ≡ code
 code_same c code s h l e =
     let down : code * 2 ^ s / 2 ^ s % 4 ≡ code = ap (λ (n : ℕ). n % 4) (shl-shr code s)
-        ∙ (let small : code % 4 ≡ code = omega (arith, h) in small) in
+    ∙ (let small : code % 4 ≡ code = omega (arith, h) in small) in
     code_parts c code s s h l ∙ ap (λ (n : ℕ). bit_or n (code * 2 ^ s / 2 ^ s % 4)) e ∙ ap (λ (n : ℕ). bit_or 0 n) down
 
 none_above : (code s t : ℕ) → code < 4 → s + 2 ≤ t → code * 2 ^ s / 2 ^ t % 4 ≡ 0
@@ -111,17 +112,17 @@ none_below code s t l =
     let d = s - (t + 2) in
     let bits : s ≡ d + 2 + t = omega (arith, l) in
     let cut : code * 2 ^ s ≡ code * 2 ^ (d + 2) * 2 ^ t = ap (λ (i : ℕ). code * 2 ^ i) bits
-        ∙ ap (λ (n : ℕ). code * n) (pow-add 2 (d + 2) t) ∙ sym (mul_assoc code (2 ^ (d + 2)) (2 ^ t)) in
+    ∙ ap (λ (n : ℕ). code * n) (pow-add 2 (d + 2) t) ∙ sym (mul_assoc code (2 ^ (d + 2)) (2 ^ t)) in
     let again : code * 2 ^ (d + 2) ≡ code * 2 ^ d * 2 ^ 2 + 0 = ap (λ (n : ℕ). code * n) (pow-add 2 d 2)
-        ∙ sym (mul_assoc code (2 ^ d) (2 ^ 2)) ∙ sym (add-zero (code * 2 ^ d * 2 ^ 2)) in
+    ∙ sym (mul_assoc code (2 ^ d) (2 ^ 2)) ∙ sym (add-zero (code * 2 ^ d * 2 ^ 2)) in
     ap (λ (n : ℕ). n / 2 ^ t % 4) cut ∙ ap (λ (n : ℕ). n % 4) (shl-shr (code * 2 ^ (d + 2)) t ∙ again)
-        ∙ mod_low (code * 2 ^ d) 2 0 (omega arith)
+    ∙ mod_low (code * 2 ^ d) 2 0 (omega arith)
 
 pub code_other : (c code s t : ℕ) → code < 4 → s ≤ 30 → (s + 2 ≤ t) ⊎ (t + 2 ≤ s)
     → bit_or c ((code * 2 ^ s) % 2 ^ 32) / 2 ^ t % 4 ≡ c / 2 ^ t % 4
 code_other c code s t h l apart =
     let none : code * 2 ^ s / 2 ^ t % 4 ≡ 0 =
-        ⊎_elim (λ (q : s + 2 ≤ t). none_above code s t h q) (λ (q : t + 2 ≤ s). none_below code s t q) apart in
+    ⊎_elim (λ (q : s + 2 ≤ t). none_above code s t h q) (λ (q : t + 2 ≤ s). none_below code s t q) apart in
     code_parts c code s t h l ∙ ap (λ (n : ℕ). bit_or (c / 2 ^ t % 4) n) none ∙ or_none (c / 2 ^ t % 4)
 
 -- the codes after a data word and its own were written, by the words
@@ -134,35 +135,35 @@ codes_written p q index code word small not_first empty says k =
     let first : 16 * (index / 16) ≡ index / 16 * 16 = omega arith in
     let not_data : 16 * (k / 16) ≢ index = λ e. not_first (omega (arith, e)) in
     let head : word_at q (16 * (k / 16)) ≡ cond (eqb (16 * (k / 16)) (index / 16 * 16))
-        (bit_or (word_at p (index / 16 * 16)) ((code * 2 ^ (30 - 2 * (index % 16))) % 2 ^ 32))
-        (word_at p (16 * (k / 16))) =
+    (bit_or (word_at p (index / 16 * 16)) ((code * 2 ^ (30 - 2 * (index % 16))) % 2 ^ 32))
+    (word_at p (16 * (k / 16))) =
     says (16 * (k / 16)) ∙ (rw (ne_eqb (16 * (k / 16)) index not_data) refl) in
     ⊎_elim
     (λ (same : k / 16 ≡ index / 16).
     let place : 16 * (k / 16) ≡ index / 16 * 16 = omega (arith, same) in
     let now : word_at q (16 * (k / 16)) ≡ bit_or (word_at p (index / 16 * 16))
-        ((code * 2 ^ (30 - 2 * (index % 16))) % 2 ^ 32) =
-        head ∙ (rw (eq-eqb (16 * (k / 16)) (index / 16 * 16) place) refl) in
+    ((code * 2 ^ (30 - 2 * (index % 16))) % 2 ^ 32) =
+    head ∙ (rw (eq-eqb (16 * (k / 16)) (index / 16 * 16) place) refl) in
     ap (λ (n : ℕ). n / 2 ^ (30 - 2 * (k % 16)) % 4) now
     ∙ ⊎_elim
     (λ (here : k ≡ index).
     rw (eq-eqb k index here)
-        (ap (λ (i : ℕ). bit_or (word_at p (index / 16 * 16)) ((code * 2 ^ (30 - 2 * (index % 16))) % 2 ^ 32) / 2 ^
-        (30 - 2 * (i % 16)) % 4) here
+    (ap (λ (i : ℕ). bit_or (word_at p (index / 16 * 16)) ((code * 2 ^ (30 - 2 * (index % 16))) % 2 ^ 32) / 2 ^
+    (30 - 2 * (i % 16)) % 4) here
     ∙ code_same (word_at p (index / 16 * 16)) code (30 - 2 * (index % 16)) small (omega arith)
     (ap (λ (i : ℕ). word_at p i / 2 ^ (30 - 2 * (index % 16)) % 4) (sym first) ∙ empty)))
     (λ (there : k ≡ index → ⊥).
     let differ : k % 16 ≢ index % 16 = λ e. there (omega (arith, e, same)) in
     rw (ne_eqb k index there) (code_other (word_at p (index / 16 * 16)) code (30 - 2 * (index % 16))
-        (30 - 2 * (k % 16)) small (omega arith) (apart (index % 16) (k % 16) (omega arith) (omega arith) differ)
+    (30 - 2 * (k % 16)) small (omega arith) (apart (index % 16) (k % 16) (omega arith) (omega arith) differ)
     ∙ ap (λ (i : ℕ). word_at p i / 2 ^ (30 - 2 * (k % 16)) % 4) (sym place)))
     (cases_eq k index))
     (λ (other : k / 16 ≡ index / 16 → ⊥).
     let place : 16 * (k / 16) ≢ index / 16 * 16 = λ e. other (omega (arith, e)) in
     let elsewhere : k ≢ index = λ e. other (ap (λ (i : ℕ). i / 16) e) in
     rw (ne_eqb k index elsewhere)
-        (ap (λ (n : ℕ). n / 2 ^ (30 - 2 * (k % 16)) % 4) (head
-        ∙ (rw (ne_eqb (16 * (k / 16)) (index / 16 * 16) place) refl))))
+    (ap (λ (n : ℕ). n / 2 ^ (30 - 2 * (k % 16)) % 4) (head
+    ∙ (rw (ne_eqb (16 * (k / 16)) (index / 16 * 16) place) refl))))
     (cases_eq (k / 16) (index / 16))
   where
     apart : (i j : ℕ) → i < 16 → j < 16 → j ≢ i → (30 - 2 * i + 2 ≤ 30 - 2 * j) ⊎ (30 - 2 * j + 2 ≤ 30 - 2 * i)

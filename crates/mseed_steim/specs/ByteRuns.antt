@@ -1,6 +1,6 @@
 -- Runs of words of code 01, which are four differences of 8 bits each.
-use Rattle.std.specs.Prelude.{◌≡◌, ◌≢◌, ℕ, ◌==◌, Bool, false, if◌then◌else◌, List, [], ◌∷◌, length, drop, map, ℤ,
-    Result, Ok, Err}
+use Rattle.std.specs.Prelude.{◌≡◌, ◌≢◌, ℕ, ◌==◌, Bool, false, if◌then◌else◌, List, [], ◌∷◌, length, drop, map, ℤ}
+use Rattle.std.specs.Prelude.{Result, Ok, Err}
 use Rattle.mseed_steim.specs.declared.scheme.Scheme.{Scheme}
 use Rattle.mseed_steim.specs.declared.differences.BadWordAt.{BadWordAt}
 use Rattle.mseed_steim.specs.Frames.{DataWord}
@@ -46,4 +46,4 @@ words_behind (Err at) words = []
 abbrev pub UnpacksRun : List DataWord → Result ℤ BadWordAt → List ℤ → Type 0
 UnpacksRun words item ready =
     byte_run (past_empty words) ≢ [] → (scheme : Scheme) (ds : List ℤ)
-        → SpellsRun scheme (byte_run (past_empty words)) ds → map Ok ds ≡ item ∷ map Ok ready
+    → SpellsRun scheme (byte_run (past_empty words)) ds → map Ok ds ≡ item ∷ map Ok ready

@@ -1,7 +1,7 @@
 -- The frames of a Steim payload (SEED manual, appendix B): 64 bytes, 16 words of 32 bits, the highest byte
 -- first. The payload's words are counted from 0, so word k is word k % 16 of frame k / 16.
-use Rattle.std.specs.Prelude.{ℕ, ◌-◌, ◌*◌, ◌/◌, ◌%◌, ◌^◌, ◌<◌, ◌==◌, not, Bool, List, length, drop, map, slice_index_or,
-    ℤ}
+use Rattle.std.specs.Prelude.{ℕ, ◌-◌, ◌*◌, ◌/◌, ◌%◌, ◌^◌, ◌<◌, ◌==◌, not, Bool, List, length, drop, map, slice_index_or}
+use Rattle.std.specs.Prelude.{ℤ}
 use Rattle.std.specs.List.{filter, range_with_len}
 use Rattle.byteorder.specs.Endian.{big_number, twos_complement}
 

@@ -1,6 +1,6 @@
 -- How differences are packed into words as full as words can be (SEED manual, appendix B).
-use Rattle.std.specs.Prelude.{◌≡◌, ℕ, ◌/◌, ◌%◌, ◌^◌, ◌<◌, ◌≤◌, List, [], ◌∷◌, ◌++◌, take, drop, length, slice_index_or,
-    ℤ, pos}
+use Rattle.std.specs.Prelude.{◌≡◌, ℕ, ◌/◌, ◌%◌, ◌^◌, ◌<◌, ◌≤◌, List, [], ◌∷◌, ◌++◌, take, drop, length, slice_index_or}
+use Rattle.std.specs.Prelude.{ℤ, pos}
 use Rattle.mseed_steim.specs.declared.scheme.Scheme.{Scheme}
 use Rattle.mseed_steim.specs.declared.scheme.Scheme.TheVariants.{Two}
 use Rattle.mseed_steim.specs.Spelling.{IsWithin, Spells}
@@ -49,7 +49,7 @@ pub record IsFewest (ds : List ℤ) (m : ℕ) : Type 0 where
 abbrev pub IsFarthest : List ℤ → ℕ → ℕ → Type 0
 IsFarthest ds m used =
     (ws : List DataWord) (k : ℕ) (more : List ℤ) → length ws ≤ m → used < k → k ≤ length ds
-        → ¬ (SpellsRun Two ws (take k ds ++ more))
+    → ¬ (SpellsRun Two ws (take k ds ++ more))
 
 -- a data word that holds nothing
 abbrev pub IsEmptyWord : DataWord → Type 0

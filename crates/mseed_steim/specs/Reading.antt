@@ -9,8 +9,8 @@ use Rattle.mseed_steim.specs.declared.form.Form.{Form}
 use Rattle.mseed_steim.specs.declared.form.Form.TheVariants.{Integers, Frames}
 use Rattle.mseed_steim.specs.declared.fault.Ends.{Ends}
 use Rattle.mseed_steim.specs.declared.fault.ReadFault.{ReadFault}
-use Rattle.mseed_steim.specs.declared.fault.ReadFault.TheVariants.{Blockette100, Encoding, LittleSteim, DataOffset,
-    LastDiffers, Memory}
+use Rattle.mseed_steim.specs.declared.fault.ReadFault.TheVariants.{Blockette100, Encoding, LittleSteim, DataOffset}
+use Rattle.mseed_steim.specs.declared.fault.ReadFault.TheVariants.{LastDiffers, Memory}
 use Rattle.mseed_steim.specs.Samples.{form_of, IsPayloadReading, EndsOnConstant, IsPayloadFault, AreEnds}
 
 -- the number of samples
@@ -68,7 +68,7 @@ Denies v fault = (s : List ℤ) → ¬ (IsReading v s)
 abbrev pub HoldsIn : View → Form → List ℕ → Type 0
 HoldsIn v form payload =
     (v.has_rate_blockette ≡ false) × (form_of v.encoding ≡ Some form) × IsReadable form v.payload_order × HasPayload v
-        × (payload ≡ payload_of v)
+    × (payload ≡ payload_of v)
 
 -- the ends of a reading that ends on its constants, or why there's none
 abbrev pub IsAnswer : View → Result Ends ReadFault → Type 0

@@ -10,7 +10,7 @@ abbrev pub SpellsRun : Scheme → List DataWord → List ℤ → Type 0
 SpellsRun scheme [] ds = ds ≡ []
 SpellsRun scheme (w ∷ ws) ds =
     (first : List ℤ) × ((rest : List ℤ)
-        × ((ds ≡ first ++ rest) × (Spells scheme w.code w.bits first × SpellsRun scheme ws rest)))
+    × ((ds ≡ first ++ rest) × (Spells scheme w.code w.bits first × SpellsRun scheme ws rest)))
 
 -- where a bad word stands
 abbrev pub place_of : DataWord → BadWordAt

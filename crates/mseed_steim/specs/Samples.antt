@@ -1,6 +1,6 @@
 -- The samples that a payload's bytes say (SEED manual, chapter 8, blockette 1000, field 4, and appendix B).
-use Rattle.std.specs.Prelude.{◌≡◌, ◌≢◌, ⊤, ℕ, ◌+◌, ◌-◌, ◌*◌, ◌/◌, ◌^◌, ◌<◌, ◌≤◌, ◌==◌, if◌then◌else◌, List, [], ◌∷◌,
-    ◌++◌, length, slice_get, ℤ, ◌+ℤ◌, Option, Some, None, Result, Ok, Err, All}
+use Rattle.std.specs.Prelude.{◌≡◌, ◌≢◌, ⊤, ℕ, ◌+◌, ◌-◌, ◌*◌, ◌/◌, ◌^◌, ◌<◌, ◌≤◌, ◌==◌, if◌then◌else◌, List, [], ◌∷◌}
+use Rattle.std.specs.Prelude.{◌++◌, length, slice_get, ℤ, ◌+ℤ◌, Option, Some, None, Result, Ok, Err, All}
 use Rattle.mseed_time.specs.declared.order.Order.{Order}
 use Rattle.mseed_time.specs.declared.order.Order.TheVariants.{Big}
 use Rattle.mseed_time.specs.Fields.{number_at}
@@ -41,7 +41,7 @@ abbrev pub BeginsWith : Order → ℕ → List ℕ → ℕ → List ℤ → Type
 BeginsWith order width bytes place [] = ⊤
 BeginsWith order width bytes place (z ∷ zs) =
     (place + width ≤ length bytes) × IsWithin (8 * width) z
-        × (number_at order width place bytes ≡ residue (2 ^ (8 * width)) z)
+    × (number_at order width place bytes ≡ residue (2 ^ (8 * width)) z)
     × BeginsWith order width bytes (place + width) zs
 
 -- each of the samples is the one before it plus its difference, as whole numbers
@@ -111,7 +111,7 @@ AreEnds ends samples = (slice_get samples 0 ≡ Some ends.first)
 abbrev pub IsChecked : Form → Order → List ℕ → ℕ → Result Ends ReadFault → Type 0
 IsChecked form order payload n (Ok ends) =
     (samples : List ℤ) × (IsPayloadReading form order payload n samples × EndsOnConstant form payload samples
-        × AreEnds ends samples)
+    × AreEnds ends samples)
 IsChecked form order payload n (Err fault) = IsPayloadFault form payload n fault
 
 -- samples that are a reading and end on their constant, or why there are none

@@ -1,7 +1,7 @@
 -- What a word of a Steim frame spells (SEED manual, appendix B): differences in two's complement, the
 -- earlier ones in the higher bits.
-use Rattle.std.specs.Prelude.{◌≡◌, ℕ, ◌+◌, ◌-◌, ◌*◌, ◌%◌, ◌^◌, ◌<◌, ◌≤ℤ◌, ◌<ℤ◌, if◌then◌else◌, List, [], ◌∷◌, length, ℤ,
-    pos, negsuc, neg_ℤ, Some, All}
+use Rattle.std.specs.Prelude.{◌≡◌, ℕ, ◌+◌, ◌-◌, ◌*◌, ◌%◌, ◌^◌, ◌<◌, ◌≤ℤ◌, ◌<ℤ◌, if◌then◌else◌, List, [], ◌∷◌, length, ℤ}
+use Rattle.std.specs.Prelude.{pos, negsuc, neg_ℤ, Some, All}
 use Rattle.mseed_steim.specs.declared.scheme.Scheme.{Scheme}
 use Rattle.mseed_steim.specs.Groups.{Group, group_of}
 

@@ -1,6 +1,6 @@
 -- The length of a record is one of the stops at which its bytes are looked at.
-use Rattle.std.proofs.Common.{◌≡◌, ℕ, suc, ◌+◌, ◌^◌, ◌<◌, ◌≤◌, ◌++◌, Bool, true, false, List, [], ◌∷◌, length, take,
-    drop, get_or, Some, refl, sym, ap, subst, ◌∙◌, arith, ⊎_elim}
+use Rattle.std.proofs.Common.{◌≡◌, ℕ, suc, ◌+◌, ◌^◌, ◌<◌, ◌≤◌, ◌++◌, Bool, true, false, List, [], ◌∷◌, length, take}
+use Rattle.std.proofs.Common.{drop, get_or, Some, refl, sym, ap, subst, ◌∙◌, arith, ⊎_elim}
 use Rattle.std.proofs.lemmas.Bool.{cases_lt}
 use Rattle.std.proofs.lemmas.Bool.Decides.{nat_tests}
 use Rattle.std.proofs.lemmas.List.{get_or-take, take-append-drop, length-take-le, take-take}
@@ -43,9 +43,9 @@ further : (order : Order) (s n o : ℕ) (b : List ℕ) → s ≤ n
 further order s n o b l h =
     let cut : take s (take n b) ≡ take s b = take-take s n b l in
     let whole : take s b ++ drop s (take n b) ≡ take n b = ap (λ (xs : List ℕ). xs ++ drop s (take n b)) (sym cut)
-        ∙ take-append-drop s (take n b) in
+    ∙ take-append-drop s (take n b) in
     subst (λ (xs : List ℕ). HasReached (record { order = order; low = s; offset = o }) xs) whole
-        (reached_more (record { order = order; low = s; offset = o }) (take s b) (drop s (take n b)) h)
+    (reached_more (record { order = order; low = s; offset = o }) (take s b) (drop s (take n b)) h)
 
 needs_four : (order : Order) (front : List ℕ) (low o : ℕ) → low ≤ o → 0 < low → length front < o + 4
     → at_offset order front low o ≡ Some (Need (o + 4))
@@ -72,25 +72,25 @@ stop_last order os last b s r room some l stop h =
     let size_four : length (take (last + 4) b) ≡ last + 4 = length-take-le (last + 4) b (omega arith) in
     let size_eight : length (take (last + 8) b) ≡ last + 8 = length-take-le (last + 8) b room in
     let type_four : type_at order (take (last + 4) b) last ≡ 1000 = number_front order b last (last + 4) (omega arith)
-        ∙ r.chain.found in
+    ∙ r.chain.found in
     let type_eight : type_at order (take (last + 8) b) last ≡ 1000 = number_front order b last (last + 8) (omega arith)
-        ∙ r.chain.found in
+    ∙ r.chain.found in
     let exponent : exponent_at (take (last + 8) b) last ≡ exponent_at b last =
-        get_or-take (last + 8) b (last + 6) 0 (omega arith) in
+    get_or-take (last + 8) b (last + 6) 0 (omega arith) in
     let four = asked_for s (last + 4) stop (omega arith)
-        (reached_decides (record { order = order; low = s; offset = last }) (take s b) (Need (last + 4)) h
-        (needs_four order (take s b) s last l some (omega arith))) in
+    (reached_decides (record { order = order; low = s; offset = last }) (take s b) (Need (last + 4)) h
+    (needs_four order (take s b) s last l some (omega arith))) in
     let eight = asked_for (last + 4) (last + 8) four (omega arith)
-        (reached_decides (record { order = order; low = s; offset = last }) (take (last + 4) b) (Need (last + 8))
-        r_four (needs_eight order (take (last + 4) b) s last l some (omega arith) (omega arith) type_four)) in
+    (reached_decides (record { order = order; low = s; offset = last }) (take (last + 4) b) (Need (last + 8))
+    r_four (needs_eight order (take (last + 4) b) s last l some (omega arith) (omega arith) type_four)) in
     let size : length b ≡ 2 ^ exponent_at (take (last + 8) b) last = r.size ∙ ap (λ (k : ℕ). 2 ^ k) (sym exponent) in
     ⊎_elim
     (λ (less : last + 8 < length b).
     let asks = needs_whole order (take (last + 8) b) s last l some (omega arith) type_eight
-        (rw exponent r.exponent_low) (rw exponent r.exponent_high) (omega (arith, size)) (omega (arith, size)) in
+    (rw exponent r.exponent_low) (rw exponent r.exponent_high) (omega (arith, size)) (omega (arith, size)) in
     let whole = asked_for (last + 8) (2 ^ exponent_at (take (last + 8) b) last) eight room
-        (reached_decides (record { order = order; low = s; offset = last }) (take (last + 8) b)
-        (Need (2 ^ exponent_at (take (last + 8) b) last)) r_eight asks) in
+    (reached_decides (record { order = order; low = s; offset = last }) (take (last + 8) b)
+    (Need (2 ^ exponent_at (take (last + 8) b) last)) r_eight asks) in
     subst (λ (n : ℕ). IsStop b n) (sym size) whole)
     (λ (end : length b ≤ last + 8).
     let same : last + 8 ≡ length b = omega arith in
@@ -105,7 +105,7 @@ stop_along : (order : Order) (all : List ℕ) (last : ℕ) (b : List ℕ) (s o :
 stop_along order all last b s o [] r room some l stop h p =
     let here : s ≤ last = omega (arith, p) in
     stop_last order all last b s r room some here stop
-        (subst (λ (n : ℕ). HasReached (record { order = order; low = s; offset = n }) (take s b)) p h)
+    (subst (λ (n : ℕ). HasReached (record { order = order; low = s; offset = n }) (take s b)) p h)
 stop_along order all last b s o (q ∷ os) r room some l stop h p =
     let above = passes_above order b (next_at order b o) os last p.3 in
     let size_s : length (take s b) ≡ s = length-take-le s b (omega (arith, p.2)) in
@@ -113,13 +113,13 @@ stop_along order all last b s o (q ∷ os) r room some l stop h p =
     let r_four = further order s (o + 4) o b (omega arith) h in
     let type : type_at order (take (o + 4) b) o ≡ type_at order b o = number_front order b o (o + 4) (omega arith) in
     let next : next_at order (take (o + 4) b) o ≡ next_at order b o =
-        number_front order b (o + 2) (o + 4) (omega arith) in
+    number_front order b (o + 2) (o + 4) (omega arith) in
     let none = none_at order (take (o + 4) b) s o l some (omega arith) (λ t. p.1 (sym type ∙ t)) in
     let four = asked_for s (o + 4) stop (omega (arith, p.2))
-        (reached_decides (record { order = order; low = s; offset = o }) (take s b) (Need (o + 4)) h
-        (needs_four order (take s b) s o l some (omega arith))) in
+    (reached_decides (record { order = order; low = s; offset = o }) (take s b) (Need (o + 4)) h
+    (needs_four order (take s b) s o l some (omega arith))) in
     let on = reached_next (record { order = order; low = s; offset = o }) (take (o + 4) b) (next_at order b o) r_four
-        none (sym next) (number_small order b (o + 2) r.octets) in
+    none (sym next) (number_small order b (o + 2) r.octets) in
     stop_along order all last b (o + 4) (next_at order b o) os r room (omega arith) p.2 four on p.3
 
 stop_by : (b : List ℕ) (order : Order) (os : List ℕ) (last : ℕ) → IsRecordBy order os last b → IsStop b (length b)
@@ -130,7 +130,7 @@ stop_by b order os last r =
     let size : length (take 48 b) ≡ 48 = length-take-le 48 b (omega arith) in
     let fixed : has_fixed_bytes (take 48 b) ≡ true = fixed_front b 48 (omega arith) ∙ r.fixed in
     let begins : blockette_at order b ≡ blockette_at order (take 48 b) =
-        sym (number_front order b 46 48 (omega arith)) in
+    sym (number_front order b 46 48 (omega arith)) in
     let header : IsStop b 48 = asked_for 0 48 at_start (omega arith) (short refl (omega arith)) in
     let reached : HasReached (record { order = order; low = 48; offset = blockette_at order b }) (take 48 b) = record {
       other_version = false_is (is_version3 (take 48 b)) (other_version (take 48 b) fixed);
@@ -157,5 +157,5 @@ pub read_to_record : (front bytes : List ℕ) (is_at_end : Bool) → front ≡ b
     → IsReadTo front is_at_end
 read_to_record front bytes is_at_end same r going =
     let stop : IsStop front (length front) =
-        subst (λ (xs : List ℕ). IsStop xs (length xs)) (sym same) (stop_record_end bytes r) in
+    subst (λ (xs : List ℕ). IsStop xs (length xs)) (sym same) (stop_record_end bytes r) in
     subst (λ (e : Bool). IsReadTo front e) (sym going) stop

@@ -1,6 +1,6 @@
 -- What a cutter answers, by what it holds.
-use Rattle.std.proofs.Common.{◌≡◌, ℕ, ◌<◌, ◌≤◌, Bool, true, false, List, length, take, Result, Ok, Err, IfErr, [], ◌∷◌,
-    refl, sym, ap, subst, ◌∙◌, ◌+◌, ◌++◌, arith, ⊎_elim, length-append}
+use Rattle.std.proofs.Common.{◌≡◌, ℕ, ◌<◌, ◌≤◌, Bool, true, false, List, length, take, Result, Ok, Err, IfErr, [], ◌∷◌}
+use Rattle.std.proofs.Common.{refl, sym, ap, subst, ◌∙◌, ◌+◌, ◌++◌, arith, ⊎_elim, length-append}
 use Rattle.std.proofs.lemmas.List.{append-nil}
 use Rattle.std.proofs.lemmas.Bool.{cases_lt}
 use Rattle.mseed_record.specs.declared.frame.Scan.TheVariants.{Need}
@@ -53,9 +53,11 @@ cutting_err (Read n) c before after old middle new needed is offset room fine go
     (is.0 ∙ offset, is.1 ∙ ap (λ (k : ℕ). k + 1) fine, is.2, (needed, (stop, less)))
 cutting_err (Turns n) c before after old middle new needed is offset room fine going stop less asks =
     (is.0 ∙ offset, is.1 ∙ fine, is.2, is.3, (needed, (stop, less)))
-cutting_err Memory c before after old middle new needed is offset room fine going stop less asks =
-    (ap (λ (h : Heard). h.failures) is.1 ∙ fine, ap (λ (h : Heard). h.is_at_end) is.1 ∙ going,
-        (needed, omega (arith, room, is.0), asks is.1))
+cutting_err Memory c before after old middle new needed is offset room fine going stop less asks = (
+  ap (λ (h : Heard). h.failures) is.1 ∙ fine,
+  ap (λ (h : Heard). h.is_at_end) is.1 ∙ going,
+  (needed, omega (arith, room, is.0), asks is.1),
+)
 
 pub stops_again : (b : List ℕ) (n : ℕ) (is_at_end : Bool) → IsStop b n → (is_at_end ≡ false → length b ≡ n)
     → (is_at_end ≡ true → length b < n) → IsReadTo b is_at_end
@@ -85,7 +87,7 @@ pub first_fill : (before after : List ℕ) (needed : ℕ) (is_at_end : Bool) →
     → (is_at_end ≡ false → length after ≡ needed) → (is_at_end ≡ true → length after < needed) → length after ≤ 48
 first_fill before after needed is_at_end none d whole short_of =
     let asks : Decides before (Need 48) =
-        subst (λ (xs : List ℕ). Decides xs (Need 48)) (sym none) (short refl (omega arith)) in
+    subst (λ (xs : List ℕ). Decides xs (Need 48)) (sym none) (short refl (omega arith)) in
     let same : Need needed ≡ Need 48 = one_answer before (Need needed) (Need 48) d asks in
     let least : needed ≡ 48 = cc in
     go is_at_end whole short_of least
@@ -112,5 +114,5 @@ none_asked first before after [] o m n grown calls asked same quiet none = grown
     ∙ same (omega (arith, none, calls))
 none_asked first before after (x ∷ more) o m n grown calls asked same quiet none =
     let size : length after ≡ length before + length (x ∷ more) = ap (λ (xs : List ℕ). length xs) grown
-        ∙ length-append before (x ∷ more) in
+    ∙ length-append before (x ∷ more) in
     absurd (omega (arith, quiet (omega (arith, size)), none, asked))

@@ -1,6 +1,6 @@
 -- What one more read adds to what a cutter holds.
-use Rattle.std.proofs.Common.{◌≡◌, ℕ, ◌+◌, ◌-◌, ◌^◌, ◌<◌, ◌≤◌, ◌++◌, List, [], length, take, drop, false, sym, ap,
-    subst, ◌∙◌, arith, length-append}
+use Rattle.std.proofs.Common.{◌≡◌, ℕ, ◌+◌, ◌-◌, ◌^◌, ◌<◌, ◌≤◌, ◌++◌, List, [], length, take, drop, false, sym, ap}
+use Rattle.std.proofs.Common.{subst, ◌∙◌, arith, length-append}
 use Rattle.std.proofs.lemmas.List.{take-take, drop-append-le}
 use Rattle.std.proofs.Math.Seq.{take-add, take-append_seam}
 use Rattle.std.specs.Prelude.{slice_range}
@@ -18,9 +18,9 @@ pub front_more : (held now : List ℕ) (have n needed : ℕ) → take have now �
     → take (have + n) now ≡ take have held ++ take n (slice_range now have needed)
 front_more held now have n needed same fits =
     let cut : take n (take (needed - have) (drop have now)) ≡ take n (drop have now) =
-        take-take n (needed - have) (drop have now) (omega arith) in
+    take-take n (needed - have) (drop have now) (omega arith) in
     take-add have n now ∙ (ap (λ (xs : List ℕ). xs ++ take n (drop have now)) same
-        ∙ ap (λ (xs : List ℕ). take have held ++ xs) (sym cut))
+    ∙ ap (λ (xs : List ℕ). take have held ++ xs) (sym cut))
 
 pub held_is : (c : Standing) → c.is_lent ≡ false → held_of c ≡ c.front
 held_is c e = rw e
@@ -34,11 +34,11 @@ heard_more h now c after more is lent lent_after offset front bytes calls reads 
     let held_after : held_of after ≡ c.front ++ more = held_is after lent_after ∙ front in
     let size : length h.bytes ≡ c.offset + length c.front = is.told ∙ ap (λ (xs : List ℕ). c.offset + length xs) held in
     let size_now : length now.bytes ≡ length h.bytes + length more = ap (λ (xs : List ℕ). length xs) bytes
-        ∙ length-append h.bytes more in
+    ∙ length-append h.bytes more in
     let size_held : length (held_of after) ≡ length c.front + length more = ap (λ (xs : List ℕ). length xs) held_after
-        ∙ length-append c.front more in
+    ∙ length-append c.front more in
     let size_front : length after.front ≡ length c.front + length more = ap (λ (xs : List ℕ). length xs) front
-        ∙ length-append c.front more in
+    ∙ length-append c.front more in
     let bounded = is.few_bytes in
     let asked = is.reads in
     record {
@@ -59,16 +59,22 @@ pub heard_whole : (h now : Heard) (c middle after : Standing) (room : ℕ) (byte
     → after ≡ record middle { front = bytes; reads = middle.reads + 2 } → now.bytes ≡ h.bytes ++ bytes
     → now.calls ≡ h.calls + 2 → c.reads + 2 ≤ 2 ^ 40 → length bytes ≤ room → IsHeard now after
 heard_whole h now c middle after room bytes is lent none middle_is small after_is told calls few fits =
-    let target : Standing = record { offset = c.offset; front = bytes; is_lent = c.is_lent; room = room;
-        reads = c.reads + 2; answer = c.answer } in
+    let target : Standing = record {
+      offset = c.offset;
+      front = bytes;
+      is_lent = c.is_lent;
+      room = room;
+      reads = c.reads + 2;
+      answer = c.answer;
+    } in
     let same : after ≡ target =
-        after_is ∙ ap (λ (m : Standing). let n : Standing = record m { front = bytes; reads = m.reads + 2 } in
-        n) middle_is in
+    after_is ∙ ap (λ (m : Standing). let n : Standing = record m { front = bytes; reads = m.reads + 2 } in
+    n) middle_is in
     let held : held_of c ≡ [] = held_is c lent ∙ none in
     let held_after : held_of target ≡ bytes = held_is target lent in
     let size : length h.bytes ≡ c.offset + 0 = is.told ∙ ap (λ (xs : List ℕ). c.offset + length xs) held in
     let size_now : length now.bytes ≡ length h.bytes + length bytes = ap (λ (xs : List ℕ). length xs) told
-        ∙ length-append h.bytes bytes in
+    ∙ length-append h.bytes bytes in
     let size_held : length (held_of target) ≡ length bytes = ap (λ (xs : List ℕ). length xs) held_after in
     let bounded = is.few_bytes in
     let asked = is.reads in
@@ -99,7 +105,7 @@ held_grows h now c after more is then lent lent_after offset bytes =
     let size = is.told in
     let within : c.offset ≤ length h.bytes = omega arith in
     sym (then.held ∙ held_is after lent_after)
-        ∙ (ap (λ (xs : List ℕ). drop after.offset xs) bytes ∙ (ap (λ (n : ℕ). drop n (h.bytes ++ more)) offset
+    ∙ (ap (λ (xs : List ℕ). drop after.offset xs) bytes ∙ (ap (λ (n : ℕ). drop n (h.bytes ++ more)) offset
     ∙ (drop-append-le c.offset h.bytes more within ∙ ap (λ (xs : List ℕ). xs ++ more) (is.held ∙ held_is c lent))))
 
 -- and stays where nothing is told
@@ -107,5 +113,5 @@ pub held_stays : (h now : Heard) (c after : Standing) → IsHeard h c → IsHear
     → after.is_lent ≡ false → after.offset ≡ c.offset → now ≡ h → after.front ≡ c.front
 held_stays h now c after is then lent lent_after offset same =
     sym (then.held ∙ held_is after lent_after)
-        ∙ (ap (λ (n : ℕ). drop n now.bytes) offset
-        ∙ (ap (λ (x : Heard). drop c.offset x.bytes) same ∙ (is.held ∙ held_is c lent)))
+    ∙ (ap (λ (n : ℕ). drop n now.bytes) offset
+    ∙ (ap (λ (x : Heard). drop c.offset x.bytes) same ∙ (is.held ∙ held_is c lent)))

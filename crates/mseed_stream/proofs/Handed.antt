@@ -1,14 +1,14 @@
 -- The records that a cutter handed out, and the archive that they are.
-use Rattle.std.proofs.Common.{◌≡◌, ℕ, ◌+◌, ◌≤◌, ◌++◌, List, [], ◌∷◌, length, take, drop, Option, Some, None, Result, Ok,
-    Err, IfErr, IfOk, IfSome, refl, sym, ap, subst, ◌∙◌, arith, length-take}
+use Rattle.std.proofs.Common.{◌≡◌, ℕ, ◌+◌, ◌≤◌, ◌++◌, List, [], ◌∷◌, length, take, drop, Option, Some, None, Result, Ok}
+use Rattle.std.proofs.Common.{Err, IfErr, IfOk, IfSome, refl, sym, ap, subst, ◌∙◌, arith, length-take}
 use Rattle.std.proofs.lemmas.List.{append-nil, take-append-le, take-append-drop}
 use Rattle.std.proofs.lemmas.List.Folds.{concat-append}
 use Rattle.std.proofs.Math.Seq.{take-add, take-length}
 use Rattle.std.specs.List.{concat, AllByRecursion}
 use Rattle.mseed_record.specs.Record.{IsRecord}
 use Rattle.mseed_record.proofs.Answered.{answered}
-use Rattle.mseed_stream.specs.Archive.{HasNoFurther, IsArchive, HasRecords, End, IsEndOf, clean, frame, truncated,
-    is_clean, is_frame, is_truncated}
+use Rattle.mseed_stream.specs.Archive.{HasNoFurther, IsArchive, HasRecords, End, IsEndOf, clean, frame, truncated}
+use Rattle.mseed_stream.specs.Archive.{is_clean, is_frame, is_truncated}
 use Rattle.mseed_stream.specs.Device.{Heard}
 use Rattle.mseed_stream.specs.Cutting.{told_from, moves_by, handed_by, IfEnds, IsCutFault, IsCleanEnd}
 use Rattle.mseed_stream.specs.declared.fault.StreamFault.{StreamFault}
@@ -52,7 +52,7 @@ pub records_more : (old new more : List ℕ) (offset : ℕ) (records : List (Lis
 records_more old new more offset records l e is has =
     let r : List ℕ = drop offset new in
     let cut : take (offset + length r) new ≡ take offset new ++ r = take-add offset (length r) new
-        ∙ ap (λ (xs : List ℕ). take offset new ++ xs) (take-length r) in
+    ∙ ap (λ (xs : List ℕ). take offset new ++ xs) (take-length r) in
     let front : take offset new ≡ concat records = same_front old new more offset l e ∙ has.joined in
     let one : concat (r ∷ []) ≡ r = append-nil r in
     record {

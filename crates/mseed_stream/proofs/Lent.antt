@@ -1,6 +1,6 @@
 -- What a buffered reader lends is the front of what it is known to have left.
-use Rattle.std.proofs.Common.{◌≡◌, ℕ, ◌==◌, ◌++◌, Bool, true, false, if◌then◌else◌, List, [], take, drop, Option, Some,
-    None, sym, ap, ◌∙◌, append_assoc, refl, zero, suc}
+use Rattle.std.proofs.Common.{◌≡◌, ℕ, ◌==◌, ◌++◌, Bool, true, false, if◌then◌else◌, List, [], take, drop, Option, Some}
+use Rattle.std.proofs.Common.{None, sym, ap, ◌∙◌, append_assoc, refl, zero, suc}
 use Rattle.std.proofs.lemmas.List.{take-append-drop}
 use Rattle.std.specs.Io.KnownBytes.{Consumes, prepend_known}
 use Rattle.std.specs.Io.Buffered.{reader_buffer, reader_capacity, reader_inner, reader_remaining}
@@ -24,7 +24,7 @@ reader_taken : {T A : Type 0} (remaining : T → Option (List ℕ)) (old new : B
     → Consumes (reader_remaining remaining old) (reader_remaining remaining new) (take n (reader_buffer old))
 reader_taken remaining old new n capacity inner buffer =
     rw (capacity, inner, buffer) (where_known (reader_capacity old == 0) (remaining (reader_inner old))
-        (reader_buffer old) n)
+    (reader_buffer old) n)
 
 none_taken : (n : ℕ) (xs : List ℕ) → xs ≡ [] → xs ≡ take n xs ++ []
 none_taken zero xs e = e

@@ -1,6 +1,6 @@
 -- What was heard of an input has one list of records, and one end behind them.
-use Rattle.std.proofs.Common.{◌≡◌, ℕ, suc, ◌<◌, ◌≤◌, ◌++◌, Bool, true, false, List, [], ◌∷◌, length, take, drop, Option,
-    Some, None, refl, sym, ap, subst, ◌∙◌, arith, ⊎_elim, append-nil, length-take}
+use Rattle.std.proofs.Common.{◌≡◌, ℕ, suc, ◌<◌, ◌≤◌, ◌++◌, Bool, true, false, List, [], ◌∷◌, length, take, drop, Option}
+use Rattle.std.proofs.Common.{Some, None, refl, sym, ap, subst, ◌∙◌, arith, ⊎_elim, append-nil, length-take}
 use Rattle.std.proofs.lemmas.Bool.{cases_lt, false≢true}
 use Rattle.std.proofs.lemmas.List.{take-append-drop}
 use Rattle.std.proofs.Math.Seq.{take-length}
@@ -76,7 +76,7 @@ refused_whole b f s d (n, (t, past)) = ⊎_elim
     cc (one_answer b (Not f) (Need it.next) d asks))
     (λ (other : index b n t ≤ index b (length b) s). ⊎_elim
     (λ (less : index b n t < index b (length b) s). let it = earlier b n (length b) t s less in
-        omega (arith, it.within))
+    omega (arith, it.within))
     (λ (last : index b (length b) s ≤ index b n t).
     let same : n ≡ length b = same_stop b n (length b) t s (omega (arith, other, last)) in
     omega arith)
@@ -112,7 +112,7 @@ pub one_views : (bytes : List ℕ) (offset : ℕ) (vs ws : List View) → AreVie
     → vs ≡ ws
 one_views bytes offset vs ws a b =
     let both = one_archive (take offset bytes) (bytes_in vs) (bytes_in ws) [] [] (archive_to bytes offset vs a)
-        (archive_to bytes offset ws b) in
+    (archive_to bytes offset ws b) in
     same_views vs ws a.each b.each both.0
 
 -- no record begins behind the last
@@ -161,8 +161,8 @@ ends None offset h is = by_bytes clean is.0.0 is.1 (λ going. absurd (not_both h
 ends (Some (Frame n f)) offset h is =
     let told : List ℕ = told_from offset h in
     by_bytes (frame f) is.0.1 is.2
-        (λ going. (f, (subst (λ (b : Bool). IsReadTo told b) going is.0.2, refused_of told f is.0.1)))
-        (ap (λ (k : ℕ). Some (Frame k f)) is.0.0)
+    (λ going. (f, (subst (λ (b : Bool). IsReadTo told b) going is.0.2, refused_of told f is.0.1)))
+    (ap (λ (k : ℕ). Some (Frame k f)) is.0.0)
 ends (Some (Truncated n have)) offset h is =
     by_bytes (truncated have) is.0.1 is.2 (λ going. absurd (not_both h.is_at_end is.0.2 going))
     (ap (λ (k : ℕ). Some (Truncated k have)) is.0.0)
@@ -199,6 +199,6 @@ one_input h vs ws a b p q =
     (archive_is p.offset vs a h p.records p.ends) (archive_is q.offset ws b h q.records q.ends) in
     let views : vs ≡ ws = same_views vs ws p.records.each q.records.each both.0 in
     let offset : p.offset ≡ q.offset = sym p.records.offset_is
-        ∙ ap (λ (xs : List View). length (concat (bytes_in xs))) views ∙ q.records.offset_is in
+    ∙ ap (λ (xs : List View). length (concat (bytes_in xs))) views ∙ q.records.offset_is in
     let ending : IsEnd a q.offset h = subst (λ (n : ℕ). IsEnd a n h) offset p.ends in
     (views, same_end q.offset h a b (ends a q.offset h ending) (ends b q.offset h q.ends))

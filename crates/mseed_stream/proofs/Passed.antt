@@ -1,13 +1,13 @@
 -- A cutter that goes behind a record which its source holds whole.
-use Rattle.std.proofs.Common.{◌≡◌, ℕ, ◌+◌, ◌-◌, ◌^◌, ◌≤◌, ◌++◌, List, [], ◌∷◌, length, take, drop, false, refl, sym, ap,
-    subst, ◌∙◌, arith, append_assoc, length-append, drop-drop}
+use Rattle.std.proofs.Common.{◌≡◌, ℕ, ◌+◌, ◌-◌, ◌^◌, ◌≤◌, ◌++◌, List, [], ◌∷◌, length, take, drop, false, refl, sym, ap}
+use Rattle.std.proofs.Common.{subst, ◌∙◌, arith, append_assoc, length-append, drop-drop}
 use Rattle.std.proofs.lemmas.List.{drop_all, drop-append-le, length-take-le}
 use Rattle.mseed_record.specs.Record.{IsRecord}
 use Rattle.mseed_record.specs.Scan.{short}
 use Rattle.mseed_record.specs.View.{View, IsView}
 use Rattle.mseed_stream.specs.Archive.{HasRecords}
-use Rattle.mseed_stream.specs.Cutting.{IsAhead, IsAlong, IsEnding, IsHeard, at_start, held_of, asks_of, told_from,
-    told_whole}
+use Rattle.mseed_stream.specs.Cutting.{IsAhead, IsAlong, IsEnding, IsHeard, at_start, held_of, asks_of, told_from}
+use Rattle.mseed_stream.specs.Cutting.{told_whole}
 use Rattle.mseed_stream.specs.Device.{Heard, told_also}
 use Rattle.mseed_stream.specs.Standing.{Standing}
 use Rattle.mseed_stream.specs.Walk.{HasHandedOut, bytes_in}
@@ -27,7 +27,7 @@ pub rest_twice : (size : ℕ) (lent middle after : List ℕ) → 48 ≤ size →
 rest_twice size lent middle after l first second =
     let all : 48 + (size - 48) ≡ size = omega arith in
     second ∙ (ap (λ (xs : List ℕ). drop (size - 48) xs) first
-        ∙ (drop-drop (size - 48) 48 lent ∙ ap (λ (n : ℕ). drop n lent) all))
+    ∙ (drop-drop (size - 48) 48 lent ∙ ap (λ (n : ℕ). drop n lent) all))
 
 -- how the cutter stands then
 abbrev pub passed : Standing → ℕ → Standing
@@ -41,8 +41,12 @@ pub stands_behind : (here old : Standing) (size : ℕ) → here ≡ record old {
     → held_of old ≡ [] → behind here size ≡ passed old size
 stands_behind here old size is none =
     ap (λ (s : Standing). behind s size) is
-    ∙ ap (λ (xs : List ℕ). let s : Standing = record old { offset = old.offset + size; front = xs; is_lent = false;
-    reads = old.reads + 2 } in s) none
+    ∙ ap (λ (xs : List ℕ). let s : Standing = record old {
+      offset = old.offset + size;
+      front = xs;
+      is_lent = false;
+      reads = old.reads + 2;
+    } in s) none
 
 passed_heard : (h : Heard) (c : Standing) (bytes : List ℕ) → IsHeard h c → held_of c ≡ [] → c.reads + 2 ≤ 2 ^ 40
     → length bytes ≤ 2 ^ 20 → IsHeard (told_whole h bytes) (passed c (length bytes))
@@ -67,7 +71,7 @@ passed_along h c size lent is ahead =
     let long : length bytes ≡ size = length-take-le size lent ahead.whole in
     let heard : IsHeard (told_whole h bytes) (passed c size) =
     subst (λ (n : ℕ). IsHeard (told_whole h bytes) (passed c n)) long
-        (passed_heard h c bytes is.heard ahead.none ahead.turns (record_few bytes ahead.is_record)) in
+    (passed_heard h c bytes is.heard ahead.none ahead.turns (record_few bytes ahead.is_record)) in
     record {
       heard = heard;
       stop = λ same. at_start;
@@ -93,9 +97,9 @@ passed_records h c size lent records is ahead has =
     let told : told_from c.offset now ≡ bytes = told_then h c bytes is ahead.none in
     let within : c.offset ≤ length h.bytes = omega (arith, is.told) in
     let more = records_more h.bytes now.bytes bytes c.offset records within refl
-        (subst IsRecord (sym told) ahead.is_record) has in
+    (subst IsRecord (sym told) ahead.is_record) has in
     subst (λ (n : ℕ). HasRecords now.bytes (c.offset + n) (records ++ bytes ∷ [])) long
-        (subst (λ (xs : List ℕ). HasRecords now.bytes (c.offset + length xs) (records ++ xs ∷ [])) told more)
+    (subst (λ (xs : List ℕ). HasRecords now.bytes (c.offset + length xs) (records ++ xs ∷ [])) told more)
 
 pub passed_handed : (h : Heard) (c : Standing) (size : ℕ) (lent : List ℕ) (views : List View) (v : View)
     → IsAhead size c lent → HasHandedOut h c views → IsView v → v.bytes ≡ take size lent
@@ -108,9 +112,9 @@ passed_handed h c size lent views v ahead before is same =
     let told : told_from c.offset now ≡ bytes = told_then h c bytes heard ahead.none in
     let within : c.offset ≤ length h.bytes = omega (arith, heard.told) in
     let more = records_more h.bytes now.bytes bytes c.offset (bytes_in views) within refl
-        (subst IsRecord (sym told) ahead.is_record) before.records.records in
+    (subst IsRecord (sym told) ahead.is_record) before.records.records in
     let offset : c.offset + size ≡ c.offset + length (told_from c.offset now) = ap (λ (n : ℕ). c.offset + n) (sym long)
-        ∙ ap (λ (xs : List ℕ). c.offset + length xs) (sym told) in
+    ∙ ap (λ (xs : List ℕ). c.offset + length xs) (sym told) in
     let asks : asks_of (held_of c) ≡ 0 = ap (λ (xs : List ℕ). asks_of xs) ahead.none in
     handed_record h now c (passed c size) views v before is (same ∙ sym told) more
-        (passed_along h c size lent before.along ahead) offset ahead.goes_on refl (omega (arith, asks))
+    (passed_along h c size lent before.along ahead) offset ahead.goes_on refl (omega (arith, asks))

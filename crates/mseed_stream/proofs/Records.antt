@@ -1,6 +1,6 @@
 -- An archive's records are the only ones.
-use Rattle.std.proofs.Common.{◌≡◌, ℕ, ◌≤◌, ◌++◌, List, [], ◌∷◌, length, take, refl, sym, ap, subst, ◌∙◌, arith,
-    append_assoc, length-append, length-take}
+use Rattle.std.proofs.Common.{◌≡◌, ℕ, ◌≤◌, ◌++◌, List, [], ◌∷◌, length, take, refl, sym, ap, subst, ◌∙◌, arith}
+use Rattle.std.proofs.Common.{append_assoc, length-append, length-take}
 use Rattle.std.proofs.lemmas.List.{append_cancel_left}
 use Rattle.std.proofs.Math.Seq.{take-append_seam}
 use Rattle.std.specs.List.{concat}
@@ -26,8 +26,8 @@ one_first bytes r s tail rest is it d e =
     let one = front_is r tail bytes d in
     let two = front_is s rest bytes e in
     let same : length r ≡ length s =
-        one_record bytes (length r) (length s) fits within (subst (λ (xs : List ℕ). IsRecord xs) (sym one) is)
-        (subst (λ (xs : List ℕ). IsRecord xs) (sym two) it) in
+    one_record bytes (length r) (length s) fits within (subst (λ (xs : List ℕ). IsRecord xs) (sym one) is)
+    (subst (λ (xs : List ℕ). IsRecord xs) (sym two) it) in
     sym one ∙ (ap (λ (n : ℕ). take n bytes) same ∙ two)
 
 -- the records of an archive and what is left behind them are the only ones
@@ -36,22 +36,22 @@ pub one_archive : (bytes : List ℕ) (records others : List (List ℕ)) (rest le
 one_archive bytes [] [] rest left a b = (refl, sym a.joined ∙ b.joined)
 one_archive bytes [] (s ∷ others) rest left a b =
     absurd (none_left bytes s (concat others ++ left) rest b.each.0 (b.joined ∙ append_assoc s (concat others) left)
-        a.joined a.no_further)
+    a.joined a.no_further)
 one_archive bytes (r ∷ records) [] rest left a b =
     absurd (none_left bytes r (concat records ++ rest) left a.each.0 (a.joined ∙ append_assoc r (concat records) rest)
-        b.joined b.no_further)
+    b.joined b.no_further)
 one_archive bytes (r ∷ records) (s ∷ others) rest left a b =
     let one : bytes ≡ r ++ (concat records ++ rest) = a.joined ∙ append_assoc r (concat records) rest in
     let two : bytes ≡ s ++ (concat others ++ left) = b.joined ∙ append_assoc s (concat others) left in
     let first : r ≡ s = one_first bytes r s (concat records ++ rest) (concat others ++ left) a.each.0 b.each.0 one
-        two in
+    two in
     let again : r ++ (concat records ++ rest) ≡ r ++ (concat others ++ left) =
-        sym one ∙ (two ∙ ap (λ (xs : List ℕ). xs ++ (concat others ++ left)) (sym first)) in
+    sym one ∙ (two ∙ ap (λ (xs : List ℕ). xs ++ (concat others ++ left)) (sym first)) in
     let tail : concat records ++ rest ≡ concat others ++ left =
-        append_cancel_left r (concat records ++ rest) (concat others ++ left) again in
+    append_cancel_left r (concat records ++ rest) (concat others ++ left) again in
     let later = one_archive (concat records ++ rest) records others rest left
     (record { joined = refl; each = a.each.1; no_further = a.no_further })
-        (record { joined = tail; each = b.each.1; no_further = b.no_further }) in
+    (record { joined = tail; each = b.each.1; no_further = b.no_further }) in
     (ap (λ (x : List ℕ). x ∷ records) first ∙ ap (λ (xs : List (List ℕ)). s ∷ xs) later.0, later.1)
 
 -- a view shows a record

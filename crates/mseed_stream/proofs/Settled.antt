@@ -1,6 +1,6 @@
 -- A cutter stays along what its source told, whatever it answers.
-use Rattle.std.proofs.Common.{◌≡◌, ◌≢◌, ℕ, ◌+◌, ◌*◌, ◌<◌, ◌≤◌, Bool, true, false, List, [], ◌∷◌, length, Option, Some,
-    None, Result, Ok, Err, IfOk, IfErr, IfSome, refl, sym, ap, subst, ◌∙◌, arith, ⊎_elim}
+use Rattle.std.proofs.Common.{◌≡◌, ◌≢◌, ℕ, ◌+◌, ◌*◌, ◌<◌, ◌≤◌, Bool, true, false, List, [], ◌∷◌, length, Option, Some}
+use Rattle.std.proofs.Common.{None, Result, Ok, Err, IfOk, IfErr, IfSome, refl, sym, ap, subst, ◌∙◌, arith, ⊎_elim}
 use Rattle.std.proofs.lemmas.Bool.{cases_lt}
 use Rattle.std.proofs.lemmas.List.{drop_all}
 use Rattle.mseed_record.specs.Record.{IsRecord}
@@ -9,8 +9,8 @@ use Rattle.mseed_record.specs.declared.frame.Scan.TheVariants.{Need}
 use Rattle.mseed_stream.specs.Archive.{IsEndOf, clean, frame, truncated, is_clean}
 use Rattle.mseed_stream.specs.Device.{Heard}
 use Rattle.mseed_stream.specs.Standing.{Standing}
-use Rattle.mseed_stream.specs.Cutting.{IsStop, at_start, told_from, IsHeard, IsAlong, IsEnding, FallsShort, IsReadTo,
-    is_short, IsCutFault, IsCleanEnd, answer_of, held_of, asks_of, count_of}
+use Rattle.mseed_stream.specs.Cutting.{IsStop, at_start, told_from, IsHeard, IsAlong, IsEnding, FallsShort, IsReadTo}
+use Rattle.mseed_stream.specs.Cutting.{is_short, IsCutFault, IsCleanEnd, answer_of, held_of, asks_of, count_of}
 use Rattle.mseed_stream.specs.private.Steps.{IsCuttingFault, lent_of, settled}
 use Rattle.mseed_stream.specs.declared.cutter.Ending.{Ending}
 use Rattle.mseed_stream.specs.declared.cutter.Ending.TheVariants.{Clean, Fault}
@@ -98,16 +98,24 @@ along_memory h c is lent goes stop going_on n asks =
 pub cut_fault : (e : StreamFault) (c after : Standing) (old new : Heard) → IsHeard new after → after.is_lent ≡ false
     → after.offset ≡ c.offset → IsCuttingFault e c after old new → IsCutFault e after.offset new
 cut_fault (Frame n f) c after old new is lent offset it =
-    let told = sym (told_is new after is lent) in
-    (it.0 ∙ sym offset, subst (λ (xs : List ℕ). IsEndOf xs (frame f)) told it.2,
-        subst (λ (xs : List ℕ). IsReadTo xs new.is_at_end) told it.3)
-cut_fault (Truncated n have) c after old new is lent offset it =
-    (it.0 ∙ sym offset, subst (λ (xs : List ℕ). IsEndOf xs (truncated have)) (sym (told_is new after is lent)) it.2,
-    it.3)
+    let told = sym (told_is new after is lent) in (
+      it.0 ∙ sym offset,
+      subst (λ (xs : List ℕ). IsEndOf xs (frame f)) told it.2,
+      subst (λ (xs : List ℕ). IsReadTo xs new.is_at_end) told it.3,
+    )
+cut_fault (Truncated n have) c after old new is lent offset it = (
+  it.0 ∙ sym offset,
+  subst (λ (xs : List ℕ). IsEndOf xs (truncated have)) (sym (told_is new after is lent)) it.2,
+  it.3,
+)
 cut_fault (Read n) c after old new is lent offset it =
-    let one = it.1 in
-    (it.0 ∙ sym offset, omega arith, it.2, subst (λ (xs : List ℕ). FallsShort xs) (sym (told_is new after is lent))
-        it.3)
+    let one = it.1 in (
+      it.0 ∙ sym offset,
+      omega arith,
+      it.2,
+      subst (λ (xs : List ℕ). FallsShort xs) (sym (told_is new after is lent))
+          it.3,
+    )
 cut_fault (Turns n) c after old new is lent offset it =
     (it.0 ∙ sym offset, it.2, it.3, subst (λ (xs : List ℕ). FallsShort xs) (sym (told_is new after is lent)) it.4)
 cut_fault Memory c after old new is lent offset it = tt
@@ -130,7 +138,7 @@ along_settled (Err (Frame n f)) c after old new is lent goes offset one ended re
     along_fault new after (Frame n f) is (λ e. cc) (cut_fault (Frame n f) c after old new is lent offset fault)
 along_settled (Err (Truncated n have)) c after old new is lent goes offset one ended read fault =
     along_fault new after (Truncated n have) is (λ e. cc)
-        (cut_fault (Truncated n have) c after old new is lent offset fault)
+    (cut_fault (Truncated n have) c after old new is lent offset fault)
 along_settled (Err (Read n)) c after old new is lent goes offset one ended read fault =
     along_fault new after (Read n) is (λ e. cc) (cut_fault (Read n) c after old new is lent offset fault)
 along_settled (Err (Turns n)) c after old new is lent goes offset one ended read fault =
@@ -162,7 +170,7 @@ fault_again result answer Clean offset h same is ending =
     subst (λ (r : Result (Option ℕ) StreamFault). IfErr r (λ f. IsCutFault f offset h)) (sym is) tt
 fault_again result answer (Fault f) offset h same is ending =
     let it : IsEnding (Fault f) offset h =
-        subst (λ (o : Option Ending). IfSome o (λ x. IsEnding x offset h)) same ending in
+    subst (λ (o : Option Ending). IfSome o (λ x. IsEnding x offset h)) same ending in
     subst (λ (r : Result (Option ℕ) StreamFault). IfErr r (λ x. IsCutFault x offset h)) (sym is) it.0
 
 pub end_again : (result : Result (Option ℕ) StreamFault) (answer : Option Ending) (e : Ending) (offset : ℕ) (h : Heard)

@@ -1,6 +1,6 @@
 -- The records of a slice, one after another.
-use Rattle.std.proofs.Common.{◌≡◌, ℕ, ◌+◌, ◌-◌, ◌<◌, ◌≤◌, ◌^◌, ◌++◌, List, [], ◌∷◌, length, take, drop, refl, sym, ap,
-    subst, ◌∙◌, arith, length-drop, suc, Err}
+use Rattle.std.proofs.Common.{◌≡◌, ℕ, ◌+◌, ◌-◌, ◌<◌, ◌≤◌, ◌^◌, ◌++◌, List, [], ◌∷◌, length, take, drop, refl, sym, ap}
+use Rattle.std.proofs.Common.{subst, ◌∙◌, arith, length-drop, suc, Err}
 use Rattle.std.proofs.lemmas.List.{append-nil, take-append-drop, length-take-le, take_all}
 use Rattle.std.proofs.lemmas.List.Folds.{concat-append}
 use Rattle.std.proofs.Math.Seq.{take-add}
@@ -41,7 +41,7 @@ split_fault bytes offset records (Short k) within has few d =
     let size : length (drop offset bytes) ≡ length bytes - offset = length-drop offset bytes in
     let some : 0 < length (drop offset bytes) = omega (arith, size) in
     let end : IsEndOf (drop offset bytes) (truncated (length bytes - offset)) =
-        subst (λ (n : ℕ). IsEndOf (drop offset bytes) (truncated n)) size (is_truncated k some d) in
+    subst (λ (n : ℕ). IsEndOf (drop offset bytes) (truncated n)) size (is_truncated k some d) in
     (records, ends_behind bytes offset records (truncated (length bytes - offset)) (omega arith) has few end)
 
 bytes_more : (views : List RecordView) (r : RecordView)

@@ -1,6 +1,6 @@
 -- Where the bytes of a record are looked at: no record ends before the framing steps have what they ask for.
-use Rattle.std.proofs.Common.{◌≡◌, ℕ, ◌≤◌, ◌++◌, List, length, take, drop, sym, subst, arith, length-append,
-    length-take}
+use Rattle.std.proofs.Common.{◌≡◌, ℕ, ◌≤◌, ◌++◌, List, length, take, drop, sym, subst, arith, length-append}
+use Rattle.std.proofs.Common.{length-take}
 use Rattle.std.proofs.lemmas.List.{take-append-le, take-append-drop, length-take-le, take_all}
 use Rattle.std.proofs.Math.Seq.{take-length}
 use Rattle.mseed_record.specs.declared.frame.Scan.TheVariants.{Need}
@@ -16,7 +16,7 @@ stop_grows b more _ at_start = at_start
 stop_grows b more n (asked_for m _ s l d) =
     let same : take m (b ++ more) ≡ take m b = take-append-le m b more l in
     asked_for m n (stop_grows b more m s) (omega (arith, length-append b more))
-        (subst (λ (xs : List ℕ). Decides xs (Need n)) (sym same) d)
+    (subst (λ (xs : List ℕ). Decides xs (Need n)) (sym same) d)
 
 -- the next stop, where all that was asked for is there
 pub stop_next : (b : List ℕ) (n : ℕ) → IsStop b (length b) → Decides b (Need n) → IsStop b n
@@ -29,7 +29,7 @@ stop_record b _ k at_start r = omega (arith, record_long (take k b) r)
 stop_record b n k (asked_for m _ s l d) r =
     let whole_is : take m b ++ drop m b ≡ b = take-append-drop m b in
     subst (λ (xs : List ℕ). n ≤ length (take k xs)) whole_is
-        (asked (take m b) (drop m b) n k d (subst (λ (xs : List ℕ). IsRecord (take k xs)) (sym whole_is) r))
+    (asked (take m b) (drop m b) n k d (subst (λ (xs : List ℕ). IsRecord (take k xs)) (sym whole_is) r))
 
 -- short of a stop there's no record
 pub none_short : (b : List ℕ) → FallsShort b → HasNoFurther b

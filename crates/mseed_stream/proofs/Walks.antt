@@ -1,6 +1,6 @@
 -- A cutter's records so far, with one more, and all of them at the input's end.
-use Rattle.std.proofs.Common.{◌≡◌, ◌≢◌, ℕ, ◌+◌, ◌^◌, ◌<◌, ◌≤◌, ◌++◌, List, [], ◌∷◌, length, Option, Some, None, Result,
-    Ok, Err, IfErr, refl, sym, ap, subst, ◌∙◌, arith, length-append, append-nil}
+use Rattle.std.proofs.Common.{◌≡◌, ◌≢◌, ℕ, ◌+◌, ◌^◌, ◌<◌, ◌≤◌, ◌++◌, List, [], ◌∷◌, length, Option, Some, None, Result}
+use Rattle.std.proofs.Common.{Ok, Err, IfErr, refl, sym, ap, subst, ◌∙◌, arith, length-append, append-nil}
 use Rattle.std.specs.List.{concat, AllByRecursion}
 use Rattle.mseed_record.specs.View.{View, IsView}
 use Rattle.mseed_stream.specs.Device.{Heard}
@@ -112,9 +112,13 @@ all_views r h now c views more before told end fault failed =
         → now.failures ≡ h.failures + failed_by {X = ℕ} (Err f) → AreViews now.bytes c.offset views
         → length views < 2 ^ 40 → AreAllViews now views (Some f)
     fault_all f other is failures stay few =
-        record { offset = c.offset; records = stay;
-        ends = (is, other, failures ∙ ap (λ (n : ℕ). n + failed_by {X = ℕ} (Err f)) before.fine ∙ omega arith); few =
-        few }
+        record {
+          offset = c.offset;
+          records = stay;
+          ends = (is, other, failures ∙ ap (λ (n : ℕ). n + failed_by {X = ℕ} (Err f)) before.fine ∙ omega arith);
+          few =
+              few;
+        }
 
     go : {X : Type 0} (q : Result (Option X) StreamFault) → (q ≡ Ok None → IsCleanEnd c.offset now)
         → IfErr q (λ e. IsCutFault e c.offset now) → now.failures ≡ h.failures + failed_by q

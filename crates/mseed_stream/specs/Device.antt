@@ -1,6 +1,6 @@
 -- What a device did so far, and what one more call adds, by its answer.
-use Rattle.std.specs.Prelude.{◌≡◌, ℕ, Bool, false, ◌==◌, ◌&&◌, ◌||◌, ◌+◌, ◌++◌, not, length, List, [], take, Result, Ok,
-    Err}
+use Rattle.std.specs.Prelude.{◌≡◌, ℕ, Bool, false, ◌==◌, ◌&&◌, ◌||◌, ◌+◌, ◌++◌, not, length, List, [], take, Result, Ok}
+use Rattle.std.specs.Prelude.{Err}
 
 -- what a source told: its bytes, the calls made and failed, and whether the input is at its end
 pub record Heard : Type 0 where

@@ -23,8 +23,10 @@ abbrev Parts : Type 0
 Parts = List ℕ × (ℕ × (ℕ × (Bool × (List ℕ × (ℕ × ℕ)))))
 
 abbrev to_parts : Exchange → Parts
-to_parts e = (e.heard.bytes,
-    (e.heard.calls, (e.heard.failures, (e.heard.is_at_end, (e.said.bytes, (e.said.calls, e.said.failures))))))
+to_parts e = (
+  e.heard.bytes,
+  (e.heard.calls, (e.heard.failures, (e.heard.is_at_end, (e.said.bytes, (e.said.calls, e.said.failures))))),
+)
 
 abbrev of_parts : Parts → Exchange
 of_parts p = record {
@@ -36,6 +38,6 @@ of_parts p = record {
 abbrev pub exchanges_code : Coded (List Exchange)
 exchanges_code =
     coded_list (code_by Parts
-        (coded× (coded_list coded_ℕ)
-        (coded× coded_ℕ (coded× coded_ℕ (coded× coded_bool (coded× (coded_list coded_ℕ) (coded× coded_ℕ coded_ℕ))))))
+    (coded× (coded_list coded_ℕ)
+    (coded× coded_ℕ (coded× coded_ℕ (coded× coded_bool (coded× (coded_list coded_ℕ) (coded× coded_ℕ coded_ℕ))))))
     to_parts of_parts (λ e. refl))

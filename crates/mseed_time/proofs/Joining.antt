@@ -1,6 +1,6 @@
 -- What a miss means.
-use Rattle.std.proofs.Common.{◌≡◌, ◌*◌, ◌^◌, ◌≤◌, ◌↔◌, arith, ℤ, pos, negsuc, unsigned_abs, neg_ℤ, ◌-ℤ◌, ◌≤ℤ◌, to_z,
-    of_z}
+use Rattle.std.proofs.Common.{◌≡◌, ◌*◌, ◌^◌, ◌≤◌, ◌↔◌, arith, ℤ, pos, negsuc, unsigned_abs, neg_ℤ, ◌-ℤ◌, ◌≤ℤ◌, to_z}
+use Rattle.std.proofs.Common.{of_z}
 use mir.Syntax.{w128}
 use Rattle.std.proofs.lemmas.Int.{ints}
 use Rattle.std.proofs.lemmas.Bool.Decides.{nat_tests}

@@ -1,6 +1,6 @@
 -- No two pairs spell one instant.
-use Rattle.std.proofs.Common.{◌≡◌, ℕ, suc, ◌+◌, ◌-◌, ◌*◌, ◌<◌, ◌≤◌, zero, ap, ◌∙◌, le_trans, arith, ℤ, pos, ◌+ℤ◌,
-    ⊎_elim}
+use Rattle.std.proofs.Common.{◌≡◌, ℕ, suc, ◌+◌, ◌-◌, ◌*◌, ◌<◌, ◌≤◌, zero, ap, ◌∙◌, le_trans, arith, ℤ, pos, ◌+ℤ◌}
+use Rattle.std.proofs.Common.{⊎_elim}
 use Rattle.std.proofs.lemmas.Bool.{cases_order}
 use Rattle.std.proofs.lemmas.Bool.Decides.{nat_tests}
 use Rattle.jiff_core.proofs.SignedLemmas.{signed_arith}
@@ -20,7 +20,7 @@ days_before-rises y zero low = omega arith
 days_before-rises y (suc k) low =
     let rest = days_before-rises y k low in
     let next : days_before (k + y) ≤ days_before (suc (k + y)) =
-        rw (days_before-next (k + y) (omega arith)) (omega arith) in
+    rw (days_before-next (k + y) (omega arith)) (omega arith) in
     let same : suc k + y ≡ suc (k + y) = omega arith in
     rw same (le_trans rest next)
 
@@ -59,9 +59,10 @@ same_ticks : (instant u v : ℤ) (t s : Parts) → Names instant t u → Names i
     → (u ≡ v) × (ticks_of (days_of t) t ≡ ticks_of (days_of s) s)
 same_ticks instant u v t s a b =
     let first = counted t a.valid in
-    let second = counted s b.valid in
-    (omega (arith, signed_arith, a.value, b.value, first, second),
-        omega (arith, signed_arith, a.value, b.value, first, second))
+    let second = counted s b.valid in (
+      omega (arith, signed_arith, a.value, b.value, first, second),
+      omega (arith, signed_arith, a.value, b.value, first, second),
+    )
 
 -- the digits of the ten-thousandths
 same_clock : (c d : ℕ) (t s : Parts) → IsTime t → t.second ≤ 59 → IsTime s → s.second ≤ 59
@@ -80,8 +81,14 @@ unfolding days_of
 same_parts t s a t59 b s59 e =
     let clock = same_clock (days_of t) (days_of s) t s a t59 b s59 e in
     let day = same_day t.year t.day s.year s.day (omega arith) (omega arith) a.2 a.3 b.2 b.3 (omega arith) in
-    λ i. record { year = day.0 i; day = day.1 i; hour = clock.3 i; minute = clock.2 i; second = clock.1 i;
-        fraction = clock.0 i }
+    λ i. record {
+      year = day.0 i;
+      day = day.1 i;
+      hour = clock.3 i;
+      minute = clock.2 i;
+      second = clock.1 i;
+      fraction = clock.0 i;
+    }
 
 pub name_unique : (instant u v : ℤ) (t s : Parts) → Names instant t u → Names instant s v → (t ≡ s) × (u ≡ v)
 name_unique instant u v t s a b =

@@ -17,7 +17,7 @@ since_1800 t = unsigned_abs (t +ℤ pos 5_364_662_400_000_000)
 abbrev pub date_text : ℕ → List ℕ
 date_text day =
     padded_decimal 4 (year_of day) ++ codes "-" ++ padded_decimal 2 (months_over day + 1) ++ codes "-"
-        ++ padded_decimal 2 (day_of_month day)
+    ++ padded_decimal 2 (day_of_month day)
 
 -- a time of day, by its microseconds
 abbrev pub clock_text : ℕ → List ℕ

@@ -12,6 +12,8 @@ pub answer_told : (feed : List Window) (s within : State) (held kept : Held) (be
     (new : State) (reply : Reply) → within ≡ s → kept ≡ held
     → (IsHeld kept before → Tells what before after) → IsAnswer feed within what new reply → IsHeld held before
     → Answers feed s before after new reply
-answer_told feed s within held kept before after what new reply same_state same_held told answer is =
-    (what, told (subst (λ h. IsHeld h before) (sym same_held) is),
-        subst (λ t. IsAnswer feed t what new reply) same_state answer)
+answer_told feed s within held kept before after what new reply same_state same_held told answer is = (
+  what,
+  told (subst (λ h. IsHeld h before) (sym same_held) is),
+  subst (λ t. IsAnswer feed t what new reply) same_state answer,
+)

@@ -1,6 +1,6 @@
 -- What a turn of a session comes to, by its parts.
-use Rattle.std.proofs.Common.{◌≡◌, ◌≢◌, ℕ, ◌+◌, ◌≤◌, ◌<◌, ◌==◌, ◌&&◌, ◌||◌, ◌∙◌, zero, suc, refl, arith, ap, sym, subst,
-    inl, inr, Bool, true, false, not, List, [], ◌∷◌, ◌++◌, append-nil, length, take, Ok, Err}
+use Rattle.std.proofs.Common.{◌≡◌, ◌≢◌, ℕ, ◌+◌, ◌≤◌, ◌<◌, ◌==◌, ◌&&◌, ◌||◌, ◌∙◌, zero, suc, refl, arith, ap, sym, subst}
+use Rattle.std.proofs.Common.{inl, inr, Bool, true, false, not, List, [], ◌∷◌, ◌++◌, append-nil, length, take, Ok, Err}
 use Rattle.std.proofs.lemmas.Bool.Decides.{eqb_tells}
 use Rattle.mseed_stream.specs.Device.{Heard, Said, heard_also}
 use Rattle.mseed_stream.specs.declared.device.Failed.{Failed}
@@ -8,8 +8,8 @@ use Rattle.slink_feed.specs.declared.session.Phase.TheVariants.{Closed}
 use Rattle.slink_feed.specs.declared.turn.LinkFault.{LinkFault}
 use Rattle.slink_feed.specs.declared.turn.LinkFault.TheVariants as faults
 use Rattle.slink_feed.specs.declared.turn.Turn.TheVariants as turns
-use Rattle.slink_feed.specs.Attending.{Attends, GoesOn, IsServeFault, RepliesToAll, at_read, at_reply, at_send,
-    attending, is_at_end, is_closed, replies}
+use Rattle.slink_feed.specs.Attending.{Attends, GoesOn, IsServeFault, RepliesToAll, at_read, at_reply, at_send}
+use Rattle.slink_feed.specs.Attending.{attending, is_at_end, is_closed, replies}
 use Rattle.slink_feed.specs.Replying.{HasSent, IsReplyFault, IsSendFault}
 use Rattle.slink_feed.specs.Rounds.{Attending}
 use Rattle.slink_feed.specs.Serving.{Standing}
@@ -26,8 +26,12 @@ not_empty (suc n) [] some bound = absurd (omega (arith, bound))
 not_empty (suc n) (x ∷ xs) some bound = refl
 
 abbrev heard_with : Heard → List ℕ → ℕ → Bool → Heard
-heard_with h bytes failed ends = record { bytes = bytes; calls = h.calls + 1; failures = h.failures + failed;
-    is_at_end = ends }
+heard_with h bytes failed ends = record {
+  bytes = bytes;
+  calls = h.calls + 1;
+  failures = h.failures + failed;
+  is_at_end = ends;
+}
 
 -- a read that failed, and one that told bytes
 pub failed_is : (h : Heard) (e : Failed) (buf : List ℕ) → heard_also h (Err e) buf ≡ failed_once h
@@ -41,11 +45,16 @@ told_is h n buf some bound = elim (eqb_tells n 0) [
   | inr other ↦
       let ends : (h.is_at_end || ((n == 0) && not (length buf == 0))) ≡ (h.is_at_end || is_empty (take n buf)) =
       ap (λ t. h.is_at_end || (t && not (length buf == 0))) other.0
-          ∙ ap (λ t. h.is_at_end || t) (sym (not_empty n buf some bound)) in
+      ∙ ap (λ t. h.is_at_end || t) (sym (not_empty n buf some bound)) in
       let none : h.failures + 0 ≡ h.failures = omega arith in
       ap (heard_with h (h.bytes ++ take n buf) 0) ends
-          ∙ ap (λ m. record { bytes = h.bytes ++ take n buf; calls = h.calls + 1; failures = m; is_at_end = h.is_at_end
-          || is_empty (take n buf) }) none
+      ∙ ap (λ m. record {
+        bytes = h.bytes ++ take n buf;
+        calls = h.calls + 1;
+        failures = m;
+        is_at_end = h.is_at_end
+            || is_empty (take n buf);
+      }) none
 ]
 
 module _ (feed : List Window) (old : Attending) (before : Heard) where
@@ -88,6 +97,6 @@ module _ (feed : List Window) (old : Attending) (before : Heard) where
     answering_failed new after bytes faults.Read heard few fails = absurd fails
     answering_failed new after bytes (faults.Write n) heard few fails =
         let counted : length said.bytes ≡ length old.said.bytes + count =
-            subst (λ (s : Said). length s.bytes ≡ length old.said.bytes + count) (sym same) sent.counted in
+        subst (λ (s : Said). length s.bytes ≡ length old.said.bytes + count) (sym same) sent.counted in
         at_reply n (attending session said) bytes goes_on heard few fails.fails (omega (arith, fails.counted, counted))
     answering_failed new after bytes (faults.Output n) heard few fails = absurd fails

@@ -32,15 +32,15 @@ module _ (feed : List Window) where
   shut_on s bytes way last all (piece_served u now v bs piece others w sent reply split takes more) shut =
       let same : (reply ≡ replies.Nothing) × (now ≡ u) = takes.closed shut in
       let after : (v ≡ now) × (sent ≡ w ++ reply_bytes reply) =
-          shut_on now others (w ++ reply_bytes reply) v sent more
-          (subst (λ (x : Standing). x.state.phase ≡ Closed) (sym same.1) shut) in
+      shut_on now others (w ++ reply_bytes reply) v sent more
+      (subst (λ (x : Standing). x.state.phase ≡ Closed) (sym same.1) shut) in
       (after.0 ∙ same.1, after.1 ∙ nothing_behind w reply same.0)
 
 -- what a session comes to is one
 pub held_same : (a b : Held) (stream : List ℕ) → IsHeld a stream → IsHeld b stream → a ≡ b
 held_same a b stream p q =
     ap (λ (x : List ℕ). record { begun = x; is_too_long = a.is_too_long }) (p.0 ∙ sym q.0)
-        ∙ ap (λ (x : Bool). record { begun = b.begun; is_too_long = x }) (p.1 ∙ sym q.1)
+    ∙ ap (λ (x : Bool). record { begun = b.begun; is_too_long = x }) (p.1 ∙ sym q.1)
 
 pub standings_same : (a b : Standing) → a.state ≡ b.state → a.held ≡ b.held → a ≡ b
 standings_same a b p q = ap (λ (x : State). record { state = x; held = a.held }) p

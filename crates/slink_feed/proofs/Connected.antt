@@ -1,12 +1,12 @@
 -- What the link of one session takes in its turns is what it was asked for.
-use Rattle.std.proofs.Common.{◌≡◌, ℕ, ◌+◌, ◌<◌, ◌==◌, inl, inr, refl, sym, ap, subst, ◌∙◌, arith, Bool, true, false,
-    if◌then◌else◌, List, [], ◌∷◌, ◌++◌, append_assoc, append-nil, length, take, drop, take-append-drop, Option, Some,
-    None, slice_get}
+use Rattle.std.proofs.Common.{◌≡◌, ℕ, ◌+◌, ◌<◌, ◌==◌, inl, inr, refl, sym, ap, subst, ◌∙◌, arith, Bool, true, false}
+use Rattle.std.proofs.Common.{if◌then◌else◌, List, [], ◌∷◌, ◌++◌, append_assoc, append-nil, length, take, drop}
+use Rattle.std.proofs.Common.{take-append-drop, Option, Some, None, slice_get}
 use Rattle.std.proofs.lemmas.Bool.Decides.{eqb_tells}
 use Rattle.mseed_stream.specs.Device.{Heard, IsFrontOf}
 use Rattle.slink_wire.specs.declared.command.Command.{Command}
-use Rattle.slink_wire.specs.declared.command.Command.TheVariants.{Hello, Station, SelectAll, Data, Fetch, End, Bye,
-    Other}
+use Rattle.slink_wire.specs.declared.command.Command.TheVariants.{Hello, Station, SelectAll, Data, Fetch, End, Bye}
+use Rattle.slink_wire.specs.declared.command.Command.TheVariants.{Other}
 use Rattle.slink_wire.specs.declared.lines.What.{What}
 use Rattle.slink_wire.specs.declared.lines.What.TheVariants.{More, Line, TooLong}
 use Rattle.slink_wire.specs.declared.reply.Reply.{Reply}
@@ -20,16 +20,16 @@ use Rattle.slink_feed.specs.declared.session.Sent.{Sent}
 use Rattle.slink_feed.specs.declared.session.Sent.TheVariants as sents
 use Rattle.slink_feed.specs.declared.turn.LinkFault.{LinkFault}
 use Rattle.slink_feed.specs.declared.turn.Turn.{Turn}
-use Rattle.slink_feed.specs.Attending.{Attends, IsServeFault, RepliesToAll, at_read, at_reply, at_send, is_at_end,
-    is_closed, replies}
-use Rattle.slink_feed.specs.Connection.{FailsInTurn, SendsStretches, ShowPushed, TakesTurns, bytes_sent, fails_later,
-    fails_now, no_turn, turn_taken}
+use Rattle.slink_feed.specs.Attending.{Attends, IsServeFault, RepliesToAll, at_read, at_reply, at_send, is_at_end}
+use Rattle.slink_feed.specs.Attending.{is_closed, replies}
+use Rattle.slink_feed.specs.Connection.{FailsInTurn, SendsStretches, ShowPushed, TakesTurns, bytes_sent, fails_later}
+use Rattle.slink_feed.specs.Connection.{fails_now, no_turn, turn_taken}
 use Rattle.slink_feed.specs.Rounds.{Attending, Gives, SendsAll, all_sent, place_behind}
 use Rattle.slink_feed.specs.Running.{HasStream, Stands, StandsFor}
 use Rattle.slink_feed.specs.Sending.{AreAsked, AreShown, Asked, IsHeardFrom, packet_in, packets_of}
 use Rattle.slink_feed.specs.Serving.{Answers, IsAnswer, Serves, Standing, Takes, none_served, piece_served}
-use Rattle.slink_feed.specs.Session.{IsBefore, State, all_done, answered_in, at_next, grant_at, in_streaming, packet_at,
-    reply_at_next, sent, sent_bytes, sent_in, sent_of}
+use Rattle.slink_feed.specs.Session.{IsBefore, State, all_done, answered_in, at_next, grant_at, in_streaming, packet_at}
+use Rattle.slink_feed.specs.Session.{reply_at_next, sent, sent_bytes, sent_in, sent_of}
 use Rattle.slink_feed.specs.Window.{Shows, Window, record_at}
 use Rattle.slink_feed.proofs.Closing.{Open, open_or}
 use Rattle.slink_feed.proofs.Sendings.{IsOn, answer_heard, heard_on, none_either, set_other, stretch_sent}
@@ -74,7 +74,7 @@ shut_given feed k last s u [] gives shut = gives.1
 shut_given feed k last s u (a ∷ more) gives shut =
     let same : (sent feed s k).0 ≡ s = ap (λ (p : Phase). (sent_in p feed s k).0) shut in
     shut_given feed (place_behind feed k) last (sent feed s k).0 u more gives.1 (ap (λ (t : State). t.phase) same
-        ∙ shut) ∙ same
+    ∙ shut) ∙ same
 
 -- No packet of a place without a grant is sent, and it has none afterwards.
 record Bare (k : ℕ) (place : ℕ) (x : State × Sent) : Type 0 where
@@ -128,12 +128,12 @@ none_sent k [] s on at_k are = refl
 none_sent k (a ∷ more) s on at_k are =
     let t : State = are.0 in
     let bare : Bare k a.place (sent a.feed t a.place) =
-        bare_sent k a.place a.feed t (ap (λ gs. grant_at gs k) (grants_heard s t are.1) ∙ at_k)
-        (heard_on s t are.1 on) in
+    bare_sent k a.place a.feed t (ap (λ gs. grant_at gs k) (grants_heard s t are.1) ∙ at_k)
+    (heard_on s t are.1 on) in
     let one : (if a.place == k then packet_in a.answer else []) ≡ [] =
-        ap (λ x. if a.place == k then packet_in x else []) (sym are.2) ∙ bare.none in
+    ap (λ x. if a.place == k then packet_in x else []) (sym are.2) ∙ bare.none in
     ap (λ ps. ps ++ packets_of k more) one
-        ∙ none_sent k more (sent a.feed t a.place).0 (on_sent a.feed t a.place (heard_on s t are.1 on)) bare.stays are.3
+    ∙ none_sent k more (sent a.feed t a.place).0 (on_sent a.feed t a.place (heard_on s t are.1 on)) bare.stays are.3
 
 -- lines, one after another
 heard_further : (s t u : State) → IsHeardFrom s t → IsHeardFrom t u → IsHeardFrom s u
@@ -208,7 +208,7 @@ reply_none : (feed : List Window) (s new : State) (what : What) (reply : Reply) 
 reply_none feed s new More reply on is = is.1
 reply_none feed s new (Line line) reply on is =
     sym (ap (λ (x : State × Reply). x.1) is.2)
-        ∙ (ap (λ (p : Phase). (answered_in p feed s is.0).1) on ∙ quiet_line s is.0)
+    ∙ (ap (λ (p : Phase). (answered_in p feed s is.0).1) on ∙ quiet_line s is.0)
 reply_none feed s new TooLong reply on is = sym (ap (λ (x : State × Reply). x.1) is) ∙ ap reply_at_next on
 
 streaming : (p : Phase) → IsOn p → Open p → p ≡ Streaming
@@ -226,11 +226,14 @@ module _ (feed : List Window) where
       → IsOn u.state.phase → HasStream u → HeardOn u now [] (reply_bytes reply)
   piece_heard_on u now piece reply takes on stream = elim (open_or u.state.phase) [
     | inl shut ↦ let same : (reply ≡ said.Nothing) × (now ≡ u) = takes.closed shut in
-        record { heard = inl (ap (λ (x : Standing). x.state) same.1); quiet = ap reply_bytes same.0;
-            stream = subst HasStream (sym same.1) stream }
+        record {
+          heard = inl (ap (λ (x : Standing). x.state) same.1);
+          quiet = ap reply_bytes same.0;
+          stream = subst HasStream (sym same.1) stream;
+        }
     | inr awake ↦
         let answer : Answers feed u.state stream.0 (stream.0 ++ piece) now.state reply =
-            takes.answers stream.0 awake (stream.1 awake) in
+        takes.answers stream.0 awake (stream.1 awake) in
         let at : u.state.phase ≡ Streaming = streaming u.state.phase on awake in
         record {
           heard = answer_heard feed u.state now.state answer.0 reply at answer.2;
@@ -246,8 +249,8 @@ module _ (feed : List Window) where
   heard_all_on s bytes way last all (piece_served u now v bs piece others w sent reply split takes more) on stream =
       let one : HeardOn u now [] (reply_bytes reply) = piece_heard_on u now piece reply takes on stream in
       let rest : HeardOn now v (w ++ reply_bytes reply) sent =
-          heard_all_on now others (w ++ reply_bytes reply) v sent more (heard_on u.state now.state one.heard on)
-          one.stream in
+      heard_all_on now others (w ++ reply_bytes reply) v sent more (heard_on u.state now.state one.heard on)
+      one.stream in
       record {
         heard = heard_further u.state now.state v.state one.heard rest.heard;
         quiet = rest.quiet ∙ (ap (λ b. w ++ b) one.quiet ∙ append-nil w);
@@ -270,8 +273,8 @@ module _ (feed : List Window) where
     stream.0,
     λ awake. subst (λ h. IsHeld h stream.0) (sym sends.held)
         (stream.1 (λ shut. awake
-            (ap (λ (x : State). x.phase) (shut_given feed 0 sends.place a.session.state now.session.state sends.given
-            sends.gives shut) ∙ shut))),
+        (ap (λ (x : State). x.phase) (shut_given feed 0 sends.place a.session.state now.session.state sends.given
+        sends.gives shut) ∙ shut))),
   )
 
   sends_on : (a now : Attending) → SendsAll feed a now → IsOn a.session.state.phase → HasStream a.session → TurnOn a now
@@ -289,7 +292,7 @@ module _ (feed : List Window) where
   replies_on : (a now new : Attending) (bytes : List ℕ) → TurnOn a now → RepliesToAll feed now new bytes → TurnOn a new
   replies_on a now new bytes t done =
       let rest : HeardOn now.session new.session now.said.bytes new.said.bytes =
-          heard_all_on now.session bytes now.said.bytes new.session new.said.bytes done.serves t.on t.stream in
+      heard_all_on now.session bytes now.said.bytes new.session new.said.bytes done.serves t.on t.stream in
       record {
         given = t.given;
         place = t.place;
@@ -352,17 +355,25 @@ fault_wrote : (feed : List Window) (a b : Attending) (before after : Heard) (fau
     → IsServeFault feed a b before after fault → IsOn a.session.state.phase → HasStream a.session
     → FrontWrote (feed ∷ []) a b
 fault_wrote feed a b before after fault (at_send count fails same) on stream =
-    let all : List ℕ = all_sent (fails.given ++ fails.last ∷ []) in
-    (all, take count all, (drop count all, sym (take-append-drop count all)), fails.said.bytes,
-        sent_wrote feed a b.session.state (fails.given ++ fails.last ∷ []) fails.place fails.gives)
-fault_wrote feed a b before after fault (at_read goes heard) on stream =
-    (all_sent goes.sends.given, all_sent goes.sends.given, ([], sym (append-nil (all_sent goes.sends.given))),
-        goes.sends.said.bytes, sent_wrote feed a b.session.state goes.sends.given goes.sends.place goes.sends.gives)
+    let all : List ℕ = all_sent (fails.given ++ fails.last ∷ []) in (
+      all,
+      take count all,
+      (drop count all, sym (take-append-drop count all)),
+      fails.said.bytes,
+      sent_wrote feed a b.session.state (fails.given ++ fails.last ∷ []) fails.place fails.gives,
+    )
+fault_wrote feed a b before after fault (at_read goes heard) on stream = (
+  all_sent goes.sends.given,
+  all_sent goes.sends.given,
+  ([], sym (append-nil (all_sent goes.sends.given))),
+  goes.sends.said.bytes,
+  sent_wrote feed a b.session.state goes.sends.given goes.sends.place goes.sends.gives,
+)
 fault_wrote feed a b before after fault (at_reply count now bytes goes heard few fails counted) on stream =
     let t : TurnOn feed a now = sends_on feed a now goes.sends on stream in
     let u : TurnOn feed a fails.before = replies_on feed a now fails.before fails.front t fails.replies in
     let one : HeardOn fails.before.session b.session [] (reply_bytes fails.reply) =
-        piece_heard_on feed fails.before.session b.session fails.piece fails.reply fails.takes u.on u.stream in
+    piece_heard_on feed fails.before.session b.session fails.piece fails.reply fails.takes u.on u.stream in
     let part : fails.count < length (reply_bytes fails.reply) = fails.said.part in
     let none : length (reply_bytes fails.reply) ≡ 0 = ap length one.quiet in
     absurd (omega (arith, part, none))
@@ -393,7 +404,7 @@ pub turns_sent : (feeds : List (List Window)) (old new : Attending) → old.sess
     → (bytes : List ℕ) × (new.said.bytes ≡ old.said.bytes ++ bytes) × SendsStretches feeds old.session.state bytes
 turns_sent feeds old new on stands turns =
     let w : AllWrote feeds old new = turns_wrote feeds old new turns (inl on) (stream_of old.session stands) in
-        (w.0, w.1, stretches feeds old.session.state w.0 (inl on) w.2)
+    (w.0, w.1, stretches feeds old.session.state w.0 (inl on) w.2)
 
 pub turns_failed : (feeds : List (List Window)) (old new : Attending) → old.session.state.phase ≡ Streaming
     → Stands old.session → FailsInTurn old feeds new
@@ -401,7 +412,7 @@ pub turns_failed : (feeds : List (List Window)) (old new : Attending) → old.se
     × SendsStretches feeds old.session.state bytes
 turns_failed feeds old new on stands turns =
     let w : FrontWrote feeds old new = fails_wrote feeds old new turns (inl on) (stream_of old.session stands) in
-        (w.0, w.1, w.2, w.3, stretches feeds old.session.state w.0 (inl on) w.4)
+    (w.0, w.1, w.2, w.3, stretches feeds old.session.state w.0 (inl on) w.4)
 
 -- before records are sent
 before_in : (p : Phase) (feed : List Window) (s : State) (k : ℕ) → IsBefore p → sent_in p feed s k ≡ (s, sents.Wait)
@@ -419,15 +430,15 @@ before_given feed k last s u (a ∷ more) is gives =
     let same : (sent feed s k).0 ≡ s = ap (λ (x : State × Sent). x.0) one in
     let waits : a ≡ sents.Wait = sym gives.0 ∙ ap (λ (x : State × Sent). x.1) one in
     let rest : (u ≡ s) × (all_sent more ≡ []) =
-        before_given feed (place_behind feed k) last s u more is
-        (subst (λ (t : State). Gives feed (place_behind feed k) t more last u) same gives.1) in
+    before_given feed (place_behind feed k) last s u more is
+    (subst (λ (t : State). Gives feed (place_behind feed k) t more last u) same gives.1) in
     (rest.0, ap (λ b. sent_bytes b ++ all_sent more) waits ∙ rest.1)
 
 pub before_sent : (feed : List Window) (old new : Attending) → IsBefore old.session.state.phase → SendsAll feed old new
     → (new.session ≡ old.session) × (new.said.bytes ≡ old.said.bytes)
 before_sent feed old new is sends =
     let one : (new.session.state ≡ old.session.state) × (all_sent sends.given ≡ []) =
-        before_given feed 0 sends.place old.session.state new.session.state sends.given is sends.gives in (
+    before_given feed 0 sends.place old.session.state new.session.state sends.given is sends.gives in (
       ap (λ (x : State). record { state = x; held = new.session.held }) one.0
           ∙ ap (λ h. record { state = old.session.state; held = h }) sends.held,
       sends.said.bytes ∙ (ap (λ b. old.said.bytes ++ b) one.1 ∙ append-nil old.said.bytes),

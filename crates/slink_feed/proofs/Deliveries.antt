@@ -1,6 +1,7 @@
 -- What a client told of the bytes that it took so far, event by event.
-use Rattle.std.proofs.Common.{◌≡◌, ◌≢◌, ℕ, ◌+◌, ◌-◌, ◌*◌, ◌≤◌, ◌<◌, zero, suc, refl, sym, ap, subst, ◌∙◌, arith, List,
-    [], ◌∷◌, ◌++◌, append_assoc, append-nil, length, length-append, length-drop, take, take_all, drop}
+use Rattle.std.proofs.Common.{◌≡◌, ◌≢◌, ℕ, ◌+◌, ◌-◌, ◌*◌, ◌≤◌, ◌<◌, zero, suc, refl, sym, ap, subst, ◌∙◌, arith, List}
+use Rattle.std.proofs.Common.{[], ◌∷◌, ◌++◌, append_assoc, append-nil, length, length-append, length-drop, take}
+use Rattle.std.proofs.Common.{take_all, drop}
 use Rattle.mseed_stream.specs.Device.{Heard, IsFrontOf, Said}
 use Rattle.slink_feed.specs.declared.dialogue.Event.{Event}
 use Rattle.slink_feed.specs.declared.dialogue.Event.TheVariants as events
@@ -10,8 +11,8 @@ use Rattle.slink_feed.specs.declared.turn.LinkFault.{LinkFault}
 use Rattle.slink_feed.specs.declared.turn.LinkFault.TheVariants as faults
 use Rattle.slink_feed.specs.declared.turn.Turn.TheVariants as turns
 use Rattle.slink_feed.specs.Delivery.{IsDelivered, IsUndelivered, IsUnsaid, IsUnwritten}
-use Rattle.slink_feed.specs.Fetching.{Delivers, FailsAt, Fetches, Fetching, ReadsOn, Takes, bytes_told, joined_by,
-    line_said, lines_said, record_told}
+use Rattle.slink_feed.specs.Fetching.{Delivers, FailsAt, Fetches, Fetching, ReadsOn, Takes, bytes_told, joined_by}
+use Rattle.slink_feed.specs.Fetching.{line_said, lines_said, record_told}
 use Rattle.slink_feed.specs.Listening.{Brings, IsLinked, Listening, Reads, telling}
 use Rattle.slink_feed.specs.Turns.{Took, TookFront, told_once}
 use Rattle.slink_feed.proofs.Goings.{says_on, still_linked, tells_on}
@@ -32,14 +33,14 @@ pub record SoFar (old now : Fetching) (bytes : List ℕ) (offset said_count writ
 reads_none : (c : Listening) → ReadsOn c [] [] c
 reads_none c start stream before reads =
     subst (λ (s : List ℕ). Reads start s (before ++ []) c) (sym (append-nil stream))
-        (subst (λ (es : List Event). Reads start stream es c) (sym (append-nil before)) reads)
+    (subst (λ (es : List Event). Reads start stream es c) (sym (append-nil before)) reads)
 
 reads_further : (a b c : Listening) (xs ys : List ℕ) (es fs : List Event) → ReadsOn a xs es b → ReadsOn b ys fs c
     → ReadsOn a (xs ++ ys) (es ++ fs) c
 reads_further a b c xs ys es fs one more start stream before reads =
     subst (λ (s : List ℕ). Reads start s (before ++ (es ++ fs)) c) (append_assoc stream xs ys)
     (subst (λ (t : List Event). Reads start ((stream ++ xs) ++ ys) t c) (append_assoc before es fs)
-        (more start (stream ++ xs) (before ++ es) (one start stream before reads)))
+    (more start (stream ++ xs) (before ++ es) (one start stream before reads)))
 
 pub took_none : (s : Said) → Took s s []
 took_none s = record { bytes = sym (append-nil s.bytes); failures = refl }
@@ -148,16 +149,16 @@ module _ (old now new : Fetching) (bytes : List ℕ) (offset used : ℕ) (event 
   further = subst (λ (s : List ℕ). ReadsOn old.client s (so_far.told ++ telling event) new.client)
       (piece_is bytes offset used)
       (reads_further old.client now.client new.client (take offset bytes)
-          (take used (take (length bytes - offset) (drop offset bytes))) so_far.told (telling event) so_far.reads
-          piece.reads)
+      (take used (take (length bytes - offset) (drop offset bytes))) so_far.told (telling event) so_far.reads
+      piece.reads)
 
   pub one_more : (after : Counts) → IsDelivered event before after now.said new.said now.output new.output
       → SoFar old new bytes (offset + used) after.said after.written
   one_more after done =
       let lines : lines_said (so_far.told ++ telling event) ≡ lines_said so_far.told ++ line_said event =
-          joined_once line_said so_far.told event refl in
+      joined_once line_said so_far.told event refl in
       let records : bytes_told (so_far.told ++ telling event) ≡ bytes_told so_far.told ++ record_told event =
-          joined_once record_told so_far.told event refl in
+      joined_once record_told so_far.told event refl in
       record {
         told = so_far.told ++ telling event;
         within = omega (arith, so_far.within, piece.bound);
@@ -191,9 +192,9 @@ module _ (old now new : Fetching) (bytes : List ℕ) (offset used : ℕ) (event 
       let some : 0 < length (line_said event) = omega (arith, cut.said.part) in
       let one : telling event ≡ event ∷ [] = telling_some line_said event refl some in
       let lines : lines_said (so_far.told ++ event ∷ []) ≡ lines_said so_far.told ++ line_said event =
-          ap (λ es. lines_said (so_far.told ++ es)) (sym one) ∙ joined_once line_said so_far.told event refl in
+      ap (λ es. lines_said (so_far.told ++ es)) (sym one) ∙ joined_once line_said so_far.told event refl in
       let counted : count ≡ length (lines_said so_far.told) + cut.more =
-          cut.count_is ∙ ap (λ n. n + cut.more) so_far.said_counted in
+      cut.count_is ∙ ap (λ n. n + cut.more) so_far.said_counted in
       record {
         told = so_far.told;
         last = event;
@@ -213,9 +214,9 @@ module _ (old now new : Fetching) (bytes : List ℕ) (offset used : ℕ) (event 
       let some : 0 < length (record_told event) = omega (arith, cut.output.part) in
       let one : telling event ≡ event ∷ [] = telling_some record_told event refl some in
       let records : bytes_told (so_far.told ++ event ∷ []) ≡ bytes_told so_far.told ++ record_told event =
-          ap (λ es. bytes_told (so_far.told ++ es)) (sym one) ∙ joined_once record_told so_far.told event refl in
+      ap (λ es. bytes_told (so_far.told ++ es)) (sym one) ∙ joined_once record_told so_far.told event refl in
       let counted : count ≡ length (bytes_told so_far.told) + cut.more =
-          cut.count_is ∙ ap (λ n. n + cut.more) so_far.written_counted in
+      cut.count_is ∙ ap (λ n. n + cut.more) so_far.written_counted in
       record {
         told = so_far.told;
         last = event;

@@ -1,6 +1,6 @@
 -- Whether all places are done, one after another.
-use Rattle.std.proofs.Common.{◌≡◌, ℕ, ◌+◌, ◌<◌, ◌≤◌, zero, suc, refl, sym, ap, subst, ◌∙◌, arith, add-one, Bool, true,
-    false, ◌&&◌, List, [], ◌∷◌, length, take, take_all, Some, None, slice_get}
+use Rattle.std.proofs.Common.{◌≡◌, ℕ, ◌+◌, ◌<◌, ◌≤◌, zero, suc, refl, sym, ap, subst, ◌∙◌, arith, add-one, Bool, true}
+use Rattle.std.proofs.Common.{false, ◌&&◌, List, [], ◌∷◌, length, take, take_all, Some, None, slice_get}
 use Rattle.std.specs.List.{list_all, zip}
 use Rattle.slink_feed.specs.Session.{Grants, all_done, grant_at, is_done}
 use Rattle.slink_feed.specs.Window.{Window}

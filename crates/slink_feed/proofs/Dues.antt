@@ -1,14 +1,15 @@
 -- How much is due at most: a session that gives something has less to give.
-use Rattle.std.proofs.Common.{◌≡◌, ◌≢◌, ℕ, ◌+◌, ◌-◌, ◌*◌, ◌≤◌, ◌<◌, zero, suc, min, refl, sym, ap, subst, ◌∙◌, arith,
-    inl, inr, Bool, true, false, if◌then◌else◌, List, [], ◌∷◌, length, set, Option, Some, None, slice_get}
+use Rattle.std.proofs.Common.{◌≡◌, ◌≢◌, ℕ, ◌+◌, ◌-◌, ◌*◌, ◌≤◌, ◌<◌, zero, suc, min, refl, sym, ap, subst, ◌∙◌, arith}
+use Rattle.std.proofs.Common.{inl, inr, Bool, true, false, if◌then◌else◌, List, [], ◌∷◌, length, set, Option, Some}
+use Rattle.std.proofs.Common.{None, slice_get}
 use Rattle.std.proofs.lemmas.Bool.Decides.{eqb_tells}
 use Rattle.slink_feed.specs.declared.grant.Grant.{Grant}
 use Rattle.slink_feed.specs.declared.session.Phase.{Phase}
 use Rattle.slink_feed.specs.declared.session.Phase.TheVariants.{Fresh, Chosen, Granted, Streaming, Closed}
 use Rattle.slink_feed.specs.declared.session.Sent.{Sent}
 use Rattle.slink_feed.specs.declared.session.Sent.TheVariants as sents
-use Rattle.slink_feed.specs.Session.{AreReached, Grants, State, all_done, at_next, grant_at, packet_at, sent, sent_from,
-    sent_in, sent_of}
+use Rattle.slink_feed.specs.Session.{AreReached, Grants, State, all_done, at_next, grant_at, packet_at, sent, sent_from}
+use Rattle.slink_feed.specs.Session.{sent_in, sent_of}
 use Rattle.slink_feed.specs.Window.{Window, oldest_of, record_at}
 use Rattle.slink_feed.proofs.Reached.{position_reached}
 use Rattle.slink_feed.proofs.Sendings.{read_at}
@@ -62,7 +63,7 @@ left_set (v ∷ ws) (o ∷ gs) zero w g h here at one =
     let both : Some v ≡ Some w = here in
     let same : v ≡ w = cc both in
     let less : left_at v (Some h) + 1 ≡ left_at v o = ap (λ x. left_at x (Some h) + 1) same
-        ∙ (one ∙ (ap (λ x. left_at x (Some g)) (sym same) ∙ ap (left_at v) (sym at))) in
+    ∙ (one ∙ (ap (λ x. left_at x (Some g)) (sym same) ∙ ap (left_at v) (sym at))) in
     omega (arith, less)
 left_set (v ∷ ws) (o ∷ gs) (suc k) w g h here at one =
     let more : left_of ws (set gs k (Some h)) + 1 ≡ left_of ws gs = left_set ws gs k w g h here at one in
@@ -97,10 +98,10 @@ moved_packet feed s k g w (Some bytes) is at here before read few =
     let above : oldest_of w ≤ g.position = (read_at w g.position bytes read).0 in
     let near : w.next ≤ g.position + 1000000 = omega (arith, short, above) in
     let less : left_of feed (set s.grants k (Some h)) + 1 ≡ left_of feed s.grants =
-        left_set feed s.grants k w g h here at (one_less w.next g.position before near) in
+    left_set feed s.grants k w g h here at (one_less w.next g.position before near) in
     let old : due feed s ≡ suc (left_of feed s.grants) = due_streaming feed s is in
     let new : due_in s.phase feed (set s.grants k (Some h)) ≡ suc (left_of feed (set s.grants k (Some h))) =
-        ap (λ (p : Phase). due_in p feed (set s.grants k (Some h))) is in
+    ap (λ (p : Phase). due_in p feed (set s.grants k (Some h))) is in
     moves (λ e. cc e) (omega (arith, less, old, new))
 
 moved_from : (feed : List Window) (s : State) (k : ℕ) (g : Grant) (w : Window) → s.phase ≡ Streaming
@@ -110,14 +111,14 @@ moved_from : (feed : List Window) (s : State) (k : ℕ) (g : Grant) (w : Window)
 moved_from feed s k g w is at here within few = elim (eqb_tells g.position w.next) [
   | inl same ↦
       let e : sent_from feed s k g w ≡ at_next (all_done feed s.grants) s =
-          ap (λ b. if b then at_next (all_done feed s.grants) s else packet_at s k g (record_at w g.position)) same.0 in
+      ap (λ b. if b then at_next (all_done feed s.grants) s else packet_at s k g (record_at w g.position)) same.0 in
       subst (Moves feed s) (sym e) (moved_next feed s (all_done feed s.grants) is)
   | inr other ↦
       let e : sent_from feed s k g w ≡ packet_at s k g (record_at w g.position) =
-          ap (λ b. if b then at_next (all_done feed s.grants) s else packet_at s k g (record_at w g.position))
-          other.0 in
+      ap (λ b. if b then at_next (all_done feed s.grants) s else packet_at s k g (record_at w g.position))
+      other.0 in
       subst (Moves feed s) (sym e) (moved_packet feed s k g w (record_at w g.position) is at here
-          (omega (arith, within, other.1)) refl (λ bytes p. few bytes (ap (λ (x : State × Sent). x.1) e ∙ p)))
+      (omega (arith, within, other.1)) refl (λ bytes p. few bytes (ap (λ (x : State × Sent). x.1) e ∙ p)))
 ]
 
 moved_of : (feed : List Window) (s : State) (k : ℕ) (o : Option Grant) (ring : Option Window) → s.phase ≡ Streaming
@@ -128,7 +129,7 @@ moved_of feed s k None ring is reached at here few = waits refl refl
 moved_of feed s k (Some g) None is reached at here few = waits refl refl
 moved_of feed s k (Some g) (Some w) is reached at here few =
     moved_from feed s k g w is at here (position_reached feed s.grants k g w (grant_at s.grants k) reached refl at
-        here) (λ bytes p. few bytes w p refl)
+    here) (λ bytes p. few bytes w p refl)
 
 moved_in : (feed : List Window) (s : State) (k : ℕ) (p : Phase) → s.phase ≡ p → AreReached feed s.grants
     → ((bytes : List ℕ) (w : Window) → (sent_in p feed s k).1 ≡ sents.Packet bytes → slice_get feed k ≡ Some w

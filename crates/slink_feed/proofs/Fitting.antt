@@ -1,20 +1,21 @@
 -- A session can be served from its feed after each command.
-use Rattle.std.proofs.Common.{◌≡◌, ℕ, ◌+◌, ◌-◌, ◌<◌, ◌≤◌, inl, inr, zero, suc, refl, sym, ap, subst, ◌∙◌, arith, Bool,
-    true, false, List, [], ◌∷◌, length, length-set, replicate, set, Option, Some, None, slice_get, if◌then◌else◌}
+use Rattle.std.proofs.Common.{◌≡◌, ℕ, ◌+◌, ◌-◌, ◌<◌, ◌≤◌, inl, inr, zero, suc, refl, sym, ap, subst, ◌∙◌, arith, Bool}
+use Rattle.std.proofs.Common.{true, false, List, [], ◌∷◌, length, length-set, replicate, set, Option, Some, None}
+use Rattle.std.proofs.Common.{slice_get, if◌then◌else◌}
 use Rattle.std.proofs.lemmas.Bool.Decides.{leb_tells}
 use Rattle.std.specs.List.{position_from}
 use Rattle.std.specs.Option.{option_and_then}
 use Rattle.slink_wire.specs.declared.command.Command.{Command}
-use Rattle.slink_wire.specs.declared.command.Command.TheVariants.{Hello, Station, SelectAll, Data, Fetch, End, Bye,
-    Other}
+use Rattle.slink_wire.specs.declared.command.Command.TheVariants.{Hello, Station, SelectAll, Data, Fetch, End, Bye}
+use Rattle.slink_wire.specs.declared.command.Command.TheVariants.{Other}
 use Rattle.slink_feed.specs.declared.grant.Mode.{Mode}
 use Rattle.slink_feed.specs.declared.grant.Mode.TheVariants as Modes
 use Rattle.slink_feed.specs.declared.session.Phase.{Phase}
 use Rattle.slink_feed.specs.declared.session.Phase.TheVariants.{Fresh, Chosen, Granted, Streaming, Closed}
 use Rattle.slink_feed.specs.Grant.{grant_of}
 use Rattle.slink_feed.specs.Rings.{station_at}
-use Rattle.slink_feed.specs.Session.{Fits, IsReached, State, IsChosenOf, at, grant_at, answered, answered_in, asked,
-    chosen, granted, in_chosen, in_fresh, in_granted, in_streaming}
+use Rattle.slink_feed.specs.Session.{Fits, IsReached, State, IsChosenOf, at, grant_at, answered, answered_in, asked}
+use Rattle.slink_feed.specs.Session.{chosen, granted, in_chosen, in_fresh, in_granted, in_streaming}
 use Rattle.slink_feed.specs.Window.{Window, ahead_of, oldest_of, resolve_of, with_record}
 use Rattle.slink_feed.proofs.Reached.{reached_with, reached_without}
 
@@ -35,11 +36,11 @@ first_within p i k (w ∷ ws) e = within_by p i k w ws (p w) (first_within p (i 
 resolved_within : (w : Window) (seq p : ℕ) → resolve_of w seq ≡ Some p → p ≤ w.next
 resolved_within w seq p e = elim (leb_tells (ahead_of w seq) (w.next - oldest_of w)) [
   | inl passes ↦ let at : oldest_of w + ahead_of w seq ≡ p =
-  some_is (oldest_of w + ahead_of w seq) p
-  (sym (ap (λ t. if t then Some (oldest_of w + ahead_of w seq) else None) passes.0) ∙ e) in
+      some_is (oldest_of w + ahead_of w seq) p
+      (sym (ap (λ t. if t then Some (oldest_of w + ahead_of w seq) else None) passes.0) ∙ e) in
       omega (arith, at, passes.1)
   | inr fails ↦ absurd (let bad : None ≡ Some p = sym
-  (ap (λ t. if t then Some (oldest_of w + ahead_of w seq) else None) fails.0) ∙ e in cc bad)
+      (ap (λ t. if t then Some (oldest_of w + ahead_of w seq) else None) fails.0) ∙ e in cc bad)
 ]
 
 granted_within : (mode : Mode) (number : Option ℕ) (w : Window) (p : ℕ) → grant_of mode number w ≡ Some p → p ≤ w.next
@@ -138,8 +139,11 @@ none_at (suc n) zero = refl
 none_at (suc n) (suc k) = none_at n k
 
 pub fits_new : (feed : List Window) (s : State) → s ≡ at Fresh (replicate 16 None) → Fits feed s
-fits_new feed s e = subst (Fits feed) (sym e) (tt, λ k g is. absurd (let bad : None ≡ Some g = sym (none_at 16 k)
-    ∙ is in cc bad))
+fits_new feed s e = subst (Fits feed) (sym e) (
+  tt,
+  λ k g is. absurd (let bad : None ≡ Some g = sym (none_at 16 k)
+      ∙ is in cc bad),
+)
 
 -- once a record was pushed
 reached_pushed : (ws : List Window) (k : ℕ) (w : Window) (bytes : List ℕ) (j p : ℕ) → slice_get ws k ≡ Some w
@@ -147,9 +151,12 @@ reached_pushed : (ws : List Window) (k : ℕ) (w : Window) (bytes : List ℕ) (j
 reached_pushed [] k w bytes j p here reached = absurd (let bad : None ≡ Some w = here in cc bad)
 reached_pushed (v ∷ ws) zero w bytes zero p here reached =
     let both : Some reached.0 ≡ Some w = sym reached.1 ∙ here in
-    let one : reached.0 ≡ w = cc both in
-    (with_record w bytes, refl, let le : p ≤ w.next = subst (λ (x : Window). p ≤ x.next) one reached.2 in
-        omega (arith, le))
+    let one : reached.0 ≡ w = cc both in (
+      with_record w bytes,
+      refl,
+      let le : p ≤ w.next = subst (λ (x : Window). p ≤ x.next) one reached.2 in
+          omega (arith, le),
+    )
 reached_pushed (v ∷ ws) zero w bytes (suc j) p here reached = reached
 reached_pushed (v ∷ ws) (suc k) w bytes zero p here reached = reached
 reached_pushed (v ∷ ws) (suc k) w bytes (suc j) p here reached = reached_pushed ws k w bytes j p here reached
@@ -165,5 +172,7 @@ chosen_pushed Closed ws k v h = tt
 pub fits_pushed : (feed new : List Window) (k : ℕ) (w : Window) (bytes : List ℕ) (s : State)
     → slice_get feed k ≡ Some w → new ≡ set feed k (with_record w bytes) → Fits feed s → Fits new s
 fits_pushed feed new k w bytes s here e f =
-    subst (λ ws. Fits ws s) (sym e) (chosen_pushed s.phase feed k (with_record w bytes) f.0,
-    λ j g is. reached_pushed feed k w bytes j g.position here (f.1 j g is))
+    subst (λ ws. Fits ws s) (sym e) (
+      chosen_pushed s.phase feed k (with_record w bytes) f.0,
+      λ j g is. reached_pushed feed k w bytes j g.position here (f.1 j g is),
+    )

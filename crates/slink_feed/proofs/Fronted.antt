@@ -1,7 +1,7 @@
 -- Of the packets of a link that is cut off, the whole ones are told.
-use Rattle.std.proofs.Common.{◌≡◌, ℕ, ◌+◌, ◌-◌, ◌/◌, ◌^◌, ◌<◌, ◌≤◌, inl, inr, suc, refl, sym, ap, subst, ◌∙◌, arith,
-    true, ◌==◌, if◌then◌else◌, List, [], ◌∷◌, ◌++◌, append_assoc, length, length-append, take, drop, take-append-drop,
-    Option, Some, None, IfSome, codes}
+use Rattle.std.proofs.Common.{◌≡◌, ℕ, ◌+◌, ◌-◌, ◌/◌, ◌^◌, ◌<◌, ◌≤◌, inl, inr, suc, refl, sym, ap, subst, ◌∙◌, arith}
+use Rattle.std.proofs.Common.{true, ◌==◌, if◌then◌else◌, List, [], ◌∷◌, ◌++◌, append_assoc, length, length-append, take}
+use Rattle.std.proofs.Common.{drop, take-append-drop, Option, Some, None, IfSome, codes}
 use Rattle.std.proofs.lemmas.Bool.{cases_lt}
 use Rattle.std.proofs.lemmas.Bool.Decides.{eqb_tells}
 use Rattle.std.proofs.lemmas.List.{length-drop, take-append-le}
@@ -16,8 +16,8 @@ use Rattle.slink_feed.specs.declared.dialogue.Stage.{Stage}
 use Rattle.slink_feed.specs.declared.dialogue.Stage.TheVariants.{Packets}
 use Rattle.slink_feed.specs.Cutting.{IsBegun, IsWhole}
 use Rattle.slink_feed.specs.Delivered.{AreWanted, Numbered, all_packets, record_events}
-use Rattle.slink_feed.specs.Dialogue.{Talk, Whole, Packet, at_packet, bearer, ended, heard, heard_at, if_wanted,
-    next_at, told}
+use Rattle.slink_feed.specs.Dialogue.{Talk, Whole, Packet, at_packet, bearer, ended, heard, heard_at, if_wanted}
+use Rattle.slink_feed.specs.Dialogue.{next_at, told}
 use Rattle.slink_feed.specs.Listening.{AreBrought, Brought, Listening, Reads, bytes_of, events_of, talk_after, telling}
 use Rattle.slink_feed.proofs.Heard.{begun_none}
 use Rattle.slink_feed.proofs.Wholes.{front_begun}
@@ -25,7 +25,7 @@ use Rattle.slink_feed.proofs.Wholes.{front_begun}
 packet_long : (n : ℕ) (bytes : List ℕ) → length bytes ≡ 512 → length (packet_bytes n bytes) ≡ 520
 packet_long n bytes long =
     let front : length (codes "SL" ++ hexadecimal 6 n) ≡ 8 = length-append (codes "SL") (hexadecimal 6 n)
-        ∙ omega (arith, length-hexadecimal 6 n) in
+    ∙ omega (arith, length-hexadecimal 6 n) in
     length-append (codes "SL" ++ hexadecimal 6 n) bytes ∙ omega (arith, front, long)
 
 packet_whole : (t : Talk) (r : Numbered) → t.stage ≡ Packets → length r.bytes ≡ 512 → r.number < 2 ^ 24
@@ -62,9 +62,17 @@ abbrev Fronted : Talk → List Numbered → ℕ → Type 0
 Fronted t items d = (now : Listening) × Reads t (take d (all_packets items)) (record_events (take (d / 520) items)) now
 
 none_fronted : (t : Talk) → Fronted t [] 0
-none_fronted t = (record { talk = t; kept = [] },
-    record { brought = []; are_brought = tt; bytes = refl; events_are = refl; talk = refl;
-    is_begun = begun_none t.stage })
+none_fronted t = (
+  record { talk = t; kept = [] },
+  record {
+    brought = [];
+    are_brought = tt;
+    bytes = refl;
+    events_are = refl;
+    talk = refl;
+    is_begun = begun_none t.stage;
+  },
+)
 
 -- the first packet isn't whole
 part_fronted : (t : Talk) (r : Numbered) (rs : List Numbered) (d : ℕ) → t.stage ≡ Packets → length r.bytes ≡ 512
@@ -73,12 +81,12 @@ part_fronted t r rs d at long small lt =
     let p : List ℕ = packet_bytes r.number r.bytes in
     let all : length p ≡ 520 = packet_long r.number r.bytes long in
     let stream : take d (p ++ all_packets rs) ≡ take d p =
-        take-append-le d p (all_packets rs) (omega (arith, all, lt)) in
+    take-append-le d p (all_packets rs) (omega (arith, all, lt)) in
     let none : d / 520 ≡ 0 = omega (arith, lt) in
     let begun : IsBegun t.stage (take d p) =
-        front_begun t.stage (take d p) (drop d p) (Packet r.number r.bytes) (omega (arith, length-drop d p, all, lt))
+    front_begun t.stage (take d p) (drop d p) (Packet r.number r.bytes) (omega (arith, length-drop d p, all, lt))
     (subst (λ (xs : List ℕ). IsWhole t.stage xs (Packet r.number r.bytes)) (sym (take-append-drop d p))
-        (packet_whole t r at long small)) in
+    (packet_whole t r at long small)) in
     let now : Listening = record { talk = t; kept = take d p } in (
       now,
       subst (λ (xs : List ℕ). Reads t xs (record_events (take (d / 520) (r ∷ rs))) now) (sym stream)
@@ -98,13 +106,15 @@ whole_fronted t r rs d at are ge more =
     let all : length p ≡ 520 = packet_long r.number r.bytes are.0 in
     let stream : take d (p ++ all_packets rs) ≡ p ++ take (d - 520) (all_packets rs) =
     ap (λ n. take n (p ++ all_packets rs)) (let e : d ≡ length p + (d - 520) = omega (arith, all, ge) in e)
-        ∙ take_past p (all_packets rs) (d - 520) in
+    ∙ take_past p (all_packets rs) (d - 520) in
     let count : d / 520 ≡ suc ((d - 520) / 520) = omega (arith, ge) in
     let reading : Reads t (p ++ take (d - 520) (all_packets rs))
-        (events.Record r.place r.number r.bytes ∷ record_events (take ((d - 520) / 520) rs)) more.0 = record {
+    (events.Record r.place r.number r.bytes ∷ record_events (take ((d - 520) / 520) rs)) more.0 = record {
       brought = record { bytes = p; whole = w } ∷ bs;
-      are_brought = (packet_whole t r at are.0 are.1,
-          subst (λ (x : Talk × Event). AreBrought x.0 bs) (sym h) more.1.are_brought);
+      are_brought = (
+        packet_whole t r at are.0 are.1,
+        subst (λ (x : Talk × Event). AreBrought x.0 bs) (sym h) more.1.are_brought,
+      );
       bytes = ap (λ xs. p ++ xs) more.1.bytes ∙ sym (append_assoc p (bytes_of bs) more.0.kept);
       events_are = ap (λ es. events.Record r.place r.number r.bytes ∷ es) more.1.events_are
           ∙ ap (λ (x : Talk × Event). telling x.1 ++ events_of x.0 bs) (sym h);
@@ -114,7 +124,7 @@ whole_fronted t r rs d at are ge more =
       more.0,
       subst (λ (xs : List ℕ). Reads t xs (record_events (take (d / 520) (r ∷ rs))) more.0) (sym stream)
           (subst (λ n. Reads t (p ++ take (d - 520) (all_packets rs)) (record_events (take n (r ∷ rs))) more.0)
-              (sym count) reading),
+          (sym count) reading),
     )
 
 pub fronts_told : (items : List Numbered) (t : Talk) (d : ℕ) → t.stage ≡ Packets → AreWanted t items
@@ -124,6 +134,11 @@ fronts_told [] t d at are within = let none : d ≡ 0 = omega (arith, within) in
 fronts_told (r ∷ rs) t d at are within = elim (cases_lt d 520) [
   | inl lt ↦ part_fronted t r rs d at are.0 are.1 lt
   | inr ge ↦ whole_fronted t r rs d at are ge (fronts_told rs (told r.place r.number r.bytes t).0 (d - 520) at are.4
-      (omega (arith, within, ge, length-append (packet_bytes r.number r.bytes) (all_packets rs),
-          packet_long r.number r.bytes are.0)))
+      (omega (
+        arith,
+        within,
+        ge,
+        length-append (packet_bytes r.number r.bytes) (all_packets rs),
+        packet_long r.number r.bytes are.0,
+      )))
 ]

@@ -1,6 +1,6 @@
 -- A client that says a line or tells of a record goes on with its link.
-use Rattle.std.proofs.Common.{◌≡◌, ◌≢◌, ℕ, ◌+◌, ◌<◌, refl, sym, subst, arith, Bool, true, false, ◌==◌, if◌then◌else◌,
-    List, [], length, ap, Option, Some, None}
+use Rattle.std.proofs.Common.{◌≡◌, ◌≢◌, ℕ, ◌+◌, ◌<◌, refl, sym, subst, arith, Bool, true, false, ◌==◌, if◌then◌else◌}
+use Rattle.std.proofs.Common.{List, [], length, ap, Option, Some, None}
 use Rattle.slink_feed.specs.declared.dialogue.Answer.{Answer}
 use Rattle.slink_feed.specs.declared.dialogue.Answer.TheVariants.{Granted, Refusal, Neither}
 use Rattle.slink_feed.specs.declared.dialogue.Ending.{Ending}
@@ -9,8 +9,9 @@ use Rattle.slink_feed.specs.declared.dialogue.Event.{Event}
 use Rattle.slink_feed.specs.declared.dialogue.Stage.{Stage}
 use Rattle.slink_feed.specs.declared.dialogue.Stage.TheVariants.{Unlinked, Station, Number, Packets, Ended}
 use Rattle.slink_feed.specs.declared.dialogue.Wanted.{Wanted}
-use Rattle.slink_feed.specs.Dialogue.{Talk, Whole, Reply, Packet, End, Garbage, answer_of, at_packet, bearer, ended,
-    heard_at, if_wanted, next_at, says_number, says_place, to_answer, to_place, told, want_at}
+use Rattle.slink_feed.specs.Dialogue.{Talk, Whole, Reply, Packet, End, Garbage, answer_of, at_packet, bearer, ended}
+use Rattle.slink_feed.specs.Dialogue.{heard_at, if_wanted, next_at, says_number, says_place, to_answer, to_place, told}
+use Rattle.slink_feed.specs.Dialogue.{want_at}
 use Rattle.slink_feed.specs.Fetching.{line_said, record_told}
 use Rattle.slink_feed.specs.Listening.{Brings, IsLinked, Listening, begun, whole}
 

@@ -1,12 +1,12 @@
 -- The first bytes of packets.
-use Rattle.std.proofs.Common.{List, Some, ap, arith, drop, inl, inr, length, length-append, length-drop, subst, sym,
-    take, ℕ, ◌++◌, ◌+◌, ◌∙◌, ◌≡◌, ◌≤◌}
+use Rattle.std.proofs.Common.{List, Some, ap, arith, drop, inl, inr, length, length-append, length-drop, subst, sym}
+use Rattle.std.proofs.Common.{take, ℕ, ◌++◌, ◌+◌, ◌∙◌, ◌≡◌, ◌≤◌}
 use Rattle.std.proofs.lemmas.Bool.{cases_lt}
 use Rattle.std.proofs.lemmas.List.{take-append-le, drop-append-le}
 use Rattle.slink_wire.specs.Hexadecimal.{SaysNumber}
 use Rattle.slink_wire.specs.Packet.{HasHead}
-use Rattle.slink_feed.specs.Cutting.{Begins, IsNoPacket, IsPacketBegun, no_head, nothing, end_begun, head_begun,
-    record_begun}
+use Rattle.slink_feed.specs.Cutting.{Begins, IsNoPacket, IsPacketBegun, no_head, nothing, end_begun, head_begun}
+use Rattle.slink_feed.specs.Cutting.{record_begun}
 use Rattle.slink_feed.specs.Parts.{IsDue}
 use Rattle.slink_feed.proofs.Fronts.{get_left}
 

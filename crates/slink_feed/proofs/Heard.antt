@@ -1,6 +1,6 @@
 -- What a client hears, and what it goes on to stand for.
-use Rattle.std.proofs.Common.{◌≡◌, ℕ, ◌<◌, ◌^◌, refl, sym, ap, subst, ◌∙◌, arith, List, [], ◌∷◌, ◌++◌, append_assoc,
-    append-nil, length, length-drop, take, drop, Some, None}
+use Rattle.std.proofs.Common.{◌≡◌, ℕ, ◌<◌, ◌^◌, refl, sym, ap, subst, ◌∙◌, arith, List, [], ◌∷◌, ◌++◌, append_assoc}
+use Rattle.std.proofs.Common.{append-nil, length, length-drop, take, drop, Some, None}
 use Rattle.std.proofs.lemmas.List.{length-take-le, take_all}
 use Rattle.slink_wire.specs.Packet.{HasHead, IsPacket}
 use Rattle.slink_feed.specs.declared.cutting.Part.{Part}
@@ -12,18 +12,18 @@ use Rattle.slink_feed.specs.declared.dialogue.Stage.{Stage}
 use Rattle.slink_feed.specs.declared.dialogue.Stage.TheVariants.{Unlinked, Station, Number, Packets, Ended}
 use Rattle.slink_feed.specs.Cutting.{IsBegun, IsReply, IsWhole, IsWholePacket, IsWholeReply, nothing}
 use Rattle.slink_feed.specs.Parts.{IsPacketPart, IsReplyPart}
-use Rattle.slink_feed.specs.Dialogue.{Talk, Whole, Reply, Packet, End, Garbage, at_packet, bearer, ended, heard,
-    heard_at}
-use Rattle.slink_feed.specs.Listening.{AreBrought, AwaitsReply, Brings, Brought, Listening, Reads, begun, bytes_of,
-    events_of, talk_after, telling, whole}
+use Rattle.slink_feed.specs.Dialogue.{Talk, Whole, Reply, Packet, End, Garbage, at_packet, bearer, ended, heard}
+use Rattle.slink_feed.specs.Dialogue.{heard_at}
+use Rattle.slink_feed.specs.Listening.{AreBrought, AwaitsReply, Brings, Brought, Listening, Reads, begun, bytes_of}
+use Rattle.slink_feed.specs.Listening.{events_of, talk_after, telling, whole}
 
 -- a packet's number has six digits
 pub packet_short : (bytes packet record_bytes : List ℕ) (n : ℕ) → length bytes ≡ 520 → packet ≡ take 520 bytes
     → IsPacket packet n record_bytes → n < 2 ^ 24
 packet_short bytes packet r n long same is =
     let six : length (take 6 (drop 2 packet)) ≡ 6 =
-        length-take-le 6 (drop 2 packet)
-        (omega (arith, length-drop 2 packet, ap length same, length-take-le 520 bytes (omega (arith, long)))) in
+    length-take-le 6 (drop 2 packet)
+    (omega (arith, length-drop 2 packet, ap length same, length-take-le 520 bytes (omega (arith, long)))) in
     let small : n < 16 ^ 6 = subst (λ k. n < 16 ^ k) six is.1.0 in
     omega (arith, small)
 
@@ -57,14 +57,14 @@ pub reply_brings : (t d talk : Talk) (bytes slice line kept : List ℕ) (x e : E
     → Brings t bytes (record { talk = d; kept = kept }) x
 reply_brings t d talk bytes slice line kept x e awaits same is h same_talk same_event none =
     whole (Reply line) (reply_whole t.stage bytes (Reply line) awaits (subst (λ (b : List ℕ). IsReply b line) same is))
-        (paired d talk x e (heard t (Reply line)) h same_talk same_event) none
+    (paired d talk x e (heard t (Reply line)) h same_talk same_event) none
 
 pub no_reply_brings : (t d talk : Talk) (bytes kept : List ℕ) (part : Part) (x e : Event) → AwaitsReply t.stage
     → IsReplyPart bytes part → part ≡ parts.Garbage → ended endings.Garbage t ≡ (talk, e) → d ≡ talk → x ≡ e → kept ≡ []
     → Brings t bytes (record { talk = d; kept = kept }) x
 no_reply_brings t d talk bytes kept part x e awaits is at h same_talk same_event none =
     whole Garbage (reply_whole t.stage bytes Garbage awaits (subst (IsReplyPart bytes) at is))
-        (paired d talk x e (heard t Garbage) (garbage_heard t.stage t awaits ∙ h) same_talk same_event) none
+    (paired d talk x e (heard t Garbage) (garbage_heard t.stage t awaits ∙ h) same_talk same_event) none
 
 packet_whole : (t : Talk) (bytes : List ℕ) (w : Whole) → t.stage ≡ Packets → IsWholePacket bytes w
     → IsWhole t.stage bytes w
@@ -86,7 +86,7 @@ pub end_brings : (t d talk : Talk) (bytes kept : List ℕ) (part : Part) (x e : 
     → Brings t bytes (record { talk = d; kept = kept }) x
 end_brings t d talk bytes kept part x e at is end_part h same_talk same_event none =
     whole End (packet_whole t bytes End at (subst (IsPacketPart bytes) end_part is))
-        (paired d talk x e (heard t End) (ap (λ (s : Stage). heard_at s t End) at ∙ h) same_talk same_event) none
+    (paired d talk x e (heard t End) (ap (λ (s : Stage). heard_at s t End) at ∙ h) same_talk same_event) none
 
 pub garbage_brings : (t d talk : Talk) (bytes kept : List ℕ) (part : Part) (x e : Event) → t.stage ≡ Packets
     → IsPacketPart bytes part → part ≡ parts.Garbage → ended endings.Garbage t ≡ (talk, e) → d ≡ talk → x ≡ e
@@ -94,8 +94,8 @@ pub garbage_brings : (t d talk : Talk) (bytes kept : List ℕ) (part : Part) (x 
     → Brings t bytes (record { talk = d; kept = kept }) x
 garbage_brings t d talk bytes kept part x e at is garbage_part h same_talk same_event none =
     whole Garbage (packet_whole t bytes Garbage at (subst (IsPacketPart bytes) garbage_part is))
-        (paired d talk x e (heard t Garbage) (ap (λ (s : Stage). heard_at s t Garbage) at ∙ h) same_talk same_event)
-        none
+    (paired d talk x e (heard t Garbage) (ap (λ (s : Stage). heard_at s t Garbage) at ∙ h) same_talk same_event)
+    none
 
 -- before the first byte of a whole
 pub begun_none : (stage : Stage) → IsBegun stage []
@@ -111,7 +111,7 @@ pub brings_seen : (talk : Talk) (kept all more : List ℕ) (now new : Listening)
     → Brings now.talk (now.kept ++ more) new e
 brings_seen talk kept all more now new e seen is brings =
     subst (λ (l : Listening). Brings l.talk (l.kept ++ more) new e) seen
-        (subst (λ (b : List ℕ). Brings talk b new e) is brings)
+    (subst (λ (b : List ℕ). Brings talk b new e) is brings)
 
 pub begun_after : (talk : Talk) (bytes : List ℕ) (new : Listening) (e : Event) → Brings talk bytes new e
     → IsBegun new.talk.stage new.kept
@@ -148,7 +148,7 @@ reads_whole : (start : Talk) (stream more : List ℕ) (es : List Event) (now new
 reads_whole start stream more es now new e w is h none reads =
     let b : Brought = record { bytes = now.kept ++ more; whole = w } in
     let at : heard (talk_after start reads.brought) w ≡ (new.talk, e) = ap (λ (t : Talk). heard t w) (sym reads.talk)
-        ∙ h in
+    ∙ h in
     record {
       brought = reads.brought ++ b ∷ [];
       are_brought = brought_more start reads.brought b reads.are_brought
@@ -170,8 +170,8 @@ reads_begun : (start : Talk) (stream more : List ℕ) (es : List Event) (now new
 reads_begun start stream more es now new e is same quiet reads =
     let all : es ++ telling e ≡ es = ap (λ x. es ++ telling x) quiet ∙ append-nil es in
     subst (λ (l : Listening). Reads start (stream ++ more) (es ++ telling e) l) (sym same)
-        (subst (λ xs. Reads start (stream ++ more) xs (record { talk = now.talk; kept = now.kept ++ more })) (sym all)
-        (record {
+    (subst (λ xs. Reads start (stream ++ more) xs (record { talk = now.talk; kept = now.kept ++ more })) (sym all)
+    (record {
       brought = reads.brought;
       are_brought = reads.are_brought;
       bytes = ap (λ s. s ++ more) reads.bytes ∙ append_assoc (bytes_of reads.brought) now.kept more;

@@ -1,7 +1,7 @@
 -- The elements of a list, by their indices, and what a window shows.
-use Rattle.std.proofs.Common.{◌≡◌, ◌≢◌, ℕ, ◌+◌, ◌-◌, ◌<◌, ◌≤◌, ◌⊎◌, inl, inr, zero, suc, refl, sym, ap, ◌∙◌, arith,
-    Bool, true, false, List, [], ◌∷◌, ◌++◌, length, length-append, length-drop, drop, set, get_or, Option, Some, None,
-    slice_get, if◌then◌else◌, nat_lt, unwrap_or}
+use Rattle.std.proofs.Common.{◌≡◌, ◌≢◌, ℕ, ◌+◌, ◌-◌, ◌<◌, ◌≤◌, ◌⊎◌, inl, inr, zero, suc, refl, sym, ap, ◌∙◌, arith}
+use Rattle.std.proofs.Common.{Bool, true, false, List, [], ◌∷◌, ◌++◌, length, length-append, length-drop, drop, set}
+use Rattle.std.proofs.Common.{get_or, Option, Some, None, slice_get, if◌then◌else◌, nat_lt, unwrap_or}
 use Rattle.std.proofs.lemmas.Bool.Decides.{eqb_tells, nat_tests}
 use Rattle.std.proofs.lemmas.Option.{unwrap_or-slice_get}
 use Rattle.std.proofs.lemmas.List.{get_or-set_other, get_or-set_same}
@@ -76,12 +76,12 @@ pub at_number : (w : Window) (first : ℕ) (F : List (List ℕ)) (p : ℕ) (r : 
 at_number w first F p r h e =
     let d : ℕ = length F - w.capacity in
     let got : (nat_lt p (oldest_of w) ≡ false) × (slice_get w.records (p - oldest_of w) ≡ Some r) =
-        got_past (nat_lt p (oldest_of w)) (slice_get w.records (p - oldest_of w)) r e in
+    got_past (nat_lt p (oldest_of w)) (slice_get w.records (p - oldest_of w)) r e in
     let from : oldest_of w ≤ p = lt_false p (oldest_of w) got.0 in
     let o : oldest_of w ≡ first + d = oldest_is w first F h in
     let at : d + (p - oldest_of w) ≡ p - first = omega (arith, o, from) in
     ap (slice_get F) (sym at)
-        ∙ (sym (get_drop d F (p - oldest_of w)) ∙ (ap (λ xs. slice_get xs (p - oldest_of w)) (sym h.records) ∙ got.1))
+    ∙ (sym (get_drop d F (p - oldest_of w)) ∙ (ap (λ xs. slice_get xs (p - oldest_of w)) (sym h.records) ∙ got.1))
 
 drop_front : (d : ℕ) (xs ys : List (List ℕ)) → d ≤ length xs → drop d (xs ++ ys) ≡ drop d xs ++ ys
 drop_front zero xs ys le = refl
@@ -103,9 +103,9 @@ keep_more n xs r =
     let d : ℕ = length xs - n in
     let front : drop d xs ++ r ∷ [] ≡ drop d (xs ++ r ∷ []) = sym (drop_front d xs (r ∷ []) (omega arith)) in
     let long : d + (length (drop d xs ++ r ∷ []) - n) ≡ length (xs ++ r ∷ []) - n =
-        omega (arith, length-append (drop d xs) (r ∷ []), length-append xs (r ∷ []), length-drop d xs) in
+    omega (arith, length-append (drop d xs) (r ∷ []), length-append xs (r ∷ []), length-drop d xs) in
     ap (λ l. drop (length (drop d xs ++ r ∷ []) - n) l) front
-        ∙ (drop_twice (length (drop d xs ++ r ∷ []) - n) d (xs ++ r ∷ []) ∙ ap (λ k. drop k (xs ++ r ∷ [])) long)
+    ∙ (drop_twice (length (drop d xs ++ r ∷ []) - n) d (xs ++ r ∷ []) ∙ ap (λ k. drop k (xs ++ r ∷ [])) long)
 
 -- the ring shows one record more
 pub shows_more : (w : Window) (first : ℕ) (F : List (List ℕ)) (r : List ℕ) → Shows w first F

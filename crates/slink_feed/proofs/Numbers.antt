@@ -1,6 +1,7 @@
 -- The numbers of the records that a client tells of a place go up one by one.
-use Rattle.std.proofs.Common.{◌≡◌, ◌≢◌, ℕ, ◌+◌, ◌%◌, ◌^◌, inl, inr, zero, suc, refl, sym, ap, subst, ◌∙◌, arith, Bool,
-    true, false, ◌==◌, if◌then◌else◌, List, [], ◌∷◌, ◌++◌, length, set, get_or, Option, Some, None, IfSome}
+use Rattle.std.proofs.Common.{◌≡◌, ◌≢◌, ℕ, ◌+◌, ◌%◌, ◌^◌, inl, inr, zero, suc, refl, sym, ap, subst, ◌∙◌, arith, Bool}
+use Rattle.std.proofs.Common.{true, false, ◌==◌, if◌then◌else◌, List, [], ◌∷◌, ◌++◌, length, set, get_or, Option, Some}
+use Rattle.std.proofs.Common.{None, IfSome}
 use Rattle.std.specs.List.{position_or_len}
 use Rattle.std.proofs.lemmas.Bool.Decides.{eqb_tells, leb_tells}
 use Rattle.std.proofs.lemmas.List.Sums.{passes_at_first}
@@ -15,9 +16,9 @@ use Rattle.slink_feed.specs.declared.dialogue.Event.{Event}
 use Rattle.slink_feed.specs.declared.dialogue.Stage.{Stage}
 use Rattle.slink_feed.specs.declared.dialogue.Stage.TheVariants.{Unlinked, Station, Number, Packets, Ended}
 use Rattle.slink_feed.specs.declared.dialogue.Wanted.{Wanted}
-use Rattle.slink_feed.specs.Dialogue.{Talk, Wants, Whole, Reply, Packet, End, Garbage, answer_of, at_packet, bearer,
-    ended, heard_at, if_wanted, is_borne, next_at, next_set, says, says_number, says_place, to_answer, to_place, told,
-    want_at, with_next}
+use Rattle.slink_feed.specs.Dialogue.{Talk, Wants, Whole, Reply, Packet, End, Garbage, answer_of, at_packet, bearer}
+use Rattle.slink_feed.specs.Dialogue.{ended, heard_at, if_wanted, is_borne, next_at, next_set, says, says_number}
+use Rattle.slink_feed.specs.Dialogue.{says_place, to_answer, to_place, told, want_at, with_next}
 use Rattle.slink_feed.specs.Holding.{GoOn, Turn, connects, brings, numbers_in, numbers_of, talk_behind, turned}
 
 -- what comes of a turn for a place: nothing is told of it; or a record, of the number that it wants, if any
@@ -78,11 +79,11 @@ pub moved_told : (k j n : ℕ) (bytes : List ℕ) (t : Talk) (w : Wanted) → wa
     → IfSome (next_at t.wants j) (λ want. n ≡ want) → Moved k t (told j n bytes t)
 moved_told k j n bytes t w at wanted = elim (eqb_tells j k) [
   | inl same ↦ moves n (ap (λ b. if b then n ∷ [] else []) same.0)
-  (subst (λ i. IfSome (next_at t.wants i) (λ want. n ≡ want)) same.1 wanted)
+      (subst (λ i. IfSome (next_at t.wants i) (λ want. n ≡ want)) same.1 wanted)
       (ap (next_at (with_next t.wants j ((n + 1) % 2 ^ 24))) (sym same.1)
-          ∙ next_here t.wants j ((n + 1) % 2 ^ 24) (want_at t.wants j) w refl at)
+      ∙ next_here t.wants j ((n + 1) % 2 ^ 24) (want_at t.wants j) w refl at)
   | inr other ↦ stays (ap (λ b. if b then n ∷ [] else []) other.0)
-  (next_other t.wants j k ((n + 1) % 2 ^ 24) (want_at t.wants j) other.1)
+      (next_other t.wants j k ((n + 1) % 2 ^ 24) (want_at t.wants j) other.1)
 ]
 
 moved_if : (k j n : ℕ) (bytes : List ℕ) (t : Talk) (w : Wanted) (b : Bool) (want : ℕ) → want_at t.wants j ≡ Some w
@@ -93,8 +94,10 @@ moved_if k j n bytes t w true want at is same =
 moved_if k j n bytes t w false want at is same = moved_end k t (endings.Gap j want n)
 
 pub same_number : (n want : ℕ) → (n == want) ≡ true → n ≡ want
-same_number n want h = elim (eqb_tells n want) [ inl same ↦ same.1
-    | inr other ↦ absurd (let bad : true ≡ false = sym h ∙ other.0 in cc bad) ]
+same_number n want h = elim (eqb_tells n want) [
+  | inl same ↦ same.1
+  | inr other ↦ absurd (let bad : true ≡ false = sym h ∙ other.0 in cc bad)
+]
 
 moved_wanted : (k j n : ℕ) (bytes : List ℕ) (t : Talk) (w : Wanted) (o : Option ℕ) → want_at t.wants j ≡ Some w
     → next_at t.wants j ≡ o → Moved k t (if_wanted o j n bytes t)
@@ -119,9 +122,9 @@ bearer_some wants bytes j h =
       | inl lt ↦ let at : Some first ≡ Some j = sym (ap (λ b. if b then Some first else None) lt.0) ∙ h in
           let same : first ≡ j = cc at in
           let passes : is_borne bytes (get_or wants first None) ≡ true =
-              passes_at_first (is_borne bytes) wants None (omega (arith, lt.1)) in
+          passes_at_first (is_borne bytes) wants None (omega (arith, lt.1)) in
           borne_some bytes (want_at wants j)
-              (ap (is_borne bytes) (sym (ap (λ i. get_or wants i None) same ∙ get_want wants j)) ∙ passes)
+          (ap (is_borne bytes) (sym (ap (λ i. get_or wants i None) same ∙ get_want wants j)) ∙ passes)
       | inr ge ↦ absurd (let bad : None ≡ Some j = sym (ap (λ b. if b then Some first else None) ge.0) ∙ h in cc bad)
     ]
 
@@ -172,8 +175,8 @@ numbers_go_on k t (turn ∷ turns) =
     let rest : GoOn (next_at u.wants k) (numbers_of k u turns) last = numbers_go_on k u turns in
     elim (moved_turn k t turn) [
       | stays none same ↦ subst (λ ns. GoOn (next_at t.wants k) (ns ++ numbers_of k u turns) last) (sym none)
-      (subst (λ o. GoOn o (numbers_of k u turns) last) same rest)
+          (subst (λ o. GoOn o (numbers_of k u turns) last) same rest)
       | moves n one wanted next ↦ subst (λ ns. GoOn (next_at t.wants k) (ns ++ numbers_of k u turns) last) (sym one)
           (go_on_more (next_at t.wants k) last n (numbers_of k u turns) wanted
-              (subst (λ o. GoOn o (numbers_of k u turns) last) next rest))
+          (subst (λ o. GoOn o (numbers_of k u turns) last) next rest))
     ]

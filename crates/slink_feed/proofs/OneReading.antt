@@ -1,6 +1,6 @@
 -- A stream of bytes reads as wholes in one way.
-use Rattle.std.proofs.Common.{◌≡◌, ℕ, inl, inr, refl, sym, ap, subst, ◌∙◌, arith, List, [], ◌∷◌, ◌++◌, append_assoc,
-    append-nil}
+use Rattle.std.proofs.Common.{◌≡◌, ℕ, inl, inr, refl, sym, ap, subst, ◌∙◌, arith, List, [], ◌∷◌, ◌++◌, append_assoc}
+use Rattle.std.proofs.Common.{append-nil}
 use Rattle.std.proofs.lemmas.List.{append_cancel_left}
 use Rattle.slink_wire.proofs.Fronts.{fronts}
 use Rattle.slink_feed.specs.declared.dialogue.Event.{Event}
@@ -16,8 +16,8 @@ no_further : (stage : Stage) (a z b : List ℕ) (w v : Whole) → IsWhole stage 
 no_further stage a [] b w v p q e = e ∙ append-nil a
 no_further stage a (x ∷ z) b w v p q e =
     absurd (begun_no_whole stage a [] w
-        (subst (IsBegun stage) (sym (append-nil a))
-        (front_begun stage a (x ∷ z) v (omega arith) (subst (λ (bytes : List ℕ). IsWhole stage bytes v) e q))) p)
+    (subst (IsBegun stage) (sym (append-nil a))
+    (front_begun stage a (x ∷ z) v (omega arith) (subst (λ (bytes : List ℕ). IsWhole stage bytes v) e q))) p)
 
 pub one_front : (stage : Stage) (a b x y : List ℕ) (w v : Whole) → IsWhole stage a w → IsWhole stage b v
     → a ++ x ≡ b ++ y → a ≡ b
@@ -47,27 +47,27 @@ pub one_brought : (t : Talk) (bs cs : List Brought) (k m : List ℕ) → AreBrou
 one_brought t [] [] k m p q e f g = (refl, e)
 one_brought t [] (c ∷ cs) k m p q e f g =
     absurd (begun_no_whole t.stage c.bytes (bytes_of cs ++ m) c.whole
-        (subst (IsBegun t.stage) (e ∙ append_assoc c.bytes (bytes_of cs) m)
-        (f (whole_linked t.stage c.bytes c.whole q.0))) q.0)
+    (subst (IsBegun t.stage) (e ∙ append_assoc c.bytes (bytes_of cs) m)
+    (f (whole_linked t.stage c.bytes c.whole q.0))) q.0)
 one_brought t (b ∷ bs) [] k m p q e f g =
     absurd (begun_no_whole t.stage b.bytes (bytes_of bs ++ k) b.whole
-        (subst (IsBegun t.stage) (sym e ∙ append_assoc b.bytes (bytes_of bs) k)
-        (g (whole_linked t.stage b.bytes b.whole p.0))) p.0)
+    (subst (IsBegun t.stage) (sym e ∙ append_assoc b.bytes (bytes_of bs) k)
+    (g (whole_linked t.stage b.bytes b.whole p.0))) p.0)
 one_brought t (b ∷ bs) (c ∷ cs) k m p q e f g =
     let both : b.bytes ++ (bytes_of bs ++ k) ≡ c.bytes ++ (bytes_of cs ++ m) =
-        sym (append_assoc b.bytes (bytes_of bs) k) ∙ (e ∙ append_assoc c.bytes (bytes_of cs) m) in
+    sym (append_assoc b.bytes (bytes_of bs) k) ∙ (e ∙ append_assoc c.bytes (bytes_of cs) m) in
     let front : b.bytes ≡ c.bytes =
-        one_front t.stage b.bytes c.bytes (bytes_of bs ++ k) (bytes_of cs ++ m) b.whole c.whole p.0 q.0 both in
+    one_front t.stage b.bytes c.bytes (bytes_of bs ++ k) (bytes_of cs ++ m) b.whole c.whole p.0 q.0 both in
     let rest : bytes_of bs ++ k ≡ bytes_of cs ++ m =
-        append_cancel_left c.bytes (bytes_of bs ++ k) (bytes_of cs ++ m)
-        (ap (λ xs. xs ++ (bytes_of bs ++ k)) (sym front) ∙ both) in
+    append_cancel_left c.bytes (bytes_of bs ++ k) (bytes_of cs ++ m)
+    (ap (λ xs. xs ++ (bytes_of bs ++ k)) (sym front) ∙ both) in
     let whole : b.whole ≡ c.whole =
-        one_whole t.stage c.bytes b.whole c.whole (subst (λ (bytes : List ℕ). IsWhole t.stage bytes b.whole) front p.0)
-        q.0 in
+    one_whole t.stage c.bytes b.whole c.whole (subst (λ (bytes : List ℕ). IsWhole t.stage bytes b.whole) front p.0)
+    q.0 in
     let talk : (heard t b.whole).0 ≡ (heard t c.whole).0 = ap (λ w. (heard t w).0) whole in
     let more : (bs ≡ cs) × (k ≡ m) =
-        one_brought (heard t c.whole).0 bs cs k m (subst (λ u. AreBrought u bs) talk p.1) q.1 rest
-        (subst (λ u. IsRest (talk_after u bs).stage k) talk f) g in
+    one_brought (heard t c.whole).0 bs cs k m (subst (λ u. AreBrought u bs) talk p.1) q.1 rest
+    (subst (λ u. IsRest (talk_after u bs).stage k) talk f) g in
     let one : b ≡ c = brought_same b c front whole in
     (ap (λ h. h ∷ bs) one ∙ ap (λ t. c ∷ t) more.0, more.1)
 
@@ -79,9 +79,9 @@ pub one_reading : (start : Talk) (stream : List ℕ) (a b : List Event) (m n : L
     → Reads start stream b n → (a ≡ b) × (m ≡ n)
 one_reading start stream a b m n p q =
     let one : (p.brought ≡ q.brought) × (m.kept ≡ n.kept) =
-        one_brought start p.brought q.brought m.kept n.kept p.are_brought q.are_brought (sym p.bytes ∙ q.bytes)
+    one_brought start p.brought q.brought m.kept n.kept p.are_brought q.are_brought (sym p.bytes ∙ q.bytes)
     (λ _. subst (λ (t : Talk). IsBegun t.stage m.kept) p.talk p.is_begun)
-        (λ _. subst (λ (t : Talk). IsBegun t.stage n.kept) q.talk q.is_begun) in (
+    (λ _. subst (λ (t : Talk). IsBegun t.stage n.kept) q.talk q.is_begun) in (
       p.events_are ∙ (ap (events_of start) one.0 ∙ sym q.events_are),
       seen_same m n (p.talk ∙ (ap (talk_after start) one.0 ∙ sym q.talk)) one.1,
     )

@@ -1,6 +1,6 @@
 -- However bytes are cut into pieces, a session answers the same to them.
-use Rattle.std.proofs.Common.{◌≡◌, ℕ, ◌⊎◌, inl, inr, refl, sym, ap, subst, ◌∙◌, arith, Bool, true, false, List, [], ◌∷◌,
-    ◌++◌, append_assoc, append-nil, length, length-append, take, ◌+◌, ◌≤◌, ◌<◌}
+use Rattle.std.proofs.Common.{◌≡◌, ℕ, ◌⊎◌, inl, inr, refl, sym, ap, subst, ◌∙◌, arith, Bool, true, false, List, [], ◌∷◌}
+use Rattle.std.proofs.Common.{◌++◌, append_assoc, append-nil, length, length-append, take, ◌+◌, ◌≤◌, ◌<◌}
 use Rattle.std.proofs.lemmas.Bool.Decides.{eqb_tells}
 use Rattle.std.proofs.lemmas.List.{append_cancel_left, length-take-le}
 use Rattle.slink_wire.specs.declared.command.Command.{Command}
@@ -36,8 +36,11 @@ grows_same old new lines over =
 cr_grows : (s : Spelled) (t : Bool) → s.is_too_long ≡ t
     → Grows s (with_cr (record { lines = s.lines; begun = s.begun; is_too_long = t }))
 cr_grows s true is = grows_same s (record { lines = s.lines; begun = s.begun; is_too_long = true }) refl (λ e. refl)
-cr_grows s false is = record { more = unless_empty s.begun; lines = refl;
-    over = λ e. absurd (let bad : true ≡ false = sym e ∙ is in cc bad) }
+cr_grows s false is = record {
+  more = unless_empty s.begun;
+  lines = refl;
+  over = λ e. absurd (let bad : true ≡ false = sym e ∙ is in cc bad);
+}
 
 checked_lines : (lines : List (List ℕ)) (line : List ℕ) (t : Bool) → (checked lines line t).lines ≡ lines
 checked_lines lines line true = refl
@@ -51,10 +54,10 @@ byte_grows b s false is = grows_same s (continued b s.lines s.begun false) (chec
 one_grows : (stream : List ℕ) (b : ℕ) → Grows (lines_of stream) (lines_of (stream ++ b ∷ []))
 one_grows stream b = elim (eqb_tells b 13) [
   | inl cr ↦ subst (λ c. Grows (lines_of stream) (lines_of (stream ++ c ∷ []))) (sym cr.1)
-  (subst (Grows (lines_of stream)) (sym (lines_cr stream))
-  (cr_grows (lines_of stream) (lines_of stream).is_too_long refl))
+      (subst (Grows (lines_of stream)) (sym (lines_cr stream))
+      (cr_grows (lines_of stream) (lines_of stream).is_too_long refl))
   | inr other ↦ subst (Grows (lines_of stream)) (sym (lines_byte stream b other.1))
-  (byte_grows b (lines_of stream) (lines_of stream).is_too_long refl)
+      (byte_grows b (lines_of stream) (lines_of stream).is_too_long refl)
 ]
 
 grows : (stream more : List ℕ) → Grows (lines_of stream) (lines_of (stream ++ more))
@@ -63,13 +66,15 @@ grows stream [] = subst (λ s. Grows (lines_of stream) (lines_of s)) (sym (appen
 grows stream (b ∷ more) =
     let one : Grows (lines_of stream) (lines_of (stream ++ b ∷ [])) = one_grows stream b in
     let rest : Grows (lines_of (stream ++ b ∷ [])) (lines_of ((stream ++ b ∷ []) ++ more)) =
-        grows (stream ++ b ∷ []) more in
+    grows (stream ++ b ∷ []) more in
     subst (λ s. Grows (lines_of stream) (lines_of s)) (append_assoc stream (b ∷ []) more) (record {
       more = one.more ++ rest.more;
       lines = rest.lines ∙ (ap (λ ls. ls ++ rest.more) one.lines
           ∙ append_assoc (lines_of stream).lines one.more rest.more);
-      over = λ e. (ap (λ ls. ls ++ rest.more) (one.over e).0 ∙ (rest.over (one.over e).1).0,
-          (rest.over (one.over e).1).1);
+      over = λ e. (
+        ap (λ ls. ls ++ rest.more) (one.over e).0 ∙ (rest.over (one.over e).1).0,
+        (rest.over (one.over e).1).1,
+      );
     })
 
 module _ (feed : List Window) where
@@ -91,30 +96,40 @@ module _ (feed : List Window) where
   replied_once s u v (line ∷ lines) x y p q =
       let same : p.0 ≡ q.0 = one_command (folded (words line)) p.0 q.0 p.1 q.1 in
       let rest : (u ≡ v) × (p.2 ≡ q.2) =
-          replied_once (answered feed s q.0).0 u v lines p.2 q.2
-          (subst (λ c. AreReplied (answered feed s c).0 lines u p.2) same p.4) q.4 in
-      (rest.0, p.3 ∙ (ap (λ c. reply_bytes (answered feed s c).1 ++ p.2) same
-          ∙ (ap (λ b. reply_bytes (answered feed s q.0).1 ++ b) rest.1 ∙ sym q.3)))
+      replied_once (answered feed s q.0).0 u v lines p.2 q.2
+      (subst (λ c. AreReplied (answered feed s c).0 lines u p.2) same p.4) q.4 in (
+        rest.0,
+        p.3 ∙ (ap (λ c. reply_bytes (answered feed s c).1 ++ p.2) same
+            ∙ (ap (λ b. reply_bytes (answered feed s q.0).1 ++ b) rest.1 ∙ sym q.3)),
+      )
 
   comes_once : (t : Bool) (s u v : State) (lines : List (List ℕ)) (x y : List ℕ) → Comes t s lines u x
       → Comes t s lines v y → (u ≡ v) × (x ≡ y)
   comes_once false s u v lines x y p q = replied_once s u v lines x y p q
   comes_once true s u v lines x y p q =
-      let one : (p.0 ≡ q.0) × (p.1 ≡ q.1) = replied_once s p.0 q.0 lines p.1 q.1 p.2 q.2 in
-      (p.3 ∙ (ap (λ (z : State). (ended z).0) one.0 ∙ sym q.3), p.4
-          ∙ (ap (λ b. b ++ reply_bytes (ended p.0).1) one.1 ∙ (ap (λ (z : State). q.1 ++ reply_bytes (ended z).1) one.0
-          ∙ sym q.4)))
+      let one : (p.0 ≡ q.0) × (p.1 ≡ q.1) = replied_once s p.0 q.0 lines p.1 q.1 p.2 q.2 in (
+        p.3 ∙ (ap (λ (z : State). (ended z).0) one.0 ∙ sym q.3),
+        p.4
+            ∙ (ap (λ b. b ++ reply_bytes (ended p.0).1) one.1
+            ∙ (ap (λ (z : State). q.1 ++ reply_bytes (ended z).1) one.0
+            ∙ sym q.4)),
+      )
 
   replied_split : (s v : State) (some more : List (List ℕ)) (out : List ℕ) → AreReplied s (some ++ more) v out
       → (u : State) × (x : List ℕ) × (y : List ℕ) × (out ≡ x ++ y) × AreReplied s some u x × AreReplied u more v y
   replied_split s v [] more out p = (s, [], out, refl, (refl, refl), p)
   replied_split s v (line ∷ some) more out p =
       let rest : (u : State) × (x : List ℕ) × (y : List ℕ) × (p.2 ≡ x ++ y)
-          × AreReplied (answered feed s p.0).0 some u x × AreReplied u more v y =
-          replied_split (answered feed s p.0).0 v some more p.2 p.4 in
-      let reply : List ℕ = reply_bytes (answered feed s p.0).1 in
-      (rest.0, reply ++ rest.1, rest.2, p.3 ∙ (ap (λ b. reply ++ b) rest.3 ∙ sym (append_assoc reply rest.1 rest.2)),
-          (p.0, p.1, rest.1, refl, rest.4), rest.5)
+      × AreReplied (answered feed s p.0).0 some u x × AreReplied u more v y =
+      replied_split (answered feed s p.0).0 v some more p.2 p.4 in
+      let reply : List ℕ = reply_bytes (answered feed s p.0).1 in (
+        rest.0,
+        reply ++ rest.1,
+        rest.2,
+        p.3 ∙ (ap (λ b. reply ++ b) rest.3 ∙ sym (append_assoc reply rest.1 rest.2)),
+        (p.0, p.1, rest.1, refl, rest.4),
+        rest.5,
+      )
 
   -- A closed session answers nothing.
   shut_answered : (s : State) (c : Command) → s.phase ≡ Closed → answered feed s c ≡ (s, said.Nothing)
@@ -130,18 +145,18 @@ module _ (feed : List Window) where
   shut_replied s v (line ∷ lines) out shut p =
       let same : answered feed s p.0 ≡ (s, said.Nothing) = shut_answered s p.0 shut in
       let rest : (v ≡ s) × (p.2 ≡ []) =
-          shut_replied s v lines p.2 shut
-          (subst (λ (z : State). AreReplied z lines v p.2) (ap (λ (x : State × Reply). x.0) same) p.4) in
+      shut_replied s v lines p.2 shut
+      (subst (λ (z : State). AreReplied z lines v p.2) (ap (λ (x : State × Reply). x.0) same) p.4) in
       (rest.0, p.3 ∙ (ap (λ (x : State × Reply). reply_bytes x.1 ++ p.2) same ∙ rest.1))
 
   shut_further : (s v : State) (lines more : List (List ℕ)) (u : State) (x out : List ℕ) → AreReplied s lines u x
       → u.phase ≡ Closed → AreReplied s (lines ++ more) v out → (v ≡ u) × (out ≡ x)
   shut_further s v lines more u x out p shut q =
       let parts : (w : State) × (y : List ℕ) × (z : List ℕ) × (out ≡ y ++ z) × AreReplied s lines w y
-          × AreReplied w more v z = replied_split s v lines more out q in
+      × AreReplied w more v z = replied_split s v lines more out q in
       let one : (u ≡ parts.0) × (x ≡ parts.1) = replied_once s u parts.0 lines x parts.1 p parts.4 in
       let rest : (v ≡ parts.0) × (parts.2 ≡ []) =
-          shut_replied parts.0 v more parts.2 (ap (λ (a : State). a.phase) (sym one.0) ∙ shut) parts.5 in
+      shut_replied parts.0 v more parts.2 (ap (λ (a : State). a.phase) (sym one.0) ∙ shut) parts.5 in
       (rest.0 ∙ sym one.0, parts.3 ∙ (ap (λ b. parts.1 ++ b) rest.1 ∙ (append-nil parts.1 ∙ sym one.1)))
 
   shut_comes : (t : Bool) (s v : State) (lines more : List (List ℕ)) (u : State) (x out : List ℕ)
@@ -149,9 +164,11 @@ module _ (feed : List Window) where
   shut_comes false s v lines more u x out p shut q = shut_further s v lines more u x out p shut q
   shut_comes true s v lines more u x out p shut q =
       let before : (q.0 ≡ u) × (q.1 ≡ x) = shut_further s q.0 lines more u x q.1 p shut q.2 in
-      let last : ended q.0 ≡ (u, said.Nothing) = ap ended before.0 ∙ shut_ended u shut in
-      (q.3 ∙ ap (λ (z : State × Reply). z.0) last, q.4 ∙ (ap (λ (z : State × Reply). q.1 ++ reply_bytes z.1) last
-          ∙ (append-nil q.1 ∙ before.1)))
+      let last : ended q.0 ≡ (u, said.Nothing) = ap ended before.0 ∙ shut_ended u shut in (
+        q.3 ∙ ap (λ (z : State × Reply). z.0) last,
+        q.4 ∙ (ap (λ (z : State × Reply). q.1 ++ reply_bytes z.1) last
+            ∙ (append-nil q.1 ∙ before.1)),
+      )
 
   -- What a session comes to in bytes behind a stream.
   record Ran (s : Standing) (stream bytes way : List ℕ) (last : Standing) (all : List ℕ) : Type 0 where
@@ -187,9 +204,14 @@ module _ (feed : List Window) where
       → Comes t s (line ∷ lines) last (reply_bytes (answered feed s c).1 ++ out)
   comes_line false s last line lines out c is p = (c, is, out, refl, p)
   comes_line true s last line lines out c is p =
-      let reply : List ℕ = reply_bytes (answered feed s c).1 in
-      (p.0, reply ++ p.1, (c, is, p.1, refl, p.2), p.3, ap (λ b. reply ++ b) p.4
-          ∙ sym (append_assoc reply p.1 (reply_bytes (ended p.0).1)))
+      let reply : List ℕ = reply_bytes (answered feed s c).1 in (
+        p.0,
+        reply ++ p.1,
+        (c, is, p.1, refl, p.2),
+        p.3,
+        ap (λ b. reply ++ b) p.4
+            ∙ sym (append_assoc reply p.1 (reply_bytes (ended p.0).1)),
+      )
 
   module _ (u now last : Standing) (stream piece others way all : List ℕ) (reply : Reply) where
     -- a piece that told nothing
@@ -207,7 +229,7 @@ module _ (feed : List Window) where
       comes = subst (λ b. Comes (lines_of b).is_too_long u.state r.lines last.state r.out)
           (append_assoc stream piece r.front)
           (subst (λ (z : State). Comes (lines_of ((stream ++ piece) ++ r.front)).is_too_long z r.lines last.state
-              r.out) same.0 r.comes);
+          r.out) same.0 r.comes);
       sent = r.sent ∙ ap (λ b. b ++ r.out) (ap (λ x. way ++ reply_bytes x) same.1 ∙ append-nil way);
       ends = subst (λ b. (last.state.phase ≡ Closed) ⊎ ((r.left ≡ []) × IsHeld last.held b))
           (append_assoc stream piece others) r.ends;
@@ -220,7 +242,7 @@ module _ (feed : List Window) where
         → Ran u stream (piece ++ others) way last all
     ran_line line c is done tells r =
         let reply_is : reply_bytes (answered feed u.state c).1 ≡ reply_bytes reply =
-            ap (λ (z : State × Reply). reply_bytes z.1) done in
+        ap (λ (z : State × Reply). reply_bytes z.1) done in
         record {
           front = piece ++ r.front;
           left = r.left;
@@ -232,9 +254,9 @@ module _ (feed : List Window) where
           comes = subst (λ b. Comes (lines_of b).is_too_long u.state (line ∷ r.lines) last.state
               (reply_bytes (answered feed u.state c).1 ++ r.out)) (append_assoc stream piece r.front)
               (comes_line (lines_of ((stream ++ piece) ++ r.front)).is_too_long u.state last.state line r.lines r.out c
-                  is
+              is
               (subst (λ (z : State). Comes (lines_of ((stream ++ piece) ++ r.front)).is_too_long z r.lines last.state
-                  r.out) (sym (ap (λ (z : State × Reply). z.0) done)) r.comes));
+              r.out) (sym (ap (λ (z : State × Reply). z.0) done)) r.comes));
           sent = r.sent ∙ (append_assoc way (reply_bytes reply) r.out ∙ ap (λ b. way ++ (b ++ r.out)) (sym reply_is));
           ends = subst (λ b. (last.state.phase ≡ Closed) ⊎ ((r.left ≡ []) × IsHeld last.held b))
               (append_assoc stream piece others) r.ends;
@@ -245,7 +267,7 @@ module _ (feed : List Window) where
         → (last ≡ now) × (all ≡ way ++ reply_bytes reply) → Ran u stream (piece ++ others) way last all
     ran_over done tells rest =
         let at_last : last.state ≡ (ended u.state).0 = ap (λ (x : Standing). x.state) rest.0
-            ∙ sym (ap (λ (z : State × Reply). z.0) done) in
+        ∙ sym (ap (λ (z : State × Reply). z.0) done) in
         record {
           front = piece;
           left = others;
@@ -253,8 +275,13 @@ module _ (feed : List Window) where
           lines = [];
           told = tells.0 ∙ sym (append-nil (lines_of stream).lines);
           out = reply_bytes (ended u.state).1;
-          comes = subst (λ t. Comes t u.state [] last.state (reply_bytes (ended u.state).1)) (sym tells.1) (u.state,
-              [], (refl, refl), at_last, refl);
+          comes = subst (λ t. Comes t u.state [] last.state (reply_bytes (ended u.state).1)) (sym tells.1) (
+            u.state,
+            [],
+            (refl, refl),
+            at_last,
+            refl,
+          );
           sent = rest.1 ∙ ap (λ (z : State × Reply). way ++ reply_bytes z.1) (sym done);
           ends = inl (ap (λ (x : State). x.phase) at_last);
         }
@@ -276,48 +303,49 @@ module _ (feed : List Window) where
   ran s bytes way last all stream (none_served u w) held fits = elim (open_or u.state.phase) [
     | inl shut ↦ ran_none u u stream [] w w fits refl refl (inl shut)
     | inr awake ↦ ran_none u u stream [] w w fits refl refl
-    (inr (refl, subst (IsHeld u.held) (sym (append-nil stream)) (held awake)))
+        (inr (refl, subst (IsHeld u.held) (sym (append-nil stream)) (held awake)))
   ]
   ran s bytes way last all stream (piece_served u now v bs piece others w sent reply split takes more) held fits =
       elim (open_or u.state.phase) [
-    | inl shut ↦ (let same : (v ≡ u)
-    × (sent ≡ w) = shut_on feed u bs w v sent (piece_served u now v bs piece others w sent reply split takes more)
-    shut in
-        ran_none u v stream bs w sent fits same.0 same.1 (inl (ap (λ (x : Standing). x.state.phase) same.0 ∙ shut)))
-    | inr awake ↦ (let answer : Answers feed u.state stream (stream ++ piece) now.state reply = takes.answers stream
-    awake (held awake) in
-        subst (λ b. Ran u stream b w v sent) (sym split)
+        | inl shut ↦ (let same : (v ≡ u)
+            × (sent ≡ w) = shut_on feed u bs w v sent
+            (piece_served u now v bs piece others w sent reply split takes more)
+            shut in
+            ran_none u v stream bs w sent fits same.0 same.1 (inl (ap (λ (x : Standing). x.state.phase) same.0 ∙ shut)))
+        | inr awake ↦ (let answer : Answers feed u.state stream (stream ++ piece) now.state reply = takes.answers stream
+            awake (held awake) in
+            subst (λ b. Ran u stream b w v sent) (sym split)
             (ran_piece u now v stream piece others w sent reply answer.0 answer.2 answer.1 more
-        (λ fits_still. ran now others (w ++ reply_bytes reply) v sent (stream ++ piece) more
+            (λ fits_still. ran now others (w ++ reply_bytes reply) v sent (stream ++ piece) more
             (λ _. takes.held stream awake (held awake)) fits_still)))
-  ]
+      ]
 
   -- of two runs the one that took no more
   ran_further : (s a b : Standing) (stream bytes way x y : List ℕ) (p : Ran s stream bytes way a x)
       (q : Ran s stream bytes way b y) → (z : List ℕ) × (q.front ≡ p.front ++ z) → (a.state ≡ b.state) × (p.out ≡ q.out)
   ran_further s a b stream bytes way x y p q far =
       let at : stream ++ q.front ≡ (stream ++ p.front) ++ far.0 = ap (λ z. stream ++ z) far.1
-          ∙ sym (append_assoc stream p.front far.0) in
+      ∙ sym (append_assoc stream p.front far.0) in
       let g : Grows (lines_of (stream ++ p.front)) (lines_of (stream ++ q.front)) =
-          subst (λ z. Grows (lines_of (stream ++ p.front)) (lines_of z)) (sym at) (grows (stream ++ p.front) far.0) in
+      subst (λ z. Grows (lines_of (stream ++ p.front)) (lines_of z)) (sym at) (grows (stream ++ p.front) far.0) in
       let lines : q.lines ≡ p.lines ++ g.more = append_cancel_left (lines_of stream).lines q.lines (p.lines ++ g.more)
       (sym q.told ∙ (g.lines ∙ (ap (λ ls. ls ++ g.more) p.told
-          ∙ append_assoc (lines_of stream).lines p.lines g.more))) in
+      ∙ append_assoc (lines_of stream).lines p.lines g.more))) in
       let q_comes : Comes (lines_of (stream ++ q.front)).is_too_long s.state (p.lines ++ g.more) b.state q.out =
-          subst (λ ls. Comes (lines_of (stream ++ q.front)).is_too_long s.state ls b.state q.out) lines q.comes in
+      subst (λ ls. Comes (lines_of (stream ++ q.front)).is_too_long s.state ls b.state q.out) lines q.comes in
       elim p.ends [
         | inl shut ↦ shut_both (lines_of (stream ++ p.front)).is_too_long s.state a.state b.state p.lines g.more p.out
-        q.out (lines_of (stream ++ q.front)).is_too_long shut g.over p.comes q_comes
+            q.out (lines_of (stream ++ q.front)).is_too_long shut g.over p.comes q_comes
         | inr all ↦ (let whole : length far.0 ≡ 0 = no_more bytes p.front p.left q.front q.left far.0 p.split q.split
-        far.1 (ap length all.0) in
+            far.1 (ap length all.0) in
             let same : q.front ≡ p.front =
-                far.1 ∙ (ap (λ z. p.front ++ z) (nothing far.0 whole) ∙ append-nil p.front) in
+            far.1 ∙ (ap (λ z. p.front ++ z) (nothing far.0 whole) ∙ append-nil p.front) in
             let none : q.lines ≡ p.lines =
-                append_cancel_left (lines_of stream).lines q.lines p.lines (sym q.told
-                ∙ (ap (λ z. (lines_of (stream ++ z)).lines) same ∙ p.told)) in
+            append_cancel_left (lines_of stream).lines q.lines p.lines (sym q.told
+            ∙ (ap (λ z. (lines_of (stream ++ z)).lines) same ∙ p.told)) in
             comes_once (lines_of (stream ++ p.front)).is_too_long s.state a.state b.state p.lines p.out q.out p.comes
             (subst (λ z. Comes (lines_of (stream ++ z)).is_too_long s.state p.lines b.state q.out) same
-                (subst (λ ls. Comes (lines_of (stream ++ q.front)).is_too_long s.state ls b.state q.out) none q.comes)))
+            (subst (λ ls. Comes (lines_of (stream ++ q.front)).is_too_long s.state ls b.state q.out) none q.comes)))
       ]
     where
       nothing : (z : List ℕ) → length z ≡ 0 → z ≡ []
@@ -327,8 +355,16 @@ module _ (feed : List Window) where
       no_more : (all front left other rest z : List ℕ) → all ≡ front ++ left → all ≡ other ++ rest → other ≡ front ++ z
           → length left ≡ 0 → length z ≡ 0
       no_more all front left other rest z e f g none =
-          omega (arith, ap length e, ap length f, ap length g, none, length-append front left,
-          length-append other rest, length-append front z)
+          omega (
+            arith,
+            ap length e,
+            ap length f,
+            ap length g,
+            none,
+            length-append front left,
+            length-append other rest,
+            length-append front z,
+          )
 
       shut_both : (t : Bool) (s0 u v : State) (ls more : List (List ℕ)) (o1 o2 : List ℕ) (t2 : Bool) → u.phase ≡ Closed
           → (t ≡ true → (more ≡ []) × (t2 ≡ true)) → Comes t s0 ls u o1 → Comes t2 s0 (ls ++ more) v o2
@@ -338,8 +374,8 @@ module _ (feed : List Window) where
       shut_both true s0 u v ls more o1 o2 t2 shut over c d =
           let all : (more ≡ []) × (t2 ≡ true) = over refl in
           comes_once true s0 u v ls o1 o2 c
-              (subst (λ z. Comes z s0 ls v o2) all.1 (subst (λ zs. Comes t2 s0 zs v o2) (ap (λ m. ls ++ m) all.0
-              ∙ append-nil ls) d))
+          (subst (λ z. Comes z s0 ls v o2) all.1 (subst (λ zs. Comes t2 s0 zs v o2) (ap (λ m. ls ++ m) all.0
+          ∙ append-nil ls) d))
 
   -- what is held of a session that isn't closed
   held_open : (a : Standing) (stream bytes : List ℕ) (left : List ℕ) → (a.state.phase ≡ Closed)
@@ -358,10 +394,10 @@ module _ (feed : List Window) where
       let r : Ran s stream bytes way a x = ran s bytes way a x stream p held fits in
       let t : Ran s stream bytes way b y = ran s bytes way b y stream q held fits in
       let both : (a.state ≡ b.state) × (r.out ≡ t.out) =
-          elim (fronts r.front t.front r.left t.left (sym r.split ∙ t.split)) [
+      elim (fronts r.front t.front r.left t.left (sym r.split ∙ t.split)) [
         | inl far ↦ ran_further s a b stream bytes way x y r t far
         | inr far ↦ (let one : (b.state ≡ a.state) × (t.out ≡ r.out) = ran_further s b a stream bytes way y x t r
-        far in (sym one.0, sym one.1))
+            far in (sym one.0, sym one.1))
       ] in
       record {
         state = both.0;
@@ -395,24 +431,35 @@ module _ (feed : List Window) where
       → AreReplied s (lines ++ x ∷ more) w out
       → all ≡ (lines ++ x ∷ more) ++ others → length some + length (reply_bytes reply) ≤ length out
   wrote_more s u v w lines more others all x reply some out (at_over e done) p q f =
-      absurd (omega (arith, ap length (sym e ∙ f), length-append (lines ++ x ∷ more) others,
-          length-append lines (x ∷ more)))
+      absurd (omega (
+        arith,
+        ap length (sym e ∙ f),
+        length-append (lines ++ x ∷ more) others,
+        length-append lines (x ∷ more),
+      ))
   wrote_more s u v w lines more others all x reply some out (at_line line rest c e is done) p q f =
       let lists : line ∷ rest ≡ (x ∷ more) ++ others =
-          append_cancel_left lines (line ∷ rest) ((x ∷ more) ++ others) (sym e
-          ∙ (f ∙ append_assoc lines (x ∷ more) others)) in
+      append_cancel_left lines (line ∷ rest) ((x ∷ more) ++ others) (sym e
+      ∙ (f ∙ append_assoc lines (x ∷ more) others)) in
       let first : line ≡ x = cc lists in
       let parts : (z : State) × (a : List ℕ) × (b : List ℕ) × (out ≡ a ++ b) × AreReplied s lines z a
-          × AreReplied z (x ∷ more) w b = replied_split s w lines (x ∷ more) out q in
+      × AreReplied z (x ∷ more) w b = replied_split s w lines (x ∷ more) out q in
       let one : (u ≡ parts.0) × (some ≡ parts.1) = replied_once s u parts.0 lines some parts.1 p parts.4 in
       let next : AreReplied parts.0 (x ∷ more) w parts.2 = parts.5 in
       let same : c ≡ next.0 = one_command (folded (words x)) c next.0 (subst (λ l. IsCommand l c) first is) next.1 in
       let bytes : reply_bytes reply ≡ reply_bytes (answered feed parts.0 next.0).1 =
       ap (λ (z : State × Reply). reply_bytes z.1) (sym done)
-          ∙ (ap (λ (z : State). reply_bytes (answered feed z c).1) one.0
-          ∙ ap (λ d. reply_bytes (answered feed parts.0 d).1) same) in
-      omega (arith, ap length bytes, ap length one.1, ap length parts.3, length-append parts.1 parts.2,
-          ap length next.3, length-append (reply_bytes (answered feed parts.0 next.0).1) next.2)
+      ∙ (ap (λ (z : State). reply_bytes (answered feed z c).1) one.0
+      ∙ ap (λ d. reply_bytes (answered feed parts.0 d).1) same) in
+      omega (
+        arith,
+        ap length bytes,
+        ap length one.1,
+        ap length parts.3,
+        length-append parts.1 parts.2,
+        ap length next.3,
+        length-append (reply_bytes (answered feed parts.0 next.0).1) next.2,
+      )
 
   last_alike : (lines all : List (List ℕ)) (u a b : State) (r t : Reply) → CutAt lines all u a r
       → CutAt lines all u b t → ◌≡◌ {A = State × Reply} (a, r) (b, t)
@@ -437,15 +484,17 @@ module _ (feed : List Window) where
   cut_further s a b all r t p q m n part total [] same =
       let lines : q.lines ≡ p.lines = same ∙ append-nil p.lines in
       let one : (p.until ≡ q.until) × (p.out ≡ q.out) =
-          replied_once s p.until q.until p.lines p.out q.out p.replied
-          (subst (λ ls. AreReplied s ls q.until q.out) lines q.replied) in
-      (last_alike p.lines all p.until a b r t p.last (subst (λ (z : State). CutAt p.lines all z b t) (sym one.0)
-          (subst (λ ls. CutAt ls all q.until b t) lines q.last)), one.1)
+      replied_once s p.until q.until p.lines p.out q.out p.replied
+      (subst (λ ls. AreReplied s ls q.until q.out) lines q.replied) in (
+        last_alike p.lines all p.until a b r t p.last (subst (λ (z : State). CutAt p.lines all z b t) (sym one.0)
+            (subst (λ ls. CutAt ls all q.until b t) lines q.last)),
+        one.1,
+      )
   cut_further s a b all r t p q m n part total (x ∷ d) same =
       let rest : (more : List (List ℕ)) × (all ≡ q.lines ++ more) = rest_of q.lines all q.until b t q.last in
       let more : length p.out + length (reply_bytes r) ≤ length q.out =
       wrote_more s p.until a q.until p.lines d rest.0 all x r p.out q.out p.last p.replied
-          (subst (λ ls. AreReplied s ls q.until q.out) same q.replied) (rest.1 ∙ ap (λ ls. ls ++ rest.0) same) in
+      (subst (λ ls. AreReplied s ls q.until q.out) same q.replied) (rest.1 ∙ ap (λ ls. ls ++ rest.0) same) in
       absurd (omega (arith, more, part, total))
 
   cut_once : (s a b : State) (all : List (List ℕ)) (r t : Reply) (p : Cut s all a r) (q : Cut s all b t) (m n : ℕ)
@@ -457,7 +506,7 @@ module _ (feed : List Window) where
       elim (fronts p.lines q.lines x.0 y.0 (sym x.1 ∙ y.1)) [
         | inl far ↦ cut_further s a b all r t p q m n part total far.0 far.1
         | inr far ↦ (let one : CutAlike b a t r q.out p.out = cut_further s b a all t r q p n m other (sym total) far.0
-        far.1 in (sym one.0, sym one.1))
+            far.1 in (sym one.0, sym one.1))
       ]
 
   comes_open : (t : Bool) (s last : State) (lines : List (List ℕ)) (out : List ℕ) → Comes t s lines last out
@@ -482,8 +531,8 @@ module _ (feed : List Window) where
     all_lines lines more told on =
         append_cancel_left (lines_of stream).lines (grows stream bytes).more (lines ++ more)
         (sym (grows stream bytes).lines
-            ∙ (ap (λ b. (lines_of b).lines) (sym all_bytes)
-            ∙ (on ∙ (ap (λ ls. ls ++ more) told ∙ append_assoc (lines_of stream).lines lines more))))
+        ∙ (ap (λ b. (lines_of b).lines) (sym all_bytes)
+        ∙ (on ∙ (ap (λ ls. ls ++ more) told ∙ append_assoc (lines_of stream).lines lines more))))
 
     cut_at : (u v : State) (lines : List (List ℕ)) (reply : Reply) (n : ℕ) (what : What)
         → n < length (reply_bytes reply) → (lines_of (stream ++ front)).lines ≡ (lines_of stream).lines ++ lines
@@ -492,17 +541,17 @@ module _ (feed : List Window) where
     cut_at u v lines reply n More part told tells is = absurd (replies_some reply n part is.1)
     cut_at u v lines reply n (Line line) part told tells is =
         let on : Grows (lines_of ((stream ++ front) ++ piece)) (lines_of (((stream ++ front) ++ piece) ++ rest)) =
-            grows ((stream ++ front) ++ piece) rest in
+        grows ((stream ++ front) ++ piece) rest in
         at_line line.items on.more is.0
         (all_lines (lines ++ line.items ∷ []) on.more (tells.0
-            ∙ (ap (λ ls. ls ++ line.items ∷ []) told ∙ append_assoc (lines_of stream).lines lines (line.items ∷ [])))
-            on.lines ∙ append_assoc lines (line.items ∷ []) on.more)
+        ∙ (ap (λ ls. ls ++ line.items ∷ []) told ∙ append_assoc (lines_of stream).lines lines (line.items ∷ [])))
+        on.lines ∙ append_assoc lines (line.items ∷ []) on.more)
         is.1 is.2
     cut_at u v lines reply n TooLong part told tells is =
         let on : Grows (lines_of ((stream ++ front) ++ piece)) (lines_of (((stream ++ front) ++ piece) ++ rest)) =
-            grows ((stream ++ front) ++ piece) rest in
+        grows ((stream ++ front) ++ piece) rest in
         at_over (all_lines lines on.more (tells.0 ∙ told) on.lines
-            ∙ (ap (λ m. lines ++ m) (on.over tells.1).0 ∙ append-nil lines)) is
+        ∙ (ap (λ m. lines ++ m) (on.over tells.1).0 ∙ append-nil lines)) is
 
   -- So a session is cut off whose reply was written in part.
   record CutIn (s : Standing) (stream bytes way : List ℕ) (v : State) (reply : Reply) (all : List ℕ) : Type 0 where
@@ -516,24 +565,26 @@ module _ (feed : List Window) where
       → CutIn s stream bytes way last.state reply all
   cut_in s u last stream bytes front piece rest way all reply n held fits split serves takes part =
       elim (open_or u.state.phase) [
-    | inl shut ↦ absurd (replies_some reply n part (takes.closed shut).0)
-    | inr awake ↦ (let r : Ran s stream front way u all = ran s front way u all stream serves held fits in
-        let here : (r.left ≡ []) × IsHeld u.held (stream ++ front) = still_open u stream front r.left r.ends awake in
-        let whole : r.front ≡ front = sym (r.split ∙ (ap (λ b. r.front ++ b) here.0 ∙ append-nil r.front)) in
-        let answer : Answers feed u.state (stream ++ front) ((stream ++ front) ++ piece) last.state reply =
+        | inl shut ↦ absurd (replies_some reply n part (takes.closed shut).0)
+        | inr awake ↦ (let r : Ran s stream front way u all = ran s front way u all stream serves held fits in
+            let here : (r.left ≡ []) × IsHeld u.held (stream ++ front) =
+            still_open u stream front r.left r.ends awake in
+            let whole : r.front ≡ front = sym (r.split ∙ (ap (λ b. r.front ++ b) here.0 ∙ append-nil r.front)) in
+            let answer : Answers feed u.state (stream ++ front) ((stream ++ front) ++ piece) last.state reply =
             takes.answers (stream ++ front) awake here.1 in
-        record {
-          cut = record {
-            lines = r.lines;
-            until = u.state;
-            out = r.out;
-            replied = comes_open (lines_of (stream ++ r.front)).is_too_long s.state u.state r.lines r.out r.comes awake;
-            last = cut_at stream front piece rest bytes split u.state last.state r.lines reply n answer.0 part
-                (ap (λ b. (lines_of (stream ++ b)).lines) (sym whole) ∙ r.told) answer.1 answer.2;
-          };
-          sent = r.sent;
-        })
-  ]
+            record {
+              cut = record {
+                lines = r.lines;
+                until = u.state;
+                out = r.out;
+                replied = comes_open (lines_of (stream ++ r.front)).is_too_long s.state u.state r.lines r.out r.comes
+                    awake;
+                last = cut_at stream front piece rest bytes split u.state last.state r.lines reply n answer.0 part
+                    (ap (λ b. (lines_of (stream ++ b)).lines) (sym whole) ∙ r.told) answer.1 answer.2;
+              };
+              sent = r.sent;
+            })
+      ]
     where
       still_open : (a : Standing) (stream0 bytes0 left : List ℕ) → (a.state.phase ≡ Closed)
           ⊎ ((left ≡ []) × IsHeld a.held (stream0 ++ bytes0)) → Open a.state.phase
@@ -551,17 +602,26 @@ module _ (feed : List Window) where
   cut_in_once s u w a b stream bytes f p z g q y way all other r t m n held fits e serves takes part e2 serves2 takes2
       part2 total =
       let x : CutIn s stream bytes way a.state r all =
-          cut_in s u a stream bytes f p z way all r m held fits e serves takes part in
+      cut_in s u a stream bytes f p z way all r m held fits e serves takes part in
       let v : CutIn s stream bytes way b.state t other =
-          cut_in s w b stream bytes g q y way other t n held fits e2 serves2 takes2 part2 in
+      cut_in s w b stream bytes g q y way other t n held fits e2 serves2 takes2 part2 in
       let short : length (take m (reply_bytes r)) ≡ m = length-take-le m (reply_bytes r) (omega (arith, part)) in
       let short2 : length (take n (reply_bytes t)) ≡ n = length-take-le n (reply_bytes t) (omega (arith, part2)) in
       let sum : length x.cut.out + m ≡ length v.cut.out + n =
-      omega (arith, total, short, short2, length-append all (take m (reply_bytes r)),
-          length-append other (take n (reply_bytes t)), ap length x.sent, ap length v.sent,
-          length-append way x.cut.out, length-append way v.cut.out) in
+      omega (
+        arith,
+        total,
+        short,
+        short2,
+        length-append all (take m (reply_bytes r)),
+        length-append other (take n (reply_bytes t)),
+        ap length x.sent,
+        ap length v.sent,
+        length-append way x.cut.out,
+        length-append way v.cut.out,
+      ) in
       let one : CutAlike a.state b.state r t x.cut.out v.cut.out =
-          cut_once s.state a.state b.state (grows stream bytes).more r t x.cut v.cut m n part part2 sum in
+      cut_once s.state a.state b.state (grows stream bytes).more r t x.cut v.cut m n part part2 sum in
       let sent : all ≡ other = x.sent ∙ (ap (λ o. way ++ o) one.1 ∙ sym v.sent) in
       let count : m ≡ n = omega (arith, sum, ap length one.1) in (
         ap (λ (k : State × Reply). k.0) one.0,

@@ -1,7 +1,7 @@
 -- A turn of a session comes to one thing.
-use Rattle.std.proofs.Common.{◌≡◌, ℕ, ◌+◌, ◌≤◌, ◌<◌, ◌⊎◌, ◌==◌, zero, suc, inl, inr, refl, sym, ap, subst, ◌∙◌, arith,
-    Bool, true, false, if◌then◌else◌, List, [], ◌∷◌, ◌++◌, append_assoc, append-nil, length, length-append, replicate,
-    take, Option, Some, None, slice_get}
+use Rattle.std.proofs.Common.{◌≡◌, ℕ, ◌+◌, ◌≤◌, ◌<◌, ◌⊎◌, ◌==◌, zero, suc, inl, inr, refl, sym, ap, subst, ◌∙◌, arith}
+use Rattle.std.proofs.Common.{Bool, true, false, if◌then◌else◌, List, [], ◌∷◌, ◌++◌, append_assoc, append-nil, length}
+use Rattle.std.proofs.Common.{length-append, replicate, take, Option, Some, None, slice_get}
 use Rattle.std.proofs.lemmas.Bool.Decides.{eqb_tells, leb_tells}
 use Rattle.std.proofs.lemmas.List.{append_cancel_left}
 use Rattle.mseed_stream.specs.Device.{Heard}
@@ -15,8 +15,8 @@ use Rattle.slink_feed.specs.declared.session.Sent.TheVariants as sents
 use Rattle.slink_feed.specs.declared.turn.LinkFault.{LinkFault}
 use Rattle.slink_feed.specs.declared.turn.LinkFault.TheVariants as faults
 use Rattle.slink_feed.specs.declared.turn.Turn.{Turn}
-use Rattle.slink_feed.specs.Attending.{Attends, FailsToReply, GoesOn, IsServeFault, RepliesToAll, at_read, at_reply,
-    at_send, is_at_end, is_closed, replies}
+use Rattle.slink_feed.specs.Attending.{Attends, FailsToReply, GoesOn, IsServeFault, RepliesToAll, at_read, at_reply}
+use Rattle.slink_feed.specs.Attending.{at_send, is_at_end, is_closed, replies}
 use Rattle.slink_feed.specs.Connection.{AreAlike, TookAlike}
 use Rattle.slink_feed.specs.Rounds.{Attending, FailsToSend, Gives, HasWaited, SendsAll, all_sent, place_behind}
 use Rattle.slink_feed.specs.Running.{Stands, StandsFor}
@@ -91,8 +91,8 @@ module _ (feed : List Window) (s : State) (P : ℕ → Type 0) (next : (k : ℕ)
   still_given k last u [] p gives = (gives.1, refl)
   still_given k last u (a ∷ more) p gives =
       let rest : (u ≡ s) × (all_sent more ≡ []) =
-          still_given (place_behind feed k) last u more (next k p)
-          (subst (λ (t : State). Gives feed (place_behind feed k) t more last u) (still k p).0 gives.1) in
+      still_given (place_behind feed k) last u more (next k p)
+      (subst (λ (t : State). Gives feed (place_behind feed k) t more last u) (still k p).0 gives.1) in
       (rest.0, ap (λ b. b ++ all_sent more) (ap sent_bytes (sym gives.0) ∙ (still k p).1) ∙ rest.1)
 
 gives_split : (feed : List Window) (k last : ℕ) (s v : State) (some more : List Sent)
@@ -101,8 +101,8 @@ gives_split : (feed : List Window) (k last : ℕ) (s v : State) (some more : Lis
 gives_split feed k last s v [] more gives = (k, s, (refl, refl), gives)
 gives_split feed k last s v (a ∷ some) more gives =
     let rest : (p : ℕ) × (u : State) × Gives feed (place_behind feed k) (sent feed s k).0 some p u
-        × Gives feed p u more last v =
-        gives_split feed (place_behind feed k) last (sent feed s k).0 v some more gives.1 in
+    × Gives feed p u more last v =
+    gives_split feed (place_behind feed k) last (sent feed s k).0 v some more gives.1 in
     (rest.0, rest.1, (gives.0, rest.2), rest.3)
 
 within_given : (feed : List Window) (k last : ℕ) (s u : State) (given : List Sent) → k < length feed
@@ -137,7 +137,7 @@ module _ (feed : List Window) where
     | inr other ↦
         let less : p + 1 ≤ k = omega (arith, above, other.1) in
         waits_above m (p + 1) last k u v (subst (λ j. Gives feed j u (replicate m sents.Wait) last v)
-            (behind_is p (omega (arith, less, lt))) (waits_next m p last u v gives)) less lt (omega (arith, far))
+        (behind_is p (omega (arith, less, lt))) (waits_next m p last u v gives)) less lt (omega (arith, far))
   ]
 
   waits_below : (m p last k : ℕ) (u v : State) → Gives feed p u (replicate m sents.Wait) last v → k < p
@@ -147,11 +147,11 @@ module _ (feed : List Window) where
     | inl same ↦
         let first : place_behind feed p ≡ 0 = ap (λ b. if b then 0 else p + 1) same.0 in
         waits_above m 0 last k u v (subst (λ j. Gives feed j u (replicate m sents.Wait) last v) first
-            (waits_next m p last u v gives)) (omega arith) (omega (arith, below, lt)) (omega (arith, far, same.1))
+        (waits_next m p last u v gives)) (omega arith) (omega (arith, below, lt)) (omega (arith, far, same.1))
     | inr other ↦
         let less : p + 1 < length feed = omega (arith, lt, other.1) in
         waits_below m (p + 1) last k u v (subst (λ j. Gives feed j u (replicate m sents.Wait) last v)
-            (behind_is p less) (waits_next m p last u v gives)) (omega (arith, below)) less (omega (arith, far))
+        (behind_is p less) (waits_next m p last u v gives)) (omega (arith, below)) less (omega (arith, far))
   ]
 
   waits_all : (p last k : ℕ) (u v : State) → Gives feed p u (replicate (length feed) sents.Wait) last v
@@ -169,17 +169,17 @@ round_over [] s v w p last given rest waited gives more =
 round_over (ring ∷ rings) s v w p last given rest waited gives more =
     let feed : List Window = ring ∷ rings in
     let parts : (q : ℕ) × (u : State) × Gives feed 0 s waited.0 q u
-        × Gives feed q u (replicate (length feed) sents.Wait) p v =
+    × Gives feed q u (replicate (length feed) sents.Wait) p v =
     gives_split feed 0 p s v waited.0 (replicate (length feed) sents.Wait)
-        (subst (λ xs. Gives feed 0 s xs p v) waited.1 gives) in
+    (subst (λ xs. Gives feed 0 s xs p v) waited.1 gives) in
     let some : 0 < length feed = omega arith in
     let within : parts.0 < length feed = within_given feed 0 parts.0 s parts.1 waited.0 some parts.2 in
     let same : v ≡ parts.1 = waits_stay feed (length feed) parts.0 p parts.1 v parts.3 in
     let still : (k : ℕ) → k < length feed → Still feed v k =
-        λ k lt. still_waits feed v k (ap (λ (t : State). (sent feed t k).1) same
-        ∙ waits_all feed parts.0 p k parts.1 v parts.3 within lt) in
+    λ k lt. still_waits feed v k (ap (λ (t : State). (sent feed t k).1) same
+    ∙ waits_all feed parts.0 p k parts.1 v parts.3 within lt) in
     still_given feed v (λ k. k < length feed) (λ k lt. place_within feed k lt) still p last w rest
-        (within_given feed 0 p s v given some gives) more
+    (within_given feed 0 p s v given some gives) more
 
 abbrev NothingMore : List Window → ℕ → State → Type 0
 NothingMore feed p v = (last : ℕ) (w : State) (rest : List Sent) → Gives feed p v rest last w
@@ -189,9 +189,9 @@ nothing_more : (feed : List Window) (old a : Attending) (sends : SendsAll feed o
     → NothingMore feed sends.place a.session.state
 nothing_more feed old a sends last w rest more = elim sends.ends [
   | inl shut ↦ still_given feed a.session.state (λ k. Unit {0}) (λ k is. tt)
-  (λ k is. still_closed feed a.session.state k shut) sends.place last w rest tt more
+      (λ k is. still_closed feed a.session.state k shut) sends.place last w rest tt more
   | inr waited ↦ round_over feed old.session.state a.session.state w sends.place last sends.given rest waited
-  sends.gives more
+      sends.gives more
 ]
 
 -- Of two runs of asks one goes on with the other.
@@ -201,11 +201,19 @@ GoesFurther feed some p u more q v = (rest : List Sent) × (more ≡ some ++ res
 one_run : (feed : List Window) (k p q : ℕ) (s u v : State) (a b : List Sent) → Gives feed k s a p u
     → Gives feed k s b q v → GoesFurther feed a p u b q v ⊎ GoesFurther feed b q v a p u
 one_run feed k p q s u v [] b x y =
-    inl (b, refl, subst (λ (j : ℕ). Gives feed j u b q v) (sym x.0)
-    (subst (λ (t : State). Gives feed k t b q v) (sym x.1) y))
+    inl (
+      b,
+      refl,
+      subst (λ (j : ℕ). Gives feed j u b q v) (sym x.0)
+          (subst (λ (t : State). Gives feed k t b q v) (sym x.1) y),
+    )
 one_run feed k p q s u v (a ∷ more) [] x y =
-    inr (a ∷ more, refl, subst (λ (j : ℕ). Gives feed j v (a ∷ more) p u) (sym y.0)
-    (subst (λ (t : State). Gives feed k t (a ∷ more) p u) (sym y.1) x))
+    inr (
+      a ∷ more,
+      refl,
+      subst (λ (j : ℕ). Gives feed j v (a ∷ more) p u) (sym y.0)
+          (subst (λ (t : State). Gives feed k t (a ∷ more) p u) (sym y.1) x),
+    )
 one_run feed k p q s u v (a ∷ more) (b ∷ others) x y =
     let first : a ≡ b = sym x.0 ∙ y.0 in
     elim (one_run feed (place_behind feed k) p q (sent feed s k).0 u v more others x.1 y.1) [
@@ -227,14 +235,14 @@ ended_alike feed p q u v a b over far =
 pub sent_once : (feed : List Window) (old a b : Attending) → SendsAll feed old a → SendsAll feed old b → AreAlike a b
 sent_once feed old a b p q =
     let both : (a.session.state ≡ b.session.state) × (all_sent p.given ≡ all_sent q.given) =
-        elim (one_run feed 0 p.place q.place old.session.state a.session.state b.session.state p.given q.given p.gives
-        q.gives) [
+    elim (one_run feed 0 p.place q.place old.session.state a.session.state b.session.state p.given q.given p.gives
+    q.gives) [
       | inl far ↦ (let one : (b.session.state ≡ a.session.state)
-      × (all_sent q.given ≡ all_sent p.given) =
-      ended_alike feed p.place q.place a.session.state b.session.state p.given q.given (nothing_more feed old a p)
-      far in (sym one.0, sym one.1))
+          × (all_sent q.given ≡ all_sent p.given) =
+          ended_alike feed p.place q.place a.session.state b.session.state p.given q.given (nothing_more feed old a p)
+          far in (sym one.0, sym one.1))
       | inr far ↦ ended_alike feed q.place p.place b.session.state a.session.state q.given p.given
-      (nothing_more feed old b q) far
+          (nothing_more feed old b q) far
     ] in
     record {
       state = both.0;
@@ -263,8 +271,8 @@ failed_alike feed p q n u v a given last part behind ([], same, more) = (more.1,
 failed_alike feed p q n u v a given last part behind (x ∷ rest, same, more) =
     let some : (xs : List Sent) × (given ≡ a ++ xs) = last_behind given a rest last x same in
     let long : length (all_sent given) ≡ length (all_sent a) + length (all_sent some.0) =
-        ap (λ g. length (all_sent g)) some.1
-        ∙ (ap length (all_joined a some.0) ∙ length-append (all_sent a) (all_sent some.0)) in
+    ap (λ g. length (all_sent g)) some.1
+    ∙ (ap length (all_joined a some.0) ∙ length-append (all_sent a) (all_sent some.0)) in
     absurd (omega (arith, part, behind, long))
 
 pub sending_failed_once : (feed : List Window) (old a b : Attending) (n : ℕ) → FailsToSend feed old a n
@@ -273,13 +281,14 @@ sending_failed_once feed old a b n p q =
     let x : List Sent = p.given ++ p.last ∷ [] in
     let y : List Sent = q.given ++ q.last ∷ [] in
     let both : (a.session.state ≡ b.session.state) × (all_sent x ≡ all_sent y) =
-        elim (one_run feed 0 p.place q.place old.session.state a.session.state b.session.state x y p.gives q.gives) [
+    elim (one_run feed 0 p.place q.place old.session.state a.session.state b.session.state x y p.gives q.gives) [
       | inl far ↦ (let one : (b.session.state ≡ a.session.state)
-      × (all_sent y ≡ all_sent x) =
-      failed_alike feed p.place q.place n a.session.state b.session.state x q.given q.last p.said.part q.behind far in
-      (sym one.0, sym one.1))
+          × (all_sent y ≡ all_sent x) =
+          failed_alike feed p.place q.place n a.session.state b.session.state x q.given q.last p.said.part q.behind
+          far in
+          (sym one.0, sym one.1))
       | inr far ↦ failed_alike feed q.place p.place n b.session.state a.session.state y p.given p.last q.said.part
-      p.behind far
+          p.behind far
     ] in
     record {
       state = both.0;
@@ -307,19 +316,24 @@ replied_alike feed old m n a b bytes more stands g h same p q =
     let mid : AreAlike m n = sent_once feed old m n g.sends h.sends in
     let session : n.session ≡ m.session = sym (standings_same m.session n.session mid.state (mid.held g.open_still)) in
     let awake : Open old.session.state.phase =
-        λ shut. g.open_still (ap (λ (s : State). s.phase)
-        (shut_given feed 0 g.sends.place old.session.state m.session.state g.sends.given g.sends.gives shut) ∙ shut) in
+    λ shut. g.open_still (ap (λ (s : State). s.phase)
+    (shut_given feed 0 g.sends.place old.session.state m.session.state g.sends.given g.sends.gives shut) ∙ shut) in
     let some : (stream : List ℕ) × StandsFor old.session stream = stands awake in
     let held : IsHeld m.session.held some.0 = subst (λ h. IsHeld h some.0) (sym g.sends.held) some.1.0 in
     let other : Serves feed m.session bytes m.said.bytes b.session b.said.bytes =
     subst (λ (s : Standing). Serves feed s bytes m.said.bytes b.session b.said.bytes) session
     (subst (λ w. Serves feed n.session bytes w b.session b.said.bytes) (sym mid.bytes)
-        (subst (λ bs. Serves feed n.session bs n.said.bytes b.session b.said.bytes) same q.serves)) in
+    (subst (λ bs. Serves feed n.session bs n.said.bytes b.session b.said.bytes) same q.serves)) in
     let one : Same feed a.session b.session a.said.bytes b.said.bytes =
     served_once feed m.session a.session b.session some.0 bytes m.said.bytes a.said.bytes b.said.bytes (λ _. held)
-        (sym some.1.0.1 ∙ some.1.1) p.serves other in
-    record { state = one.state; held = one.held; bytes = one.out; failures = p.failures
-        ∙ (mid.failures ∙ sym q.failures) }
+    (sym some.1.0.1 ∙ some.1.1) p.serves other in
+    record {
+      state = one.state;
+      held = one.held;
+      bytes = one.out;
+      failures = p.failures
+          ∙ (mid.failures ∙ sym q.failures);
+    }
 
 pub turned_once : (feed : List Window) (old a b : Attending) (before after : Heard) (t u : Turn) → Stands old.session
     → Attends feed old a before after t → Attends feed old b before after u → (t ≡ u) × AreAlike a b
@@ -355,26 +369,26 @@ cut_alike feed old m n a b bytes more count stands g h same p q long short =
     let mid : AreAlike m n = sent_once feed old m n g.sends h.sends in
     let session : n.session ≡ m.session = sym (standings_same m.session n.session mid.state (mid.held g.open_still)) in
     let awake : Open old.session.state.phase =
-        λ shut. g.open_still (ap (λ (s : State). s.phase)
-        (shut_given feed 0 g.sends.place old.session.state m.session.state g.sends.given g.sends.gives shut) ∙ shut) in
+    λ shut. g.open_still (ap (λ (s : State). s.phase)
+    (shut_given feed 0 g.sends.place old.session.state m.session.state g.sends.given g.sends.gives shut) ∙ shut) in
     let some : (stream : List ℕ) × StandsFor old.session stream = stands awake in
     let held : IsHeld m.session.held some.0 = subst (λ h. IsHeld h some.0) (sym g.sends.held) some.1.0 in
     let other : Serves feed m.session q.front m.said.bytes q.before.session q.before.said.bytes =
     subst (λ (s : Standing). Serves feed s q.front m.said.bytes q.before.session q.before.said.bytes) session
     (subst (λ w. Serves feed n.session q.front w q.before.session q.before.said.bytes) (sym mid.bytes)
-        q.replies.serves) in
+    q.replies.serves) in
     let total : length (p.before.said.bytes ++ take p.count (reply_bytes p.reply))
-        ≡ length (q.before.said.bytes ++ take q.count (reply_bytes q.reply)) =
+    ≡ length (q.before.said.bytes ++ take q.count (reply_bytes q.reply)) =
     ap length (sym p.said.bytes) ∙ (long ∙ (sym short ∙ ap length q.said.bytes)) in
     let one : (a.session.state ≡ b.session.state)
-        × (p.before.said.bytes ++ take p.count (reply_bytes p.reply) ≡ q.before.said.bytes ++ take q.count
-        (reply_bytes q.reply)) =
+    × (p.before.said.bytes ++ take p.count (reply_bytes p.reply) ≡ q.before.said.bytes ++ take q.count
+    (reply_bytes q.reply)) =
     cut_in_once feed m.session p.before.session q.before.session a.session b.session some.0 bytes p.front p.piece
-        p.rest q.front q.piece q.rest m.said.bytes p.before.said.bytes q.before.said.bytes p.reply q.reply p.count
-        q.count
+    p.rest q.front q.piece q.rest m.said.bytes p.before.said.bytes q.before.said.bytes p.reply q.reply p.count
+    q.count
     (λ _. held) (sym some.1.0.1 ∙ some.1.1) (p.bytes_are ∙ append_assoc p.front p.piece p.rest) p.replies.serves
-        p.takes p.said.part (sym same ∙ (q.bytes_are ∙ append_assoc q.front q.piece q.rest)) other q.takes q.said.part
-        total in
+    p.takes p.said.part (sym same ∙ (q.bytes_are ∙ append_assoc q.front q.piece q.rest)) other q.takes q.said.part
+    total in
     record {
       state = one.0;
       bytes = p.said.bytes ∙ (one.1 ∙ sym q.said.bytes);
@@ -396,5 +410,5 @@ cut_once feed old a b before after (faults.Write count) stands (at_reply m mid b
 cut_once feed old a b before after (faults.Write count) stands (at_reply n mid bytes g e few p long)
     (at_reply m other more h f short q total) =
     cut_alike feed old mid other a b bytes more count stands g h (told_same before more bytes (sym f ∙ e)) p q long
-        total
+    total
 cut_once feed old a b before after (faults.Output count) stands p q = elim p [ ]

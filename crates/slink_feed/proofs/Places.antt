@@ -1,7 +1,7 @@
 -- Which places the rings of a feed have.
-use Rattle.std.proofs.Common.{◌≡◌, ◌≢◌, ℕ, ◌+◌, ◌≤◌, inl, inr, zero, suc, refl, sym, ap, subst, ◌∙◌, arith, add-one,
-    Bool, true, false, ◌&&◌, nat_eq, List, [], ◌∷◌, length, take, take_all, drop, drop_of_length-le, if◌then◌else◌,
-    Option, Some, None, slice_get}
+use Rattle.std.proofs.Common.{◌≡◌, ◌≢◌, ℕ, ◌+◌, ◌≤◌, inl, inr, zero, suc, refl, sym, ap, subst, ◌∙◌, arith, add-one}
+use Rattle.std.proofs.Common.{Bool, true, false, ◌&&◌, nat_eq, List, [], ◌∷◌, length, take, take_all, drop}
+use Rattle.std.proofs.Common.{drop_of_length-le, if◌then◌else◌, Option, Some, None, slice_get}
 use Rattle.std.specs.List.{position_from}
 use Rattle.std.specs.Cmp.Lexicographic.{pointwise, same_text, other_text}
 use Rattle.slink_wire.specs.Place.{Fields}
@@ -18,9 +18,11 @@ has_at (v ∷ ws) (suc k) w place at same = inr (has_at ws k w place at same)
 lacks_next : (ws : List Window) (k : ℕ) (w : Window) (place : Fields) → slice_get ws k ≡ Some w → w.place ≢ place
     → LacksPlace (take k ws) place → LacksPlace (take (suc k) ws) place
 lacks_next [] k w place at other before = tt
-lacks_next (v ∷ ws) zero w place at other before =
-    (λ same. other (let e : Some v ≡ Some w = at in let one : v ≡ w = cc e in sym (ap (λ (x : Window). x.place) one)
-    ∙ same), tt)
+lacks_next (v ∷ ws) zero w place at other before = (
+  λ same. other (let e : Some v ≡ Some w = at in let one : v ≡ w = cc e in sym (ap (λ (x : Window). x.place) one)
+      ∙ same),
+  tt,
+)
 lacks_next (v ∷ ws) (suc k) w place at other before = (before.0, lacks_next ws k w place at other before.1)
 
 pub lacks_more : (ws : List Window) (k : ℕ) (w : Window) (place : Fields) → slice_get ws k ≡ Some w → w.place ≢ place
@@ -55,7 +57,7 @@ text_eq xs ys e = by_test (pointwise nat_eq xs ys) refl
 pub same_place : (a b : Fields) (t : Bool) → t ≡ fields_eq a b → t ≡ true → a ≡ b
 same_place a b t is h =
     let each : (true ≡ pointwise nat_eq a.station b.station) × (true ≡ pointwise nat_eq a.network b.network) =
-        both_true (pointwise nat_eq a.station b.station) (pointwise nat_eq a.network b.network) (sym h ∙ is) in
+    both_true (pointwise nat_eq a.station b.station) (pointwise nat_eq a.network b.network) (sym h ∙ is) in
     ap (λ (s : List ℕ). record { station = s; network = a.network }) (same_text a.station b.station each.0)
     ∙ ap (λ (n : List ℕ). record { station = b.station; network = n }) (same_text a.network b.network each.1)
 
@@ -63,7 +65,7 @@ pub other_place : (a b : Fields) (t : Bool) → t ≡ fields_eq a b → t ≡ fa
 other_place a b t is h same =
     not_both (pointwise nat_eq a.station b.station) (pointwise nat_eq a.network b.network) (sym h ∙ is)
     (text_eq a.station b.station (ap (λ (f : Fields). f.station) same))
-        (text_eq a.network b.network (ap (λ (f : Fields). f.network) same))
+    (text_eq a.network b.network (ap (λ (f : Fields). f.network) same))
 
 -- The first place that passes, found one after another.
 drop_next : (ws : List Window) (k : ℕ) (w : Window) → slice_get ws k ≡ Some w → drop k ws ≡ w ∷ drop (suc k) ws
@@ -79,14 +81,14 @@ pub found_at : (p : Window → Bool) (feed : List Window) (k : ℕ) (w : Window)
     → slice_get feed k ≡ Some w → t ≡ p w → t ≡ true → o ≡ position_from p k (drop k feed) → o ≡ Some k
 found_at p feed k w t o here test passes before =
     before ∙ (ap (position_from p k) (drop_at feed k w here)
-        ∙ ap (λ (b : Bool). if b then Some k else position_from p (k + 1) (drop (k + 1) feed)) (sym test ∙ passes))
+    ∙ ap (λ (b : Bool). if b then Some k else position_from p (k + 1) (drop (k + 1) feed)) (sym test ∙ passes))
 
 pub passed_at : (p : Window → Bool) (feed : List Window) (k : ℕ) (w : Window) (t : Bool) (o : Option ℕ)
     → slice_get feed k ≡ Some w → t ≡ p w → t ≡ false → o ≡ position_from p k (drop k feed)
     → o ≡ position_from p (k + 1) (drop (k + 1) feed)
 passed_at p feed k w t o here test fails before =
     before ∙ (ap (position_from p k) (drop_at feed k w here)
-        ∙ ap (λ (b : Bool). if b then Some k else position_from p (k + 1) (drop (k + 1) feed)) (sym test ∙ fails))
+    ∙ ap (λ (b : Bool). if b then Some k else position_from p (k + 1) (drop (k + 1) feed)) (sym test ∙ fails))
 
 pub none_left : (p : Window → Bool) (feed : List Window) (k : ℕ) (o : Option ℕ) → length feed ≤ k
     → o ≡ position_from p k (drop k feed) → o ≡ None

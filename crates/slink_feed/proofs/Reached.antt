@@ -1,6 +1,6 @@
 -- Grants that the rings of a feed reach.
-use Rattle.std.proofs.Common.{◌≡◌, ℕ, ◌+◌, ◌<◌, ◌≤◌, ◌⊎◌, inl, inr, zero, suc, refl, sym, ap, subst, ◌∙◌, arith, List,
-    [], ◌∷◌, set, Option, Some, None, slice_get}
+use Rattle.std.proofs.Common.{◌≡◌, ℕ, ◌+◌, ◌<◌, ◌≤◌, ◌⊎◌, inl, inr, zero, suc, refl, sym, ap, subst, ◌∙◌, arith, List}
+use Rattle.std.proofs.Common.{[], ◌∷◌, set, Option, Some, None, slice_get}
 use Rattle.slink_feed.specs.declared.grant.Grant.{Grant}
 use Rattle.slink_feed.specs.declared.session.Phase.{Phase}
 use Rattle.slink_feed.specs.declared.session.Phase.TheVariants.{Streaming}
@@ -25,7 +25,7 @@ reached_with feed gs k g reached before j h is = elim (grant_set gs k j (Some g)
   | inl here ↦ let same : Some g ≡ Some h = sym here.1 ∙ is in
       let one : g ≡ h = cc same in
       subst (λ (x : Grant). IsReached feed j x.position) one
-          (subst (λ i. IsReached feed i g.position) (sym here.0) reached)
+      (subst (λ i. IsReached feed i g.position) (sym here.0) reached)
   | inr there ↦ before j h (sym there ∙ is)
 ]
 

@@ -1,6 +1,7 @@
 -- Replies, byte by byte.
-use Rattle.std.proofs.Common.{◌≡◌, ℕ, ◌+◌, ◌-◌, ◌<◌, inl, inr, zero, suc, refl, sym, ap, subst, ◌∙◌, arith, Bool, true,
-    false, ◌&&◌, ◌==◌, List, [], ◌∷◌, ◌++◌, length, length-append, append_assoc, Option, Some, None, slice_get}
+use Rattle.std.proofs.Common.{◌≡◌, ℕ, ◌+◌, ◌-◌, ◌<◌, inl, inr, zero, suc, refl, sym, ap, subst, ◌∙◌, arith, Bool, true}
+use Rattle.std.proofs.Common.{false, ◌&&◌, ◌==◌, List, [], ◌∷◌, ◌++◌, length, length-append, append_assoc, Option, Some}
+use Rattle.std.proofs.Common.{None, slice_get}
 use Rattle.std.proofs.lemmas.Bool.{cases_lt}
 use Rattle.std.proofs.lemmas.Bool.Decides.{eqb_tells}
 use Rattle.std.proofs.lemmas.List.{nil_from_length}
@@ -10,8 +11,10 @@ use Rattle.slink_feed.specs.Parts.{ends_behind, ends_reply}
 use Rattle.slink_feed.proofs.Fronts.{get_left, get_here}
 
 same_byte : (a b : ℕ) → (a == b) ≡ true → a ≡ b
-same_byte a b h = elim (eqb_tells a b) [ inl same ↦ same.1
-    | inr other ↦ absurd (let bad : true ≡ false = sym h ∙ other.0 in cc bad) ]
+same_byte a b h = elim (eqb_tells a b) [
+  | inl same ↦ same.1
+  | inr other ↦ absurd (let bad : true ≡ false = sym h ∙ other.0 in cc bad)
+]
 
 both : (p q : Bool) → (p && q) ≡ true → (p ≡ true) × (q ≡ true)
 both true q h = (refl, h)
@@ -30,15 +33,15 @@ both_pass o b h last here = let bad : true ≡ false =
 pub lacks_more : (xs : List ℕ) (b : ℕ) → LacksEnd xs → ends_reply xs b ≡ false → LacksEnd (xs ++ b ∷ [])
 lacks_more xs b before quiet i cr lf = elim (cases_lt (i + 1) (length xs)) [
   | inl lt ↦ before i (sym (get_left xs (b ∷ []) i (omega (arith, lt))) ∙ cr) (sym (get_left xs (b ∷ []) (i + 1) lt)
-  ∙ lf)
+      ∙ lf)
   | inr ge ↦ elim (cases_lt (length xs) (i + 1)) [
     | inl past ↦ let none : slice_get (xs ++ b ∷ []) (i + 1) ≡ None =
-    slice_get_past (xs ++ b ∷ []) (i + 1) (omega (arith, past, length-append xs (b ∷ []))) in
+        slice_get_past (xs ++ b ∷ []) (i + 1) (omega (arith, past, length-append xs (b ∷ []))) in
         let bad : None ≡ Some 10 = sym none ∙ lf in cc bad
     | inr le ↦ let at : i + 1 ≡ length xs = omega (arith, ge, le) in
         let last : slice_get xs (length xs - 1) ≡ Some 13 =
-            ap (slice_get xs) (let e : length xs - 1 ≡ i = omega (arith, at) in e)
-            ∙ (sym (get_left xs (b ∷ []) i (omega (arith, at))) ∙ cr) in
+        ap (slice_get xs) (let e : length xs - 1 ≡ i = omega (arith, at) in e)
+        ∙ (sym (get_left xs (b ∷ []) i (omega (arith, at))) ∙ cr) in
         let here : Some b ≡ Some 10 = sym (get_here xs [] b) ∙ (ap (slice_get (xs ++ b ∷ [])) (sym at) ∙ lf) in
         both_pass (slice_get xs (length xs - 1)) b quiet last (cc here)
   ]
@@ -47,8 +50,11 @@ lacks_more xs b before quiet i cr lf = elim (cases_lt (i + 1) (length xs)) [
 -- what stands before the last element
 last_split : (xs : List ℕ) (n y : ℕ) → suc n ≡ length xs → slice_get xs n ≡ Some y → (ys : List ℕ) × (xs ≡ ys ++ y ∷ [])
 last_split [] n y e h = absurd (omega (arith, e))
-last_split (x ∷ xs) zero y e h = ([], let one : Some x ≡ Some y = h in let same : x ≡ y = cc one in
-    ap (λ z. z ∷ xs) same ∙ ap (λ zs. y ∷ zs) (nil_from_length xs (omega (arith, e))))
+last_split (x ∷ xs) zero y e h = (
+  [],
+  let one : Some x ≡ Some y = h in let same : x ≡ y = cc one in
+      ap (λ z. z ∷ xs) same ∙ ap (λ zs. y ∷ zs) (nil_from_length xs (omega (arith, e))),
+)
 last_split (x ∷ xs) (suc n) y e h = let rest : (ys : List ℕ) × (xs ≡ ys ++ y ∷ []) =
     last_split xs n y (omega (arith, e)) h in (x ∷ rest.0, ap (λ zs. x ∷ zs) rest.1)
 

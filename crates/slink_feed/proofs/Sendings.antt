@@ -1,12 +1,12 @@
 -- What one session sends of a place is a stretch of its pushed records.
-use Rattle.std.proofs.Common.{◌≡◌, ◌≢◌, ℕ, ◌+◌, ◌-◌, ◌%◌, ◌^◌, ◌≤◌, ◌⊎◌, inl, inr, zero, suc, refl, sym, ap, subst, ◌∙◌,
-    arith, Bool, true, false, ◌==◌, if◌then◌else◌, List, [], ◌∷◌, ◌++◌, length, length-drop, take, drop, set, Option,
-    Some, None, slice_get}
+use Rattle.std.proofs.Common.{◌≡◌, ◌≢◌, ℕ, ◌+◌, ◌-◌, ◌%◌, ◌^◌, ◌≤◌, ◌⊎◌, inl, inr, zero, suc, refl, sym, ap, subst, ◌∙◌}
+use Rattle.std.proofs.Common.{arith, Bool, true, false, ◌==◌, if◌then◌else◌, List, [], ◌∷◌, ◌++◌, length, length-drop}
+use Rattle.std.proofs.Common.{take, drop, set, Option, Some, None, slice_get}
 use Rattle.std.proofs.lemmas.Bool.Decides.{eqb_tells, leb_tells}
 use Rattle.slink_wire.specs.Packet.{packet_bytes}
 use Rattle.slink_wire.specs.declared.command.Command.{Command}
-use Rattle.slink_wire.specs.declared.command.Command.TheVariants.{Hello, Station, SelectAll, Data, Fetch, End, Bye,
-    Other}
+use Rattle.slink_wire.specs.declared.command.Command.TheVariants.{Hello, Station, SelectAll, Data, Fetch, End, Bye}
+use Rattle.slink_wire.specs.declared.command.Command.TheVariants.{Other}
 use Rattle.slink_wire.specs.declared.lines.What.{What}
 use Rattle.slink_wire.specs.declared.lines.What.TheVariants.{More, Line, TooLong}
 use Rattle.slink_wire.specs.declared.reply.Reply.{Reply}
@@ -16,10 +16,10 @@ use Rattle.slink_feed.specs.declared.session.Phase.TheVariants.{Streaming, Close
 use Rattle.slink_feed.specs.declared.session.Sent.{Sent}
 use Rattle.slink_feed.specs.declared.session.Sent.TheVariants as Sents
 use Rattle.slink_feed.specs.Serving.{IsAnswer}
-use Rattle.slink_feed.specs.Session.{Grants, State, all_done, answered_in, at_next, grant_at, in_streaming, packet_at,
-    sent, sent_in, sent_of}
-use Rattle.slink_feed.specs.Sending.{AreAsked, AreShown, Asked, IsHeardFrom, IsStretch, packet_in, packets_from,
-    packets_of}
+use Rattle.slink_feed.specs.Session.{Grants, State, all_done, answered_in, at_next, grant_at, in_streaming, packet_at}
+use Rattle.slink_feed.specs.Session.{sent, sent_in, sent_of}
+use Rattle.slink_feed.specs.Sending.{AreAsked, AreShown, Asked, IsHeardFrom, IsStretch, packet_in, packets_from}
+use Rattle.slink_feed.specs.Sending.{packets_of}
 use Rattle.slink_feed.specs.Window.{Shows, Window, oldest_of, record_at}
 
 -- the records that a window shows, by their numbers
@@ -51,9 +51,11 @@ pub read_at : (w : Window) (p : ℕ) (x : List ℕ) → record_at w p ≡ Some x
     → (oldest_of w ≤ p) × (slice_get w.records (p - oldest_of w) ≡ Some x)
 read_at w p x h = elim (leb_tells (suc p) (oldest_of w)) [
   | inl below ↦ absurd (let bad : None ≡ Some x = sym
-  (ap (λ t. if t then None else slice_get w.records (p - oldest_of w)) below.0) ∙ h in cc bad)
-  | inr above ↦ (omega (arith, above.1),
-  sym (ap (λ t. if t then None else slice_get w.records (p - oldest_of w)) above.0) ∙ h)
+      (ap (λ t. if t then None else slice_get w.records (p - oldest_of w)) below.0) ∙ h in cc bad)
+  | inr above ↦ (
+    omega (arith, above.1),
+    sym (ap (λ t. if t then None else slice_get w.records (p - oldest_of w)) above.0) ∙ h,
+  )
 ]
 
 shown_at : (w : Window) (first n p : ℕ) (pushed : List (List ℕ)) (x : List ℕ) → Shows w first (take n pushed)
@@ -61,7 +63,7 @@ shown_at : (w : Window) (first n p : ℕ) (pushed : List (List ℕ)) (x : List �
 shown_at w first n p pushed x shows h =
     let read : (oldest_of w ≤ p) × (slice_get w.records (p - oldest_of w) ≡ Some x) = read_at w p x h in
     let shown : (first ≤ p) × (slice_get (take n pushed) (p - first) ≡ Some x) =
-        shown_in w first p (take n pushed) x shows read.0 read.1 in
+    shown_in w first p (take n pushed) x shows read.0 read.1 in
     (shown.0, get_taken pushed n (p - first) x shown.1)
 
 drop_next : (xs : List (List ℕ)) (i : ℕ) (x : List ℕ) → slice_get xs i ≡ Some x → drop i xs ≡ x ∷ drop (suc i) xs
@@ -77,7 +79,7 @@ stretch_more first p pushed packets x above here rest =
     let i : ℕ = p - first in
     let next : p + 1 - first ≡ suc i = omega (arith, above) in
     ap (λ ps. packet_bytes (p % 2 ^ 24) x ∷ ps) (rest
-        ∙ ap (λ n. packets_from (p + 1) (take (length packets) (drop n pushed))) next)
+    ∙ ap (λ n. packets_from (p + 1) (take (length packets) (drop n pushed))) next)
     ∙ ap (λ xs. packets_from p (take (suc (length packets)) xs)) (sym (drop_next pushed i x here))
 
 -- grants once one was written
@@ -118,14 +120,14 @@ step_packet k place g h feed t w (Some bytes) at_k at_place here read on = elim 
   | inl same ↦ let both : Some h ≡ Some g = sym at_place ∙ (ap (grant_at t.grants) same.1 ∙ at_k) in
       let one : h ≡ g = cc both in
       went w bytes same.1 (ap (λ (y : Grant). Sents.Packet (packet_bytes (y.position % 2 ^ 24) bytes)) one)
-          (ap (slice_get feed) (sym same.1) ∙ here)
+      (ap (slice_get feed) (sym same.1) ∙ here)
       (ap (λ (y : Grant). record_at w y.position) (sym one) ∙ read)
       (ap (grant_at (set t.grants place (Some (record { mode = h.mode; position = h.position + 1 })))) (sym same.1)
       ∙ (set_here t.grants place (Some (record { mode = h.mode; position = h.position + 1 })) h at_place
       ∙ ap (λ (y : Grant). Some (record { mode = y.mode; position = y.position + 1 })) one))
       (inl on)
   | inr other ↦ quiet (ap (λ b. if b then packet_bytes (h.position % 2 ^ 24) bytes ∷ [] else []) other.0)
-  (set_other t.grants place k (Some (record { mode = h.mode; position = h.position + 1 })) other.1 ∙ at_k) (inl on)
+      (set_other t.grants place k (Some (record { mode = h.mode; position = h.position + 1 })) other.1 ∙ at_k) (inl on)
 ]
 
 step_next : (k place : ℕ) (g : Grant) (feed : List Window) (t : State) (done : Bool) → grant_at t.grants k ≡ Some g
@@ -154,10 +156,10 @@ step_sent : (k place : ℕ) (g : Grant) (feed : List Window) (t : State) → gra
     → Stepped k g feed place (sent feed t place)
 step_sent k place g feed t at_k (inl on) =
     subst (λ (p : Phase). Stepped k g feed place (sent_in p feed t place)) (sym on)
-        (step_of k place g feed t (grant_at t.grants place) (slice_get feed place) at_k refl refl on)
+    (step_of k place g feed t (grant_at t.grants place) (slice_get feed place) at_k refl refl on)
 step_sent k place g feed t at_k (inr closed) =
     subst (λ (p : Phase). Stepped k g feed place (sent_in p feed t place)) (sym closed)
-        (quiet (none_either (place == k)) at_k (inr closed))
+    (quiet (none_either (place == k)) at_k (inr closed))
 
 pub heard_on : (s t : State) → IsHeardFrom s t → IsOn s.phase → IsOn t.phase
 heard_on s t (inl same) on = subst (λ (u : State). IsOn u.phase) (sym same) on
@@ -177,12 +179,12 @@ sent_more : (k first : ℕ) (pushed : List (List ℕ)) (a : Asked) (packets : Li
     → IsStretch first pushed g.position ((if a.place == k then packet_in a.answer else []) ++ packets)
 sent_more k first pushed a packets g w n bytes same is shows read rest =
     let shown : (first ≤ g.position) × (slice_get pushed (g.position - first) ≡ Some bytes) =
-        shown_at w first n g.position pushed bytes shows read in
+    shown_at w first n g.position pushed bytes shows read in
     let one : (if a.place == k then packet_in a.answer else []) ≡ packet_bytes (g.position % 2 ^ 24) bytes ∷ [] =
     ap (λ j. if j == k then packet_in a.answer else []) same
-        ∙ (ap (λ b. if b then packet_in a.answer else []) (same_here k) ∙ ap packet_in is) in
+    ∙ (ap (λ b. if b then packet_in a.answer else []) (same_here k) ∙ ap packet_in is) in
     subst (λ ps. IsStretch first pushed g.position (ps ++ packets)) (sym one)
-        (stretch_more first g.position pushed packets bytes shown.0 shown.1 rest)
+    (stretch_more first g.position pushed packets bytes shown.0 shown.1 rest)
 
 pub stretch_sent : (k first : ℕ) (pushed : List (List ℕ)) (more : List Asked) (s : State) (g : Grant) → IsOn s.phase
     → grant_at s.grants k ≡ Some g → AreAsked s more → AreShown k first pushed more
@@ -193,15 +195,15 @@ stretch_sent k first pushed (a ∷ more) s g on at_k asked shown =
     let grant : grant_at t.grants k ≡ Some g = ap (λ gs. grant_at gs k) (heard_grants s t asked.1) ∙ at_k in
     elim (step_sent k a.place g a.feed t grant (heard_on s t asked.1 on)) [
       | quiet none stays goes ↦ subst (λ ps. IsStretch first pushed g.position (ps ++ packets_of k more))
-      (sym (ap (λ y. if a.place == k then packet_in y else []) (sym asked.2) ∙ none))
+          (sym (ap (λ y. if a.place == k then packet_in y else []) (sym asked.2) ∙ none))
           (stretch_sent k first pushed more (sent a.feed t a.place).0 g goes stays asked.3 shown.1)
       | went w bytes same is here read stays goes ↦
           let both : Some shown.0.0 ≡ Some w = sym shown.0.2 ∙ here in
           let one : shown.0.0 ≡ w = cc both in
           sent_more k first pushed a (packets_of k more) g w shown.0.1 bytes same (sym asked.2 ∙ is)
-              (subst (λ (v : Window). Shows v first (take shown.0.1 pushed)) one shown.0.3) read
+          (subst (λ (v : Window). Shows v first (take shown.0.1 pushed)) one shown.0.3) read
           (stretch_sent k first pushed more (sent a.feed t a.place).0
-              (record { mode = g.mode; position = g.position + 1 }) goes stays asked.3 shown.1)
+          (record { mode = g.mode; position = g.position + 1 }) goes stays asked.3 shown.1)
     ]
 
 -- what a line leaves of a session that streams
@@ -220,5 +222,5 @@ pub answer_heard : (feed : List Window) (s new : State) (what : What) (reply : R
 answer_heard feed s new More reply on is = inl is.0
 answer_heard feed s new (Line line) reply on is =
     subst (IsHeardFrom s) (ap (λ (p : Phase). (answered_in p feed s is.0).0) (sym on)
-        ∙ ap (λ (x : State × Reply). x.0) is.2) (line_heard s is.0)
+    ∙ ap (λ (x : State × Reply). x.0) is.2) (line_heard s is.0)
 answer_heard feed s new TooLong reply on is = inr (sym (ap (λ (x : State × Reply). x.0) is))

@@ -1,7 +1,7 @@
 -- What a session gave so far, and which of the bytes it took were answered.
-use Rattle.std.proofs.Common.{◌≡◌, ℕ, ◌+◌, ◌-◌, ◌*◌, ◌≤◌, ◌<◌, ◌⊎◌, zero, suc, refl, sym, ap, subst, ◌∙◌, arith, inl,
-    inr, if◌then◌else◌, List, [], ◌∷◌, ◌++◌, append_assoc, append-nil, length, length-append, replicate, take, take_all,
-    drop, Result, Err, IfErr}
+use Rattle.std.proofs.Common.{◌≡◌, ℕ, ◌+◌, ◌-◌, ◌*◌, ◌≤◌, ◌<◌, ◌⊎◌, zero, suc, refl, sym, ap, subst, ◌∙◌, arith, inl}
+use Rattle.std.proofs.Common.{inr, if◌then◌else◌, List, [], ◌∷◌, ◌++◌, append_assoc, append-nil, length, length-append}
+use Rattle.std.proofs.Common.{replicate, take, take_all, drop, Result, Err, IfErr}
 use Rattle.std.proofs.lemmas.Bool.Decides.{eqb_tells}
 use Rattle.slink_wire.specs.declared.reply.Reply.{Reply}
 use Rattle.slink_wire.specs.declared.reply.Reply.TheVariants as replies
@@ -12,8 +12,8 @@ use Rattle.slink_feed.specs.declared.session.Sent.TheVariants as sents
 use Rattle.slink_feed.specs.declared.turn.LinkFault.{LinkFault}
 use Rattle.slink_feed.specs.declared.turn.LinkFault.TheVariants as faults
 use Rattle.slink_feed.specs.Attending.{RepliesToAll}
-use Rattle.slink_feed.specs.Replying.{HasFailed, HasSent, IsReplyFault, IsSaid, IsSayFault, IsSendFault, IsUnsaid,
-    waits_after}
+use Rattle.slink_feed.specs.Replying.{HasFailed, HasSent, IsReplyFault, IsSaid, IsSayFault, IsSendFault, IsUnsaid}
+use Rattle.slink_feed.specs.Replying.{waits_after}
 use Rattle.slink_feed.specs.Rounds.{Attending, FailsToSend, Gives, HasWaited, all_sent, place_behind}
 use Rattle.slink_feed.specs.Serving.{Serves, Standing, Takes, none_served, piece_served}
 use Rattle.slink_feed.specs.Session.{State, sent, sent_bytes}
@@ -51,7 +51,7 @@ gives_more : (feed : List Window) (k last : ℕ) (s t : State) (given : List Sen
     → Gives feed k s (given ++ x.1 ∷ []) (place_behind feed last) x.0
 gives_more feed k last s t [] x is gives =
     let same : sent feed s k ≡ x = ap (λ n. sent feed s n) (sym gives.0)
-        ∙ (ap (λ (u : State). sent feed u last) (sym gives.1) ∙ is) in
+    ∙ (ap (λ (u : State). sent feed u last) (sym gives.1) ∙ is) in
     (ap (λ (p : State × Sent). p.1) same, (ap (place_behind feed) gives.0, ap (λ (p : State × Sent). p.0) (sym same)))
 gives_more feed k last s t (a ∷ more) x is gives =
     (gives.0, gives_more feed (place_behind feed k) last (sent feed s k).0 t more x is gives.1)
@@ -91,7 +91,7 @@ pub place_within : (feed : List Window) (k : ℕ) → k < length feed → place_
 place_within feed k lt = elim (eqb_tells (k + 1) (length feed)) [
   | inl same ↦ let e : place_behind feed k ≡ 0 = ap (λ b. if b then 0 else k + 1) same.0 in omega (arith, e, lt)
   | inr other ↦ let e : place_behind feed k ≡ k + 1 = ap (λ b. if b then 0 else k + 1) other.0 in
-  omega (arith, e, lt, other.1)
+      omega (arith, e, lt, other.1)
 ]
 
 -- nothing was given, so that nothing was written
@@ -130,7 +130,7 @@ module _ (feed : List Window) (old now new : Attending) (k waits_now said : ℕ)
     few =
         let more : (said + length (sent_bytes x.1)) + 520 * due feed x.0 ≤ 520 * due feed old.session.state =
         few_more feed now.session.state x said (length (sent_bytes x.1)) (520 * due feed old.session.state) moved short
-            (none_waits x.1) so_far.few in
+        (none_waits x.1) so_far.few in
         let e : due feed new.session.state ≡ due feed x.0 = ap (due feed) state in
         omega (arith, more, e, done.count);
     within = λ some. place_within feed k within;
@@ -140,7 +140,7 @@ module _ (feed : List Window) (old now new : Attending) (k waits_now said : ℕ)
   unsent : (after : ℕ) → IsUnsaid now.said new.said (sent_bytes x.1) said after → FailsToSend feed old new after
   unsent after cut =
       let counted : after ≡ length (all_sent so_far.given) + cut.more =
-          cut.count ∙ ap (λ n. n + cut.more) so_far.counted in
+      cut.count ∙ ap (λ n. n + cut.more) so_far.counted in
       record {
         given = so_far.given;
         last = x.1;
@@ -180,7 +180,7 @@ has_sent feed old now k n said most ends so_far = record {
     ends = elim ends [
       | inl shut ↦ inl shut
       | inr all ↦ inr (let same : n ≡ length feed = omega (arith, all, so_far.waits_few) in
-      subst (λ m. HasWaited m so_far.given) same so_far.waited)
+          subst (λ m. HasWaited m so_far.given) same so_far.waited)
     ];
     held = so_far.held;
     said = so_far.took;
@@ -206,19 +206,24 @@ pub record RepliedSoFar (feed : List Window) (old now : Attending) (bytes : List
 
 pub nothing_replied : (feed : List Window) (s : Attending) (bytes : List ℕ) (before : ℕ)
     → RepliedSoFar feed s s bytes 0 before before
-nothing_replied feed s bytes before = record { within = omega arith; serves = none_served s.session s.said.bytes;
-    failures = refl; counted = refl; few = omega arith }
+nothing_replied feed s bytes before = record {
+  within = omega arith;
+  serves = none_served s.session s.said.bytes;
+  failures = refl;
+  counted = refl;
+  few = omega arith;
+}
 
 serves_piece : (feed : List Window) (s now last : Standing) (bytes piece way on : List ℕ) (reply : Reply)
     → Serves feed s bytes way now on → Takes feed now piece last reply
     → Serves feed s (bytes ++ piece) way last (on ++ reply_bytes reply)
 serves_piece feed s now last bytes piece way on reply (none_served t w) takes =
     piece_served t last last piece piece [] w (w ++ reply_bytes reply) reply (sym (append-nil piece)) takes
-        (none_served last (w ++ reply_bytes reply))
+    (none_served last (w ++ reply_bytes reply))
 serves_piece feed s now last bytes piece way on reply (piece_served t u v bs front rest w all other split one more)
     takes =
     piece_served t u last (bs ++ piece) front (rest ++ piece) w (all ++ reply_bytes reply) other
-        (ap (λ xs. xs ++ piece) split ∙ append_assoc front rest piece) one
+    (ap (λ xs. xs ++ piece) split ∙ append_assoc front rest piece) one
     (serves_piece feed u v last rest piece (w ++ reply_bytes other) all reply more takes)
 
 pub reply_short : (reply : Reply) → length (reply_bytes reply) ≤ 35
@@ -246,7 +251,7 @@ split_piece bytes start used = front bytes (start + used)
 module _ (feed : List Window) (old now new : Attending) (bytes : List ℕ) (start before said used : ℕ) (reply : Reply)
     (so_far : RepliedSoFar feed old now bytes start before said)
     (takes : Takes feed now.session (take used (take (length bytes - start) (drop start bytes))) new.session
-        reply) where
+    reply) where
   pub one_replied : (after : ℕ) → 0 < used → used ≤ length bytes - start
       → IsSaid now.said new.said (reply_bytes reply) said after
       → RepliedSoFar feed old new bytes (start + used) before after
@@ -255,13 +260,18 @@ module _ (feed : List Window) (old now new : Attending) (bytes : List ℕ) (star
     serves = subst (λ (on : List ℕ). Serves feed old.session (take (start + used) bytes) old.said.bytes new.session on)
         (sym done.said.bytes)
         (subst (λ (bs : List ℕ). Serves feed old.session bs old.said.bytes new.session
-            (now.said.bytes ++ reply_bytes reply)) (piece_is bytes start used)
+        (now.said.bytes ++ reply_bytes reply)) (piece_is bytes start used)
         (serves_piece feed old.session now.session new.session (take start bytes)
-            (take used (take (length bytes - start) (drop start bytes))) old.said.bytes now.said.bytes reply
-            so_far.serves takes));
+        (take used (take (length bytes - start) (drop start bytes))) old.said.bytes now.said.bytes reply
+        so_far.serves takes));
     failures = done.said.failures ∙ so_far.failures;
-    counted = omega (arith, ap length done.said.bytes, length-append now.said.bytes (reply_bytes reply), done.count,
-        so_far.counted);
+    counted = omega (
+      arith,
+      ap length done.said.bytes,
+      length-append now.said.bytes (reply_bytes reply),
+      done.count,
+      so_far.counted,
+    );
     few = omega (arith, done.count, reply_short reply, so_far.few, some);
   }
 
@@ -280,8 +290,14 @@ module _ (feed : List Window) (old now new : Attending) (bytes : List ℕ) (star
       count = cut.more;
       said = cut.said;
     };
-    counted = omega (arith, ap length cut.said.bytes, length-append now.said.bytes (take cut.more (reply_bytes reply)),
-        length_front (reply_bytes reply) cut.more cut.said.part, cut.count, so_far.counted);
+    counted = omega (
+      arith,
+      ap length cut.said.bytes,
+      length-append now.said.bytes (take cut.more (reply_bytes reply)),
+      length_front (reply_bytes reply) cut.more cut.said.part,
+      cut.count,
+      so_far.counted,
+    );
   }
 
   pub not_replied : (fault : LinkFault) → IsSayFault fault now.said new.said (reply_bytes reply) said

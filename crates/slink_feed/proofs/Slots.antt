@@ -1,7 +1,7 @@
 -- Slots of which none is empty, as the list of what stands in them.
-use Rattle.std.proofs.Common.{◌≡◌, ℕ, ◌<◌, ◌∙◌, zero, suc, ap, refl, sym, arith, List, [], ◌∷◌, ◌++◌, length,
-    length-set, get_or, set, take, take_all, drop_of_length-le, append-nil, subst, Option, Some, None, option_map,
-    slice_get}
+use Rattle.std.proofs.Common.{◌≡◌, ℕ, ◌<◌, ◌∙◌, zero, suc, ap, refl, sym, arith, List, [], ◌∷◌, ◌++◌, length}
+use Rattle.std.proofs.Common.{length-set, get_or, set, take, take_all, drop_of_length-le, append-nil, subst, Option}
+use Rattle.std.proofs.Common.{Some, None, option_map, slice_get}
 use Rattle.std.specs.List.{refill}
 use Rattle.slink_feed.specs.Rings.{AreFilled, filled_of}
 
@@ -18,7 +18,7 @@ module _ {X : Type 0} where
   filled_more (None ∷ slots) y filled = absurd filled
   filled_more (Some x ∷ slots) y filled =
       let more : AreFilled (slots ++ Some y ∷ []) × (filled_of (slots ++ Some y ∷ []) ≡ filled_of slots ++ y ∷ []) =
-          filled_more slots y filled in
+      filled_more slots y filled in
       (more.0, ap (λ t. x ∷ t) more.1)
 
   -- what is read of a slot stands at its place in the list
@@ -36,7 +36,7 @@ module _ {X : Type 0} where
   filled_set (Some x ∷ slots) zero y filled = (filled, refl)
   filled_set (Some x ∷ slots) (suc k) y filled =
       let more : AreFilled (set slots k (Some y)) × (filled_of (set slots k (Some y)) ≡ set (filled_of slots) k y) =
-          filled_set slots k y filled in
+      filled_set slots k y filled in
       (more.0, ap (λ t. x ∷ t) more.1)
 
   pub same_length : (items : List (Option X)) (now : List X) → AreFilled items → filled_of items ≡ now
@@ -49,7 +49,7 @@ module _ {X : Type 0} where
       → (x : X) × (o ≡ Some x) × (slice_get now k ≡ Some x)
   slot_at items slots now k o filled view s read lt =
       let at : (x : X) × (get_or items k o ≡ Some x) × (slice_get (filled_of items) k ≡ Some x) =
-          filled_at items k o filled (omega (arith, lt, same_length items now filled view)) in
+      filled_at items k o filled (omega (arith, lt, same_length items now filled view)) in
       (at.0, read ∙ (ap (λ xs. get_or xs k o) s ∙ at.1), ap (λ xs. slice_get xs k) (sym view) ∙ at.2)
 
   pub no_slot : (o : Option X) → ((x : X) × (o ≡ Some x)) → o ≡ None → ⊥
@@ -72,15 +72,15 @@ module _ {X : Type 0} where
       → filled_of (refill (length items) items (set slots k new)) ≡ set now k (f x))
   slot_written items slots now k o new f filled view s read lt e =
       let at : (x : X) × (o ≡ Some x) × (slice_get now k ≡ Some x) =
-          slot_at items slots now k o filled view s read lt in
+      slot_at items slots now k o filled view s read lt in
       let is : new ≡ Some (f at.0) = e ∙ ap (option_map f) at.1 in
       let ws : set slots k new ≡ set items k (Some (f at.0)) = ap (λ xs. set xs k new) s ∙ ap (set items k) is in
       let all : refill (length items) items (set slots k new) ≡ set items k (Some (f at.0)) =
       ap (refill (length items) items) ws
-          ∙ refill_same items (set items k (Some (f at.0))) (length-set items k (Some (f at.0))) in
+      ∙ refill_same items (set items k (Some (f at.0))) (length-set items k (Some (f at.0))) in
       let done : AreFilled (set items k (Some (f at.0)))
-          × (filled_of (set items k (Some (f at.0))) ≡ set (filled_of items) k (f at.0)) =
-          filled_set items k (f at.0) filled in (
+      × (filled_of (set items k (Some (f at.0))) ≡ set (filled_of items) k (f at.0)) =
+      filled_set items k (f at.0) filled in (
         subst AreFilled (sym all) done.0,
         λ x here. ap filled_of all
             ∙ (done.1 ∙ (ap (λ xs. set xs k (f at.0)) view

@@ -1,7 +1,7 @@
 -- A session stands for the stream that its link brought.
-use Rattle.std.proofs.Common.{◌≡◌, ◌≢◌, ℕ, ◌+◌, ◌-◌, ◌<◌, ◌≤◌, ◌⊎◌, inl, inr, zero, suc, refl, sym, ap, subst, ◌∙◌,
-    arith, true, false, List, [], ◌∷◌, ◌++◌, append-nil, append_assoc, length, length-append, take, drop, Option, Some,
-    None, IfSome}
+use Rattle.std.proofs.Common.{◌≡◌, ◌≢◌, ℕ, ◌+◌, ◌-◌, ◌<◌, ◌≤◌, ◌⊎◌, inl, inr, zero, suc, refl, sym, ap, subst, ◌∙◌}
+use Rattle.std.proofs.Common.{arith, true, false, List, [], ◌∷◌, ◌++◌, append-nil, append_assoc, length, length-append}
+use Rattle.std.proofs.Common.{take, drop, Option, Some, None, IfSome}
 use Rattle.slink_wire.specs.declared.lines.What.{What}
 use Rattle.slink_wire.specs.declared.lines.What.TheVariants.{More, Line, TooLong}
 use Rattle.slink_wire.specs.declared.reply.Reply.{Reply}
@@ -31,7 +31,7 @@ nothing_told : (what : What) (stream : List ℕ) (count : ℕ) → 0 < count →
 nothing_told More stream count some short tells whole = let e : 0 ≡ count = whole refl in omega (arith, e, some)
 nothing_told (Line line) stream count some short tells whole =
     let long : length (lines_of stream).lines ≡ length ((lines_of stream).lines ++ line.items ∷ []) =
-        ap length tells.0 in
+    ap length tells.0 in
     omega (arith, long, length-append (lines_of stream).lines (line.items ∷ []))
 nothing_told TooLong stream count some short tells whole = true_false (lines_of stream).is_too_long tells.1 short
 
@@ -40,7 +40,7 @@ takes_some : (stream bytes : List ℕ) (used : ℕ) → 0 < length bytes → (li
     → TakesWhole stream (stream ++ take used bytes) used (length bytes) → 0 < used
 takes_some stream bytes zero some short whole =
     absurd (nothing_told whole.0 stream (length bytes) some short
-        (subst (λ s. Tells whole.0 stream s) (append-nil stream) whole.1) whole.2)
+    (subst (λ s. Tells whole.0 stream s) (append-nil stream) whole.1) whole.2)
 takes_some stream bytes (suc n) some short whole = omega arith
 
 pub piece_taken : (old new : Standing) (bytes : List ℕ) (used : ℕ) → 0 < length bytes → Stands old
@@ -66,12 +66,17 @@ pub still_stands : (feed : List Window) (old new : Standing) (piece : List ℕ) 
     → Takes feed old piece new reply → Stands new
 still_stands feed old new piece reply stands takes unshut =
     let unshut_before : ¬ (old.state.phase ≡ Closed) =
-        λ shut. unshut (ap (λ (s : Standing). s.state.phase) (takes.closed shut).1 ∙ shut) in
+    λ shut. unshut (ap (λ (s : Standing). s.state.phase) (takes.closed shut).1 ∙ shut) in
     let s : (stream : List ℕ) × StandsFor old stream = stands unshut_before in
     let held : IsHeld new.held (s.0 ++ piece) = takes.held s.0 unshut_before s.1.0 in
-    let answers : Answers feed old.state s.0 (s.0 ++ piece) new.state reply = takes.answers s.0 unshut_before s.1.0 in
-    (s.0 ++ piece, (held, held.1 ∙ short_after feed old.state new.state s.0 (s.0 ++ piece) reply unshut answers.0
-        answers.1 answers.2))
+    let answers : Answers feed old.state s.0 (s.0 ++ piece) new.state reply = takes.answers s.0 unshut_before s.1.0 in (
+      s.0 ++ piece,
+      (
+        held,
+        held.1 ∙ short_after feed old.state new.state s.0 (s.0 ++ piece) reply unshut answers.0
+            answers.1 answers.2,
+      ),
+    )
 
 -- a session that has taken nothing
 pub new_stands : (s : Standing) → IsHeld s.held [] → Stands s

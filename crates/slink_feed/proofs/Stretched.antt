@@ -1,6 +1,6 @@
 -- A stretch of a place's records, from the number on that it wants, is wanted.
-use Rattle.std.proofs.Common.{◌≡◌, ℕ, ◌+◌, ◌%◌, ◌^◌, zero, suc, refl, sym, ap, subst, ◌∙◌, arith, Bool, not, cond,
-    nat_lt, List, [], ◌∷◌, ◌++◌, length, set, Option, Some, None, IfSome}
+use Rattle.std.proofs.Common.{◌≡◌, ℕ, ◌+◌, ◌%◌, ◌^◌, zero, suc, refl, sym, ap, subst, ◌∙◌, arith, Bool, not, cond}
+use Rattle.std.proofs.Common.{nat_lt, List, [], ◌∷◌, ◌++◌, length, set, Option, Some, None, IfSome}
 use Rattle.std.specs.List.{position_or_len}
 use Rattle.std.proofs.lemmas.List.{length-set}
 use Rattle.slink_wire.specs.Packet.{packet_bytes}
@@ -23,7 +23,7 @@ bearer_set wants k n bytes None at = refl
 bearer_set wants k n bytes (Some w) at =
     let o : Option Wanted = Some (record { place = w.place; next = Some n }) in
     let first : position_or_len (is_borne bytes) (set wants k o) ≡ position_or_len (is_borne bytes) wants =
-        first_same (is_borne bytes) wants k w o at refl in
+    first_same (is_borne bytes) wants k w o at refl in
     ap (λ m. cond (nat_lt m (length (set wants k o))) (Some m) None) first
     ∙ ap (λ l. cond (nat_lt (position_or_len (is_borne bytes) wants) l) (Some (position_or_len (is_borne bytes) wants))
     None) (length-set wants k o)
@@ -40,7 +40,7 @@ stretch_wanted k g (r ∷ rs) t are wanted =
     let n : ℕ = (g % 2 ^ 24 + 1) % 2 ^ 24 in
     let some : (w : Wanted) × (want_at t.wants k ≡ Some w) = bearer_some t.wants r k are.1 in
     let next : next_at (with_next t.wants k n) k ≡ Some n =
-        next_here t.wants k n (want_at t.wants k) some.0 refl some.1 in
+    next_here t.wants k n (want_at t.wants k) some.0 refl some.1 in
     let same : (g + 1) % 2 ^ 24 ≡ n = omega arith in (
       are.0,
       omega arith,

@@ -1,7 +1,8 @@
 -- What a client tells of over a link, and over one link after another.
-use Rattle.std.proofs.Common.{◌≡◌, ℕ, ◌+◌, ◌%◌, ◌^◌, ◌<◌, refl, sym, ap, subst, ◌∙◌, arith, Bool, true, false, not,
-    cond, nat_lt, ◌==◌, ◌&&◌, bytes_eq, if◌then◌else◌, List, [], ◌∷◌, ◌++◌, append_assoc, append-nil, length,
-    length-drop, drop, map, slice_range, Option, Some, None, IfSome, option_map}
+use Rattle.std.proofs.Common.{◌≡◌, ℕ, ◌+◌, ◌%◌, ◌^◌, ◌<◌, refl, sym, ap, subst, ◌∙◌, arith, Bool, true, false, not}
+use Rattle.std.proofs.Common.{cond, nat_lt, ◌==◌, ◌&&◌, bytes_eq, if◌then◌else◌, List, [], ◌∷◌, ◌++◌, append_assoc}
+use Rattle.std.proofs.Common.{append-nil, length, length-drop, drop, map, slice_range, Option, Some, None, IfSome}
+use Rattle.std.proofs.Common.{option_map}
 use Rattle.std.specs.List.{position, position_or_len}
 use Rattle.std.proofs.lemmas.List.{length-map}
 use Rattle.std.proofs.Math.Seq.{map-set_same}
@@ -16,9 +17,9 @@ use Rattle.slink_feed.specs.declared.dialogue.Stage.TheVariants.{Unlinked, Stati
 use Rattle.slink_feed.specs.declared.dialogue.Wanted.{Wanted}
 use Rattle.slink_feed.specs.Cutting.{IsWhole}
 use Rattle.slink_feed.specs.Delivered.{Numbered}
-use Rattle.slink_feed.specs.Dialogue.{Talk, Wants, Whole, Reply, Packet, End, Garbage, answer_of, at_packet, bearer,
-    ended, heard, heard_at, if_wanted, is_borne, next_at, next_set, says_number, says_place, to_answer, to_place, told,
-    want_at}
+use Rattle.slink_feed.specs.Dialogue.{Talk, Wants, Whole, Reply, Packet, End, Garbage, answer_of, at_packet, bearer}
+use Rattle.slink_feed.specs.Dialogue.{ended, heard, heard_at, if_wanted, is_borne, next_at, next_set, says_number}
+use Rattle.slink_feed.specs.Dialogue.{says_place, to_answer, to_place, told, want_at}
 use Rattle.slink_feed.specs.Holding.{GoOn}
 use Rattle.slink_feed.specs.Listening.{AreBrought, Brought, Listening, Reads, events_of, talk_after, telling}
 use Rattle.slink_feed.specs.Told.{AreOf, HasTold, bytes_in, numbers_at, places_of, record_in, records_told}
@@ -175,7 +176,7 @@ go_one j k n bytes t moved =
     elim moved [
       | stays none same ↦ subst (λ ns. GoOn (next_at t.wants j) ns last) (sym (append-nil here ∙ none)) same
       | moves m one wanted next ↦ subst (λ ns. GoOn (next_at t.wants j) ns last) (sym (append-nil here ∙ one))
-      (go_on_more (next_at t.wants j) last m [] wanted next)
+          (go_on_more (next_at t.wants j) last m [] wanted next)
     ]
 
 told_record : (k n : ℕ) (bytes : List ℕ) (t : Talk) → length bytes ≡ 512 → bearer t.wants bytes ≡ Some k
@@ -191,10 +192,10 @@ told_record k n bytes t long bears wanted =
 told_one : (t : Talk) (x : Talk × Event) → Comes t x → HasTold t.wants x.0.wants (records_told (telling x.1))
 told_one t x comes = elim comes [
   | nothing none same ↦ subst (λ rs. HasTold t.wants x.0.wants rs) (sym none)
-  (subst (λ ws. HasTold t.wants ws []) (sym same) (told_none t.wants))
+      (subst (λ ws. HasTold t.wants ws []) (sym same) (told_none t.wants))
   | a_record k n bytes long bears wanted is ↦ subst
-  (λ (y : Talk × Event). HasTold t.wants y.0.wants (records_told (telling y.1))) (sym is)
-  (told_record k n bytes t long bears wanted)
+      (λ (y : Talk × Event). HasTold t.wants y.0.wants (records_told (telling y.1))) (sym is)
+      (told_record k n bytes t long bears wanted)
 ]
 
 pub records_both : (some more : List Event) → records_told (some ++ more) ≡ records_told some ++ records_told more
@@ -213,12 +214,12 @@ told_brought t [] are = told_none t.wants
 told_brought t (b ∷ bs) are =
     let x : Talk × Event = heard t b.whole in
     let one : HasTold t.wants x.0.wants (records_told (telling x.1)) =
-        told_one t x (comes_heard t t.stage b.bytes b.whole are.0) in
+    told_one t x (comes_heard t t.stage b.bytes b.whole are.0) in
     let more : HasTold x.0.wants (talk_after x.0 bs).wants (records_told (events_of x.0 bs)) =
-        told_brought x.0 bs are.1 in
+    told_brought x.0 bs are.1 in
     subst (λ rs. HasTold t.wants (talk_after x.0 bs).wants rs) (sym (records_both (telling x.1) (events_of x.0 bs)))
     (told_both t.wants x.0.wants (talk_after x.0 bs).wants (records_told (telling x.1))
-        (records_told (events_of x.0 bs)) one more)
+    (records_told (events_of x.0 bs)) one more)
 
 -- what a client tells of a link
 pub told_link : (start : Talk) (stream : List ℕ) (events : List Event) (now : Listening)
@@ -226,7 +227,7 @@ pub told_link : (start : Talk) (stream : List ℕ) (events : List Event) (now : 
 told_link start stream events now reads =
     subst (λ es. HasTold start.wants now.talk.wants (records_told es)) (sym reads.events_are)
     (subst (λ (u : Talk). HasTold start.wants u.wants (records_told (events_of start reads.brought))) (sym reads.talk)
-        (told_brought start reads.brought reads.are_brought))
+    (told_brought start reads.brought reads.are_brought))
 
 -- A new link changes nothing of what is wanted.
 pub wants_said : (t : Talk) (o : Option Wanted) → (to_place o 0 t).0.wants ≡ t.wants

@@ -1,6 +1,6 @@
 -- No front of a whole is another, and bytes are one whole at most.
-use Rattle.std.proofs.Common.{◌≡◌, ◌≢◌, ℕ, ◌+◌, ◌<◌, inl, inr, refl, sym, ap, subst, ◌∙◌, arith, List, [], ◌∷◌, ◌++◌,
-    append_assoc, append-nil, length, length-append, Some, slice_get, codes}
+use Rattle.std.proofs.Common.{◌≡◌, ◌≢◌, ℕ, ◌+◌, ◌<◌, inl, inr, refl, sym, ap, subst, ◌∙◌, arith, List, [], ◌∷◌, ◌++◌}
+use Rattle.std.proofs.Common.{append_assoc, append-nil, length, length-append, Some, slice_get, codes}
 use Rattle.std.proofs.lemmas.Bool.{cases_lt}
 use Rattle.std.proofs.lemmas.List.{append_cancel_right}
 use Rattle.std.proofs.lemmas.Option.{slice_get_within}
@@ -9,8 +9,9 @@ use Rattle.slink_wire.specs.Reply.{line_end}
 use Rattle.slink_wire.proofs.Packets.{one_packet}
 use Rattle.slink_feed.specs.declared.dialogue.Stage.{Stage}
 use Rattle.slink_feed.specs.declared.dialogue.Stage.TheVariants.{Unlinked, Station, Number, Packets, Ended}
-use Rattle.slink_feed.specs.Cutting.{Begins, IsBegun, IsNoPacket, IsPacketBegun, IsReply, IsReplyBegun, IsWhole,
-    IsWholePacket, IsWholeReply, LacksEnd, no_first, no_end, no_head, nothing, end_begun, head_begun, record_begun}
+use Rattle.slink_feed.specs.Cutting.{Begins, IsBegun, IsNoPacket, IsPacketBegun, IsReply, IsReplyBegun, IsWhole}
+use Rattle.slink_feed.specs.Cutting.{IsWholePacket, IsWholeReply, LacksEnd, no_first, no_end, no_head, nothing}
+use Rattle.slink_feed.specs.Cutting.{end_begun, head_begun, record_begun}
 use Rattle.slink_feed.specs.Dialogue.{Whole, Reply, Packet, End, Garbage}
 use Rattle.slink_feed.proofs.Fronts.{get_left, get_here}
 use Rattle.slink_feed.proofs.Heads.{head_before, one_begins}
@@ -42,14 +43,14 @@ reply_end : (a z line : List ℕ) → a ≡ line ++ line_end → LacksEnd (a ++ 
 reply_end a z line is lacks =
     let long : length a ≡ length line + 2 = ap length is ∙ length-append line line_end in
     let cr : slice_get a (length line) ≡ Some 13 = ap (λ (xs : List ℕ). slice_get xs (length line)) is
-        ∙ get_here line (10 ∷ []) 13 in
+    ∙ get_here line (10 ∷ []) 13 in
     let split : line ++ line_end ≡ (line ++ 13 ∷ []) ++ 10 ∷ [] = sym (append_assoc line (13 ∷ []) (10 ∷ [])) in
     let at : length (line ++ 13 ∷ []) ≡ length line + 1 = length-append line (13 ∷ []) in
     let lf : slice_get a (length line + 1) ≡ Some 10 =
-        ap (λ (xs : List ℕ). slice_get xs (length line + 1)) (is ∙ split)
-        ∙ (ap (slice_get ((line ++ 13 ∷ []) ++ 10 ∷ [])) (sym at) ∙ get_here (line ++ 13 ∷ []) [] 10) in
+    ap (λ (xs : List ℕ). slice_get xs (length line + 1)) (is ∙ split)
+    ∙ (ap (slice_get ((line ++ 13 ∷ []) ++ 10 ∷ [])) (sym at) ∙ get_here (line ++ 13 ∷ []) [] 10) in
     lacks (length line) (get_left a z (length line) (omega (arith, long)) ∙ cr)
-        (get_left a z (length line + 1) (omega (arith, long)) ∙ lf)
+    (get_left a z (length line + 1) (omega (arith, long)) ∙ lf)
 
 lacks_front : (a z : List ℕ) → LacksEnd (a ++ z) → LacksEnd a
 lacks_front a z lacks i cr lf =
@@ -62,10 +63,10 @@ lacks_before a z line is some lacks i cr lf =
     let split : a ++ z ≡ (line ++ 13 ∷ []) ++ 10 ∷ [] = is ∙ sym (append_assoc line (13 ∷ []) (10 ∷ [])) in
     let within : i + 1 < length a = slice_get_within a (i + 1) 10 lf in
     let long : length a + length z ≡ length (line ++ 13 ∷ []) + 1 = sym (length-append a z)
-        ∙ (ap length split ∙ length-append (line ++ 13 ∷ []) (10 ∷ [])) in
+    ∙ (ap length split ∙ length-append (line ++ 13 ∷ []) (10 ∷ [])) in
     let here : (j : ℕ) → j < length a → slice_get (line ++ 13 ∷ []) j ≡ slice_get a j = λ j lt.
     sym (get_left (line ++ 13 ∷ []) (10 ∷ []) j (omega (arith, lt, long, some)))
-        ∙ (ap (λ (xs : List ℕ). slice_get xs j) (sym split) ∙ get_left a z j lt) in
+    ∙ (ap (λ (xs : List ℕ). slice_get xs j) (sym split) ∙ get_left a z j lt) in
     lacks i (here i (omega (arith, within)) ∙ cr) (here (i + 1) within ∙ lf)
 
 -- bytes that are begun have no whole in front
@@ -153,7 +154,7 @@ record_front a z r n some is long = elim (cases_lt 0 (length a)) [
   | inl front ↦ elim (cases_lt (length a) 8) [
     | inl short ↦ head_begun (front_begins a z 83 front (packet_begins (a ++ z) r n is)) short
     | inr head ↦ record_begun n (front_begins a z 83 front (packet_begins (a ++ z) r n is))
-    (head_before a z n head (is.0, is.1)) head (omega (arith, long, some, length-append a z))
+        (head_before a z n head (is.0, is.1)) head (omega (arith, long, some, length-append a z))
   ]
   | inr none ↦ nothing (omega (arith, none))
 ]

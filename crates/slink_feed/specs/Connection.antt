@@ -31,7 +31,7 @@ abbrev pub ShowPushed : ℕ → ℕ → List (List ℕ) → List (List Window) �
 ShowPushed k first pushed [] = Unit {0}
 ShowPushed k first pushed (feed ∷ feeds) =
     ((w : Window) × (n : ℕ) × (slice_get feed k ≡ Some w) × Shows w first (take n pushed))
-        × ShowPushed k first pushed feeds
+    × ShowPushed k first pushed feeds
 
 -- the bytes of what was sent, one after another
 abbrev pub bytes_sent : List Asked → List ℕ

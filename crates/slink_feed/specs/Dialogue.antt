@@ -1,7 +1,7 @@
 -- What a client says over a link, and what it makes of what the link brings.
-use Rattle.std.specs.Prelude.{◌≡◌, ℕ, Bool, false, ◌+◌, ◌-◌, ◌%◌, ◌^◌, ◌<◌, ◌==◌, ◌&&◌, List, ◌++◌, length, map,
-    replicate, bytes_eq, codes, Option, Some, None, IfSome, All, nat_eq, unwrap_or, position, slice_get, slice_range,
-    slice_set, if◌then◌else◌}
+use Rattle.std.specs.Prelude.{◌≡◌, ℕ, Bool, false, ◌+◌, ◌-◌, ◌%◌, ◌^◌, ◌<◌, ◌==◌, ◌&&◌, List, ◌++◌, length, map}
+use Rattle.std.specs.Prelude.{replicate, bytes_eq, codes, Option, Some, None, IfSome, All, nat_eq, unwrap_or, position}
+use Rattle.std.specs.Prelude.{slice_get, slice_range, slice_set, if◌then◌else◌}
 use Rattle.std.specs.List.{starts_with}
 use Rattle.std.specs.Option.{option_and_then}
 use Rattle.slink_wire.specs.declared.request.Request.{Request}

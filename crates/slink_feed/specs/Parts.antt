@@ -1,6 +1,6 @@
 -- What the bytes that a client keeps have come to.
-use Rattle.std.specs.Prelude.{◌≡◌, ◌≢◌, ℕ, Bool, false, ◌-◌, ◌≤◌, ◌<◌, ◌==◌, ◌&&◌, List, length, codes, Option, Some,
-    None, slice_get}
+use Rattle.std.specs.Prelude.{◌≡◌, ◌≢◌, ℕ, Bool, false, ◌-◌, ◌≤◌, ◌<◌, ◌==◌, ◌&&◌, List, length, codes, Option, Some}
+use Rattle.std.specs.Prelude.{None, slice_get}
 use Rattle.slink_wire.specs.Packet.{HasHead}
 use Rattle.slink_feed.specs.declared.cutting.Part.{Part}
 use Rattle.slink_feed.specs.declared.cutting.Part.TheVariants as parts

@@ -1,6 +1,6 @@
 -- What one session sends of a place.
-use Rattle.std.specs.Prelude.{◌≡◌, ℕ, ◌+◌, ◌-◌, ◌%◌, ◌^◌, ◌==◌, ◌⊎◌, List, [], ◌∷◌, ◌++◌, length, take, drop,
-    if◌then◌else◌, Some, slice_get}
+use Rattle.std.specs.Prelude.{◌≡◌, ℕ, ◌+◌, ◌-◌, ◌%◌, ◌^◌, ◌==◌, ◌⊎◌, List, [], ◌∷◌, ◌++◌, length, take, drop}
+use Rattle.std.specs.Prelude.{if◌then◌else◌, Some, slice_get}
 use Rattle.slink_wire.specs.Packet.{packet_bytes}
 use Rattle.slink_feed.specs.declared.session.Phase.TheVariants.{Closed}
 use Rattle.slink_feed.specs.declared.session.Sent.{Sent}
@@ -41,7 +41,7 @@ abbrev pub AreShown : ℕ → ℕ → List (List ℕ) → List Asked → Type 0
 AreShown k first pushed [] = Unit {0}
 AreShown k first pushed (a ∷ more) =
     ((w : Window) × (n : ℕ) × (slice_get a.feed k ≡ Some w) × Shows w first (take n pushed))
-        × AreShown k first pushed more
+    × AreShown k first pushed more
 
 -- records with their numbers from one on, as packets
 abbrev pub packets_from : ℕ → List (List ℕ) → List (List ℕ)

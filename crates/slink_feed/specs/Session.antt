@@ -1,11 +1,11 @@
 -- What a session answers, and what it sends.
-use Rattle.std.specs.Prelude.{◌≡◌, ℕ, Bool, true, false, ◌+◌, ◌%◌, ◌^◌, ◌≤◌, ◌<◌, ◌==◌, ◌&&◌, List, [], length, codes,
-    Option, Some, None, unwrap_or, slice_get, slice_set, if◌then◌else◌}
+use Rattle.std.specs.Prelude.{◌≡◌, ℕ, Bool, true, false, ◌+◌, ◌%◌, ◌^◌, ◌≤◌, ◌<◌, ◌==◌, ◌&&◌, List, [], length, codes}
+use Rattle.std.specs.Prelude.{Option, Some, None, unwrap_or, slice_get, slice_set, if◌then◌else◌}
 use Rattle.std.specs.List.{list_all, zip}
 use Rattle.std.specs.Option.{option_and_then}
 use Rattle.slink_wire.specs.declared.command.Command.{Command}
-use Rattle.slink_wire.specs.declared.command.Command.TheVariants.{Hello, Station, SelectAll, Data, Fetch, End, Bye,
-    Other}
+use Rattle.slink_wire.specs.declared.command.Command.TheVariants.{Hello, Station, SelectAll, Data, Fetch, End, Bye}
+use Rattle.slink_wire.specs.declared.command.Command.TheVariants.{Other}
 use Rattle.slink_wire.specs.declared.reply.Reply.{Reply}
 use Rattle.slink_wire.specs.declared.reply.Reply.TheVariants as Replies
 use Rattle.slink_wire.specs.Packet.{packet_bytes}
@@ -141,9 +141,10 @@ at_next false s = (s, Sents.Wait)
 -- a record of the window, or none where it left it
 abbrev pub packet_at : State → ℕ → Grant → Option (List ℕ) → State × Sent
 packet_at s k g None = (at Closed s.grants, Sents.Overrun)
-packet_at s k g (Some bytes) =
-    (at s.phase (slice_set s.grants k (Some (record { mode = g.mode; position = g.position + 1 }))),
-        Sents.Packet (packet_bytes (g.position % 2 ^ 24) bytes))
+packet_at s k g (Some bytes) = (
+  at s.phase (slice_set s.grants k (Some (record { mode = g.mode; position = g.position + 1 }))),
+  Sents.Packet (packet_bytes (g.position % 2 ^ 24) bytes),
+)
 
 abbrev pub sent_from : List Window → State → ℕ → Grant → Window → State × Sent
 sent_from feed s k g w =

@@ -1,7 +1,7 @@
 -- What a ring shows of its feed: the list of all records that were ever pushed, of which the one at index i has the
 -- number first + i. Packets and commands tell numbers modulo 2^24.
-use Rattle.std.specs.Prelude.{◌≡◌, ℕ, ◌+◌, ◌-◌, ◌^◌, ◌%◌, ◌≤◌, List, [], ◌∷◌, ◌++◌, length, drop, Option, Some, None,
-    slice_get, nat_lt, nat_le, if◌then◌else◌}
+use Rattle.std.specs.Prelude.{◌≡◌, ℕ, ◌+◌, ◌-◌, ◌^◌, ◌%◌, ◌≤◌, List, [], ◌∷◌, ◌++◌, length, drop, Option, Some, None}
+use Rattle.std.specs.Prelude.{slice_get, nat_lt, nat_le, if◌then◌else◌}
 use Rattle.slink_wire.specs.Place.{Fields}
 
 -- the place, the most records that are kept, those that are, and the number of the record that comes next

@@ -1,6 +1,7 @@
 -- Turns with a link, one after another, and links one after another.
-use Rattle.std.proofs.Common.{◌≡◌, ◌⊎◌, ℕ, ◌+◌, ◌<◌, ◌≤◌, inl, inr, refl, sym, ap, subst, ◌∙◌, arith, List, [], ◌∷◌,
-    ◌++◌, append_assoc, append-nil, length, length-append, take, Option, Some, None, Result, Ok, Err, IfOk, IfErr}
+use Rattle.std.proofs.Common.{◌≡◌, ◌⊎◌, ℕ, ◌+◌, ◌<◌, ◌≤◌, inl, inr, refl, sym, ap, subst, ◌∙◌, arith, List, [], ◌∷◌}
+use Rattle.std.proofs.Common.{◌++◌, append_assoc, append-nil, length, length-append, take, Option, Some, None, Result}
+use Rattle.std.proofs.Common.{Ok, Err, IfOk, IfErr}
 use Rattle.std.proofs.Math.Seq.{take-append-add}
 use Rattle.mseed_stream.specs.Device.{Heard, IsFrontOf, Said, nothing_heard, nothing_said}
 use Rattle.mseed_stream.specs.Exchanges.{Exchange, exchange}
@@ -16,8 +17,8 @@ use Rattle.slink_feed.specs.declared.turn.LinkFault.TheVariants as faults
 use Rattle.slink_feed.specs.declared.turn.Turn.{Turn}
 use Rattle.slink_feed.specs.Delivered.{Numbered}
 use Rattle.slink_feed.specs.Dialogue.{Talk, Wants, says_place, to_place, want_at}
-use Rattle.slink_feed.specs.Fetching.{Delivers, FailsToSay, FailsToWrite, Fetches, IsFetchFault, ReadsOn, bytes_told,
-    fetching, line_said, lines_said, record_told, turn_after, turn_of}
+use Rattle.slink_feed.specs.Fetching.{Delivers, FailsToSay, FailsToWrite, Fetches, IsFetchFault, ReadsOn, bytes_told}
+use Rattle.slink_feed.specs.Fetching.{fetching, line_said, lines_said, record_told, turn_after, turn_of}
 use Rattle.slink_feed.specs.Listening.{IsLinked, Listening, Reads}
 use Rattle.slink_feed.specs.Told.{HasTold, bytes_in, record_in, records_told}
 use Rattle.slink_feed.specs.Turns.{Took, TookFront}
@@ -25,9 +26,9 @@ use Rattle.slink_feed.proofs.OneReading as one
 use Rattle.slink_feed.proofs.Telling.{bytes_both, records_both, told_both, told_far, told_link, told_none, wants_said}
 use Rattle.slink_links.specs.declared.fetching.FetchEnd.{FetchEnd}
 use Rattle.slink_links.specs.declared.fetching.FetchEnd.TheVariants.{Done, Refused, BadFeed, WriteFailed, LinkFailed}
-use Rattle.slink_links.specs.Fetched.{AreTaken, HasFetched, HasReadEach, HasReadLink, HasReadLinks, HasTurned,
-    HaveMoved, IsFetchedOver, IsReading, IsUnended, StandsAt, StandsBy, TakesRecords, all, but_last, end_by,
-    failures_by, over_none, over_one_more, over_the_last}
+use Rattle.slink_links.specs.Fetched.{AreTaken, HasFetched, HasReadEach, HasReadLink, HasReadLinks, HasTurned}
+use Rattle.slink_links.specs.Fetched.{HaveMoved, IsFetchedOver, IsReading, IsUnended, StandsAt, StandsBy, TakesRecords}
+use Rattle.slink_links.specs.Fetched.{all, but_last, end_by, failures_by, over_none, over_one_more, over_the_last}
 
 -- What the output takes, one part after another.
 took_none : (old : Said) → Took old old []
@@ -64,13 +65,13 @@ takes_both : (a b c : Said) (some more : List Numbered) → Took a b (bytes_in s
     → TakesRecords (some ++ more) a c
 takes_both a b c some more p q = elim q [
   | all took ↦ all (subst (Took a c) (sym (bytes_both some more))
-  (took_both a b c (bytes_in some) (bytes_in more) p took))
+      (took_both a b c (bytes_in some) (bytes_in more) p took))
   | but_last front last n is behind took ↦
       but_last (some ++ front) last (length (bytes_in some) + n) (ap (λ rs. some ++ rs) is
-          ∙ sym (append_assoc some front (last ∷ [])))
+      ∙ sym (append_assoc some front (last ∷ [])))
       (omega (arith, behind, ap length (bytes_both some front), length-append (bytes_in some) (bytes_in front)))
       (subst (λ bytes. TookFront a c bytes (length (bytes_in some) + n)) (sym (bytes_both some more))
-          (took_front a b c (bytes_in some) (bytes_in more) n p took))
+      (took_front a b c (bytes_in some) (bytes_in more) n p took))
 ]
 
 -- Where the output didn't fail, it took all.
@@ -129,7 +130,7 @@ unsaid_none : (es : List Event) (e : Event) (n : ℕ) → n < length (lines_said
     → length (lines_said es) ≤ n → records_told (es ++ e ∷ []) ≡ records_told es
 unsaid_none es e n part behind =
     let long : 0 < length (line_said e) =
-        omega (arith, part, behind, ap length (lines_both es e), length-append (lines_said es) (line_said e)) in
+    omega (arith, part, behind, ap length (lines_both es e), length-append (lines_said es) (line_said e)) in
     records_last es e ∙ (ap (λ rs. records_told es ++ rs) (line_alone e long) ∙ append-nil (records_told es))
 
 -- a record that wasn't taken whole
@@ -137,12 +138,12 @@ unwritten : (es : List Event) (e : Event) (n : ℕ) (old new : Said) → TookFro
     → length (bytes_told es) ≤ n → TakesRecords (records_told (es ++ e ∷ [])) old new
 unwritten es e n old new took behind =
     let whole : bytes_told (es ++ e ∷ []) ≡ bytes_in (records_told es) ++ bytes_in (record_in e) =
-        told_bytes (es ++ e ∷ []) ∙ (ap bytes_in (records_last es e) ∙ bytes_both (records_told es) (record_in e)) in
+    told_bytes (es ++ e ∷ []) ∙ (ap bytes_in (records_last es e) ∙ bytes_both (records_told es) (record_in e)) in
     let sum : length (bytes_told (es ++ e ∷ [])) ≡ length (bytes_in (records_told es)) + length
-        (bytes_in (record_in e)) =
-        ap length whole ∙ length-append (bytes_in (records_told es)) (bytes_in (record_in e)) in
+    (bytes_in (record_in e)) =
+    ap length whole ∙ length-append (bytes_in (records_told es)) (bytes_in (record_in e)) in
     let long : 0 < length (record_told e) =
-        omega (arith, took.part, behind, sum, ap length (told_bytes es), ap length (record_bytes e)) in
+    omega (arith, took.part, behind, sum, ap length (told_bytes es), ap length (record_bytes e)) in
     let last : (r : Numbered) × (record_in e ≡ r ∷ []) = record_alone e long in
     but_last (records_told es) last.0 n (records_last es e ∙ ap (λ rs. records_told es ++ rs) last.1)
     (omega (arith, behind, ap length (told_bytes es)))
@@ -152,21 +153,21 @@ unwritten es e n old new took behind =
 on_none : (now : Listening) → ReadsOn now [] [] now
 on_none now start stream before reads =
     subst (λ s. Reads start s (before ++ []) now) (sym (append-nil stream))
-        (subst (λ es. Reads start stream es now) (sym (append-nil before)) reads)
+    (subst (λ es. Reads start stream es now) (sym (append-nil before)) reads)
 
 on_both : (a b c : Listening) (xs ys : List ℕ) (some more : List Event) → ReadsOn a xs some b → ReadsOn b ys more c
     → ReadsOn a (xs ++ ys) (some ++ more) c
 on_both a b c xs ys some more p q start stream before reads =
     subst (λ s. Reads start s (before ++ (some ++ more)) c) (append_assoc stream xs ys)
     (subst (λ es. Reads start ((stream ++ xs) ++ ys) es c) (append_assoc before some more)
-        (q start (stream ++ xs) (before ++ some) (p start stream before reads)))
+    (q start (stream ++ xs) (before ++ some) (p start stream before reads)))
 
 -- By no bytes nothing changes.
 same_by_none : (old new : Listening) (told : List Event) → IsReading old → ReadsOn old [] told new → new ≡ old
 same_by_none old new told reading on =
     let again : Reads reading.0 reading.1 (reading.2 ++ told) new =
     subst (λ s. Reads reading.0 s (reading.2 ++ told) new) (append-nil reading.1)
-        (on reading.0 reading.1 reading.2 reading.3) in
+    (on reading.0 reading.1 reading.2 reading.3) in
     sym (one.one_reading reading.0 reading.1 reading.2 (reading.2 ++ told) old new reading.3 again).1
 
 no_front : (xs ys : List ℕ) → IsFrontOf xs ys → ys ≡ [] → xs ≡ []
@@ -239,7 +240,7 @@ taken_both : (end : Option FetchEnd) (a b c : Heard) (xs ys : List ℕ) → AreT
     → AreTaken end (xs ++ ys) a c
 taken_both end a b c xs ys p q =
     let joined : (zs : List ℕ) → (b.bytes ++ ys) ++ zs ≡ (a.bytes ++ (xs ++ ys)) ++ zs =
-        λ zs. ap (λ ws. ws ++ zs) (ap (λ ws. ws ++ ys) (p.whole refl) ∙ append_assoc a.bytes xs ys) in record {
+    λ zs. ap (λ ws. ws ++ zs) (ap (λ ws. ws ++ ys) (p.whole refl) ∙ append_assoc a.bytes xs ys) in record {
       front = (q.front.0, q.front.1 ∙ joined q.front.0);
       whole = λ goes. q.whole goes ∙ (ap (λ ws. ws ++ ys) (p.whole refl) ∙ append_assoc a.bytes xs ys);
     }
@@ -265,7 +266,7 @@ unended_none : (old new : Listening) (bytes taken : List ℕ) (told : List Event
 unended_none old new bytes taken told reading unended on front none =
     let nothing : taken ≡ [] = no_front taken bytes front none in
     subst (λ (now : Listening). IsUnended now.talk.stage)
-        (sym (same_by_none old new told reading (subst (λ xs. ReadsOn old xs told new) nothing on))) unended
+    (sym (same_by_none old new told reading (subst (λ xs. ReadsOn old xs told new) nothing on))) unended
 
 turned_ok : (turn : Turn) (old new : Listening) (s0 s1 w0 w1 : Said) (h0 h1 : Heard)
     → Fetches (fetching old s0 w0) (fetching new s1 w1) h0 h1 turn → IsReading old → IsLinked old.talk.stage
@@ -275,7 +276,7 @@ turned_ok turn old new s0 s1 w0 w1 h0 h1 f reading linked =
     let took : Took w0 w1 (bytes_in (records_told d.told)) = subst (Took w0 w1) (told_bytes d.told) d.output in
     let some : ¬ (new.talk.stage ≡ Unlinked) = d.linked linked in
     let by : end_by (Ok turn) ≡ end_by (Ok (turn_after f.bytes new.talk.stage)) = ap (λ t. end_by (Ok t)) f.turn_is in
-        record {
+    record {
       bytes = d.takes.taken;
       taken = front_taken (end_by (Ok turn)) h0 h1 f.bytes d.takes.taken (ap (λ (h : Heard). h.bytes) f.heard)
           d.takes.front (λ goes. d.whole (goes_linked f.bytes new.talk.stage some (sym by ∙ goes)));
@@ -284,8 +285,8 @@ turned_ok turn old new s0 s1 w0 w1 h0 h1 f reading linked =
       took = all took;
       stands = subst (λ end. StandsBy end old new) (sym by)
           (stands_turn f.bytes new.talk.stage old new refl some
-              (unended_none old new f.bytes d.takes.taken d.told reading (linked_unended old.talk.stage linked)
-              d.takes.reads d.takes.front));
+          (unended_none old new f.bytes d.takes.taken d.told reading (linked_unended old.talk.stage linked)
+          d.takes.reads d.takes.front));
       failures = took.failures ∙ let none : failures_by (end_by (Ok turn)) ≡ 0 =
           ap failures_by by ∙ fine_turn f.bytes new.talk.stage in omega (arith, none);
     }
@@ -359,16 +360,18 @@ stands_on (Some Refused) a b c linked stands = stands
 stands_on (Some BadFeed) a b c linked stands = stands
 stands_on (Some WriteFailed) a b c linked stands = stands
 stands_on (Some LinkFailed) a b c linked stands =
-    elim stands [ inl now ↦ inl now
-        | inr same ↦ inl (subst (λ (now : Listening). IsUnended now.talk.stage) (sym same)
-        (linked_unended b.talk.stage linked)) ]
+    elim stands [
+      | inl now ↦ inl now
+      | inr same ↦ inl (subst (λ (now : Listening). IsUnended now.talk.stage) (sym same)
+          (linked_unended b.talk.stage linked))
+    ]
 
 -- one turn after another
 pub turned_both : (end : Option FetchEnd) (a b c : Listening) (h i j : Heard) (s t u : Said)
     → HasTurned None a b h i s t → HasTurned end b c i j t u → HasTurned end a c h j s u
 turned_both end a b c h i j s t u p q =
     let took : Took s t (bytes_in (records_told p.told)) =
-        all_taken (records_told p.told) s t p.took (p.failures ∙ omega arith) in record {
+    all_taken (records_told p.told) s t p.took (p.failures ∙ omega arith) in record {
       bytes = p.bytes ++ q.bytes;
       taken = taken_both end h i j p.bytes q.bytes p.taken q.taken;
       told = p.told ++ q.told;
@@ -422,8 +425,10 @@ stands_linked Refused old now new unended stands = stands
 stands_linked BadFeed old now new unended stands = stands
 stands_linked WriteFailed old now new unended stands = stands
 stands_linked LinkFailed old now new unended stands =
-    elim stands [ inl there ↦ inl there
-    | inr same ↦ inl (subst (λ (x : Listening). IsUnended x.talk.stage) (sym same) unended) ]
+    elim stands [
+      | inl there ↦ inl there
+      | inr same ↦ inl (subst (λ (x : Listening). IsUnended x.talk.stage) (sym same) unended)
+    ]
 
 -- a link, from its first byte on
 pub fetched_link : (end : FetchEnd) (old now new : Listening) (event : Event) (h i : Heard) (s t : Said)
@@ -431,10 +436,10 @@ pub fetched_link : (end : FetchEnd) (old now new : Listening) (event : Event) (h
     → HasFetched end old new s t
 fetched_link end old now new event h i s t says reads p =
     let linked : HasTold now.talk.wants new.talk.wants (records_told p.told) =
-        told_link now.talk p.bytes p.told new (p.reads now.talk [] [] reads) in
+    told_link now.talk p.bytes p.told new (p.reads now.talk [] [] reads) in
     let told : HasTold old.talk.wants new.talk.wants (records_told p.told) =
     subst (λ ws. HasTold ws new.talk.wants (records_told p.told)) (connected_wants old.talk now.talk event says)
-        linked in record {
+    linked in record {
       records = records_told p.told;
       told = told;
       moved = moved_by old.talk.wants new.talk.wants (records_told p.told) told;
@@ -484,7 +489,7 @@ pub fetched_both : (end : FetchEnd) (a b c : Listening) (s t u : Said) → HasFe
 fetched_both end a b c s t u p q =
     let took : Took s t (bytes_in p.records) = all_taken p.records s t p.took (p.failures ∙ omega arith) in
     let told : HasTold a.talk.wants c.talk.wants (p.records ++ q.records) =
-        told_both a.talk.wants b.talk.wants c.talk.wants p.records q.records p.told q.told in record {
+    told_both a.talk.wants b.talk.wants c.talk.wants p.records q.records p.told q.told in record {
       records = p.records ++ q.records;
       told = told;
       moved = moved_by a.talk.wants c.talk.wants (p.records ++ q.records) told;

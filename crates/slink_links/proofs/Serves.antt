@@ -1,21 +1,21 @@
 -- Turns of a session with its link, one after another.
 use Rattle.std.specs.Prelude.{⊤}
-use Rattle.std.proofs.Common.{◌≡◌, ◌⊎◌, inl, inr, ℕ, ◌+◌, ◌<◌, ◌^◌, Bool, true, false, nat_lt, not, if◌then◌else◌, List,
-    ◌++◌, append_assoc, Result, Ok, Err, refl, sym, ap, subst, ◌∙◌, arith}
+use Rattle.std.proofs.Common.{◌≡◌, ◌⊎◌, inl, inr, ℕ, ◌+◌, ◌<◌, ◌^◌, Bool, true, false, nat_lt, not, if◌then◌else◌, List}
+use Rattle.std.proofs.Common.{◌++◌, append_assoc, Result, Ok, Err, refl, sym, ap, subst, ◌∙◌, arith}
 use Rattle.std.proofs.lemmas.List.Elements.{All-append}
 use Rattle.std.specs.Result.{IsErrAnd, is_ok}
 use Rattle.mseed_stream.specs.Device.{Heard, Said, nothing_heard, nothing_said}
 use Rattle.mseed_stream.specs.Exchanges.{Exchange}
-use Rattle.slink_feed.specs.Attending.{Attends, IsServeFault, attending, is_closed, is_at_end, replies, at_send,
-    at_read, at_reply}
+use Rattle.slink_feed.specs.Attending.{Attends, IsServeFault, attending, is_closed, is_at_end, replies, at_send}
+use Rattle.slink_feed.specs.Attending.{at_read, at_reply}
 use Rattle.slink_feed.specs.Rounds.{Attending}
 use Rattle.slink_feed.specs.Serving.{Standing}
 use Rattle.slink_feed.specs.Window.{Window}
 use Rattle.slink_feed.specs.declared.dialogue.Event.{Event}
 use Rattle.slink_feed.specs.declared.turn.LinkFault.{LinkFault}
 use Rattle.slink_feed.specs.declared.turn.Turn.{Turn}
-use Rattle.slink_links.specs.Served.{HasServedEach, HasTakenAll, HasTakenTurns, IsFresh, IsServed, WasServed,
-    has_failed, none, more, to_the_end, for_long, to_a_fault}
+use Rattle.slink_links.specs.Served.{HasServedEach, HasTakenAll, HasTakenTurns, IsFresh, IsServed, WasServed}
+use Rattle.slink_links.specs.Served.{has_failed, none, more, to_the_end, for_long, to_a_fault}
 
 -- a session of its own has taken so many turns
 pub record IsServing (feed : List Window) (n : ℕ) (heard_old heard_now : Heard) (said_old said_now : Said)
@@ -44,8 +44,13 @@ fault_counted feed old new before after _ (at_send count fails same) =
 fault_counted feed old new before after _ (at_read goes failed) =
     omega (arith, goes.sends.said.failures, ap (λ (h : Heard). h.failures) failed)
 fault_counted feed old new before after _ (at_reply count now bytes goes told few fails size) =
-    omega (arith, goes.sends.said.failures, fails.replies.failures, fails.said.failures,
-        ap (λ (h : Heard). h.failures) told)
+    omega (
+      arith,
+      goes.sends.said.failures,
+      fails.replies.failures,
+      fails.said.failures,
+      ap (λ (h : Heard). h.failures) told,
+    )
 
 turns_fine : (feed : List Window) (first : Attending) (before : Heard) (n : ℕ) (now : Attending) (mid : Heard)
     → HasTakenTurns feed first before n now mid → failures_of mid now.said ≡ failures_of before first.said
@@ -77,8 +82,12 @@ pub failed_exactly : (feed : List Window) (result : Result ⊤ LinkFault) (h h' 
     → h ≡ nothing_heard → s ≡ nothing_said → IsServed feed result h h' s s' → is_fault result ≡ has_failed h' s'
 failed_exactly feed result h h' s s' unheard unsaid is =
     failed_by result (failures_of h' s')
-    (omega (arith, served_failures feed (attending is.first s) (attending is.last s') h h' result is.turns,
-        ap (λ (x : Heard). x.failures) unheard, ap (λ (x : Said). x.failures) unsaid))
+    (omega (
+      arith,
+      served_failures feed (attending is.first s) (attending is.last s') h h' result is.turns,
+      ap (λ (x : Heard). x.failures) unheard,
+      ap (λ (x : Said). x.failures) unsaid,
+    ))
 
 pub serving_none : (feed : List Window) (h : Heard) (s : Said) (first : Standing) → IsFresh first
     → IsServing feed 0 h h s s first
@@ -176,6 +185,7 @@ fails_more false false f0 f1 f2 l0 l1 l2 fine failed is e = omega (arith, failed
 pub fails_still : (was now result : Bool) (f0 f1 f2 l0 l1 l2 : ℕ) → (was ≡ true → (f1 ≡ f0) × (l1 ≡ l0))
     → (was ≡ false → f0 + l0 < f1 + l1) → now ≡ was → result ≡ true
     → (result ≡ true → (f2 ≡ f1) × (l2 ≡ l1)) → (now ≡ true → (f2 ≡ f0) × (l2 ≡ l0)) × (now ≡ false → f0 + l0 < f2 + l2)
-fails_still was now result f0 f1 f2 l0 l1 l2 fine failed same is kept =
-    ((λ yes. ((kept is).0 ∙ (fine (sym same ∙ yes)).0, (kept is).1 ∙ (fine (sym same ∙ yes)).1)),
-        (λ no. omega (arith, (kept is).0, (kept is).1, failed (sym same ∙ no))))
+fails_still was now result f0 f1 f2 l0 l1 l2 fine failed same is kept = (
+  (λ yes. ((kept is).0 ∙ (fine (sym same ∙ yes)).0, (kept is).1 ∙ (fine (sym same ∙ yes)).1)),
+  (λ no. omega (arith, (kept is).0, (kept is).1, failed (sym same ∙ no))),
+)

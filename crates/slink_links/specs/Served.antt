@@ -1,6 +1,6 @@
 -- How serving one connection after another ends.
-use Rattle.std.specs.Prelude.{⊤, ◌≡◌, ℕ, ◌+◌, ◌<◌, ◌^◌, nat_lt, Bool, List, [], ◌++◌, All, replicate, None, Result, Ok,
-    Err, codes}
+use Rattle.std.specs.Prelude.{⊤, ◌≡◌, ℕ, ◌+◌, ◌<◌, ◌^◌, nat_lt, Bool, List, [], ◌++◌, All, replicate, None, Result, Ok}
+use Rattle.std.specs.Prelude.{Err, codes}
 use Rattle.mseed_stream.specs.Device.{Heard, Said, nothing_heard, nothing_said}
 use Rattle.mseed_stream.specs.Exchanges.{Exchange}
 use Rattle.slink_wire.specs.Lines.{IsHeld}

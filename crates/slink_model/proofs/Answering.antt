@@ -1,6 +1,6 @@
 -- What a session makes of the lines that a client says.
-use Rattle.std.proofs.Common.{◌≡◌, ℕ, inl, inr, refl, sym, ap, subst, ◌∙◌, arith, List, [], ◌∷◌, ◌++◌, append-nil,
-    append_assoc, length, length-append}
+use Rattle.std.proofs.Common.{◌≡◌, ℕ, inl, inr, refl, sym, ap, subst, ◌∙◌, arith, List, [], ◌∷◌, ◌++◌, append-nil}
+use Rattle.std.proofs.Common.{append_assoc, length, length-append}
 use Rattle.slink_wire.specs.declared.lines.What.{What}
 use Rattle.slink_wire.specs.declared.lines.What.TheVariants.{More, Line, TooLong}
 use Rattle.slink_wire.specs.declared.reply.Reply.{Reply}
@@ -14,8 +14,8 @@ use Rattle.slink_feed.specs.Serving.{Answers, IsAnswer, Serves, Standing, none_s
 use Rattle.slink_feed.specs.Session.{State, answered}
 use Rattle.slink_feed.specs.Window.{Window}
 use Rattle.slink_wire.specs.Said.{said_bytes}
-use Rattle.slink_model.proofs.Lined.{IsAnswered, IsAsking, IsHeard, bytes_more, more_answered, more_asked, nothing,
-    the_line}
+use Rattle.slink_model.proofs.Lined.{IsAnswered, IsAsking, IsHeard, bytes_more, more_answered, more_asked, nothing}
+use Rattle.slink_model.proofs.Lined.{the_line}
 use Rattle.slink_model.proofs.Requested.{request_answered}
 use Rattle.slink_model.proofs.Shaking.{IsQuiet}
 use Rattle.slink_feed.proofs.Closing.{Open, open_or, nothing_behind, shut_on}
@@ -24,9 +24,9 @@ use Rattle.slink_feed.proofs.Closing.{Open, open_or, nothing_behind, shut_on}
 pub not_both : (line taken way : List ℕ) → IsAsking line taken way → IsAnswered taken way → ⊥
 not_both line taken way a b =
     let same : said_bytes a.before ≡ said_bytes (a.before ++ line ∷ []) = ap said_bytes (sym a.told ∙ b.told)
-        ∙ (sym b.said ∙ a.said) in
+    ∙ (sym b.said ∙ a.said) in
     let long : length (said_bytes a.before) ≡ length (said_bytes a.before ++ (line ++ 13 ∷ 10 ∷ [])) =
-        ap length (same ∙ bytes_more a.before line) in
+    ap length (same ∙ bytes_more a.before line) in
     omega (arith, long, length-append (said_bytes a.before) (line ++ 13 ∷ 10 ∷ []), length-append line (13 ∷ 10 ∷ []))
 
 module _ (feed : List Window) where
@@ -48,21 +48,25 @@ module _ (feed : List Window) where
       → Serves feed s bytes way last all → Open s.state.phase → IsHeld s.held taken → IsAnswered taken (bytes ++ rest)
       → IsOn s last way all (taken ++ bytes) rest
   quiet_on s bytes way last all rest taken (none_served u w) awake held told =
-      record { state = refl; sent = refl; held = subst (IsHeld u.held) (sym (append-nil taken)) held;
-      told = subst (λ b. IsAnswered b rest) (sym (append-nil taken)) told }
+      record {
+        state = refl;
+        sent = refl;
+        held = subst (IsHeld u.held) (sym (append-nil taken)) held;
+        told = subst (λ b. IsAnswered b rest) (sym (append-nil taken)) told;
+      }
   quiet_on s bytes way last all rest taken (piece_served u now v bs piece others w sent reply split takes more) awake
       held told =
       let answer : Answers feed u.state taken (taken ++ piece) now.state reply = takes.answers taken awake held in
       let on : (answer.0 ≡ More) × IsAnswered (taken ++ piece) (others ++ rest) =
-          more_answered taken piece (others ++ rest) answer.0
-          (subst (IsAnswered taken) (ap (λ b. b ++ rest) split ∙ append_assoc piece others rest) told) answer.1 in
+      more_answered taken piece (others ++ rest) answer.0
+      (subst (IsAnswered taken) (ap (λ b. b ++ rest) split ∙ append_assoc piece others rest) told) answer.1 in
       let same : (now.state ≡ u.state) × (reply ≡ replies.Nothing) =
-          told_more u.state now.state reply answer.0 on.0 answer.2 in
+      told_more u.state now.state reply answer.0 on.0 answer.2 in
       let after : IsOn now v (w ++ reply_bytes reply) sent ((taken ++ piece) ++ others) rest =
-          quiet_on now others (w ++ reply_bytes reply) v sent rest (taken ++ piece) more
-          (subst (λ (x : State). Open x.phase) (sym same.0) awake) (takes.held taken awake held) on.1 in
+      quiet_on now others (w ++ reply_bytes reply) v sent rest (taken ++ piece) more
+      (subst (λ (x : State). Open x.phase) (sym same.0) awake) (takes.held taken awake held) on.1 in
       let all_taken : (taken ++ piece) ++ others ≡ taken ++ bs = append_assoc taken piece others
-          ∙ ap (λ b. taken ++ b) (sym split) in
+      ∙ ap (λ b. taken ++ b) (sym split) in
       record {
         state = after.state ∙ same.0;
         sent = after.sent ∙ nothing_behind w reply same.1;
@@ -75,10 +79,10 @@ module _ (feed : List Window) where
       → Serves feed s bytes way last all → IsQuiet s (bytes ++ rest) → IsQuiet last rest
   stays_quiet s bytes way last all rest serves q = elim (open_or s.state.phase) [
     | inl shut ↦ let same : (last ≡ s) × (all ≡ way) = shut_on feed s bytes way last all serves shut in
-    (q.0, λ awake. absurd (awake (ap (λ (x : Standing). x.state.phase) same.0 ∙ shut)))
+        (q.0, λ awake. absurd (awake (ap (λ (x : Standing). x.state.phase) same.0 ∙ shut)))
     | inr awake ↦ let on : IsOn s last way all (q.0 ++ bytes) rest =
-    quiet_on s bytes way last all rest q.0 serves awake (q.1 awake).0 (q.1 awake).1 in
-    (q.0 ++ bytes, λ _. (on.held, on.told))
+        quiet_on s bytes way last all rest q.0 serves awake (q.1 awake).0 (q.1 awake).1 in
+        (q.0 ++ bytes, λ _. (on.held, on.told))
   ]
 
   -- a request whose line isn't told yet, where the session stands so
@@ -93,7 +97,7 @@ module _ (feed : List Window) where
   module _ (s : State) (request : Request) (awake : Open s.phase)
       (known : IsCommand (request_line request) (requested request))
       (stays_open : (new : State) (reply : Reply) → answered feed s (requested request) ≡ (new, reply)
-          → Open new.phase) where
+      → Open new.phase) where
     abbrev line : List ℕ
     line = request_line request
 
@@ -116,12 +120,12 @@ module _ (feed : List Window) where
         subst (λ b. Comes last b all ((taken ++ piece) ++ others) rest) (nothing_behind way reply is.1) (next asks is.0)
     piece_on now last taken piece others rest way all reply (Line l) held is (the_line items same told) more next =
         let it : answered feed s (requested request) ≡ (now.state, reply) =
-            request_answered feed s now.state items request reply same known is in
+        request_answered feed s now.state items request reply same known is in
         let after : IsOn now last (way ++ reply_bytes reply) all ((taken ++ piece) ++ others) rest =
-            quiet_on now others (way ++ reply_bytes reply) last all rest (taken ++ piece) more
-            (stays_open now.state reply it) held told in
+        quiet_on now others (way ++ reply_bytes reply) last all rest (taken ++ piece) more
+        (stays_open now.state reply it) held told in
         it_came reply after.sent (subst (λ (x : State). answered feed s (requested request) ≡ (x, reply))
-            (sym after.state) it) after.held after.told
+        (sym after.state) it) after.held after.told
     piece_on now last taken piece others rest way all reply TooLong held is heard more next = elim heard [ ]
 
     pub asked_on : (u : Standing) (bytes way : List ℕ) (last : Standing) (all rest taken : List ℕ)
@@ -135,12 +139,12 @@ module _ (feed : List Window) where
         let still : Open u'.state.phase = subst (λ (x : State). Open x.phase) (sym same) awake in
         let answer : Answers feed u'.state taken (taken ++ piece) now.state reply = takes.answers taken still held in
         let heard : IsHeard line (taken ++ piece) (others ++ rest) answer.0 =
-            more_asked line taken piece (others ++ rest) answer.0
-            (subst (IsAsking line taken) (ap (λ b. b ++ rest) split ∙ append_assoc piece others rest) asks) answer.1 in
+        more_asked line taken piece (others ++ rest) answer.0
+        (subst (IsAsking line taken) (ap (λ b. b ++ rest) split ∙ append_assoc piece others rest) asks) answer.1 in
         let all_taken : (taken ++ piece) ++ others ≡ taken ++ bs = append_assoc taken piece others
-            ∙ ap (λ b. taken ++ b) (sym split) in
+        ∙ ap (λ b. taken ++ b) (sym split) in
         subst (λ b. Comes v w sent b rest) all_taken (piece_on now v taken piece others rest w sent reply answer.0
-            (takes.held taken still held) (subst (λ (x : State). IsAnswer feed x answer.0 now.state reply) same
-            answer.2) heard more
+        (takes.held taken still held) (subst (λ (x : State). IsAnswer feed x answer.0 now.state reply) same
+        answer.2) heard more
         (λ asked now_same. asked_on now others (w ++ reply_bytes reply) v sent rest (taken ++ piece) more now_same
-            (takes.held taken still held) asked))
+        (takes.held taken still held) asked))

@@ -1,6 +1,6 @@
 -- In fewer than 2^24 steps fewer than 2^24 records are lacking.
-use Rattle.std.proofs.Common.{◌≡◌, ℕ, ◌+◌, ◌^◌, ◌<◌, ◌≤◌, inl, inr, sym, ap, subst, arith, zero, suc, List, [], ◌∷◌,
-    ◌++◌, length, length-append, get_or, Option, Some, None, slice_get, length-set}
+use Rattle.std.proofs.Common.{◌≡◌, ℕ, ◌+◌, ◌^◌, ◌<◌, ◌≤◌, inl, inr, sym, ap, subst, arith, zero, suc, List, [], ◌∷◌}
+use Rattle.std.proofs.Common.{◌++◌, length, length-append, get_or, Option, Some, None, slice_get, length-set}
 use Rattle.std.proofs.lemmas.List.{get_or_past}
 use Rattle.std.proofs.lemmas.Bool.{cases_lt}
 use Rattle.slink_model.specs.declared.world.Setup.{Setup}
@@ -10,8 +10,8 @@ use Rattle.slink_feed.specs.Dialogue.{next_at}
 use Rattle.slink_model.specs.Stretch.{HoldsStretches, IsSchedule, LackFew, LacksFew}
 use Rattle.slink_model.specs.Ties.{Holds, Places, WorldTies}
 use Rattle.slink_feed.specs.Window.{Window}
-use Rattle.slink_model.specs.World.{AllHappen, Differ, Happens, Lists, Numbers, WorldState, number_at, opening,
-    pushed_to, with_one}
+use Rattle.slink_model.specs.World.{AllHappen, Differ, Happens, Lists, Numbers, WorldState, number_at, opening}
+use Rattle.slink_model.specs.World.{pushed_to, with_one}
 use Rattle.slink_feed.proofs.Items.{same_or_not, set_here, set_there}
 use Rattle.slink_model.proofs.Worlds.{AreOf, each_of, nothing_at, opening_ties, step_ties, stretch_held}
 
@@ -30,13 +30,13 @@ one_more lists k i b = elim (same_or_not i k) [
   | inl e ↦ elim (cases_lt k (length lists)) [
     | inl lt ↦ subst (λ j. length (get_or (with_one lists k b) j []) ≤ length (get_or lists j []) + 1) (sym e)
         (let l : length (get_or (with_one lists k b) k []) ≡ length (get_or lists k [] ++ b ∷ []) = ap length
-            (set_here lists k (get_or lists k [] ++ b ∷ []) [] lt) in
-            omega (arith, l, length-append (get_or lists k []) (b ∷ [])))
+        (set_here lists k (get_or lists k [] ++ b ∷ []) [] lt) in
+        omega (arith, l, length-append (get_or lists k []) (b ∷ [])))
     | inr past ↦ let l : length (get_or (with_one lists k b) i []) ≡ 0 = ap length (past_all lists k i b e past) in
-    omega (arith, l)
+        omega (arith, l)
   ]
   | inr ne ↦ let l : length (get_or (with_one lists k b) i []) ≡ length (get_or lists i []) =
-  ap length (set_there lists k i (get_or lists k [] ++ b ∷ []) [] ne) in omega (arith, l)
+      ap length (set_there lists k i (get_or lists k [] ++ b ∷ []) [] ne) in omega (arith, l)
 ]
 
 pushed_one : (w : WorldState) (k i : ℕ) (b : List ℕ) (o : Option Window)
@@ -68,9 +68,9 @@ lacks_few : (places : Places) (first : ℕ) (w : WorldState) → WorldTies place
 lacks_few places first w t short k s is =
     let lt : k < length places = omega (arith, no_number w.start k s is, t.long.3) in
     let from : first ≤ s = started_behind first s (get_or w.pushed k []) (next_at w.client.talk.wants k)
-        (get_or w.held k [])
+    (get_or w.held k [])
     (subst (Holds first (get_or w.pushed k []) (next_at w.client.talk.wants k) (get_or w.held k [])) is
-        (t.holds k lt)) in
+    (t.holds k lt)) in
     omega (arith, from, short k)
 
 lack_few : (places : Places) (first : ℕ) (steps : List Step) (w v : WorldState) (run : AllHappen w steps v)
@@ -90,9 +90,9 @@ pub brief_lacks : (setup : Setup) (steps : List Step) (now : WorldState) (run : 
     → IsSchedule setup steps → length steps < 2 ^ 24 → LackFew setup.first (opening setup) steps now run
 brief_lacks setup steps now run is brief =
     lack_few setup.places.items setup.first steps (opening setup) now run is.few_places is.differ
-        (each_of setup.places.items steps is.of_places is.sound) (opening_ties setup is.capacity)
+    (each_of setup.places.items steps is.of_places is.sound) (opening_ties setup is.capacity)
     (λ i. let none : length (get_or (opening setup).pushed i []) ≡ 0 = ap length (nothing_at setup.places.items i) in
-        omega (arith, none, brief))
+    omega (arith, none, brief))
 
 pub brief_held : (setup : Setup) (steps : List Step) (now : WorldState) → AllHappen (opening setup) steps now
     → IsSchedule setup steps → length steps < 2 ^ 24 → HoldsStretches setup.places.items setup.first now

@@ -1,6 +1,6 @@
 -- A client that says the number which it wants next is answered by that number.
-use Rattle.std.proofs.Common.{◌≡◌, ◌≢◌, ℕ, ◌<◌, ◌⊎◌, inl, inr, refl, sym, ap, subst, ◌∙◌, arith, List, [], ◌∷◌, ◌++◌,
-    length, set, take, drop, take-append-drop, Option, Some, None, slice_get}
+use Rattle.std.proofs.Common.{◌≡◌, ◌≢◌, ℕ, ◌<◌, ◌⊎◌, inl, inr, refl, sym, ap, subst, ◌∙◌, arith, List, [], ◌∷◌, ◌++◌}
+use Rattle.std.proofs.Common.{length, set, take, drop, take-append-drop, Option, Some, None, slice_get}
 use Rattle.std.specs.Option.{option_and_then}
 use Rattle.slink_wire.specs.declared.reply.Reply.{Reply}
 use Rattle.slink_wire.specs.declared.reply.Reply.TheVariants as replies
@@ -39,8 +39,9 @@ use Rattle.slink_feed.proofs.Items.{put_there, same_or_not}
 use Rattle.slink_model.proofs.Lined.{IsAnswered, IsAsking}
 use Rattle.slink_model.proofs.Requested.{end_command, number_command, station_command}
 use Rattle.slink_model.proofs.Resumed.{resume_granted}
-use Rattle.slink_model.proofs.Shaking.{IsReadyFor, LinkTalks, Shakes, asked_place, asks_end, asks_number, asks_place,
-    has_none, has_number, has_place, in_phase, is_short, number_granted, place_chosen, streams}
+use Rattle.slink_model.proofs.Shaking.{IsReadyFor, LinkTalks, Shakes, asked_place, asks_end, asks_number, asks_place}
+use Rattle.slink_model.proofs.Shaking.{has_none, has_number, has_place, in_phase, is_short, number_granted}
+use Rattle.slink_model.proofs.Shaking.{place_chosen, streams}
 use Rattle.slink_model.proofs.Sparing.{IsTalking, WorldTalks, talks_after}
 
 stage_number : (j k : ℕ) (s : Stage) → s ≡ Number j → s ≡ Number k → j ≡ k
@@ -60,18 +61,18 @@ module _ (feed : List Window) where
   grants_on s bytes way last all taken (none_served u w) over held = refl
   grants_on s bytes way last all taken (piece_served u now v bs piece others w sent reply split takes more) over held =
       elim (open_or u.state.phase) [
-    | inl shut ↦ let same : (reply ≡ replies.Nothing) × (now ≡ u) = takes.closed shut in
-        grants_on now others (w ++ reply_bytes reply) v sent taken more
+        | inl shut ↦ let same : (reply ≡ replies.Nothing) × (now ≡ u) = takes.closed shut in
+            grants_on now others (w ++ reply_bytes reply) v sent taken more
             (subst (λ (x : Standing). ¬ (IsBefore x.state.phase)) (sym same.1) over)
             (subst (λ (x : Standing). Open x.state.phase → IsHeld x.held taken) (sym same.1) held)
             ∙ ap (λ (x : Standing). x.state.grants) same.1
-    | inr awake ↦ let answer : Answers feed u.state taken (taken ++ piece) now.state reply =
-    takes.answers taken awake (held awake) in
-        let l : (now.state.grants ≡ u.state.grants) × (reply ≡ replies.Nothing) × ¬ (IsBefore now.state.phase) =
+        | inr awake ↦ let answer : Answers feed u.state taken (taken ++ piece) now.state reply =
+            takes.answers taken awake (held awake) in
+            let l : (now.state.grants ≡ u.state.grants) × (reply ≡ replies.Nothing) × ¬ (IsBefore now.state.phase) =
             after u.state.phase u.state now.state reply over (leaves feed u.state answer.0 now.state reply answer.2) in
-        grants_on now others (w ++ reply_bytes reply) v sent (taken ++ piece) more l.2
+            grants_on now others (w ++ reply_bytes reply) v sent (taken ++ piece) more l.2
             (λ _. takes.held taken awake (held awake)) ∙ l.0
-  ]
+      ]
     where
       after : (p : Phase) (x new : State) (reply : Reply) → ¬ (IsBefore p) → Leaves p feed x (new, reply)
           → (new.grants ≡ x.grants) × (reply ≡ replies.Nothing) × ¬ (IsBefore new.phase)
@@ -89,9 +90,10 @@ ready_for_open k phase (inr behind) = open_at phase (Granted behind.0) behind.2 
 pub chosen_open : (s new : State) (reply : Reply) (k : ℕ) → chosen (Some k) s ≡ (new, reply)
     → (new.grants ≡ set s.grants k None) × Open new.phase
 chosen_open s new reply k is =
-    let state : new ≡ at (Chosen k) (set s.grants k None) = sym (ap (λ (x : State × Reply). x.0) is) in
-    (ap (λ (x : State). x.grants) state,
-        subst (λ (x : State). Open x.phase) (sym state) (λ e. let bad : Chosen k ≡ Closed = e in cc bad))
+    let state : new ≡ at (Chosen k) (set s.grants k None) = sym (ap (λ (x : State × Reply). x.0) is) in (
+      ap (λ (x : State). x.grants) state,
+      subst (λ (x : State). Open x.phase) (sym state) (λ e. let bad : Chosen k ≡ Closed = e in cc bad),
+    )
 
 pub granted_open : (s new : State) (reply : Reply) (k : ℕ) (mode : Mode) (o : Option ℕ) → s.phase ≡ Chosen k
     → granted mode k o s ≡ (new, reply) → Open new.phase
@@ -111,7 +113,7 @@ dropped_there : (grants new : Grants) (k i : ℕ) (g : Grant) → new ≡ set gr
     → grant_at grants i ≡ Some g
 dropped_there grants new k i g is here = elim (grant_set grants k i None) [
   | inl at_k ↦ absurd (let bad : None ≡ Some g = sym at_k.1 ∙ (ap (λ (gs : Grants). grant_at gs i) (sym is) ∙ here) in
-  cc bad)
+      cc bad)
   | inr there ↦ sym there ∙ (ap (λ (gs : Grants). grant_at gs i) (sym is) ∙ here)
 ]
 
@@ -145,7 +147,7 @@ module _ (places : Places) (differ : Differ places) (codes : (k : ℕ) (p : Fiel
     stays_open = λ new reply is. granted_open l.session.state new reply k mode
         (option_and_then (grant_of mode (number k)) (slice_get w.windows k)) phase
         (number_granted places differ codes w.client t.asked w.windows t.ringed l.session.state new reply k mode
-            (number k) phase is);
+        (number k) phase is);
     asks = asks;
   }
 
@@ -155,8 +157,8 @@ module _ (places : Places) (differ : Differ places) (codes : (k : ℕ) (p : Fiel
       → IsPending w.windows l.session.state taken l.to_server
   pending_place k v taken want ready asks =
       let at_k : (IsField 5 v.place.station × IsField 2 v.place.network)
-          × (station_at w.windows v.place.station (Some v.place.network) ≡ Some k) =
-          asked_place places differ codes w.client t.asked w.windows t.ringed k v want in
+      × (station_at w.windows v.place.station (Some v.place.network) ≡ Some k) =
+      asked_place places differ codes w.client t.asked w.windows t.ringed k v want in
       record {
         request = requests.Station v.place;
         awake = ready_for_open k l.session.state.phase ready;
@@ -174,8 +176,8 @@ module _ (places : Places) (differ : Differ places) (codes : (k : ℕ) (p : Fiel
       → new ≡ at Streaming l.session.state.grants
   end_streams new reply k phase is =
       let done : ◌≡◌ {A = State × Reply} (at Streaming l.session.state.grants, replies.Nothing) (new, reply) =
-          in_phase places differ codes w.client t.asked w.windows t.ringed (Granted k) l.session.state new reply
-          requests.End phase is in
+      in_phase places differ codes w.client t.asked w.windows t.ringed (Granted k) l.session.state new reply
+      requests.End phase is in
       sym (ap (λ (x : State × Reply). x.0) done)
 
   abbrev pending_end : (k : ℕ) (taken : List ℕ) → l.session.state.phase ≡ Granted k
@@ -239,11 +241,16 @@ module _ (places : Places) (differ : Differ places) (codes : (k : ℕ) (p : Fiel
       l.to_server → NumberComes k
   number_comes k taken phase held asks =
       elim (request_comes taken (pending_number places differ codes w t l k taken phase asks) held) [
-    | inl still ↦ inl still
-    | inr done ↦ inr (done.0, done.1, number_granted places differ codes w.client t.asked w.windows t.ringed
-    l.session.state m.session.state done.0 k (mode places differ codes w t l) (number places differ codes w t l k)
-    phase done.2)
-  ]
+        | inl still ↦ inl still
+        | inr done ↦ inr (
+          done.0,
+          done.1,
+          number_granted places differ codes w.client t.asked w.windows t.ringed
+              l.session.state m.session.state done.0 k (mode places differ codes w t l)
+              (number places differ codes w t l k)
+              phase done.2,
+        )
+      ]
 
   place_comes : (k : ℕ) (v : Wanted) (taken : List ℕ) → want_at w.client.talk.wants k ≡ Some v
       → IsReadyFor k l.session.state.phase → (Open l.session.state.phase → IsHeld l.session.held taken)
@@ -251,13 +258,14 @@ module _ (places : Places) (differ : Differ places) (codes : (k : ℕ) (p : Fiel
       → (m.session.state.grants ≡ l.session.state.grants) ⊎ (m.session.state.grants ≡ set l.session.state.grants k None)
   place_comes k v taken want ready held asks =
       let at_k : (IsField 5 v.place.station × IsField 2 v.place.network)
-          × (station_at w.windows v.place.station (Some v.place.network) ≡ Some k) =
-          asked_place places differ codes w.client t.asked w.windows t.ringed k v want in
+      × (station_at w.windows v.place.station (Some v.place.network) ≡ Some k) =
+      asked_place places differ codes w.client t.asked w.windows t.ringed k v want in
       elim (request_comes taken (pending_place places differ codes w t l k v taken want ready asks) held) [
         | inl still ↦ inl (ap (λ (s : State). s.grants) still.0)
         | inr done ↦ inr (chosen_open l.session.state m.session.state done.0 k
-        (place_chosen places differ codes w.client t.asked w.windows t.ringed l.session.state m.session.state done.0 k
-        v ready at_k.1 done.2)).0
+            (place_chosen places differ codes w.client t.asked w.windows t.ringed l.session.state m.session.state
+            done.0 k
+            v ready at_k.1 done.2)).0
       ]
 
   end_comes : (k : ℕ) (taken : List ℕ) → l.session.state.phase ≡ Granted k
@@ -265,10 +273,10 @@ module _ (places : Places) (differ : Differ places) (codes : (k : ℕ) (p : Fiel
       → IsAsking (request_line requests.End) taken l.to_server → m.session.state.grants ≡ l.session.state.grants
   end_comes k taken phase held asks =
       elim (request_comes taken (pending_end places differ codes w t l k taken phase asks) held) [
-    | inl still ↦ ap (λ (s : State). s.grants) still.0
-    | inr done ↦ ap (λ (s : State). s.grants) (end_streams places differ codes w t l m.session.state done.0 k phase
-    done.2)
-  ]
+        | inl still ↦ ap (λ (s : State). s.grants) still.0
+        | inr done ↦ ap (λ (s : State). s.grants) (end_streams places differ codes w t l m.session.state done.0 k phase
+            done.2)
+      ]
 
   told_comes : (p : Phase) (taken : List ℕ) → l.session.state.phase ≡ p → IsBefore p
       → (Open l.session.state.phase → IsHeld l.session.held taken) → IsAnswered taken l.to_server
@@ -276,7 +284,7 @@ module _ (places : Places) (differ : Differ places) (codes : (k : ℕ) (p : Fiel
   told_comes p taken phase before held told =
       let awake : Open l.session.state.phase = open_at l.session.state.phase p phase before in
       ap (λ (s : State). s.grants) (quiet_on w.windows l.session (take n l.to_server) l.to_client m.session m.to_client
-          (drop n l.to_server) taken served.serves awake (held awake) (subst (IsAnswered taken) all_bytes told)).state
+      (drop n l.to_server) taken served.serves awake (held awake) (subst (IsAnswered taken) all_bytes told)).state
 
   -- by the number that is wanted, where the line is taken
   by_number : (k : ℕ) (reply : Reply) → l.to_client ≡ [] → m.to_client ≡ l.to_client ++ reply_bytes reply
@@ -328,11 +336,13 @@ module _ (places : Places) (differ : Differ places) (codes : (k : ℕ) (p : Fiel
       → Had k g
   number_had j k g awaits here (inl still) = had k g (ap (λ (s : State). s.grants) still.0) here
   number_had j k g awaits here (inr done) = elim (same_or_not k j) [
-    | inl e ↦ inr (subst (λ i. Awaits w l i × IsAnsweredBy w i l m) (sym e) (awaits,
-    by_number j done.0 (empty_right w.client.kept l.to_client awaits.1) done.1 done.2))
+    | inl e ↦ inr (subst (λ i. Awaits w l i × IsAnsweredBy w i l m) (sym e) (
+      awaits,
+      by_number j done.0 (empty_right w.client.kept l.to_client awaits.1) done.1 done.2,
+    ))
     | inr ne ↦ inl (sym (granted_there l.session.state m.session.state done.0 j k (mode places differ codes w t l)
-    (option_and_then (grant_of (mode places differ codes w t l) (number places differ codes w t l j))
-    (slice_get w.windows j)) ne done.2) ∙ here)
+        (option_and_then (grant_of (mode places differ codes w t l) (number places differ codes w t l j))
+        (slice_get w.windows j)) ne done.2) ∙ here)
   ]
 
   only_so : (k : ℕ) (g : Grant) (taken : List ℕ) (items : List Item) → grant_at m.session.state.grants k ≡ Some g
@@ -340,9 +350,9 @@ module _ (places : Places) (differ : Differ places) (codes : (k : ℕ) (p : Fiel
       → Shakes w.client.talk l.session.state.phase taken l.to_server items → Had k g
   only_so k g taken items here flow held (asks_place j v stage want ready asks none) =
       elim (place_comes j v taken want ready held asks) [
-    | inl same ↦ had k g same here
-    | inr dropped ↦ inl (dropped_there l.session.state.grants m.session.state.grants j k g dropped here)
-  ]
+        | inl same ↦ had k g same here
+        | inr dropped ↦ inl (dropped_there l.session.state.grants m.session.state.grants j k g dropped here)
+      ]
   only_so k g taken items here flow held (has_place j stage phase told one) =
       had k g (told_comes (Chosen j) taken phase tt held told) here
   only_so k g taken items here flow held (asks_number j stage phase asks none) =
@@ -375,5 +385,5 @@ module _ (setup : Setup) (steps : List Step) (now : WorldState) (run : AllHappen
       let t : WorldTalks setup.places.items is.differ askable.codes now = talks_after setup steps now run is askable in
       are_answered setup.places.items is.differ askable.codes now t (resume_granted setup steps now run is lacks) n l m
       (subst (λ (o : Option LinkState). Both (IsServed now.windows n) o (Some m)) was
-          (subst (Both (IsServed now.windows n) now.link) becomes happens.1))
+      (subst (Both (IsServed now.windows n) now.link) becomes happens.1))
       (subst (IsTalking setup.places.items is.differ askable.codes now.client) was t.link)

@@ -1,11 +1,11 @@
 -- What answers leave of the grants of a session.
-use Rattle.std.proofs.Common.{◌≡◌, ℕ, ◌+◌, ◌-◌, ◌≤◌, ◌⊎◌, inl, inr, zero, suc, refl, sym, ap, subst, ◌∙◌, arith, List,
-    [], ◌∷◌, set, Option, Some, None, slice_get, if◌then◌else◌}
+use Rattle.std.proofs.Common.{◌≡◌, ℕ, ◌+◌, ◌-◌, ◌≤◌, ◌⊎◌, inl, inr, zero, suc, refl, sym, ap, subst, ◌∙◌, arith, List}
+use Rattle.std.proofs.Common.{[], ◌∷◌, set, Option, Some, None, slice_get, if◌then◌else◌}
 use Rattle.std.proofs.lemmas.Bool.Decides.{leb_tells}
 use Rattle.std.specs.Option.{option_and_then}
 use Rattle.slink_wire.specs.declared.command.Command.{Command}
-use Rattle.slink_wire.specs.declared.command.Command.TheVariants.{Hello, Station, SelectAll, Data, Fetch, End, Bye,
-    Other}
+use Rattle.slink_wire.specs.declared.command.Command.TheVariants.{Hello, Station, SelectAll, Data, Fetch, End, Bye}
+use Rattle.slink_wire.specs.declared.command.Command.TheVariants.{Other}
 use Rattle.slink_wire.specs.declared.lines.What.{What}
 use Rattle.slink_wire.specs.declared.lines.What.TheVariants.{More, Line, TooLong}
 use Rattle.slink_wire.specs.declared.reply.Reply.{Reply}
@@ -18,8 +18,8 @@ use Rattle.slink_feed.specs.declared.session.Phase.TheVariants.{Fresh, Chosen, G
 use Rattle.slink_feed.specs.Grant.{grant_of}
 use Rattle.slink_feed.specs.Rings.{station_at}
 use Rattle.slink_feed.specs.Serving.{IsAnswer}
-use Rattle.slink_feed.specs.Session.{Grants, IsBefore, State, answered_in, asked, at, chosen, grant_at, granted,
-    in_chosen, in_fresh, in_granted, in_streaming, reply_at_next}
+use Rattle.slink_feed.specs.Session.{Grants, IsBefore, State, answered_in, asked, at, chosen, grant_at, granted}
+use Rattle.slink_feed.specs.Session.{in_chosen, in_fresh, in_granted, in_streaming, reply_at_next}
 use Rattle.slink_model.specs.Ties.{IsGranted, Leaves, dropped, given, same}
 use Rattle.slink_feed.specs.Window.{Window, ahead_of, oldest_of, resolve_of}
 
@@ -29,11 +29,11 @@ some_is p q e = cc e
 resolved_at : (w : Window) (seq p : ℕ) → resolve_of w seq ≡ Some p → (oldest_of w ≤ p) × (p ≤ w.next)
 resolved_at w seq p e = elim (leb_tells (ahead_of w seq) (w.next - oldest_of w)) [
   | inl passes ↦ let at : oldest_of w + ahead_of w seq ≡ p =
-  some_is (oldest_of w + ahead_of w seq) p
-  (sym (ap (λ t. if t then Some (oldest_of w + ahead_of w seq) else None) passes.0) ∙ e) in
+      some_is (oldest_of w + ahead_of w seq) p
+      (sym (ap (λ t. if t then Some (oldest_of w + ahead_of w seq) else None) passes.0) ∙ e) in
       (omega (arith, at), omega (arith, at, passes.1))
   | inr fails ↦ absurd (let bad : None ≡ Some p = sym
-  (ap (λ t. if t then Some (oldest_of w + ahead_of w seq) else None) fails.0) ∙ e in cc bad)
+      (ap (λ t. if t then Some (oldest_of w + ahead_of w seq) else None) fails.0) ∙ e in cc bad)
 ]
 
 granted_at : (mode : Mode) (number : Option ℕ) (w : Window) (p : ℕ) → grant_of mode number w ≡ Some p
@@ -70,7 +70,7 @@ module _ (feed : List Window) (s : State) where
   give mode j w None here within k = same refl
   give mode j w (Some p) here within k = elim (grant_set s.grants j k (Some (record { mode = mode; position = p }))) [
     | inl at ↦ given (record { mode = mode; position = p }) w at.1
-    (subst (λ i. slice_get feed i ≡ Some w) (sym at.0) here) (within p refl).0 (within p refl).1
+        (subst (λ i. slice_get feed i ≡ Some w) (sym at.0) here) (within p refl).0 (within p refl).1
     | inr there ↦ same there
   ]
 

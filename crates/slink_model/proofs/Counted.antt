@@ -1,6 +1,7 @@
 -- What a client hears of items, by how many bytes of them it took.
-use Rattle.std.proofs.Common.{◌≡◌, ◌≢◌, ℕ, ◌+◌, ◌-◌, ◌%◌, ◌^◌, ◌<◌, inl, inr, refl, sym, ap, subst, ◌∙◌, arith, List,
-    [], ◌∷◌, ◌++◌, length, length-drop, map, set, take, drop, take-append-drop, codes, Option, Some, None, slice_get}
+use Rattle.std.proofs.Common.{◌≡◌, ◌≢◌, ℕ, ◌+◌, ◌-◌, ◌%◌, ◌^◌, ◌<◌, inl, inr, refl, sym, ap, subst, ◌∙◌, arith, List}
+use Rattle.std.proofs.Common.{[], ◌∷◌, ◌++◌, length, length-drop, map, set, take, drop, take-append-drop, codes, Option}
+use Rattle.std.proofs.Common.{Some, None, slice_get}
 use Rattle.std.specs.Option.{option_and_then}
 use Rattle.std.proofs.lemmas.List.{take-append-le}
 use Rattle.slink_wire.specs.declared.request.Request.{Request}
@@ -16,15 +17,15 @@ use Rattle.slink_feed.specs.declared.dialogue.Stage.TheVariants.{Station, Number
 use Rattle.slink_feed.specs.declared.dialogue.Wanted.{Wanted}
 use Rattle.slink_feed.specs.declared.session.Phase.{Phase}
 use Rattle.slink_feed.specs.declared.session.Phase.TheVariants.{Granted, Chosen, Closed}
-use Rattle.slink_model.specs.Counted.{Gained, behind, events_upon, on_item, part, talk_upon, wholes, with_event,
-    with_events}
+use Rattle.slink_model.specs.Counted.{Gained, behind, events_upon, on_item, part, talk_upon, wholes, with_event}
+use Rattle.slink_model.specs.Counted.{with_events}
 use Rattle.slink_feed.specs.Cutting.{IsBegun, IsWhole}
-use Rattle.slink_feed.specs.Dialogue.{Talk, Wants, Reply, Packet, End, at_packet, bearer, ended, heard, heard_at,
-    next_at, next_set, numbered, says, to_place, told, want_at, with_next}
+use Rattle.slink_feed.specs.Dialogue.{Talk, Wants, Reply, Packet, End, at_packet, bearer, ended, heard, heard_at}
+use Rattle.slink_feed.specs.Dialogue.{next_at, next_set, numbered, says, to_place, told, want_at, with_next}
 use Rattle.slink_feed.specs.Listening.{AreBrought, IsLinked, events_of, talk_after, telling}
 use Rattle.slink_feed.specs.Session.{Grants, State, grant_at}
-use Rattle.slink_model.specs.Ties.{Item, Accepted, Refused, Greeted, Carried, Finished, Places, item_bytes, of_place,
-    way_bytes}
+use Rattle.slink_model.specs.Ties.{Item, Accepted, Refused, Greeted, Carried, Finished, Places, item_bytes, of_place}
+use Rattle.slink_model.specs.Ties.{way_bytes}
 use Rattle.slink_model.specs.World.{Differ, Numbers}
 use Rattle.slink_feed.proofs.Closing.{Open}
 use Rattle.slink_model.proofs.Calling.{open_at}
@@ -40,10 +41,10 @@ use Rattle.slink_model.proofs.OneWorld.{told_events}
 use Rattle.slink_model.proofs.Outcomes.{packet_length}
 use Rattle.slink_wire.proofs.RequestLines.{end_line, station_line}
 use Rattle.slink_model.proofs.Requested.{also_at, number_line}
-use Rattle.slink_model.proofs.Shaken.{asked_next, bearer_found, lacks_end, some_if, suited_next, suited_wanted,
-    want_slot}
-use Rattle.slink_model.proofs.Shaking.{AreAsked, AreBorne, AreSent, IsSuited, Shakes, asks_end, asks_number, asks_place,
-    has_none, has_number, has_place, streams}
+use Rattle.slink_model.proofs.Shaken.{asked_next, bearer_found, lacks_end, some_if, suited_next, suited_wanted}
+use Rattle.slink_model.proofs.Shaken.{want_slot}
+use Rattle.slink_model.proofs.Shaking.{AreAsked, AreBorne, AreSent, IsSuited, Shakes, asks_end, asks_number, asks_place}
+use Rattle.slink_model.proofs.Shaking.{has_none, has_number, has_place, streams}
 use Rattle.slink_feed.proofs.Wholes.{front_begun}
 
 -- what the client's table makes of items is what they are
@@ -66,7 +67,7 @@ part_begun : (stage : Stage) (i : Item) (is : List Item) (d : ℕ) → IsWhole s
 part_begun stage i is d whole lt =
     subst (IsBegun stage) (sym (take-append-le d (item_bytes i) (way_bytes is) (omega (arith, lt))))
     (front_begun stage (take d (item_bytes i)) (drop d (item_bytes i)) (whole_of i)
-        (omega (arith, lt, length-drop d (item_bytes i)))
+    (omega (arith, lt, length-drop d (item_bytes i)))
     (subst (λ b. IsWhole stage b (whole_of i)) (sym (take-append-drop d (item_bytes i))) whole))
 
 module _ (places : Places) (differ : Differ places) (codes_are : (k : ℕ) (p : Fields × Option ℕ)
@@ -140,14 +141,14 @@ module _ (places : Places) (differ : Differ places) (codes_are : (k : ℕ) (p : 
         let v : Wanted = record { place = found.1.place; next = Some x } in
         let becomes : ws ≡ set t.wants k (Some v) = ap (λ (o : Option Wanted). next_set o t.wants k x) found.2 in
         let lt : k < length t.wants =
-            is_within t.wants k (Some found.1) (want_slot (slice_get t.wants k) found.1 found.2) in
+        is_within t.wants k (Some found.1) (want_slot (slice_get t.wants k) found.1 found.2) in
         let next_k : next_at ws k ≡ Some x = ap (λ (y : Wants). next_at y k) becomes
-            ∙ ap (option_and_then (λ (z : Wanted). z.next)) (put_here t.wants k (Some v) None lt) in
+        ∙ ap (option_and_then (λ (z : Wanted). z.next)) (put_here t.wants k (Some v) None lt) in
         let next_i : (i : ℕ) → i ≢ k → next_at ws i ≡ next_at t.wants i =
-            λ i ne. ap (λ (y : Wants). next_at y i) becomes
-            ∙ ap (option_and_then (λ (z : Wanted). z.next)) (put_there t.wants k i (Some v) None ne) in
+        λ i ne. ap (λ (y : Wants). next_at y i) becomes
+        ∙ ap (option_and_then (λ (z : Wanted). z.next)) (put_there t.wants k i (Some v) None ne) in
         let of_i : (i : ℕ) → i ≢ k → of_place i (Carried k n r ∷ rest) ≡ of_place i rest =
-            λ i ne. ap (λ b. b ++ of_place i rest) (carried_there k i n r (λ q. ne (sym q))) in
+        λ i ne. ap (λ b. b ++ of_place i rest) (carried_there k i n r (λ q. ne (sym q))) in
         record {
           stage = s.stage;
           asked = asked_next places differ codes_are t.wants k x found.1 found.2 (omega arith) s.asked;
@@ -155,7 +156,7 @@ module _ (places : Places) (differ : Differ places) (codes_are : (k : ℕ) (p : 
           suited = λ i. elim (same_or_not i k) [
             | inl q ↦ subst (λ y. IsSuited (next_at ws y) (grant_at grants y) (of_place y rest)) (sym q)
                 (subst (λ (o : Option ℕ). IsSuited o (grant_at grants k) (of_place k rest)) (sym next_k)
-                    (suited_next (next_at t.wants k) (grant_at grants k) n r (of_place k rest) suited_k))
+                (suited_next (next_at t.wants k) (grant_at grants k) n r (of_place k rest) suited_k))
             | inr ne ↦ subst (λ (o : Option ℕ). IsSuited o (grant_at grants i) (of_place i rest)) (sym (next_i i ne))
                 (subst (IsSuited (next_at t.wants i) (grant_at grants i)) (of_i i ne) (s.suited i))
           ];
@@ -167,7 +168,7 @@ module _ (places : Places) (differ : Differ places) (codes_are : (k : ℕ) (p : 
         → Front grants phase t (Carried k n r ∷ ws) bs p
     packet_front ws bs p h =
         let h' : Front grants phase (heard t (Packet m r)).0 ws bs p =
-            subst (λ (y : Talk × Event). Front grants phase y.0 ws bs p) (sym packet_told) h in
+        subst (λ (y : Talk × Event). Front grants phase y.0 ws bs p) (sym packet_told) h in
         record {
           are = (at_stage t (Carried k n r) s.stage (carried_whole k n r s.borne.0.2), h'.are);
           is_begun = h'.is_begun;
@@ -196,8 +197,13 @@ module _ (places : Places) (differ : Differ places) (codes_are : (k : ℕ) (p : 
   -- so many bytes are heard
   pub streamed_front : (items : List Item) (grants : Grants) (phase : Phase) (t : Talk) (d : ℕ)
       → Streams grants phase t items → Front grants phase t (wholes d items) (behind d items) (part d items)
-  streamed_front [] grants phase t d s = record { are = tt; is_begun = λ _. begun_none t.stage; unsaid = λ f g. refl;
-      same = (refl, λ f g. refl); after = λ _. s }
+  streamed_front [] grants phase t d s = record {
+    are = tt;
+    is_begun = λ _. begun_none t.stage;
+    unsaid = λ f g. refl;
+    same = (refl, λ f g. refl);
+    after = λ _. s;
+  }
   streamed_front (Accepted ∷ rest) grants phase t d s = absurd s.sent.0
   streamed_front (Refused ∷ rest) grants phase t d s = absurd s.sent.0
   streamed_front (Greeted ∷ rest) grants phase t d s = absurd s.sent.0
@@ -205,13 +211,13 @@ module _ (places : Places) (differ : Differ places) (codes_are : (k : ℕ) (p : 
       let size : ℕ = length (item_bytes (Carried k n r)) in
       whole_or (Carried k n r) rest d (λ ws bs p. Front grants phase t ws bs p)
       (λ fits. packet_front grants phase t k n r rest s (wholes (d - size) rest) (behind (d - size) rest)
-          (part (d - size) rest)
+      (part (d - size) rest)
       (streamed_front rest grants phase (told k (n % 2 ^ 24) r t).0 (d - size)
-          (packet_next grants phase t k n r rest s)))
+      (packet_next grants phase t k n r rest s)))
       (λ lt. none_front grants phase t (Carried k n r) rest d (carried_whole k n r s.borne.0.2) lt s)
   streamed_front (Finished ∷ []) grants phase t d s =
       whole_or Finished [] d (λ ws bs p. Front grants phase t ws bs p) (λ fits. end_front grants phase t s)
-          (λ lt. none_front grants phase t Finished [] d refl lt s)
+      (λ lt. none_front grants phase t Finished [] d refl lt s)
   streamed_front (Finished ∷ i ∷ rest) grants phase t d s = absurd (let bad : i ∷ rest ≡ [] = s.ends.0 in cc bad)
 
   -- what is on its way once a client has heard
@@ -261,7 +267,7 @@ module _ (places : Places) (differ : Differ places) (codes_are : (k : ℕ) (p : 
       after = λ f g same _. subst
           (λ (y : Talk × Event). Left s taken y.0 (with_events f (telling y.1 ++ []) g).to_server []) (sym h)
           (subst (λ b. Left s taken (record t { stage = stage }) (b ++ request_bytes request) []) (sym same)
-              (record { borne = tt; suited = suited; shakes = shakes; ends = tt }));
+          (record { borne = tt; suited = suited; shakes = shakes; ends = tt }));
       quiet = λ f g same over. absurd (over (subst (λ (y : Talk × Event). IsLinked y.0.stage) (sym h) linked));
     }
 
@@ -286,7 +292,7 @@ module _ (places : Places) (differ : Differ places) (codes_are : (k : ℕ) (p : 
         → Outcome s taken way t (wholes d (i ∷ [])) (behind d (i ∷ [])) (part d (i ∷ []))
     one_or i d linked whole done left =
         whole_or i [] d (λ ws bs p. Outcome s taken way t ws bs p) (λ fits. done)
-            (λ lt. nothing_heard (i ∷ []) d (part_begun t.stage i [] d whole lt) linked left)
+        (λ lt. nothing_heard (i ∷ []) d (part_begun t.stage i [] d whole lt) linked left)
 
     ok_reply : (k : ℕ) → IsWhole (Station k) (item_bytes Accepted) (whole_of Accepted)
     ok_reply k = (refl, lacks_end (codes "OK" ++ 13 ∷ []) refl, omega arith)
@@ -301,20 +307,20 @@ module _ (places : Places) (differ : Differ places) (codes_are : (k : ℕ) (p : 
         → ((i : ℕ) → IsSuited (next_at t.wants i) (grant_at s.grants i) []) → Outcome s taken way t (Accepted ∷ []) [] 0
     next_said k None asked stage phase told want on h suited =
         line_said Accepted Packets requests.End (open_at s.phase (Granted k) phase tt) on
-            (subst (λ (y : Stage). IsWhole y (item_bytes Accepted) (whole_of Accepted)) (sym stage) (ok_reply k)) h tt
-            suited (asks_end k refl phase (asks_more (request_line requests.End) taken way end_line told) refl)
+        (subst (λ (y : Stage). IsWhole y (item_bytes Accepted) (whole_of Accepted)) (sym stage) (ok_reply k)) h tt
+        suited (asks_end k refl phase (asks_more (request_line requests.End) taken way end_line told) refl)
     next_said k (Some w) asked stage phase told want on h suited =
         let q : (p : Fields × Option ℕ) × (slice_get places (k + 1) ≡ Some p) × (w.place ≡ p.0) =
-            also_at (λ (x : Wanted). x.place) (λ (p : Fields × Option ℕ). p.0) (want_at t.wants (k + 1))
-            (slice_get places (k + 1)) w (asked.alike (k + 1)) want in
+        also_at (λ (x : Wanted). x.place) (λ (p : Fields × Option ℕ). p.0) (want_at t.wants (k + 1))
+        (slice_get places (k + 1)) w (asked.alike (k + 1)) want in
         let fields : IsField 5 w.place.station × IsField 2 w.place.network =
-            subst (λ (f : Fields). IsField 5 f.station × IsField 2 f.network) (sym q.2) (codes_are (k + 1) q.0 q.1) in
+        subst (λ (f : Fields). IsField 5 f.station × IsField 2 f.network) (sym q.2) (codes_are (k + 1) q.0 q.1) in
         line_said Accepted (Station (k + 1)) (requests.Station w.place) (open_at s.phase (Granted k) phase tt) on
-            (subst (λ (y : Stage). IsWhole y (item_bytes Accepted) (whole_of Accepted)) (sym stage) (ok_reply k)) h tt
-            suited
+        (subst (λ (y : Stage). IsWhole y (item_bytes Accepted) (whole_of Accepted)) (sym stage) (ok_reply k)) h tt
+        suited
         (asks_place (k + 1) w refl want (inr (k, refl, phase))
-            (asks_more (request_line (requests.Station w.place)) taken way (station_line w.place fields.0 fields.1)
-            told) refl)
+        (asks_more (request_line (requests.Station w.place)) taken way (station_line w.place fields.0 fields.1)
+        told) refl)
 
     -- by who has said what
     module _ (items : List Item) (d : ℕ) (asked : AreAsked places t.wants) (borne : AreBorne places items)
@@ -353,32 +359,32 @@ module _ (places : Places) (differ : Differ places) (codes_are : (k : ℕ) (p : 
       by_shakes (has_place k stage phase said one) =
           let request : Request = numbered t.mode (next_at t.wants k) in
           subst Result (sym one) (one_or Accepted d (there (Station k) stage tt)
-              (whole_at (Station k) Accepted stage (ok_reply k))
+          (whole_at (Station k) Accepted stage (ok_reply k))
           (line_said Accepted (Number k) request (open_at s.phase (Chosen k) phase tt)
-              (on_is Accepted (Station k) stage refl) (whole_at (Station k) Accepted stage (ok_reply k))
-              (ap (λ (y : Stage). heard_at y t (Reply (codes "OK"))) stage) tt (suits Accepted (λ i. refl) one)
+          (on_is Accepted (Station k) stage refl) (whole_at (Station k) Accepted stage (ok_reply k))
+          (ap (λ (y : Stage). heard_at y t (Reply (codes "OK"))) stage) tt (suits Accepted (λ i. refl) one)
           (asks_number k refl phase
-              (asks_more (request_line request) taken way (number_line t.mode (next_at t.wants k)) said) refl))
-              (subst (Left s taken t way) one left))
+          (asks_more (request_line request) taken way (number_line t.mode (next_at t.wants k)) said) refl))
+          (subst (Left s taken t way) one left))
       by_shakes (asks_number k stage phase asks none) = empty none (there (Number k) stage tt)
       by_shakes (has_number k stage phase said one) =
           subst Result (sym one) (one_or Accepted d (there (Number k) stage tt)
-              (whole_at (Number k) Accepted stage (ok_reply k))
+          (whole_at (Number k) Accepted stage (ok_reply k))
           (next_said k (want_at t.wants (k + 1)) asked stage phase said refl (on_is Accepted (Number k) stage refl)
-              (ap (λ (y : Stage). heard_at y t (Reply (codes "OK"))) stage) (suits Accepted (λ i. refl) one))
-              (subst (Left s taken t way) one left))
+          (ap (λ (y : Stage). heard_at y t (Reply (codes "OK"))) stage) (suits Accepted (λ i. refl) one))
+          (subst (Left s taken t way) one left))
       by_shakes (has_none k stage phase said one) =
           subst Result (sym one) (one_or Refused d (there (Number k) stage tt)
-              (whole_at (Number k) Refused stage (error_reply k))
+          (whole_at (Number k) Refused stage (error_reply k))
           (refusal_heard k (open_at s.phase (Chosen k) phase tt) (on_is Refused (Number k) stage refl)
-              (whole_at (Number k) Refused stage (error_reply k))
-              (ap (λ (y : Stage). heard_at y t (Reply (codes "ERROR"))) stage) said)
-              (subst (Left s taken t way) one left))
+          (whole_at (Number k) Refused stage (error_reply k))
+          (ap (λ (y : Stage). heard_at y t (Reply (codes "ERROR"))) stage) said)
+          (subst (Left s taken t way) one left))
       by_shakes (asks_end k stage phase asks none) = empty none (there Packets stage tt)
       by_shakes (streams stage later sent said) =
           let front : Front s.grants s.phase t (wholes d items) (behind d items) (part d items) =
-              streamed_front items s.grants s.phase t d
-              (record { stage = stage; asked = asked; borne = borne; suited = suited; sent = sent; ends = ends }) in
+          streamed_front items s.grants s.phase t d
+          (record { stage = stage; asked = asked; borne = borne; suited = suited; sent = sent; ends = ends }) in
           record {
             are = front.are;
             is_begun = front.is_begun;
@@ -386,12 +392,16 @@ module _ (places : Places) (differ : Differ places) (codes_are : (k : ℕ) (p : 
             unsaid = λ _ f g. front.unsaid f g;
             after = λ f g same linked.
                 let u : Streams s.grants s.phase (talk_after t (map brought_of (wholes d items))) (behind d items) =
-                    front.after linked in
+                front.after linked in
                 let same_way : (with_events f (events_of t (map brought_of (wholes d items))) g).to_server ≡ way =
-                    front.unsaid f g ∙ same in
+                front.unsaid f g ∙ same in
                 subst (λ b. Left s taken (talk_after t (map brought_of (wholes d items))) b (behind d items))
-                    (sym same_way) (record { borne = u.borne; suited = u.suited;
-                    shakes = streams u.stage later u.sent said; ends = u.ends });
+                (sym same_way) (record {
+                  borne = u.borne;
+                  suited = u.suited;
+                  shakes = streams u.stage later u.sent said;
+                  ends = u.ends;
+                });
             quiet = λ f g same over awake. subst (IsAnswered taken) (sym (front.unsaid f g ∙ same)) (said awake);
           }
 

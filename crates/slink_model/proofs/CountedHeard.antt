@@ -1,6 +1,7 @@
 -- The counts of a link after bytes that come to its client.
-use Rattle.std.proofs.Common.{◌≡◌, ℕ, ◌+◌, inl, inr, refl, sym, ap, subst, ◌∙◌, arith, List, [], ◌∷◌, ◌++◌, append-nil,
-    append_assoc, length, length-append, take, drop, take-append-drop, Option, Some, slice_get, map, ◌≤◌}
+use Rattle.std.proofs.Common.{◌≡◌, ℕ, ◌+◌, inl, inr, refl, sym, ap, subst, ◌∙◌, arith, List, [], ◌∷◌, ◌++◌, append-nil}
+use Rattle.std.proofs.Common.{append_assoc, length, length-append, take, drop, take-append-drop, Option, Some}
+use Rattle.std.proofs.Common.{slice_get, map, ◌≤◌}
 use Rattle.slink_feed.specs.declared.session.Phase.TheVariants.{Closed}
 use Rattle.std.proofs.Math.Seq.{take-add}
 use Rattle.std.proofs.lemmas.List.{drop-drop, drop_at, length-take-le, take_at}
@@ -10,8 +11,8 @@ use Rattle.slink_feed.specs.declared.dialogue.Event.{Event}
 use Rattle.slink_feed.specs.declared.dialogue.Event.TheVariants as events
 use Rattle.slink_feed.specs.declared.dialogue.Stage.{Stage}
 use Rattle.slink_feed.specs.declared.dialogue.Stage.TheVariants.{Unlinked, Station, Number, Packets, Ended}
-use Rattle.slink_model.specs.Counted.{CountedLink, Gained, behind, delivered_by, events_upon, news, on_item, part,
-    talk_upon, wholes, with_event, with_events}
+use Rattle.slink_model.specs.Counted.{CountedLink, Gained, behind, delivered_by, events_upon, news, on_item, part}
+use Rattle.slink_model.specs.Counted.{talk_upon, wholes, with_event, with_events}
 use Rattle.slink_feed.specs.Cutting.{IsBegun}
 use Rattle.slink_feed.specs.Dialogue.{Talk}
 use Rattle.slink_feed.specs.Listening.{Brought, IsLinked, bytes_of, events_of, talk_after}
@@ -63,15 +64,16 @@ unlinked_upon t [] over = (refl, λ f g. refl)
 unlinked_upon t (i ∷ is) over =
     let h : on_item t.stage i t ≡ (t, events.None) = unheard t t.stage i refl over in
     let more : (talk_upon t is ≡ t) × ((f : Numbers) (g : Gained) → with_events f (events_upon t is) g ≡ g) =
-        unlinked_upon t is over in
-    (ap (λ (x : Talk × Event). talk_upon x.0 is) h ∙ more.0,
-        λ f g. ap (λ (x : Talk × Event). with_events f (events_upon x.0 is) (with_event f x.1 g)) h ∙ more.1 f g)
+    unlinked_upon t is over in (
+      ap (λ (x : Talk × Event). talk_upon x.0 is) h ∙ more.0,
+      λ f g. ap (λ (x : Talk × Event). with_events f (events_upon x.0 is) (with_event f x.1 g)) h ∙ more.1 f g,
+    )
 
 module _ (places : Places) (differ : Differ places) (codes : (k : ℕ) (p : Fields × Option ℕ)
     → slice_get places k ≡ Some p → IsField 5 p.0.station × IsField 2 p.0.network) (w v : WorldState) (n : ℕ)
     (l m : LinkState) (c : CountedLink)
     (tie : Counts places w.client c l) (h : IsHeard n w v l m) (keeps : IsBegun w.client.talk.stage w.client.kept)
-        (asked : AreAsked places w.client.talk.wants) where
+    (asked : AreAsked places w.client.talk.wants) where
   abbrev its : List Item
   its = behind c.delivered c.sent
 
@@ -105,9 +107,9 @@ module _ (places : Places) (differ : Differ places) (codes : (k : ℕ) (p : Fiel
       (gained (taking w l)) → gains ≡ put before (gained (taking v m))
   gains_is g =
       let all : before ++ l.to_server ≡ c.said = ap (λ b. before ++ b) tie.to_server
-          ∙ take-append-drop c.taken c.said in
+      ∙ take-append-drop c.taken c.said in
       ap (λ (b : List ℕ). with_events c.first_sent (events_upon w.client.talk (news n c))
-          (record { held = w.held; start = w.start; to_server = b })) (sym all)
+      (record { held = w.held; start = w.start; to_server = b })) (sym all)
       ∙ (front_events c.first_sent (events_upon w.client.talk (news n c)) before (gained (taking w l))
       ∙ ap (put before) (ap (λ (f : Numbers). with_events f (events_upon w.client.talk (news n c))
       (gained (taking w l))) (sym tie.first_sent) ∙ sym g))
@@ -123,7 +125,7 @@ module _ (places : Places) (differ : Differ places) (codes : (k : ℕ) (p : Fiel
       let said : gains.to_server ≡ before ++ m.to_server = ap (λ (x : Gained). x.to_server) is in
       let long : length before ≡ c.taken = length-take-le c.taken c.said tie.taken_few in
       let front : take c.taken gains.to_server ≡ before = ap (take c.taken) said
-          ∙ take_at before m.to_server c.taken long in
+      ∙ take_at before m.to_server c.taken long in
       record {
         talk = talk;
         held = sym (ap (λ (x : Gained). x.held) is);
@@ -141,7 +143,7 @@ module _ (places : Places) (differ : Differ places) (codes : (k : ℕ) (p : Fiel
           linked = λ there. subst (λ (s : State). Pinned places v.client s (take c.taken gains.to_server) m.to_server
               m.to_client (behind (delivered_by n c) c.sent)) (sym state_is)
               (pinned_as places v.client l.session.state before (take c.taken gains.to_server) m.to_server m.to_server
-                  m.to_client m.to_client (behind e its) (behind (delivered_by n c) c.sent)
+              m.to_client m.to_client (behind e its) (behind (delivered_by n c) c.sent)
               (sym front) refl refl (sym (left_after c.sent c.delivered n tie.delivered_few)) (pinned there));
           quiet = λ over awake. subst (λ b. IsAnswered b m.to_server) (sym front)
               (quiet over (subst (λ (s : State). Open s.phase) state_is awake));
@@ -157,37 +159,37 @@ module _ (places : Places) (differ : Differ places) (codes : (k : ℕ) (p : Fiel
       let bs : List Brought = map brought_of (news n c) in
       let rest : List ℕ = take (part e its) (way_bytes (behind e its)) in
       let out : Outcome places differ codes l.session.state before l.to_server w.client.talk (wholes e its)
-          (behind e its) (part e its)
+      (behind e its) (part e its)
       = heard_outcome places differ codes l.session.state before l.to_server w.client.talk its e asked pin.flows.borne
-          pin.flows.suited pin.ends pin.shakes in
+      pin.flows.suited pin.ends pin.shakes in
       let x : HeardAll l.first_sent (taking w l) (take n l.to_client) (taking v m) =
-          heard_all l.first_sent (taking w l) (take n l.to_client) (taking v m) h.hears keeps in
+      heard_all l.first_sent (taking w l) (take n l.to_client) (taking v m) h.hears keeps in
       let way : l.to_client ≡ drop p all = tie.to_client ∙ drop_behind c.sent c.delivered in
       let kept : w.client.kept ≡ take p all =
-          kept_part w.client.kept c.sent c.delivered (ap (λ b. w.client.kept ++ b) (sym tie.to_client)
-          ∙ pin.flows.flow) in
+      kept_part w.client.kept c.sent c.delivered (ap (λ b. w.client.kept ++ b) (sym tie.to_client)
+      ∙ pin.flows.flow) in
       let stream : w.client.kept ++ take n l.to_client ≡ bytes_of bs ++ rest = ap (λ b. b ++ take n l.to_client) kept
-          ∙ (ap (λ b. take p all ++ take n b) way ∙ (sym (take-add p n all) ∙ take_wholes its e)) in
+      ∙ (ap (λ b. take p all ++ take n b) way ∙ (sym (take-add p n all) ∙ take_wholes its e)) in
       let one : (x.brought ≡ bs) × (v.client.kept ++ x.lost ≡ rest) =
-          one_brought w.client.talk x.brought bs (v.client.kept ++ x.lost) rest x.are_brought out.are (sym x.bytes_are
-          ∙ stream)
+      one_brought w.client.talk x.brought bs (v.client.kept ++ x.lost) rest x.are_brought out.are (sym x.bytes_are
+      ∙ stream)
       (rest_is l.first_sent (taking w l) (take n l.to_client) (taking v m) x) out.is_begun in
       let talk : v.client.talk ≡ talk_after w.client.talk bs = x.talk ∙ ap (talk_after w.client.talk) one.0 in
       let g : gained (taking v m) ≡ with_events l.first_sent (events_of w.client.talk bs) (gained (taking w l)) =
-          x.gains ∙ ap (λ ys. with_events l.first_sent (events_of w.client.talk ys) (gained (taking w l))) one.0 in
+      x.gains ∙ ap (λ ys. with_events l.first_sent (events_of w.client.talk ys) (gained (taking w l))) one.0 in
       let server : (with_events l.first_sent (events_of w.client.talk bs) (gained (taking w l))).to_server
-          ≡ m.to_server = sym (ap (λ (y : Gained). y.to_server) g) in
+      ≡ m.to_server = sym (ap (λ (y : Gained). y.to_server) g) in
       made (talk ∙ out.same.0) (g ∙ out.same.1 l.first_sent (gained (taking w l)))
       (λ on.
       let left : Left places differ codes l.session.state before v.client.talk m.to_server (behind e its) =
-          subst (λ (t : Talk). Left places differ codes l.session.state before t m.to_server (behind e its)) (sym talk)
+      subst (λ (t : Talk). Left places differ codes l.session.state before t m.to_server (behind e its)) (sym talk)
       (subst (λ b. Left places differ codes l.session.state before (talk_after w.client.talk bs) b (behind e its))
-          server (out.after l.first_sent (gained (taking w l)) refl
-          (subst (λ (t : Talk). IsLinked t.stage) talk on))) in
+      server (out.after l.first_sent (gained (taking w l)) refl
+      (subst (λ (t : Talk). IsLinked t.stage) talk on))) in
       let kept_now : v.client.kept ≡ rest = sym (append-nil v.client.kept)
-          ∙ (ap (λ b. v.client.kept ++ b) (sym (x.all on)) ∙ one.1) in
+      ∙ (ap (λ b. v.client.kept ++ b) (sym (x.all on)) ∙ one.1) in
       let way_now : m.to_client ≡ drop (part e its) (way_bytes (behind e its)) =
-          h.left ∙ (ap (drop n) way ∙ (drop-drop n p all ∙ drop_behind its e)) in
+      h.left ∙ (ap (drop n) way ∙ (drop-drop n p all ∙ drop_behind its e)) in
       record {
         flows = record {
           flow = ap (λ b. b ++ m.to_client) kept_now
@@ -199,18 +201,18 @@ module _ (places : Places) (differ : Differ places) (codes : (k : ℕ) (p : Fiel
         ends = left.ends;
       })
       (λ over awake. subst (IsAnswered before) server
-          (out.quiet l.first_sent (gained (taking w l)) refl
-          (λ on. over (subst (λ (t : Talk). IsLinked t.stage) (sym talk) on)) awake))
+      (out.quiet l.first_sent (gained (taking w l)) refl
+      (λ on. over (subst (λ (t : Talk). IsLinked t.stage) (sym talk) on)) awake))
       (λ shut. subst (λ b. length b ≤ 1) (sym (out.unsaid shut l.first_sent (gained (taking w l))) ∙ server)
-          (tie.over shut))
+      (tie.over shut))
 
   -- and afterwards
   unlinked_heard : ¬ (IsLinked w.client.talk.stage) → HeardCounts
   unlinked_heard over =
       let same : taking v m ≡ taking w l =
-          lost_all l.first_sent (taking w l) (take n l.to_client) (taking v m) h.hears over in
+      lost_all l.first_sent (taking w l) (take n l.to_client) (taking v m) h.hears over in
       let nothing : (talk_upon w.client.talk (news n c) ≡ w.client.talk) × ((f : Numbers) (g : Gained)
-          → with_events f (events_upon w.client.talk (news n c)) g ≡ g) = unlinked_upon w.client.talk (news n c) over in
+      → with_events f (events_upon w.client.talk (news n c)) g ≡ g) = unlinked_upon w.client.talk (news n c) over in
       let talk : v.client.talk ≡ w.client.talk = ap (λ (t : Taking). t.client.talk) same in
       let server : m.to_server ≡ l.to_server = ap (λ (t : Taking). t.to_server) same in
       made (talk ∙ sym nothing.0) (ap gained same ∙ sym (nothing.1 l.first_sent (gained (taking w l))))
@@ -219,5 +221,7 @@ module _ (places : Places) (differ : Differ places) (codes : (k : ℕ) (p : Fiel
       (λ shut. subst (λ b. length b ≤ 1) (sym server) (tie.over shut))
 
   pub heard_counts : HeardCounts
-  heard_counts = elim (linked_or w.client.talk.stage) [ inl there ↦ linked_heard there
-      | inr over ↦ unlinked_heard over ]
+  heard_counts = elim (linked_or w.client.talk.stage) [
+    | inl there ↦ linked_heard there
+    | inr over ↦ unlinked_heard over
+  ]

@@ -1,6 +1,6 @@
 -- Behind the replies a packet is whole for each 520 bytes.
-use Rattle.std.proofs.Common.{◌≡◌, ℕ, ◌-◌, ◌*◌, ◌/◌, ◌%◌, ◌^◌, ◌+◌, ◌<◌, ◌≤◌, zero, suc, refl, sym, ap, ◌∙◌, arith,
-    List, [], ◌∷◌, ◌++◌, length, replicate, take}
+use Rattle.std.proofs.Common.{◌≡◌, ℕ, ◌-◌, ◌*◌, ◌/◌, ◌%◌, ◌^◌, ◌+◌, ◌<◌, ◌≤◌, zero, suc, refl, sym, ap, ◌∙◌, arith}
+use Rattle.std.proofs.Common.{List, [], ◌∷◌, ◌++◌, length, replicate, take}
 use Rattle.slink_model.specs.Counted.{ArePackets, wholes}
 use Rattle.slink_model.specs.Ties.{Item, Accepted, Refused, Greeted, Carried, Finished, item_bytes}
 use Rattle.slink_model.proofs.Counting.{whole_or}
@@ -13,7 +13,7 @@ replies_whole (suc m) d ps le =
     whole_or Accepted (replicate m Accepted ++ ps) d
     (λ ws bs p. ws ≡ Accepted ∷ (replicate m Accepted ++ wholes (d - 4 * suc m) ps))
     (λ fits. ap (λ ws. Accepted ∷ ws) (replies_whole m (d - 4) ps (omega (arith, le))
-        ∙ ap (λ e. replicate m Accepted ++ wholes e ps) (let e : d - 4 - 4 * m ≡ d - 4 * suc m = omega arith in e)))
+    ∙ ap (λ e. replicate m Accepted ++ wholes e ps) (let e : d - 4 - 4 * m ≡ d - 4 * suc m = omega arith in e)))
     (λ lt. absurd (omega (arith, le, lt)))
 
 packets_whole : (ps : List Item) (e : ℕ) → ArePackets ps → wholes e ps ≡ take (e / 520) ps
@@ -31,7 +31,7 @@ packets_whole (Carried k n r ∷ ps) e are =
     (λ fits.
     let count : e / 520 ≡ suc ((e - 520) / 520) = omega (arith, fits, size) in
     ap (λ ws. Carried k n r ∷ ws) (ap (λ s. wholes (e - s) ps) size ∙ packets_whole ps (e - 520) are.1)
-        ∙ ap (λ m. take m (Carried k n r ∷ ps)) (sym count))
+    ∙ ap (λ m. take m (Carried k n r ∷ ps)) (sym count))
     (λ lt. let none : e / 520 ≡ 0 = omega (arith, lt, size) in ap (λ m. take m (Carried k n r ∷ ps)) (sym none))
 packets_whole (Finished ∷ ps) e are = absurd are
 
@@ -50,7 +50,7 @@ packets_ending (Carried k n r ∷ ps) e are few =
     (λ fits.
     let count : e / 520 ≡ suc ((e - 520) / 520) = omega (arith, fits, size) in
     ap (λ ws. Carried k n r ∷ ws) (ap (λ s. wholes (e - s) (ps ++ Finished ∷ [])) size
-        ∙ packets_ending ps (e - 520) are.1 (omega (arith, few, fits, size)))
+    ∙ packets_ending ps (e - 520) are.1 (omega (arith, few, fits, size)))
     ∙ ap (λ m. take m (Carried k n r ∷ ps)) (sym count))
     (λ lt. let none : e / 520 ≡ 0 = omega (arith, lt, size) in ap (λ m. take m (Carried k n r ∷ ps)) (sym none))
 packets_ending (Finished ∷ ps) e are few = absurd are
@@ -66,7 +66,7 @@ packets_ended (Carried k n r ∷ ps) e are all =
     let size : length (item_bytes (Carried k n r)) ≡ 520 = packet_length (n % 2 ^ 24) r are.0 in
     whole_or (Carried k n r) (ps ++ Finished ∷ []) e (λ ws bs p. ws ≡ Carried k n r ∷ (ps ++ Finished ∷ []))
     (λ fits. ap (λ ws. Carried k n r ∷ ws) (ap (λ s. wholes (e - s) (ps ++ Finished ∷ [])) size
-        ∙ packets_ended ps (e - 520) are.1 (omega (arith, all, size))))
+    ∙ packets_ended ps (e - 520) are.1 (omega (arith, all, size))))
     (λ lt. absurd (omega (arith, all, lt, size)))
 packets_ended (Finished ∷ ps) e are all = absurd are
 

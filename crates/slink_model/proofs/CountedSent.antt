@@ -1,7 +1,7 @@
 -- The counts of a link once a packet of it was asked for.
-use Rattle.std.proofs.Common.{◌≡◌, ℕ, ◌+◌, ◌%◌, ◌^◌, ◌<◌, ◌==◌, inl, inr, refl, sym, ap, subst, ◌∙◌, arith, Bool, true,
-    false, if◌then◌else◌, List, [], ◌∷◌, ◌++◌, append-nil, length, length-append, set, take, drop, Option, Some, None,
-    slice_get, unwrap_or, ◌≤◌}
+use Rattle.std.proofs.Common.{◌≡◌, ℕ, ◌+◌, ◌%◌, ◌^◌, ◌<◌, ◌==◌, inl, inr, refl, sym, ap, subst, ◌∙◌, arith, Bool, true}
+use Rattle.std.proofs.Common.{false, if◌then◌else◌, List, [], ◌∷◌, ◌++◌, append-nil, length, length-append, set, take}
+use Rattle.std.proofs.Common.{drop, Option, Some, None, slice_get, unwrap_or, ◌≤◌}
 use Rattle.std.proofs.lemmas.List.{drop-append-le}
 use Rattle.slink_wire.specs.Packet.{packet_bytes}
 use Rattle.slink_wire.specs.Place.{Bears, Fields}
@@ -14,8 +14,8 @@ use Rattle.slink_feed.specs.declared.session.Sent.TheVariants as sents
 use Rattle.slink_model.specs.Counted.{CountedLink, behind, carried_at, items_sent, sent_by}
 use Rattle.slink_feed.specs.Dialogue.{next_at}
 use Rattle.slink_feed.specs.Listening.{Listening}
-use Rattle.slink_feed.specs.Session.{IsBefore, State, all_done, at, at_next, grant_at, packet_at, sent, sent_bytes,
-    sent_in, sent_of}
+use Rattle.slink_feed.specs.Session.{IsBefore, State, all_done, at, at_next, grant_at, packet_at, sent, sent_bytes}
+use Rattle.slink_feed.specs.Session.{sent_in, sent_of}
 use Rattle.slink_model.specs.Ties.{Item, Accepted, Refused, Greeted, Carried, Finished, Places, of_place, way_bytes}
 use Rattle.slink_feed.specs.Window.{Window, record_at}
 use Rattle.slink_model.specs.World.{LinkState, Numbers, first_after, sent_on}
@@ -70,7 +70,7 @@ module _ (places : Places) (client : Listening) (feed : List Window) (ringed : A
     pinned = pinned_as places client s before before l.to_server l.to_server l.to_client (l.to_client ++ sent_bytes o)
         its (its ++ items_sent feed s.grants k o) refl refl
         (sym (ap (λ b. l.to_client ++ b) none ∙ append-nil l.to_client))
-            (sym (ap (λ ys. its ++ ys) nothing ∙ append-nil its));
+        (sym (ap (λ ys. its ++ ys) nothing ∙ append-nil its));
   }
 
   -- all lines are answered once packets are sent
@@ -79,8 +79,8 @@ module _ (places : Places) (client : Listening) (feed : List Window) (ringed : A
       let awake : Open s.phase = λ shut. let bad : Streaming ≡ Closed = sym phase ∙ shut in cc bad in
       elim (linked_or client.talk.stage) [
         | inl there ↦ answered_few before l.to_server
-        ((streaming_is client.talk s.phase before l.to_server its (λ b. subst IsBefore phase b)
-        (counts.linked there).shakes).2 awake)
+            ((streaming_is client.talk s.phase before l.to_server its (λ b. subst IsBefore phase b)
+            (counts.linked there).shakes).2 awake)
         | inr over ↦ answered_few before l.to_server (counts.quiet over awake)
       ]
 
@@ -92,8 +92,8 @@ module _ (places : Places) (client : Listening) (feed : List Window) (ringed : A
     few = λ _. settled phase;
     pinned = λ pin.
         let now : (client.talk.stage ≡ Packets) × AreSent its
-            × (¬ (s.phase ≡ Closed) → IsAnswered before l.to_server) =
-            streaming_is client.talk s.phase before l.to_server its (λ b. subst IsBefore phase b) pin.shakes in
+        × (¬ (s.phase ≡ Closed) → IsAnswered before l.to_server) =
+        streaming_is client.talk s.phase before l.to_server its (λ b. subst IsBefore phase b) pin.shakes in
         record {
           flows = record {
             flow = flow_more client.kept l.to_client (sent_bytes o) its ys bytes pin.flows.flow;
@@ -114,8 +114,8 @@ module _ (places : Places) (client : Listening) (feed : List Window) (ringed : A
       let item : List Item = Carried k g.position r ∷ [] in
       let lt : k < length s.grants = slot_within s.grants k g grant in
       let p : (p : Fields × Option ℕ) × (slice_get places k ≡ Some p) × (w.place ≡ p.0) =
-          also_at (λ (v : Window). v.place) (λ (q : Fields × Option ℕ). q.0) (slice_get feed k) (slice_get places k) w
-          (ringed.alike k) here in
+      also_at (λ (v : Window). v.place) (λ (q : Fields × Option ℕ). q.0) (slice_get feed k) (slice_get places k) w
+      (ringed.alike k) here in
       let sound : (length r ≡ 512) × Bears r w.place = window_sound w g.position r (ringed.sound k w here) is in
       record {
         bytes = sym (append-nil (packet_bytes (g.position % 2 ^ 24) r));
@@ -123,29 +123,31 @@ module _ (places : Places) (client : Listening) (feed : List Window) (ringed : A
         few = counts.over;
         pinned = λ pin.
             let now : (client.talk.stage ≡ Packets) × AreSent its
-                × (¬ (s.phase ≡ Closed) → IsAnswered before l.to_server) =
-                streaming_is client.talk s.phase before l.to_server its (λ b. subst IsBefore phase b) pin.shakes in
+            × (¬ (s.phase ≡ Closed) → IsAnswered before l.to_server) =
+            streaming_is client.talk s.phase before l.to_server its (λ b. subst IsBefore phase b) pin.shakes in
             record {
               flows = record {
                 flow = flow_more client.kept l.to_client (packet_bytes (g.position % 2 ^ 24) r) its item
                     (sym (append-nil (packet_bytes (g.position % 2 ^ 24) r))) pin.flows.flow;
-                borne = borne_more places its item pin.flows.borne ((p.0, p.1, sound.0, subst (Bears r) p.2 sound.1),
-                    tt);
+                borne = borne_more places its item pin.flows.borne (
+                  (p.0, p.1, sound.0, subst (Bears r) p.2 sound.1),
+                  tt,
+                );
                 suited = λ i. elim (same_or_not i k) [
                   | inl e ↦ subst (λ y. IsSuited (next_at client.talk.wants y) (grant_at (set s.grants k (Some h)) y)
-                  (of_place y (its ++ item))) (sym e)
+                      (of_place y (its ++ item))) (sym e)
                       (subst (λ (o : Option Grant). IsSuited (next_at client.talk.wants k) o
-                          (of_place k (its ++ item))) (sym (put_here s.grants k (Some h) None lt))
+                      (of_place k (its ++ item))) (sym (put_here s.grants k (Some h) None lt))
                       (subst (IsSuited (next_at client.talk.wants k) (Some h))
-                          (sym (of_more k its item
-                          ∙ ap (λ b. of_place k its ++ (b ++ [])) (carried_here k g.position r)))
+                      (sym (of_more k its item
+                      ∙ ap (λ b. of_place k its ++ (b ++ [])) (carried_here k g.position r)))
                       (suited_more (next_at client.talk.wants k) (grant_at s.grants k) g h (of_place k its) r grant
-                          refl (pin.flows.suited k))))
+                      refl (pin.flows.suited k))))
                   | inr ne ↦ subst (λ (o : Option Grant). IsSuited (next_at client.talk.wants i) o
-                  (of_place i (its ++ item))) (sym (put_there s.grants k i (Some h) None ne))
+                      (of_place i (its ++ item))) (sym (put_there s.grants k i (Some h) None ne))
                       (subst (IsSuited (next_at client.talk.wants i) (grant_at s.grants i))
-                          (sym (carries_none i its item
-                          (ap (λ b. b ++ []) (carried_there k i g.position r (λ e. ne (sym e)))))) (pin.flows.suited i))
+                      (sym (carries_none i its item
+                      (ap (λ b. b ++ []) (carried_there k i g.position r (λ e. ne (sym e)))))) (pin.flows.suited i))
                 ];
               };
               shakes = streams now.0 (λ b. subst IsBefore phase b) (sent_more its item now.1 (tt, tt)) now.2;
@@ -182,7 +184,7 @@ module _ (places : Places) (client : Listening) (feed : List Window) (ringed : A
   in_stream (Some g) None phase grant here = nothing_sent sents.Wait refl refl
   in_stream (Some g) (Some w) phase grant here =
       choice (g.position == w.next) (at_next (all_done feed s.grants) s) (packet_at s k g (record_at w g.position))
-          (at_end (all_done feed s.grants) phase) (at_ring g w (record_at w g.position) phase grant here refl)
+      (at_end (all_done feed s.grants) phase) (at_ring g w (record_at w g.position) phase grant here refl)
 
   in_phase : (phase : Phase) → s.phase ≡ phase → GoesOn (sent_in phase feed s k)
   in_phase Fresh is = nothing_sent sents.Wait refl refl
@@ -216,14 +218,18 @@ module _ (places : Places) (client : Listening) (feed : List Window) (ringed : A
             ∙ (sym (drop-append-le c.delivered (way_bytes c.sent) (way_bytes ys) counts.delivered_few)
             ∙ ap (drop c.delivered) (sym (way_more c.sent ys))));
         taken_few = counts.taken_few;
-        delivered_few = omega (arith, counts.delivered_few, ap length (way_more c.sent ys),
-            length-append (way_bytes c.sent) (way_bytes ys));
+        delivered_few = omega (
+          arith,
+          counts.delivered_few,
+          ap length (way_more c.sent ys),
+          length-append (way_bytes c.sent) (way_bytes ys),
+        );
         held = λ a. counts.held (go.awake a);
         linked = λ there. pinned_as places client x.0 before before l.to_server l.to_server
             (l.to_client ++ sent_bytes x.1) (l.to_client ++ sent_bytes x.1) (its ++ ys)
             (behind c.delivered (c.sent ++ ys))
             refl refl refl (sym (behind_more c.sent ys c.delivered counts.delivered_few))
-                (go.pinned (counts.linked there));
+            (go.pinned (counts.linked there));
         quiet = λ over a. counts.quiet over (go.awake a);
         over = go.few;
       })

@@ -1,7 +1,7 @@
 -- What a link was sent: two replies to each place, then packets.
-use Rattle.std.proofs.Common.{◌≡◌, ℕ, ◌+◌, ◌-◌, ◌*◌, ◌<◌, ◌≤◌, inl, inr, zero, suc, refl, sym, ap, subst, ◌∙◌, arith,
-    Bool, true, false, ◌&&◌, not, List, [], ◌∷◌, ◌++◌, append_assoc, length, replicate, Option, Some, None, option_map,
-    slice_get}
+use Rattle.std.proofs.Common.{◌≡◌, ℕ, ◌+◌, ◌-◌, ◌*◌, ◌<◌, ◌≤◌, inl, inr, zero, suc, refl, sym, ap, subst, ◌∙◌, arith}
+use Rattle.std.proofs.Common.{Bool, true, false, ◌&&◌, not, List, [], ◌∷◌, ◌++◌, append_assoc, length, replicate}
+use Rattle.std.proofs.Common.{Option, Some, None, option_map, slice_get}
 use Rattle.slink_wire.specs.Place.{Fields}
 use Rattle.slink_feed.specs.declared.dialogue.Stage.{Stage}
 use Rattle.slink_feed.specs.declared.dialogue.Stage.TheVariants.{Unlinked, Station, Number, Packets, Ended}
@@ -10,14 +10,14 @@ use Rattle.slink_feed.specs.declared.session.Phase.{Phase}
 use Rattle.slink_model.specs.declared.world.Setup.{Setup}
 use Rattle.slink_model.specs.declared.world.Step.{Step}
 use Rattle.slink_model.specs.declared.world.Step.TheVariants.{Append, Connect, ToServer, ToClient, Send, Cut}
-use Rattle.slink_model.specs.Counted.{AreItems, ArePackets, AreStreamed, Counted, CountedLink, answer_at, behind,
-    counted_step, delivered_by, heard_by, if_come, items_sent, new_link, news, on_item, part, sent_by, served_by,
-    taken_by, talk_upon, waits, wholes, windows_of}
+use Rattle.slink_model.specs.Counted.{AreItems, ArePackets, AreStreamed, Counted, CountedLink, answer_at, behind}
+use Rattle.slink_model.specs.Counted.{counted_step, delivered_by, heard_by, if_come, items_sent, new_link, news}
+use Rattle.slink_model.specs.Counted.{on_item, part, sent_by, served_by, taken_by, talk_upon, waits, wholes, windows_of}
 use Rattle.slink_feed.specs.Dialogue.{Talk, to_place, want_at}
 use Rattle.slink_feed.specs.Listening.{AwaitsReply, IsLinked}
 use Rattle.slink_feed.specs.Session.{sent}
-use Rattle.slink_model.specs.Ties.{Item, Accepted, Refused, Greeted, Carried, Finished, Places, item_bytes, items_of,
-    way_bytes}
+use Rattle.slink_model.specs.Ties.{Item, Accepted, Refused, Greeted, Carried, Finished, Places, item_bytes, items_of}
+use Rattle.slink_model.specs.Ties.{way_bytes}
 use Rattle.slink_feed.specs.Window.{Window}
 use Rattle.slink_model.specs.World.{said}
 use Rattle.slink_model.proofs.CountedHeard.{unlinked_upon}
@@ -26,8 +26,8 @@ use Rattle.slink_model.proofs.Counts.{EndsIn}
 use Rattle.slink_feed.proofs.Items.{is_within, within_is}
 use Rattle.slink_model.proofs.OneWorld.{linked_or}
 use Rattle.slink_model.proofs.Requested.{also_at}
-use Rattle.slink_model.proofs.Shaking.{AreAsked, AreBorne, AreSent, IsBorne, IsSent, Shakes, asks_end, asks_number,
-    asks_place, has_none, has_number, has_place, streams}
+use Rattle.slink_model.proofs.Shaking.{AreAsked, AreBorne, AreSent, IsBorne, IsSent, Shakes, asks_end, asks_number}
+use Rattle.slink_model.proofs.Shaking.{asks_place, has_none, has_number, has_place, streams}
 
 -- how many replies a client heard that waits for this
 abbrev replies_at : Places → Stage → ℕ
@@ -119,13 +119,13 @@ heard_packets places (i ∷ is) t p sent borne linked =
     elim (linked_or (on_item t.stage i t).0.stage) [
       | inl there ↦
           let next : ((on_item Packets i t).0.stage ≡ Packets) × (ArePackets is → ArePackets (i ∷ is)) =
-              one_heard i sent.0 borne.0 (subst (λ (u : Talk). IsLinked u.stage) same there) in
+          one_heard i sent.0 borne.0 (subst (λ (u : Talk). IsLinked u.stage) same there) in
           let rest : ArePackets is × ((talk_upon (on_item t.stage i t).0 is).stage ≡ Packets) =
-              heard_packets places is (on_item t.stage i t).0 (ap (λ (u : Talk). u.stage) same ∙ next.0) sent.1 borne.1
-              linked in
+          heard_packets places is (on_item t.stage i t).0 (ap (λ (u : Talk). u.stage) same ∙ next.0) sent.1 borne.1
+          linked in
           (next.1 rest.0, rest.1)
       | inr over ↦ absurd (over
-      (subst (λ (u : Talk). IsLinked u.stage) (unlinked_upon (on_item t.stage i t).0 is over).0 linked))
+          (subst (λ (u : Talk). IsLinked u.stage) (unlinked_upon (on_item t.stage i t).0 is over).0 linked))
     ]
   where
     one_heard : (i : Item) → IsSent i → IsBorne places i → IsLinked (on_item Packets i t).0.stage
@@ -189,8 +189,8 @@ module _ (places : Places) (talk : Talk) (asked : AreAsked places talk.wants) (n
   reply_heard new one awaits more within none =
       let m : ℕ = replies_at places talk.stage in
       let is : l.sent ≡ replicate (replies_at places new) Accepted ++ [] =
-          h.sent_is ∙ (ap (λ (ps : List Item). replicate m Accepted ++ ps) (h.still awaits ∙ one)
-          ∙ (replies_more m ∙ ap (λ k. replicate k Accepted ++ []) (sym more))) in
+      h.sent_is ∙ (ap (λ (ps : List Item). replicate m Accepted ++ ps) (h.still awaits ∙ one)
+      ∙ (replies_more m ∙ ap (λ k. replicate k Accepted ++ []) (sym more))) in
       record {
         packets = [];
         sent_is = is;
@@ -207,7 +207,7 @@ module _ (places : Places) (talk : Talk) (asked : AreAsked places talk.wants) (n
       let split : its ≡ ws ++ behind d l.sent = wholes_behind its e ∙ ap (λ (x : List Item). ws ++ x) (sym same) in
       let heard : ArePackets ws × ((talk_upon talk ws).stage ≡ Packets) =
       heard_packets places ws talk p (sent_front ws (behind d l.sent) (subst AreSent split sent))
-          (borne_front places ws (behind d l.sent) (subst (AreBorne places) split f.borne)) linked in
+      (borne_front places ws (behind d l.sent) (subst (AreBorne places) split f.borne)) linked in
       let front : List Item = (h.are p).0 in
       subst (λ (s : Stage). Shape places s l.sent d) (p ∙ sym heard.1) (record {
         packets = h.packets;
@@ -241,39 +241,41 @@ module _ (places : Places) (talk : Talk) (asked : AreAsked places talk.wants) (n
       let lt : k < length places = subst (IsWithin places) stage h.within in
       let last : length places ≤ k + 1 = past (within_or) in
       reply_heard Packets one (subst AwaitsReply (sym stage) tt)
-          (let r : replies_at places talk.stage ≡ 2 * k + 1 = ap (replies_at places) stage in
-          omega (arith, r, lt, last)) tt none
+      (let r : replies_at places talk.stage ≡ 2 * k + 1 = ap (replies_at places) stage in
+      omega (arith, r, lt, last)) tt none
     where
       within_or : (k + 1 < length places) → ⊥
       within_or more =
           let q : (p : Fields × Option ℕ) × (slice_get places (k + 1) ≡ Some p) = within_is places (k + 1) more in
           let w : (x : Wanted) × (want_at talk.wants (k + 1) ≡ Some x) × (q.0.0 ≡ x.place) =
-              also_at (λ (p : Fields × Option ℕ). p.0) (λ (x : Wanted). x.place) (slice_get places (k + 1))
-              (want_at talk.wants (k + 1)) q.0 (sym (asked.alike (k + 1))) q.1 in
+          also_at (λ (p : Fields × Option ℕ). p.0) (λ (x : Wanted). x.place) (slice_get places (k + 1))
+          (want_at talk.wants (k + 1)) q.0 (sym (asked.alike (k + 1))) q.1 in
           let bad : None ≡ Some w.0 = sym want ∙ w.1 in cc bad
 
       past : ((k + 1 < length places) → ⊥) → length places ≤ k + 1
-      past never = elim (Rattle.std.proofs.lemmas.Bool.cases_lt (k + 1) (length places)) [ inl lt ↦ absurd (never lt)
-          | inr le ↦ omega (arith, le) ]
+      past never = elim (Rattle.std.proofs.lemmas.Bool.cases_lt (k + 1) (length places)) [
+        | inl lt ↦ absurd (never lt)
+        | inr le ↦ omega (arith, le)
+      ]
   after_number k (Some w) one stage want none =
       let q : (p : Fields × Option ℕ) × (slice_get places (k + 1) ≡ Some p) × (w.place ≡ p.0) =
-          also_at (λ (x : Wanted). x.place) (λ (p : Fields × Option ℕ). p.0) (want_at talk.wants (k + 1))
-          (slice_get places (k + 1)) w (asked.alike (k + 1)) want in
+      also_at (λ (x : Wanted). x.place) (λ (p : Fields × Option ℕ). p.0) (want_at talk.wants (k + 1))
+      (slice_get places (k + 1)) w (asked.alike (k + 1)) want in
       reply_heard (Station (k + 1)) one (subst AwaitsReply (sym stage) tt)
-          (let r : replies_at places talk.stage ≡ 2 * k + 1 = ap (replies_at places) stage in
-          omega (arith, r)) (is_within places (k + 1) q.0 q.1) none
+      (let r : replies_at places talk.stage ≡ 2 * k + 1 = ap (replies_at places) stage in
+      omega (arith, r)) (is_within places (k + 1) q.0 q.1) none
 
   by_shakes : Shakes talk f.phase f.taken f.way its → Result its
   by_shakes (asks_place k w stage want ready asks none) = nothing none
   by_shakes (has_place k stage phase told one) = one_item Accepted one (λ none linked.
       subst (λ (t : Stage). Shape places (on_item t Accepted talk).0.stage l.sent d) (sym stage)
       (reply_heard (Number k) one (subst AwaitsReply (sym stage) tt)
-          (let r : replies_at places talk.stage ≡ 2 * k = ap (replies_at places) stage in
-          omega (arith, r)) (subst (IsWithin places) stage h.within) none))
+      (let r : replies_at places talk.stage ≡ 2 * k = ap (replies_at places) stage in
+      omega (arith, r)) (subst (IsWithin places) stage h.within) none))
   by_shakes (asks_number k stage phase asks none) = nothing none
   by_shakes (has_number k stage phase told one) = one_item Accepted one (λ none linked.
       subst (λ (t : Stage). Shape places (on_item t Accepted talk).0.stage l.sent d) (sym stage)
-          (after_number k (want_at talk.wants (k + 1)) one stage refl none))
+      (after_number k (want_at talk.wants (k + 1)) one stage refl none))
   by_shakes (has_none k stage phase told one) =
       one_item Refused one (λ none linked.
       absurd (subst (λ (t : Stage). IsLinked (on_item t Refused talk).0.stage) stage linked))
@@ -289,8 +291,8 @@ connect_shaped : (places : Places) (talk : Talk) (o : Option Wanted) → 0 < len
 connect_shaped places talk None some asked want =
     let p : (p : Fields × Option ℕ) × (slice_get places 0 ≡ Some p) = within_is places 0 some in
     let first : (x : Wanted) × (want_at talk.wants 0 ≡ Some x) × (p.0.0 ≡ x.place) =
-        also_at (λ (x : Fields × Option ℕ). x.0) (λ (x : Wanted). x.place) (slice_get places 0) (want_at talk.wants 0)
-        p.0 (sym (asked.alike 0)) p.1 in
+    also_at (λ (x : Fields × Option ℕ). x.0) (λ (x : Wanted). x.place) (slice_get places 0) (want_at talk.wants 0)
+    p.0 (sym (asked.alike 0)) p.1 in
     absurd (let bad : None ≡ Some first.0 = sym want ∙ first.1 in cc bad)
 connect_shaped places talk (Some w) some asked want = λ _. record {
   packets = [];

@@ -1,6 +1,7 @@
 -- The world that the steps of a schedule lead to is the counted one.
-use Rattle.std.proofs.Common.{take, ◌≡◌, ℕ, ◌+◌, ◌-◌, ◌<◌, inl, zero, suc, refl, sym, ap, subst, ◌∙◌, arith, List, [],
-    ◌∷◌, ◌++◌, length, length-append, map, replicate, set, Option, Some, None, option_map, slice_get}
+use Rattle.std.proofs.Common.{take, ◌≡◌, ℕ, ◌+◌, ◌-◌, ◌<◌, inl, zero, suc, refl, sym, ap, subst, ◌∙◌, arith, List, []}
+use Rattle.std.proofs.Common.{◌∷◌, ◌++◌, length, length-append, map, replicate, set, Option, Some, None, option_map}
+use Rattle.std.proofs.Common.{slice_get}
 use Rattle.slink_wire.specs.declared.request.Request.TheVariants as requests
 use Rattle.slink_wire.specs.Place.{Fields, IsField}
 use Rattle.slink_wire.specs.Request.{request_bytes, request_line}
@@ -12,9 +13,9 @@ use Rattle.slink_feed.specs.declared.session.Phase.TheVariants.{Fresh, Closed}
 use Rattle.slink_model.specs.declared.world.Setup.{Setup}
 use Rattle.slink_model.specs.declared.world.Step.{Step}
 use Rattle.slink_model.specs.declared.world.Step.TheVariants.{Append, Connect, ToServer, ToClient, Send, Cut}
-use Rattle.slink_model.specs.Counted.{AreCountedLinks, AreStreamed, behind, Counted, CountedLink, IsCounted,
-    IsCountedLink, counted_after, counted_opening, counted_step, heard_by, new_link, news, sent_by, served_by,
-    talk_upon, shown_all, shown_of}
+use Rattle.slink_model.specs.Counted.{AreCountedLinks, AreStreamed, behind, Counted, CountedLink, IsCounted}
+use Rattle.slink_model.specs.Counted.{IsCountedLink, counted_after, counted_opening, counted_step, heard_by, new_link}
+use Rattle.slink_model.specs.Counted.{news, sent_by, served_by, talk_upon, shown_all, shown_of}
 use Rattle.slink_feed.specs.Dialogue.{Talk, next_at, says_place, to_place, want_at}
 use Rattle.slink_feed.specs.Listening.{Listening}
 use Rattle.slink_feed.specs.Session.{State, at, grant_at}
@@ -22,8 +23,9 @@ use Rattle.slink_model.specs.Spared.{AreAskable}
 use Rattle.slink_model.specs.Stretch.{IsSchedule}
 use Rattle.slink_model.specs.Ties.{Places}
 use Rattle.slink_feed.specs.Window.{Window, window, with_record}
-use Rattle.slink_model.specs.World.{AllHappen, Both, Connects, Differ, Happens, IsHeard, IsOf, IsServed, LinkState,
-    Lists, Numbers, WorldState, empty_window, opening, pushed_to, said, sent_on, with_one}
+use Rattle.slink_model.specs.World.{AllHappen, Both, Connects, Differ, Happens, IsHeard, IsOf, IsServed, LinkState}
+use Rattle.slink_model.specs.World.{Lists, Numbers, WorldState, empty_window, opening, pushed_to, said, sent_on}
+use Rattle.slink_model.specs.World.{with_one}
 use Rattle.slink_model.proofs.CountedHeard.{HeardCounts, gains, heard_counts, now_counted}
 use Rattle.slink_model.proofs.CountedSent.{sent_counts}
 use Rattle.slink_model.proofs.CountedShape.{AreFacts, AreShaped, step_shaped, streamed_of}
@@ -42,11 +44,21 @@ use Rattle.slink_model.proofs.Worlds.{AreOf, each_of, none_granted}
 shown_more : (setup : Setup) (p : Fields × Option ℕ) (pushed : List (List ℕ)) (b : List ℕ)
     → with_record (shown_of setup p pushed) b ≡ shown_of setup p (pushed ++ b ∷ [])
 shown_more setup p pushed b =
-    ap (λ (rs : List (List ℕ)). record { place = p.0; capacity = setup.capacity; records = rs;
-        next = setup.first + length pushed + 1 }) (keep_more setup.capacity pushed b)
-    ∙ ap (λ n. record { place = p.0; capacity = setup.capacity; records = window setup.capacity (pushed ++ b ∷ []);
-    next = n }) (let e : setup.first + length pushed + 1 ≡ setup.first + length (pushed ++ b ∷ []) = omega (arith,
-    length-append pushed (b ∷ [])) in e)
+    ap (λ (rs : List (List ℕ)). record {
+      place = p.0;
+      capacity = setup.capacity;
+      records = rs;
+      next = setup.first + length pushed + 1;
+    }) (keep_more setup.capacity pushed b)
+    ∙ ap (λ n. record {
+      place = p.0;
+      capacity = setup.capacity;
+      records = window setup.capacity (pushed ++ b ∷ []);
+      next = n;
+    }) (let e : setup.first + length pushed + 1 ≡ setup.first + length (pushed ++ b ∷ []) = omega (
+      arith,
+      length-append pushed (b ∷ []),
+    ) in e)
 
 all_more : (setup : Setup) (ps : Places) (pushed : Lists) (k : ℕ) (b : List ℕ) (v : Window)
     → slice_get (shown_all setup ps pushed) k ≡ Some v
@@ -56,7 +68,7 @@ all_more setup (p ∷ ps) [] k b v here = absurd (let bad : None ≡ Some v = he
 all_more setup (p ∷ ps) (f ∷ fs) zero b v here =
     let one : shown_of setup p f ≡ v = one_value (Some (shown_of setup p f)) (shown_of setup p f) v refl here in
     ap (λ (w : Window). w ∷ shown_all setup ps fs) (ap (λ (w : Window). with_record w b) (sym one)
-        ∙ shown_more setup p f b)
+    ∙ shown_more setup p f b)
 all_more setup (p ∷ ps) (f ∷ fs) (suc k) b v here = ap (λ ws. shown_of setup p f ∷ ws) (all_more setup ps fs k b v here)
 
 -- a counted world with what a world has beside its link
@@ -100,8 +112,8 @@ module _ (setup : Setup) (differ : Differ setup.places.items) (codes : (k : ℕ)
       → IsWorld (counted_step setup (beside w q) (Append k b)) (pushed_to w k b o)
   append_world w q k b None here of t windows counts =
       let there : (v : Window) × (slice_get w.windows k ≡ Some v) × (of.0.0 ≡ v.place) =
-          also_at (λ (p : Fields × Option ℕ). p.0) (λ (v : Window). v.place) (slice_get places k)
-          (slice_get w.windows k) of.0 (sym (t.ringed.alike k)) of.1 in
+      also_at (λ (p : Fields × Option ℕ). p.0) (λ (v : Window). v.place) (slice_get places k)
+      (slice_get w.windows k) of.0 (sym (t.ringed.alike k)) of.1 in
       absurd (let bad : None ≡ Some there.0 = sym here ∙ there.1 in cc bad)
   append_world w q k b (Some v) here of t windows counts = record {
     link = q;
@@ -118,17 +130,21 @@ module _ (setup : Setup) (differ : Differ setup.places.items) (codes : (k : ℕ)
       let talk : Talk = w.client.talk in
       let p : (p : Fields × Option ℕ) × (slice_get places 0 ≡ Some p) = within_is places 0 some in
       let first : (x : Wanted) × (want_at talk.wants 0 ≡ Some x) × (p.0.0 ≡ x.place) =
-          also_at (λ (x : Fields × Option ℕ). x.0) (λ (x : Wanted). x.place) (slice_get places 0)
-          (want_at talk.wants 0) p.0 (sym (t.asked.alike 0)) p.1 in
+      also_at (λ (x : Fields × Option ℕ). x.0) (λ (x : Wanted). x.place) (slice_get places 0)
+      (want_at talk.wants 0) p.0 (sym (t.asked.alike 0)) p.1 in
       let fields : IsField 5 first.0.place.station × IsField 2 first.0.place.network =
-          subst (λ (f : Fields). IsField 5 f.station × IsField 2 f.network) first.2 (codes 0 p.0 p.1) in
+      subst (λ (f : Fields). IsField 5 f.station × IsField 2 f.network) first.2 (codes 0 p.0 p.1) in
       let says : says_place 0 talk ≡ to_place (Some first.0) 0 talk =
-          ap (λ (o : Option Wanted). to_place o 0 talk) first.1 in
+      ap (λ (o : Option Wanted). to_place o 0 talk) first.1 in
       let client : Listening = record { talk = record talk { stage = Station 0 }; kept = [] } in
       let state : c.session.state ≡ at Fresh (replicate 16 None) = c.is_new.state in
       let bytes : List ℕ = request_bytes (requests.Station first.0.place) in
-      let link : LinkState = record { session = c.session; first_sent = replicate 16 None; to_server = bytes;
-          to_client = [] } in
+      let link : LinkState = record {
+        session = c.session;
+        first_sent = replicate 16 None;
+        to_server = bytes;
+        to_client = [];
+      } in
       let counts : Counts places client (new_link bytes) link = record {
         session = state;
         first_sent = refl;
@@ -152,18 +168,28 @@ module _ (setup : Setup) (differ : Differ setup.places.items) (codes : (k : ℕ)
         quiet = λ over. absurd (over tt);
         over = λ shut. absurd (let bad : Fresh ≡ Closed = sym (ap (λ (s : State). s.phase) state) ∙ shut in cc bad);
       } in
-      let done : IsWorld (record (beside w q) { talk = (to_place (Some first.0) 0 talk).0;
-          link = Some (new_link (said (to_place (Some first.0) 0 talk).1)) }) (record w {
+      let done : IsWorld (record (beside w q) {
+        talk = (to_place (Some first.0) 0 talk).0;
+        link = Some (new_link (said (to_place (Some first.0) 0 talk).1));
+      }) (record w {
         client = record { talk = (to_place (Some first.0) 0 talk).0; kept = [] };
-        link = Some (record { session = c.session; first_sent = replicate 16 None;
-            to_server = said (to_place (Some first.0) 0 talk).1; to_client = [] });
+        link = Some (record {
+          session = c.session;
+          first_sent = replicate 16 None;
+          to_server = said (to_place (Some first.0) 0 talk).1;
+          to_client = [];
+        });
       }) = record { link = Some (new_link bytes); is = refl; windows = windows; counts = counts } in
       subst (IsWorld (counted_step setup (beside w q) Connect)) (sym c.becomes)
-          (subst (λ (x : Talk × Event). IsWorld (record (beside w q) { talk = x.0; link = Some (new_link (said x.1)) })
-          (record w {
+      (subst (λ (x : Talk × Event). IsWorld (record (beside w q) { talk = x.0; link = Some (new_link (said x.1)) })
+      (record w {
         client = record { talk = x.0; kept = [] };
-        link = Some (record { session = c.session; first_sent = replicate 16 None; to_server = said x.1;
-            to_client = [] });
+        link = Some (record {
+          session = c.session;
+          first_sent = replicate 16 None;
+          to_server = said x.1;
+          to_client = [];
+        });
       })) (sym says) done)
 
   -- ToServer
@@ -200,7 +226,7 @@ module _ (setup : Setup) (differ : Differ setup.places.items) (codes : (k : ℕ)
   heard_world w v n (Some c) (Some l) None t keeps windows same pushed was now h unlinked counts = absurd h
   heard_world w v n (Some c) (Some l) (Some m) t keeps windows same pushed was now h unlinked counts =
       let r : HeardCounts places differ codes w v n l m c counts h keeps t.asked =
-          heard_counts places differ codes w v n l m c counts h keeps t.asked in
+      heard_counts places differ codes w v n l m c counts h keeps t.asked in
       let d : CountedLink = now_counted places differ codes w v n l m c counts h keeps t.asked in
       let talk : Talk = talk_upon w.client.talk (news n c) in
       let held : Lists = (gains places differ codes w v n l m c counts h keeps t.asked).held in
@@ -222,22 +248,22 @@ module _ (setup : Setup) (differ : Differ setup.places.items) (codes : (k : ℕ)
   step_world w v Connect q some of h t keeps windows counts = connect_world w v q some h t windows
   step_world w v (ToServer n) q some of h t keeps windows counts =
       subst (IsWorld (counted_step setup (beside w q) (ToServer n))) (sym h.0) (record {
-    link = option_map (served_by (shown_all setup places w.pushed) w.client.talk n) q;
-    is = refl;
-    windows = windows;
-    counts = subst (λ (ws : List Window). AreCounts w.client (option_map (served_by ws w.client.talk n) q) v.link)
-        windows (served_links w n q w.link v.link t counts h.1);
-  })
+        link = option_map (served_by (shown_all setup places w.pushed) w.client.talk n) q;
+        is = refl;
+        windows = windows;
+        counts = subst (λ (ws : List Window). AreCounts w.client (option_map (served_by ws w.client.talk n) q) v.link)
+            windows (served_links w n q w.link v.link t counts h.1);
+      })
   step_world w v (ToClient n) q some of h t keeps windows counts =
       heard_world w v n q w.link v.link t keeps windows h.windows h.pushed refl refl h.link h.unlinked counts
   step_world w v (Send k) q some of h t keeps windows counts =
       subst (IsWorld (counted_step setup (beside w q) (Send k))) (sym h) (record {
-    link = option_map (sent_by (shown_all setup places w.pushed) k) q;
-    is = refl;
-    windows = windows;
-    counts = subst (λ (ws : List Window). AreCounts w.client (option_map (sent_by ws k) q)
-        (option_map (sent_on w.windows k) w.link)) windows (sent_links w k q w.link t counts);
-  })
+        link = option_map (sent_by (shown_all setup places w.pushed) k) q;
+        is = refl;
+        windows = windows;
+        counts = subst (λ (ws : List Window). AreCounts w.client (option_map (sent_by ws k) q)
+            (option_map (sent_on w.windows k) w.link)) windows (sent_links w k q w.link t counts);
+      })
   step_world w v Cut q some of h t keeps windows counts =
       subst (IsWorld (counted_step setup (beside w q) Cut)) (sym h)
       (record { link = None; is = refl; windows = windows; counts = tt })
@@ -256,9 +282,16 @@ module _ (setup : Setup) (differ : Differ setup.places.items) (codes : (k : ℕ)
   facts_beside client (Some c) None k = absurd k
   facts_beside client (Some c) (Some l) k = λ linked.
       let pin : Pinned places client l.session.state (take c.taken c.said) l.to_server l.to_client
-          (behind c.delivered c.sent) = k.linked linked in
-      record { phase = l.session.state.phase; taken = take c.taken c.said; way = l.to_server; shakes = pin.shakes;
-          borne = pin.flows.borne; ends = pin.ends; few = k.delivered_few }
+      (behind c.delivered c.sent) = k.linked linked in
+      record {
+        phase = l.session.state.phase;
+        taken = take c.taken c.said;
+        way = l.to_server;
+        shakes = pin.shakes;
+        borne = pin.flows.borne;
+        ends = pin.ends;
+        few = k.delivered_few;
+      }
 
   facts_of : (c : Counted) (w : WorldState) → IsWorld c w → AreFacts places c.talk c.link
   facts_of c w i = subst (λ (x : Counted). AreFacts places x.talk x.link) (sym i.is)
@@ -272,10 +305,10 @@ module _ (setup : Setup) (differ : Differ setup.places.items) (codes : (k : ℕ)
   all_world (step ∷ steps) w v c run some of t keeps i shaped =
       let next : IsWorld (counted_step setup c step) run.0 = next_world w run.0 c step some of.0 run.1 t keeps i in
       all_world steps run.0 v (counted_step setup c step) run.2 some of.2
-          (step_talks places differ codes w run.0 step some of.0 of.1 run.1 t)
-          (step_keeps places differ codes w t keeps step run.0 run.1) next
+      (step_talks places differ codes w run.0 step some of.0 of.1 run.1 t)
+      (step_keeps places differ codes w t keeps step run.0 run.1) next
       (step_shaped setup c step some (subst (λ (x : Counted). AreAsked places x.talk.wants) (sym i.is) t.asked)
-          (facts_of c w i) shaped)
+      (facts_of c w i) shaped)
 
   -- what is told of it
   link_counted : (client : Listening) (c : CountedLink) (l : LinkState) → Counts places client c l
@@ -314,12 +347,16 @@ opening_shown : (setup : Setup) (ps : Places) → map (empty_window setup) ps �
 opening_shown setup [] = refl
 opening_shown setup (p ∷ ps) =
     let one : empty_window setup p ≡ shown_of setup p [] =
-        ap (λ (rs : List (List ℕ)). record { place = p.0; capacity = setup.capacity; records = rs;
-        next = setup.first }) (sym (drop_none (0 - setup.capacity)))
+    ap (λ (rs : List (List ℕ)). record {
+      place = p.0;
+      capacity = setup.capacity;
+      records = rs;
+      next = setup.first;
+    }) (sym (drop_none (0 - setup.capacity)))
     ∙ ap (λ n. record { place = p.0; capacity = setup.capacity; records = window setup.capacity []; next = n })
     (let e : setup.first ≡ setup.first + length {A = List ℕ} [] = omega arith in e) in
     ap (λ (w : Window). w ∷ map (empty_window setup) ps) one
-        ∙ ap (λ ws. shown_of setup p [] ∷ ws) (opening_shown setup ps)
+    ∙ ap (λ ws. shown_of setup p [] ∷ ws) (opening_shown setup ps)
 
 module _ (setup : Setup) (steps : List Step) (now : WorldState) (run : AllHappen (opening setup) steps now)
     (schedule : IsSchedule setup steps) (askable : AreAskable setup.places.items) where

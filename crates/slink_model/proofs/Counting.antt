@@ -1,7 +1,7 @@
 -- Lists and counts of bytes: which replies and packets are whole in so many, and whether a line waits.
-use Rattle.std.proofs.Common.{◌≡◌, ℕ, ◌+◌, ◌-◌, ◌<◌, ◌≤◌, inl, inr, min, suc, zero, refl, sym, ap, subst, ◌∙◌, arith,
-    if◌then◌else◌, List, [], ◌∷◌, ◌++◌, append_assoc, length, length-append, map, take, drop, take-append-drop, ◌%◌,
-    ◌^◌, codes}
+use Rattle.std.proofs.Common.{◌≡◌, ℕ, ◌+◌, ◌-◌, ◌<◌, ◌≤◌, inl, inr, min, suc, zero, refl, sym, ap, subst, ◌∙◌, arith}
+use Rattle.std.proofs.Common.{if◌then◌else◌, List, [], ◌∷◌, ◌++◌, append_assoc, length, length-append, map, take, drop}
+use Rattle.std.proofs.Common.{take-append-drop, ◌%◌, ◌^◌, codes}
 use Rattle.std.proofs.Math.Seq.{take-add, take-append-add, drop-append-add}
 use Rattle.std.proofs.lemmas.Bool.Decides.{leb_tells}
 use Rattle.std.proofs.lemmas.List.{append_cancel_right, drop-drop, drop_min, take_min}
@@ -43,11 +43,13 @@ pub whole_or : (i : Item) (is : List Item) (d : ℕ) (P : List Item → List Ite
     → (d < length (item_bytes i) → P [] (i ∷ is) d) → P (wholes d (i ∷ is)) (behind d (i ∷ is)) (part d (i ∷ is))
 whole_or i is d P fit lack = elim (leb_tells (length (item_bytes i)) d) [
   | inl fits ↦ subst (λ t. P (if t then i ∷ wholes (d - length (item_bytes i)) is else [])
-  (if t then behind (d - length (item_bytes i)) is else i ∷ is) (if t then part (d - length (item_bytes i)) is else d))
-  (sym fits.0) (fit fits.1)
+      (if t then behind (d - length (item_bytes i)) is else i ∷ is)
+      (if t then part (d - length (item_bytes i)) is else d))
+      (sym fits.0) (fit fits.1)
   | inr short ↦ subst (λ t. P (if t then i ∷ wholes (d - length (item_bytes i)) is else [])
-  (if t then behind (d - length (item_bytes i)) is else i ∷ is) (if t then part (d - length (item_bytes i)) is else d))
-  (sym short.0) (lack short.1)
+      (if t then behind (d - length (item_bytes i)) is else i ∷ is)
+      (if t then part (d - length (item_bytes i)) is else d))
+      (sym short.0) (lack short.1)
 ]
 
 past : (xs ys : List ℕ) (d : ℕ) → length xs ≤ d → drop d (xs ++ ys) ≡ drop (d - length xs) ys
@@ -73,7 +75,7 @@ take_wholes [] (suc d) = refl
 take_wholes (i ∷ is) d =
     whole_or i is d (λ ws bs p. take d (way_bytes (i ∷ is)) ≡ bytes_of (map brought_of ws) ++ take p (way_bytes bs))
     (λ le. taken_past (item_bytes i) (way_bytes is) d le
-        ∙ (ap (λ b. item_bytes i ++ b) (take_wholes is (d - length (item_bytes i)))
+    ∙ (ap (λ b. item_bytes i ++ b) (take_wholes is (d - length (item_bytes i)))
     ∙ sym (append_assoc (item_bytes i) (bytes_of (map brought_of (wholes (d - length (item_bytes i)) is)))
     (take (part (d - length (item_bytes i)) is) (way_bytes (behind (d - length (item_bytes i)) is))))))
     (λ lt. refl)
@@ -114,7 +116,7 @@ behind_on (i ∷ is) d n = elim (leb_tells (length (item_bytes i)) d) [
     | inr less ↦ absurd (omega (arith, fits.1, less.1))
   ]
   | inr short ↦ ap (λ t. behind ((if t then part (d - length (item_bytes i)) is else d) + n)
-  (if t then behind (d - length (item_bytes i)) is else i ∷ is)) (sym short.0)
+      (if t then behind (d - length (item_bytes i)) is else i ∷ is)) (sym short.0)
 ]
 
 -- and where there are no more bytes
@@ -122,9 +124,9 @@ pub left_after : (is : List Item) (d n : ℕ) → d ≤ length (way_bytes is)
     → behind (min (d + n) (length (way_bytes is))) is ≡ behind (part d is + n) (behind d is)
 left_after is d n le = elim (leb_tells (d + n) (length (way_bytes is))) [
   | inl few ↦ ap (λ m. behind m is) (let e : min (d + n) (length (way_bytes is)) ≡ d + n = omega (arith, few.1) in e)
-  ∙ behind_on is d n
+      ∙ behind_on is d n
   | inr many ↦ behind_all is (min (d + n) (length (way_bytes is))) (omega (arith, many.1))
-  ∙ (sym (behind_all is (d + n) (omega (arith, many.1))) ∙ behind_on is d n)
+      ∙ (sym (behind_all is (d + n) (omega (arith, many.1))) ∙ behind_on is d n)
 ]
 
 -- what is kept of a stream that goes on with what isn't delivered
@@ -133,4 +135,4 @@ pub kept_part : (kept : List ℕ) (is : List Item) (d : ℕ) → kept ++ drop d 
 kept_part kept is d flow =
     let w : List ℕ = way_bytes (behind d is) in
     append_cancel_right kept (take (part d is) w) (drop (part d is) w) (ap (λ b. kept ++ b) (sym (drop_behind is d))
-        ∙ (flow ∙ sym (take-append-drop (part d is) w)))
+    ∙ (flow ∙ sym (take-append-drop (part d is) w)))

@@ -1,7 +1,7 @@
 -- The counts of a link, with who has said what.
-use Rattle.std.proofs.Common.{◌≡◌, ℕ, ◌+◌, ◌≤◌, ◌%◌, ◌^◌, inl, inr, refl, sym, ap, subst, ◌∙◌, arith, Bool, true, false,
-    ◌&&◌, not, List, [], ◌∷◌, ◌++◌, append-nil, length, length-append, length-drop, set, take, drop, take-append-drop,
-    Option, Some, None, slice_get}
+use Rattle.std.proofs.Common.{◌≡◌, ℕ, ◌+◌, ◌≤◌, ◌%◌, ◌^◌, inl, inr, refl, sym, ap, subst, ◌∙◌, arith, Bool, true, false}
+use Rattle.std.proofs.Common.{◌&&◌, not, List, [], ◌∷◌, ◌++◌, append-nil, length, length-append, length-drop, set, take}
+use Rattle.std.proofs.Common.{drop, take-append-drop, Option, Some, None, slice_get}
 use Rattle.std.specs.Option.{option_and_then}
 use Rattle.std.proofs.lemmas.Bool.Decides.{leb_tells}
 use Rattle.std.proofs.lemmas.List.{drop-append-le}
@@ -20,8 +20,8 @@ use Rattle.slink_feed.specs.declared.grant.Grant.{Grant}
 use Rattle.slink_feed.specs.declared.grant.Mode.{Mode}
 use Rattle.slink_feed.specs.declared.session.Phase.{Phase}
 use Rattle.slink_feed.specs.declared.session.Phase.TheVariants.{Chosen, Granted, Streaming, Closed}
-use Rattle.slink_model.specs.Counted.{CountedLink, answer_at, behind, if_come, replied as counted_reply, served_by,
-    taken_by, waits}
+use Rattle.slink_model.specs.Counted.{CountedLink, answer_at, behind, if_come, replied as counted_reply, served_by}
+use Rattle.slink_model.specs.Counted.{taken_by, waits}
 use Rattle.slink_feed.specs.Dialogue.{next_at, numbered}
 use Rattle.slink_feed.specs.Grant.{grant_of}
 use Rattle.slink_feed.specs.Listening.{IsLinked, Listening}
@@ -39,9 +39,10 @@ use Rattle.slink_model.proofs.Items.{reply_items, way_more}
 use Rattle.slink_model.proofs.Lined.{IsAnswered, IsAsking}
 use Rattle.slink_model.proofs.OneWorld.{linked_or}
 use Rattle.slink_model.proofs.Requested.{end_command, number_command, station_command}
-use Rattle.slink_model.proofs.Shaking.{AreAsked, AreRinged, Flows, IsSuited, Shakes, a_grant, asked_place, asks_end,
-    asks_number, asks_place, granted_alike, has_none, has_number, has_place, in_phase, is_short, no_grant, none_suited,
-    number_granted, place_chosen, replied, streams, unanswered}
+use Rattle.slink_model.proofs.Shaking.{AreAsked, AreRinged, Flows, IsSuited, Shakes, a_grant, asked_place, asks_end}
+use Rattle.slink_model.proofs.Shaking.{asks_number, asks_place, granted_alike, has_none, has_number, has_place}
+use Rattle.slink_model.proofs.Shaking.{in_phase, is_short, no_grant, none_suited, number_granted, place_chosen, replied}
+use Rattle.slink_model.proofs.Shaking.{streams, unanswered}
 use Rattle.slink_model.proofs.Waiting.{answered_few, asking_waits}
 
 -- Nothing comes behind the end, which closes the session.
@@ -78,8 +79,8 @@ pub pinned_as : (places : Places) (client : Listening) (s : State) (a b x y p q 
     → x ≡ y → p ≡ q → i ≡ j → Pinned places client s a x p i → Pinned places client s b y q j
 pinned_as places client s a b x y p q i j ab xy pq ij h =
     subst (λ z. Pinned places client s z y q j) ab
-        (subst (λ z. Pinned places client s a z q j) xy
-        (subst (λ z. Pinned places client s a x z j) pq (subst (Pinned places client s a x p) ij h)))
+    (subst (λ z. Pinned places client s a z q j) xy
+    (subst (λ z. Pinned places client s a x z j) pq (subst (Pinned places client s a x p) ij h)))
 
 -- whether a line waits
 waits_true : (taken : ℕ) (said way : List ℕ) → way ≡ drop taken said → 2 ≤ length way → waits taken said ≡ true
@@ -117,10 +118,12 @@ module _ (places : Places) (differ : Differ places) (codes : (k : ℕ) (p : Fiel
         → chosen (Some k) s ≡ (now, reply) → Left now reply items
     place_left now reply k stage is =
         left_as now (at (Chosen k) (set s.grants k None)) reply replies.Ok (sym (ap (λ (x : State × Reply). x.0) is))
-            (sym (ap (λ (x : State × Reply). x.1) is)) (record {
+        (sym (ap (λ (x : State × Reply). x.1) is)) (record {
           flows = replied places differ codes client asked feed ringed s.grants (set s.grants k None) way items
-              replies.Ok none (λ i. no_grant places differ codes client asked feed ringed s.grants k i suits) (tt,
-              tt) f;
+              replies.Ok none (λ i. no_grant places differ codes client asked feed ringed s.grants k i suits) (
+                tt,
+                tt,
+              ) f;
           shakes = has_place k stage refl told refl;
           ends = tt;
         })
@@ -130,7 +133,7 @@ module _ (places : Places) (differ : Differ places) (codes : (k : ℕ) (p : Fiel
         → ((p m : ℕ) → o ≡ Some p → next_at client.talk.wants k ≡ Some m → p % 2 ^ 24 ≡ m) → Left now reply items
     number_left now reply k mode None stage phase is wanted =
         left_as now s reply replies.Error (sym (ap (λ (x : State × Reply). x.0) is))
-            (sym (ap (λ (x : State × Reply). x.1) is)) (record {
+        (sym (ap (λ (x : State × Reply). x.1) is)) (record {
           flows = replied places differ codes client asked feed ringed s.grants s.grants way items replies.Error none
               suits (tt, tt) f;
           shakes = has_none k stage phase told refl;
@@ -139,11 +142,11 @@ module _ (places : Places) (differ : Differ places) (codes : (k : ℕ) (p : Fiel
     number_left now reply k mode (Some p) stage phase is wanted =
         let g : Grant = record { mode = mode; position = p } in
         left_as now (at (Granted k) (set s.grants k (Some g))) reply replies.Ok
-            (sym (ap (λ (x : State × Reply). x.0) is)) (sym (ap (λ (x : State × Reply). x.1) is)) (record {
+        (sym (ap (λ (x : State × Reply). x.0) is)) (sym (ap (λ (x : State × Reply). x.1) is)) (record {
           flows = replied places differ codes client asked feed ringed s.grants (set s.grants k (Some g)) way items
               replies.Ok none
               (λ i. a_grant places differ codes client asked feed ringed s.grants k i g (λ m e. wanted p m refl e)
-                  suits) (tt, tt) f;
+              suits) (tt, tt) f;
           shakes = has_number k stage refl told refl;
           ends = tt;
         })
@@ -152,7 +155,7 @@ module _ (places : Places) (differ : Differ places) (codes : (k : ℕ) (p : Fiel
         → ◌≡◌ {A = State × Reply} (at Streaming s.grants, replies.Nothing) (now, reply) → Left now reply items
     end_left now reply stage is =
         left_as now (at Streaming s.grants) reply replies.Nothing (sym (ap (λ (x : State × Reply). x.0) is))
-            (sym (ap (λ (x : State × Reply). x.1) is)) (record {
+        (sym (ap (λ (x : State × Reply). x.1) is)) (record {
           flows = unanswered places differ codes client asked feed ringed s.grants s.grants way [] replies.Nothing refl
               refl (subst (Flows places client s.grants way) none f);
           shakes = streams stage (λ b. b) tt (λ _. told);
@@ -206,26 +209,30 @@ module _ (places : Places) (differ : Differ places) (codes : (k : ℕ) (p : Fiel
         → (m.session.state.phase ≡ Closed → length rest ≤ 1) → Counts places client d m
     made d reply is sent held pinned quiet few =
         subst (λ (x : CountedLink). Counts places client x m) (sym is) (record {
-      session = refl;
-      first_sent = served.first_sent ∙ counts.first_sent;
-      to_server = served.left ∙ drop_now;
-      to_client = sent ∙ (ap (λ b. b ++ reply_bytes reply) counts.to_client
-          ∙ (ap (λ b. drop c.delivered (way_bytes c.sent) ++ b) (reply_items reply)
-          ∙ (sym (drop-append-le c.delivered (way_bytes c.sent) (way_bytes (items_of reply)) counts.delivered_few)
-          ∙ ap (drop c.delivered) (sym (way_more c.sent (items_of reply))))));
-      taken_few = omega arith;
-      delivered_few = omega (arith, counts.delivered_few, ap length (way_more c.sent (items_of reply)),
-          length-append (way_bytes c.sent) (way_bytes (items_of reply)));
-      held = λ awake. subst (IsHeld m.session.held) (sym take_now) (held awake);
-      linked = λ there. pinned_as places client m.session.state (before ++ bytes) (take (taken_by n c) c.said) rest
-          m.to_server (l.to_client ++ reply_bytes reply) m.to_client (items ++ items_of reply)
-          (behind c.delivered (c.sent ++ items_of reply))
-          (sym take_now) (sym served.left) (sym sent)
+          session = refl;
+          first_sent = served.first_sent ∙ counts.first_sent;
+          to_server = served.left ∙ drop_now;
+          to_client = sent ∙ (ap (λ b. b ++ reply_bytes reply) counts.to_client
+              ∙ (ap (λ b. drop c.delivered (way_bytes c.sent) ++ b) (reply_items reply)
+              ∙ (sym (drop-append-le c.delivered (way_bytes c.sent) (way_bytes (items_of reply)) counts.delivered_few)
+              ∙ ap (drop c.delivered) (sym (way_more c.sent (items_of reply))))));
+          taken_few = omega arith;
+          delivered_few = omega (
+            arith,
+            counts.delivered_few,
+            ap length (way_more c.sent (items_of reply)),
+            length-append (way_bytes c.sent) (way_bytes (items_of reply)),
+          );
+          held = λ awake. subst (IsHeld m.session.held) (sym take_now) (held awake);
+          linked = λ there. pinned_as places client m.session.state (before ++ bytes) (take (taken_by n c) c.said) rest
+              m.to_server (l.to_client ++ reply_bytes reply) m.to_client (items ++ items_of reply)
+              (behind c.delivered (c.sent ++ items_of reply))
+              (sym take_now) (sym served.left) (sym sent)
               (sym (behind_more c.sent (items_of reply) c.delivered counts.delivered_few)) (pinned there);
-      quiet = λ over awake. subst (λ b. IsAnswered b m.to_server) (sym take_now)
-          (subst (IsAnswered (before ++ bytes)) (sym served.left) (quiet over awake));
-      over = λ shut. subst (λ b. length b ≤ 1) (sym served.left) (few shut);
-    })
+          quiet = λ over awake. subst (λ b. IsAnswered b m.to_server) (sym take_now)
+              (subst (IsAnswered (before ++ bytes)) (sym served.left) (quiet over awake));
+          over = λ shut. subst (λ b. length b ≤ 1) (sym served.left) (few shut);
+        })
 
     nothing_more : m.to_client ≡ l.to_client → m.to_client ≡ l.to_client ++ reply_bytes replies.Nothing
     nothing_more same = same ∙ sym (append-nil l.to_client)
@@ -236,7 +243,7 @@ module _ (places : Places) (differ : Differ places) (codes : (k : ℕ) (p : Fiel
     pinned_still same h = subst (λ (x : State). Pinned places client x (before ++ bytes) rest (l.to_client ++ [])
         (items ++ [])) (sym same)
         (pinned_as places client s (before ++ bytes) (before ++ bytes) rest rest l.to_client (l.to_client ++ []) items
-            (items ++ []) refl refl (sym (append-nil l.to_client)) (sym (append-nil items)) h)
+        (items ++ []) refl refl (sym (append-nil l.to_client)) (sym (append-nil items)) h)
 
     -- a session that is closed
     shut_counted : s.phase ≡ Closed
@@ -244,16 +251,16 @@ module _ (places : Places) (differ : Differ places) (codes : (k : ℕ) (p : Fiel
         → Counts places client (served_by feed client.talk n c) m
     shut_counted shut pinned =
         let on : (m.session ≡ l.session) × (m.to_client ≡ l.to_client) =
-            shut_on feed l.session bytes l.to_client m.session m.to_client served.serves shut in
+        shut_on feed l.session bytes l.to_client m.session m.to_client served.serves shut in
         let same : m.session.state ≡ s = ap (λ (x : Standing). x.state) on.0 in
         let closed : m.session.state.phase ≡ Closed = ap (λ (x : State). x.phase) same ∙ shut in
         let few : length l.to_server ≤ 1 = counts.over shut in
         let none : waits c.taken c.said ≡ false = waits_false c.taken c.said l.to_server counts.to_server few in
         made (served_by feed client.talk n c) replies.Nothing
-            (ap (λ t. if_come (t && not (waits (taken_by n c) c.said)) feed client.talk base) none
-            ∙ base_is (sym same)) (nothing_more on.1) (λ awake. absurd (awake closed))
+        (ap (λ t. if_come (t && not (waits (taken_by n c) c.said)) feed client.talk base) none
+        ∙ base_is (sym same)) (nothing_more on.1) (λ awake. absurd (awake closed))
         (λ there. pinned_still same (pinned there)) (λ over awake. absurd (awake closed))
-            (λ _. omega (arith, few, length-drop n l.to_server))
+        (λ _. omega (arith, few, length-drop n l.to_server))
 
     -- all lines are answered
     told_counted : Open s.phase → IsAnswered before l.to_server
@@ -262,15 +269,15 @@ module _ (places : Places) (differ : Differ places) (codes : (k : ℕ) (p : Fiel
         → Counts places client (served_by feed client.talk n c) m
     told_counted awake told pinned =
         let on : IsOn feed l.session m.session l.to_client m.to_client (before ++ bytes) rest =
-            quiet_on feed l.session bytes l.to_client m.session m.to_client rest before served.serves awake
-            (counts.held awake) (subst (IsAnswered before) cut told) in
+        quiet_on feed l.session bytes l.to_client m.session m.to_client rest before served.serves awake
+        (counts.held awake) (subst (IsAnswered before) cut told) in
         let none : waits c.taken c.said ≡ false =
-            waits_false c.taken c.said l.to_server counts.to_server (answered_few before l.to_server told) in
+        waits_false c.taken c.said l.to_server counts.to_server (answered_few before l.to_server told) in
         made (served_by feed client.talk n c) replies.Nothing
-            (ap (λ t. if_come (t && not (waits (taken_by n c) c.said)) feed client.talk base) none
-            ∙ base_is (sym on.state)) (nothing_more on.sent) (λ _. on.held)
+        (ap (λ t. if_come (t && not (waits (taken_by n c) c.said)) feed client.talk base) none
+        ∙ base_is (sym on.state)) (nothing_more on.sent) (λ _. on.held)
         (λ there. pinned_still on.state (pinned there on.told)) (λ over _. on.told)
-            (λ _. answered_few (before ++ bytes) rest on.told)
+        (λ _. answered_few (before ++ bytes) rest on.told)
 
     -- a line waits
     request_counted : (r : Request) (awake : Open s.phase) (known : IsCommand (request_line r) (requested r))
@@ -286,7 +293,7 @@ module _ (places : Places) (differ : Differ places) (codes : (k : ℕ) (p : Fiel
         → Counts places client (served_by feed client.talk n c) m
     request_counted r awake known stays_open there answer asks still next =
         which (asked_on feed s r awake known stays_open l.session bytes l.to_client m.session m.to_client rest before
-            served.serves refl (counts.held awake) (subst (IsAsking (request_line r) before) cut asks))
+        served.serves refl (counts.held awake) (subst (IsAsking (request_line r) before) cut asks))
       where
         old : waits c.taken c.said ≡ true
         old = waits_true c.taken c.said l.to_server counts.to_server
@@ -301,40 +308,40 @@ module _ (places : Places) (differ : Differ places) (codes : (k : ℕ) (p : Fiel
             → Counts places client (served_by feed client.talk n c) m
         which (not_yet same sent kept more) =
             made (served_by feed client.talk n c) replies.Nothing
-                (served_as true (waits_true (taken_by n c) c.said rest drop_now
-                (asking_waits (request_line r) (before ++ bytes) rest more)) ∙ base_is (sym same)) (nothing_more sent)
-                (λ _. kept)
+            (served_as true (waits_true (taken_by n c) c.said rest drop_now
+            (asking_waits (request_line r) (before ++ bytes) rest more)) ∙ base_is (sym same)) (nothing_more sent)
+            (λ _. kept)
             (λ _. pinned_still same (still more)) (λ over _. absurd (over there))
-                (λ shut. absurd (awake (ap (λ (x : State). x.phase) (sym same) ∙ shut)))
+            (λ shut. absurd (awake (ap (λ (x : State). x.phase) (sym same) ∙ shut)))
         which (it_came reply sent done kept told) =
             let is : answer_at client.talk.stage feed client.talk c.session ≡ (m.session.state, reply) =
-                ap (λ (x : State). answer_at client.talk.stage feed client.talk x) (sym counts.session)
-                ∙ answer m.session.state reply done in
+            ap (λ (x : State). answer_at client.talk.stage feed client.talk x) (sym counts.session)
+            ∙ answer m.session.state reply done in
             made (served_by feed client.talk n c) reply
-                (served_as false (waits_false (taken_by n c) c.said rest drop_now
-                (answered_few (before ++ bytes) rest told)) ∙ ap (λ (x : State × Reply). counted_reply x base) is) sent
-                (λ _. kept)
+            (served_as false (waits_false (taken_by n c) c.said rest drop_now
+            (answered_few (before ++ bytes) rest told)) ∙ ap (λ (x : State × Reply). counted_reply x base) is) sent
+            (λ _. kept)
             (λ _. next m.session.state reply done told) (λ over _. absurd (over there))
-                (λ _. answered_few (before ++ bytes) rest told)
+            (λ _. answered_few (before ++ bytes) rest told)
 
     -- by who has said what
     by_shakes : IsLinked client.talk.stage → Flows places client s.grants l.to_client items → EndsIn s.phase items
         → Shakes client.talk s.phase before l.to_server items → Counts places client (served_by feed client.talk n c) m
     by_shakes there f ends (asks_place k w stage want ready asks none) =
         let at_k : (IsField 5 w.place.station × IsField 2 w.place.network)
-            × (station_at feed w.place.station (Some w.place.network) ≡ Some k) =
-            asked_place places differ codes client asked feed ringed k w want in
+        × (station_at feed w.place.station (Some w.place.network) ≡ Some k) =
+        asked_place places differ codes client asked feed ringed k w want in
         let choose : (now : State) (reply : Reply)
-            → answered feed s (requested (requests.Station w.place)) ≡ (now, reply)
-            → chosen (Some k) s ≡ (now, reply) =
-            λ now reply is. place_chosen places differ codes client asked feed ringed s now reply k w ready at_k.1 is in
+        → answered feed s (requested (requests.Station w.place)) ≡ (now, reply)
+        → chosen (Some k) s ≡ (now, reply) =
+        λ now reply is. place_chosen places differ codes client asked feed ringed s now reply k w ready at_k.1 is in
         request_counted (requests.Station w.place) (ready_for_open k s.phase ready)
-            (station_command w.place at_k.0.0 at_k.0.1)
-            (λ new reply is. (chosen_open s new reply k (choose new reply is)).1) there
+        (station_command w.place at_k.0.0 at_k.0.1)
+        (λ new reply is. (chosen_open s new reply k (choose new reply is)).1) there
         (λ now reply is. ap (λ (x : Stage). answer_at x feed client.talk s) stage ∙ choose now reply is) asks
         (λ more. record { flows = f; shakes = asks_place k w stage want ready more none; ends = ends })
         (λ now reply is told. place_left s (before ++ bytes) rest l.to_client items none told f now reply k stage
-            (choose now reply is))
+        (choose now reply is))
     by_shakes there f ends (has_place k stage phase told one) =
         told_counted (open_at s.phase (Chosen k) phase tt) told
         (λ _ more. record { flows = f; shakes = has_place k stage phase more one; ends = ends })
@@ -343,19 +350,19 @@ module _ (places : Places) (differ : Differ places) (codes : (k : ℕ) (p : Fiel
         let number : Option ℕ = next_at client.talk.wants k in
         let o : Option ℕ = option_and_then (grant_of mode number) (slice_get feed k) in
         let grant : (now : State) (reply : Reply) → answered feed s (requested (numbered mode number)) ≡ (now, reply)
-            → granted mode k o s ≡ (now, reply) =
-            λ now reply is. number_granted places differ codes client asked feed ringed s now reply k mode number phase
-            is in
+        → granted mode k o s ≡ (now, reply) =
+        λ now reply is. number_granted places differ codes client asked feed ringed s now reply k mode number phase
+        is in
         request_counted (numbered mode number) (open_at s.phase (Chosen k) phase tt)
-            (number_command mode number (is_short places differ codes client asked feed ringed number
-            (λ x e. asked.short k x e))) (λ new reply is. granted_open s new reply k mode o phase (grant new reply is))
-            there
+        (number_command mode number (is_short places differ codes client asked feed ringed number
+        (λ x e. asked.short k x e))) (λ new reply is. granted_open s new reply k mode o phase (grant new reply is))
+        there
         (λ now reply is. ap (λ (x : Stage). answer_at x feed client.talk s) stage ∙ grant now reply is) asks
         (λ more. record { flows = f; shakes = asks_number k stage phase more none; ends = ends })
         (λ now reply is told. number_left s (before ++ bytes) rest l.to_client items none told f now reply k mode o
-            stage phase (grant now reply is)
+        stage phase (grant now reply is)
         (λ p m e wanted. granted_alike places differ codes client asked feed ringed mode number (slice_get feed k) p m
-            e wanted (asked.short k m wanted)))
+        e wanted (asked.short k m wanted)))
     by_shakes there f ends (has_number k stage phase told one) =
         told_counted (open_at s.phase (Granted k) phase tt) told
         (λ _ more. record { flows = f; shakes = has_number k stage phase more one; ends = ends })
@@ -364,27 +371,27 @@ module _ (places : Places) (differ : Differ places) (codes : (k : ℕ) (p : Fiel
         (λ _ more. record { flows = f; shakes = has_none k stage phase more one; ends = ends })
     by_shakes there f ends (asks_end k stage phase asks none) =
         let streaming : (now : State) (reply : Reply) → answered feed s (requested requests.End) ≡ (now, reply)
-            → ◌≡◌ {A = State × Reply} (at Streaming s.grants, replies.Nothing) (now, reply) =
-            λ now reply is. in_phase places differ codes client asked feed ringed (Granted k) s now reply requests.End
-            phase is in
+        → ◌≡◌ {A = State × Reply} (at Streaming s.grants, replies.Nothing) (now, reply) =
+        λ now reply is. in_phase places differ codes client asked feed ringed (Granted k) s now reply requests.End
+        phase is in
         request_counted requests.End (open_at s.phase (Granted k) phase tt) end_command
         (λ new reply is. subst (λ (x : State × Reply). Open x.0.phase) (streaming new reply is)
-            (λ e. let bad : Streaming ≡ Closed = e in cc bad)) there
+        (λ e. let bad : Streaming ≡ Closed = e in cc bad)) there
         (λ now reply is. ap (λ (x : Stage). answer_at x feed client.talk s) stage ∙ streaming now reply is) asks
         (λ more. record { flows = f; shakes = asks_end k stage phase more none; ends = ends })
         (λ now reply is told. end_left s (before ++ bytes) rest l.to_client items none told f now reply stage
-            (streaming now reply is))
+        (streaming now reply is))
     by_shakes there f ends (streams stage later sent told) = elim (open_or s.phase) [
       | inl shut ↦ shut_counted shut
-      (λ _. record { flows = f; shakes = streams stage later sent (λ awake. absurd (awake shut)); ends = ends })
+          (λ _. record { flows = f; shakes = streams stage later sent (λ awake. absurd (awake shut)); ends = ends })
       | inr awake ↦ told_counted awake (told awake)
-      (λ _ more. record { flows = f; shakes = streams stage later sent (λ _. more); ends = ends })
+          (λ _ more. record { flows = f; shakes = streams stage later sent (λ _. more); ends = ends })
     ]
 
     pub served_counts : Counts places client (served_by feed client.talk n c) m
     served_counts = elim (linked_or client.talk.stage) [
       | inl there ↦ let p : Pinned places client s before l.to_server l.to_client items = counts.linked there in
-      by_shakes there p.flows p.ends p.shakes
+          by_shakes there p.flows p.ends p.shakes
       | inr over ↦ elim (open_or s.phase) [
         | inl shut ↦ shut_counted shut (λ there. absurd (over there))
         | inr awake ↦ told_counted awake (counts.quiet over awake) (λ there _. absurd (over there))

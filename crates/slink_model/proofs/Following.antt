@@ -1,6 +1,7 @@
 -- Stretches of the records of one place.
-use Rattle.std.proofs.Common.{◌≡◌, ℕ, ◌+◌, ◌-◌, ◌%◌, ◌^◌, ◌<◌, ◌≤◌, inl, inr, zero, suc, refl, sym, ap, subst, ◌∙◌,
-    arith, List, [], ◌∷◌, ◌++◌, append_assoc, length, length-append, Option, Some, None, slice_get}
+use Rattle.std.proofs.Common.{◌≡◌, ℕ, ◌+◌, ◌-◌, ◌%◌, ◌^◌, ◌<◌, ◌≤◌, inl, inr, zero, suc, refl, sym, ap, subst, ◌∙◌}
+use Rattle.std.proofs.Common.{arith, List, [], ◌∷◌, ◌++◌, append_assoc, length, length-append, Option, Some, None}
+use Rattle.std.proofs.Common.{slice_get}
 use Rattle.slink_feed.specs.declared.grant.Grant.{Grant}
 use Rattle.slink_model.specs.Ties.{AreNext, Holds, IsNear, IsFirst, IsOnWay}
 use Rattle.slink_model.specs.World.{or_else}
@@ -17,7 +18,7 @@ split_at (x ∷ xs) zero r h = let both : Some x ≡ Some r = h in let same : x 
     ([], xs, ap (λ y. y ∷ xs) same, refl)
 split_at (x ∷ xs) (suc i) r h =
     let more : (front : List (List ℕ)) × (back : List (List ℕ)) × (xs ≡ front ++ r ∷ back) × (length front ≡ i) =
-        split_at xs i r h in
+    split_at xs i r h in
     (x ∷ more.0, more.1, ap (λ ys. x ∷ ys) more.2, omega (arith, more.3))
 
 pub head_at : (xs ys : List (List ℕ)) (r : List ℕ) → slice_get (xs ++ ys) (length xs) ≡ Some r
@@ -43,32 +44,44 @@ pub holds_next : (first n : ℕ) (F : List (List ℕ)) (next : Option ℕ) (held
     → Holds first F (Some ((n + 1) % 2 ^ 24)) (held ++ r ∷ []) (or_else start (Some n))
 holds_next first n F next held None r from at same h =
     let cut : (front : List (List ℕ)) × (back : List (List ℕ)) × (F ≡ front ++ r ∷ back) × (length front ≡ n - first) =
-        split_at F (n - first) r at in
-    let one : r ∷ [] ≡ held ++ r ∷ [] = ap (λ xs. xs ++ r ∷ []) (sym h) in
-    (cut.0, cut.1, cut.2 ∙ ap (λ xs. cut.0 ++ (xs ++ cut.1)) one, omega (arith, cut.3, from),
-        ap (λ m. Some (m % 2 ^ 24)) (let e : n + 1 ≡ n + length (held ++ r ∷ []) = omega (arith, ap length one) in e))
+    split_at F (n - first) r at in
+    let one : r ∷ [] ≡ held ++ r ∷ [] = ap (λ xs. xs ++ r ∷ []) (sym h) in (
+      cut.0,
+      cut.1,
+      cut.2 ∙ ap (λ xs. cut.0 ++ (xs ++ cut.1)) one,
+      omega (arith, cut.3, from),
+      ap (λ m. Some (m % 2 ^ 24)) (let e : n + 1 ≡ n + length (held ++ r ∷ []) = omega (arith, ap length one) in e),
+    )
 holds_next first n F next held (Some s) r from at same h =
     let here : n ≡ s + length held = same s refl in
     let whole : F ≡ (h.0 ++ held) ++ h.1 = h.2 ∙ sym (append_assoc h.0 held h.1) in
     let i : n - first ≡ length (h.0 ++ held) = omega (arith, here, h.3, length-append h.0 held) in
     let top : (back : List (List ℕ)) × (h.1 ≡ r ∷ back) =
-        head_at (h.0 ++ held) h.1 r (ap (slice_get ((h.0 ++ held) ++ h.1)) (sym i)
-        ∙ (ap (λ xs. slice_get xs (n - first)) (sym whole) ∙ at)) in (
+    head_at (h.0 ++ held) h.1 r (ap (slice_get ((h.0 ++ held) ++ h.1)) (sym i)
+    ∙ (ap (λ xs. slice_get xs (n - first)) (sym whole) ∙ at)) in (
       h.0,
       top.0,
       h.2 ∙ (ap (λ xs. h.0 ++ (held ++ xs)) top.1 ∙ ap (λ xs. h.0 ++ xs) (sym (append_assoc held (r ∷ []) top.0))),
       h.3,
-      ap (λ m. Some (m % 2 ^ 24)) (let e : n + 1 ≡ s + length (held ++ r ∷ []) = omega (arith, here,
-          length-append held (r ∷ [])) in e),
+      ap (λ m. Some (m % 2 ^ 24)) (let e : n + 1 ≡ s + length (held ++ r ∷ []) = omega (
+        arith,
+        here,
+        length-append held (r ∷ []),
+      ) in e),
     )
 
 -- another record is pushed
 pub holds_pushed : (first : ℕ) (F : List (List ℕ)) (next : Option ℕ) (held : List (List ℕ)) (start : Option ℕ)
     (r : List ℕ) → Holds first F next held start → Holds first (F ++ r ∷ []) next held start
 holds_pushed first F next held None r h = h
-holds_pushed first F next held (Some s) r h =
-    (h.0, h.1 ++ r ∷ [], ap (λ x. x ++ r ∷ []) h.2
-        ∙ (append_assoc h.0 (held ++ h.1) (r ∷ []) ∙ ap (λ x. h.0 ++ x) (append_assoc held h.1 (r ∷ []))), h.3, h.4)
+holds_pushed first F next held (Some s) r h = (
+  h.0,
+  h.1 ++ r ∷ [],
+  ap (λ x. x ++ r ∷ []) h.2
+      ∙ (append_assoc h.0 (held ++ h.1) (r ∷ []) ∙ ap (λ x. h.0 ++ x) (append_assoc held h.1 (r ∷ []))),
+  h.3,
+  h.4,
+)
 
 pub next_pushed : (first : ℕ) (F : List (List ℕ)) (r : List ℕ) (n : ℕ) (rest : List (ℕ × List ℕ))
     → AreNext first F n rest → AreNext first (F ++ r ∷ []) n rest
@@ -103,9 +116,14 @@ pub way_sent : (few : ℕ → Type 0) (first : ℕ) (F held : List (List ℕ)) (
     (rest : List (ℕ × List ℕ)) (r : List ℕ) → h.position ≡ g.position + 1 → slice_get F (g.position - first) ≡ Some r
     → IsOnWay few first F held start sent (Some g) rest
     → IsOnWay few first F held start (or_else sent (Some g.position)) (Some h) (rest ++ (g.position, r) ∷ [])
-way_sent few first F held start sent g h rest r e at w =
-    (w.0, w.1, next_sent first F w.0 g.position rest r w.3 at w.2,
-        omega (arith, e, w.3, more_one rest (g.position, r)), w.4, first_more start sent w.0 g.position rest r w.3 w.5)
+way_sent few first F held start sent g h rest r e at w = (
+  w.0,
+  w.1,
+  next_sent first F w.0 g.position rest r w.3 at w.2,
+  omega (arith, e, w.3, more_one rest (g.position, r)),
+  w.4,
+  first_more start sent w.0 g.position rest r w.3 w.5,
+)
 
 -- what is wanted next is what comes next
 wanted_here : (first n : ℕ) (F : List (List ℕ)) (next : Option ℕ) (held : List (List ℕ)) (s : ℕ) → n < first + length F
@@ -114,15 +132,18 @@ wanted_here : (first n : ℕ) (F : List (List ℕ)) (next : Option ℕ) (held : 
 wanted_here first n F next held s past wanted h near = elim near [
   | inl same ↦ same
   | inr far ↦ near_alike n (s + length held) (wanted ((s + length held) % 2 ^ 24) h.4) (omega (arith, past, far.1))
-  far.0
+      far.0
 ]
 
 near_next : (few : ℕ → Type 0) (n : ℕ) (start : Option ℕ) (held : List (List ℕ)) (r : List ℕ)
     → ((s : ℕ) → start ≡ Some s → n ≡ s + length held) → (start ≡ None → held ≡ [])
     → IsNear few (n + 1) (or_else start (Some n)) (length (held ++ r ∷ []))
 near_next few n None held r same none =
-    inl (let e : n + 1 ≡ n + length (held ++ r ∷ []) = omega (arith, length-append held (r ∷ []),
-    ap length (none refl)) in e)
+    inl (let e : n + 1 ≡ n + length (held ++ r ∷ []) = omega (
+      arith,
+      length-append held (r ∷ []),
+      ap length (none refl),
+    ) in e)
 near_next few n (Some s) held r same none =
     inl (let e : n + 1 ≡ s + length (held ++ r ∷ []) = omega (arith, length-append held (r ∷ []), same s refl) in e)
 
@@ -175,16 +196,21 @@ delivered first F next held start sent g n r rest wanted h w =
     let lt : n - first < length F = get_within F (n - first) r at in
     let near : IsNear few n start (length held) = subst (λ m. IsNear few m start (length held)) (sym w.2.0) w.4 in
     let same : (s : ℕ) → start ≡ Some s → n ≡ s + length held =
-        here_if first n F next held start (omega (arith, from, lt)) wanted h near in
+    here_if first n F next held start (omega (arith, from, lt)) wanted h near in
     let begins : or_else start (Some n) ≡ or_else start sent =
-        start_same start sent n (n, r) rest (subst (λ m. IsFirst start sent m ((n, r) ∷ rest)) (sym w.2.0) w.5) in
+    start_same start sent n (n, r) rest (subst (λ m. IsFirst start sent m ((n, r) ∷ rest)) (sym w.2.0) w.5) in
     let on : IsNear few (n + 1) (or_else start (Some n)) (length (held ++ r ∷ [])) =
-        near_next few n start held r same (none_held first F next held start h) in (
+    near_next few n start held r same (none_held first F next held start h) in (
       subst (Holds first F (Some ((n + 1) % 2 ^ 24)) (held ++ r ∷ [])) begins
           (holds_next first n F next held start r from at same h),
-      subst (λ o. IsOnWay few first F (held ++ r ∷ []) o sent (Some g) rest) begins
-          (n + 1, omega (arith, from), subst (λ m. AreNext first F (m + 1) rest) (sym w.2.0) w.2.2,
-              omega (arith, w.3, w.2.0), on, first_started start sent n rest),
+      subst (λ o. IsOnWay few first F (held ++ r ∷ []) o sent (Some g) rest) begins (
+        n + 1,
+        omega (arith, from),
+        subst (λ m. AreNext first F (m + 1) rest) (sym w.2.0) w.2.2,
+        omega (arith, w.3, w.2.0),
+        on,
+        first_started start sent n rest,
+      ),
     )
 
 first_none : (start : Option ℕ) (n : ℕ) → IsFirst start None n []
@@ -195,9 +221,14 @@ first_none (Some s) n = tt
 pub way_granted : (few : ℕ → Type 0) (first : ℕ) (F held : List (List ℕ)) (start sent : Option ℕ) (g : Grant)
     → first ≤ g.position → IsNear few g.position start (length held) → sent ≡ None
     → IsOnWay few first F held start sent (Some g) []
-way_granted few first F held start sent g from near none =
-    (g.position, from, tt, omega arith, near,
-    subst (λ o. IsFirst start o g.position []) (sym none) (first_none start g.position))
+way_granted few first F held start sent g from near none = (
+  g.position,
+  from,
+  tt,
+  omega arith,
+  near,
+  subst (λ o. IsFirst start o g.position []) (sym none) (first_none start g.position),
+)
 
 near_few : (few : ℕ → Type 0) (n : ℕ) (start : Option ℕ) (count : ℕ) → ((s : ℕ) → start ≡ Some s → few (s + count))
     → IsNear (λ x. Unit {0}) n start count → IsNear few n start count

@@ -1,6 +1,7 @@
 -- The first packet of a place on its way is that of the record behind the last one held.
-use Rattle.std.proofs.Common.{◌≡◌, ℕ, ◌+◌, ◌-◌, ◌%◌, ◌^◌, ◌<◌, inl, inr, refl, sym, ap, subst, ◌∙◌, arith, List, [],
-    ◌∷◌, ◌++◌, length, length-append, append_assoc, get_or, drop, Option, Some, None, slice_get}
+use Rattle.std.proofs.Common.{◌≡◌, ℕ, ◌+◌, ◌-◌, ◌%◌, ◌^◌, ◌<◌, inl, inr, refl, sym, ap, subst, ◌∙◌, arith, List, []}
+use Rattle.std.proofs.Common.{◌∷◌, ◌++◌, length, length-append, append_assoc, get_or, drop, Option, Some, None}
+use Rattle.std.proofs.Common.{slice_get}
 use Rattle.std.proofs.lemmas.Bool.{cases_lt}
 use Rattle.slink_wire.specs.Packet.{IsPacket, packet_bytes}
 use Rattle.slink_wire.specs.Place.{Bears, Fields, IsField}
@@ -14,8 +15,8 @@ use Rattle.slink_feed.specs.Listening.{IsLinked}
 use Rattle.slink_feed.specs.Session.{grant_at}
 use Rattle.slink_model.specs.Spared.{AreAskable}
 use Rattle.slink_model.specs.Stretch.{IsSchedule, LackFew, LacksFew}
-use Rattle.slink_model.specs.Ties.{AreNext, AreWhole, Holds, IsLinkTied, IsOnWay, Item, Accepted, Refused, Greeted,
-    Carried, Finished, LinkTies, Places, WorldTies, carried_of, of_place, way_bytes}
+use Rattle.slink_model.specs.Ties.{AreNext, AreWhole, Holds, IsLinkTied, IsOnWay, Item, Accepted, Refused, Greeted}
+use Rattle.slink_model.specs.Ties.{Carried, Finished, LinkTies, Places, WorldTies, carried_of, of_place, way_bytes}
 use Rattle.slink_model.specs.World.{AllHappen, Differ, LinkState, WorldState, number_at, opening}
 use Rattle.slink_model.proofs.Following.{get_within, near_alike}
 use Rattle.slink_model.proofs.Items.{carried_here, carried_there}
@@ -34,9 +35,9 @@ module _ (places : Places) (differ : Differ places) where
   one_many j ka kb na nb ra rb same = elim (same_or_not kb j) [
     | inl e ↦ subst (λ i. length (carried_of i (Carried ka na ra)) ≡ length (carried_of i (Carried kb nb rb))) e
         (subst (λ i. length (carried_of kb (Carried i na ra)) ≡ length (carried_of kb (Carried kb nb rb))) (sym same)
-            (ap length (carried_here kb na ra) ∙ sym (ap length (carried_here kb nb rb))))
+        (ap length (carried_here kb na ra) ∙ sym (ap length (carried_here kb nb rb))))
     | inr ne ↦ ap length (carried_there ka j na ra (λ e. ne (sym same ∙ e)))
-    ∙ sym (ap length (carried_there kb j nb rb ne))
+        ∙ sym (ap length (carried_there kb j nb rb ne))
   ]
 
   carried_many : (xs ys : List Item) (ka na : ℕ) (ra : List ℕ) (kb nb : ℕ) (rb : List ℕ)
@@ -48,13 +49,13 @@ module _ (places : Places) (differ : Differ places) where
       let a : ℕ = na % 2 ^ 24 in
       let b : ℕ = nb % 2 ^ 24 in
       let cut : (packet_bytes a ra ≡ packet_bytes b rb) × (way_bytes xs ≡ way_bytes ys) =
-          same_cut (packet_bytes a ra) (way_bytes xs) (packet_bytes b rb) (way_bytes ys) (packet_length a ra p.2
-          ∙ sym (packet_length b rb q.2)) e in
+      same_cut (packet_bytes a ra) (way_bytes xs) (packet_bytes b rb) (way_bytes ys) (packet_length a ra p.2
+      ∙ sym (packet_length b rb q.2)) e in
       let one : (a ≡ b) × (ra ≡ rb) =
-          one_packet (packet_bytes a ra) a b ra rb (read_back a ra (omega arith))
-          (subst (λ x. IsPacket x b rb) (sym cut.0) (read_back b rb (omega arith))) in
+      one_packet (packet_bytes a ra) a b ra rb (read_back a ra (omega arith))
+      (subst (λ x. IsPacket x b rb) (sym cut.0) (read_back b rb (omega arith))) in
       let same : ka ≡ kb = differ ka kb p.0 q.0 p.1 q.1
-          (one_place ra p.0.0 q.0.0 p.3 (subst (λ x. Bears x q.0.0) (sym one.1) q.3)) in
+      (one_place ra p.0.0 q.0.0 p.3 (subst (λ x. Bears x q.0.0) (sym one.1) q.3)) in
       length-append (carried_of j (Carried ka na ra)) (of_place j xs)
       ∙ (ap (λ n. n + length (of_place j xs)) (one_many j ka kb na nb ra rb same)
       ∙ (ap (λ n. length (carried_of j (Carried kb nb rb)) + n) (more cut.1)
@@ -77,8 +78,11 @@ module _ (places : Places) (differ : Differ places) where
   same_many (Accepted ∷ xs) (Greeted ∷ ys) p q e j =
       absurd (omega (arith, one_byte (way_bytes (Accepted ∷ xs)) (way_bytes (Greeted ∷ ys)) 0 79 83 e refl refl))
   same_many (Accepted ∷ xs) (Carried kb nb rb ∷ ys) p q e j =
-      absurd (omega (arith, one_byte (way_bytes (Accepted ∷ xs)) (way_bytes (Carried kb nb rb ∷ ys)) 0 79 83 e refl
-      refl))
+      absurd (omega (
+        arith,
+        one_byte (way_bytes (Accepted ∷ xs)) (way_bytes (Carried kb nb rb ∷ ys)) 0 79 83 e refl
+            refl,
+      ))
   same_many (Accepted ∷ xs) (Finished ∷ ys) p q e j =
       absurd (omega (arith, one_byte (way_bytes (Accepted ∷ xs)) (way_bytes (Finished ∷ ys)) 0 79 69 e refl refl))
   same_many (Refused ∷ xs) [] p q e j = absurd (no_byte (way_bytes (Refused ∷ xs)) [] 0 69 e refl refl)
@@ -88,8 +92,11 @@ module _ (places : Places) (differ : Differ places) where
   same_many (Refused ∷ xs) (Greeted ∷ ys) p q e j =
       absurd (omega (arith, one_byte (way_bytes (Refused ∷ xs)) (way_bytes (Greeted ∷ ys)) 0 69 83 e refl refl))
   same_many (Refused ∷ xs) (Carried kb nb rb ∷ ys) p q e j =
-      absurd (omega (arith, one_byte (way_bytes (Refused ∷ xs)) (way_bytes (Carried kb nb rb ∷ ys)) 0 69 83 e refl
-      refl))
+      absurd (omega (
+        arith,
+        one_byte (way_bytes (Refused ∷ xs)) (way_bytes (Carried kb nb rb ∷ ys)) 0 69 83 e refl
+            refl,
+      ))
   same_many (Refused ∷ xs) (Finished ∷ ys) p q e j =
       absurd (omega (arith, one_byte (way_bytes (Refused ∷ xs)) (way_bytes (Finished ∷ ys)) 1 82 78 e refl refl))
   same_many (Greeted ∷ xs) [] p q e j = absurd (no_byte (way_bytes (Greeted ∷ xs)) [] 0 83 e refl refl)
@@ -99,26 +106,41 @@ module _ (places : Places) (differ : Differ places) where
       absurd (omega (arith, one_byte (way_bytes (Greeted ∷ xs)) (way_bytes (Refused ∷ ys)) 0 83 69 e refl refl))
   same_many (Greeted ∷ xs) (Greeted ∷ ys) p q e j = same_many xs ys p.1 q.1 (ap (drop 35) e) j
   same_many (Greeted ∷ xs) (Carried kb nb rb ∷ ys) p q e j =
-      absurd (omega (arith, one_byte (way_bytes (Greeted ∷ xs)) (way_bytes (Carried kb nb rb ∷ ys)) 1 101 76 e refl
-      refl))
+      absurd (omega (
+        arith,
+        one_byte (way_bytes (Greeted ∷ xs)) (way_bytes (Carried kb nb rb ∷ ys)) 1 101 76 e refl
+            refl,
+      ))
   same_many (Greeted ∷ xs) (Finished ∷ ys) p q e j =
       absurd (omega (arith, one_byte (way_bytes (Greeted ∷ xs)) (way_bytes (Finished ∷ ys)) 0 83 69 e refl refl))
   same_many (Carried ka na ra ∷ xs) [] p q e j =
       absurd (no_byte (way_bytes (Carried ka na ra ∷ xs)) [] 0 83 e refl refl)
   same_many (Carried ka na ra ∷ xs) (Accepted ∷ ys) p q e j =
-      absurd (omega (arith, one_byte (way_bytes (Carried ka na ra ∷ xs)) (way_bytes (Accepted ∷ ys)) 0 83 79 e refl
-      refl))
+      absurd (omega (
+        arith,
+        one_byte (way_bytes (Carried ka na ra ∷ xs)) (way_bytes (Accepted ∷ ys)) 0 83 79 e refl
+            refl,
+      ))
   same_many (Carried ka na ra ∷ xs) (Refused ∷ ys) p q e j =
-      absurd (omega (arith, one_byte (way_bytes (Carried ka na ra ∷ xs)) (way_bytes (Refused ∷ ys)) 0 83 69 e refl
-      refl))
+      absurd (omega (
+        arith,
+        one_byte (way_bytes (Carried ka na ra ∷ xs)) (way_bytes (Refused ∷ ys)) 0 83 69 e refl
+            refl,
+      ))
   same_many (Carried ka na ra ∷ xs) (Greeted ∷ ys) p q e j =
-      absurd (omega (arith, one_byte (way_bytes (Carried ka na ra ∷ xs)) (way_bytes (Greeted ∷ ys)) 1 76 101 e refl
-      refl))
+      absurd (omega (
+        arith,
+        one_byte (way_bytes (Carried ka na ra ∷ xs)) (way_bytes (Greeted ∷ ys)) 1 76 101 e refl
+            refl,
+      ))
   same_many (Carried ka na ra ∷ xs) (Carried kb nb rb ∷ ys) p q e j =
       carried_many xs ys ka na ra kb nb rb p.0 q.0 e j (λ f. same_many xs ys p.1 q.1 f j)
   same_many (Carried ka na ra ∷ xs) (Finished ∷ ys) p q e j =
-      absurd (omega (arith, one_byte (way_bytes (Carried ka na ra ∷ xs)) (way_bytes (Finished ∷ ys)) 0 83 69 e refl
-      refl))
+      absurd (omega (
+        arith,
+        one_byte (way_bytes (Carried ka na ra ∷ xs)) (way_bytes (Finished ∷ ys)) 0 83 69 e refl
+            refl,
+      ))
   same_many (Finished ∷ xs) [] p q e j = absurd (no_byte (way_bytes (Finished ∷ xs)) [] 0 69 e refl refl)
   same_many (Finished ∷ xs) (Accepted ∷ ys) p q e j =
       absurd (omega (arith, one_byte (way_bytes (Finished ∷ xs)) (way_bytes (Accepted ∷ ys)) 0 69 79 e refl refl))
@@ -127,8 +149,11 @@ module _ (places : Places) (differ : Differ places) where
   same_many (Finished ∷ xs) (Greeted ∷ ys) p q e j =
       absurd (omega (arith, one_byte (way_bytes (Finished ∷ xs)) (way_bytes (Greeted ∷ ys)) 0 69 83 e refl refl))
   same_many (Finished ∷ xs) (Carried kb nb rb ∷ ys) p q e j =
-      absurd (omega (arith, one_byte (way_bytes (Finished ∷ xs)) (way_bytes (Carried kb nb rb ∷ ys)) 0 69 83 e refl
-      refl))
+      absurd (omega (
+        arith,
+        one_byte (way_bytes (Finished ∷ xs)) (way_bytes (Carried kb nb rb ∷ ys)) 0 69 83 e refl
+            refl,
+      ))
   same_many (Finished ∷ xs) (Finished ∷ ys) p q e j = same_many xs ys p.1 q.1 (ap (drop 3) e) j
 
   -- what is carried was pushed, and so bears its place
@@ -143,7 +168,7 @@ module _ (places : Places) (differ : Differ places) where
     each k n r [] (of_place k is) (ap (λ b. b ++ of_place k is) (carried_here k n r)),
     each_borne is are.1 (λ i m x front back e. each i m x (carried_of i (Carried k n r) ++ front) back
         (ap (λ b. carried_of i (Carried k n r) ++ b) e
-            ∙ sym (append_assoc (carried_of i (Carried k n r)) front ((m, x) ∷ back)))),
+        ∙ sym (append_assoc (carried_of i (Carried k n r)) front ((m, x) ∷ back)))),
   )
   each_borne (Finished ∷ is) are each = (tt, each_borne is are each)
 
@@ -171,7 +196,7 @@ goes_next first F held next sent s (Some g) i rest other few holds way suited ma
     let same : suited.0 ≡ n = omega (arith, suited.2, way.3, many) in
     let lt : n - first < length F = get_within F (n - first) i.1 way.2.1 in
     let alike : n % 2 ^ 24 ≡ (s + length held) % 2 ^ 24 = ap (λ x. x % 2 ^ 24) (sym same)
-        ∙ suited.3 ((s + length held) % 2 ^ 24) holds.4 in
+    ∙ suited.3 ((s + length held) % 2 ^ 24) holds.4 in
     let is : n ≡ s + length held = elim way.4 [
       | inl here ↦ here
       | inr far ↦ near_alike n (s + length held) alike (omega (arith, way.1, lt, few)) far.0
@@ -186,21 +211,26 @@ module _ (places : Places) (differ : Differ places) (codes : (k : ℕ) (p : Fiel
   goes_on_at t lacks talks is linked =
       let tied : IsLinkTied places first w (Some l) = subst (IsLinkTied places first w) is t.link in
       let ties : LinkTies places first (λ k. any) w.pushed w.client w.held w.start l.session.state l.first_sent
-          l.to_client = tied.1 in
+      l.to_client = tied.1 in
       let both : IsTalking places differ codes w.client (Some l) =
-          subst (IsTalking places differ codes w.client) is talks.link in
+      subst (IsTalking places differ codes w.client) is talks.link in
       let talk : LinkTalks places w.client l.session l.to_server l.to_client = both.0 linked in
       let borne : AreBorne places ties.items = each_borne places differ ties.items ties.are_whole (λ k n r front back e.
       let lt : k < length places =
-          elim (cases_lt k (length places)) [ inl below ↦ below
-          | inr past ↦ absurd (omega (arith, ap length (sym e ∙ ties.within k past),
-          length-append front ((n, r) ∷ back))) ] in
+      elim (cases_lt k (length places)) [
+        | inl below ↦ below
+        | inr past ↦ absurd (omega (
+          arith,
+          ap length (sym e ∙ ties.within k past),
+          length-append front ((n, r) ∷ back),
+        ))
+      ] in
       let q : (p : Fields × Option ℕ) × (slice_get places k ≡ Some p) = within_is places k lt in
       let at : (i : ℕ) × (slice_get (get_or w.pushed k []) i ≡ Some r) =
-          way_pushed_some first (get_or w.pushed k []) (get_or w.held k []) (number_at w.start k)
-          (number_at l.first_sent k) (grant_at l.session.state.grants k) front back n r
+      way_pushed_some first (get_or w.pushed k []) (get_or w.held k []) (number_at w.start k)
+      (number_at l.first_sent k) (grant_at l.session.state.grants k) front back n r
       (subst (IsOnWay any first (get_or w.pushed k []) (get_or w.held k []) (number_at w.start k)
-          (number_at l.first_sent k) (grant_at l.session.state.grants k)) e (ties.places_are k lt)) in
+      (number_at l.first_sent k) (grant_at l.session.state.grants k)) e (ties.places_are k lt)) in
       let sound : (length r ≡ 512) × Bears r q.0.0 = t.sound k q.0 q.1 at.0 r at.1 in
       (q.0, q.1, sound.0, sound.1)) in
       record {
@@ -208,17 +238,17 @@ module _ (places : Places) (differ : Differ places) (codes : (k : ℕ) (p : Fiel
         bytes = ties.flow linked;
         next = λ k start i rest lt held here.
             goes_next first (get_or w.pushed k []) (get_or w.held k []) (next_at w.client.talk.wants k)
-                (number_at l.first_sent k) start (grant_at l.session.state.grants k) i rest (of_place k talk.items)
-                (lacks k start held)
+            (number_at l.first_sent k) start (grant_at l.session.state.grants k) i rest (of_place k talk.items)
+            (lacks k start held)
             (subst (Holds first (get_or w.pushed k []) (next_at w.client.talk.wants k) (get_or w.held k [])) held
-                (t.holds k lt))
+            (t.holds k lt))
             (subst (λ (o : Option ℕ). IsOnWay any first (get_or w.pushed k []) (get_or w.held k []) o
-                (number_at l.first_sent k) (grant_at l.session.state.grants k) (i ∷ rest)) held
+            (number_at l.first_sent k) (grant_at l.session.state.grants k) (i ∷ rest)) held
             (subst (IsOnWay any first (get_or w.pushed k []) (get_or w.held k []) (number_at w.start k)
-                (number_at l.first_sent k) (grant_at l.session.state.grants k)) here (ties.places_are k lt)))
+            (number_at l.first_sent k) (grant_at l.session.state.grants k)) here (ties.places_are k lt)))
             (talk.flows.suited k)
             (sym (ap length here) ∙ same_many places differ ties.items talk.items borne talk.flows.borne
-                (sym (ties.flow linked) ∙ talk.flows.flow) k);
+            (sym (ties.flow linked) ∙ talk.flows.flow) k);
       }
 
 module _ (setup : Setup) (steps : List Step) (now : WorldState) (run : AllHappen (opening setup) steps now)

@@ -59,15 +59,15 @@ module _ (first_sent : Numbers) (held : Lists) (start : Numbers) (to_server : Li
       piece_heard (of old) last new (take used bytes ++ rest) (take used bytes) rest event refl is (h.brings is) more
   by_place old new bytes rest used event last (unlinked is) h more =
       let same : noted first_sent event (of new) ≡ of old =
-          ap (λ (e : Event). noted first_sent e (of new)) (h.unlinked is).1 ∙ ap of (h.unlinked is).2 in
+      ap (λ (e : Event). noted first_sent e (of new)) (h.unlinked is).1 ∙ ap of (h.unlinked is).2 in
       piece_lost (of old) last (take used bytes ++ rest) (take used bytes) rest refl (not_unlinked old.talk.stage is)
-          (subst (λ (t : Taking). Hears first_sent t rest last) same more)
+      (subst (λ (t : Taking). Hears first_sent t rest last) same more)
   by_place old new bytes rest used event last (ended ending is) h more =
       let same : noted first_sent event (of new) ≡ of old =
-          ap (λ (e : Event). noted first_sent e (of new)) (h.ended ending is).1
-          ∙ (nothing_noted first_sent ending (of new) ∙ ap of (h.ended ending is).2) in
+      ap (λ (e : Event). noted first_sent e (of new)) (h.ended ending is).1
+      ∙ (nothing_noted first_sent ending (of new) ∙ ap of (h.ended ending is).2) in
       piece_lost (of old) last (take used bytes ++ rest) (take used bytes) rest refl
-          (not_ended old.talk.stage ending is) (subst (λ (t : Taking). Hears first_sent t rest last) same more)
+      (not_ended old.talk.stage ending is) (subst (λ (t : Taking). Hears first_sent t rest last) same more)
 
   pub hears_more : (old new : Listening) (bytes rest : List ℕ) (used : ℕ) (event : Event) (last : Taking)
       → Heard old bytes used new event

@@ -1,12 +1,12 @@
 -- What is on its way, item by item.
-use Rattle.std.proofs.Common.{◌≡◌, ◌≢◌, ℕ, ◌+◌, ◌≤◌, inl, inr, refl, sym, ap, ◌∙◌, arith, ◌==◌, List, [], ◌∷◌, ◌++◌,
-    append_assoc, append-nil, length, length-append, Option, Some, if◌then◌else◌}
+use Rattle.std.proofs.Common.{◌≡◌, ◌≢◌, ℕ, ◌+◌, ◌≤◌, inl, inr, refl, sym, ap, ◌∙◌, arith, ◌==◌, List, [], ◌∷◌, ◌++◌}
+use Rattle.std.proofs.Common.{append_assoc, append-nil, length, length-append, Option, Some, if◌then◌else◌}
 use Rattle.std.proofs.lemmas.Bool.Decides.{eqb_tells}
 use Rattle.slink_wire.specs.declared.reply.Reply.{Reply}
 use Rattle.slink_wire.specs.declared.reply.Reply.TheVariants as replies
 use Rattle.slink_wire.specs.Reply.{reply_bytes}
-use Rattle.slink_model.specs.Ties.{AreWhole, Item, Accepted, Refused, Greeted, Carried, Finished, Holds, carried_of,
-    item_bytes, items_of, of_place, way_bytes}
+use Rattle.slink_model.specs.Ties.{AreWhole, Item, Accepted, Refused, Greeted, Carried, Finished, Holds, carried_of}
+use Rattle.slink_model.specs.Ties.{item_bytes, items_of, of_place, way_bytes}
 
 pub way_more : (xs ys : List Item) → way_bytes (xs ++ ys) ≡ way_bytes xs ++ way_bytes ys
 way_more [] ys = refl
@@ -54,8 +54,10 @@ pub carries_none : (k : ℕ) (xs ys : List Item) → of_place k ys ≡ [] → of
 carries_none k xs ys none = of_more k xs ys ∙ (ap (λ b. of_place k xs ++ b) none ∙ append-nil (of_place k xs))
 
 choice_here : (k : ℕ) (x y : List (ℕ × List ℕ)) → (if k == k then x else y) ≡ x
-choice_here k x y = elim (eqb_tells k k) [ inl same ↦ ap (λ t. if t then x else y) same.0
-    | inr other ↦ absurd (other.1 refl) ]
+choice_here k x y = elim (eqb_tells k k) [
+  | inl same ↦ ap (λ t. if t then x else y) same.0
+  | inr other ↦ absurd (other.1 refl)
+]
 
 choice_there : (j k : ℕ) (x y : List (ℕ × List ℕ)) → j ≢ k → (if j == k then x else y) ≡ y
 choice_there j k x y ne =

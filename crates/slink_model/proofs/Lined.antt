@@ -1,6 +1,6 @@
 -- Which line waits for its answer, as more bytes of the lines that were said are taken.
-use Rattle.std.proofs.Common.{◌≡◌, ℕ, ◌≤◌, refl, sym, ap, ◌∙◌, arith, Bool, true, false, List, [], ◌∷◌, ◌++◌,
-    append_assoc, length, length-append, take, take_all}
+use Rattle.std.proofs.Common.{◌≡◌, ℕ, ◌≤◌, refl, sym, ap, ◌∙◌, arith, Bool, true, false, List, [], ◌∷◌, ◌++◌}
+use Rattle.std.proofs.Common.{append_assoc, length, length-append, take, take_all}
 use Rattle.std.proofs.lemmas.List.{append_cancel_left, length-take-le}
 use Rattle.slink_wire.specs.declared.lines.What.{What}
 use Rattle.slink_wire.specs.declared.lines.What.TheVariants.{More, Line, TooLong}
@@ -14,7 +14,7 @@ pub bytes_more : (lines : List (List ℕ)) (line : List ℕ)
 bytes_more [] line = refl
 bytes_more (l ∷ lines) line =
     ap (λ b. l ++ 13 ∷ 10 ∷ b) (bytes_more lines line)
-        ∙ sym (append_assoc l (13 ∷ 10 ∷ said_bytes lines) (line ++ 13 ∷ 10 ∷ []))
+    ∙ sym (append_assoc l (13 ∷ 10 ∷ said_bytes lines) (line ++ 13 ∷ 10 ∷ []))
 
 pub lines_more : (lines : List (List ℕ)) (line : List ℕ) → AreLines lines → IsLine line → AreLines (lines ++ line ∷ [])
 lines_more [] line are is = (is, tt)
@@ -65,8 +65,14 @@ last_told before told line x c is le e =
     let short : length told ≡ length (take c (before ++ line ∷ [])) = ap length is in
     let long : length told ≡ length (before ++ x ∷ []) = ap length e in
     let all : take c (before ++ line ∷ []) ≡ before ++ line ∷ [] =
-        take_all c (before ++ line ∷ []) (omega (arith, short, long, length-take-le c (before ++ line ∷ []) le,
-        length-append before (x ∷ []), length-append before (line ∷ []))) in
+    take_all c (before ++ line ∷ []) (omega (
+      arith,
+      short,
+      long,
+      length-take-le c (before ++ line ∷ []) le,
+      length-append before (x ∷ []),
+      length-append before (line ∷ []),
+    )) in
     let lists : line ∷ [] ≡ x ∷ [] = append_cancel_left before (line ∷ []) (x ∷ []) (sym all ∙ (sym is ∙ e)) in
     cc lists
 
@@ -90,31 +96,41 @@ more_asked line taken piece way More a tells = nothing (record {
 more_asked line taken piece way (Line l) a tells =
     let said : (taken ++ piece) ++ way ≡ said_bytes (a.before ++ line ∷ []) = append_assoc taken piece way ∙ a.said in
     let told : SpellsFront (taken ++ piece) (a.before ++ line ∷ []) =
-        front_spelled (a.before ++ line ∷ []) (taken ++ piece) way a.are_lines said in
+    front_spelled (a.before ++ line ∷ []) (taken ++ piece) way a.are_lines said in
     let now : (lines_of (taken ++ piece)).lines ≡ a.before ++ l.items ∷ [] =
-        tells.0 ∙ ap (λ ls. ls ++ l.items ∷ []) a.told in
+    tells.0 ∙ ap (λ ls. ls ++ l.items ∷ []) a.told in
     let same : line ≡ l.items =
-        last_told a.before (lines_of (taken ++ piece)).lines line l.items told.0 told.2 told.1 now in
-    the_line l.items (sym same) (record { before = a.before ++ line ∷ []; are_lines = a.are_lines; said = said;
-        told = now ∙ ap (λ x. a.before ++ x ∷ []) (sym same) })
+    last_told a.before (lines_of (taken ++ piece)).lines line l.items told.0 told.2 told.1 now in
+    the_line l.items (sym same) (record {
+      before = a.before ++ line ∷ [];
+      are_lines = a.are_lines;
+      said = said;
+      told = now ∙ ap (λ x. a.before ++ x ∷ []) (sym same);
+    })
 more_asked line taken piece way TooLong a tells =
     let told : SpellsFront (taken ++ piece) (a.before ++ line ∷ []) =
-        front_spelled (a.before ++ line ∷ []) (taken ++ piece) way a.are_lines (append_assoc taken piece way
-        ∙ a.said) in
+    front_spelled (a.before ++ line ∷ []) (taken ++ piece) way a.are_lines (append_assoc taken piece way
+    ∙ a.said) in
     absurd (true_false (lines_of (taken ++ piece)).is_too_long tells.1 told.3)
 
 -- nothing is told any more
 pub more_answered : (taken piece way : List ℕ) (what : What) → IsAnswered taken (piece ++ way)
     → Tells what taken (taken ++ piece) → (what ≡ More) × IsAnswered (taken ++ piece) way
-more_answered taken piece way More a tells =
-    (refl, record { before = a.before; are_lines = a.are_lines; said = append_assoc taken piece way ∙ a.said;
-    told = tells.0 ∙ a.told })
+more_answered taken piece way More a tells = (
+  refl,
+  record {
+    before = a.before;
+    are_lines = a.are_lines;
+    said = append_assoc taken piece way ∙ a.said;
+    told = tells.0 ∙ a.told;
+  },
+)
 more_answered taken piece way (Line l) a tells =
     let told : SpellsFront (taken ++ piece) a.before =
-        front_spelled a.before (taken ++ piece) way a.are_lines (append_assoc taken piece way ∙ a.said) in
+    front_spelled a.before (taken ++ piece) way a.are_lines (append_assoc taken piece way ∙ a.said) in
     absurd (one_more a.before (lines_of (taken ++ piece)).lines l.items told.0 told.2 told.1 (tells.0
-        ∙ ap (λ ls. ls ++ l.items ∷ []) a.told))
+    ∙ ap (λ ls. ls ++ l.items ∷ []) a.told))
 more_answered taken piece way TooLong a tells =
     let told : SpellsFront (taken ++ piece) a.before =
-        front_spelled a.before (taken ++ piece) way a.are_lines (append_assoc taken piece way ∙ a.said) in
+    front_spelled a.before (taken ++ piece) way a.are_lines (append_assoc taken piece way ∙ a.said) in
     absurd (true_false (lines_of (taken ++ piece)).is_too_long tells.1 told.3)

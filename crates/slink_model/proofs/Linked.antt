@@ -1,7 +1,7 @@
 -- A link after each answer of the session, and after each packet that is asked for.
-use Rattle.std.proofs.Common.{◌≡◌, ◌≢◌, ℕ, ◌+◌, ◌-◌, ◌%◌, ◌^◌, ◌<◌, ◌≤◌, inl, inr, zero, suc, refl, sym, ap, subst, ◌∙◌,
-    arith, Bool, true, false, ◌==◌, List, [], ◌∷◌, ◌++◌, append-nil, length, length-set, get_or, Option, Some, None,
-    option_map, slice_get, if◌then◌else◌, codes}
+use Rattle.std.proofs.Common.{◌≡◌, ◌≢◌, ℕ, ◌+◌, ◌-◌, ◌%◌, ◌^◌, ◌<◌, ◌≤◌, inl, inr, zero, suc, refl, sym, ap, subst, ◌∙◌}
+use Rattle.std.proofs.Common.{arith, Bool, true, false, ◌==◌, List, [], ◌∷◌, ◌++◌, append-nil, length, length-set}
+use Rattle.std.proofs.Common.{get_or, Option, Some, None, option_map, slice_get, if◌then◌else◌, codes}
 use Rattle.slink_wire.specs.declared.reply.Reply.{Reply}
 use Rattle.slink_wire.specs.declared.reply.Reply.TheVariants as replies
 use Rattle.slink_wire.specs.Packet.{packet_bytes}
@@ -12,15 +12,15 @@ use Rattle.slink_feed.specs.declared.session.Phase.TheVariants.{Fresh, Chosen, G
 use Rattle.slink_feed.specs.declared.session.Sent.{Sent}
 use Rattle.slink_feed.specs.Listening.{Listening}
 use Rattle.slink_feed.specs.Dialogue.{next_at}
-use Rattle.slink_feed.specs.Session.{Grants, IsBefore, State, all_done, at, at_next, grant_at, packet_at, sent,
-    sent_bytes, sent_in, sent_of}
-use Rattle.slink_model.specs.Ties.{AllHold, AreShown, AreWhole, Carried, Finished, Holds, IsGranted, IsNear, IsOnWay,
-    Item, Leaves, LinkTies, Places, dropped, given, items_of, of_place, same, way_bytes}
+use Rattle.slink_feed.specs.Session.{Grants, IsBefore, State, all_done, at, at_next, grant_at, packet_at, sent}
+use Rattle.slink_feed.specs.Session.{sent_bytes, sent_in, sent_of}
+use Rattle.slink_model.specs.Ties.{AllHold, AreShown, AreWhole, Carried, Finished, Holds, IsGranted, IsNear, IsOnWay}
+use Rattle.slink_model.specs.Ties.{Item, Leaves, LinkTies, Places, dropped, given, items_of, of_place, same, way_bytes}
 use Rattle.slink_feed.specs.Window.{Shows, Window, oldest_of, record_at}
 use Rattle.slink_model.specs.World.{Lists, Numbers, first_after, number_at, or_else, with_first}
 use Rattle.slink_feed.proofs.Items.{at_number, oldest_is, one_value, put_here, put_there, same_or_not}
-use Rattle.slink_model.proofs.Items.{carried_here, carried_there, carries_none, flow_more, held_to, of_more,
-    reply_carries, reply_items, reply_whole, whole_more}
+use Rattle.slink_model.proofs.Items.{carried_here, carried_there, carries_none, flow_more, held_to, of_more}
+use Rattle.slink_model.proofs.Items.{reply_carries, reply_items, reply_whole, whole_more}
 use Rattle.slink_model.proofs.Following.{way_granted, way_sent}
 
 abbrev pub any : ℕ → Type 0
@@ -47,10 +47,10 @@ place_granted feed k first w F held next start sent old new rest here shows room
     let from : oldest_of w ≤ g.position = subst (λ (x : Window). oldest_of x ≤ g.position) one lo in
     let o : oldest_of w ≡ first + (length F - w.capacity) = oldest_is w first F shows in
     let begins : IsOnWay any first F held start sent (Some g) [] =
-        way_granted any first F held start sent g (omega (arith, from, o))
-        (near_granted first g.position F next held start (omega (arith, from, o, room)) h) unsent in
+    way_granted any first F held start sent g (omega (arith, from, o))
+    (near_granted first g.position F next held start (omega (arith, from, o, room)) h) unsent in
     subst (λ x. IsOnWay any first F held start sent x rest) (sym e)
-        (subst (IsOnWay any first F held start sent (Some g)) (sym none) begins)
+    (subst (IsOnWay any first F held start sent (Some g)) (sym none) begins)
 
 grant_within : (gs : Grants) (k : ℕ) (g : Grant) → grant_at gs k ≡ Some g → k < length gs
 grant_within [] k g h = absurd (let bad : None ≡ Some g = h in cc bad)
@@ -71,20 +71,22 @@ module _ (places : Places) (first : ℕ) (windows : List Window) (pushed : Lists
     are_whole = whole_more l.items (items_of reply) l.are_whole (reply_whole reply);
     flow = λ linked. flow_more client.kept way (reply_bytes reply) l.items (items_of reply) (reply_items reply)
         (l.flow linked);
-    before = λ still k. (carries_none k l.items (items_of reply) (reply_carries k reply) ∙ (l.before before k).0,
-        (l.before before k).1);
+    before = λ still k. (
+      carries_none k l.items (items_of reply) (reply_carries k reply) ∙ (l.before before k).0,
+      (l.before before k).1,
+    );
     within = λ k past. carries_none k l.items (items_of reply) (reply_carries k reply) ∙ l.within k past;
     places_are = λ k lt.
         let w : (v : Window) × (slice_get windows k ≡ Some v) × Shows v first (get_or pushed k [])
-            × (v.capacity ≤ 1000000) = shown k lt in
+        × (v.capacity ≤ 1000000) = shown k lt in
         let granted : IsOnWay any first (get_or pushed k []) (get_or held k []) (number_at start k)
-            (number_at first_sent k) (grant_at new.grants k) (of_place k l.items)
+        (number_at first_sent k) (grant_at new.grants k) (of_place k l.items)
         = place_granted windows k first w.0 (get_or pushed k []) (get_or held k []) (next_at client.talk.wants k)
-            (number_at start k) (number_at first_sent k) (grant_at s.grants k) (grant_at new.grants k)
-            (of_place k l.items)
+        (number_at start k) (number_at first_sent k) (grant_at s.grants k) (grant_at new.grants k)
+        (of_place k l.items)
         w.1 w.2 w.3 (holds k lt) (l.before before k).0 (l.before before k).1 (kept k) (l.places_are k lt) in
         subst (IsOnWay any first (get_or pushed k []) (get_or held k []) (number_at start k) (number_at first_sent k)
-            (grant_at new.grants k)) (sym (carries_none k l.items (items_of reply) (reply_carries k reply))) granted;
+        (grant_at new.grants k)) (sym (carries_none k l.items (items_of reply) (reply_carries k reply))) granted;
     room = l.room;
   }
 
@@ -101,9 +103,9 @@ module _ (places : Places) (first : ℕ) (windows : List Window) (pushed : Lists
     within = λ k past. carries_none k l.items more (none k) ∙ l.within k past;
     places_are = λ k lt.
         subst (IsOnWay any first (get_or pushed k []) (get_or held k []) (number_at start k) (number_at first_sent k)
-            (grant_at new.grants k)) (sym (carries_none k l.items more (none k)))
+        (grant_at new.grants k)) (sym (carries_none k l.items more (none k)))
         (subst (λ (gs : Grants). IsOnWay any first (get_or pushed k []) (get_or held k []) (number_at start k)
-            (number_at first_sent k) (grant_at gs k) (of_place k l.items)) (sym stay) (l.places_are k lt));
+        (number_at first_sent k) (grant_at gs k) (of_place k l.items)) (sym stay) (l.places_are k lt));
     room = l.room;
   }
 
@@ -153,31 +155,31 @@ module _ (places : Places) (first : ℕ) (windows : List Window) (pushed : Lists
   sent_here s first_sent items k g r room grant at way =
       let h : Grant = record { mode = g.mode; position = g.position + 1 } in
       let number : number_at (with_first first_sent k (option_map (λ (x : Grant). x.position) (grant_at s.grants k))) k
-          ≡ or_else (number_at first_sent k) (Some g.position)
+      ≡ or_else (number_at first_sent k) (Some g.position)
       = put_here first_sent k (or_else (number_at first_sent k)
-          (option_map (λ (x : Grant). x.position) (grant_at s.grants k))) None room
+      (option_map (λ (x : Grant). x.position) (grant_at s.grants k))) None room
       ∙ ap (λ (o : Option Grant). or_else (number_at first_sent k) (option_map (λ (x : Grant). x.position) o)) grant in
       let now : grant_at (packet_at s k g (Some r)).0.grants k ≡ Some h =
-          put_here s.grants k (Some h) None (grant_within s.grants k g grant) in
+      put_here s.grants k (Some h) None (grant_within s.grants k g grant) in
       let of : of_place k (items ++ Carried k g.position r ∷ []) ≡ of_place k items ++ (g.position, r) ∷ [] =
-          of_more k items (Carried k g.position r ∷ [])
-          ∙ ap (λ b. of_place k items ++ (b ++ [])) (carried_here k g.position r) in
+      of_more k items (Carried k g.position r ∷ [])
+      ∙ ap (λ b. of_place k items ++ (b ++ [])) (carried_here k g.position r) in
       let before : IsOnWay any first (get_or pushed k []) (get_or held k []) (number_at start k)
-          (number_at first_sent k) (Some g) (of_place k items)
+      (number_at first_sent k) (Some g) (of_place k items)
       = subst (λ (o : Option Grant). IsOnWay any first (get_or pushed k []) (get_or held k []) (number_at start k)
-          (number_at first_sent k) o (of_place k items)) grant way in
+      (number_at first_sent k) o (of_place k items)) grant way in
       let after : IsOnWay any first (get_or pushed k []) (get_or held k []) (number_at start k)
-          (or_else (number_at first_sent k) (Some g.position)) (Some h) (of_place k items ++ (g.position, r) ∷ [])
+      (or_else (number_at first_sent k) (Some g.position)) (Some h) (of_place k items ++ (g.position, r) ∷ [])
       = way_sent any first (get_or pushed k []) (get_or held k []) (number_at start k) (number_at first_sent k) g h
-          (of_place k items) r refl at before in
+      (of_place k items) r refl at before in
       subst (λ (f : Option ℕ). IsOnWay any first (get_or pushed k []) (get_or held k []) (number_at start k) f
-          (grant_at (packet_at s k g (Some r)).0.grants k) (of_place k (items ++ Carried k g.position r ∷ [])))
-          (sym number)
+      (grant_at (packet_at s k g (Some r)).0.grants k) (of_place k (items ++ Carried k g.position r ∷ [])))
+      (sym number)
       (subst (λ (o : Option Grant). IsOnWay any first (get_or pushed k []) (get_or held k []) (number_at start k)
-          (or_else (number_at first_sent k) (Some g.position)) o (of_place k (items ++ Carried k g.position r ∷ [])))
-          (sym now)
+      (or_else (number_at first_sent k) (Some g.position)) o (of_place k (items ++ Carried k g.position r ∷ [])))
+      (sym now)
       (subst (IsOnWay any first (get_or pushed k []) (get_or held k []) (number_at start k)
-          (or_else (number_at first_sent k) (Some g.position)) (Some h)) (sym of) after))
+      (or_else (number_at first_sent k) (Some g.position)) (Some h)) (sym of) after))
 
   sent_there : (s : State) (first_sent : Numbers) (items : List Item) (k j : ℕ) (g : Grant) (r : List ℕ) → j ≢ k
       → IsOnWay any first (get_or pushed j []) (get_or held j []) (number_at start j) (number_at first_sent j)
@@ -188,21 +190,21 @@ module _ (places : Places) (first : ℕ) (windows : List Window) (pushed : Lists
   sent_there s first_sent items k j g r ne way =
       let h : Grant = record { mode = g.mode; position = g.position + 1 } in
       let number : number_at (with_first first_sent k (option_map (λ (x : Grant). x.position) (grant_at s.grants k))) j
-          ≡ number_at first_sent j
+      ≡ number_at first_sent j
       = put_there first_sent k j
-          (or_else (number_at first_sent k) (option_map (λ (x : Grant). x.position) (grant_at s.grants k))) None ne in
+      (or_else (number_at first_sent k) (option_map (λ (x : Grant). x.position) (grant_at s.grants k))) None ne in
       let now : grant_at (packet_at s k g (Some r)).0.grants j ≡ grant_at s.grants j =
-          put_there s.grants k j (Some h) None ne in
+      put_there s.grants k j (Some h) None ne in
       let of : of_place j (items ++ Carried k g.position r ∷ []) ≡ of_place j items =
-          carries_none j items (Carried k g.position r ∷ [])
-          (ap (λ b. b ++ []) (carried_there k j g.position r (λ e. ne (sym e)))) in
+      carries_none j items (Carried k g.position r ∷ [])
+      (ap (λ b. b ++ []) (carried_there k j g.position r (λ e. ne (sym e)))) in
       subst (λ (f : Option ℕ). IsOnWay any first (get_or pushed j []) (get_or held j []) (number_at start j) f
-          (grant_at (packet_at s k g (Some r)).0.grants j) (of_place j (items ++ Carried k g.position r ∷ [])))
-          (sym number)
+      (grant_at (packet_at s k g (Some r)).0.grants j) (of_place j (items ++ Carried k g.position r ∷ [])))
+      (sym number)
       (subst (λ (o : Option Grant). IsOnWay any first (get_or pushed j []) (get_or held j []) (number_at start j)
-          (number_at first_sent j) o (of_place j (items ++ Carried k g.position r ∷ []))) (sym now)
+      (number_at first_sent j) o (of_place j (items ++ Carried k g.position r ∷ []))) (sym now)
       (subst (IsOnWay any first (get_or pushed j []) (get_or held j []) (number_at start j) (number_at first_sent j)
-          (grant_at s.grants j)) (sym of) way))
+      (grant_at s.grants j)) (sym of) way))
 
   record_sent : (s : State) (first_sent : Numbers) (way : List ℕ) (k : ℕ) (g : Grant) (w : Window) (r : List ℕ)
       → k < length places → length places ≤ 16 → s.phase ≡ Streaming → grant_at s.grants k ≡ Some g
@@ -212,11 +214,11 @@ module _ (places : Places) (first : ℕ) (windows : List Window) (pushed : Lists
       let h : Grant = record { mode = g.mode; position = g.position + 1 } in
       let new : State = (packet_at s k g (Some r)).0 in
       let shows : (v : Window) × (slice_get windows k ≡ Some v) × Shows v first (get_or pushed k [])
-          × (v.capacity ≤ 1000000) = shown k lt in
+      × (v.capacity ≤ 1000000) = shown k lt in
       let one : shows.0 ≡ w = one_value (slice_get windows k) shows.0 w shows.1 here in
       let record_is : slice_get (get_or pushed k []) (g.position - first) ≡ Some r =
-          at_number w first (get_or pushed k []) g.position r
-          (subst (λ (v : Window). Shows v first (get_or pushed k [])) one shows.2) at in
+      at_number w first (get_or pushed k []) g.position r
+      (subst (λ (v : Window). Shows v first (get_or pushed k [])) one shows.2) at in
       let item : List Item = Carried k g.position r ∷ [] in
       let sent_now : Numbers = first_after first_sent s.grants k (packet_at s k g (Some r)).1 in
       record {
@@ -229,9 +231,9 @@ module _ (places : Places) (first : ℕ) (windows : List Window) (pushed : Lists
             (ap (λ b. b ++ []) (carried_there k j g.position r (λ e. omega (arith, e, past, lt)))) ∙ l.within j past;
         places_are = λ j below. elim (same_or_not j k) [
           | inl e ↦ subst (λ i. IsOnWay any first (get_or pushed i []) (get_or held i []) (number_at start i)
-          (number_at sent_now i) (grant_at new.grants i) (of_place i (l.items ++ item))) (sym e)
+              (number_at sent_now i) (grant_at new.grants i) (of_place i (l.items ++ item))) (sym e)
               (sent_here s first_sent l.items k g r (omega (arith, l.room, lt, most)) grant record_is
-                  (l.places_are k lt))
+              (l.places_are k lt))
           | inr ne ↦ sent_there s first_sent l.items k j g r ne (l.places_are j below)
         ];
         room = length-set first_sent k _ ∙ l.room;
@@ -268,10 +270,10 @@ module _ (places : Places) (first : ℕ) (windows : List Window) (pushed : Lists
       nothing_sent s first_sent way s (λ b. b) refl l
   streamed s first_sent way k (Some g) (Some w) lt most phase grant here long l =
       choice (Goes first_sent s.grants k way) (g.position == w.next) (at_next (all_done windows s.grants) s)
-          (packet_at s k g (record_at w g.position))
+      (packet_at s k g (record_at w g.position))
       (at_end s first_sent way k (all_done windows s.grants) l)
       (at_ring s first_sent way k g w (record_at w g.position) lt most phase grant here
-          (λ r e. long w g.position r here e) refl l)
+      (λ r e. long w g.position r here e) refl l)
 
   sent_in_phase : (phase : Phase) (s : State) (first_sent : Numbers) (way : List ℕ) (k : ℕ) → k < length places
       → length places ≤ 16 → s.phase ≡ phase

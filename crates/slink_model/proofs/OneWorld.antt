@@ -1,6 +1,7 @@
 -- The steps of a schedule lead to one world.
-use Rattle.std.proofs.Common.{◌≡◌, ℕ, ◌<◌, ◌⊎◌, inl, inr, refl, sym, ap, subst, ◌∙◌, List, [], ◌∷◌, ◌++◌, append-nil,
-    append_assoc, length, replicate, take, drop, take-append-drop, Option, Some, None, slice_get}
+use Rattle.std.proofs.Common.{◌≡◌, ℕ, ◌<◌, ◌⊎◌, inl, inr, refl, sym, ap, subst, ◌∙◌, List, [], ◌∷◌, ◌++◌, append-nil}
+use Rattle.std.proofs.Common.{append_assoc, length, replicate, take, drop, take-append-drop, Option, Some, None}
+use Rattle.std.proofs.Common.{slice_get}
 use Rattle.slink_wire.specs.declared.reply.Reply.{Reply}
 use Rattle.slink_wire.specs.Lines.{IsHeld}
 use Rattle.slink_wire.specs.Place.{Fields, IsField}
@@ -17,17 +18,17 @@ use Rattle.slink_model.specs.declared.world.Step.TheVariants.{Append, Connect, T
 use Rattle.slink_model.specs.Counted.{Gained, with_event, with_events}
 use Rattle.slink_feed.specs.Cutting.{IsBegun, IsWhole}
 use Rattle.slink_feed.specs.Dialogue.{Talk, Whole, heard, says_place}
-use Rattle.slink_feed.specs.Listening.{AreBrought, Brings, Brought, IsLinked, Listening, begun, bytes_of, events_of,
-    talk_after, telling, whole}
+use Rattle.slink_feed.specs.Listening.{AreBrought, Brings, Brought, IsLinked, Listening, begun, bytes_of, events_of}
+use Rattle.slink_feed.specs.Listening.{talk_after, telling, whole}
 use Rattle.slink_feed.specs.Serving.{Serves, Standing}
 use Rattle.slink_feed.specs.Session.{State}
 use Rattle.slink_model.specs.Spared.{AreAskable}
 use Rattle.slink_model.specs.Stretch.{IsSchedule}
 use Rattle.slink_model.specs.Ties.{Places}
 use Rattle.slink_feed.specs.Window.{Window}
-use Rattle.slink_model.specs.World.{AllHappen, Both, Connects, Delivers, Differ, Happens, Hears, IsHeard, IsServed,
-    LinkState, Numbers, Taking, WorldState, none_heard, noted, opening, piece_heard, piece_lost, pushed_to, said,
-    taking}
+use Rattle.slink_model.specs.World.{AllHappen, Both, Connects, Delivers, Differ, Happens, Hears, IsHeard, IsServed}
+use Rattle.slink_model.specs.World.{LinkState, Numbers, Taking, WorldState, none_heard, noted, opening, piece_heard}
+use Rattle.slink_model.specs.World.{piece_lost, pushed_to, said, taking}
 use Rattle.slink_model.proofs.Answering.{Comes, IsOn, IsPending, asked_on, it_came, not_both, not_yet, quiet_on}
 use Rattle.slink_feed.proofs.Closing.{Open, open_or, shut_on, held_same, standings_same}
 use Rattle.slink_model.proofs.Calling.{pending_or}
@@ -92,12 +93,15 @@ heard_whole f u v now all piece rest e w split is h none more =
     let talk : (heard u.client.talk w).0 ≡ now.talk = ap (λ (p : Talk × Event). p.0) h in
     let event : (heard u.client.talk w).1 ≡ e = ap (λ (p : Talk × Event). p.1) h in
     let left : rest ≡ bytes_of more.brought ++ (v.client.kept ++ more.lost) = ap (λ k. k ++ rest) (sym none)
-        ∙ (ap (λ (c : Listening). c.kept ++ rest) (sym client) ∙ more.bytes_are) in
+    ∙ (ap (λ (c : Listening). c.kept ++ rest) (sym client) ∙ more.bytes_are) in
     record {
       brought = b ∷ more.brought;
       lost = more.lost;
-      are_brought = (is, subst (λ (t : Talk). AreBrought t more.brought) (ap (λ (c : Listening). c.talk) client
-          ∙ sym talk) more.are_brought);
+      are_brought = (
+        is,
+        subst (λ (t : Talk). AreBrought t more.brought) (ap (λ (c : Listening). c.talk) client
+            ∙ sym talk) more.are_brought,
+      );
       bytes_are = ap (λ x. u.client.kept ++ x) split
           ∙ (sym (append_assoc u.client.kept piece rest)
           ∙ (ap (λ x. (u.client.kept ++ piece) ++ x) left
@@ -122,7 +126,7 @@ heard_begun : (f : Numbers) (u v : Taking) (now : Listening) (all piece rest : L
 heard_begun f u v now all piece rest e split same quiet more =
     let client : (noted f e (record u { client = now })).client ≡ now = same_client f e (record u { client = now }) in
     let talk : (noted f e (record u { client = now })).client.talk ≡ u.client.talk =
-        ap (λ (c : Listening). c.talk) (client ∙ same) in
+    ap (λ (c : Listening). c.talk) (client ∙ same) in
     record {
       brought = more.brought;
       lost = more.lost;
@@ -150,17 +154,33 @@ heard_piece f u v now all piece rest e split (begun is same quiet) more =
 pub heard_all : (f : Numbers) (t : Taking) (bytes : List ℕ) (last : Taking) → Hears f t bytes last
     → IsBegun t.client.talk.stage t.client.kept → HeardAll f t bytes last
 heard_all f t bytes last (none_heard u) is =
-    record { brought = []; lost = []; are_brought = tt; bytes_are = refl; talk = refl; gains = refl; is_begun = is;
-    all = λ _. refl }
+    record {
+      brought = [];
+      lost = [];
+      are_brought = tt;
+      bytes_are = refl;
+      talk = refl;
+      gains = refl;
+      is_begun = is;
+      all = λ _. refl;
+    }
 heard_all f t bytes last (piece_heard u v now all piece rest e split linked brings more) is =
     heard_piece f u v now all piece rest e split brings (heard_all f (noted f e (record u { client = now })) rest v more
     (subst (λ (c : Listening). IsBegun c.talk.stage c.kept) (sym (same_client f e (record u { client = now })))
-        (begun_after u.client.talk (u.client.kept ++ piece) now e brings)))
+    (begun_after u.client.talk (u.client.kept ++ piece) now e brings)))
 heard_all f t bytes last (piece_lost u v all piece rest split over more) is =
     let same : v ≡ u = lost_all f u rest v more over in
     subst (λ (x : Taking). HeardAll f u all x) (sym same)
-        (record { brought = []; lost = all; are_brought = tt; bytes_are = refl; talk = refl; gains = refl;
-        is_begun = is; all = λ linked. absurd (over linked) })
+    (record {
+      brought = [];
+      lost = all;
+      are_brought = tt;
+      bytes_are = refl;
+      talk = refl;
+      gains = refl;
+      is_begun = is;
+      all = λ linked. absurd (over linked);
+    })
 
 -- the same is kept
 kept_linked : (k m x y : List ℕ) → x ≡ [] → y ≡ [] → k ++ x ≡ m ++ y → k ≡ m
@@ -179,7 +199,7 @@ pub rest_is : (f : Numbers) (t : Taking) (bytes : List ℕ) (last : Taking) (h :
 rest_is f t bytes last h linked =
     let at_last : IsLinked last.client.talk.stage = subst (λ (x : Talk). IsLinked x.stage) (sym h.talk) linked in
     subst (λ b. IsBegun (talk_after t.client.talk h.brought).stage b)
-        (sym (ap (λ b. last.client.kept ++ b) (h.all at_last) ∙ append-nil last.client.kept))
+    (sym (ap (λ b. last.client.kept ++ b) (h.all at_last) ∙ append-nil last.client.kept))
     (subst (λ (x : Talk). IsBegun x.stage last.client.kept) h.talk h.is_begun)
 
 takings_same : (a b : Taking) → a.client ≡ b.client → gained a ≡ gained b → a ≡ b
@@ -194,15 +214,15 @@ one_hearing f t a b bytes x y is =
     let p : HeardAll f t bytes a = heard_all f t bytes a x is in
     let q : HeardAll f t bytes b = heard_all f t bytes b y is in
     let one : (p.brought ≡ q.brought) × (a.client.kept ++ p.lost ≡ b.client.kept ++ q.lost) =
-        one_brought t.client.talk p.brought q.brought (a.client.kept ++ p.lost) (b.client.kept ++ q.lost) p.are_brought
-        q.are_brought (sym p.bytes_are ∙ q.bytes_are) (rest_is f t bytes a p) (rest_is f t bytes b q) in
+    one_brought t.client.talk p.brought q.brought (a.client.kept ++ p.lost) (b.client.kept ++ q.lost) p.are_brought
+    q.are_brought (sym p.bytes_are ∙ q.bytes_are) (rest_is f t bytes a p) (rest_is f t bytes b q) in
     let talk : a.client.talk ≡ b.client.talk = p.talk ∙ (ap (talk_after t.client.talk) one.0 ∙ sym q.talk) in
     let kept : a.client.kept ≡ b.client.kept =
-        kept_same b.client.talk.stage a.client.kept b.client.kept p.lost q.lost
-        (subst (λ (x : Talk). IsBegun x.stage a.client.kept) talk p.is_begun) q.is_begun
+    kept_same b.client.talk.stage a.client.kept b.client.kept p.lost q.lost
+    (subst (λ (x : Talk). IsBegun x.stage a.client.kept) talk p.is_begun) q.is_begun
     (λ linked. p.all (subst (λ (x : Talk). IsLinked x.stage) (sym talk) linked)) q.all one.1 in
     takings_same a b (seen_same a.client b.client talk kept) (p.gains
-        ∙ (ap (λ bs. with_events f (events_of t.client.talk bs) (gained t)) one.0 ∙ sym q.gains))
+    ∙ (ap (λ bs. with_events f (events_of t.client.talk bs) (gained t)) one.0 ∙ sym q.gains))
 
 -- however bytes are cut, a session comes to the same
 module _ (feed : List Window) (s : Standing) (bytes way rest taken : List ℕ) (held : Open s.state.phase
@@ -218,11 +238,12 @@ module _ (feed : List Window) (s : Standing) (bytes way rest taken : List ℕ) (
       → Open s.state.phase → IsAnswered taken (bytes ++ rest) → (a ≡ b) × (x ≡ y)
   quiet_once a b x y p q awake told =
       let one : IsOn feed s a way x (taken ++ bytes) rest =
-          quiet_on feed s bytes way a x rest taken p awake (held awake) told in
+      quiet_on feed s bytes way a x rest taken p awake (held awake) told in
       let two : IsOn feed s b way y (taken ++ bytes) rest =
-          quiet_on feed s bytes way b y rest taken q awake (held awake) told in
-      (standings_same a b (one.state ∙ sym two.state) (held_same a.held b.held (taken ++ bytes) one.held two.held),
-          one.sent ∙ sym two.sent)
+      quiet_on feed s bytes way b y rest taken q awake (held awake) told in (
+        standings_same a b (one.state ∙ sym two.state) (held_same a.held b.held (taken ++ bytes) one.held two.held),
+        one.sent ∙ sym two.sent,
+      )
 
   pub told_once : (a b : Standing) (x y : List ℕ) → Serves feed s bytes way a x → Serves feed s bytes way b y
       → (Open s.state.phase → IsAnswered taken (bytes ++ rest)) → (a ≡ b) × (x ≡ y)
@@ -244,18 +265,20 @@ module _ (feed : List Window) (s : Standing) (bytes way rest taken : List ℕ) (
     both_done a b x y (it_came r sent done kept told) (not_yet q sent' kept' asks') =
         absurd (not_both (request_line pending.request) (taken ++ bytes) rest asks' told)
     both_done a b x y (it_came r sent done kept told) (it_came r' sent' done' kept' told') =
-        let same : ◌≡◌ {A = State × Reply} (a.state, r) (b.state, r') = sym done ∙ done' in
-        (standings_same a b (ap (λ (z : State × Reply). z.0) same)
-            (held_same a.held b.held (taken ++ bytes) kept kept'), sent
-            ∙ (ap (λ (z : State × Reply). way ++ reply_bytes z.1) same ∙ sym sent'))
+        let same : ◌≡◌ {A = State × Reply} (a.state, r) (b.state, r') = sym done ∙ done' in (
+          standings_same a b (ap (λ (z : State × Reply). z.0) same)
+              (held_same a.held b.held (taken ++ bytes) kept kept'),
+          sent
+              ∙ (ap (λ (z : State × Reply). way ++ reply_bytes z.1) same ∙ sym sent'),
+        )
 
     pub asked_once : (a b : Standing) (x y : List ℕ) → Serves feed s bytes way a x → Serves feed s bytes way b y
         → (a ≡ b) × (x ≡ y)
     asked_once a b x y p q = both_done a b x y
         (asked_on feed s.state pending.request pending.awake pending.known pending.stays_open s bytes way a x rest
-            taken p refl (held pending.awake) pending.asks)
+        taken p refl (held pending.awake) pending.asks)
         (asked_on feed s.state pending.request pending.awake pending.known pending.stays_open s bytes way b y rest
-            taken q refl (held pending.awake) pending.asks)
+        taken q refl (held pending.awake) pending.asks)
 
 -- a stage is linked, or not
 pub linked_or : (stage : Stage) → IsLinked stage ⊎ ¬ (IsLinked stage)
@@ -268,14 +291,30 @@ linked_or (Ended ending) = inr (λ l. l)
 links_same : (a b : LinkState) → a.session ≡ b.session → a.first_sent ≡ b.first_sent → a.to_server ≡ b.to_server
     → a.to_client ≡ b.to_client → a ≡ b
 links_same a b p q r s =
-    ap (λ (x : Standing). record { session = x; first_sent = a.first_sent; to_server = a.to_server;
-        to_client = a.to_client }) p
-    ∙ (ap (λ (x : Numbers). record { session = b.session; first_sent = x; to_server = a.to_server;
-    to_client = a.to_client }) q
-    ∙ (ap (λ (x : List ℕ). record { session = b.session; first_sent = b.first_sent; to_server = x;
-    to_client = a.to_client }) r
-    ∙ ap (λ (x : List ℕ). record { session = b.session; first_sent = b.first_sent; to_server = b.to_server;
-    to_client = x }) s))
+    ap (λ (x : Standing). record {
+      session = x;
+      first_sent = a.first_sent;
+      to_server = a.to_server;
+      to_client = a.to_client;
+    }) p
+    ∙ (ap (λ (x : Numbers). record {
+      session = b.session;
+      first_sent = x;
+      to_server = a.to_server;
+      to_client = a.to_client;
+    }) q
+    ∙ (ap (λ (x : List ℕ). record {
+      session = b.session;
+      first_sent = b.first_sent;
+      to_server = x;
+      to_client = a.to_client;
+    }) r
+    ∙ ap (λ (x : List ℕ). record {
+      session = b.session;
+      first_sent = b.first_sent;
+      to_server = b.to_server;
+      to_client = x;
+    }) s))
 
 -- what a client keeps is begun
 abbrev pub Keeps : WorldState → Type 0
@@ -291,16 +330,16 @@ module _ (places : Places) (differ : Differ places) (codes : (k : ℕ) (p : Fiel
     | inl linked ↦ of (let x : LinkTalks places w.client l.session l.to_server l.to_client = talks.0 linked in
         elim (pending_or places differ codes w t l x.taken x.items x.shakes) [
           | inl pending ↦ asked_once w.windows l.session (take n l.to_server) l.to_client (drop n l.to_server) x.taken
-          x.held (subst (IsPending w.windows l.session.state x.taken) cut pending) a.session b.session a.to_client
-          b.to_client p.serves q.serves
+              x.held (subst (IsPending w.windows l.session.state x.taken) cut pending) a.session b.session a.to_client
+              b.to_client p.serves q.serves
           | inr told ↦ told_once w.windows l.session (take n l.to_server) l.to_client (drop n l.to_server) x.taken
-          x.held a.session b.session a.to_client b.to_client p.serves q.serves
-          (λ awake. subst (IsAnswered x.taken) cut (told awake))
+              x.held a.session b.session a.to_client b.to_client p.serves q.serves
+              (λ awake. subst (IsAnswered x.taken) cut (told awake))
         ])
     | inr over ↦ of (let x : IsQuiet l.session l.to_server = talks.1 over in
         told_once w.windows l.session (take n l.to_server) l.to_client (drop n l.to_server) x.0
-            (λ awake. (x.1 awake).0) a.session b.session a.to_client b.to_client p.serves q.serves
-            (λ awake. subst (IsAnswered x.0) cut (x.1 awake).1))
+        (λ awake. (x.1 awake).0) a.session b.session a.to_client b.to_client p.serves q.serves
+        (λ awake. subst (IsAnswered x.0) cut (x.1 awake).1))
   ]
     where
       cut : l.to_server ≡ take n l.to_server ++ drop n l.to_server
@@ -322,28 +361,64 @@ module _ (places : Places) (differ : Differ places) (codes : (k : ℕ) (p : Fiel
   worlds_same : (a b : WorldState) → a.windows ≡ b.windows → a.pushed ≡ b.pushed → a.client ≡ b.client
       → a.held ≡ b.held → a.start ≡ b.start → a.link ≡ b.link → a ≡ b
   worlds_same a b p q r s u v =
-      ap (λ x. record { windows = x; pushed = a.pushed; client = a.client; held = a.held; start = a.start;
-          link = a.link }) p
-      ∙ (ap (λ x. record { windows = b.windows; pushed = x; client = a.client; held = a.held; start = a.start;
-      link = a.link }) q
-      ∙ (ap (λ x. record { windows = b.windows; pushed = b.pushed; client = x; held = a.held; start = a.start;
-      link = a.link }) r
-      ∙ (ap (λ x. record { windows = b.windows; pushed = b.pushed; client = b.client; held = x; start = a.start;
-      link = a.link }) s
-      ∙ (ap (λ x. record { windows = b.windows; pushed = b.pushed; client = b.client; held = b.held; start = x;
-      link = a.link }) u
-      ∙ ap (λ x. record { windows = b.windows; pushed = b.pushed; client = b.client; held = b.held; start = b.start;
-      link = x }) v))))
+      ap (λ x. record {
+        windows = x;
+        pushed = a.pushed;
+        client = a.client;
+        held = a.held;
+        start = a.start;
+        link = a.link;
+      }) p
+      ∙ (ap (λ x. record {
+        windows = b.windows;
+        pushed = x;
+        client = a.client;
+        held = a.held;
+        start = a.start;
+        link = a.link;
+      }) q
+      ∙ (ap (λ x. record {
+        windows = b.windows;
+        pushed = b.pushed;
+        client = x;
+        held = a.held;
+        start = a.start;
+        link = a.link;
+      }) r
+      ∙ (ap (λ x. record {
+        windows = b.windows;
+        pushed = b.pushed;
+        client = b.client;
+        held = x;
+        start = a.start;
+        link = a.link;
+      }) s
+      ∙ (ap (λ x. record {
+        windows = b.windows;
+        pushed = b.pushed;
+        client = b.client;
+        held = b.held;
+        start = x;
+        link = a.link;
+      }) u
+      ∙ ap (λ x. record {
+        windows = b.windows;
+        pushed = b.pushed;
+        client = b.client;
+        held = b.held;
+        start = b.start;
+        link = x;
+      }) v))))
 
   heard_once : (n : ℕ) (a b : WorldState) (l x y : LinkState) → Delivers n w a → Delivers n w b → a.link ≡ Some x
       → b.link ≡ Some y → IsHeard n w a l x → IsHeard n w b l y → a ≡ b
   heard_once n a b l x y p q at_a at_b h k =
       let one : taking a x ≡ taking b y =
-          one_hearing l.first_sent (taking w l) (taking a x) (taking b y) (take n l.to_client) h.hears k.hears keeps in
+      one_hearing l.first_sent (taking w l) (taking a x) (taking b y) (take n l.to_client) h.hears k.hears keeps in
       let link : x ≡ y = links_same x y (h.session ∙ sym k.session) (h.first_sent ∙ sym k.first_sent)
-          (ap (λ (z : Taking). z.to_server) one) (h.left ∙ sym k.left) in
+      (ap (λ (z : Taking). z.to_server) one) (h.left ∙ sym k.left) in
       worlds_same a b (p.windows ∙ sym q.windows) (p.pushed ∙ sym q.pushed) (ap (λ (z : Taking). z.client) one)
-          (ap (λ (z : Taking). z.held) one) (ap (λ (z : Taking). z.start) one)
+      (ap (λ (z : Taking). z.held) one) (ap (λ (z : Taking). z.start) one)
       (at_a ∙ (ap (λ (z : LinkState). Some z) link ∙ sym at_b))
 
   delivered_once : (n : ℕ) (a b : WorldState) (o x y : Option LinkState) → Delivers n w a → Delivers n w b → w.link ≡ o
@@ -357,12 +432,16 @@ module _ (places : Places) (differ : Differ places) (codes : (k : ℕ) (p : Fiel
   connected_once : (a b : WorldState) → Connects w a → Connects w b → a ≡ b
   connected_once a b p q =
       let session : p.session ≡ q.session =
-          standings_same p.session q.session (p.is_new.state ∙ sym q.is_new.state)
-          (held_same p.session.held q.session.held [] p.is_new.held q.is_new.held) in
+      standings_same p.session q.session (p.is_new.state ∙ sym q.is_new.state)
+      (held_same p.session.held q.session.held [] p.is_new.held q.is_new.held) in
       p.becomes ∙ (ap (λ (x : Standing). record w {
         client = record { talk = (says_place 0 w.client.talk).0; kept = [] };
-        link = Some (record { session = x; first_sent = replicate 16 None;
-            to_server = said (says_place 0 w.client.talk).1; to_client = [] });
+        link = Some (record {
+          session = x;
+          first_sent = replicate 16 None;
+          to_server = said (says_place 0 w.client.talk).1;
+          to_client = [];
+        });
       }) session ∙ sym q.becomes)
 
   pub step_once : (step : Step) (a b : WorldState) → Happens w step a → Happens w step b → a ≡ b
@@ -404,13 +483,13 @@ module _ (places : Places) (differ : Differ places) (codes : (k : ℕ) (p : Fiel
   all_once (step ∷ steps) w a b some of t keeps p q =
       let one : p.0 ≡ q.0 = step_once places differ codes w t keeps step p.0 q.0 p.1 q.1 in
       all_once steps p.0 a b some of.2 (step_talks places differ codes w p.0 step some of.0 of.1 p.1 t)
-          (step_keeps places differ codes w t keeps step p.0 p.1) p.2
-          (subst (λ (x : WorldState). AllHappen x steps b) (sym one) q.2)
+      (step_keeps places differ codes w t keeps step p.0 p.1) p.2
+      (subst (λ (x : WorldState). AllHappen x steps b) (sym one) q.2)
 
 -- Any steps lead to one world.
 pub one_world : (setup : Setup) (steps : List Step) (a b : WorldState) → AllHappen (opening setup) steps a
     → AllHappen (opening setup) steps b → IsSchedule setup steps → AreAskable setup.places.items → a ≡ b
 one_world setup steps a b p q is askable =
     all_once setup.places.items is.differ askable.codes steps (opening setup) a b askable.some
-        (each_of setup.places.items steps is.of_places is.sound)
+    (each_of setup.places.items steps is.of_places is.sound)
     (opening_talks setup steps a p is askable) refl p q

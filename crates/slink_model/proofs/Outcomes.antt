@@ -1,7 +1,7 @@
 -- What a client makes of the bytes of replies and packets, cut anywhere.
-use Rattle.std.proofs.Common.{◌≡◌, ℕ, ◌+◌, ◌%◌, ◌^◌, inl, inr, refl, sym, ap, subst, ◌∙◌, arith, Bool, true, false,
-    List, [], ◌∷◌, ◌++◌, length, length-append, take, drop, take_at, drop_at, Option, Some, None, slice_get, codes,
-    bytes_eq, nat_eq, if◌then◌else◌}
+use Rattle.std.proofs.Common.{◌≡◌, ℕ, ◌+◌, ◌%◌, ◌^◌, inl, inr, refl, sym, ap, subst, ◌∙◌, arith, Bool, true, false}
+use Rattle.std.proofs.Common.{List, [], ◌∷◌, ◌++◌, length, length-append, take, drop, take_at, drop_at, Option, Some}
+use Rattle.std.proofs.Common.{None, slice_get, codes, bytes_eq, nat_eq, if◌then◌else◌}
 use Rattle.std.specs.List.{starts_with}
 use Rattle.std.proofs.lemmas.Bool.Decides.{eqb_tells}
 use Rattle.std.proofs.lemmas.List.{take-append-le}
@@ -21,12 +21,12 @@ use Rattle.slink_feed.specs.declared.dialogue.Stage.{Stage}
 use Rattle.slink_feed.specs.declared.dialogue.Stage.TheVariants.{Unlinked, Station, Number, Packets, Ended}
 use Rattle.slink_feed.specs.declared.dialogue.Wanted.{Wanted}
 use Rattle.slink_feed.specs.Cutting.{IsWhole}
-use Rattle.slink_feed.specs.Dialogue.{Talk, Whole, Reply, Packet, End, Garbage, answer_of, at_packet, bearer, ended,
-    event_of, heard, heard_at, if_wanted, next_at, says_number, says_place, to_answer, to_place, told, want_at,
-    with_next}
+use Rattle.slink_feed.specs.Dialogue.{Talk, Whole, Reply, Packet, End, Garbage, answer_of, at_packet, bearer, ended}
+use Rattle.slink_feed.specs.Dialogue.{event_of, heard, heard_at, if_wanted, next_at, says_number, says_place, to_answer}
+use Rattle.slink_feed.specs.Dialogue.{to_place, told, want_at, with_next}
 use Rattle.slink_feed.specs.Listening.{Brings, Listening, begun, whole}
-use Rattle.slink_model.specs.Ties.{AreWhole, Item, Accepted, Refused, Greeted, Carried, Finished, Outcome, ends, says,
-    takes, told_of, waits, way_bytes}
+use Rattle.slink_model.specs.Ties.{AreWhole, Item, Accepted, Refused, Greeted, Carried, Finished, Outcome, ends, says}
+use Rattle.slink_model.specs.Ties.{takes, told_of, waits, way_bytes}
 
 quiet_ending : (ending : Ending) → told_of (event_of ending) ≡ None
 quiet_ending endings.End = refl
@@ -90,17 +90,29 @@ module _ (t : Talk) (bytes way : List ℕ) (new : Listening) (e : Event) where
   accepted_first [] h = absurd (no_byte (codes "OK" ++ (line_end ++ way)) [] 0 79 h refl refl)
   accepted_first (Accepted ∷ rest) h = (rest, refl, ap (drop 4) h)
   accepted_first (Refused ∷ rest) h =
-      absurd (omega (arith, one_byte (codes "OK" ++ (line_end ++ way)) (way_bytes (Refused ∷ rest)) 0 79 69 h refl
-      refl))
+      absurd (omega (
+        arith,
+        one_byte (codes "OK" ++ (line_end ++ way)) (way_bytes (Refused ∷ rest)) 0 79 69 h refl
+            refl,
+      ))
   accepted_first (Greeted ∷ rest) h =
-      absurd (omega (arith, one_byte (codes "OK" ++ (line_end ++ way)) (way_bytes (Greeted ∷ rest)) 0 79 83 h refl
-      refl))
+      absurd (omega (
+        arith,
+        one_byte (codes "OK" ++ (line_end ++ way)) (way_bytes (Greeted ∷ rest)) 0 79 83 h refl
+            refl,
+      ))
   accepted_first (Carried k n r ∷ rest) h =
-      absurd (omega (arith, one_byte (codes "OK" ++ (line_end ++ way)) (way_bytes (Carried k n r ∷ rest)) 0 79 83 h
-      refl refl))
+      absurd (omega (
+        arith,
+        one_byte (codes "OK" ++ (line_end ++ way)) (way_bytes (Carried k n r ∷ rest)) 0 79 83 h
+            refl refl,
+      ))
   accepted_first (Finished ∷ rest) h =
-      absurd (omega (arith, one_byte (codes "OK" ++ (line_end ++ way)) (way_bytes (Finished ∷ rest)) 0 79 69 h refl
-      refl))
+      absurd (omega (
+        arith,
+        one_byte (codes "OK" ++ (line_end ++ way)) (way_bytes (Finished ∷ rest)) 0 79 69 h refl
+            refl,
+      ))
 
   -- only a packet begins so
   first_carried : (items : List Item) (n : ℕ) (r : List ℕ) → AreWhole items → IsPacket bytes n r → length bytes ≡ 520
@@ -117,11 +129,11 @@ module _ (t : Talk) (bytes way : List ℕ) (new : Listening) (e : Event) where
       absurd (omega (arith, one_byte (take 2 (way_bytes (Finished ∷ rest))) (codes "SL") 0 69 83 front refl refl))
   first_carried (Carried k m x ∷ rest) n r are is long h front =
       let cut : (bytes ≡ packet_bytes (m % 2 ^ 24) x) × (way ≡ way_bytes rest) =
-          same_cut bytes way (packet_bytes (m % 2 ^ 24) x) (way_bytes rest) (long
-          ∙ sym (packet_length (m % 2 ^ 24) x are.0)) h in
+      same_cut bytes way (packet_bytes (m % 2 ^ 24) x) (way_bytes rest) (long
+      ∙ sym (packet_length (m % 2 ^ 24) x are.0)) h in
       let one : (n ≡ m % 2 ^ 24) × (r ≡ x) =
-          one_packet bytes n (m % 2 ^ 24) r x is
-          (subst (λ b. IsPacket b (m % 2 ^ 24) x) (sym cut.0) (read_back (m % 2 ^ 24) x (omega arith))) in
+      one_packet bytes n (m % 2 ^ 24) r x is
+      (subst (λ b. IsPacket b (m % 2 ^ 24) x) (sym cut.0) (read_back (m % 2 ^ 24) x (omega arith))) in
       (k, m, rest, ap (λ y. Carried k m y ∷ rest) (sym one.1), cut.1, one.0)
 
   carried_first : (items : List Item) (n : ℕ) (r : List ℕ) → AreWhole items → IsPacket bytes n r → length bytes ≡ 520
@@ -139,9 +151,9 @@ module _ (t : Talk) (bytes way : List ℕ) (new : Listening) (e : Event) where
   has_reply items line k next Granted a is h quiet heard none =
       let ok : line ≡ codes "OK" = granted_is line a in
       let top : (rest : List Item) × (items ≡ Accepted ∷ rest) × (way ≡ way_bytes rest) =
-          accepted_first items (ap (λ xs. (xs ++ line_end) ++ way) (sym ok) ∙ (ap (λ xs. xs ++ way) (sym is) ∙ h)) in
+      accepted_first items (ap (λ xs. (xs ++ line_end) ++ way) (sym ok) ∙ (ap (λ xs. xs ++ way) (sym is) ∙ h)) in
       says top.0 top.1 top.2 (ap (λ (p : Talk × Event). p.0.wants) (sym heard) ∙ quiet.0) none
-          (ap (λ (p : Talk × Event). told_of p.1) (sym heard) ∙ quiet.1)
+      (ap (λ (p : Talk × Event). told_of p.1) (sym heard) ∙ quiet.1)
   has_reply items line k next Refusal a is h quiet heard none = has_ended items (endings.Refused k) heard none
   has_reply items line k next Neither a is h quiet heard none = has_ended items endings.Garbage heard none
 
@@ -151,7 +163,7 @@ module _ (t : Talk) (bytes way : List ℕ) (new : Listening) (e : Event) where
       → Outcome t items bytes way new e
   has_told items n j r k m rest is left number at wanted heard none =
       let talk : new.talk ≡ record t { wants = with_next t.wants j ((n + 1) % 2 ^ 24) } =
-          sym (ap (λ (p : Talk × Event). p.0) heard) in
+      sym (ap (λ (p : Talk × Event). p.0) heard) in
       let event : e ≡ events.Record j n r = sym (ap (λ (p : Talk × Event). p.1) heard) in
       takes k j m r rest is left at (λ w next. sym number ∙ wanted w next)
       (talk ∙ ap (λ x. record t { wants = with_next t.wants j ((x + 1) % 2 ^ 24) }) number) none
@@ -164,13 +176,13 @@ module _ (t : Talk) (bytes way : List ℕ) (new : Listening) (e : Event) where
       → if_wanted o j n r t ≡ (new.talk, e) → new.kept ≡ [] → Outcome t items bytes way new e
   has_wanted items n j r k m rest None is left number at next heard none =
       has_told items n j r k m rest is left number at (λ w some. absurd (let bad : None ≡ Some w = sym next ∙ some in
-          cc bad)) heard none
+      cc bad)) heard none
   has_wanted items n j r k m rest (Some want) is left number at next heard none = elim (eqb_tells n want) [
     | inl same ↦ has_told items n j r k m rest is left number at (λ w some. let both : Some want ≡ Some w = sym next
-    ∙ some in let one : want ≡ w = cc both in same.1 ∙ one)
+        ∙ some in let one : want ≡ w = cc both in same.1 ∙ one)
         (ap (λ (b : Bool). if b then told j n r t else ended (endings.Gap j want n) t) (sym same.0) ∙ heard) none
     | inr other ↦ has_ended items (endings.Gap j want n)
-    (ap (λ (b : Bool). if b then told j n r t else ended (endings.Gap j want n) t) (sym other.0) ∙ heard) none
+        (ap (λ (b : Bool). if b then told j n r t else ended (endings.Gap j want n) t) (sym other.0) ∙ heard) none
   ]
 
   -- a packet that is heard
@@ -180,7 +192,7 @@ module _ (t : Talk) (bytes way : List ℕ) (new : Listening) (e : Event) where
   has_packet items n r None are is long h at heard none = has_ended items endings.Foreign heard none
   has_packet items n r (Some j) are is long h at heard none =
       let top : (k m : ℕ) × (rest : List Item) × (items ≡ Carried k m r ∷ rest) × (way ≡ way_bytes rest)
-          × (n ≡ m % 2 ^ 24) = carried_first items n r are is long h in
+      × (n ≡ m % 2 ^ 24) = carried_first items n r are is long h in
       has_wanted items n j r top.0 top.1 top.2 (next_at t.wants j) top.3 top.4 top.5 at refl heard none
 
   has_whole : (stage : Stage) (items : List Item) (w : Whole) → AreWhole items → bytes ++ way ≡ way_bytes items

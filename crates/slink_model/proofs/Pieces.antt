@@ -1,6 +1,6 @@
 -- Bytes that are taken piece by piece.
-use Rattle.std.proofs.Common.{◌≡◌, ℕ, ◌+◌, ◌≤◌, zero, suc, refl, sym, ap, subst, ◌∙◌, arith, List, [], ◌∷◌, ◌++◌,
-    append-nil, length, take, drop}
+use Rattle.std.proofs.Common.{◌≡◌, ℕ, ◌+◌, ◌≤◌, zero, suc, refl, sym, ap, subst, ◌∙◌, arith, List, [], ◌∷◌, ◌++◌}
+use Rattle.std.proofs.Common.{append-nil, length, take, drop}
 use Rattle.slink_wire.specs.declared.reply.Reply.{Reply}
 use Rattle.slink_wire.specs.Reply.{reply_bytes}
 use Rattle.slink_feed.specs.Listening.{IsLinked}
@@ -38,7 +38,7 @@ pub serves_more : (feed : List Window) (s now last : Standing) (bytes : List ℕ
     → Serves feed now (drop (start + used) bytes) on last all → Serves feed s (drop start bytes) way last all
 serves_more feed s now last bytes start used way on all reply takes e more =
     piece_served s now last (drop start bytes) (take used (drop start bytes)) (drop (start + used) bytes) way all reply
-        (at_offset bytes start used) takes
+    (at_offset bytes start used) takes
     (subst (λ (w : List ℕ). Serves feed now (drop (start + used) bytes) w last all) e more)
 
 pub serves_all : (feed : List Window) (s : Standing) (bytes : List ℕ) (start : ℕ) (way : List ℕ) → length bytes ≤ start

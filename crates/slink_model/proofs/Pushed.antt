@@ -1,6 +1,7 @@
 -- What was pushed of each place is what the steps append.
-use Rattle.std.proofs.Common.{◌≡◌, All, ◌≢◌, ℕ, ◌<◌, inl, inr, suc, refl, sym, ap, subst, ◌∙◌, arith, List, [], ◌∷◌,
-    ◌++◌, append_assoc, append-nil, length, length-set, set, get_or, Option, Some, slice_get, if◌then◌else◌, ◌==◌}
+use Rattle.std.proofs.Common.{◌≡◌, All, ◌≢◌, ℕ, ◌<◌, inl, inr, suc, refl, sym, ap, subst, ◌∙◌, arith, List, [], ◌∷◌}
+use Rattle.std.proofs.Common.{◌++◌, append_assoc, append-nil, length, length-set, set, get_or, Option, Some, slice_get}
+use Rattle.std.proofs.Common.{if◌then◌else◌, ◌==◌}
 use Rattle.std.proofs.lemmas.List.{length-map}
 use Rattle.slink_wire.specs.Place.{Fields}
 use Rattle.slink_model.specs.declared.world.Setup.{Setup}
@@ -8,8 +9,8 @@ use Rattle.slink_model.specs.declared.world.Step.{Step}
 use Rattle.slink_model.specs.declared.world.Step.TheVariants.{Append, Connect, ToServer, ToClient, Send, Cut}
 use Rattle.slink_model.specs.Pushed.{appended, appended_by}
 use Rattle.slink_feed.specs.Window.{Window, with_record}
-use Rattle.slink_model.specs.World.{AllHappen, Happens, IsOf, Lists, WorldState, empty_window, opening, pushed_to,
-    with_one}
+use Rattle.slink_model.specs.World.{AllHappen, Happens, IsOf, Lists, WorldState, empty_window, opening, pushed_to}
+use Rattle.slink_model.specs.World.{with_one}
 use Rattle.std.proofs.lemmas.Bool.Decides.{eqb_tells}
 use Rattle.slink_model.proofs.Worlds.{nothing_at}
 use Rattle.slink_feed.proofs.Items.{is_within, same_or_not, set_here, set_there, within_is}
@@ -20,22 +21,26 @@ record IsWide (count : ℕ) (w : WorldState) : Type 0 where
   pushed : length w.pushed ≡ count
 
 choice : (j k : ℕ) (b : List ℕ) → (j ≡ k) → (if j == k then b ∷ [] else []) ≡ b ∷ []
-choice j k b e = elim (eqb_tells j k) [ inl same ↦ ap (λ t. if t then b ∷ [] else []) same.0
-    | inr other ↦ absurd (other.1 e) ]
+choice j k b e = elim (eqb_tells j k) [
+  | inl same ↦ ap (λ t. if t then b ∷ [] else []) same.0
+  | inr other ↦ absurd (other.1 e)
+]
 
 no_choice : (j k : ℕ) (b : List ℕ) → (j ≢ k) → (if j == k then b ∷ [] else []) ≡ []
-no_choice j k b ne = elim (eqb_tells j k) [ inl same ↦ absurd (ne same.1)
-    | inr other ↦ ap (λ t. if t then b ∷ [] else []) other.0 ]
+no_choice j k b ne = elim (eqb_tells j k) [
+  | inl same ↦ absurd (ne same.1)
+  | inr other ↦ ap (λ t. if t then b ∷ [] else []) other.0
+]
 
 one_more : (lists : Lists) (j k : ℕ) (b : List ℕ) → j < length lists
     → get_or (with_one lists j b) k [] ≡ get_or lists k [] ++ appended_by k (Append j b)
 one_more lists j k b lt = elim (same_or_not k j) [
   | inl e ↦ subst (λ i. get_or (with_one lists j b) i [] ≡ get_or lists i [] ++ appended_by i (Append j b)) (sym e)
       (set_here lists j (get_or lists j [] ++ b ∷ []) [] lt
-          ∙ ap (λ xs. get_or lists j [] ++ xs) (sym (choice j j b refl)))
+      ∙ ap (λ xs. get_or lists j [] ++ xs) (sym (choice j j b refl)))
   | inr ne ↦ set_there lists j k (get_or lists j [] ++ b ∷ []) [] ne
-  ∙ (sym (append-nil (get_or lists k []))
-  ∙ ap (λ xs. get_or lists k [] ++ xs) (sym (no_choice j k b (λ e. ne (sym e)))))
+      ∙ (sym (append-nil (get_or lists k []))
+      ∙ ap (λ xs. get_or lists k [] ++ xs) (sym (no_choice j k b (λ e. ne (sym e)))))
 ]
 
 record Moves (count : ℕ) (w : WorldState) (step : Step) (u : WorldState) : Type 0 where
@@ -54,9 +59,9 @@ push : (count : ℕ) (w u : WorldState) (j : ℕ) (b : List ℕ) → j < count �
     → u ≡ pushed_to w j b (slice_get w.windows j) → Moves count w (Append j b) u
 push count w u j b lt wide is =
     let at : (v : Window) × (slice_get w.windows j ≡ Some v) =
-        within_is w.windows j (omega (arith, lt, wide.windows)) in
+    within_is w.windows j (omega (arith, lt, wide.windows)) in
     let becomes : u ≡ record w { windows = set w.windows j (with_record at.0 b); pushed = with_one w.pushed j b } =
-        is ∙ ap (pushed_to w j b) at.1 in
+    is ∙ ap (pushed_to w j b) at.1 in
     let windows : u.windows ≡ set w.windows j (with_record at.0 b) = ap (λ (x : WorldState). x.windows) becomes in
     let pushed : u.pushed ≡ with_one w.pushed j b = ap (λ (x : WorldState). x.pushed) becomes in
     record {
@@ -109,6 +114,8 @@ pub pushes : (setup : Setup) (steps : List Step) (now : WorldState) → AllHappe
     → (k : ℕ) → get_or now.pushed k [] ≡ appended k steps
 pushes setup steps now run of k =
     all_move setup.places.items (opening setup) now steps (all_of setup.places.items steps of)
-    (record { windows = length-map setup.places.items (empty_window setup);
-        pushed = length-map setup.places.items (λ _. []) }) run k
+    (record {
+      windows = length-map setup.places.items (empty_window setup);
+      pushed = length-map setup.places.items (λ _. []);
+    }) run k
     ∙ ap (λ xs. xs ++ appended k steps) (nothing_at setup.places.items k)

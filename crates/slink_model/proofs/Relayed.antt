@@ -1,7 +1,8 @@
 -- What comes of a packing that is sent through a schedule.
-use Rattle.std.proofs.Common.{◌≡◌, All, ◌≢◌, ℕ, ◌+◌, ◌-◌, ◌*◌, ◌/◌, ◌^◌, ◌<◌, ◌≤◌, inl, inr, zero, suc, refl, sym, ap,
-    subst, ◌∙◌, arith, List, [], ◌∷◌, ◌++◌, append_assoc, append-nil, length, length-append, map, take, drop, get_or,
-    Bool, true, false, Option, Some, None, Result, Ok, Err, IfOk, IfErr, slice_get, slice_range, if◌then◌else◌, ◌==◌}
+use Rattle.std.proofs.Common.{◌≡◌, All, ◌≢◌, ℕ, ◌+◌, ◌-◌, ◌*◌, ◌/◌, ◌^◌, ◌<◌, ◌≤◌, inl, inr, zero, suc, refl, sym, ap}
+use Rattle.std.proofs.Common.{subst, ◌∙◌, arith, List, [], ◌∷◌, ◌++◌, append_assoc, append-nil, length, length-append}
+use Rattle.std.proofs.Common.{map, take, drop, get_or, Bool, true, false, Option, Some, None, Result, Ok, Err, IfOk}
+use Rattle.std.proofs.Common.{IfErr, slice_get, slice_range, if◌then◌else◌, ◌==◌}
 use Rattle.std.specs.List.{AllByRecursion, concat}
 use Rattle.std.specs.Simd.{first_chunks}
 use Rattle.std.proofs.Math.Nat.{mul-div_cancel_left}
@@ -54,8 +55,10 @@ pub viewed_more : (rs : List (List ℕ)) (r : List ℕ) (vs : List View) (v : Vi
     → IsView v → AreViewsOf (rs ++ r ∷ []) (vs ++ v ∷ [])
 viewed_more rs r vs v h same is =
     let first = h.bytes in
-    record { bytes = map-append (λ (u : View). u.bytes) vs (v ∷ []) ∙ (λ i. first i ++ same i ∷ []);
-        each = all_joined IsView vs (v ∷ []) h.each (is, tt) }
+    record {
+      bytes = map-append (λ (u : View). u.bytes) vs (v ∷ []) ∙ (λ i. first i ++ same i ∷ []);
+      each = all_joined IsView vs (v ∷ []) h.each (is, tt);
+    }
 
 -- records of one length, cut out of their bytes
 long_as : (rs : List (List ℕ)) → AllByRecursion (λ (r : List ℕ). length r ≡ 512) rs
@@ -72,18 +75,18 @@ cut_at : (rs : List (List ℕ)) → AllByRecursion (λ (r : List ℕ). length r 
 cut_at [] h = refl
 cut_at (r ∷ rs) h =
     let first : take 512 (r ++ concat rs) ≡ r =
-        subst (λ (n : ℕ). take n (r ++ concat rs) ≡ r) h.0 (take-append_seam r (concat rs)) in
+    subst (λ (n : ℕ). take n (r ++ concat rs) ≡ r) h.0 (take-append_seam r (concat rs)) in
     let rest : drop 512 (r ++ concat rs) ≡ concat rs =
-        subst (λ (n : ℕ). drop n (r ++ concat rs) ≡ concat rs) h.0 (drop-append_seam r (concat rs)) in
+    subst (λ (n : ℕ). drop n (r ++ concat rs) ≡ concat rs) h.0 (drop-append_seam r (concat rs)) in
     let more : first_chunks 512 (length rs) (drop 512 (r ++ concat rs)) ≡ rs = ap (first_chunks 512 (length rs)) rest
-        ∙ cut_at rs h.1 in
+    ∙ cut_at rs h.1 in
     λ i. first i ∷ more i
 
 pub cut : (rs : List (List ℕ)) (bytes : List ℕ) → AllByRecursion (λ (r : List ℕ). length r ≡ 512) rs
     → bytes ≡ concat rs → first_chunks 512 (length bytes / 512) bytes ≡ rs
 cut rs bytes h e =
     let count : length bytes / 512 ≡ length rs = ap (λ (n : ℕ). n / 512) (ap length e ∙ long_as rs h)
-        ∙ mul-div_cancel_left (length rs) (omega arith) in
+    ∙ mul-div_cancel_left (length rs) (omega arith) in
     ap (λ (n : ℕ). first_chunks 512 n bytes) count ∙ (ap (first_chunks 512 (length rs)) e ∙ cut_at rs h)
 
 -- a key's first bytes are the network's, and the next the station's
@@ -93,7 +96,7 @@ part_first xs ys e = subst (λ (n : ℕ). take n (xs ++ ys) ≡ xs) e (take-appe
 part_second : (xs ys zs : List ℕ) → length xs ≡ 2 → length ys ≡ 5 → slice_range (xs ++ (ys ++ zs)) 2 7 ≡ ys
 part_second xs ys zs e f =
     let rest : drop 2 (xs ++ (ys ++ zs)) ≡ ys ++ zs =
-        subst (λ (n : ℕ). drop n (xs ++ (ys ++ zs)) ≡ ys ++ zs) e (drop-append_seam xs (ys ++ zs)) in
+    subst (λ (n : ℕ). drop n (xs ++ (ys ++ zs)) ≡ ys ++ zs) e (drop-append_seam xs (ys ++ zs)) in
     ap (take 5) rest ∙ subst (λ (n : ℕ). take n (ys ++ zs) ≡ ys) f (take-append_seam ys zs)
 
 part_long : (xs : List ℕ) (i j : ℕ) → i ≤ j → j ≤ length xs → length (slice_range xs i j) ≡ j - i
@@ -105,15 +108,15 @@ bears_key b codes place long key network station =
     let two : length (slice_range b 18 20) ≡ 2 = part_long b 18 20 (omega arith) (omega (arith, long)) in
     let five : length (slice_range b 8 13) ≡ 5 = part_long b 8 13 (omega arith) (omega (arith, long)) in
     let nested : key_at b ≡ slice_range b 18 20
-        ++ (slice_range b 8 13 ++ (slice_range b 13 15 ++ slice_range b 15 18)) =
+    ++ (slice_range b 8 13 ++ (slice_range b 13 15 ++ slice_range b 15 18)) =
     append_assoc (slice_range b 18 20 ++ slice_range b 8 13) (slice_range b 13 15) (slice_range b 15 18)
     ∙ append_assoc (slice_range b 18 20) (slice_range b 8 13) (slice_range b 13 15 ++ slice_range b 15 18) in
     let first : slice_range (key_at b) 0 2 ≡ slice_range b 18 20 =
     ap (λ (k : List ℕ). slice_range k 0 2) nested
-        ∙ part_first (slice_range b 18 20) (slice_range b 8 13 ++ (slice_range b 13 15 ++ slice_range b 15 18)) two in
+    ∙ part_first (slice_range b 18 20) (slice_range b 8 13 ++ (slice_range b 13 15 ++ slice_range b 15 18)) two in
     let second : slice_range (key_at b) 2 7 ≡ slice_range b 8 13 =
     ap (λ (k : List ℕ). slice_range k 2 7) nested ∙ part_second (slice_range b 18 20) (slice_range b 8 13)
-        (slice_range b 13 15 ++ slice_range b 15 18) two five in (
+    (slice_range b 13 15 ++ slice_range b 15 18) two five in (
       sym second ∙ (ap (λ (k : List ℕ). slice_range k 2 7) key ∙ sym station),
       sym first ∙ (ap (λ (k : List ℕ). slice_range k 0 2) key ∙ sym network),
     )
@@ -134,8 +137,8 @@ pub bear : (s : Trace) (setup : Setup) (of : IsOfChannel setup s.codes) (rs : Li
     → AllByRecursion (λ (v : View). key_at v.bytes ≡ s.codes) vs → AllBear of.place rs
 bear s setup of rs vs are long keys =
     subst (AllBear of.place) are.bytes
-        (bear_of s setup of vs (subst (λ (qs : List (List ℕ)). AllByRecursion (λ (r : List ℕ). length r ≡ 512) qs)
-        (sym are.bytes) long) keys)
+    (bear_of s setup of vs (subst (λ (qs : List (List ℕ)). AllByRecursion (λ (r : List ℕ). length r ≡ 512) qs)
+    (sym are.bytes) long) keys)
 
 -- The steps that are fed are of the place.
 is_at : (place : Fields) (first : Option ℕ) (k : ℕ) → k < 1
@@ -160,7 +163,7 @@ pub all_of : (setup : Setup) (codes : List ℕ) (of : IsOfChannel setup codes) (
 all_of setup codes of steps rs one bears =
     by_index (IsOf setup.places.items) (fed steps rs)
     (subst (λ (ps : List (Fields × Option ℕ)). AllByRecursion (IsOf ps) (fed steps rs)) (sym of.places)
-        (fed_of of.place of.first steps rs (in_turn IsOfOne steps one) bears))
+    (fed_of of.place of.first steps rs (in_turn IsOfOne steps one) bears))
 
 pub fewer : (steps : List Step) (rs : List (List ℕ)) → length (fed steps rs) ≤ length steps
 fewer [] rs = omega arith
@@ -183,9 +186,11 @@ pub front : (steps : List Step) (rs : List (List ℕ)) → AllByRecursion IsOfOn
 front [] rs of = (rs, refl)
 front (Append k b ∷ steps) [] of = front steps [] of.1
 front (Append k b ∷ steps) (r ∷ rs) of =
-    let more = front steps rs of.1 in
-    (more.0, ap (λ (qs : List (List ℕ)). r ∷ qs) more.1
-        ∙ ap (λ (qs : List (List ℕ)). (qs ++ appended 0 (fed steps rs)) ++ more.0) (sym (here k r of.0)))
+    let more = front steps rs of.1 in (
+      more.0,
+      ap (λ (qs : List (List ℕ)). r ∷ qs) more.1
+          ∙ ap (λ (qs : List (List ℕ)). (qs ++ appended 0 (fed steps rs)) ++ more.0) (sym (here k r of.0)),
+    )
 front (Connect ∷ steps) rs of = front steps rs of.1
 front (ToServer n ∷ steps) rs of = front steps rs of.1
 front (ToClient n ∷ steps) rs of = front steps rs of.1
@@ -222,9 +227,9 @@ between rs pushed held steps first next start of is h =
 one_at_most : (k : ℕ) (b : List ℕ) → length (appended_by 0 (Append k b)) ≤ 1
 one_at_most k b = elim (eqb_tells k 0) [
   | inl same ↦ let e : length (appended_by 0 (Append k b)) ≡ 1 =
-  ap (λ (t : Bool). length (if t then b ∷ [] else [])) same.0 in omega (arith, e)
+      ap (λ (t : Bool). length (if t then b ∷ [] else [])) same.0 in omega (arith, e)
   | inr other ↦ let e : length (appended_by 0 (Append k b)) ≡ 0 =
-  ap (λ (t : Bool). length (if t then b ∷ [] else [])) other.0 in omega (arith, e)
+      ap (λ (t : Bool). length (if t then b ∷ [] else [])) other.0 in omega (arith, e)
 ]
 
 appended_few : (steps : List Step) → length (appended 0 steps) ≤ length steps
@@ -233,7 +238,7 @@ appended_few (Append k b ∷ steps) =
     let more : length (appended 0 steps) ≤ length steps = appended_few steps in
     let one : length (appended_by 0 (Append k b)) ≤ 1 = one_at_most k b in
     let sum : length (appended 0 (Append k b ∷ steps)) ≡ length (appended_by 0 (Append k b)) + length
-        (appended 0 steps) = length-append (appended_by 0 (Append k b)) (appended 0 steps) in
+    (appended 0 steps) = length-append (appended_by 0 (Append k b)) (appended 0 steps) in
     omega (arith, more, one, sum)
 appended_few (Connect ∷ steps) = let more : length (appended 0 steps) ≤ length steps = appended_few steps in
     omega (arith, more)
@@ -251,9 +256,9 @@ pub held_few : (pushed held : List (List ℕ)) (steps : List Step) (first : ℕ)
 held_few pushed held steps first next start is h =
     let part = slice first pushed held next start h in
     let all : length pushed ≤ length steps =
-        subst (λ (qs : List (List ℕ)). length qs ≤ length steps) (sym is) (appended_few steps) in
+    subst (λ (qs : List (List ℕ)). length qs ≤ length steps) (sym is) (appended_few steps) in
     let sum : length pushed ≡ length part.before + length (held ++ part.after) =
-        ap length part.is ∙ length-append part.before (held ++ part.after) in
+    ap length part.is ∙ length-append part.before (held ++ part.after) in
     omega (arith, all, sum, length-append held part.after)
 
 -- records that have views are records
@@ -312,8 +317,10 @@ nothing [] e = refl
 nothing (x ∷ xs) e = absurd (omega (arith, e))
 
 pub empty_is : (xs : List (List ℕ)) → true ≡ (length xs == 0) → xs ≡ []
-empty_is xs h = elim (eqb_tells (length xs) 0) [ inl same ↦ nothing xs same.1
-    | inr other ↦ absurd (let bad : true ≡ false = h ∙ other.0 in cc bad) ]
+empty_is xs h = elim (eqb_tells (length xs) 0) [
+  | inl same ↦ nothing xs same.1
+  | inr other ↦ absurd (let bad : true ≡ false = h ∙ other.0 in cc bad)
+]
 
 pub some_are : (xs : List (List ℕ)) → false ≡ (length xs == 0) → xs ≢ []
 some_are xs h none = absurd (let e : (length xs == 0) ≡ true = ap (λ (ys : List (List ℕ)). length ys == 0) none in
@@ -338,7 +345,7 @@ fed_are_of say s setup of steps rs all reads told one is =
     let long = long_told rs told in
     let keys = say s [] rs [] reads.views (subst (ReadsAs s) (sym (append-nil rs)) reads) reads.are_views in
     subst (All (IsOf setup.places.items)) (sym is)
-        (all_of setup s.codes of steps rs one (bear s setup of rs reads.views reads.are_views long keys))
+    (all_of setup s.codes of steps rs one (bear s setup of rs reads.views reads.are_views long keys))
 
 pub fed_few : (steps : List Step) (rs : List (List ℕ)) (all : List Step) (n : ℕ) → length steps < n
     → all ≡ fed steps rs → length all < n
@@ -365,7 +372,7 @@ pub held_among : Pushes → (s : Trace) (setup : Setup) → IsOfChannel setup s.
 held_among pushes s setup of steps rs all w held reads one is ofs run holds same =
     let pushed : get_or w.pushed 0 [] ≡ appended 0 (fed steps rs) = pushes setup all w run ofs 0 ∙ ap (appended 0) is in
     let cut = between rs (get_or w.pushed 0 []) (get_or w.held 0 []) steps setup.first (next_at w.client.talk.wants 0)
-        (number_at w.start 0) (in_turn IsOfOne steps one) pushed (holds_first setup s.codes of w holds) in
+    (number_at w.start 0) (in_turn IsOfOne steps one) pushed (holds_first setup s.codes of w holds) in
     (cut.before, cut.after, cut.is ∙ ap (λ (hs : List (List ℕ)). cut.before ++ (hs ++ cut.after)) (sym same), reads)
 
 pub held_are_few : Pushes → (setup : Setup) (codes : List ℕ) → IsOfChannel setup codes
@@ -374,17 +381,19 @@ pub held_are_few : Pushes → (setup : Setup) (codes : List ℕ) → IsOfChannel
     → HoldsStretches setup.places.items setup.first w → held ≡ get_or w.held 0 [] → length held < n
 held_are_few pushes setup codes of all w held n lt ofs run holds same =
     let few : length (get_or w.held 0 []) ≤ length all =
-        held_few (get_or w.pushed 0 []) (get_or w.held 0 []) all setup.first (next_at w.client.talk.wants 0)
-        (number_at w.start 0) (pushes setup all w run ofs 0) (holds_first setup codes of w holds) in
+    held_few (get_or w.pushed 0 []) (get_or w.held 0 []) all setup.first (next_at w.client.talk.wants 0)
+    (number_at w.start 0) (pushes setup all w run ofs 0) (holds_first setup codes of w holds) in
     omega (arith, lt, few, ap length same)
 
 pub came : (s : Trace) (setup : Setup) (steps : List Step) (rs : List (List ℕ)) (all : List Step) (w : WorldState)
     (held : List (List ℕ)) (t : Option Trace) → all ≡ fed steps rs → AllHappen (opening setup) all w
     → held ≡ get_or w.held 0 []
     → IsHeldAs t s rs held → ComesThrough t s setup steps rs
-came s setup steps rs all w held t is run same h =
-    (w, subst (λ (ss : List Step). AllHappen (opening setup) ss w) is run,
-        subst (λ (hs : List (List ℕ)). IsHeldAs t s rs hs) same h)
+came s setup steps rs all w held t is run same h = (
+  w,
+  subst (λ (ss : List Step). AllHappen (opening setup) ss w) is run,
+  subst (λ (hs : List (List ℕ)). IsHeldAs t s rs hs) same h,
+)
 
 pub if_ok : {X E : Type 0} (r : Result X E) (P Q : X → Type 0) → ((x : X) → P x → Q x) → IfOk r P → IfOk r Q
 if_ok (Ok x) P Q f p = f x p
@@ -399,7 +408,7 @@ pub cut_out : AreOfOneLength → (s : Trace) (o : Options) (bytes : List ℕ) (r
     → (packed : IsPackedAs s o bytes) → rs ≡ first_chunks 512 (length bytes / 512) bytes → rs ≡ packed.records
 cut_out one s o bytes rs nine packed is =
     let long = subst (λ (e : ℕ). AllByRecursion (λ (r : List ℕ). length r ≡ 2 ^ e) packed.records) nine
-        (one s o packed.records packed.packing) in
+    (one s o packed.records packed.packing) in
     is ∙ cut packed.records bytes long packed.bytes_are
 
 -- by the answer of the schedule

@@ -1,7 +1,7 @@
 -- The lines of requests, and what they command.
-use Rattle.std.proofs.Common.{◌≡◌, ℕ, ◌+◌, ◌/◌, ◌%◌, ◌<◌, ◌≤◌, inl, inr, zero, suc, refl, sym, ap, subst, ◌∙◌, arith,
-    Bool, true, false, not, ◌==◌, ◌&&◌, List, [], ◌∷◌, ◌++◌, length, length-append, bytes_eq, codes, Option, Some, None,
-    option_map, slice_get, if◌then◌else◌}
+use Rattle.std.proofs.Common.{◌≡◌, ℕ, ◌+◌, ◌/◌, ◌%◌, ◌<◌, ◌≤◌, inl, inr, zero, suc, refl, sym, ap, subst, ◌∙◌, arith}
+use Rattle.std.proofs.Common.{Bool, true, false, not, ◌==◌, ◌&&◌, List, [], ◌∷◌, ◌++◌, length, length-append, bytes_eq}
+use Rattle.std.proofs.Common.{codes, Option, Some, None, option_map, slice_get, if◌then◌else◌}
 use Rattle.std.specs.List.{list_all, position_from}
 use Rattle.std.proofs.lemmas.Bool.Decides.{eqb_tells}
 use Rattle.std.proofs.lemmas.List.Folds.{list_all-append}
@@ -51,7 +51,7 @@ pub request_answered : (feed : List Window) (s new : State) (items : List ℕ) (
     → IsAnswer feed s (Line (record { items = items })) new reply → answered feed s (requested request) ≡ (new, reply)
 request_answered feed s new items request reply same known is =
     let one : is.0 ≡ requested request = one_command (folded (words (request_line request))) is.0 (requested request)
-        (subst (λ xs. IsCommand xs is.0) same is.1) known in
+    (subst (λ xs. IsCommand xs is.0) same is.1) known in
     ap (answered feed s) (sym one) ∙ is.2
 
 module _ {X : Type 0} where
@@ -62,7 +62,7 @@ module _ {X : Type 0} where
   first_found p i zero (y ∷ xs) x here is before =
       let one : y ≡ x = one_value (Some y) y x refl here in
       ap (λ t. if t then Some i else position_from p (i + 1) xs) (ap p one ∙ is)
-          ∙ ap (λ n. Some n) (let e : i ≡ i + 0 = omega arith in e)
+      ∙ ap (λ n. Some n) (let e : i ≡ i + 0 = omega arith in e)
   first_found p i (suc k) (y ∷ xs) x here is before =
       ap (λ t. if t then Some i else position_from p (i + 1) xs) (before 0 y (omega arith) refl)
       ∙ (first_found p (i + 1) k xs x here is (λ j z lt at. before (suc j) z (omega (arith, lt)) at)
@@ -86,9 +86,9 @@ matches_itself place = both_pass (bytes_eq place.station place.station) (bytes_e
 matched : (place other : Fields) → matches place other.station (Some other.network) ≡ true → place ≡ other
 matched place other h =
     let parts : (bytes_eq place.station other.station ≡ true) × (bytes_eq place.network other.network ≡ true) =
-        both (bytes_eq place.station other.station) (bytes_eq place.network other.network) h in
+    both (bytes_eq place.station other.station) (bytes_eq place.network other.network) h in
     ap (λ (s : List ℕ). record { station = s; network = place.network })
-        ((bytes_eq-Decides place.station other.station).0 parts.0)
+    ((bytes_eq-Decides place.station other.station).0 parts.0)
     ∙ ap (λ (n : List ℕ). record { station = other.station; network = n })
     ((bytes_eq-Decides place.network other.network).0 parts.1)
 
@@ -104,14 +104,14 @@ pub station_found : (places : List (Fields × Option ℕ)) (feed : List Window) 
     → slice_get places k ≡ Some p → station_at feed p.0.station (Some p.0.network) ≡ Some k
 station_found places feed k p differ alike here =
     let ring : (v : Window) × (slice_get feed k ≡ Some v) × (p.0 ≡ v.place) =
-        also_at (λ (q : Fields × Option ℕ). q.0) (λ (v : Window). v.place) (slice_get places k) (slice_get feed k) p
-        (sym (alike k)) here in
+    also_at (λ (q : Fields × Option ℕ). q.0) (λ (v : Window). v.place) (slice_get places k) (slice_get feed k) p
+    (sym (alike k)) here in
     first_found (λ (v : Window). matches v.place p.0.station (Some p.0.network)) 0 k feed ring.0 ring.1
     (subst (λ (q : Fields). matches q p.0.station (Some p.0.network) ≡ true) ring.2 (matches_itself p.0))
     (λ j w lt at. by_cases (matches w.place p.0.station (Some p.0.network)) (λ is.
     let q : (r : Fields × Option ℕ) × (slice_get places j ≡ Some r) × (w.place ≡ r.0) =
-        also_at (λ (v : Window). v.place) (λ (r : Fields × Option ℕ). r.0) (slice_get feed j) (slice_get places j) w
-        (alike j) at in
+    also_at (λ (v : Window). v.place) (λ (r : Fields × Option ℕ). r.0) (slice_get feed j) (slice_get places j) w
+    (alike j) at in
     let same : j ≡ k = differ j k q.0 p q.1 here (sym q.2 ∙ matched w.place p.0 is) in
     omega (arith, lt, same)))
     ∙ ap (λ n. Some n) (let e : 0 + k ≡ k = omega arith in e)

@@ -1,6 +1,7 @@
 -- Where a client that comes again is served from.
-use Rattle.std.proofs.Common.{◌≡◌, ℕ, ◌+◌, ◌-◌, ◌%◌, ◌^◌, ◌<◌, ◌≤◌, ◌⊎◌, inl, inr, sym, ap, subst, ◌∙◌, arith, Bool,
-    true, ◌&&◌, List, [], length, get_or, Option, Some, None, slice_get, nat_le, if◌then◌else◌}
+use Rattle.std.proofs.Common.{◌≡◌, ℕ, ◌+◌, ◌-◌, ◌%◌, ◌^◌, ◌<◌, ◌≤◌, ◌⊎◌, inl, inr, sym, ap, subst, ◌∙◌, arith, Bool}
+use Rattle.std.proofs.Common.{true, ◌&&◌, List, [], length, get_or, Option, Some, None, slice_get, nat_le}
+use Rattle.std.proofs.Common.{if◌then◌else◌}
 use Rattle.std.proofs.lemmas.Bool.Decides.{leb_tells}
 use Rattle.std.specs.Option.{option_and_then}
 use Rattle.slink_feed.specs.declared.grant.Grant.{Grant}
@@ -48,25 +49,25 @@ resume_at : (w : Window) (n : ℕ) → n ≤ w.next → w.next < n + 2 ^ 24 → 
 resume_at w n past lacking near (inl lo) =
     let o : ℕ = oldest_of w in
     let alike : (o + ahead_of w (n % 2 ^ 24)) % 2 ^ 24 ≡ n % 2 ^ 24 = ahead_alike o (n % 2 ^ 24)
-        ∙ (let e : n % 2 ^ 24 % 2 ^ 24 ≡ n % 2 ^ 24 = omega arith in e) in
+    ∙ (let e : n % 2 ^ 24 % 2 ^ 24 ≡ n % 2 ^ 24 = omega arith in e) in
     let same : o + ahead_of w (n % 2 ^ 24) ≡ n =
-        near_alike (o + ahead_of w (n % 2 ^ 24)) n alike (omega (arith, lo)) (omega (arith, lo, past, near)) in
+    near_alike (o + ahead_of w (n % 2 ^ 24)) n alike (omega (arith, lo)) (omega (arith, lo, past, near)) in
     elim (leb_tells (ahead_of w (n % 2 ^ 24)) (w.next - o)) [
       | inl passes ↦ ap (λ t. if t then Some (o + ahead_of w (n % 2 ^ 24)) else None) passes.0
-      ∙ (ap (λ m. Some m) same ∙ sym (resumed_there w n lo past))
+          ∙ (ap (λ m. Some m) same ∙ sym (resumed_there w n lo past))
       | inr fails ↦ absurd (omega (arith, fails.1, same, lo, past))
     ]
 resume_at w n past lacking near (inr gone) =
     let o : ℕ = oldest_of w in
     let alike : (o + ahead_of w (n % 2 ^ 24)) % 2 ^ 24 ≡ n % 2 ^ 24 = ahead_alike o (n % 2 ^ 24)
-        ∙ (let e : n % 2 ^ 24 % 2 ^ 24 ≡ n % 2 ^ 24 = omega arith in e) in
+    ∙ (let e : n % 2 ^ 24 % 2 ^ 24 ≡ n % 2 ^ 24 = omega arith in e) in
     elim (leb_tells (ahead_of w (n % 2 ^ 24)) (w.next - o)) [
       | inl passes ↦ let same : o + ahead_of w (n % 2 ^ 24) ≡ n =
-      near_alike (o + ahead_of w (n % 2 ^ 24)) n alike (omega (arith, passes.1, gone, past, lacking))
-      (omega (arith, gone)) in
+          near_alike (o + ahead_of w (n % 2 ^ 24)) n alike (omega (arith, passes.1, gone, past, lacking))
+          (omega (arith, gone)) in
           absurd (omega (arith, same, gone))
       | inr fails ↦ ap (λ t. if t then Some (o + ahead_of w (n % 2 ^ 24)) else None) fails.0
-      ∙ sym (resumed_gone w n gone)
+          ∙ sym (resumed_gone w n gone)
     ]
 
 either : (m n : ℕ) → (m ≤ n) ⊎ (n < m)
@@ -82,23 +83,23 @@ pub resumes_at : (places : Places) (first : ℕ) (w : WorldState) → WorldTies 
 resumes_at places first w t lacks k start ring mode s held here =
     let lt : k < length places = omega (arith, is_within w.windows k ring here, t.long.0) in
     let shown : (v : Window) × (slice_get w.windows k ≡ Some v) × Shows v first (get_or w.pushed k [])
-        × (v.capacity ≤ 1000000) = t.shown k lt in
+    × (v.capacity ≤ 1000000) = t.shown k lt in
     let one : shown.0 ≡ ring = one_value (slice_get w.windows k) shown.0 ring shown.1 here in
     let shows : Shows ring first (get_or w.pushed k []) =
-        subst (λ (v : Window). Shows v first (get_or w.pushed k [])) one shown.2 in
+    subst (λ (v : Window). Shows v first (get_or w.pushed k [])) one shown.2 in
     let room : ring.capacity ≤ 1000000 = subst (λ (v : Window). v.capacity ≤ 1000000) one shown.3 in
     let holds : Holds first (get_or w.pushed k []) (next_at w.client.talk.wants k) (get_or w.held k []) (Some start)
     = subst (Holds first (get_or w.pushed k []) (next_at w.client.talk.wants k) (get_or w.held k [])) held
-        (t.holds k lt) in
+    (t.holds k lt) in
     let n : ℕ = start + length (get_or w.held k []) in
     let to : n ≤ first + length (get_or w.pushed k []) =
-        held_to first start (get_or w.pushed k []) (next_at w.client.talk.wants k) (get_or w.held k []) holds in
+    held_to first start (get_or w.pushed k []) (next_at w.client.talk.wants k) (get_or w.held k []) holds in
     let few : first + length (get_or w.pushed k []) < n + 2 ^ 24 = lacks k start held in
     let o : oldest_of ring ≡ first + (length (get_or w.pushed k []) - ring.capacity) =
-        oldest_is ring first (get_or w.pushed k []) shows in
+    oldest_is ring first (get_or w.pushed k []) shows in
     let is : grant_of mode (Some (n % 2 ^ 24)) ring ≡ resumed ring n =
-        granted_is mode ring n (omega (arith, shows.next, to)) (omega (arith, shows.next, few))
-        (omega (arith, shows.next, o, room)) in
+    granted_is mode ring n (omega (arith, shows.next, to)) (omega (arith, shows.next, few))
+    (omega (arith, shows.next, o, room)) in
     ap (λ (x : Option ℕ). granted mode k (option_and_then (grant_of mode x) (slice_get w.windows k)) s) holds.4
     ∙ (ap (λ (x : Option Window). granted mode k (option_and_then (grant_of mode (Some (n % 2 ^ 24))) x) s) here
     ∙ ap (λ (x : Option ℕ). granted mode k x s) is)
@@ -126,7 +127,7 @@ carried_at places first w l t is =
       stretch = λ k g lt e. some_way any first (get_or w.pushed k []) (get_or w.held k []) (number_at w.start k)
           (number_at l.first_sent k) g (of_place k tied.1.items)
           (subst (λ (o : Option Grant). IsOnWay any first (get_or w.pushed k []) (get_or w.held k [])
-              (number_at w.start k) (number_at l.first_sent k) o (of_place k tied.1.items)) e (tied.1.places_are k lt));
+          (number_at w.start k) (number_at l.first_sent k) o (of_place k tied.1.items)) e (tied.1.places_are k lt));
     }
 
 module _ (setup : Setup) (steps : List Step) (now : WorldState) (run : AllHappen (opening setup) steps now)

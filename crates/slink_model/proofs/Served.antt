@@ -28,13 +28,15 @@ piece_answered : (feed : List Window) (old new : Standing) (piece : List ℕ) (r
     → Takes feed old piece new reply → HasStream old
     → HasStream new × Leaves old.state.phase feed old.state (new.state, reply)
 piece_answered feed old new piece reply takes has = elim (closed_or old.state.phase) [
-  | inl shut ↦ let same : (reply ≡ replies.Nothing) × (new ≡ old) = takes.closed shut in
-      (subst HasStream (sym same.1) has,
-          leaves feed old.state More new.state reply (ap (λ (s : Standing). s.state) same.1, same.0))
+  | inl shut ↦ let same : (reply ≡ replies.Nothing) × (new ≡ old) = takes.closed shut in (
+    subst HasStream (sym same.1) has,
+    leaves feed old.state More new.state reply (ap (λ (s : Standing). s.state) same.1, same.0),
+  )
   | inr awake ↦ let answer : Answers feed old.state has.0 (has.0 ++ piece) new.state reply =
-  takes.answers has.0 awake (has.1 awake) in
-      ((has.0 ++ piece, λ _. takes.held has.0 awake (has.1 awake)),
-          leaves feed old.state answer.0 new.state reply answer.2)
+      takes.answers has.0 awake (has.1 awake) in (
+        (has.0 ++ piece, λ _. takes.held has.0 awake (has.1 awake)),
+        leaves feed old.state answer.0 new.state reply answer.2,
+      )
 ]
 
 module _ (places : Places) (first : ℕ) (windows : List Window) (pushed : Lists) (client : Listening) (held : Lists)
@@ -48,7 +50,7 @@ module _ (places : Places) (first : ℕ) (windows : List Window) (pushed : Lists
   serves_link s bytes way last all (none_served u w) has l = (has, l)
   serves_link s bytes way last all (piece_served u now v bs piece rest w sent reply split takes more) has l =
       let step : HasStream now × Leaves u.state.phase windows u.state (now.state, reply) =
-          piece_answered windows u now piece reply takes has in
+      piece_answered windows u now piece reply takes has in
       serves_link now rest (w ++ reply_bytes reply) v sent more step.0
-          (answered_link places first windows pushed client held start shown holds u.state first_sent w now.state reply
-          step.1 l)
+      (answered_link places first windows pushed client held start shown holds u.state first_sent w now.state reply
+      step.1 l)

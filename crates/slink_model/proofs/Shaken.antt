@@ -1,7 +1,7 @@
 -- A link after the bytes that its client takes.
-use Rattle.std.proofs.Common.{◌≡◌, ◌≢◌, ℕ, ◌+◌, ◌%◌, ◌^◌, ◌<◌, inl, inr, zero, suc, refl, sym, ap, subst, ◌∙◌, arith,
-    true, false, not, ◌==◌, List, [], ◌∷◌, ◌++◌, append_assoc, length, codes, bytes_eq, set, Option, Some, None, IfSome,
-    option_map, slice_get, unwrap_or}
+use Rattle.std.proofs.Common.{◌≡◌, ◌≢◌, ℕ, ◌+◌, ◌%◌, ◌^◌, ◌<◌, inl, inr, zero, suc, refl, sym, ap, subst, ◌∙◌, arith}
+use Rattle.std.proofs.Common.{true, false, not, ◌==◌, List, [], ◌∷◌, ◌++◌, append_assoc, length, codes, bytes_eq, set}
+use Rattle.std.proofs.Common.{Option, Some, None, IfSome, option_map, slice_get, unwrap_or}
 use Rattle.std.specs.List.{list_all, position_from, slice_range}
 use Rattle.std.specs.Option.{option_and_then}
 use Rattle.std.proofs.lemmas.Bool.Decides.{eqb_tells}
@@ -27,8 +27,9 @@ use Rattle.slink_feed.specs.declared.dialogue.Wanted.{Wanted}
 use Rattle.slink_feed.specs.declared.grant.Grant.{Grant}
 use Rattle.slink_feed.specs.declared.session.Phase.TheVariants.{Chosen, Granted, Closed}
 use Rattle.slink_feed.specs.Cutting.{IsWhole, LacksEnd}
-use Rattle.slink_feed.specs.Dialogue.{Talk, Wants, Whole, Reply, Packet, End, at_packet, bearer, ended, event_of, heard,
-    heard_at, is_borne, next_at, next_set, numbered, says_number, says_place, to_place, told, want_at, with_next}
+use Rattle.slink_feed.specs.Dialogue.{Talk, Wants, Whole, Reply, Packet, End, at_packet, bearer, ended, event_of, heard}
+use Rattle.slink_feed.specs.Dialogue.{heard_at, is_borne, next_at, next_set, numbered, says_number, says_place}
+use Rattle.slink_feed.specs.Dialogue.{to_place, told, want_at, with_next}
 use Rattle.slink_feed.specs.Listening.{Brings, IsLinked, Listening, begun, whole}
 use Rattle.slink_feed.specs.Serving.{Standing}
 use Rattle.slink_feed.specs.Session.{IsBefore, grant_at}
@@ -45,8 +46,8 @@ use Rattle.slink_feed.proofs.OneReading.{one_front, seen_same}
 use Rattle.slink_model.proofs.Outcomes.{packet_length}
 use Rattle.slink_wire.proofs.RequestLines.{end_line, station_line}
 use Rattle.slink_model.proofs.Requested.{also_at, both_pass, by_cases, first_found, number_line}
-use Rattle.slink_model.proofs.Shaking.{AreAsked, AreBorne, AreSent, Flows, IsQuiet, IsSuited, LinkTalks, Shakes,
-    asks_end, asks_number, asks_place, has_none, has_number, has_place, streams}
+use Rattle.slink_model.proofs.Shaking.{AreAsked, AreBorne, AreSent, Flows, IsQuiet, IsSuited, LinkTalks, Shakes}
+use Rattle.slink_model.proofs.Shaking.{asks_end, asks_number, asks_place, has_none, has_number, has_place, streams}
 use Rattle.slink_model.proofs.Taken.{borne_is, one_place, same_client}
 use Rattle.slink_feed.proofs.Wholes.{begun_no_whole, one_whole}
 
@@ -54,10 +55,13 @@ lacks_byte : (bytes : List ℕ) (j : ℕ) → Lacks 10 bytes → slice_get bytes
 lacks_byte [] j lacks is = let bad : None ≡ Some 10 = is in cc bad
 lacks_byte (x ∷ xs) zero lacks is =
     let parts : (not (x == 10) ≡ true) × (list_all (λ b. not (b == 10)) xs ≡ true) =
-        both (not (x == 10)) (list_all (λ b. not (b == 10)) xs) lacks in
+    both (not (x == 10)) (list_all (λ b. not (b == 10)) xs) lacks in
     let same : x ≡ 10 = cc is in
-    elim (eqb_tells x 10) [ inl lf ↦ let bad : false ≡ true = sym (ap not lf.0) ∙ parts.0 in
-        cc bad | inr other ↦ other.1 same ]
+    elim (eqb_tells x 10) [
+      | inl lf ↦ let bad : false ≡ true = sym (ap not lf.0) ∙ parts.0 in
+          cc bad
+      | inr other ↦ other.1 same
+    ]
 lacks_byte (x ∷ xs) (suc j) lacks is =
     lacks_byte xs j (both (not (x == 10)) (list_all (λ b. not (b == 10)) xs) lacks).1 is
 
@@ -68,9 +72,10 @@ lacks_end bytes lacks i cr lf = lacks_byte bytes (i + 1) lacks lf
 the_whole : (stage : Stage) (b a left rest : List ℕ) (w v : Whole) → IsWhole stage b w → IsWhole stage a v
     → b ++ left ≡ a ++ rest → (w ≡ v) × (left ≡ rest)
 the_whole stage b a left rest w v p q e =
-    let same : b ≡ a = one_front stage b a left rest w v p q e in
-    (one_whole stage a w v (subst (λ (x : List ℕ). IsWhole stage x w) same p) q,
-        append_cancel_left a left rest (ap (λ x. x ++ left) (sym same) ∙ e))
+    let same : b ≡ a = one_front stage b a left rest w v p q e in (
+      one_whole stage a w v (subst (λ (x : List ℕ). IsWhole stage x w) same p) q,
+      append_cancel_left a left rest (ap (λ x. x ++ left) (sym same) ∙ e),
+    )
 
 no_whole : (stage : Stage) (b left : List ℕ) (w : Whole) → b ++ left ≡ [] → IsWhole stage b w → ⊥
 no_whole stage b left w e is =
@@ -110,25 +115,27 @@ module _ (places : Places) (differ : Differ places) (codes_are : (k : ℕ) (p : 
       × (want_at wants k ≡ Some w)
   bearer_found wants k p r asked here bears =
       let at_k : (w : Wanted) × (want_at wants k ≡ Some w) × (p.0 ≡ w.place) =
-          also_at (λ (q : Fields × Option ℕ). q.0) (λ (w : Wanted). w.place) (slice_get places k) (want_at wants k) p
-          (sym (asked.alike k)) here in
+      also_at (λ (q : Fields × Option ℕ). q.0) (λ (w : Wanted). w.place) (slice_get places k) (want_at wants k) p
+      (sym (asked.alike k)) here in
       let borne : Bears r at_k.0.place = subst (Bears r) at_k.2 bears in
       let passes : is_borne r (Some at_k.0) ≡ true =
-          both_pass (bytes_eq (slice_range r 8 13) at_k.0.place.station)
-          (bytes_eq (slice_range r 18 20) at_k.0.place.network)
+      both_pass (bytes_eq (slice_range r 8 13) at_k.0.place.station)
+      (bytes_eq (slice_range r 18 20) at_k.0.place.network)
       ((bytes_eq-Decides (slice_range r 8 13) at_k.0.place.station).1 borne.0)
-          ((bytes_eq-Decides (slice_range r 18 20) at_k.0.place.network).1 borne.1) in
+      ((bytes_eq-Decides (slice_range r 18 20) at_k.0.place.network).1 borne.1) in
       let first : position_from (is_borne r) 0 wants ≡ Some (0 + k) =
-          first_found (is_borne r) 0 k wants (Some at_k.0) (want_slot (slice_get wants k) at_k.0 at_k.1) passes
+      first_found (is_borne r) 0 k wants (Some at_k.0) (want_slot (slice_get wants k) at_k.0 at_k.1) passes
       (λ j y lt at_j. by_cases (is_borne r y) (λ is.
       let v : (w : Wanted) × (y ≡ Some w) × Bears r w.place = borne_is r y is in
       let q : (x : Fields × Option ℕ) × (slice_get places j ≡ Some x) × (v.0.place ≡ x.0) =
-          also_at (λ (w : Wanted). w.place) (λ (x : Fields × Option ℕ). x.0) (want_at wants j) (slice_get places j) v.0
-          (asked.alike j) (ap (λ o. unwrap_or o None) at_j ∙ v.1) in
+      also_at (λ (w : Wanted). w.place) (λ (x : Fields × Option ℕ). x.0) (want_at wants j) (slice_get places j) v.0
+      (asked.alike j) (ap (λ o. unwrap_or o None) at_j ∙ v.1) in
       let same : j ≡ k = differ j k q.0 p q.1 here (one_place r q.0.0 p.0 (subst (Bears r) q.2 v.2) bears) in
-      omega (arith, lt, same))) in
-      (position_from-zero (is_borne r) wants ∙ (first ∙ ap (λ n. Some n) (let e : 0 + k ≡ k = omega arith in e)),
-          at_k.0, at_k.1)
+      omega (arith, lt, same))) in (
+        position_from-zero (is_borne r) wants ∙ (first ∙ ap (λ n. Some n) (let e : 0 + k ≡ k = omega arith in e)),
+        at_k.0,
+        at_k.1,
+      )
 
   -- another number is wanted of a place
   pub asked_next : (wants : Wants) (k x : ℕ) (w : Wanted) → want_at wants k ≡ Some w → x < 2 ^ 24
@@ -143,14 +150,14 @@ module _ (places : Places) (differ : Differ places) (codes_are : (k : ℕ) (p : 
       subst (AreAsked places) (sym becomes) (record {
         alike = λ i. elim (same_or_not i k) [
           | inl e ↦ subst (λ y. option_map (λ (z : Wanted). z.place) (want_at ws y) ≡ option_map
-          (λ (p : Fields × Option ℕ). p.0) (slice_get places y)) (sym e)
+              (λ (p : Fields × Option ℕ). p.0) (slice_get places y)) (sym e)
               (ap (option_map (λ (z : Wanted). z.place)) want_k
-                  ∙ (sym (ap (option_map (λ (z : Wanted). z.place)) is) ∙ asked.alike k))
+              ∙ (sym (ap (option_map (λ (z : Wanted). z.place)) is) ∙ asked.alike k))
           | inr ne ↦ ap (option_map (λ (z : Wanted). z.place)) (want_i i ne) ∙ asked.alike i
         ];
         short = λ i n at_i. elim (same_or_not i k) [
           | inl e ↦ let both_are : Some x ≡ Some n = sym (ap (option_and_then (λ (z : Wanted). z.next)) want_k)
-          ∙ subst (λ y. next_at ws y ≡ Some n) e at_i in
+              ∙ subst (λ y. next_at ws y ≡ Some n) e at_i in
               let same : x ≡ n = cc both_are in omega (arith, same, short)
           | inr ne ↦ asked.short i n (sym (ap (option_and_then (λ (z : Wanted). z.next)) (want_i i ne)) ∙ at_i)
         ];
@@ -198,8 +205,10 @@ module _ (places : Places) (differ : Differ places) (codes_are : (k : ℕ) (p : 
 
     -- a line is said
     said_talks : (t : Taking) (new : Listening) (stage : Stage) (request : Request) (e : Event) (left taken : List ℕ)
-        → ◌≡◌ {A = Talk × Event} (record t.client.talk { stage = stage },
-        events.Say (record { items = request_bytes request })) (new.talk, e) → new.kept ≡ [] → left ≡ []
+        → ◌≡◌ {A = Talk × Event} (
+          record t.client.talk { stage = stage },
+          events.Say (record { items = request_bytes request }),
+        ) (new.talk, e) → new.kept ≡ [] → left ≡ []
         → IsSpared stage → IsLinked stage → AreAsked places t.client.talk.wants
         → ((k : ℕ) → IsSuited (next_at t.client.talk.wants k) (grant_at session.state.grants k) [])
         → (¬ (session.state.phase ≡ Closed) → IsHeld session.held taken)
@@ -209,11 +218,11 @@ module _ (places : Places) (differ : Differ places) (codes_are : (k : ℕ) (p : 
     said_talks t new stage request e left taken h none gone spared linked asked suited held shakes =
         let talk : Talk = record t.client.talk { stage = stage } in
         let is : new ≡ record { talk = talk; kept = [] } =
-            seen_as talk new (sym (ap (λ (p : Talk × Event). p.0) h)) none in
+        seen_as talk new (sym (ap (λ (p : Talk × Event). p.0) h)) none in
         let event : e ≡ events.Say (record { items = request_bytes request }) =
-            sym (ap (λ (p : Talk × Event). p.1) h) in
+        sym (ap (λ (p : Talk × Event). p.1) h) in
         let link : LinkTalks places (record { talk = talk; kept = [] }) session (t.to_server ++ request_bytes request)
-            [] = record {
+        [] = record {
           taken = taken;
           held = held;
           items = [];
@@ -221,11 +230,11 @@ module _ (places : Places) (differ : Differ places) (codes_are : (k : ℕ) (p : 
           shakes = shakes;
         } in
         let done : ClientTalks (record { talk = talk; kept = [] }) (t.to_server ++ request_bytes request) [] =
-            record { spared = spared; asked = asked; link = λ _. link; quiet = λ over. absurd (over linked) } in
+        record { spared = spared; asked = asked; link = λ _. link; quiet = λ over. absurd (over linked) } in
         subst (λ w. ClientTalks new w left) (sym (ap (λ (x : Event). Way t new x) event))
         (subst (λ (c : Listening). ClientTalks c (t.to_server ++ request_bytes request) left) (sym is)
-            (subst (ClientTalks (record { talk = talk; kept = [] }) (t.to_server ++ request_bytes request))
-            (sym gone) done))
+        (subst (ClientTalks (record { talk = talk; kept = [] }) (t.to_server ++ request_bytes request))
+        (sym gone) done))
 
     -- only a reply is on its way
     reply_suited : (client : Listening) (way : List ℕ) (items : List Item) (i : Item) → items ≡ i ∷ []
@@ -244,20 +253,23 @@ module _ (places : Places) (differ : Differ places) (codes_are : (k : ℕ) (p : 
         → new.kept ≡ [] → ClientTalks new (Way t new e) left
     place_talks t new bytes left e w k l asked stage phase told one is h none =
         let flow : (t.client.kept ++ bytes) ++ left ≡ (codes "OK" ++ line_end) ++ [] =
-            append_assoc t.client.kept bytes left ∙ (l.flows.flow ∙ ap way_bytes one) in
+        append_assoc t.client.kept bytes left ∙ (l.flows.flow ∙ ap way_bytes one) in
         let the : (w ≡ Reply (codes "OK")) × (left ≡ []) =
-            the_whole (Station k) (t.client.kept ++ bytes) (codes "OK" ++ line_end) left [] w (Reply (codes "OK"))
-        (subst (λ (s : Stage). IsWhole s (t.client.kept ++ bytes) w) stage is) (refl,
-            lacks_end (codes "OK" ++ 13 ∷ []) refl, omega arith) flow in
+        the_whole (Station k) (t.client.kept ++ bytes) (codes "OK" ++ line_end) left [] w (Reply (codes "OK"))
+        (subst (λ (s : Stage). IsWhole s (t.client.kept ++ bytes) w) stage is) (
+          refl,
+          lacks_end (codes "OK" ++ 13 ∷ []) refl,
+          omega arith,
+        ) flow in
         let said : says_number k t.client.talk ≡ (new.talk, e) =
-            sym (ap (λ (s : Stage). heard_at s t.client.talk (Reply (codes "OK"))) stage)
-            ∙ (ap (heard t.client.talk) (sym the.0) ∙ h) in
+        sym (ap (λ (s : Stage). heard_at s t.client.talk (Reply (codes "OK"))) stage)
+        ∙ (ap (heard t.client.talk) (sym the.0) ∙ h) in
         let request : Request = numbered t.client.talk.mode (next_at t.client.talk.wants k) in
         said_talks t new (Number k) request e left l.taken said none the.1 tt tt asked
-            (reply_suited t.client (bytes ++ left) l.items Accepted one (λ i. refl) l.flows) l.held
+        (reply_suited t.client (bytes ++ left) l.items Accepted one (λ i. refl) l.flows) l.held
         (asks_number k refl phase
-            (asks_more (request_line request) l.taken t.to_server
-            (number_line t.client.talk.mode (next_at t.client.talk.wants k)) told) refl)
+        (asks_more (request_line request) l.taken t.to_server
+        (number_line t.client.talk.mode (next_at t.client.talk.wants k)) told) refl)
 
     -- where a DATA or FETCH is answered by `OK`
     next_talks : (t : Taking) (new : Listening) (left taken : List ℕ) (e : Event) (k : ℕ) (o : Option Wanted)
@@ -267,18 +279,18 @@ module _ (places : Places) (differ : Differ places) (codes_are : (k : ℕ) (p : 
         → (¬ (session.state.phase ≡ Closed) → IsHeld session.held taken) → ClientTalks new (Way t new e) left
     next_talks t new left taken e k None asked phase told want said none gone suited held =
         said_talks t new Packets requests.End e left taken said none gone tt tt asked suited held
-            (asks_end k refl phase (asks_more (request_line requests.End) taken t.to_server end_line told) refl)
+        (asks_end k refl phase (asks_more (request_line requests.End) taken t.to_server end_line told) refl)
     next_talks t new left taken e k (Some w) asked phase told want said none gone suited held =
         let q : (p : Fields × Option ℕ) × (slice_get places (k + 1) ≡ Some p) × (w.place ≡ p.0) =
-            also_at (λ (x : Wanted). x.place) (λ (p : Fields × Option ℕ). p.0) (want_at t.client.talk.wants (k + 1))
-            (slice_get places (k + 1)) w (asked.alike (k + 1)) want in
+        also_at (λ (x : Wanted). x.place) (λ (p : Fields × Option ℕ). p.0) (want_at t.client.talk.wants (k + 1))
+        (slice_get places (k + 1)) w (asked.alike (k + 1)) want in
         let fields : IsField 5 w.place.station × IsField 2 w.place.network =
-            subst (λ (f : Fields). IsField 5 f.station × IsField 2 f.network) (sym q.2) (codes_are (k + 1) q.0 q.1) in
+        subst (λ (f : Fields). IsField 5 f.station × IsField 2 f.network) (sym q.2) (codes_are (k + 1) q.0 q.1) in
         said_talks t new (Station (k + 1)) (requests.Station w.place) e left taken said none gone tt tt asked suited
-            held
+        held
         (asks_place (k + 1) w refl want (inr (k, refl, phase))
-            (asks_more (request_line (requests.Station w.place)) taken t.to_server
-            (station_line w.place fields.0 fields.1) told) refl)
+        (asks_more (request_line (requests.Station w.place)) taken t.to_server
+        (station_line w.place fields.0 fields.1) told) refl)
 
     number_talks : (t : Taking) (new : Listening) (bytes left : List ℕ) (e : Event) (w : Whole) (k : ℕ)
         (l : LinkTalks places t.client session t.to_server (bytes ++ left)) → AreAsked places t.client.talk.wants
@@ -288,16 +300,19 @@ module _ (places : Places) (differ : Differ places) (codes_are : (k : ℕ) (p : 
         → new.kept ≡ [] → ClientTalks new (Way t new e) left
     number_talks t new bytes left e w k l asked stage phase told one is h none =
         let flow : (t.client.kept ++ bytes) ++ left ≡ (codes "OK" ++ line_end) ++ [] =
-            append_assoc t.client.kept bytes left ∙ (l.flows.flow ∙ ap way_bytes one) in
+        append_assoc t.client.kept bytes left ∙ (l.flows.flow ∙ ap way_bytes one) in
         let the : (w ≡ Reply (codes "OK")) × (left ≡ []) =
-            the_whole (Number k) (t.client.kept ++ bytes) (codes "OK" ++ line_end) left [] w (Reply (codes "OK"))
-        (subst (λ (s : Stage). IsWhole s (t.client.kept ++ bytes) w) stage is) (refl,
-            lacks_end (codes "OK" ++ 13 ∷ []) refl, omega arith) flow in
+        the_whole (Number k) (t.client.kept ++ bytes) (codes "OK" ++ line_end) left [] w (Reply (codes "OK"))
+        (subst (λ (s : Stage). IsWhole s (t.client.kept ++ bytes) w) stage is) (
+          refl,
+          lacks_end (codes "OK" ++ 13 ∷ []) refl,
+          omega arith,
+        ) flow in
         let said : says_place (k + 1) t.client.talk ≡ (new.talk, e) =
-            sym (ap (λ (s : Stage). heard_at s t.client.talk (Reply (codes "OK"))) stage)
-            ∙ (ap (heard t.client.talk) (sym the.0) ∙ h) in
+        sym (ap (λ (s : Stage). heard_at s t.client.talk (Reply (codes "OK"))) stage)
+        ∙ (ap (heard t.client.talk) (sym the.0) ∙ h) in
         next_talks t new left l.taken e k (want_at t.client.talk.wants (k + 1)) asked phase told refl said none the.1
-            (reply_suited t.client (bytes ++ left) l.items Accepted one (λ i. refl) l.flows) l.held
+        (reply_suited t.client (bytes ++ left) l.items Accepted one (λ i. refl) l.flows) l.held
 
     -- and where by `ERROR`
     refused_talks : (t : Taking) (new : Listening) (bytes left : List ℕ) (e : Event) (w : Whole) (k : ℕ)
@@ -308,17 +323,20 @@ module _ (places : Places) (differ : Differ places) (codes_are : (k : ℕ) (p : 
         → ClientTalks new (Way t new e) left
     refused_talks t new bytes left e w k l asked stage told one is h =
         let flow : (t.client.kept ++ bytes) ++ left ≡ (codes "ERROR" ++ line_end) ++ [] =
-            append_assoc t.client.kept bytes left ∙ (l.flows.flow ∙ ap way_bytes one) in
+        append_assoc t.client.kept bytes left ∙ (l.flows.flow ∙ ap way_bytes one) in
         let the : (w ≡ Reply (codes "ERROR")) × (left ≡ []) =
-            the_whole (Number k) (t.client.kept ++ bytes) (codes "ERROR" ++ line_end) left [] w (Reply (codes "ERROR"))
-        (subst (λ (s : Stage). IsWhole s (t.client.kept ++ bytes) w) stage is) (refl,
-            lacks_end (codes "ERROR" ++ 13 ∷ []) refl, omega arith) flow in
+        the_whole (Number k) (t.client.kept ++ bytes) (codes "ERROR" ++ line_end) left [] w (Reply (codes "ERROR"))
+        (subst (λ (s : Stage). IsWhole s (t.client.kept ++ bytes) w) stage is) (
+          refl,
+          lacks_end (codes "ERROR" ++ 13 ∷ []) refl,
+          omega arith,
+        ) flow in
         let said : ended (endings.Refused k) t.client.talk ≡ (new.talk, e) =
-            sym (ap (λ (s : Stage). heard_at s t.client.talk (Reply (codes "ERROR"))) stage)
-            ∙ (ap (heard t.client.talk) (sym the.0) ∙ h) in
+        sym (ap (λ (s : Stage). heard_at s t.client.talk (Reply (codes "ERROR"))) stage)
+        ∙ (ap (heard t.client.talk) (sym the.0) ∙ h) in
         ended_talks t.client.talk new (endings.Refused k) (Way t new e) left
-            (sym (ap (λ (p : Talk × Event). p.0) said)) tt asked
-            (ended_quiet t new (endings.Refused k) e said (l.taken, λ awake. (l.held awake, told)))
+        (sym (ap (λ (p : Talk × Event). p.0) said)) tt asked
+        (ended_quiet t new (endings.Refused k) e said (l.taken, λ awake. (l.held awake, told)))
 
     -- a packet comes
     packet_talks : (t : Taking) (new : Listening) (bytes left : List ℕ) (e : Event) (w : Whole) (k n : ℕ) (r : List ℕ)
@@ -332,58 +350,60 @@ module _ (places : Places) (differ : Differ places) (codes_are : (k : ℕ) (p : 
         let m : ℕ = n % 2 ^ 24 in
         let x : ℕ = (m + 1) % 2 ^ 24 in
         let borne : ((p : Fields × Option ℕ) × (slice_get places k ≡ Some p) × (length r ≡ 512) × Bears r p.0)
-            × AreBorne places rest = subst (AreBorne places) one l.flows.borne in
+        × AreBorne places rest = subst (AreBorne places) one l.flows.borne in
         let flow : (t.client.kept ++ bytes) ++ left ≡ packet_bytes m r ++ way_bytes rest =
-            append_assoc t.client.kept bytes left ∙ (l.flows.flow ∙ ap way_bytes one) in
+        append_assoc t.client.kept bytes left ∙ (l.flows.flow ∙ ap way_bytes one) in
         let the : (w ≡ Packet m r) × (left ≡ way_bytes rest) =
-            the_whole Packets (t.client.kept ++ bytes) (packet_bytes m r) left (way_bytes rest) w (Packet m r)
-        (subst (λ (s : Stage). IsWhole s (t.client.kept ++ bytes) w) stage is) (read_back m r (omega arith),
-            packet_length m r borne.0.2) flow in
+        the_whole Packets (t.client.kept ++ bytes) (packet_bytes m r) left (way_bytes rest) w (Packet m r)
+        (subst (λ (s : Stage). IsWhole s (t.client.kept ++ bytes) w) stage is) (
+          read_back m r (omega arith),
+          packet_length m r borne.0.2,
+        ) flow in
         let found : (bearer t.client.talk.wants r ≡ Some k) × (v : Wanted) × (want_at t.client.talk.wants k ≡ Some v) =
-            bearer_found t.client.talk.wants k borne.0.0 r asked borne.0.1 borne.0.3 in
+        bearer_found t.client.talk.wants k borne.0.0 r asked borne.0.1 borne.0.3 in
         let of_k : of_place k l.items ≡ (n, r) ∷ of_place k rest = ap (of_place k) one
-            ∙ ap (λ b. b ++ of_place k rest) (carried_here k n r) in
+        ∙ ap (λ b. b ++ of_place k rest) (carried_here k n r) in
         let suited_k : IsSuited (next_at t.client.talk.wants k) (grant_at session.state.grants k)
-            ((n, r) ∷ of_place k rest) =
-            subst (IsSuited (next_at t.client.talk.wants k) (grant_at session.state.grants k)) of_k
-            (l.flows.suited k) in
+        ((n, r) ∷ of_place k rest) =
+        subst (IsSuited (next_at t.client.talk.wants k) (grant_at session.state.grants k)) of_k
+        (l.flows.suited k) in
         let said : told k m r t.client.talk ≡ (new.talk, e) =
-            sym (wanted_told (next_at t.client.talk.wants k) k m r t.client.talk
-            (some_if (next_at t.client.talk.wants k) m
-            (suited_wanted (next_at t.client.talk.wants k) (grant_at session.state.grants k) n r (of_place k rest)
-            suited_k)))
+        sym (wanted_told (next_at t.client.talk.wants k) k m r t.client.talk
+        (some_if (next_at t.client.talk.wants k) m
+        (suited_wanted (next_at t.client.talk.wants k) (grant_at session.state.grants k) n r (of_place k rest)
+        suited_k)))
         ∙ (sym (ap (λ (o : Option ℕ). at_packet o m r t.client.talk) found.0)
         ∙ (sym (ap (λ (s : Stage). heard_at s t.client.talk (Packet m r)) stage)
         ∙ (ap (heard t.client.talk) (sym the.0) ∙ h))) in
         let talk : Talk = record t.client.talk { wants = with_next t.client.talk.wants k x } in
         let now : new ≡ record { talk = talk; kept = [] } =
-            seen_as talk new (sym (ap (λ (p : Talk × Event). p.0) said)) none in
+        seen_as talk new (sym (ap (λ (p : Talk × Event). p.0) said)) none in
         let event : e ≡ events.Record k m r = sym (ap (λ (p : Talk × Event). p.1) said) in
         let ws : Wants = with_next t.client.talk.wants k x in
         let becomes : ws ≡ set t.client.talk.wants k (Some (record { place = found.1.place; next = Some x })) =
-            ap (λ (o : Option Wanted). next_set o t.client.talk.wants k x) found.2 in
+        ap (λ (o : Option Wanted). next_set o t.client.talk.wants k x) found.2 in
         let lt : k < length t.client.talk.wants =
-            is_within t.client.talk.wants k (Some found.1)
-            (want_slot (slice_get t.client.talk.wants k) found.1 found.2) in
+        is_within t.client.talk.wants k (Some found.1)
+        (want_slot (slice_get t.client.talk.wants k) found.1 found.2) in
         let next_k : next_at ws k ≡ Some x = ap (λ (y : Wants). next_at y k) becomes
-            ∙ ap (option_and_then (λ (z : Wanted). z.next))
-            (put_here t.client.talk.wants k (Some (record { place = found.1.place; next = Some x })) None lt) in
+        ∙ ap (option_and_then (λ (z : Wanted). z.next))
+        (put_here t.client.talk.wants k (Some (record { place = found.1.place; next = Some x })) None lt) in
         let next_i : (i : ℕ) → i ≢ k → next_at ws i ≡ next_at t.client.talk.wants i =
-            λ i ne. ap (λ (y : Wants). next_at y i) becomes
-            ∙ ap (option_and_then (λ (z : Wanted). z.next))
-            (put_there t.client.talk.wants k i (Some (record { place = found.1.place; next = Some x })) None ne) in
+        λ i ne. ap (λ (y : Wants). next_at y i) becomes
+        ∙ ap (option_and_then (λ (z : Wanted). z.next))
+        (put_there t.client.talk.wants k i (Some (record { place = found.1.place; next = Some x })) None ne) in
         let of_i : (i : ℕ) → i ≢ k → of_place i l.items ≡ of_place i rest = λ i ne. ap (of_place i) one
-            ∙ ap (λ b. b ++ of_place i rest) (carried_there k i n r (λ q. ne (sym q))) in
+        ∙ ap (λ b. b ++ of_place i rest) (carried_there k i n r (λ q. ne (sym q))) in
         let suited : (i : ℕ) → IsSuited (next_at ws i) (grant_at session.state.grants i) (of_place i rest) =
-            λ i. elim (same_or_not i k) [
+        λ i. elim (same_or_not i k) [
           | inl q ↦ subst (λ y. IsSuited (next_at ws y) (grant_at session.state.grants y) (of_place y rest)) (sym q)
               (subst (λ (o : Option ℕ). IsSuited o (grant_at session.state.grants k) (of_place k rest)) (sym next_k)
-                  (suited_next (next_at t.client.talk.wants k) (grant_at session.state.grants k) n r (of_place k rest)
-                  suited_k))
+              (suited_next (next_at t.client.talk.wants k) (grant_at session.state.grants k) n r (of_place k rest)
+              suited_k))
           | inr ne ↦ subst (λ (o : Option ℕ). IsSuited o (grant_at session.state.grants i) (of_place i rest))
-          (sym (next_i i ne))
+              (sym (next_i i ne))
               (subst (IsSuited (next_at t.client.talk.wants i) (grant_at session.state.grants i)) (of_i i ne)
-                  (l.flows.suited i))
+              (l.flows.suited i))
         ] in
         let link : LinkTalks places (record { talk = talk; kept = [] }) session t.to_server (way_bytes rest) = record {
           taken = l.taken;
@@ -393,11 +413,15 @@ module _ (places : Places) (differ : Differ places) (codes_are : (k : ℕ) (p : 
           shakes = streams stage later sent answered;
         } in
         let done : ClientTalks (record { talk = talk; kept = [] }) t.to_server (way_bytes rest) =
-            record { spared = spared; asked = asked_next t.client.talk.wants k x found.1 found.2 (omega arith) asked;
-            link = λ _. link; quiet = λ over. absurd (over (subst IsLinked (sym stage) tt)) } in
+        record {
+          spared = spared;
+          asked = asked_next t.client.talk.wants k x found.1 found.2 (omega arith) asked;
+          link = λ _. link;
+          quiet = λ over. absurd (over (subst IsLinked (sym stage) tt));
+        } in
         subst (λ b. ClientTalks new b left) (sym (ap (λ (y : Event). Way t new y) event))
-            (subst (λ (c : Listening). ClientTalks c t.to_server left) (sym now)
-            (subst (ClientTalks (record { talk = talk; kept = [] }) t.to_server) (sym the.1) done))
+        (subst (λ (c : Listening). ClientTalks c t.to_server left) (sym now)
+        (subst (ClientTalks (record { talk = talk; kept = [] }) t.to_server) (sym the.1) done))
 
     -- the end comes
     end_talks : (t : Taking) (new : Listening) (bytes left : List ℕ) (e : Event) (w : Whole) (rest : List Item)
@@ -408,14 +432,14 @@ module _ (places : Places) (differ : Differ places) (codes_are : (k : ℕ) (p : 
         → ClientTalks new (Way t new e) left
     end_talks t new bytes left e w rest l asked stage answered one is h =
         let flow : (t.client.kept ++ bytes) ++ left ≡ codes "END" ++ way_bytes rest =
-            append_assoc t.client.kept bytes left ∙ (l.flows.flow ∙ ap way_bytes one) in
+        append_assoc t.client.kept bytes left ∙ (l.flows.flow ∙ ap way_bytes one) in
         let the : (w ≡ End) × (left ≡ way_bytes rest) =
-            the_whole Packets (t.client.kept ++ bytes) (codes "END") left (way_bytes rest) w End
-            (subst (λ (s : Stage). IsWhole s (t.client.kept ++ bytes) w) stage is) refl flow in
+        the_whole Packets (t.client.kept ++ bytes) (codes "END") left (way_bytes rest) w End
+        (subst (λ (s : Stage). IsWhole s (t.client.kept ++ bytes) w) stage is) refl flow in
         let said : ended endings.End t.client.talk ≡ (new.talk, e) =
-            sym (ap (λ (s : Stage). heard_at s t.client.talk End) stage) ∙ (ap (heard t.client.talk) (sym the.0) ∙ h) in
+        sym (ap (λ (s : Stage). heard_at s t.client.talk End) stage) ∙ (ap (heard t.client.talk) (sym the.0) ∙ h) in
         ended_talks t.client.talk new endings.End (Way t new e) left (sym (ap (λ (p : Talk × Event). p.0) said)) tt
-            asked (ended_quiet t new endings.End e said (l.taken, λ awake. (l.held awake, answered awake)))
+        asked (ended_quiet t new endings.End e said (l.taken, λ awake. (l.held awake, answered awake)))
 
     nothing_talks : (t : Taking) (new : Listening) (bytes left way : List ℕ) (w : Whole)
         (l : LinkTalks places t.client session t.to_server (bytes ++ left)) → l.items ≡ []
@@ -473,18 +497,21 @@ module _ (places : Places) (differ : Differ places) (codes_are : (k : ℕ) (p : 
         → ClientTalks new (Way t new e) left
     kept_talks t new bytes left e l spared linked asked same quiet =
         let link : LinkTalks places (record { talk = t.client.talk; kept = t.client.kept ++ bytes }) session
-            t.to_server left = record {
+        t.to_server left = record {
           taken = l.taken;
           held = l.held;
           items = l.items;
-          flows = record { flow = append_assoc t.client.kept bytes left ∙ l.flows.flow; borne = l.flows.borne;
-              suited = l.flows.suited };
+          flows = record {
+            flow = append_assoc t.client.kept bytes left ∙ l.flows.flow;
+            borne = l.flows.borne;
+            suited = l.flows.suited;
+          };
           shakes = l.shakes;
         } in
         let done : ClientTalks (record { talk = t.client.talk; kept = t.client.kept ++ bytes }) t.to_server left =
-            record { spared = spared; asked = asked; link = λ _. link; quiet = λ over. absurd (over linked) } in
+        record { spared = spared; asked = asked; link = λ _. link; quiet = λ over. absurd (over linked) } in
         subst (λ b. ClientTalks new b left) (sym (ap (λ (y : Event). Way t new y) quiet))
-            (subst (λ (c : Listening). ClientTalks c t.to_server left) (sym same) done)
+        (subst (λ (c : Listening). ClientTalks c t.to_server left) (sym same) done)
 
     piece_talks : (t : Taking) (new : Listening) (bytes left : List ℕ) (e : Event) → IsLinked t.client.talk.stage
         → Brings t.client.talk (t.client.kept ++ bytes) new e → ClientTalks t.client t.to_server (bytes ++ left)
@@ -502,9 +529,9 @@ module _ (places : Places) (differ : Differ places) (codes_are : (k : ℕ) (p : 
     hears_talks t bytes last left (piece_heard u v now all piece rest e split linked brings more) c =
         hears_talks (noted first_sent e (record u { client = now })) rest v left more
         (subst (λ (x : Listening). ClientTalks x (Way u now e) (rest ++ left))
-            (sym (same_client first_sent e (record u { client = now })))
+        (sym (same_client first_sent e (record u { client = now })))
         (piece_talks u now piece (rest ++ left) e linked brings
-            (subst (ClientTalks u.client u.to_server) (ap (λ b. b ++ left) split ∙ append_assoc piece rest left) c)))
+        (subst (ClientTalks u.client u.to_server) (ap (λ b. b ++ left) split ∙ append_assoc piece rest left) c)))
     hears_talks t bytes last left (piece_lost u v all piece rest split over more) c =
         hears_talks u rest v left more
-            (record { spared = c.spared; asked = c.asked; link = λ linked. absurd (over linked); quiet = c.quiet })
+        (record { spared = c.spared; asked = c.asked; link = λ linked. absurd (over linked); quiet = c.quiet })

@@ -1,6 +1,7 @@
 -- How client and session stand to one another over a link: who has said what, and what is on its way.
-use Rattle.std.proofs.Common.{◌≡◌, ℕ, ◌+◌, ◌%◌, ◌^◌, ◌<◌, ◌⊎◌, inl, inr, refl, sym, ap, subst, ◌∙◌, arith, List, [],
-    ◌∷◌, ◌++◌, append-nil, append_assoc, length, set, Option, Some, None, option_map, slice_get}
+use Rattle.std.proofs.Common.{◌≡◌, ℕ, ◌+◌, ◌%◌, ◌^◌, ◌<◌, ◌⊎◌, inl, inr, refl, sym, ap, subst, ◌∙◌, arith, List, []}
+use Rattle.std.proofs.Common.{◌∷◌, ◌++◌, append-nil, append_assoc, length, set, Option, Some, None, option_map}
+use Rattle.std.proofs.Common.{slice_get}
 use Rattle.std.specs.Option.{option_and_then}
 use Rattle.slink_wire.specs.declared.lines.What.{What}
 use Rattle.slink_wire.specs.declared.lines.What.TheVariants.{More, Line, TooLong}
@@ -26,15 +27,15 @@ use Rattle.slink_feed.specs.Listening.{Listening}
 use Rattle.slink_feed.specs.Rings.{station_at}
 use Rattle.slink_feed.specs.Serving.{Answers, IsAnswer, Serves, Standing, Takes, none_served, piece_served}
 use Rattle.slink_feed.specs.Session.{Grants, IsBefore, State, answered, answered_in, at, chosen, grant_at, granted}
-use Rattle.slink_model.specs.Ties.{AreSound, Item, Accepted, Refused, Greeted, Carried, Finished, Leaves, Places,
-    items_of, of_place, way_bytes}
+use Rattle.slink_model.specs.Ties.{AreSound, Item, Accepted, Refused, Greeted, Carried, Finished, Leaves, Places}
+use Rattle.slink_model.specs.Ties.{items_of, of_place, way_bytes}
 use Rattle.slink_feed.specs.Window.{Window}
 use Rattle.slink_model.specs.World.{Differ}
 use Rattle.slink_model.proofs.Commanded.{grant_set, leaves}
 use Rattle.slink_model.proofs.Items.{flow_more, reply_carries, reply_items}
 use Rattle.slink_model.proofs.Lined.{IsAnswered, IsAsking, IsHeard, more_answered, more_asked, nothing, the_line}
-use Rattle.slink_model.proofs.Requested.{also_at, end_command, number_command, request_answered, station_command,
-    station_found}
+use Rattle.slink_model.proofs.Requested.{also_at, end_command, number_command, request_answered, station_command}
+use Rattle.slink_model.proofs.Requested.{station_found}
 use Rattle.slink_model.proofs.Resolved.{resolved_alike}
 
 -- Of records, each has 512 bytes and bears its place.
@@ -157,8 +158,8 @@ module _ (places : Places) (differ : Differ places) (codes : (k : ℕ) (p : Fiel
       → Flows places client new (way ++ reply_bytes reply) items
   unanswered grants new way items reply same none f =
       subst (λ (gs : Grants). Flows places client gs (way ++ reply_bytes reply) items) (sym same)
-          (subst (λ b. Flows places client grants b items) (sym (ap (λ r. way ++ reply_bytes r) none ∙ append-nil way))
-          f)
+      (subst (λ b. Flows places client grants b items) (sym (ap (λ r. way ++ reply_bytes r) none ∙ append-nil way))
+      f)
 
   -- what the session takes once a line was taken
   abbrev Then : Standing → List ℕ → List ℕ → List ℕ → Reply → Type 0
@@ -179,8 +180,12 @@ module _ (places : Places) (differ : Differ places) (codes : (k : ℕ) (p : Fiel
       → IsSuited (next_at client.talk.wants k) (grant_at (set grants j (Some g)) k) []
   a_grant grants j k g wanted suits = elim (grant_set grants j k (Some g)) [
     | inl here ↦ subst (λ (o : Option Grant). IsSuited (next_at client.talk.wants k) o []) (sym here.1)
-        (subst (λ i. IsSuited (next_at client.talk.wants i) (Some g) []) (sym here.0) (g.position, tt, omega arith,
-            wanted))
+        (subst (λ i. IsSuited (next_at client.talk.wants i) (Some g) []) (sym here.0) (
+          g.position,
+          tt,
+          omega arith,
+          wanted,
+        ))
     | inr there ↦ subst (λ (o : Option Grant). IsSuited (next_at client.talk.wants k) o []) (sym there) (suits k)
   ]
 
@@ -193,8 +198,8 @@ module _ (places : Places) (differ : Differ places) (codes : (k : ℕ) (p : Fiel
       let state : now.state ≡ at (Chosen k) (set s.state.grants k None) = sym (ap (λ (x : State × Reply). x.0) is) in
       let ok : reply ≡ replies.Ok = sym (ap (λ (x : State × Reply). x.1) is) in
       let done : Flows places client (set s.state.grants k None) (way ++ reply_bytes replies.Ok) (Accepted ∷ []) =
-          replied s.state.grants (set s.state.grants k None) way items replies.Ok none
-          (λ i. no_grant s.state.grants k i (none_suited s.state.grants way items none f)) (tt, tt) f in
+      replied s.state.grants (set s.state.grants k None) way items replies.Ok none
+      (λ i. no_grant s.state.grants k i (none_suited s.state.grants way items none f)) (tt, tt) f in
       record {
         taken = taken;
         held = held;
@@ -215,8 +220,8 @@ module _ (places : Places) (differ : Differ places) (codes : (k : ℕ) (p : Fiel
       let state : now.state ≡ s.state = sym (ap (λ (x : State × Reply). x.0) is) in
       let error : reply ≡ replies.Error = sym (ap (λ (x : State × Reply). x.1) is) in
       let done : Flows places client s.state.grants (way ++ reply_bytes replies.Error) (Refused ∷ []) =
-          replied s.state.grants s.state.grants way items replies.Error none
-          (none_suited s.state.grants way items none f) (tt, tt) f in
+      replied s.state.grants s.state.grants way items replies.Error none
+      (none_suited s.state.grants way items none f) (tt, tt) f in
       record {
         taken = taken;
         held = held;
@@ -229,12 +234,12 @@ module _ (places : Places) (differ : Differ places) (codes : (k : ℕ) (p : Fiel
   number_answered s now taken rest way items reply k mode (Some p) stage phase is wanted told none f held =
       let g : Grant = record { mode = mode; position = p } in
       let state : now.state ≡ at (Granted k) (set s.state.grants k (Some g)) =
-          sym (ap (λ (x : State × Reply). x.0) is) in
+      sym (ap (λ (x : State × Reply). x.0) is) in
       let ok : reply ≡ replies.Ok = sym (ap (λ (x : State × Reply). x.1) is) in
       let done : Flows places client (set s.state.grants k (Some g)) (way ++ reply_bytes replies.Ok) (Accepted ∷ [])
       = replied s.state.grants (set s.state.grants k (Some g)) way items replies.Ok none
-          (λ i. a_grant s.state.grants k i g (λ m e. wanted p m refl e) (none_suited s.state.grants way items none f))
-          (tt, tt) f in
+      (λ i. a_grant s.state.grants k i g (λ m e. wanted p m refl e) (none_suited s.state.grants way items none f))
+      (tt, tt) f in
       record {
         taken = taken;
         held = held;
@@ -285,9 +290,9 @@ module _ (places : Places) (differ : Differ places) (codes : (k : ℕ) (p : Fiel
       → answered feed s (requested (requests.Station w.place)) ≡ (new, reply) → chosen (Some k) s ≡ (new, reply)
   place_chosen s new reply k w ready found is = elim ready [
     | inl fresh ↦ ap (λ (o : Option ℕ). chosen o s) (sym found)
-    ∙ in_phase Fresh s new reply (requests.Station w.place) fresh.1 is
+        ∙ in_phase Fresh s new reply (requests.Station w.place) fresh.1 is
     | inr behind ↦ ap (λ (o : Option ℕ). chosen o s) (sym found)
-    ∙ in_phase (Granted behind.0) s new reply (requests.Station w.place) behind.2 is
+        ∙ in_phase (Granted behind.0) s new reply (requests.Station w.place) behind.2 is
   ]
 
   pub number_granted : (s new : State) (reply : Reply) (k : ℕ) (mode : Mode) (number : Option ℕ) → s.phase ≡ Chosen k
@@ -315,11 +320,13 @@ module _ (places : Places) (differ : Differ places) (codes : (k : ℕ) (p : Fiel
       × (station_at feed w.place.station (Some w.place.network) ≡ Some k)
   asked_place k w is =
       let q : (p : Fields × Option ℕ) × (slice_get places k ≡ Some p) × (w.place ≡ p.0) =
-          also_at (λ (x : Wanted). x.place) (λ (p : Fields × Option ℕ). p.0) (want_at client.talk.wants k)
-          (slice_get places k) w (asked_for.alike k) is in
+      also_at (λ (x : Wanted). x.place) (λ (p : Fields × Option ℕ). p.0) (want_at client.talk.wants k)
+      (slice_get places k) w (asked_for.alike k) is in
       subst (λ (f : Fields). (IsField 5 f.station × IsField 2 f.network)
-          × (station_at feed f.station (Some f.network) ≡ Some k)) (sym q.2) (codes k q.0 q.1,
-          station_found places feed k q.0 differ ringed.alike q.1)
+      × (station_at feed f.station (Some f.network) ≡ Some k)) (sym q.2) (
+        codes k q.0 q.1,
+        station_found places feed k q.0 differ ringed.alike q.1,
+      )
 
   -- the line that was asked last, or nothing yet
   place_heard : (s now : Standing) (taken rest way : List ℕ) (items : List Item) (reply : Reply) (what : What) (k : ℕ)
@@ -331,11 +338,11 @@ module _ (places : Places) (differ : Differ places) (codes : (k : ℕ) (p : Fiel
       stays_put s now taken rest way items reply is.0 is.1 (asks_place k w stage want ready asks none) f held
   place_heard s now taken rest way items reply (Line l) k w stage want ready none (the_line bytes same told) is f held =
       let at_k : (IsField 5 w.place.station × IsField 2 w.place.network)
-          × (station_at feed w.place.station (Some w.place.network) ≡ Some k) = asked_place k w want in
+      × (station_at feed w.place.station (Some w.place.network) ≡ Some k) = asked_place k w want in
       place_answered s now taken rest way items reply k stage
       (place_chosen s.state now.state reply k w ready at_k.1
-          (request_answered feed s.state now.state bytes (requests.Station w.place) reply same
-          (station_command w.place at_k.0.0 at_k.0.1) is)) told none f held
+      (request_answered feed s.state now.state bytes (requests.Station w.place) reply same
+      (station_command w.place at_k.0.0 at_k.0.1) is)) told none f held
   place_heard s now taken rest way items reply TooLong k w stage want ready none heard is f held = elim heard [ ]
 
   pub is_short : (o : Option ℕ) → ((n : ℕ) → o ≡ Some n → n < 2 ^ 24) → IsShort o
@@ -353,12 +360,12 @@ module _ (places : Places) (differ : Differ places) (codes : (k : ℕ) (p : Fiel
       let mode : Mode = client.talk.mode in
       let number : Option ℕ = next_at client.talk.wants k in
       number_answered s now taken rest way items reply k mode
-          (option_and_then (grant_of mode number) (slice_get feed k)) stage phase
+      (option_and_then (grant_of mode number) (slice_get feed k)) stage phase
       (number_granted s.state now.state reply k mode number phase
-          (request_answered feed s.state now.state bytes (numbered mode number) reply same
-          (number_command mode number (is_short number (λ n e. asked_for.short k n e))) is))
+      (request_answered feed s.state now.state bytes (numbered mode number) reply same
+      (number_command mode number (is_short number (λ n e. asked_for.short k n e))) is))
       (λ p m e wanted. granted_alike mode number (slice_get feed k) p m e wanted (asked_for.short k m wanted)) told
-          none f held
+      none f held
   number_heard s now taken rest way items reply TooLong k stage phase none heard is f held = elim heard [ ]
 
   end_heard : (s now : Standing) (taken rest way : List ℕ) (items : List Item) (reply : Reply) (what : What) (k : ℕ)
@@ -369,8 +376,8 @@ module _ (places : Places) (differ : Differ places) (codes : (k : ℕ) (p : Fiel
       stays_put s now taken rest way items reply is.0 is.1 (asks_end k stage phase asks none) f held
   end_heard s now taken rest way items reply (Line l) k stage phase none (the_line bytes same told) is f held =
       end_answered s now taken rest way items reply stage
-          (in_phase (Granted k) s.state now.state reply requests.End phase
-          (request_answered feed s.state now.state bytes requests.End reply same end_command is)) told none f held
+      (in_phase (Granted k) s.state now.state reply requests.End phase
+      (request_answered feed s.state now.state bytes requests.End reply same end_command is)) told none f held
   end_heard s now taken rest way items reply TooLong k stage phase none heard is f held = elim heard [ ]
 
   -- nothing is said any more
@@ -399,7 +406,7 @@ module _ (places : Places) (differ : Differ places) (codes : (k : ℕ) (p : Fiel
       → Flows places client s.state.grants way items → Then now taken rest way reply
   streamed s now taken rest way items reply what stage not_before sent told is f held =
       let l : (now.state.grants ≡ s.state.grants) × (reply ≡ replies.Nothing) × ¬ (IsBefore now.state.phase) =
-          later s.state.phase s.state now.state reply refl not_before (leaves feed s.state what now.state reply is) in
+      later s.state.phase s.state now.state reply refl not_before (leaves feed s.state what now.state reply is) in
       record {
         taken = taken;
         held = held;
@@ -415,14 +422,14 @@ module _ (places : Places) (differ : Differ places) (codes : (k : ℕ) (p : Fiel
   piece_shaken s now taken piece rest way items reply what awake tells is (asks_place k w stage want ready asks none) f
       held =
       place_heard s now (taken ++ piece) rest way items reply what k w stage want ready none
-          (more_asked (request_line (requests.Station w.place)) taken piece rest what asks tells) is f held
+      (more_asked (request_line (requests.Station w.place)) taken piece rest what asks tells) is f held
   piece_shaken s now taken piece rest way items reply what awake tells is (has_place k stage phase told one) f held =
       let more : (what ≡ More) × IsAnswered (taken ++ piece) rest = more_answered taken piece rest what told tells in
       put_by s now (taken ++ piece) rest way items reply what more.0 is (has_place k stage phase more.1 one) f held
   piece_shaken s now taken piece rest way items reply what awake tells is (asks_number k stage phase asks none) f held =
       number_heard s now (taken ++ piece) rest way items reply what k stage phase none
-          (more_asked (request_line (numbered client.talk.mode (next_at client.talk.wants k))) taken piece rest what
-          asks tells) is f held
+      (more_asked (request_line (numbered client.talk.mode (next_at client.talk.wants k))) taken piece rest what
+      asks tells) is f held
   piece_shaken s now taken piece rest way items reply what awake tells is (has_number k stage phase told one) f held =
       let more : (what ≡ More) × IsAnswered (taken ++ piece) rest = more_answered taken piece rest what told tells in
       put_by s now (taken ++ piece) rest way items reply what more.0 is (has_number k stage phase more.1 one) f held
@@ -431,10 +438,10 @@ module _ (places : Places) (differ : Differ places) (codes : (k : ℕ) (p : Fiel
       put_by s now (taken ++ piece) rest way items reply what more.0 is (has_none k stage phase more.1 one) f held
   piece_shaken s now taken piece rest way items reply what awake tells is (asks_end k stage phase asks none) f held =
       end_heard s now (taken ++ piece) rest way items reply what k stage phase none
-          (more_asked (request_line requests.End) taken piece rest what asks tells) is f held
+      (more_asked (request_line requests.End) taken piece rest what asks tells) is f held
   piece_shaken s now taken piece rest way items reply what awake tells is (streams stage not_before sent told) f held =
       streamed s now (taken ++ piece) rest way items reply what stage not_before sent
-          (more_answered taken piece rest what (told awake) tells).1 is f held
+      (more_answered taken piece rest what (told awake) tells).1 is f held
 
   pub closed_or : (phase : Phase) → (phase ≡ Closed) ⊎ ¬ (phase ≡ Closed)
   closed_or Fresh = inr (λ e. let bad : Fresh ≡ Closed = e in cc bad)
@@ -472,12 +479,12 @@ module _ (places : Places) (differ : Differ places) (codes : (k : ℕ) (p : Fiel
   piece_talks s now piece rest way reply takes t = elim (closed_or s.state.phase) [
     | inl shut ↦ let same : (reply ≡ replies.Nothing) × (now ≡ s) = takes.closed shut in
         stays_put s now t.taken rest way t.items reply (ap (λ (x : Standing). x.state) same.1) same.0
-            (shut_shaken s t.taken t.taken (piece ++ rest) rest t.items shut t.shakes) t.flows
+        (shut_shaken s t.taken t.taken (piece ++ rest) rest t.items shut t.shakes) t.flows
         (λ over. absurd (over (ap (λ (x : Standing). x.state.phase) same.1 ∙ shut)))
     | inr awake ↦ let answer : Answers feed s.state t.taken (t.taken ++ piece) now.state reply =
-    takes.answers t.taken awake (t.held awake) in
+        takes.answers t.taken awake (t.held awake) in
         piece_shaken s now t.taken piece rest way t.items reply answer.0 awake answer.1 answer.2 t.shakes t.flows
-            (λ _. takes.held t.taken awake (t.held awake))
+        (λ _. takes.held t.taken awake (t.held awake))
   ]
 
   -- all of these bytes are taken, piece by piece
@@ -487,4 +494,4 @@ module _ (places : Places) (differ : Differ places) (codes : (k : ℕ) (p : Fiel
   serves_talks s bytes way last all rest (piece_served u now v bs piece others w sent reply split takes more) t =
       serves_talks now others (w ++ reply_bytes reply) v sent rest more
       (piece_talks u now piece (others ++ rest) w reply takes
-          (subst (λ b. Talks u b w) (ap (λ b. b ++ rest) split ∙ append_assoc piece others rest) t))
+      (subst (λ b. Talks u b w) (ap (λ b. b ++ rest) split ∙ append_assoc piece others rest) t))

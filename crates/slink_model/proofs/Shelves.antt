@@ -1,6 +1,6 @@
 -- Lists of each place, and numbers of each.
-use Rattle.std.proofs.Common.{◌≡◌, ℕ, ◌<◌, zero, suc, refl, sym, ap, ◌∙◌, arith, List, [], ◌∷◌, ◌++◌, length, map,
-    get_or, set, Ok, Err}
+use Rattle.std.proofs.Common.{◌≡◌, ℕ, ◌<◌, zero, suc, refl, sym, ap, ◌∙◌, arith, List, [], ◌∷◌, ◌++◌, length, map}
+use Rattle.std.proofs.Common.{get_or, set, Ok, Err}
 use Rattle.std.specs.Global.{Vec}
 use Rattle.std.specs.Prelude.{Result, OnOk}
 use Rattle.slink_model.specs.World.{with_one}

@@ -1,7 +1,8 @@
 -- Each step keeps client and session in step, so that a client is told no gap, and nothing that it can't read.
-use Rattle.std.proofs.Common.{◌≡◌, ◌≢◌, All, ℕ, ◌+◌, ◌-◌, ◌%◌, ◌^◌, ◌<◌, ◌≤◌, inl, inr, zero, suc, refl, sym, ap, subst,
-    ◌∙◌, arith, Bool, true, false, ◌==◌, if◌then◌else◌, List, [], ◌∷◌, ◌++◌, append-nil, length, length-append, map,
-    replicate, set, take, drop, take-append-drop, Option, Some, None, option_map, slice_get, codes}
+use Rattle.std.proofs.Common.{◌≡◌, ◌≢◌, All, ℕ, ◌+◌, ◌-◌, ◌%◌, ◌^◌, ◌<◌, ◌≤◌, inl, inr, zero, suc, refl, sym, ap, subst}
+use Rattle.std.proofs.Common.{◌∙◌, arith, Bool, true, false, ◌==◌, if◌then◌else◌, List, [], ◌∷◌, ◌++◌, append-nil}
+use Rattle.std.proofs.Common.{length, length-append, map, replicate, set, take, drop, take-append-drop, Option, Some}
+use Rattle.std.proofs.Common.{None, option_map, slice_get, codes}
 use Rattle.std.proofs.lemmas.Option.{slice_get-map}
 use Rattle.slink_wire.specs.declared.request.Request.TheVariants as requests
 use Rattle.slink_wire.specs.Packet.{packet_bytes}
@@ -20,24 +21,25 @@ use Rattle.slink_model.specs.declared.world.Step.TheVariants.{Append, Connect, T
 use Rattle.slink_feed.specs.Dialogue.{Talk, next_at, says_place, to_place, want_at, wanted_of, wants_of}
 use Rattle.slink_feed.specs.Listening.{IsLinked, Listening}
 use Rattle.slink_feed.specs.Serving.{Standing}
-use Rattle.slink_feed.specs.Session.{Grants, IsBefore, State, all_done, at, at_next, grant_at, packet_at, sent,
-    sent_bytes, sent_in, sent_of}
+use Rattle.slink_feed.specs.Session.{Grants, IsBefore, State, all_done, at, at_next, grant_at, packet_at, sent}
+use Rattle.slink_feed.specs.Session.{sent_bytes, sent_in, sent_of}
 use Rattle.slink_model.specs.Spared.{AreAskable, IsSpared}
 use Rattle.slink_model.specs.Stretch.{IsSchedule, IsSound}
 use Rattle.slink_model.specs.Ties.{AreSound, Item, Carried, Finished, Places, of_place, way_bytes}
 use Rattle.slink_feed.specs.Window.{Window, oldest_of, record_at, with_record}
-use Rattle.slink_model.specs.World.{AllHappen, Both, Connects, Differ, Happens, IsHeard, IsOf, IsServed, LinkState,
-    WorldState, empty_window, opening, pushed_to, said, sent_on, taking}
+use Rattle.slink_model.specs.World.{AllHappen, Both, Connects, Differ, Happens, IsHeard, IsOf, IsServed, LinkState}
+use Rattle.slink_model.specs.World.{WorldState, empty_window, opening, pushed_to, said, sent_on, taking}
 use Rattle.slink_model.proofs.Answering.{stays_quiet}
 use Rattle.slink_model.proofs.Items.{carried_here, carried_there, carries_none, flow_more, of_more}
-use Rattle.slink_feed.proofs.Items.{get_drop, get_here, get_there, is_within, one_value, put_here, put_there,
-    same_or_not, within_is}
+use Rattle.slink_feed.proofs.Items.{get_drop, get_here, get_there, is_within, one_value, put_here, put_there}
+use Rattle.slink_feed.proofs.Items.{same_or_not, within_is}
 use Rattle.slink_model.proofs.Lined.{IsAnswered, begins_asking}
 use Rattle.slink_wire.proofs.RequestLines.{station_line}
 use Rattle.slink_model.proofs.Requested.{also_at}
 use Rattle.slink_model.proofs.Shaken.{ClientTalks, hears_talks}
-use Rattle.slink_model.proofs.Shaking.{AreAsked, AreBorne, AreFrom, AreRinged, AreSent, IsSuited, IsQuiet, LinkTalks,
-    Shakes, asks_end, asks_number, asks_place, has_none, has_number, has_place, serves_talks, streams}
+use Rattle.slink_model.proofs.Shaking.{AreAsked, AreBorne, AreFrom, AreRinged, AreSent, IsSuited, IsQuiet, LinkTalks}
+use Rattle.slink_model.proofs.Shaking.{Shakes, asks_end, asks_number, asks_place, has_none, has_number, has_place}
+use Rattle.slink_model.proofs.Shaking.{serves_talks, streams}
 use Rattle.slink_feed.proofs.Wanting.{short_all}
 use Rattle.slink_model.proofs.Worlds.{AreOf, each_of, none_granted, none_wanted, sound_more}
 
@@ -60,9 +62,12 @@ pub suited_more : (want : Option ℕ) (o : Option Grant) (g h : Grant) (rest : L
     → IsSuited want (Some h) (rest ++ (g.position, r) ∷ [])
 suited_more want None g h rest r is next s = absurd (let bad : None ≡ Some g = is in cc bad)
 suited_more want (Some f) g h rest r is next s =
-    let same : f.position ≡ g.position = ap (λ (x : Grant). x.position) (one_value (Some f) f g refl is) in
-    (s.0, from_more s.0 g.position rest r (omega (arith, same, s.2)) s.1,
-        omega (arith, next, same, s.2, length-append rest ((g.position, r) ∷ [])), s.3)
+    let same : f.position ≡ g.position = ap (λ (x : Grant). x.position) (one_value (Some f) f g refl is) in (
+      s.0,
+      from_more s.0 g.position rest r (omega (arith, same, s.2)) s.1,
+      omega (arith, next, same, s.2, length-append rest ((g.position, r) ∷ [])),
+      s.3,
+    )
 
 pub slot_within : (gs : Grants) (k : ℕ) (g : Grant) → grant_at gs k ≡ Some g → k < length gs
 slot_within [] k g h = absurd (let bad : None ≡ Some g = h in cc bad)
@@ -77,8 +82,10 @@ pub streaming_is : (talk : Talk) (phase : Phase) (taken way : List ℕ) (items :
     → Shakes talk phase taken way items → (talk.stage ≡ Packets) × AreSent items
     × (¬ (phase ≡ Closed) → IsAnswered taken way)
 streaming_is talk phase taken way items later (asks_place k w stage want ready asks none) =
-    absurd (elim ready [ inl fresh ↦ before_no phase Fresh fresh.1 tt later
-    | inr behind ↦ before_no phase (Granted behind.0) behind.2 tt later ])
+    absurd (elim ready [
+      | inl fresh ↦ before_no phase Fresh fresh.1 tt later
+      | inr behind ↦ before_no phase (Granted behind.0) behind.2 tt later
+    ])
 streaming_is talk phase taken way items later (has_place k stage is told one) =
     absurd (before_no phase (Chosen k) is tt later)
 streaming_is talk phase taken way items later (asks_number k stage is asks none) =
@@ -121,8 +128,8 @@ module _ (places : Places) (differ : Differ places) (codes_are : (k : ℕ) (p : 
         → Stands (at Closed s.grants) (way ++ more)
     shut s way more items phase bytes borne sent none l =
         let now : (client.talk.stage ≡ Packets) × AreSent l.items
-            × (¬ (s.phase ≡ Closed) → IsAnswered l.taken to_server) =
-            streaming_is client.talk s.phase l.taken to_server l.items (λ b. subst IsBefore phase b) l.shakes in
+        × (¬ (s.phase ≡ Closed) → IsAnswered l.taken to_server) =
+        streaming_is client.talk s.phase l.taken to_server l.items (λ b. subst IsBefore phase b) l.shakes in
         record {
           taken = l.taken;
           held = λ over. absurd (over refl);
@@ -143,11 +150,11 @@ module _ (places : Places) (differ : Differ places) (codes_are : (k : ℕ) (p : 
         let h : Grant = record { mode = g.mode; position = g.position + 1 } in
         let item : List Item = Carried k g.position r ∷ [] in
         let now : (client.talk.stage ≡ Packets) × AreSent l.items
-            × (¬ (s.phase ≡ Closed) → IsAnswered l.taken to_server) =
-            streaming_is client.talk s.phase l.taken to_server l.items (λ b. subst IsBefore phase b) l.shakes in
+        × (¬ (s.phase ≡ Closed) → IsAnswered l.taken to_server) =
+        streaming_is client.talk s.phase l.taken to_server l.items (λ b. subst IsBefore phase b) l.shakes in
         let p : (p : Fields × Option ℕ) × (slice_get places k ≡ Some p) × (w.place ≡ p.0) =
-            also_at (λ (v : Window). v.place) (λ (q : Fields × Option ℕ). q.0) (slice_get feed k) (slice_get places k)
-            w (ringed.alike k) here in
+        also_at (λ (v : Window). v.place) (λ (q : Fields × Option ℕ). q.0) (slice_get feed k) (slice_get places k)
+        w (ringed.alike k) here in
         let sound : (length r ≡ 512) × Bears r w.place = window_sound w g.position r (ringed.sound k w here) is in
         let lt : k < length s.grants = slot_within s.grants k g grant in
         record {
@@ -160,19 +167,19 @@ module _ (places : Places) (differ : Differ places) (codes_are : (k : ℕ) (p : 
             borne = borne_more places l.items item l.flows.borne ((p.0, p.1, sound.0, subst (Bears r) p.2 sound.1), tt);
             suited = λ i. elim (same_or_not i k) [
               | inl e ↦ subst (λ y. IsSuited (next_at client.talk.wants y) (grant_at (set s.grants k (Some h)) y)
-              (of_place y (l.items ++ item))) (sym e)
+                  (of_place y (l.items ++ item))) (sym e)
                   (subst (λ (o : Option Grant). IsSuited (next_at client.talk.wants k) o
-                      (of_place k (l.items ++ item))) (sym (put_here s.grants k (Some h) None lt))
+                  (of_place k (l.items ++ item))) (sym (put_here s.grants k (Some h) None lt))
                   (subst (IsSuited (next_at client.talk.wants k) (Some h))
-                      (sym (of_more k l.items item
-                      ∙ ap (λ b. of_place k l.items ++ (b ++ [])) (carried_here k g.position r)))
+                  (sym (of_more k l.items item
+                  ∙ ap (λ b. of_place k l.items ++ (b ++ [])) (carried_here k g.position r)))
                   (suited_more (next_at client.talk.wants k) (grant_at s.grants k) g h (of_place k l.items) r grant
-                      refl (l.flows.suited k))))
+                  refl (l.flows.suited k))))
               | inr ne ↦ subst (λ (o : Option Grant). IsSuited (next_at client.talk.wants i) o
-              (of_place i (l.items ++ item))) (sym (put_there s.grants k i (Some h) None ne))
+                  (of_place i (l.items ++ item))) (sym (put_there s.grants k i (Some h) None ne))
                   (subst (IsSuited (next_at client.talk.wants i) (grant_at s.grants i))
-                      (sym (carries_none i l.items item
-                      (ap (λ b. b ++ []) (carried_there k i g.position r (λ e. ne (sym e)))))) (l.flows.suited i))
+                  (sym (carries_none i l.items item
+                  (ap (λ b. b ++ []) (carried_there k i g.position r (λ e. ne (sym e)))))) (l.flows.suited i))
             ];
           };
           shakes = streams now.0 (λ b. subst IsBefore phase b) (sent_more l.items item now.1 (tt, tt)) now.2;
@@ -198,7 +205,7 @@ module _ (places : Places) (differ : Differ places) (codes_are : (k : ℕ) (p : 
     in_stream s way k (Some g) None phase grant here l = none_sent s way l
     in_stream s way k (Some g) (Some w) phase grant here l =
         choice (Goes way) (g.position == w.next) (at_next (all_done feed s.grants) s)
-            (packet_at s k g (record_at w g.position)) (at_end s way (all_done feed s.grants) phase l)
+        (packet_at s k g (record_at w g.position)) (at_end s way (all_done feed s.grants) phase l)
         (at_ring s way k g w (record_at w g.position) phase grant here refl l)
 
     in_phase : (phase : Phase) (s : State) (way : List ℕ) (k : ℕ) → s.phase ≡ phase → Stands s way
@@ -217,7 +224,7 @@ module _ (places : Places) (differ : Differ places) (codes_are : (k : ℕ) (p : 
   IsTalking client None = Unit {0}
   IsTalking client (Some l) =
       (IsLinked client.talk.stage → LinkTalks places client l.session l.to_server l.to_client)
-          × (¬ (IsLinked client.talk.stage) → IsQuiet l.session l.to_server)
+      × (¬ (IsLinked client.talk.stage) → IsQuiet l.session l.to_server)
 
   pub record WorldTalks (w : WorldState) : Type 0 where
     pub ringed : AreRinged places w.windows
@@ -231,23 +238,24 @@ module _ (places : Places) (differ : Differ places) (codes_are : (k : ℕ) (p : 
   ring_more feed k b v here long bears r =
       let now : List Window = set feed k (with_record v b) in
       let at_k : slice_get now k ≡ Some (with_record v b) =
-          get_here feed k (with_record v b) (is_within feed k v here) in
+      get_here feed k (with_record v b) (is_within feed k v here) in
       let sound : AreSound v.place (v.records ++ b ∷ []) =
-          sound_more v.place v.records b long bears (r.sound k v here) in
+      sound_more v.place v.records b long bears (r.sound k v here) in
       let shown : AreSound v.place (with_record v b).records =
-          λ j x at_j. sound (length (v.records ++ b ∷ []) - v.capacity + j) x
-          (sym (get_drop (length (v.records ++ b ∷ []) - v.capacity) (v.records ++ b ∷ []) j) ∙ at_j) in
+      λ j x at_j. sound (length (v.records ++ b ∷ []) - v.capacity + j) x
+      (sym (get_drop (length (v.records ++ b ∷ []) - v.capacity) (v.records ++ b ∷ []) j) ∙ at_j) in
       record {
         alike = λ i. elim (same_or_not i k) [
           | inl e ↦ subst (λ y. option_map (λ (x : Window). x.place) (slice_get now y) ≡ option_map
-          (λ (p : Fields × Option ℕ). p.0) (slice_get places y)) (sym e)
+              (λ (p : Fields × Option ℕ). p.0) (slice_get places y)) (sym e)
               (ap (option_map (λ (x : Window). x.place)) at_k
-                  ∙ (sym (ap (option_map (λ (x : Window). x.place)) here) ∙ r.alike k))
+              ∙ (sym (ap (option_map (λ (x : Window). x.place)) here) ∙ r.alike k))
           | inr ne ↦ ap (option_map (λ (x : Window). x.place)) (get_there feed k i (with_record v b) ne) ∙ r.alike i
         ];
         sound = λ i x at_i. elim (same_or_not i k) [
           | inl e ↦ subst (λ (y : Window). AreSound y.place y.records)
-          (one_value (slice_get now k) (with_record v b) x at_k (subst (λ y. slice_get now y ≡ Some x) e at_i)) shown
+              (one_value (slice_get now k) (with_record v b) x at_k (subst (λ y. slice_get now y ≡ Some x) e at_i))
+              shown
           | inr ne ↦ r.sound i x (sym (get_there feed k i (with_record v b) ne) ∙ at_i)
         ];
       }
@@ -257,12 +265,16 @@ module _ (places : Places) (differ : Differ places) (codes_are : (k : ℕ) (p : 
   append_talks w k b None here of long t = t
   append_talks w k b (Some v) here of long t =
       let q : (x : Fields × Option ℕ) × (slice_get places k ≡ Some x) × (v.place ≡ x.0) =
-          also_at (λ (x : Window). x.place) (λ (x : Fields × Option ℕ). x.0) (slice_get w.windows k)
-          (slice_get places k) v (t.ringed.alike k) here in
+      also_at (λ (x : Window). x.place) (λ (x : Fields × Option ℕ). x.0) (slice_get w.windows k)
+      (slice_get places k) v (t.ringed.alike k) here in
       let one : of.0.0 ≡ v.place =
-          ap (λ (x : Fields × Option ℕ). x.0) (one_value (slice_get places k) of.0 q.0 of.1 q.1) ∙ sym q.2 in
-      record { ringed = ring_more w.windows k b v here long (subst (Bears b) one of.2) t.ringed; spared = t.spared;
-          asked = t.asked; link = t.link }
+      ap (λ (x : Fields × Option ℕ). x.0) (one_value (slice_get places k) of.0 q.0 of.1 q.1) ∙ sym q.2 in
+      record {
+        ringed = ring_more w.windows k b v here long (subst (Bears b) one of.2) t.ringed;
+        spared = t.spared;
+        asked = t.asked;
+        link = t.link;
+      }
 
   -- Connect
   connect_talks : (w v : WorldState) → 0 < length places → Connects w v → WorldTalks w → WorldTalks v
@@ -270,12 +282,12 @@ module _ (places : Places) (differ : Differ places) (codes_are : (k : ℕ) (p : 
       let talk : Talk = w.client.talk in
       let p : (p : Fields × Option ℕ) × (slice_get places 0 ≡ Some p) = within_is places 0 some in
       let first : (x : Wanted) × (want_at talk.wants 0 ≡ Some x) × (p.0.0 ≡ x.place) =
-          also_at (λ (x : Fields × Option ℕ). x.0) (λ (x : Wanted). x.place) (slice_get places 0)
-          (want_at talk.wants 0) p.0 (sym (t.asked.alike 0)) p.1 in
+      also_at (λ (x : Fields × Option ℕ). x.0) (λ (x : Wanted). x.place) (slice_get places 0)
+      (want_at talk.wants 0) p.0 (sym (t.asked.alike 0)) p.1 in
       let fields : IsField 5 first.0.place.station × IsField 2 first.0.place.network =
-          subst (λ (f : Fields). IsField 5 f.station × IsField 2 f.network) first.2 (codes_are 0 p.0 p.1) in
+      subst (λ (f : Fields). IsField 5 f.station × IsField 2 f.network) first.2 (codes_are 0 p.0 p.1) in
       let says : says_place 0 talk ≡ to_place (Some first.0) 0 talk =
-          ap (λ (o : Option Wanted). to_place o 0 talk) first.1 in
+      ap (λ (o : Option Wanted). to_place o 0 talk) first.1 in
       let line : List ℕ = request_line (requests.Station first.0.place) in
       let client : Listening = record { talk = record talk { stage = Station 0 }; kept = [] } in
       let state : c.session.state ≡ at Fresh (replicate 16 None) = c.is_new.state in
@@ -294,13 +306,21 @@ module _ (places : Places) (differ : Differ places) (codes_are : (k : ℕ) (p : 
       } in
       let done : WorldTalks (record w {
         client = record { talk = (to_place (Some first.0) 0 talk).0; kept = [] };
-        link = Some (record { session = c.session; first_sent = replicate 16 None;
-            to_server = said (to_place (Some first.0) 0 talk).1; to_client = [] });
+        link = Some (record {
+          session = c.session;
+          first_sent = replicate 16 None;
+          to_server = said (to_place (Some first.0) 0 talk).1;
+          to_client = [];
+        });
       }) = record { ringed = t.ringed; spared = tt; asked = t.asked; link = (λ _. link, λ over. absurd (over tt)) } in
       subst WorldTalks (sym c.becomes) (subst (λ (x : Talk × Event). WorldTalks (record w {
         client = record { talk = x.0; kept = [] };
-        link = Some (record { session = c.session; first_sent = replicate 16 None; to_server = said x.1;
-            to_client = [] });
+        link = Some (record {
+          session = c.session;
+          first_sent = replicate 16 None;
+          to_server = said x.1;
+          to_client = [];
+        });
       })) (sym says) done)
 
   -- a link that changes alone
@@ -319,7 +339,7 @@ module _ (places : Places) (differ : Differ places) (codes_are : (k : ℕ) (p : 
       let all : l.to_server ≡ take n l.to_server ++ drop n l.to_server = sym (take-append-drop n l.to_server) in (
         λ linked. subst (λ b. LinkTalks places w.client m.session b m.to_client) (sym s.left)
             (serves_talks places differ codes_are w.client t.asked w.windows t.ringed l.session (take n l.to_server)
-                l.to_client m.session m.to_client (drop n l.to_server) s.serves
+            l.to_client m.session m.to_client (drop n l.to_server) s.serves
             (subst (λ b. LinkTalks places w.client l.session b l.to_client) all (talks.0 linked))),
         λ over. subst (IsQuiet m.session) (sym s.left)
             (stays_quiet w.windows l.session (take n l.to_server) l.to_client m.session m.to_client
@@ -335,9 +355,11 @@ module _ (places : Places) (differ : Differ places) (codes_are : (k : ℕ) (p : 
   sent_talks : (w : WorldState) (k : ℕ) (o : Option LinkState) → WorldTalks w → IsTalking w.client o
       → IsTalking w.client (option_map (sent_on w.windows k) o)
   sent_talks w k None t l = tt
-  sent_talks w k (Some l) t talks =
-      (λ linked. send_talks w.windows t.ringed w.client l.session.held l.to_server l.session.state l.to_client k
-      (talks.0 linked), λ over. quiet_sent w.windows k l.session l.to_server (talks.1 over))
+  sent_talks w k (Some l) t talks = (
+    λ linked. send_talks w.windows t.ringed w.client l.session.held l.to_server l.session.state l.to_client k
+        (talks.0 linked),
+    λ over. quiet_sent w.windows k l.session l.to_server (talks.1 over),
+  )
 
   -- ToClient
   heard_talks : (w v : WorldState) (n : ℕ) (l m : LinkState) → v.windows ≡ w.windows → v.link ≡ Some m
@@ -345,15 +367,15 @@ module _ (places : Places) (differ : Differ places) (codes_are : (k : ℕ) (p : 
   heard_talks w v n l m windows link s t talks =
       let all : l.to_client ≡ take n l.to_client ++ drop n l.to_client = sym (take-append-drop n l.to_client) in
       let c : ClientTalks places differ codes_are l.session l.first_sent w.client l.to_server
-          (take n l.to_client ++ drop n l.to_client) = record {
+      (take n l.to_client ++ drop n l.to_client) = record {
         spared = t.spared;
         asked = t.asked;
         link = λ linked. subst (LinkTalks places w.client l.session l.to_server) all (talks.0 linked);
         quiet = λ over. talks.1 over;
       } in
       let d : ClientTalks places differ codes_are l.session l.first_sent v.client m.to_server (drop n l.to_client) =
-          hears_talks places differ codes_are l.session l.first_sent (taking w l) (take n l.to_client) (taking v m)
-          (drop n l.to_client) s.hears c in
+      hears_talks places differ codes_are l.session l.first_sent (taking w l) (take n l.to_client) (taking v m)
+      (drop n l.to_client) s.hears c in
       record {
         ringed = subst (AreRinged places) (sym windows) t.ringed;
         spared = d.spared;
@@ -427,8 +449,10 @@ module _ (setup : Setup) (steps : List Step) (now : WorldState) (run : AllHappen
               ∙ here);
         };
         spared = tt;
-        asked = record { alike = opening_alike ps (16 - length ps);
-            short = short_all ps (wants_of ps) askable.numbers refl };
+        asked = record {
+          alike = opening_alike ps (16 - length ps);
+          short = short_all ps (wants_of ps) askable.numbers refl;
+        };
         link = tt;
       }
 

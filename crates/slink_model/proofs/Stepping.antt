@@ -1,6 +1,6 @@
 -- The rings of a world while steps happen.
-use Rattle.std.proofs.Common.{◌≡◌, ℕ, ◌+◌, ◌^◌, ◌<◌, ◌≤◌, inl, inr, zero, suc, refl, sym, ap, subst, ◌∙◌, arith, List,
-    [], ◌∷◌, length, map, set, get_or, take, drop, Option, Some, None, IfSome, slice_get}
+use Rattle.std.proofs.Common.{◌≡◌, ℕ, ◌+◌, ◌^◌, ◌<◌, ◌≤◌, inl, inr, zero, suc, refl, sym, ap, subst, ◌∙◌, arith, List}
+use Rattle.std.proofs.Common.{[], ◌∷◌, length, map, set, get_or, take, drop, Option, Some, None, IfSome, slice_get}
 use Rattle.slink_wire.specs.Place.{Fields, Bears}
 use Rattle.slink_model.specs.declared.world.Setup.{Setup}
 use Rattle.slink_model.specs.declared.world.Step.{Step}
@@ -60,16 +60,16 @@ has_place setup [] place has = absurd has
 has_place setup (p ∷ ps) place (inl same) = (zero, p, refl, same)
 has_place setup (p ∷ ps) place (inr more) =
     let there : (j : ℕ) × (q : Fields × Option ℕ) × (slice_get ps j ≡ Some q) × (q.0 ≡ place) =
-        has_place setup ps place more in
+    has_place setup ps place more in
     (suc there.0, there.1, there.2, there.3)
 
 pub no_double : (setup : Setup) (places : List (Fields × Option ℕ)) (i : ℕ) (p : Fields × Option ℕ) → Differ places
     → slice_get places i ≡ Some p → HasPlace (map (empty_window setup) (take i places)) p.0 → ⊥
 no_double setup places i p differ is has =
     let there : (j : ℕ) × (q : Fields × Option ℕ) × (slice_get (take i places) j ≡ Some q) × (q.0 ≡ p.0) =
-        has_place setup (take i places) p.0 has in
+    has_place setup (take i places) p.0 has in
     let front : (there.0 < i) × (slice_get places there.0 ≡ Some there.1) =
-        get_front places i there.0 there.1 there.2 in
+    get_front places i there.0 there.1 there.2 in
     let same : there.0 ≡ i = differ there.0 i there.1 p front.1 is there.3 in
     omega (arith, front.0, same)
 
@@ -92,14 +92,14 @@ pub possible : (places : List (Fields × Option ℕ)) (bound : ℕ) (feed : List
     → AreRings places bound feed → bound < 2 ^ 63 → IsOf places step → IsPossible feed step
 possible places bound feed (Append k bytes) rings small of =
     let there : slice_get (map (λ (v : Window). v.place) feed) k ≡ Some of.0.0 =
-        ap (λ xs. slice_get xs k) rings.places_are ∙ map_got (λ (p : Fields × Option ℕ). p.0) places k of.0 of.1 in
+    ap (λ xs. slice_get xs k) rings.places_are ∙ map_got (λ (p : Fields × Option ℕ). p.0) places k of.0 of.1 in
     let at : (v : Window) × (slice_get feed k ≡ Some v) × (v.place ≡ of.0.0) =
-        get_mapped (λ (v : Window). v.place) feed k of.0.0 there in
+    get_mapped (λ (v : Window). v.place) feed k of.0.0 there in
     let near : at.0.next ≤ bound = rings.numbers k at.0 at.1 in
     (at.0, at.1, subst (Bears bytes) (sym at.2) of.2, omega (arith, near, small))
 possible places bound feed (Send k) rings small of =
     let same : length feed ≡ length places = sym (length_mapped (λ (v : Window). v.place) feed)
-        ∙ (ap length rings.places_are ∙ length_mapped (λ (p : Fields × Option ℕ). p.0) places) in
+    ∙ (ap length rings.places_are ∙ length_mapped (λ (p : Fields × Option ℕ). p.0) places) in
     omega (arith, of, same)
 possible places bound feed Connect rings small of = tt
 possible places bound feed (ToServer n) rings small of = tt

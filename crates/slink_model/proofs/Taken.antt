@@ -1,7 +1,7 @@
 -- A link after each piece that the client takes.
-use Rattle.std.proofs.Common.{◌≡◌, ◌≢◌, ℕ, ◌+◌, ◌-◌, ◌%◌, ◌^◌, ◌<◌, ◌≤◌, inl, inr, suc, refl, sym, ap, subst, ◌∙◌,
-    arith, Bool, true, false, ◌&&◌, List, [], ◌∷◌, ◌++◌, append_assoc, length, length-set, set, get_or, Option, Some,
-    None, slice_get, if◌then◌else◌, position, bytes_eq, unwrap_or}
+use Rattle.std.proofs.Common.{◌≡◌, ◌≢◌, ℕ, ◌+◌, ◌-◌, ◌%◌, ◌^◌, ◌<◌, ◌≤◌, inl, inr, suc, refl, sym, ap, subst, ◌∙◌}
+use Rattle.std.proofs.Common.{arith, Bool, true, false, ◌&&◌, List, [], ◌∷◌, ◌++◌, append_assoc, length, length-set}
+use Rattle.std.proofs.Common.{set, get_or, Option, Some, None, slice_get, if◌then◌else◌, position, bytes_eq, unwrap_or}
 use Rattle.std.specs.Option.{option_and_then}
 use Rattle.std.specs.List.{position_from, slice_range}
 use Rattle.std.proofs.lemmas.Bool.{cases_lt}
@@ -15,13 +15,14 @@ use Rattle.slink_feed.specs.declared.grant.Grant.{Grant}
 use Rattle.slink_feed.specs.Dialogue.{Talk, Wants, bearer, is_borne, next_at, next_set, want_at, with_next}
 use Rattle.slink_feed.specs.Listening.{Brings, IsLinked, Listening}
 use Rattle.slink_feed.specs.Session.{State, grant_at}
-use Rattle.slink_model.specs.Ties.{AllHold, AreOfPlaces, AreWanted, AreWhole, Carried, Holds, IsOnWay, Item, LinkTies,
-    Outcome, Places, Told, ends, of_place, says, takes, WantFirst, told_of, waits, way_bytes}
-use Rattle.slink_model.specs.World.{Differ, Hears, Lists, Numbers, Taking, none_heard, noted, number_at, or_else,
-    piece_heard, piece_lost, with_first, with_one}
+use Rattle.slink_model.specs.Ties.{AllHold, AreOfPlaces, AreWanted, AreWhole, Carried, Holds, IsOnWay, Item, LinkTies}
+use Rattle.slink_model.specs.Ties.{Outcome, Places, Told, ends, of_place, says, takes, WantFirst, told_of, waits}
+use Rattle.slink_model.specs.Ties.{way_bytes}
+use Rattle.slink_model.specs.World.{Differ, Hears, Lists, Numbers, Taking, none_heard, noted, number_at, or_else}
+use Rattle.slink_model.specs.World.{piece_heard, piece_lost, with_first, with_one}
 use Rattle.slink_model.proofs.Items.{carried_here, carried_there}
-use Rattle.slink_feed.proofs.Items.{is_within, one_value, put_here, put_there, same_or_not, set_here, set_there,
-    within_is}
+use Rattle.slink_feed.proofs.Items.{is_within, one_value, put_here, put_there, same_or_not, set_here, set_there}
+use Rattle.slink_feed.proofs.Items.{within_is}
 use Rattle.slink_model.proofs.Outcomes.{outcome}
 use Rattle.slink_model.proofs.Following.{delivered, way_started}
 
@@ -63,23 +64,28 @@ pub borne_is : (r : List ℕ) (o : Option Wanted) → is_borne r o ≡ true → 
 borne_is r None h = absurd (let bad : false ≡ true = h in cc bad)
 borne_is r (Some w) h =
     let parts : (bytes_eq (slice_range r 8 13) w.place.station ≡ true)
-        × (bytes_eq (slice_range r 18 20) w.place.network ≡ true) =
-        both_true (bytes_eq (slice_range r 8 13) w.place.station) (bytes_eq (slice_range r 18 20) w.place.network) h in
-    (w, refl, ((bytes_eq-Decides (slice_range r 8 13) w.place.station).0 parts.0,
-        (bytes_eq-Decides (slice_range r 18 20) w.place.network).0 parts.1))
+    × (bytes_eq (slice_range r 18 20) w.place.network ≡ true) =
+    both_true (bytes_eq (slice_range r 8 13) w.place.station) (bytes_eq (slice_range r 18 20) w.place.network) h in (
+      w,
+      refl,
+      (
+        (bytes_eq-Decides (slice_range r 8 13) w.place.station).0 parts.0,
+        (bytes_eq-Decides (slice_range r 18 20) w.place.network).0 parts.1,
+      ),
+    )
 
 -- a record bears one place
 pub one_place : (r : List ℕ) (p q : Fields) → Bears r p → Bears r q → p ≡ q
 one_place r p q a b =
     ap (λ s. record { station = s; network = p.network }) (sym a.0 ∙ b.0)
-        ∙ ap (λ n. record { station = q.station; network = n }) (sym a.1 ∙ b.1)
+    ∙ ap (λ n. record { station = q.station; network = n }) (sym a.1 ∙ b.1)
 
 -- the place that bears a record
 bearer_is : (wants : Wants) (r : List ℕ) (j : ℕ) → bearer wants r ≡ Some j
     → (w : Wanted) × (slice_get wants j ≡ Some (Some w)) × Bears r w.place
 bearer_is wants r j h =
     let at : (o : Option Wanted) × (slice_get wants j ≡ Some o) × (is_borne r o ≡ true) =
-        found (is_borne r) wants j h in
+    found (is_borne r) wants j h in
     let is : (w : Wanted) × (at.0 ≡ Some w) × Bears r w.place = borne_is r at.0 at.2 in
     (is.0, at.1 ∙ ap (λ o. Some o) is.1, is.2)
 
@@ -118,9 +124,10 @@ told_held f events.None t a h = no_told a h
 told_held f (events.Say bytes) t a h = no_told a h
 told_held f (events.Record k n r) t a h =
     let same : (record { index = k; number = n; bytes = r }) ≡ a =
-        told_is (record { index = k; number = n; bytes = r }) a h in
-    (ap (λ (x : Told). with_one t.held x.index x.bytes) same,
-        ap (λ (x : Told). with_first t.start x.index (number_at f x.index)) same)
+    told_is (record { index = k; number = n; bytes = r }) a h in (
+      ap (λ (x : Told). with_one t.held x.index x.bytes) same,
+      ap (λ (x : Told). with_first t.start x.index (number_at f x.index)) same,
+    )
 told_held f events.End t a h = no_told a h
 told_held f (events.Refused k) t a h = no_told a h
 told_held f (events.Gap k want got) t a h = no_told a h
@@ -188,75 +195,80 @@ module _ (places : Places) (first : ℕ) (pushed : Lists) (state : State) (first
       let start' : Numbers = with_first start j (number_at first_sent j) in
       let F : List (List ℕ) = get_or pushed j [] in
       let of_j : of_place j c.link.items ≡ (n, r) ∷ of_place j rest = ap (of_place j) is
-          ∙ ap (λ b. b ++ of_place j rest) (carried_here j n r) in
+      ∙ ap (λ b. b ++ of_place j rest) (carried_here j n r) in
       let on_way : IsOnWay (few j) first F (get_or held j []) (number_at start j) (number_at first_sent j) (Some g)
-          ((n, r) ∷ of_place j rest)
+      ((n, r) ∷ of_place j rest)
       = subst (λ (o : Option Grant). IsOnWay (few j) first F (get_or held j []) (number_at start j)
-          (number_at first_sent j) o ((n, r) ∷ of_place j rest)) grant
+      (number_at first_sent j) o ((n, r) ∷ of_place j rest)) grant
       (subst (IsOnWay (few j) first F (get_or held j []) (number_at start j) (number_at first_sent j)
-          (grant_at state.grants j)) of_j (c.link.places_are j lt)) in
+      (grant_at state.grants j)) of_j (c.link.places_are j lt)) in
       let done : Holds first F (Some ((n + 1) % 2 ^ 24)) (get_or held j [] ++ r ∷ [])
-          (or_else (number_at start j) (number_at first_sent j))
+      (or_else (number_at start j) (number_at first_sent j))
       × IsOnWay (few j) first F (get_or held j [] ++ r ∷ []) (or_else (number_at start j) (number_at first_sent j))
       (number_at first_sent j) (Some g) (of_place j rest)
       = delivered first F (next_at client.talk.wants j) (get_or held j []) (number_at start j) (number_at first_sent j)
-          g n r (of_place j rest) wanted (c.holds j lt) on_way in
+      g n r (of_place j rest) wanted (c.holds j lt) on_way in
       let held_j : get_or held' j [] ≡ get_or held j [] ++ r ∷ [] =
-          set_here held j (get_or held j [] ++ r ∷ []) [] (omega (arith, lt, c.long.0)) in
+      set_here held j (get_or held j [] ++ r ∷ []) [] (omega (arith, lt, c.long.0)) in
       let start_j : number_at start' j ≡ or_else (number_at start j) (number_at first_sent j) =
-          put_here start j (or_else (number_at start j) (number_at first_sent j)) None (omega (arith, lt, c.long.1)) in
+      put_here start j (or_else (number_at start j) (number_at first_sent j)) None (omega (arith, lt, c.long.1)) in
       let want_j : want_at ws j ≡ Some v =
-          put_here client.talk.wants j (Some v) None (is_within client.talk.wants j (Some w) has) in
+      put_here client.talk.wants j (Some v) None (is_within client.talk.wants j (Some w) has) in
       let next_j : next_at ws j ≡ Some ((n + 1) % 2 ^ 24) = ap (option_and_then (λ (x : Wanted). x.next)) want_j
-          ∙ ap (λ x. Some x) (let e : m ≡ (n + 1) % 2 ^ 24 = omega arith in e) in
+      ∙ ap (λ x. Some x) (let e : m ≡ (n + 1) % 2 ^ 24 = omega arith in e) in
       let holds_j : Holds first F (next_at ws j) (get_or held' j []) (number_at start' j)
       = subst (λ (o : Option ℕ). Holds first F o (get_or held' j []) (number_at start' j)) (sym next_j)
       (subst (λ (o : Option ℕ). Holds first F (Some ((n + 1) % 2 ^ 24)) (get_or held' j []) o) (sym start_j)
       (subst (λ h. Holds first F (Some ((n + 1) % 2 ^ 24)) h (or_else (number_at start j) (number_at first_sent j)))
-          (sym held_j) done.0)) in
+      (sym held_j) done.0)) in
       let way_j : IsOnWay (few j) first F (get_or held' j []) (number_at start' j) (number_at first_sent j)
-          (grant_at state.grants j) (of_place j rest)
+      (grant_at state.grants j) (of_place j rest)
       = subst (λ (o : Option Grant). IsOnWay (few j) first F (get_or held' j []) (number_at start' j)
-          (number_at first_sent j) o (of_place j rest)) (sym grant)
+      (number_at first_sent j) o (of_place j rest)) (sym grant)
       (subst (λ (o : Option ℕ). IsOnWay (few j) first F (get_or held' j []) o (number_at first_sent j) (Some g)
-          (of_place j rest)) (sym start_j)
+      (of_place j rest)) (sym start_j)
       (subst (λ h. IsOnWay (few j) first F h (or_else (number_at start j) (number_at first_sent j))
-          (number_at first_sent j) (Some g) (of_place j rest)) (sym held_j) done.1)) in
+      (number_at first_sent j) (Some g) (of_place j rest)) (sym held_j) done.1)) in
       let held_i : (i : ℕ) → i ≢ j → get_or held' i [] ≡ get_or held i [] =
-          λ i ne. set_there held j i (get_or held j [] ++ r ∷ []) [] ne in
+      λ i ne. set_there held j i (get_or held j [] ++ r ∷ []) [] ne in
       let start_i : (i : ℕ) → i ≢ j → number_at start' i ≡ number_at start i =
-          λ i ne. put_there start j i (or_else (number_at start j) (number_at first_sent j)) None ne in
+      λ i ne. put_there start j i (or_else (number_at start j) (number_at first_sent j)) None ne in
       let want_i : (i : ℕ) → i ≢ j → want_at ws i ≡ want_at client.talk.wants i =
-          λ i ne. put_there client.talk.wants j i (Some v) None ne in
+      λ i ne. put_there client.talk.wants j i (Some v) None ne in
       let of_i : (i : ℕ) → i ≢ j → of_place i c.link.items ≡ of_place i rest = λ i ne. ap (of_place i) is
-          ∙ ap (λ b. b ++ of_place i rest) (carried_there j i n r (λ e. ne (sym e))) in
+      ∙ ap (λ b. b ++ of_place i rest) (carried_there j i n r (λ e. ne (sym e))) in
       record {
         wanted = subst (AreWanted places) (sym becomes) (λ i x at. elim (same_or_not i j) [
-          | inl e ↦ let one : v ≡ x = one_value (want_at ws j) v x want_j (subst (λ y. want_at ws y ≡ Some x) e at) in
-              (p, subst (λ y. slice_get places y ≡ Some p) (sym e) of_p,
-                  subst (λ (y : Wanted). y.place ≡ p.0) one place)
+          | inl e ↦ let one : v ≡ x = one_value (want_at ws j) v x want_j (subst (λ y. want_at ws y ≡ Some x) e at) in (
+            p,
+            subst (λ y. slice_get places y ≡ Some p) (sym e) of_p,
+            subst (λ (y : Wanted). y.place ≡ p.0) one place,
+          )
           | inr ne ↦ c.wanted i x (sym (want_i i ne) ∙ at)
         ]);
         holds = subst (λ (y : Wants). AllHold places first pushed y held' start') (sym becomes)
             (λ i below. elim (same_or_not i j) [
-          | inl e ↦ subst (λ y. Holds first (get_or pushed y []) (next_at ws y) (get_or held' y [])
-          (number_at start' y)) (sym e) holds_j
-          | inr ne ↦ subst (λ (o : Option ℕ). Holds first (get_or pushed i []) o (get_or held' i [])
-          (number_at start' i)) (sym (ap (option_and_then (λ (x : Wanted). x.next)) (want_i i ne)))
-              (subst (λ (o : Option ℕ). Holds first (get_or pushed i []) (next_at client.talk.wants i)
+              | inl e ↦ subst (λ y. Holds first (get_or pushed y []) (next_at ws y) (get_or held' y [])
+                  (number_at start' y)) (sym e) holds_j
+              | inr ne ↦ subst (λ (o : Option ℕ). Holds first (get_or pushed i []) o (get_or held' i [])
+                  (number_at start' i)) (sym (ap (option_and_then (λ (x : Wanted). x.next)) (want_i i ne)))
+                  (subst (λ (o : Option ℕ). Holds first (get_or pushed i []) (next_at client.talk.wants i)
                   (get_or held' i []) o) (sym (start_i i ne))
-              (subst (λ h. Holds first (get_or pushed i []) (next_at client.talk.wants i) h (number_at start i))
+                  (subst (λ h. Holds first (get_or pushed i []) (next_at client.talk.wants i) h (number_at start i))
                   (sym (held_i i ne)) (c.holds i below)))
-        ]);
+            ]);
         want_first = subst (λ (y : Wants). WantFirst places y start') (sym becomes)
             (λ i x here unheld. elim (same_or_not i j) [
-          | inl e ↦ absurd (way_started (few j) first F (get_or held j []) (number_at start j) (number_at first_sent j)
-          g (n, r) (of_place j rest) on_way (sym start_j ∙ subst (λ y. number_at start' y ≡ None) e unheld))
-          | inr ne ↦ ap (option_and_then (λ (y : Wanted). y.next)) (want_i i ne)
-          ∙ c.want_first i x here (sym (start_i i ne) ∙ unheld)
-        ]);
-        long = (length-set held j (get_or held j [] ++ r ∷ []) ∙ c.long.0,
-            length-set start j (or_else (number_at start j) (number_at first_sent j)) ∙ c.long.1);
+              | inl e ↦ absurd (way_started (few j) first F (get_or held j []) (number_at start j)
+                  (number_at first_sent j)
+                  g (n, r) (of_place j rest) on_way (sym start_j ∙ subst (λ y. number_at start' y ≡ None) e unheld))
+              | inr ne ↦ ap (option_and_then (λ (y : Wanted). y.next)) (want_i i ne)
+                  ∙ c.want_first i x here (sym (start_i i ne) ∙ unheld)
+            ]);
+        long = (
+          length-set held j (get_or held j [] ++ r ∷ []) ∙ c.long.0,
+          length-set start j (or_else (number_at start j) (number_at first_sent j)) ∙ c.long.1,
+        );
         link = record {
           items = rest;
           are_whole = (let whole : (length r ≡ 512) × AreWhole rest = subst AreWhole is c.link.are_whole in whole.1);
@@ -271,13 +283,13 @@ module _ (places : Places) (first : ℕ) (pushed : Lists) (state : State) (first
           ];
           places_are = λ i below. elim (same_or_not i j) [
             | inl e ↦ subst (λ y. IsOnWay (few y) first (get_or pushed y []) (get_or held' y []) (number_at start' y)
-            (number_at first_sent y) (grant_at state.grants y) (of_place y rest)) (sym e) way_j
+                (number_at first_sent y) (grant_at state.grants y) (of_place y rest)) (sym e) way_j
             | inr ne ↦ subst (λ (o : Option ℕ). IsOnWay (few i) first (get_or pushed i []) (get_or held' i []) o
-            (number_at first_sent i) (grant_at state.grants i) (of_place i rest)) (sym (start_i i ne))
+                (number_at first_sent i) (grant_at state.grants i) (of_place i rest)) (sym (start_i i ne))
                 (subst (λ h. IsOnWay (few i) first (get_or pushed i []) h (number_at start i) (number_at first_sent i)
-                    (grant_at state.grants i) (of_place i rest)) (sym (held_i i ne))
+                (grant_at state.grants i) (of_place i rest)) (sym (held_i i ne))
                 (subst (IsOnWay (few i) first (get_or pushed i []) (get_or held i []) (number_at start i)
-                    (number_at first_sent i) (grant_at state.grants i)) (of_i i ne) (c.link.places_are i below)))
+                (number_at first_sent i) (grant_at state.grants i)) (of_i i ne) (c.link.places_are i below)))
           ];
           room = c.link.room;
         };
@@ -292,25 +304,27 @@ module _ (places : Places) (first : ℕ) (pushed : Lists) (state : State) (first
       → ClientTies new (with_one held j r) (with_first start j (number_at first_sent j)) left
   taken_ties client new held start way left k j n r rest c is flow bears wanted wants none =
       let of_k : of_place k c.link.items ≡ (n, r) ∷ of_place k rest = ap (of_place k) is
-          ∙ ap (λ b. b ++ of_place k rest) (carried_here k n r) in
+      ∙ ap (λ b. b ++ of_place k rest) (carried_here k n r) in
       let lt : k < length places =
-          elim (cases_lt k (length places)) [ inl below ↦ below
-          | inr past ↦ absurd (omega (arith, ap length (sym of_k ∙ c.link.within k past))) ] in
+      elim (cases_lt k (length places)) [
+        | inl below ↦ below
+        | inr past ↦ absurd (omega (arith, ap length (sym of_k ∙ c.link.within k past)))
+      ] in
       let top : (g : Grant) × (grant_at state.grants k ≡ Some g) × (i : ℕ) × (slice_get (get_or pushed k []) i ≡ Some r)
       = way_first (few k) first (get_or pushed k []) (get_or held k []) (number_at start k) (number_at first_sent k)
-          (grant_at state.grants k) n r (of_place k rest)
+      (grant_at state.grants k) n r (of_place k rest)
       (subst (IsOnWay (few k) first (get_or pushed k []) (get_or held k []) (number_at start k)
-          (number_at first_sent k) (grant_at state.grants k)) of_k (c.link.places_are k lt)) in
+      (number_at first_sent k) (grant_at state.grants k)) of_k (c.link.places_are k lt)) in
       let q : (p : Fields × Option ℕ) × (slice_get places k ≡ Some p) = within_is places k lt in
       let borne : (length r ≡ 512) × Bears r q.0.0 = sound k q.0 q.1 top.2 r top.3 in
       let b : (w : Wanted) × (slice_get client.talk.wants j ≡ Some (Some w)) × Bears r w.place =
-          bearer_is client.talk.wants r j bears in
+      bearer_is client.talk.wants r j bears in
       let pw : (p : Fields × Option ℕ) × (slice_get places j ≡ Some p) × (b.0.place ≡ p.0) =
-          c.wanted j b.0 (ap (λ o. unwrap_or o None) b.1) in
+      c.wanted j b.0 (ap (λ o. unwrap_or o None) b.1) in
       let same : k ≡ j = differ k j q.0 pw.0 q.1 pw.1 (one_place r q.0.0 pw.0.0 borne.1 (subst (Bears r) pw.2 b.2)) in
       taken_at client new held start way left j n r rest b.0 pw.0 top.0 c (is ∙ ap (λ i. Carried i n r ∷ rest) same)
-          flow (is_within places j pw.0 pw.1) pw.1 pw.2 b.1
-          (subst (λ i. grant_at state.grants i ≡ Some top.0) same top.1) wanted wants none
+      flow (is_within places j pw.0 pw.1) pw.1 pw.2 b.1
+      (subst (λ i. grant_at state.grants i ≡ Some top.0) same top.1) wanted wants none
 
   outcome_ties : (client new : Listening) (held held' : Lists) (start start' : Numbers) (way piece left : List ℕ)
       (e : Event) → (c : ClientTies client held start (piece ++ left)) → IsLinked client.talk.stage
@@ -321,35 +335,35 @@ module _ (places : Places) (first : ℕ) (pushed : Lists) (state : State) (first
       → ClientTies new held' start' left
   outcome_ties client new held held' start start' way piece left e c linked (waits same quiet) stays takes_it =
       let flow : (client.kept ++ piece) ++ left ≡ way_bytes c.link.items = append_assoc client.kept piece left
-          ∙ c.link.flow linked in
+      ∙ c.link.flow linked in
       let done : ClientTies new held start left =
-          quiet_ties client new held start (piece ++ left) left (ap (λ (x : Listening). x.talk.wants) same) c
-          c.link.items c.link.are_whole (λ l. ap (λ (x : Listening). x.kept ++ left) same ∙ flow) c.link (λ k. refl) in
+      quiet_ties client new held start (piece ++ left) left (ap (λ (x : Listening). x.talk.wants) same) c
+      c.link.items c.link.are_whole (λ l. ap (λ (x : Listening). x.kept ++ left) same ∙ flow) c.link (λ k. refl) in
       subst (λ s. ClientTies new held' s left) (sym (stays quiet).1)
-          (subst (λ h. ClientTies new h start left) (sym (stays quiet).0) done)
+      (subst (λ h. ClientTies new h start left) (sym (stays quiet).0) done)
   outcome_ties client new held held' start start' way piece left e c linked (says rest is flow wants none quiet) stays
       takes_it =
       let done : ClientTies new held start left =
-          quiet_ties client new held start (piece ++ left) left wants c rest (subst AreWhole is c.link.are_whole)
-          (λ l. ap (λ k. k ++ left) none ∙ flow) c.link (λ k. sym (ap (of_place k) is)) in
+      quiet_ties client new held start (piece ++ left) left wants c rest (subst AreWhole is c.link.are_whole)
+      (λ l. ap (λ k. k ++ left) none ∙ flow) c.link (λ k. sym (ap (of_place k) is)) in
       subst (λ s. ClientTies new held' s left) (sym (stays quiet).1)
-          (subst (λ h. ClientTies new h start left) (sym (stays quiet).0) done)
+      (subst (λ h. ClientTies new h start left) (sym (stays quiet).0) done)
   outcome_ties client new held held' start start' way piece left e c linked (ends ending talk none quiet) stays
       takes_it =
       let done : ClientTies new held start left =
-          quiet_ties client new held start (piece ++ left) left (ap (λ (x : Talk). x.wants) talk) c c.link.items
-          c.link.are_whole (λ l. absurd (subst (λ (x : Talk). IsLinked x.stage) talk l)) c.link (λ k. refl) in
+      quiet_ties client new held start (piece ++ left) left (ap (λ (x : Talk). x.wants) talk) c c.link.items
+      c.link.are_whole (λ l. absurd (subst (λ (x : Talk). IsLinked x.stage) talk l)) c.link (λ k. refl) in
       subst (λ s. ClientTies new held' s left) (sym (stays quiet).1)
-          (subst (λ h. ClientTies new h start left) (sym (stays quiet).0) done)
+      (subst (λ h. ClientTies new h start left) (sym (stays quiet).0) done)
   outcome_ties client new held held' start start' way piece left e c linked
       (takes k j n r rest is flow bears wanted talk none told) stays takes_it =
       let done : ClientTies new (with_one held j r) (with_first start j (number_at first_sent j)) left
       = taken_ties client new held start (piece ++ left) left k j n r rest c is flow bears wanted
-          (ap (λ (x : Talk). x.wants) talk) none in
+      (ap (λ (x : Talk). x.wants) talk) none in
       let it : (held' ≡ with_one held j r) × (start' ≡ with_first start j (number_at first_sent j)) =
-          takes_it (record { index = j; number = n % 2 ^ 24; bytes = r }) told in
+      takes_it (record { index = j; number = n % 2 ^ 24; bytes = r }) told in
       subst (λ s. ClientTies new held' s left) (sym it.1)
-          (subst (λ h. ClientTies new h (with_first start j (number_at first_sent j)) left) (sym it.0) done)
+      (subst (λ h. ClientTies new h (with_first start j (number_at first_sent j)) left) (sym it.0) done)
 
   -- a piece is taken
   piece_ties : (t : Taking) (now : Listening) (piece left : List ℕ) (e : Event) → IsLinked t.client.talk.stage
@@ -359,13 +373,13 @@ module _ (places : Places) (first : ℕ) (pushed : Lists) (state : State) (first
   piece_ties t now piece left e linked brings c =
       let u : Taking = record t { client = now } in
       let flow : (t.client.kept ++ piece) ++ left ≡ way_bytes c.link.items = append_assoc t.client.kept piece left
-          ∙ c.link.flow linked in
+      ∙ c.link.flow linked in
       let out : Outcome t.client.talk c.link.items (t.client.kept ++ piece) left now e =
-          outcome t.client.talk (t.client.kept ++ piece) left now e c.link.items c.link.are_whole flow brings in
+      outcome t.client.talk (t.client.kept ++ piece) left now e c.link.items c.link.are_whole flow brings in
       subst (λ (x : Listening). ClientTies x (noted first_sent e u).held (noted first_sent e u).start left)
-          (sym (same_client first_sent e u))
+      (sym (same_client first_sent e u))
       (outcome_ties t.client now t.held (noted first_sent e u).held t.start (noted first_sent e u).start left piece
-          left e c linked out (λ q. quiet_held first_sent e u q) (λ a q. told_held first_sent e u a q))
+      left e c linked out (λ q. quiet_held first_sent e u q) (λ a q. told_held first_sent e u a q))
 
   -- all of these bytes are taken, piece by piece
   pub hears_ties : (t : Taking) (bytes : List ℕ) (last : Taking) (left : List ℕ) → Hears first_sent t bytes last
@@ -374,7 +388,7 @@ module _ (places : Places) (first : ℕ) (pushed : Lists) (state : State) (first
   hears_ties t bytes last left (piece_heard u v now all piece rest e split linked brings more) c =
       hears_ties (noted first_sent e (record u { client = now })) rest v left more
       (piece_ties u now piece (rest ++ left) e linked brings
-          (subst (ClientTies u.client u.held u.start) (ap (λ b. b ++ left) split ∙ append_assoc piece rest left) c))
+      (subst (ClientTies u.client u.held u.start) (ap (λ b. b ++ left) split ∙ append_assoc piece rest left) c))
   hears_ties t bytes last left (piece_lost u v all piece rest split over more) c =
       hears_ties u rest v left more (quiet_ties u.client u.client u.held u.start (all ++ left) (rest ++ left) refl c
-          c.link.items c.link.are_whole (λ linked. absurd (over linked)) c.link (λ k. refl))
+      c.link.items c.link.are_whole (λ linked. absurd (over linked)) c.link (λ k. refl))

@@ -1,6 +1,6 @@
 -- A line waits for its answer while its CR and LF are on their way.
-use Rattle.std.proofs.Common.{◌≡◌, ℕ, ◌+◌, ◌≤◌, inl, inr, suc, sym, ap, subst, ◌∙◌, arith, List, [], ◌∷◌, ◌++◌,
-    append-nil, append_assoc, length, length-append}
+use Rattle.std.proofs.Common.{◌≡◌, ℕ, ◌+◌, ◌≤◌, inl, inr, suc, sym, ap, subst, ◌∙◌, arith, List, [], ◌∷◌, ◌++◌}
+use Rattle.std.proofs.Common.{append-nil, append_assoc, length, length-append}
 use Rattle.std.proofs.lemmas.List.{append_cancel_left}
 use Rattle.slink_wire.specs.Lines.{Spelled, lines_of}
 use Rattle.slink_wire.proofs.Cuts.{Lacks}
@@ -23,7 +23,7 @@ line_untold line is = ap length (part_quiet line is.no_cr is.short).0
 front_untold : (line t z : List ℕ) → IsLine line → line ≡ t ++ z → told t ≡ 0
 front_untold line t z is e =
     ap length (part_quiet t (lacks_front t z (subst (Lacks 13) e is.no_cr))
-        (let long : length line ≡ length (t ++ z) = ap length e in omega (arith, long, length-append t z, is.short))).0
+    (let long : length line ≡ length (t ++ z) = ap length e in omega (arith, long, length-append t z, is.short))).0
 
 none_told : told [] ≡ 0
 none_told = ap length none_quiet.0
@@ -48,7 +48,7 @@ behind_cr line lines (x ∷ z) w is e all more =
     let first : x ≡ 13 = cc e in
     let others : z ++ w ≡ 10 ∷ said_bytes lines = cc e in
     let count : suc (told z) ≡ suc (length lines) = sym (one_told line z is)
-        ∙ (ap (λ b. told (line ++ b ∷ z)) (sym first) ∙ all) in
+    ∙ (ap (λ b. told (line ++ b ∷ z)) (sym first) ∙ all) in
     behind_lf lines z w others (omega (arith, count)) more
 
 few_left : (lines : List (List ℕ)) (t w : List ℕ) → AreLines lines → t ++ w ≡ said_bytes lines → told t ≡ length lines
@@ -58,7 +58,7 @@ few_left (line ∷ lines) t w are e all = elim (fronts t line w (13 ∷ 10 ∷ s
   | inl more ↦ absurd (omega (arith, front_untold line t more.0 are.0 more.1, all))
   | inr more ↦ behind_cr line lines more.0 w are.0
       (append_cancel_left line (more.0 ++ w) (13 ∷ 10 ∷ said_bytes lines) (sym (append_assoc line more.0 w)
-          ∙ (ap (λ b. b ++ w) (sym more.1) ∙ e)))
+      ∙ (ap (λ b. b ++ w) (sym more.1) ∙ e)))
       (ap told (sym more.1) ∙ all) (λ u same count. few_left lines u w are.1 same count)
 ]
 
@@ -72,7 +72,7 @@ all_told [] rest are = let e : told rest ≡ 0 + told rest = omega arith in e
 all_told (line ∷ lines) rest are =
     let more : told (said_bytes lines ++ rest) ≡ length lines + told rest = all_told lines rest are.1 in
     let front : told ((line ++ 13 ∷ 10 ∷ said_bytes lines) ++ rest) ≡ suc (told (said_bytes lines ++ rest)) =
-        ap told (append_assoc line (13 ∷ 10 ∷ said_bytes lines) rest)
+    ap told (append_assoc line (13 ∷ 10 ∷ said_bytes lines) rest)
     ∙ (one_told line (10 ∷ (said_bytes lines ++ rest)) are.0
     ∙ ap (λ (s : Spelled). suc (length s.lines)) (lines_lf (said_bytes lines ++ rest))) in
     omega (arith, more, front)
@@ -86,24 +86,28 @@ the_last (l ∷ before) line are = let more : AreLines before × IsLine line = t
 pub asking_waits : (line taken way : List ℕ) → IsAsking line taken way → 2 ≤ length way
 asking_waits line taken [] a =
     let all : told (said_bytes (a.before ++ line ∷ []) ++ []) ≡ length (a.before ++ line ∷ []) + told [] =
-        all_told (a.before ++ line ∷ []) [] a.are_lines in
+    all_told (a.before ++ line ∷ []) [] a.are_lines in
     let same : told (said_bytes (a.before ++ line ∷ []) ++ []) ≡ length a.before =
-        ap told (append-nil (said_bytes (a.before ++ line ∷ [])) ∙ (sym a.said ∙ append-nil taken))
-        ∙ ap length a.told in
+    ap told (append-nil (said_bytes (a.before ++ line ∷ [])) ∙ (sym a.said ∙ append-nil taken))
+    ∙ ap length a.told in
     absurd (omega (arith, all, same, length-append a.before (line ∷ [])))
 asking_waits line taken (x ∷ []) a =
     let are : AreLines a.before × IsLine line = the_last a.before line a.are_lines in
     let split : taken ++ x ∷ [] ≡ (said_bytes a.before ++ (line ++ 13 ∷ [])) ++ 10 ∷ [] =
-        a.said ∙ (bytes_more a.before line
+    a.said ∙ (bytes_more a.before line
     ∙ (ap (λ b. said_bytes a.before ++ b) (sym (append_assoc line (13 ∷ []) (10 ∷ [])))
     ∙ sym (append_assoc (said_bytes a.before) (line ++ 13 ∷ []) (10 ∷ [])))) in
     let long : length taken ≡ length (said_bytes a.before ++ (line ++ 13 ∷ [])) =
-        omega (arith, ap length split, length-append taken (x ∷ []),
-        length-append (said_bytes a.before ++ (line ++ 13 ∷ [])) (10 ∷ [])) in
+    omega (
+      arith,
+      ap length split,
+      length-append taken (x ∷ []),
+      length-append (said_bytes a.before ++ (line ++ 13 ∷ [])) (10 ∷ []),
+    ) in
     let cut : taken ≡ said_bytes a.before ++ (line ++ 13 ∷ []) =
-        (same_cut taken (x ∷ []) (said_bytes a.before ++ (line ++ 13 ∷ [])) (10 ∷ []) long split).0 in
+    (same_cut taken (x ∷ []) (said_bytes a.before ++ (line ++ 13 ∷ [])) (10 ∷ []) long split).0 in
     let all : told (said_bytes a.before ++ (line ++ 13 ∷ [])) ≡ length a.before + told (line ++ 13 ∷ []) =
-        all_told a.before (line ++ 13 ∷ []) are.0 in
+    all_told a.before (line ++ 13 ∷ []) are.0 in
     let one : told (line ++ 13 ∷ []) ≡ suc (told []) = one_told line [] are.1 in
     absurd (omega (arith, all, one, ap told cut, ap length a.told))
 asking_waits line taken (x ∷ y ∷ way) a = omega arith

@@ -1,7 +1,7 @@
 -- Each step keeps a world tied to all records that were pushed.
-use Rattle.std.proofs.Common.{◌≡◌, All, ◌≢◌, ℕ, ◌+◌, ◌-◌, ◌^◌, ◌<◌, ◌≤◌, ◌⊎◌, inl, inr, zero, suc, refl, sym, ap, subst,
-    ◌∙◌, arith, List, [], ◌∷◌, ◌++◌, length, length-set, set, get_or, take, drop, take-append-drop, map, replicate,
-    Option, Some, None, option_map, slice_get}
+use Rattle.std.proofs.Common.{◌≡◌, All, ◌≢◌, ℕ, ◌+◌, ◌-◌, ◌^◌, ◌<◌, ◌≤◌, ◌⊎◌, inl, inr, zero, suc, refl, sym, ap, subst}
+use Rattle.std.proofs.Common.{◌∙◌, arith, List, [], ◌∷◌, ◌++◌, length, length-set, set, get_or, take, drop}
+use Rattle.std.proofs.Common.{take-append-drop, map, replicate, Option, Some, None, option_map, slice_get}
 use Rattle.std.proofs.lemmas.List.{get_or_default, length-map}
 use Rattle.std.proofs.lemmas.Option.{slice_get-map}
 use Rattle.slink_wire.specs.Place.{Bears, Fields}
@@ -15,14 +15,15 @@ use Rattle.slink_feed.specs.Listening.{Listening}
 use Rattle.slink_feed.specs.Serving.{Standing}
 use Rattle.slink_feed.specs.Session.{Grants, State, grant_at, sent_in}
 use Rattle.slink_model.specs.Stretch.{HoldsStretches, IsSchedule, IsSound, LackFew, LacksFew}
-use Rattle.slink_model.specs.Ties.{AllHold, AreOfPlaces, AreShown, AreSound, AreWanted, Holds, IsLinkTied, IsOnWay,
-    LinkTies, Places, WantFirst, WorldTies, of_place}
+use Rattle.slink_model.specs.Ties.{AllHold, AreOfPlaces, AreShown, AreSound, AreWanted, Holds, IsLinkTied, IsOnWay}
+use Rattle.slink_model.specs.Ties.{LinkTies, Places, WantFirst, WorldTies, of_place}
 use Rattle.slink_feed.specs.Running.{HasStream}
 use Rattle.slink_feed.specs.Window.{Shows, Window, with_record}
-use Rattle.slink_model.specs.World.{AllHappen, Both, Connects, Differ, Happens, IsHeard, IsOf, IsServed, LinkState,
-    Lists, Numbers, WorldState, empty_window, number_at, opening, pushed_to, sent_on, taking, with_one}
-use Rattle.slink_feed.proofs.Items.{at_number, get_here, get_there, is_within, one_value, same_or_not, set_here,
-    set_there, shows_more, within_is}
+use Rattle.slink_model.specs.World.{AllHappen, Both, Connects, Differ, Happens, IsHeard, IsOf, IsServed, LinkState}
+use Rattle.slink_model.specs.World.{Lists, Numbers, WorldState, empty_window, number_at, opening, pushed_to, sent_on}
+use Rattle.slink_model.specs.World.{taking, with_one}
+use Rattle.slink_feed.proofs.Items.{at_number, get_here, get_there, is_within, one_value, same_or_not, set_here}
+use Rattle.slink_feed.proofs.Items.{set_there, shows_more, within_is}
 use Rattle.slink_model.proofs.Linked.{any, sent_link}
 use Rattle.slink_model.proofs.Outcomes.{place_said}
 use Rattle.slink_model.proofs.Served.{serves_link}
@@ -58,7 +59,7 @@ module _ (places : Places) (first : ℕ) where
   pushed_link w k b windows (Some l) lt t =
       let now : Lists = with_one w.pushed k b in
       let ties : LinkTies places first (λ k. any) w.pushed w.client w.held w.start l.session.state l.first_sent
-          l.to_client = t.1 in (
+      l.to_client = t.1 in (
         t.0,
         record {
           items = ties.items;
@@ -68,18 +69,18 @@ module _ (places : Places) (first : ℕ) where
           within = ties.within;
           places_are = λ i below. elim (same_or_not i k) [
             | inl e ↦ subst (λ y. IsOnWay any first (get_or now y []) (get_or w.held y []) (number_at w.start y)
-            (number_at l.first_sent y) (grant_at l.session.state.grants y) (of_place y ties.items)) (sym e)
+                (number_at l.first_sent y) (grant_at l.session.state.grants y) (of_place y ties.items)) (sym e)
                 (subst (λ F. IsOnWay any first F (get_or w.held k []) (number_at w.start k) (number_at l.first_sent k)
-                    (grant_at l.session.state.grants k) (of_place k ties.items))
-                    (sym (set_here w.pushed k (get_or w.pushed k [] ++ b ∷ []) [] lt))
+                (grant_at l.session.state.grants k) (of_place k ties.items))
+                (sym (set_here w.pushed k (get_or w.pushed k [] ++ b ∷ []) [] lt))
                 (way_pushed any first (get_or w.pushed k []) (get_or w.held k []) (number_at w.start k)
-                    (number_at l.first_sent k) (grant_at l.session.state.grants k) (of_place k ties.items) b
+                (number_at l.first_sent k) (grant_at l.session.state.grants k) (of_place k ties.items) b
                 (subst (λ y. IsOnWay any first (get_or w.pushed y []) (get_or w.held y []) (number_at w.start y)
-                    (number_at l.first_sent y) (grant_at l.session.state.grants y) (of_place y ties.items)) e
-                    (ties.places_are i below))))
+                (number_at l.first_sent y) (grant_at l.session.state.grants y) (of_place y ties.items)) e
+                (ties.places_are i below))))
             | inr ne ↦ subst (λ F. IsOnWay any first F (get_or w.held i []) (number_at w.start i)
-            (number_at l.first_sent i) (grant_at l.session.state.grants i) (of_place i ties.items))
-            (sym (set_there w.pushed k i (get_or w.pushed k [] ++ b ∷ []) [] ne)) (ties.places_are i below)
+                (number_at l.first_sent i) (grant_at l.session.state.grants i) (of_place i ties.items))
+                (sym (set_there w.pushed k i (get_or w.pushed k [] ++ b ∷ []) [] ne)) (ties.places_are i below)
           ];
           room = ties.room;
         },
@@ -90,13 +91,13 @@ module _ (places : Places) (first : ℕ) where
   append_ties w k b of long t =
       let lt : k < length places = is_within places k of.0 of.1 in
       let ring : (v : Window) × (slice_get w.windows k ≡ Some v) × Shows v first (get_or w.pushed k [])
-          × (v.capacity ≤ 1000000) = t.shown k lt in
+      × (v.capacity ≤ 1000000) = t.shown k lt in
       let now : Lists = with_one w.pushed k b in
       let room : k < length w.pushed = omega (arith, lt, t.long.1) in
       let at_k : get_or now k [] ≡ get_or w.pushed k [] ++ b ∷ [] =
-          set_here w.pushed k (get_or w.pushed k [] ++ b ∷ []) [] room in
+      set_here w.pushed k (get_or w.pushed k [] ++ b ∷ []) [] room in
       let at_i : (i : ℕ) → i ≢ k → get_or now i [] ≡ get_or w.pushed i [] =
-          λ i ne. set_there w.pushed k i (get_or w.pushed k [] ++ b ∷ []) [] ne in
+      λ i ne. set_there w.pushed k i (get_or w.pushed k [] ++ b ∷ []) [] ne in
       let windows : List Window = set w.windows k (with_record ring.0 b) in
       let shown : AreShown places first windows now = λ i below. elim (same_or_not i k) [
         | inl e ↦ (
@@ -109,27 +110,30 @@ module _ (places : Places) (first : ℕ) where
           ring.3,
         )
         | inr ne ↦ let other : (v : Window) × (slice_get w.windows i ≡ Some v) × Shows v first (get_or w.pushed i [])
-        × (v.capacity ≤ 1000000) = t.shown i below in
-            (other.0, get_there w.windows k i (with_record ring.0 b) ne ∙ other.1,
-                subst (Shows other.0 first) (sym (at_i i ne)) other.2, other.3)
+            × (v.capacity ≤ 1000000) = t.shown i below in (
+              other.0,
+              get_there w.windows k i (with_record ring.0 b) ne ∙ other.1,
+              subst (Shows other.0 first) (sym (at_i i ne)) other.2,
+              other.3,
+            )
       ] in
       let sound : AreOfPlaces places now = λ i p here. elim (same_or_not i k) [
         | inl e ↦ let one : of.0 ≡ p =
-        one_value (slice_get places k) of.0 p of.1 (subst (λ y. slice_get places y ≡ Some p) e here) in
+            one_value (slice_get places k) of.0 p of.1 (subst (λ y. slice_get places y ≡ Some p) e here) in
             subst (λ y. AreSound p.0 (get_or now y [])) (sym e) (subst (AreSound p.0) (sym at_k)
             (sound_more p.0 (get_or w.pushed k []) b long (subst (λ (q : Fields × Option ℕ). Bears b q.0) one of.2)
-                (t.sound k p (subst (λ y. slice_get places y ≡ Some p) e here))))
+            (t.sound k p (subst (λ y. slice_get places y ≡ Some p) e here))))
         | inr ne ↦ subst (AreSound p.0) (sym (at_i i ne)) (t.sound i p here)
       ] in
       let holds : AllHold places first now w.client.talk.wants w.held w.start = λ i below. elim (same_or_not i k) [
         | inl e ↦ subst (λ y. Holds first (get_or now y []) (next_at w.client.talk.wants y) (get_or w.held y [])
-        (number_at w.start y)) (sym e)
+            (number_at w.start y)) (sym e)
             (subst (λ F. Holds first F (next_at w.client.talk.wants k) (get_or w.held k []) (number_at w.start k))
-                (sym at_k)
+            (sym at_k)
             (holds_pushed first (get_or w.pushed k []) (next_at w.client.talk.wants k) (get_or w.held k [])
-                (number_at w.start k) b (t.holds k lt)))
+            (number_at w.start k) b (t.holds k lt)))
         | inr ne ↦ subst (λ F. Holds first F (next_at w.client.talk.wants i) (get_or w.held i [])
-        (number_at w.start i)) (sym (at_i i ne)) (t.holds i below)
+            (number_at w.start i)) (sym (at_i i ne)) (t.holds i below)
       ] in
       subst (λ (o : Option Window). WorldTies places first (pushed_to w k b o)) (sym ring.1) (record {
         shown = shown;
@@ -137,23 +141,48 @@ module _ (places : Places) (first : ℕ) where
         wanted = t.wanted;
         holds = holds;
         want_first = t.want_first;
-        long = (length-set w.windows k (with_record ring.0 b) ∙ t.long.0,
-            length-set w.pushed k (get_or w.pushed k [] ++ b ∷ []) ∙ t.long.1, t.long.2, t.long.3);
+        long = (
+          length-set w.windows k (with_record ring.0 b) ∙ t.long.0,
+          length-set w.pushed k (get_or w.pushed k [] ++ b ∷ []) ∙ t.long.1,
+          t.long.2,
+          t.long.3,
+        );
         link = pushed_link w k b windows w.link room t.link;
       })
 
   -- Cut
   cut_ties : (w : WorldState) → WorldTies places first w → WorldTies places first (record w { link = None })
-  cut_ties w t = record { shown = t.shown; sound = t.sound; wanted = t.wanted; holds = t.holds;
-      want_first = t.want_first; long = t.long; link = tt }
+  cut_ties w t = record {
+    shown = t.shown;
+    sound = t.sound;
+    wanted = t.wanted;
+    holds = t.holds;
+    want_first = t.want_first;
+    long = t.long;
+    link = tt;
+  }
 
   -- a link that changes alone
   linked_ties : (w : WorldState) (o : Option LinkState) → WorldTies places first w → IsLinkTied places first w o
       → WorldTies places first (record w { link = o })
-  linked_ties w None t l = record { shown = t.shown; sound = t.sound; wanted = t.wanted; holds = t.holds;
-      want_first = t.want_first; long = t.long; link = tt }
-  linked_ties w (Some m) t l = record { shown = t.shown; sound = t.sound; wanted = t.wanted; holds = t.holds;
-      want_first = t.want_first; long = t.long; link = l }
+  linked_ties w None t l = record {
+    shown = t.shown;
+    sound = t.sound;
+    wanted = t.wanted;
+    holds = t.holds;
+    want_first = t.want_first;
+    long = t.long;
+    link = tt;
+  }
+  linked_ties w (Some m) t l = record {
+    shown = t.shown;
+    sound = t.sound;
+    wanted = t.wanted;
+    holds = t.holds;
+    want_first = t.want_first;
+    long = t.long;
+    link = l;
+  }
 
   -- Connect
   pub none_granted : (n k : ℕ) → grant_at (replicate n None) k ≡ None
@@ -202,11 +231,13 @@ module _ (places : Places) (first : ℕ) where
   served_tied w n (Some l) None t tied s = absurd s
   served_tied w n (Some l) (Some m) t tied s =
       let done : HasStream m.session × LinkTies places first (λ k. any) w.pushed w.client w.held w.start
-          m.session.state l.first_sent m.to_client
+      m.session.state l.first_sent m.to_client
       = serves_link places first w.windows w.pushed w.client w.held w.start t.shown t.holds l.first_sent l.session
-          (take n l.to_server) l.to_client m.session m.to_client s.serves tied.0 tied.1 in
-      (done.0, subst (λ (f : Numbers). LinkTies places first (λ k. any) w.pushed w.client w.held w.start
-          m.session.state f m.to_client) (sym s.first_sent) done.1)
+      (take n l.to_server) l.to_client m.session m.to_client s.serves tied.0 tied.1 in (
+        done.0,
+        subst (λ (f : Numbers). LinkTies places first (λ k. any) w.pushed w.client w.held w.start
+            m.session.state f m.to_client) (sym s.first_sent) done.1,
+      )
 
   -- Send
   sent_tied : (w : WorldState) (k : ℕ) (o : Option LinkState) → length places ≤ 16 → k < length places
@@ -216,14 +247,14 @@ module _ (places : Places) (first : ℕ) where
   sent_tied w k (Some l) most lt t tied =
       let q : (p : Fields × Option ℕ) × (slice_get places k ≡ Some p) = within_is places k lt in
       let ring : (v : Window) × (slice_get w.windows k ≡ Some v) × Shows v first (get_or w.pushed k [])
-          × (v.capacity ≤ 1000000) = t.shown k lt in (
+      × (v.capacity ≤ 1000000) = t.shown k lt in (
         (tied.0.0, λ over. tied.0.1 (λ e. over (ap (λ ph. (sent_in ph w.windows l.session.state k).0.phase) e ∙ e))),
         sent_link places first w.windows w.pushed w.client w.held w.start t.shown t.holds l.session.state l.first_sent
             l.to_client k lt most
             (λ v n r here found. let one : ring.0 ≡ v = one_value (slice_get w.windows k) ring.0 v ring.1 here in
             (t.sound k q.0 q.1 (n - first) r
-                (at_number v first (get_or w.pushed k []) n r
-                (subst (λ (x : Window). Shows x first (get_or w.pushed k [])) one ring.2) found)).0) tied.1,
+            (at_number v first (get_or w.pushed k []) n r
+            (subst (λ (x : Window). Shows x first (get_or w.pushed k [])) one ring.2) found)).0) tied.1,
       )
 
   -- ToClient
@@ -264,7 +295,7 @@ module _ (places : Places) (first : ℕ) where
   heard_ties w v n l m differ lacks windows pushed link s t tied =
       let all : l.to_client ≡ take n l.to_client ++ drop n l.to_client = sym (take-append-drop n l.to_client) in
       let c : ClientTies places first w.pushed l.session.state l.first_sent differ t.sound w.client w.held w.start
-          (take n l.to_client ++ drop n l.to_client) = record {
+      (take n l.to_client ++ drop n l.to_client) = record {
         wanted = t.wanted;
         holds = t.holds;
         want_first = t.want_first;
@@ -274,13 +305,13 @@ module _ (places : Places) (first : ℕ) where
             tied.1);
       } in
       let d : ClientTies places first w.pushed l.session.state l.first_sent differ t.sound v.client v.held v.start
-          (drop n l.to_client)
+      (drop n l.to_client)
       = hears_ties places first w.pushed l.session.state l.first_sent differ t.sound (taking w l) (take n l.to_client)
-          (taking v m) (drop n l.to_client) s.hears c in
+      (taking v m) (drop n l.to_client) s.hears c in
       let now : LinkTies places first (λ k. any) w.pushed v.client v.held v.start l.session.state l.first_sent
-          (drop n l.to_client)
+      (drop n l.to_client)
       = relaxed (λ k x. first + length (get_or w.pushed k []) < x + 2 ^ 24) w.pushed v.client v.held v.start
-          l.session.state l.first_sent (drop n l.to_client) d.link in
+      l.session.state l.first_sent (drop n l.to_client) d.link in
       record {
         shown = subst (λ (x : List Window). AreShown places first x v.pushed) (sym windows)
             (subst (AreShown places first w.windows) (sym pushed) t.shown);
@@ -294,11 +325,11 @@ module _ (places : Places) (first : ℕ) where
           subst (λ (x : Lists). LinkTies places first (λ k. any) x v.client v.held v.start m.session.state m.first_sent
               m.to_client) (sym pushed)
               (subst (λ (x : Standing). LinkTies places first (λ k. any) w.pushed v.client v.held v.start x.state
-                  m.first_sent m.to_client) (sym s.session)
+              m.first_sent m.to_client) (sym s.session)
               (subst (λ (x : Numbers). LinkTies places first (λ k. any) w.pushed v.client v.held v.start
-                  l.session.state x m.to_client) (sym s.first_sent)
+              l.session.state x m.to_client) (sym s.first_sent)
               (subst (LinkTies places first (λ k. any) w.pushed v.client v.held v.start l.session.state l.first_sent)
-                  (sym s.left) now))),
+              (sym s.left) now))),
         );
       }
 
@@ -394,17 +425,23 @@ opening_ties setup room =
       holds = λ k lt. subst (λ (o : Option ℕ). Holds setup.first (get_or (map (λ _. []) ps) k [])
           (next_at (wants_of ps) k) (get_or (map (λ _. []) ps) k []) o) (sym (none_number ps k)) (nothing_at ps k);
       want_first = λ k p here unheld. opening_first ps (16 - n) k p here;
-      long = (length-map ps (empty_window setup), length-map ps (λ _. []), length-map ps (λ _. []),
-          length-map ps (λ _. None));
+      long = (
+        length-map ps (empty_window setup),
+        length-map ps (λ _. []),
+        length-map ps (λ _. []),
+        length-map ps (λ _. None),
+      );
       link = tt;
     }
 
 pub each_of : (places : Places) (steps : List Step) → All (IsOf places) steps → All IsSound steps → AreOf places steps
 each_of places [] of sound = tt
-each_of places (step ∷ steps) of sound =
-    (of 0 step (omega arith), sound 0 step (omega arith),
-        each_of places steps (λ k d lt. of (suc k) d (omega (arith, lt)))
-        (λ k d lt. sound (suc k) d (omega (arith, lt))))
+each_of places (step ∷ steps) of sound = (
+  of 0 step (omega arith),
+  sound 0 step (omega arith),
+  each_of places steps (λ k d lt. of (suc k) d (omega (arith, lt)))
+      (λ k d lt. sound (suc k) d (omega (arith, lt))),
+)
 
 -- each record of a schedule has 512 bytes, one after another
 pub schedule_is : (setup : Setup) (steps : List Step) → length setup.places.items ≤ 16 → setup.capacity ≤ 1000000

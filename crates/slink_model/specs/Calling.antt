@@ -25,8 +25,10 @@ IsUnanswered l m = (m.session.state ≡ l.session.state) × (m.to_client ≡ [])
 pub record IsAnswered (w : WorldState) (k : ℕ) (l m : LinkState) : Type 0 where
   pub reply : Reply
   pub said : m.to_client ≡ reply_bytes reply
-  pub number : asked w.windows k w.client.talk.mode (next_at w.client.talk.wants k) l.session.state ≡ (m.session.state,
-      reply)
+  pub number : asked w.windows k w.client.talk.mode (next_at w.client.talk.wants k) l.session.state ≡ (
+    m.session.state,
+    reply,
+  )
   pub behind : (start : ℕ) (ring : Window) → number_at w.start k ≡ Some start → slice_get w.windows k ≡ Some ring
       → granted w.client.talk.mode k (resumed ring (start + length (slice_index_or w.held k []))) l.session.state
       ≡ (m.session.state, reply)

@@ -2,9 +2,9 @@
 -- records that were pushed. A link has what the client said, what the server sent, in whole replies and packets, and
 -- how
 -- many bytes of each were taken. There is no ring, no buffer, and no part of a line, a reply or a packet.
-use Rattle.std.specs.Prelude.{◌≡◌, ℕ, Bool, true, false, not, min, ◌+◌, ◌-◌, ◌*◌, ◌%◌, ◌^◌, ◌≤◌, ◌&&◌, List, [], ◌∷◌,
-    ◌++◌, length, map, take, drop, replicate, Option, Some, None, option_map, nat_le, unwrap_or, slice_get,
-    if◌then◌else◌}
+use Rattle.std.specs.Prelude.{◌≡◌, ℕ, Bool, true, false, not, min, ◌+◌, ◌-◌, ◌*◌, ◌%◌, ◌^◌, ◌≤◌, ◌&&◌, List, [], ◌∷◌}
+use Rattle.std.specs.Prelude.{◌++◌, length, map, take, drop, replicate, Option, Some, None, option_map, nat_le}
+use Rattle.std.specs.Prelude.{unwrap_or, slice_get, if◌then◌else◌}
 use Rattle.slink_wire.specs.Lines.{IsHeld}
 use Rattle.slink_wire.specs.Place.{Fields}
 use Rattle.slink_wire.specs.declared.reply.Reply.{Reply as ServerReply}
@@ -26,8 +26,8 @@ use Rattle.slink_feed.specs.Listening.{IsLinked}
 use Rattle.slink_feed.specs.Session.{Grants, State, asked, at, chosen, grant_at, sent}
 use Rattle.slink_model.specs.Ties.{Item, Accepted, Refused, Greeted, Carried, Finished, item_bytes, items_of, way_bytes}
 use Rattle.slink_feed.specs.Window.{Window, record_at, window}
-use Rattle.slink_model.specs.World.{LinkState, Lists, Numbers, WorldState, first_after, number_at, said, with_first,
-    with_one}
+use Rattle.slink_model.specs.World.{LinkState, Lists, Numbers, WorldState, first_after, number_at, said, with_first}
+use Rattle.slink_model.specs.World.{with_one}
 
 -- a link: where its session stands, the number of the first packet that was sent of each place; the bytes of all lines
 -- that the client said, and how many of them the server took; all that the server sent, and how many bytes of it the
@@ -52,8 +52,12 @@ pub record Counted : Type 0 where
 
 -- What a server shows of a place: the last of its records, as many as it keeps.
 abbrev pub shown_of : Setup → Fields × Option ℕ → List (List ℕ) → Window
-shown_of setup p pushed = record { place = p.0; capacity = setup.capacity; records = window setup.capacity pushed;
-    next = setup.first + length pushed }
+shown_of setup p pushed = record {
+  place = p.0;
+  capacity = setup.capacity;
+  records = window setup.capacity pushed;
+  next = setup.first + length pushed;
+}
 
 abbrev pub shown_all : Setup → List (Fields × Option ℕ) → Lists → List Window
 shown_all setup [] pushed = []
@@ -190,8 +194,14 @@ heard_by n c (Some l) = record c {
 }
 
 abbrev pub new_link : List ℕ → CountedLink
-new_link said = record { session = at Fresh (replicate 16 None); first_sent = replicate 16 None; said = said;
-    taken = 0; sent = []; delivered = 0 }
+new_link said = record {
+  session = at Fresh (replicate 16 None);
+  first_sent = replicate 16 None;
+  said = said;
+  taken = 0;
+  sent = [];
+  delivered = 0;
+}
 
 -- what a step makes of a counted world
 abbrev pub counted_step : Setup → Counted → Step → Counted

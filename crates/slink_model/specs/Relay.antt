@@ -1,6 +1,6 @@
 -- A series that is packed, sent through a schedule, and put together from what the client holds.
-use Rattle.std.specs.Prelude.{◌≡◌, ◌≢◌, ◌<◌, ℕ, List, [], ◌∷◌, ◌++◌, Option, Some, None, Result, Ok, Err,
-    slice_index_or, slice_range}
+use Rattle.std.specs.Prelude.{◌≡◌, ◌≢◌, ◌<◌, ℕ, List, [], ◌∷◌, ◌++◌, Option, Some, None, Result, Ok, Err}
+use Rattle.std.specs.Prelude.{slice_index_or, slice_range}
 use Rattle.slink_wire.specs.Place.{Fields}
 use Rattle.slink_model.specs.declared.world.Setup.{Setup}
 use Rattle.slink_model.specs.declared.world.Step.{Step}

@@ -1,6 +1,6 @@
 -- A code fills its field, and is what stands there before the first space.
-use Rattle.std.proofs.Common.{◌≡◌, ℕ, ◌-◌, inl, inr, zero, suc, refl, sym, ap, ◌∙◌, subst, true, false, not, ◌==◌, ◌&&◌,
-    List, [], ◌∷◌, ◌++◌, length, replicate, append-nil}
+use Rattle.std.proofs.Common.{◌≡◌, ℕ, ◌-◌, inl, inr, zero, suc, refl, sym, ap, ◌∙◌, subst, true, false, not, ◌==◌, ◌&&◌}
+use Rattle.std.proofs.Common.{List, [], ◌∷◌, ◌++◌, length, replicate, append-nil}
 use Rattle.std.specs.List.{list_all, position_or_len}
 use Rattle.std.specs.Char.{is_ascii_alphanumeric}
 use Rattle.std.proofs.lemmas.Bool.Decides.{eqb_tells}
@@ -23,7 +23,7 @@ pub without : (c : ℕ) → is_ascii_alphanumeric c ≡ false → (code : List �
 without c f [] h = refl
 without c f (b ∷ bs) h =
     let parts : (is_ascii_alphanumeric b ≡ true) × (list_all is_ascii_alphanumeric bs ≡ true) =
-        both (is_ascii_alphanumeric b) (list_all is_ascii_alphanumeric bs) h in
+    both (is_ascii_alphanumeric b) (list_all is_ascii_alphanumeric bs) h in
     ap (λ v. v && list_all (λ x. not (x == c)) bs) (other_byte c f b parts.0) ∙ without c f bs parts.1
 
 code_in-spaces : (code : List ℕ) (n : ℕ) → list_all is_ascii_alphanumeric code ≡ true
@@ -38,8 +38,10 @@ code_in-filled width code h =
     (sym (code_in-spaces code (width - length code) h.2))
 
 pub fills : (width : ℕ) (code : List ℕ) → IsCode width code → IsField width (filled width code)
-fills width code h = (subst (IsCode width) (sym (code_in-filled width code h)) h,
-    ap (filled width) (code_in-filled width code h))
+fills width code h = (
+  subst (IsCode width) (sym (code_in-filled width code h)) h,
+  ap (filled width) (code_in-filled width code h),
+)
 
 pub field_of : (width : ℕ) (field code : List ℕ) → code ≡ code_in field → IsCode width code → filled width code ≡ field
     → IsField width field
@@ -49,9 +51,13 @@ field_of width field code is p q = (subst (IsCode width) is p, ap (filled width)
 spelled_parts : (text sta net : List ℕ) → text ≡ net ++ 95 ∷ sta → Lacks 95 net → (p : Fields) → SpellsPlace text p
     → IsCode 5 sta × IsCode 2 net × (p ≡ fields_of sta net)
 spelled_parts text sta net e lacks p h =
-    let same : (h.1 ≡ net) × (h.0 ≡ sta) = one_cut 95 h.1 h.0 net sta (without 95 refl h.1 h.3.2) lacks (sym h.4 ∙ e) in
-    (subst (IsCode 5) same.1 h.2, subst (IsCode 2) same.0 h.3, h.5
-        ∙ (ap (λ s. fields_of s h.1) same.1 ∙ ap (fields_of sta) same.0))
+    let same : (h.1 ≡ net) × (h.0 ≡ sta) =
+    one_cut 95 h.1 h.0 net sta (without 95 refl h.1 h.3.2) lacks (sym h.4 ∙ e) in (
+      subst (IsCode 5) same.1 h.2,
+      subst (IsCode 2) same.0 h.3,
+      h.5
+          ∙ (ap (λ s. fields_of s h.1) same.1 ∙ ap (fields_of sta) same.0),
+    )
 
 -- what is answered for those parts is every place that is spelled
 pub all_spelled : (r : Result Fields BadPlace) (text sta net : List ℕ) → text ≡ net ++ 95 ∷ sta → Lacks 95 net

@@ -1,6 +1,7 @@
 -- Where a list is cut at the first element that passes a test.
-use Rattle.std.proofs.Common.{◌≡◌, ℕ, ◌+◌, ◌<◌, suc, refl, sym, ap, ◌∙◌, arith, Bool, true, false, not, cond, ◌&&◌,
-    List, [], ◌∷◌, ◌++◌, length, inl, inr, ◌≤◌, ◌-◌, ◌==◌, subst, Some, None, take, drop, get_or, take-append-drop}
+use Rattle.std.proofs.Common.{◌≡◌, ℕ, ◌+◌, ◌<◌, suc, refl, sym, ap, ◌∙◌, arith, Bool, true, false, not, cond, ◌&&◌}
+use Rattle.std.proofs.Common.{List, [], ◌∷◌, ◌++◌, length, inl, inr, ◌≤◌, ◌-◌, ◌==◌, subst, Some, None, take, drop}
+use Rattle.std.proofs.Common.{get_or, take-append-drop}
 use Rattle.std.specs.List.{list_all, position_or_len, prefix_len, before_first, after_first, position}
 use Rattle.std.proofs.Math.Numerals.{one-add}
 use Rattle.std.proofs.lemmas.List.{drop_more, take_at, drop_at, take_all, take_rest}
@@ -18,7 +19,7 @@ pub first_at : (p : ℕ → Bool) (xs : List ℕ) (y : ℕ) (ys : List ℕ) → 
 first_at p [] y ys h t = ap (λ v. cond (not v) (1 + prefix_len (λ x. not (p x)) ys) 0) t
 first_at p (x ∷ xs) y ys h t =
     let fails : (not (p x) ≡ true) × (list_all (λ z. not (p z)) xs ≡ true) =
-        both (not (p x)) (list_all (λ z. not (p z)) xs) h in
+    both (not (p x)) (list_all (λ z. not (p z)) xs) h in
     let rest : position_or_len p (xs ++ y ∷ ys) ≡ length xs = first_at p xs y ys fails.1 t in
     ap (λ v. cond v (1 + position_or_len p (xs ++ y ∷ ys)) 0) fails.0 ∙ omega (arith, rest)
 
@@ -27,7 +28,7 @@ pub none_at : (p : ℕ → Bool) (xs : List ℕ) → list_all (λ x. not (p x)) 
 none_at p [] h = refl
 none_at p (x ∷ xs) h =
     let fails : (not (p x) ≡ true) × (list_all (λ z. not (p z)) xs ≡ true) =
-        both (not (p x)) (list_all (λ z. not (p z)) xs) h in
+    both (not (p x)) (list_all (λ z. not (p z)) xs) h in
     let rest : position_or_len p xs ≡ length xs = none_at p xs fails.1 in
     ap (λ v. cond v (1 + position_or_len p xs) 0) fails.0 ∙ omega (arith, rest)
 
@@ -49,7 +50,7 @@ pub place_or_all : (p : ℕ → Bool) (xs : List ℕ) → unwrap_or (position p 
 place_or_all p xs = elim (leb_tells (suc (position_or_len p xs)) (length xs)) [
   | inl lt ↦ ap (λ t. unwrap_or (cond t (Some (position_or_len p xs)) None) (length xs)) lt.0
   | inr ge ↦ ap (λ t. unwrap_or (cond t (Some (position_or_len p xs)) None) (length xs)) ge.0
-  ∙ omega (arith, place_bound p xs, ge.1)
+      ∙ omega (arith, place_bound p xs, ge.1)
 ]
 
 -- the elements before the first that passes fail
@@ -58,10 +59,10 @@ before_fails p [] = refl
 before_fails p (x ∷ xs) =
     elim (p x) as (λ t. p x ≡ t → list_all (λ z. not (p z)) (take (cond (not t) (1 + position_or_len p xs) 0) (x ∷ xs))
     ≡ true) [
-  | true ↦ λ e. refl
-  | false ↦ λ e. rw one-add (ap (λ t. not t && list_all (λ z. not (p z)) (take (position_or_len p xs) xs)) e
-  ∙ before_fails p xs)
-] refl
+      | true ↦ λ e. refl
+      | false ↦ λ e. rw one-add (ap (λ t. not t && list_all (λ z. not (p z)) (take (position_or_len p xs) xs)) e
+          ∙ before_fails p xs)
+    ] refl
 
 -- no such byte stands there
 abbrev pub Lacks : ℕ → List ℕ → Type 0
@@ -77,7 +78,7 @@ pub byte_at : (bytes : List ℕ) (byte n : ℕ) → n ≡ position_or_len (λ b.
     → get_or bytes n 0 ≡ byte
 byte_at bytes byte n at lt =
     let passes : (get_or bytes (position_or_len (λ b. b == byte) bytes) 0 == byte) ≡ true =
-        passes_at_first (λ b. b == byte) bytes 0 (omega arith) in
+    passes_at_first (λ b. b == byte) bytes 0 (omega arith) in
     elim (eqb_tells (get_or bytes (position_or_len (λ b. b == byte) bytes) 0) byte) [
       | inl same ↦ ap (λ k. get_or bytes k 0) at ∙ same.1
       | inr other ↦ absurd (let e : true ≡ false = sym passes ∙ other.0 in cc e)
@@ -98,14 +99,14 @@ pub one_cut : (byte : ℕ) (xs ys xs' ys' : List ℕ) → Lacks byte xs → Lack
     → xs ++ byte ∷ ys ≡ xs' ++ byte ∷ ys' → (xs ≡ xs') × (ys ≡ ys')
 one_cut byte xs ys xs' ys' h h' e =
     let yes : (byte == byte) ≡ true =
-        elim (eqb_tells byte byte) [ inl same ↦ same.0 | inr other ↦ absurd (other.1 refl) ] in
+    elim (eqb_tells byte byte) [ inl same ↦ same.0 | inr other ↦ absurd (other.1 refl) ] in
     let here : position_or_len (λ b. b == byte) (xs ++ byte ∷ ys) ≡ length xs =
-        first_at (λ b. b == byte) xs byte ys h yes in
+    first_at (λ b. b == byte) xs byte ys h yes in
     let there : position_or_len (λ b. b == byte) (xs' ++ byte ∷ ys') ≡ length xs' =
-        first_at (λ b. b == byte) xs' byte ys' h' yes in
+    first_at (λ b. b == byte) xs' byte ys' h' yes in
     let long : length xs ≡ length xs' = sym here ∙ (ap (position_or_len (λ b. b == byte)) e ∙ there) in
     let front : xs ≡ xs' = sym (take_at xs (byte ∷ ys) (length xs) refl)
-        ∙ (ap (take (length xs)) e ∙ take_at xs' (byte ∷ ys') (length xs) (sym long)) in
+    ∙ (ap (take (length xs)) e ∙ take_at xs' (byte ∷ ys') (length xs) (sym long)) in
     let back : byte ∷ ys ≡ byte ∷ ys' = sym (drop_at xs (byte ∷ ys) (length xs) refl)
-        ∙ (ap (drop (length xs)) e ∙ drop_at xs' (byte ∷ ys') (length xs) (sym long)) in
+    ∙ (ap (drop (length xs)) e ∙ drop_at xs' (byte ∷ ys') (length xs) (sym long)) in
     (front, cc)

@@ -1,10 +1,11 @@
 -- Digits to the base sixteen.
-use Rattle.std.proofs.Common.{◌≡◌, ℕ, ◌+◌, ◌-◌, ◌*◌, ◌/◌, ◌%◌, ◌^◌, ◌<◌, ◌≤◌, zero, suc, refl, sym, ap, ◌∙◌, arith, ◌⊎◌,
-    inl, inr, cond, List, [], ◌∷◌, ◌++◌, length, get_or, take, map, nat_lt, if◌then◌else◌, length-append, add-one}
+use Rattle.std.proofs.Common.{◌≡◌, ℕ, ◌+◌, ◌-◌, ◌*◌, ◌/◌, ◌%◌, ◌^◌, ◌<◌, ◌≤◌, zero, suc, refl, sym, ap, ◌∙◌, arith, ◌⊎◌}
+use Rattle.std.proofs.Common.{inl, inr, cond, List, [], ◌∷◌, ◌++◌, length, get_or, take, map, nat_lt, if◌then◌else◌}
+use Rattle.std.proofs.Common.{length-append, add-one}
 use Rattle.std.specs.Char.{to_ascii_uppercase}
 use Rattle.std.proofs.lemmas.Bool.Decides.{leb_tells}
-use Rattle.std.proofs.lemmas.List.{map_push, same_from_push, take_more, take_all, get_or_push, get_or_append_left,
-    get_or-map}
+use Rattle.std.proofs.lemmas.List.{map_push, same_from_push, take_more, take_all, get_or_push, get_or_append_left}
+use Rattle.std.proofs.lemmas.List.{get_or-map}
 use Rattle.std.proofs.Math.Nat.{pow-suc, pow-le-pow_right}
 use Rattle.slink_wire.specs.Hexadecimal.{SaysNumber, digit_byte, hexadecimal}
 
@@ -30,8 +31,11 @@ hexadecimal_more k n d h =
 pub length-hexadecimal : (k n : ℕ) → length (hexadecimal k n) ≡ k
 unfolding hexadecimal
 length-hexadecimal zero n = refl
-length-hexadecimal (suc k) n = omega (arith, length-append (hexadecimal k (n / 16)) (digit_byte (n % 16) ∷ []),
-    length-hexadecimal k (n / 16))
+length-hexadecimal (suc k) n = omega (
+  arith,
+  length-append (hexadecimal k (n / 16)) (digit_byte (n % 16) ∷ []),
+  length-hexadecimal k (n / 16),
+)
 
 -- the two rows of digits
 digit_rows : (d : ℕ) → ((d < 10) × (digit_byte d ≡ 48 + d)) ⊎ ((10 ≤ d) × (digit_byte d ≡ 55 + d))
@@ -71,12 +75,12 @@ unfolding hexadecimal
 one_number zero n m hn hm same = omega arith
 one_number (suc k) n m hn hm same =
     let parts : (hexadecimal k (n / 16) ≡ hexadecimal k (m / 16)) × (digit_byte (n % 16) ≡ digit_byte (m % 16)) =
-        same_from_push (hexadecimal k (n / 16)) (hexadecimal k (m / 16)) (digit_byte (n % 16)) (digit_byte (m % 16))
-        same in
+    same_from_push (hexadecimal k (n / 16)) (hexadecimal k (m / 16)) (digit_byte (n % 16)) (digit_byte (m % 16))
+    same in
     let low : n % 16 ≡ m % 16 = one_digit (n % 16) (m % 16) (omega arith) (omega arith) parts.1 in
     let wide : 16 ^ suc k ≡ 16 ^ k * 16 = pow-suc 16 k in
     let high : n / 16 ≡ m / 16 =
-        one_number k (n / 16) (m / 16) (omega (arith, wide, hn)) (omega (arith, wide, hm)) parts.0 in
+    one_number k (n / 16) (m / 16) (omega (arith, wide, hn)) (omega (arith, wide, hm)) parts.0 in
     omega (arith, low, high)
 
 pub says_one : (digits : List ℕ) (n m : ℕ) → SaysNumber digits n → SaysNumber digits m → n ≡ m
@@ -89,11 +93,18 @@ digit_within zero n i h = absurd (omega arith)
 digit_within (suc k) n i h = elim (leb_tells (suc i) k) [
   | inl before ↦
       let earlier : (d : ℕ) × (d < 16) × (get_or (hexadecimal k (n / 16)) i 0 ≡ digit_byte d) =
-          digit_within k (n / 16) i before.1 in
-      (earlier.0, earlier.1, get_or_append_left (hexadecimal k (n / 16)) (digit_byte (n % 16) ∷ []) 0 i
-          (omega (arith, length-hexadecimal k (n / 16), before.1)) ∙ earlier.2)
-  | inr last ↦ (n % 16, omega arith, get_or_push (hexadecimal k (n / 16)) (digit_byte (n % 16)) 0 i
-  (omega (arith, length-hexadecimal k (n / 16), last.1)))
+      digit_within k (n / 16) i before.1 in (
+        earlier.0,
+        earlier.1,
+        get_or_append_left (hexadecimal k (n / 16)) (digit_byte (n % 16) ∷ []) 0 i
+            (omega (arith, length-hexadecimal k (n / 16), before.1)) ∙ earlier.2,
+      )
+  | inr last ↦ (
+    n % 16,
+    omega arith,
+    get_or_push (hexadecimal k (n / 16)) (digit_byte (n % 16)) 0 i
+        (omega (arith, length-hexadecimal k (n / 16), last.1)),
+  )
 ]
 
 pub none_said : (digits : List ℕ) (i : ℕ) → i < length digits
@@ -101,7 +112,7 @@ pub none_said : (digits : List ℕ) (i : ℕ) → i < length digits
     → (n : ℕ) → SaysNumber digits n → ⊥
 none_said digits i lt other n h =
     let d : (d : ℕ) × (d < 16) × (get_or (hexadecimal (length digits) n) i 0 ≡ digit_byte d) =
-        digit_within (length digits) n i lt in
+    digit_within (length digits) n i lt in
     other d.0 d.1 (sym (get_or-map to_ascii_uppercase digits i 0 0 lt) ∙ (ap (λ ds. get_or ds i 0) h.1 ∙ d.2))
 
 -- the digits so far, and one more
@@ -124,8 +135,11 @@ reads_more digits i n d lt h digit r = record {
 }
 
 pub reads_all : (digits : List ℕ) (n : ℕ) → Reads digits (length digits) n → SaysNumber digits n
-reads_all digits n r = (r.small, ap (map to_ascii_uppercase) (sym (take_all (length digits) digits (omega arith)))
-    ∙ r.said)
+reads_all digits n r = (
+  r.small,
+  ap (map to_ascii_uppercase) (sym (take_all (length digits) digits (omega arith)))
+      ∙ r.said,
+)
 
 -- a number of at most six digits fits
 pub reads_fits : (digits : List ℕ) (i n d : ℕ) → i < 6 → d < 16 → Reads digits i n → n * 16 + d < 2 ^ 24

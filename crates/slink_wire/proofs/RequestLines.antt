@@ -1,6 +1,6 @@
 -- The line of a request stands in a stream as it is.
-use Rattle.std.proofs.Common.{◌≡◌, ℕ, ◌+◌, ◌/◌, ◌%◌, ◌≤◌, inl, inr, zero, suc, refl, ap, ◌∙◌, arith, true, not, ◌==◌,
-    ◌&&◌, List, [], ◌∷◌, ◌++◌, length, length-append, codes, Option, Some, None}
+use Rattle.std.proofs.Common.{◌≡◌, ℕ, ◌+◌, ◌/◌, ◌%◌, ◌≤◌, inl, inr, zero, suc, refl, ap, ◌∙◌, arith, true, not, ◌==◌}
+use Rattle.std.proofs.Common.{◌&&◌, List, [], ◌∷◌, ◌++◌, length, length-append, codes, Option, Some, None}
 use Rattle.std.specs.List.{list_all}
 use Rattle.std.proofs.lemmas.Bool.Decides.{eqb_tells}
 use Rattle.std.proofs.lemmas.List.Folds.{list_all-append}
@@ -25,8 +25,10 @@ unfolding hexadecimal
 digits_lack zero n = refl
 digits_lack (suc k) n =
     let other : not (digit_byte (n % 16) == 13) ≡ true =
-        elim (eqb_tells (digit_byte (n % 16)) 13) [ inl same ↦ absurd (omega (arith, same.1, digit_above (n % 16)))
-        | inr other ↦ ap not other.0 ] in
+    elim (eqb_tells (digit_byte (n % 16)) 13) [
+      | inl same ↦ absurd (omega (arith, same.1, digit_above (n % 16)))
+      | inr other ↦ ap not other.0
+    ] in
     lacks_both (hexadecimal k (n / 16)) (digit_byte (n % 16) ∷ []) (digits_lack k (n / 16)) (ap (λ t. t && true) other)
 
 number_lacks : (number : Option ℕ) → Lacks 13 (number_bytes number)
@@ -43,7 +45,7 @@ station_line place p q =
     let sta : List ℕ = code_in place.station in
     let net : List ℕ = code_in place.network in
     let long : length ((sta ++ 32 ∷ []) ++ net) ≡ length sta + 1 + length net = length-append (sta ++ 32 ∷ []) net
-        ∙ ap (λ n. n + length net) (length-append sta (32 ∷ [])) in
+    ∙ ap (λ n. n + length net) (length-append sta (32 ∷ [])) in
     record {
       some = omega arith;
       short = omega (arith, long, p.0.1, q.0.1);

@@ -1,6 +1,7 @@
 -- The line of a request is its command.
-use Rattle.std.proofs.Common.{◌≡◌, ℕ, ◌≤◌, ◌<◌, ◌/◌, ◌%◌, ◌^◌, zero, suc, inl, inr, refl, sym, subst, ap, ◌∙◌, arith,
-    not, true, ◌==◌, ◌&&◌, Option, Some, None, List, [], ◌∷◌, ◌++◌, length, append_assoc, codes}
+use Rattle.std.proofs.Common.{◌≡◌, ℕ, ◌≤◌, ◌<◌, ◌/◌, ◌%◌, ◌^◌, zero, suc, inl, inr, refl, sym, subst, ap, ◌∙◌, arith}
+use Rattle.std.proofs.Common.{not, true, ◌==◌, ◌&&◌, Option, Some, None, List, [], ◌∷◌, ◌++◌, length, append_assoc}
+use Rattle.std.proofs.Common.{codes}
 use Rattle.std.proofs.lemmas.Bool.Decides.{eqb_tells}
 use Rattle.std.proofs.lemmas.List.Folds.{list_all-append}
 use Rattle.slink_wire.specs.declared.command.Command.TheVariants.{Station, Data, Fetch, End}
@@ -19,8 +20,10 @@ unfolding hexadecimal
 digits_lack zero n = refl
 digits_lack (suc k) n =
     let other : not (digit_byte (n % 16) == 32) ≡ true =
-        elim (eqb_tells (digit_byte (n % 16)) 32) [ inl same ↦ absurd (omega (arith, same.1, digit_above (n % 16)))
-        | inr other ↦ ap not other.0 ] in
+    elim (eqb_tells (digit_byte (n % 16)) 32) [
+      | inl same ↦ absurd (omega (arith, same.1, digit_above (n % 16)))
+      | inr other ↦ ap not other.0
+    ] in
     list_all-append (λ b. not (b == 32)) (hexadecimal k (n / 16)) (digit_byte (n % 16) ∷ [])
     ∙ (ap (λ t. t && (not (digit_byte (n % 16) == 32) && true)) (digits_lack k (n / 16)) ∙ ap (λ t. t && true) other)
 
@@ -53,10 +56,10 @@ station_said station network p q =
     let sta : List ℕ = code_in station in
     let net : List ℕ = code_in network in
     let behind : words (sta ++ 32 ∷ net) ≡ sta ∷ net ∷ [] = words_then sta net p.0.0 (without 32 refl sta p.0.2)
-        ∙ ap (λ ws. sta ∷ ws) (words_last net q.0.0 (without 32 refl net q.0.2)) in
+    ∙ ap (λ ws. sta ∷ ws) (words_last net q.0.0 (without 32 refl net q.0.2)) in
     let line : words (codes "STATION " ++ sta ++ codes " " ++ net) ≡ codes "STATION" ∷ sta ∷ net ∷ [] =
     ap (λ x. words (codes "STATION " ++ x)) (append_assoc sta (32 ∷ []) net)
-        ∙ (words_then (codes "STATION") (sta ++ 32 ∷ net) (omega arith) refl
-        ∙ ap (λ ws. codes "STATION" ∷ ws) behind) in
+    ∙ (words_then (codes "STATION") (sta ++ 32 ∷ net) (omega arith) refl
+    ∙ ap (λ ws. codes "STATION" ∷ ws) behind) in
     subst (λ ws. IsRow (Station station (Some network)) (folded ws)) (sym line)
-        (inl (sta, net, p.0, q.0, sym p.1, sym q.1, refl))
+    (inl (sta, net, p.0, q.0, sym p.1, sym q.1, refl))

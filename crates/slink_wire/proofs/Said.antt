@@ -1,9 +1,9 @@
 -- Words say at most one command.
-use Rattle.std.proofs.Common.{◌≡◌, ◌≢◌, inl, inr, ℕ, ap, sym, subst, ◌∙◌, refl, ◌+◌, ◌*◌, arith, length, get_or, List,
-    [], ◌∷◌, Option, Some, None}
+use Rattle.std.proofs.Common.{◌≡◌, ◌≢◌, inl, inr, ℕ, ap, sym, subst, ◌∙◌, refl, ◌+◌, ◌*◌, arith, length, get_or, List}
+use Rattle.std.proofs.Common.{[], ◌∷◌, Option, Some, None}
 use Rattle.slink_wire.specs.declared.command.Command.{Command}
-use Rattle.slink_wire.specs.declared.command.Command.TheVariants.{Hello, Station, SelectAll, Data, Fetch, End, Bye,
-    Other}
+use Rattle.slink_wire.specs.declared.command.Command.TheVariants.{Hello, Station, SelectAll, Data, Fetch, End, Bye}
+use Rattle.slink_wire.specs.declared.command.Command.TheVariants.{Other}
 use Rattle.slink_wire.specs.declared.keyword.Keyword.{Keyword}
 use Rattle.slink_wire.specs.declared.keyword.Keyword.TheVariants as keyword
 use Rattle.slink_wire.specs.Hexadecimal.{SaysNumber}
@@ -83,7 +83,7 @@ said_alike ws (Station s None) (Station t (Some m)) k p q = cc
 said_alike ws (Station s (Some n)) (Station t None) k p q = cc
 said_alike ws (Station s (Some n)) (Station t (Some m)) k p q = (let e : p.0 ≡ q.0 = cc in let f : p.1 ≡ q.1 = cc in
     ap (λ x. Station x (Some n)) (p.4 ∙ (ap (filled 5) e ∙ sym q.4))
-        ∙ ap (λ x. Station t (Some x)) (p.5 ∙ (ap (filled 2) f ∙ sym q.5)))
+    ∙ ap (λ x. Station t (Some x)) (p.5 ∙ (ap (filled 2) f ∙ sym q.5)))
 said_alike ws SelectAll SelectAll k p q = refl
 said_alike ws (Data None) (Data None) k p q = refl
 said_alike ws (Data None) (Data (Some m)) k p q = cc

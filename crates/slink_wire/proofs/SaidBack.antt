@@ -1,6 +1,7 @@
 -- Lines that are said are spelled again, and of a front of the stream a front of them.
-use Rattle.std.proofs.Common.{◌≡◌, ℕ, ◌<◌, ◌≤◌, inl, inr, suc, refl, sym, ap, subst, ◌∙◌, arith, Bool, true, false, not,
-    cond, ◌==◌, ◌&&◌, nat_lt, if◌then◌else◌, List, [], ◌∷◌, ◌++◌, append-nil, append_assoc, length, length-append}
+use Rattle.std.proofs.Common.{◌≡◌, ℕ, ◌<◌, ◌≤◌, inl, inr, suc, refl, sym, ap, subst, ◌∙◌, arith, Bool, true, false, not}
+use Rattle.std.proofs.Common.{cond, ◌==◌, ◌&&◌, nat_lt, if◌then◌else◌, List, [], ◌∷◌, ◌++◌, append-nil, append_assoc}
+use Rattle.std.proofs.Common.{length, length-append}
 use Rattle.std.specs.List.{list_all, onto_first, slice_split}
 use Rattle.std.proofs.lemmas.Bool.Decides.{eqb_tells, leb_tells}
 use Rattle.std.proofs.lemmas.List.{append_cancel_left}
@@ -34,18 +35,18 @@ split_then : (line rest : List ℕ) → Lacks 13 line
 split_then [] rest h = refl
 split_then (x ∷ xs) rest h =
     let parts : (not (x == 13) ≡ true) × (list_all (λ b. not (b == 13)) xs ≡ true) =
-        both (not (x == 13)) (list_all (λ b. not (b == 13)) xs) h in
+    both (not (x == 13)) (list_all (λ b. not (b == 13)) xs) h in
     ap (λ t. cond t ([] ∷ slice_split (λ b. b == 13) (xs ++ 13 ∷ rest))
-        (onto_first x (slice_split (λ b. b == 13) (xs ++ 13 ∷ rest)))) (not_true (x == 13) parts.0)
+    (onto_first x (slice_split (λ b. b == 13) (xs ++ 13 ∷ rest)))) (not_true (x == 13) parts.0)
     ∙ ap (onto_first x) (split_then xs rest parts.1)
 
 split_none : (line : List ℕ) → Lacks 13 line → slice_split (λ b. b == 13) line ≡ line ∷ []
 split_none [] h = refl
 split_none (x ∷ xs) h =
     let parts : (not (x == 13) ≡ true) × (list_all (λ b. not (b == 13)) xs ≡ true) =
-        both (not (x == 13)) (list_all (λ b. not (b == 13)) xs) h in
+    both (not (x == 13)) (list_all (λ b. not (b == 13)) xs) h in
     ap (λ t. cond t ([] ∷ slice_split (λ b. b == 13) xs) (onto_first x (slice_split (λ b. b == 13) xs)))
-        (not_true (x == 13) parts.0)
+    (not_true (x == 13) parts.0)
     ∙ ap (onto_first x) (split_none xs parts.1)
 
 -- before these lines
@@ -93,8 +94,8 @@ pub part_quiet : (part : List ℕ) → Lacks 13 part → length part ≤ 255 →
 unfolding lines_of
 part_quiet part lacks short =
     part_spelled (nat_lt 255 (length (stripped part))) (stripped part) (lines_of part)
-        (not_long (length (stripped part)) (let less : length (stripped part) ≤ length part = stripped_short part in
-        omega (arith, less, short))) (ap spelled_by (split_none part lacks))
+    (not_long (length (stripped part)) (let less : length (stripped part) ≤ length part = stripped_short part in
+    omega (arith, less, short))) (ap spelled_by (split_none part lacks))
 
 pub none_quiet : Quiet []
 none_quiet = part_quiet [] refl (omega arith)
@@ -118,7 +119,7 @@ lacks_front t z h = (both (list_all (λ b. not (b == 13)) t) (list_all (λ b. no
 front_told : (line t z : List ℕ) (lines : List (List ℕ)) → IsLine line → line ≡ t ++ z → SpellsFront t lines
 front_told line t z lines is e =
     none_told t lines (part_quiet t (lacks_front t z (subst (Lacks 13) e is.no_cr))
-        (let long : length line ≡ length (t ++ z) = ap length e in omega (arith, long, length-append t z, is.short)))
+    (let long : length line ≡ length (t ++ z) = ap length e in omega (arith, long, length-append t z, is.short)))
 
 -- what stands behind a line's CR
 behind_told : (z w rest : List ℕ) (lines : List (List ℕ)) → z ++ w ≡ 10 ∷ rest
@@ -128,8 +129,13 @@ behind_told (x ∷ u) w rest lines e more =
     let first : x ≡ 10 = cc e in
     let others : u ++ w ≡ rest = cc e in
     let told : SpellsFront u lines = more u others in
-    subst (λ b. SpellsFront (b ∷ u) lines) (sym first) (told.0, told.1, ap (λ (s : Spelled). s.lines) (lines_lf u)
-        ∙ told.2, ap (λ (s : Spelled). s.is_too_long) (lines_lf u) ∙ told.3)
+    subst (λ b. SpellsFront (b ∷ u) lines) (sym first) (
+      told.0,
+      told.1,
+      ap (λ (s : Spelled). s.lines) (lines_lf u)
+          ∙ told.2,
+      ap (λ (s : Spelled). s.is_too_long) (lines_lf u) ∙ told.3,
+    )
 
 ended_told : (line t z w rest : List ℕ) (lines : List (List ℕ)) → IsLine line → t ≡ line ++ z → z ++ w ≡ 13 ∷ 10 ∷ rest
     → ((u : List ℕ) → u ++ w ≡ rest → SpellsFront u lines) → SpellsFront t (line ∷ lines)
@@ -139,7 +145,7 @@ ended_told line t (x ∷ z) w rest lines is e left more =
     let first : x ≡ 13 = cc left in
     let others : z ++ w ≡ 10 ∷ rest = cc left in
     subst (λ b. SpellsFront b (line ∷ lines)) (sym (e ∙ ap (λ b. line ++ b ∷ z) first))
-        (one_told line z lines is (behind_told z w rest lines others more))
+    (one_told line z lines is (behind_told z w rest lines others more))
 
 pub nothing_left : (t w : List ℕ) → t ++ w ≡ [] → t ≡ []
 nothing_left [] w e = refl
@@ -153,7 +159,7 @@ front_spelled (line ∷ lines) t w are e = elim (fronts t line w (13 ∷ 10 ∷ 
   | inl more ↦ front_told line t more.0 (line ∷ lines) are.0 more.1
   | inr more ↦ ended_told line t more.0 w (said_bytes lines) lines are.0 more.1
       (append_cancel_left line (more.0 ++ w) (13 ∷ 10 ∷ said_bytes lines) (sym (append_assoc line more.0 w)
-          ∙ (ap (λ b. b ++ w) (sym more.1) ∙ e)))
+      ∙ (ap (λ b. b ++ w) (sym more.1) ∙ e)))
       (λ u same. front_spelled lines u w are.1 same)
 ]
 
@@ -166,7 +172,7 @@ pub whole_spelled : (lines : List (List ℕ)) → AreLines lines → lines_of (s
 whole_spelled [] are = none_spelled
 whole_spelled (line ∷ lines) are =
     lines_then line (10 ∷ said_bytes lines) are.0
-        ∙ (ap (behind line) (lines_lf (said_bytes lines)) ∙ ap (behind line) (whole_spelled lines are.1))
+    ∙ (ap (behind line) (lines_lf (said_bytes lines)) ∙ ap (behind line) (whole_spelled lines are.1))
 
 -- each line that is spelled is one that a stream has as it stands
 choice_lacks : (t : Bool) (xs ys : List ℕ) → Lacks 13 xs → Lacks 13 ys → Lacks 13 (if t then xs else ys)
@@ -177,14 +183,14 @@ stripped_lacks : (piece : List ℕ) → Lacks 13 piece → Lacks 13 (stripped pi
 stripped_lacks [] h = refl
 stripped_lacks (x ∷ xs) h =
     let parts : (not (x == 13) ≡ true) × (list_all (λ b. not (b == 13)) xs ≡ true) =
-        both (not (x == 13)) (list_all (λ b. not (b == 13)) xs) h in
+    both (not (x == 13)) (list_all (λ b. not (b == 13)) xs) h in
     choice_lacks (x == 10) (stripped xs) (x ∷ xs) (stripped_lacks xs parts.1) h
 
 stripped_twice : (piece : List ℕ) → stripped (stripped piece) ≡ stripped piece
 stripped_twice [] = refl
 stripped_twice (x ∷ xs) = elim (eqb_tells x 10) [
   | inl lf ↦ ap (λ t. stripped (if t then stripped xs else x ∷ xs)) lf.0
-  ∙ (stripped_twice xs ∙ ap (λ t. if t then stripped xs else x ∷ xs) (sym lf.0))
+      ∙ (stripped_twice xs ∙ ap (λ t. if t then stripped xs else x ∷ xs) (sym lf.0))
   | inr other ↦ ap (λ t. stripped (if t then stripped xs else x ∷ xs)) other.0
 ]
 
@@ -200,9 +206,9 @@ pieces_lack : (xs : List ℕ) → AllLack (slice_split (λ b. b == 13) xs)
 pieces_lack [] = (refl, tt)
 pieces_lack (x ∷ xs) = elim (x == 13) as (λ t. (x == 13) ≡ t
     → AllLack (cond t ([] ∷ slice_split (λ b. b == 13) xs) (onto_first x (slice_split (λ b. b == 13) xs)))) [
-  | true ↦ λ e. (refl, pieces_lack xs)
-  | false ↦ λ e. onto_lacks x (slice_split (λ b. b == 13) xs) (ap not e) (pieces_lack xs)
-] refl
+      | true ↦ λ e. (refl, pieces_lack xs)
+      | false ↦ λ e. onto_lacks x (slice_split (λ b. b == 13) xs) (ap not e) (pieces_lack xs)
+    ] refl
 
 unless_lines : (piece : List ℕ) (lines : List (List ℕ)) → length piece ≤ 255 → Lacks 13 piece → stripped piece ≡ piece
     → AreLines lines → AreLines (unless_empty piece ++ lines)
@@ -222,8 +228,8 @@ pieces_lines : (pieces : List (List ℕ)) → AllLack pieces → AreLines (spell
 pieces_lines [] all = tt
 pieces_lines (piece ∷ others) all =
     first_lines (nat_lt 255 (length (stripped piece))) (stripped piece) others (spelled_by others)
-        (fits_of (length (stripped piece))) (stripped_lacks piece all.0) (stripped_twice piece)
-        (pieces_lines others all.1)
+    (fits_of (length (stripped piece))) (stripped_lacks piece all.0) (stripped_twice piece)
+    (pieces_lines others all.1)
 
 pub spelled_lines : (stream : List ℕ) → AreLines (lines_of stream).lines
 unfolding lines_of

@@ -1,6 +1,7 @@
 -- What a stream spells with one byte more.
-use Rattle.std.proofs.Common.{◌≡◌, ℕ, ◌≤◌, ◌<◌, ◌≢◌, inl, inr, refl, sym, subst, ap, ◌∙◌, arith, Bool, true, false,
-    ◌==◌, nat_lt, if◌then◌else◌, List, [], ◌∷◌, ◌++◌, length, length-append, append_assoc, append-nil}
+use Rattle.std.proofs.Common.{◌≡◌, ℕ, ◌≤◌, ◌<◌, ◌≢◌, inl, inr, refl, sym, subst, ap, ◌∙◌, arith, Bool, true, false}
+use Rattle.std.proofs.Common.{◌==◌, nat_lt, if◌then◌else◌, List, [], ◌∷◌, ◌++◌, length, length-append, append_assoc}
+use Rattle.std.proofs.Common.{append-nil}
 use Rattle.std.specs.List.{slice_split}
 use Rattle.std.proofs.lemmas.Bool.Decides.{eqb_tells, leb_tells}
 use Rattle.slink_wire.specs.Lines.{Spelled, lines_of, spelled_by, stripped, too_long, unless_empty, with_piece}
@@ -65,7 +66,7 @@ spelled_cr : (piece : List ℕ) (others : List (List ℕ))
 spelled_cr piece [] = cr_last (nat_lt 255 (length (stripped piece))) (stripped piece)
 spelled_cr piece (other ∷ others) =
     ap (λ s. if nat_lt 255 (length (stripped piece)) then too_long else before (unless_empty (stripped piece)) s)
-        (spelled_cr other others)
+    (spelled_cr other others)
     ∙ cr_before (nat_lt 255 (length (stripped piece))) (unless_empty (stripped piece)) (spelled_by (other ∷ others))
 
 byte_before : (b : ℕ) (t : Bool) (first : List (List ℕ)) (s : Spelled)
@@ -78,7 +79,7 @@ pub stripped_more : (b : ℕ) (piece : List ℕ) → stripped (stripped piece ++
 stripped_more b [] = refl
 stripped_more b (x ∷ xs) = elim (eqb_tells x 10) [
   | inl lf ↦ ap (λ t. stripped ((if t then stripped xs else x ∷ xs) ++ b ∷ [])) lf.0
-  ∙ (stripped_more b xs ∙ ap (λ t. if t then stripped (xs ++ b ∷ []) else x ∷ (xs ++ b ∷ [])) (sym lf.0))
+      ∙ (stripped_more b xs ∙ ap (λ t. if t then stripped (xs ++ b ∷ []) else x ∷ (xs ++ b ∷ [])) (sym lf.0))
   | inr other ↦ ap (λ t. stripped ((if t then stripped xs else x ∷ xs) ++ b ∷ [])) other.0
 ]
 
@@ -122,11 +123,14 @@ byte_last : (b : ℕ) (piece : List ℕ)
 byte_last b piece = elim (leb_tells 256 (length (stripped piece))) [
   | inl long ↦
       let more : nat_lt 255 (length (stripped (piece ++ b ∷ []))) ≡ true =
-          tested (length (stripped (piece ++ b ∷ [])))
-          (subst (λ l. 255 < length l) (stripped_more b piece)
-          (grows b (stripped piece) (is_stripped piece) (omega (arith, long.1)))) in
-      ap (λ t. if t then too_long else (record { lines = []; begun = stripped (piece ++ b ∷ []);
-          is_too_long = false })) more
+      tested (length (stripped (piece ++ b ∷ [])))
+      (subst (λ l. 255 < length l) (stripped_more b piece)
+      (grows b (stripped piece) (is_stripped piece) (omega (arith, long.1)))) in
+      ap (λ t. if t then too_long else (record {
+        lines = [];
+        begun = stripped (piece ++ b ∷ []);
+        is_too_long = false;
+      })) more
       ∙ ap (λ t. with_byte b (if t then too_long else
       (record { lines = []; begun = stripped piece; is_too_long = false }))) (sym long.0)
   | inr fits ↦ as_checked (nat_lt 255 (length (stripped (piece ++ b ∷ [])))) (stripped (piece ++ b ∷ []))
@@ -171,11 +175,13 @@ unfolding lines_of
 lines_byte stream b n =
     let not_cr : (b == 13) ≡ false = elim (eqb_tells b 13) [ inl same ↦ absurd (n same.1) | inr other ↦ other.0 ] in
     ap spelled_by (split_on (λ x. x == 13) stream b not_cr)
-        ∙ spelled_byte_of b (slice_split (λ x. x == 13) stream) (has_piece (λ x. x == 13) stream)
+    ∙ spelled_byte_of b (slice_split (λ x. x == 13) stream) (has_piece (λ x. x == 13) stream)
 
 pub fits_of : (n : ℕ) → nat_lt 255 n ≡ false → n ≤ 255
-fits_of n h = elim (leb_tells 256 n) [ inl far ↦ absurd (let e : true ≡ false = sym far.0 ∙ h in cc e)
-    | inr other ↦ omega (arith, other.1) ]
+fits_of n h = elim (leb_tells 256 n) [
+  | inl far ↦ absurd (let e : true ≡ false = sym far.0 ∙ h in cc e)
+  | inr other ↦ omega (arith, other.1)
+]
 
 begun_cases : (t : Bool) (piece : List ℕ) (others : List (List ℕ)) (rest : Spelled) → (t ≡ false → length piece ≤ 255)
     → IsStripped piece → IsStripped rest.begun × (length rest.begun ≤ 255)

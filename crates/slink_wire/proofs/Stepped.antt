@@ -1,6 +1,7 @@
 -- Where a byte leads.
-use Rattle.std.proofs.Common.{◌≡◌, ℕ, ◌+◌, ◌<◌, ◌≤◌, ◌≢◌, inl, inr, refl, sym, subst, ap, ◌∙◌, arith, Bool, true, false,
-    ◌==◌, nat_lt, if◌then◌else◌, List, [], ◌∷◌, ◌++◌, length, get_or, take, length-append, append_assoc, append-nil}
+use Rattle.std.proofs.Common.{◌≡◌, ℕ, ◌+◌, ◌<◌, ◌≤◌, ◌≢◌, inl, inr, refl, sym, subst, ap, ◌∙◌, arith, Bool, true, false}
+use Rattle.std.proofs.Common.{◌==◌, nat_lt, if◌then◌else◌, List, [], ◌∷◌, ◌++◌, length, get_or, take, length-append}
+use Rattle.std.proofs.Common.{append_assoc, append-nil}
 use Rattle.std.proofs.lemmas.Bool.Decides.{eqb_tells, leb_tells}
 use Rattle.std.proofs.lemmas.List.{take_more}
 use Rattle.slink_wire.specs.declared.lines.What.{What}
@@ -8,8 +9,8 @@ use Rattle.slink_wire.specs.declared.lines.What.TheVariants.{More, Line, TooLong
 use Rattle.slink_wire.specs.Lines.{Held, IsHeld, TellsNothing, Spelled, lines_of, stripped, unless_empty}
 use Rattle.slink_wire.specs.private.Steps.{begun, cr_step, lf_step, other_step, step}
 use Rattle.slink_wire.specs.Taking.{Tells}
-use Rattle.slink_wire.proofs.Spelled.{IsStripped, begun_fits, lines_byte, lines_cr, stripped_on, with_byte, with_cr,
-    continued, checked}
+use Rattle.slink_wire.proofs.Spelled.{IsStripped, begun_fits, lines_byte, lines_cr, stripped_on, with_byte, with_cr}
+use Rattle.slink_wire.proofs.Spelled.{continued, checked}
 
 -- a step leads from a stream to one: what is held is its, and what it tells
 abbrev Leads : List ℕ → List ℕ → Held × What → Type 0
@@ -36,9 +37,11 @@ cr_leads lines [] = ((refl, refl), (append-nil lines, refl))
 cr_leads lines (x ∷ xs) = elim (eqb_tells (length (x ∷ xs)) 0) [
   | inl none ↦ absurd (omega (arith, none.1))
   | inr some ↦ subst (λ t. LeadsOf (record { lines = lines; begun = x ∷ xs; is_too_long = false })
-  (record { lines = lines ++ (x ∷ xs) ∷ []; begun = []; is_too_long = false })
-  (if t then (begun [], More) else (begun [], Line (record { items = x ∷ xs })))) (sym some.0) ((refl, refl),
-  (refl, refl))
+      (record { lines = lines ++ (x ∷ xs) ∷ []; begun = []; is_too_long = false })
+      (if t then (begun [], More) else (begun [], Line (record { items = x ∷ xs })))) (sym some.0) (
+        (refl, refl),
+        (refl, refl),
+      )
 ]
 
 -- a byte that goes on what has begun
@@ -48,29 +51,32 @@ other_leads : (lines : List (List ℕ)) (line : List ℕ) (b : ℕ) → length l
     (other_step line b)
 other_leads lines line b fits on =
     subst (λ l. LeadsOf (record { lines = lines; begun = line; is_too_long = false })
-        (checked lines l (nat_lt 255 (length l))) (other_step line b)) (sym on)
+    (checked lines l (nat_lt 255 (length l))) (other_step line b)) (sym on)
     (elim (eqb_tells (length line) 255) [
       | inl full ↦
           let long : nat_lt 255 (length (line ++ b ∷ [])) ≡ true =
-              elim (leb_tells 256 (length (line ++ b ∷ []))) [ inl far ↦ far.0
-              | inr other ↦ absurd (omega (arith, other.1, full.1, length-append line (b ∷ []))) ] in
+          elim (leb_tells 256 (length (line ++ b ∷ []))) [
+            | inl far ↦ far.0
+            | inr other ↦ absurd (omega (arith, other.1, full.1, length-append line (b ∷ [])))
+          ] in
           subst (λ t. LeadsOf (record { lines = lines; begun = line; is_too_long = false })
-              (checked lines (line ++ b ∷ []) t) (other_step line b)) (sym long)
+          (checked lines (line ++ b ∷ []) t) (other_step line b)) (sym long)
           (subst (λ t. LeadsOf (record { lines = lines; begun = line; is_too_long = false })
-              (record { lines = lines; begun = []; is_too_long = true })
-              (if t then (record { begun = []; is_too_long = true }, TooLong) else (begun (line ++ b ∷ []), More)))
-              (sym full.0) ((refl, refl), (refl, refl)))
+          (record { lines = lines; begun = []; is_too_long = true })
+          (if t then (record { begun = []; is_too_long = true }, TooLong) else (begun (line ++ b ∷ []), More)))
+          (sym full.0) ((refl, refl), (refl, refl)))
       | inr room ↦
           let short : nat_lt 255 (length (line ++ b ∷ [])) ≡ false =
-              elim (leb_tells 256 (length (line ++ b ∷ [])))
-              [ inl far ↦ absurd (room.1 (omega (arith, far.1, fits, length-append line (b ∷ []))))
-              | inr other ↦ other.0 ] in
+          elim (leb_tells 256 (length (line ++ b ∷ []))) [
+            | inl far ↦ absurd (room.1 (omega (arith, far.1, fits, length-append line (b ∷ []))))
+            | inr other ↦ other.0
+          ] in
           subst (λ t. LeadsOf (record { lines = lines; begun = line; is_too_long = false })
-              (checked lines (line ++ b ∷ []) t) (other_step line b)) (sym short)
+          (checked lines (line ++ b ∷ []) t) (other_step line b)) (sym short)
           (subst (λ t. LeadsOf (record { lines = lines; begun = line; is_too_long = false })
-              (record { lines = lines; begun = line ++ b ∷ []; is_too_long = false })
-              (if t then (record { begun = []; is_too_long = true }, TooLong) else (begun (line ++ b ∷ []), More)))
-              (sym room.0) ((refl, refl), (refl, refl)))
+          (record { lines = lines; begun = line ++ b ∷ []; is_too_long = false })
+          (if t then (record { begun = []; is_too_long = true }, TooLong) else (begun (line ++ b ∷ []), More)))
+          (sym room.0) ((refl, refl), (refl, refl)))
     ])
 
 -- an LF in front is dropped
@@ -81,13 +87,15 @@ lf_leads lines [] fits s = ((refl, refl), (refl, refl))
 lf_leads lines (x ∷ xs) fits s = elim (eqb_tells (length (x ∷ xs)) 0) [
   | inl none ↦ absurd (omega (arith, none.1))
   | inr some ↦ subst (λ t. LeadsOf (record { lines = lines; begun = x ∷ xs; is_too_long = false })
-  (continued 10 lines (x ∷ xs) false) (if t then (begun [], More) else other_step (x ∷ xs) 10)) (sym some.0)
-  (other_leads lines (x ∷ xs) 10 fits (stripped_on 10 x xs s))
+      (continued 10 lines (x ∷ xs) false) (if t then (begun [], More) else other_step (x ∷ xs) 10)) (sym some.0)
+      (other_leads lines (x ∷ xs) 10 fits (stripped_on 10 x xs s))
 ]
 
 goes_on : (line : List ℕ) (b : ℕ) → IsStripped line → b ≢ 10 → stripped (line ++ b ∷ []) ≡ line ++ b ∷ []
-goes_on [] b s n = elim (eqb_tells b 10) [ inl same ↦ absurd (n same.1)
-    | inr other ↦ ap (λ t. if t then [] else b ∷ []) other.0 ]
+goes_on [] b s n = elim (eqb_tells b 10) [
+  | inl same ↦ absurd (n same.1)
+  | inr other ↦ ap (λ t. if t then [] else b ∷ []) other.0
+]
 goes_on (x ∷ xs) b s n = stripped_on b x xs s
 
 byte_leads : (lines : List (List ℕ)) (line : List ℕ) (b : ℕ) → length line ≤ 255 → IsStripped line
@@ -95,11 +103,11 @@ byte_leads : (lines : List (List ℕ)) (line : List ℕ) (b : ℕ) → length li
     (if b == 10 then lf_step line b else other_step line b)
 byte_leads lines line b fits s = elim (eqb_tells b 10) [
   | inl lf ↦ subst (λ t. LeadsOf (record { lines = lines; begun = line; is_too_long = false })
-  (continued b lines line false) (if t then lf_step line b else other_step line b)) (sym lf.0)
+      (continued b lines line false) (if t then lf_step line b else other_step line b)) (sym lf.0)
       (subst (λ x. LeadsOf (record { lines = lines; begun = line; is_too_long = false }) (continued x lines line false)
-          (lf_step line x)) (sym lf.1) (lf_leads lines line fits s))
+      (lf_step line x)) (sym lf.1) (lf_leads lines line fits s))
   | inr other ↦ subst (λ t. LeadsOf (record { lines = lines; begun = line; is_too_long = false })
-  (continued b lines line false) (if t then lf_step line b else other_step line b)) (sym other.0)
+      (continued b lines line false) (if t then lf_step line b else other_step line b)) (sym other.0)
       (other_leads lines line b fits (goes_on line b s other.1))
 ]
 
@@ -112,23 +120,24 @@ step_leads : (stream : List ℕ) (held : Held) (b : ℕ) → held.is_too_long �
 step_leads stream held b isopen h =
     let s : Spelled = lines_of stream in
     let known : s ≡ record { lines = s.lines; begun = held.begun; is_too_long = false } = open_is s (sym h.1 ∙ isopen)
-        ∙ ap (λ l. record { lines = s.lines; begun = l; is_too_long = false }) (sym h.0) in
+    ∙ ap (λ l. record { lines = s.lines; begun = l; is_too_long = false }) (sym h.0) in
     let fits : IsStripped held.begun × (length held.begun ≤ 255) =
-        subst (λ l. IsStripped l × (length l ≤ 255)) (sym h.0) (begun_fits stream) in
+    subst (λ l. IsStripped l × (length l ≤ 255)) (sym h.0) (begun_fits stream) in
     leads stream (stream ++ b ∷ []) (step held.begun b)
     (elim (eqb_tells b 13) [
       | inl cr ↦ subst (λ t. LeadsOf s (lines_of (stream ++ b ∷ []))
-      (if t then cr_step held.begun else if b == 10 then lf_step held.begun b else other_step held.begun b)) (sym cr.0)
+          (if t then cr_step held.begun else if b == 10 then lf_step held.begun b else other_step held.begun b))
+          (sym cr.0)
           (subst (λ x. LeadsOf s (lines_of (stream ++ x ∷ [])) (cr_step held.begun)) (sym cr.1)
           (subst (λ n. LeadsOf s n (cr_step held.begun)) (sym (lines_cr stream))
           (subst (λ o. LeadsOf o (with_cr o) (cr_step held.begun)) (sym known) (cr_leads s.lines held.begun))))
       | inr other ↦ subst (λ t. LeadsOf s (lines_of (stream ++ b ∷ []))
-      (if t then cr_step held.begun else if b == 10 then lf_step held.begun b else other_step held.begun b))
-      (sym other.0)
+          (if t then cr_step held.begun else if b == 10 then lf_step held.begun b else other_step held.begun b))
+          (sym other.0)
           (subst (λ n. LeadsOf s n (if b == 10 then lf_step held.begun b else other_step held.begun b))
-              (sym (lines_byte stream b other.1))
+          (sym (lines_byte stream b other.1))
           (subst (λ o. LeadsOf o (with_byte b o) (if b == 10 then lf_step held.begun b else other_step held.begun b))
-              (sym known) (byte_leads s.lines held.begun b fits.1 fits.0)))
+          (sym known) (byte_leads s.lines held.begun b fits.1 fits.0)))
     ])
 
 abbrev StaysOpen : Held × What → Type 0
@@ -147,7 +156,7 @@ step_open line b = choice_open (b == 13) (cr_step line) (if b == 10 then lf_step
     (choice_open (length line == 0) (begun [], More) (begun [], Line (record { items = line })) (λ e. refl) (λ e. refl))
     (choice_open (b == 10) (lf_step line b) (other_step line b)
     (choice_open (length line == 0) (begun [], More) (other_step line b) (λ e. refl) (other_open line b))
-        (other_open line b))
+    (other_open line b))
 
 -- so many bytes of a piece were taken, and nothing was told
 pub record TakenTo (old now : Held) (piece : List ℕ) (i : ℕ) : Type 0 where
@@ -162,8 +171,11 @@ pub taken_none : (old : Held) (piece : List ℕ) → old.is_too_long ≡ false �
 taken_none old piece isopen = record {
   goes_on = isopen;
   held = (λ stream h. subst (IsHeld old) (taken_at piece stream 0 refl) h);
-  quiet = (λ stream k h le. subst (TellsNothing stream) (taken_at piece stream k (omega arith)) (refl, sym h.1
-      ∙ isopen));
+  quiet = (λ stream k h le. subst (TellsNothing stream) (taken_at piece stream k (omega arith)) (
+    refl,
+    sym h.1
+        ∙ isopen,
+  ));
 }
 
 tells_from : (what : What) (before middle after : List ℕ) → TellsNothing before middle → Tells what middle after
@@ -179,13 +191,15 @@ pub taken_byte : (old now new : Held) (piece : List ℕ) (i : ℕ) (what : What)
 taken_byte old now new piece i what lt stepped t stream h =
     let b : ℕ = get_or piece i 0 in
     let at : (stream ++ take i piece) ++ b ∷ [] ≡ stream ++ take (i + 1) piece =
-        append_assoc stream (take i piece) (b ∷ []) ∙ ap (λ x. stream ++ x) (sym (take_more piece i 0 lt)) in
+    append_assoc stream (take i piece) (b ∷ []) ∙ ap (λ x. stream ++ x) (sym (take_more piece i 0 lt)) in
     let led : Leads (stream ++ take i piece) (stream ++ take (i + 1) piece) (new, what) =
-        subst (Leads (stream ++ take i piece) (stream ++ take (i + 1) piece)) stepped
-        (subst (λ s. Leads (stream ++ take i piece) s (step now.begun b)) at
-        (step_leads (stream ++ take i piece) now b t.goes_on (t.held stream h))) in
-    (led.0, tells_from what stream (stream ++ take i piece) (stream ++ take (i + 1) piece)
-        (t.quiet stream i h (omega arith)) led.1)
+    subst (Leads (stream ++ take i piece) (stream ++ take (i + 1) piece)) stepped
+    (subst (λ s. Leads (stream ++ take i piece) s (step now.begun b)) at
+    (step_leads (stream ++ take i piece) now b t.goes_on (t.held stream h))) in (
+      led.0,
+      tells_from what stream (stream ++ take i piece) (stream ++ take (i + 1) piece)
+          (t.quiet stream i h (omega arith)) led.1,
+    )
 
 pub taken_more : (old now new : Held) (piece : List ℕ) (i : ℕ) → i < length piece
     → step now.begun (get_or piece i 0) ≡ (new, More) → TakenTo old now piece i → TakenTo old new piece (i + 1)
@@ -195,8 +209,8 @@ taken_more old now new piece i lt stepped t = record {
   quiet = (λ stream k h le. elim (leb_tells k i) [
     | inl before ↦ t.quiet stream k h before.1
     | inr here ↦ (let e : i + 1 ≡ k = omega (arith, here.1) in
-    subst (λ j. TellsNothing stream (stream ++ take j piece)) e
-    (taken_byte old now new piece i More lt stepped t stream h).1)
+        subst (λ j. TellsNothing stream (stream ++ take j piece)) e
+        (taken_byte old now new piece i More lt stepped t stream h).1)
   ]);
 }
 

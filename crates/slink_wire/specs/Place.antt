@@ -1,8 +1,8 @@
 -- Stations and their networks, as commands spell them and as a header's fields have them (SEED manual, chapter 8,
 -- "Fixed
 -- section of data header").
-use Rattle.std.specs.Prelude.{◌≡◌, ℕ, Bool, ◌-◌, ◌≤◌, ◌==◌, ◌&&◌, IsTrue, Option, Some, None, bytes_eq, List, ◌∷◌, ◌++◌,
-    length, replicate, slice_range}
+use Rattle.std.specs.Prelude.{◌≡◌, ℕ, Bool, ◌-◌, ◌≤◌, ◌==◌, ◌&&◌, IsTrue, Option, Some, None, bytes_eq, List, ◌∷◌, ◌++◌}
+use Rattle.std.specs.Prelude.{length, replicate, slice_range}
 use Rattle.std.specs.List.{list_all, before_first}
 use Rattle.std.specs.Char.{is_ascii_alphanumeric}
 

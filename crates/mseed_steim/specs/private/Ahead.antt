@@ -1,6 +1,6 @@
 -- How many differences words hold, by the sizes of single differences.
-use Rattle.std.specs.Prelude.{◌≡◌, ◌↔◌, ℕ, ◌+◌, ◌-◌, ◌*◌, ◌/◌, ◌^◌, ◌<◌, ◌≤◌, ◌==◌, nat_lt, if◌then◌else◌, List, length,
-    drop, ℤ, pos, negsuc, slice_index_or, Some}
+use Rattle.std.specs.Prelude.{◌≡◌, ◌↔◌, ℕ, ◌+◌, ◌-◌, ◌*◌, ◌/◌, ◌^◌, ◌<◌, ◌≤◌, ◌==◌, nat_lt, if◌then◌else◌, List, length}
+use Rattle.std.specs.Prelude.{drop, ℤ, pos, negsuc, slice_index_or, Some}
 use Rattle.mseed_steim.specs.declared.row.Row.{Row}
 use Rattle.mseed_steim.specs.declared.layout.Layout.{Layout}
 use Rattle.mseed_steim.specs.declared.ahead.Ahead.{Ahead}
@@ -51,17 +51,17 @@ taken Two most = most
 abbrev pub IsAhead : Scheme → List ℤ → ℕ → Type 0
 IsAhead scheme ds most =
     2 ≤ most → (most ≤ 7) × (8 ≤ length ds)
-        × ((row : Row) × ((row_for scheme (taken scheme most) ≡ Some row) × IsBestRow scheme ds (length ds) (Some row)))
+    × ((row : Row) × ((row_for scheme (taken scheme most) ≡ Some row) × IsBestRow scheme ds (length ds) (Some row)))
 
 -- a row's bits of one difference, its dnib where it stands in a word, and what its differences count for
 abbrev pub IsLayout : Scheme → Layout → Type 0
 IsLayout scheme layout =
     (row_for scheme layout.row.count ≡ Some layout.row) × (layout.mask ≡ 2 ^ layout.row.width - 1)
-        × (layout.head ≡ layout.row.dnib * 2 ^ 30)
+    × (layout.head ≡ layout.row.dnib * 2 ^ 30)
     × ArePlaces layout.row.width layout.row.count layout.places
 
 -- What was found from a place on is so of the differences, and nothing is told of the last places.
 abbrev pub Tells : Scheme → List ℤ → Ahead → Type 0
 Tells scheme ds ahead =
     ((i : ℕ) → i < 80 → IsAhead scheme (drop (ahead.begin + i) ds) (slice_index_or ahead.most i 0))
-        × ((i : ℕ) → 57 ≤ i → i < 80 → slice_index_or ahead.most i 0 ≡ 0)
+    × ((i : ℕ) → 57 ≤ i → i < 80 → slice_index_or ahead.most i 0 ≡ 0)

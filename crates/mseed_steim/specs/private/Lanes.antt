@@ -1,6 +1,6 @@
 -- The sixteen words of a frame, as they stand in lanes: what a word adds by its row, and by which parts of its bytes.
-use Rattle.std.specs.Prelude.{◌≡◌, ◌⊎◌, ℕ, ℤ, pos, ◌+ℤ◌, ◌+◌, ◌-◌, ◌*◌, ◌/◌, ◌%◌, ◌^◌, nat_lt, if◌then◌else◌, nat_abs,
-    List, [], ◌∷◌, slice_index, bit_and, bit_xor}
+use Rattle.std.specs.Prelude.{◌≡◌, ◌⊎◌, ℕ, ℤ, pos, ◌+ℤ◌, ◌+◌, ◌-◌, ◌*◌, ◌/◌, ◌%◌, ◌^◌, nat_lt, if◌then◌else◌, nat_abs}
+use Rattle.std.specs.Prelude.{List, [], ◌∷◌, slice_index, bit_and, bit_xor}
 use Rattle.mseed_steim.specs.private.Digits.{digits}
 
 -- the word of four bytes
@@ -62,7 +62,7 @@ widths_two = table_two 8 15 10 6 5 4
 abbrev pub differences_two : List ℕ → ℕ → ℕ → List ℤ
 differences_two frame from word =
     digits (slice_index widths_two (row_at frame from word)) (word_at frame word)
-        (slice_index counts_two (row_at frame from word))
+    (slice_index counts_two (row_at frame from word))
 
 -- their sum
 abbrev pub moved_two : List ℕ → ℕ → ℕ → ℤ
@@ -92,7 +92,7 @@ fine_two row a b c d =
 unfoldable pub ones_two : ℕ → ℕ → ℕ → ℕ → ℕ → ℕ
 ones_two row a b c d =
     kept (table_two 255 0 63 63 1 15) (table_two 1 0 16 1 16 1) row a + kept (table_two 255 255 15 3 15 15)
-        (table_two 1 2 64 16 2 1) row b
+    (table_two 1 2 64 16 2 1) row b
     + kept (table_two 255 0 0 15 3 15) (table_two 1 0 0 4 8 1) row c + kept_by (table_two 255 255 255 63 31 15) 1 row d
 
 -- what counts 256-fold
@@ -136,7 +136,7 @@ widths_one = table_one 8 16
 abbrev pub differences_one : List ℕ → ℕ → ℕ → List ℤ
 differences_one frame from word =
     digits (slice_index widths_one (row_at frame from word)) (word_at frame word)
-        (slice_index counts_one (row_at frame from word))
+    (slice_index counts_one (row_at frame from word))
 
 -- their sum
 abbrev pub moved_one : List ℕ → ℕ → ℕ → ℤ
@@ -149,7 +149,7 @@ spanned_one frame from word = span (differences_one frame from word)
 unfoldable pub low_one : ℕ → ℕ → ℕ → ℕ → ℕ → ℕ
 low_one row a b c d =
     kept_by (table_one 255 0) 1 row a + kept_by (table_one 255 255) 1 row b + kept_by (table_one 255 0) 1 row c
-        + kept_by (table_one 255 255) 1 row d
+    + kept_by (table_one 255 255) 1 row d
 
 unfoldable pub high_one : ℕ → ℕ → ℕ → ℕ → ℕ → ℕ
 high_one row a b c d = kept_by (table_one 0 255) 1 row a + kept_by (table_one 0 255) 1 row c

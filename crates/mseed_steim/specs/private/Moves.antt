@@ -16,5 +16,5 @@ pub record Moves (moved : Moved) (ds : List ℤ) : Type 0 where
 abbrev pub MovesBy : Scheme → List DataWord → Moved → Type 0
 MovesBy scheme words moved =
     moved.count < 128 → (ds : List ℤ)
-        × (Moves moved ds × ((rest : List DataWord)
-        → items_of scheme (words ++ rest) ≡ map Ok ds ++ items_of scheme rest))
+    × (Moves moved ds × ((rest : List DataWord)
+    → items_of scheme (words ++ rest) ≡ map Ok ds ++ items_of scheme rest))

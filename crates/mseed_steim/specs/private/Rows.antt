@@ -1,6 +1,6 @@
 -- The rows of the table of groups, by how many differences they have. What a word spells is said in Spelling.
-use Rattle.std.specs.Prelude.{◌≡◌, ℕ, ◌-◌, ◌*◌, ◌^◌, ◌<◌, ◌≤◌, ◌==◌, nat_lt, if◌then◌else◌, List, take, slice_index_or,
-    ℤ, Option, Some, None, All}
+use Rattle.std.specs.Prelude.{◌≡◌, ℕ, ◌-◌, ◌*◌, ◌^◌, ◌<◌, ◌≤◌, ◌==◌, nat_lt, if◌then◌else◌, List, take, slice_index_or}
+use Rattle.std.specs.Prelude.{ℤ, Option, Some, None, All}
 use Rattle.mseed_steim.specs.declared.scheme.Scheme.{Scheme}
 use Rattle.mseed_steim.specs.declared.scheme.Scheme.TheVariants.{One, Two}
 use Rattle.mseed_steim.specs.declared.row.Row.{Row}
@@ -41,7 +41,7 @@ abbrev pub IsBestRow : Scheme → List ℤ → ℕ → Option Row → Type 0
 IsBestRow scheme ds high None = NoneSpelled scheme ds 0 high
 IsBestRow scheme ds high (Some row) =
     (row_for scheme row.count ≡ Some row) × (row.count ≤ high) × All (IsWithin row.width) (take row.count ds)
-        × NoneSpelled scheme ds row.count high
+    × NoneSpelled scheme ds row.count high
 
 -- what each difference of a word counts for where it holds so many of a width, the last one for 1; nothing behind them
 abbrev pub ArePlaces : ℕ → ℕ → List ℕ → Type 0

@@ -1,6 +1,6 @@
 -- What comes next in a walk over data words.
-use Rattle.std.specs.Prelude.{◌≡◌, ◌+◌, ◌*◌, ◌<◌, List, [], ◌∷◌, ◌++◌, map, length, ℤ, Option, Some, None, Result, Ok,
-    Err}
+use Rattle.std.specs.Prelude.{◌≡◌, ◌+◌, ◌*◌, ◌<◌, List, [], ◌∷◌, ◌++◌, map, length, ℤ, Option, Some, None, Result, Ok}
+use Rattle.std.specs.Prelude.{Err}
 use Rattle.mseed_steim.specs.declared.scheme.Scheme.{Scheme}
 use Rattle.mseed_steim.specs.declared.differences.BadWordAt.{BadWordAt}
 use Rattle.mseed_steim.specs.Frames.{DataWord}
@@ -12,6 +12,6 @@ abbrev pub IsStep : Scheme → List DataWord → Option (Result ℤ BadWordAt) �
 IsStep scheme before None after ready = (items_of scheme before ≡ []) × (after ≡ []) × (ready ≡ [])
 IsStep scheme before (Some (Ok d)) after ready =
     (items_of scheme before ≡ Ok d ∷ map Ok ready ++ items_of scheme after)
-        × (length ready + 7 * length after < 7 * length before)
+    × (length ready + 7 * length after < 7 * length before)
 IsStep scheme before (Some (Err at)) after ready =
     (items_of scheme before ≡ Err at ∷ []) × (after ≡ []) × (ready ≡ []) × (0 < length before)

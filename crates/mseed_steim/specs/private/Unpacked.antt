@@ -1,6 +1,6 @@
 -- The differences of a frame's words, unpacked word by word.
-use Rattle.std.specs.Prelude.{◌≡◌, ℕ, zero, suc, ◌+◌, ◌-◌, ◌*◌, ◌^◌, ◌<◌, ◌≤◌, List, [], ◌++◌, ℤ, slice_index,
-    slice_index_or}
+use Rattle.std.specs.Prelude.{◌≡◌, ℕ, zero, suc, ◌+◌, ◌-◌, ◌*◌, ◌^◌, ◌<◌, ◌≤◌, List, [], ◌++◌, ℤ, slice_index}
+use Rattle.std.specs.Prelude.{slice_index_or}
 use Rattle.mseed_steim.specs.declared.scheme.Scheme.{Scheme}
 use Rattle.mseed_steim.specs.declared.scheme.Scheme.TheVariants.{One, Two}
 use Rattle.mseed_steim.specs.declared.unpack.Unpacking.{Unpacking}
@@ -38,7 +38,7 @@ AreNarrow scheme frame from = (word : ℕ) → word < 16 → slice_index (counts
 abbrev pub differences_at : Scheme → List ℕ → ℕ → ℕ → List ℤ
 differences_at scheme frame from word =
     digits (slice_index (widths_of scheme) (row_at frame from word)) (word_at frame word)
-        (slice_index (counts_of scheme) (row_at frame from word))
+    (slice_index (counts_of scheme) (row_at frame from word))
 
 -- those of n words, one after another
 unfoldable pub unpacked : Scheme → List ℕ → ℕ → ℕ → ℕ → List ℤ

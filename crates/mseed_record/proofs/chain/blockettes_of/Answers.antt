@@ -2,8 +2,8 @@ use Rattle.std.proofs.Common.{◌≤◌, ◌+◌, ◌++◌, ℕ, List, [], ◌�
 use Rattle.mseed_record.specs.Header.{blockette_at}
 use Rattle.mseed_record.specs.Chain.{type_at, next_at, head_of, goes_on}
 use Rattle.mseed_record.specs.private.Blockettes.{AreBlockettes}
-use Rattle.mseed_record.proofs.Whole.{Visits, goes_on_within, visits_more, visits_whole, passes_visits, first_1000,
-    found_more, head_small, begins_within, if_some, if_none, within_more}
+use Rattle.mseed_record.proofs.Whole.{Visits, goes_on_within, visits_more, visits_whole, passes_visits, first_1000}
+use Rattle.mseed_record.proofs.Whole.{found_more, head_small, begins_within, if_some, if_none, within_more}
 use Rattle.mseed_record.proofs.chain.blockettes_of.Goals as goal
 
 pub u16_at-requires : goal.u16_at-requires
@@ -13,9 +13,11 @@ pub chain-init : goal.chain-init
 chain-init c =
     let within = (begins_within c.args.order c.args.bytes.now c.requires.0 c.requires.1.0 c.requires.1.1).1 in
     let first = c.from-offset.ensures ∙ c.u16_at.ensures in
-    let small = head_small (type_at c.args.order c.args.bytes.now c.from-offset.result) in
-    (omega (arith, within, first, small),
-        ([], (sym first, record { first_1000 = refl; first_1001 = refl; has_100 = refl })), tt)
+    let small = head_small (type_at c.args.order c.args.bytes.now c.from-offset.result) in (
+      omega (arith, within, first, small),
+      ([], (sym first, record { first_1000 = refl; first_1001 = refl; has_100 = refl })),
+      tt,
+    )
 
 pub chain-preserved : goal.chain-preserved
 chain-preserved c =
@@ -23,22 +25,24 @@ chain-preserved c =
     let b : List ℕ = c.args.bytes.now in
     let o : ℕ = c.chain.offset in
     let goes = if_some (goes_on order b o) (next_at order b o) c.in-Some.next c.next_of.result c.next_of.ensures
-        c.in-Some.is in
+    c.in-Some.is in
     let on = goes_on_within order b o goes.0 in
     let visited = c.chain.invariant.1 in
     let within : c.in-Some.next + head_of (type_at order b c.in-Some.next) ≤ length b =
-        subst (λ (n : ℕ). n + head_of (type_at order b n) ≤ length b) (sym goes.1) on.1 in
+    subst (λ (n : ℕ). n + head_of (type_at order b n) ≤ length b) (sym goes.1) on.1 in
     let visits : Visits order b (blockette_at order b) (visited.0 ++ o ∷ []) c.in-Some.next =
-        subst (λ (n : ℕ). Visits order b (blockette_at order b) (visited.0 ++ o ∷ []) n) (sym goes.1)
-        (visits_more order b (blockette_at order b) visited.0 o visited.1.0 goes.0) in
+    subst (λ (n : ℕ). Visits order b (blockette_at order b) (visited.0 ++ o ∷ []) n) (sym goes.1)
+    (visits_more order b (blockette_at order b) visited.0 o visited.1.0 goes.0) in
     let found = found_more order b visited.0 o c.u16_at-in-chain.result c.chain.found c.and-found.result visited.1.1
-        c.u16_at-in-chain.ensures c.and-found.ensures.first_1000 c.and-found.ensures.first_1001
-        c.and-found.ensures.has_100 in
+    c.u16_at-in-chain.ensures c.and-found.ensures.first_1000 c.and-found.ensures.first_1001
+    c.and-found.ensures.has_100 in
     let here : o + head_of c.u16_at-in-chain.result ≤ length b =
-        subst (λ (n : ℕ). o + head_of n ≤ length b) (sym c.u16_at-in-chain.ensures) c.chain.invariant.0 in
-    (within, (visited.0 ++ o ∷ [], (visits, found)),
-        within_more (length b) o c.u16_at-in-chain.result c.chain.found.first_1001 c.and-found.result.first_1001
-        c.and-found.ensures.first_1001 c.chain.invariant.2 here)
+    subst (λ (n : ℕ). o + head_of n ≤ length b) (sym c.u16_at-in-chain.ensures) c.chain.invariant.0 in (
+      within,
+      (visited.0 ++ o ∷ [], (visits, found)),
+      within_more (length b) o c.u16_at-in-chain.result c.chain.found.first_1001 c.and-found.result.first_1001
+          c.and-found.ensures.first_1001 c.chain.invariant.2 here,
+    )
 
 pub returns-in-None-clause-found : goal.returns-in-None-clause-found
 returns-in-None-clause-found c =
@@ -51,12 +55,25 @@ returns-in-None-clause-found c =
     let ends = if_none (goes_on order b o) (next_at order b o) c.next_of.result c.next_of.ensures c.in-None.is in
     let visited = c.chain.invariant.1 in
     let found = found_more order b visited.0 o c.u16_at-in-chain.result c.chain.found c.and-found.result visited.1.1
-        c.u16_at-in-chain.ensures c.and-found.ensures.first_1000 c.and-found.ensures.first_1001
-        c.and-found.ensures.has_100 in
+    c.u16_at-in-chain.ensures c.and-found.ensures.first_1000 c.and-found.ensures.first_1001
+    c.and-found.ensures.has_100 in
     let inside : last + 8 ≤ length b = subst (λ (n : ℕ). last + 8 ≤ n) (sym there.size) there.inside in
     let front = passes_visits order b (blockette_at order b) os last inside there.chain.others in
     let whole = visits_whole order b (blockette_at order b) os last visited.0 o front visited.1.0 ends in
     let counts : AreBlockettes order b (os ++ last ∷ whole.0) c.and-found.result =
-        subst (λ (ps : List ℕ). AreBlockettes order b ps c.and-found.result) whole.1.0 found in
-    (os, (last, (whole.0, (there, record { chain = there.chain; others = whole.1.1 }, counts, counts.first_1000
-        ∙ first_1000 order b (blockette_at order b) os last whole.0 there.chain.others there.chain.found))))
+    subst (λ (ps : List ℕ). AreBlockettes order b ps c.and-found.result) whole.1.0 found in (
+      os,
+      (
+        last,
+        (
+          whole.0,
+          (
+            there,
+            record { chain = there.chain; others = whole.1.1 },
+            counts,
+            counts.first_1000
+                ∙ first_1000 order b (blockette_at order b) os last whole.0 there.chain.others there.chain.found,
+          ),
+        ),
+      ),
+    )

@@ -13,4 +13,4 @@ chain-preserved c =
     let here : Reached = record { order = c.args.from.order; low = c.chain.low; offset = c.chain.offset } in
     let small : c.from-offset.result < 2 ^ 16 = rw c.from-offset.ensures c.u16_at.type_inv in
     reached_next here c.args.front.now c.from-offset.result c.chain.invariant (sym c.at_offset.ensures
-        ∙ c.in_default.is) (c.from-offset.ensures ∙ c.u16_at.ensures) small
+    ∙ c.in_default.is) (c.from-offset.ensures ∙ c.u16_at.ensures) small

@@ -26,6 +26,6 @@ returns-clause-least c =
 pub returns-clause-only : goal.returns-clause-only
 returns-clause-only c k e j h r =
     let same : c.look.result ≡ Record j =
-        ((scanned c.args.front.now c.look.result (λ i. (c.type_inv.front i).fits) c.look.ensures.decides).record_is
-        j).1 (h, r) in
+    ((scanned c.args.front.now c.look.result (λ i. (c.type_inv.front i).fits) c.look.ensures.decides).record_is
+    j).1 (h, r) in
     cc (e, same)

@@ -12,18 +12,20 @@ returns-clause-bytes c =
     let names : List ℕ = name_bytes (header_of c.args.fields.now) in
     let ten : length c.write.result ≡ 10 = search rules in
     let time = time_written (parts_of c.args.fields.now.start) c.write.result ten (search rules) c.write.ensures.fields
-        c.write.ensures.unused in
+    c.write.ensures.unused in
     let counts = c.counts.ensures.bytes in
     let blockettes = c.blockettes.ensures.bytes in
     let one : Begins old c.put_names.new.out names 20 =
-        record { bytes = c.put_names.ensures.bytes;
-        size = length-name_bytes (header_of c.args.fields.now) c.put_names.ensures.key } in
+    record {
+      bytes = c.put_names.ensures.bytes;
+      size = length-name_bytes (header_of c.args.fields.now) c.put_names.ensures.key;
+    } in
     let two = put_next old c.put_names.new.out c.put.new.out names c.write.result 20 30 (rw ten refl) one
-        c.put.ensures in
+    c.put.ensures in
     let three = put_next old c.put.new.out c.put-2.new.out _ c.counts.result 30 48 (rw counts refl) two
-        c.put-2.ensures in
+    c.put-2.ensures in
     let four = put_next old c.put-2.new.out c.put-3.new.out _ c.blockettes.result 48 64 (rw blockettes refl) three
-        c.put-3.ensures in
+    c.put-3.ensures in
     four.bytes ∙ (λ i. names ++ time i ++ counts i ++ blockettes i ++ drop 64 old)
 
 pub returns-clause-reads_back : goal.returns-clause-reads_back

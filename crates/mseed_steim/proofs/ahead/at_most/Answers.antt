@@ -8,5 +8,5 @@ returns c = λ i inside k.
     let place : c.from.result ≡ c.args.place = c.from.ensures in
     rw (place, ← sixteen_at c.args.held.now c.args.place i c.requires.long inside)
     (lanes_bounded 16 c.args.place c.args.most
-        (chunk 0 16 (take (length c.args.held.now - c.args.place) (drop c.args.place c.args.held.now))) i c.fits-most.0
-        (length_sixteen c.args.held.now c.args.place c.requires.long) inside k)
+    (chunk 0 16 (take (length c.args.held.now - c.args.place) (drop c.args.place c.args.held.now))) i c.fits-most.0
+    (length_sixteen c.args.held.now c.args.place c.requires.long) inside k)

@@ -16,14 +16,14 @@ loop-turn-preserved c =
       room = put_length 80 at held lanes room (omega (arith, inside));
       done = λ i less. ⊎_elim
           (λ (before : i < at). subst (λ (x : ℕ). IsMost c.args.held.now i x)
-              (sym (put_below 80 at i held lanes room (omega (arith, inside)) before))
-              (c.loop-turn.invariant.done i before))
+          (sym (put_below 80 at i held lanes room (omega (arith, inside)) before))
+          (c.loop-turn.invariant.done i before))
           (λ (more : at ≤ i).
           let last : i < at + 16 = omega (arith, less) in
           subst (λ (x : ℕ). IsMost c.args.held.now i x)
-              (sym (put_at 80 at i held lanes room (omega (arith, inside)) long more last))
+          (sym (put_at 80 at i held lanes room (omega (arith, inside)) long more last))
           (most_later 80 at i (get_or lanes (i - at) 0) held c.args.held.now room more c.loop-turn.invariant.rest
-              (c.most_from-lanes.ensures (i - at) (omega (arith, more, last)))))
+          (c.most_from-lanes.ensures (i - at) (omega (arith, more, last)))))
           (cases_lt i at);
       rest = λ i more. put_above 80 at i held lanes room (omega (arith, inside)) long (omega (arith, more))
           ∙ c.loop-turn.invariant.rest i (omega (arith, more));

@@ -19,11 +19,11 @@ loop-index-init c = record {
 pub returns : goal.returns
 returns c =
     let none : (i : ℕ) → 57 ≤ i → i < 80 → get_or c.loop-index.most i 0 ≡ 0 =
-        λ i b h. c.loop-index.invariant.none i b (omega (arith, h, c.loop-index-test.false)) in record {
+    λ i b h. c.loop-index.invariant.none i b (omega (arith, h, c.loop-index-test.false)) in record {
       ahead = λ i h. ⊎_elim
           (λ (a : i < 57). c.loop-index.invariant.ahead i a)
           (λ (b : 57 ≤ i). subst (λ (x : ℕ). IsAhead c.args.scheme (drop i c.args.diffs.now) x) (sym (none i b h))
-              (λ some. absurd (omega (arith, some))))
+          (λ some. absurd (omega (arith, some))))
           (cases_lt i 57);
       none = none;
     }

@@ -11,7 +11,7 @@ returns c =
     let one = c.raised-most.ensures (λ _. 1) zero (λ x. omega arith) in
     let two = c.raised-most-2.ensures _ one (λ x. omega (arith, two_1 x)) in
     let value : c.raised.result ≡ map most_one c.args.sizes = c.raised.ensures _ two (λ x. omega (arith, one_2 x)) in
-        record {
+    record {
       value = value;
       small = subst (λ (xs : List ℕ). Each1 (λ x. x < 256) xs) (sym value)
           (each_map (λ x. x < 256) most_one (λ x. omega (arith, one_3 x)) c.args.sizes);

@@ -14,7 +14,7 @@ returns c =
     let four = c.raised-most-4.ensures _ three (λ x. omega (arith, two_3 x)) in
     let five = c.raised-most-5.ensures _ four (λ x. omega (arith, two_4 x)) in
     let value : c.raised.result ≡ map most_two c.args.sizes = c.raised.ensures _ five (λ x. omega (arith, two_5 x)) in
-        record {
+    record {
       value = value;
       small = subst (λ (xs : List ℕ). Each1 (λ x. x < 256) xs) (sym value)
           (each_map (λ x. x < 256) most_two (λ x. omega (arith, two_6 x)) c.args.sizes);

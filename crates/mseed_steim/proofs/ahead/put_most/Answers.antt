@@ -14,17 +14,17 @@ loop-turn-preserved c =
     let inside : at + 16 ≤ 64 = omega (arith, c.loop-turn-test.true) in
     let room = c.loop-turn.invariant.room in
     let long : length c.most_with.result ≡ 16 =
-        length_lanes (most_with c.args.scheme) _ c.most_with.result c.most_with.ensures
-        (length_part 64 at c.args.sizes.now c.told-sizes (omega (arith, inside))) in
+    length_lanes (most_with c.args.scheme) _ c.most_with.result c.most_with.ensures
+    (length_part 64 at c.args.sizes.now c.told-sizes (omega (arith, inside))) in
     record {
       room = put_length 80 at c.loop-turn.most c.most_with.result room (omega (arith, inside));
       done = λ i less. ⊎_elim
           (λ (before : i < at). put_below 80 at i c.loop-turn.most c.most_with.result room (omega (arith, inside))
-              before ∙ c.loop-turn.invariant.done i before)
+          before ∙ c.loop-turn.invariant.done i before)
           (λ (more : at ≤ i).
           let last : i < at + 16 = omega (arith, less) in
           put_at 80 at i c.loop-turn.most c.most_with.result room (omega (arith, inside)) long more last
-              ∙ mapped_part (most_with c.args.scheme) 64 at i c.args.sizes.now c.most_with.result c.told-sizes
-              (omega (arith, inside)) more last c.most_with.ensures)
+          ∙ mapped_part (most_with c.args.scheme) 64 at i c.args.sizes.now c.most_with.result c.told-sizes
+          (omega (arith, inside)) more last c.most_with.ensures)
           (cases_lt i at);
     }

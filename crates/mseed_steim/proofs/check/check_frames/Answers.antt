@@ -15,10 +15,10 @@ returns-then-sum-constants c =
     let sum_fits : FitsSigned w32 c.in-Ok.sum.last = search rules in
     let folded = rw (to_z-of_z, c.in-Some.ensures.first) at c.in-Ok.ensures in
     let same : c.in-Ok.sum.last ≡ last_constant c.args.payload.now = sym (to_z-of_z w32 c.in-Ok.sum.last sum_fits)
-        ∙ ap (to_z w32) c.if-sum-constants.true ∙ to_z-of_z w32 c.in-Some.constants.last last_fits
-        ∙ c.in-Some.ensures.last in
+    ∙ ap (to_z w32) c.if-sum-constants.true ∙ to_z-of_z w32 c.in-Some.constants.last last_fits
+    ∙ c.in-Some.ensures.last in
     ends_met c.args.scheme c.args.payload.now c.args.samples c.in-Ok.sum c.requires octets folded _
-        c.in-Some.ensures.first c.in-Some.ensures.last same
+    c.in-Some.ensures.first c.in-Some.ensures.last same
 
 pub returns-else-sum-constants : goal.returns-else-sum-constants
 returns-else-sum-constants c =
@@ -28,10 +28,10 @@ returns-else-sum-constants c =
     let sum_fits : FitsSigned w32 c.in-Ok.sum.last = search rules in
     let folded = rw (to_z-of_z, c.in-Some.ensures.first) at c.in-Ok.ensures in
     ends_differ c.args.scheme c.args.payload.now c.args.samples c.in-Ok.sum c.requires octets folded _ _
-        (to_z-of_z w32 c.in-Ok.sum.last sum_fits) (to_z-of_z w32 c.in-Some.constants.last last_fits
-        ∙ c.in-Some.ensures.last)
-        (λ e. c.if-sum-constants.false (ap (of_z w32) (sym (to_z-of_z w32 c.in-Ok.sum.last sum_fits) ∙ e
-        ∙ to_z-of_z w32 c.in-Some.constants.last last_fits)))
+    (to_z-of_z w32 c.in-Ok.sum.last sum_fits) (to_z-of_z w32 c.in-Some.constants.last last_fits
+    ∙ c.in-Some.ensures.last)
+    (λ e. c.if-sum-constants.false (ap (of_z w32) (sym (to_z-of_z w32 c.in-Ok.sum.last sum_fits) ∙ e
+    ∙ to_z-of_z w32 c.in-Some.constants.last last_fits)))
 
 pub returns-in-Some-find_lack : goal.returns-in-Some-find_lack
 returns-in-Some-find_lack c = lacking_fault c.args.scheme c.args.payload.now c.args.samples c.in-Some-find_lack.earlier
@@ -42,4 +42,4 @@ returns-in-None c =
     let first_fits : FitsSigned w32 c.in-Some.constants.first = search rules in
     let folded = rw (to_z-of_z, c.in-Some.ensures.first) at c.in-Err.ensures in
     walk_fault c.args.scheme c.args.payload.now c.args.samples c.in-Err.fault c.requires
-        (λ i. (c.type_inv.payload i).fits) folded (sym c.in-None.is ∙ c.find_lack.ensures)
+    (λ i. (c.type_inv.payload i).fits) folded (sym c.in-None.is ∙ c.find_lack.ensures)

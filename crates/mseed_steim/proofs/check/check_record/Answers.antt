@@ -9,20 +9,20 @@ use Rattle.mseed_steim.proofs.check.check_record.Goals as goal
 pub returns-in-Integers : goal.returns-in-Integers
 returns-in-Integers c =
     let count : c.from-samples.result ≡ count_of (view_of c.args.view.now) = c.from-samples.ensures
-        ∙ c.samples.ensures in
+    ∙ c.samples.ensures in
     let held : HoldsIn (view_of c.args.view.now) (Integers c.in-Integers.width) c.in-Ok.found.1.now =
-        rw c.in-Integers.is at c.in-Ok.ensures.held in
+    rw c.in-Integers.is at c.in-Ok.ensures.held in
     let checked = rw (c.payload_order.ensures, count) at c.check_integers.ensures in
     payload_answer (view_of c.args.view.now) (Integers c.in-Integers.width) c.in-Ok.found.1.now c.check_integers.result
-        c.requires held checked
+    c.requires held checked
 
 pub returns-in-Frames : goal.returns-in-Frames
 returns-in-Frames c =
     let count : c.from-samples.result ≡ count_of (view_of c.args.view.now) = c.from-samples.ensures
-        ∙ c.samples.ensures in
+    ∙ c.samples.ensures in
     let held : HoldsIn (view_of c.args.view.now) (Frames c.in-Frames.scheme) c.in-Ok.found.1.now =
-        rw c.in-Frames.is at c.in-Ok.ensures.held in
+    rw c.in-Frames.is at c.in-Ok.ensures.held in
     let big : (view_of c.args.view.now).payload_order ≡ Big = held.2 in
     let checked = rw count at c.check_frames.ensures in
     payload_answer (view_of c.args.view.now) (Frames c.in-Frames.scheme) c.in-Ok.found.1.now c.check_frames.result
-        c.requires held (rw big checked)
+    c.requires held (rw big checked)

@@ -28,4 +28,4 @@ returns-in-Err-clause-fault c =
     let some : form_of (view_of c.args.view.now).encoding ≡ Some c.in-Some.form = cc in
     let big : is_little_steim c.in-Some.form (view_of c.args.view.now).payload_order ≡ false = cc in
     data_offset one_rate c.in-Some.form some (readable_else c.in-Some.form (view_of c.args.view.now).payload_order big)
-        (λ p. false≢true (c.in-Err.ensures.ok.1 p))
+    (λ p. false≢true (c.in-Err.ensures.ok.1 p))

@@ -1,5 +1,5 @@
-use Rattle.std.proofs.Common.{◌≡◌, ◌∙◌, ◌++◌, ◌∷◌, List, ℤ, Ok, true, ap, sym, length, map, w32, FitsSigned, rules,
-    arith}
+use Rattle.std.proofs.Common.{◌≡◌, ◌∙◌, ◌++◌, ◌∷◌, List, ℤ, Ok, true, ap, sym, length, map, w32, FitsSigned, rules}
+use Rattle.std.proofs.Common.{arith}
 use Rattle.std.proofs.lemmas.Int.{to_z-of_z}
 use Rattle.std.proofs.lemmas.Bool.{eqb-true}
 use Rattle.mseed_steim.specs.private.Digits.{digits}
@@ -18,7 +18,7 @@ pub returns-then-not-is_empty-clause-run : goal.returns-then-not-is_empty-clause
 returns-then-not-is_empty-clause-run c = λ some scheme ds spelled.
     let fits : FitsSigned w32 c.in_ok-next.field-0 = search rules in
     let same = run_one scheme (byte_run (past_empty c.args.words.now)) ds (widened c.take_bytes-bytes.result.now)
-        spelled (rw c.pass_empty.ensures.past at (c.take_bytes-bytes.ensures.spelled scheme)) in
+    spelled (rw c.pass_empty.ensures.past at (c.take_bytes-bytes.ensures.spelled scheme)) in
     let cut = rw c.in_ok-next.was at c.next.ensures in
     rw to_z-of_z (ap (λ (zs : List ℤ). map Ok zs) (same ∙ sym c.set_bytes.ensures ∙ cut))
 
@@ -26,15 +26,19 @@ returns-then-not-is_empty-clause-run c = λ some scheme ds spelled.
 none_taken : (c : After-is_empty) → c.is_empty.result ≡ true → c.pass_empty.new.words ≡ c.take_bytes-bytes.new.self
 none_taken c e =
     nothing_taken c.pass_empty.new.words c.take_bytes-bytes.new.self c.take_bytes-bytes.result.now
-        c.take_bytes-bytes.ensures.cut c.take_bytes-bytes.ensures.count
+    c.take_bytes-bytes.ensures.cut c.take_bytes-bytes.ensures.count
     (eqb-true (length c.take_bytes-bytes.result.now) 0 (sym c.is_empty.ensures ∙ e))
 
 pub returns-in_err-word-clause-step : goal.returns-in_err-word-clause-step
 returns-in_err-word-clause-step c =
     let same = none_taken (goal.at.returns-in_err-word-clause-step c).After-is_empty c.if-not-is_empty.false in
     let left = c.in_err-word.ensures.steps in
-    rw c.from_residual-in_err-word.ensures (c.pass_empty.ensures.items c.args.scheme
-        ∙ no_items c.args.scheme c.pass_empty.new.words (same ∙ left.0), left.1, c.requires)
+    rw c.from_residual-in_err-word.ensures (
+      c.pass_empty.ensures.items c.args.scheme
+          ∙ no_items c.args.scheme c.pass_empty.new.words (same ∙ left.0),
+      left.1,
+      c.requires,
+    )
 
 pub returns-in_err-next-in-Some-clause-step : goal.returns-in_err-next-in-Some-clause-step
 returns-in_err-next-in-Some-clause-step c =
@@ -43,7 +47,7 @@ returns-in_err-next-in-Some-clause-step c =
     let ds : List ℤ = digits c.in-Some.group.width word.bits c.in-Some.group.count in
     let drawn = rw c.in_err-next-in-Some.was at c.next-in-Some.ensures in
     let front : past_empty c.args.words.now ≡ as_data word ∷ c.next-2.new.self = sym c.pass_empty.ensures.past ∙ same
-        ∙ c.in_ok-word.ensures.steps in
+    ∙ c.in_ok-word.ensures.steps in
     let other = rw front at (past_begins c.args.words.now) in
     let some = some_of c.args.scheme word.code word.bits ds other c.in-Some.ensures in
     let none : length ds ≡ 0 = ap (λ (zs : List ℤ). length zs) (sym c.set_group.ensures ∙ drawn.0) in
@@ -59,7 +63,7 @@ returns-in_ok-next-in-Some-clause-step c =
     let cut = rw c.in_ok-next-in-Some.was at c.next-in-Some.ensures in
     let all : ds ≡ c.in_ok-next-in-Some.field-0 ∷ c.next-in-Some.new.self = sym c.set_group.ensures ∙ cut in
     let step = items_group c.args.scheme c.take_bytes-bytes.new.self c.next-2.new.self (as_data word) ds
-        c.in_ok-word.ensures.steps c.in-Some.ensures in
+    c.in_ok-word.ensures.steps c.in-Some.ensures in
     let size = length-digits group.width word.bits group.count in
     let count = ap (λ (zs : List ℤ). length zs) all in
     let words = ap (λ (ws : List DataWord). length ws) (same ∙ c.in_ok-word.ensures.steps) in
@@ -75,8 +79,11 @@ pub returns-in-None-clause-step : goal.returns-in-None-clause-step
 returns-in-None-clause-step c =
     let same = none_taken (goal.at.returns-in-None-clause-step c).After-is_empty c.if-not-is_empty.false in
     let bad = items_bad c.args.scheme c.take_bytes-bytes.new.self c.next-2.new.self (as_data c.in_ok-word.word)
-        c.in_ok-word.ensures.steps c.in-None.ensures in
+    c.in_ok-word.ensures.steps c.in-None.ensures in
     let words = ap (λ (ws : List DataWord). length ws) (same ∙ c.in_ok-word.ensures.steps) in
-    let fewer = c.pass_empty.ensures.fewer in
-    (c.pass_empty.ensures.items c.args.scheme ∙ ap (λ (ws : List DataWord). items_of c.args.scheme ws) same ∙ bad,
-        c.pass_all.ensures, c.requires, omega (arith, words, fewer))
+    let fewer = c.pass_empty.ensures.fewer in (
+      c.pass_empty.ensures.items c.args.scheme ∙ ap (λ (ws : List DataWord). items_of c.args.scheme ws) same ∙ bad,
+      c.pass_all.ensures,
+      c.requires,
+      omega (arith, words, fewer),
+    )

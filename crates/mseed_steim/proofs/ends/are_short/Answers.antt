@@ -14,10 +14,10 @@ loop-index-preserved c =
     let P : ℕ → Type 0 = λ i. IsWithin 29 (twos_complement 4 (number_at c.args.order 4 (4 * i) c.args.payload.now)) in
     let same : to_z w32 (of_z w32 c.integer_at.result) ≡ c.integer_at.result = to_z-of_z w32 _ (search rules) in
     let value : to_z w32 (of_z w32 c.integer_at.result) ≡ twos_complement 4
-        (number_at c.args.order 4 (4 * index) c.args.payload.now) = same ∙ c.integer_at.ensures in
+    (number_at c.args.order 4 (4 * index) c.args.payload.now) = same ∙ c.integer_at.ensures in
     elim c.if-not-is_short.branch [
       | then-not-is_short w ↦ rw w.short-is
-      (not_all P index (λ p. false≢true (w.if-not-is_short.ensures.1 (rw value p))))
+          (not_all P index (λ p. false≢true (w.if-not-is_short.ensures.1 (rw value p))))
       | else-not-is_short w ↦ rw w.short-is (all_and_next P c.loop-index.short index c.loop-index.invariant
-      (rw value at (w.if-not-is_short.ensures.0 refl)))
+          (rw value at (w.if-not-is_short.ensures.0 refl)))
     ]

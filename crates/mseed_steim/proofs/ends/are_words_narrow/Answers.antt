@@ -1,5 +1,5 @@
-use Rattle.std.proofs.Common.{◌≡◌, ℕ, ◌+◌, ◌*◌, ◌<◌, ◌≤◌, ◌∙◌, ap, refl, sym, subst, arith, ⊎_elim, ℤ, w32, to_z, of_z,
-    rules}
+use Rattle.std.proofs.Common.{◌≡◌, ℕ, ◌+◌, ◌*◌, ◌<◌, ◌≤◌, ◌∙◌, ap, refl, sym, subst, arith, ⊎_elim, ℤ, w32, to_z, of_z}
+use Rattle.std.proofs.Common.{rules}
 use Rattle.std.proofs.lemmas.Bool.{cases_lt}
 use Rattle.std.proofs.lemmas.Int.{to_z-of_z}
 use Rattle.byteorder.specs.Endian.{twos_complement}
@@ -7,8 +7,8 @@ use Rattle.mseed_steim.specs.Frames.{code_at, word_at}
 use Rattle.mseed_steim.specs.Spelling.{IsWithin}
 use Rattle.mseed_steim.specs.Nearness.{IsNarrowAt}
 use Rattle.mseed_steim.proofs.Nearness.{code_is, word_value}
-use Rattle.mseed_steim.proofs.ends.are_words_narrow.Goals.{else-code_in-eq3-via-then-code_in-eq3+else-not-is_narrow,
-    else-code_in-eq3-via-else-code_in-eq3}
+use Rattle.mseed_steim.proofs.ends.are_words_narrow.Goals.{else-code_in-eq3-via-then-code_in-eq3+else-not-is_narrow}
+use Rattle.mseed_steim.proofs.ends.are_words_narrow.Goals.{else-code_in-eq3-via-else-code_in-eq3}
 use Rattle.mseed_steim.proofs.ends.are_words_narrow.Goals as goal
 
 pub loop-place-preserved : goal.loop-place-preserved
@@ -19,14 +19,14 @@ loop-place-preserved c = λ k from less.
     (λ (here : at ≤ k).
     let same : at ≡ k = omega (arith, here, less) in
     let code : c.code_in.result ≡ code_at c.args.payload.now at = c.code_in.ensures.value
-        ∙ code_is c.args.payload.now c.args.codes c.args.frame c.loop-place.place (omega arith) c.requires.codes in
+    ∙ code_is c.args.payload.now c.args.codes c.args.frame c.loop-place.place (omega arith) c.requires.codes in
     subst (λ (n : ℕ). IsNarrowAt c.args.payload.now n) same
     (elim c.else-code_in-eq3.branch [
       | else-code_in-eq3-via-then-code_in-eq3+else-not-is_narrow w ↦ λ _.
           let same : to_z w32 (of_z w32 w.cast_signed.result) ≡ w.cast_signed.result = to_z-of_z w32 _ (search rules) in
           let value : w.cast_signed.result ≡ twos_complement 4 (word_at c.args.payload.now at) = w.cast_signed.ensures
-              ∙ ap (to_z w32) w.read_word.ensures
-              ∙ sym (word_value c.args.payload.now at (λ i. (c.type_inv.payload i).fits)) in
+          ∙ ap (to_z w32) w.read_word.ensures
+          ∙ sym (word_value c.args.payload.now at (λ i. (c.type_inv.payload i).fits)) in
           subst (λ (z : ℤ). IsWithin 30 z) (same ∙ value) (w.if-not-is_narrow.ensures.0 refl)
       | else-code_in-eq3-via-else-code_in-eq3 w ↦ λ three. absurd (w.if-code_in-eq3.false (code ∙ three))
     ]))

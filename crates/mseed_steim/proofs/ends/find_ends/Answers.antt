@@ -9,12 +9,12 @@ use Rattle.mseed_steim.proofs.ends.find_ends.Goals as goal
 answer : (c : goal.After-check_integers) → IsAnswer (view_of c.args.view.now) c.check_integers.result
 answer c =
     let count : c.from-samples.result ≡ count_of (view_of c.args.view.now) = c.from-samples.ensures
-        ∙ c.samples.ensures in
+    ∙ c.samples.ensures in
     let held : HoldsIn (view_of c.args.view.now) (Integers c.in-Integers.width) c.in-Ok.found.1.now =
-        rw c.in-Integers.is at c.in-Ok.ensures.held in
+    rw c.in-Integers.is at c.in-Ok.ensures.held in
     let checked = rw (c.payload_order.ensures, count) at c.check_integers.ensures in
     payload_answer (view_of c.args.view.now) (Integers c.in-Integers.width) c.in-Ok.found.1.now c.check_integers.result
-        c.requires held checked
+    c.requires held checked
 
 pub returns-in-Integers-clause-ends : goal.returns-in-Integers-clause-ends
 returns-in-Integers-clause-ends c = answer_ends (view_of c.args.view.now) c.check_integers.result (answer c)
@@ -25,12 +25,12 @@ returns-in-Integers-clause-fault c = answer_fault (view_of c.args.view.now) c.ch
 pub returns-in-Some-clause-ends : goal.returns-in-Some-clause-ends
 returns-in-Some-clause-ends c =
     let held : HoldsIn (view_of c.args.view.now) (Frames c.in-Frames.field-0) c.in-Ok.found.1.now =
-        rw c.in-Frames.is at c.in-Ok.ensures.held in
+    rw c.in-Frames.is at c.in-Ok.ensures.held in
     constants_end (view_of c.args.view.now) c.in-Frames.field-0 c.in-Ok.found.1.now c.in-Some.ends held
-        c.in-Some.ensures.first c.in-Some.ensures.last
+    c.in-Some.ensures.first c.in-Some.ensures.last
 
 pub returns-in-None-clause-fault : goal.returns-in-None-clause-fault
 returns-in-None-clause-fault c =
     let held : HoldsIn (view_of c.args.view.now) (Frames c.in-Frames.field-0) c.in-Ok.found.1.now =
-        rw c.in-Frames.is at c.in-Ok.ensures.held in
+    rw c.in-Frames.is at c.in-Ok.ensures.held in
     frameless (view_of c.args.view.now) c.in-Frames.field-0 c.in-Ok.found.1.now c.requires held c.in-None.ensures.none

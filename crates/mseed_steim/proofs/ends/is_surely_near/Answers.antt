@@ -12,8 +12,8 @@ returns-clause-near c = OnTrue_from _ _ (λ e.
     let form = c.in-Ok.form in
     let payload = c.in-Ok.payload.now in
     let near : (s : List ℤ) → IsPayloadReading form c.payload_order.result payload c.from.result s → AreNear s =
-        OnTrue_at e c.shows_near.ensures.near in
+    OnTrue_at e c.shows_near.ensures.near in
     near_whole (view_of c.args.view.now) form payload c.from.result c.in-Ok.ensures.held (c.from.ensures
-        ∙ c.samples.ensures)
+    ∙ c.samples.ensures)
     (subst (λ (o : Order). (s : List ℤ) → IsPayloadReading form o payload c.from.result s
-        → AreNear s) c.payload_order.ensures near))
+    → AreNear s) c.payload_order.ensures near))

@@ -11,7 +11,7 @@ unfolding counts_one
 returns-clause-count c = λ from begins.
     let rows = c.rows_of-rows.ensures.value from begins in
     c.sum_of-count.ensures ∙ ap (λ n. n % 4294967296) (c.tally.ensures (row_at c.args.frame.now from) rows)
-        ∙ counted_one (row_at c.args.frame.now from)
+    ∙ counted_one (row_at c.args.frame.now from)
 
 pub returns-clause-by : goal.returns-clause-by
 unfolding flipped flipped_low least_one counts_one
@@ -34,7 +34,7 @@ returns-clause-by c = λ from begins few.
     let come = lanes_come_one _ _ _ _ _ _ _ _ _ _ low high
     c.times_256.ensures c.plus-raised.ensures c.times_512.ensures c.minus.ensures c.sum_of-sum.ensures in
     ap (λ z. to_z w32 (of_z w32 z)) c.cast_signed.ensures
-        ∙ ap (λ n. to_z w32 n) (of_z-to_z w32 c.sum_of-sum.result c.sum_of-sum.type_inv)
+    ∙ ap (λ n. to_z w32 n) (of_z-to_z w32 c.sum_of-sum.result c.sum_of-sum.type_inv)
     ∙ frame_sum_one f from c.fits-frame _ _ _ _ come c.sum_of-sum.type_inv refl refl least
     (subst (λ n. n < 128) count few)
 
@@ -43,5 +43,5 @@ unfolding counts_one
 returns-clause-near c = λ from begins few.
     let rows = c.rows_of-rows.ensures.value from begins in
     let count = c.sum_of-count.ensures ∙ ap (λ n. n % 4294967296) (c.tally.ensures (row_at c.args.frame.now from) rows)
-        ∙ counted_one (row_at c.args.frame.now from) in
+    ∙ counted_one (row_at c.args.frame.now from) in
     frame_near_one c.args.frame.now from c.fits-frame (subst (λ n. n < 128) count few)

@@ -1,6 +1,6 @@
 use Rattle.std.proofs.Common.{refl, ◌∙◌, ap, ◌%◌, ◌<◌, ℕ, subst}
-use Rattle.mseed_steim.specs.private.Lanes.{counts_two, row_at, byte_at, turned_a, turned_b, turned_c, turned_d,
-    least_two, least_coarse_two}
+use Rattle.mseed_steim.specs.private.Lanes.{counts_two, row_at, byte_at, turned_a, turned_b, turned_c, turned_d}
+use Rattle.mseed_steim.specs.private.Lanes.{least_two, least_coarse_two}
 use Rattle.mseed_steim.proofs.FrameNear.{frame_near_two}
 use Rattle.mseed_steim.proofs.LaneSums.{counted}
 use Rattle.mseed_steim.proofs.FrameSums.{lanes_come, frame_sum}
@@ -11,7 +11,7 @@ unfolding counts_two
 returns-clause-count c = λ from begins.
     let rows = c.rows_of-rows.ensures.value from begins in
     c.sum_of-count.ensures ∙ ap (λ n. n % 4294967296) (c.tally.ensures (row_at c.args.frame.now from) rows)
-        ∙ counted (row_at c.args.frame.now from)
+    ∙ counted (row_at c.args.frame.now from)
 
 pub returns-clause-by : goal.returns-clause-by
 unfolding turned_a turned_b turned_c turned_d least_two least_coarse_two counts_two
@@ -35,14 +35,14 @@ returns-clause-by c = λ from begins few.
     let far = c.tally-least_coarse.ensures R rows in
     let come = lanes_come _ _ _ _ _ _ _ _ _ _ _ _ _ _ _ _ ones fine coarse
     c.minus.ensures c.times_32768-coarse.ensures c.times_128.ensures c.plus.ensures c.plus-raised.ensures
-        c.times_1024.ensures c.minus-2.ensures c.sum_of-sum.ensures in
+    c.times_1024.ensures c.minus-2.ensures c.sum_of-sum.ensures in
     frame_sum f from c.fits-frame _ _ _ _ _ _ come c.sum_of-sum.type_inv refl refl refl least far
-        (subst (λ n. n < 128) count few)
+    (subst (λ n. n < 128) count few)
 
 pub returns-clause-near : goal.returns-clause-near
 unfolding counts_two
 returns-clause-near c = λ from begins few.
     let rows = c.rows_of-rows.ensures.value from begins in
     let count = c.sum_of-count.ensures ∙ ap (λ n. n % 4294967296) (c.tally.ensures (row_at c.args.frame.now from) rows)
-        ∙ counted (row_at c.args.frame.now from) in
+    ∙ counted (row_at c.args.frame.now from) in
     frame_near_two c.args.frame.now from c.fits-frame (subst (λ n. n < 128) count few)

@@ -8,16 +8,17 @@ use Rattle.mseed_steim.proofs.lanes.part.Goals as goal
 
 pub dot4 : goal.dot4
 dot4 c =
-    let small = c.look_up-2.ensures.below 65 c.requires.long c.requires.weight in
-    (dot4_Fits _ _ (and_fits c.args.plane c.look_up.result c.fits-plane.1) small,
-        more_below 65 128 (omega arith) c.look_up-2.result small)
+    let small = c.look_up-2.ensures.below 65 c.requires.long c.requires.weight in (
+      dot4_Fits _ _ (and_fits c.args.plane c.look_up.result c.fits-plane.1) small,
+      more_below 65 128 (omega arith) c.look_up-2.result small,
+    )
 
 pub returns : goal.returns
 returns c = λ byte row e f.
     let l = ap length c.look_up.ensures.value
-        ∙ length_of_table (λ r. get_or c.args.mask r 0) c.args.rows c.fits-rows.0 in
+    ∙ length_of_table (λ r. get_or c.args.mask r 0) c.args.rows c.fits-rows.0 in
     let m = ap length c.look_up-2.ensures.value
-        ∙ length_of_table (λ r. get_or c.args.weight r 0) c.args.rows c.fits-rows.0 in
+    ∙ length_of_table (λ r. get_or c.args.weight r 0) c.args.rows c.fits-rows.0 in
     weighed_words _ c.look_up-2.result _ _ words
     (length-zip2 bit_and c.args.plane c.look_up.result (omega (arith, l, c.fits-plane.0)) ∙ c.fits-plane.0) m
     (kept_words c.args.plane c.look_up.result c.args.rows c.args.mask byte row words c.look_up.ensures.value e f)

@@ -10,14 +10,15 @@ use Rattle.mseed_steim.proofs.lanes.part_by.Goals as goal
 pub dot4 : goal.dot4
 dot4 c =
     let small = all_of_each 65 (replicate 16 c.args.weight)
-        (Each1-replicate (λ x. x < 65) 16 c.args.weight (omega (arith, c.requires.weight))) in
-    (dot4_Fits _ (replicate 16 c.args.weight) (and_fits c.args.plane c.look_up.result c.fits-plane.1) small,
-        more_below 65 128 (omega arith) (replicate 16 c.args.weight) small)
+    (Each1-replicate (λ x. x < 65) 16 c.args.weight (omega (arith, c.requires.weight))) in (
+      dot4_Fits _ (replicate 16 c.args.weight) (and_fits c.args.plane c.look_up.result c.fits-plane.1) small,
+      more_below 65 128 (omega arith) (replicate 16 c.args.weight) small,
+    )
 
 pub returns : goal.returns
 returns c = λ byte row e f.
     let l = ap length c.look_up.ensures.value
-        ∙ length_of_table (λ r. get_or c.args.mask r 0) c.args.rows c.fits-rows.0 in
+    ∙ length_of_table (λ r. get_or c.args.mask r 0) c.args.rows c.fits-rows.0 in
     weighed_words _ (replicate 16 c.args.weight) _ (λ _. c.args.weight) words
     (length-zip2 bit_and c.args.plane c.look_up.result (omega (arith, l, c.fits-plane.0)) ∙ c.fits-plane.0) refl
     (kept_words c.args.plane c.look_up.result c.args.rows c.args.mask byte row words c.look_up.ensures.value e f)

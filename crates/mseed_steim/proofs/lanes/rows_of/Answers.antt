@@ -9,8 +9,22 @@ unfolding words
 returns-clause-value c = λ from begins.
     let small : (k : ℕ) → get_or c.args.frame.now k 0 < 256 = c.fits-frame in
     elim begins [
-      | inl h ↦ rw (h.0, c.low-2.ensures.value, c.look_up-codes.ensures.value, c.low.ensures.value, h.1, c.requires,
-      spelled c.args.frame.now (omega arith)) (rows_later c.args.frame.now small)
-      | inr h ↦ rw (h.0, c.low-2.ensures.value, c.look_up-codes.ensures.value, c.low.ensures.value, h.1, c.requires,
-      spelled c.args.frame.now (omega arith)) (rows_first c.args.frame.now small)
+      | inl h ↦ rw (
+        h.0,
+        c.low-2.ensures.value,
+        c.look_up-codes.ensures.value,
+        c.low.ensures.value,
+        h.1,
+        c.requires,
+        spelled c.args.frame.now (omega arith),
+      ) (rows_later c.args.frame.now small)
+      | inr h ↦ rw (
+        h.0,
+        c.low-2.ensures.value,
+        c.look_up-codes.ensures.value,
+        c.low.ensures.value,
+        h.1,
+        c.requires,
+        spelled c.args.frame.now (omega arith),
+      ) (rows_first c.args.frame.now small)
     ]

@@ -15,15 +15,15 @@ loop-index-preserved c =
     let inside : i < length c.args.diffs.now = omega (arith, c.loop-index-test.true, c.requires.eight) in
     let fits : FitsSigned w32 (get_or c.args.diffs.now i (pos 0)) = search rules in
     let digit : c.cast_unsigned.result ≡ of_z w32 (get_or c.args.diffs.now i (pos 0)) =
-        rw to_z-of_z at c.cast_unsigned.ensures in
+    rw to_z-of_z at c.cast_unsigned.ensures in
     placed_next layout.row.width layout.row.count i c.args.diffs.now c.loop-index.word c.cast_unsigned.result
-        layout.mask (get_or layout.places i 0) is.wide is.narrow is.room
+    layout.mask (get_or layout.places i 0) is.wide is.narrow is.room
     (omega (arith, is.most, c.requires.eight)) c.loop-index.invariant fits digit c.requires.layout.1
-        (c.requires.layout.3 i c.loop-index-test.true)
+    (c.requires.layout.3 i c.loop-index-test.true)
 
 pub returns : goal.returns
 returns c =
     let layout = c.args.layout.now in
     let is = (row_is c.args.scheme layout.row.count layout.row c.requires.layout.0).0 in
     placed_all layout.row.width layout.row.count c.args.diffs.now c.loop-index.index c.loop-index.word
-        (omega (arith, c.loop-index-test.false, is.most)) c.loop-index.invariant
+    (omega (arith, c.loop-index-test.false, is.most)) c.loop-index.invariant

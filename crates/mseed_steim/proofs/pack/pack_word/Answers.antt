@@ -7,12 +7,18 @@ pub returns-in-Some : goal.returns-in-Some
 returns-in-Some c =
     let best = c.in-Some.ensures.best in
     let full : IsFullest c.args.scheme c.args.diffs.now c.in-Some.row.code c.word_of.result c.in-Some.row.count =
-        is_fullest c.args.scheme c.args.diffs.now c.in-Some.row c.word_of.result best.0 best.1 best.2 best.3
-        (search rules) in
-    record { fullest = full; refused = fullest_not_large c.args.scheme c.args.diffs.now c.in-Some.row.code
-        c.word_of.result c.in-Some.row.count 0 full full.some }
+    is_fullest c.args.scheme c.args.diffs.now c.in-Some.row c.word_of.result best.0 best.1 best.2 best.3
+    (search rules) in
+    record {
+      fullest = full;
+      refused = fullest_not_large c.args.scheme c.args.diffs.now c.in-Some.row.code
+          c.word_of.result c.in-Some.row.count 0 full full.some;
+    }
 
 pub returns-in-None : goal.returns-in-None
 returns-in-None c =
-    record { fullest = tt; refused = none_large c.args.scheme c.args.diffs.now c.requires
-        (c.fullest_row.ensures.fits c.requires) c.in-None.ensures.best }
+    record {
+      fullest = tt;
+      refused = none_large c.args.scheme c.args.diffs.now c.requires
+          (c.fullest_row.ensures.fits c.requires) c.in-None.ensures.best;
+    }

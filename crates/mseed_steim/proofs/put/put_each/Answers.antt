@@ -1,5 +1,5 @@
-use Rattle.std.proofs.Common.{◌≡◌, ◌<◌, ◌+◌, ◌-◌, ◌++◌, map, take, length, List, ℤ, Ok, arith, ◌∙◌, ap, sym, rules, w32,
-    FitsSigned}
+use Rattle.std.proofs.Common.{◌≡◌, ◌<◌, ◌+◌, ◌-◌, ◌++◌, map, take, length, List, ℤ, Ok, arith, ◌∙◌, ap, sym, rules, w32}
+use Rattle.std.proofs.Common.{FitsSigned}
 use Rattle.std.proofs.lemmas.Int.{to_z-of_z}
 use Rattle.mseed_steim.specs.private.Digits.{digits, digit_at}
 use Rattle.mseed_steim.specs.private.Sums.{met_in}
@@ -12,32 +12,32 @@ use Rattle.mseed_steim.proofs.put.put_each.Goals as goal
 pub returns-then-sum-samples-clause-goes_on : goal.returns-then-sum-samples-clause-goes_on
 returns-then-sum-samples-clause-goes_on c = λ more.
     c.loop-i.invariant.same more ∙ fold_enough c.args.samples c.loop-i.sum _ c.if-sum-samples.true
-        ∙ sym (fold_enough c.args.samples c.loop-i.sum more c.if-sum-samples.true)
+    ∙ sym (fold_enough c.args.samples c.loop-i.sum more c.if-sum-samples.true)
 
 pub returns-then-sum-samples-clause-kept : goal.returns-then-sum-samples-clause-kept
 returns-then-sum-samples-clause-kept c = λ more.
     ap (λ (xs : List ℤ). take c.loop-i.sum.met c.loop-i.out ++ xs)
     (met_enough c.args.samples c.loop-i.sum more c.if-sum-samples.true
-        ∙ sym (met_enough c.args.samples c.loop-i.sum
-        (map Ok (digits c.args.group.width c.args.word (c.args.group.count - c.loop-i.i)) ++ more)
-        c.if-sum-samples.true))
+    ∙ sym (met_enough c.args.samples c.loop-i.sum
+    (map Ok (digits c.args.group.width c.args.word (c.args.group.count - c.loop-i.i)) ++ more)
+    c.if-sum-samples.true))
     ∙ c.loop-i.invariant.kept more
 
 pub returns-in-Err-clause-goes_on : goal.returns-in-Err-clause-goes_on
 returns-in-Err-clause-goes_on c =
     let digit : c.read_digit-difference.result ≡ digit_at c.args.group.width c.args.word
-        (c.args.group.count - 1 - c.loop-i.i) = c.read_digit-difference.ensures in
+    (c.args.group.count - 1 - c.loop-i.i) = c.read_digit-difference.ensures in
     let fits : FitsSigned w32 c.read_digit-difference.result = search rules in
     let step = digits_step c.args.group.width c.args.word c.args.group.count c.loop-i.i c.loop-i-test.true in
     let same = rw (step, ← digit) at c.loop-i.invariant.same in
     λ more. same more ∙ (rw to_z-of_z at
-        (c.in-Err.ensures.goes_on
-        (map Ok (digits c.args.group.width c.args.word (c.args.group.count - (c.loop-i.i + 1))) ++ more)))
+    (c.in-Err.ensures.goes_on
+    (map Ok (digits c.args.group.width c.args.word (c.args.group.count - (c.loop-i.i + 1))) ++ more)))
 
 pub loop-i-preserved : goal.loop-i-preserved
 loop-i-preserved c =
     let digit : c.read_digit-difference.result ≡ digit_at c.args.group.width c.args.word
-        (c.args.group.count - 1 - c.loop-i.i) = c.read_digit-difference.ensures in
+    (c.args.group.count - 1 - c.loop-i.i) = c.read_digit-difference.ensures in
     let fits : FitsSigned w32 c.read_digit-difference.result = search rules in
     let last : FitsSigned w32 c.in-Ok.next.last = search rules in
     let step = digits_step c.args.group.width c.args.word c.args.group.count c.loop-i.i c.loop-i-test.true in
@@ -54,7 +54,7 @@ loop-i-preserved c =
           let rest = map Ok (digits c.args.group.width c.args.word (c.args.group.count - (c.loop-i.i + 1))) ++ more in
           let met = rw to_z-of_z at (c.in-Ok.ensures.kept rest) in
           rw to_z-of_z (take_put c.loop-i.out c.loop-i.sum.met c.in-Ok.next.met c.in-Ok.next.last
-              (met_in c.args.samples c.in-Ok.next rest) inside c.in-Ok.ensures.met
+          (met_in c.args.samples c.in-Ok.next rest) inside c.in-Ok.ensures.met
           ∙ ap (λ (xs : List ℤ). take c.loop-i.sum.met c.loop-i.out ++ xs) (sym met)
           ∙ kept more);
     }

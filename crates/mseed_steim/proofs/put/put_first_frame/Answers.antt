@@ -18,7 +18,7 @@ behind c =
     let some : 3 % 16 ≢ 0 = λ e. omega arith in
     let step = words_step c.args.payload.now 3 12 some in
     let same : as_data c.in-Some.word ∷ c.next.new.self ≡ data_word c.args.payload.now 3
-        ∷ words_from c.args.payload.now 4 12 = sym (whole c) ∙ step in
+    ∷ words_from c.args.payload.now 4 12 = sym (whole c) ∙ step in
     cc
 
 -- word 3
@@ -30,7 +30,7 @@ first c rest =
     let fits : FitsSigned w32 c.args.first = c.ranges.first in
     let step = rw to_z-of_z at (c.in-Ok.ensures.goes_on (c.next.new.self ++ rest)) in
     ap (λ (ws : List DataWord). fold c.args.samples (record { met = 0; last = c.args.first })
-        (items_of c.args.scheme (ws ++ rest))) (whole c) ∙ step
+    (items_of c.args.scheme (ws ++ rest))) (whole c) ∙ step
 
 first_kept : (c : In-Ok) (rest : List DataWord)
     → take c.in-Ok.sum.met c.put_word.new.out ++ met_in c.args.samples c.in-Ok.sum
@@ -41,7 +41,7 @@ first_kept c rest =
     let fits : FitsSigned w32 c.args.first = c.ranges.first in
     let step = rw to_z-of_z at (c.in-Ok.ensures.kept (c.next.new.self ++ rest)) in
     step ∙ ap (λ (ws : List DataWord). met_in c.args.samples (record { met = 0; last = c.args.first })
-        (items_of c.args.scheme (ws ++ rest))) (sym (whole c))
+    (items_of c.args.scheme (ws ++ rest))) (sym (whole c))
 
 pub returns-in-Some-put_at_once-clause-goes_on : goal.returns-in-Some-put_at_once-clause-goes_on
 returns-in-Some-put_at_once-clause-goes_on c = λ rest.
@@ -62,14 +62,14 @@ pub returns-in-None-clause-goes_on : goal.returns-in-None-clause-goes_on
 returns-in-None-clause-goes_on c = λ rest.
     let at = (goal.at.returns-in-None-clause-goes_on c).In-Ok in
     goes_from c.args.samples (record { met = 0; last = c.args.first }) c.in-Ok.sum _ _ (items_of c.args.scheme rest)
-        c.put_all_words.result (first at rest) (c.put_all_words.ensures.goes_on rest)
+    c.put_all_words.result (first at rest) (c.put_all_words.ensures.goes_on rest)
 
 pub returns-in-None-clause-kept : goal.returns-in-None-clause-kept
 returns-in-None-clause-kept c = λ rest.
     let at = (goal.at.returns-in-None-clause-kept c).In-Ok in
     let kept = rw c.in-None.ensures.none at c.put_all_words.ensures.kept in
     keeps_from c.args.samples (record { met = 0; last = c.args.first }) c.in-Ok.sum c.args.out.now c.put_word.new.out _
-        _ _ (items_of c.args.scheme rest) c.put_all_words.result (first_kept at rest) (kept rest)
+    _ _ (items_of c.args.scheme rest) c.put_all_words.result (first_kept at rest) (kept rest)
 
 pub put_at_once-requires-clause-begins : goal.put_at_once-requires-clause-begins
 put_at_once-requires-clause-begins c = (4, inr (refl, refl))

@@ -19,25 +19,25 @@ pub returns-then-samples-sum-clause-kept : goal.returns-then-samples-sum-clause-
 returns-then-samples-sum-clause-kept c = λ rest.
     let all : c.args.sum.met ≡ c.args.samples = omega arith in
     ap (λ (xs : List ℤ). take c.args.sum.met c.args.out.now ++ xs)
-        (met_enough c.args.samples c.args.sum (items_of c.args.scheme rest) all
-        ∙ sym (met_enough c.args.samples c.args.sum (items_of c.args.scheme (as_data c.args.word ∷ rest)) all))
+    (met_enough c.args.samples c.args.sum (items_of c.args.scheme rest) all
+    ∙ sym (met_enough c.args.samples c.args.sum (items_of c.args.scheme (as_data c.args.word ∷ rest)) all))
 
 pub returns-in-Some-clause-goes_on : goal.returns-in-Some-clause-goes_on
 returns-in-Some-clause-goes_on c = λ rest.
     let group = c.in-Some.group in
     let step = items_group c.args.scheme (as_data c.args.word ∷ rest) rest (as_data c.args.word)
-        (digits group.width c.args.word.bits group.count) refl c.in-Some.ensures in
+    (digits group.width c.args.word.bits group.count) refl c.in-Some.ensures in
     subst (λ (items : List (Result ℤ BadWordAt)). GoesOn c.args.samples c.args.sum items (items_of c.args.scheme rest)
-        c.put_each.result) (sym step) (c.put_each.ensures.goes_on (items_of c.args.scheme rest))
+    c.put_each.result) (sym step) (c.put_each.ensures.goes_on (items_of c.args.scheme rest))
 
 pub returns-in-Some-clause-kept : goal.returns-in-Some-clause-kept
 returns-in-Some-clause-kept c = λ rest.
     let group = c.in-Some.group in
     let step = items_group c.args.scheme (as_data c.args.word ∷ rest) rest (as_data c.args.word)
-        (digits group.width c.args.word.bits group.count) refl c.in-Some.ensures in
+    (digits group.width c.args.word.bits group.count) refl c.in-Some.ensures in
     subst (λ (items : List (Result ℤ BadWordAt)). Keeps c.args.samples c.args.sum c.args.out.now items
-        (items_of c.args.scheme rest) c.put_each.new.out c.put_each.result) (sym step)
-        (c.put_each.ensures.kept (items_of c.args.scheme rest))
+    (items_of c.args.scheme rest) c.put_each.new.out c.put_each.result) (sym step)
+    (c.put_each.ensures.kept (items_of c.args.scheme rest))
 
 pub returns-in-None-clause-goes_on : goal.returns-in-None-clause-goes_on
 returns-in-None-clause-goes_on c = λ rest.

@@ -17,10 +17,10 @@ returns-then-sum-constants c =
     let folded = rw (to_z-of_z, c.in-Some.ensures.first) at c.in-Ok.ensures.folded in
     let kept = rw (to_z-of_z, c.in-Some.ensures.first) at c.in-Ok.ensures.kept in
     let same : c.in-Ok.sum.last ≡ last_constant c.args.payload.now = sym (to_z-of_z w32 c.in-Ok.sum.last sum_fits)
-        ∙ ap (to_z w32) c.if-sum-constants.true ∙ to_z-of_z w32 c.in-Some.constants.last last_fits
-        ∙ c.in-Some.ensures.last in
+    ∙ ap (to_z w32) c.if-sum-constants.true ∙ to_z-of_z w32 c.in-Some.constants.last last_fits
+    ∙ c.in-Some.ensures.last in
     filled_met c.args.scheme c.args.payload.now c.args.samples c.in-Ok.sum c.put_words.new.out c.requires.some octets
-        folded kept same
+    folded kept same
 
 pub returns-else-sum-constants : goal.returns-else-sum-constants
 returns-else-sum-constants c =
@@ -30,10 +30,10 @@ returns-else-sum-constants c =
     let sum_fits : FitsSigned w32 c.in-Ok.sum.last = search rules in
     let folded = rw (to_z-of_z, c.in-Some.ensures.first) at c.in-Ok.ensures.folded in
     ends_differ c.args.scheme c.args.payload.now c.args.samples c.in-Ok.sum c.requires.some octets folded _ _
-        (to_z-of_z w32 c.in-Ok.sum.last sum_fits) (to_z-of_z w32 c.in-Some.constants.last last_fits
-        ∙ c.in-Some.ensures.last)
-        (λ e. c.if-sum-constants.false (ap (of_z w32) (sym (to_z-of_z w32 c.in-Ok.sum.last sum_fits) ∙ e
-        ∙ to_z-of_z w32 c.in-Some.constants.last last_fits)))
+    (to_z-of_z w32 c.in-Ok.sum.last sum_fits) (to_z-of_z w32 c.in-Some.constants.last last_fits
+    ∙ c.in-Some.ensures.last)
+    (λ e. c.if-sum-constants.false (ap (of_z w32) (sym (to_z-of_z w32 c.in-Ok.sum.last sum_fits) ∙ e
+    ∙ to_z-of_z w32 c.in-Some.constants.last last_fits)))
 
 pub returns-in-Some-find_lack : goal.returns-in-Some-find_lack
 returns-in-Some-find_lack c = lacking_fault c.args.scheme c.args.payload.now c.args.samples c.in-Some-find_lack.earlier
@@ -44,4 +44,4 @@ returns-in-None c =
     let first_fits : FitsSigned w32 c.in-Some.constants.first = search rules in
     let folded = rw (to_z-of_z, c.in-Some.ensures.first) at c.in-Err.ensures.folded in
     walk_fault c.args.scheme c.args.payload.now c.args.samples c.in-Err.fault c.requires.some
-        (λ i. (c.type_inv.payload i).fits) folded (sym c.in-None.is ∙ c.find_lack.ensures)
+    (λ i. (c.type_inv.payload i).fits) folded (sym c.in-None.is ∙ c.find_lack.ensures)

@@ -26,7 +26,7 @@ returns-then-sum-samples-clause-kept c =
 pub returns-in_default-clause-folded : goal.returns-in_default-clause-folded
 returns-in_default-clause-folded c =
     let bad = items_bad c.args.scheme c.loop-word.word-iterator c.next.new.self (as_data c.in-Some.word)
-        c.in-Some.ensures.steps c.in_default.ensures in
+    c.in-Some.ensures.steps c.in_default.ensures in
     let first = c.ranges.first in
     let same = rw to_z-of_z at c.loop-word.invariant.same in
     sym (same ∙ ap (λ (items : List (Result ℤ BadWordAt)). fold c.args.samples c.loop-word.sum items) bad
@@ -36,9 +36,9 @@ pub returns-in-Err-clause-folded : goal.returns-in-Err-clause-folded
 returns-in-Err-clause-folded c =
     let ds = c.as_slice.result.now in
     let found : differences_of c.args.scheme c.in-Some.word.code c.in-Some.word.bits ≡ Some ds =
-        rw (c.as_slice.ensures.value, c.differences_in-differences.ensures) c.in-Some-group_of.ensures in
+    rw (c.as_slice.ensures.value, c.differences_in-differences.ensures) c.in-Some-group_of.ensures in
     let step = items_group c.args.scheme c.loop-word.word-iterator c.next.new.self (as_data c.in-Some.word) ds
-        c.in-Some.ensures.steps found in
+    c.in-Some.ensures.steps found in
     let first = c.ranges.first in
     let same = rw to_z-of_z at c.loop-word.invariant.same in
     sym (same ∙ ap (λ (items : List (Result ℤ BadWordAt)). fold c.args.samples c.loop-word.sum items) step
@@ -48,9 +48,9 @@ pub loop-word-preserved : goal.loop-word-preserved
 loop-word-preserved c =
     let ds = c.as_slice.result.now in
     let found : differences_of c.args.scheme c.in-Some.word.code c.in-Some.word.bits ≡ Some ds =
-        rw (c.as_slice.ensures.value, c.differences_in-differences.ensures) c.in-Some-group_of.ensures in
+    rw (c.as_slice.ensures.value, c.differences_in-differences.ensures) c.in-Some-group_of.ensures in
     let step = items_group c.args.scheme c.loop-word.word-iterator c.next.new.self (as_data c.in-Some.word) ds
-        c.in-Some.ensures.steps found in
+    c.in-Some.ensures.steps found in
     record {
       room = search rules;
       met = c.in-Ok.ensures.met;

@@ -16,17 +16,17 @@ loop-index-preserved c =
     let fits : FitsSigned w32 (get_or c.args.diffs.now i (pos 0)) = search rules in
     let one = rw to_z-of_z at c.size_of.ensures in
     let known : Sized c.args.diffs.now (i + 1) c.max-size.result =
-        sized_more c.args.diffs.now i c.loop-index.size c.size_of.result c.max-size.result inside
-        c.loop-index.invariant.known one ((one 32).1 (fits_within _ fits)) c.max-size.ensures in
+    sized_more c.args.diffs.now i c.loop-index.size c.size_of.result c.max-size.result inside
+    c.loop-index.invariant.known one ((one 32).1 (fits_within _ fits)) c.max-size.ensures in
     record {
       known = known;
       best = elim c.if-size-size_limit.branch [
         | then-size-size_limit w ↦ rw w.count-is
-        (best_more c.args.scheme c.args.diffs.now (i + 1) c.max-size.result known
-        (omega (arith, w.if-size-size_limit.true, c.size_limit.ensures)))
+            (best_more c.args.scheme c.args.diffs.now (i + 1) c.max-size.result known
+            (omega (arith, w.if-size-size_limit.true, c.size_limit.ensures)))
         | else-size-size_limit w ↦ rw w.count-is (best_same c.args.scheme c.args.diffs.now i c.max-size.result
-        (row_for c.args.scheme c.loop-index.count) inside known
-        (omega (arith, w.if-size-size_limit.false, c.size_limit.ensures)) c.loop-index.invariant.best)
+            (row_for c.args.scheme c.loop-index.count) inside known
+            (omega (arith, w.if-size-size_limit.false, c.size_limit.ensures)) c.loop-index.invariant.best)
       ];
     }
 

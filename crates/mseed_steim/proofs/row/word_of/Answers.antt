@@ -8,4 +8,4 @@ returns c =
     let front = take c.args.row.count c.args.diffs.now in
     let long : length front ≡ c.args.row.count = length-take-le c.args.row.count c.args.diffs.now c.requires.inside in
     rw c.join_digits.ensures (dnib_joined c.args.row.dnib c.args.row.width front c.requires.dnib
-        (rw long c.requires.room) (λ some. rw long (c.requires.apart some)))
+    (rw long c.requires.room) (λ some. rw long (c.requires.apart some)))

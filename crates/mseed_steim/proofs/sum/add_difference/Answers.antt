@@ -18,7 +18,7 @@ returns-in-Some-clause-goes_on c = λ more.
     let next : FitsSigned w32 c.in-Some.last = search rules in
     let sum = rw (to_z-of_z, to_z-of_z) at c.in-Some.ensures in
     let step = fold_add c.args.samples c.args.sum c.args.difference more c.requires (omega arith)
-        (fits_true (c.args.sum.last +ℤ c.args.difference) sum.0) in
+    (fits_true (c.args.sum.last +ℤ c.args.difference) sum.0) in
     rw (to_z-of_z, sum.1) step
 
 pub returns-in-None-clause-goes_on : goal.returns-in-None-clause-goes_on
@@ -27,14 +27,14 @@ returns-in-None-clause-goes_on c = λ more.
     let difference : FitsSigned w32 c.args.difference = search rules in
     let sum = rw (to_z-of_z, to_z-of_z) at c.in-None.ensures in
     fold_over c.args.samples c.args.sum c.args.difference more c.requires (omega arith)
-        (fits_false (c.args.sum.last +ℤ c.args.difference) sum)
+    (fits_false (c.args.sum.last +ℤ c.args.difference) sum)
 
 pub returns-then-sum-eq0-clause-kept : goal.returns-then-sum-eq0-clause-kept
 returns-then-sum-eq0-clause-kept c =
     let last : FitsSigned w32 c.args.sum.last = search rules in
     let one : c.args.sum.met + 1 ≡ 1 = omega arith in
     rw (to_z-of_z) (λ more. rw one at (met_first c.args.samples c.args.sum c.args.difference more c.requires
-        c.if-sum-eq0.true))
+    c.if-sum-eq0.true))
 
 pub returns-in-Some-clause-kept : goal.returns-in-Some-clause-kept
 returns-in-Some-clause-kept c =
@@ -43,4 +43,4 @@ returns-in-Some-clause-kept c =
     let next : FitsSigned w32 c.in-Some.last = search rules in
     let sum = rw (to_z-of_z, to_z-of_z) at c.in-Some.ensures in
     rw (to_z-of_z, sum.1) (λ more. met_add c.args.samples c.args.sum c.args.difference more c.requires (omega arith)
-        (fits_true (c.args.sum.last +ℤ c.args.difference) sum.0))
+    (fits_true (c.args.sum.last +ℤ c.args.difference) sum.0))

@@ -9,23 +9,23 @@ use Rattle.mseed_steim.proofs.sum.add_group.Goals as goal
 pub returns-then-sum-samples-clause-goes_on : goal.returns-then-sum-samples-clause-goes_on
 returns-then-sum-samples-clause-goes_on c = λ more.
     c.loop-i.invariant.same more ∙ fold_enough c.args.samples c.loop-i.sum _ c.if-sum-samples.true
-        ∙ sym (fold_enough c.args.samples c.loop-i.sum more c.if-sum-samples.true)
+    ∙ sym (fold_enough c.args.samples c.loop-i.sum more c.if-sum-samples.true)
 
 pub returns-in-Err-clause-goes_on : goal.returns-in-Err-clause-goes_on
 returns-in-Err-clause-goes_on c =
     let digit : c.read_digit-difference.result ≡ digit_at c.args.group.width c.args.word
-        (c.args.group.count - 1 - c.loop-i.i) = c.read_digit-difference.ensures in
+    (c.args.group.count - 1 - c.loop-i.i) = c.read_digit-difference.ensures in
     let fits : FitsSigned w32 c.read_digit-difference.result = search rules in
     let step = digits_step c.args.group.width c.args.word c.args.group.count c.loop-i.i c.loop-i-test.true in
     let same = rw (step, ← digit) at c.loop-i.invariant.same in
     λ more. same more ∙ (rw to_z-of_z at
-        (c.in-Err.ensures.goes_on
-        (map Ok (digits c.args.group.width c.args.word (c.args.group.count - (c.loop-i.i + 1))) ++ more)))
+    (c.in-Err.ensures.goes_on
+    (map Ok (digits c.args.group.width c.args.word (c.args.group.count - (c.loop-i.i + 1))) ++ more)))
 
 pub loop-i-preserved : goal.loop-i-preserved
 loop-i-preserved c =
     let digit : c.read_digit-difference.result ≡ digit_at c.args.group.width c.args.word
-        (c.args.group.count - 1 - c.loop-i.i) = c.read_digit-difference.ensures in
+    (c.args.group.count - 1 - c.loop-i.i) = c.read_digit-difference.ensures in
     let fits : FitsSigned w32 c.read_digit-difference.result = search rules in
     let step = digits_step c.args.group.width c.args.word c.args.group.count c.loop-i.i c.loop-i-test.true in
     let same = rw (step, ← digit) at c.loop-i.invariant.same in

@@ -14,10 +14,10 @@ returns-clause-goes_on c = λ more.
     let difference : FitsSigned w32 c.args.difference = search rules in
     let near = inside c.args.sum.last c.args.difference c.requires.near in
     let wrapped = wrapping_add_is w32 c.args.sum.last c.args.difference last difference
-        ∙ int_wrap_fits w32 (c.args.sum.last +ℤ c.args.difference)
-        (near_signed (c.args.sum.last +ℤ c.args.difference) near) in
+    ∙ int_wrap_fits w32 (c.args.sum.last +ℤ c.args.difference)
+    (near_signed (c.args.sum.last +ℤ c.args.difference) near) in
     rw wrapped (fold_add c.args.samples c.args.sum c.args.difference more c.requires.left c.requires.some
-        (near_fits (c.args.sum.last +ℤ c.args.difference) near))
+    (near_fits (c.args.sum.last +ℤ c.args.difference) near))
 
 pub returns-clause-kept : goal.returns-clause-kept
 returns-clause-kept c = λ more.
@@ -25,10 +25,10 @@ returns-clause-kept c = λ more.
     let difference : FitsSigned w32 c.args.difference = search rules in
     let near = inside c.args.sum.last c.args.difference c.requires.near in
     let wrapped = wrapping_add_is w32 c.args.sum.last c.args.difference last difference
-        ∙ int_wrap_fits w32 (c.args.sum.last +ℤ c.args.difference)
-        (near_signed (c.args.sum.last +ℤ c.args.difference) near) in
+    ∙ int_wrap_fits w32 (c.args.sum.last +ℤ c.args.difference)
+    (near_signed (c.args.sum.last +ℤ c.args.difference) near) in
     rw wrapped (met_add c.args.samples c.args.sum c.args.difference more c.requires.left c.requires.some
-        (near_fits (c.args.sum.last +ℤ c.args.difference) near))
+    (near_fits (c.args.sum.last +ℤ c.args.difference) near))
 
 pub returns-clause-last : goal.returns-clause-last
 returns-clause-last c =
@@ -36,5 +36,5 @@ returns-clause-last c =
     let difference : FitsSigned w32 c.args.difference = search rules in
     let near = inside c.args.sum.last c.args.difference c.requires.near in
     wrapping_add_is w32 c.args.sum.last c.args.difference last difference
-        ∙ int_wrap_fits w32 (c.args.sum.last +ℤ c.args.difference)
-        (near_signed (c.args.sum.last +ℤ c.args.difference) near)
+    ∙ int_wrap_fits w32 (c.args.sum.last +ℤ c.args.difference)
+    (near_signed (c.args.sum.last +ℤ c.args.difference) near)

@@ -10,7 +10,7 @@ returns c = λ width place positive room lift fall.
     let up : FitsSigned w32 c.cast_signed.result = search rules in
     let value = rw lift at c.cast_signed.ensures in
     let down = ap (λ (z : ℤ). shr_z z (2 ^ (32 - width))) (to_z-of_z w32 c.cast_signed.result up ∙ value)
-        ∙ shifted width place c.args.word positive room in
+    ∙ shifted width place c.args.word positive room in
     rw fall (ap (λ (z : ℤ). to_z w32 (of_z w32 z)) down
-        ∙ to_z-of_z w32 (digit_at width c.args.word place)
-        (digit_fits width place c.args.word positive (narrow width place room)))
+    ∙ to_z-of_z w32 (digit_at width c.args.word place)
+    (digit_fits width place c.args.word positive (narrow width place room)))

@@ -20,7 +20,7 @@ returns-clause-count c = λ from begins.
     let rows = c.rows_of-rows.ensures.value from begins in
     elim c.match-scheme.branch [
       | in-One w ↦ rw w.in-One.is (w.count-is ∙ w.sum_of-count.ensures
-      ∙ ap (λ (n : ℕ). n % 4294967296) (w.tally.ensures row rows) ∙ counted_one row)
+          ∙ ap (λ (n : ℕ). n % 4294967296) (w.tally.ensures row rows) ∙ counted_one row)
       | in-Two w ↦ rw w.in-Two.is (w.count-is ∙ w.sum_of-count-in-Two.ensures
-      ∙ ap (λ (n : ℕ). n % 4294967296) (w.tally-in-Two.ensures row rows) ∙ counted row)
+          ∙ ap (λ (n : ℕ). n % 4294967296) (w.tally-in-Two.ensures row rows) ∙ counted row)
     ]

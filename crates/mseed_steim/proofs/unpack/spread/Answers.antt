@@ -13,7 +13,7 @@ loop-lane-preserved c =
     let count = c.args.by.now.count in
     let lane = c.loop-lane.lane in
     let inside : c.args.at + lane < length c.loop-lane.differences =
-        omega (arith, c.loop-lane.invariant.long, c.loop-lane-test.true, c.requires.few, c.requires.room) in
+    omega (arith, c.loop-lane.invariant.long, c.loop-lane-test.true, c.requires.few, c.requires.room) in
     record {
       long = search rules;
       so_far = λ width u.
@@ -21,9 +21,9 @@ loop-lane-preserved c =
           let some : 0 < count = omega (arith, less) in
           let place : count - 1 - lane + 1 ≡ count - lane = omega (arith, less) in
           c.digit_by.ensures width (count - 1 - lane) (u.positive some) (room_at width count lane less u.fits)
-              (rw place (u.lifts lane less)) (u.fall some) in
+          (rw place (u.lifts lane less)) (u.fall some) in
           rw to_z-of_z (next_lane c.loop-lane.differences _ c.args.at lane count width c.args.word c.digit_by.result
-              inside value (c.loop-lane.invariant.so_far width u));
+          inside value (c.loop-lane.invariant.so_far width u));
     }
 
 pub returns : goal.returns

@@ -5,9 +5,9 @@ use Rattle.mseed_steim.proofs.unpack.unpack_by.Goals as goal
 pub returns-clause-items : goal.returns-clause-items
 returns-clause-items c = λ p k from rest begins e.
     let narrow = all_narrow c.args.scheme c.args.frame.now from
-        (subst (λ (n : ℕ). n < 128) (c.rows_in-count.ensures.count from begins) (omega arith)) in
+    (subst (λ (n : ℕ). n < 128) (c.rows_in-count.ensures.count from begins) (omega arith)) in
     let same = c.unpack_words.ensures.unpacked from (λ word less. c.rows_in-count.ensures.rows from word begins less)
-        narrow in
+    narrow in
     rw same (all_spelled c.args.scheme p c.args.frame.now c.args.begin k from begins e c.fits-frame narrow rest)
 
 pub returns-clause-near : goal.returns-clause-near
@@ -16,5 +16,5 @@ returns-clause-near c =
     let few = subst (λ (n : ℕ). n < 128) (c.rows_in-count.ensures.count from c.requires.1) (omega arith) in
     let narrow = all_narrow c.args.scheme c.args.frame.now from few in
     let same = c.unpack_words.ensures.unpacked from
-        (λ word less. c.rows_in-count.ensures.rows from word c.requires.1 less) narrow in
+    (λ word less. c.rows_in-count.ensures.rows from word c.requires.1 less) narrow in
     rw same (all_near c.args.scheme c.args.frame.now from c.fits-frame few)

@@ -1,5 +1,5 @@
-use Rattle.std.proofs.Common.{◌≡◌, ◌<◌, ◌≤◌, ◌+◌, ◌++◌, ◌∙◌, ℕ, List, ℤ, take, get_or, ap, sym, refl, arith, append-nil,
-    append_assoc}
+use Rattle.std.proofs.Common.{◌≡◌, ◌<◌, ◌≤◌, ◌+◌, ◌++◌, ◌∙◌, ℕ, List, ℤ, take, get_or, ap, sym, refl, arith, append-nil}
+use Rattle.std.proofs.Common.{append_assoc}
 use Rattle.mseed_steim.specs.private.Digits.{digits}
 use Rattle.mseed_steim.specs.private.Lanes.{row_at, word_at}
 use Rattle.mseed_steim.specs.private.Unpacked.{lanes_of, differences_at, unpacked, widths_of}
@@ -34,9 +34,9 @@ loop-index-preserved c =
           let u = known (narrow place inside) in
           let width : ℕ = get_or (widths_of s) (row_at f from place) 0 in
           let word : c.read_word-word.result ≡ word_at f place = c.read_word-word.ensures
-              ∙ word_in f place c.told-frame inside in
+          ∙ word_in f place c.told-frame inside in
           let same : digits width c.read_word-word.result by.count ≡ differences_at s f from place =
-              rw (word, u.as_many) refl in
+          rw (word, u.as_many) refl in
           c.spread.ensures width (by_own_count _ width by u)
           ∙ ap (λ (xs : List ℤ). xs ++ digits width c.read_word-word.result by.count)
           (c.loop-index.invariant.so_far from rows narrow)

@@ -13,8 +13,8 @@ returns-clause-goes_on c = λ ds more m.
     let far : nat_abs c.args.sum.last + span ds < 2 ^ 31 = omega (arith, abs, m.near) in
     let all = total_near ds in
     let sum : nat_abs (c.args.sum.last +ℤ c.args.moved.by) < 2 ^ 31 =
-        rw (← m.by) (omega (arith, abs_sum c.args.sum.last (total ds), all, far)) in
+    rw (← m.by) (omega (arith, abs_sum c.args.sum.last (total ds), all, far)) in
     let wrapped = wrapping_add_is w32 c.args.sum.last c.args.moved.by last by
-        ∙ int_wrap_fits w32 (c.args.sum.last +ℤ c.args.moved.by)
-        (near_signed (c.args.sum.last +ℤ c.args.moved.by) sum) in
+    ∙ int_wrap_fits w32 (c.args.sum.last +ℤ c.args.moved.by)
+    (near_signed (c.args.sum.last +ℤ c.args.moved.by) sum) in
     rw (wrapped, ← m.count, ← m.by) (fold_far c.args.samples ds c.args.sum more (omega arith) room far)

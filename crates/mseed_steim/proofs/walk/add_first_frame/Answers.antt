@@ -1,5 +1,5 @@
-use Rattle.std.proofs.Common.{◌≡◌, ◌≢◌, ◌%◌, ◌∷◌, ◌++◌, ◌∙◌, List, ℤ, Result, ap, sym, refl, inr, arith, w32,
-    FitsSigned}
+use Rattle.std.proofs.Common.{◌≡◌, ◌≢◌, ◌%◌, ◌∷◌, ◌++◌, ◌∙◌, List, ℤ, Result, ap, sym, refl, inr, arith, w32}
+use Rattle.std.proofs.Common.{FitsSigned}
 use Rattle.std.proofs.lemmas.Int.{to_z-of_z}
 use Rattle.mseed_steim.specs.declared.differences.BadWordAt.{BadWordAt}
 use Rattle.mseed_steim.specs.Frames.{DataWord, data_word, words_from}
@@ -20,7 +20,7 @@ behind c =
     let some : 3 % 16 ≢ 0 = λ e. omega arith in
     let step = words_step c.args.payload.now 3 12 some in
     let same : as_data c.in-Some.word ∷ c.next.new.self ≡ data_word c.args.payload.now 3
-        ∷ words_from c.args.payload.now 4 12 = sym (whole c) ∙ step in
+    ∷ words_from c.args.payload.now 4 12 = sym (whole c) ∙ step in
     cc
 
 -- word 3
@@ -32,13 +32,13 @@ first c rest =
     let fits : FitsSigned w32 c.args.first = c.ranges.first in
     let step = rw to_z-of_z at (c.in-Ok.ensures.goes_on (c.next.new.self ++ rest)) in
     ap (λ (ws : List DataWord). fold c.args.samples (record { met = 0; last = c.args.first })
-        (items_of c.args.scheme (ws ++ rest))) (whole c) ∙ step
+    (items_of c.args.scheme (ws ++ rest))) (whole c) ∙ step
 
 pub returns-in-Some-add_at_once-clause-goes_on : goal.returns-in-Some-add_at_once-clause-goes_on
 returns-in-Some-add_at_once-clause-goes_on c = λ rest.
     let at = (goal.at.returns-in-Some-add_at_once-clause-goes_on c).In-Ok in
     let found = c.move_of.ensures c.args.payload.now 0 4 (inr (refl, refl)) c.requires.front
-        c.in-Some-add_at_once.ensures.few in
+    c.in-Some-add_at_once.ensures.few in
     first at rest
     ∙ ap (λ (ws : List DataWord). fold c.args.samples c.in-Ok.sum (items_of c.args.scheme (ws ++ rest))) (behind at)
     ∙ ap (λ (items : List (Result ℤ BadWordAt)). fold c.args.samples c.in-Ok.sum items) (found.1.1 rest)
@@ -48,4 +48,4 @@ pub returns-in-None-clause-goes_on : goal.returns-in-None-clause-goes_on
 returns-in-None-clause-goes_on c = λ rest.
     let at = (goal.at.returns-in-None-clause-goes_on c).In-Ok in
     goes_from c.args.samples (record { met = 0; last = c.args.first }) c.in-Ok.sum _ _ (items_of c.args.scheme rest)
-        c.add_words.result (first at rest) (c.add_words.ensures.goes_on rest)
+    c.add_words.result (first at rest) (c.add_words.ensures.goes_on rest)

@@ -19,15 +19,15 @@ pub returns-in-Err : goal.returns-in-Err
 returns-in-Err c =
     let fits : FitsSigned w32 c.args.first = c.ranges.first in
     let step = rw to_z-of_z at
-        (c.in-Err.ensures.goes_on (words_from c.args.payload.now 16 (word_count c.args.payload.now - 16))) in
+    (c.in-Err.ensures.goes_on (words_from c.args.payload.now 16 (word_count c.args.payload.now - 16))) in
     sym (ap (λ (ws : List DataWord). fold c.args.samples (record { met = 0; last = c.args.first })
-        (items_of c.args.scheme ws)) (first (goal.at.returns-in-Err c).Start) ∙ step)
+    (items_of c.args.scheme ws)) (first (goal.at.returns-in-Err c).Start) ∙ step)
 
 pub loop-index-init : goal.loop-index-init
 loop-index-init c =
     let fits : FitsSigned w32 c.args.first = c.ranges.first in
     let step = rw to_z-of_z at
-        (c.in-Ok.ensures.goes_on (words_from c.args.payload.now 16 (word_count c.args.payload.now - 16))) in
+    (c.in-Ok.ensures.goes_on (words_from c.args.payload.now 16 (word_count c.args.payload.now - 16))) in
     record {
       met = c.in-Ok.ensures.met;
       same = rw to_z-of_z (ap (λ (ws : List DataWord). fold c.args.samples (record { met = 0; last = c.args.first })
@@ -44,7 +44,7 @@ pub add_frame-requires-clause-at : goal.add_frame-requires-clause-at
 add_frame-requires-clause-at c =
     let inside : c.loop-index.index < length c.args.payload.now / 64 = omega arith in
     rw c.as_chunks.ensures.front (frame_at (length c.args.payload.now / 64) c.args.payload.now c.loop-index.index
-        inside)
+    inside)
 
 -- the words of a later frame, and those behind it
 cut : (c : Else-sum-samples)
@@ -54,17 +54,17 @@ cut : (c : Else-sum-samples)
 cut c =
     let inside : c.loop-index.index < length c.args.payload.now / 64 = omega arith in
     let count : 16 + (word_count c.args.payload.now - 16 * (c.loop-index.index + 1)) ≡ word_count c.args.payload.now
-        - 16 * c.loop-index.index = omega arith in
+    - 16 * c.loop-index.index = omega arith in
     let place : 16 * c.loop-index.index + 16 ≡ 16 * (c.loop-index.index + 1) = omega arith in
     rw (count, place) at (words_cut c.args.payload.now (16 * c.loop-index.index) 16
-        (word_count c.args.payload.now - 16 * (c.loop-index.index + 1)))
+    (word_count c.args.payload.now - 16 * (c.loop-index.index + 1)))
 
 pub returns-in-Err-add_frame : goal.returns-in-Err-add_frame
 returns-in-Err-add_frame c =
     let fits : FitsSigned w32 c.args.first = c.ranges.first in
     let same = rw to_z-of_z at c.loop-index.invariant.same in
     sym (same ∙ ap (λ (ws : List DataWord). fold c.args.samples c.loop-index.sum (items_of c.args.scheme ws))
-        (cut (goal.at.returns-in-Err-add_frame c).Else-sum-samples)
+    (cut (goal.at.returns-in-Err-add_frame c).Else-sum-samples)
     ∙ c.in-Err-add_frame.ensures.goes_on _)
 
 pub loop-index-preserved : goal.loop-index-preserved
@@ -88,6 +88,6 @@ returns-else-sum-samples-2 c =
     let same = rw to_z-of_z at c.loop-index.invariant.same in
     let over : word_count c.args.payload.now - 16 * c.loop-index.index ≡ 0 = omega arith in
     let none = no_items c.args.scheme (words_from c.args.payload.now (16 * c.loop-index.index)
-        (word_count c.args.payload.now - 16 * c.loop-index.index))
-        (rw over (words_none c.args.payload.now (16 * c.loop-index.index))) in
+    (word_count c.args.payload.now - 16 * c.loop-index.index))
+    (rw over (words_none c.args.payload.now (16 * c.loop-index.index))) in
     sym (same ∙ (rw none (fold_short c.args.samples c.loop-index.sum (λ e. c.if-sum-samples-2.false e))))

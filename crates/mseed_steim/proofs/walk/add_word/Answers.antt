@@ -18,9 +18,9 @@ pub returns-in-Some-clause-goes_on : goal.returns-in-Some-clause-goes_on
 returns-in-Some-clause-goes_on c = λ rest.
     let group = c.in-Some.group in
     let step = items_group c.args.scheme (as_data c.args.word ∷ rest) rest (as_data c.args.word)
-        (digits group.width c.args.word.bits group.count) refl c.in-Some.ensures in
+    (digits group.width c.args.word.bits group.count) refl c.in-Some.ensures in
     subst (λ (items : List (Result ℤ BadWordAt)). GoesOn c.args.samples c.args.sum items (items_of c.args.scheme rest)
-        c.add_group.result) (sym step) (c.add_group.ensures.goes_on (items_of c.args.scheme rest))
+    c.add_group.result) (sym step) (c.add_group.ensures.goes_on (items_of c.args.scheme rest))
 
 pub returns-in-None-clause-goes_on : goal.returns-in-None-clause-goes_on
 returns-in-None-clause-goes_on c = λ rest.

@@ -13,9 +13,9 @@ use Rattle.mseed_steim.proofs.walk.find_lack.Goals as goal
 pub returns-in_default : goal.returns-in_default
 returns-in_default c =
     let bad = items_bad c.args.scheme c.loop-word.word-iterator c.next.new.self (as_data c.in-Some.word)
-        c.in-Some.ensures.steps c.in_default.ensures in
+    c.in-Some.ensures.steps c.in_default.ensures in
     sym (c.loop-word.invariant.same
-        ∙ ap (λ (items : List (Result ℤ BadWordAt)). lack c.args.samples c.loop-word.met items) bad
+    ∙ ap (λ (items : List (Result ℤ BadWordAt)). lack c.args.samples c.loop-word.met items) bad
     ∙ lack_bad c.args.samples c.loop-word.met (place_of (as_data c.in-Some.word)) [] c.loop-word.invariant.met)
 
 pub returns-then-samples-met : goal.returns-then-samples-met
@@ -23,11 +23,11 @@ returns-then-samples-met c =
     let group = c.in-Some-group_of.group in
     let ds = digits group.width c.in-Some.word.bits group.count in
     let step = items_group c.args.scheme c.loop-word.word-iterator c.next.new.self (as_data c.in-Some.word) ds
-        c.in-Some.ensures.steps c.in-Some-group_of.ensures in
+    c.in-Some.ensures.steps c.in-Some-group_of.ensures in
     let count = length-digits group.width c.in-Some.word.bits group.count in
     let most : c.args.samples ≤ c.loop-word.met + length ds = omega (arith, count) in
     sym (c.loop-word.invariant.same
-        ∙ ap (λ (items : List (Result ℤ BadWordAt)). lack c.args.samples c.loop-word.met items) step
+    ∙ ap (λ (items : List (Result ℤ BadWordAt)). lack c.args.samples c.loop-word.met items) step
     ∙ lack_none c.args.samples c.loop-word.met ds (items_of c.args.scheme c.next.new.self) c.loop-word.invariant.met
     most)
 
@@ -36,7 +36,7 @@ loop-word-preserved c =
     let group = c.in-Some-group_of.group in
     let ds = digits group.width c.in-Some.word.bits group.count in
     let step = items_group c.args.scheme c.loop-word.word-iterator c.next.new.self (as_data c.in-Some.word) ds
-        c.in-Some.ensures.steps c.in-Some-group_of.ensures in
+    c.in-Some.ensures.steps c.in-Some-group_of.ensures in
     let count = length-digits group.width c.in-Some.word.bits group.count in
     let less : c.loop-word.met + length ds < c.args.samples = omega (arith, count) in
     record {
@@ -50,5 +50,5 @@ pub returns : goal.returns
 returns c =
     let none = no_items c.args.scheme c.loop-word.word-iterator c.in-None.ensures.steps.0 in
     sym (c.loop-word.invariant.same
-        ∙ ap (λ (items : List (Result ℤ BadWordAt)). lack c.args.samples c.loop-word.met items) none
+    ∙ ap (λ (items : List (Result ℤ BadWordAt)). lack c.args.samples c.loop-word.met items) none
     ∙ lack_short c.args.samples c.loop-word.met c.loop-word.invariant.met)

@@ -13,7 +13,7 @@ pub loop-i-preserved : goal.loop-i-preserved
 loop-i-preserved c =
     let fits : FitsSigned w32 c.read_digit.result = search rules in
     let digit : c.read_digit.result ≡ digit_at c.args.group.width c.args.word (c.args.group.count - 1 - c.loop-i.i) =
-        c.read_digit.ensures in
+    c.read_digit.ensures in
     let step = digits_step c.args.group.width c.args.word c.args.group.count c.loop-i.i c.loop-i-test.true in
     let pushed = rw to_z-of_z at c.push.ensures.items in
     record {

@@ -19,10 +19,10 @@ returns-clause-told g c =
     let told : Heard = g.R.Source.heard c.args.source.now in
     let later : List ℕ = take (size - 48) (g.R.Source.lent c.consume.new.self) in
     let parts : take 48 lent ++ later ≡ take size lent =
-        ap (λ (xs : List ℕ). take 48 lent ++ take (size - 48) xs) c.consume.ensures.rest
-        ∙ sym (two_parts lent 48 size c.requires.header) in
+    ap (λ (xs : List ℕ). take 48 lent ++ take (size - 48) xs) c.consume.ensures.rest
+    ∙ sym (two_parts lent 48 size c.requires.header) in
     c.consume-2.ensures.heard ∙ (ap (λ (h : Heard). told_also h later) c.consume.ensures.heard
-        ∙ (told_twice told (take 48 lent) later ∙ ap (λ (xs : List ℕ). told_whole told xs) parts))
+    ∙ (told_twice told (take 48 lent) later ∙ ap (λ (xs : List ℕ). told_whole told xs) parts))
 
 pub returns-clause-rest : goal.returns-clause-rest
 returns-clause-rest g c =
@@ -36,7 +36,7 @@ returns-clause-known g c =
     let left = g.R.Source.remaining c.args.source.now in
     let after = g.R.Source.remaining c.consume-2.new.self in
     let both = Consumes-trans left (g.R.Source.remaining c.consume.new.self) after (take 48 lent)
-        (take (size - 48) (g.R.Source.lent c.consume.new.self)) c.consume.ensures.known c.consume-2.ensures.known in
+    (take (size - 48) (g.R.Source.lent c.consume.new.self)) c.consume.ensures.known c.consume-2.ensures.known in
     let same = ap (λ (xs : List ℕ). take 48 lent ++ take (size - 48) xs) c.consume.ensures.rest
-        ∙ sym (two_parts lent 48 size c.requires.header) in
+    ∙ sym (two_parts lent 48 size c.requires.header) in
     subst (λ (xs : List ℕ). Consumes left after xs) same both

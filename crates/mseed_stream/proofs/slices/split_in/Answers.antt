@@ -1,5 +1,5 @@
-use Rattle.std.proofs.Common.{◌≡◌, ◌+◌, ◌^◌, refl, ◌<◌, ◌≤◌, ◌++◌, ◌∷◌, [], ℕ, List, length, take, drop, Err, sym, ap,
-    subst, ◌∙◌, arith, rules, length-append}
+use Rattle.std.proofs.Common.{◌≡◌, ◌+◌, ◌^◌, refl, ◌<◌, ◌≤◌, ◌++◌, ◌∷◌, [], ℕ, List, length, take, drop, Err, sym, ap}
+use Rattle.std.proofs.Common.{subst, ◌∙◌, arith, rules, length-append}
 use Rattle.mseed_record.specs.declared.view.RecordView.{RecordView}
 use Rattle.mseed_record.specs.Viewing.{view_of, scan_of}
 use Rattle.mseed_record.specs.Record.{IsRecord}
@@ -18,12 +18,12 @@ returns-in-Err-clause-fault g c =
     let offset : ℕ = c.loop-offset.offset in
     let bytes : List ℕ = c.args.bytes.now in
     let few : length (bytes_of_each c.loop-offset.records.items) < 2 ^ 40 =
-        omega (arith, inv.few, size_of_each c.loop-offset.records.items (length c.loop-offset.records.items) refl) in
+    omega (arith, inv.few, size_of_each c.loop-offset.records.items (length c.loop-offset.records.items) refl) in
     let decides = subst (λ (xs : List ℕ). Decides xs (scan_of (Err c.in-Err.fault))) (tail_is bytes offset)
-        c.in-Err.ensures.decides in
+    c.in-Err.ensures.decides in
     subst (λ (e : StreamFault). IsSplitFault e bytes) (sym c.fault_at.ensures)
     (split_fault bytes offset (bytes_of_each c.loop-offset.records.items) c.in-Err.fault c.loop-offset-test.true
-        inv.records few decides)
+    inv.records few decides)
 
 pub returns-then-len-eq-MOST-clause-fault : goal.returns-then-len-eq-MOST-clause-fault
 returns-then-len-eq-MOST-clause-fault g c =
@@ -32,7 +32,7 @@ returns-then-len-eq-MOST-clause-fault g c =
     let count : length views ≡ c.len.result = omega (arith, c.loop-offset.records.ok, c.len.ensures) in
     let size = size_of_each views c.len.result count in
     let there = subst (λ (xs : List ℕ). (k : ℕ) × ((k ≤ length xs) × IsRecord (take k xs)))
-        (tail_is c.args.bytes.now c.loop-offset.offset) (c.in-Ok.ensures.ok.0 refl) in
+    (tail_is c.args.bytes.now c.loop-offset.offset) (c.in-Ok.ensures.ok.0 refl) in
     (bytes_of_each views, record { before = inv.records; further = there }, omega arith)
 
 pub loop-offset-preserved : goal.loop-offset-preserved
@@ -45,11 +45,11 @@ loop-offset-preserved g c =
     let b : List ℕ = (view_of r).bytes in
     let items : c.push.new.self.items ≡ views ++ r ∷ [] = search rules in
     let front : b ≡ take (length b) (drop offset bytes) = c.in-Ok.ensures.front
-        ∙ ap (λ (xs : List ℕ). take (length b) xs) (tail_is bytes offset) in
+    ∙ ap (λ (xs : List ℕ). take (length b) xs) (tail_is bytes offset) in
     let size : length c.bytes.result.now ≡ length b = ap (λ (xs : List ℕ). length xs) c.bytes.ensures.value in
     let more = split_more bytes offset views r inv.records c.in-Ok.ensures.view front in
     let grown : length c.push.new.self.items ≡ length views + 1 = ap (λ (xs : List RecordView). length xs) items
-        ∙ length-append views (r ∷ []) in
+    ∙ length-append views (r ∷ []) in
     let count : length views ≡ c.len.result = omega (arith, c.loop-offset.records.ok, c.len.ensures) in
     let other = c.if-len-eq-MOST.false in
     record {

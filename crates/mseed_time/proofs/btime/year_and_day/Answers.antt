@@ -10,7 +10,7 @@ returns c =
     let is = date_from_1900 date c.args.days c.requires c.from_days_since_min-date.ensures in
     let fits : FitsSigned w16 date.year = omega (arith, ints, date.year_in) in
     let year : c.unsigned_abs.result ≡ unsigned_abs date.year =
-        rw (to_z-of_z w16 date.year fits) at c.unsigned_abs.ensures.value in
+    rw (to_z-of_z w16 date.year fits) at c.unsigned_abs.ensures.value in
     let place = c.day_of_year.ensures.value in
     rw year (record {
       low = is.low;

@@ -7,8 +7,14 @@ pub returns-clause-value : goal.returns-clause-value
 returns-clause-value c =
     let fits : FitsSigned w64 c.passed.result = omega (arith, ints) in
     rw (difference c.scaled.result c.due.result c.scaled.ensures.low c.scaled.ensures.high c.due.ensures.low
-        c.due.ensures.high) (rw (c.scaled.ensures.value, c.due.ensures.value, to_z-of_z w64 c.passed.result fits,
-        c.passed.ensures, c.num.ensures.value, c.den.ensures.value) refl)
+    c.due.ensures.high) (rw (
+      c.scaled.ensures.value,
+      c.due.ensures.value,
+      to_z-of_z w64 c.passed.result fits,
+      c.passed.ensures,
+      c.num.ensures.value,
+      c.den.ensures.value,
+    ) refl)
 
 pub returns-clause-low : goal.returns-clause-low
 returns-clause-low c = rw (difference c.scaled.result c.due.result c.scaled.ensures.low c.scaled.ensures.high

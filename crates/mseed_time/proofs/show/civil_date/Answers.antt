@@ -8,10 +8,12 @@ pub returns : goal.returns
 returns c =
     let is = date_is c.from_days_since_min-date.result c.args.day c.requires c.from_days_since_min-date.ensures in
     let fits : FitsSigned w16 c.from_days_since_min-date.result.year =
-        omega (arith, ints, c.from_days_since_min-date.result.year_in) in
+    omega (arith, ints, c.from_days_since_min-date.result.year_in) in
     record {
-      year = c.from.ensures ∙ (rw (to_z-of_z w16 c.from_days_since_min-date.result.year fits,
-          is.year) at c.unsigned_abs.ensures.value);
+      year = c.from.ensures ∙ (rw (
+        to_z-of_z w16 c.from_days_since_min-date.result.year fits,
+        is.year,
+      ) at c.unsigned_abs.ensures.value);
       month = c.from-2.ensures ∙ is.month;
       day_of_month = c.from-3.ensures ∙ is.day_of_month;
     }

@@ -12,7 +12,7 @@ pub unreachable-requires-in-Err : goal.unreachable-requires-in-Err
 unreachable-requires-in-Err c =
     c.in-Err.ensures.refused c.requires.0 (drop 8 c.in-Some.packet.now)
     (has_packet c.args.bytes.now c.in-Some.packet.now c.requires.0
-        (same_packet c.args.bytes.now c.in-Some.packet.now c.requires.2 c.in-Some.ensures.cases.same) c.requires.1)
+    (same_packet c.args.bytes.now c.in-Some.packet.now c.requires.2 c.in-Some.ensures.cases.same) c.requires.1)
 
 pub returns-clause-heard : goal.returns-clause-heard
 returns-clause-heard c = (

@@ -11,9 +11,14 @@ loop-used-preserved c = record {
       c.loop-used.used c.take_part-more.result.0 c.loop-used.invariant.kept c.take_part-more.ensures.kept;
   begun = subst (λ (p : Part). IsPacketPart c.take_part-more.new.kept.items p) c.in-Begun.is
       c.take_part-more.ensures.part;
-  within = omega (arith, c.take_part-more.ensures.bound, length-take (length c.args.bytes.now - c.loop-used.used)
-      (drop c.loop-used.used c.args.bytes.now), length-drop c.loop-used.used c.args.bytes.now,
-      c.loop-used.invariant.within);
+  within = omega (
+    arith,
+    c.take_part-more.ensures.bound,
+    length-take (length c.args.bytes.now - c.loop-used.used)
+        (drop c.loop-used.used c.args.bytes.now),
+    length-drop c.loop-used.used c.args.bytes.now,
+    c.loop-used.invariant.within,
+  );
 }
 
 pub returns-in_default : goal.returns-in_default
@@ -24,11 +29,20 @@ returns-in_default c = record {
   whole = λ e. absurd (c.in_default.not-Begun e);
   some = λ _.
       let left : 0 < length (take (length c.args.bytes.now - c.loop-used.used)
-          (drop c.loop-used.used c.args.bytes.now)) =
-      omega (arith, length-take (length c.args.bytes.now - c.loop-used.used) (drop c.loop-used.used c.args.bytes.now),
-          length-drop c.loop-used.used c.args.bytes.now, c.loop-used-test.true) in
+      (drop c.loop-used.used c.args.bytes.now)) =
+      omega (
+        arith,
+        length-take (length c.args.bytes.now - c.loop-used.used) (drop c.loop-used.used c.args.bytes.now),
+        length-drop c.loop-used.used c.args.bytes.now,
+        c.loop-used-test.true,
+      ) in
       omega (arith, c.take_part-more.ensures.some left);
-  bound = omega (arith, c.take_part-more.ensures.bound, length-take (length c.args.bytes.now - c.loop-used.used)
-      (drop c.loop-used.used c.args.bytes.now), length-drop c.loop-used.used c.args.bytes.now,
-      c.loop-used.invariant.within);
+  bound = omega (
+    arith,
+    c.take_part-more.ensures.bound,
+    length-take (length c.args.bytes.now - c.loop-used.used)
+        (drop c.loop-used.used c.args.bytes.now),
+    length-drop c.loop-used.used c.args.bytes.now,
+    c.loop-used.invariant.within,
+  );
 }

@@ -10,14 +10,14 @@ returns-then-ends-clause-part c =
     subst P (sym c.push.ensures.items)
     (whole_reply c.args.kept.now.items c.args.byte c.requires
     (ap (λ (xs : List ℕ). ends_reply xs c.args.byte) (sym c.as_slice.ensures.value)
-        ∙ (sym c.ends_reply-ends.ensures ∙ c.if-ends.true)))
+    ∙ (sym c.ends_reply-ends.ensures ∙ c.if-ends.true)))
 
 pub returns-then-len-eq-LONGEST_REPLY-clause-part : goal.returns-then-len-eq-LONGEST_REPLY-clause-part
 returns-then-len-eq-LONGEST_REPLY-clause-part c = (
   subst LacksEnd (sym c.push.ensures.items)
       (lacks_more c.args.kept.now.items c.args.byte c.requires.0
       (ap (λ (xs : List ℕ). ends_reply xs c.args.byte) (sym c.as_slice.ensures.value)
-          ∙ (sym c.ends_reply-ends.ensures ∙ c.if-ends.false))),
+      ∙ (sym c.ends_reply-ends.ensures ∙ c.if-ends.false))),
   omega arith,
 )
 
@@ -26,6 +26,6 @@ returns-else-len-eq-LONGEST_REPLY-clause-part c = (
   subst LacksEnd (sym c.push.ensures.items)
       (lacks_more c.args.kept.now.items c.args.byte c.requires.0
       (ap (λ (xs : List ℕ). ends_reply xs c.args.byte) (sym c.as_slice.ensures.value)
-          ∙ (sym c.ends_reply-ends.ensures ∙ c.if-ends.false))),
+      ∙ (sym c.ends_reply-ends.ensures ∙ c.if-ends.false))),
   omega (arith, c.requires.1, c.push.ensures.len, c.len.ensures.value, c.if-len-eq-LONGEST_REPLY.false),
 )

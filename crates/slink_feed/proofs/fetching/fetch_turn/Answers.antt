@@ -10,4 +10,4 @@ returns-then-count-eq0-clause-ok g c =
     let same : g.S.Sink.said c.pull.new.self ≡ g.S.Sink.said c.args.link.now = search rules in
     let heard : g.S.Source.heard c.pull.new.self ≡ told_once (g.S.Source.heard c.args.link.now) [] = search rules in
     closed_turn _ _ _ _ (ap (λ (said : Said). fetching c.args.client.now said (g.W.Sink.said c.args.output.now)) same)
-        heard
+    heard

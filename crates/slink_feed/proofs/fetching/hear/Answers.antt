@@ -11,15 +11,15 @@ pub returns-in_err-counts-clause-fault : goal.returns-in_err-counts-clause-fault
 returns-in_err-counts-clause-fault g c =
     let old : Fetching = fetching c.args.client.now (g.L.Sink.said c.args.link.now) (g.W.Sink.said c.args.output.now) in
     let now : Fetching = fetching c.loop-offset.client (g.L.Sink.said c.loop-offset.link)
-        (g.W.Sink.said c.loop-offset.output) in
+    (g.W.Sink.said c.loop-offset.output) in
     let new : Fetching = fetching c.take-used.new.self (g.L.Sink.said c.deliver.new.link)
-        (g.W.Sink.said c.deliver.new.output) in
+    (g.W.Sink.said c.deliver.new.output) in
     let linked : IsLinked c.loop-offset.client.talk.stage = c.if-not-is_linked.ensures.yes in
     let long : length (take (length c.args.bytes.now - c.loop-offset.offset)
-        (drop c.loop-offset.offset c.args.bytes.now)) ≡ length c.args.bytes.now - c.loop-offset.offset = piece_length
-        c.args.bytes.now c.loop-offset.offset in
+    (drop c.loop-offset.offset c.args.bytes.now)) ≡ length c.args.bytes.now - c.loop-offset.offset = piece_length
+    c.args.bytes.now c.loop-offset.offset in
     let piece : IsPiece c.loop-offset.client c.take-used.new.self c.args.bytes.now c.loop-offset.offset
-        c.take-used.result.0 c.take-used.result.1 = record {
+    c.take-used.result.0 c.take-used.result.1 = record {
       linked = linked;
       brings = c.take-used.ensures.brings linked;
       reads = λ start stream before. c.take-used.ensures.reads start stream before linked;
@@ -28,23 +28,23 @@ returns-in_err-counts-clause-fault g c =
     } in
     let fails : FailsAt c.in_err-counts.field-0.0 old new c.args.bytes.now =
     fails_here old now new c.args.bytes.now c.loop-offset.offset c.take-used.result.0 c.take-used.result.1
-        c.loop-offset.counts c.loop-offset.invariant.so_far piece c.in_err-counts.field-0.0
-        c.in_err-counts.ensures.fault in
+    c.loop-offset.counts c.loop-offset.invariant.so_far piece c.in_err-counts.field-0.0
+    c.in_err-counts.ensures.fault in
     search (rules, fails)
 
 pub loop-offset-preserved : goal.loop-offset-preserved
 loop-offset-preserved g c =
     let old : Fetching = fetching c.args.client.now (g.L.Sink.said c.args.link.now) (g.W.Sink.said c.args.output.now) in
     let now : Fetching = fetching c.loop-offset.client (g.L.Sink.said c.loop-offset.link)
-        (g.W.Sink.said c.loop-offset.output) in
+    (g.W.Sink.said c.loop-offset.output) in
     let new : Fetching = fetching c.take-used.new.self (g.L.Sink.said c.deliver.new.link)
-        (g.W.Sink.said c.deliver.new.output) in
+    (g.W.Sink.said c.deliver.new.output) in
     let linked : IsLinked c.loop-offset.client.talk.stage = c.if-not-is_linked.ensures.yes in
     let long : length (take (length c.args.bytes.now - c.loop-offset.offset)
-        (drop c.loop-offset.offset c.args.bytes.now)) ≡ length c.args.bytes.now - c.loop-offset.offset = piece_length
-        c.args.bytes.now c.loop-offset.offset in
+    (drop c.loop-offset.offset c.args.bytes.now)) ≡ length c.args.bytes.now - c.loop-offset.offset = piece_length
+    c.args.bytes.now c.loop-offset.offset in
     let piece : IsPiece c.loop-offset.client c.take-used.new.self c.args.bytes.now c.loop-offset.offset
-        c.take-used.result.0 c.take-used.result.1 = record {
+    c.take-used.result.0 c.take-used.result.1 = record {
       linked = linked;
       brings = c.take-used.ensures.brings linked;
       reads = λ start stream before. c.take-used.ensures.reads start stream before linked;

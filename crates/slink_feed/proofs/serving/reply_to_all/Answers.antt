@@ -22,19 +22,22 @@ loop-start-preserved g c =
     let now : Attending = attending c.loop-start.session (g.L.Sink.said c.loop-start.link) in
     let new : Attending = attending c.take-used.new.self (g.L.Sink.said c.say.new.link) in
     let long : length (take (length c.args.bytes.now - c.loop-start.start) (drop c.loop-start.start c.args.bytes.now))
-        ≡ length c.args.bytes.now - c.loop-start.start = piece_length c.args.bytes.now c.loop-start.start in
+    ≡ length c.args.bytes.now - c.loop-start.start = piece_length c.args.bytes.now c.loop-start.start in
     let done : IsSaid (g.L.Sink.said c.loop-start.link) (g.L.Sink.said c.say.new.link)
-        (reply_bytes c.take-used.result.1) c.loop-start.said c.in_ok-said.said =
+    (reply_bytes c.take-used.result.1) c.loop-start.said c.in_ok-said.said =
     subst (λ (bytes : List ℕ). IsSaid (g.L.Sink.said c.loop-start.link) (g.L.Sink.said c.say.new.link) bytes
-        c.loop-start.said c.in_ok-said.said) c.bytes.ensures c.in_ok-said.ensures.ok in
+    c.loop-start.said c.in_ok-said.said) c.bytes.ensures c.in_ok-said.ensures.ok in
     record {
       so_far = one_replied c.args.feed.now old now new c.args.bytes.now c.loop-start.start c.args.before
           c.loop-start.said c.take-used.result.0 c.take-used.result.1 c.loop-start.invariant.so_far
-          (record { held = c.take-used.ensures.held; answers = c.take-used.ensures.answers;
-          closed = λ shut. ((c.take-used.ensures.closed shut).1, (c.take-used.ensures.closed shut).2) })
+          (record {
+            held = c.take-used.ensures.held;
+            answers = c.take-used.ensures.answers;
+            closed = λ shut. ((c.take-used.ensures.closed shut).1, (c.take-used.ensures.closed shut).2);
+          })
           c.in_ok-said.said
           (c.take-used.ensures.some c.loop-start.invariant.stands (omega (arith, long, c.loop-start-test.true)))
-              (omega (arith, long, c.take-used.ensures.bound)) done;
+          (omega (arith, long, c.take-used.ensures.bound)) done;
       fits = c.take-used.ensures.fits;
       stands = (c.take-used.ensures.stands c.loop-start.invariant.stands);
       beside = c.say.ensures.beside ∙ c.loop-start.invariant.beside;
@@ -46,18 +49,21 @@ returns-in_err-said-clause-fault g c =
     let now : Attending = attending c.loop-start.session (g.L.Sink.said c.loop-start.link) in
     let new : Attending = attending c.take-used.new.self (g.L.Sink.said c.say.new.link) in
     let cut : IsSayFault c.in_err-said.field-0.0 (g.L.Sink.said c.loop-start.link) (g.L.Sink.said c.say.new.link)
-        (reply_bytes c.take-used.result.1) c.loop-start.said =
+    (reply_bytes c.take-used.result.1) c.loop-start.said =
     subst (λ (bytes : List ℕ). IsSayFault c.in_err-said.field-0.0 (g.L.Sink.said c.loop-start.link)
-        (g.L.Sink.said c.say.new.link) bytes c.loop-start.said) c.bytes.ensures c.in_err-said.ensures.fault in
+    (g.L.Sink.said c.say.new.link) bytes c.loop-start.said) c.bytes.ensures c.in_err-said.ensures.fault in
     let fails : IsReplyFault c.in_err-said.field-0.0 c.args.feed.now old new c.args.bytes.now c.args.before =
     not_replied c.args.feed.now old now new c.args.bytes.now c.loop-start.start c.args.before c.loop-start.said
-        c.take-used.result.0 c.take-used.result.1 c.loop-start.invariant.so_far
-        (record { held = c.take-used.ensures.held; answers = c.take-used.ensures.answers;
-        closed = λ shut. ((c.take-used.ensures.closed shut).1, (c.take-used.ensures.closed shut).2) })
-        c.in_err-said.field-0.0 cut in
+    c.take-used.result.0 c.take-used.result.1 c.loop-start.invariant.so_far
+    (record {
+      held = c.take-used.ensures.held;
+      answers = c.take-used.ensures.answers;
+      closed = λ shut. ((c.take-used.ensures.closed shut).1, (c.take-used.ensures.closed shut).2);
+    })
+    c.in_err-said.field-0.0 cut in
     passed_on c.from_residual.result c.in_err-said.field-0.0
-        (λ fault. IsReplyFault fault c.args.feed.now old new c.args.bytes.now c.args.before)
-        (err_from_is_err_and c.from_residual.result c.from_residual.ensures.1) fails
+    (λ fault. IsReplyFault fault c.args.feed.now old new c.args.bytes.now c.args.before)
+    (err_from_is_err_and c.from_residual.result c.from_residual.ensures.1) fails
 
 pub returns-in_err-said-clause-stands : goal.returns-in_err-said-clause-stands
 returns-in_err-said-clause-stands g c = c.take-used.ensures.stands c.loop-start.invariant.stands
@@ -65,6 +71,6 @@ returns-in_err-said-clause-stands g c = c.take-used.ensures.stands c.loop-start.
 pub loop-start-smaller : goal.loop-start-smaller
 loop-start-smaller g c =
     let long : length (take (length c.args.bytes.now - c.loop-start.start) (drop c.loop-start.start c.args.bytes.now))
-        ≡ length c.args.bytes.now - c.loop-start.start = piece_length c.args.bytes.now c.loop-start.start in
+    ≡ length c.args.bytes.now - c.loop-start.start = piece_length c.args.bytes.now c.loop-start.start in
     let some = c.take-used.ensures.some c.loop-start.invariant.stands (omega (arith, long, c.loop-start-test.true)) in
     omega (arith, some, long, c.take-used.ensures.bound, c.loop-start-test.true)

@@ -15,15 +15,15 @@ loop-dialled-init g c = record {
 pub returns-then-ne-clause-fetched : goal.returns-then-ne-clause-fetched
 returns-then-ne-clause-fetched g c =
     fetched_both c.try_link-end.result c.args.client.now c.loop-dialled.client c.try_link-end.new.client
-        (g.W.Sink.said c.args.output.now) (g.W.Sink.said c.loop-dialled.output)
+    (g.W.Sink.said c.args.output.now) (g.W.Sink.said c.loop-dialled.output)
     (g.W.Sink.said c.try_link-end.new.output) c.loop-dialled.invariant.fetched c.try_link-end.ensures.fetched
 
 pub returns-then-ne-clause-read : goal.returns-then-ne-clause-read
 returns-then-ne-clause-read g c =
     reads_both c.try_link-end.result c.args.client.now c.loop-dialled.client c.try_link-end.new.client
-        (g.D.Dial.given_back c.args.dialler.now) (g.D.Dial.given_back c.loop-dialled.dialler)
+    (g.D.Dial.given_back c.args.dialler.now) (g.D.Dial.given_back c.loop-dialled.dialler)
     (g.D.Dial.given_back c.try_link-end.new.dialler) (g.W.Sink.said c.args.output.now)
-        (g.W.Sink.said c.loop-dialled.output) (g.W.Sink.said c.try_link-end.new.output)
+    (g.W.Sink.said c.loop-dialled.output) (g.W.Sink.said c.try_link-end.new.output)
     c.loop-dialled.invariant.read c.try_link-end.ensures.read
 
 pub loop-dialled-preserved : goal.loop-dialled-preserved
@@ -43,5 +43,5 @@ loop-dialled-preserved g c =
       read = reads_both LinkFailed c.args.client.now now new (g.D.Dial.given_back c.args.dialler.now) links_now
           links_new (g.W.Sink.said c.args.output.now) said_now said_new
           c.loop-dialled.invariant.read (subst (λ end. HasReadEach end now new links_now links_new said_now said_new)
-              same c.try_link-end.ensures.read);
+          same c.try_link-end.ensures.read);
     }

@@ -10,11 +10,11 @@ returns-clause-turned g c =
     let before = g.W.Sink.said c.args.output.now in
     let after = g.W.Sink.said c.fetch_turn-turn.new.output in
     subst (λ end. HasTurned end old new (g.S.Source.heard c.args.link.now)
-        (g.S.Source.heard c.fetch_turn-turn.new.link) before after) (sym c.end_by.ensures)
+    (g.S.Source.heard c.fetch_turn-turn.new.link) before after) (sym c.end_by.ensures)
     (turned c.fetch_turn-turn.result old new (g.S.Sink.said c.args.link.now) (g.S.Sink.said c.fetch_turn-turn.new.link)
-        before after
+    before after
     (g.S.Source.heard c.args.link.now) (g.S.Source.heard c.fetch_turn-turn.new.link) c.fetch_turn-turn.ensures.ok
-        c.fetch_turn-turn.ensures.fault
+    c.fetch_turn-turn.ensures.fault
     c.requires.reading c.requires.linked)
 
 pub returns-clause-by : goal.returns-clause-by

@@ -4,16 +4,27 @@ use Rattle.slink_links.proofs.serving.serve_next.Goals as goal
 
 pub hang_up-requires : goal.hang_up-requires
 hang_up-requires g c = record {
-  out = omega (arith, c.requires, c.in-Some.ensures.calls, c.in-Some.ensures.failures,
-      ap length c.in-Some.ensures.given_back);
+  out = omega (
+    arith,
+    c.requires,
+    c.in-Some.ensures.calls,
+    c.in-Some.ensures.failures,
+    ap length c.in-Some.ensures.given_back,
+  );
   told = ap not c.is_ok-is_fine.ensures.value
       ∙ failed_exactly c.args.feed.now c.serve_link.result (g.A.Link.Source.heard c.in-Some.link)
       (g.A.Link.Source.heard c.serve_link.new.link)
       (g.A.Link.Sink.said c.in-Some.link) (g.A.Link.Sink.said c.serve_link.new.link) c.in-Some.ensures.unheard
-          c.in-Some.ensures.unsaid c.serve_link.ensures;
+      c.in-Some.ensures.unsaid c.serve_link.ensures;
 }
 
 pub returns-in-Some-clause-failed : goal.returns-in-Some-clause-failed
 returns-in-Some-clause-failed g c =
-    omega (arith, c.hang_up.ensures.lost, c.hang_up.ensures.failures, c.in-Some.ensures.lost,
-        c.in-Some.ensures.failures, lost_by c.is_ok-is_fine.result)
+    omega (
+      arith,
+      c.hang_up.ensures.lost,
+      c.hang_up.ensures.failures,
+      c.in-Some.ensures.lost,
+      c.in-Some.ensures.failures,
+      lost_by c.is_ok-is_fine.result,
+    )

@@ -10,8 +10,8 @@ returns c =
     let slots : List (Vec (List ℕ)) = c.as_mut_slice-slots.result.now in
     on_ok c.add_to_list.result (λ e.
     ap (map (λ (v : Vec (List ℕ)). v.items))
-        (with_items_is c.args.lists.now (set slots c.args.k c.add_to_list.new.list)
-        (length-set slots c.args.k c.add_to_list.new.list ∙ c.as_mut_slice-slots.ensures.len))
+    (with_items_is c.args.lists.now (set slots c.args.k c.add_to_list.new.list)
+    (length-set slots c.args.k c.add_to_list.new.list ∙ c.as_mut_slice-slots.ensures.len))
     ∙ (record_added slots c.args.k c.args.bytes.now c.add_to_list.new.list c.index-slots-k.result c.if-k-slots.false e
     ∙ ap (λ (xs : List (Vec (List ℕ))). with_one (map (λ (v : Vec (List ℕ)). v.items) xs) c.args.k c.args.bytes.now)
     c.as_mut_slice-slots.ensures.value)) c.add_to_list.ensures

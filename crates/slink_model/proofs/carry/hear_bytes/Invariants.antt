@@ -11,8 +11,12 @@ invariant-loop-offset l = record {
   rest : (last : Taking) → Hears l.first_sent
       (record { client = l.client; held = lists_of l.held; start = l.start.items; to_server = l.to_server.items })
       (drop l.offset l.bytes) last
-      → Hears l.first_sent (record { client = l.fn.client; held = lists_of l.fn.held; start = l.fn.start.items;
-      to_server = l.fn.to_server.items }) l.bytes last;
+      → Hears l.first_sent (record {
+        client = l.fn.client;
+        held = lists_of l.fn.held;
+        start = l.fn.start.items;
+        to_server = l.fn.to_server.items;
+      }) l.bytes last;
 }
 
 abbrev pub decreases-loop-offset : goal.decreases-loop-offset

@@ -4,19 +4,31 @@ use Rattle.slink_model.proofs.carry.hear_piece.Goals as goal
 pub returns-clause-hears : goal.returns-clause-hears
 returns-clause-hears c first_sent held start to_server rest last more =
     hears_more first_sent held start to_server c.args.client.now c.take.new.self c.args.bytes.now rest c.take.result.0
-        c.take.result.1 last
-    (record { brings = c.take.ensures.brings; all = c.take.ensures.whole; unlinked = c.take.ensures.unlinked;
-        ended = c.take.ensures.ended }) more
+    c.take.result.1 last
+    (record {
+      brings = c.take.ensures.brings;
+      all = c.take.ensures.whole;
+      unlinked = c.take.ensures.unlinked;
+      ended = c.take.ensures.ended;
+    }) more
 
 pub returns-clause-none : goal.returns-clause-none
 returns-clause-none c none =
     nothing_heard c.args.client.now c.take.new.self c.args.bytes.now c.take.result.0 c.take.result.1 c.requires.some
-        c.requires.keeps
-    (record { brings = c.take.ensures.brings; all = c.take.ensures.whole; unlinked = c.take.ensures.unlinked;
-        ended = c.take.ensures.ended }) none
+    c.requires.keeps
+    (record {
+      brings = c.take.ensures.brings;
+      all = c.take.ensures.whole;
+      unlinked = c.take.ensures.unlinked;
+      ended = c.take.ensures.ended;
+    }) none
 
 pub returns-clause-keeps : goal.returns-clause-keeps
 returns-clause-keeps c =
     still_keeps c.args.client.now c.take.new.self c.args.bytes.now c.take.result.0 c.take.result.1 c.requires.keeps
-    (record { brings = c.take.ensures.brings; all = c.take.ensures.whole; unlinked = c.take.ensures.unlinked;
-        ended = c.take.ensures.ended })
+    (record {
+      brings = c.take.ensures.brings;
+      all = c.take.ensures.whole;
+      unlinked = c.take.ensures.unlinked;
+      ended = c.take.ensures.ended;
+    })

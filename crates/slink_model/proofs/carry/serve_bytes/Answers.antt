@@ -11,12 +11,15 @@ loop-start-preserved c = record {
   stands = c.take-used.ensures.stands c.loop-start.invariant.stands;
   rest = λ last all more. c.loop-start.invariant.rest last all
       (serves_more c.args.feed.now c.loop-start.session c.take-used.new.self last c.args.bytes.now c.loop-start.start
-          c.take-used.result.0 c.loop-start.to_client.items c.add_bytes.new.queue.items all c.take-used.result.1
+      c.take-used.result.0 c.loop-start.to_client.items c.add_bytes.new.queue.items all c.take-used.result.1
       (subst (λ piece. Takes c.args.feed.now c.loop-start.session (take c.take-used.result.0 piece)
-          c.take-used.new.self c.take-used.result.1) (from_offset c.args.bytes.now c.loop-start.start)
-          (record { held = c.take-used.ensures.held; answers = c.take-used.ensures.answers;
-          closed = λ shut. ((c.take-used.ensures.closed shut).1, (c.take-used.ensures.closed shut).2) }))
-          (c.in_ok-add_bytes.ensures ∙ ap (λ xs. c.loop-start.to_client.items ++ xs) c.bytes.ensures) more);
+      c.take-used.new.self c.take-used.result.1) (from_offset c.args.bytes.now c.loop-start.start)
+      (record {
+        held = c.take-used.ensures.held;
+        answers = c.take-used.ensures.answers;
+        closed = λ shut. ((c.take-used.ensures.closed shut).1, (c.take-used.ensures.closed shut).2);
+      }))
+      (c.in_ok-add_bytes.ensures ∙ ap (λ xs. c.loop-start.to_client.items ++ xs) c.bytes.ensures) more);
 }
 
 pub returns-clause-serves : goal.returns-clause-serves

@@ -9,12 +9,12 @@ returns-then-is_empty-clause-ok c = λ records among. empty_is c.args.held.now c
 pub assemble-requires-clause-records : goal.assemble-requires-clause-records
 assemble-requires-clause-records c =
     records_among c.a_stretch_reads_back.ensures.views c.args.series.now c.requires.among.0 c.args.held.now
-        c.requires.among.1
+    c.requires.among.1
 
 pub returns-in-Ok-clause-ok : goal.returns-in-Ok-clause-ok
 returns-in-Ok-clause-ok c = λ records among.
     part_held c.a_stretch_reads_back.ensures.assembled c.a_stretch_reads_back.ensures.part c.args.series.now
-        c.in-Ok.series records c.args.held.now
+    c.in-Ok.series records c.args.held.now
     (some_are c.args.held.now c.if-is_empty.ensures) among
-        (subst (λ (codes : List ℕ). IsOfRecords (Ok c.in-Ok.series) codes c.args.held.now) c.codes.ensures
-        c.in-Ok.ensures)
+    (subst (λ (codes : List ℕ). IsOfRecords (Ok c.in-Ok.series) codes c.args.held.now) c.codes.ensures
+    c.in-Ok.ensures)

@@ -1,5 +1,5 @@
-use Rattle.std.proofs.Common.{inl, inr, refl, ◌≡◌, ℕ, ◌+◌, ◌^◌, ◌≤◌, List, arith, ap, sym, subst, drop, get_or, length,
-    []}
+use Rattle.std.proofs.Common.{inl, inr, refl, ◌≡◌, ℕ, ◌+◌, ◌^◌, ◌≤◌, List, arith, ap, sym, subst, drop, get_or, length}
+use Rattle.std.proofs.Common.{[]}
 use Rattle.std.proofs.lemmas.List.{drop_all}
 use Rattle.slink_model.specs.declared.world.Step.{Step}
 use Rattle.slink_model.specs.declared.world.Step.TheVariants.{Append}
@@ -31,9 +31,9 @@ loop-step-init c = record {
 pub step-requires-clause-possible : goal.step-requires-clause-possible
 step-requires-clause-possible c =
     possible c.args.setup.now.places.items (2 ^ 24 + c.loop-step.step-index) c.loop-step.world.feed
-        (get_or c.args.steps.now c.loop-step.step-index (Append 0 [])) c.loop-step.invariant.rings
+    (get_or c.args.steps.now c.loop-step.step-index (Append 0 [])) c.loop-step.invariant.rings
     (omega (arith, c.loop-step-test.true, c.requires.few))
-        (c.requires.steps c.loop-step.step-index (Append 0 []) (omega (arith, c.loop-step-test.true)))
+    (c.requires.steps c.loop-step.step-index (Append 0 []) (omega (arith, c.loop-step-test.true)))
 
 pub loop-step-preserved : goal.loop-step-preserved
 loop-step-preserved c =
@@ -41,38 +41,38 @@ loop-step-preserved c =
       running = c.in_ok-step.ensures.running;
       rings = subst (λ n. AreRings c.args.setup.now.places.items n c.step.new.self.feed) more
           (rings_on c.args.setup.now.places.items (2 ^ 24 + c.loop-step.step-index) (seen c.loop-step.world)
-              (seen c.step.new.self) (get_or c.args.steps.now c.loop-step.step-index (Append 0 []))
-              c.loop-step.invariant.rings c.in_ok-step.ensures.happens);
+          (seen c.step.new.self) (get_or c.args.steps.now c.loop-step.step-index (Append 0 []))
+          c.loop-step.invariant.rings c.in_ok-step.ensures.happens);
       sound = λ k lt. elim (same_or_not k c.loop-step.step-index) [
         | inl here ↦ subst (λ i. IsSound (get_or c.args.steps.now i (Append 0 [])))
-        (sym here) c.in_ok-step.ensures.sound
+            (sym here) c.in_ok-step.ensures.sound
         | inr other ↦ c.loop-step.invariant.sound k (omega (arith, lt, other))
       ];
       rest = λ last rest. c.loop-step.invariant.rest last
           (happens_more (seen c.loop-step.world) (seen c.step.new.self) last c.args.steps.now c.loop-step.step-index
-              (Append 0 []) (omega (arith, c.loop-step-test.true)) c.in_ok-step.ensures.happens rest);
+          (Append 0 []) (omega (arith, c.loop-step-test.true)) c.in_ok-step.ensures.happens rest);
     }
 
 pub returns-clause-slices : goal.returns-clause-slices
 returns-clause-slices c = λ run lacks. stretch_held c.args.setup.now c.args.steps.now (seen c.loop-step.world) run
     (schedule_is c.args.setup.now c.args.steps.now c.requires.count c.requires.capacity.1 c.requires.differ
-        c.requires.steps (λ k lt. c.loop-step.invariant.sound k (omega (arith, lt)))) lacks
+    c.requires.steps (λ k lt. c.loop-step.invariant.sound k (omega (arith, lt)))) lacks
 
 pub returns-clause-resumes : goal.returns-clause-resumes
 returns-clause-resumes c = λ run lacks. resume_granted c.args.setup.now c.args.steps.now (seen c.loop-step.world) run
     (schedule_is c.args.setup.now c.args.steps.now c.requires.count c.requires.capacity.1 c.requires.differ
-        c.requires.steps (λ k lt. c.loop-step.invariant.sound k (omega (arith, lt)))) lacks
+    c.requires.steps (λ k lt. c.loop-step.invariant.sound k (omega (arith, lt)))) lacks
 
 pub returns-clause-carried : goal.returns-clause-carried
 returns-clause-carried c = λ run lacks l is. stretch_carried c.args.setup.now c.args.steps.now (seen c.loop-step.world)
     run
     (schedule_is c.args.setup.now c.args.steps.now c.requires.count c.requires.capacity.1 c.requires.differ
-        c.requires.steps (λ k lt. c.loop-step.invariant.sound k (omega (arith, lt)))) lacks l is
+    c.requires.steps (λ k lt. c.loop-step.invariant.sound k (omega (arith, lt)))) lacks l is
 
 pub returns-clause-brief : goal.returns-clause-brief
 returns-clause-brief c = λ run brief. brief_held c.args.setup.now c.args.steps.now (seen c.loop-step.world) run
     (schedule_is c.args.setup.now c.args.steps.now c.requires.count c.requires.capacity.1 c.requires.differ
-        c.requires.steps (λ k lt. c.loop-step.invariant.sound k (omega (arith, lt)))) brief
+    c.requires.steps (λ k lt. c.loop-step.invariant.sound k (omega (arith, lt)))) brief
 
 -- the steps led to the world
 happened : (steps : List Step) (n : ℕ) (opening now : WorldState) → length steps ≤ n
@@ -84,17 +84,17 @@ happened steps n opening now past rest =
 pub returns-clause-spared : goal.returns-clause-spared
 returns-clause-spared c = λ some. client_spared c.args.setup.now c.args.steps.now (seen c.loop-step.world)
     (happened c.args.steps.now c.loop-step.step-index (opening c.args.setup.now) (seen c.loop-step.world)
-        (omega (arith, c.loop-step-test.false)) c.loop-step.invariant.rest)
+    (omega (arith, c.loop-step-test.false)) c.loop-step.invariant.rest)
     (schedule_is c.args.setup.now c.args.steps.now c.requires.count c.requires.capacity.1 c.requires.differ
-        c.requires.steps (λ k lt. c.loop-step.invariant.sound k (omega (arith, lt))))
+    c.requires.steps (λ k lt. c.loop-step.invariant.sound k (omega (arith, lt))))
     (record { some = some; codes = c.have_codes.ensures; numbers = c.requires.numbers })
 
 pub returns-clause-only : goal.returns-clause-only
 returns-clause-only c = λ some other run. one_world c.args.setup.now c.args.steps.now other (seen c.loop-step.world) run
     (happened c.args.steps.now c.loop-step.step-index (opening c.args.setup.now) (seen c.loop-step.world)
-        (omega (arith, c.loop-step-test.false)) c.loop-step.invariant.rest)
+    (omega (arith, c.loop-step-test.false)) c.loop-step.invariant.rest)
     (schedule_is c.args.setup.now c.args.steps.now c.requires.count c.requires.capacity.1 c.requires.differ
-        c.requires.steps (λ k lt. c.loop-step.invariant.sound k (omega (arith, lt))))
+    c.requires.steps (λ k lt. c.loop-step.invariant.sound k (omega (arith, lt))))
     (record { some = some; codes = c.have_codes.ensures; numbers = c.requires.numbers })
 
 pub returns-clause-answers : goal.returns-clause-answers
@@ -102,21 +102,21 @@ returns-clause-answers c =
     λ run lacks some n next l m happens was becomes. answered_after c.args.setup.now c.args.steps.now
     (seen c.loop-step.world) run
     (schedule_is c.args.setup.now c.args.steps.now c.requires.count c.requires.capacity.1 c.requires.differ
-        c.requires.steps (λ k lt. c.loop-step.invariant.sound k (omega (arith, lt))))
+    c.requires.steps (λ k lt. c.loop-step.invariant.sound k (omega (arith, lt))))
     (record { some = some; codes = c.have_codes.ensures; numbers = c.requires.numbers }) lacks n next l m happens was
-        becomes
+    becomes
 
 pub returns-clause-goes_on : goal.returns-clause-goes_on
 returns-clause-goes_on c = λ run lacks some l at linked. goes_on_after c.args.setup.now c.args.steps.now
     (seen c.loop-step.world) run
     (schedule_is c.args.setup.now c.args.steps.now c.requires.count c.requires.capacity.1 c.requires.differ
-        c.requires.steps (λ k lt. c.loop-step.invariant.sound k (omega (arith, lt))))
+    c.requires.steps (λ k lt. c.loop-step.invariant.sound k (omega (arith, lt))))
     (record { some = some; codes = c.have_codes.ensures; numbers = c.requires.numbers }) lacks l at linked
 
 pub returns-clause-counted : goal.returns-clause-counted
 returns-clause-counted c = λ some. the_counted_world c.args.setup.now c.args.steps.now (seen c.loop-step.world)
     (happened c.args.steps.now c.loop-step.step-index (opening c.args.setup.now) (seen c.loop-step.world)
-        (omega (arith, c.loop-step-test.false)) c.loop-step.invariant.rest)
+    (omega (arith, c.loop-step-test.false)) c.loop-step.invariant.rest)
     (schedule_is c.args.setup.now c.args.steps.now c.requires.count c.requires.capacity.1 c.requires.differ
-        c.requires.steps (λ k lt. c.loop-step.invariant.sound k (omega (arith, lt))))
+    c.requires.steps (λ k lt. c.loop-step.invariant.sound k (omega (arith, lt))))
     (record { some = some; codes = c.have_codes.ensures; numbers = c.requires.numbers })

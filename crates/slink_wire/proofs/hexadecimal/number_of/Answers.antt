@@ -6,8 +6,11 @@ pub loop-byte-init : goal.loop-byte-init
 loop-byte-init c = reads_none c.args.digits.now
 
 pub overflow_add-number : goal.overflow_add-number
-overflow_add-number c = omega (arith, reads_fits c.args.digits.now c.loop-byte.byte-index c.loop-byte.number
-    c.in-Some.digit (omega arith) c.in-Some.ensures.small c.loop-byte.invariant)
+overflow_add-number c = omega (
+  arith,
+  reads_fits c.args.digits.now c.loop-byte.byte-index c.loop-byte.number
+      c.in-Some.digit (omega arith) c.in-Some.ensures.small c.loop-byte.invariant,
+)
 
 pub loop-byte-preserved : goal.loop-byte-preserved
 loop-byte-preserved c = reads_more c.args.digits.now c.loop-byte.byte-index c.loop-byte.number c.in-Some.digit

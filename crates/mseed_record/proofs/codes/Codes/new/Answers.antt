@@ -19,4 +19,4 @@ returns-clause-key c =
     let location = c.in_ok-l.ensures.value in
     let channel = c.in_ok-c.ensures.value in
     c.of_key.ensures ∙ joined c.in_ok-n.n c.in_ok-s.s c.in_ok-l.l c.in_ok-c.c (search rules) (search rules)
-        (search rules) (search rules) ∙ (λ i. network i ++ station i ++ location i ++ channel i)
+    (search rules) (search rules) ∙ (λ i. network i ++ station i ++ location i ++ channel i)

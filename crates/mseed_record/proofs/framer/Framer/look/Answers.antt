@@ -29,7 +29,7 @@ returns-clause-goes_on c more =
 pub returns-clause-record : goal.returns-clause-record
 returns-clause-record c k e =
     ((scanned c.args.front.now c.go_along-answer.result.1 (λ i. (c.type_inv.front i).fits)
-        c.go_along-answer.ensures.decides).record_is k).0 e
+    c.go_along-answer.ensures.decides).record_is k).0 e
 
 pub returns-clause-bound : goal.returns-clause-bound
 returns-clause-bound c =

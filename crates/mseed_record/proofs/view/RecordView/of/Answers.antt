@@ -34,8 +34,10 @@ pub returns-in-Not-clause-refused : goal.returns-in-Not-clause-refused
 returns-in-Not-clause-refused c f e = c.scan.ensures.refused c.in-Not.fault c.in-Not.is
 
 pub returns-in-Record-clause-ok : goal.returns-in-Record-clause-ok
-returns-in-Record-clause-ok c = (λ s. (c.in-Record.k, (c.scan.ensures.record c.in-Record.k).0 c.in-Record.is),
-    λ r. refl)
+returns-in-Record-clause-ok c = (
+  λ s. (c.in-Record.k, (c.scan.ensures.record c.in-Record.k).0 c.in-Record.is),
+  λ r. refl,
+)
 
 size : (b : List ℕ) (k : ℕ) (bytes : List ℕ) → bytes ≡ take k b → k ≤ length b → length bytes ≡ k
 size b k bytes e h = ap (λ (xs : List ℕ). length xs) e ∙ length-take-le k b h
@@ -43,7 +45,7 @@ size b k bytes e h = ap (λ (xs : List ℕ). length xs) e ∙ length-take-le k b
 pub returns-in-Record-clause-front : goal.returns-in-Record-clause-front
 returns-in-Record-clause-front c =
     let same = size c.args.bytes.now c.in-Record.k c.of_record.result.bytes.now c.of_record.ensures.bytes
-        ((c.scan.ensures.record c.in-Record.k).0 c.in-Record.is).0 in
+    ((c.scan.ensures.record c.in-Record.k).0 c.in-Record.is).0 in
     c.of_record.ensures.bytes ∙ ap (λ (k : ℕ). take k c.args.bytes.now) (sym same)
 
 pub returns-in-Record-clause-only : goal.returns-in-Record-clause-only
@@ -52,6 +54,6 @@ returns-in-Record-clause-only c w h e = view_once (view_of c.of_record.result) w
 pub returns-in-Record-clause-decides : goal.returns-in-Record-clause-decides
 returns-in-Record-clause-decides c =
     let same = size c.args.bytes.now c.in-Record.k c.of_record.result.bytes.now c.of_record.ensures.bytes
-        ((c.scan.ensures.record c.in-Record.k).0 c.in-Record.is).0 in
+    ((c.scan.ensures.record c.in-Record.k).0 c.in-Record.is).0 in
     subst (λ (k : ℕ). Decides c.args.bytes.now (Record k)) (sym same)
-        (subst (λ s. Decides c.args.bytes.now s) c.in-Record.is c.scan.ensures.decides)
+    (subst (λ s. Decides c.args.bytes.now s) c.in-Record.is c.scan.ensures.decides)

@@ -8,8 +8,8 @@ use Rattle.mseed_steim.proofs.ahead.Ahead.look_again.Goals as goal
 pub returns-then-place-self-lt-KNOWN-clause-ahead : goal.returns-then-place-self-lt-KNOWN-clause-ahead
 returns-then-place-self-lt-KNOWN-clause-ahead c =
     subst (λ (m : ℕ). IsAhead c.args.scheme (drop c.args.place c.args.diffs.now) m) (sym c.from.ensures)
-        (tells_at c.args.scheme c.args.diffs.now c.args.self.now c.args.place (c.args.place - c.args.self.now.begin)
-        c.requires.tells (omega (arith, c.if-place-self-lt-KNOWN.true)) (omega (arith, c.requires.from)))
+    (tells_at c.args.scheme c.args.diffs.now c.args.self.now c.args.place (c.args.place - c.args.self.now.begin)
+    c.requires.tells (omega (arith, c.if-place-self-lt-KNOWN.true)) (omega (arith, c.requires.from)))
 
 pub returns : goal.returns
 returns c =
@@ -20,8 +20,8 @@ returns c =
     let told : Tells s ds new = elim c.if-diffs-place-lt-AHEAD.branch [
       | then-diffs-place-lt-AHEAD w ↦ rw w.self-is (tells_none s ds place)
       | else-diffs-place-lt-AHEAD w ↦ rw w.self-is
-      (tells_again s ds place w.look_ahead.new.most (rw (take_rest ds place) at w.look_ahead.ensures.ahead)
-      w.look_ahead.ensures.none)
+          (tells_again s ds place w.look_ahead.new.most (rw (take_rest ds place) at w.look_ahead.ensures.ahead)
+          w.look_ahead.ensures.none)
     ] in
     let begin : new.begin ≡ place = elim c.if-diffs-place-lt-AHEAD.branch [
       | then-diffs-place-lt-AHEAD w ↦ rw w.self-is refl

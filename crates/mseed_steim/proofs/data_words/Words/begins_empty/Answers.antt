@@ -11,13 +11,22 @@ returns-then-next-self c =
     let next = c.front_of-next.result.0 in
     let at = c.front_of-next.ensures.at c.if-next-self.true in
     let code : c.code_in.result ≡ code_at p next = c.code_in.ensures.value
-        ∙ ap (λ (w : ℕ). w / 2 ^ (30 - 2 * (next % 16)) % 4) at.1 in
-    rw (← c.self.view_is, c.front_of-next.ensures.same, front p next c.self.inside.end c.if-next-self.true at.0,
-        code) refl
+    ∙ ap (λ (w : ℕ). w / 2 ^ (30 - 2 * (next % 16)) % 4) at.1 in
+    rw (
+      ← c.self.view_is,
+      c.front_of-next.ensures.same,
+      front p next c.self.inside.end c.if-next-self.true at.0,
+      code,
+    ) refl
 
 pub returns-else-next-self : goal.returns-else-next-self
 returns-else-next-self c =
     let next = c.front_of-next.result.0 in
     let over : c.self.inside.end - next ≡ 0 = omega arith in
-    rw (← c.self.view_is, c.front_of-next.ensures.same, over, words_none c.self.inside.payload.now next,
-        le-ltb next c.self.inside.end c.if-next-self.false) refl
+    rw (
+      ← c.self.view_is,
+      c.front_of-next.ensures.same,
+      over,
+      words_none c.self.inside.payload.now next,
+      le-ltb next c.self.inside.end c.if-next-self.false,
+    ) refl

@@ -13,7 +13,7 @@ run c =
     let high = c.run_end-to.ensures.high in
     let least = c.min.ensures in
     taken i.payload.now c.front_of-from.result.1 from c.run_end-to.result i.end c.self.invariant.4 c.self.invariant.2
-        low (omega (arith, high, least)) (omega (arith, high, least)) c.front_of-from.ensures.at
+    low (omega (arith, high, least)) (omega (arith, high, least)) c.front_of-from.ensures.at
     c.run_end-to.ensures.run (λ before inside. c.run_end-to.ensures.stop (omega (arith, least, before, inside)))
 
 pub returns-clause-cut : goal.returns-clause-cut

@@ -9,28 +9,32 @@ pub returns-then-self-clause-steps : goal.returns-then-self-clause-steps
 returns-then-self-clause-steps c =
     let over : c.self.inside.end - c.self.inside.next ≡ 0 = omega arith in
     let none : c.args.self.now ≡ [] = sym c.self.view_is
-        ∙ (rw over (words_none c.self.inside.payload.now c.self.inside.next)) in
+    ∙ (rw over (words_none c.self.inside.payload.now c.self.inside.next)) in
     (none, none)
 
 -- the frame's codes are at hand, and a data word is next
 at_word : (c : After-read_word-bits) → let i = c.if-self-eq0.self-inside in
     (c.args.self.now ≡ words_from i.payload.now i.next (i.end - i.next)) × (i.next < i.end) × (i.next % 16 ≢ 0)
-        × (i.codes ≡ word_at i.payload.now (16 * (i.next / 16)))
+    × (i.codes ≡ word_at i.payload.now (16 * (i.next / 16)))
 at_word c = elim c.if-self-eq0.branch [
   | then-self-eq0 w ↦
       let more : c.self.inside.end - c.self.inside.next ≡ suc (c.self.inside.end - (c.self.inside.next + 1)) =
-          omega arith in
+      omega arith in
       let head : 16 * ((c.self.inside.next + 1) / 16) ≡ c.self.inside.next = omega arith in
       let skip : words_from c.self.inside.payload.now c.self.inside.next (c.self.inside.end - c.self.inside.next)
-          ≡ words_from c.self.inside.payload.now (c.self.inside.next + 1)
-          (c.self.inside.end - (c.self.inside.next + 1)) =
+      ≡ words_from c.self.inside.payload.now (c.self.inside.next + 1)
+      (c.self.inside.end - (c.self.inside.next + 1)) =
       rw more (words_skip c.self.inside.payload.now c.self.inside.next (c.self.inside.end - (c.self.inside.next + 1))
-          w.if-self-eq0.true) in
+      w.if-self-eq0.true) in
       let whole : c.args.self.now ≡ words_from c.self.inside.payload.now (c.self.inside.next + 1)
-          (c.self.inside.end - (c.self.inside.next + 1)) = sym c.self.view_is ∙ skip in
+      (c.self.inside.end - (c.self.inside.next + 1)) = sym c.self.view_is ∙ skip in
       rw (w.self-inside-is, head) (whole, omega arith, (λ e. omega arith), w.read_word-self-inside.ensures)
-  | else-self-eq0 w ↦ rw w.self-inside-is (sym c.self.view_is, omega arith, w.if-self-eq0.false,
-  c.self.invariant.3 w.if-self-eq0.false)
+  | else-self-eq0 w ↦ rw w.self-inside-is (
+    sym c.self.view_is,
+    omega arith,
+    w.if-self-eq0.false,
+    c.self.invariant.3 w.if-self-eq0.false,
+  )
 ]
 
 pub returns-clause-steps : goal.returns-clause-steps
@@ -40,7 +44,7 @@ returns-clause-steps c =
     let more : i.end - i.next ≡ suc (i.end - (i.next + 1)) = omega arith in
     let code = and_mask (i.codes / 2 ^ (30 - 2 * (i.next % 16))) 2 in
     let step : words_from i.payload.now i.next (i.end - i.next) ≡ data_word i.payload.now i.next
-        ∷ words_from i.payload.now (i.next + 1) (i.end - (i.next + 1)) =
+    ∷ words_from i.payload.now (i.next + 1) (i.end - (i.next + 1)) =
     rw more (words_step i.payload.now i.next (i.end - (i.next + 1)) at.2) in
     rw (code, at.3, c.read_word-bits.ensures) (at.0 ∙ step)
 

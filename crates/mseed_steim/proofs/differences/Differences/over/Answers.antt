@@ -9,13 +9,13 @@ pub returns-clause-items : goal.returns-clause-items
 returns-clause-items c =
     rw (c.new.ensures, c.of.ensures)
     (items_given c.args.scheme (data_words c.args.payload.now)
-        (words_small c.args.payload.now (λ i. (c.type_inv.payload i).fits) 3 (word_count c.args.payload.now - 3)))
+    (words_small c.args.payload.now (λ i. (c.type_inv.payload i).fits) 3 (word_count c.args.payload.now - 3)))
 
 pub returns-clause-only : goal.returns-clause-only
 returns-clause-only c = λ items given.
     rw (c.new.ensures, c.of.ensures)
     (given_items c.args.scheme (data_words c.args.payload.now) items
-        (words_small c.args.payload.now (λ i. (c.type_inv.payload i).fits) 3 (word_count c.args.payload.now - 3)) given)
+    (words_small c.args.payload.now (λ i. (c.type_inv.payload i).fits) 3 (word_count c.args.payload.now - 3)) given)
 
 pub returns-clause-few : goal.returns-clause-few
 returns-clause-few c =

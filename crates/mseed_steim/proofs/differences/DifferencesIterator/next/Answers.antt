@@ -15,9 +15,9 @@ rest c =
 pub returns-in-None-clause-steps : goal.returns-in-None-clause-steps
 returns-in-None-clause-steps c =
     stepped c.self.inside.scheme c.args.self.now c.self.inside.words c.unpack_next.new.words c.unpack_next.new.ready
-        c.unpack_next.result (rest (goal.at.returns-in-None-clause-steps c).In-None) c.unpack_next.ensures.step
+    c.unpack_next.result (rest (goal.at.returns-in-None-clause-steps c).In-None) c.unpack_next.ensures.step
 
 pub returns-in-None-clause-goes : goal.returns-in-None-clause-goes
 returns-in-None-clause-goes c =
     progressed c.self.inside.scheme c.args.self.now c.self.inside.words c.unpack_next.new.words c.unpack_next.new.ready
-        c.unpack_next.result (rest (goal.at.returns-in-None-clause-goes c).In-None) c.unpack_next.ensures.step
+    c.unpack_next.result (rest (goal.at.returns-in-None-clause-goes c).In-None) c.unpack_next.ensures.step

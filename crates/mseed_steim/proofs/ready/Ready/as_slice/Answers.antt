@@ -6,5 +6,5 @@ pub returns : goal.returns
 returns c =
     let all : c.self.inside.given + (c.self.inside.count - c.self.inside.given) ≡ c.self.inside.count = omega arith in
     let cut = rw all at (drop-take c.self.inside.given (c.self.inside.count - c.self.inside.given)
-        c.self.inside.unpacked) in
+    c.self.inside.unpacked) in
     sym cut ∙ c.self.view_is

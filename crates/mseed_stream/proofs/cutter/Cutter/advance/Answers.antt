@@ -1,5 +1,5 @@
-use Rattle.std.proofs.Common.{◌≡◌, ◌≤◌, List, [], ℕ, length, Result, Some, None, Option, IfOk, IfErr, IfSome, subst,
-    sym, ap, ◌∙◌, arith, rules}
+use Rattle.std.proofs.Common.{◌≡◌, ◌≤◌, List, [], ℕ, length, Result, Some, None, Option, IfOk, IfErr, IfSome, subst}
+use Rattle.std.proofs.Common.{sym, ap, ◌∙◌, arith, rules}
 use Rattle.std.proofs.lemmas.List.{append-nil}
 use Rattle.mseed_record.specs.Record.{IsRecord}
 use Rattle.mseed_stream.specs.declared.fault.StreamFault.{StreamFault}
@@ -9,8 +9,8 @@ use Rattle.mseed_stream.specs.Archive.{IsEndOf, clean}
 use Rattle.mseed_stream.specs.Cutting.{IsAlong, IsCutFault, told_from}
 use Rattle.mseed_stream.specs.private.Steps.{lent_of}
 use Rattle.mseed_stream.proofs.Handed.{records_after, archive_at}
-use Rattle.mseed_stream.proofs.Settled.{along_settled, clean_end, nothing_found, told_is, record_found, fault_found,
-    fault_again, end_again}
+use Rattle.mseed_stream.proofs.Settled.{along_settled, clean_end, nothing_found, told_is, record_found, fault_found}
+use Rattle.mseed_stream.proofs.Settled.{fault_again, end_again}
 use Rattle.mseed_stream.proofs.cutter.Cutter.advance.Goals as goal
 
 pub returns-clause-along : goal.returns-clause-along
@@ -21,7 +21,7 @@ returns-clause-along g c =
     let open_still : after.answer ≡ None = search rules in
     subst (λ (s : Standing). IsAlong new s) (sym c.settle.ensures.after)
     (along_settled c.cut-found.result c.forget.new.self after (g.R.Source.heard c.args.source.now) new cut.heard
-        cut.stays.1 open_still cut.stays.0 cut.found cut.ended cut.stop cut.fault)
+    cut.stays.1 open_still cut.stays.0 cut.found cut.ended cut.stop cut.fault)
 
 pub returns-clause-end : goal.returns-clause-end
 returns-clause-end g c e =
@@ -30,9 +30,10 @@ returns-clause-end g c e =
     let new : Heard = g.R.Source.heard c.cut-found.new.source in
     let nothing = cut.ended (nothing_found c.cut-found.result (length after.front) (sym c.settle.ensures.answer ∙ e)) in
     let offset : after.offset ≡ c.args.self.now.offset =
-        cut.stays.0 ∙ ap (λ (s : Standing). s.offset) c.forget.ensures in
-    (subst (λ (n : ℕ). IsEndOf (told_from n new) clean) offset (clean_end new after cut.heard cut.stays.1 nothing.0),
-        nothing.1)
+    cut.stays.0 ∙ ap (λ (s : Standing). s.offset) c.forget.ensures in (
+      subst (λ (n : ℕ). IsEndOf (told_from n new) clean) offset (clean_end new after cut.heard cut.stays.1 nothing.0),
+      nothing.1,
+    )
 
 pub returns-in-Some-clause-archive : goal.returns-in-Some-clause-archive
 returns-in-Some-clause-archive g c records has =
@@ -40,12 +41,12 @@ returns-in-Some-clause-archive g c records has =
     let told : Heard = g.R.Source.heard c.args.source.now in
     let within : offset ≤ length told.bytes = omega (arith, c.requires.heard.told) in
     let same : c.args.self.now.answer ≡ Some c.in-Some.ending = sym (ap (λ (s : Standing). s.answer) c.self.view_is)
-        ∙ c.in-Some.is in
+    ∙ c.in-Some.is in
     archive_at c.answer.result told told [] offset records within (sym (append-nil told.bytes)) has
     (end_again c.answer.result c.args.self.now.answer c.in-Some.ending offset told same c.answer.ensures
-        c.requires.ended)
+    c.requires.ended)
     (fault_again c.answer.result c.args.self.now.answer c.in-Some.ending offset told same c.answer.ensures
-        c.requires.ended)
+    c.requires.ended)
 
 pub returns-clause-records : goal.returns-clause-records
 returns-clause-records g c records has =
@@ -57,14 +58,14 @@ returns-clause-records g c records has =
     let within : offset ≤ length old.bytes = omega (arith, c.requires.heard.told) in
     let same_offset : after.offset ≡ offset = cut.stays.0 ∙ ap (λ (s : Standing). s.offset) c.forget.ensures in
     let told : after.front ≡ told_from offset new = sym (told_is new after cut.heard cut.stays.1)
-        ∙ ap (λ (n : ℕ). told_from n new) same_offset in
+    ∙ ap (λ (n : ℕ). told_from n new) same_offset in
     let found = record_found c.cut-found.result (length after.front) after.front new.is_at_end cut.found in
     let is = subst (λ (xs : List ℕ). IfOk (lent_of (length after.front) c.cut-found.result)
-        (λ o. IfSome o (λ m. IsRecord xs))) told found in
+    (λ o. IfSome o (λ m. IsRecord xs))) told found in
     let handed = subst (λ (r : Result (Option ℕ) StreamFault). IfOk r
-        (λ o. IfSome o (λ m. IsRecord (told_from offset new)))) (sym c.settle.ensures.answer) is in
+    (λ o. IfSome o (λ m. IsRecord (told_from offset new)))) (sym c.settle.ensures.answer) is in
     records_after c.settle.result old new c.cut-found.ensures.more.0 offset records within c.cut-found.ensures.more.1
-        handed has
+    handed has
 
 pub returns-clause-fault : goal.returns-clause-fault
 returns-clause-fault g c =
@@ -73,13 +74,13 @@ returns-clause-fault g c =
     let old : Heard = g.R.Source.heard c.args.source.now in
     let new : Heard = g.R.Source.heard c.cut-found.new.source in
     let same_offset : after.offset ≡ c.args.self.now.offset =
-        cut.stays.0 ∙ ap (λ (s : Standing). s.offset) c.forget.ensures in
+    cut.stays.0 ∙ ap (λ (s : Standing). s.offset) c.forget.ensures in
     let fault = fault_found c.cut-found.result (length after.front) c.forget.new.self after old new cut.heard
-        cut.stays.1 cut.stays.0 cut.fault in
+    cut.stays.1 cut.stays.0 cut.fault in
     let fault_here = subst (λ (n : ℕ). IfErr (lent_of (length after.front) c.cut-found.result)
-        (λ e. IsCutFault e n new)) same_offset fault in
+    (λ e. IsCutFault e n new)) same_offset fault in
     subst (λ (r : Result (Option ℕ) StreamFault). IfErr r (λ e. IsCutFault e c.args.self.now.offset new))
-        (sym c.settle.ensures.answer) fault_here
+    (sym c.settle.ensures.answer) fault_here
 
 pub returns-clause-archive : goal.returns-clause-archive
 returns-clause-archive g c records has =
@@ -91,4 +92,4 @@ returns-clause-archive g c records has =
     let within : offset ≤ length old.bytes = omega (arith, c.requires.heard.told) in
     let same_offset : after.offset ≡ offset = cut.stays.0 ∙ ap (λ (s : Standing). s.offset) c.forget.ensures in
     archive_at c.settle.result old new c.cut-found.ensures.more.0 offset records within c.cut-found.ensures.more.1 has
-        (returns-clause-end g c) (returns-clause-fault g c)
+    (returns-clause-end g c) (returns-clause-fault g c)

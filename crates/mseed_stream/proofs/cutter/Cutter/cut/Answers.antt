@@ -23,13 +23,15 @@ returns-then-is_ok-clause-cut g c =
       heard = heard_whole (g.R.Source.heard c.args.source.now) (g.R.Source.heard c.take_whole.new.source)
           c.args.self.now before c.take_whole.new.self before.room bytes may.heard may.not_lent
           c.in-Some.ensures.none c.make_room.ensures.stays c.make_room.ensures.small taken.stays
-              (ap (λ (h : Heard). h.bytes) taken.told) calls c.in-Some.ensures.turns (omega arith);
+          (ap (λ (h : Heard). h.bytes) taken.told) calls c.in-Some.ensures.turns (omega arith);
       stays = search rules;
       room = search rules;
       stop = read_to_record c.take_whole.new.self.front bytes (g.R.Source.heard c.take_whole.new.source).is_at_end
           (ap (λ (s : Standing). s.front) taken.stays) c.in-Some.ensures.whole.1 going_on;
-      found = λ same. (subst IsRecord (sym (ap (λ (s : Standing). s.front) taken.stays)) c.in-Some.ensures.whole.1,
-          going_on);
+      found = λ same. (
+        subst IsRecord (sym (ap (λ (s : Standing). s.front) taken.stays)) c.in-Some.ensures.whole.1,
+        going_on,
+      );
       asked = λ same. omega (arith, calls);
       quiet = (λ none. absurd (omega (arith, calls)), omega (arith, calls));
       ended = λ other. cc;

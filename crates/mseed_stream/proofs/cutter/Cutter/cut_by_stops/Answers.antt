@@ -1,5 +1,5 @@
-use Rattle.std.proofs.Common.{◌≡◌, ◌<◌, ◌≤◌, ◌++◌, length, true, false, Bool, Ok, Err, IfErr, OnOk, Result, ℕ, List,
-    sym, ap, subst, ◌∙◌, append_assoc, arith, rules, ⊎_elim}
+use Rattle.std.proofs.Common.{◌≡◌, ◌<◌, ◌≤◌, ◌++◌, length, true, false, Bool, Ok, Err, IfErr, OnOk, Result, ℕ, List}
+use Rattle.std.proofs.Common.{sym, ap, subst, ◌∙◌, append_assoc, arith, rules, ⊎_elim}
 use Rattle.std.proofs.lemmas.Bool.{cases_lt}
 use Rattle.mseed_record.proofs.Answered.{answered}
 use Rattle.std.proofs.KnownBytes.{Consumes-trans}
@@ -14,8 +14,8 @@ use Rattle.mseed_stream.specs.private.Steps.{IsCut, IsCuttingFault}
 use Rattle.mseed_stream.specs.declared.fault.StreamFault.{StreamFault}
 use Rattle.mseed_stream.proofs.Stops.{stop_grows, stop_next}
 use Rattle.mseed_stream.proofs.Filled.{held_grows, held_stays}
-use Rattle.mseed_stream.proofs.Cuts.{found, fault_at_end, cutting_err, read_to_err, stops_again, same_end, stop_here,
-    asked_twice, first_fill, none_asked}
+use Rattle.mseed_stream.proofs.Cuts.{found, fault_at_end, cutting_err, read_to_err, stops_again, same_end, stop_here}
+use Rattle.mseed_stream.proofs.Cuts.{asked_twice, first_fill, none_asked}
 use Rattle.mseed_stream.proofs.cutter.Cutter.cut_by_stops.Goals as goal
 
 pub returns-in-Record-clause-cut : goal.returns-in-Record-clause-cut
@@ -64,8 +64,12 @@ returns-in-Not-clause-cut g c =
       quiet = rw same (inv.asked, inv.calls);
       ended = λ other. cc;
       fine = tt;
-      fault = (ap (λ (s : Standing). s.offset) (c.self.view_is ∙ same) ∙ inv.offset, inv.failures,
-          rw same (is_frame c.in-Not.fault decides), rw (same, inv.end) inv.stop);
+      fault = (
+        ap (λ (s : Standing). s.offset) (c.self.view_is ∙ same) ∙ inv.offset,
+        inv.failures,
+        rw same (is_frame c.in-Not.fault decides),
+        rw (same, inv.end) inv.stop,
+      );
     }
 
 pub returns-in-Need-clause-cut : goal.returns-in-Need-clause-cut
@@ -103,12 +107,12 @@ returns-in_err-is_at_end-in-Need-2-clause-cut g c =
     let decides = subst (λ (a : Scan). Decides before a) c.in-Need.is c.look.ensures.decides in
     let here = stop_here before c.stops.is_at_end inv.stop c.if-is_at_end.false in
     let grown : after.front ≡ before ++ err.more.0 =
-        held_grows old new c.stops.self after err.more.0 inv.heard err.heard inv.not_lent err.stays.1 err.stays.0
-        err.more.1 in
+    held_grows old new c.stops.self after err.more.0 inv.heard err.heard inv.not_lent err.stays.1 err.stays.0
+    err.more.1 in
     let stop = subst (λ (xs : List ℕ). IsStop xs needed) (sym grown)
-        (stop_grows before err.more.0 needed (stop_next before needed here decides)) in
+    (stop_grows before err.more.0 needed (stop_next before needed here decides)) in
     let stays = λ (same : new ≡ old). held_stays old new c.stops.self after inv.heard err.heard inv.not_lent
-        err.stays.1 err.stays.0 same in
+    err.stays.1 err.stays.0 same in
     let held = λ (same : new ≡ old). subst (λ (xs : List ℕ). IsStop xs (length xs)) (sym (stays same)) here in
     let asks = λ (same : new ≡ old). subst (λ (xs : List ℕ). Decides xs (Need needed)) (sym (stays same)) decides in
     let same : c.from_residual.result ≡ Err fault = search rules in
@@ -121,14 +125,17 @@ returns-in_err-is_at_end-in-Need-2-clause-cut g c =
           held);
       found = λ other. absurd (cc (sym same ∙ other));
       asked = λ other. absurd (cc (sym same ∙ other));
-      quiet = (none_asked c.args.self.now.front before after.front err.more.0 first.calls old.calls new.calls grown
-          err.calls inv.calls inv.asked err.quiet, omega (arith, inv.calls, err.calls));
+      quiet = (
+        none_asked c.args.self.now.front before after.front err.more.0 first.calls old.calls new.calls grown
+            err.calls inv.calls inv.asked err.quiet,
+        omega (arith, inv.calls, err.calls),
+      );
       ended = λ other. absurd (cc (sym same ∙ other));
       fine = subst (λ (r : Result Bool StreamFault). OnOk r (new.failures ≡ first.failures)) (sym same) tt;
       fault = subst (λ (r : Result Bool StreamFault). IfErr r (λ e. IsCuttingFault e c.args.self.now after first new))
           (sym same)
           (cutting_err fault c.args.self.now c.stops.self after first old new needed err.fault inv.offset inv.room
-              inv.failures (inv.end ∙ c.if-is_at_end.false) stop err.short asks);
+          inv.failures (inv.end ∙ c.if-is_at_end.false) stop err.short asks);
     }
 
 pub stops-preserved : goal.stops-preserved
@@ -144,18 +151,21 @@ stops-preserved g c =
     let decides = subst (λ (a : Scan). Decides before a) c.in-Need.is c.look.ensures.decides in
     let here = stop_here before c.stops.is_at_end inv.stop c.if-is_at_end.false in
     let grown : after ≡ before ++ ok.more.0 =
-        held_grows old new c.stops.self c.fill.new.self ok.more.0 inv.heard ok.heard inv.not_lent ok.stays.1 ok.stays.0
-        ok.more.1 in
+    held_grows old new c.stops.self c.fill.new.self ok.more.0 inv.heard ok.heard inv.not_lent ok.stays.1 ok.stays.0
+    ok.more.1 in
     let stop = subst (λ (xs : List ℕ). IsStop xs needed) (sym grown)
-        (stop_grows before ok.more.0 needed (stop_next before needed here decides)) in
+    (stop_grows before ok.more.0 needed (stop_next before needed here decides)) in
     let answer = λ (b : Bool) (e : at_end ≡ b). ap (λ (x : Bool). let r : Result Bool StreamFault = Ok x in r) e in
     record {
       heard = ok.heard;
       not_lent = ok.stays.1;
-      more = (inv.more.0 ++ ok.more.0, ok.more.1
-          ∙ (ap (λ (xs : List ℕ). xs ++ ok.more.0) inv.more.1
-          ∙ append_assoc (g.R.Source.heard c.args.source.now).bytes inv.more.0 ok.more.0),
-          Consumes-trans _ _ _ _ _ inv.more.2 ok.more.2);
+      more = (
+        inv.more.0 ++ ok.more.0,
+        ok.more.1
+            ∙ (ap (λ (xs : List ℕ). xs ++ ok.more.0) inv.more.1
+            ∙ append_assoc (g.R.Source.heard c.args.source.now).bytes inv.more.0 ok.more.0),
+        Consumes-trans _ _ _ _ _ inv.more.2 ok.more.2,
+      );
       offset = ok.stays.0 ∙ inv.offset;
       answer = ok.stays.2 ∙ inv.answer;
       room = omega (arith, inv.room, ok.room);

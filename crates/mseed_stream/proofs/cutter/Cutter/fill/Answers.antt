@@ -1,5 +1,5 @@
-use Rattle.std.proofs.Common.{◌≡◌, ◌+◌, ◌≤◌, ◌<◌, ◌^◌, ◌++◌, length, take, drop, List, ℕ, arith, slice_range, sym, ap,
-    subst, ◌∙◌, refl, length-take, append_assoc}
+use Rattle.std.proofs.Common.{◌≡◌, ◌+◌, ◌≤◌, ◌<◌, ◌^◌, ◌++◌, length, take, drop, List, ℕ, arith, slice_range, sym, ap}
+use Rattle.std.proofs.Common.{subst, ◌∙◌, refl, length-take, append_assoc}
 use Rattle.std.proofs.lemmas.Grind.{common_steps}
 use Rattle.std.proofs.KnownBytes.{Consumes-trans}
 use Rattle.mseed_record.specs.Framer.{IsFramerOf}
@@ -19,35 +19,50 @@ loop-self-preserved g c =
     let now : List ℕ = c.pull_between.new.held in
     let items : List ℕ = i.held.items in
     let told : List ℕ = take n (slice_range now have c.args.needed) in
-    let before : Standing = record { offset = i.offset; front = take have items; is_lent = i.is_lent; room = room;
-        reads = i.reads; answer = i.ending } in
+    let before : Standing = record {
+      offset = i.offset;
+      front = take have items;
+      is_lent = i.is_lent;
+      room = room;
+      reads = i.reads;
+      answer = i.ending;
+    } in
     let front_now : List ℕ = take (have + n) (take room (now ++ drop (length now) items)) in
-    let after : Standing = record { offset = i.offset; front = front_now; is_lent = i.is_lent; room = room;
-        reads = i.reads + 1; answer = i.ending } in
+    let after : Standing = record {
+      offset = i.offset;
+      front = front_now;
+      is_lent = i.is_lent;
+      room = room;
+      reads = i.reads + 1;
+      answer = i.ending;
+    } in
     let old : Heard = g.R.Source.heard c.loop-self.source in
     let new : Heard = g.R.Source.heard c.pull_between.new.source in
     let size : length now ≡ room = c.pull_between.auto.held ∙ c.deref_mut.ensures.len in
     let same : take have now ≡ take have items = c.in-Ok.ensures.before
-        ∙ ap (λ (xs : List ℕ). take have xs) c.deref_mut.ensures.value in
+    ∙ ap (λ (xs : List ℕ). take have xs) c.deref_mut.ensures.value in
     let bound : have + n ≤ c.args.needed = c.in-Ok.ensures.bound in
     let fits : c.args.needed ≤ room = inv.fits in
     let front : front_now ≡ take have items ++ told =
-        ap (λ (xs : List ℕ). take (have + n) xs) (written_back now items room size)
-        ∙ front_more items now have n c.args.needed same bound in
+    ap (λ (xs : List ℕ). take (have + n) xs) (written_back now items room size)
+    ∙ front_more items now have n c.args.needed same bound in
     let bytes : new.bytes ≡ old.bytes ++ told = ap (λ (h : Heard). h.bytes) c.in-Ok.ensures.heard in
     let calls : new.calls ≡ old.calls + 1 = ap (λ (h : Heard). h.calls) c.in-Ok.ensures.heard in
     let within : length front_now ≤ room =
-        omega (arith, length-take (have + n) (take room (now ++ drop (length now) items))) in
+    omega (arith, length-take (have + n) (take room (now ++ drop (length now) items))) in
     let few : i.reads < 2 ^ 40 = omega (arith, inv.heard.few_reads, c.if-self-eq-TURNS.false) in
     let small : room ≤ 2 ^ 20 = inv.heard.small in
     record {
       heard = heard_more old new before after told inv.heard inv.not_lent inv.not_lent refl front bytes calls refl few
           within small;
       not_lent = inv.not_lent;
-      more = (inv.more.0 ++ told, bytes
-          ∙ (ap (λ (xs : List ℕ). xs ++ told) inv.more.1
-          ∙ append_assoc (g.R.Source.heard c.args.source.now).bytes inv.more.0 told),
-          Consumes-trans _ _ _ _ _ inv.more.2 c.in-Ok.ensures.known.0);
+      more = (
+        inv.more.0 ++ told,
+        bytes
+            ∙ (ap (λ (xs : List ℕ). xs ++ told) inv.more.1
+            ∙ append_assoc (g.R.Source.heard c.args.source.now).bytes inv.more.0 told),
+        Consumes-trans _ _ _ _ _ inv.more.2 c.in-Ok.ensures.known.0,
+      );
       offset = inv.offset;
       answer = inv.answer;
       room = inv.room;

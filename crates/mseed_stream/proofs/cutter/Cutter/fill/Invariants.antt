@@ -5,8 +5,14 @@ use Rattle.mseed_stream.proofs.cutter.Cutter.fill.Given as goal
 
 abbrev pub invariant-loop-self : goal.invariant-loop-self
 invariant-loop-self g l = let c = l.self-inside in record {
-  heard : IsHeard (g.R.Source.heard l.source) (record { offset = c.offset; front = take c.have c.held.items;
-      is_lent = c.is_lent; room = vec_len c.held; reads = c.reads; answer = c.ending });
+  heard : IsHeard (g.R.Source.heard l.source) (record {
+    offset = c.offset;
+    front = take c.have c.held.items;
+    is_lent = c.is_lent;
+    room = vec_len c.held;
+    reads = c.reads;
+    answer = c.ending;
+  });
   not_lent : c.is_lent ≡ false;
   more : TellsMore (g.R.Source.heard l.fn.source) (g.R.Source.heard l.source) (g.R.Source.remaining l.fn.source)
       (g.R.Source.remaining l.source);

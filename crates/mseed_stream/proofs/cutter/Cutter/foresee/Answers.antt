@@ -9,7 +9,7 @@ pub returns-in-Record-clause-whole : goal.returns-in-Record-clause-whole
 returns-in-Record-clause-whole g c =
     let n : ℕ = c.in-Record.size in
     subst (λ (xs : List ℕ). (n ≤ length xs) × IsRecord (take n xs)) c.lend.ensures.bytes
-        ((c.scan.ensures.record n).0 c.in-Record.is)
+    ((c.scan.ensures.record n).0 c.in-Record.is)
 
 pub returns-in-Record-clause-size : goal.returns-in-Record-clause-size
 returns-in-Record-clause-size g c =

@@ -9,13 +9,18 @@ pub invariant_of-self : goal.invariant_of-self
 invariant_of-self g c =
     let shown : List ℕ = take c.self.inside.have c.deref.result.now in
     let same = ap (λ (xs : List ℕ). take c.self.inside.have xs) c.deref.ensures.value in
-    let inv = c.self.invariant in
-    (inv.0, inv.1, inv.2, inv.3, subst (λ (xs : List ℕ). IsFramerOf c.look.new.self xs) (append-nil shown ∙ same)
-        (c.look.ensures.goes_on []))
+    let inv = c.self.invariant in (
+      inv.0,
+      inv.1,
+      inv.2,
+      inv.3,
+      subst (λ (xs : List ℕ). IsFramerOf c.look.new.self xs) (append-nil shown ∙ same)
+          (c.look.ensures.goes_on []),
+    )
 
 pub returns-clause-record : goal.returns-clause-record
 returns-clause-record g c k e =
     let same : take c.self.inside.have c.deref.result.now ≡ c.args.self.now.front =
     ap (λ (xs : List ℕ). take c.self.inside.have xs) c.deref.ensures.value
-        ∙ ap (λ (s : Standing). s.front) c.self.view_is in
+    ∙ ap (λ (s : Standing). s.front) c.self.view_is in
     subst (λ (xs : List ℕ). (k ≤ length xs) × IsRecord (take k xs)) same (c.look.ensures.record k e)

@@ -1,5 +1,5 @@
-use Rattle.std.proofs.Common.{◌≡◌, ◌+◌, ◌≤◌, ◌++◌, List, [], ◌∷◌, ℕ, subst, length, take, refl, sym, ap, ◌∙◌, arith,
-    Option, Some, None, Ok, IfSome}
+use Rattle.std.proofs.Common.{◌≡◌, ◌+◌, ◌≤◌, ◌++◌, List, [], ◌∷◌, ℕ, subst, length, take, refl, sym, ap, ◌∙◌, arith}
+use Rattle.std.proofs.Common.{Option, Some, None, Ok, IfSome}
 use Rattle.std.proofs.lemmas.List.{length-take-le}
 use Rattle.mseed_record.specs.View.{View}
 use Rattle.mseed_record.specs.Viewing.{view_of}
@@ -42,15 +42,15 @@ returns-in-Some g c =
     let size : length items ≡ length c.deref.result.now = ap (λ (xs : List ℕ). length xs) (sym c.deref.ensures.value) in
     let within : c.self.inside.have ≤ length items = omega (arith, size, c.deref.ensures.len, c.self.invariant.0) in
     let bytes : view.bytes ≡ told = c.of_record.ensures.bytes
-        ∙ (ap (λ (xs : List ℕ). take c.in-Some.length xs) c.deref.ensures.value
-        ∙ (taken items after.front c.self.inside.have c.in-Some.length front it.record.0 within ∙ it.record.2)) in
+    ∙ (ap (λ (xs : List ℕ). take c.in-Some.length xs) c.deref.ensures.value
+    ∙ (taken items after.front c.self.inside.have c.in-Some.length front it.record.0 within ∙ it.record.2)) in
     let moved : after.offset ≡ before.offset + length told =
-        it.offset ∙ ap (λ (xs : List ℕ). before.offset + length xs) it.record.2 in
+    it.offset ∙ ap (λ (xs : List ℕ). before.offset + length xs) it.record.2 in
     let handed = λ (views : List View) (h : HasHandedOut old before views). subst
-        (λ (x : Standing). HasHandedOut new x (views ++ view ∷ [])) (sym c.self.view_is)
-        (handed_record old new before after views view h c.of_record.ensures.view bytes
-        (it.records (bytes_in views) h.records.records) it.along moved it.kept (omega (arith, it.failed h.goes_on))
-        it.asked) in (
+    (λ (x : Standing). HasHandedOut new x (views ++ view ∷ [])) (sym c.self.view_is)
+    (handed_record old new before after views view h c.of_record.ensures.view bytes
+    (it.records (bytes_in views) h.records.records) it.along moved it.kept (omega (arith, it.failed h.goes_on))
+    it.asked) in (
       (
         refl,
         λ _. tt,

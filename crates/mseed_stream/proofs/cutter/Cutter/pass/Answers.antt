@@ -15,14 +15,14 @@ pub tell_whole-requires-clause-header : goal.tell_whole-requires-clause-header
 tell_whole-requires-clause-header g c =
     let bytes : List ℕ = take c.args.size (g.R.Source.lent c.args.source.now) in
     let long : length bytes ≡ c.args.size =
-        length-take-le c.args.size (g.R.Source.lent c.args.source.now) c.requires.ahead.whole in
+    length-take-le c.args.size (g.R.Source.lent c.args.source.now) c.requires.ahead.whole in
     omega (arith, record_long bytes c.requires.ahead.is_record)
 
 pub invariant_of-self : goal.invariant_of-self
 invariant_of-self g c =
     let bytes : List ℕ = take c.args.size (g.R.Source.lent c.args.source.now) in
     let long : length bytes ≡ c.args.size =
-        length-take-le c.args.size (g.R.Source.lent c.args.source.now) c.requires.ahead.whole in
+    length-take-le c.args.size (g.R.Source.lent c.args.source.now) c.requires.ahead.whole in
     let few : length bytes ≤ 1048576 = record_few bytes c.requires.ahead.is_record in
     let reads = ap (λ (s : Standing). s.reads) (c.self.view_is ∙ c.forget.ensures) in
     let is = c.self.invariant in
@@ -45,7 +45,7 @@ returns-clause-along g c =
     let after : behind here size ≡ passed old size = stands_behind here old size is c.requires.ahead.none in
     let along = passed_along (g.R.Source.heard c.args.source.now) old size lent c.requires.along c.requires.ahead in
     subst (λ (s : Standing). IsAlong (g.R.Source.heard c.tell_whole.new.source) s) (sym after)
-        (subst (λ (h : Heard). IsAlong h (passed old size)) (sym c.tell_whole.ensures.told) along)
+    (subst (λ (h : Heard). IsAlong h (passed old size)) (sym c.tell_whole.ensures.told) along)
 
 pub returns-clause-records : goal.returns-clause-records
 returns-clause-records g c = λ records has.
@@ -53,12 +53,12 @@ returns-clause-records g c = λ records has.
     let size : ℕ = c.args.size in
     let told : Heard = g.R.Source.heard c.args.source.now in
     let offset : c.self.inside.offset ≡ c.args.self.now.offset =
-        ap (λ (s : Standing). s.offset) (c.self.view_is ∙ c.forget.ensures) in
+    ap (λ (s : Standing). s.offset) (c.self.view_is ∙ c.forget.ensures) in
     let whole : List (List ℕ) = records ++ take size lent ∷ [] in
     let more = passed_records told c.args.self.now size lent records c.requires.along.heard c.requires.ahead has in
     subst (λ (n : ℕ). HasRecords (g.R.Source.heard c.tell_whole.new.source).bytes (n + size) whole) (sym offset)
     (subst (λ (h : Heard). HasRecords h.bytes (c.args.self.now.offset + size) whole) (sym c.tell_whole.ensures.told)
-        more)
+    more)
 
 pub returns-clause-handed : goal.returns-clause-handed
 returns-clause-handed g c = λ views v before is same.
@@ -76,6 +76,6 @@ returns-clause-handed g c = λ views v before is same.
     let stands : here ≡ record old { front = held_of old; is_lent = false } = c.self.view_is ∙ c.forget.ensures in
     let after : behind here size ≡ passed old size = stands_behind here old size stands c.requires.ahead.none in
     let handed = passed_handed (g.R.Source.heard c.args.source.now) old size lent views v c.requires.ahead before is
-        same in
+    same in
     subst (λ (s : Standing). HasHandedOut (g.R.Source.heard c.tell_whole.new.source) s (views ++ v ∷ [])) (sym after)
     (subst (λ (h : Heard). HasHandedOut h (passed old size) (views ++ v ∷ [])) (sym c.tell_whole.ensures.told) handed)

@@ -9,7 +9,7 @@ returns-in-Ok-clause-ahead g c =
     let lent : List ℕ = g.R.Source.lent c.args.source.now in
     let bytes : List ℕ = c.in-Ok.view.bytes.now in
     let front : bytes ≡ take (length bytes) lent = c.in-Ok.ensures.front
-        ∙ ap (λ (xs : List ℕ). take (length bytes) xs) c.lend.ensures.bytes in
+    ∙ ap (λ (xs : List ℕ). take (length bytes) xs) c.lend.ensures.bytes in
     let is : IsRecord bytes = view_record (view_of c.in-Ok.view) c.in-Ok.ensures.view in
     record {
       whole = front_within lent bytes front;

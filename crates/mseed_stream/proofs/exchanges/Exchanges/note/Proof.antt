@@ -32,14 +32,18 @@ note_spec 𝓤 𝓛 𝓜 𝓡 wired =
       Goes-ref 𝓛 3 0 tt (plain (λ _. R)),
       (
         Goes-dropped 𝓛 3 (shr_ref_to (1 ∷ []) tt (plain (λ _. T))) yes (λ κs x w. refl),
-        (Goes-dropped 𝓛 3 (shr_ref_to (2 ∷ []) tt (plain (λ _. T))) yes (λ κs x w. refl),
-            (Goes-dropped 𝓛 3 (plain (λ _. bool)) yes (λ κs x w. refl), tt)),
+        (
+          Goes-dropped 𝓛 3 (shr_ref_to (2 ∷ []) tt (plain (λ _. T))) yes (λ κs x w. refl),
+          (Goes-dropped 𝓛 3 (plain (λ _. bool)) yes (λ κs x w. refl), tt),
+        ),
       ),
     )
     f.Key.name code.function (code.unfolded 𝓤 𝓛.H 𝓜 𝓡 wired)
     (λ κs. (mut_vals, (shr_vals, (shr_vals, (bool_vals, tt)))))
-        (λ κs. (mut_Tells (named 0) κs.0 R,
-        (shr_Tells (named 1) κs.1.0 T, (shr_Tells (named 2) κs.1.1.0 T, (bool_Tells, tt))))) (λ κs qs bounds a _ are.
+    (λ κs. (
+      mut_Tells (named 0) κs.0 R,
+      (shr_Tells (named 1) κs.1.0 T, (shr_Tells (named 2) κs.1.1.0 T, (bool_Tells, tt))),
+    )) (λ κs qs bounds a _ are.
     let b = a.0.ref_ptr.0 in let o = a.0.ref_ptr.1 in let h = a.0.now in let vs = mut_vals a.0 in
     let reads = a.1.0.now in let writes = a.1.1.0.now in
     let h' = record h {
@@ -48,12 +52,14 @@ note_spec 𝓤 𝓛 𝓜 𝓡 wired =
         said = record { bytes = writes.bytes; calls = writes.calls; failures = writes.failures };
       }) ∷ [];
     } in
-    let y : W.Ghost = ((κs, qs, bounds, a, (vs, (shr_vals a.1.0, (shr_vals a.1.1.0, (bool_vals a.1.1.1.0, tt))))),
-        tt) in
+    let y : W.Ghost = (
+      (κs, qs, bounds, a, (vs, (shr_vals a.1.0, (shr_vals a.1.1.0, (bool_vals a.1.1.1.0, tt))))),
+      tt,
+    ) in
     qed 𝓛 (((‵ (flft κs.0 qs.0) ⊛ ‵ (flft κs.1.0 qs.1.0) ⊛ ‵ (flft κs.1.1.0 qs.1.1.0) ⊛ ‵ ftrue) ⊛ ‵
-        ((MutRef (named 0) κs.0 R).own_val a.0 vs)
+    ((MutRef (named 0) κs.0 R).own_val a.0 vs)
     ⊛ ‵ ((ShrRef (named 1) κs.1.0 T).own_val a.1.0 (shr_vals a.1.0)) ⊛ ‵
-        ((ShrRef (named 2) κs.1.1.0 T).own_val a.1.1.0 (shr_vals a.1.1.0))
+    ((ShrRef (named 2) κs.1.1.0 T).own_val a.1.1.0 (shr_vals a.1.1.0))
     ⊛ ‵ (bool.own_val a.1.1.1.0 (bool_vals a.1.1.1.0)) ⊛ ‵ ftrue) ∷ ‵ ftrue ∷ []) ∵
     split ! $ split ! $ move ! (2 ∷ []) $ split ! $ keep ! (0 ∷ 2 ∷ 3 ∷ []) $
     enter ! _ _ _ _ _ $ alloc_all ! (λ l. pass_all ! refl ((tt, tt), ((tt, tt), ((tt, tt), ((tt, tt), tt)))) $
@@ -64,6 +70,6 @@ note_spec 𝓤 𝓛 𝓜 𝓡 wired =
     returns ! (look_at ! 0 refl) $ free_all ! refl $ move ! (3 ∷ []) $
     suffices ! _ (ends_at 𝓛 f.ended stayed c y vunit tt (h', (tt, (tt, (tt, tt)))) (tt, (tt, (tt, (tt, tt))))) $
     group ! 3 $ nothing ! $ nothing ! $ join ! $ nothing ! $ join ! $ nothing ! $ join ! $ move ! (1 ∷ 0 ∷ []) $ join !
-        $ move ! (1 ∷ 2 ∷ []) $ join ! $
+    $ move ! (1 ∷ 2 ∷ []) $ join ! $
     feq_i ! _ (vunit ∷ []) (vunit ∷ []) refl $ move ! (2 ∷ 0 ∷ []) $ join ! $ move ! (1 ∷ 0 ∷ []) $ join ! $ frame ! $
     tells_last ! refl)))

@@ -7,5 +7,5 @@ use Rattle.mseed_time.proofs.btime.Btime.since_1900.Goals as goal
 pub returns-clause-value : goal.returns-clause-value
 returns-clause-value c =
     let counted = microsecond_of-natural (parts_of c.args.self.now) c.days_since_1900.result (omega arith)
-        c.days_since_1900.ensures in
+    c.days_since_1900.ensures in
     omega (arith, signed_arith, counted)

@@ -10,17 +10,17 @@ returns-clause-fields c =
     let put_day = c.put_u16-2 in
     let put_fraction = c.put_u16-3 in
     let early = number_at-kept c.args.order 0 2 put_day.new.bytes put_year.new.bytes (omega arith)
-        put_day.ensures.before in
+    put_day.ensures.before in
     let year = number_at-kept c.args.order 0 8 put_fraction.new.bytes put_day.new.bytes (omega arith)
-        put_fraction.ensures.before in
+    put_fraction.ensures.before in
     let day = number_at-kept c.args.order 2 8 put_fraction.new.bytes put_day.new.bytes (omega arith)
-        put_fraction.ensures.before in
+    put_fraction.ensures.before in
     let hour = put_fraction.ensures.before 4 (omega arith) ∙ put_day.ensures.after 4 (omega arith)
-        ∙ put_year.ensures.after 4 (omega arith) in
+    ∙ put_year.ensures.after 4 (omega arith) in
     let minute = put_fraction.ensures.before 5 (omega arith) ∙ put_day.ensures.after 5 (omega arith)
-        ∙ put_year.ensures.after 5 (omega arith) in
+    ∙ put_year.ensures.after 5 (omega arith) in
     let second = put_fraction.ensures.before 6 (omega arith) ∙ put_day.ensures.after 6 (omega arith)
-        ∙ put_year.ensures.after 6 (omega arith) in
+    ∙ put_year.ensures.after 6 (omega arith) in
     cc
 
 pub returns-clause-reads_back : goal.returns-clause-reads_back

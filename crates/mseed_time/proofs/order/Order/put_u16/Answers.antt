@@ -10,7 +10,7 @@ kept_after : (a n : ℕ) (xs ys : List ℕ) → a ≤ length xs → length ys �
 kept_after a n xs ys within long k after =
     let back : k + 0 ≡ k = omega arith in
     rw back at (sym (get_or-drop k (put_mid a n xs ys) 0 0)
-        ∙ ap (λ (l : List ℕ). slice_index l 0) (drop-put_mid a n xs ys k after within long) ∙ get_or-drop k xs 0 0)
+    ∙ ap (λ (l : List ℕ). slice_index l 0) (drop-put_mid a n xs ys k after within long) ∙ get_or-drop k xs 0 0)
 
 pub returns-in-Big-clause-after : goal.returns-in-Big-clause-after
 returns-in-Big-clause-after c k after =
@@ -19,4 +19,4 @@ returns-in-Big-clause-after c k after =
 pub returns-in-Little-clause-after : goal.returns-in-Little-clause-after
 returns-in-Little-clause-after c k after =
     kept_after c.args.offset _ c.args.bytes.now c.write_u16-in-Little.new.buf (omega arith) (omega arith) k
-        (omega arith)
+    (omega arith)

@@ -1,5 +1,5 @@
-use Rattle.std.proofs.Common.{ℕ, ◌≡◌, ◌≢◌, ◌≤◌, ◌<◌, refl, arith, ap, subst, sym, ◌∙◌, length, [], ◌∷◌, ◌++◌, List,
-    Option}
+use Rattle.std.proofs.Common.{ℕ, ◌≡◌, ◌≢◌, ◌≤◌, ◌<◌, refl, arith, ap, subst, sym, ◌∙◌, length, [], ◌∷◌, ◌++◌, List}
+use Rattle.std.proofs.Common.{Option}
 use Rattle.slink_feed.specs.Window.{Window}
 use Rattle.slink_feed.specs.Rings.{AreFilled, HasPlace, LacksPlace, filled_of}
 use Rattle.slink_feed.proofs.Slots.{same_length, filled_more}
@@ -18,9 +18,11 @@ below : (items now n : ℕ) → now ≡ items → n ≡ items → n ≤ 16 → n
 below items now n a b fits other = omega (arith, a, b, fits, other)
 
 pub returns-then-len-eq-MOST-clause-fault : goal.returns-then-len-eq-MOST-clause-fault
-returns-then-len-eq-MOST-clause-fault g c =
-    (same_length c.self.inside.rings.items c.args.self.now c.self.invariant c.self.view_is
-    ∙ (sym c.len.ensures.value ∙ c.if-len-eq-MOST.true), refl)
+returns-then-len-eq-MOST-clause-fault g c = (
+  same_length c.self.inside.rings.items c.args.self.now c.self.invariant c.self.view_is
+      ∙ (sym c.len.ensures.value ∙ c.if-len-eq-MOST.true),
+  refl,
+)
 
 pub returns-then-has-clause-fault : goal.returns-then-has-clause-fault
 returns-then-has-clause-fault g c = (

@@ -18,29 +18,29 @@ bounds-as_slice-k g c = inside c.self.inside.rings.items c.as_slice.result.now c
 pub offset_bounds-as_slice-k : goal.offset_bounds-as_slice-k
 offset_bounds-as_slice-k g c =
     let lt : c.args.k < length c.as_slice.result.now =
-        inside c.self.inside.rings.items c.as_slice.result.now c.args.self.now c.args.k
-        (same_length c.self.inside.rings.items c.args.self.now c.self.invariant c.self.view_is)
-        c.as_slice.ensures.value c.requires in
+    inside c.self.inside.rings.items c.as_slice.result.now c.args.self.now c.args.k
+    (same_length c.self.inside.rings.items c.args.self.now c.self.invariant c.self.view_is)
+    c.as_slice.ensures.value c.requires in
     omega (arith, lt)
 
 pub unreachable-requires : goal.unreachable-requires
 unreachable-requires g c =
     let at : (x : Window) × (c.index-as_slice-k.result ≡ Some x) × (slice_get c.args.self.now c.args.k ≡ Some x) =
     slot_at c.self.inside.rings.items c.as_slice.result.now c.args.self.now c.args.k c.index-as_slice-k.result
-        c.self.invariant c.self.view_is c.as_slice.ensures.value c.index-as_slice-k.is c.requires in
+    c.self.invariant c.self.view_is c.as_slice.ensures.value c.index-as_slice-k.is c.requires in
     no_slot c.index-as_slice-k.result (at.0, at.1) c.in-None.is
 
 pub returns-clause-ring : goal.returns-clause-ring
 returns-clause-ring g c =
     let at : (x : Window) × (c.index-as_slice-k.result ≡ Some x) × (slice_get c.args.self.now c.args.k ≡ Some x) =
     slot_at c.self.inside.rings.items c.as_slice.result.now c.args.self.now c.args.k c.index-as_slice-k.result
-        c.self.invariant c.self.view_is c.as_slice.ensures.value c.index-as_slice-k.is c.requires in
+    c.self.invariant c.self.view_is c.as_slice.ensures.value c.index-as_slice-k.is c.requires in
     rw (one_value c.index-as_slice-k.result c.in-Some.ring at.0 c.in-Some.is at.1) at.2
 
 pub returns-clause-most : goal.returns-clause-most
 returns-clause-most g c =
     below (length c.as_slice.result.now) c.args.k
-        (inside c.self.inside.rings.items c.as_slice.result.now c.args.self.now c.args.k
-        (same_length c.self.inside.rings.items c.args.self.now c.self.invariant c.self.view_is)
-        c.as_slice.ensures.value c.requires)
+    (inside c.self.inside.rings.items c.as_slice.result.now c.args.self.now c.args.k
+    (same_length c.self.inside.rings.items c.args.self.now c.self.invariant c.self.view_is)
+    c.as_slice.ensures.value c.requires)
     c.as_slice.ensures.fits

@@ -8,12 +8,12 @@ use Rattle.slink_feed.proofs.session.Session.packet_from.Goals as goal
 pub returns-in-Some-clause-fits : goal.returns-in-Some-clause-fits
 returns-in-Some-clause-fits g c =
     let streams : c.self.inside.phase ≡ Streaming = ap (λ (s : Standing). s.state.phase) c.self.view_is
-        ∙ c.requires.phase in (
+    ∙ c.requires.phase in (
       subst (IsChosenOf c.args.feed.now) (sym streams) tt,
       reached_with c.args.feed.now c.self.inside.grants c.args.k
           (record { mode = c.args.grant.mode; position = c.args.grant.position + 1 })
           (reached_next c.args.feed.now c.args.k c.ring-ring.result.now c.args.grant.position c.ring-ring.ensures.ring
-              c.in-Some.ensures.within)
+          c.in-Some.ensures.within)
           (subst (AreReached c.args.feed.now) (sym (ap (λ (s : Standing). s.state.grants) c.self.view_is))
-              c.requires.fits),
+          c.requires.fits),
     )

@@ -4,7 +4,7 @@ use Rattle.mseed_steim.specs.declared.scheme.Scheme.TheVariants.{Two}
 use Rattle.mseed_steim.specs.Packing.{PacksRun}
 use Rattle.mseed_steim.proofs.Packs.{front_spelled, run_front}
 use Rattle.mseed_steim.proofs.Fewest.{is_fewest}
-use Rattle.mseed_steim.proofs.packing.packed_spells.Goals as goal
+use Rattle.mseed_steim.proofs.law.packed_spells.Goals as goal
 
 pub returns-clause-spelled : goal.returns-clause-spelled
 returns-clause-spelled c = front_spelled
@@ -12,4 +12,4 @@ returns-clause-spelled c = front_spelled
 pub returns-clause-fewest : goal.returns-clause-fewest
 returns-clause-fewest c = λ ws ds used run. is_fewest ws (take used ds)
     (run_front Two ws (take used ds) (drop used ds) (subst (λ (xs : List ℤ). PacksRun Two ws xs (drop used ds))
-        (sym (take-append-drop used ds)) run))
+    (sym (take-append-drop used ds)) run))
