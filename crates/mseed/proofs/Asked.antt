@@ -1,5 +1,7 @@
 -- What the words of the command line give, one by one, and the digits of a length.
-use Rattle.std.proofs.Common.{◌≡◌, ℕ, suc, ◌+◌, ◌-◌, ◌*◌, ◌^◌, ◌<◌, ◌&&◌, ◌||◌, ◌++◌, Bool, List, [], ◌∷◌, length, map, take, drop, get_or, refl, sym, ap, ◌∙◌, arith, true, Option, Some, None, slice_get, unwrap_or, codes}
+use Rattle.std.proofs.Common.{◌≡◌, ℕ, suc, ◌+◌, ◌-◌, ◌*◌, ◌^◌, ◌<◌, ◌&&◌, ◌||◌, ◌++◌, Bool, List, [], ◌∷◌, length, map}
+use Rattle.std.proofs.Common.{take, drop, get_or, refl, sym, ap, ◌∙◌, arith, true, Option, Some, None, slice_get}
+use Rattle.std.proofs.Common.{unwrap_or, codes}
 use Rattle.std.proofs.lemmas.Grind.{common_steps}
 use Rattle.std.specs.Borrow.{Bor}
 use Rattle.std.specs.List.{list_all, list_any}
@@ -19,22 +21,28 @@ value_more : (xs : Text) (c : ℕ) → value_of (xs ++ c ∷ []) ≡ value_of xs
 value_more [] c = omega arith
 value_more (x ∷ xs) c =
     let size : length (xs ++ c ∷ []) ≡ length xs + 1 = length-append xs (c ∷ []) in
-    let power : 10 ^ length (xs ++ c ∷ []) ≡ 10 ^ length xs * 10 = ap (λ (n : ℕ). 10 ^ n) {y = suc (length xs)} (omega (arith, size)) ∙ pow-suc 10 (length xs) in
-    let here : (x - 48) * 10 ^ length (xs ++ c ∷ []) ≡ ((x - 48) * 10 ^ length xs) * 10 = ap (λ (n : ℕ). (x - 48) * n) power ∙ sym (mul_assoc (x - 48) (10 ^ length xs) 10) in
+    let power : 10 ^ length (xs ++ c ∷ []) ≡ 10 ^ length xs * 10 =
+    ap (λ (n : ℕ). 10 ^ n) {y = suc (length xs)} (omega (arith, size)) ∙ pow-suc 10 (length xs) in
+    let here : (x - 48) * 10 ^ length (xs ++ c ∷ []) ≡ ((x - 48) * 10 ^ length xs) * 10 =
+    ap (λ (n : ℕ). (x - 48) * n) power ∙ sym (mul_assoc (x - 48) (10 ^ length xs) 10) in
     let rest : value_of (xs ++ c ∷ []) ≡ value_of xs * 10 + (c - 48) = value_more xs c in
     omega (arith, here, rest)
 
 -- the digits that a loop has passed, with one more
-pub digits_more : (ds : Text) (i d : ℕ) → i < length ds → value_of (take (i + 1) ds) ≡ value_of (take i ds) * 10 + (get_or ds i d - 48)
+pub digits_more : (ds : Text) (i d : ℕ) → i < length ds
+    → value_of (take (i + 1) ds) ≡ value_of (take i ds) * 10 + (get_or ds i d - 48)
 digits_more ds i d lt =
-    let next : take i ds ++ get_or ds i d ∷ [] ≡ take (i + 1) ds = sym (take-suc ds i d lt) ∙ ap (λ (n : ℕ). take n ds) {x = suc i} (omega arith) in
+    let next : take i ds ++ get_or ds i d ∷ [] ≡ take (i + 1) ds = sym (take-suc ds i d lt)
+    ∙ ap (λ (n : ℕ). take n ds) {x = suc i} (omega arith) in
     ap value_of (sym next) ∙ value_more (take i ds) (get_or ds i d)
 
-pub all_more : (ds : Text) (i d : ℕ) → i < length ds → list_all is_digit (take i ds) ≡ true → is_digit (get_or ds i d) ≡ true → list_all is_digit (take (i + 1) ds) ≡ true
+pub all_more : (ds : Text) (i d : ℕ) → i < length ds → list_all is_digit (take i ds) ≡ true
+    → is_digit (get_or ds i d) ≡ true → list_all is_digit (take (i + 1) ds) ≡ true
 all_more ds i d lt before is = grind (arith, common_steps, before, is)
 
 -- whether a text is one of these
-pub named : (names : List (Bor Text)) (id : Text) → is_among (map (λ (n : Bor Text). n.now) names) id ≡ list_any (λ (n : Bor Text). bytes_eq n.now id) names
+pub named : (names : List (Bor Text)) (id : Text)
+    → is_among (map (λ (n : Bor Text). n.now) names) id ≡ list_any (λ (n : Bor Text). bytes_eq n.now id) names
 named [] id = refl
 named (n ∷ ns) id = ap (λ (b : Bool). bytes_eq n.now id || b) (named ns id)
 
@@ -46,12 +54,14 @@ left_none names (x ∷ xs) e = absurd (some_none x e)
     some_none : (x : Text) → Some x ≡ None → ⊥
     some_none x e = cc
 
-pub left_some : (names xs : List Text) (x : Text) → slice_get xs 0 ≡ Some x → list_all (is_among names) xs ≡ (is_among names x && list_all (is_among names) (drop 1 xs))
+pub left_some : (names xs : List Text) (x : Text) → slice_get xs 0 ≡ Some x
+    → list_all (is_among names) xs ≡ (is_among names x && list_all (is_among names) (drop 1 xs))
 left_some names [] x e = absurd (none_some x e)
   where
     none_some : (x : Text) → None ≡ Some x → ⊥
     none_some x e = cc
-left_some names (y ∷ ys) x e = ap (λ (o : Option Text). is_among names (unwrap_or o y) && list_all (is_among names) ys) e
+left_some names (y ∷ ys) x e = ap (λ (o : Option Text). is_among names (unwrap_or o y) && list_all (is_among names) ys)
+    e
 
 -- the words that were found are those of their rows
 pub ids_are : (es : List Entry) → map (λ (r : Row). r.id) (map row_of es) ≡ map (λ (e : Entry). e.0.now) es
@@ -62,6 +72,8 @@ pub below : (c : ℕ) → is_digit c ≡ true → c < 58
 below c is = grind (arith, common_steps, is)
 
 -- packing anew with the length and the encoding that the rows give
-pub packing_is : (rows : List Row) (exponent : Option ℕ) (encoding : Option Encoding) (all : has_only packing_names rows ≡ true)
-    → exponent ≡ exponent_in (first_of (codes "length") rows) → encoding ≡ encoding_in (first_of (codes "encoding") rows) → packing_with exponent encoding ≡ packing_of rows
+pub packing_is : (rows : List Row) (exponent : Option ℕ) (encoding : Option Encoding)
+    (all : has_only packing_names rows ≡ true)
+    → exponent ≡ exponent_in (first_of (codes "length") rows)
+    → encoding ≡ encoding_in (first_of (codes "encoding") rows) → packing_with exponent encoding ≡ packing_of rows
 packing_is rows exponent encoding all e n = rw (all, e, n) refl

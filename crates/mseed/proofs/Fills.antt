@@ -1,5 +1,8 @@
 -- The rings of a feed, record after record.
-use Rattle.std.proofs.Common.{◌≡◌, ◌≢◌, ℕ, ◌+◌, ◌<◌, ◌≤◌, ◌^◌, inl, inr, zero, suc, refl, sym, ap, subst, ◌∙◌, arith, Bool, true, false, ◌&&◌, ◌||◌, not, List, [], ◌∷◌, ◌++◌, length, append-nil, if◌then◌else◌, ◌-◌, map, set, get_or, take, take_all, drop, Option, Some, None, Result, Ok, slice_get, slice_range, bytes_eq, IsTrue}
+use Rattle.std.proofs.Common.{◌≡◌, ◌≢◌, ℕ, ◌+◌, ◌<◌, ◌≤◌, ◌^◌, inl, inr, zero, suc, refl, sym, ap, subst, ◌∙◌, arith}
+use Rattle.std.proofs.Common.{Bool, true, false, ◌&&◌, ◌||◌, not, List, [], ◌∷◌, ◌++◌, length, append-nil}
+use Rattle.std.proofs.Common.{if◌then◌else◌, ◌-◌, map, set, get_or, take, take_all, drop, Option, Some, None, Result}
+use Rattle.std.proofs.Common.{Ok, slice_get, slice_range, bytes_eq, IsTrue}
 use Rattle.std.specs.List.{filter}
 use Rattle.std.proofs.lemmas.List.{length-map, map-append, map_more}
 use Rattle.std.proofs.lemmas.Option.{slice_get_read}
@@ -24,13 +27,17 @@ both_true false b h = absurd (let bad : false ≡ true = h in cc bad)
 
 bears_is : (p : Fields) (r : List ℕ) → Bears r p → is_of p r ≡ true
 bears_is p r h =
-    ap (λ (t : Bool). t && bytes_eq (slice_range r 18 20) p.network) ((bytes_eq-Decides (slice_range r 8 13) p.station).1 h.0)
+    ap (λ (t : Bool). t && bytes_eq (slice_range r 18 20) p.network)
+    ((bytes_eq-Decides (slice_range r 8 13) p.station).1 h.0)
     ∙ (bytes_eq-Decides (slice_range r 18 20) p.network).1 h.1
 
 is_bears : (p : Fields) (r : List ℕ) → is_of p r ≡ true → Bears r p
 is_bears p r h =
-    let each : (bytes_eq (slice_range r 8 13) p.station ≡ true) × (bytes_eq (slice_range r 18 20) p.network ≡ true) = both_true (bytes_eq (slice_range r 8 13) p.station) (bytes_eq (slice_range r 18 20) p.network) h in
-    ((bytes_eq-Decides (slice_range r 8 13) p.station).0 each.0, (bytes_eq-Decides (slice_range r 18 20) p.network).0 each.1)
+    let each : (bytes_eq (slice_range r 8 13) p.station ≡ true) × (bytes_eq (slice_range r 18 20) p.network ≡ true) =
+    both_true (bytes_eq (slice_range r 8 13) p.station) (bytes_eq (slice_range r 18 20) p.network) h in (
+      (bytes_eq-Decides (slice_range r 8 13) p.station).0 each.0,
+      (bytes_eq-Decides (slice_range r 18 20) p.network).0 each.1,
+    )
 
 not_is : (p : Fields) (r : List ℕ) → ¬ (Bears r p) → is_of p r ≡ false
 not_is p r other = by_test (is_of p r) refl
@@ -45,26 +52,49 @@ one_place r p q a b =
     ap (λ (s : List ℕ). record { station = s; network = p.network }) (sym a.0 ∙ b.0)
     ∙ ap (λ (n : List ℕ). record { station = q.station; network = n }) (sym a.1 ∙ b.1)
 
-records_taken : (p : Fields) (rs : List (List ℕ)) (r : List ℕ) → Bears r p → records_of p (rs ++ r ∷ []) ≡ records_of p rs ++ r ∷ []
-records_taken p rs r h = filter-append (is_of p) rs (r ∷ []) ∙ ap (λ (t : Bool). records_of p rs ++ (if t then r ∷ [] else [])) (bears_is p r h)
+records_taken : (p : Fields) (rs : List (List ℕ)) (r : List ℕ) → Bears r p
+    → records_of p (rs ++ r ∷ []) ≡ records_of p rs ++ r ∷ []
+records_taken p rs r h = filter-append (is_of p) rs (r ∷ [])
+    ∙ ap (λ (t : Bool). records_of p rs ++ (if t then r ∷ [] else [])) (bears_is p r h)
 
-records_left : (p : Fields) (rs : List (List ℕ)) (r : List ℕ) → ¬ (Bears r p) → records_of p (rs ++ r ∷ []) ≡ records_of p rs
+records_left : (p : Fields) (rs : List (List ℕ)) (r : List ℕ) → ¬ (Bears r p)
+    → records_of p (rs ++ r ∷ []) ≡ records_of p rs
 records_left p rs r other =
-    filter-append (is_of p) rs (r ∷ []) ∙ (ap (λ (t : Bool). records_of p rs ++ (if t then r ∷ [] else [])) (not_is p r other) ∙ append-nil (records_of p rs))
+    filter-append (is_of p) rs (r ∷ [])
+    ∙ (ap (λ (t : Bool). records_of p rs ++ (if t then r ∷ [] else [])) (not_is p r other)
+    ∙ append-nil (records_of p rs))
 
 -- the ring of a place, by its records
 abbrev with_list : Serving → Fields → List (List ℕ) → Window
-with_list s p rs = record { place = p; capacity = s.capacity; records = window s.capacity rs; next = s.first + length rs }
+with_list s p rs = record {
+  place = p;
+  capacity = s.capacity;
+  records = window s.capacity rs;
+  next = s.first + length rs;
+}
 
-ring_taken : (s : Serving) (rs : List (List ℕ)) (r : List ℕ) (p : Fields) → Bears r p → with_record (ring_of s rs p) r ≡ ring_of s (rs ++ r ∷ []) p
+ring_taken : (s : Serving) (rs : List (List ℕ)) (r : List ℕ) (p : Fields) → Bears r p
+    → with_record (ring_of s rs p) r ≡ ring_of s (rs ++ r ∷ []) p
 ring_taken s rs r p h =
     let old : Window = ring_of s rs p in
-    let more : Shows (with_record old r) s.first (records_of p rs ++ r ∷ []) = shows_more old s.first (records_of p rs) r (record { records = refl; next = refl }) in
-    ap (λ (xs : List (List ℕ)). record { place = p; capacity = s.capacity; records = xs; next = (with_record old r).next }) more.records
-    ∙ (ap (λ (n : ℕ). record { place = p; capacity = s.capacity; records = window s.capacity (records_of p rs ++ r ∷ []); next = n }) more.next
+    let more : Shows (with_record old r) s.first (records_of p rs ++ r ∷ []) =
+    shows_more old s.first (records_of p rs) r (record { records = refl; next = refl }) in
+    ap (λ (xs : List (List ℕ)). record {
+      place = p;
+      capacity = s.capacity;
+      records = xs;
+      next = (with_record old r).next;
+    }) more.records
+    ∙ (ap (λ (n : ℕ). record {
+      place = p;
+      capacity = s.capacity;
+      records = window s.capacity (records_of p rs ++ r ∷ []);
+      next = n;
+    }) more.next
     ∙ ap (with_list s p) (sym (records_taken p rs r h)))
 
-ring_left : (s : Serving) (rs : List (List ℕ)) (r : List ℕ) (p : Fields) → ¬ (Bears r p) → ring_of s rs p ≡ ring_of s (rs ++ r ∷ []) p
+ring_left : (s : Serving) (rs : List (List ℕ)) (r : List ℕ) (p : Fields) → ¬ (Bears r p)
+    → ring_of s rs p ≡ ring_of s (rs ++ r ∷ []) p
 ring_left s rs r p other = ap (with_list s p) (sym (records_left p rs r other))
 
 -- No place stands twice.
@@ -77,13 +107,17 @@ Distinct [] = Unit {0}
 Distinct (p ∷ ps) = Lacks p ps × Distinct ps
 
 same_self : (p : Fields) → is_same p p ≡ true
-same_self p = ap (λ (t : Bool). t && bytes_eq p.network p.network) ((bytes_eq-Decides p.station p.station).1 refl) ∙ (bytes_eq-Decides p.network p.network).1 refl
+same_self p = ap (λ (t : Bool). t && bytes_eq p.network p.network) ((bytes_eq-Decides p.station p.station).1 refl)
+    ∙ (bytes_eq-Decides p.network p.network).1 refl
 
 lacks_of : (p : Fields) (qs : List Asked) → has_place p qs ≡ false → Lacks p (map (λ (q : Asked). q.0) qs)
 lacks_of p [] h = tt
 lacks_of p (q ∷ qs) h =
-    let each : (is_same q.0 p ≡ false) × (has_place p qs ≡ false) = none_true (is_same q.0 p) (has_place p qs) h in
-    (λ same. let bad : true ≡ false = sym (same_self p) ∙ (ap (λ (x : Fields). is_same x p) (sym same) ∙ each.0) in cc bad, lacks_of p qs each.1)
+    let each : (is_same q.0 p ≡ false) × (has_place p qs ≡ false) = none_true (is_same q.0 p) (has_place p qs) h in (
+      λ same. let bad : true ≡ false = sym (same_self p) ∙ (ap (λ (x : Fields). is_same x p) (sym same) ∙ each.0) in
+          cc bad,
+      lacks_of p qs each.1,
+    )
   where
     none_true : (a b : Bool) → (a || b) ≡ false → (a ≡ false) × (b ≡ false)
     none_true true b h = absurd (let bad : true ≡ false = h in cc bad)
@@ -92,7 +126,8 @@ lacks_of p (q ∷ qs) h =
 pub distinct_of : (ps : List Asked) → are_different ps ≡ true → Distinct (map (λ (q : Asked). q.0) ps)
 distinct_of [] h = tt
 distinct_of (p ∷ ps) h =
-    let each : (not (has_place p.0 ps) ≡ true) × (are_different ps ≡ true) = both_true (not (has_place p.0 ps)) (are_different ps) h in
+    let each : (not (has_place p.0 ps) ≡ true) × (are_different ps ≡ true) =
+    both_true (not (has_place p.0 ps)) (are_different ps) h in
     (lacks_of p.0 ps (negated (has_place p.0 ps) each.0), distinct_of ps each.1)
   where
     negated : (a : Bool) → not a ≡ true → a ≡ false
@@ -105,7 +140,8 @@ lacks_at p q (x ∷ ps) zero lacks is = let same : x ≡ q = cc is in subst (λ 
 lacks_at p q (x ∷ ps) (suc k) lacks is = lacks_at p q ps k lacks.1 is
 
 module _ {X Y : Type 0} where
-  mapped : (f : X → Y) (xs : List X) (k : ℕ) (y : Y) → slice_get (map f xs) k ≡ Some y → (x : X) × (slice_get xs k ≡ Some x) × (f x ≡ y)
+  mapped : (f : X → Y) (xs : List X) (k : ℕ) (y : Y) → slice_get (map f xs) k ≡ Some y
+      → (x : X) × (slice_get xs k ≡ Some x) × (f x ≡ y)
   mapped f [] k y is = absurd (let bad : None ≡ Some y = is in cc bad)
   mapped f (x ∷ xs) zero y is = (x, refl, cc is)
   mapped f (x ∷ xs) (suc k) y is = mapped f xs k y is
@@ -115,14 +151,16 @@ module _ {X Y : Type 0} where
   map_got f (z ∷ xs) zero x is = let same : z ≡ x = cc is in ap (λ w. Some (f w)) same
   map_got f (z ∷ xs) (suc k) x is = map_got f xs k x is
 
-rings_left : (s : Serving) (rs : List (List ℕ)) (r : List ℕ) (p : Fields) (ps : List Fields) → Bears r p → Lacks p ps → map (ring_of s rs) ps ≡ map (ring_of s (rs ++ r ∷ [])) ps
+rings_left : (s : Serving) (rs : List (List ℕ)) (r : List ℕ) (p : Fields) (ps : List Fields) → Bears r p → Lacks p ps
+    → map (ring_of s rs) ps ≡ map (ring_of s (rs ++ r ∷ [])) ps
 rings_left s rs r p [] h lacks = refl
 rings_left s rs r p (q ∷ qs) h lacks =
     ap (λ (w : Window). w ∷ map (ring_of s rs) qs) (ring_left s rs r q (λ other. lacks.0 (one_place r q p other h)))
     ∙ ap (λ (ws : List Window). ring_of s (rs ++ r ∷ []) q ∷ ws) (rings_left s rs r p qs h lacks.1)
 
 -- a record is pushed to the ring of its place, and the other rings stay
-rings_more : (s : Serving) (rs : List (List ℕ)) (r : List ℕ) (ps : List Fields) (k : ℕ) (w : Window) → Distinct ps → slice_get (map (ring_of s rs) ps) k ≡ Some w → Bears r w.place
+rings_more : (s : Serving) (rs : List (List ℕ)) (r : List ℕ) (ps : List Fields) (k : ℕ) (w : Window) → Distinct ps
+    → slice_get (map (ring_of s rs) ps) k ≡ Some w → Bears r w.place
     → set (map (ring_of s rs) ps) k (with_record w r) ≡ map (ring_of s (rs ++ r ∷ [])) ps
 rings_more s rs r [] k w distinct is h = absurd (let bad : None ≡ Some w = is in cc bad)
 rings_more s rs r (p ∷ ps) zero w distinct is h =
@@ -133,44 +171,56 @@ rings_more s rs r (p ∷ ps) zero w distinct is h =
     ∙ ap (λ (ws : List Window). ring_of s (rs ++ r ∷ []) p ∷ ws) (rings_left s rs r p ps of distinct.0))
 rings_more s rs r (p ∷ ps) (suc k) w distinct is h =
     let at : (q : Fields) × (slice_get ps k ≡ Some q) × (ring_of s rs q ≡ w) = mapped (ring_of s rs) ps k w is in
-    let other : ¬ (Bears r p) = λ of. lacks_at p at.0 ps k distinct.0 at.1 (one_place r at.0 p (subst (λ (v : Window). Bears r v.place) (sym at.2) h) of) in
+    let other : ¬ (Bears r p) =
+    λ of. lacks_at p at.0 ps k distinct.0 at.1
+    (one_place r at.0 p (subst (λ (v : Window). Bears r v.place) (sym at.2) h) of) in
     ap (λ (v : Window). v ∷ set (map (ring_of s rs) ps) k (with_record w r)) (ring_left s rs r p other)
     ∙ ap (λ (ws : List Window). ring_of s (rs ++ r ∷ []) p ∷ ws) (rings_more s rs r ps k w distinct.1 is h)
 
-pub feed_more : (s : Serving) (rs : List (List ℕ)) (r : List ℕ) (feed new : List Window) → are_different s.places ≡ true → feed ≡ feed_of s rs → IsPushed feed r new → new ≡ feed_of s (rs ++ r ∷ [])
+pub feed_more : (s : Serving) (rs : List (List ℕ)) (r : List ℕ) (feed new : List Window)
+    → are_different s.places ≡ true → feed ≡ feed_of s rs → IsPushed feed r new → new ≡ feed_of s (rs ++ r ∷ [])
 feed_more s rs r feed new different is pushed =
     pushed.pushed ∙ (ap (λ (ws : List Window). set ws pushed.k (with_record pushed.ring r)) is
-    ∙ rings_more s rs r (served s) pushed.k pushed.ring (distinct_of s.places different) (subst (λ (ws : List Window). slice_get ws pushed.k ≡ Some pushed.ring) is pushed.there) pushed.bears)
+    ∙ rings_more s rs r (served s) pushed.k pushed.ring (distinct_of s.places different)
+    (subst (λ (ws : List Window). slice_get ws pushed.k ≡ Some pushed.ring) is pushed.there) pushed.bears)
 
 -- a record that was pushed is the feed's
-pub of_feed : (s : Serving) (rs : List (List ℕ)) (r : List ℕ) (feed new : List Window) → feed ≡ feed_of s rs → IsPushed feed r new → IsOfFeed (served s) r
+pub of_feed : (s : Serving) (rs : List (List ℕ)) (r : List ℕ) (feed new : List Window) → feed ≡ feed_of s rs
+    → IsPushed feed r new → IsOfFeed (served s) r
 of_feed s rs r feed new is pushed =
     let at : (q : Fields) × (slice_get (served s) pushed.k ≡ Some q) × (ring_of s rs q ≡ pushed.ring) =
-    mapped (ring_of s rs) (served s) pushed.k pushed.ring (subst (λ (ws : List Window). slice_get ws pushed.k ≡ Some pushed.ring) is pushed.there) in
+    mapped (ring_of s rs) (served s) pushed.k pushed.ring
+    (subst (λ (ws : List Window). slice_get ws pushed.k ≡ Some pushed.ring) is pushed.there) in
     (pushed.size, pushed.k, at.0, at.1, subst (λ (v : Window). Bears r v.place) (sym at.2) pushed.bears)
 
 -- one of which no ring is isn't
-pub not_of_feed : (s : Serving) (rs : List (List ℕ)) (r : List ℕ) (feed : List Window) → feed ≡ feed_of s rs → (length r ≡ 512 → (k : ℕ) (w : Window) → slice_get feed k ≡ Some w → ¬ (Bears r w.place))
+pub not_of_feed : (s : Serving) (rs : List (List ℕ)) (r : List ℕ) (feed : List Window) → feed ≡ feed_of s rs
+    → (length r ≡ 512 → (k : ℕ) (w : Window) → slice_get feed k ≡ Some w → ¬ (Bears r w.place))
     → ¬ (IsOfFeed (served s) r)
 not_of_feed s rs r feed is none of =
-    none of.0 of.1 (ring_of s rs of.2) (subst (λ (ws : List Window). slice_get ws of.1 ≡ Some (ring_of s rs of.2)) (sym is) (map_got (ring_of s rs) (served s) of.1 of.2 of.3)) of.4
+    none of.0 of.1 (ring_of s rs of.2) (subst (λ (ws : List Window). slice_get ws of.1 ≡ Some (ring_of s rs of.2))
+    (sym is) (map_got (ring_of s rs) (served s) of.1 of.2 of.3)) of.4
 
 filter_short : (t : List ℕ → Bool) (xs : List (List ℕ)) → length (filter t xs) ≤ length xs
 filter_short t [] = omega arith
 filter_short t (x ∷ xs) = by_test (t x) (filter_short t xs)
   where
-    by_test : (b : Bool) → length (filter t xs) ≤ length xs → length (if b then x ∷ filter t xs else filter t xs) ≤ suc (length xs)
+    by_test : (b : Bool) → length (filter t xs) ≤ length xs
+        → length (if b then x ∷ filter t xs else filter t xs) ≤ suc (length xs)
     by_test true more = omega (arith, more)
     by_test false more = omega (arith, more)
 
 -- how far the numbers went
-pub next_at_most : (s : Serving) (rs : List (List ℕ)) (feed : List Window) (k : ℕ) (w : Window) → feed ≡ feed_of s rs → slice_get feed k ≡ Some w → w.next ≤ s.first + length rs
+pub next_at_most : (s : Serving) (rs : List (List ℕ)) (feed : List Window) (k : ℕ) (w : Window) → feed ≡ feed_of s rs
+    → slice_get feed k ≡ Some w → w.next ≤ s.first + length rs
 next_at_most s rs feed k w is here =
-    let at : (q : Fields) × (slice_get (served s) k ≡ Some q) × (ring_of s rs q ≡ w) = mapped (ring_of s rs) (served s) k w (subst (λ (ws : List Window). slice_get ws k ≡ Some w) is here) in
+    let at : (q : Fields) × (slice_get (served s) k ≡ Some q) × (ring_of s rs q ≡ w) =
+    mapped (ring_of s rs) (served s) k w (subst (λ (ws : List Window). slice_get ws k ≡ Some w) is here) in
     let next : s.first + length (records_of at.0 rs) ≡ w.next = ap (λ (v : Window). v.next) at.2 in
     omega (arith, next, filter_short (is_of at.0) rs)
 
-pub all_of_feed : (places : List Fields) (rs : List (List ℕ)) (r : List ℕ) → AreOfFeed places rs → IsOfFeed places r → AreOfFeed places (rs ++ r ∷ [])
+pub all_of_feed : (places : List Fields) (rs : List (List ℕ)) (r : List ℕ) → AreOfFeed places rs → IsOfFeed places r
+    → AreOfFeed places (rs ++ r ∷ [])
 all_of_feed places [] r all is = (is, tt)
 all_of_feed places (x ∷ rs) r all is = (all.0, all_of_feed places rs r all.1 is)
 
@@ -179,19 +229,25 @@ drop_none : (n : ℕ) → drop {A = List ℕ} n [] ≡ []
 drop_none zero = refl
 drop_none (suc n) = refl
 
-pub empty_ring : (s : Serving) (p : Fields) → record { place = p; capacity = s.capacity; records = []; next = s.first } ≡ ring_of s [] p
+pub empty_ring : (s : Serving) (p : Fields) → record { place = p; capacity = s.capacity; records = []; next = s.first }
+    ≡ ring_of s [] p
 empty_ring s p =
-    ap (λ (xs : List (List ℕ)). record { place = p; capacity = s.capacity; records = xs; next = s.first }) (sym (drop_none (0 - s.capacity)))
-    ∙ ap (λ (n : ℕ). record { place = p; capacity = s.capacity; records = window s.capacity []; next = n }) {x = s.first} {y = s.first + 0} (omega arith)
+    ap (λ (xs : List (List ℕ)). record { place = p; capacity = s.capacity; records = xs; next = s.first })
+    (sym (drop_none (0 - s.capacity)))
+    ∙ ap (λ (n : ℕ). record { place = p; capacity = s.capacity; records = window s.capacity []; next = n })
+    {x = s.first} {y = s.first + 0} (omega arith)
 
-pub no_double : (s : Serving) (ps : List Asked) (i : ℕ) (p : Asked) → Distinct (map (λ (q : Asked). q.0) ps) → slice_get ps i ≡ Some p → HasPlace (map (ring_of s []) (map (λ (q : Asked). q.0) (take i ps))) p.0 → ⊥
+pub no_double : (s : Serving) (ps : List Asked) (i : ℕ) (p : Asked) → Distinct (map (λ (q : Asked). q.0) ps)
+    → slice_get ps i ≡ Some p → HasPlace (map (ring_of s []) (map (λ (q : Asked). q.0) (take i ps))) p.0 → ⊥
 no_double s [] i p distinct is has = absurd (let bad : None ≡ Some p = is in cc bad)
 no_double s (q ∷ qs) zero p distinct is has = has
-no_double s (q ∷ qs) (suc i) p distinct is (inl same) = lacks_at q.0 p.0 (map (λ (a : Asked). a.0) qs) i distinct.0 (map_got (λ (a : Asked). a.0) qs i p is) (sym same)
+no_double s (q ∷ qs) (suc i) p distinct is (inl same) =
+    lacks_at q.0 p.0 (map (λ (a : Asked). a.0) qs) i distinct.0 (map_got (λ (a : Asked). a.0) qs i p is) (sym same)
 no_double s (q ∷ qs) (suc i) p distinct is (inr more) = no_double s qs i p distinct.1 is more
 
 -- a record of 512 bytes was pushed
-pub pushed_is : (old new : List Window) (bytes whole : List ℕ) (k : ℕ) → length bytes ≡ 512 → whole ≡ bytes → k < length old → ((w : Window) → slice_get old k ≡ Some w → Bears whole w.place)
+pub pushed_is : (old new : List Window) (bytes whole : List ℕ) (k : ℕ) → length bytes ≡ 512 → whole ≡ bytes
+    → k < length old → ((w : Window) → slice_get old k ≡ Some w → Bears whole w.place)
     → ((w : Window) → slice_get old k ≡ Some w → new ≡ set old k (with_record w whole)) → IsPushed old bytes new
 pushed_is old new bytes whole k size same lt bears pushed =
     let at : (w : Window) × (slice_get old k ≡ Some w) = within_is old k lt in
@@ -205,19 +261,27 @@ pushed_is old new bytes whole k size same lt bears pushed =
     }
 
 -- the rings that were looked at
-pub none_more : (feed : List Window) (r : List ℕ) (k : ℕ) (w : Window) → slice_get feed k ≡ Some w → ¬ (Bears r w.place) → ((j : ℕ) (v : Window) → j < k → slice_get feed j ≡ Some v → ¬ (Bears r v.place))
+pub none_more : (feed : List Window) (r : List ℕ) (k : ℕ) (w : Window) → slice_get feed k ≡ Some w
+    → ¬ (Bears r w.place) → ((j : ℕ) (v : Window) → j < k → slice_get feed j ≡ Some v → ¬ (Bears r v.place))
     → (j : ℕ) (v : Window) → j < k + 1 → slice_get feed j ≡ Some v → ¬ (Bears r v.place)
 none_more feed r k w here other before j v lt there = elim (same_or_not j k) [
-  | inl same ↦ λ bears. other (subst (λ (x : Window). Bears r x.place) (one_value (slice_get feed k) v w (subst (λ (i : ℕ). slice_get feed i ≡ Some v) same there) here) bears)
+  | inl same ↦ λ bears. other
+      (subst (λ (x : Window). Bears r x.place)
+      (one_value (slice_get feed k) v w (subst (λ (i : ℕ). slice_get feed i ≡ Some v) same there) here) bears)
   | inr ne ↦ before j v (omega (arith, lt, ne)) there
 ]
 
-pub bears_by : (feed : List Window) (k : ℕ) (v w : Window) (r : List ℕ) (place : Fields) (t : Bool) → slice_get feed k ≡ Some v → slice_get feed k ≡ Some w → place ≡ v.place → (IsTrue t → Bears r place) → t ≡ true → Bears r w.place
+pub bears_by : (feed : List Window) (k : ℕ) (v w : Window) (r : List ℕ) (place : Fields) (t : Bool)
+    → slice_get feed k ≡ Some v → slice_get feed k ≡ Some w → place ≡ v.place → (IsTrue t → Bears r place) → t ≡ true
+    → Bears r w.place
 bears_by feed k v w r place t here there same tells is =
-    subst (λ (x : Window). Bears r x.place) (one_value (slice_get feed k) v w here there) (subst (λ (p : Fields). Bears r p) same (tells is))
+    subst (λ (x : Window). Bears r x.place) (one_value (slice_get feed k) v w here there)
+    (subst (λ (p : Fields). Bears r p) same (tells is))
 
-pub bears_not : (v : Window) (r : List ℕ) (place : Fields) (t : Bool) → place ≡ v.place → (Bears r place → IsTrue t) → t ≡ false → ¬ (Bears r v.place)
-bears_not v r place t same tells is bears = let bad : false ≡ true = sym is ∙ tells (subst (λ (p : Fields). Bears r p) (sym same) bears) in cc bad
+pub bears_not : (v : Window) (r : List ℕ) (place : Fields) (t : Bool) → place ≡ v.place → (Bears r place → IsTrue t)
+    → t ≡ false → ¬ (Bears r v.place)
+bears_not v r place t same tells is bears = let bad : false ≡ true =
+    sym is ∙ tells (subst (λ (p : Fields). Bears r p) (sym same) bears) in cc bad
 
 -- The feed while rings are added.
 abbrev opening : Serving → ℕ → List Window
@@ -226,11 +290,14 @@ opening s i = map (ring_of s []) (map (λ (p : Asked). p.0) (take i s.places))
 item_there : (ps : List Asked) (i : ℕ) (p : Asked) → i < length ps → p ≡ get_or ps i p → slice_get ps i ≡ Some p
 item_there ps i p lt is = slice_get_read ps (length ps) i p refl lt is
 
-pub opened_few : (s : Serving) (i : ℕ) (feed : List Window) → i < length s.places → length s.places ≤ 16 → feed ≡ opening s i → length feed < 16
+pub opened_few : (s : Serving) (i : ℕ) (feed : List Window) → i < length s.places → length s.places ≤ 16
+    → feed ≡ opening s i → length feed < 16
 opened_few s i feed lt most is =
     let size : length feed ≡ length (opening s i) = ap length is in
-    let rings : length (opening s i) ≡ length (map (λ (p : Asked). p.0) (take i s.places)) = length-map (map (λ (p : Asked). p.0) (take i s.places)) (ring_of s []) in
-    let few : length (map (λ (p : Asked). p.0) (take i s.places)) ≡ length (take i s.places) = length-map (take i s.places) (λ (p : Asked). p.0) in
+    let rings : length (opening s i) ≡ length (map (λ (p : Asked). p.0) (take i s.places)) =
+    length-map (map (λ (p : Asked). p.0) (take i s.places)) (ring_of s []) in
+    let few : length (map (λ (p : Asked). p.0) (take i s.places)) ≡ length (take i s.places) =
+    length-map (take i s.places) (λ (p : Asked). p.0) in
     let short : length (take i s.places) ≤ i = take_short i s.places in
     omega (arith, size, rings, few, short, lt, most)
   where
@@ -239,24 +306,33 @@ opened_few s i feed lt most is =
     take_short (suc n) [] = omega arith
     take_short (suc n) (x ∷ xs) = let more : length (take n xs) ≤ n = take_short n xs in omega (arith, more)
 
-pub opened_other : (s : Serving) (i : ℕ) (p : Asked) (feed : List Window) (ring : Window) → are_different s.places ≡ true → i < length s.places → p ≡ get_or s.places i p
-    → ring ≡ record { place = p.0; capacity = s.capacity; records = []; next = s.first } → feed ≡ opening s i → ¬ (HasPlace feed ring.place)
+pub opened_other : (s : Serving) (i : ℕ) (p : Asked) (feed : List Window) (ring : Window)
+    → are_different s.places ≡ true → i < length s.places → p ≡ get_or s.places i p
+    → ring ≡ record { place = p.0; capacity = s.capacity; records = []; next = s.first } → feed ≡ opening s i
+    → ¬ (HasPlace feed ring.place)
 opened_other s i p feed ring different lt item is opened has =
     no_double s s.places i p (distinct_of s.places different) (item_there s.places i p lt item)
     (subst (λ (ws : List Window). HasPlace ws p.0) opened (subst (HasPlace feed) (ap (λ (w : Window). w.place) is) has))
 
-pub opened_more : (s : Serving) (i : ℕ) (p : Asked) (feed new : List Window) (ring : Window) → i < length s.places → p ≡ get_or s.places i p → ring ≡ record { place = p.0; capacity = s.capacity; records = []; next = s.first }
+pub opened_more : (s : Serving) (i : ℕ) (p : Asked) (feed new : List Window) (ring : Window) → i < length s.places
+    → p ≡ get_or s.places i p → ring ≡ record { place = p.0; capacity = s.capacity; records = []; next = s.first }
     → feed ≡ opening s i → new ≡ feed ++ ring ∷ [] → new ≡ opening s (i + 1)
 opened_more s i p feed new ring lt item is opened added =
-    added ∙ (ap (λ (ws : List Window). ws ++ ring ∷ []) opened ∙ (ap (λ (w : Window). opening s i ++ w ∷ []) (is ∙ (empty_ring s p.0 ∙ ap (λ (q : Asked). ring_of s [] q.0) item))
+    added ∙ (ap (λ (ws : List Window). ws ++ ring ∷ []) opened
+    ∙ (ap (λ (w : Window). opening s i ++ w ∷ []) (is
+    ∙ (empty_ring s p.0 ∙ ap (λ (q : Asked). ring_of s [] q.0) item))
     ∙ (sym (map-append (ring_of s []) (map (λ (q : Asked). q.0) (take i s.places)) ((get_or s.places i p).0 ∷ []))
     ∙ ap (map (ring_of s [])) (sym (map_more (λ (q : Asked). q.0) s.places i p lt)))))
 
-pub opened_all : (s : Serving) (i : ℕ) (feed : List Window) → length s.places ≤ i → feed ≡ opening s i → feed ≡ feed_of s []
-opened_all s i feed past opened = opened ∙ ap (λ (ps : List Asked). map (ring_of s []) (map (λ (q : Asked). q.0) ps)) (take_all i s.places past)
+pub opened_all : (s : Serving) (i : ℕ) (feed : List Window) → length s.places ≤ i → feed ≡ opening s i
+    → feed ≡ feed_of s []
+opened_all s i feed past opened = opened ∙ ap (λ (ps : List Asked). map (ring_of s []) (map (λ (q : Asked). q.0) ps))
+    (take_all i s.places past)
 
 -- the numbers stay small
-pub next_small : (s : Serving) (views : List View) (calls : ℕ) (feed : List Window) (k : ℕ) (w : Window) → s.first < 2 ^ 24 → length views ≤ 2 ^ 40 → feed ≡ feed_of s (bytes_in views) → slice_get feed k ≡ Some w → w.next < 2 ^ 63
+pub next_small : (s : Serving) (views : List View) (calls : ℕ) (feed : List Window) (k : ℕ) (w : Window)
+    → s.first < 2 ^ 24 → length views ≤ 2 ^ 40 → feed ≡ feed_of s (bytes_in views) → slice_get feed k ≡ Some w
+    → w.next < 2 ^ 63
 next_small s views calls feed k w first few is there =
     let most : w.next ≤ s.first + length (bytes_in views) = next_at_most s (bytes_in views) feed k w is there in
     omega (arith, most, first, few, length-map views (λ (v : View). v.bytes))
@@ -265,15 +341,23 @@ next_small s views calls feed k w first few is there =
 bytes_more : (views : List View) (v : View) → bytes_in (views ++ v ∷ []) ≡ bytes_in views ++ v.bytes ∷ []
 bytes_more views v = map-append (λ (x : View). x.bytes) views (v ∷ [])
 
-pub feed_told : (s : Serving) (views : List View) (v : View) (r : List ℕ) (feed new : List Window) → are_different s.places ≡ true → r ≡ v.bytes → feed ≡ feed_of s (bytes_in views) → IsPushed feed r new → new ≡ feed_of s (bytes_in (views ++ v ∷ []))
+pub feed_told : (s : Serving) (views : List View) (v : View) (r : List ℕ) (feed new : List Window)
+    → are_different s.places ≡ true → r ≡ v.bytes → feed ≡ feed_of s (bytes_in views) → IsPushed feed r new
+    → new ≡ feed_of s (bytes_in (views ++ v ∷ []))
 feed_told s views v r feed new different same is pushed =
-    feed_more s (bytes_in views) r feed new different is pushed ∙ ap (feed_of s) (ap (λ (x : List ℕ). bytes_in views ++ x ∷ []) same ∙ sym (bytes_more views v))
+    feed_more s (bytes_in views) r feed new different is pushed
+    ∙ ap (feed_of s) (ap (λ (x : List ℕ). bytes_in views ++ x ∷ []) same ∙ sym (bytes_more views v))
 
-pub records_told : (s : Serving) (views : List View) (v : View) (r : List ℕ) (feed new : List Window) → r ≡ v.bytes → feed ≡ feed_of s (bytes_in views) → IsPushed feed r new → AreOfFeed (served s) (bytes_in views)
+pub records_told : (s : Serving) (views : List View) (v : View) (r : List ℕ) (feed new : List Window) → r ≡ v.bytes
+    → feed ≡ feed_of s (bytes_in views) → IsPushed feed r new → AreOfFeed (served s) (bytes_in views)
     → AreOfFeed (served s) (bytes_in (views ++ v ∷ []))
 records_told s views v r feed new same is pushed before =
-    subst (AreOfFeed (served s)) (sym (bytes_more views v)) (all_of_feed (served s) (bytes_in views) v.bytes before (subst (IsOfFeed (served s)) same (of_feed s (bytes_in views) r feed new is pushed)))
+    subst (AreOfFeed (served s)) (sym (bytes_more views v))
+    (all_of_feed (served s) (bytes_in views) v.bytes before
+    (subst (IsOfFeed (served s)) same (of_feed s (bytes_in views) r feed new is pushed)))
 
 -- the cutter has handed out one record more
-pub handed_on : (r : Result (Option RecordView) StreamFault) (o : Option RecordView) (view : RecordView) (P : List View → Type 0) → r ≡ Ok o → o ≡ Some view → IfGoesOn r P → P (view_of view ∷ [])
-handed_on r o view P is some goes = subst (λ (q : Result (Option RecordView) StreamFault). IfGoesOn q P) (is ∙ ap Ok some) goes
+pub handed_on : (r : Result (Option RecordView) StreamFault) (o : Option RecordView) (view : RecordView) (P : List View
+    → Type 0) → r ≡ Ok o → o ≡ Some view → IfGoesOn r P → P (view_of view ∷ [])
+handed_on r o view P is some goes =
+    subst (λ (q : Result (Option RecordView) StreamFault). IfGoesOn q P) (is ∙ ap Ok some) goes

@@ -1,60 +1,80 @@
 -- The lines of a listing, record after record.
-use Rattle.std.proofs.Common.{◌≡◌, ℕ, ◌+◌, ◌++◌, List, [], ◌∷◌, length, take, map, refl, sym, ap, ◌∙◌, subst, append_assoc, arith, inl, inr, Option, Result, Ok, Err}
+use Rattle.std.proofs.Common.{◌≡◌, ℕ, ◌+◌, ◌++◌, List, [], ◌∷◌, length, take, map, refl, sym, ap, ◌∙◌, subst}
+use Rattle.std.proofs.Common.{append_assoc, arith, inl, inr, Option, Result, Ok, Err}
 use Rattle.std.proofs.lemmas.List.{append-nil, length-append}
 use Rattle.std.proofs.Math.Seq.{take-append-add, take-append_seam}
 use Rattle.std.specs.List.{concat}
 use Rattle.mseed_record.specs.View.{View}
-use Rattle.mseed_stream.specs.Device.{Heard, Said}
+use Rattle.mseed_stream.specs.Device.{BytesRead, BytesWritten}
 use Rattle.mseed_stream.specs.declared.fault.StreamFault.{StreamFault}
 use Rattle.mseed.specs.Listing.{record_line, record_lines, count_line}
 use Rattle.mseed_stream.specs.Walk.{AreViews}
 use Rattle.mseed_audit.specs.Text.{end_line}
 use Rattle.mseed.specs.Show.{IsListed, IsShown, TookFirst, TookPart, show_text}
 use Rattle.std.specs.Result.{IsErrAnd}
-use Rattle.mseed.specs.Gathering.{AreGathered, IsFrontWritten, IsListing, HasLines}
+use Rattle.mseed.specs.Gathering.{AreGathered, IsPrefixWritten, IsListing, HasLines}
 use Rattle.mseed.specs.declared.ending.ShowFault.{ShowFault}
 use Rattle.mseed.specs.declared.ending.ShowFault.TheVariants.{Write, Memory}
 
 -- nothing was taken
-pub gathered_all : (s : Said) (text : List ℕ) → AreGathered s s text text
+pub gathered_all : (s : BytesWritten) (text : List ℕ) → AreGathered s s text text
 gathered_all s text = record { taken = []; bytes = sym (append-nil s.bytes); joined = refl }
 
--- what was taken is a front
-pub gathered_first : (first old : Said) (text lines : List ℕ) → AreGathered first old text lines → TookFirst first old lines
+-- what was taken is a prefix
+pub gathered_first : (first old : BytesWritten) (text lines : List ℕ) → AreGathered first old text lines
+    → TookFirst first old lines
 gathered_first first old text lines g =
-    let front : g.taken ≡ take (length g.taken) lines = sym (take-append_seam g.taken text) ∙ ap (λ (xs : List ℕ). take (length g.taken) xs) g.joined in
-    (length g.taken, g.bytes ∙ ap (λ (xs : List ℕ). first.bytes ++ xs) front)
+    let prefix : g.taken ≡ take (length g.taken) lines = sym (take-append_seam g.taken text)
+    ∙ ap (λ (xs : List ℕ). take (length g.taken) xs) g.joined in
+    (length g.taken, g.bytes ∙ ap (λ (xs : List ℕ). first.bytes ++ xs) prefix)
 
 -- some more was added to what is gathered, and perhaps written
-pub gathered_more : (first old new : Said) (text next lines line whole : List ℕ) → AreGathered first old text lines → AreGathered old new next (text ++ line) → whole ≡ lines ++ line
+pub gathered_more : (first old new : BytesWritten) (text next lines line whole : List ℕ)
+    → AreGathered first old text lines → AreGathered old new next (text ++ line) → whole ≡ lines ++ line
     → AreGathered first new next whole
 gathered_more first old new text next lines line whole before after e = record {
   taken = before.taken ++ after.taken;
-  bytes = after.bytes ∙ ap (λ (xs : List ℕ). xs ++ after.taken) before.bytes ∙ append_assoc first.bytes before.taken after.taken;
-  joined = append_assoc before.taken after.taken next ∙ ap (λ (xs : List ℕ). before.taken ++ xs) after.joined ∙ sym (append_assoc before.taken text line)
+  bytes = after.bytes ∙ ap (λ (xs : List ℕ). xs ++ after.taken) before.bytes
+      ∙ append_assoc first.bytes before.taken after.taken;
+  joined = append_assoc before.taken after.taken next ∙ ap (λ (xs : List ℕ). before.taken ++ xs) after.joined
+      ∙ sym (append_assoc before.taken text line)
       ∙ ap (λ (xs : List ℕ). xs ++ line) before.joined ∙ sym e;
 }
 
 -- the whole, behind what was taken before
-behind : (first old : Said) (text lines tail whole : List ℕ) (before : AreGathered first old text lines) → whole ≡ lines ++ tail → before.taken ++ (text ++ tail) ≡ whole
-behind first old text lines tail whole before e = sym (append_assoc before.taken text tail) ∙ ap (λ (xs : List ℕ). xs ++ tail) before.joined ∙ sym e
+behind : (first old : BytesWritten) (text lines tail whole : List ℕ) (before : AreGathered first old text lines)
+    → whole ≡ lines ++ tail → before.taken ++ (text ++ tail) ≡ whole
+behind first old text lines tail whole before e = sym (append_assoc before.taken text tail)
+    ∙ ap (λ (xs : List ℕ). xs ++ tail) before.joined ∙ sym e
 
-front_behind : (first old new : Said) (text lines tail whole : List ℕ) (n : ℕ) (before : AreGathered first old text lines) → whole ≡ lines ++ tail
+prefix_behind : (first old new : BytesWritten) (text lines tail whole : List ℕ) (n : ℕ)
+    (before : AreGathered first old text lines) → whole ≡ lines ++ tail
     → new.bytes ≡ old.bytes ++ take n (text ++ tail) → new.bytes ≡ first.bytes ++ take (length before.taken + n) whole
-front_behind first old new text lines tail whole n before e taken =
-    taken ∙ ap (λ (xs : List ℕ). xs ++ take n (text ++ tail)) before.bytes ∙ append_assoc first.bytes before.taken (take n (text ++ tail))
+prefix_behind first old new text lines tail whole n before e taken =
+    taken ∙ ap (λ (xs : List ℕ). xs ++ take n (text ++ tail)) before.bytes
+    ∙ append_assoc first.bytes before.taken (take n (text ++ tail))
     ∙ ap (λ (xs : List ℕ). first.bytes ++ xs) (sym (take-append-add before.taken (text ++ tail) n))
-    ∙ ap (λ (xs : List ℕ). first.bytes ++ take (length before.taken + n) xs) (behind first old text lines tail whole before e)
+    ∙ ap (λ (xs : List ℕ). first.bytes ++ take (length before.taken + n) xs)
+    (behind first old text lines tail whole before e)
 
-pub first_behind : (first old new : Said) (text lines tail whole : List ℕ) → AreGathered first old text lines → whole ≡ lines ++ tail → TookFirst old new (text ++ tail) → TookFirst first new whole
-first_behind first old new text lines tail whole before e took = (length before.taken + took.0, front_behind first old new text lines tail whole took.0 before e took.1)
+pub first_behind : (first old new : BytesWritten) (text lines tail whole : List ℕ) → AreGathered first old text lines
+    → whole ≡ lines ++ tail → TookFirst old new (text ++ tail) → TookFirst first new whole
+first_behind first old new text lines tail whole before e took =
+    (length before.taken + took.0, prefix_behind first old new text lines tail whole took.0 before e took.1)
 
-pub part_behind : (first old new : Said) (text lines tail whole : List ℕ) → AreGathered first old text lines → whole ≡ lines ++ tail → TookPart old new (text ++ tail) → TookPart first new whole
+pub part_behind : (first old new : BytesWritten) (text lines tail whole : List ℕ) → AreGathered first old text lines
+    → whole ≡ lines ++ tail → TookPart old new (text ++ tail) → TookPart first new whole
 part_behind first old new text lines tail whole before e took =
-    let size : length before.taken + length (text ++ tail) ≡ length whole = sym (length-append before.taken (text ++ tail)) ∙ ap (λ (xs : List ℕ). length xs) (behind first old text lines tail whole before e) in
-    (length before.taken + took.0, (omega (arith, took.1.0, size), front_behind first old new text lines tail whole took.0 before e took.1.1))
+    let size : length before.taken + length (text ++ tail) ≡ length whole =
+    sym (length-append before.taken (text ++ tail))
+    ∙ ap (λ (xs : List ℕ). length xs) (behind first old text lines tail whole before e) in (
+      length before.taken + took.0,
+      (omega (arith, took.1.0, size), prefix_behind first old new text lines tail whole took.0 before e took.1.1),
+    )
 
-lines_from : (offset : ℕ) (views : List View) (v : View) (n : ℕ) → n ≡ offset + length (concat (map (λ v. v.bytes) views)) → record_lines offset (views ++ v ∷ []) ≡ record_lines offset views ++ record_line n v
+lines_from : (offset : ℕ) (views : List View) (v : View) (n : ℕ)
+    → n ≡ offset + length (concat (map (λ v. v.bytes) views))
+    → record_lines offset (views ++ v ∷ []) ≡ record_lines offset views ++ record_line n v
 lines_from offset [] v n e =
     let same : offset ≡ n = omega (arith, e) in
     append-nil (record_line offset v) ∙ ap (λ (m : ℕ). record_line m v) same
@@ -66,73 +86,130 @@ lines_from offset (w ∷ views) v n e =
     ∙ sym (append_assoc (record_line offset w) (record_lines (offset + length w.bytes) views) (record_line n v))
 
 -- one more line
-pub lines_more : (bytes : List ℕ) (offset : ℕ) (views : List View) (v : View) → AreViews bytes offset views → record_lines 0 (views ++ v ∷ []) ≡ record_lines 0 views ++ record_line offset v
+pub lines_more : (bytes : List ℕ) (offset : ℕ) (views : List View) (v : View) → AreViews bytes offset views
+    → record_lines 0 (views ++ v ∷ []) ≡ record_lines 0 views ++ record_line offset v
 lines_more bytes offset views v shown = lines_from 0 views v offset (omega (arith, shown.offset_is))
 
 -- a line was added to what is gathered
-pub gathered_line : (first old : Said) (text added bytes : List ℕ) (offset : ℕ) (views : List View) (v : View) → AreViews bytes offset views → AreGathered first old text (record_lines 0 views)
+pub gathered_line : (first old : BytesWritten) (text added bytes : List ℕ) (offset : ℕ) (views : List View) (v : View)
+    → AreViews bytes offset views → AreGathered first old text (record_lines 0 views)
     → added ≡ text ++ record_line offset v → AreGathered first old added (record_lines 0 (views ++ v ∷ []))
 gathered_line first old text added bytes offset views v shown before e =
     let line : List ℕ = record_line offset v in
-    let one : AreGathered old old added (text ++ line) = subst (λ (xs : List ℕ). AreGathered old old added xs) e (gathered_all old added) in
-    gathered_more first old old text added (record_lines 0 views) line (record_lines 0 (views ++ v ∷ [])) before one (lines_more bytes offset views v shown)
+    let one : AreGathered old old added (text ++ line) =
+    subst (λ (xs : List ℕ). AreGathered old old added xs) e (gathered_all old added) in
+    gathered_more first old old text added (record_lines 0 views) line (record_lines 0 (views ++ v ∷ [])) before one
+    (lines_more bytes offset views v shown)
 
 -- what is gathered was written
-pub gathered_written : (first old new : Said) (text rest lines : List ℕ) → AreGathered first old text lines → new.bytes ≡ old.bytes ++ text → rest ≡ [] → AreGathered first new rest lines
+pub gathered_written : (first old new : BytesWritten) (text rest lines : List ℕ) → AreGathered first old text lines
+    → new.bytes ≡ old.bytes ++ text → rest ≡ [] → AreGathered first new rest lines
 gathered_written first old new text rest lines before written none =
-    let all : AreGathered old new rest (text ++ []) = record { taken = text; bytes = written; joined = ap (λ (xs : List ℕ). text ++ xs) none } in
+    let all : AreGathered old new rest (text ++ []) =
+    record { taken = text; bytes = written; joined = ap (λ (xs : List ℕ). text ++ xs) none } in
     gathered_more first old new text rest lines [] lines before all (sym (append-nil lines))
 
--- a fault before which a front of the lines was written
-pub cut_short : (fault : ShowFault) (h : Heard) (first old new : Said) (text lines line : List ℕ) (offset : ℕ) (views : List View) → AreViews h.bytes offset views → old.failures ≡ first.failures
-    → AreGathered first old text lines → record_lines 0 views ≡ lines ++ line → IsFrontWritten fault old new (text ++ line) → IsShown (Err fault) h first new
-cut_short Write h first old new text lines line offset views shown same before e written =
-    (omega (arith, same, written.0), (offset, (views, record { shown = shown; front = inl (part_behind first old new text lines line (record_lines 0 views) before e written.1) })))
-cut_short Memory h first old new text lines line offset views shown same before e written =
-    (written.0 ∙ same, (offset, (views, record { shown = shown; front = inl (first_behind first old new text lines line (record_lines 0 views) before e written.1) })))
+-- a fault before which a prefix of the lines was written
+pub cut_short : (fault : ShowFault) (h : BytesRead) (first old new : BytesWritten) (text lines line : List ℕ)
+    (offset : ℕ) (views : List View) → AreViews h.bytes offset views → old.failures ≡ first.failures
+    → AreGathered first old text lines → record_lines 0 views ≡ lines ++ line
+    → IsPrefixWritten fault old new (text ++ line) → IsShown (Err fault) h first new
+cut_short Write h first old new text lines line offset views shown same before e written = (
+  omega (arith, same, written.0),
+  (
+    offset,
+    (
+      views,
+      record {
+        shown = shown;
+        prefix = inl (part_behind first old new text lines line (record_lines 0 views) before e written.1);
+      },
+    ),
+  ),
+)
+cut_short Memory h first old new text lines line offset views shown same before e written = (
+  written.0 ∙ same,
+  (
+    offset,
+    (
+      views,
+      record {
+        shown = shown;
+        prefix = inl (first_behind first old new text lines line (record_lines 0 views) before e written.1);
+      },
+    ),
+  ),
+)
 
-pub gathered_err : (r : Result (ℕ × Option StreamFault) ShowFault) (Q : ShowFault → Type 0) (fault : ShowFault) (h : Heard) (old new : Said) (text : List ℕ) → IsErrAnd r Q → ((e : ShowFault) → Q e → e ≡ fault) → IsShown (Err fault) h old new → IsListing r h old new text
+pub gathered_err : (r : Result (ℕ × Option StreamFault) ShowFault) (Q : ShowFault → Type 0) (fault : ShowFault)
+    (h : BytesRead) (old new : BytesWritten) (text : List ℕ) → IsErrAnd r Q → ((e : ShowFault) → Q e → e ≡ fault)
+    → IsShown (Err fault) h old new → IsListing r h old new text
 gathered_err (Ok x) Q fault h old new text is q shown = absurd is
-gathered_err (Err e) Q fault h old new text is q shown = subst (λ (x : ShowFault). IsShown (Err x) h old new) (sym (q e is)) shown
+gathered_err (Err e) Q fault h old new text is q shown =
+    subst (λ (x : ShowFault). IsShown (Err x) h old new) (sym (q e is)) shown
 
 -- what is left to be written ends the whole text
-tail_is : (records : ℕ) (end : Option StreamFault) (h : Heard) (first old : Said) (text whole : List ℕ) (views : List View) → HasLines records end h first old text views
+tail_is : (records : ℕ) (end : Option StreamFault) (h : BytesRead) (first old : BytesWritten) (text whole : List ℕ)
+    (views : List View) → HasLines records end h first old text views
     → whole ≡ text ++ count_line records ++ end_line end → whole ≡ text ++ (count_line (length views) ++ end_line end)
 tail_is records end h first old text whole views gathered e =
-    e ∙ ap (λ (n : ℕ). text ++ count_line n ++ end_line end) gathered.number ∙ append_assoc text (count_line (length views)) (end_line end)
+    e ∙ ap (λ (n : ℕ). text ++ count_line n ++ end_line end) gathered.number
+    ∙ append_assoc text (count_line (length views)) (end_line end)
 
-shown_is : (views : List View) (end : Option StreamFault) → show_text views end ≡ record_lines 0 views ++ (count_line (length views) ++ end_line end)
+shown_is : (views : List View) (end : Option StreamFault)
+    → show_text views end ≡ record_lines 0 views ++ (count_line (length views) ++ end_line end)
 shown_is views end = append_assoc (record_lines 0 views) (count_line (length views)) (end_line end)
 
 -- the whole text was written
-pub listed : (records : ℕ) (end : Option StreamFault) (h : Heard) (first old new : Said) (text whole : List ℕ) (views : List View) → HasLines records end h first old text views
-    → whole ≡ text ++ count_line records ++ end_line end → new.bytes ≡ old.bytes ++ whole → new.failures ≡ old.failures → IsListed end h first new views
+pub listed : (records : ℕ) (end : Option StreamFault) (h : BytesRead) (first old new : BytesWritten)
+    (text whole : List ℕ) (views : List View) → HasLines records end h first old text views
+    → whole ≡ text ++ count_line records ++ end_line end → new.bytes ≡ old.bytes ++ whole → new.failures ≡ old.failures
+    → IsListed end h first new views
 listed records end h first old new text whole views gathered e bytes fine =
     let tail : List ℕ = count_line (length views) ++ end_line end in
     let before = gathered.lines in record {
       all = gathered.all;
-      text = bytes ∙ ap (λ (xs : List ℕ). old.bytes ++ xs) (tail_is records end h first old text whole views gathered e) ∙ ap (λ (xs : List ℕ). xs ++ (text ++ tail)) before.bytes
+      text = bytes ∙ ap (λ (xs : List ℕ). old.bytes ++ xs)
+          (tail_is records end h first old text whole views gathered e)
+          ∙ ap (λ (xs : List ℕ). xs ++ (text ++ tail)) before.bytes
           ∙ append_assoc first.bytes before.taken (text ++ tail)
-          ∙ ap (λ (xs : List ℕ). first.bytes ++ xs) (behind first old text (record_lines 0 views) tail (show_text views end) before (shown_is views end));
+          ∙ ap (λ (xs : List ℕ). first.bytes ++ xs)
+          (behind first old text (record_lines 0 views) tail (show_text views end) before (shown_is views end));
       fine = fine ∙ gathered.fine;
     }
 
 -- no memory for the lines at the end
-pub memory_short : (records : ℕ) (end : Option StreamFault) (h : Heard) (first new : Said) (text : List ℕ) (views : List View) → HasLines records end h first new text views
+pub memory_short : (records : ℕ) (end : Option StreamFault) (h : BytesRead) (first new : BytesWritten) (text : List ℕ)
+    (views : List View) → HasLines records end h first new text views
     → IsShown (Err Memory) h first new
-memory_short records end h first new text views gathered =
-    (gathered.fine, (gathered.all.offset, (views, record { shown = gathered.all.records; front = inl (gathered_first first new text (record_lines 0 views) gathered.lines) })))
+memory_short records end h first new text views gathered = (
+  gathered.fine,
+  (
+    gathered.all.offset,
+    (
+      views,
+      record {
+        shown = gathered.all.records;
+        prefix = inl (gathered_first first new text (record_lines 0 views) gathered.lines);
+      },
+    ),
+  ),
+)
 
--- a fault before which a front of the whole text was written
-pub end_short : (fault : ShowFault) (records : ℕ) (end : Option StreamFault) (h : Heard) (first old new : Said) (text whole : List ℕ) (views : List View) → HasLines records end h first old text views
-    → whole ≡ text ++ count_line records ++ end_line end → IsFrontWritten fault old new whole → IsShown (Err fault) h first new
+-- a fault before which a prefix of the whole text was written
+pub end_short : (fault : ShowFault) (records : ℕ) (end : Option StreamFault) (h : BytesRead)
+    (first old new : BytesWritten) (text whole : List ℕ) (views : List View)
+    → HasLines records end h first old text views
+    → whole ≡ text ++ count_line records ++ end_line end → IsPrefixWritten fault old new whole
+    → IsShown (Err fault) h first new
 end_short fault records end h first old new text whole views gathered e written =
-    go fault (subst (λ (xs : List ℕ). IsFrontWritten fault old new xs) (tail_is records end h first old text whole views gathered e) written)
+    go fault (subst (λ (xs : List ℕ). IsPrefixWritten fault old new xs)
+    (tail_is records end h first old text whole views gathered e) written)
   where
     tail : List ℕ
     tail = count_line (length views) ++ end_line end
 
-    go : (f : ShowFault) → IsFrontWritten f old new (text ++ tail) → IsShown (Err f) h first new
+    go : (f : ShowFault) → IsPrefixWritten f old new (text ++ tail) → IsShown (Err f) h first new
     go Write w = (
       omega (arith, gathered.fine, w.0),
       (
@@ -141,7 +218,14 @@ end_short fault records end h first old new text whole views gathered e written 
           views,
           record {
             shown = gathered.all.records;
-            front = inr (end, (gathered.all, part_behind first old new text (record_lines 0 views) tail (show_text views end) gathered.lines (shown_is views end) w.1));
+            prefix = inr (
+              end,
+              (
+                gathered.all,
+                part_behind first old new text (record_lines 0 views) tail
+                    (show_text views end) gathered.lines (shown_is views end) w.1,
+              ),
+            );
           },
         ),
       ),
@@ -154,12 +238,22 @@ end_short fault records end h first old new text whole views gathered e written 
           views,
           record {
             shown = gathered.all.records;
-            front = inr (end, (gathered.all, first_behind first old new text (record_lines 0 views) tail (show_text views end) gathered.lines (shown_is views end) w.1));
+            prefix = inr (
+              end,
+              (
+                gathered.all,
+                first_behind first old new text (record_lines 0 views) tail
+                    (show_text views end) gathered.lines (shown_is views end) w.1,
+              ),
+            );
           },
         ),
       ),
     )
 
-pub shown_err : (r : Result (Option StreamFault) ShowFault) (Q : ShowFault → Type 0) (fault : ShowFault) (h : Heard) (old new : Said) → IsErrAnd r Q → ((e : ShowFault) → Q e → e ≡ fault) → IsShown (Err fault) h old new → IsShown r h old new
+pub shown_err : (r : Result (Option StreamFault) ShowFault) (Q : ShowFault → Type 0) (fault : ShowFault)
+    (h : BytesRead) (old new : BytesWritten) → IsErrAnd r Q → ((e : ShowFault) → Q e → e ≡ fault)
+    → IsShown (Err fault) h old new → IsShown r h old new
 shown_err (Ok x) Q fault h old new is q shown = absurd is
-shown_err (Err e) Q fault h old new is q shown = subst (λ (x : ShowFault). IsShown (Err x) h old new) (sym (q e is)) shown
+shown_err (Err e) Q fault h old new is q shown =
+    subst (λ (x : ShowFault). IsShown (Err x) h old new) (sym (q e is)) shown

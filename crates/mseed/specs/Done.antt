@@ -1,6 +1,6 @@
 -- What a listing, or words for which nothing was done, come to.
 use Rattle.std.specs.Prelude.{◌≡◌, ℕ, Option, Some, None, Result, Ok, Err, codes}
-use Rattle.mseed_stream.specs.Device.{Heard, Said}
+use Rattle.mseed_stream.specs.Device.{BytesRead, BytesWritten}
 use Rattle.mseed_stream.specs.declared.fault.StreamFault.{StreamFault}
 use Rattle.mseed.specs.declared.ending.ShowFault.{ShowFault}
 use Rattle.mseed.specs.declared.ending.ShowFault.TheVariants.{Write, Memory}
@@ -14,26 +14,28 @@ show_status (Ok (Some fault)) = 2
 show_status (Err fault) = 2
 
 -- the line on standard error; the input's fault is in the listing, and has none
-abbrev pub TellsOfShow : Result (Option StreamFault) ShowFault → Said → Said → Type 0
+abbrev pub TellsOfShow : Result (Option StreamFault) ShowFault → BytesWritten → BytesWritten → Type 0
 TellsOfShow (Ok end) old new = new ≡ old
 TellsOfShow (Err Write) old new = Tells (codes "mseed: write failed\n") old new
 TellsOfShow (Err Memory) old new = Tells (codes "mseed: no memory\n") old new
 
 -- a listing, its status and its line
-pub record IsShowRun (outcome : Result (Option StreamFault) ShowFault) (status : ℕ) (heard : Heard) (said_old said_new told_old told_new : Said) : Type 0 where
-  pub shown : IsShown outcome heard said_old said_new
+pub record IsShowRun (outcome : Result (Option StreamFault) ShowFault) (status : ℕ) (read : BytesRead)
+    (written_old written_new told_old told_new : BytesWritten) : Type 0 where
+  pub shown : IsShown outcome read written_old written_new
   pub status_is : status ≡ show_status outcome
   pub told : TellsOfShow outcome told_old told_new
 
 -- there was no memory for the words
-pub record IsMemoryRun (status : ℕ) (old new : Heard) (said_old said_new told_old told_new : Said) : Type 0 where
+pub record IsMemoryRun (status : ℕ) (old new : BytesRead)
+    (written_old written_new told_old told_new : BytesWritten) : Type 0 where
   pub unread : new ≡ old
-  pub unsaid : said_new ≡ said_old
+  pub unwritten : written_new ≡ written_old
   pub status_is : status ≡ 2
   pub told : Tells (codes "mseed: no memory\n") told_old told_new
 
 -- words that `clap` refuses; its text is on standard error
-pub record IsRefusedRun (status : ℕ) (old new : Heard) (said_old said_new : Said) : Type 0 where
+pub record IsRefusedRun (status : ℕ) (old new : BytesRead) (written_old written_new : BytesWritten) : Type 0 where
   pub unread : new ≡ old
-  pub unsaid : said_new ≡ said_old
+  pub unwritten : written_new ≡ written_old
   pub status_is : status ≡ 3

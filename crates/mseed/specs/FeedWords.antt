@@ -1,5 +1,6 @@
 -- What the words of the two commands of a feed ask for.
-use Rattle.std.specs.Prelude.{ℕ, Bool, ◌≤◌, ◌<◌, ◌^◌, ◌==◌, ◌&&◌, nat_le, nat_lt, List, [], ◌∷◌, length, map, if◌then◌else◌}
+use Rattle.std.specs.Prelude.{ℕ, Bool, ◌≤◌, ◌<◌, ◌^◌, ◌==◌, ◌&&◌, nat_le, nat_lt, List, [], ◌∷◌, length, map}
+use Rattle.std.specs.Prelude.{if◌then◌else◌}
 use Rattle.std.specs.Prelude.{Option, Some, None, option_and_then, option_map, codes}
 use Rattle.std.specs.Char.{is_ascii_alphanumeric}
 use Rattle.std.specs.List.{after_first, before_first, list_all, position_or_len}
@@ -94,19 +95,22 @@ fetching_with _ _ _ = None
 
 -- what `serve` takes besides its word
 abbrev pub serve_names : List Text
-serve_names = codes "command" ∷ codes "place" ∷ codes "port" ∷ codes "station" ∷ codes "network" ∷ codes "capacity" ∷ codes "first"
+serve_names = codes "command" ∷ codes "place" ∷ codes "port" ∷ codes "station" ∷ codes "network" ∷ codes "capacity"
+    ∷ codes "first"
     ∷ codes "connections" ∷ []
 
 -- and `fetch`
 abbrev pub fetch_names : List Text
-fetch_names = codes "command" ∷ codes "place" ∷ codes "port" ∷ codes "station" ∷ codes "network" ∷ codes "from" ∷ codes "tries" ∷ []
+fetch_names = codes "command" ∷ codes "place" ∷ codes "port" ∷ codes "station" ∷ codes "network" ∷ codes "from"
+    ∷ codes "tries" ∷ []
 
 -- a feed to be served: its places have no numbers of their own
 abbrev pub serving_of : List Row → Option Serving
 serving_of rows =
     if has_only serve_names rows
     then serving_with (port_in (first_of (codes "port") rows)) (count_in (first_of (codes "connections") rows))
-    (capacity_in (first_of (codes "capacity") rows)) (first_in (first_of (codes "first") rows)) (places_in Plain None rows)
+    (capacity_in (first_of (codes "capacity") rows)) (first_in (first_of (codes "first") rows))
+    (places_in Plain None rows)
     else None
 
 -- a feed to be fetched: `--from` is the number of the first place

@@ -1,8 +1,9 @@
 -- How a feed is filled: with the records of an archive, each in the ring of its place.
-use Rattle.std.specs.Prelude.{◌≡◌, ◌⊎◌, ℕ, Bool, ◌+◌, ◌&&◌, List, [], ◌∷◌, ◌++◌, length, map, bytes_eq, slice_get, slice_set, slice_range, Some, None, Result, Ok, Err}
+use Rattle.std.specs.Prelude.{◌≡◌, ◌⊎◌, ℕ, Bool, ◌+◌, ◌&&◌, List, [], ◌∷◌, ◌++◌, length, map, bytes_eq, slice_get}
+use Rattle.std.specs.Prelude.{slice_set, slice_range, Some, None, Result, Ok, Err}
 use Rattle.std.specs.List.{AllByRecursion, filter}
 use Rattle.mseed_record.specs.View.{View}
-use Rattle.mseed_stream.specs.Device.{Heard}
+use Rattle.mseed_stream.specs.Device.{BytesRead}
 use Rattle.mseed_stream.specs.Walk.{AreAllViews, AreViews, bytes_in}
 use Rattle.mseed_stream.specs.declared.fault.StreamFault.{StreamFault}
 use Rattle.slink_wire.specs.Place.{Bears, Fields}
@@ -55,14 +56,14 @@ pub record IsPushed (old : List Window) (bytes : List ℕ) (new : List Window) :
   pub pushed : new ≡ slice_set old k (with_record ring bytes)
 
 -- The input was read to its end, where a record ends. All its records are the feed's, and the rings have them.
-pub record IsFilled (serving : Serving) (feed : List Window) (h : Heard) : Type 0 where
+pub record IsFilled (serving : Serving) (feed : List Window) (h : BytesRead) : Type 0 where
   pub views : List View
   pub all : AreAllViews h views None
   pub each : AreOfFeed (served serving) (bytes_in views)
   pub feed_is : feed ≡ feed_of serving (bytes_in views)
 
 -- The record of this number, counted from 1, is the first of the input's that isn't the feed's.
-pub record IsForeign (serving : Serving) (number : ℕ) (h : Heard) : Type 0 where
+pub record IsForeign (serving : Serving) (number : ℕ) (h : BytesRead) : Type 0 where
   pub before : List View
   pub view : View
   pub offset : ℕ
@@ -73,19 +74,19 @@ pub record IsForeign (serving : Serving) (number : ℕ) (h : Heard) : Type 0 whe
   pub number_is : number ≡ length before + 1
 
 -- The input ended with a fault, behind records that are all the feed's.
-pub record IsBrokenOff (serving : Serving) (fault : StreamFault) (h : Heard) : Type 0 where
+pub record IsBrokenOff (serving : Serving) (fault : StreamFault) (h : BytesRead) : Type 0 where
   pub views : List View
   pub all : AreAllViews h views (Some fault)
   pub each : AreOfFeed (served serving) (bytes_in views)
 
 -- What filling a feed comes to: what is wrong first decides.
-abbrev pub IsFilling : Serving → Result (List Window) FillFault → Heard → Type 0
+abbrev pub IsFilling : Serving → Result (List Window) FillFault → BytesRead → Type 0
 IsFilling serving (Ok feed) h = IsFilled serving feed h
 IsFilling serving (Err (Stream fault)) h = IsBrokenOff serving fault h
 IsFilling serving (Err (Foreign number)) h = IsForeign serving number h
 IsFilling serving (Err Memory) h = h.failures ≡ 0
 
 -- It comes to nothing else, but where memory was refused.
-abbrev pub IsOneFilling : Serving → Result (List Window) FillFault → Heard → Type 0
+abbrev pub IsOneFilling : Serving → Result (List Window) FillFault → BytesRead → Type 0
 IsOneFilling serving result h = (other : Result (List Window) FillFault) → IsFilling serving other h
     → (result ≡ Err Memory) ⊎ ((other ≡ Err Memory) ⊎ (result ≡ other))

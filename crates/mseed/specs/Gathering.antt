@@ -1,7 +1,7 @@
 -- What was written of a listing, and what is gathered of it.
 use Rattle.std.specs.Prelude.{◌≡◌, ℕ, ◌+◌, ◌<◌, List, [], ◌∷◌, ◌++◌, length, Option, Result, Ok, Err}
 use Rattle.mseed_record.specs.View.{View}
-use Rattle.mseed_stream.specs.Device.{Heard, Said}
+use Rattle.mseed_stream.specs.Device.{BytesRead, BytesWritten}
 use Rattle.mseed_stream.specs.declared.fault.StreamFault.{StreamFault}
 use Rattle.mseed.specs.Listing.{record_line, record_lines}
 use Rattle.mseed_stream.specs.Standing.{Standing}
@@ -12,37 +12,40 @@ use Rattle.mseed.specs.Show.{IsShown, TookFirst, TookPart}
 use Rattle.mseed.specs.declared.ending.ShowFault.{ShowFault}
 use Rattle.mseed.specs.declared.ending.ShowFault.TheVariants.{Write, Memory}
 
--- a front of some text was written before the fault, which is the output's where the output failed
-abbrev pub IsFrontWritten : ShowFault → Said → Said → List ℕ → Type 0
-IsFrontWritten Write old new text = (new.failures ≡ old.failures + 1) × TookPart old new text
-IsFrontWritten Memory old new text = (new.failures ≡ old.failures) × TookFirst old new text
+-- a prefix of some text was written before the fault, which is the output's where the output failed
+abbrev pub IsPrefixWritten : ShowFault → BytesWritten → BytesWritten → List ℕ → Type 0
+IsPrefixWritten Write old new text = (new.failures ≡ old.failures + 1) × TookPart old new text
+IsPrefixWritten Memory old new text = (new.failures ≡ old.failures) × TookFirst old new text
 
 -- the output took some bytes, and with those that are gathered they are a text
-pub record AreGathered (old new : Said) (gathered text : List ℕ) : Type 0 where
+pub record AreGathered (old new : BytesWritten) (gathered text : List ℕ) : Type 0 where
   pub taken : List ℕ
   pub bytes : new.bytes ≡ old.bytes ++ taken
   pub joined : taken ++ gathered ≡ text
 
 -- a record more was handed out than these, and its line was added
-pub record IsOneMore (views : List View) (offset : ℕ) (old new : Heard) (c : Standing) (text added : List ℕ) : Type 0 where
+pub record IsOneMore (views : List View) (offset : ℕ) (old new : BytesRead) (c : Standing) (text added : List ℕ) : Type
+    0 where
   pub view : View
   pub handed : HasHandedOut new c (views ++ view ∷ [])
   pub asked : old.calls < new.calls
   pub line : added ≡ text ++ record_line offset view
 
 -- What comes next of an input, behind these records: one more, its end, so that they are all, or a want of memory.
-abbrev pub IsNext : Result Step ShowFault → List View → ℕ → Heard → Heard → Standing → List ℕ → List ℕ → Type 0
+abbrev pub IsNext : Result Step ShowFault → List View → ℕ → BytesRead → BytesRead → Standing → List ℕ → List ℕ → Type 0
 IsNext (Ok Listed) views offset old new c text added = IsOneMore views offset old new c text added
 IsNext (Ok (Ended end)) views offset old new c text added = AreAllViews new views end × (added ≡ text)
 IsNext (Err fault) views offset old new c text added = (fault ≡ Memory) × AreViews new.bytes offset views
 
 -- the lines of the records up to the end were written or are gathered
-pub record HasLines (records : ℕ) (end : Option StreamFault) (h : Heard) (old new : Said) (text : List ℕ) (views : List View) : Type 0 where
+pub record HasLines (records : ℕ) (end : Option StreamFault) (h : BytesRead) (old new : BytesWritten) (text : List ℕ)
+    (views : List View) : Type 0 where
   pub all : AreAllViews h views end
   pub lines : AreGathered old new text (record_lines 0 views)
   pub fine : new.failures ≡ old.failures
   pub number : records ≡ length views
 
-abbrev pub IsListing : Result (ℕ × Option StreamFault) ShowFault → Heard → Said → Said → List ℕ → Type 0
+abbrev pub IsListing : Result (ℕ × Option StreamFault) ShowFault → BytesRead → BytesWritten → BytesWritten → List ℕ
+    → Type 0
 IsListing (Ok found) h old new text = (views : List View) × HasLines found.0 found.1 h old new text views
 IsListing (Err fault) h old new text = IsShown (Err fault) h old new

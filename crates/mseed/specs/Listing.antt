@@ -1,5 +1,6 @@
 -- The text of a listing.
-use Rattle.std.specs.Prelude.{ℕ, ◌+◌, Bool, if◌then◌else◌, List, [], ◌∷◌, ◌++◌, length, Option, Some, None, ℤ, codes, decimal}
+use Rattle.std.specs.Prelude.{ℕ, ◌+◌, Bool, if◌then◌else◌, List, [], ◌∷◌, ◌++◌, length, Option, Some, None, ℤ, codes}
+use Rattle.std.specs.Prelude.{decimal}
 use Rattle.mseed_time.specs.declared.order.Order.{Order}
 use Rattle.mseed_time.specs.declared.order.Order.TheVariants.{Big, Little}
 use Rattle.mseed_time.specs.declared.fault.TimeFault.{TimeFault}
@@ -57,7 +58,8 @@ abbrev pub last_words : Bool → List ℕ
 last_words has_rate_blockette = if has_rate_blockette then codes " blockette100\n" else codes "\n"
 
 abbrev pub payload_words : View → List ℕ
-payload_words v = codes " encoding " ++ decimal v.encoding ++ order_word v.payload_order ++ last_words v.has_rate_blockette
+payload_words v = codes " encoding " ++ decimal v.encoding ++ order_word v.payload_order
+    ++ last_words v.has_rate_blockette
 
 -- a record's line, by where it begins
 abbrev pub record_line : ℕ → View → List ℕ

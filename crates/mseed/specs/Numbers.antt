@@ -23,7 +23,8 @@ number_in text =
 -- one to six hexadecimal digits, in either case
 abbrev pub hexadecimal_in : Text → Option ℕ
 hexadecimal_in text =
-    if nat_le 1 (length text) && (nat_le (length text) 6 && list_all is_ascii_hexdigit text) then Some (digits_value 16 text) else None
+    if nat_le 1 (length text) && (nat_le (length text) 6 && list_all is_ascii_hexdigit text) then Some
+    (digits_value 16 text) else None
 
 -- a number from 1 to so many, as `clap` reads it: decimal digits, of any count and with a plus in front or none
 abbrev pub counted_in : ℕ → Text → Option ℕ

@@ -32,7 +32,8 @@ feed_rules = option_rule (codes "station") ∷ option_rule (codes "network") ∷
     ∷ option_rule (codes "first") ∷ option_rule (codes "from") ∷ []
 
 abbrev pub number_rules : List Rule
-number_rules = number_rule (codes "port") (Signed (pos 1) (pos 65535)) ∷ number_rule (codes "connections") (Signed (pos 1) (pos 1000000))
+number_rules = number_rule (codes "port") (Signed (pos 1) (pos 65535)) ∷ number_rule (codes "connections")
+    (Signed (pos 1) (pos 1000000))
     ∷ number_rule (codes "tries") (Signed (pos 1) (pos 1000000)) ∷ []
 
 abbrev pub with_rules : App → List Rule → App
@@ -46,4 +47,5 @@ bare_command = on_top (λ s. record s { no_binary_name = true }) (new_app (codes
 -- with all places and options side by side
 abbrev pub the_command : App
 the_command =
-    with_rules (with_rules (with_rules (with_rule (with_rule bare_command word_rule) places_rule) packing_rules) feed_rules) number_rules
+    with_rules (with_rules (with_rules (with_rule (with_rule bare_command word_rule) places_rule) packing_rules)
+    feed_rules) number_rules

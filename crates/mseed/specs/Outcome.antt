@@ -1,6 +1,6 @@
 -- What the command did.
 use Rattle.std.specs.Prelude.{◌≡◌, ℕ, nat_lt, if◌then◌else◌, Result, Ok, Err, codes}
-use Rattle.mseed_stream.specs.Device.{Heard, Said}
+use Rattle.mseed_stream.specs.Device.{BytesRead, BytesWritten}
 use Rattle.mseed_stream.specs.Telling.{Tells}
 use Rattle.mseed_audit.specs.declared.archive.Summary.{Summary}
 use Rattle.mseed_audit.specs.declared.archive.AuditFault.{AuditFault}
@@ -16,20 +16,22 @@ status_of (Ok summary) = summary_status summary
 status_of (Err fault) = 2
 
 -- the line on standard error; the input's fault is in the text, and has none
-abbrev pub TellsOfAudit : Result Summary AuditFault → Said → Said → Type 0
+abbrev pub TellsOfAudit : Result Summary AuditFault → BytesWritten → BytesWritten → Type 0
 TellsOfAudit (Ok summary) old new = new ≡ old
 TellsOfAudit (Err (Write taken)) old new = Tells (codes "mseed: write failed\n") old new
 TellsOfAudit (Err Memory) old new = Tells (codes "mseed: no memory\n") old new
 
 -- an audit, its status and its line
-pub record IsAuditRun (outcome : Result Summary AuditFault) (status : ℕ) (heard : Heard) (said_old said_new told_old told_new : Said) : Type 0 where
-  pub outcome_is : IsOutcome outcome heard said_old said_new
+pub record IsAuditRun (outcome : Result Summary AuditFault) (status : ℕ) (read : BytesRead)
+    (written_old written_new told_old told_new : BytesWritten) : Type 0 where
+  pub outcome_is : IsOutcome outcome read written_old written_new
   pub status_is : status ≡ status_of outcome
   pub told : TellsOfAudit outcome told_old told_new
 
 -- words that ask for nothing that there is
-pub record IsBadRun (status : ℕ) (old new : Heard) (said_old said_new told_old told_new : Said) : Type 0 where
+pub record IsBadRun (status : ℕ) (old new : BytesRead)
+    (written_old written_new told_old told_new : BytesWritten) : Type 0 where
   pub unread : new ≡ old
-  pub unsaid : said_new ≡ said_old
+  pub unwritten : written_new ≡ written_old
   pub status_is : status ≡ 3
   pub told : Tells (codes "mseed: bad value\n") told_old told_new

@@ -1,6 +1,6 @@
 -- The plans of the two commands of a feed, and what is said where there is none.
 use Rattle.std.specs.Prelude.{◌≡◌, ◌⊎◌, ℕ, List, [], ◌++◌, Result, Ok, Err, codes, decimal}
-use Rattle.mseed_stream.specs.Device.{Heard, Said}
+use Rattle.mseed_stream.specs.Device.{BytesRead, BytesWritten}
 use Rattle.mseed_audit.specs.Text.{fault_line}
 use Rattle.slink_feed.specs.Dialogue.{wants_of}
 use Rattle.slink_feed.specs.Window.{Window}
@@ -24,7 +24,7 @@ fill_text (Foreign number) = codes "mseed: record " ++ decimal number ++ codes "
 fill_text Memory = codes "mseed: no memory\n"
 
 -- the line on standard error; there may be no memory for it
-abbrev pub TellsOfFilling : FillFault → Said → Said → Type 0
+abbrev pub TellsOfFilling : FillFault → BytesWritten → BytesWritten → Type 0
 TellsOfFilling fault old new = Tells (fill_text fault) old new ⊎ Tells (codes "mseed: no memory\n") old new
 
 -- the feed, and the values that were asked for
@@ -34,7 +34,8 @@ pub record IsServePlan {A : Type 0} (serving : Serving) (feed : List Window) (pl
   pub feed_is : plan.feed ≡ feed
 
 -- by what filling the feed came to: a plan, and no line; or status 2, and a line
-abbrev pub IsPlannedBy : {A : Type 0} → Serving → Result (List Window) FillFault → Run A → Said → Said → Type 0
+abbrev pub IsPlannedBy : {A : Type 0} → Serving → Result (List Window) FillFault → Run A → BytesWritten → BytesWritten
+    → Type 0
 IsPlannedBy serving (Ok feed) (Status status) old new = ⊥
 IsPlannedBy serving (Ok feed) (Serve plan) old new = IsServePlan serving feed plan × (new ≡ old)
 IsPlannedBy serving (Ok feed) (Fetch plan) old new = ⊥
@@ -43,10 +44,11 @@ IsPlannedBy serving (Err fault) (Serve plan) old new = ⊥
 IsPlannedBy serving (Err fault) (Fetch plan) old new = ⊥
 
 -- what `serve` comes to before it opens a socket; the input decides it, but for memory
-pub record IsServeRun {A : Type 0} (serving : Serving) (run : Run A) (heard : Heard) (told_old told_new : Said) : Type 0 where
+pub record IsServeRun {A : Type 0} (serving : Serving) (run : Run A) (read : BytesRead)
+    (told_old told_new : BytesWritten) : Type 0 where
   pub outcome : Result (List Window) FillFault
-  pub filling : IsFilling serving outcome heard
-  pub only : IsOneFilling serving outcome heard
+  pub filling : IsFilling serving outcome read
+  pub only : IsOneFilling serving outcome read
   pub planned : IsPlannedBy serving outcome run told_old told_new
 
 -- a new client for the places that were asked for, and the other values

@@ -1,9 +1,10 @@
 -- What packing anew says, and its exit status.
 use Rattle.std.specs.Prelude.{⊤, ◌≡◌, ◌⊎◌, ℕ, List, ◌++◌, Result, Ok, Err, codes, decimal}
-use Rattle.mseed_stream.specs.Device.{Heard, Said}
+use Rattle.mseed_stream.specs.Device.{BytesRead, BytesWritten}
 use Rattle.mseed_audit.specs.Text.{name_text, fault_line}
 use Rattle.mseed_pack.specs.declared.fault.PackFault.{PackFault}
-use Rattle.mseed_pack.specs.declared.fault.PackFault.TheVariants.{Empty, RateTooHigh, TimeOutOfRange, SampleTooLarge, DifferenceTooLarge, Write as WriteFailed}
+use Rattle.mseed_pack.specs.declared.fault.PackFault.TheVariants.{Empty, RateTooHigh, TimeOutOfRange, SampleTooLarge}
+use Rattle.mseed_pack.specs.declared.fault.PackFault.TheVariants.{DifferenceTooLarge, Write as WriteFailed}
 use Rattle.mseed_pack.specs.declared.options.Options.{Options}
 use Rattle.mseed_stream.specs.Telling.{Tells}
 use Rattle.mseed_repack.specs.Repack.{IsRepacking}
@@ -47,21 +48,22 @@ refusal_status Write = 2
 refusal_status Memory = 2
 
 -- the status and the line on standard error; there may be no memory for the line
-pub record IsRefusedRepack (fault : RepackFault) (status : ℕ) (told_old told_new : Said) : Type 0 where
+pub record IsRefusedRepack (fault : RepackFault) (status : ℕ) (told_old told_new : BytesWritten) : Type 0 where
   pub either : ((status ≡ refusal_status fault) × Tells (refusal_text fault) told_old told_new)
       ⊎ ((status ≡ 2) × Tells (codes "mseed: no memory\n") told_old told_new)
 
 -- by the outcome: 0, and no line, where all was packed
-abbrev pub TellsOfRepack : {U : Type 0} → Result U RepackFault → ℕ → Said → Said → Type 0
+abbrev pub TellsOfRepack : {U : Type 0} → Result U RepackFault → ℕ → BytesWritten → BytesWritten → Type 0
 TellsOfRepack (Ok u) status old new = (status ≡ 0) × (new ≡ old)
 TellsOfRepack (Err fault) status old new = IsRefusedRepack fault status old new
 
 -- packing anew, with sequence numbers from 000001 on, its status and its line
-pub record IsRepackRun (packing : Packing) (status : ℕ) (heard : Heard) (said_old said_new told_old told_new : Said) : Type 0 where
+pub record IsRepackRun (packing : Packing) (status : ℕ) (read : BytesRead)
+    (written_old written_new told_old told_new : BytesWritten) : Type 0 where
   pub options : Options
   pub exponent : options.exponent ≡ packing.exponent
   pub encoding : options.encoding ≡ packing.encoding
   pub sequence : options.first_sequence ≡ 1
   pub outcome : Result ⊤ RepackFault
-  pub packed : IsRepacking options outcome heard said_old said_new
+  pub packed : IsRepacking options outcome read written_old written_new
   pub told : TellsOfRepack outcome status told_old told_new

@@ -2,7 +2,7 @@
 use Rattle.std.specs.Prelude.{◌≡◌, ◌⊎◌, ℕ, Option, Result}
 use Rattle.mseed_audit.specs.declared.archive.AuditFault.{AuditFault}
 use Rattle.mseed_audit.specs.declared.archive.Summary.{Summary}
-use Rattle.mseed_stream.specs.Device.{Heard, Said}
+use Rattle.mseed_stream.specs.Device.{BytesRead, BytesWritten}
 use Rattle.mseed_stream.specs.declared.fault.StreamFault.{StreamFault}
 use Rattle.mseed.specs.Done.{IsMemoryRun, IsRefusedRun, IsShowRun}
 use Rattle.mseed.specs.Outcome.{IsAuditRun, IsBadRun}
@@ -14,13 +14,13 @@ use Rattle.mseed.specs.declared.outcome.Run.TheVariants as runs
 use Rattle.mseed.specs.declared.request.Request.{Request}
 use Rattle.mseed.specs.declared.request.Request.TheVariants.{Audit, Show, Repack, Serve, Fetch}
 
--- what the input told, and what the output and the errors took
+-- what was read of the input, and what the output and the errors took
 pub record Streams : Type 0 where
-  pub input : Heard
-  pub output : Said
-  pub errors : Said
+  pub input : BytesRead
+  pub output : BytesWritten
+  pub errors : BytesWritten
 
-abbrev pub streams : Heard → Said → Said → Streams
+abbrev pub streams : BytesRead → BytesWritten → BytesWritten → Streams
 streams input output errors = record { input = input; output = output; errors = errors }
 
 -- the command is done, and this holds of its exit status

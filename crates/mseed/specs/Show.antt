@@ -1,7 +1,7 @@
 -- What is written when an input is listed.
 use Rattle.std.specs.Prelude.{◌≡◌, ◌⊎◌, ℕ, ◌+◌, ◌<◌, List, ◌++◌, length, take, Option, Result, Ok, Err}
 use Rattle.mseed_record.specs.View.{View}
-use Rattle.mseed_stream.specs.Device.{Heard, Said}
+use Rattle.mseed_stream.specs.Device.{BytesRead, BytesWritten}
 use Rattle.mseed_stream.specs.declared.fault.StreamFault.{StreamFault}
 use Rattle.mseed_stream.specs.Walk.{AreViews, AreAllViews}
 use Rattle.mseed_audit.specs.Text.{end_line}
@@ -14,29 +14,31 @@ abbrev pub show_text : List View → Option StreamFault → List ℕ
 show_text views end = record_lines 0 views ++ count_line (length views) ++ end_line end
 
 -- the whole text was written
-pub record IsListed (end : Option StreamFault) (h : Heard) (old new : Said) (views : List View) : Type 0 where
+pub record IsListed (end : Option StreamFault) (h : BytesRead) (old new : BytesWritten) (views : List View) : Type
+    0 where
   pub all : AreAllViews h views end
   pub text : new.bytes ≡ old.bytes ++ show_text views end
   pub fine : new.failures ≡ old.failures
 
 -- the output took the first bytes of a text
-abbrev pub TookFirst : Said → Said → List ℕ → Type 0
+abbrev pub TookFirst : BytesWritten → BytesWritten → List ℕ → Type 0
 TookFirst old new text = (count : ℕ) × (new.bytes ≡ old.bytes ++ take count text)
 
 -- and not all of it
-abbrev pub TookPart : Said → Said → List ℕ → Type 0
+abbrev pub TookPart : BytesWritten → BytesWritten → List ℕ → Type 0
 TookPart old new text = (count : ℕ) × ((count < length text) × (new.bytes ≡ old.bytes ++ take count text))
 
 -- what was written is so of a text: the lines of some records, or the whole
-pub record IsCutShort (Took : List ℕ → Type 0) (h : Heard) (offset : ℕ) (views : List View) : Type 0 where
+pub record IsCutShort (Took : List ℕ → Type 0) (h : BytesRead) (offset : ℕ) (views : List View) : Type 0 where
   pub shown : AreViews h.bytes offset views
-  pub front : Took (record_lines 0 views) ⊎ ((end : Option StreamFault) × (AreAllViews h views end × Took (show_text views end)))
+  pub prefix : Took (record_lines 0 views)
+      ⊎ ((end : Option StreamFault) × (AreAllViews h views end × Took (show_text views end)))
 
-abbrev pub EndsShort : (List ℕ → Type 0) → Heard → Type 0
+abbrev pub EndsShort : (List ℕ → Type 0) → BytesRead → Type 0
 EndsShort Took h = (offset : ℕ) × ((views : List View) × IsCutShort Took h offset views)
 
 -- By the outcome. An output that failed isn't asked again.
-abbrev pub IsShown : Result (Option StreamFault) ShowFault → Heard → Said → Said → Type 0
+abbrev pub IsShown : Result (Option StreamFault) ShowFault → BytesRead → BytesWritten → BytesWritten → Type 0
 IsShown (Ok end) h old new = (views : List View) × IsListed end h old new views
 IsShown (Err Write) h old new = (new.failures ≡ old.failures + 1) × EndsShort (TookPart old new) h
 IsShown (Err Memory) h old new = (new.failures ≡ old.failures) × EndsShort (TookFirst old new) h

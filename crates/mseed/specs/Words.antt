@@ -38,7 +38,8 @@ exponent_in (Some text) = option_and_then exponent_by (number_in text)
 abbrev pub encoding_named : Text → Option Encoding
 encoding_named word =
     if bytes_eq word (codes "int16") then Some Int16 else if bytes_eq word (codes "int32") then Some Int32
-    else if bytes_eq word (codes "steim1") then Some Steim1 else if bytes_eq word (codes "steim2") then Some Steim2 else None
+    else if bytes_eq word (codes "steim1") then Some Steim1 else if bytes_eq word (codes "steim2") then Some Steim2
+    else None
 
 -- Steim-2 where no encoding is said
 abbrev pub encoding_in : Option Text → Option Encoding

@@ -1,6 +1,6 @@
 //! The command line.
 ghost use Rattle.std.specs.Prelude.{◌≡◌, ◌⊎◌, Option, Result, map, codes};
-ghost use Rattle.mseed_stream.specs.Device.{nothing_heard};
+ghost use Rattle.mseed_stream.specs.Device.{nothing_read};
 ghost use Rattle.mseed_audit.specs.declared.archive.AuditFault.{AuditFault};
 ghost use Rattle.mseed_audit.specs.declared.archive.Summary.{Summary};
 ghost use Rattle.mseed_stream.specs.Telling.{Tells};
@@ -49,19 +49,19 @@ pub fn run<R: Source, W: Sink, E: Sink>(
     output: &mut W,
     errors: &mut E,
 ) -> Run
-    requires { R.heard input.old ≡ nothing_heard }
+    requires { R.read input.old ≡ nothing_read }
     ensures asked { (request : Request) → AsksFor (map (λ word. word.now) words.now) request
         → UnlessMemoryLacks (HasCarriedOut request) result
-        (streams (R.heard input.old) (W.said output.old) (E.said errors.old))
-        (streams (R.heard input.new) (W.said output.new) (E.said errors.new)) }
+        (streams (R.read input.old) (W.written output.old) (E.written errors.old))
+        (streams (R.read input.new) (W.written output.new) (E.written errors.new)) }
     ensures bad { AsksForNothing (map (λ word. word.now) words.now)
         → UnlessMemoryLacks HasRefusedRequest result
-        (streams (R.heard input.old) (W.said output.old) (E.said errors.old))
-        (streams (R.heard input.new) (W.said output.new) (E.said errors.new)) }
+        (streams (R.read input.old) (W.written output.old) (E.written errors.old))
+        (streams (R.read input.new) (W.written output.new) (E.written errors.new)) }
     ensures refused { AreRefused (map (λ word. word.now) words.now)
         → UnlessMemoryLacks HasRefusedWords result
-        (streams (R.heard input.old) (W.said output.old) (E.said errors.old))
-        (streams (R.heard input.new) (W.said output.new) (E.said errors.new)) }
+        (streams (R.read input.old) (W.written output.old) (E.written errors.old))
+        (streams (R.read input.new) (W.written output.new) (E.written errors.new)) }
 {
     match words::read(alloc, words) {
         Ok(Some(request)) => carry_out(alloc, request, input, output, errors),
@@ -78,11 +78,11 @@ pub fn carry_out<A: Allocator + Copy, R: Source, W: Sink, E: Sink>(
     output: &mut W,
     errors: &mut E,
 ) -> Run<A>
-    requires unread { R.heard input.old ≡ nothing_heard }
+    requires unread { R.read input.old ≡ nothing_read }
     requires asked { CanBeAsked request }
     ensures { HasCarriedOut request result
-        (streams (R.heard input.old) (W.said output.old) (E.said errors.old))
-        (streams (R.heard input.new) (W.said output.new) (E.said errors.new)) }
+        (streams (R.read input.old) (W.written output.old) (E.written errors.old))
+        (streams (R.read input.new) (W.written output.new) (E.written errors.new)) }
 {
     match request {
         Request::Audit => Run::Status(run_audit(alloc, input, output, errors)),
@@ -100,9 +100,9 @@ fn run_audit<A: Allocator + Copy, R: Source, W: Sink, E: Sink>(
     output: &mut W,
     errors: &mut E,
 ) -> u8
-    requires { R.heard input.old ≡ nothing_heard }
-    ensures { (outcome : Result Summary AuditFault) × IsAuditRun outcome result (R.heard input.new)
-        (W.said output.old) (W.said output.new) (E.said errors.old) (E.said errors.new) }
+    requires { R.read input.old ≡ nothing_read }
+    ensures { (outcome : Result Summary AuditFault) × IsAuditRun outcome result (R.read input.new)
+        (W.written output.old) (W.written output.new) (E.written errors.old) (E.written errors.new) }
 {
     match audit(alloc, input, output) {
         Ok(summary) => summary_status(summary),
@@ -131,10 +131,10 @@ fn run_show<A: Allocator + Copy, R: Source, W: Sink, E: Sink>(
     output: &mut W,
     errors: &mut E,
 ) -> u8
-    requires { R.heard input.old ≡ nothing_heard }
+    requires { R.read input.old ≡ nothing_read }
     ensures { (outcome : Result (Option StreamFault) ShowFault)
-        × IsShowRun outcome result (R.heard input.new)
-        (W.said output.old) (W.said output.new) (E.said errors.old) (E.said errors.new) }
+        × IsShowRun outcome result (R.read input.new)
+        (W.written output.old) (W.written output.new) (E.written errors.old) (E.written errors.new) }
 {
     match show(alloc, input, output) {
         Ok(None) => DONE,
@@ -152,10 +152,10 @@ fn run_repack<A: Allocator + Copy, R: Source, W: Sink, E: Sink>(
     output: &mut W,
     errors: &mut E,
 ) -> u8
-    requires unread { R.heard input.old ≡ nothing_heard }
+    requires unread { R.read input.old ≡ nothing_read }
     requires asked { CanBeAsked (Request.Repack packing) }
-    ensures { IsRepackRun packing result (R.heard input.new)
-        (W.said output.old) (W.said output.new) (E.said errors.old) (E.said errors.new) }
+    ensures { IsRepackRun packing result (R.read input.new)
+        (W.written output.old) (W.written output.new) (E.written errors.old) (E.written errors.new) }
 {
     let options = match Options::new(packing.exponent, packing.encoding.code(), 1) {
         Ok(options) => options,
@@ -173,7 +173,7 @@ fn refuse_to_repack<A: Allocator + Copy, E: Sink>(
     errors: &mut E,
     fault: &RepackFault,
 ) -> u8
-    ensures { IsRefusedRepack fault.now result (E.said errors.old) (E.said errors.new) }
+    ensures { IsRefusedRepack fault.now result (E.written errors.old) (E.written errors.new) }
 {
     let mut line = Vec::new(alloc);
     match push_refusal(&mut line, fault) {
@@ -201,7 +201,7 @@ fn refusal_status(fault: &RepackFault) -> u8
 /// Says that the output failed.
 fn write_failed<E: Sink>(errors: &mut E) -> u8
     ensures status { result ≡ 2 }
-    ensures told { Tells (codes "mseed: write failed\n") (E.said errors.old) (E.said errors.new) }
+    ensures told { Tells (codes "mseed: write failed\n") (E.written errors.old) (E.written errors.new) }
 {
     tell(errors, b"mseed: write failed\n");
     FAULT
@@ -210,9 +210,9 @@ fn write_failed<E: Sink>(errors: &mut E) -> u8
 /// Says why `clap` refuses the words, in its own text.
 fn refuse<E: Sink>(alloc: Global, errors: &mut E, error: &Error) -> u8
     ensures memory { kind_of error.now ≡ ErrorKind.OutOfMemory
-        → (result ≡ 2) × Tells (codes "mseed: no memory\n") (E.said errors.old) (E.said errors.new) }
+        → (result ≡ 2) × Tells (codes "mseed: no memory\n") (E.written errors.old) (E.written errors.new) }
     ensures either { (result ≡ 3)
-        ⊎ ((result ≡ 2) × Tells (codes "mseed: no memory\n") (E.said errors.old) (E.said errors.new)) }
+        ⊎ ((result ≡ 2) × Tells (codes "mseed: no memory\n") (E.written errors.old) (E.written errors.new)) }
 {
     if error.kind() == ErrorKind::OutOfMemory {
         return refuse_memory(errors);
@@ -229,7 +229,7 @@ fn refuse<E: Sink>(alloc: Global, errors: &mut E, error: &Error) -> u8
 /// Says that the words of the command line ask for nothing that there is, or aren't UTF-8.
 pub fn refuse_words<E: Sink>(errors: &mut E) -> u8
     ensures status { result ≡ 3 }
-    ensures told { Tells (codes "mseed: bad value\n") (E.said errors.old) (E.said errors.new) }
+    ensures told { Tells (codes "mseed: bad value\n") (E.written errors.old) (E.written errors.new) }
 {
     tell(errors, b"mseed: bad value\n");
     BAD_COMMAND
@@ -238,7 +238,7 @@ pub fn refuse_words<E: Sink>(errors: &mut E) -> u8
 /// Says that memory was refused: to a command, to `clap`, or to `main` for the words of the command line.
 pub fn refuse_memory<E: Sink>(errors: &mut E) -> u8
     ensures status { result ≡ 2 }
-    ensures told { Tells (codes "mseed: no memory\n") (E.said errors.old) (E.said errors.new) }
+    ensures told { Tells (codes "mseed: no memory\n") (E.written errors.old) (E.written errors.new) }
 {
     tell(errors, b"mseed: no memory\n");
     FAULT

@@ -6,7 +6,7 @@ use std::alloc::AllocError;
 pub enum ShowFault {
     /// The output failed.
     Write,
-    /// A growth was refused.
+    /// An allocation was refused.
     Memory,
 }
 

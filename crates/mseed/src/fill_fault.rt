@@ -8,6 +8,6 @@ pub enum FillFault {
     Stream(StreamFault),
     /// The record of this number, counted from 1, hasn't 512 bytes, or is of none of the places.
     Foreign(u64),
-    /// A growth was refused.
+    /// An allocation was refused.
     Memory,
 }

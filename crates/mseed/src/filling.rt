@@ -3,7 +3,7 @@ ghost use Rattle.std.specs.Prelude.{◌≡◌, ◌^◌, ◌<◌, ℕ, List, [], 
 ghost use Rattle.std.specs.Prelude.{None, Some, Result, slice_get};
 ghost use Rattle.std.specs.Bool.{OnFalse, OnTrue};
 ghost use Rattle.std.specs.Option.{ForSome};
-ghost use Rattle.mseed_stream.specs.Device.{Heard, nothing_heard};
+ghost use Rattle.mseed_stream.specs.Device.{BytesRead, nothing_read};
 ghost use Rattle.slink_wire.specs.Place.{Bears};
 ghost use Rattle.slink_feed.specs.Window.{Window};
 ghost use Rattle.mseed.specs.Filling.{IsFilling, IsOneFilling, IsPushed, feed_of};
@@ -23,15 +23,15 @@ use std::alloc::Allocator;
 /// # Errors
 ///
 /// What is wrong first: `Foreign` where a record hasn't 512 bytes or is of none of the places, `Stream` where the
-/// input failed or doesn't end where a record ends. `Memory` where a growth was refused.
+/// input failed or doesn't end where a record ends. `Memory` where an allocation was refused.
 pub fn fill<A: Allocator + Copy, R: Source>(
     alloc: A,
     serving: &Serving,
     input: &mut R,
 ) -> Result<Feed<A>, FillFault>
-    requires unread { R.heard input.old ≡ nothing_heard }
+    requires unread { R.read input.old ≡ nothing_read }
     requires asked { CanServe serving.now }
-    ensures { IsFilling serving.now result (R.heard input.new) }
+    ensures { IsFilling serving.now result (R.read input.new) }
 {
     let mut feed = open(alloc, serving)?;
     let mut cutter = Cutter::new(alloc);
@@ -101,8 +101,8 @@ fn bearer<A: Allocator>(feed: &Feed<A>, bytes: &[u8; 512]) -> Option<usize>
     None
 }
 
-/// What was heard of an input comes to one filling of a feed, but where memory was refused.
+/// What was read of an input comes to one filling of a feed, but where memory was refused.
 pub fn one_filling()
-    ensures { (serving : Serving) (heard : Heard) (outcome : Result (List Window) FillFault)
-        → IsFilling serving outcome heard → IsOneFilling serving outcome heard }
+    ensures { (serving : Serving) (read : BytesRead) (outcome : Result (List Window) FillFault)
+        → IsFilling serving outcome read → IsOneFilling serving outcome read }
 {}

@@ -1,6 +1,6 @@
 //! The plans of the two commands of a feed.
 ghost use Rattle.std.specs.Prelude.{◌≡◌};
-ghost use Rattle.mseed_stream.specs.Device.{nothing_heard};
+ghost use Rattle.mseed_stream.specs.Device.{nothing_read};
 ghost use Rattle.mseed.specs.FeedWords.{CanFetch, CanServe};
 ghost use Rattle.mseed.specs.Plans.{IsFetchPlan, IsServeRun, TellsOfFilling};
 
@@ -22,9 +22,9 @@ pub fn plan_serve<A: Allocator + Copy, R: Source, E: Sink>(
     input: &mut R,
     errors: &mut E,
 ) -> Run<A>
-    requires unread { R.heard input.old ≡ nothing_heard }
+    requires unread { R.read input.old ≡ nothing_read }
     requires asked { CanServe serving.now }
-    ensures { IsServeRun serving.now result (R.heard input.new) (E.said errors.old) (E.said errors.new) }
+    ensures { IsServeRun serving.now result (R.read input.new) (E.written errors.old) (E.written errors.new) }
 {
     one_filling();
     match fill(alloc, serving, input) {
@@ -40,7 +40,7 @@ pub fn plan_serve<A: Allocator + Copy, R: Source, E: Sink>(
 /// Says why a feed wasn't filled.
 fn refuse_to_serve<A: Allocator + Copy, E: Sink>(alloc: A, errors: &mut E, fault: &FillFault) -> u8
     ensures status { result ≡ 2 }
-    ensures told { TellsOfFilling fault.now (E.said errors.old) (E.said errors.new) }
+    ensures told { TellsOfFilling fault.now (E.written errors.old) (E.written errors.new) }
 {
     let mut line = Vec::new(alloc);
     match push_fill_refusal(&mut line, fault) {

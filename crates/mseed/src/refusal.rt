@@ -17,7 +17,7 @@ use std::alloc::{AllocError, Allocator};
 ///
 /// # Errors
 ///
-/// `AllocError` where a growth was refused. A part of it may have been added then.
+/// `AllocError` where an allocation was refused. A part of it may have been added then.
 pub fn push_refusal<A: Allocator>(
     line: &mut Vec<u8, A>,
     fault: &RepackFault,
@@ -103,7 +103,7 @@ fn misfit_number(fault: &PackFault) -> u64
 ///
 /// # Errors
 ///
-/// `AllocError` where a growth was refused. A part of it may have been added then.
+/// `AllocError` where an allocation was refused. A part of it may have been added then.
 pub fn push_fill_refusal<A: Allocator>(
     line: &mut Vec<u8, A>,
     fault: &FillFault,

@@ -2,12 +2,12 @@
 ghost use Rattle.std.specs.Prelude.{◌≡◌, ◌++◌, List, [], IfErr, OnOk};
 ghost use Rattle.mseed_record.specs.View.{View};
 ghost use Rattle.mseed_stream.specs.Cutting.{IsAlong};
-ghost use Rattle.mseed_stream.specs.Device.{nothing_heard};
+ghost use Rattle.mseed_stream.specs.Device.{nothing_read};
 ghost use Rattle.mseed_stream.specs.Walk.{HasHandedOut};
 ghost use Rattle.mseed.specs.Listing.{count_line};
 ghost use Rattle.mseed_audit.specs.Text.{end_line};
 ghost use Rattle.mseed.specs.Show.{IsShown};
-ghost use Rattle.mseed.specs.Gathering.{IsFrontWritten, IsListing, IsNext};
+ghost use Rattle.mseed.specs.Gathering.{IsPrefixWritten, IsListing, IsNext};
 
 use crate::ending::ShowFault;
 use crate::listing::{push_count_line, push_record_line};
@@ -31,14 +31,14 @@ pub(crate) enum Step {
 ///
 /// # Errors
 ///
-/// `Write` where the output failed, `Memory` where a growth was refused. A front of the text was written then.
+/// `Write` where the output failed, `Memory` where an allocation was refused. A prefix of the text was written then.
 pub fn show<A: Allocator + Copy, R: Source, W: Sink>(
     alloc: A,
     input: &mut R,
     output: &mut W,
 ) -> Result<Option<StreamFault>, ShowFault>
-    requires { R.heard input.old ≡ nothing_heard }
-    ensures { IsShown result (R.heard input.new) (W.said output.old) (W.said output.new) }
+    requires { R.read input.old ≡ nothing_read }
+    ensures { IsShown result (R.read input.new) (W.written output.old) (W.written output.new) }
 {
     let mut text = Vec::new(alloc);
     let (records, end) = list(alloc, input, output, &mut text)?;
@@ -54,9 +54,9 @@ fn list<A: Allocator + Copy, R: Source, W: Sink>(
     output: &mut W,
     text: &mut Vec<u8, A>,
 ) -> Result<(u64, Option<StreamFault>), ShowFault>
-    requires heard { R.heard input.old ≡ nothing_heard }
+    requires read { R.read input.old ≡ nothing_read }
     requires text { text.old.items ≡ [] }
-    ensures { IsListing result (R.heard input.new) (W.said output.old) (W.said output.new) text.new.items }
+    ensures { IsListing result (R.read input.new) (W.written output.old) (W.written output.new) text.new.items }
 {
     let mut cutter = Cutter::new(alloc);
     let mut records = 0;
@@ -77,9 +77,9 @@ fn push_next<A: Allocator, R: Source>(
     input: &mut R,
     text: &mut Vec<u8, A>,
 ) -> Result<Step, ShowFault>
-    requires { IsAlong (R.heard input.old) cutter.old }
-    ensures { (views : List View) → HasHandedOut (R.heard input.old) cutter.old views
-        → IsNext result views cutter.old.offset (R.heard input.old) (R.heard input.new) cutter.new text.old.items
+    requires { IsAlong (R.read input.old) cutter.old }
+    ensures { (views : List View) → HasHandedOut (R.read input.old) cutter.old views
+        → IsNext result views cutter.old.offset (R.read input.old) (R.read input.new) cutter.new text.old.items
         text.new.items }
 {
     let offset = cutter.offset();
@@ -118,10 +118,11 @@ fn push_end<A: Allocator>(
 
 /// Writes what was gathered.
 fn write_out<A: Allocator, W: Sink>(output: &mut W, text: &mut Vec<u8, A>) -> Result<(), ShowFault>
-    ensures ok { OnOk result ((W.said output.new).bytes ≡ (W.said output.old).bytes ++ text.old.items) }
+    ensures ok { OnOk result ((W.written output.new).bytes ≡ (W.written output.old).bytes ++ text.old.items) }
     ensures text { OnOk result (text.new.items ≡ []) }
-    ensures fine { OnOk result ((W.said output.new).failures ≡ (W.said output.old).failures) }
-    ensures err { IfErr result (λ fault. IsFrontWritten fault (W.said output.old) (W.said output.new) text.old.items) }
+    ensures fine { OnOk result ((W.written output.new).failures ≡ (W.written output.old).failures) }
+    ensures err { IfErr result (λ fault. IsPrefixWritten fault (W.written output.old) (W.written output.new)
+        text.old.items) }
 {
     match write_all_of(output, text) {
         Ok(()) => {

@@ -1,5 +1,6 @@
 -- Nothing is found between two records exactly where the next one follows.
-use Rattle.std.proofs.Common.{◌≡◌, ◌≢◌, ◌*◌, ◌^◌, ℕ, ℤ, pos, negsuc, unsigned_abs, Bool, true, false, if◌then◌else◌, ◌==◌, nat_le, Option, Some, None, refl, ap, ◌∙◌}
+use Rattle.std.proofs.Common.{◌≡◌, ◌≢◌, ◌*◌, ◌^◌, ℕ, ℤ, pos, negsuc, unsigned_abs, Bool, true, false, if◌then◌else◌}
+use Rattle.std.proofs.Common.{◌==◌, nat_le, Option, Some, None, refl, ap, ◌∙◌}
 use Rattle.std.proofs.lemmas.Bool.{le-leb, leb-true}
 use Rattle.std.proofs.Common.{eq-eqb, eqb-true}
 use Rattle.mseed_time.specs.declared.outcome.Join.{Join}
@@ -25,15 +26,19 @@ met_by : (b : Bool) (miss : ℤ) (num : ℕ) → why_of (if b then Meets else mi
 met_by true miss num e = refl
 met_by false miss num e = absurd (missed_not miss num e)
 
-meets_joins : (start : ℤ) (n : ℕ) (rate : Ratio) (step : Option LeapStep) (next : ℤ) → why_of (join_of start n rate step next) ≡ None → Joins start n rate step next
+meets_joins : (start : ℤ) (n : ℕ) (rate : Ratio) (step : Option LeapStep) (next : ℤ)
+    → why_of (join_of start n rate step next) ≡ None → Joins start n rate step next
 meets_joins start n rate step next e =
     let miss : ℤ = miss_of start n rate step next in
-    leb-true (2 * unsigned_abs miss) (rate.den * 10 ^ 6) (met_by (nat_le (2 * unsigned_abs miss) (rate.den * 10 ^ 6)) miss rate.num e)
+    leb-true (2 * unsigned_abs miss) (rate.den * 10 ^ 6)
+    (met_by (nat_le (2 * unsigned_abs miss) (rate.den * 10 ^ 6)) miss rate.num e)
 
-joins_meets : (start : ℤ) (n : ℕ) (rate : Ratio) (step : Option LeapStep) (next : ℤ) → Joins start n rate step next → why_of (join_of start n rate step next) ≡ None
+joins_meets : (start : ℤ) (n : ℕ) (rate : Ratio) (step : Option LeapStep) (next : ℤ) → Joins start n rate step next
+    → why_of (join_of start n rate step next) ≡ None
 joins_meets start n rate step next h =
     let miss : ℤ = miss_of start n rate step next in
-    let test : nat_le (2 * unsigned_abs miss) (rate.den * 10 ^ 6) ≡ true = le-leb (2 * unsigned_abs miss) (rate.den * 10 ^ 6) h in
+    let test : nat_le (2 * unsigned_abs miss) (rate.den * 10 ^ 6) ≡ true =
+    le-leb (2 * unsigned_abs miss) (rate.den * 10 ^ 6) h in
     ap (λ (b : Bool). why_of (if b then Meets else missed_by miss rate.num)) test
 
 -- by the leap flags of the record before
@@ -54,10 +59,12 @@ same_else true why e = (refl, e)
 same_else false why e = cc
 
 -- nothing is found between two records where the next one follows
-pub follows_of : (b v : View) (rate next : Ratio) → known_rate b ≡ Some rate → known_rate v ≡ Some next → why_between b rate v next ≡ None → FollowsAt rate next b v
+pub follows_of : (b v : View) (rate next : Ratio) → known_rate b ≡ Some rate → known_rate v ≡ Some next
+    → why_between b rate v next ≡ None → FollowsAt rate next b v
 follows_of b v rate next known known-next e =
     let join : Join = join_of (start_of b) (count_of b) rate (step_in (leap_of b.bytes)) (start_of v) in
-    let parts : ((rate.num * next.den == next.num * rate.den) ≡ true) × (why_by (leap_of b.bytes) join ≡ None) = same_else (rate.num * next.den == next.num * rate.den) (why_by (leap_of b.bytes) join) e in
+    let parts : ((rate.num * next.den == next.num * rate.den) ≡ true) × (why_by (leap_of b.bytes) join ≡ None) =
+    same_else (rate.num * next.den == next.num * rate.den) (why_by (leap_of b.bytes) join) e in
     let met : (leap_of b.bytes ≢ Both) × (why_of join ≡ None) = by_none (leap_of b.bytes) join parts.1 in
     record {
       before_is = known;
@@ -70,6 +77,8 @@ follows_of b v rate next known known-next e =
 pub between_none : (b v : View) (rate next : Ratio) → FollowsAt rate next b v → why_between b rate v next ≡ None
 between_none b v rate next h =
     let join : Join = join_of (start_of b) (count_of b) rate (step_in (leap_of b.bytes)) (start_of v) in
-    let test : (rate.num * next.den == next.num * rate.den) ≡ true = eq-eqb (rate.num * next.den) (next.num * rate.den) h.same in
+    let test : (rate.num * next.den == next.num * rate.den) ≡ true =
+    eq-eqb (rate.num * next.den) (next.num * rate.den) h.same in
     ap (λ (t : Bool). if t then why_by (leap_of b.bytes) join else Some RateChange) test
-    ∙ by_met (leap_of b.bytes) join h.one_step (joins_meets (start_of b) (count_of b) rate (step_in (leap_of b.bytes)) (start_of v) h.joins)
+    ∙ by_met (leap_of b.bytes) join h.one_step (joins_meets (start_of b) (count_of b) rate (step_in (leap_of b.bytes))
+    (start_of v) h.joins)

@@ -1,5 +1,6 @@
 -- A verdict says that a channel is continuous exactly where it is.
-use Rattle.std.proofs.Common.{◌≡◌, ◌↔◌, ℤ, List, [], ◌∷◌, ◌++◌, true, false, Option, Some, None, IsSome, IsTrue, refl, ap, sym, ◌∙◌, subst}
+use Rattle.std.proofs.Common.{◌≡◌, ◌↔◌, ℤ, List, [], ◌∷◌, ◌++◌, true, false, Option, Some, None, IsSome, IsTrue, refl}
+use Rattle.std.proofs.Common.{ap, sym, ◌∙◌, subst}
 use Rattle.std.specs.List.{AllByRecursion}
 use Rattle.mseed_time.specs.Rate.{Ratio}
 use Rattle.mseed_record.specs.View.{View}
@@ -11,7 +12,8 @@ use Rattle.mseed_audit.specs.declared.verdict.Verdict.{Verdict}
 use Rattle.mseed_audit.specs.declared.verdict.Verdict.TheVariants.{Continuous, Broken}
 use Rattle.mseed_audit.specs.Channels.{Placed, views_in}
 use Rattle.mseed_audit.specs.Follows.{FollowsAt, Follows, AllNeighbours, IsSound, IsContinuous}
-use Rattle.mseed_audit.specs.Judging.{known_rate, why_from, why_after, IsFound, time as by_time, rate as by_rate, read as by_read, after as by_after}
+use Rattle.mseed_audit.specs.Judging.{known_rate, why_from, why_after, IsFound, time as by_time, rate as by_rate}
+use Rattle.mseed_audit.specs.Judging.{read as by_read, after as by_after}
 use Rattle.mseed_audit.specs.Verdict.{finding_at, AreFindings, none, one, IsVerdict, says_continuous}
 use Rattle.mseed_audit.proofs.Judged.{unknown_timed, known_timed}
 use Rattle.mseed_audit.proofs.Between.{follows_of, between_none}
@@ -25,12 +27,20 @@ abbrev pub HaveOneReading : Type 0
 HaveOneReading = (v : View) → HasOneReading v
 
 -- a record of which nothing is found
-found_none : HaveOneReading → (before : Option View) (v : View) (why : Option Why) → IsFound before v why → why ≡ None → IsSound v × ((next : Ratio) × ((known_rate v ≡ Some next) × (why_after before v next ≡ None)))
+found_none : HaveOneReading → (before : Option View) (v : View) (why : Option Why) → IsFound before v why → why ≡ None
+    → IsSound v × ((next : Ratio) × ((known_rate v ≡ Some next) × (why_after before v next ≡ None)))
 found_none single before v why (by_time fault e) h = cc
 found_none single before v why (by_rate e r) h = cc
 found_none single before v why (by_read next known fault f) h = cc
-found_none single before v why (by_after next known samples whole) h =
-    (record { timed = subst (λ (r : Option Ratio). IsSome r) (sym known) refl; samples = samples; whole = whole; only = λ others r. single v others samples r whole.0 }, (next, (known, h)))
+found_none single before v why (by_after next known samples whole) h = (
+  record {
+    timed = subst (λ (r : Option Ratio). IsSome r) (sym known) refl;
+    samples = samples;
+    whole = whole;
+    only = λ others r. single v others samples r whole.0;
+  },
+  (next, (known, h)),
+)
 
 unknown : (v : View) → IsSome (known_rate v) → known_rate v ≡ None → ⊥
 unknown v some e = let no : false ≡ true = subst (λ (r : Option Ratio). IsSome r) e some in cc (no)
@@ -38,9 +48,11 @@ unknown v some e = let no : false ≡ true = subst (λ (r : Option Ratio). IsSom
 -- a sound record that follows
 none_found : (before : Option View) (v : View) (why : Option Why) → Excludes → IsFound before v why → IsSound v
     → ((next : Ratio) → known_rate v ≡ Some next → why_after before v next ≡ None) → why ≡ None
-none_found before v why excludes (by_time fault e) sound follows = absurd (unknown v sound.timed (unknown_timed v fault e))
+none_found before v why excludes (by_time fault e) sound follows =
+    absurd (unknown v sound.timed (unknown_timed v fault e))
 none_found before v why excludes (by_rate e r) sound follows = absurd (unknown v sound.timed (known_timed v None e r))
-none_found before v why excludes (by_read next known fault f) sound follows = absurd (excludes v fault sound.samples f sound.whole)
+none_found before v why excludes (by_read next known fault f) sound follows =
+    absurd (excludes v fault sound.samples f sound.whole)
 none_found before v why excludes (by_after next known samples whole) sound follows = follows next known
 
 -- of a record that follows the one before
@@ -50,16 +62,25 @@ after_none b v next h known =
     ap (λ (r : Option Ratio). why_from b r v next) h.1.1.before_is
     ∙ between_none b v h.0 next (subst (λ (r : Ratio). FollowsAt h.0 r b v) same h.1.1)
 
-follows_after : (b v : View) (rate next : Ratio) → known_rate b ≡ Some rate → known_rate v ≡ Some next → why_after (Some b) v next ≡ None → Follows b v
-follows_after b v rate next known later e =
-    (rate, (next, follows_of b v rate next known later (sym (ap (λ (r : Option Ratio). why_from b r v next) known) ∙ e)))
+follows_after : (b v : View) (rate next : Ratio) → known_rate b ≡ Some rate → known_rate v ≡ Some next
+    → why_after (Some b) v next ≡ None → Follows b v
+follows_after b v rate next known later e = (
+  rate,
+  (
+    next,
+    follows_of b v rate next known later (sym (ap (λ (r : Option Ratio). why_from b r v next) known)
+        ∙ e),
+  ),
+)
 
-no_finding : (p : Placed) (why : Option Why) (rest : List Finding) → finding_at p why ++ rest ≡ [] → (why ≡ None) × (rest ≡ [])
+no_finding : (p : Placed) (why : Option Why) (rest : List Finding) → finding_at p why ++ rest ≡ []
+    → (why ≡ None) × (rest ≡ [])
 no_finding p None rest e = (refl, e)
 no_finding p (Some why) rest e = cc
 
 -- records behind another of which nothing is found
-behind_sound : HaveOneReading → (b : View) (rate : Ratio) (ps : List Placed) (found : List Finding) → known_rate b ≡ Some rate → AreFindings (Some b) ps found → found ≡ []
+behind_sound : HaveOneReading → (b : View) (rate : Ratio) (ps : List Placed) (found : List Finding)
+    → known_rate b ≡ Some rate → AreFindings (Some b) ps found → found ≡ []
     → AllByRecursion IsSound (views_in ps) × AllNeighbours Follows (b ∷ views_in ps)
 behind_sound single b rate [] found known (none _) e = (tt, tt)
 behind_sound single b rate (p ∷ ps) found known (one _ _ _ why rest h later) e =
@@ -68,18 +89,21 @@ behind_sound single b rate (p ∷ ps) found known (one _ _ _ why rest h later) e
     let more = behind_sound single p.view here.1.0 ps rest here.1.1.0 later parts.1 in
     ((here.0, more.0), (follows_after b p.view rate here.1.0 known here.1.1.0 here.1.1.1, more.1))
 
-run_continuous : HaveOneReading → (first : Placed) (rest : List Placed) (found : List Finding) → AreFindings None (first ∷ rest) found → found ≡ [] → IsContinuous (views_in (first ∷ rest))
+run_continuous : HaveOneReading → (first : Placed) (rest : List Placed) (found : List Finding)
+    → AreFindings None (first ∷ rest) found → found ≡ [] → IsContinuous (views_in (first ∷ rest))
 run_continuous single first rest found (one _ _ _ why others h later) e =
     let parts : (why ≡ None) × (others ≡ []) = no_finding first why others e in
     let here = found_none single None first.view why h parts.0 in
     let more = behind_sound single first.view here.1.0 rest others here.1.1.0 later parts.1 in
     record { some = λ no. cc; each = (here.0, more.0); follow = more.1 }
 
-none_more : (p : Placed) (why : Option Why) (rest : List Finding) → why ≡ None → rest ≡ [] → finding_at p why ++ rest ≡ []
+none_more : (p : Placed) (why : Option Why) (rest : List Finding) → why ≡ None → rest ≡ []
+    → finding_at p why ++ rest ≡ []
 none_more p why rest e k = ap (λ (w : Option Why). finding_at p w ++ rest) e ∙ k
 
 -- nothing is found of sound records that follow one another
-behind_none : Excludes → (b : View) (ps : List Placed) (found : List Finding) → AreFindings (Some b) ps found → AllByRecursion IsSound (views_in ps)
+behind_none : Excludes → (b : View) (ps : List Placed) (found : List Finding) → AreFindings (Some b) ps found
+    → AllByRecursion IsSound (views_in ps)
     → AllNeighbours Follows (b ∷ views_in ps) → found ≡ []
 behind_none excludes b [] found (none _) each follow = refl
 behind_none excludes b (p ∷ ps) found (one _ _ _ why rest h later) each follow =
@@ -87,15 +111,20 @@ behind_none excludes b (p ∷ ps) found (one _ _ _ why rest h later) each follow
     (none_found (Some b) p.view why excludes h each.0 (λ next known. after_none b p.view next follow.0 known))
     (behind_none excludes p.view ps rest later each.1 follow.1)
 
-none_continuous : Excludes → (ps : List Placed) (found : List Finding) → AreFindings None ps found → IsContinuous (views_in ps) → found ≡ []
+none_continuous : Excludes → (ps : List Placed) (found : List Finding) → AreFindings None ps found
+    → IsContinuous (views_in ps) → found ≡ []
 none_continuous excludes [] found (none _) h = refl
 none_continuous excludes (p ∷ ps) found (one _ _ _ why rest k later) h =
     none_more p why rest
     (none_found None p.view why excludes k h.each.0 (λ next known. refl))
     (behind_none excludes p.view ps rest later h.each.1 h.follow)
 
-pub verdict_exact : HaveOneReading → Excludes → (verdict : Verdict) (ps : List Placed) → IsVerdict verdict ps → (IsTrue (says_continuous verdict) ↔ IsContinuous (views_in ps))
-verdict_exact single excludes (Continuous start rate records samples) ps h =
-    ((λ says. subst (λ (qs : List Placed). IsContinuous (views_in qs)) (sym h.1.1.0) (run_continuous single h.0 h.1.0 [] h.1.1.1.findings refl)), (λ is. refl))
+pub verdict_exact : HaveOneReading → Excludes → (verdict : Verdict) (ps : List Placed) → IsVerdict verdict ps
+    → (IsTrue (says_continuous verdict) ↔ IsContinuous (views_in ps))
+verdict_exact single excludes (Continuous start rate records samples) ps h = (
+  (λ says. subst (λ (qs : List Placed). IsContinuous (views_in qs)) (sym h.1.1.0)
+      (run_continuous single h.0 h.1.0 [] h.1.1.1.findings refl)),
+  (λ is. refl),
+)
 verdict_exact single excludes (Broken first count) ps h =
     ((λ says. cc), (λ is. let no : first ∷ h.0 ≡ [] = none_continuous excludes ps (first ∷ h.0) h.1.0 is in cc))

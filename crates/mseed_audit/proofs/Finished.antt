@@ -18,14 +18,17 @@ stands_verdict (Some c) ps s = s.verdict
 
 -- each verdict says that its channel is continuous exactly where it is
 abbrev pub AreExact : Type 0
-AreExact = (verdict : Verdict) (ps : List Placed) → IsVerdict verdict ps → (IsTrue (says_continuous verdict) ↔ IsContinuous (views_in ps))
+AreExact = (verdict : Verdict) (ps : List Placed) → IsVerdict verdict ps
+    → (IsTrue (says_continuous verdict) ↔ IsContinuous (views_in ps))
 
 exact_at : AreExact → (o : Option Verdict) (ps : List Placed) → IsVerdictAt o ps → IsExactAt o ps
 exact_at exact None ps is = tt
 exact_at exact (Some verdict) ps is = exact verdict ps is
 
-pub finished : AreExact → (h : Held) (added : List Added) (verdicts : List (List ℕ × Verdict)) → IsStrictlySortedBy (slice_cmp nat_cmp) (keys_of verdicts)
-    → ((key : List ℕ) → lookup (same_key key) verdicts ≡ verdict_in (lookup (same_key key) h.channels)) → IsAuditOf h added → AreVerdicts added verdicts
+pub finished : AreExact → (h : Held) (added : List Added) (verdicts : List (List ℕ × Verdict))
+    → IsStrictlySortedBy (slice_cmp nat_cmp) (keys_of verdicts)
+    → ((key : List ℕ) → lookup (same_key key) verdicts ≡ verdict_in (lookup (same_key key) h.channels))
+    → IsAuditOf h added → AreVerdicts added verdicts
 finished exact h added verdicts sorted found is =
     let each : (key : List ℕ) → IsVerdictAt (lookup (same_key key) verdicts) (records_of key added) =
     λ key. subst (λ (o : Option Verdict). IsVerdictAt o (records_of key added)) (sym (found key))

@@ -1,5 +1,6 @@
 -- What is found of a record, by what's kept of the one before it.
-use Rattle.std.proofs.Common.{◌≡◌, if◌then◌else◌, ◌==◌, Option, Some, None, IsSome, ℕ, List, ℤ, subst, refl, ap, sym, ◌∙◌}
+use Rattle.std.proofs.Common.{◌≡◌, if◌then◌else◌, ◌==◌, Option, Some, None, IsSome, ℕ, List, ℤ, subst, refl, ap, sym}
+use Rattle.std.proofs.Common.{◌∙◌}
 use Rattle.std.proofs.lemmas.Bool.{ne_eqb}
 use Rattle.mseed_time.specs.declared.fault.TimeFault.{TimeFault}
 use Rattle.mseed_time.specs.Rate.{Ratio}
@@ -9,7 +10,8 @@ use Rattle.mseed_steim.specs.Reading.{IsReading, EndsOnConstants}
 use Rattle.mseed_audit.specs.declared.tail.Tail.{Tail}
 use Rattle.mseed_audit.specs.declared.finding.Why.{Why}
 use Rattle.mseed_audit.specs.declared.finding.Why.TheVariants.{RateChange}
-use Rattle.mseed_audit.specs.Judging.{time_fault_of, rate_in, rate_unless, known_rate, why_between, why_from, why_after, IsFound, after}
+use Rattle.mseed_audit.specs.Judging.{time_fault_of, rate_in, rate_unless, known_rate, why_between, why_from, why_after}
+use Rattle.mseed_audit.specs.Judging.{IsFound, after}
 use Rattle.mseed_audit.specs.Audit.{IsTail}
 use Rattle.mseed_audit.specs.Kept.{IsTailBefore}
 
@@ -30,17 +32,21 @@ pub changed : (m n : ℕ) (why : Option Why) → ¬ (m ≡ n) → (if m == n the
 changed m n why ne = rw (ne_eqb m n ne) refl
 
 -- the one before has no rate that is known
-pub after_none : (before : Option View) (v : View) (next : Ratio) → IsTailBefore None before → why_after before v next ≡ None
+pub after_none : (before : Option View) (v : View) (next : Ratio) → IsTailBefore None before
+    → why_after before v next ≡ None
 after_none None v next h = refl
 after_none (Some b) v next h = ap (λ (rate : Option Ratio). why_from b rate v next) h
 
 -- the one before has a rate
-pub after_some : (t : Tail) (before : Option View) (v : View) (next : Ratio) (why : Option Why) → IsTailBefore (Some t) before
+pub after_some : (t : Tail) (before : Option View) (v : View) (next : Ratio) (why : Option Why)
+    → IsTailBefore (Some t) before
     → ((b : View) → IsTail t b → why ≡ why_between b (ratio_of t.rate) v next) → why_after before v next ≡ why
 after_some t None v next why h k = absurd h
 after_some t (Some b) v next why h k = ap (λ (rate : Option Ratio). why_from b rate v next) h.rate ∙ sym (k b h)
 
 -- its samples are whole
-pub found_whole : (before : Option View) (v : View) (next : Ratio) (s : List ℤ) (why : Option Why) → known_rate v ≡ Some next → IsReading v s → EndsOnConstants v s
+pub found_whole : (before : Option View) (v : View) (next : Ratio) (s : List ℤ) (why : Option Why)
+    → known_rate v ≡ Some next → IsReading v s → EndsOnConstants v s
     → why_after before v next ≡ why → IsFound before v why
-found_whole before v next s why known reads ends e = subst (λ (found : Option Why). IsFound before v found) e (after next known s (reads, ends))
+found_whole before v next s why known reads ends e =
+    subst (λ (found : Option Why). IsFound before v found) e (after next known s (reads, ends))

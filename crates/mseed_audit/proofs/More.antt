@@ -1,5 +1,6 @@
 -- One more record of an archive.
-use Rattle.std.proofs.Common.{◌≡◌, ℕ, ◌+◌, ◌&&◌, nat_lt, List, [], ◌∷◌, ◌++◌, length, Bool, true, false, if◌then◌else◌, cond, sym, ap, subst, refl, append-nil, ◌∙◌, rules, arith}
+use Rattle.std.proofs.Common.{◌≡◌, ℕ, ◌+◌, ◌&&◌, nat_lt, List, [], ◌∷◌, ◌++◌, length, Bool, true, false, if◌then◌else◌}
+use Rattle.std.proofs.Common.{cond, sym, ap, subst, refl, append-nil, ◌∙◌, rules, arith}
 use Rattle.std.specs.List.{filter}
 use Rattle.std.proofs.lemmas.List.Elements.{filter-append}
 use Rattle.std.specs.Map.{lookup}
@@ -12,7 +13,8 @@ use Rattle.mseed_audit.specs.Audit.{Held, StandsAt, IsAuditOf}
 abbrev pub placed_at : Added → ℕ → Placed
 placed_at a n = record { view = a.view; offset = a.offset; number = n }
 
-numbered_more : (n : ℕ) (added : List Added) (a : Added) → numbered n (added ++ a ∷ []) ≡ numbered n added ++ placed_at a (n + length added) ∷ []
+numbered_more : (n : ℕ) (added : List Added) (a : Added)
+    → numbered n (added ++ a ∷ []) ≡ numbered n added ++ placed_at a (n + length added) ∷ []
 numbered_more n [] a = ap (λ (k : ℕ). placed_at a k ∷ []) (omega arith)
 numbered_more n (b ∷ rest) a = ap (λ (ps : List Placed). placed_at b n ∷ ps)
     (numbered_more (n + 1) rest a ∙ ap (λ (k : ℕ). numbered (n + 1) rest ++ placed_at a k ∷ []) (omega arith))
@@ -21,11 +23,14 @@ filter_by : (b : Bool) (ps : List Placed) (p : Placed) → ps ++ cond b (p ∷ [
 filter_by true ps p = refl
 filter_by false ps p = append-nil ps
 
-filter_more : (key : List ℕ) (ps : List Placed) (p : Placed) → filter (λ q. is_of key q.view) (ps ++ p ∷ []) ≡ with_record key (filter (λ q. is_of key q.view) ps) p
-filter_more key ps p = filter-append (λ q. is_of key q.view) ps (p ∷ []) ∙ filter_by (is_of key p.view) (filter (λ q. is_of key q.view) ps) p
+filter_more : (key : List ℕ) (ps : List Placed) (p : Placed)
+    → filter (λ q. is_of key q.view) (ps ++ p ∷ []) ≡ with_record key (filter (λ q. is_of key q.view) ps) p
+filter_more key ps p = filter-append (λ q. is_of key q.view) ps (p ∷ [])
+    ∙ filter_by (is_of key p.view) (filter (λ q. is_of key q.view) ps) p
 
 -- the channel's records with one more record of the archive
-pub records_more : (key : List ℕ) (added : List Added) (a : Added) → records_of key (added ++ a ∷ []) ≡ with_record key (records_of key added) (placed_at a (1 + length added))
+pub records_more : (key : List ℕ) (added : List Added) (a : Added)
+    → records_of key (added ++ a ∷ []) ≡ with_record key (records_of key added) (placed_at a (1 + length added))
 records_more key added a = ap (λ (ps : List Placed). filter (λ q. is_of key q.view) ps) (numbered_more 1 added a)
     ∙ filter_more key (numbered 1 added) (placed_at a (1 + length added))
 
@@ -37,12 +42,15 @@ silent_more key ps p none =
 
 -- an audit that takes a record in
 pub audit_more : (h new : Held) (added : List Added) (a : Added) → IsAuditOf h added → new.added ≡ h.added + 1
-    → ((key : List ℕ) (ps : List Placed) → StandsAt (lookup (same_key key) h.channels) ps → StandsAt (lookup (same_key key) new.channels) (with_record key ps (placed_at a (h.added + 1))))
+    → ((key : List ℕ) (ps : List Placed) → StandsAt (lookup (same_key key) h.channels) ps
+    → StandsAt (lookup (same_key key) new.channels) (with_record key ps (placed_at a (h.added + 1))))
     → IsAuditOf new (added ++ a ∷ [])
 audit_more h new added a is number stands = record {
   number = number ∙ omega (arith, is.number, length-append added (a ∷ []));
   each = λ key.
       let more : records_of key (added ++ a ∷ []) ≡ with_record key (records_of key added) (placed_at a (h.added + 1)) =
-      records_more key added a ∙ ap (λ (n : ℕ). with_record key (records_of key added) (placed_at a n)) (omega (arith, is.number)) in
-      subst (λ (ps : List Placed). StandsAt (lookup (same_key key) new.channels) ps) (sym more) (stands key (records_of key added) (is.each key));
+      records_more key added a ∙ ap (λ (n : ℕ). with_record key (records_of key added) (placed_at a n))
+      (omega (arith, is.number)) in
+      subst (λ (ps : List Placed). StandsAt (lookup (same_key key) new.channels) ps) (sym more)
+      (stands key (records_of key added) (is.each key));
 }

@@ -11,7 +11,8 @@ use Rattle.mseed_audit.proofs.Continuity.{Excludes}
 use Rattle.mseed_audit.proofs.OneVerdict.{HasOneFault, verdict_one}
 
 -- nothing is found of no records
-no_findings : (ps : List Placed) (first : Finding) (rest : List Finding) → ps ≡ [] → AreFindings None ps (first ∷ rest) → ⊥
+no_findings : (ps : List Placed) (first : Finding) (rest : List Finding) → ps ≡ [] → AreFindings None ps (first ∷ rest)
+    → ⊥
 no_findings [] first rest e found = elim found [ ]
 no_findings (p ∷ ps) first rest e found = cc
 
@@ -20,13 +21,16 @@ no_verdict : (v : Verdict) (ps : List Placed) → ps ≡ [] → IsVerdict v ps �
 no_verdict (Continuous start rate records samples) ps e is = let some : ps ≡ is.0 ∷ is.1.0 = is.1.1.0 in cc
 no_verdict (Broken first count) ps e is = no_findings ps first is.0 e is.1.0
 
-verdict_at : HasOneFault → Excludes → (a b : Option Verdict) (ps : List Placed) → IsVerdictAt a ps → IsVerdictAt b ps → a ≡ b
+verdict_at : HasOneFault → Excludes → (a b : Option Verdict) (ps : List Placed) → IsVerdictAt a ps → IsVerdictAt b ps
+    → a ≡ b
 verdict_at only excludes None None ps h k = refl
 verdict_at only excludes None (Some w) ps h k = absurd (no_verdict w ps h k)
 verdict_at only excludes (Some v) None ps h k = absurd (no_verdict v ps k h)
 verdict_at only excludes (Some v) (Some w) ps h k = ap (λ (u : Verdict). Some u) (verdict_one only excludes v w ps h k)
 
-pub verdicts_one : HasOneFault → Excludes → (added : List Added) (vs ws : List (List ℕ × Verdict)) → AreVerdicts added vs → AreVerdicts added ws → vs ≡ ws
+pub verdicts_one : HasOneFault → Excludes → (added : List Added) (vs ws : List (List ℕ × Verdict))
+    → AreVerdicts added vs → AreVerdicts added ws → vs ≡ ws
 verdicts_one only excludes added vs ws h k =
     one_list vs ws h.ascending k.ascending
-    (λ key. verdict_at only excludes (lookup (same_key key) vs) (lookup (same_key key) ws) (records_of key added) (h.each key) (k.each key))
+    (λ key. verdict_at only excludes (lookup (same_key key) vs) (lookup (same_key key) ws) (records_of key added)
+    (h.each key) (k.each key))

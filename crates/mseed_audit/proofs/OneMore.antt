@@ -1,5 +1,6 @@
 -- Verdicts, one after another.
-use Rattle.std.proofs.Common.{◌≡◌, ℕ, ◌+◌, ◌<◌, ◌++◌, List, [], ◌∷◌, length, take, get_or, if◌then◌else◌, refl, sym, ap, ◌∙◌, append_assoc, append-nil, arith}
+use Rattle.std.proofs.Common.{◌≡◌, ℕ, ◌+◌, ◌<◌, ◌++◌, List, [], ◌∷◌, length, take, get_or, if◌then◌else◌, refl, sym, ap}
+use Rattle.std.proofs.Common.{◌∙◌, append_assoc, append-nil, arith}
 use Rattle.std.proofs.lemmas.List.{take_more}
 use Rattle.mseed_audit.specs.declared.verdict.Verdict.{Verdict}
 use Rattle.mseed_audit.specs.declared.verdict.Verdict.TheVariants.{Continuous, Broken}
@@ -7,27 +8,36 @@ use Rattle.mseed_audit.specs.Text.{verdict_line, verdict_lines}
 use Rattle.mseed_audit.specs.Verdict.{says_continuous}
 use Rattle.mseed_audit.specs.Summary.{broken_count}
 
--- the front with one more
-front_more : (vs : List (List ℕ × Verdict)) (n : ℕ) (v : List ℕ × Verdict) → n < length vs → v ≡ get_or vs n v → take (n + 1) vs ≡ take n vs ++ v ∷ []
-front_more vs n v h is = take_more vs n v h ∙ ap (λ (w : List ℕ × Verdict). take n vs ++ w ∷ []) (sym is)
+-- the prefix with one more
+prefix_more : (vs : List (List ℕ × Verdict)) (n : ℕ) (v : List ℕ × Verdict) → n < length vs → v ≡ get_or vs n v
+    → take (n + 1) vs ≡ take n vs ++ v ∷ []
+prefix_more vs n v h is = take_more vs n v h ∙ ap (λ (w : List ℕ × Verdict). take n vs ++ w ∷ []) (sym is)
 
-lines_snoc : (vs : List (List ℕ × Verdict)) (v : List ℕ × Verdict) → verdict_lines (vs ++ v ∷ []) ≡ verdict_lines vs ++ verdict_line v.0 v.1
+lines_snoc : (vs : List (List ℕ × Verdict)) (v : List ℕ × Verdict)
+    → verdict_lines (vs ++ v ∷ []) ≡ verdict_lines vs ++ verdict_line v.0 v.1
 lines_snoc [] v = append-nil (verdict_line v.0 v.1)
-lines_snoc (w ∷ vs) v = ap (λ (xs : List ℕ). verdict_line w.0 w.1 ++ xs) (lines_snoc vs v) ∙ sym (append_assoc (verdict_line w.0 w.1) (verdict_lines vs) (verdict_line v.0 v.1))
+lines_snoc (w ∷ vs) v = ap (λ (xs : List ℕ). verdict_line w.0 w.1 ++ xs) (lines_snoc vs v)
+    ∙ sym (append_assoc (verdict_line w.0 w.1) (verdict_lines vs) (verdict_line v.0 v.1))
 
 -- the lines with one more, behind some text
-pub lines_more : (vs : List (List ℕ × Verdict)) (n : ℕ) (v : List ℕ × Verdict) (first old new : List ℕ) → n < length vs → v ≡ get_or vs n v → old ≡ first ++ verdict_lines (take n vs)
+pub lines_more : (vs : List (List ℕ × Verdict)) (n : ℕ) (v : List ℕ × Verdict) (first old new : List ℕ) → n < length vs
+    → v ≡ get_or vs n v → old ≡ first ++ verdict_lines (take n vs)
     → new ≡ old ++ verdict_line v.0 v.1 → new ≡ first ++ verdict_lines (take (n + 1) vs)
 lines_more vs n v first old new h is before one =
-    let lines : verdict_lines (take (n + 1) vs) ≡ verdict_lines (take n vs) ++ verdict_line v.0 v.1 = ap verdict_lines (front_more vs n v h is) ∙ lines_snoc (take n vs) v in
-    one ∙ ap (λ (xs : List ℕ). xs ++ verdict_line v.0 v.1) before ∙ append_assoc first (verdict_lines (take n vs)) (verdict_line v.0 v.1) ∙ ap (λ (xs : List ℕ). first ++ xs) (sym lines)
+    let lines : verdict_lines (take (n + 1) vs) ≡ verdict_lines (take n vs) ++ verdict_line v.0 v.1 =
+    ap verdict_lines (prefix_more vs n v h is) ∙ lines_snoc (take n vs) v in
+    one ∙ ap (λ (xs : List ℕ). xs ++ verdict_line v.0 v.1) before
+    ∙ append_assoc first (verdict_lines (take n vs)) (verdict_line v.0 v.1)
+    ∙ ap (λ (xs : List ℕ). first ++ xs) (sym lines)
 
-count_snoc : (vs : List (List ℕ × Verdict)) (v : List ℕ × Verdict) → broken_count (vs ++ v ∷ []) ≡ broken_count vs + (if says_continuous v.1 then 0 else 1)
+count_snoc : (vs : List (List ℕ × Verdict)) (v : List ℕ × Verdict)
+    → broken_count (vs ++ v ∷ []) ≡ broken_count vs + (if says_continuous v.1 then 0 else 1)
 count_snoc [] (key, Continuous start rate records samples) = refl
 count_snoc [] (key, Broken first count) = refl
 count_snoc ((key, Continuous start rate records samples) ∷ vs) v = count_snoc vs v
 count_snoc ((key, Broken first count) ∷ vs) v = omega (arith, count_snoc vs v)
 
 -- the count with one more
-pub count_more : (vs : List (List ℕ × Verdict)) (n : ℕ) (v : List ℕ × Verdict) → n < length vs → v ≡ get_or vs n v → broken_count (take (n + 1) vs) ≡ broken_count (take n vs) + (if says_continuous v.1 then 0 else 1)
-count_more vs n v h is = ap broken_count (front_more vs n v h is) ∙ count_snoc (take n vs) v
+pub count_more : (vs : List (List ℕ × Verdict)) (n : ℕ) (v : List ℕ × Verdict) → n < length vs → v ≡ get_or vs n v
+    → broken_count (take (n + 1) vs) ≡ broken_count (take n vs) + (if says_continuous v.1 then 0 else 1)
+count_more vs n v h is = ap broken_count (prefix_more vs n v h is) ∙ count_snoc (take n vs) v

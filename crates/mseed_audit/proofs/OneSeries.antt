@@ -7,7 +7,8 @@ use Rattle.mseed_steim.specs.Reading.{HasOneReading}
 use Rattle.mseed_audit.specs.Series.{Trace, AreStepsFrom, IsBadStep, AreJoined, none, one, IsSeriesOf}
 use Rattle.mseed_audit.proofs.OneVerdict.{same_rate}
 
-pub joined_one : ((v : View) → HasOneReading v) → (vs : List View) (s t : List ℤ) → AreJoined vs s → AreJoined vs t → s ≡ t
+pub joined_one : ((v : View) → HasOneReading v) → (vs : List View) (s t : List ℤ) → AreJoined vs s → AreJoined vs t
+    → s ≡ t
 joined_one single [] _ _ none none = refl
 joined_one single (v ∷ vs) _ _ (one _ _ samples rest is later) (one _ _ others more are latter) =
     let here : samples ≡ others = single v samples others is.0 are.0 in
@@ -17,35 +18,45 @@ joined_one single (v ∷ vs) _ _ (one _ _ samples rest is later) (one _ _ others
 same_first : (v w : View) (vs ws : List View) → v ∷ vs ≡ w ∷ ws → v ≡ w
 same_first v w vs ws e = cc
 
-pub series_one : ((v : View) → HasOneReading v) → (s t : Trace) (vs : List View) → IsSeriesOf s vs → IsSeriesOf t vs → s ≡ t
+pub series_one : ((v : View) → HasOneReading v) → (s t : Trace) (vs : List View) → IsSeriesOf s vs → IsSeriesOf t vs
+    → s ≡ t
 series_one single s t vs h k =
     let first : h.first ≡ k.first = same_first h.first k.first h.rest k.rest (sym h.parts ∙ k.parts) in
     let codes : s.codes ≡ t.codes = h.codes ∙ ap (λ (v : View). key_at v.bytes) first ∙ sym k.codes in
     let start : s.start ≡ t.start = h.start ∙ ap start_of first ∙ sym k.start in
-    let factor : s.rate.factor ≡ t.rate.factor = h.factor ∙ ap (λ (v : View). factor_at v.order v.bytes) first ∙ sym k.factor in
-    let multiplier : s.rate.multiplier ≡ t.rate.multiplier = h.multiplier ∙ ap (λ (v : View). multiplier_at v.order v.bytes) first ∙ sym k.multiplier in
+    let factor : s.rate.factor ≡ t.rate.factor = h.factor ∙ ap (λ (v : View). factor_at v.order v.bytes) first
+    ∙ sym k.factor in
+    let multiplier : s.rate.multiplier ≡ t.rate.multiplier =
+    h.multiplier ∙ ap (λ (v : View). multiplier_at v.order v.bytes) first ∙ sym k.multiplier in
     let rate : s.rate ≡ t.rate = same_rate s.rate t.rate factor multiplier in
     let samples : s.samples ≡ t.samples = joined_one single vs s.samples t.samples h.samples k.samples in
     let steps : s.steps ≡ t.steps = h.steps ∙ sym k.steps in
     λ i. record { codes = codes i; start = start i; rate = rate i; samples = samples i; steps = steps i }
 
 -- the good ones in front of the first bad one are no fewer than any good ones
-no_later : (place size : ℕ) (front back others rest : List (ℕ × LeapStep)) (bad other : ℕ × LeapStep) → front ++ bad ∷ back ≡ others ++ other ∷ rest
-    → AreStepsFrom place size others → ¬ (AreStepsFrom place size (front ++ bad ∷ [])) → length others ≤ length front
+no_later : (place size : ℕ) (prefix back others rest : List (ℕ × LeapStep)) (bad other : ℕ × LeapStep)
+    → prefix ++ bad ∷ back ≡ others ++ other ∷ rest
+    → AreStepsFrom place size others → ¬ (AreStepsFrom place size (prefix ++ bad ∷ [])) → length others ≤ length prefix
 no_later place size [] back [] rest bad other e good not_good = omega arith
-no_later place size (s ∷ front) back [] rest bad other e good not_good = omega arith
+no_later place size (s ∷ prefix) back [] rest bad other e good not_good = omega arith
 no_later place size [] back (t ∷ others) rest bad other e good not_good =
     let same : t ≡ bad = cc in
-    absurd (not_good (subst (λ (u : ℕ × LeapStep). (place < u.0) × (u.0 ≤ size) × AreStepsFrom u.0 size []) same (good.0, good.1, tt)))
-no_later place size (s ∷ front) back (t ∷ others) rest bad other e good not_good =
+    absurd (not_good (subst (λ (u : ℕ × LeapStep). (place < u.0) × (u.0 ≤ size) × AreStepsFrom u.0 size []) same
+    (good.0, good.1, tt)))
+no_later place size (s ∷ prefix) back (t ∷ others) rest bad other e good not_good =
     let same : t ≡ s = cc in
-    let behind : front ++ bad ∷ back ≡ others ++ other ∷ rest = cc in
-    let moved : (place < s.0) × (s.0 ≤ size) × AreStepsFrom s.0 size others = subst (λ (u : ℕ × LeapStep). (place < u.0) × (u.0 ≤ size) × AreStepsFrom u.0 size others) same good in
-    let fewer : length others ≤ length front = no_later s.0 size front back others rest bad other behind moved.2 (λ all. not_good (moved.0, moved.1, all)) in
+    let behind : prefix ++ bad ∷ back ≡ others ++ other ∷ rest = cc in
+    let moved : (place < s.0) × (s.0 ≤ size) × AreStepsFrom s.0 size others =
+    subst (λ (u : ℕ × LeapStep). (place < u.0) × (u.0 ≤ size) × AreStepsFrom u.0 size others) same good in
+    let fewer : length others ≤ length prefix =
+    no_later s.0 size prefix back others rest bad other behind moved.2 (λ all. not_good (moved.0, moved.1, all)) in
     omega (arith, fewer)
 
-pub bad_one : (size : ℕ) (steps : List (ℕ × LeapStep)) (i j : ℕ) → IsBadStep size steps i → IsBadStep size steps j → i ≡ j
+pub bad_one : (size : ℕ) (steps : List (ℕ × LeapStep)) (i j : ℕ) → IsBadStep size steps i → IsBadStep size steps j
+    → i ≡ j
 bad_one size steps i j h k =
-    let low : length k.front ≤ length h.front = no_later 0 size h.front h.back k.front k.back h.bad k.bad (sym h.parts ∙ k.parts) k.good h.not_good in
-    let high : length h.front ≤ length k.front = no_later 0 size k.front k.back h.front h.back k.bad h.bad (sym k.parts ∙ h.parts) h.good k.not_good in
+    let low : length k.prefix ≤ length h.prefix =
+    no_later 0 size h.prefix h.back k.prefix k.back h.bad k.bad (sym h.parts ∙ k.parts) k.good h.not_good in
+    let high : length h.prefix ≤ length k.prefix =
+    no_later 0 size k.prefix k.back h.prefix h.back k.bad h.bad (sym k.parts ∙ h.parts) h.good k.not_good in
     omega (arith, low, high, h.index_is, k.index_is)

@@ -1,7 +1,8 @@
 -- What an audit of a whole input comes to, by what its calls ensure.
-use Rattle.std.proofs.Common.{◌≡◌, ℕ, suc, ◌+◌, ◌<◌, ◌++◌, List, [], ◌∷◌, length, take, Option, refl, ap, ◌∙◌, subst, is_some}
+use Rattle.std.proofs.Common.{◌≡◌, ℕ, suc, ◌+◌, ◌<◌, ◌++◌, List, [], ◌∷◌, length, take, Option, refl, ap, ◌∙◌, subst}
+use Rattle.std.proofs.Common.{is_some}
 use Rattle.mseed_record.specs.View.{View}
-use Rattle.mseed_stream.specs.Device.{Heard, Said}
+use Rattle.mseed_stream.specs.Device.{BytesRead, BytesWritten}
 use Rattle.mseed_stream.specs.declared.fault.StreamFault.{StreamFault}
 use Rattle.mseed_audit.specs.declared.verdict.Verdict.{Verdict}
 use Rattle.mseed_audit.specs.declared.archive.Summary.{Summary}
@@ -16,36 +17,57 @@ added_length offset [] = refl
 added_length offset (v ∷ views) = ap suc (added_length (offset + length v.bytes) views)
 
 -- what was gathered, and the verdicts on it
-pub record HasVerdicts (held : Held) (end : Option StreamFault) (h : Heard) (verdicts : List (List ℕ × Verdict)) : Type 0 where
+pub record HasVerdicts (held : Held) (end : Option StreamFault) (h : BytesRead)
+    (verdicts : List (List ℕ × Verdict)) : Type 0 where
   pub views : List View
   pub gathered : IsGathered held end h views
   pub are_verdicts : AreVerdicts (added_from 0 views) verdicts
 
-pub with_verdicts : (held : Held) (end : Option StreamFault) (h : Heard) (verdicts : List (List ℕ × Verdict)) → (views : List View) × IsGathered held end h views
+pub with_verdicts : (held : Held) (end : Option StreamFault) (h : BytesRead) (verdicts : List (List ℕ × Verdict))
+    → (views : List View) × IsGathered held end h views
     → ((added : List Added) → IsAuditOf held added → AreVerdicts added verdicts) → HasVerdicts held end h verdicts
-with_verdicts held end h verdicts found are = record { views = found.0; gathered = found.1; are_verdicts = are (added_from 0 found.0) found.1.audit }
+with_verdicts held end h verdicts found are =
+    record { views = found.0; gathered = found.1; are_verdicts = are (added_from 0 found.0) found.1.audit }
 
-abbrev pub audited : (held : Held) (end : Option StreamFault) (h : Heard) (verdicts : List (List ℕ × Verdict)) → HasVerdicts held end h verdicts → Audited h
-audited held end h verdicts f = record { views = f.views; end = end; verdicts = verdicts; all = f.gathered.all; are_verdicts = f.are_verdicts }
+abbrev pub audited : (held : Held) (end : Option StreamFault) (h : BytesRead) (verdicts : List (List ℕ × Verdict))
+    → HasVerdicts held end h verdicts → Audited h
+audited held end h verdicts f = record {
+  views = f.views;
+  end = end;
+  verdicts = verdicts;
+  all = f.gathered.all;
+  are_verdicts = f.are_verdicts;
+}
 
-count_is : (held : Held) (end : Option StreamFault) (h : Heard) (verdicts : List (List ℕ × Verdict)) (f : HasVerdicts held end h verdicts) → held.added ≡ length f.views
+count_is : (held : Held) (end : Option StreamFault) (h : BytesRead) (verdicts : List (List ℕ × Verdict))
+    (f : HasVerdicts held end h verdicts) → held.added ≡ length f.views
 count_is held end h verdicts f = f.gathered.audit.number ∙ added_length 0 f.views
 
 -- the text that was made is the audit's
-pub text_is : (held : Held) (end : Option StreamFault) (h : Heard) (verdicts slice : List (List ℕ × Verdict)) (records : ℕ) (start text told : List ℕ) (f : HasVerdicts held end h verdicts) → start ≡ [] → text ≡ start ++ audit_text slice records end
+pub text_is : (held : Held) (end : Option StreamFault) (h : BytesRead) (verdicts slice : List (List ℕ × Verdict))
+    (records : ℕ) (start text told : List ℕ) (f : HasVerdicts held end h verdicts) → start ≡ []
+    → text ≡ start ++ audit_text slice records end
     → slice ≡ verdicts → records ≡ held.added → told ≡ text → told ≡ text_of (audited held end h verdicts f)
 text_is held end h verdicts slice records start text told f empty is same number t =
-    t ∙ is ∙ ap (λ (xs : List ℕ). xs ++ audit_text slice records end) empty ∙ ap (λ (vs : List (List ℕ × Verdict)). audit_text vs records end) same
+    t ∙ is ∙ ap (λ (xs : List ℕ). xs ++ audit_text slice records end) empty
+    ∙ ap (λ (vs : List (List ℕ × Verdict)). audit_text vs records end) same
     ∙ ap (λ (n : ℕ). audit_text verdicts n end) (number ∙ count_is held end h verdicts f)
 
-pub summary_is : (s : Summary) (held : Held) (end : Option StreamFault) (h : Heard) (verdicts : List (List ℕ × Verdict)) (f : HasVerdicts held end h verdicts) → s.records ≡ held.added → s.channels ≡ length verdicts
+pub summary_is : (s : Summary) (held : Held) (end : Option StreamFault) (h : BytesRead)
+    (verdicts : List (List ℕ × Verdict)) (f : HasVerdicts held end h verdicts) → s.records ≡ held.added
+    → s.channels ≡ length verdicts
     → s.broken ≡ broken_count verdicts → s.fault ≡ is_some end → IsSummary s (audited held end h verdicts f)
-summary_is s held end h verdicts f records channels broken fault = record { records = records ∙ count_is held end h verdicts f; channels = channels; broken = broken; fault = fault }
+summary_is s held end h verdicts f records channels broken fault =
+    record { records = records ∙ count_is held end h verdicts f; channels = channels; broken = broken; fault = fault }
 
-pub written : {h : Heard} (s : Summary) (a : Audited h) (text : List ℕ) (old new : Said) → text ≡ text_of a → IsSummary s a → new.bytes ≡ old.bytes ++ text → new.failures ≡ old.failures → IsWritten s a old new
-written s a text old new is summary bytes fine = record { summary = summary; text = bytes ∙ ap (λ (xs : List ℕ). old.bytes ++ xs) is; fine = fine }
+pub written : {h : BytesRead} (s : Summary) (a : Audited h) (text : List ℕ) (old new : BytesWritten) → text ≡ text_of a
+    → IsSummary s a → new.bytes ≡ old.bytes ++ text → new.failures ≡ old.failures → IsWritten s a old new
+written s a text old new is summary bytes fine =
+    record { summary = summary; text = bytes ∙ ap (λ (xs : List ℕ). old.bytes ++ xs) is; fine = fine }
 
-pub cut_off : {h : Heard} (taken : ℕ) (a : Audited h) (text : List ℕ) (old new : Said) → text ≡ text_of a → new.bytes ≡ old.bytes ++ take taken text → taken < length text → new.failures ≡ old.failures + 1 → IsCutOff taken a old new
+pub cut_off : {h : BytesRead} (taken : ℕ) (a : Audited h) (text : List ℕ) (old new : BytesWritten) → text ≡ text_of a
+    → new.bytes ≡ old.bytes ++ take taken text → taken < length text → new.failures ≡ old.failures + 1
+    → IsCutOff taken a old new
 cut_off taken a text old new is bytes part failed = record {
   text = bytes ∙ ap (λ (xs : List ℕ). old.bytes ++ take taken xs) is;
   part = subst (λ (xs : List ℕ). taken < length xs) is part;

@@ -1,5 +1,6 @@
 -- The places of leap seconds.
-use Rattle.std.proofs.Common.{◌≡◌, ℕ, suc, ◌+◌, ◌<◌, ◌≤◌, List, [], ◌∷◌, ◌++◌, length, take, drop, get_or, refl, sym, ap, subst, ◌∙◌, append_assoc, length-take-le, arith}
+use Rattle.std.proofs.Common.{◌≡◌, ℕ, suc, ◌+◌, ◌<◌, ◌≤◌, List, [], ◌∷◌, ◌++◌, length, take, drop, get_or, refl, sym}
+use Rattle.std.proofs.Common.{ap, subst, ◌∙◌, append_assoc, length-take-le, arith}
 use Rattle.std.proofs.Math.Seq.{take-suc}
 use Rattle.std.proofs.lemmas.List.{take-append-drop}
 use Rattle.mseed_time.specs.declared.outcome.LeapStep.{LeapStep}
@@ -11,32 +12,38 @@ place_of place [] = place
 place_of place (s ∷ ss) = place_of s.0 ss
 
 -- one more
-pub steps_more : (place size : ℕ) (ss : List (ℕ × LeapStep)) (s : ℕ × LeapStep) → AreStepsFrom place size ss → place_of place ss < s.0 → s.0 ≤ size → AreStepsFrom place size (ss ++ s ∷ [])
+pub steps_more : (place size : ℕ) (ss : List (ℕ × LeapStep)) (s : ℕ × LeapStep) → AreStepsFrom place size ss
+    → place_of place ss < s.0 → s.0 ≤ size → AreStepsFrom place size (ss ++ s ∷ [])
 steps_more place size [] s h low high = (low, high, tt)
 steps_more place size (t ∷ ss) s h low high = (h.0, h.1, steps_more t.0 size ss s h.2 low high)
 
-pub steps_last : (place size : ℕ) (ss : List (ℕ × LeapStep)) (s : ℕ × LeapStep) → AreStepsFrom place size (ss ++ s ∷ []) → (place_of place ss < s.0) × (s.0 ≤ size)
+pub steps_last : (place size : ℕ) (ss : List (ℕ × LeapStep)) (s : ℕ × LeapStep)
+    → AreStepsFrom place size (ss ++ s ∷ []) → (place_of place ss < s.0) × (s.0 ≤ size)
 steps_last place size [] s h = (h.0, h.1)
 steps_last place size (t ∷ ss) s h = steps_last t.0 size ss s h.2
 
 -- those in front
-pub steps_front : (place size : ℕ) (ss ts : List (ℕ × LeapStep)) → AreStepsFrom place size (ss ++ ts) → AreStepsFrom place size ss
-steps_front place size [] ts h = tt
-steps_front place size (s ∷ ss) ts h = (h.0, h.1, steps_front s.0 size ss ts h.2)
+pub steps_prefix : (place size : ℕ) (ss ts : List (ℕ × LeapStep)) → AreStepsFrom place size (ss ++ ts)
+    → AreStepsFrom place size ss
+steps_prefix place size [] ts h = tt
+steps_prefix place size (s ∷ ss) ts h = (h.0, h.1, steps_prefix s.0 size ss ts h.2)
 
 pub place_more : (place : ℕ) (ss : List (ℕ × LeapStep)) (s : ℕ × LeapStep) → place_of place (ss ++ s ∷ []) ≡ s.0
 place_more place [] s = refl
 place_more place (t ∷ ss) s = place_more t.0 ss s
 
-pub cut_at : (ss : List (ℕ × LeapStep)) (i : ℕ) (d : ℕ × LeapStep) → i < length ss → ss ≡ take i ss ++ get_or ss i d ∷ drop (suc i) ss
-cut_at ss i d lt = sym (take-append-drop (suc i) ss) ∙ ap (λ (ts : List (ℕ × LeapStep)). ts ++ drop (suc i) ss) (take-suc ss i d lt)
+pub cut_at : (ss : List (ℕ × LeapStep)) (i : ℕ) (d : ℕ × LeapStep) → i < length ss
+    → ss ≡ take i ss ++ get_or ss i d ∷ drop (suc i) ss
+cut_at ss i d lt = sym (take-append-drop (suc i) ss) ∙ ap (λ (ts : List (ℕ × LeapStep)). ts ++ drop (suc i) ss)
+    (take-suc ss i d lt)
     ∙ append_assoc (take i ss) (get_or ss i d ∷ []) (drop (suc i) ss)
 
 -- the first that doesn't stand behind the one before it
-pub bad_step : (size : ℕ) (ss : List (ℕ × LeapStep)) (i : ℕ) (d : ℕ × LeapStep) (before : ℕ) → i < length ss → AreSteps size (take i ss) → before ≡ place_of 0 (take i ss)
+pub bad_step : (size : ℕ) (ss : List (ℕ × LeapStep)) (i : ℕ) (d : ℕ × LeapStep) (before : ℕ) → i < length ss
+    → AreSteps size (take i ss) → before ≡ place_of 0 (take i ss)
     → ((before < (get_or ss i d).0) × ((get_or ss i d).0 ≤ size) → ⊥) → IsBadStep size ss i
 bad_step size ss i d before lt good at refuses = record {
-  front = take i ss;
+  prefix = take i ss;
   bad = get_or ss i d;
   back = drop (suc i) ss;
   parts = cut_at ss i d lt;
@@ -49,16 +56,21 @@ bad_step size ss i d before lt good at refuses = record {
 
 pub bad_steps : (size : ℕ) (ss : List (ℕ × LeapStep)) (i : ℕ) → IsBadStep size ss i → AreSteps size ss → ⊥
 bad_steps size ss i bad all =
-    let whole : AreSteps size ((bad.front ++ bad.bad ∷ []) ++ bad.back) =
-    subst (λ (ts : List (ℕ × LeapStep)). AreSteps size ts) (bad.parts ∙ sym (append_assoc bad.front (bad.bad ∷ []) bad.back)) all in
-    bad.not_good (steps_front 0 size (bad.front ++ bad.bad ∷ []) bad.back whole)
+    let whole : AreSteps size ((bad.prefix ++ bad.bad ∷ []) ++ bad.back) =
+    subst (λ (ts : List (ℕ × LeapStep)). AreSteps size ts) (bad.parts
+    ∙ sym (append_assoc bad.prefix (bad.bad ∷ []) bad.back)) all in
+    bad.not_good (steps_prefix 0 size (bad.prefix ++ bad.bad ∷ []) bad.back whole)
 
-pub more_steps : (size : ℕ) (ss : List (ℕ × LeapStep)) (i : ℕ) (d : ℕ × LeapStep) (before : ℕ) → i < length ss → AreSteps size (take i ss) → before ≡ place_of 0 (take i ss)
-    → before < (get_or ss i d).0 → (get_or ss i d).0 ≤ size → AreSteps size (take (i + 1) ss) × ((get_or ss i d).0 ≡ place_of 0 (take (i + 1) ss))
+pub more_steps : (size : ℕ) (ss : List (ℕ × LeapStep)) (i : ℕ) (d : ℕ × LeapStep) (before : ℕ) → i < length ss
+    → AreSteps size (take i ss) → before ≡ place_of 0 (take i ss)
+    → before < (get_or ss i d).0 → (get_or ss i d).0 ≤ size → AreSteps size (take (i + 1) ss)
+    × ((get_or ss i d).0 ≡ place_of 0 (take (i + 1) ss))
 more_steps size ss i d before lt good at low high =
-    let next : take i ss ++ get_or ss i d ∷ [] ≡ take (i + 1) ss = sym (take-suc ss i d lt) ∙ ap (λ (n : ℕ). take n ss) {x = suc i} (omega arith) in
+    let next : take i ss ++ get_or ss i d ∷ [] ≡ take (i + 1) ss = sym (take-suc ss i d lt)
+    ∙ ap (λ (n : ℕ). take n ss) {x = suc i} (omega arith) in
     let stands : place_of 0 (take i ss) < (get_or ss i d).0 = subst (λ (n : ℕ). n < (get_or ss i d).0) at low in (
-      subst (λ (ts : List (ℕ × LeapStep)). AreSteps size ts) next (steps_more 0 size (take i ss) (get_or ss i d) good stands high),
+      subst (λ (ts : List (ℕ × LeapStep)). AreSteps size ts) next
+          (steps_more 0 size (take i ss) (get_or ss i d) good stands high),
       sym (place_more 0 (take i ss) (get_or ss i d)) ∙ ap (λ (ts : List (ℕ × LeapStep)). place_of 0 ts) next,
     )
 
@@ -67,15 +79,19 @@ steps_wider : (place m n : ℕ) (ss : List (ℕ × LeapStep)) → m ≤ n → Ar
 steps_wider place m n [] le h = tt
 steps_wider place m n (s ∷ ss) le h = (h.0, omega (arith, h.1, le), steps_wider s.0 m n ss le h.2)
 
-last_within : (place size : ℕ) (ss : List (ℕ × LeapStep)) → place ≤ size → AreStepsFrom place size ss → place_of place ss ≤ size
+last_within : (place size : ℕ) (ss : List (ℕ × LeapStep)) → place ≤ size → AreStepsFrom place size ss
+    → place_of place ss ≤ size
 last_within place size [] le h = le
 last_within place size (s ∷ ss) le h = last_within s.0 size ss h.1 h.2
 
 -- one more, just past some samples that are new
-pub steps_behind : (m n place : ℕ) (old new : List (ℕ × LeapStep)) (step : LeapStep) → m < n → place ≡ n → AreSteps m old → new ≡ old ++ (place, step) ∷ [] → AreSteps n new
+pub steps_behind : (m n place : ℕ) (old new : List (ℕ × LeapStep)) (step : LeapStep) → m < n → place ≡ n
+    → AreSteps m old → new ≡ old ++ (place, step) ∷ [] → AreSteps n new
 steps_behind m n place old new step lt at h e =
     let last : place_of 0 old ≤ m = last_within 0 m old (omega arith) h in
-    let all : AreSteps n (old ++ (place, step) ∷ []) = steps_more 0 n old (place, step) (steps_wider 0 m n old (omega (arith, lt)) h) (omega (arith, last, lt, at)) (omega (arith, at)) in
+    let all : AreSteps n (old ++ (place, step) ∷ []) =
+    steps_more 0 n old (place, step) (steps_wider 0 m n old (omega (arith, lt)) h) (omega (arith, last, lt, at))
+    (omega (arith, at)) in
     subst (λ (ss : List (ℕ × LeapStep)). AreSteps n ss) (sym e) all
 
 -- those of fewer samples

@@ -1,5 +1,7 @@
 -- Where channels stand on a roster, and what is kept of them there.
-use Rattle.std.proofs.Common.{◌≡◌, ℕ, suc, ◌+◌, ◌<◌, List, [], ◌∷◌, ◌++◌, Bool, true, false, cond, length, get_or, set, is_some, Option, IsSome, Some, None, Result, Ok, Err, OnOk, OnErr, if◌then◌else◌, refl, sym, ap, subst, ◌∙◌, arith}
+use Rattle.std.proofs.Common.{◌≡◌, ℕ, suc, ◌+◌, ◌<◌, List, [], ◌∷◌, ◌++◌, Bool, true, false, cond, length, get_or, set}
+use Rattle.std.proofs.Common.{is_some, Option, IsSome, Some, None, Result, Ok, Err, OnOk, OnErr, if◌then◌else◌, refl}
+use Rattle.std.proofs.Common.{sym, ap, subst, ◌∙◌, arith}
 use Rattle.std.specs.List.{All, slice_get}
 use Rattle.std.specs.Map.{keys_of, lookup, set_value, values_of}
 use Rattle.std.specs.Option.{option_map, unwrap_or}
@@ -29,13 +31,15 @@ slice_get_some {X = X} (x ∷ xs) i l = ap (λ (o : Option X). is_some o) (slice
 number_in : (i j : ℕ) → Some i ≡ Some j → i ≡ j
 number_in i j e = ap (λ (o : Option ℕ). unwrap_or o 0) e
 
-same_some_by : (b : Bool) (v : Channel) (o : Option ℕ) (found : Option Channel) → is_some o ≡ is_some found → is_some (cond b (Some 0) (option_map suc o)) ≡ is_some (cond b (Some v) found)
+same_some_by : (b : Bool) (v : Channel) (o : Option ℕ) (found : Option Channel) → is_some o ≡ is_some found
+    → is_some (cond b (Some 0) (option_map suc o)) ≡ is_some (cond b (Some v) found)
 same_some_by true v o found e = refl
 same_some_by false v None found e = e
 same_some_by false v (Some i) found e = e
 
 -- a key has a place where something is kept at it
-pub same_some : (test : List ℕ → Bool) (es : List (List ℕ × Channel)) → is_some (place_of test es) ≡ is_some (lookup test es)
+pub same_some : (test : List ℕ → Bool) (es : List (List ℕ × Channel))
+    → is_some (place_of test es) ≡ is_some (lookup test es)
 same_some test [] = refl
 same_some test (e ∷ es) = same_some_by (test e.0) e.1 (place_of test es) (lookup test es) (same_some test es)
 
@@ -49,45 +53,61 @@ none_there test es e = none_from (lookup test es) (sym (same_some test es) ∙ a
 pub no_place : (test : List ℕ → Bool) (es : List (List ℕ × Channel)) → lookup test es ≡ None → place_of test es ≡ None
 no_place test es e = none_from (place_of test es) (same_some test es ∙ ap (λ (o : Option Channel). is_some o) e)
 
-at_by : (b : Bool) (x : List ℕ × Channel) (es : List (List ℕ × Channel)) (found : Option Channel) (o : Option ℕ) (i : ℕ) → ((j : ℕ) → o ≡ Some j → found ≡ option_map (λ (e : List ℕ × Channel). e.1) (slice_get es j))
-    → cond b (Some 0) (option_map suc o) ≡ Some i → cond b (Some x.1) found ≡ option_map (λ (e : List ℕ × Channel). e.1) (slice_get (x ∷ es) i)
-at_by true x es found o i later e = ap (λ (n : ℕ). option_map (λ (e : List ℕ × Channel). e.1) (slice_get (x ∷ es) n)) (number_in 0 i e)
+at_by : (b : Bool) (x : List ℕ × Channel) (es : List (List ℕ × Channel)) (found : Option Channel) (o : Option ℕ)
+    (i : ℕ) → ((j : ℕ) → o ≡ Some j → found ≡ option_map (λ (e : List ℕ × Channel). e.1) (slice_get es j))
+    → cond b (Some 0) (option_map suc o) ≡ Some i
+    → cond b (Some x.1) found ≡ option_map (λ (e : List ℕ × Channel). e.1) (slice_get (x ∷ es) i)
+at_by true x es found o i later e = ap (λ (n : ℕ). option_map (λ (e : List ℕ × Channel). e.1) (slice_get (x ∷ es) n))
+    (number_in 0 i e)
 at_by false x es found None i later e = absurd (cc e)
-at_by false x es found (Some j) i later e = later j refl ∙ ap (λ (n : ℕ). option_map (λ (e : List ℕ × Channel). e.1) (slice_get (x ∷ es) n)) (number_in (suc j) i e)
+at_by false x es found (Some j) i later e =
+    later j refl ∙ ap (λ (n : ℕ). option_map (λ (e : List ℕ × Channel). e.1) (slice_get (x ∷ es) n))
+    (number_in (suc j) i e)
 
 -- what is kept at a place
-pub kept_at : (test : List ℕ → Bool) (es : List (List ℕ × Channel)) (i : ℕ) → place_of test es ≡ Some i → lookup test es ≡ option_map (λ (e : List ℕ × Channel). e.1) (slice_get es i)
+pub kept_at : (test : List ℕ → Bool) (es : List (List ℕ × Channel)) (i : ℕ) → place_of test es ≡ Some i
+    → lookup test es ≡ option_map (λ (e : List ℕ × Channel). e.1) (slice_get es i)
 kept_at test [] i e = absurd (cc e)
 kept_at test (x ∷ es) i e = at_by (test x.0) x es (lookup test es) (place_of test es) i (kept_at test es) e
 
-within_by : (b : Bool) (n : ℕ) (o : Option ℕ) (i : ℕ) → ((j : ℕ) → o ≡ Some j → j < n) → cond b (Some 0) (option_map suc o) ≡ Some i → i < suc n
+within_by : (b : Bool) (n : ℕ) (o : Option ℕ) (i : ℕ) → ((j : ℕ) → o ≡ Some j → j < n)
+    → cond b (Some 0) (option_map suc o) ≡ Some i → i < suc n
 within_by true n o i later e = omega (arith, number_in 0 i e)
 within_by false n None i later e = absurd (cc e)
 within_by false n (Some j) i later e = omega (arith, later j refl, number_in (suc j) i e)
 
 -- a place is one of as many as there are channels
-pub place_within : (test : List ℕ → Bool) (es : List (List ℕ × Channel)) (i : ℕ) → place_of test es ≡ Some i → i < length es
+pub place_within : (test : List ℕ → Bool) (es : List (List ℕ × Channel)) (i : ℕ) → place_of test es ≡ Some i
+    → i < length es
 place_within test [] i e = absurd (cc e)
 place_within test (x ∷ es) i e = within_by (test x.0) (length es) (place_of test es) i (place_within test es) e
 
-set_by : (b : Bool) (x : List ℕ × Channel) (es next : List (List ℕ × Channel)) (o : Option ℕ) (i : ℕ) (d : List ℕ × Channel) (v : Channel) → ((j : ℕ) → o ≡ Some j → set es j ((get_or es j d).0, v) ≡ next)
-    → cond b (Some 0) (option_map suc o) ≡ Some i → set (x ∷ es) i ((get_or (x ∷ es) i d).0, v) ≡ cond b ((x.0, v) ∷ es) (x ∷ next)
-set_by true x es next o i d v later e = ap (λ (n : ℕ). set (x ∷ es) n ((get_or (x ∷ es) n d).0, v)) (sym (number_in 0 i e))
+set_by : (b : Bool) (x : List ℕ × Channel) (es next : List (List ℕ × Channel)) (o : Option ℕ) (i : ℕ)
+    (d : List ℕ × Channel) (v : Channel) → ((j : ℕ) → o ≡ Some j → set es j ((get_or es j d).0, v) ≡ next)
+    → cond b (Some 0) (option_map suc o) ≡ Some i
+    → set (x ∷ es) i ((get_or (x ∷ es) i d).0, v) ≡ cond b ((x.0, v) ∷ es) (x ∷ next)
+set_by true x es next o i d v later e =
+    ap (λ (n : ℕ). set (x ∷ es) n ((get_or (x ∷ es) n d).0, v)) (sym (number_in 0 i e))
 set_by false x es next None i d v later e = absurd (cc e)
 set_by false x es next (Some j) i d v later e =
-    ap (λ (n : ℕ). set (x ∷ es) n ((get_or (x ∷ es) n d).0, v)) (sym (number_in (suc j) i e)) ∙ ap (λ (fs : List (List ℕ × Channel)). x ∷ fs) (later j refl)
+    ap (λ (n : ℕ). set (x ∷ es) n ((get_or (x ∷ es) n d).0, v)) (sym (number_in (suc j) i e))
+    ∙ ap (λ (fs : List (List ℕ × Channel)). x ∷ fs) (later j refl)
 
 -- what is kept at a place becomes something else
-pub set_at : (test : List ℕ → Bool) (es : List (List ℕ × Channel)) (i : ℕ) (d : List ℕ × Channel) (v : Channel) → place_of test es ≡ Some i → set es i ((get_or es i d).0, v) ≡ set_value test es v
+pub set_at : (test : List ℕ → Bool) (es : List (List ℕ × Channel)) (i : ℕ) (d : List ℕ × Channel) (v : Channel)
+    → place_of test es ≡ Some i → set es i ((get_or es i d).0, v) ≡ set_value test es v
 set_at test [] i d v e = absurd (cc e)
-set_at test (x ∷ es) i d v e = set_by (test x.0) x es (set_value test es v) (place_of test es) i d v (λ j s. set_at test es j d v s) e
+set_at test (x ∷ es) i d v e =
+    set_by (test x.0) x es (set_value test es v) (place_of test es) i d v (λ j s. set_at test es j d v s) e
 
-stay_by : (test : List ℕ → Bool) (b : Bool) (x : List ℕ × Channel) (es next : List (List ℕ × Channel)) (v : Channel) → place_of test next ≡ place_of test es → place_of test (cond b ((x.0, v) ∷ es) (x ∷ next)) ≡ place_of test (x ∷ es)
+stay_by : (test : List ℕ → Bool) (b : Bool) (x : List ℕ × Channel) (es next : List (List ℕ × Channel)) (v : Channel)
+    → place_of test next ≡ place_of test es → place_of test (cond b ((x.0, v) ∷ es) (x ∷ next)) ≡ place_of test (x ∷ es)
 stay_by test true x es next v e = refl
 stay_by test false x es next v e = ap (λ (o : Option ℕ). cond (test x.0) (Some 0) (option_map suc o)) e
 
 -- and each place stays
-pub places_stay : (test other : List ℕ → Bool) (es : List (List ℕ × Channel)) (v : Channel) → place_of test (set_value other es v) ≡ place_of test es
+pub places_stay : (test other : List ℕ → Bool) (es : List (List ℕ × Channel)) (v : Channel)
+    → place_of test (set_value other es v) ≡ place_of test es
 places_stay test other [] v = refl
 places_stay test other (x ∷ es) v = stay_by test (other x.0) x es (set_value other es v) v (places_stay test other es v)
 
@@ -95,7 +115,8 @@ suc_none : (o : Option ℕ) → option_map suc o ≡ None → o ≡ None
 suc_none None e = refl
 suc_none (Some i) e = absurd (cc e)
 
-next_by : (b : Bool) (o next : Option ℕ) (n : ℕ) → (o ≡ None → next ≡ Some n) → cond b (Some 0) (option_map suc o) ≡ None → cond b (Some 0) (option_map suc next) ≡ Some (suc n)
+next_by : (b : Bool) (o next : Option ℕ) (n : ℕ) → (o ≡ None → next ≡ Some n)
+    → cond b (Some 0) (option_map suc o) ≡ None → cond b (Some 0) (option_map suc next) ≡ Some (suc n)
 next_by true o next n later e = absurd (cc e)
 next_by false o next n later e = ap (λ (p : Option ℕ). option_map suc p) (later (suc_none o e))
 
@@ -103,49 +124,69 @@ first_by : (b : Bool) → b ≡ true → cond {A = Option ℕ} b (Some 0) None �
 first_by b e = ap (λ (c : Bool). cond {A = Option ℕ} c (Some 0) None) e
 
 -- a new channel stands behind the others
-pub place_behind : (test : List ℕ → Bool) (es : List (List ℕ × Channel)) (x : List ℕ × Channel) → place_of test es ≡ None → test x.0 ≡ true → place_of test (es ++ x ∷ []) ≡ Some (length es)
+pub place_behind : (test : List ℕ → Bool) (es : List (List ℕ × Channel)) (x : List ℕ × Channel)
+    → place_of test es ≡ None → test x.0 ≡ true → place_of test (es ++ x ∷ []) ≡ Some (length es)
 place_behind test [] x none hit = first_by (test x.0) hit
-place_behind test (e ∷ es) x none hit = next_by (test e.0) (place_of test es) (place_of test (es ++ x ∷ [])) (length es) (λ n. place_behind test es x n hit) none
+place_behind test (e ∷ es) x none hit =
+    next_by (test e.0) (place_of test es) (place_of test (es ++ x ∷ [])) (length es)
+    (λ n. place_behind test es x n hit) none
 
 -- and no other channel moves
-pub places_before : (test : List ℕ → Bool) (es : List (List ℕ × Channel)) (x : List ℕ × Channel) → test x.0 ≡ false → place_of test (es ++ x ∷ []) ≡ place_of test es
+pub places_before : (test : List ℕ → Bool) (es : List (List ℕ × Channel)) (x : List ℕ × Channel) → test x.0 ≡ false
+    → place_of test (es ++ x ∷ []) ≡ place_of test es
 places_before test [] x other = ap (λ (b : Bool). cond {A = Option ℕ} b (Some 0) None) other
-places_before test (e ∷ es) x other = ap (λ (o : Option ℕ). cond (test e.0) (Some 0) (option_map suc o)) (places_before test es x other)
+places_before test (e ∷ es) x other =
+    ap (λ (o : Option ℕ). cond (test e.0) (Some 0) (option_map suc o)) (places_before test es x other)
 
-kept_by : (b : Bool) (v w : Channel) (found next : Option Channel) → (found ≡ None → next ≡ Some w) → cond b (Some v) found ≡ None → cond b (Some v) next ≡ Some w
+kept_by : (b : Bool) (v w : Channel) (found next : Option Channel) → (found ≡ None → next ≡ Some w)
+    → cond b (Some v) found ≡ None → cond b (Some v) next ≡ Some w
 kept_by true v w found next later e = absurd (cc e)
 kept_by false v w found next later e = later e
 
-kept_behind : (test : List ℕ → Bool) (es : List (List ℕ × Channel)) (x : List ℕ × Channel) → lookup test es ≡ None → test x.0 ≡ true → lookup test (es ++ x ∷ []) ≡ Some x.1
+kept_behind : (test : List ℕ → Bool) (es : List (List ℕ × Channel)) (x : List ℕ × Channel) → lookup test es ≡ None
+    → test x.0 ≡ true → lookup test (es ++ x ∷ []) ≡ Some x.1
 kept_behind test [] x none hit = ap (λ (b : Bool). cond b (Some x.1) None) hit
-kept_behind test (e ∷ es) x none hit = kept_by (test e.0) e.1 x.1 (lookup test es) (lookup test (es ++ x ∷ [])) (λ n. kept_behind test es x n hit) none
+kept_behind test (e ∷ es) x none hit =
+    kept_by (test e.0) e.1 x.1 (lookup test es) (lookup test (es ++ x ∷ [])) (λ n. kept_behind test es x n hit) none
 
-kept_before : (test : List ℕ → Bool) (es : List (List ℕ × Channel)) (x : List ℕ × Channel) → test x.0 ≡ false → lookup test (es ++ x ∷ []) ≡ lookup test es
+kept_before : (test : List ℕ → Bool) (es : List (List ℕ × Channel)) (x : List ℕ × Channel) → test x.0 ≡ false
+    → lookup test (es ++ x ∷ []) ≡ lookup test es
 kept_before test [] x other = ap (λ (b : Bool). cond b (Some x.1) None) other
-kept_before test (e ∷ es) x other = ap (λ (o : Option Channel). cond (test e.0) (Some e.1) o) (kept_before test es x other)
+kept_before test (e ∷ es) x other =
+    ap (λ (o : Option Channel). cond (test e.0) (Some e.1) o) (kept_before test es x other)
 
 -- what is kept once there is a new channel
-pub kept_more : (es : List (List ℕ × Channel)) (code : List ℕ) (c : Channel) → lookup (same_key code) es ≡ None → (key : List ℕ) → lookup (same_key key) (es ++ (code, c) ∷ []) ≡ cond (same_key key code) (Some c) (lookup (same_key key) es)
+pub kept_more : (es : List (List ℕ × Channel)) (code : List ℕ) (c : Channel) → lookup (same_key code) es ≡ None
+    → (key : List ℕ) → lookup (same_key key) (es ++ (code, c) ∷ []) ≡ cond (same_key key code) (Some c)
+    (lookup (same_key key) es)
 kept_more es code c none key = go (same_key key code) refl
   where
-    go : (b : Bool) → same_key key code ≡ b → lookup (same_key key) (es ++ (code, c) ∷ []) ≡ cond b (Some c) (lookup (same_key key) es)
-    go true e = kept_behind (same_key key) es (code, c) (ap (λ (k : List ℕ). lookup (same_key k) es) (same_is key code e) ∙ none) e
+    go : (b : Bool) → same_key key code ≡ b
+        → lookup (same_key key) (es ++ (code, c) ∷ []) ≡ cond b (Some c) (lookup (same_key key) es)
+    go true e = kept_behind (same_key key) es (code, c)
+        (ap (λ (k : List ℕ). lookup (same_key k) es) (same_is key code e) ∙ none) e
     go false e = kept_before (same_key key) es (code, c) e
 
 -- the places once there is a new channel
-pub places_more : (places more : List (List ℕ × ℕ)) (es : List (List ℕ × Channel)) (code : List ℕ) (c : Channel) → ArePlaces places es → lookup (same_key code) es ≡ None
-    → ((key : List ℕ) → lookup (same_key key) more ≡ cond (same_key code key) (Some (length es)) (lookup (same_key key) places))
+pub places_more : (places more : List (List ℕ × ℕ)) (es : List (List ℕ × Channel)) (code : List ℕ) (c : Channel)
+    → ArePlaces places es → lookup (same_key code) es ≡ None
+    → ((key : List ℕ) → lookup (same_key key) more ≡ cond (same_key code key) (Some (length es))
+    (lookup (same_key key) places))
     → (key : List ℕ) → lookup (same_key key) more ≡ place_of (same_key key) (es ++ (code, c) ∷ [])
 places_more places more es code c are none kept key = go (same_key code key) refl
   where
-    go : (b : Bool) → same_key code key ≡ b → lookup (same_key key) more ≡ place_of (same_key key) (es ++ (code, c) ∷ [])
+    go : (b : Bool) → same_key code key ≡ b
+        → lookup (same_key key) more ≡ place_of (same_key key) (es ++ (code, c) ∷ [])
     go true e =
         let back : same_key key code ≡ true = same_back key code ∙ e in
-        let gone : place_of (same_key key) es ≡ None = ap (λ (k : List ℕ). place_of (same_key k) es) (same_is key code back) ∙ no_place (same_key code) es none in
-        kept key ∙ (ap (λ (b : Bool). cond b (Some (length es)) (lookup (same_key key) places)) e ∙ sym (place_behind (same_key key) es (code, c) gone back))
+        let gone : place_of (same_key key) es ≡ None =
+        ap (λ (k : List ℕ). place_of (same_key k) es) (same_is key code back) ∙ no_place (same_key code) es none in
+        kept key ∙ (ap (λ (b : Bool). cond b (Some (length es)) (lookup (same_key key) places)) e
+        ∙ sym (place_behind (same_key key) es (code, c) gone back))
     go false e =
         let back : same_key key code ≡ false = same_back key code ∙ e in
-        kept key ∙ (ap (λ (b : Bool). cond b (Some (length es)) (lookup (same_key key) places)) e ∙ (are.each key ∙ sym (places_before (same_key key) es (code, c) back)))
+        kept key ∙ (ap (λ (b : Bool). cond b (Some (length es)) (lookup (same_key key) places)) e
+        ∙ (are.each key ∙ sym (places_before (same_key key) es (code, c) back)))
 
 -- a key's test holds of one key
 one_key : (key x y : List ℕ) → same_key key x ≡ true → same_key key y ≡ same_key x y
@@ -153,108 +194,149 @@ one_key key x y e = ap (λ (k : List ℕ). same_key k y) (same_is key x e)
 
 -- what is found at a key, once something else is kept of a channel
 found_set : (code : List ℕ) (es : List (List ℕ × Channel)) (c : Channel) → IsSome (lookup (same_key code) es)
-    → (key : List ℕ) → lookup (same_key key) (set_value (same_key code) es c) ≡ cond (same_key code key) (Some c) (lookup (same_key key) es)
+    → (key : List ℕ) → lookup (same_key key) (set_value (same_key code) es c) ≡ cond (same_key code key) (Some c)
+    (lookup (same_key key) es)
 found_set code es c there key = lookup-set_value keys_alike (same_key code) (one_key code) key c es there
 
 -- a record is added to a channel that is there
-pub set_stands : (old : List (List ℕ × Channel)) (code : List ℕ) (p : Placed) (before after : Channel) → lookup (same_key code) old ≡ Some before → code ≡ key_at p.view.bytes → 0 < count_of p.view
+pub set_stands : (old : List (List ℕ × Channel)) (code : List ℕ) (p : Placed) (before after : Channel)
+    → lookup (same_key code) old ≡ Some before → code ≡ key_at p.view.bytes → 0 < count_of p.view
     → ((qs : List Placed) → Stands before qs → Stands after (qs ++ p ∷ []))
-    → (key : List ℕ) (ps : List Placed) → StandsAt (lookup (same_key key) old) ps → StandsAt (lookup (same_key key) (set_value (same_key code) old after)) (with_record key ps p)
+    → (key : List ℕ) (ps : List Placed) → StandsAt (lookup (same_key key) old) ps
+    → StandsAt (lookup (same_key key) (set_value (same_key code) old after)) (with_record key ps p)
 set_stands old code p before after found at some step =
-    stands_more old (set_value (same_key code) old after) code p after at some (found_set code old after (some_is (lookup (same_key code) old) before (sym found)))
+    stands_more old (set_value (same_key code) old after) code p after at some
+    (found_set code old after (some_is (lookup (same_key code) old) before (sym found)))
     (λ qs s. step qs (subst (λ (o : Option Channel). StandsAt o qs) found s))
 
 -- the counts of a channel that is there
-pub bounded_at : (n : ℕ) (es : List (List ℕ × Channel)) (code : List ℕ) (c : Channel) → lookup (same_key code) es ≡ Some c → AreBounded n es → IsBounded n c.verdict
-bounded_at n es code c found all = rw found at (IfSome-lookup_from_All (λ (d : Channel). IsBounded n d.verdict) (same_key code) es all)
+pub bounded_at : (n : ℕ) (es : List (List ℕ × Channel)) (code : List ℕ) (c : Channel)
+    → lookup (same_key code) es ≡ Some c → AreBounded n es → IsBounded n c.verdict
+bounded_at n es code c found all =
+    rw found at (IfSome-lookup_from_All (λ (d : Channel). IsBounded n d.verdict) (same_key code) es all)
 
 -- and with one more
-pub set_bounded : (n : ℕ) (es : List (List ℕ × Channel)) (code : List ℕ) (c : Channel) → AreBounded n es → IsBounded (n + 1) c.verdict → AreBounded (n + 1) (set_value (same_key code) es c)
-set_bounded n es code c all one = All-values-set_value (same_key code) (λ (d : Channel). IsBounded (n + 1) d.verdict) es c (all_within_more n (n + 1) es (omega arith) all) one
+pub set_bounded : (n : ℕ) (es : List (List ℕ × Channel)) (code : List ℕ) (c : Channel) → AreBounded n es
+    → IsBounded (n + 1) c.verdict → AreBounded (n + 1) (set_value (same_key code) es c)
+set_bounded n es code c all one =
+    All-values-set_value (same_key code) (λ (d : Channel). IsBounded (n + 1) d.verdict) es c
+    (all_within_more n (n + 1) es (omega arith) all) one
 
 -- what is kept, where there was room for a new channel
-pub kept_where : {E : Type 0} (r : Result (Unit {0}) E) (old new : List (List ℕ × Channel)) (code : List ℕ) (c : Channel) → OnOk r (new ≡ old ++ (code, c) ∷ []) → lookup (same_key code) old ≡ None
-    → (key : List ℕ) → OnOk r (lookup (same_key key) new ≡ (if same_key key code then Some c else lookup (same_key key) old))
-kept_where (Ok u) old new code c is none key = ap (λ (es : List (List ℕ × Channel)). lookup (same_key key) es) is ∙ kept_more old code c none key
+pub kept_where : {E : Type 0} (r : Result (Unit {0}) E) (old new : List (List ℕ × Channel)) (code : List ℕ)
+    (c : Channel) → OnOk r (new ≡ old ++ (code, c) ∷ []) → lookup (same_key code) old ≡ None
+    → (key : List ℕ) → OnOk r
+    (lookup (same_key key) new ≡ (if same_key key code then Some c else lookup (same_key key) old))
+kept_where (Ok u) old new code c is none key = ap (λ (es : List (List ℕ × Channel)). lookup (same_key key) es) is
+    ∙ kept_more old code c none key
 kept_where (Err e) old new code c is none key = tt
 
 -- and the counts
-pub bounded_where : {E : Type 0} (r : Result (Unit {0}) E) (old new : List (List ℕ × Channel)) (code : List ℕ) (c : Channel) (n : ℕ) → OnOk r (new ≡ old ++ (code, c) ∷ []) → OnErr r (new ≡ old)
+pub bounded_where : {E : Type 0} (r : Result (Unit {0}) E) (old new : List (List ℕ × Channel)) (code : List ℕ)
+    (c : Channel) (n : ℕ) → OnOk r (new ≡ old ++ (code, c) ∷ []) → OnErr r (new ≡ old)
     → AreBounded n old → IsBounded (n + 1) c.verdict → AreBounded (n + 1) new
 bounded_where (Ok u) old new code c n is same all one =
     let before : AreBounded (n + 1) old = all_within_more n (n + 1) old (omega arith) all in
-    let values : values_of (old ++ (code, c) ∷ []) ≡ values_of old ++ c ∷ [] = map-append (λ (e : List ℕ × Channel). e.1) old ((code, c) ∷ []) in
+    let values : values_of (old ++ (code, c) ∷ []) ≡ values_of old ++ c ∷ [] =
+    map-append (λ (e : List ℕ × Channel). e.1) old ((code, c) ∷ []) in
     let more = All-push (λ (d : Channel). IsBounded (n + 1) d.verdict) (values_of old) c before one in
-    subst (λ (es : List (List ℕ × Channel)). AreBounded (n + 1) es) (sym is) (subst (λ (cs : List Channel). All (λ d. IsBounded (n + 1) d.verdict) cs) (sym values) more)
+    subst (λ (es : List (List ℕ × Channel)). AreBounded (n + 1) es) (sym is)
+    (subst (λ (cs : List Channel). All (λ d. IsBounded (n + 1) d.verdict) cs) (sym values) more)
 bounded_where (Err e) old new code c n is same all one =
-    subst (λ (es : List (List ℕ × Channel)). AreBounded (n + 1) es) (sym same) (all_within_more n (n + 1) old (omega arith) all)
+    subst (λ (es : List (List ℕ × Channel)). AreBounded (n + 1) es) (sym same)
+    (all_within_more n (n + 1) old (omega arith) all)
 
 -- the verdicts on the channels at these places
-abbrev told_by : List ℕ → Option (List ℕ × Channel) → List (List ℕ × Verdict)
-told_by key None = []
-told_by key (Some e) = (key, e.1.verdict) ∷ []
+abbrev read_through : List ℕ → Option (List ℕ × Channel) → List (List ℕ × Verdict)
+read_through key None = []
+read_through key (Some e) = (key, e.1.verdict) ∷ []
 
 abbrev pub verdicts_at : List (List ℕ × Channel) → List (List ℕ × ℕ) → List (List ℕ × Verdict)
 verdicts_at es [] = []
-verdicts_at es (p ∷ ps) = told_by p.0 (slice_get es p.1) ++ verdicts_at es ps
+verdicts_at es (p ∷ ps) = read_through p.0 (slice_get es p.1) ++ verdicts_at es ps
 
-pub verdicts_next : (es : List (List ℕ × Channel)) (key : List ℕ) (i : ℕ) (ps : List (List ℕ × ℕ)) (e : List ℕ × Channel) → i < length es → e ≡ get_or es i e → verdicts_at es ((key, i) ∷ ps) ≡ (key, e.1.verdict) ∷ verdicts_at es ps
+pub verdicts_next : (es : List (List ℕ × Channel)) (key : List ℕ) (i : ℕ) (ps : List (List ℕ × ℕ))
+    (e : List ℕ × Channel) → i < length es → e ≡ get_or es i e
+    → verdicts_at es ((key, i) ∷ ps) ≡ (key, e.1.verdict) ∷ verdicts_at es ps
 verdicts_next es key i ps e l is =
     let found : slice_get es i ≡ Some e = slice_get_read es (length es) i e refl l is in
-    ap (λ (o : Option (List ℕ × Channel)). told_by key o ++ verdicts_at es ps) found
+    ap (λ (o : Option (List ℕ × Channel)). read_through key o ++ verdicts_at es ps) found
 
-keys_by : (es : List (List ℕ × Channel)) (p : List ℕ × ℕ) (ps : List (List ℕ × ℕ)) → p.1 < length es → keys_of (verdicts_at es ps) ≡ keys_of ps → keys_of (verdicts_at es (p ∷ ps)) ≡ keys_of (p ∷ ps)
+keys_by : (es : List (List ℕ × Channel)) (p : List ℕ × ℕ) (ps : List (List ℕ × ℕ)) → p.1 < length es
+    → keys_of (verdicts_at es ps) ≡ keys_of ps → keys_of (verdicts_at es (p ∷ ps)) ≡ keys_of (p ∷ ps)
 keys_by es p ps l same = go (slice_get es p.1) refl
   where
-    go : (o : Option (List ℕ × Channel)) → slice_get es p.1 ≡ o → keys_of (told_by p.0 (slice_get es p.1) ++ verdicts_at es ps) ≡ p.0 ∷ keys_of ps
-    go None e = absurd (false≢true (sym (ap (λ (o : Option (List ℕ × Channel)). is_some o) e) ∙ slice_get_some es p.1 l))
-    go (Some x) e = ap (λ (o : Option (List ℕ × Channel)). keys_of (told_by p.0 o ++ verdicts_at es ps)) e ∙ ap (λ (ks : List (List ℕ)). p.0 ∷ ks) same
+    go : (o : Option (List ℕ × Channel)) → slice_get es p.1 ≡ o
+        → keys_of (read_through p.0 (slice_get es p.1) ++ verdicts_at es ps) ≡ p.0 ∷ keys_of ps
+    go None e = absurd (false≢true (sym (ap (λ (o : Option (List ℕ × Channel)). is_some o) e)
+        ∙ slice_get_some es p.1 l))
+    go (Some x) e = ap (λ (o : Option (List ℕ × Channel)). keys_of (read_through p.0 o ++ verdicts_at es ps)) e
+        ∙ ap (λ (ks : List (List ℕ)). p.0 ∷ ks) same
 
 -- they have the same keys
-pub verdict_keys : (es : List (List ℕ × Channel)) (ps : List (List ℕ × ℕ)) → All (λ i. i < length es) (values_of ps) → keys_of (verdicts_at es ps) ≡ keys_of ps
+pub verdict_keys : (es : List (List ℕ × Channel)) (ps : List (List ℕ × ℕ)) → All (λ i. i < length es) (values_of ps)
+    → keys_of (verdicts_at es ps) ≡ keys_of ps
 verdict_keys es [] all = refl
-verdict_keys es (p ∷ ps) all = keys_by es p ps (all 0 0 (omega arith)) (verdict_keys es ps (λ k d l. all (suc k) d (omega (arith, l))))
+verdict_keys es (p ∷ ps) all =
+    keys_by es p ps (all 0 0 (omega arith)) (verdict_keys es ps (λ k d l. all (suc k) d (omega (arith, l))))
 
 abbrev told_at : List (List ℕ × Channel) → Option ℕ → Option Verdict
 told_at es None = None
 told_at es (Some i) = verdict_in (option_map (λ (e : List ℕ × Channel). e.1) (slice_get es i))
 
-told_one : (es : List (List ℕ × Channel)) (b : Bool) (i : ℕ) (rest : Option ℕ) (o : Option (List ℕ × Channel)) → slice_get es i ≡ o → is_some o ≡ true → (key : List ℕ) (test : List ℕ → Bool) (found : List (List ℕ × Verdict)) → test key ≡ b
-    → lookup test found ≡ told_at es rest → lookup test (told_by key o ++ found) ≡ told_at es (cond b (Some i) rest)
+told_one : (es : List (List ℕ × Channel)) (b : Bool) (i : ℕ) (rest : Option ℕ) (o : Option (List ℕ × Channel))
+    → slice_get es i ≡ o → is_some o ≡ true → (key : List ℕ) (test : List ℕ → Bool) (found : List (List ℕ × Verdict))
+    → test key ≡ b
+    → lookup test found ≡ told_at es rest
+    → lookup test (read_through key o ++ found) ≡ told_at es (cond b (Some i) rest)
 told_one es b i rest None at some key test found hit later = absurd (false≢true some)
-told_one es true i rest (Some e) at some key test found hit later = ap (λ (b : Bool). cond b (Some e.1.verdict) (lookup test found)) hit ∙ ap (λ (o : Option (List ℕ × Channel)). verdict_in (option_map (λ (e : List ℕ × Channel). e.1) o)) (sym at)
-told_one es false i rest (Some e) at some key test found hit later = ap (λ (b : Bool). cond b (Some e.1.verdict) (lookup test found)) hit ∙ later
+told_one es true i rest (Some e) at some key test found hit later =
+    ap (λ (b : Bool). cond b (Some e.1.verdict) (lookup test found)) hit
+    ∙ ap (λ (o : Option (List ℕ × Channel)). verdict_in (option_map (λ (e : List ℕ × Channel). e.1) o)) (sym at)
+told_one es false i rest (Some e) at some key test found hit later =
+    ap (λ (b : Bool). cond b (Some e.1.verdict) (lookup test found)) hit ∙ later
 
 -- what they say at a key
-verdict_found : (es : List (List ℕ × Channel)) (ps : List (List ℕ × ℕ)) (test : List ℕ → Bool) → All (λ i. i < length es) (values_of ps) → lookup test (verdicts_at es ps) ≡ told_at es (lookup test ps)
+verdict_found : (es : List (List ℕ × Channel)) (ps : List (List ℕ × ℕ)) (test : List ℕ → Bool)
+    → All (λ i. i < length es) (values_of ps) → lookup test (verdicts_at es ps) ≡ told_at es (lookup test ps)
 verdict_found es [] test all = refl
-verdict_found es (p ∷ ps) test all = told_one es (test p.0) p.1 (lookup test ps) (slice_get es p.1) refl (slice_get_some es p.1 (all 0 0 (omega arith))) p.0 test (verdicts_at es ps) refl (verdict_found es ps test (λ k d l. all (suc k) d (omega (arith, l))))
+verdict_found es (p ∷ ps) test all =
+    told_one es (test p.0) p.1 (lookup test ps) (slice_get es p.1) refl (slice_get_some es p.1 (all 0 0 (omega arith)))
+    p.0 test (verdicts_at es ps) refl (verdict_found es ps test (λ k d l. all (suc k) d (omega (arith, l))))
 
-told_place : (test : List ℕ → Bool) (es : List (List ℕ × Channel)) (o : Option ℕ) → place_of test es ≡ o → told_at es o ≡ verdict_in (lookup test es)
+told_place : (test : List ℕ → Bool) (es : List (List ℕ × Channel)) (o : Option ℕ) → place_of test es ≡ o
+    → told_at es o ≡ verdict_in (lookup test es)
 told_place test es None e = ap verdict_in (sym (none_there test es e))
 told_place test es (Some i) e = ap verdict_in (sym (kept_at test es i e))
 
-pub verdict_each : (es : List (List ℕ × Channel)) (ps : List (List ℕ × ℕ)) → ArePlaces ps es → (key : List ℕ) → lookup (same_key key) (verdicts_at es ps) ≡ verdict_in (lookup (same_key key) es)
-verdict_each es ps are key = verdict_found es ps (same_key key) are.within ∙ ap (λ (o : Option ℕ). told_at es o) (are.each key) ∙ told_place (same_key key) es (place_of (same_key key) es) refl
+pub verdict_each : (es : List (List ℕ × Channel)) (ps : List (List ℕ × ℕ)) → ArePlaces ps es → (key : List ℕ)
+    → lookup (same_key key) (verdicts_at es ps) ≡ verdict_in (lookup (same_key key) es)
+verdict_each es ps are key = verdict_found es ps (same_key key) are.within
+    ∙ ap (λ (o : Option ℕ). told_at es o) (are.each key)
+    ∙ told_place (same_key key) es (place_of (same_key key) es) refl
 
 -- what is found at a place
-pub found_at : (test : List ℕ → Bool) (es : List (List ℕ × Channel)) (i : ℕ) (e : List ℕ × Channel) → place_of test es ≡ Some i → e ≡ get_or es i e → lookup test es ≡ Some e.1
+pub found_at : (test : List ℕ → Bool) (es : List (List ℕ × Channel)) (i : ℕ) (e : List ℕ × Channel)
+    → place_of test es ≡ Some i → e ≡ get_or es i e → lookup test es ≡ Some e.1
 found_at test es i e place is =
     let there : slice_get es i ≡ Some e = slice_get_read es (length es) i e refl (place_within test es i place) is in
     kept_at test es i place ∙ ap (λ (o : Option (List ℕ × Channel)). option_map (λ (x : List ℕ × Channel). x.1) o) there
 
 -- what is kept at a place becomes something else
-pub set_found : (test : List ℕ → Bool) (es : List (List ℕ × Channel)) (i : ℕ) (e : List ℕ × Channel) (v : Channel) → place_of test es ≡ Some i → e ≡ get_or es i e → set es i (e.0, v) ≡ set_value test es v
+pub set_found : (test : List ℕ → Bool) (es : List (List ℕ × Channel)) (i : ℕ) (e : List ℕ × Channel) (v : Channel)
+    → place_of test es ≡ Some i → e ≡ get_or es i e → set es i (e.0, v) ≡ set_value test es v
 set_found test es i e v place is = ap (λ (x : List ℕ × Channel). set es i (x.0, v)) is ∙ set_at test es i e v place
 
 -- and each place stays
-pub places_set : (places : List (List ℕ × ℕ)) (test : List ℕ → Bool) (es : List (List ℕ × Channel)) (v : Channel) → ArePlaces places es → ArePlaces places (set_value test es v)
+pub places_set : (places : List (List ℕ × ℕ)) (test : List ℕ → Bool) (es : List (List ℕ × Channel)) (v : Channel)
+    → ArePlaces places es → ArePlaces places (set_value test es v)
 places_set places test es v are = record {
   each = λ key. are.each key ∙ sym (places_stay (same_key key) test es v);
   within = subst (λ (n : ℕ). All (λ i. i < n) (values_of places)) (sym (length-set_value test es v)) are.within;
 }
 
-pub place_set : (last : Option Place) (test : List ℕ → Bool) (es : List (List ℕ × Channel)) (v : Channel) → IsPlace last es → IsPlace last (set_value test es v)
+pub place_set : (last : Option Place) (test : List ℕ → Bool) (es : List (List ℕ × Channel)) (v : Channel)
+    → IsPlace last es → IsPlace last (set_value test es v)
 place_set None test es v is = tt
 place_set (Some p) test es v is = places_stay (same_key p.codes) test es v ∙ is
 

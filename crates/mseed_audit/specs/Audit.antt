@@ -28,9 +28,9 @@ IsTailOf (Some t) v = IsTail t v
 -- what is kept of a channel: the verdict on its records so far, and the end of the last of them
 pub record Stands (c : Channel) (ps : List Placed) : Type 0 where
   pub verdict : IsVerdict c.verdict ps
-  pub front : List Placed
+  pub prefix : List Placed
   pub last : Placed
-  pub parts : ps ≡ front ++ last ∷ []
+  pub parts : ps ≡ prefix ++ last ∷ []
   pub tail : IsTailOf c.tail last.view
 
 abbrev pub StandsAt : Option Channel → List Placed → Type 0

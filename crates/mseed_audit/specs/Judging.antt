@@ -14,7 +14,8 @@ pub use Rattle.mseed_record.specs.View.{step_in}
 use Rattle.mseed_steim.specs.declared.fault.ReadFault.{ReadFault}
 use Rattle.mseed_steim.specs.Reading.{count_of, IsFault, IsWhole}
 use Rattle.mseed_audit.specs.declared.finding.Why.{Why}
-use Rattle.mseed_audit.specs.declared.finding.Why.TheVariants.{Time, Rate, Read, RateChange, Leap as UnknownLeap, Gap, Overlap}
+use Rattle.mseed_audit.specs.declared.finding.Why.TheVariants.{Time, Rate, Read, RateChange, Leap as UnknownLeap, Gap}
+use Rattle.mseed_audit.specs.declared.finding.Why.TheVariants.{Overlap}
 
 -- the first field of the start that is out of its range
 abbrev pub time_fault_of : View → Option TimeFault
@@ -66,5 +67,7 @@ why_after (Some b) v next = why_from b (known_rate b) v next
 pub data IsFound (before : Option View) (v : View) : Option Why → Type 0 where
   time : (fault : TimeFault) → time_fault_of v ≡ Some fault → IsFound before v (Some (Time fault))
   rate : time_fault_of v ≡ None → rate_in v ≡ None → IsFound before v (Some Rate)
-  read : (next : Ratio) → known_rate v ≡ Some next → (fault : ReadFault) → IsFault v fault → IsFound before v (Some (Read fault))
-  after : (next : Ratio) → known_rate v ≡ Some next → (samples : List ℤ) → IsWhole v samples → IsFound before v (why_after before v next)
+  read : (next : Ratio) → known_rate v ≡ Some next → (fault : ReadFault) → IsFault v fault
+      → IsFound before v (Some (Read fault))
+  after : (next : Ratio) → known_rate v ≡ Some next → (samples : List ℤ) → IsWhole v samples
+      → IsFound before v (why_after before v next)

@@ -1,5 +1,6 @@
 -- The series of a channel.
-use Rattle.std.specs.Prelude.{⊤, ◌≡◌, ◌<◌, ◌≤◌, ◌+◌, ℕ, ℤ, List, [], ◌∷◌, ◌++◌, length, Option, Some, None, Result, Ok, Err}
+use Rattle.std.specs.Prelude.{⊤, ◌≡◌, ◌<◌, ◌≤◌, ◌+◌, ℕ, ℤ, List, [], ◌∷◌, ◌++◌, length, Option, Some, None, Result, Ok}
+use Rattle.std.specs.Prelude.{Err}
 use Rattle.mseed_time.specs.declared.outcome.LeapStep.{LeapStep}
 use Rattle.mseed_time.specs.declared.rate.Rate.{Rate}
 use Rattle.mseed_record.specs.Header.{key_at, factor_at, multiplier_at}
@@ -33,18 +34,19 @@ AreSteps size steps = AreStepsFrom 0 size steps
 
 -- the leap second at an index is the first that isn't one of them
 pub record IsBadStep (size : ℕ) (steps : List (ℕ × LeapStep)) (index : ℕ) : Type 0 where
-  pub front : List (ℕ × LeapStep)
+  pub prefix : List (ℕ × LeapStep)
   pub bad : ℕ × LeapStep
   pub back : List (ℕ × LeapStep)
-  pub parts : steps ≡ front ++ bad ∷ back
-  pub index_is : index ≡ length front
-  pub good : AreSteps size front
-  pub not_good : ¬ (AreSteps size (front ++ bad ∷ []))
+  pub parts : steps ≡ prefix ++ bad ∷ back
+  pub index_is : index ≡ length prefix
+  pub good : AreSteps size prefix
+  pub not_good : ¬ (AreSteps size (prefix ++ bad ∷ []))
 
 -- the samples of records, joined: of each its reading
 pub data AreJoined : List View → List ℤ → Type 0 where
   none : AreJoined [] []
-  one : (v : View) (vs : List View) (samples rest : List ℤ) → IsWhole v samples → AreJoined vs rest → AreJoined (v ∷ vs) (samples ++ rest)
+  one : (v : View) (vs : List View) (samples rest : List ℤ) → IsWhole v samples → AreJoined vs rest
+      → AreJoined (v ∷ vs) (samples ++ rest)
 
 abbrev pub step_at : ℕ → Option LeapStep → List (ℕ × LeapStep)
 step_at place None = []
@@ -54,7 +56,8 @@ step_at place (Some step) = (place, step) ∷ []
 -- the record that bears it
 abbrev pub steps_from : ℕ → List View → List (ℕ × LeapStep)
 steps_from place [] = []
-steps_from place (v ∷ vs) = step_at (place + count_of v) (step_in (leap_of v.bytes)) ++ steps_from (place + count_of v) vs
+steps_from place (v ∷ vs) = step_at (place + count_of v) (step_in (leap_of v.bytes)) ++ steps_from (place + count_of v)
+    vs
 
 -- a series of this channel, start and rate that holds the samples and leap seconds of these records, and no others
 pub record HoldsAll (codes : List ℕ) (start : ℤ) (rate : Rate) (vs : List View) (s : Trace) : Type 0 where
@@ -81,5 +84,6 @@ pub record IsSeriesOf (s : Trace) (vs : List View) : Type 0 where
 abbrev pub IsSeries : Result Trace NotContinuous → List Placed → Type 0
 IsSeries (Ok s) ps = IsContinuous (views_in ps) × IsSeriesOf s (views_in ps)
 IsSeries (Err Absent) ps = ps ≡ []
-IsSeries (Err (Broken first)) ps = (¬ (IsContinuous (views_in ps))) × ((rest : List Finding) × AreFindings None ps (first ∷ rest))
+IsSeries (Err (Broken first)) ps = (¬ (IsContinuous (views_in ps)))
+    × ((rest : List Finding) × AreFindings None ps (first ∷ rest))
 IsSeries (Err Memory) ps = IsContinuous (views_in ps)

@@ -1,7 +1,8 @@
 -- What an audit of a whole input writes and answers.
-use Rattle.std.specs.Prelude.{⊤, ◌≡◌, ◌<◌, ◌≤◌, ◌+◌, ℕ, List, [], ◌∷◌, ◌++◌, length, take, Option, Result, Ok, Err, is_some}
+use Rattle.std.specs.Prelude.{⊤, ◌≡◌, ◌<◌, ◌≤◌, ◌+◌, ℕ, List, [], ◌∷◌, ◌++◌, length, take, Option, Result, Ok, Err}
+use Rattle.std.specs.Prelude.{is_some}
 use Rattle.mseed_record.specs.View.{View}
-use Rattle.mseed_stream.specs.Device.{Heard, Said}
+use Rattle.mseed_stream.specs.Device.{BytesRead, BytesWritten}
 use Rattle.mseed_stream.specs.declared.fault.StreamFault.{StreamFault}
 use Rattle.mseed_audit.specs.declared.verdict.Verdict.{Verdict}
 use Rattle.mseed_audit.specs.declared.verdict.Verdict.TheVariants.{Continuous, Broken}
@@ -18,15 +19,15 @@ use Rattle.mseed_audit.specs.Verdict.{AreVerdicts}
 use Rattle.mseed_audit.specs.Audit.{Held, IsAuditOf}
 use Rattle.mseed_audit.specs.Text.{audit_text}
 
--- what was heard is these records and this end behind them, and these are the verdicts on the channels
-pub record Audited (h : Heard) : Type 0 where
+-- what was read is these records and this end behind them, and these are the verdicts on the channels
+pub record Audited (h : BytesRead) : Type 0 where
   pub views : List View
   pub end : Option StreamFault
   pub verdicts : List (List ℕ × Verdict)
   pub all : AreAllViews h views end
   pub are_verdicts : AreVerdicts (added_from 0 views) verdicts
 
-abbrev pub text_of : {h : Heard} → Audited h → List ℕ
+abbrev pub text_of : {h : BytesRead} → Audited h → List ℕ
 text_of a = audit_text a.verdicts (length a.views) a.end
 
 -- how many verdicts say that a channel is broken
@@ -35,37 +36,37 @@ broken_count [] = 0
 broken_count ((key, Continuous start rate records samples) ∷ vs) = broken_count vs
 broken_count ((key, Broken first count) ∷ vs) = broken_count vs + 1
 
-pub record IsSummary {h : Heard} (s : Summary) (a : Audited h) : Type 0 where
+pub record IsSummary {h : BytesRead} (s : Summary) (a : Audited h) : Type 0 where
   pub records : s.records ≡ length a.views
   pub channels : s.channels ≡ length a.verdicts
   pub broken : s.broken ≡ broken_count a.verdicts
   pub fault : s.fault ≡ is_some a.end
 
 -- the whole text was written
-pub record IsWritten {h : Heard} (s : Summary) (a : Audited h) (old new : Said) : Type 0 where
+pub record IsWritten {h : BytesRead} (s : Summary) (a : Audited h) (old new : BytesWritten) : Type 0 where
   pub summary : IsSummary s a
   pub text : new.bytes ≡ old.bytes ++ text_of a
   pub fine : new.failures ≡ old.failures
 
--- a front of the text of so many bytes was written, and then the output failed
-pub record IsCutOff {h : Heard} (taken : ℕ) (a : Audited h) (old new : Said) : Type 0 where
+-- a prefix of the text of so many bytes was written, and then the output failed
+pub record IsCutOff {h : BytesRead} (taken : ℕ) (a : Audited h) (old new : BytesWritten) : Type 0 where
   pub text : new.bytes ≡ old.bytes ++ take taken (text_of a)
   pub part : taken < length (text_of a)
   pub failed : new.failures ≡ old.failures + 1
 
 -- by the outcome
-abbrev pub IsOutcome : Result Summary AuditFault → Heard → Said → Said → Type 0
+abbrev pub IsOutcome : Result Summary AuditFault → BytesRead → BytesWritten → BytesWritten → Type 0
 IsOutcome (Ok summary) h old new = (a : Audited h) × IsWritten summary a old new
 IsOutcome (Err (Write taken)) h old new = (a : Audited h) × IsCutOff taken a old new
 IsOutcome (Err Memory) h old new = new ≡ old
 
 -- all records up to the end were added
-pub record IsGathered (held : Held) (end : Option StreamFault) (h : Heard) (views : List View) : Type 0 where
+pub record IsGathered (held : Held) (end : Option StreamFault) (h : BytesRead) (views : List View) : Type 0 where
   pub all : AreAllViews h views end
   pub audit : IsAuditOf held (added_from 0 views)
 
 -- a record more was handed out than these, and it was added
-pub record IsOneMore (views : List View) (old new : Heard) (c : Standing) (held : Held) : Type 0 where
+pub record IsOneMore (views : List View) (old new : BytesRead) (c : Standing) (held : Held) : Type 0 where
   pub view : View
   pub handed : HasHandedOut new c (views ++ view ∷ [])
   pub audit : IsAuditOf held (added_from 0 (views ++ view ∷ []))
@@ -73,7 +74,7 @@ pub record IsOneMore (views : List View) (old new : Heard) (c : Standing) (held 
   pub few : held.added ≤ new.calls
 
 -- What comes next of an input, behind these records that were added: one more, or its end, so that they are all.
-abbrev pub IsNext : Result Step NoRoom → List View → Heard → Heard → Standing → Held → Type 0
+abbrev pub IsNext : Result Step NoRoom → List View → BytesRead → BytesRead → Standing → Held → Type 0
 IsNext (Ok Added) views old new c held = IsOneMore views old new c held
 IsNext (Ok (Ended end)) views old new c held = IsGathered held end new views
 IsNext (Err e) views old new c held = ⊤

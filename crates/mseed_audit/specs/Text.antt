@@ -1,5 +1,6 @@
 -- The text of an audit.
-use Rattle.std.specs.Prelude.{ℕ, ◌&&◌, nat_le, if◌then◌else◌, List, [], ◌∷◌, ◌++◌, map, length, slice_range, codes, decimal, ℤ, Option, Some, None}
+use Rattle.std.specs.Prelude.{ℕ, ◌&&◌, nat_le, if◌then◌else◌, List, [], ◌∷◌, ◌++◌, map, length, slice_range, codes}
+use Rattle.std.specs.Prelude.{decimal, ℤ, Option, Some, None}
 use Rattle.std.specs.Fmt.{signed_decimal}
 use Rattle.std.specs.List.{list_all}
 use Rattle.mseed_time.specs.Rate.{Ratio}
@@ -7,13 +8,17 @@ use Rattle.mseed_time.specs.Ratios.{ratio_of}
 use Rattle.mseed_time.specs.Text.{fault_word, time_text}
 use Rattle.mseed_record.specs.Header.{is_blank}
 use Rattle.mseed_record.specs.declared.frame.FrameFault.{FrameFault}
-use Rattle.mseed_record.specs.declared.frame.FrameFault.TheVariants.{NotData, Order as NoOrder, Chain, No1000, Length, Outside, Version3}
+use Rattle.mseed_record.specs.declared.frame.FrameFault.TheVariants.{NotData, Order as NoOrder, Chain, No1000, Length}
+use Rattle.mseed_record.specs.declared.frame.FrameFault.TheVariants.{Outside, Version3}
 use Rattle.mseed_steim.specs.declared.fault.ReadFault.{ReadFault}
-use Rattle.mseed_steim.specs.declared.fault.ReadFault.TheVariants.{Blockette100, Encoding, LittleSteim, DataOffset, Short, BadWord, Overflow, LastDiffers, Memory as NoMemory}
+use Rattle.mseed_steim.specs.declared.fault.ReadFault.TheVariants.{Blockette100, Encoding, LittleSteim, DataOffset}
+use Rattle.mseed_steim.specs.declared.fault.ReadFault.TheVariants.{Short, BadWord, Overflow, LastDiffers}
+use Rattle.mseed_steim.specs.declared.fault.ReadFault.TheVariants.{Memory as NoMemory}
 use Rattle.mseed_stream.specs.declared.fault.StreamFault.{StreamFault}
 use Rattle.mseed_stream.specs.declared.fault.StreamFault.TheVariants.{Frame, Truncated, Read, Turns, Memory}
 use Rattle.mseed_audit.specs.declared.finding.Why.{Why}
-use Rattle.mseed_audit.specs.declared.finding.Why.TheVariants.{Time, Rate, Read as ReadFailed, RateChange, Leap, Gap, Overlap}
+use Rattle.mseed_audit.specs.declared.finding.Why.TheVariants.{Time, Rate, Read as ReadFailed, RateChange, Leap, Gap}
+use Rattle.mseed_audit.specs.declared.finding.Why.TheVariants.{Overlap}
 use Rattle.mseed_audit.specs.declared.finding.Finding.{Finding}
 use Rattle.mseed_audit.specs.declared.verdict.Verdict.{Verdict}
 use Rattle.mseed_audit.specs.declared.verdict.Verdict.TheVariants.{Continuous, Broken}
@@ -46,7 +51,8 @@ read_text DataOffset = codes "dataoffset"
 read_text (Short found) = codes "short " ++ decimal found
 read_text (BadWord frame word) = codes "badword " ++ decimal frame ++ codes " " ++ decimal word
 read_text (Overflow index) = codes "overflow " ++ decimal index
-read_text (LastDiffers found constant) = codes "lastdiffers " ++ signed_decimal found ++ codes " " ++ signed_decimal constant
+read_text (LastDiffers found constant) =
+    codes "lastdiffers " ++ signed_decimal found ++ codes " " ++ signed_decimal constant
 read_text NoMemory = []
 
 abbrev pub why_text : Why → List ℕ
@@ -72,7 +78,8 @@ broken_words first count =
 
 -- a channel's line, by its verdict
 abbrev pub verdict_line : List ℕ → Verdict → List ℕ
-verdict_line key (Continuous start rate records samples) = name_text key ++ continuous_words start (ratio_of rate) records samples
+verdict_line key (Continuous start rate records samples) =
+    name_text key ++ continuous_words start (ratio_of rate) records samples
 verdict_line key (Broken first count) = name_text key ++ broken_words first count
 
 -- how many records and channels there are
@@ -93,7 +100,8 @@ frame_words Version3 = codes "version3"
 -- the line of a stream's fault: a want of memory has none
 abbrev pub fault_line : StreamFault → List ℕ
 fault_line (Frame offset f) = codes "fault at " ++ decimal offset ++ codes " " ++ frame_words f ++ codes "\n"
-fault_line (Truncated offset have) = codes "fault at " ++ decimal offset ++ codes " truncated " ++ decimal have ++ codes "\n"
+fault_line (Truncated offset have) = codes "fault at " ++ decimal offset ++ codes " truncated " ++ decimal have
+    ++ codes "\n"
 fault_line (Read offset) = codes "fault at " ++ decimal offset ++ codes " read\n"
 fault_line (Turns offset) = codes "fault at " ++ decimal offset ++ codes " turns\n"
 fault_line Memory = []

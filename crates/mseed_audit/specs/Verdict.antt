@@ -1,5 +1,6 @@
 -- What an audit says of a channel, by its records in their order.
-use Rattle.std.specs.Prelude.{⊤, ◌≡◌, ◌↔◌, ℕ, List, [], ◌∷◌, ◌++◌, length, Option, Some, None, Bool, true, false, ℤ, IsTrue}
+use Rattle.std.specs.Prelude.{⊤, ◌≡◌, ◌↔◌, ℕ, List, [], ◌∷◌, ◌++◌, length, Option, Some, None, Bool, true, false, ℤ}
+use Rattle.std.specs.Prelude.{IsTrue}
 use Rattle.std.specs.Ordering.{nat_cmp}
 use Rattle.std.specs.Cmp.Lexicographic.{slice_cmp}
 use Rattle.std.specs.List.Sorted.{IsStrictlySortedBy}
@@ -22,11 +23,13 @@ finding_at p (Some why) = record { number = p.number; offset = p.offset; why = w
 -- the findings of the records behind another, each judged by the one just before it
 pub data AreFindings : Option View → List Placed → List Finding → Type 0 where
   none : (before : Option View) → AreFindings before [] []
-  one : (before : Option View) (p : Placed) (ps : List Placed) (why : Option Why) (found : List Finding) → IsFound before p.view why
+  one : (before : Option View) (p : Placed) (ps : List Placed) (why : Option Why) (found : List Finding)
+      → IsFound before p.view why
       → AreFindings (Some p.view) ps found → AreFindings before (p ∷ ps) (finding_at p why ++ found)
 
 -- a channel without a finding: its first record's start and rate, and its counts
-pub record IsRun (first : Placed) (rest : List Placed) (start : ℤ) (factor multiplier : ℤ) (records samples : ℕ) : Type 0 where
+pub record IsRun (first : Placed) (rest : List Placed) (start : ℤ) (factor multiplier : ℤ) (records samples : ℕ) : Type
+    0 where
   pub findings : AreFindings None (first ∷ rest) []
   pub start_is : start ≡ start_of first.view
   pub factor_is : factor ≡ factor_at first.view.order first.view.bytes
@@ -38,7 +41,8 @@ pub record IsRun (first : Placed) (rest : List Placed) (start : ℤ) (factor mul
 -- else broken, with the first finding and their number
 abbrev pub IsVerdict : Verdict → List Placed → Type 0
 IsVerdict (Continuous start rate records samples) ps =
-    (first : Placed) × ((rest : List Placed) × ((ps ≡ first ∷ rest) × IsRun first rest start rate.factor rate.multiplier records samples))
+    (first : Placed) × ((rest : List Placed)
+    × ((ps ≡ first ∷ rest) × IsRun first rest start rate.factor rate.multiplier records samples))
 IsVerdict (Broken first count) ps =
     (rest : List Finding) × (AreFindings None ps (first ∷ rest) × (count ≡ length (first ∷ rest)))
 

@@ -3,7 +3,7 @@ ghost use Rattle.std.specs.Prelude.{◌≡◌, ◌≤◌, ◌++◌, List, ℕ, I
 ghost use Rattle.std.specs.Io.KnownBytes.{Appends, IsAtEnd};
 ghost use Rattle.mseed_record.specs.View.{View};
 ghost use Rattle.mseed_stream.specs.Cutting.{IsAlong, TellsMore};
-ghost use Rattle.mseed_stream.specs.Device.{nothing_heard};
+ghost use Rattle.mseed_stream.specs.Device.{nothing_read};
 ghost use Rattle.mseed_stream.specs.Walk.{HasHandedOut};
 ghost use Rattle.mseed_audit.specs.Audit.{IsAuditOf};
 ghost use Rattle.mseed_audit.specs.Channels.{added_from};
@@ -35,7 +35,7 @@ pub enum AuditFault {
     /// The output failed, once it had taken so many bytes of the text.
     #[error("the output failed after {0} bytes")]
     Write(usize),
-    /// A growth was refused. Nothing was written.
+    /// An allocation was refused. Nothing was written.
     #[error("no memory")]
     Memory,
 }
@@ -56,22 +56,22 @@ ghost use Rattle.mseed_audit.specs.Summary.{IsOutcome, IsGathered, IsNext, broke
 ///
 /// # Errors
 ///
-/// `Write` where the output failed, `Memory` where a growth was refused.
+/// `Write` where the output failed, `Memory` where an allocation was refused.
 pub fn audit<A: Allocator + Copy, R: Source, W: Sink>(
     alloc: A,
     source: &mut R,
     sink: &mut W,
 ) -> Result<Summary, AuditFault>
-    requires { R.heard source.old ≡ nothing_heard }
-    ensures outcome { IsOutcome result (R.heard source.new) (W.said sink.old) (W.said sink.new) }
+    requires { R.read source.old ≡ nothing_read }
+    ensures outcome { IsOutcome result (R.read source.new) (W.written sink.old) (W.written sink.new) }
 
-    // What the source is known to have left is what it told, up to its end where the input is at its end.
-    ensures more { TellsMore (R.heard source.old) (R.heard source.new) (R.remaining source.old)
+    // What the source is known to have left is what was read of it, up to its end where the input is at its end.
+    ensures more { TellsMore (R.read source.old) (R.read source.new) (R.remaining source.old)
         (R.remaining source.new) }
-    ensures known { (R.heard source.new).is_at_end ≡ true → IsAtEnd (R.remaining source.new) }
+    ensures known { (R.read source.new).is_at_end ≡ true → IsAtEnd (R.remaining source.new) }
 
     // What the sink is known to hold grew by what it took.
-    ensures contents { (bytes : List ℕ) → (W.said sink.new).bytes ≡ (W.said sink.old).bytes ++ bytes
+    ensures contents { (bytes : List ℕ) → (W.written sink.new).bytes ≡ (W.written sink.old).bytes ++ bytes
         → Appends (W.contents sink.old) (W.contents sink.new) bytes }
 
     // What the source takes, and what the sink tells, stay as they were.
@@ -105,12 +105,12 @@ fn gather<A: Allocator + Copy, R: Source>(
     alloc: A,
     source: &mut R,
 ) -> Result<(Audit<A>, Option<StreamFault>), Memory>
-    requires { R.heard source.old ≡ nothing_heard }
+    requires { R.read source.old ≡ nothing_read }
     ensures gathered { IfOk result (λ found. (views : List View)
-        × IsGathered found.0 found.1 (R.heard source.new) views) }
-    ensures more { TellsMore (R.heard source.old) (R.heard source.new) (R.remaining source.old)
+        × IsGathered found.0 found.1 (R.read source.new) views) }
+    ensures more { TellsMore (R.read source.old) (R.read source.new) (R.remaining source.old)
         (R.remaining source.new) }
-    ensures known { (R.heard source.new).is_at_end ≡ true → IsAtEnd (R.remaining source.new) }
+    ensures known { (R.read source.new).is_at_end ≡ true → IsAtEnd (R.remaining source.new) }
     ensures beside { R.beside source.new ≡ R.beside source.old }
 {
     let mut cutter = Cutter::new(alloc);
@@ -129,14 +129,14 @@ fn add_next<A: Allocator + Copy, R: Source>(
     cutter: &mut Cutter<A>,
     source: &mut R,
 ) -> Result<Step, Memory>
-    requires along { IsAlong (R.heard source.old) cutter.old }
-    requires few { audit.old.added ≤ (R.heard source.old).calls }
-    ensures next { (views : List View) → HasHandedOut (R.heard source.old) cutter.old views
+    requires along { IsAlong (R.read source.old) cutter.old }
+    requires few { audit.old.added ≤ (R.read source.old).calls }
+    ensures next { (views : List View) → HasHandedOut (R.read source.old) cutter.old views
         → IsAuditOf audit.old (added_from 0 views)
-        → IsNext result views (R.heard source.old) (R.heard source.new) cutter.new audit.new }
-    ensures more { TellsMore (R.heard source.old) (R.heard source.new) (R.remaining source.old)
+        → IsNext result views (R.read source.old) (R.read source.new) cutter.new audit.new }
+    ensures more { TellsMore (R.read source.old) (R.read source.new) (R.remaining source.old)
         (R.remaining source.new) }
-    ensures known { cutter.old.answer ≡ None → (R.heard source.new).is_at_end ≡ true
+    ensures known { cutter.old.answer ≡ None → (R.read source.new).is_at_end ≡ true
         → IsAtEnd (R.remaining source.new) }
     ensures beside { R.beside source.new ≡ R.beside source.old }
 {

@@ -29,7 +29,7 @@ pub enum NotContinuous {
     /// The channel is broken: the first finding, whose offset is where the record begins if the records
     /// stand one behind another.
     Broken(Finding),
-    /// A growth was refused.
+    /// An allocation was refused.
     Memory,
 }
 
@@ -37,7 +37,7 @@ pub enum NotContinuous {
 ///
 /// # Errors
 ///
-/// `Absent` where the channel has no samples, `Broken` where it isn't continuous, `Memory` where a growth
+/// `Absent` where the channel has no samples, `Broken` where it isn't continuous, `Memory` where an allocation
 /// was refused.
 pub fn series<A: Allocator + Copy>(
     alloc: A,

@@ -13,7 +13,7 @@ use mseed_record::{Codes, RecordView};
 use std::alloc::{Allocator, Global};
 use std::marker::Model;
 
-/// A growth was refused.
+/// An allocation was refused.
 #[derive(Clone, Copy, Debug, PartialEq, Eq)]
 pub struct Memory;
 

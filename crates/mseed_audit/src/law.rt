@@ -9,7 +9,7 @@ ghost use Rattle.mseed_audit.specs.Channels.{Added, Placed, views_in};
 ghost use Rattle.mseed_audit.specs.Follows.{IsContinuous};
 ghost use Rattle.mseed_audit.specs.Judging.{IsFound};
 ghost use Rattle.mseed_audit.specs.Series.{Trace, AreJoined, IsBadStep, IsSeriesOf};
-ghost use Rattle.mseed_stream.specs.Device.{Heard};
+ghost use Rattle.mseed_stream.specs.Device.{BytesRead};
 ghost use Rattle.mseed_audit.specs.declared.archive.Summary.{Summary};
 ghost use Rattle.mseed_audit.specs.Summary.{Audited, IsSummary, text_of};
 ghost use Rattle.mseed_audit.specs.Verdict.{AreFindings, AreVerdicts, IsVerdict, says_continuous};
@@ -51,10 +51,10 @@ pub fn one_list_of_verdicts()
     one_fault();
 }
 
-/// What was heard has one audit: one text and one summary.
+/// What was read has one audit: one text and one summary.
 pub fn one_audit()
-    ensures text { (h : Heard) (a b : Audited h) → text_of a ≡ text_of b }
-    ensures summary { (h : Heard) (a b : Audited h) (s t : Summary) → IsSummary s a → IsSummary t b → s ≡ t }
+    ensures text { (h : BytesRead) (a b : Audited h) → text_of a ≡ text_of b }
+    ensures summary { (h : BytesRead) (a b : Audited h) (s t : Summary) → IsSummary s a → IsSummary t b → s ≡ t }
 {
     one_fault();
     one_input();

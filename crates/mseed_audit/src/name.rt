@@ -1,6 +1,6 @@
 //! A channel's name as it is printed.
 ghost use Rattle.std.specs.Prelude.{◌≡◌, ◌++◌, OnOk};
-ghost use Rattle.mseed_stream.specs.Device.{IsFrontOf};
+ghost use Rattle.mseed_stream.specs.Device.{IsPrefixOf};
 ghost use Rattle.mseed_audit.specs.Text.{name_text, code_text, printed, trimmed};
 
 use crate::parts::Part::Words;
@@ -17,7 +17,7 @@ use std::alloc::{AllocError, Allocator};
 /// added behind it.
 pub fn push_name<A: Allocator>(text: &mut Vec<u8, A>, codes: &Codes) -> Result<(), AllocError>
     ensures ok { OnOk result (text.new.items ≡ text.old.items ++ name_text codes.now) }
-    ensures front { IsFrontOf text.old.items text.new.items }
+    ensures prefix { IsPrefixOf text.old.items text.new.items }
 {
     push_code(text, codes.network())?;
     push_parts(text, &[Words(b"_")])?;
@@ -31,7 +31,7 @@ pub fn push_name<A: Allocator>(text: &mut Vec<u8, A>, codes: &Codes) -> Result<(
 /// Adds a code without its trailing spaces and NULs.
 fn push_code<A: Allocator>(text: &mut Vec<u8, A>, code: &[u8]) -> Result<(), AllocError>
     ensures ok { OnOk result (text.new.items ≡ text.old.items ++ code_text code.now) }
-    ensures front { IsFrontOf text.old.items text.new.items }
+    ensures prefix { IsPrefixOf text.old.items text.new.items }
 {
     for byte in trimmed(code) {
         text.push(printed(*byte))?;

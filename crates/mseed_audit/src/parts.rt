@@ -1,6 +1,6 @@
 //! A text in parts: words and numbers, one behind another.
 ghost use Rattle.std.specs.Prelude.{◌≡◌, ◌<◌, ◌+◌, ◌++◌, OnErr, OnOk, decimal};
-ghost use Rattle.mseed_stream.specs.Device.{IsFrontOf};
+ghost use Rattle.mseed_stream.specs.Device.{IsPrefixOf};
 ghost use Rattle.mseed_audit.specs.Parts.{part_text, parts_text};
 
 use itoa::Buffer;
@@ -28,7 +28,7 @@ pub enum Part<'a> {
 #[inline(always)]
 pub fn push_parts<A: Allocator>(text: &mut Vec<u8, A>, parts: &[Part<'_>]) -> Result<(), AllocError>
     ensures ok { OnOk result (text.new.items ≡ text.old.items ++ parts_text parts.now) }
-    ensures front { IsFrontOf text.old.items text.new.items }
+    ensures prefix { IsPrefixOf text.old.items text.new.items }
 {
     for part in parts {
         push_part(text, *part)?;
@@ -40,7 +40,7 @@ pub fn push_parts<A: Allocator>(text: &mut Vec<u8, A>, parts: &[Part<'_>]) -> Re
 #[inline(always)]
 fn push_part<A: Allocator>(text: &mut Vec<u8, A>, part: Part<'_>) -> Result<(), AllocError>
     ensures ok { OnOk result (text.new.items ≡ text.old.items ++ part_text part.entry) }
-    ensures front { IsFrontOf text.old.items text.new.items }
+    ensures prefix { IsPrefixOf text.old.items text.new.items }
 {
     match part {
         Part::Words(words) => text.extend_from_slice(words),
@@ -58,7 +58,7 @@ fn push_part<A: Allocator>(text: &mut Vec<u8, A>, part: Part<'_>) -> Result<(), 
 pub fn push_count<A: Allocator>(text: &mut Vec<u8, A>, count: u64) -> Result<(), AllocError>
     ensures ok { OnOk result (text.new.items ≡ text.old.items ++ decimal count) }
     ensures unchanged { OnErr result (text.new.items ≡ text.old.items) }
-    ensures front { IsFrontOf text.old.items text.new.items }
+    ensures prefix { IsPrefixOf text.old.items text.new.items }
 {
     if count < 10_000 {
         push_short(text, count)
@@ -72,7 +72,7 @@ fn push_short<A: Allocator>(text: &mut Vec<u8, A>, count: u64) -> Result<(), All
     requires { count < 10000 }
     ensures ok { OnOk result (text.new.items ≡ text.old.items ++ decimal count) }
     ensures unchanged { OnErr result (text.new.items ≡ text.old.items) }
-    ensures front { IsFrontOf text.old.items text.new.items }
+    ensures prefix { IsPrefixOf text.old.items text.new.items }
 {
     let ones = digit(count % 10);
     if count < 10 {

@@ -1,7 +1,7 @@
 //! The lines of an audit's text.
 ghost use Rattle.std.specs.Prelude.{◌≡◌, ◌++◌, OnOk};
 ghost use Rattle.mseed_time.specs.Ratios.{ratio_of};
-ghost use Rattle.mseed_stream.specs.Device.{IsFrontOf};
+ghost use Rattle.mseed_stream.specs.Device.{IsPrefixOf};
 ghost use Rattle.mseed_audit.specs.Text.{audit_text, verdict_lines, verdict_line, continuous_words};
 ghost use Rattle.mseed_audit.specs.Text.{broken_words, total_line, why_text, read_text};
 ghost use Rattle.mseed_audit.specs.Text.{fault_line, frame_words};
@@ -28,7 +28,7 @@ pub(crate) fn push_audit<A: Allocator>(
     end: &Option<StreamFault>,
 ) -> Result<(), AllocError>
     ensures ok { OnOk result (text.new.items ≡ text.old.items ++ audit_text verdicts.now records end.now) }
-    ensures front { IsFrontOf text.old.items text.new.items }
+    ensures prefix { IsPrefixOf text.old.items text.new.items }
 {
     push_verdicts(text, verdicts)?;
     push_total_line(text, records, verdicts.len() as u64)?;
@@ -44,7 +44,7 @@ fn push_verdicts<A: Allocator>(
     verdicts: &[(Codes, Verdict)],
 ) -> Result<(), AllocError>
     ensures ok { OnOk result (text.new.items ≡ text.old.items ++ verdict_lines verdicts.now) }
-    ensures front { IsFrontOf text.old.items text.new.items }
+    ensures prefix { IsPrefixOf text.old.items text.new.items }
 {
     for (codes, verdict) in verdicts {
         push_channel_line(text, codes, verdict)?;
@@ -59,7 +59,7 @@ fn push_channel_line<A: Allocator>(
     verdict: &Verdict,
 ) -> Result<(), AllocError>
     ensures ok { OnOk result (text.new.items ≡ text.old.items ++ verdict_line codes.now verdict.now) }
-    ensures front { IsFrontOf text.old.items text.new.items }
+    ensures prefix { IsPrefixOf text.old.items text.new.items }
 {
     push_name(text, codes)?;
     match verdict {
@@ -83,7 +83,7 @@ fn push_continuous<A: Allocator>(
 ) -> Result<(), AllocError>
     ensures ok { OnOk result (text.new.items
         ≡ text.old.items ++ continuous_words start (ratio_of rate) records samples) }
-    ensures front { IsFrontOf text.old.items text.new.items }
+    ensures prefix { IsPrefixOf text.old.items text.new.items }
 {
     push_parts(
         text,
@@ -110,7 +110,7 @@ fn push_broken<A: Allocator>(
     count: u64,
 ) -> Result<(), AllocError>
     ensures ok { OnOk result (text.new.items ≡ text.old.items ++ broken_words first.now count) }
-    ensures front { IsFrontOf text.old.items text.new.items }
+    ensures prefix { IsPrefixOf text.old.items text.new.items }
 {
     push_parts(
         text,
@@ -135,7 +135,7 @@ fn push_total_line<A: Allocator>(
     channels: u64,
 ) -> Result<(), AllocError>
     ensures ok { OnOk result (text.new.items ≡ text.old.items ++ total_line records channels) }
-    ensures front { IsFrontOf text.old.items text.new.items }
+    ensures prefix { IsPrefixOf text.old.items text.new.items }
 {
     push_parts(
         text,
@@ -160,7 +160,7 @@ pub fn push_fault_line<A: Allocator>(
     fault: &StreamFault,
 ) -> Result<(), AllocError>
     ensures ok { OnOk result (text.new.items ≡ text.old.items ++ fault_line fault.now) }
-    ensures front { IsFrontOf text.old.items text.new.items }
+    ensures prefix { IsPrefixOf text.old.items text.new.items }
 {
     match fault {
         StreamFault::Frame(offset, fault) => push_frame_line(text, *offset, fault),
@@ -197,7 +197,7 @@ fn push_frame_line<A: Allocator>(
     fault: &FrameFault,
 ) -> Result<(), AllocError>
     ensures ok { OnOk result (text.new.items ≡ text.old.items ++ fault_line (StreamFault.Frame offset fault.now)) }
-    ensures front { IsFrontOf text.old.items text.new.items }
+    ensures prefix { IsPrefixOf text.old.items text.new.items }
 {
     push_parts(text, &[Words(b"fault at "), Count(offset), Words(b" ")])?;
     push_frame_words(text, fault)?;
@@ -210,7 +210,7 @@ fn push_frame_words<A: Allocator>(
     fault: &FrameFault,
 ) -> Result<(), AllocError>
     ensures ok { OnOk result (text.new.items ≡ text.old.items ++ frame_words fault.now) }
-    ensures front { IsFrontOf text.old.items text.new.items }
+    ensures prefix { IsPrefixOf text.old.items text.new.items }
 {
     match fault {
         FrameFault::NotData => push_parts(text, &[Words(b"notdata")]),
@@ -228,7 +228,7 @@ fn push_frame_words<A: Allocator>(
 /// Adds the words of a finding.
 fn push_why<A: Allocator>(text: &mut Vec<u8, A>, why: &Why) -> Result<(), AllocError>
     ensures ok { OnOk result (text.new.items ≡ text.old.items ++ why_text why.now) }
-    ensures front { IsFrontOf text.old.items text.new.items }
+    ensures prefix { IsPrefixOf text.old.items text.new.items }
 {
     match why {
         Why::Time(fault) => { push_parts(text, &[Words(b"time "), Words(fault.word().as_bytes())]) }
@@ -244,7 +244,7 @@ fn push_why<A: Allocator>(text: &mut Vec<u8, A>, why: &Why) -> Result<(), AllocE
 /// Adds the words of samples that can't be read.
 fn push_read_fault<A: Allocator>(text: &mut Vec<u8, A>, fault: &ReadFault) -> Result<(), AllocError>
     ensures ok { OnOk result (text.new.items ≡ text.old.items ++ read_text fault.now) }
-    ensures front { IsFrontOf text.old.items text.new.items }
+    ensures prefix { IsPrefixOf text.old.items text.new.items }
 {
     match fault {
         ReadFault::Blockette100 => push_parts(text, &[Words(b"blockette100")]),

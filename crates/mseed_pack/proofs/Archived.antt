@@ -1,5 +1,6 @@
 -- Among the records of several packed series each channel's are its series' own.
-use Rattle.std.proofs.Common.{◌≡◌, ◌≢◌, ℕ, ◌+◌, nat_lt, Bool, true, false, cond, List, [], ◌∷◌, ◌++◌, length, IsTrue, refl, sym, ap, subst, ◌∙◌, append_assoc, append-nil}
+use Rattle.std.proofs.Common.{◌≡◌, ◌≢◌, ℕ, ◌+◌, nat_lt, Bool, true, false, cond, List, [], ◌∷◌, ◌++◌, length, IsTrue}
+use Rattle.std.proofs.Common.{refl, sym, ap, subst, ◌∙◌, append_assoc, append-nil}
 use Rattle.std.specs.List.{AllByRecursion, filter}
 use Rattle.std.specs.Ordering.{nat_cmp, is_eq}
 use Rattle.std.specs.Cmp.Lexicographic.{slice_cmp}
@@ -35,41 +36,57 @@ not_of key other v apart e = by (is_of other v) refl
     by false f = f
 
 -- the channel's records by their views
-pub views_filtered : (key : List ℕ) (n offset : ℕ) (vs : List View) → views_in (filter (λ (p : Placed). is_of key p.view) (numbered n (added_from offset vs))) ≡ filter (is_of key) vs
+pub views_filtered : (key : List ℕ) (n offset : ℕ) (vs : List View)
+    → views_in (filter (λ (p : Placed). is_of key p.view) (numbered n (added_from offset vs))) ≡ filter (is_of key) vs
 views_filtered key n offset [] = refl
 views_filtered key n offset (v ∷ vs) = by (is_of key v) (views_filtered key (n + 1) (offset + length v.bytes) vs)
   where
-    by : (b : Bool) → views_in (filter (λ (p : Placed). is_of key p.view) (numbered (n + 1) (added_from (offset + length v.bytes) vs))) ≡ filter (is_of key) vs
-        → views_in (cond b (record { view = v; offset = offset; number = n } ∷ filter (λ (p : Placed). is_of key p.view) (numbered (n + 1) (added_from (offset + length v.bytes) vs))) (filter (λ (p : Placed). is_of key p.view) (numbered (n + 1) (added_from (offset + length v.bytes) vs))))
+    by : (b : Bool) → views_in
+        (filter (λ (p : Placed). is_of key p.view) (numbered (n + 1) (added_from (offset + length v.bytes) vs)))
+        ≡ filter (is_of key) vs
+        → views_in (cond b (record { view = v; offset = offset; number = n } ∷ filter
+        (λ (p : Placed). is_of key p.view) (numbered (n + 1) (added_from (offset + length v.bytes) vs)))
+        (filter (λ (p : Placed). is_of key p.view) (numbered (n + 1) (added_from (offset + length v.bytes) vs))))
         ≡ cond b (v ∷ filter (is_of key) vs) (filter (is_of key) vs)
     by true rest = ap (λ (us : List View). v ∷ us) rest
     by false rest = rest
 
-pub all_kept : (key : List ℕ) (vs : List View) → AllByRecursion (λ (v : View). IsTrue (is_of key v)) vs → filter (is_of key) vs ≡ vs
+pub all_kept : (key : List ℕ) (vs : List View) → AllByRecursion (λ (v : View). IsTrue (is_of key v)) vs
+    → filter (is_of key) vs ≡ vs
 all_kept key [] h = refl
-all_kept key (v ∷ vs) h = let here : is_of key v ≡ true = h.0 in rw here (ap (λ (us : List View). v ∷ us) (all_kept key vs h.1))
+all_kept key (v ∷ vs) h = let here : is_of key v ≡ true = h.0 in
+    rw here (ap (λ (us : List View). v ∷ us) (all_kept key vs h.1))
 
-none_kept : (key other : List ℕ) (vs : List View) → key ≢ other → AllByRecursion (λ (v : View). IsTrue (is_of key v)) vs → filter (is_of other) vs ≡ []
+none_kept : (key other : List ℕ) (vs : List View) → key ≢ other
+    → AllByRecursion (λ (v : View). IsTrue (is_of key v)) vs → filter (is_of other) vs ≡ []
 none_kept key other [] apart h = refl
-none_kept key other (v ∷ vs) apart h = let here : is_of other v ≡ false = not_of key other v apart h.0 in rw here (none_kept key other vs apart h.1)
+none_kept key other (v ∷ vs) apart h = let here : is_of other v ≡ false = not_of key other v apart h.0 in
+    rw here (none_kept key other vs apart h.1)
 
 -- views are cut where their records are
 pub record Halves (xs ys : List (List ℕ)) (vs : List View) : Type 0 where
-  pub front : List View
+  pub prefix : List View
   pub back : List View
-  pub parts : vs ≡ front ++ back
-  pub first : AreViewsOf xs front
+  pub parts : vs ≡ prefix ++ back
+  pub first : AreViewsOf xs prefix
   pub second : AreViewsOf ys back
 
-pub halves : (xs ys : List (List ℕ)) (vs : List View) → bytes_in vs ≡ xs ++ ys → AllByRecursion IsView vs → Halves xs ys vs
-halves [] ys vs e h = record { front = []; back = vs; parts = refl; first = record { bytes = refl; each = tt }; second = record { bytes = e; each = h } }
+pub halves : (xs ys : List (List ℕ)) (vs : List View) → bytes_in vs ≡ xs ++ ys → AllByRecursion IsView vs
+    → Halves xs ys vs
+halves [] ys vs e h = record {
+  prefix = [];
+  back = vs;
+  parts = refl;
+  first = record { bytes = refl; each = tt };
+  second = record { bytes = e; each = h };
+}
 halves (x ∷ xs) ys [] e h = cc
 halves (x ∷ xs) ys (v ∷ vs) e h =
     let here : v.bytes ≡ x = cc in
     let rest : bytes_in vs ≡ xs ++ ys = cc in
     let later = halves xs ys vs rest h.1 in
     record {
-      front = v ∷ later.front;
+      prefix = v ∷ later.prefix;
       back = later.back;
       parts = λ i. v ∷ later.parts i;
       first = record { bytes = λ i. here i ∷ later.first.bytes i; each = (h.0, later.first.each) };
@@ -77,57 +94,82 @@ halves (x ∷ xs) ys (v ∷ vs) e h =
     }
 
 -- the records of a packed series are of its channel
-of_channel : (p : Packed) (vs : List View) → ReadsAs p.series p.records → AreViewsOf p.records vs → AllByRecursion (λ (v : View). IsTrue (is_of p.series.codes v)) vs
-of_channel p vs reads are = subst (λ (us : List View). AllByRecursion (λ (v : View). IsTrue (is_of p.series.codes v)) us) (sym (reads.only vs are)) reads.channel
+of_channel : (p : Packed) (vs : List View) → ReadsAs p.series p.records → AreViewsOf p.records vs
+    → AllByRecursion (λ (v : View). IsTrue (is_of p.series.codes v)) vs
+of_channel p vs reads are =
+    subst (λ (us : List View). AllByRecursion (λ (v : View). IsTrue (is_of p.series.codes v)) us)
+    (sym (reads.only vs are)) reads.channel
 
 -- none of those of others is of another channel
-others_gone : (key : List ℕ) (packed : List Packed) (vs : List View) → AllByRecursion (λ (p : Packed). ReadsAs p.series p.records) packed → AllByRecursion (λ (q : Packed). q.series.codes ≢ key) packed → AreViewsOf (records_of_all packed) vs → filter (is_of key) vs ≡ []
+others_gone : (key : List ℕ) (packed : List Packed) (vs : List View)
+    → AllByRecursion (λ (p : Packed). ReadsAs p.series p.records) packed
+    → AllByRecursion (λ (q : Packed). q.series.codes ≢ key) packed → AreViewsOf (records_of_all packed) vs
+    → filter (is_of key) vs ≡ []
 others_gone key [] [] reads apart are = refl
 others_gone key [] (v ∷ vs) reads apart are = let e = are.bytes in cc
 others_gone key (p ∷ ps) vs reads apart are =
     let cut = halves p.records (records_of_all ps) vs are.bytes are.each in
-    let first = none_kept p.series.codes key cut.front apart.0 (of_channel p cut.front reads.0 cut.first) in
+    let first = none_kept p.series.codes key cut.prefix apart.0 (of_channel p cut.prefix reads.0 cut.first) in
     let second = others_gone key ps cut.back reads.1 apart.1 cut.second in
-    ap (λ (us : List View). filter (is_of key) us) cut.parts ∙ filter-append (is_of key) cut.front cut.back ∙ (λ i. first i ++ second i)
+    ap (λ (us : List View). filter (is_of key) us) cut.parts ∙ filter-append (is_of key) cut.prefix cut.back
+    ∙ (λ i. first i ++ second i)
 
 -- where nothing in front is of these channels
 abbrev Gone : List View → List Packed → Type 0
-Gone front packed = AllByRecursion (λ (p : Packed). filter (is_of p.series.codes) front ≡ []) packed
+Gone prefix packed = AllByRecursion (λ (p : Packed). filter (is_of p.series.codes) prefix ≡ []) packed
 
-gone_more : (key : List ℕ) (front more : List View) (packed : List Packed) → Gone front packed → AllByRecursion (λ (v : View). IsTrue (is_of key v)) more → AllByRecursion (λ (q : Packed). q.series.codes ≢ key) packed → Gone (front ++ more) packed
-gone_more key front more [] gone of_key apart = tt
-gone_more key front more (q ∷ qs) gone of_key apart =
+gone_more : (key : List ℕ) (prefix more : List View) (packed : List Packed) → Gone prefix packed
+    → AllByRecursion (λ (v : View). IsTrue (is_of key v)) more
+    → AllByRecursion (λ (q : Packed). q.series.codes ≢ key) packed → Gone (prefix ++ more) packed
+gone_more key prefix more [] gone of_key apart = tt
+gone_more key prefix more (q ∷ qs) gone of_key apart =
     let second = none_kept key q.series.codes more (λ e. apart.0 (sym e)) of_key in
-    let first = gone.0 in
-    (filter-append (is_of q.series.codes) front more ∙ (λ i. first i ++ second i), gone_more key front more qs gone.1 of_key apart.1)
-
-stand : (front : List View) (packed : List Packed) (vs : List View) → Gone front packed → AllByRecursion (λ (p : Packed). ReadsAs p.series p.records) packed → AreApart packed → AreViewsOf (records_of_all packed) vs
-    → AllByRecursion (λ (p : Packed). AreViewsOf p.records (filter (is_of p.series.codes) (front ++ vs))) packed
-stand front [] vs gone reads apart are = tt
-stand front (p ∷ ps) vs gone reads apart are =
-    let key = p.series.codes in
-    let cut = halves p.records (records_of_all ps) vs are.bytes are.each in
-    let of_key = of_channel p cut.front reads.0 cut.first in
-    let kept = all_kept key cut.front of_key in
-    let others = others_gone key ps cut.back reads.1 apart.0 cut.second in
-    let first = gone.0 in
-    let own : filter (is_of key) (front ++ vs) ≡ cut.front =
-    filter-append (is_of key) front vs ∙ ap (λ (us : List View). filter (is_of key) front ++ filter (is_of key) us) cut.parts
-    ∙ ap (λ (us : List View). filter (is_of key) front ++ us) (filter-append (is_of key) cut.front cut.back)
-    ∙ (λ i. first i ++ (kept i ++ others i)) ∙ append-nil cut.front in
-    let rest = stand (front ++ cut.front) ps cut.back (gone_more key front cut.front ps gone.1 of_key apart.0) reads.1 apart.1 cut.second in
-    let whole : (front ++ cut.front) ++ cut.back ≡ front ++ vs = append_assoc front cut.front cut.back ∙ ap (λ (us : List View). front ++ us) (sym cut.parts) in (
-      subst (λ (us : List View). AreViewsOf p.records us) (sym own) cut.first,
-      subst (λ (us : List View). AllByRecursion (λ (q : Packed). AreViewsOf q.records (filter (is_of q.series.codes) us)) ps) whole rest,
+    let first = gone.0 in (
+      filter-append (is_of q.series.codes) prefix more ∙ (λ i. first i ++ second i),
+      gone_more key prefix more qs gone.1 of_key apart.1,
     )
 
-nothing_in_front : (packed : List Packed) → Gone [] packed
-nothing_in_front [] = tt
-nothing_in_front (p ∷ ps) = (refl, nothing_in_front ps)
+stand : (prefix : List View) (packed : List Packed) (vs : List View) → Gone prefix packed
+    → AllByRecursion (λ (p : Packed). ReadsAs p.series p.records) packed → AreApart packed
+    → AreViewsOf (records_of_all packed) vs
+    → AllByRecursion (λ (p : Packed). AreViewsOf p.records (filter (is_of p.series.codes) (prefix ++ vs))) packed
+stand prefix [] vs gone reads apart are = tt
+stand prefix (p ∷ ps) vs gone reads apart are =
+    let key = p.series.codes in
+    let cut = halves p.records (records_of_all ps) vs are.bytes are.each in
+    let of_key = of_channel p cut.prefix reads.0 cut.first in
+    let kept = all_kept key cut.prefix of_key in
+    let others = others_gone key ps cut.back reads.1 apart.0 cut.second in
+    let first = gone.0 in
+    let own : filter (is_of key) (prefix ++ vs) ≡ cut.prefix =
+    filter-append (is_of key) prefix vs ∙ ap (λ (us : List View). filter (is_of key) prefix ++ filter (is_of key) us)
+    cut.parts
+    ∙ ap (λ (us : List View). filter (is_of key) prefix ++ us) (filter-append (is_of key) cut.prefix cut.back)
+    ∙ (λ i. first i ++ (kept i ++ others i)) ∙ append-nil cut.prefix in
+    let rest = stand (prefix ++ cut.prefix) ps cut.back (gone_more key prefix cut.prefix ps gone.1 of_key apart.0)
+    reads.1 apart.1 cut.second in
+    let whole : (prefix ++ cut.prefix) ++ cut.back ≡ prefix ++ vs = append_assoc prefix cut.prefix cut.back
+    ∙ ap (λ (us : List View). prefix ++ us) (sym cut.parts) in (
+      subst (λ (us : List View). AreViewsOf p.records us) (sym own) cut.first,
+      subst (λ (us : List View). AllByRecursion
+          (λ (q : Packed). AreViewsOf q.records (filter (is_of q.series.codes) us)) ps) whole rest,
+    )
 
-placed : (packed : List Packed) (vs : List View) → AllByRecursion (λ (p : Packed). AreViewsOf p.records (filter (is_of p.series.codes) vs)) packed → AllByRecursion (StandsIn vs) packed
+nothing_in_prefix : (packed : List Packed) → Gone [] packed
+nothing_in_prefix [] = tt
+nothing_in_prefix (p ∷ ps) = (refl, nothing_in_prefix ps)
+
+placed : (packed : List Packed) (vs : List View)
+    → AllByRecursion (λ (p : Packed). AreViewsOf p.records (filter (is_of p.series.codes) vs)) packed
+    → AllByRecursion (StandsIn vs) packed
 placed [] vs h = tt
-placed (p ∷ ps) vs h = (subst (λ (us : List View). AreViewsOf p.records us) (sym (views_filtered p.series.codes 1 0 vs)) h.0, placed ps vs h.1)
+placed (p ∷ ps) vs h = (
+  subst (λ (us : List View). AreViewsOf p.records us)
+      (sym (views_filtered p.series.codes 1 0 vs)) h.0,
+  placed ps vs h.1,
+)
 
-pub archived : (packed : List Packed) (vs : List View) → AllByRecursion (λ (p : Packed). ReadsAs p.series p.records) packed → AreApart packed → AreViewsOf (records_of_all packed) vs → AllByRecursion (StandsIn vs) packed
-archived packed vs reads apart are = placed packed vs (stand [] packed vs (nothing_in_front packed) reads apart are)
+pub archived : (packed : List Packed) (vs : List View)
+    → AllByRecursion (λ (p : Packed). ReadsAs p.series p.records) packed → AreApart packed
+    → AreViewsOf (records_of_all packed) vs → AllByRecursion (StandsIn vs) packed
+archived packed vs reads apart are = placed packed vs (stand [] packed vs (nothing_in_prefix packed) reads apart are)

@@ -12,23 +12,34 @@ use Rattle.mseed_pack.specs.ReadBack.{AreViewsOf, ReadsAs}
 
 -- what the audit's layer says: a verdict is exact, and a channel has one series
 abbrev pub ExactVerdicts : Type 0
-ExactVerdicts = (verdict : Verdict) (ps : List Placed) → IsVerdict verdict ps → (IsTrue (says_continuous verdict) ↔ IsContinuous (views_in ps))
+ExactVerdicts = (verdict : Verdict) (ps : List Placed) → IsVerdict verdict ps
+    → (IsTrue (says_continuous verdict) ↔ IsContinuous (views_in ps))
 
 abbrev pub OneSeries : Type 0
 OneSeries = (s t : Trace) (vs : List View) → IsSeriesOf s vs → IsSeriesOf t vs → s ≡ t
 
-same_views : (s : Trace) (records : List (List ℕ)) (vs : List View) → (reads : ReadsAs s records) → AreViewsOf records vs → IsContinuous vs × IsSeriesOf s vs
+same_views : (s : Trace) (records : List (List ℕ)) (vs : List View) → (reads : ReadsAs s records)
+    → AreViewsOf records vs → IsContinuous vs × IsSeriesOf s vs
 same_views s records vs reads are =
-    let same : vs ≡ reads.views = reads.only vs are in
-    (subst (λ (us : List View). IsContinuous us) (sym same) reads.continuous, subst (λ (us : List View). IsSeriesOf s us) (sym same) reads.series)
+    let same : vs ≡ reads.views = reads.only vs are in (
+      subst (λ (us : List View). IsContinuous us) (sym same) reads.continuous,
+      subst (λ (us : List View). IsSeriesOf s us) (sym same) reads.series,
+    )
 
-pub called : ExactVerdicts → (s : Trace) (records : List (List ℕ)) (ps : List Placed) (verdict : Verdict) → ReadsAs s records → AreViewsOf records (views_in ps) → IsVerdict verdict ps → IsTrue (says_continuous verdict)
-called exact s records ps verdict reads are is = (exact verdict ps is).1 (same_views s records (views_in ps) reads are).0
+pub called : ExactVerdicts → (s : Trace) (records : List (List ℕ)) (ps : List Placed) (verdict : Verdict)
+    → ReadsAs s records → AreViewsOf records (views_in ps) → IsVerdict verdict ps → IsTrue (says_continuous verdict)
+called exact s records ps verdict reads are is =
+    (exact verdict ps is).1 (same_views s records (views_in ps) reads are).0
 
-pub answered : OneSeries → (s : Trace) (records : List (List ℕ)) (ps : List Placed) (answer : Result Trace NotContinuous) → ReadsAs s records → AreViewsOf records (views_in ps) → IsSeries answer ps → (answer ≡ Ok s) ⊎ (answer ≡ Err Memory)
-answered one s records ps (Ok t) reads are is = inl (ap Ok (one t s (views_in ps) is.1 (same_views s records (views_in ps) reads are).1))
+pub answered : OneSeries
+    → (s : Trace) (records : List (List ℕ)) (ps : List Placed) (answer : Result Trace NotContinuous)
+    → ReadsAs s records → AreViewsOf records (views_in ps) → IsSeries answer ps
+    → (answer ≡ Ok s) ⊎ (answer ≡ Err Memory)
+answered one s records ps (Ok t) reads are is =
+    inl (ap Ok (one t s (views_in ps) is.1 (same_views s records (views_in ps) reads are).1))
 answered one s records ps (Err Absent) reads are is =
     let both = same_views s records (views_in ps) reads are in
     absurd (both.0.some (ap (λ (qs : List Placed). views_in qs) is))
-answered one s records ps (Err (Broken first)) reads are is = absurd (is.0 (same_views s records (views_in ps) reads are).0)
+answered one s records ps (Err (Broken first)) reads are is =
+    absurd (is.0 (same_views s records (views_in ps) reads are).0)
 answered one s records ps (Err Memory) reads are is = inr refl

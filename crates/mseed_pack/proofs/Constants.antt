@@ -1,5 +1,7 @@
 -- The first and the last sample, written into Steim frames in which differences are packed.
-use Rattle.std.proofs.Common.{◌≡◌, ◌≢◌, ℕ, zero, suc, ◌+◌, ◌-◌, ◌*◌, ◌/◌, ◌%◌, ◌^◌, ◌<◌, ◌≤◌, List, [], ◌∷◌, ◌++◌, length, take, drop, get_or, arith, refl, ap, sym, ◌∙◌, ⊎_elim, cond, eqb, length-append, ℤ, pos, negsuc, FitsSigned, w32, of_z}
+use Rattle.std.proofs.Common.{◌≡◌, ◌≢◌, ℕ, zero, suc, ◌+◌, ◌-◌, ◌*◌, ◌/◌, ◌%◌, ◌^◌, ◌<◌, ◌≤◌, List, [], ◌∷◌, ◌++◌}
+use Rattle.std.proofs.Common.{length, take, drop, get_or, arith, refl, ap, sym, ◌∙◌, ⊎_elim, cond, eqb, length-append}
+use Rattle.std.proofs.Common.{ℤ, pos, negsuc, FitsSigned, w32, of_z}
 use Rattle.std.proofs.lemmas.Bool.{cases_lt, cases_eq, ne_eqb, eq-eqb}
 use Rattle.std.proofs.lemmas.Bool.Decides.{nat_tests}
 use Rattle.std.proofs.lemmas.Int.{ints}
@@ -20,13 +22,16 @@ words_none : (p : List ℕ) (k : ℕ) → words_from p k 0 ≡ []
 unfolding words_from
 words_none p k = refl
 
-words_same : (p q : List ℕ) (k n : ℕ) → ((i : ℕ) → k ≤ i → i % 16 ≢ 0 → data_word p i ≡ data_word q i) → words_from p k n ≡ words_from q k n
+words_same : (p q : List ℕ) (k n : ℕ) → ((i : ℕ) → k ≤ i → i % 16 ≢ 0 → data_word p i ≡ data_word q i)
+    → words_from p k n ≡ words_from q k n
 words_same p q k zero h = words_none p k ∙ sym (words_none q k)
 words_same p q k (suc n) h =
-    let later : words_from p (k + 1) n ≡ words_from q (k + 1) n = words_same p q (k + 1) n (λ i low. h i (omega (arith, low))) in
+    let later : words_from p (k + 1) n ≡ words_from q (k + 1) n =
+    words_same p q (k + 1) n (λ i low. h i (omega (arith, low))) in
     ⊎_elim
     (λ (first : k % 16 ≡ 0). words_skip p k n first ∙ later ∙ sym (words_skip q k n first))
-    (λ (plain : k % 16 ≡ 0 → ⊥). let here : data_word p k ≡ data_word q k = h k (omega arith) plain in words_step p k n plain ∙ cc (here, later) ∙ sym (words_step q k n plain))
+    (λ (plain : k % 16 ≡ 0 → ⊥). let here : data_word p k ≡ data_word q k = h k (omega arith) plain in
+    words_step p k n plain ∙ cc (here, later) ∙ sym (words_step q k n plain))
     (cases_eq (k % 16) 0)
 
 -- a signed number as its four bytes
@@ -35,10 +40,14 @@ complement_32 (pos n) f = let fits = f.sfits in grind (arith, nat_tests, ints)
 complement_32 (negsuc n) f = let fits = f.sfits in grind (arith, nat_tests, ints)
 
 pub are_set : (p q : List ℕ) (first last : ℤ) → length q ≡ length p → FitsSigned w32 first → FitsSigned w32 last
-    → ((k : ℕ) → word_at q k ≡ cond (eqb k 2) (of_z w32 last) (cond (eqb k 1) (of_z w32 first) (word_at p k))) → AreSet p q first last
+    → ((k : ℕ) → word_at q k ≡ cond (eqb k 2) (of_z w32 last) (cond (eqb k 1) (of_z w32 first) (word_at p k)))
+    → AreSet p q first last
 are_set p q first last size a b says =
-    let others : (k : ℕ) → k ≢ 1 → k ≢ 2 → word_at q k ≡ word_at p k = λ k x y. says k ∙ (rw (ne_eqb k 2 y, ne_eqb k 1 x) refl) in
-    let codes : (k : ℕ) → code_at q k ≡ code_at p k = λ k. ap (λ (n : ℕ). n / 2 ^ (30 - 2 * (k % 16)) % 4) (others (16 * (k / 16)) (λ e. omega (arith, e)) (λ e. omega (arith, e))) in
+    let others : (k : ℕ) → k ≢ 1 → k ≢ 2 → word_at q k ≡ word_at p k =
+    λ k x y. says k ∙ (rw (ne_eqb k 2 y, ne_eqb k 1 x) refl) in
+    let codes : (k : ℕ) → code_at q k ≡ code_at p k =
+    λ k. ap (λ (n : ℕ). n / 2 ^ (30 - 2 * (k % 16)) % 4)
+    (others (16 * (k / 16)) (λ e. omega (arith, e)) (λ e. omega (arith, e))) in
     let word : (i : ℕ) → 3 ≤ i → i % 16 ≢ 0 → data_word q i ≡ data_word p i = λ i low plain.
     let bits : word_at q i ≡ word_at p i = others i (λ e. omega (arith, e, low)) (λ e. omega (arith, e, low)) in
     let code : code_at q i ≡ code_at p i = codes i in

@@ -7,7 +7,8 @@ use Rattle.mseed_steim.specs.Packing.{PacksRun}
 use Rattle.mseed_pack.proofs.Room.{spelled_seven, words_fit}
 
 -- words hold seven differences each at the most
-pub run_seven : (s : Scheme) (ws : List DataWord) (ds rest : List ℤ) → PacksRun s ws ds rest → length ds ≤ 7 * length ws + length rest
+pub run_seven : (s : Scheme) (ws : List DataWord) (ds rest : List ℤ) → PacksRun s ws ds rest
+    → length ds ≤ 7 * length ws + length rest
 run_seven s [] ds rest run = let same = ap (λ (xs : List ℤ). length xs) run in omega (arith, same)
 run_seven s (w ∷ ws) ds rest run =
     let full = run.1.0 in

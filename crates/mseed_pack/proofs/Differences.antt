@@ -3,12 +3,14 @@ use Rattle.std.proofs.Common.{◌≡◌, ℕ, zero, suc, ◌+◌, ◌<◌, List,
 use native.Mathlib.Numerals.{unary_clauses}
 use Rattle.mseed_pack.specs.Stretches.{differences_from, differences}
 
-from_at : (before : ℤ) (xs : List ℤ) (i : ℕ) → i < length xs → get_or (differences_from before xs) i (pos 0) ≡ get_or xs i (pos 0) -ℤ get_or (before ∷ xs) i (pos 0)
+from_at : (before : ℤ) (xs : List ℤ) (i : ℕ) → i < length xs
+    → get_or (differences_from before xs) i (pos 0) ≡ get_or xs i (pos 0) -ℤ get_or (before ∷ xs) i (pos 0)
 from_at before [] i h = absurd (omega (arith, h))
 from_at before (x ∷ xs) zero h = refl
 from_at before (x ∷ xs) (suc i) h = from_at x xs i (omega (arith, h))
 
-pub difference_at : (xs : List ℤ) (i : ℕ) → i + 1 < length xs → get_or (differences xs) (i + 1) (pos 0) ≡ get_or xs (i + 1) (pos 0) -ℤ get_or xs i (pos 0)
+pub difference_at : (xs : List ℤ) (i : ℕ) → i + 1 < length xs
+    → get_or (differences xs) (i + 1) (pos 0) ≡ get_or xs (i + 1) (pos 0) -ℤ get_or xs i (pos 0)
 difference_at [] i h = absurd (omega (arith, h))
 difference_at (x ∷ xs) i h = simp unary_clauses (from_at x xs i (omega (arith, h)))
 

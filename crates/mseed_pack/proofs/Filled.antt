@@ -1,5 +1,6 @@
 -- Steim frames that hold the differences that are left, as far as there is room.
-use Rattle.std.proofs.Common.{◌≡◌, ℕ, suc, ◌+◌, ◌-◌, ◌*◌, ◌/◌, ◌%◌, ◌<◌, ◌≤◌, List, ◌∷◌, length, take, drop, get_or, sym, ap, subst, ◌∙◌, arith, ℤ, pos, ◌⊎◌, inl, inr, ⊎_elim, Some, All, min}
+use Rattle.std.proofs.Common.{◌≡◌, ℕ, suc, ◌+◌, ◌-◌, ◌*◌, ◌/◌, ◌%◌, ◌<◌, ◌≤◌, List, ◌∷◌, length, take, drop, get_or}
+use Rattle.std.proofs.Common.{sym, ap, subst, ◌∙◌, arith, ℤ, pos, ◌⊎◌, inl, inr, ⊎_elim, Some, All, min}
 use Rattle.std.specs.Prelude.{slice_range, slice_get}
 use Rattle.std.specs.List.{AllByRecursion}
 use Rattle.std.proofs.lemmas.List.{length-drop, length-take-le, take-take, get_or-take, get_or-drop, ext_get_or}
@@ -27,21 +28,28 @@ pub part_at : (xs : List ℤ) (i j k : ℕ) → k < j - i → get_or (slice_rang
 part_at xs i j k h = get_or-take (j - i) (drop i xs) k (pos 0) h ∙ get_or-drop i xs k (pos 0)
 
 -- a part of what a window holds
-pub held_part : (xs : List ℤ) (w : Window) (first n : ℕ) → HoldsDifferences xs w → w.first ≤ first → first + n ≤ w.end → length w.differences ≡ 7056
+pub held_part : (xs : List ℤ) (w : Window) (first n : ℕ) → HoldsDifferences xs w → w.first ≤ first → first + n ≤ w.end
+    → length w.differences ≡ 7056
     → slice_range w.differences (first - w.first) (first - w.first + n) ≡ slice_range (differences xs) first (first + n)
 held_part xs w first n h low high long =
     let at = first - w.first in
     let few = h.few in
     let inside = h.inside in
-    let left : length (slice_range w.differences at (at + n)) ≡ at + n - at = length_part w.differences at (at + n) (omega arith) (omega (arith, long, few, low, high)) in
-    let right : length (slice_range (differences xs) first (first + n)) ≡ first + n - first = length_part (differences xs) first (first + n) (omega arith) (omega (arith, inside, high, length-differences xs)) in
-    ext_get_or (pos 0) (slice_range w.differences at (at + n)) (slice_range (differences xs) first (first + n)) (omega (arith, left, right))
+    let left : length (slice_range w.differences at (at + n)) ≡ at + n - at =
+    length_part w.differences at (at + n) (omega arith) (omega (arith, long, few, low, high)) in
+    let right : length (slice_range (differences xs) first (first + n)) ≡ first + n - first =
+    length_part (differences xs) first (first + n) (omega arith)
+    (omega (arith, inside, high, length-differences xs)) in
+    ext_get_or (pos 0) (slice_range w.differences at (at + n)) (slice_range (differences xs) first (first + n))
+    (omega (arith, left, right))
     (λ k b. let here : k < n = omega (arith, b, left) in
     let place : w.first + (at + k) ≡ first + k = omega (arith, low) in
-    part_at w.differences at (at + n) k (omega (arith, here)) ∙ h.each (at + k) (omega (arith, here, low, high)) ∙ ap (λ (m : ℕ). get_or (differences xs) m (pos 0)) place ∙ sym (part_at (differences xs) first (first + n) k (omega (arith, here))))
+    part_at w.differences at (at + n) k (omega (arith, here)) ∙ h.each (at + k) (omega (arith, here, low, high))
+    ∙ ap (λ (m : ℕ). get_or (differences xs) m (pos 0)) place
+    ∙ sym (part_at (differences xs) first (first + n) k (omega (arith, here))))
 
-part_front : (xs : List ℤ) (i n j : ℕ) → i + n ≤ j → slice_range xs i (i + n) ≡ take n (slice_range xs i j)
-part_front xs i n j h =
+part_prefix : (xs : List ℤ) (i n j : ℕ) → i + n ≤ j → slice_range xs i (i + n) ≡ take n (slice_range xs i j)
+part_prefix xs i n j h =
     let count : i + n - i ≡ n = omega arith in
     ap (λ (m : ℕ). take m (drop i xs)) count ∙ sym (take-take n (j - i) (drop i xs) (omega (arith, h)))
 
@@ -50,7 +58,8 @@ some_word : (p : List ℕ) → 64 ≤ length p → 0 < length (data_words p)
 some_word p h =
     let n = word_count p - 4 in
     let more : word_count p - 3 ≡ suc n = omega (arith, h) in
-    let first : data_words p ≡ data_word p 3 ∷ words_from p 4 n = ap (λ (m : ℕ). words_from p 3 m) more ∙ words_step p 3 n (λ e. omega (arith, e)) in
+    let first : data_words p ≡ data_word p 3 ∷ words_from p 4 n = ap (λ (m : ℕ). words_from p 3 m) more
+    ∙ words_step p 3 n (λ e. omega (arith, e)) in
     let size : length (data_words p) ≡ suc (length (words_from p 4 n)) = ap (λ (ws : List DataWord). length ws) first in
     omega (arith, size)
 
@@ -61,56 +70,71 @@ pub record Fills (s : Scheme) (xs : List ℤ) (first end n used words : ℕ) (p 
   pub enough : (first + n ≡ end) ⊎ ((7 * (length p / 4) ≤ n) × (first + n ≤ end))
   pub long : 64 ≤ length p
   pub whole_frames : length p % 64 ≡ 0
-  pub packed : PacksRun s (take words (data_words p)) (slice_range (differences xs) first (first + n)) (drop used (slice_range (differences xs) first (first + n)))
+  pub packed : PacksRun s (take words (data_words p)) (slice_range (differences xs) first (first + n))
+      (drop used (slice_range (differences xs) first (first + n)))
   pub used_fits : used ≤ length (slice_range (differences xs) first (first + n))
   pub words_fit : words ≤ length (data_words p)
   pub whole : (used ≡ length (slice_range (differences xs) first (first + n))) ⊎ (words ≡ length (data_words p))
   pub behind : AllByRecursion IsEmptyWord (drop words (data_words p))
   pub codes : (k : ℕ) → k < word_count p → (k < 3) ⊎ (k % 16 ≡ 0) → code_at p k ≡ 0
 
-part_long : (s : Scheme) (xs : List ℤ) (first end n used words : ℕ) (p : List ℕ) → Fills s xs first end n used words p → (first + n ≤ end) × (length (slice_range (differences xs) first (first + n)) ≡ n)
+part_long : (s : Scheme) (xs : List ℤ) (first end n used words : ℕ) (p : List ℕ) → Fills s xs first end n used words p
+    → (first + n ≤ end) × (length (slice_range (differences xs) first (first + n)) ≡ n)
 part_long s xs first end n used words p f =
     let inside = f.inside in
-    let fits : first + n ≤ end = ⊎_elim (λ (e : first + n ≡ end). omega (arith, e)) (λ (b : (7 * (length p / 4) ≤ n) × (first + n ≤ end)). b.1) f.enough in
-    let size = length_part (differences xs) first (first + n) (omega arith) (omega (arith, fits, inside, length-differences xs)) in
+    let fits : first + n ≤ end =
+    ⊎_elim (λ (e : first + n ≡ end). omega (arith, e)) (λ (b : (7 * (length p / 4) ≤ n) × (first + n ≤ end)). b.1)
+    f.enough in
+    let size = length_part (differences xs) first (first + n) (omega arith)
+    (omega (arith, fits, inside, length-differences xs)) in
     (fits, size ∙ (let e : first + n - first ≡ n = omega arith in e))
 
 run_left : (s : Scheme) (xs : List ℤ) (first end n used words : ℕ) (p : List ℕ) → Fills s xs first end n used words p
-    → PacksRun s (take words (data_words p)) (slice_range (differences xs) first end) (drop used (slice_range (differences xs) first end))
+    → PacksRun s (take words (data_words p)) (slice_range (differences xs) first end)
+    (drop used (slice_range (differences xs) first end))
 run_left s xs first end n used words p f =
     let left = slice_range (differences xs) first end in
     let part = slice_range (differences xs) first (first + n) in
     let ws = take words (data_words p) in
     ⊎_elim
-    (λ (e : first + n ≡ end). subst (λ (j : ℕ). PacksRun s ws (slice_range (differences xs) first j) (drop used (slice_range (differences xs) first j))) e f.packed)
+    (λ (e : first + n ≡ end). subst (λ (j : ℕ). PacksRun s ws (slice_range (differences xs) first j)
+    (drop used (slice_range (differences xs) first j))) e f.packed)
     (λ (b : (7 * (length p / 4) ≤ n) × (first + n ≤ end)).
-    let front : part ≡ take n left = part_front (differences xs) first n end b.1 in
+    let prefix : part ≡ take n left = part_prefix (differences xs) first n end b.1 in
     let count : length ws ≡ words = length-take-le words (data_words p) f.words_fit in
     let most = words_fit p in
     let fits = f.words_fit in
     let long = f.long in
-    let on = packs_on s ws left (drop used part) n (omega (arith, count, fits, most, b.0)) (subst (λ (ds : List ℤ). PacksRun s ws ds (drop used part)) front f.packed) in
-    let inside : on.used ≤ length part = subst (λ (ds : List ℤ). on.used ≤ length ds) (sym front) on.inside in
-    let same : used ≡ on.used = used_is part used on.used f.used_fits inside (on.rest_is ∙ ap (λ (ds : List ℤ). drop on.used ds) (sym front)) in
+    let on = packs_on s ws left (drop used part) n (omega (arith, count, fits, most, b.0))
+    (subst (λ (ds : List ℤ). PacksRun s ws ds (drop used part)) prefix f.packed) in
+    let inside : on.used ≤ length part = subst (λ (ds : List ℤ). on.used ≤ length ds) (sym prefix) on.inside in
+    let same : used ≡ on.used =
+    used_is part used on.used f.used_fits inside (on.rest_is
+    ∙ ap (λ (ds : List ℤ). drop on.used ds) (sym prefix)) in
     subst (λ (u : ℕ). PacksRun s ws left (drop u left)) (sym same) on.run)
     f.enough
 
-used_few : (s : Scheme) (xs : List ℤ) (first end n used words : ℕ) (p : List ℕ) → Fills s xs first end n used words p → (7 * (length p / 4) ≤ n) × (first + n ≤ end) → used ≤ 7 * words
+used_few : (s : Scheme) (xs : List ℤ) (first end n used words : ℕ) (p : List ℕ) → Fills s xs first end n used words p
+    → (7 * (length p / 4) ≤ n) × (first + n ≤ end) → used ≤ 7 * words
 used_few s xs first end n used words p f b =
     let left = slice_range (differences xs) first end in
     let part = slice_range (differences xs) first (first + n) in
     let ws = take words (data_words p) in
-    let front : part ≡ take n left = part_front (differences xs) first n end b.1 in
+    let prefix : part ≡ take n left = part_prefix (differences xs) first n end b.1 in
     let count : length ws ≡ words = length-take-le words (data_words p) f.words_fit in
     let most = words_fit p in
     let fits = f.words_fit in
-    let on = packs_on s ws left (drop used part) n (omega (arith, count, fits, most, b.0)) (subst (λ (ds : List ℤ). PacksRun s ws ds (drop used part)) front f.packed) in
-    let inside : on.used ≤ length part = subst (λ (ds : List ℤ). on.used ≤ length ds) (sym front) on.inside in
-    let same : used ≡ on.used = used_is part used on.used f.used_fits inside (on.rest_is ∙ ap (λ (ds : List ℤ). drop on.used ds) (sym front)) in
+    let on = packs_on s ws left (drop used part) n (omega (arith, count, fits, most, b.0))
+    (subst (λ (ds : List ℤ). PacksRun s ws ds (drop used part)) prefix f.packed) in
+    let inside : on.used ≤ length part = subst (λ (ds : List ℤ). on.used ≤ length ds) (sym prefix) on.inside in
+    let same : used ≡ on.used =
+    used_is part used on.used f.used_fits inside (on.rest_is
+    ∙ ap (λ (ds : List ℤ). drop on.used ds) (sym prefix)) in
     let few = on.few in
     omega (arith, same, few, count)
 
-pub some_used_of : (s : Scheme) (xs : List ℤ) (first end n used words : ℕ) (p : List ℕ) → Fills s xs first end n used words p → (0 < used) × (first + used ≤ end)
+pub some_used_of : (s : Scheme) (xs : List ℤ) (first end n used words : ℕ) (p : List ℕ)
+    → Fills s xs first end n used words p → (0 < used) × (first + used ≤ end)
 some_used_of s xs first end n used words p f =
     let part = slice_range (differences xs) first (first + n) in
     let sized = part_long s xs first end n used words p f in
@@ -120,21 +144,25 @@ some_used_of s xs first end n used words p f =
     let fits = f.used_fits in
     let order = f.order in
     let long = f.long in
-    let some_n : 0 < n = ⊎_elim (λ (e : first + n ≡ end). omega (arith, e, order)) (λ (b : (7 * (length p / 4) ≤ n) × (first + n ≤ end)). omega (arith, b.0, long)) f.enough in
+    let some_n : 0 < n = ⊎_elim (λ (e : first + n ≡ end). omega (arith, e, order))
+    (λ (b : (7 * (length p / 4) ≤ n) × (first + n ≤ end)). omega (arith, b.0, long)) f.enough in
     let some : 0 < used = ⊎_elim
     (λ (e : used ≡ length part). omega (arith, e, sized.1, some_n))
     (λ (e : words ≡ length (data_words p)). omega (arith, e, word, each, count, length-drop used part, fits))
     f.whole in
     (some, omega (arith, fits, sized.0, sized.1))
 
-pub used_most : (s : Scheme) (xs : List ℤ) (first end n used words : ℕ) (p : List ℕ) → Fills s xs first end n used words p → used ≤ n
+pub used_most : (s : Scheme) (xs : List ℤ) (first end n used words : ℕ) (p : List ℕ)
+    → Fills s xs first end n used words p → used ≤ n
 used_most s xs first end n used words p f =
     let sized = part_long s xs first end n used words p f in
     let fits = f.used_fits in
     omega (arith, fits, sized.1)
 
-pub holds : (s : Scheme) (xs : List ℤ) (first end n used words : ℕ) (p q : List ℕ) → Fills s xs first end n used words p → length q ≡ length p
-    → AreSet p q (get_or xs first (pos 0)) (get_or xs (first + used - 1) (pos 0)) → HoldsFrames s (slice_range (differences xs) first end) (slice_range xs first (first + used)) ((words + 16) / 15) q
+pub holds : (s : Scheme) (xs : List ℤ) (first end n used words : ℕ) (p q : List ℕ)
+    → Fills s xs first end n used words p → length q ≡ length p
+    → AreSet p q (get_or xs first (pos 0)) (get_or xs (first + used - 1) (pos 0))
+    → HoldsFrames s (slice_range (differences xs) first end) (slice_range xs first (first + used)) ((words + 16) / 15) q
 holds s xs first end n used words p q f size set =
     let left = slice_range (differences xs) first end in
     let mine = slice_range xs first (first + used) in
@@ -143,8 +171,10 @@ holds s xs first end n used words p q f size set =
     let some = some_used_of s xs first end n used words p f in
     let sized = part_long s xs first end n used words p f in
     let run = run_left s xs first end n used words p f in
-    let count : length mine ≡ used = length_part xs first (first + used) (omega arith) (omega (arith, some.1, inside)) ∙ (let e : first + used - first ≡ used = omega arith in e) in
-    let all : length left ≡ end - first = length_part (differences xs) first end (omega (arith, order)) (omega (arith, inside, length-differences xs)) in
+    let count : length mine ≡ used = length_part xs first (first + used) (omega arith) (omega (arith, some.1, inside))
+    ∙ (let e : first + used - first ≡ used = omega arith in e) in
+    let all : length left ≡ end - first =
+    length_part (differences xs) first end (omega (arith, order)) (omega (arith, inside, length-differences xs)) in
     let same = set.words in
     let full : (length mine ≡ length left) ⊎ (words ≡ length (data_words q)) = ⊎_elim
     (λ (e : used ≡ length (slice_range (differences xs) first (first + n))). ⊎_elim
@@ -160,49 +190,73 @@ holds s xs first end n used words p q f size set =
     (λ (e : words ≡ length (data_words p)). inr (e ∙ ap (λ (ws : List DataWord). length ws) (sym same)))
     f.whole in
     let words_are : word_count q ≡ word_count p = ap (λ (m : ℕ). 16 * (m / 64)) size in
-    let zero_at : get_or mine 0 (pos 0) ≡ get_or xs first (pos 0) = part_at xs first (first + used) 0 (omega (arith, some.0)) ∙ ap (λ (m : ℕ). get_or xs m (pos 0)) (let e : first + 0 ≡ first = omega arith in e) in
-    let last_at : get_or mine (used - 1) (pos 0) ≡ get_or xs (first + used - 1) (pos 0) = part_at xs first (first + used) (used - 1) (omega (arith, some.0)) ∙ ap (λ (m : ℕ). get_or xs m (pos 0)) (let e : first + (used - 1) ≡ first + used - 1 = omega (arith, some.0) in e) in
+    let zero_at : get_or mine 0 (pos 0) ≡ get_or xs first (pos 0) =
+    part_at xs first (first + used) 0 (omega (arith, some.0))
+    ∙ ap (λ (m : ℕ). get_or xs m (pos 0)) (let e : first + 0 ≡ first = omega arith in e) in
+    let last_at : get_or mine (used - 1) (pos 0) ≡ get_or xs (first + used - 1) (pos 0) =
+    part_at xs first (first + used) (used - 1) (omega (arith, some.0))
+    ∙ ap (λ (m : ℕ). get_or xs m (pos 0)) (let e : first + (used - 1) ≡ first + used - 1 = omega (arith, some.0) in
+    e) in
     record {
       words = words;
       inside = subst (λ (ws : List DataWord). words ≤ length ws) (sym same) f.words_fit;
-      packed = subst (λ (m : ℕ). PacksRun s (take words (data_words q)) left (drop m left)) (sym count) (subst (λ (ws : List DataWord). PacksRun s (take words ws) left (drop used left)) (sym same) run);
+      packed = subst (λ (m : ℕ). PacksRun s (take words (data_words q)) left (drop m left)) (sym count)
+          (subst (λ (ws : List DataWord). PacksRun s (take words ws) left (drop used left)) (sym same) run);
       full = full;
       behind = subst (λ (ws : List DataWord). AllByRecursion IsEmptyWord (drop words ws)) (sym same) f.behind;
       codes = λ k h first_or_head. set.codes k ∙ f.codes k (omega (arith, h, words_are)) first_or_head;
-      first_is = slice_get-get_or mine 0 (pos 0) (omega (arith, count, some.0)) ∙ ap (λ (z : ℤ). Some z) (zero_at ∙ sym set.first_is);
-      last_is = ap (λ (m : ℕ). slice_get mine (m - 1)) count ∙ slice_get-get_or mine (used - 1) (pos 0) (omega (arith, count, some.0)) ∙ ap (λ (z : ℤ). Some z) (last_at ∙ sym set.last_is);
+      first_is = slice_get-get_or mine 0 (pos 0) (omega (arith, count, some.0))
+          ∙ ap (λ (z : ℤ). Some z) (zero_at ∙ sym set.first_is);
+      last_is = ap (λ (m : ℕ). slice_get mine (m - 1)) count
+          ∙ slice_get-get_or mine (used - 1) (pos 0) (omega (arith, count, some.0))
+          ∙ ap (λ (z : ℤ). Some z) (last_at ∙ sym set.last_is);
       frames_is = ap (λ (m : ℕ). m / 15) (let e : words + 16 ≡ words + 2 + 14 = omega arith in e);
     }
 
 -- by what packing answered
-pub fills_by : (s : Scheme) (xs : List ℤ) (first end n used words size : ℕ) (p : List ℕ) (ds : List ℤ) → ds ≡ slice_range (differences xs) first (first + n) → first < end → end ≤ length xs
+pub fills_by : (s : Scheme) (xs : List ℤ) (first end n used words size : ℕ) (p : List ℕ) (ds : List ℤ)
+    → ds ≡ slice_range (differences xs) first (first + n) → first < end → end ≤ length xs
     → n ≡ min (end - first) (7 * (size / 4)) → length p ≡ size → 64 ≤ size → size % 64 ≡ 0
-    → PacksRun s (take words (data_words p)) ds (drop used ds) → (used ≤ length ds) × (words ≤ length (data_words p)) → (used ≡ length ds) ⊎ (words ≡ length (data_words p))
-    → AllByRecursion IsEmptyWord (drop words (data_words p)) → ((k : ℕ) → k < word_count p → (k < 3) ⊎ (k % 16 ≡ 0) → code_at p k ≡ 0) → Fills s xs first end n used words p
-fills_by s xs first end n used words size p ds e order inside count long some whole_frames packed fits whole behind codes = record {
-  order = order;
-  inside = inside;
-  enough = ⊎_elim
-      (λ (less : 7 * (size / 4) < end - first). inr (omega (arith, less, count, long), omega (arith, less, count, order)))
-      (λ (more : end - first ≤ 7 * (size / 4)). inl (omega (arith, more, count, order)))
-      (cases_lt (7 * (size / 4)) (end - first));
-  long = omega (arith, long, some);
-  whole_frames = ap (λ (m : ℕ). m % 64) long ∙ whole_frames;
-  packed = subst (λ (l : List ℤ). PacksRun s (take words (data_words p)) l (drop used l)) e packed;
-  used_fits = subst (λ (l : List ℤ). used ≤ length l) e fits.0;
-  words_fit = fits.1;
-  whole = subst (λ (l : List ℤ). (used ≡ length l) ⊎ (words ≡ length (data_words p))) e whole;
-  behind = behind;
-  codes = codes;
-}
+    → PacksRun s (take words (data_words p)) ds (drop used ds) → (used ≤ length ds) × (words ≤ length (data_words p))
+    → (used ≡ length ds) ⊎ (words ≡ length (data_words p))
+    → AllByRecursion IsEmptyWord (drop words (data_words p))
+    → ((k : ℕ) → k < word_count p → (k < 3) ⊎ (k % 16 ≡ 0) → code_at p k ≡ 0) → Fills s xs first end n used words p
+fills_by s xs first end n used words size p ds e order inside count long some whole_frames packed fits whole behind
+    codes = record {
+      order = order;
+      inside = inside;
+      enough = ⊎_elim
+          (λ (less : 7 * (size / 4) < end - first). inr (
+            omega (arith, less, count, long),
+            omega (arith, less, count, order),
+          ))
+          (λ (more : end - first ≤ 7 * (size / 4)). inl (omega (arith, more, count, order)))
+          (cases_lt (7 * (size / 4)) (end - first));
+      long = omega (arith, long, some);
+      whole_frames = ap (λ (m : ℕ). m % 64) long ∙ whole_frames;
+      packed = subst (λ (l : List ℤ). PacksRun s (take words (data_words p)) l (drop used l)) e packed;
+      used_fits = subst (λ (l : List ℤ). used ≤ length l) e fits.0;
+      words_fit = fits.1;
+      whole = subst (λ (l : List ℤ). (used ≡ length l) ⊎ (words ≡ length (data_words p))) e whole;
+      behind = behind;
+      codes = codes;
+    }
 
 -- no difference of a part is too large, where none of all is
-pub none_large : (s : Scheme) (xs : List ℤ) (first n i : ℕ) (ds : List ℤ) → ds ≡ slice_range (differences xs) first (first + n) → first + n ≤ length xs → All (IsWithin (width_of s)) (differences xs)
+pub none_large : (s : Scheme) (xs : List ℤ) (first n i : ℕ) (ds : List ℤ)
+    → ds ≡ slice_range (differences xs) first (first + n) → first + n ≤ length xs
+    → All (IsWithin (width_of s)) (differences xs)
     → ¬ ((i < length ds) × (s ≡ Two) × ¬ (IsWithin 30 (get_or ds i (pos 0))))
 none_large s xs first n i ds e inside fits large =
     let part = slice_range (differences xs) first (first + n) in
-    let size : length part ≡ first + n - first = length_part (differences xs) first (first + n) (omega arith) (omega (arith, inside, length-differences xs)) in
+    let size : length part ≡ first + n - first =
+    length_part (differences xs) first (first + n) (omega arith) (omega (arith, inside, length-differences xs)) in
     let here : i < length part = subst (λ (l : List ℤ). i < length l) e large.0 in
-    let at : get_or ds i (pos 0) ≡ get_or (differences xs) (first + i) (pos 0) = ap (λ (l : List ℤ). get_or l i (pos 0)) e ∙ part_at (differences xs) first (first + n) i (omega (arith, here, size)) in
-    let one : IsWithin (width_of s) (get_or (differences xs) (first + i) (pos 0)) = All-get_or (IsWithin (width_of s)) (differences xs) (first + i) (pos 0) (omega (arith, here, size, inside, length-differences xs)) fits in
-    large.2 (subst (λ (z : ℤ). IsWithin 30 z) (sym at) (subst (λ (k : Scheme). IsWithin (width_of k) (get_or (differences xs) (first + i) (pos 0))) large.1 one))
+    let at : get_or ds i (pos 0) ≡ get_or (differences xs) (first + i) (pos 0) =
+    ap (λ (l : List ℤ). get_or l i (pos 0)) e
+    ∙ part_at (differences xs) first (first + n) i (omega (arith, here, size)) in
+    let one : IsWithin (width_of s) (get_or (differences xs) (first + i) (pos 0)) =
+    All-get_or (IsWithin (width_of s)) (differences xs) (first + i) (pos 0)
+    (omega (arith, here, size, inside, length-differences xs)) fits in
+    large.2 (subst (λ (z : ℤ). IsWithin 30 z) (sym at)
+    (subst (λ (k : Scheme). IsWithin (width_of k) (get_or (differences xs) (first + i) (pos 0))) large.1 one))

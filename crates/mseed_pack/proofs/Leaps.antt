@@ -1,5 +1,6 @@
 -- The leap seconds of a series, record by record.
-use Rattle.std.proofs.Common.{◌≡◌, ℕ, ◌+◌, ◌<◌, ◌≤◌, ◌==◌, nat_le, nat_lt, true, false, cond, List, [], ◌∷◌, ◌++◌, refl, arith, ℤ, pos, ◌+ℤ◌, Option, Some, None, unwrap_or, ⊎_elim}
+use Rattle.std.proofs.Common.{◌≡◌, ℕ, ◌+◌, ◌<◌, ◌≤◌, ◌==◌, nat_le, nat_lt, true, false, cond, List, [], ◌∷◌, ◌++◌, refl}
+use Rattle.std.proofs.Common.{arith, ℤ, pos, ◌+ℤ◌, Option, Some, None, unwrap_or, ⊎_elim}
 use Rattle.std.specs.Prelude.{option_map, find}
 use Rattle.std.proofs.lemmas.Bool.{cases_lt}
 use Rattle.std.proofs.lemmas.Bool.Decides.{nat_tests}
@@ -11,10 +12,13 @@ use Rattle.mseed_pack.specs.Clock.{added_before}
 
 -- the leap second at a place, and the next one's place behind another
 abbrev pub step_in : List (ℕ × LeapStep) → ℕ → Option LeapStep
-step_in steps place = option_map (λ (step : ℕ × LeapStep). step.1) (find (λ (step : ℕ × LeapStep). step.0 == place) steps)
+step_in steps place = option_map (λ (step : ℕ × LeapStep). step.1)
+    (find (λ (step : ℕ × LeapStep). step.0 == place) steps)
 
 abbrev pub end_in : List (ℕ × LeapStep) → ℕ → ℕ → ℕ
-end_in steps size first = unwrap_or (option_map (λ (step : ℕ × LeapStep). step.0) (find (λ (step : ℕ × LeapStep). nat_lt first step.0) steps)) size
+end_in steps size first =
+    unwrap_or (option_map (λ (step : ℕ × LeapStep). step.0)
+    (find (λ (step : ℕ × LeapStep). nat_lt first step.0) steps)) size
 
 -- the leap seconds with more than so many samples before them
 abbrev pub later : List (ℕ × LeapStep) → ℕ → List (ℕ × LeapStep)
@@ -30,7 +34,8 @@ pub record Before (steps : List (ℕ × LeapStep)) (place : ℕ) : Type 0 where
 nothing_added : (z : ℤ) → z ≡ pos 0 → pos 0 +ℤ z ≡ pos 0
 nothing_added z e = omega (arith, ints)
 
-pub before : (low size : ℕ) (steps : List (ℕ × LeapStep)) (place : ℕ) → place ≤ low → AreStepsFrom low size steps → Before steps place
+pub before : (low size : ℕ) (steps : List (ℕ × LeapStep)) (place : ℕ) → place ≤ low → AreStepsFrom low size steps
+    → Before steps place
 before low size [] place h are = record { added = refl; none = refl; all = refl }
 before low size (t ∷ ts) place h are =
     let behind : low < t.0 = are.0 in
@@ -44,8 +49,8 @@ before low size (t ∷ ts) place h are =
       all = rw lt refl;
     }
 
--- From one record's first sample to the next one's, of which there's no leap second between: the seconds that were added
--- are those of the one at its end, and of those that were left that one goes.
+-- From one record's first sample to the next one's, of which there's no leap second between: the seconds that were
+-- added are those of the one at its end, and of those that were left that one goes.
 pub record Passes (steps : List (ℕ × LeapStep)) (first count : ℕ) : Type 0 where
   pub added : added_before steps (first + count) ≡ added_before steps first +ℤ step_of (step_in steps (first + count))
   pub left : later steps first ≡ step_at (first + count) (step_in steps (first + count)) ++ later steps (first + count)
@@ -53,7 +58,8 @@ pub record Passes (steps : List (ℕ × LeapStep)) (first count : ℕ) : Type 0 
 same_twice : (a b c d e : ℤ) → a ≡ b +ℤ c → (d +ℤ a) ≡ (d +ℤ b) +ℤ c
 same_twice a b c d e h = omega (arith, ints)
 
-pub passes : (low size : ℕ) (steps : List (ℕ × LeapStep)) (first count : ℕ) → AreStepsFrom low size steps → 0 < count → first + count ≤ end_in steps size first → Passes steps first count
+pub passes : (low size : ℕ) (steps : List (ℕ × LeapStep)) (first count : ℕ) → AreStepsFrom low size steps → 0 < count
+    → first + count ≤ end_in steps size first → Passes steps first count
 passes low size [] first count are some h = record { added = refl; left = refl }
 passes low size (t ∷ ts) first count are some h = ⊎_elim
     (λ (next : first < t.0).
@@ -96,7 +102,8 @@ passes low size (t ∷ ts) first count are some h = ⊎_elim
     (cases_lt first t.0)
 
 -- before the first sample all are left, and behind the last none
-pub all_left : (size : ℕ) (steps : List (ℕ × LeapStep)) → AreSteps size steps → (later steps 0 ≡ steps) × (added_before steps 0 ≡ pos 0)
+pub all_left : (size : ℕ) (steps : List (ℕ × LeapStep)) → AreSteps size steps
+    → (later steps 0 ≡ steps) × (added_before steps 0 ≡ pos 0)
 all_left size steps are = let b = before 0 size steps 0 (omega arith) are in (b.all, b.added)
 
 pub none_left : (low size : ℕ) (steps : List (ℕ × LeapStep)) → AreStepsFrom low size steps → later steps size ≡ []

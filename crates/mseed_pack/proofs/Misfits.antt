@@ -1,5 +1,6 @@
 -- What is found of a series' samples.
-use Rattle.std.proofs.Common.{◌≡◌, ◌≢◌, ◌↔◌, ◌<◌, ◌+◌, ℕ, zero, suc, ℤ, ◌-ℤ◌, List, [], length, take, get_or, pos, Bool, true, false, eqb, sym, subst, ap, ◌∙◌, arith, refl, All}
+use Rattle.std.proofs.Common.{◌≡◌, ◌≢◌, ◌↔◌, ◌<◌, ◌+◌, ℕ, zero, suc, ℤ, ◌-ℤ◌, List, [], length, take, get_or, pos, Bool}
+use Rattle.std.proofs.Common.{true, false, eqb, sym, subst, ap, ◌∙◌, arith, refl, All}
 use Rattle.std.specs.Prelude.{IsTrue}
 use Rattle.std.proofs.lemmas.Bool.{false≢true, eq-eqb, eqb-true}
 use Rattle.std.proofs.lemmas.Int.{ints}
@@ -38,31 +39,38 @@ near_fits Int32 x y h k = tt
 near_fits Steim1 x y h k = (omega (arith, ints, h.0, h.1, k.0, k.1), omega (arith, ints, h.0, h.1, k.0, k.1))
 near_fits Steim2 x y h k = (omega (arith, ints, h.0, h.1, k.0, k.1), omega (arith, ints, h.0, h.1, k.0, k.1))
 
-near_at : (e : Encoding) (xs : List ℤ) → All (IsWithin 29) xs → (k : ℕ) → k < length xs → IsDifferenceOf e (get_or (differences xs) k (pos 0))
+near_at : (e : Encoding) (xs : List ℤ) → All (IsWithin 29) xs → (k : ℕ) → k < length xs
+    → IsDifferenceOf e (get_or (differences xs) k (pos 0))
 near_at e xs near zero h = subst (λ (z : ℤ). IsDifferenceOf e z) (sym (first_difference xs)) (zero_fits e)
 near_at e xs near (suc i) h =
     let inside : i + 1 < length xs = omega (arith, h) in
     let here : i < length xs = omega (arith, h) in
     let next : i + 1 ≡ suc i = simp unary_clauses refl in
-    let at : get_or (differences xs) (suc i) (pos 0) ≡ get_or xs (i + 1) (pos 0) -ℤ get_or xs i (pos 0) = ap (λ (n : ℕ). get_or (differences xs) n (pos 0)) (sym next) ∙ difference_at xs i inside in
-    subst (λ (z : ℤ). IsDifferenceOf e z) (sym at) (near_fits e (get_or xs i (pos 0)) (get_or xs (i + 1) (pos 0)) (All-get_or (IsWithin 29) xs i (pos 0) here near) (All-get_or (IsWithin 29) xs (i + 1) (pos 0) inside near))
+    let at : get_or (differences xs) (suc i) (pos 0) ≡ get_or xs (i + 1) (pos 0) -ℤ get_or xs i (pos 0) =
+    ap (λ (n : ℕ). get_or (differences xs) n (pos 0)) (sym next) ∙ difference_at xs i inside in
+    subst (λ (z : ℤ). IsDifferenceOf e z) (sym at) (near_fits e (get_or xs i (pos 0)) (get_or xs (i + 1) (pos 0))
+    (All-get_or (IsWithin 29) xs i (pos 0) here near) (All-get_or (IsWithin 29) xs (i + 1) (pos 0) inside near))
 
 -- samples of 29 bits aren't too far apart for any encoding
 pub near_differences : (e : Encoding) (xs : List ℤ) → All (IsWithin 29) xs → All (IsDifferenceOf e) (differences xs)
 near_differences e xs near =
-    All-from_get_or (IsDifferenceOf e) (differences xs) (pos 0) (λ k h. near_at e xs near k (omega (arith, h, length-differences xs)))
+    All-from_get_or (IsDifferenceOf e) (differences xs) (pos 0)
+    (λ k h. near_at e xs near k (omega (arith, h, length-differences xs)))
 
 -- whether all samples so far are under a limit, with one more that isn't
-pub near_not : (limit : ℤ) (xs : List ℤ) (i : ℕ) → i < length xs → ¬ (IsUnder limit (get_or xs i (pos 0))) → IsTrue false ↔ All (IsUnder limit) (take (i + 1) xs)
+pub near_not : (limit : ℤ) (xs : List ℤ) (i : ℕ) → i < length xs → ¬ (IsUnder limit (get_or xs i (pos 0)))
+    → IsTrue false ↔ All (IsUnder limit) (take (i + 1) xs)
 near_not limit xs i h far = (
   λ e. absurd (false≢true e),
   λ all.
       let long : i < length (take (i + 1) xs) = rw (length-take-le (i + 1) xs (omega (arith, h))) (omega arith) in
-      absurd (far (rw (get_or-take (i + 1) xs i (pos 0) (omega arith)) at (All-get_or (IsUnder limit) (take (i + 1) xs) i (pos 0) long all))),
+      absurd (far (rw (get_or-take (i + 1) xs i (pos 0) (omega arith)) at
+      (All-get_or (IsUnder limit) (take (i + 1) xs) i (pos 0) long all))),
 )
 
 -- or that is
-pub near_more : (limit : ℤ) (near : Bool) (xs : List ℤ) (i : ℕ) → i < length xs → IsUnder limit (get_or xs i (pos 0)) → IsTrue near ↔ All (IsUnder limit) (take i xs) → IsTrue near ↔ All (IsUnder limit) (take (i + 1) xs)
+pub near_more : (limit : ℤ) (near : Bool) (xs : List ℤ) (i : ℕ) → i < length xs → IsUnder limit (get_or xs i (pos 0))
+    → IsTrue near ↔ All (IsUnder limit) (take i xs) → IsTrue near ↔ All (IsUnder limit) (take (i + 1) xs)
 near_more limit near xs i h one before = (
   λ e. All-more (IsUnder limit) xs i (pos 0) h (before.0 e) one,
   λ all. before.1 (rw (take-take i (i + 1) xs (omega arith)) at (All-take (IsUnder limit) i (take (i + 1) xs) all)),

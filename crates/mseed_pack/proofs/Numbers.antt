@@ -1,10 +1,12 @@
 -- Integers that are written one behind another.
-use Rattle.std.proofs.Common.{◌≡◌, ℕ, ◌+◌, ◌-◌, ◌*◌, ◌^◌, ◌<◌, ◌≤◌, List, [], ◌∷◌, ◌++◌, length, take, drop, get_or, sym, ap, ◌∙◌, arith, ℤ, pos, negsuc, length-append, append_assoc, of_z, w16, w32}
+use Rattle.std.proofs.Common.{◌≡◌, ℕ, ◌+◌, ◌-◌, ◌*◌, ◌^◌, ◌<◌, ◌≤◌, List, [], ◌∷◌, ◌++◌, length, take, drop, get_or}
+use Rattle.std.proofs.Common.{sym, ap, ◌∙◌, arith, ℤ, pos, negsuc, length-append, append_assoc, of_z, w16, w32}
 use Rattle.std.specs.List.{flat_map}
 use Rattle.std.specs.Prelude.{slice_range}
 use borrow.Rule.Slice.PartMut.{put_mid, post_of}
 use Rattle.std.proofs.lemmas.Int.{ints}
-use Rattle.std.proofs.lemmas.List.{length-drop, take_at, drop_at, drop_all, append-nil, take_more, get_or-drop, drop-drop}
+use Rattle.std.proofs.lemmas.List.{length-drop, take_at, drop_at, drop_all, append-nil, take_more, get_or-drop}
+use Rattle.std.proofs.lemmas.List.{drop-drop}
 use Rattle.mseed_steim.specs.Spelling.{residue, IsWithin}
 use Rattle.byteorder.specs.Numbers.{length-bytes_high_first}
 use Rattle.mseed_pack.specs.Filling.{integer_bytes}
@@ -18,27 +20,33 @@ residue_32 (pos n) h = let high = h.1 in omega (arith, ints, high)
 residue_32 (negsuc n) h = let low = h.0 in omega (arith, ints, low)
 
 -- one more in front of what stood there
-pub one_more : (w size index : ℕ) (front bytes p q buf : List ℕ) → length front ≡ w * index → w * index + w ≤ size → length p ≡ size → p ≡ front ++ drop (w * index) q
-    → buf ≡ bytes ++ drop w (drop (w * index) p) → put_mid (w * index) (length p - w * index) p buf ≡ (front ++ bytes) ++ drop (w * (index + 1)) q
-one_more w size index front bytes p q buf count room long parts e =
+pub one_more : (w size index : ℕ) (prefix bytes p q buf : List ℕ) → length prefix ≡ w * index → w * index + w ≤ size
+    → length p ≡ size → p ≡ prefix ++ drop (w * index) q
+    → buf ≡ bytes ++ drop w (drop (w * index) p) → put_mid (w * index) (length p - w * index) p buf ≡ (prefix ++ bytes)
+    ++ drop (w * (index + 1)) q
+one_more w size index prefix bytes p q buf count room long parts e =
     let a = w * index in
     let left : length (drop a p) ≡ length p - a = length-drop a p in
     let none : post_of a (length p - a) p ≡ [] = drop_all (length p - a) (drop a p) (omega (arith, left)) in
-    let rest : drop a p ≡ drop a q = ap (λ (l : List ℕ). drop a l) parts ∙ drop_at front (drop a q) a count in
-    let head : take a p ≡ front = ap (λ (l : List ℕ). take a l) parts ∙ take_at front (drop a q) a count in
+    let rest : drop a p ≡ drop a q = ap (λ (l : List ℕ). drop a l) parts ∙ drop_at prefix (drop a q) a count in
+    let head : take a p ≡ prefix = ap (λ (l : List ℕ). take a l) parts ∙ take_at prefix (drop a q) a count in
     let further : a + w ≡ w * (index + 1) = omega arith in
-    let behind : drop w (drop a p) ≡ drop (w * (index + 1)) q = ap (λ (l : List ℕ). drop w l) rest ∙ drop-drop w a q ∙ ap (λ (n : ℕ). drop n q) further in
+    let behind : drop w (drop a p) ≡ drop (w * (index + 1)) q = ap (λ (l : List ℕ). drop w l) rest ∙ drop-drop w a q
+    ∙ ap (λ (n : ℕ). drop n q) further in
     ap (λ (l : List ℕ). take a p ++ (buf ++ l)) none
     ∙ ap (λ (l : List ℕ). take a p ++ l) (append-nil buf ∙ e ∙ ap (λ (l : List ℕ). bytes ++ l) behind)
     ∙ ap (λ (l : List ℕ). l ++ (bytes ++ drop (w * (index + 1)) q)) head
-    ∙ sym (append_assoc front bytes (drop (w * (index + 1)) q))
+    ∙ sym (append_assoc prefix bytes (drop (w * (index + 1)) q))
 
 flat_push : (f : ℤ → List ℕ) (xs : List ℤ) (z : ℤ) → flat_map f (xs ++ z ∷ []) ≡ flat_map f xs ++ f z
 flat_push f [] z = append-nil (f z)
-flat_push f (x ∷ xs) z = ap (λ (l : List ℕ). f x ++ l) (flat_push f xs z) ∙ sym (append_assoc (f x) (flat_map f xs) (f z))
+flat_push f (x ∷ xs) z = ap (λ (l : List ℕ). f x ++ l) (flat_push f xs z)
+    ∙ sym (append_assoc (f x) (flat_map f xs) (f z))
 
 -- and the samples of which they are
-pub part_more : (xs : List ℤ) (first index : ℕ) → first + index < length xs → slice_range xs first (first + (index + 1)) ≡ slice_range xs first (first + index) ++ get_or xs (first + index) (pos 0) ∷ []
+pub part_more : (xs : List ℤ) (first index : ℕ) → first + index < length xs
+    → slice_range xs first (first + (index + 1)) ≡ slice_range xs first (first + index) ++ get_or xs (first + index)
+    (pos 0) ∷ []
 part_more xs first index h =
     let more : first + (index + 1) - first ≡ index + 1 = omega arith in
     let same : first + index - first ≡ index = omega arith in
@@ -48,12 +56,24 @@ part_more xs first index h =
     ∙ ap (λ (n : ℕ). take n (drop first xs) ++ get_or xs (first + index) (pos 0) ∷ []) (sym same)
 
 pub flat_more : (w : ℕ) (xs : List ℤ) (first index : ℕ) → first + index < length xs
-    → flat_map (λ (z : ℤ). integer_bytes w z) (slice_range xs first (first + (index + 1))) ≡ flat_map (λ (z : ℤ). integer_bytes w z) (slice_range xs first (first + index)) ++ integer_bytes w (get_or xs (first + index) (pos 0))
-flat_more w xs first index h = ap (λ (l : List ℤ). flat_map (λ (z : ℤ). integer_bytes w z) l) (part_more xs first index h) ∙ flat_push (λ (z : ℤ). integer_bytes w z) (slice_range xs first (first + index)) (get_or xs (first + index) (pos 0))
+    → flat_map (λ (z : ℤ). integer_bytes w z) (slice_range xs first (first + (index + 1)))
+    ≡ flat_map (λ (z : ℤ). integer_bytes w z) (slice_range xs first (first + index)) ++ integer_bytes w
+    (get_or xs (first + index) (pos 0))
+flat_more w xs first index h =
+    ap (λ (l : List ℤ). flat_map (λ (z : ℤ). integer_bytes w z) l) (part_more xs first index h)
+    ∙ flat_push (λ (z : ℤ). integer_bytes w z) (slice_range xs first (first + index))
+    (get_or xs (first + index) (pos 0))
 
-pub flat_none : (w : ℕ) (xs : List ℤ) (first : ℕ) → flat_map (λ (z : ℤ). integer_bytes w z) (slice_range xs first (first + 0)) ≡ []
-flat_none w xs first = let none : first + 0 - first ≡ 0 = omega arith in ap (λ (n : ℕ). flat_map (λ (z : ℤ). integer_bytes w z) (take n (drop first xs))) none
+pub flat_none : (w : ℕ) (xs : List ℤ) (first : ℕ)
+    → flat_map (λ (z : ℤ). integer_bytes w z) (slice_range xs first (first + 0)) ≡ []
+flat_none w xs first = let none : first + 0 - first ≡ 0 = omega arith in
+    ap (λ (n : ℕ). flat_map (λ (z : ℤ). integer_bytes w z) (take n (drop first xs))) none
 
 pub length_flat : (w : ℕ) (xs : List ℤ) → length (flat_map (λ (z : ℤ). integer_bytes w z) xs) ≡ w * length xs
 length_flat w [] = omega arith
-length_flat w (z ∷ zs) = omega (arith, length-append (integer_bytes w z) (flat_map (λ (x : ℤ). integer_bytes w x) zs), length-bytes_high_first w (residue (2 ^ (8 * w)) z), length_flat w zs)
+length_flat w (z ∷ zs) = omega (
+  arith,
+  length-append (integer_bytes w z) (flat_map (λ (x : ℤ). integer_bytes w x) zs),
+  length-bytes_high_first w (residue (2 ^ (8 * w)) z),
+  length_flat w zs,
+)

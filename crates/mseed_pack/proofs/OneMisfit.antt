@@ -5,12 +5,14 @@ use Rattle.mseed_audit.specs.Series.{Trace}
 use Rattle.mseed_pack.specs.declared.options.Options.{Options}
 use Rattle.mseed_pack.specs.declared.fault.PackFault.{PackFault}
 use Rattle.mseed_pack.specs.declared.fault.PackFault.TheVariants.{SampleTooLarge, DifferenceTooLarge}
-use Rattle.mseed_pack.specs.Fitting.{IsFirstNot, Fits, IsMisfit, no_sample, too_fast, time_outside, large_sample, large_difference}
+use Rattle.mseed_pack.specs.Fitting.{IsFirstNot, Fits, IsMisfit, no_sample, too_fast, time_outside, large_sample}
+use Rattle.mseed_pack.specs.Fitting.{large_difference}
 
 one_first : (P : ℤ → Type 0) (xs : List ℤ) (i j : ℕ) → IsFirstNot P xs i → IsFirstNot P xs j → i ≡ j
 one_first P xs i j h k = ⊎_elim
     (λ (less : i < j). absurd (h.not_it (k.before i less)))
-    (λ (more : j ≤ i). ⊎_elim (λ (less : j < i). absurd (k.not_it (h.before j less))) (λ (same : i ≤ j). omega (arith, more, same)) (cases_lt j i))
+    (λ (more : j ≤ i). ⊎_elim (λ (less : j < i). absurd (k.not_it (h.before j less)))
+    (λ (same : i ≤ j). omega (arith, more, same)) (cases_lt j i))
     (cases_lt i j)
 
 none_first : (P : ℤ → Type 0) (xs : List ℤ) (i : ℕ) → All P xs → IsFirstNot P xs i → ⊥
@@ -35,13 +37,17 @@ one_misfit s o f g (time_outside some slow time) (large_difference there again t
 one_misfit s o f g (large_sample some slow timed i h) (no_sample e) = absurd (some e)
 one_misfit s o f g (large_sample some slow timed i h) (too_fast there fast) = absurd (slow fast)
 one_misfit s o f g (large_sample some slow timed i h) (time_outside there again time) = absurd (timed time)
-one_misfit s o f g (large_sample some slow timed i h) (large_sample there again later j k) = ap SampleTooLarge (one_first _ s.samples i j h k)
-one_misfit s o f g (large_sample some slow timed i h) (large_difference there again later all j k) = absurd (none_first _ s.samples i all h)
+one_misfit s o f g (large_sample some slow timed i h) (large_sample there again later j k) =
+    ap SampleTooLarge (one_first _ s.samples i j h k)
+one_misfit s o f g (large_sample some slow timed i h) (large_difference there again later all j k) =
+    absurd (none_first _ s.samples i all h)
 one_misfit s o f g (large_difference some slow timed all i h) (no_sample e) = absurd (some e)
 one_misfit s o f g (large_difference some slow timed all i h) (too_fast there fast) = absurd (slow fast)
 one_misfit s o f g (large_difference some slow timed all i h) (time_outside there again time) = absurd (timed time)
-one_misfit s o f g (large_difference some slow timed all i h) (large_sample there again later j k) = absurd (none_first _ s.samples j all k)
-one_misfit s o f g (large_difference some slow timed all i h) (large_difference there again later every j k) = ap DifferenceTooLarge (one_first _ _ i j h k)
+one_misfit s o f g (large_difference some slow timed all i h) (large_sample there again later j k) =
+    absurd (none_first _ s.samples j all k)
+one_misfit s o f g (large_difference some slow timed all i h) (large_difference there again later every j k) =
+    ap DifferenceTooLarge (one_first _ _ i j h k)
 
 pub no_misfit : (s : Trace) (o : Options) (f : PackFault) → Fits s o → ¬ (IsMisfit s o f)
 no_misfit s o f fits (no_sample e) = fits.some e

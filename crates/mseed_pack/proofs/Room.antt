@@ -1,7 +1,9 @@
--- Words that are packed from a front of some differences are packed from all of them, where the front is long enough.
-use Rattle.std.proofs.Common.{◌≡◌, ℕ, zero, suc, ◌+◌, ◌-◌, ◌*◌, ◌≤◌, eqb, Bool, true, false, cond, List, [], ◌∷◌, length, take, drop, refl, sym, ap, subst, ◌∙◌, arith, ℤ, Option, Some, None}
+-- Words that are packed from a prefix of some differences are packed from all of them, where the prefix is long enough.
+use Rattle.std.proofs.Common.{◌≡◌, ℕ, zero, suc, ◌+◌, ◌-◌, ◌*◌, ◌≤◌, eqb, Bool, true, false, cond, List, [], ◌∷◌}
+use Rattle.std.proofs.Common.{length, take, drop, refl, sym, ap, subst, ◌∙◌, arith, ℤ, Option, Some, None}
 use Rattle.std.specs.List.{filter, range_with_len}
-use Rattle.std.proofs.lemmas.List.{length-map, length-drop, length-take, length-take-le, drop-take, drop-drop, take-take}
+use Rattle.std.proofs.lemmas.List.{length-map, length-drop, length-take, length-take-le, drop-take, drop-drop}
+use Rattle.std.proofs.lemmas.List.{take-take}
 use Rattle.mseed_steim.specs.declared.scheme.Scheme.{Scheme}
 use Rattle.mseed_steim.specs.declared.scheme.Scheme.TheVariants.{One, Two}
 use Rattle.mseed_steim.specs.Groups.{Group, group_of}
@@ -41,7 +43,8 @@ seven Two c d =
     none_seven))
 
 pub spelled_seven : (s : Scheme) (c w : ℕ) (ds : List ℤ) → Spells s c w ds → length ds ≤ 7
-spelled_seven s c w ds (empty e none) = let size : length ds ≡ 0 = ap (λ (xs : List ℤ). length xs) none in omega (arith, size)
+spelled_seven s c w ds (empty e none) = let size : length ds ≡ 0 = ap (λ (xs : List ℤ). length xs) none in
+    omega (arith, size)
 spelled_seven s c w ds (row g d found is) = let few = seven s c d g found in omega (arith, few, is.count)
 
 used_seven : (s : Scheme) (ds : List ℤ) (c w used : ℕ) → IsFullest s ds c w used → used ≤ 7
@@ -51,7 +54,8 @@ used_seven s ds c w used full =
     omega (arith, few, size)
 
 -- a word that is fullest for seven differences or more is so for those behind them, too
-longer_fullest : (s : Scheme) (ds : List ℤ) (n c w used : ℕ) → 7 ≤ n → IsFullest s (take n ds) c w used → IsFullest s ds c w used
+longer_fullest : (s : Scheme) (ds : List ℤ) (n c w used : ℕ) → 7 ≤ n → IsFullest s (take n ds) c w used
+    → IsFullest s ds c w used
 longer_fullest s ds n c w used long full =
     let few : used ≤ 7 = used_seven s (take n ds) c w used full in
     let inside = full.inside in
@@ -65,35 +69,48 @@ longer_fullest s ds n c w used long full =
           let count : length (take k ds) ≡ k = length-take-le k ds less in
           let small : length (take k ds) ≤ 7 = spelled_seven s can.0 can.1.0 (take k ds) can.1.1 in
           let short : k ≤ n = omega (arith, count, small, long) in
-          full.largest k more (omega (arith, short, less, length-take n ds)) (subst (λ (xs : List ℤ). CanSpell s xs) (sym (take-take k n ds short)) can);
+          full.largest k more (omega (arith, short, less, length-take n ds))
+          (subst (λ (xs : List ℤ). CanSpell s xs) (sym (take-take k n ds short)) can);
     }
 
--- so many of all the differences are packed as of the front
-pub record PacksOn (s : Scheme) (ws : List DataWord) (ds front rest : List ℤ) : Type 0 where
+-- so many of all the differences are packed as of the prefix
+pub record PacksOn (s : Scheme) (ws : List DataWord) (ds prefix rest : List ℤ) : Type 0 where
   pub used : ℕ
   pub run : PacksRun s ws ds (drop used ds)
-  pub rest_is : rest ≡ drop used front
+  pub rest_is : rest ≡ drop used prefix
   pub few : used ≤ 7 * length ws
-  pub inside : used ≤ length front
+  pub inside : used ≤ length prefix
 
-pub packs_on : (s : Scheme) (ws : List DataWord) (ds rest : List ℤ) (n : ℕ) → 7 * length ws ≤ n → PacksRun s ws (take n ds) rest → PacksOn s ws ds (take n ds) rest
-packs_on s [] ds rest n h run = record { used = 0; run = refl; rest_is = sym run; few = omega arith; inside = omega arith }
+pub packs_on : (s : Scheme) (ws : List DataWord) (ds rest : List ℤ) (n : ℕ) → 7 * length ws ≤ n
+    → PacksRun s ws (take n ds) rest → PacksOn s ws ds (take n ds) rest
+packs_on s [] ds rest n h run =
+    record { used = 0; run = refl; rest_is = sym run; few = omega arith; inside = omega arith }
 packs_on s (w ∷ ws) ds rest n h run =
     let used = run.0 in
     let full = run.1.0 in
     let few : used ≤ 7 = used_seven s (take n ds) w.code w.bits used full in
     let inside = full.inside in
     let whole : used + (n - used) ≡ n = omega (arith, few, h) in
-    let left : drop used (take n ds) ≡ take (n - used) (drop used ds) = ap (λ (m : ℕ). drop used (take m ds)) (sym whole) ∙ drop-take used (n - used) ds in
-    let later = packs_on s ws (drop used ds) rest (n - used) (omega (arith, few, h)) (subst (λ (xs : List ℤ). PacksRun s ws xs rest) left run.1.1) in
+    let left : drop used (take n ds) ≡ take (n - used) (drop used ds) =
+    ap (λ (m : ℕ). drop used (take m ds)) (sym whole) ∙ drop-take used (n - used) ds in
+    let later = packs_on s ws (drop used ds) rest (n - used) (omega (arith, few, h))
+    (subst (λ (xs : List ℤ). PacksRun s ws xs rest) left run.1.1) in
     let behind : drop later.used (drop used ds) ≡ drop (used + later.used) ds = drop-drop later.used used ds in
-    let rest_is : rest ≡ drop (used + later.used) (take n ds) = later.rest_is ∙ ap (λ (xs : List ℤ). drop later.used xs) (sym left) ∙ drop-drop later.used used (take n ds) in
+    let rest_is : rest ≡ drop (used + later.used) (take n ds) =
+    later.rest_is ∙ ap (λ (xs : List ℤ). drop later.used xs) (sym left) ∙ drop-drop later.used used (take n ds) in
     let small = later.few in
     let short = later.inside in
-    let size : length (take (n - used) (drop used ds)) ≡ length (take n ds) - used = ap (λ (xs : List ℤ). length xs) (sym left) ∙ length-drop used (take n ds) in
+    let size : length (take (n - used) (drop used ds)) ≡ length (take n ds) - used =
+    ap (λ (xs : List ℤ). length xs) (sym left) ∙ length-drop used (take n ds) in
     record {
       used = used + later.used;
-      run = (used, (longer_fullest s ds n w.code w.bits used (omega (arith, h)) full, subst (λ (xs : List ℤ). PacksRun s ws (drop used ds) xs) behind later.run));
+      run = (
+        used,
+        (
+          longer_fullest s ds n w.code w.bits used (omega (arith, h)) full,
+          subst (λ (xs : List ℤ). PacksRun s ws (drop used ds) xs) behind later.run,
+        ),
+      );
       rest_is = rest_is;
       few = omega (arith, few, small);
       inside = omega (arith, short, size, inside);
@@ -106,7 +123,8 @@ used_is ds m n a b e =
     omega (arith, a, b, size, length-drop m ds, length-drop n ds)
 
 -- each word takes one difference at least
-pub some_used : (s : Scheme) (ws : List DataWord) (ds rest : List ℤ) → PacksRun s ws ds rest → length rest + length ws ≤ length ds
+pub some_used : (s : Scheme) (ws : List DataWord) (ds rest : List ℤ) → PacksRun s ws ds rest
+    → length rest + length ws ≤ length ds
 some_used s [] ds rest run = let same = ap (λ (xs : List ℤ). length xs) run in omega (arith, same)
 some_used s (w ∷ ws) ds rest run =
     let later = some_used s ws (drop run.0 ds) rest run.1.1 in
@@ -118,7 +136,8 @@ length-filter : (p : ℕ → Bool) (xs : List ℕ) → length (filter p xs) ≤ 
 length-filter p [] = omega arith
 length-filter p (x ∷ xs) = by (p x) (length-filter p xs)
   where
-    by : (b : Bool) → length (filter p xs) ≤ length xs → length (cond b (x ∷ filter p xs) (filter p xs)) ≤ suc (length xs)
+    by : (b : Bool) → length (filter p xs) ≤ length xs
+        → length (cond b (x ∷ filter p xs) (filter p xs)) ≤ suc (length xs)
     by true rest = omega (arith, rest)
     by false rest = omega (arith, rest)
 
@@ -131,4 +150,9 @@ pub words_fit : (p : List ℕ) → length (data_words p) ≤ word_count p - 3
 unfolding words_from
 words_fit p =
     let all = length-filter is_data (range_with_len 3 (word_count p - 3)) in
-    omega (arith, all, length-range 3 (word_count p - 3), length-map (filter is_data (range_with_len 3 (word_count p - 3))) (data_word p))
+    omega (
+      arith,
+      all,
+      length-range 3 (word_count p - 3),
+      length-map (filter is_data (range_with_len 3 (word_count p - 3))) (data_word p),
+    )

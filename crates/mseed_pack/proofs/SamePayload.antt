@@ -1,5 +1,6 @@
 -- Bytes of whole frames are told by their words' codes and bits, X0 and Xn.
-use Rattle.std.proofs.Common.{◌≡◌, ◌≢◌, ℕ, zero, suc, ◌+◌, ◌-◌, ◌*◌, ◌/◌, ◌%◌, ◌^◌, ◌<◌, ◌≤◌, List, ◌∷◌, length, drop, get_or, refl, sym, ap, subst, ◌∙◌, arith, ◌⊎◌, inl, inr, ⊎_elim}
+use Rattle.std.proofs.Common.{◌≡◌, ◌≢◌, ℕ, zero, suc, ◌+◌, ◌-◌, ◌*◌, ◌/◌, ◌%◌, ◌^◌, ◌<◌, ◌≤◌, List, ◌∷◌, length, drop}
+use Rattle.std.proofs.Common.{get_or, refl, sym, ap, subst, ◌∙◌, arith, ◌⊎◌, inl, inr, ⊎_elim}
 use Rattle.std.proofs.Math.Nat.{div-div-eq-div-mul}
 use Rattle.std.proofs.lemmas.Nat.{pow-add}
 use Rattle.std.proofs.lemmas.Bool.{cases_eq, cases_lt, ne_eqb}
@@ -8,7 +9,8 @@ use Rattle.std.proofs.lemmas.Int.{ints}
 use Rattle.std.proofs.lemmas.List.{ext_get_or, get_or-drop}
 use Rattle.byteorder.specs.Endian.{twos_complement}
 use Rattle.byteorder.specs.Numbers.{big_from-lt}
-use Rattle.mseed_steim.specs.Frames.{DataWord, data_word, words_from, data_words, word_at, code_at, word_count, first_constant, last_constant}
+use Rattle.mseed_steim.specs.Frames.{DataWord, data_word, words_from, data_words, word_at, code_at, word_count}
+use Rattle.mseed_steim.specs.Frames.{first_constant, last_constant}
 use Rattle.mseed_steim.specs.Packing.{contents}
 
 words_skip : (p : List ℕ) (k n : ℕ) → k % 16 ≡ 0 → words_from p k (suc n) ≡ words_from p (k + 1) n
@@ -29,20 +31,25 @@ head_alike a b c d xs ys e =
     (ap (λ (x : ℕ × ℕ). x.0) first, ap (λ (x : ℕ × ℕ). x.1) first, rest)
 
 -- the same words, one by one
-each_alike : (p q : List ℕ) (k n : ℕ) → contents (words_from p k n) ≡ contents (words_from q k n) → (i : ℕ) → k ≤ i → i < k + n → i % 16 ≢ 0 → Alike p q i
+each_alike : (p q : List ℕ) (k n : ℕ) → contents (words_from p k n) ≡ contents (words_from q k n) → (i : ℕ) → k ≤ i
+    → i < k + n → i % 16 ≢ 0 → Alike p q i
 each_alike p q k zero e i low high plain = absurd (omega (arith, low, high))
 each_alike p q k (suc n) e i low high plain = ⊎_elim
     (λ (first : k % 16 ≡ 0).
     let rest : contents (words_from p (k + 1) n) ≡ contents (words_from q (k + 1) n) =
-    ap (λ (ws : List DataWord). contents ws) (sym (words_skip p k n first)) ∙ e ∙ ap (λ (ws : List DataWord). contents ws) (words_skip q k n first) in
+    ap (λ (ws : List DataWord). contents ws) (sym (words_skip p k n first)) ∙ e
+    ∙ ap (λ (ws : List DataWord). contents ws) (words_skip q k n first) in
     ⊎_elim
     (λ (same : k ≡ i). absurd (plain (subst (λ (m : ℕ). m % 16 ≡ 0) same first)))
     (λ (other : k ≡ i → ⊥). each_alike p q (k + 1) n rest i (above k i low other) (omega (arith, high)) plain)
     (cases_eq k i))
     (λ (word : k % 16 ≡ 0 → ⊥).
-    let both : (code_at p k, word_at p k) ∷ contents (words_from p (k + 1) n) ≡ (code_at q k, word_at q k) ∷ contents (words_from q (k + 1) n) =
-    ap (λ (ws : List DataWord). contents ws) (sym (words_step p k n word)) ∙ e ∙ ap (λ (ws : List DataWord). contents ws) (words_step q k n word) in
-    let parts = head_alike (code_at p k) (word_at p k) (code_at q k) (word_at q k) (contents (words_from p (k + 1) n)) (contents (words_from q (k + 1) n)) both in
+    let both : (code_at p k, word_at p k) ∷ contents (words_from p (k + 1) n) ≡ (code_at q k, word_at q k) ∷ contents
+    (words_from q (k + 1) n) =
+    ap (λ (ws : List DataWord). contents ws) (sym (words_step p k n word)) ∙ e
+    ∙ ap (λ (ws : List DataWord). contents ws) (words_step q k n word) in
+    let parts = head_alike (code_at p k) (word_at p k) (code_at q k) (word_at q k) (contents (words_from p (k + 1) n))
+    (contents (words_from q (k + 1) n)) both in
     ⊎_elim
     (λ (same : k ≡ i). subst (λ (m : ℕ). Alike p q m) same (parts.0, parts.1))
     (λ (other : k ≡ i → ⊥). each_alike p q (k + 1) n parts.2 i (above k i low other) (omega (arith, high)) plain)
@@ -60,12 +67,14 @@ abbrev pub Octets : List ℕ → Type 0
 Octets p = (i : ℕ) → get_or p i 0 < 256
 
 -- sixteen codes tell the word that holds them
-quarters : (w v n : ℕ) → w / 2 ^ (2 * n) ≡ v / 2 ^ (2 * n) → ((k : ℕ) → k < n → w / 2 ^ (2 * k) % 4 ≡ v / 2 ^ (2 * k) % 4) → w ≡ v
+quarters : (w v n : ℕ) → w / 2 ^ (2 * n) ≡ v / 2 ^ (2 * n)
+    → ((k : ℕ) → k < n → w / 2 ^ (2 * k) % 4 ≡ v / 2 ^ (2 * k) % 4) → w ≡ v
 quarters w v zero e each = omega (arith, e)
 quarters w v (suc n) e each =
     let two_more : 2 * suc n ≡ 2 * n + 2 = omega arith in
     let power : 2 ^ (2 * suc n) ≡ 2 ^ (2 * n) * 4 = ap (λ (m : ℕ). 2 ^ m) two_more ∙ pow-add 2 (2 * n) 2 in
-    let cut : (x : ℕ) → x / 2 ^ (2 * suc n) ≡ x / 2 ^ (2 * n) / 4 = λ x. ap (λ (m : ℕ). x / m) power ∙ sym (div-div-eq-div-mul x (2 ^ (2 * n)) 4) in
+    let cut : (x : ℕ) → x / 2 ^ (2 * suc n) ≡ x / 2 ^ (2 * n) / 4 = λ x. ap (λ (m : ℕ). x / m) power
+    ∙ sym (div-div-eq-div-mul x (2 ^ (2 * n)) 4) in
     let last = each n (omega arith) in
     let high : w / 2 ^ (2 * n) / 4 ≡ v / 2 ^ (2 * n) / 4 = sym (cut w) ∙ e ∙ cut v in
     quarters w v n (omega (arith, last, high)) (λ k h. each k (omega (arith, h)))
@@ -74,7 +83,8 @@ quarters w v (suc n) e each =
 place_of : (frame j : ℕ) → j < 16 → ((16 * frame + j) / 16 ≡ frame) × ((16 * frame + j) % 16 ≡ j)
 place_of frame j h = (omega (arith, h), omega (arith, h))
 
-code_of_frame : (p : List ℕ) (frame k : ℕ) → k < 16 → code_at p (16 * frame + (15 - k)) ≡ word_at p (16 * frame) / 2 ^ (2 * k) % 4
+code_of_frame : (p : List ℕ) (frame k : ℕ) → k < 16
+    → code_at p (16 * frame + (15 - k)) ≡ word_at p (16 * frame) / 2 ^ (2 * k) % 4
 code_of_frame p frame k h =
     let place = place_of frame (15 - k) (omega arith) in
     let shift : 30 - 2 * (15 - k) ≡ 2 * k = omega (arith, h) in
@@ -83,33 +93,45 @@ code_of_frame p frame k h =
     ∙ ap (λ (m : ℕ). word_at p (16 * frame) / 2 ^ m % 4) shift
 
 word_lt : (p : List ℕ) → Octets p → (k : ℕ) → word_at p k < 2 ^ 32
-word_lt p octets k = big_from-lt 0 4 (drop (4 * k) p) (λ i. subst (λ (b : ℕ). b < 256) (sym (get_or-drop (4 * k) p i 0)) (octets (4 * k + i)))
+word_lt p octets k = big_from-lt 0 4 (drop (4 * k) p)
+    (λ i. subst (λ (b : ℕ). b < 256) (sym (get_or-drop (4 * k) p i 0)) (octets (4 * k + i)))
 
 no_higher : (w : ℕ) → w < 2 ^ 32 → w / 2 ^ (2 * 16) ≡ 0
 no_higher w h = omega (arith, h)
 
-frame_word : (p q : List ℕ) → Octets p → Octets q → (frame : ℕ) → ((j : ℕ) → j < 16 → code_at p (16 * frame + j) ≡ code_at q (16 * frame + j)) → word_at p (16 * frame) ≡ word_at q (16 * frame)
+frame_word : (p q : List ℕ) → Octets p → Octets q → (frame : ℕ)
+    → ((j : ℕ) → j < 16 → code_at p (16 * frame + j) ≡ code_at q (16 * frame + j))
+    → word_at p (16 * frame) ≡ word_at q (16 * frame)
 frame_word p q a b frame codes =
-    quarters (word_at p (16 * frame)) (word_at q (16 * frame)) 16 (no_higher (word_at p (16 * frame)) (word_lt p a (16 * frame)) ∙ sym (no_higher (word_at q (16 * frame)) (word_lt q b (16 * frame))))
+    quarters (word_at p (16 * frame)) (word_at q (16 * frame)) 16
+    (no_higher (word_at p (16 * frame)) (word_lt p a (16 * frame))
+    ∙ sym (no_higher (word_at q (16 * frame)) (word_lt q b (16 * frame))))
     (λ k h. sym (code_of_frame p frame k h) ∙ codes (15 - k) (omega arith) ∙ code_of_frame q frame k h)
 
 -- four bytes are told by their number
 four_bytes : (a b c d e f g h : ℕ) → a < 256 → b < 256 → c < 256 → d < 256 → e < 256 → f < 256 → g < 256 → h < 256
-    → a * 256 ^ 3 + (b * 256 ^ 2 + (c * 256 ^ 1 + (d * 256 ^ 0 + 0))) ≡ e * 256 ^ 3 + (f * 256 ^ 2 + (g * 256 ^ 1 + (h * 256 ^ 0 + 0))) → (a ≡ e) × (b ≡ f) × (c ≡ g) × (d ≡ h)
+    → a * 256 ^ 3 + (b * 256 ^ 2 + (c * 256 ^ 1 + (d * 256 ^ 0 + 0))) ≡ e * 256 ^ 3
+    + (f * 256 ^ 2 + (g * 256 ^ 1 + (h * 256 ^ 0 + 0))) → (a ≡ e) × (b ≡ f) × (c ≡ g) × (d ≡ h)
 four_bytes a b c d e f g h la lb lc ld le lf lg lh same =
     let first : a ≡ e = omega arith in
     let second : b ≡ f = omega arith in
     let third : c ≡ g = omega arith in
     (first, second, third, omega arith)
 
-byte_of_word : (p q : List ℕ) → Octets p → Octets q → (k : ℕ) → word_at p k ≡ word_at q k → (j : ℕ) → j < 4 → get_or p (4 * k + j) 0 ≡ get_or q (4 * k + j) 0
+byte_of_word : (p q : List ℕ) → Octets p → Octets q → (k : ℕ) → word_at p k ≡ word_at q k → (j : ℕ) → j < 4
+    → get_or p (4 * k + j) 0 ≡ get_or q (4 * k + j) 0
 byte_of_word p q a b k e j h =
-    let at : (xs : List ℕ) → Octets xs → (i : ℕ) → get_or (drop (4 * k) xs) i 0 < 256 = λ xs o i. subst (λ (x : ℕ). x < 256) (sym (get_or-drop (4 * k) xs i 0)) (o (4 * k + i)) in
-    let all = four_bytes _ _ _ _ _ _ _ _ (at p a 0) (at p a 1) (at p a 2) (at p a 3) (at q b 0) (at q b 1) (at q b 2) (at q b 3) e in
+    let at : (xs : List ℕ) → Octets xs → (i : ℕ) → get_or (drop (4 * k) xs) i 0 < 256 =
+    λ xs o i. subst (λ (x : ℕ). x < 256) (sym (get_or-drop (4 * k) xs i 0)) (o (4 * k + i)) in
+    let all = four_bytes _ _ _ _ _ _ _ _ (at p a 0) (at p a 1) (at p a 2) (at p a 3) (at q b 0) (at q b 1) (at q b 2)
+    (at q b 3) e in
     sym (get_or-drop (4 * k) p j 0) ∙ one_of j h all.0 all.1 all.2 all.3 ∙ get_or-drop (4 * k) q j 0
   where
-    one_of : (j : ℕ) → j < 4 → get_or (drop (4 * k) p) 0 0 ≡ get_or (drop (4 * k) q) 0 0 → get_or (drop (4 * k) p) 1 0 ≡ get_or (drop (4 * k) q) 1 0
-        → get_or (drop (4 * k) p) 2 0 ≡ get_or (drop (4 * k) q) 2 0 → get_or (drop (4 * k) p) 3 0 ≡ get_or (drop (4 * k) q) 3 0 → get_or (drop (4 * k) p) j 0 ≡ get_or (drop (4 * k) q) j 0
+    one_of : (j : ℕ) → j < 4 → get_or (drop (4 * k) p) 0 0 ≡ get_or (drop (4 * k) q) 0 0
+        → get_or (drop (4 * k) p) 1 0 ≡ get_or (drop (4 * k) q) 1 0
+        → get_or (drop (4 * k) p) 2 0 ≡ get_or (drop (4 * k) q) 2 0
+        → get_or (drop (4 * k) p) 3 0 ≡ get_or (drop (4 * k) q) 3 0
+        → get_or (drop (4 * k) p) j 0 ≡ get_or (drop (4 * k) q) j 0
     one_of zero h w x y z = w
     one_of (suc zero) h w x y z = x
     one_of (suc (suc zero)) h w x y z = y
@@ -117,24 +139,32 @@ byte_of_word p q a b k e j h =
     one_of (suc (suc (suc (suc j)))) h w x y z = absurd (omega arith)
 
 -- Frames with the same data words, X0 and Xn, and no codes for what holds no differences, are the same bytes.
-pub same_payload : (p q : List ℕ) → Octets p → Octets q → length p ≡ length q → length p % 64 ≡ 0 → contents (data_words p) ≡ contents (data_words q) → first_constant p ≡ first_constant q → last_constant p ≡ last_constant q
-    → ((k : ℕ) → k < word_count p → (k < 3) ⊎ (k % 16 ≡ 0) → code_at p k ≡ 0) → ((k : ℕ) → k < word_count q → (k < 3) ⊎ (k % 16 ≡ 0) → code_at q k ≡ 0) → p ≡ q
+pub same_payload : (p q : List ℕ) → Octets p → Octets q → length p ≡ length q → length p % 64 ≡ 0
+    → contents (data_words p) ≡ contents (data_words q) → first_constant p ≡ first_constant q
+    → last_constant p ≡ last_constant q
+    → ((k : ℕ) → k < word_count p → (k < 3) ⊎ (k % 16 ≡ 0) → code_at p k ≡ 0)
+    → ((k : ℕ) → k < word_count q → (k < 3) ⊎ (k % 16 ≡ 0) → code_at q k ≡ 0) → p ≡ q
 same_payload p q a b size whole words first last p_codes q_codes =
     let count : word_count q ≡ word_count p = ap (λ (n : ℕ). 16 * (n / 64)) (sym size) in
-    let same_words : contents (words_from p 3 (word_count p - 3)) ≡ contents (words_from q 3 (word_count p - 3)) = words ∙ ap (λ (n : ℕ). contents (words_from q 3 (n - 3))) count in
-    let inner : (i : ℕ) → 3 ≤ i → i < word_count p → i % 16 ≢ 0 → Alike p q i = λ i low high plain. each_alike p q 3 (word_count p - 3) same_words i low (omega (arith, low, high)) plain in
-    let none : (i : ℕ) → i < word_count p → (i < 3) ⊎ (i % 16 ≡ 0) → code_at p i ≡ code_at q i = λ i high h. p_codes i high h ∙ sym (q_codes i (omega (arith, high, count)) h) in
+    let same_words : contents (words_from p 3 (word_count p - 3)) ≡ contents (words_from q 3 (word_count p - 3)) =
+    words ∙ ap (λ (n : ℕ). contents (words_from q 3 (n - 3))) count in
+    let inner : (i : ℕ) → 3 ≤ i → i < word_count p → i % 16 ≢ 0 → Alike p q i =
+    λ i low high plain. each_alike p q 3 (word_count p - 3) same_words i low (omega (arith, low, high)) plain in
+    let none : (i : ℕ) → i < word_count p → (i < 3) ⊎ (i % 16 ≡ 0) → code_at p i ≡ code_at q i =
+    λ i high h. p_codes i high h ∙ sym (q_codes i (omega (arith, high, count)) h) in
     let codes : (i : ℕ) → i < word_count p → code_at p i ≡ code_at q i = λ i high. ⊎_elim
     (λ (low : i < 3). none i high (inl low))
-    (λ (up : 3 ≤ i). ⊎_elim (λ (front : i % 16 ≡ 0). none i high (inr front)) (λ (plain : i % 16 ≡ 0 → ⊥). (inner i up high plain).0) (cases_eq (i % 16) 0))
+    (λ (up : 3 ≤ i). ⊎_elim (λ (prefix : i % 16 ≡ 0). none i high (inr prefix))
+    (λ (plain : i % 16 ≡ 0 → ⊥). (inner i up high plain).0) (cases_eq (i % 16) 0))
     (cases_lt i 3) in
-    let fronts : (i : ℕ) → i < word_count p → i % 16 ≡ 0 → word_at p i ≡ word_at q i = λ i high front.
-    let place : 16 * (i / 16) ≡ i = omega (arith, front) in
-    subst (λ (n : ℕ). word_at p n ≡ word_at q n) place (frame_word p q a b (i / 16) (λ j h. codes (16 * (i / 16) + j) (omega (arith, h, high, front)))) in
+    let prefixes : (i : ℕ) → i < word_count p → i % 16 ≡ 0 → word_at p i ≡ word_at q i = λ i high prefix.
+    let place : 16 * (i / 16) ≡ i = omega (arith, prefix) in
+    subst (λ (n : ℕ). word_at p n ≡ word_at q n) place
+    (frame_word p q a b (i / 16) (λ j h. codes (16 * (i / 16) + j) (omega (arith, h, high, prefix)))) in
     let one = one_complement (word_at p 1) (word_at q 1) (word_lt p a 1) (word_lt q b 1) first in
     let two = one_complement (word_at p 2) (word_at q 2) (word_lt p a 2) (word_lt q b 2) last in
     let all : (i : ℕ) → i < word_count p → word_at p i ≡ word_at q i = λ i high. ⊎_elim
-    (λ (front : i % 16 ≡ 0). fronts i high front)
+    (λ (prefix : i % 16 ≡ 0). prefixes i high prefix)
     (λ (plain : i % 16 ≡ 0 → ⊥). ⊎_elim
     (λ (low : i < 3). constants p q i low plain one two)
     (λ (up : 3 ≤ i). (inner i up high plain).1)
@@ -142,9 +172,11 @@ same_payload p q a b size whole words first last p_codes q_codes =
     (cases_eq (i % 16) 0) in
     ext_get_or 0 p q size (λ i h.
     let place : 4 * (i / 4) + i % 4 ≡ i = omega arith in
-    subst (λ (n : ℕ). get_or p n 0 ≡ get_or q n 0) place (byte_of_word p q a b (i / 4) (all (i / 4) (omega (arith, h, whole))) (i % 4) (omega arith)))
+    subst (λ (n : ℕ). get_or p n 0 ≡ get_or q n 0) place
+    (byte_of_word p q a b (i / 4) (all (i / 4) (omega (arith, h, whole))) (i % 4) (omega arith)))
   where
-    constants : (p q : List ℕ) (i : ℕ) → i < 3 → (i % 16 ≡ 0 → ⊥) → word_at p 1 ≡ word_at q 1 → word_at p 2 ≡ word_at q 2 → word_at p i ≡ word_at q i
+    constants : (p q : List ℕ) (i : ℕ) → i < 3 → (i % 16 ≡ 0 → ⊥) → word_at p 1 ≡ word_at q 1
+        → word_at p 2 ≡ word_at q 2 → word_at p i ≡ word_at q i
     constants p q zero low plain one two = absurd (plain refl)
     constants p q (suc zero) low plain one two = one
     constants p q (suc (suc zero)) low plain one two = two

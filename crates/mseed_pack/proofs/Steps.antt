@@ -1,5 +1,7 @@
 -- The leap seconds before a sample, and the next one.
-use Rattle.std.proofs.Common.{◌≡◌, ◌≢◌, ℕ, ◌+◌, ◌*◌, ◌^◌, ◌<◌, ◌≤◌, true, false, List, [], ◌∷◌, ◌++◌, length, drop, get_or, refl, sym, ap, ◌∙◌, arith, ℤ, pos, ◌+ℤ◌, Option, Some, None, eqb, leb, ltb, append_assoc, nat_abs, length-append}
+use Rattle.std.proofs.Common.{◌≡◌, ◌≢◌, ℕ, ◌+◌, ◌*◌, ◌^◌, ◌<◌, ◌≤◌, true, false, List, [], ◌∷◌, ◌++◌, length, drop}
+use Rattle.std.proofs.Common.{get_or, refl, sym, ap, ◌∙◌, arith, ℤ, pos, ◌+ℤ◌, Option, Some, None, eqb, leb, ltb}
+use Rattle.std.proofs.Common.{append_assoc, nat_abs, length-append}
 use Rattle.std.specs.Prelude.{unwrap_or, option_map, find}
 use Rattle.std.specs.List.{AllByRecursion}
 use Rattle.std.proofs.lemmas.Bool.{ne_eqb, eq-eqb}
@@ -28,12 +30,14 @@ lt_false : (a b : ℕ) → b ≤ a → ltb a b ≡ false
 lt_false a b h = grind (arith, nat_tests)
 
 -- what leap seconds added, of two lists
-pub added_append : (xs ys : List (ℕ × LeapStep)) (n : ℕ) → added_before (xs ++ ys) n ≡ added_before xs n +ℤ added_before ys n
+pub added_append : (xs ys : List (ℕ × LeapStep)) (n : ℕ)
+    → added_before (xs ++ ys) n ≡ added_before xs n +ℤ added_before ys n
 added_append [] ys n = omega (arith, ints)
 added_append (x ∷ xs) ys n = let later = added_append xs ys n in omega (arith, ints, later)
 
 -- of those that all are before
-pub added_all : (xs : List (ℕ × LeapStep)) (a b : ℕ) → AllByRecursion (λ (x : ℕ × LeapStep). x.0 ≤ a) xs → a ≤ b → added_before xs b ≡ added_before xs a
+pub added_all : (xs : List (ℕ × LeapStep)) (a b : ℕ) → AllByRecursion (λ (x : ℕ × LeapStep). x.0 ≤ a) xs → a ≤ b
+    → added_before xs b ≡ added_before xs a
 added_all [] a b h l = refl
 added_all (x ∷ xs) a b h l =
     let here : leb x.0 a ≡ true = le_true x.0 a h.0 in
@@ -41,16 +45,18 @@ added_all (x ∷ xs) a b h l =
     rw (here, there) (ap (λ (z : ℤ). step_of (Some x.1) +ℤ z) (added_all xs a b h.1 l))
 
 -- of those that all are behind
-pub added_none : (xs : List (ℕ × LeapStep)) (low size n : ℕ) → AreStepsFrom low size xs → n ≤ low → added_before xs n ≡ pos 0
+pub added_none : (xs : List (ℕ × LeapStep)) (low size n : ℕ) → AreStepsFrom low size xs → n ≤ low
+    → added_before xs n ≡ pos 0
 added_none [] low size n h l = refl
 added_none (x ∷ xs) low size n h l =
     let here : leb x.0 n ≡ false = le_false x.0 n (omega (arith, h.0, l)) in
     let later : added_before xs n ≡ pos 0 = added_none xs x.0 size n h.2 (omega (arith, h.0, l)) in
     rw (here, later) refl
 
-added_front : (xs : List (ℕ × LeapStep)) (low size n : ℕ) → AreStepsFrom low size xs → n < end_by xs size → added_before xs n ≡ pos 0
-added_front [] low size n h l = refl
-added_front (x ∷ xs) low size n h l =
+added_prefix : (xs : List (ℕ × LeapStep)) (low size n : ℕ) → AreStepsFrom low size xs → n < end_by xs size
+    → added_before xs n ≡ pos 0
+added_prefix [] low size n h l = refl
+added_prefix (x ∷ xs) low size n h l =
     let here : leb x.0 n ≡ false = le_false x.0 n l in
     let later : added_before xs n ≡ pos 0 = added_none xs x.0 size n h.2 (omega (arith, l)) in
     rw (here, later) refl
@@ -63,27 +69,34 @@ find_passed (x ∷ xs) ys a n h l =
     let here : ltb n x.0 ≡ false = lt_false n x.0 (omega (arith, h.0, l)) in
     rw here (find_passed xs ys a n h.1 l)
 
-find_front : (xs : List (ℕ × LeapStep)) (size n : ℕ) → n < end_by xs size
-    → unwrap_or (option_map (λ (x : ℕ × LeapStep). x.0) (find (λ (x : ℕ × LeapStep). ltb n x.0) xs)) size ≡ end_by xs size
-find_front [] size n l = refl
-find_front (x ∷ xs) size n l = let here : ltb n x.0 ≡ true = lt_true n x.0 l in rw here refl
+find_prefix : (xs : List (ℕ × LeapStep)) (size n : ℕ) → n < end_by xs size
+    → unwrap_or (option_map (λ (x : ℕ × LeapStep). x.0) (find (λ (x : ℕ × LeapStep). ltb n x.0) xs)) size
+    ≡ end_by xs size
+find_prefix [] size n l = refl
+find_prefix (x ∷ xs) size n l = let here : ltb n x.0 ≡ true = lt_true n x.0 l in rw here refl
 
-pub end_at : (s : Trace) (stretch : Stretch) (n : ℕ) → IsStretch s.steps (length s.samples) stretch → stretch.begin ≤ n → n < stretch.end → stretch_end s n ≡ stretch.end
+pub end_at : (s : Trace) (stretch : Stretch) (n : ℕ) → IsStretch s.steps (length s.samples) stretch → stretch.begin ≤ n
+    → n < stretch.end → stretch_end s n ≡ stretch.end
 end_at s stretch n h low high =
     let size = length s.samples in
     let inside : n < end_by h.left size = omega (arith, high, h.end_is) in
-    ap (λ (xs : List (ℕ × LeapStep)). unwrap_or (option_map (λ (x : ℕ × LeapStep). x.0) (find (λ (x : ℕ × LeapStep). ltb n x.0) xs)) size) h.parts
-    ∙ ap (λ (o : Option (ℕ × LeapStep)). unwrap_or (option_map (λ (x : ℕ × LeapStep). x.0) o) size) (find_passed h.passed h.left stretch.begin n h.before low)
-    ∙ find_front h.left size n inside
+    ap (λ (xs : List (ℕ × LeapStep)). unwrap_or
+    (option_map (λ (x : ℕ × LeapStep). x.0) (find (λ (x : ℕ × LeapStep). ltb n x.0) xs)) size) h.parts
+    ∙ ap (λ (o : Option (ℕ × LeapStep)). unwrap_or (option_map (λ (x : ℕ × LeapStep). x.0) o) size)
+    (find_passed h.passed h.left stretch.begin n h.before low)
+    ∙ find_prefix h.left size n inside
     ∙ sym h.end_is
 
-pub added_at : (steps : List (ℕ × LeapStep)) (size : ℕ) (stretch : Stretch) (n : ℕ) → IsStretch steps size stretch → stretch.begin ≤ n → n < stretch.end → added_before steps n ≡ stretch.added
+pub added_at : (steps : List (ℕ × LeapStep)) (size : ℕ) (stretch : Stretch) (n : ℕ) → IsStretch steps size stretch
+    → stretch.begin ≤ n → n < stretch.end → added_before steps n ≡ stretch.added
 added_at steps size stretch n h low high =
     let inside : n < end_by h.left size = omega (arith, high, h.end_is) in
-    let cut : added_before steps n ≡ added_before h.passed n +ℤ added_before h.left n = ap (λ (xs : List (ℕ × LeapStep)). added_before xs n) h.parts ∙ added_append h.passed h.left n in
-    let front : added_before h.passed n ≡ added_before h.passed stretch.begin = added_all h.passed stretch.begin n h.before low in
-    let back : added_before h.left n ≡ pos 0 = added_front h.left stretch.begin size n h.behind inside in
-    omega (arith, ints, cut, front, back, h.added_is)
+    let cut : added_before steps n ≡ added_before h.passed n +ℤ added_before h.left n =
+    ap (λ (xs : List (ℕ × LeapStep)). added_before xs n) h.parts ∙ added_append h.passed h.left n in
+    let prefix : added_before h.passed n ≡ added_before h.passed stretch.begin =
+    added_all h.passed stretch.begin n h.before low in
+    let back : added_before h.left n ≡ pos 0 = added_prefix h.left stretch.begin size n h.behind inside in
+    omega (arith, ints, cut, prefix, back, h.added_is)
 
 -- the one at a record's end
 at_passed : (xs ys : List (ℕ × LeapStep)) (a n : ℕ) → AllByRecursion (λ (x : ℕ × LeapStep). x.0 ≤ a) xs → a < n
@@ -94,7 +107,8 @@ at_passed (x ∷ xs) ys a n h l =
     let here : eqb x.0 n ≡ false = ne_eqb x.0 n other in
     rw here (at_passed xs ys a n h.1 l)
 
-at_none : (xs : List (ℕ × LeapStep)) (low size n : ℕ) → AreStepsFrom low size xs → n ≤ low → find (λ (x : ℕ × LeapStep). eqb x.0 n) xs ≡ None
+at_none : (xs : List (ℕ × LeapStep)) (low size n : ℕ) → AreStepsFrom low size xs → n ≤ low
+    → find (λ (x : ℕ × LeapStep). eqb x.0 n) xs ≡ None
 at_none [] low size n h l = refl
 at_none (x ∷ xs) low size n h l =
     let other : x.0 ≢ n = λ e. omega (arith, h.0, l, e) in
@@ -105,34 +119,43 @@ abbrev pub kind_by : List (ℕ × LeapStep) → Option LeapStep
 kind_by [] = None
 kind_by (x ∷ xs) = Some x.1
 
-at_front : (xs : List (ℕ × LeapStep)) (size n : ℕ) → n < end_by xs size → (low : ℕ) → AreStepsFrom low size xs → option_map (λ (x : ℕ × LeapStep). x.1) (find (λ (x : ℕ × LeapStep). eqb x.0 n) xs) ≡ None
-at_front [] size n l low h = refl
-at_front (x ∷ xs) size n l low h =
+at_prefix : (xs : List (ℕ × LeapStep)) (size n : ℕ) → n < end_by xs size → (low : ℕ) → AreStepsFrom low size xs
+    → option_map (λ (x : ℕ × LeapStep). x.1) (find (λ (x : ℕ × LeapStep). eqb x.0 n) xs) ≡ None
+at_prefix [] size n l low h = refl
+at_prefix (x ∷ xs) size n l low h =
     let other : x.0 ≢ n = λ e. omega (arith, l, e) in
     let here : eqb x.0 n ≡ false = ne_eqb x.0 n other in
     let later : find (λ (x : ℕ × LeapStep). eqb x.0 n) xs ≡ None = at_none xs x.0 size n h.2 (omega (arith, l)) in
     rw (here, later) refl
 
-at_end : (xs : List (ℕ × LeapStep)) (size n : ℕ) → n ≡ end_by xs size → option_map (λ (x : ℕ × LeapStep). x.1) (find (λ (x : ℕ × LeapStep). eqb x.0 n) xs) ≡ kind_by xs
+at_end : (xs : List (ℕ × LeapStep)) (size n : ℕ) → n ≡ end_by xs size
+    → option_map (λ (x : ℕ × LeapStep). x.1) (find (λ (x : ℕ × LeapStep). eqb x.0 n) xs) ≡ kind_by xs
 at_end [] size n e = refl
 at_end (x ∷ xs) size n e = let here : eqb x.0 n ≡ true = eq-eqb x.0 n (sym e) in rw here refl
 
-behind_parts : (s : Trace) (stretch : Stretch) (n : ℕ) → (h : IsStretch s.steps (length s.samples) stretch) → stretch.begin < n
+behind_parts : (s : Trace) (stretch : Stretch) (n : ℕ) → (h : IsStretch s.steps (length s.samples) stretch)
+    → stretch.begin < n
     → step_behind s n ≡ option_map (λ (x : ℕ × LeapStep). x.1) (find (λ (x : ℕ × LeapStep). eqb x.0 n) h.left)
 behind_parts s stretch n h low =
-    ap (λ (xs : List (ℕ × LeapStep)). option_map (λ (x : ℕ × LeapStep). x.1) (find (λ (x : ℕ × LeapStep). eqb x.0 n) xs)) h.parts
-    ∙ ap (λ (o : Option (ℕ × LeapStep)). option_map (λ (x : ℕ × LeapStep). x.1) o) (at_passed h.passed h.left stretch.begin n h.before low)
+    ap (λ (xs : List (ℕ × LeapStep)). option_map (λ (x : ℕ × LeapStep). x.1)
+    (find (λ (x : ℕ × LeapStep). eqb x.0 n) xs)) h.parts
+    ∙ ap (λ (o : Option (ℕ × LeapStep)). option_map (λ (x : ℕ × LeapStep). x.1) o)
+    (at_passed h.passed h.left stretch.begin n h.before low)
 
-pub none_behind : (s : Trace) (stretch : Stretch) (n : ℕ) → IsStretch s.steps (length s.samples) stretch → stretch.begin < n → n < stretch.end → step_behind s n ≡ None
+pub none_behind : (s : Trace) (stretch : Stretch) (n : ℕ) → IsStretch s.steps (length s.samples) stretch
+    → stretch.begin < n → n < stretch.end → step_behind s n ≡ None
 none_behind s stretch n h low high =
-    behind_parts s stretch n h low ∙ at_front h.left (length s.samples) n (omega (arith, high, h.end_is)) stretch.begin h.behind
+    behind_parts s stretch n h low ∙ at_prefix h.left (length s.samples) n (omega (arith, high, h.end_is))
+    stretch.begin h.behind
 
-pub one_behind : (s : Trace) (stretch : Stretch) (n : ℕ) → (h : IsStretch s.steps (length s.samples) stretch) → stretch.begin < n → n ≡ stretch.end → step_behind s n ≡ kind_by h.left
+pub one_behind : (s : Trace) (stretch : Stretch) (n : ℕ) → (h : IsStretch s.steps (length s.samples) stretch)
+    → stretch.begin < n → n ≡ stretch.end → step_behind s n ≡ kind_by h.left
 one_behind s stretch n h low e =
     behind_parts s stretch n h low ∙ at_end h.left (length s.samples) n (e ∙ h.end_is)
 
 -- all are before a later sample, too, and one more
-before_more : (xs : List (ℕ × LeapStep)) (x : ℕ × LeapStep) (a : ℕ) → AllByRecursion (λ (y : ℕ × LeapStep). y.0 ≤ a) xs → a ≤ x.0 → AllByRecursion (λ (y : ℕ × LeapStep). y.0 ≤ x.0) (xs ++ x ∷ [])
+before_more : (xs : List (ℕ × LeapStep)) (x : ℕ × LeapStep) (a : ℕ) → AllByRecursion (λ (y : ℕ × LeapStep). y.0 ≤ a) xs
+    → a ≤ x.0 → AllByRecursion (λ (y : ℕ × LeapStep). y.0 ≤ x.0) (xs ++ x ∷ [])
 before_more [] x a h l = (omega arith, tt)
 before_more (y ∷ xs) x a h l = (omega (arith, h.0, l), before_more xs x a h.1 l)
 
@@ -142,23 +165,34 @@ step_bound (Some Plus) = omega arith
 step_bound (Some Minus) = omega arith
 
 -- the next stretch, by the leap second at this one's end
-next_from : (steps passed left : List (ℕ × LeapStep)) (size : ℕ) (stretch next : Stretch) (d : ℕ × LeapStep) → steps ≡ passed ++ left → length passed ≡ stretch.passed
-    → AllByRecursion (λ (x : ℕ × LeapStep). x.0 ≤ stretch.begin) passed → AreStepsFrom stretch.begin size left → stretch.end ≡ end_by left size → stretch.added ≡ added_before passed stretch.begin
+next_from : (steps passed left : List (ℕ × LeapStep)) (size : ℕ) (stretch next : Stretch) (d : ℕ × LeapStep)
+    → steps ≡ passed ++ left → length passed ≡ stretch.passed
+    → AllByRecursion (λ (x : ℕ × LeapStep). x.0 ≤ stretch.begin) passed → AreStepsFrom stretch.begin size left
+    → stretch.end ≡ end_by left size → stretch.added ≡ added_before passed stretch.begin
     → nat_abs stretch.added ≤ 10 ^ 6 * stretch.passed → stretch.end < size
-    → next.passed ≡ stretch.passed + 1 → next.begin ≡ stretch.end → next.added ≡ stretch.added +ℤ step_of (Some (get_or steps stretch.passed d).1) → next.end ≡ end_by (drop next.passed steps) size
+    → next.passed ≡ stretch.passed + 1 → next.begin ≡ stretch.end
+    → next.added ≡ stretch.added +ℤ step_of (Some (get_or steps stretch.passed d).1)
+    → next.end ≡ end_by (drop next.passed steps) size
     → IsStretch steps size next
-next_from steps passed [] size stretch next d parts count before behind end_is added_is bound more p b a e = absurd (omega (arith, end_is, more))
+next_from steps passed [] size stretch next d parts count before behind end_is added_is bound more p b a e =
+    absurd (omega (arith, end_is, more))
 next_from steps passed (x ∷ left) size stretch next d parts count before behind end_is added_is bound more p b a e =
     let here : get_or steps stretch.passed d ≡ x =
-    ap (λ (xs : List (ℕ × LeapStep)). get_or xs stretch.passed d) parts ∙ ap (λ (n : ℕ). get_or (passed ++ x ∷ left) n d) (sym count) ∙ get_or-append_seam passed x left d in
+    ap (λ (xs : List (ℕ × LeapStep)). get_or xs stretch.passed d) parts
+    ∙ ap (λ (n : ℕ). get_or (passed ++ x ∷ left) n d) (sym count) ∙ get_or-append_seam passed x left d in
     let begin_is : next.begin ≡ x.0 = b ∙ end_is in
     let later : drop next.passed steps ≡ left =
-    ap (λ (n : ℕ). drop n steps) (p ∙ ap (λ (n : ℕ). n + 1) (sym count)) ∙ ap (λ (xs : List (ℕ × LeapStep)). drop (length passed + 1) xs) parts ∙ drop-append-add passed (x ∷ left) 1 in
-    let moved : next.added ≡ stretch.added +ℤ step_of (Some x.1) = a ∙ ap (λ (y : ℕ × LeapStep). stretch.added +ℤ step_of (Some y.1)) here in
+    ap (λ (n : ℕ). drop n steps) (p ∙ ap (λ (n : ℕ). n + 1) (sym count))
+    ∙ ap (λ (xs : List (ℕ × LeapStep)). drop (length passed + 1) xs) parts ∙ drop-append-add passed (x ∷ left) 1 in
+    let moved : next.added ≡ stretch.added +ℤ step_of (Some x.1) =
+    a ∙ ap (λ (y : ℕ × LeapStep). stretch.added +ℤ step_of (Some y.1)) here in
     let low : stretch.begin ≤ x.0 = omega (arith, behind.0) in
-    let all : added_before passed x.0 ≡ added_before passed stretch.begin = added_all passed stretch.begin x.0 before low in
-    let one : added_before (x ∷ []) x.0 ≡ step_of (Some x.1) = let yes : leb x.0 x.0 ≡ true = le_true x.0 x.0 (omega arith) in rw yes (omega (arith, ints)) in
-    let sum : added_before (passed ++ x ∷ []) x.0 ≡ added_before passed x.0 +ℤ added_before (x ∷ []) x.0 = added_append passed (x ∷ []) x.0 in
+    let all : added_before passed x.0 ≡ added_before passed stretch.begin =
+    added_all passed stretch.begin x.0 before low in
+    let one : added_before (x ∷ []) x.0 ≡ step_of (Some x.1) = let yes : leb x.0 x.0 ≡ true =
+    le_true x.0 x.0 (omega arith) in rw yes (omega (arith, ints)) in
+    let sum : added_before (passed ++ x ∷ []) x.0 ≡ added_before passed x.0 +ℤ added_before (x ∷ []) x.0 =
+    added_append passed (x ∷ []) x.0 in
     record {
       passed = passed ++ x ∷ [];
       left = left;
@@ -171,50 +205,70 @@ next_from steps passed (x ∷ left) size stretch next d parts count before behin
       added_bound = let small = step_bound (Some x.1) in omega (arith, ints, moved, bound, p, small);
     }
 
-pub next_is : (steps : List (ℕ × LeapStep)) (size : ℕ) (stretch next : Stretch) (d : ℕ × LeapStep) → IsStretch steps size stretch → stretch.end < size
-    → next.passed ≡ stretch.passed + 1 → next.begin ≡ stretch.end → next.added ≡ stretch.added +ℤ step_of (Some (get_or steps stretch.passed d).1) → next.end ≡ end_by (drop next.passed steps) size
+pub next_is : (steps : List (ℕ × LeapStep)) (size : ℕ) (stretch next : Stretch) (d : ℕ × LeapStep)
+    → IsStretch steps size stretch → stretch.end < size
+    → next.passed ≡ stretch.passed + 1 → next.begin ≡ stretch.end
+    → next.added ≡ stretch.added +ℤ step_of (Some (get_or steps stretch.passed d).1)
+    → next.end ≡ end_by (drop next.passed steps) size
     → IsStretch steps size next
-next_is steps size stretch next d h more p b a e = next_from steps h.passed h.left size stretch next d h.parts h.count h.before h.behind h.end_is h.added_is h.added_bound more p b a e
+next_is steps size stretch next d h more p b a e =
+    next_from steps h.passed h.left size stretch next d h.parts h.count h.before h.behind h.end_is h.added_is
+    h.added_bound more p b a e
 
 -- a leap second stands at the end of each stretch before the last
-passed_inside : (passed left : List (ℕ × LeapStep)) (size : ℕ) (stretch : Stretch) → length passed ≡ stretch.passed → stretch.end ≡ end_by left size → stretch.end < size → stretch.passed < length (passed ++ left)
+passed_inside : (passed left : List (ℕ × LeapStep)) (size : ℕ) (stretch : Stretch) → length passed ≡ stretch.passed
+    → stretch.end ≡ end_by left size → stretch.end < size → stretch.passed < length (passed ++ left)
 passed_inside passed [] size stretch count e more = absurd (omega (arith, e, more))
 passed_inside passed (x ∷ left) size stretch count e more = omega (arith, count, length-append passed (x ∷ left))
 
-pub some_left : (steps : List (ℕ × LeapStep)) (size : ℕ) (stretch : Stretch) → IsStretch steps size stretch → stretch.end < size → stretch.passed < length steps
+pub some_left : (steps : List (ℕ × LeapStep)) (size : ℕ) (stretch : Stretch) → IsStretch steps size stretch
+    → stretch.end < size → stretch.passed < length steps
 some_left steps size stretch h more =
     let inside = passed_inside h.passed h.left size stretch h.count h.end_is more in
     let long : length steps ≡ length (h.passed ++ h.left) = ap (λ (xs : List (ℕ × LeapStep)). length xs) h.parts in
     omega (arith, inside, long)
 
 -- a stretch has some samples, and ends within all
-pub end_inside : (steps : List (ℕ × LeapStep)) (size : ℕ) (stretch : Stretch) → IsStretch steps size stretch → stretch.begin < size → (stretch.begin < stretch.end) × (stretch.end ≤ size)
+pub end_inside : (steps : List (ℕ × LeapStep)) (size : ℕ) (stretch : Stretch) → IsStretch steps size stretch
+    → stretch.begin < size → (stretch.begin < stretch.end) × (stretch.end ≤ size)
 end_inside steps size stretch h l = ended h.left size stretch.begin stretch.end h.behind h.end_is l
   where
-    ended : (left : List (ℕ × LeapStep)) (size begin end : ℕ) → AreStepsFrom begin size left → end ≡ end_by left size → begin < size → (begin < end) × (end ≤ size)
+    ended : (left : List (ℕ × LeapStep)) (size begin end : ℕ) → AreStepsFrom begin size left → end ≡ end_by left size
+        → begin < size → (begin < end) × (end ≤ size)
     ended [] size begin end b e l = (omega (arith, e, l), omega (arith, e))
     ended (x ∷ left) size begin end b e l = (omega (arith, b.0, e), omega (arith, b.1, e))
 
 -- the leap second that comes next is the first of those that are left
-kind_of : (passed left : List (ℕ × LeapStep)) (d : ℕ × LeapStep) → (length passed < length (passed ++ left) → kind_by left ≡ Some (get_or (passed ++ left) (length passed) d).1) × (length (passed ++ left) ≤ length passed → kind_by left ≡ None)
+kind_of : (passed left : List (ℕ × LeapStep)) (d : ℕ × LeapStep)
+    → (length passed < length (passed ++ left) → kind_by left ≡ Some (get_or (passed ++ left) (length passed) d).1)
+    × (length (passed ++ left) ≤ length passed → kind_by left ≡ None)
 kind_of passed [] d = (λ h. absurd (omega (arith, h, length-append passed ([]))), λ h. refl)
-kind_of passed (x ∷ left) d = (λ h. ap (λ (y : ℕ × LeapStep). Some y.1) (sym (get_or-append_seam passed x left d)), λ h. absurd (omega (arith, h, length-append passed (x ∷ left))))
+kind_of passed (x ∷ left) d = (
+  λ h. ap (λ (y : ℕ × LeapStep). Some y.1) (sym (get_or-append_seam passed x left d)),
+  λ h. absurd (omega (arith, h, length-append passed (x ∷ left))),
+)
 
-pub kind_some : (steps : List (ℕ × LeapStep)) (size : ℕ) (stretch : Stretch) (d : ℕ × LeapStep) → (h : IsStretch steps size stretch) → stretch.passed < length steps → kind_by h.left ≡ Some (get_or steps stretch.passed d).1
+pub kind_some : (steps : List (ℕ × LeapStep)) (size : ℕ) (stretch : Stretch) (d : ℕ × LeapStep)
+    → (h : IsStretch steps size stretch) → stretch.passed < length steps
+    → kind_by h.left ≡ Some (get_or steps stretch.passed d).1
 kind_some steps size stretch d h l =
     let same : length steps ≡ length (h.passed ++ h.left) = ap (λ (xs : List (ℕ × LeapStep)). length xs) h.parts in
     (kind_of h.passed h.left d).0 (omega (arith, l, same, h.count))
-    ∙ ap (λ (n : ℕ). Some (get_or (h.passed ++ h.left) n d).1) h.count ∙ ap (λ (xs : List (ℕ × LeapStep)). Some (get_or xs stretch.passed d).1) (sym h.parts)
+    ∙ ap (λ (n : ℕ). Some (get_or (h.passed ++ h.left) n d).1) h.count
+    ∙ ap (λ (xs : List (ℕ × LeapStep)). Some (get_or xs stretch.passed d).1) (sym h.parts)
 
-pub kind_none : (steps : List (ℕ × LeapStep)) (size : ℕ) (stretch : Stretch) → (h : IsStretch steps size stretch) → length steps ≤ stretch.passed → kind_by h.left ≡ None
+pub kind_none : (steps : List (ℕ × LeapStep)) (size : ℕ) (stretch : Stretch) → (h : IsStretch steps size stretch)
+    → length steps ≤ stretch.passed → kind_by h.left ≡ None
 kind_none steps size stretch h l =
     let same : length steps ≡ length (h.passed ++ h.left) = ap (λ (xs : List (ℕ × LeapStep)). length xs) h.parts in
     (kind_of h.passed h.left (0, Plus)).1 (omega (arith, l, same, h.count))
 
 -- a stretch ends within all
-pub end_most : (steps : List (ℕ × LeapStep)) (size : ℕ) (stretch : Stretch) → IsStretch steps size stretch → stretch.end ≤ size
+pub end_most : (steps : List (ℕ × LeapStep)) (size : ℕ) (stretch : Stretch) → IsStretch steps size stretch
+    → stretch.end ≤ size
 end_most steps size stretch h = most h.left size stretch.begin stretch.end h.behind h.end_is
   where
-    most : (left : List (ℕ × LeapStep)) (size begin end : ℕ) → AreStepsFrom begin size left → end ≡ end_by left size → end ≤ size
+    most : (left : List (ℕ × LeapStep)) (size begin end : ℕ) → AreStepsFrom begin size left → end ≡ end_by left size
+        → end ≤ size
     most [] size begin end b e = omega (arith, e)
     most (x ∷ left) size begin end b e = omega (arith, b.1, e)

@@ -1,5 +1,6 @@
 -- The samples of a record are the sums of its differences.
-use Rattle.std.proofs.Common.{◌≡◌, ℕ, zero, suc, List, [], ◌∷◌, length, take, drop, refl, ap, subst, arith, ℤ, ◌+ℤ◌, ◌-ℤ◌, Some}
+use Rattle.std.proofs.Common.{◌≡◌, ℕ, zero, suc, List, [], ◌∷◌, length, take, drop, refl, ap, subst, arith, ℤ, ◌+ℤ◌}
+use Rattle.std.proofs.Common.{◌-ℤ◌, Some}
 use Rattle.std.specs.Prelude.{slice_get}
 use Rattle.std.proofs.lemmas.Int.{ints}
 use Rattle.mseed_steim.specs.Samples.{Adds, StartsAndAdds}
@@ -17,7 +18,8 @@ adds before (x ∷ xs) (suc n) = (back x before, adds x xs n)
 first_is : (x first : ℤ) (xs : List ℤ) → slice_get (x ∷ xs) 0 ≡ Some first → x ≡ first
 first_is x first xs e = cc
 
-starts_from : (before : ℤ) (xs : List ℤ) (k n : ℕ) (first : ℤ) → slice_get (drop k xs) 0 ≡ Some first → StartsAndAdds first (take n (drop k (differences_from before xs))) (take n (drop k xs))
+starts_from : (before : ℤ) (xs : List ℤ) (k n : ℕ) (first : ℤ) → slice_get (drop k xs) 0 ≡ Some first
+    → StartsAndAdds first (take n (drop k (differences_from before xs))) (take n (drop k xs))
 starts_from before xs k zero first e = tt
 starts_from before [] zero (suc n) first e = tt
 starts_from before [] (suc k) (suc n) first e = tt
@@ -27,7 +29,8 @@ starts_from before (x ∷ xs) zero (suc n) first e =
 starts_from before (x ∷ xs) (suc k) (suc n) first e = starts_from x xs k (suc n) first e
 
 -- So are those from any one on: it's the first, and its own difference isn't used.
-pub starts : (xs : List ℤ) (k n : ℕ) (first : ℤ) → slice_get (drop k xs) 0 ≡ Some first → StartsAndAdds first (take n (drop k (differences xs))) (take n (drop k xs))
+pub starts : (xs : List ℤ) (k n : ℕ) (first : ℤ) → slice_get (drop k xs) 0 ≡ Some first
+    → StartsAndAdds first (take n (drop k (differences xs))) (take n (drop k xs))
 starts xs k zero first e = tt
 starts [] zero (suc n) first e = tt
 starts [] (suc k) (suc n) first e = tt

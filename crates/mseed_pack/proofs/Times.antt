@@ -1,5 +1,6 @@
 -- The instants of a stretch rise.
-use Rattle.std.proofs.Common.{◌≡◌, ℕ, zero, suc, ◌+◌, ◌*◌, ◌/◌, ◌^◌, ◌<◌, ◌≤◌, inl, inr, List, subst, sym, ap, arith, ℤ, pos, ◌+ℤ◌, ◌-ℤ◌, ◌≤ℤ◌}
+use Rattle.std.proofs.Common.{◌≡◌, ℕ, zero, suc, ◌+◌, ◌*◌, ◌/◌, ◌^◌, ◌<◌, ◌≤◌, inl, inr, List, subst, sym, ap, arith, ℤ}
+use Rattle.std.proofs.Common.{pos, ◌+ℤ◌, ◌-ℤ◌, ◌≤ℤ◌}
 use Rattle.std.proofs.lemmas.Int.{ints}
 use Rattle.std.proofs.lemmas.Nat.{le-div}
 use Rattle.std.proofs.Math.Nat.{div-mul-le_self, mul-le-mul_left}
@@ -28,18 +29,23 @@ between a b c low high first last (inl early) = first (inl (omega (arith, ints, 
 between a b c low high first last (inr late) = last (inr (omega (arith, ints, high, late)))
 
 -- the instant of a sample of a stretch
-pub reading_in : (start : ℤ) (rate : Ratio) (steps : List (ℕ × LeapStep)) (size : ℕ) (stretch : Stretch) (i : ℕ) → IsStretch steps size stretch → stretch.begin ≤ i → i < stretch.end
+pub reading_in : (start : ℤ) (rate : Ratio) (steps : List (ℕ × LeapStep)) (size : ℕ) (stretch : Stretch) (i : ℕ)
+    → IsStretch steps size stretch → stretch.begin ≤ i → i < stretch.end
     → start +ℤ pos (periods rate i) -ℤ stretch.added ≡ reading_at start rate steps i
 reading_in start rate steps size stretch i h low high =
     ap (λ (added : ℤ). start +ℤ pos (periods rate i) -ℤ added) (sym (added_at steps size stretch i h low high))
 
-pub stretch_timed : (start : ℤ) (rate : Ratio) (steps : List (ℕ × LeapStep)) (size : ℕ) (stretch : Stretch) (last : ℕ) → IsStretch steps size stretch → last + 1 ≡ stretch.end → stretch.begin ≤ last
-    → ¬ (IsOutside (start +ℤ pos (periods rate stretch.begin) -ℤ stretch.added)) → ¬ (IsOutside (start +ℤ pos (periods rate last) -ℤ stretch.added))
+pub stretch_timed : (start : ℤ) (rate : Ratio) (steps : List (ℕ × LeapStep)) (size : ℕ) (stretch : Stretch) (last : ℕ)
+    → IsStretch steps size stretch → last + 1 ≡ stretch.end → stretch.begin ≤ last
+    → ¬ (IsOutside (start +ℤ pos (periods rate stretch.begin) -ℤ stretch.added))
+    → ¬ (IsOutside (start +ℤ pos (periods rate last) -ℤ stretch.added))
     → (i : ℕ) → stretch.begin ≤ i → i < stretch.end → ¬ (IsOutside (reading_at start rate steps i))
 stretch_timed start rate steps size stretch last h e some first not_last i low high =
     let b = reading_in start rate steps size stretch i h low high in
     let early : periods rate stretch.begin ≤ periods rate i = periods_rise rate stretch.begin i low in
     let late : periods rate i ≤ periods rate last = periods_rise rate i last (omega (arith, e, high)) in
-    let rise : (start +ℤ pos (periods rate stretch.begin) -ℤ stretch.added) ≤ℤ (start +ℤ pos (periods rate i) -ℤ stretch.added) = omega (arith, ints, early) in
-    let rise_on : (start +ℤ pos (periods rate i) -ℤ stretch.added) ≤ℤ (start +ℤ pos (periods rate last) -ℤ stretch.added) = omega (arith, ints, late) in
+    let rise : (start +ℤ pos (periods rate stretch.begin) -ℤ stretch.added) ≤ℤ
+    (start +ℤ pos (periods rate i) -ℤ stretch.added) = omega (arith, ints, early) in
+    let rise_on : (start +ℤ pos (periods rate i) -ℤ stretch.added) ≤ℤ
+    (start +ℤ pos (periods rate last) -ℤ stretch.added) = omega (arith, ints, late) in
     subst (λ (t : ℤ). ¬ (IsOutside t)) b (between _ _ _ rise rise_on first not_last)

@@ -1,5 +1,7 @@
 -- A packed record's bytes are a record, and its view says what was packed.
-use Rattle.std.proofs.Common.{◌≡◌, ◌≢◌, ℕ, zero, suc, ◌+◌, ◌-◌, ◌^◌, ◌<◌, ◌≤◌, ◌==◌, cond, List, [], ◌∷◌, length, take, drop, refl, sym, ap, subst, ◌∙◌, arith, ℤ, pos, negsuc, neg_ℤ, ◌≤ℤ◌, All, Option, Some, None, unwrap_or, length-append, FitsSigned, w8}
+use Rattle.std.proofs.Common.{◌≡◌, ◌≢◌, ℕ, zero, suc, ◌+◌, ◌-◌, ◌^◌, ◌<◌, ◌≤◌, ◌==◌, cond, List, [], ◌∷◌, length, take}
+use Rattle.std.proofs.Common.{drop, refl, sym, ap, subst, ◌∙◌, arith, ℤ, pos, negsuc, neg_ℤ, ◌≤ℤ◌, All, Option, Some}
+use Rattle.std.proofs.Common.{None, unwrap_or, length-append, FitsSigned, w8}
 use Rattle.std.specs.Prelude.{slice_get}
 use Rattle.std.specs.Int.{bit_at}
 use Rattle.std.proofs.Math.Pow.{pow_mono}
@@ -50,7 +52,8 @@ abbrev pub HeadersReadBack : Type 0
 HeadersReadBack = (h : Header) (b : List ℕ) → IsWritable h → IsHeaded h b → ReadsBack h b
 
 abbrev pub PackedSpells : Type 0
-PackedSpells = (s : Scheme) (ws : List DataWord) (ds : List ℤ) (used : ℕ) → PacksRun s ws ds (drop used ds) → SpellsRun s ws (take used ds)
+PackedSpells = (s : Scheme) (ws : List DataWord) (ds : List ℤ) (used : ℕ) → PacksRun s ws ds (drop used ds)
+    → SpellsRun s ws (take used ds)
 
 -- how an encoding holds samples
 abbrev form_in : Encoding → Form
@@ -73,16 +76,19 @@ record Slice (e : Encoding) (left samples : List ℤ) : Type 0 where
   fit : All (IsSampleOf e) samples
 
 abbrev IsHeld : Form → List ℕ → List ℤ → Type 0
-IsHeld form payload samples = IsPayloadReading form Big payload (length samples) samples × EndsOnConstant form payload samples
+IsHeld form payload samples = IsPayloadReading form Big payload (length samples) samples
+    × EndsOnConstant form payload samples
 
-framed : PackedSpells → (e : Encoding) (scheme : Scheme) (left samples : List ℤ) (frames : ℕ) (payload : List ℕ) → Slice e left samples → All IsSample samples → HoldsFrames scheme left samples frames payload → IsHeld (Frames scheme) payload samples
+framed : PackedSpells → (e : Encoding) (scheme : Scheme) (left samples : List ℤ) (frames : ℕ) (payload : List ℕ)
+    → Slice e left samples → All IsSample samples → HoldsFrames scheme left samples frames payload
+    → IsHeld (Frames scheme) payload samples
 framed spells e scheme left samples frames payload slice small h =
     let ws = data_words payload in (
       (
         refl,
         record {
           count = refl;
-          front = take h.words ws;
+          prefix = take h.words ws;
           rest = drop h.words ws;
           cut = sym (take-append-drop h.words ws);
           differences = take (length samples) left;
@@ -96,17 +102,25 @@ framed spells e scheme left samples frames payload slice small h =
     )
 
 -- the payload is the samples' reading, and ends on its constants
-held : PackedSpells → (e : Encoding) (left samples : List ℤ) (frames : ℕ) (payload : List ℕ) → Slice e left samples → HoldsSamples e left samples frames payload → IsHeld (form_in e) payload samples
-held spells Int16 left samples frames payload slice h = ((refl, begins 2 samples [] _ payload 0 h.bytes refl slice.fit), tt)
-held spells Int32 left samples frames payload slice h = ((refl, begins 4 samples [] _ payload 0 h.bytes refl slice.fit), tt)
-held spells Steim1 left samples frames payload slice h = framed spells Steim1 Steim1s left samples frames payload slice slice.fit h
-held spells Steim2 left samples frames payload slice h = framed spells Steim2 Steim2s left samples frames payload slice slice.fit h
+held : PackedSpells → (e : Encoding) (left samples : List ℤ) (frames : ℕ) (payload : List ℕ) → Slice e left samples
+    → HoldsSamples e left samples frames payload → IsHeld (form_in e) payload samples
+held spells Int16 left samples frames payload slice h =
+    ((refl, begins 2 samples [] _ payload 0 h.bytes refl slice.fit), tt)
+held spells Int32 left samples frames payload slice h =
+    ((refl, begins 4 samples [] _ payload 0 h.bytes refl slice.fit), tt)
+held spells Steim1 left samples frames payload slice h =
+    framed spells Steim1 Steim1s left samples frames payload slice slice.fit h
+held spells Steim2 left samples frames payload slice h =
+    framed spells Steim2 Steim2s left samples frames payload slice slice.fit h
 
 -- a record of 4096 bytes at the most has fewer than 2^16 samples
-few_integers : (width : ℕ) (left : ℕ) (samples : List ℤ) (zeros payload : List ℕ) → 0 < width → payload ≡ zeros → length samples ≤ length zeros → length payload ≤ 4096 → length samples < 2 ^ 16
-few_integers width left samples zeros payload some e h few = let same = ap (λ (xs : List ℕ). length xs) e in omega (arith, same, h, few)
+few_integers : (width : ℕ) (left : ℕ) (samples : List ℤ) (zeros payload : List ℕ) → 0 < width → payload ≡ zeros
+    → length samples ≤ length zeros → length payload ≤ 4096 → length samples < 2 ^ 16
+few_integers width left samples zeros payload some e h few = let same = ap (λ (xs : List ℕ). length xs) e in
+    omega (arith, same, h, few)
 
-few_frames : (scheme : Scheme) (left samples : List ℤ) (frames : ℕ) (payload : List ℕ) → length samples ≤ length left → HoldsFrames scheme left samples frames payload → length payload ≤ 4096 → length samples < 2 ^ 16
+few_frames : (scheme : Scheme) (left samples : List ℤ) (frames : ℕ) (payload : List ℕ) → length samples ≤ length left
+    → HoldsFrames scheme left samples frames payload → length payload ≤ 4096 → length samples < 2 ^ 16
 few_frames scheme left samples frames payload within h few =
     let ws = data_words payload in
     let most = run_seven scheme (take h.words ws) left (drop (length samples) left) h.packed in
@@ -115,13 +129,18 @@ few_frames scheme left samples frames payload within h few =
     let used = h.inside in
     omega (arith, most, words, all, used, few, within, length-drop (length samples) left)
 
-few_samples : (e : Encoding) (left samples : List ℤ) (frames : ℕ) (payload : List ℕ) → length samples ≤ length left → HoldsSamples e left samples frames payload → length payload ≤ 4096 → length samples < 2 ^ 16
+few_samples : (e : Encoding) (left samples : List ℤ) (frames : ℕ) (payload : List ℕ) → length samples ≤ length left
+    → HoldsSamples e left samples frames payload → length payload ≤ 4096 → length samples < 2 ^ 16
 few_samples Int16 left samples frames payload within h few =
-    let size = ap (λ (xs : List ℕ). length xs) h.bytes in omega (arith, size, few, simp (length-append, length-all) at size)
+    let size = ap (λ (xs : List ℕ). length xs) h.bytes in
+    omega (arith, size, few, simp (length-append, length-all) at size)
 few_samples Int32 left samples frames payload within h few =
-    let size = ap (λ (xs : List ℕ). length xs) h.bytes in omega (arith, size, few, simp (length-append, length-all) at size)
-few_samples Steim1 left samples frames payload within h few = few_frames Steim1s left samples frames payload within h few
-few_samples Steim2 left samples frames payload within h few = few_frames Steim2s left samples frames payload within h few
+    let size = ap (λ (xs : List ℕ). length xs) h.bytes in
+    omega (arith, size, few, simp (length-append, length-all) at size)
+few_samples Steim1 left samples frames payload within h few =
+    few_frames Steim1s left samples frames payload within h few
+few_samples Steim2 left samples frames payload within h few =
+    few_frames Steim2s left samples frames payload within h few
 
 -- the leap second that the flags tell
 abbrev leap_by : ℕ → Leap
@@ -137,7 +156,8 @@ no_fault : (t : Parts) → IsTime t → first_fault t ≡ None
 no_fault t h = grind (arith, nat_tests)
 
 -- a rate that isn't 0 has its ratio
-has_ratio : (f m : ℤ) → f ≢ pos 0 → m ≢ pos 0 → rate_of f m ≡ Some (unwrap_or (rate_of f m) (record { num = 0; den = 0 }))
+has_ratio : (f m : ℤ) → f ≢ pos 0 → m ≢ pos 0
+    → rate_of f m ≡ Some (unwrap_or (rate_of f m) (record { num = 0; den = 0 }))
 has_ratio (pos zero) m f_counts m_counts = absurd (f_counts refl)
 has_ratio (pos (suc f)) (pos zero) f_counts m_counts = absurd (m_counts refl)
 has_ratio (pos (suc f)) (pos (suc m)) f_counts m_counts = refl
@@ -165,10 +185,13 @@ pub record IsAt (s : Trace) (first : ℕ) (v : View) (samples : List ℤ) : Type
   pub told : leap_of v.bytes ≢ Both
   pub whole : IsWhole v samples
 
-known : (v : View) (t : Parts) (f m : ℤ) (r : Ratio) → time_at v.order v.bytes ≡ t → first_fault t ≡ None → factor_at v.order v.bytes ≡ f → multiplier_at v.order v.bytes ≡ m → rate_of f m ≡ Some r → known_rate v ≡ Some r
+known : (v : View) (t : Parts) (f m : ℤ) (r : Ratio) → time_at v.order v.bytes ≡ t → first_fault t ≡ None
+    → factor_at v.order v.bytes ≡ f → multiplier_at v.order v.bytes ≡ m → rate_of f m ≡ Some r → known_rate v ≡ Some r
 known v t f m r time valid factor multiplier rate =
-    ap (λ (x : Parts). rate_unless (first_fault x) (rate_of (factor_at v.order v.bytes) (multiplier_at v.order v.bytes))) time
-    ∙ ap (λ (o : Option TimeFault). rate_unless o (rate_of (factor_at v.order v.bytes) (multiplier_at v.order v.bytes))) valid
+    ap (λ (x : Parts). rate_unless (first_fault x)
+    (rate_of (factor_at v.order v.bytes) (multiplier_at v.order v.bytes))) time
+    ∙ ap (λ (o : Option TimeFault). rate_unless o
+    (rate_of (factor_at v.order v.bytes) (multiplier_at v.order v.bytes))) valid
     ∙ ap (λ (z : ℤ). rate_of z (multiplier_at v.order v.bytes)) factor ∙ ap (λ (z : ℤ). rate_of f z) multiplier ∙ rate
 
 first_take : (n : ℕ) (xs : List ℤ) (x : ℤ) → slice_get (take n xs) 0 ≡ Some x → slice_get xs 0 ≡ Some x
@@ -177,21 +200,29 @@ first_take (suc n) [] x e = cc
 first_take (suc n) (y ∷ ys) x e = e
 
 -- no sample stands behind the next leap second
-pub short : (s : Trace) (p : Piece) → length p.samples ≤ length (left_of s p.first) → length p.samples ≤ stretch_end s p.first - p.first
+pub short : (s : Trace) (p : Piece) → length p.samples ≤ length (left_of s p.first)
+    → length p.samples ≤ stretch_end s p.first - p.first
 short s p h = omega (arith, h, length-take (stretch_end s p.first - p.first) (drop p.first (differences s.samples)))
 
 -- the record's own samples and differences
-slice_of : (s : Trace) (o : Options) (p : Piece) → Fits s o → p.samples ≡ take (length p.samples) (drop p.first s.samples) → IsPacked s o p → Slice o.encoding (left_of s p.first) p.samples
+slice_of : (s : Trace) (o : Options) (p : Piece) → Fits s o
+    → p.samples ≡ take (length p.samples) (drop p.first s.samples) → IsPacked s o p
+    → Slice o.encoding (left_of s p.first) p.samples
 slice_of s o p fits here k =
     let n = length p.samples in
-    let left : take n (left_of s p.first) ≡ take n (drop p.first (differences s.samples)) = take-take n (stretch_end s p.first - p.first) (drop p.first (differences s.samples)) (short s p k.within) in
+    let left : take n (left_of s p.first) ≡ take n (drop p.first (differences s.samples)) =
+    take-take n (stretch_end s p.first - p.first) (drop p.first (differences s.samples)) (short s p k.within) in
     record {
       some = k.some;
       within = k.within;
       sums = λ first e. subst (λ (ds : List ℤ). StartsAndAdds first ds p.samples) (sym left)
           (subst (λ (xs : List ℤ). StartsAndAdds first (take n (drop p.first (differences s.samples))) xs) (sym here)
-          (starts s.samples p.first n first (first_take n (drop p.first s.samples) first (subst (λ (xs : List ℤ). slice_get xs 0 ≡ Some first) here e))));
-      fit = subst (λ (xs : List ℤ). All (IsSampleOf o.encoding) xs) (sym here) (All-take (IsSampleOf o.encoding) n (drop p.first s.samples) (All-drop (IsSampleOf o.encoding) p.first s.samples fits.samples));
+          (starts s.samples p.first n first
+          (first_take n (drop p.first s.samples) first
+          (subst (λ (xs : List ℤ). slice_get xs 0 ≡ Some first) here e))));
+      fit = subst (λ (xs : List ℤ). All (IsSampleOf o.encoding) xs) (sym here)
+          (All-take (IsSampleOf o.encoding) n (drop p.first s.samples)
+          (All-drop (IsSampleOf o.encoding) p.first s.samples fits.samples));
     }
 
 -- what the header says fits its fields
@@ -201,7 +232,8 @@ writable s o p trace k =
     let exponent : k.header.exponent ≤ 12 = rw k.fields.exponent o.short in
     let long : 2 ^ k.header.exponent ≤ 4096 = pow_mono {i = k.header.exponent} {j = 12} exponent in
     let payload : length (drop 64 p.bytes) ≤ 4096 = omega (arith, size, long, length-drop 64 p.bytes) in
-    let few = few_samples o.encoding (left_of s p.first) p.samples k.frames (drop 64 p.bytes) k.within k.payload payload in
+    let few = few_samples o.encoding (left_of s p.first) p.samples k.frames (drop 64 p.bytes) k.within k.payload
+    payload in
     record {
       key = ap (λ (xs : List ℕ). length xs) k.fields.key ∙ trace.key;
       time = k.fields.start.valid;
@@ -211,7 +243,9 @@ writable s o p trace k =
       microseconds = small_micros k.header.microseconds k.fields.start.low k.fields.start.high;
     }
 
-whole_of : PackedSpells → (s : Trace) (o : Options) (p : Piece) (k : IsPacked s o p) → Slice o.encoding (left_of s p.first) p.samples → ReadsBack k.header p.bytes → IsWhole (headed_view k.header p.bytes) p.samples
+whole_of : PackedSpells → (s : Trace) (o : Options) (p : Piece) (k : IsPacked s o p)
+    → Slice o.encoding (left_of s p.first) p.samples → ReadsBack k.header p.bytes
+    → IsWhole (headed_view k.header p.bytes) p.samples
 whole_of spells s o p k slice back =
     let v = headed_view k.header p.bytes in
     let form : form_of v.encoding ≡ Some (form_in o.encoding) = ap form_of k.fields.encoding ∙ form_is o.encoding in
@@ -231,14 +265,17 @@ whole_of spells s o p k slice back =
           subst (λ (f : Form). EndsOnConstant f (payload_of v) p.samples) same (rw payload both.1),
     )
 
-pub at : HeadersReadBack → PackedSpells → (s : Trace) (o : Options) (p : Piece) → IsTrace s → Fits s o → p.samples ≡ take (length p.samples) (drop p.first s.samples) → (k : IsPacked s o p) → IsAt s p.first (headed_view k.header p.bytes) p.samples
+pub at : HeadersReadBack → PackedSpells → (s : Trace) (o : Options) (p : Piece) → IsTrace s → Fits s o
+    → p.samples ≡ take (length p.samples) (drop p.first s.samples) → (k : IsPacked s o p)
+    → IsAt s p.first (headed_view k.header p.bytes) p.samples
 at headers spells s o p trace fits here k =
     let v = headed_view k.header p.bytes in
     let back = headers k.header p.bytes (writable s o p trace k) k.headed in
     let slice = slice_of s o p fits here k in
     let factor : factor_at v.order v.bytes ≡ s.rate.factor = back.factor ∙ k.fields.factor in
     let multiplier : multiplier_at v.order v.bytes ≡ s.rate.multiplier = back.multiplier ∙ k.fields.multiplier in
-    let flags : activity_at v.bytes ≡ flags_of (step_behind s (p.first + length p.samples)) = back.activity ∙ k.fields.activity in
+    let flags : activity_at v.bytes ≡ flags_of (step_behind s (p.first + length p.samples)) =
+    back.activity ∙ k.fields.activity in
     let leap : leap_of v.bytes ≡ leap_by (flags_of (step_behind s (p.first + length p.samples))) = ap leap_by flags in
     let tells = told (step_behind s (p.first + length p.samples)) in
     let within = short s p k.within in
@@ -250,7 +287,9 @@ at headers spells s o p trace fits here k =
       key = back.key ∙ k.fields.key;
       factor = factor;
       multiplier = multiplier;
-      rate = known v k.header.start s.rate.factor s.rate.multiplier (ratio_of s.rate) back.time (no_fault k.header.start k.fields.start.valid) factor multiplier (has_ratio s.rate.factor s.rate.multiplier trace.factor_counts trace.multiplier_counts);
+      rate = known v k.header.start s.rate.factor s.rate.multiplier (ratio_of s.rate) back.time
+          (no_fault k.header.start k.fields.start.valid) factor multiplier
+          (has_ratio s.rate.factor s.rate.multiplier trace.factor_counts trace.multiplier_counts);
       start = back.start ∙ k.fields.start.value;
       count = back.samples ∙ k.fields.samples;
       step = ap step_in leap ∙ tells.0;

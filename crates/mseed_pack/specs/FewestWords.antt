@@ -13,4 +13,5 @@ words_in_use payload = length (filter (λ (w : DataWord). not (w.code == 0)) (da
 
 -- no fewer words of Steim-2 hold the differences of the record's samples
 abbrev pub HasFewestWords : Trace → Piece → Type 0
-HasFewestWords s p = IsFewest (slice_range (differences s.samples) p.first (p.first + length p.samples)) (words_in_use (drop 64 p.bytes))
+HasFewestWords s p = IsFewest (slice_range (differences s.samples) p.first (p.first + length p.samples))
+    (words_in_use (drop 64 p.bytes))

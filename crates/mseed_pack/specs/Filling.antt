@@ -1,5 +1,6 @@
 -- Steps of filling a payload.
-use Rattle.std.specs.Prelude.{◌≡◌, ℕ, ◌+◌, ◌-◌, ◌*◌, ◌^◌, ◌<◌, ◌≤◌, List, length, slice_index_or, ℤ, pos, neg_ℤ, ◌≤ℤ◌, ◌<ℤ◌}
+use Rattle.std.specs.Prelude.{◌≡◌, ℕ, ◌+◌, ◌-◌, ◌*◌, ◌^◌, ◌<◌, ◌≤◌, List, length, slice_index_or, ℤ, pos, neg_ℤ, ◌≤ℤ◌}
+use Rattle.std.specs.Prelude.{◌<ℤ◌}
 use Rattle.byteorder.specs.Endian.{big_bytes}
 use Rattle.mseed_steim.specs.Spelling.{residue}
 use Rattle.mseed_pack.specs.declared.integers.Width.{Width}
@@ -36,7 +37,8 @@ pub record HoldsDifferences (samples : List ℤ) (window : Window) : Type 0 wher
   pub order : window.first ≤ window.end
   pub inside : window.end ≤ length samples
   pub few : window.end ≤ window.first + 7056
-  pub each : (k : ℕ) → k < window.end - window.first → slice_index_or window.differences k (pos 0) ≡ slice_index_or (differences samples) (window.first + k) (pos 0)
+  pub each : (k : ℕ) → k < window.end - window.first
+      → slice_index_or window.differences k (pos 0) ≡ slice_index_or (differences samples) (window.first + k) (pos 0)
 
 -- a number less than a limit, and no less than its negative
 abbrev pub IsUnder : ℤ → ℤ → Type 0

@@ -8,7 +8,8 @@ use Rattle.mseed_pack.specs.declared.options.Encoding.{Encoding}
 use Rattle.mseed_pack.specs.declared.options.Encoding.TheVariants.{Int16, Int32, Steim1, Steim2}
 use Rattle.mseed_pack.specs.declared.options.Options.{Options}
 use Rattle.mseed_pack.specs.declared.fault.PackFault.{PackFault}
-use Rattle.mseed_pack.specs.declared.fault.PackFault.TheVariants.{Empty, RateTooHigh, TimeOutOfRange, SampleTooLarge, DifferenceTooLarge}
+use Rattle.mseed_pack.specs.declared.fault.PackFault.TheVariants.{Empty, RateTooHigh, TimeOutOfRange, SampleTooLarge}
+use Rattle.mseed_pack.specs.declared.fault.PackFault.TheVariants.{DifferenceTooLarge}
 use Rattle.mseed_pack.specs.Clock.{instant_at}
 use Rattle.mseed_pack.specs.Stretches.{differences}
 
@@ -54,7 +55,9 @@ pub data IsMisfit (s : Trace) (o : Options) : PackFault → Type 0 where
   no_sample : s.samples ≡ [] → IsMisfit s o Empty
   too_fast : s.samples ≢ [] → IsTooFast s → IsMisfit s o RateTooHigh
   time_outside : s.samples ≢ [] → ¬ (IsTooFast s) → HasTimeOutside s → IsMisfit s o TimeOutOfRange
-  large_sample : s.samples ≢ [] → ¬ (IsTooFast s) → ¬ (HasTimeOutside s) → (i : ℕ) → IsFirstNot (IsSampleOf o.encoding) s.samples i
+  large_sample : s.samples ≢ [] → ¬ (IsTooFast s) → ¬ (HasTimeOutside s) → (i : ℕ)
+      → IsFirstNot (IsSampleOf o.encoding) s.samples i
       → IsMisfit s o (SampleTooLarge i)
-  large_difference : s.samples ≢ [] → ¬ (IsTooFast s) → ¬ (HasTimeOutside s) → All (IsSampleOf o.encoding) s.samples → (i : ℕ)
+  large_difference : s.samples ≢ [] → ¬ (IsTooFast s) → ¬ (HasTimeOutside s) → All (IsSampleOf o.encoding) s.samples
+      → (i : ℕ)
       → IsFirstNot (IsDifferenceOf o.encoding) (differences s.samples) i → IsMisfit s o (DifferenceTooLarge i)

@@ -1,14 +1,16 @@
 -- What packing leaves behind.
-use Rattle.std.specs.Prelude.{◌≡◌, ◌≢◌, ℕ, ◌+◌, ◌*◌, ◌^◌, ◌<◌, ◌≤◌, List, [], ◌∷◌, ◌++◌, length, take, drop, ℤ, pos, Result, Ok, Err, FitsSigned}
+use Rattle.std.specs.Prelude.{◌≡◌, ◌≢◌, ℕ, ◌+◌, ◌*◌, ◌^◌, ◌<◌, ◌≤◌, List, [], ◌∷◌, ◌++◌, length, take, drop, ℤ, pos}
+use Rattle.std.specs.Prelude.{Result, Ok, Err, FitsSigned}
 use Rattle.std.specs.Int.{w16}
 use Rattle.std.specs.List.{concat}
 use Rattle.mseed_time.specs.Btime.{IsInstant}
-use Rattle.mseed_stream.specs.Device.{Said}
+use Rattle.mseed_stream.specs.Device.{BytesWritten}
 use Rattle.mseed_audit.specs.Series.{Trace, AreSteps}
 use Rattle.mseed_pack.specs.declared.batch.Place.{Place}
 use Rattle.mseed_pack.specs.declared.options.Options.{Options}
 use Rattle.mseed_pack.specs.declared.fault.PackFault.{PackFault}
-use Rattle.mseed_pack.specs.declared.fault.PackFault.TheVariants.{Empty, RateTooHigh, TimeOutOfRange, SampleTooLarge, DifferenceTooLarge, Write}
+use Rattle.mseed_pack.specs.declared.fault.PackFault.TheVariants.{Empty, RateTooHigh, TimeOutOfRange, SampleTooLarge}
+use Rattle.mseed_pack.specs.declared.fault.PackFault.TheVariants.{DifferenceTooLarge, Write}
 use Rattle.mseed_pack.specs.Packing.{PacksUpTo, IsPacking}
 use Rattle.mseed_pack.specs.Fitting.{Fits, IsMisfit}
 
@@ -23,7 +25,7 @@ pub record IsTrace (s : Trace) : Type 0 where
   pub steps : AreSteps (length s.samples) s.steps
 
 -- so far the sink took so many records, that hold so many samples of the series, and none of its calls failed
-pub record TookSo (s : Trace) (o : Options) (number first : ℕ) (old new : Said) : Type 0 where
+pub record TookSo (s : Trace) (o : Options) (number first : ℕ) (old new : BytesWritten) : Type 0 where
   pub records : List (List ℕ)
   pub packing : PacksUpTo s o records (drop first s.samples)
   pub count_is : number ≡ length records
@@ -34,14 +36,15 @@ pub record TookSo (s : Trace) (o : Options) (number first : ℕ) (old new : Said
 -- The bytes are the records that pack the series on from one place to another, behind any that pack it up to the first.
 pub record PacksOn (s : Trace) (o : Options) (place next : Place) (bytes : List ℕ) : Type 0 where
   pub records : List (List ℕ)
-  pub packing : (front : List (List ℕ)) → length front ≡ place.number → PacksUpTo s o front (drop place.first s.samples)
-      → PacksUpTo s o (front ++ records) (drop next.first s.samples)
+  pub packing : (prefix : List (List ℕ)) → length prefix ≡ place.number
+      → PacksUpTo s o prefix (drop place.first s.samples)
+      → PacksUpTo s o (prefix ++ records) (drop next.first s.samples)
   pub count_is : next.number ≡ place.number + length records
   pub long : next.number * 2 ^ o.exponent ≡ place.number * 2 ^ o.exponent + length bytes
   pub bytes_are : bytes ≡ concat records
 
 -- the sink took the records that the series is packed into, so many, and none of its calls failed
-pub record TookAll (s : Trace) (o : Options) (count : ℕ) (old new : Said) : Type 0 where
+pub record TookAll (s : Trace) (o : Options) (count : ℕ) (old new : BytesWritten) : Type 0 where
   pub records : List (List ℕ)
   pub packing : IsPacking s o records
   pub count_is : count ≡ length records
@@ -50,7 +53,7 @@ pub record TookAll (s : Trace) (o : Options) (count : ℕ) (old new : Said) : Ty
 
 -- The sink failed, once it had taken so many bytes of records that the series is packed into: all of those before the
 -- last, and of that a part.
-pub record TookFront (s : Trace) (o : Options) (taken : ℕ) (old new : Said) : Type 0 where
+pub record TookPrefix (s : Trace) (o : Options) (taken : ℕ) (old new : BytesWritten) : Type 0 where
   pub records : List (List ℕ)
   pub last : List ℕ
   pub left : List ℤ
@@ -61,13 +64,13 @@ pub record TookFront (s : Trace) (o : Options) (taken : ℕ) (old new : Said) : 
   pub failures : new.failures ≡ old.failures + 1
 
 -- a series that doesn't fit is refused before the sink is asked
-abbrev pub IsRefused : Trace → Options → PackFault → Said → Said → Type 0
+abbrev pub IsRefused : Trace → Options → PackFault → BytesWritten → BytesWritten → Type 0
 IsRefused s o fault old new = IsMisfit s o fault × (new ≡ old)
 
--- by the answer: a series that fits was written, or a front of it; one that doesn't, not at all
-abbrev pub IsOutcome : Result ℕ PackFault → Trace → Options → Said → Said → Type 0
+-- by the answer: a series that fits was written, or a prefix of it; one that doesn't, not at all
+abbrev pub IsOutcome : Result ℕ PackFault → Trace → Options → BytesWritten → BytesWritten → Type 0
 IsOutcome (Ok count) s o old new = Fits s o × TookAll s o count old new
-IsOutcome (Err (Write taken)) s o old new = Fits s o × TookFront s o taken old new
+IsOutcome (Err (Write taken)) s o old new = Fits s o × TookPrefix s o taken old new
 IsOutcome (Err Empty) s o old new = IsRefused s o Empty old new
 IsOutcome (Err RateTooHigh) s o old new = IsRefused s o RateTooHigh old new
 IsOutcome (Err TimeOutOfRange) s o old new = IsRefused s o TimeOutOfRange old new

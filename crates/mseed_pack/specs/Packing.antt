@@ -1,5 +1,6 @@
 -- The records that a series is packed into (SEED manual, chapter 8 and appendix B).
-use Rattle.std.specs.Prelude.{⊤, ◌≡◌, ◌⊎◌, ℕ, ◌+◌, ◌-◌, ◌*◌, ◌/◌, ◌%◌, ◌^◌, ◌<◌, ◌≤◌, List, [], ◌∷◌, ◌++◌, length, take, drop, map, flat_map, replicate, slice_get, ℤ, Some}
+use Rattle.std.specs.Prelude.{⊤, ◌≡◌, ◌⊎◌, ℕ, ◌+◌, ◌-◌, ◌*◌, ◌/◌, ◌%◌, ◌^◌, ◌<◌, ◌≤◌, List, [], ◌∷◌, ◌++◌, length, take}
+use Rattle.std.specs.Prelude.{drop, map, flat_map, replicate, slice_get, ℤ, Some}
 use Rattle.std.specs.List.{AllByRecursion}
 use Rattle.byteorder.specs.Endian.{big_bytes}
 use Rattle.mseed_time.specs.Naming.{Names}
@@ -27,7 +28,8 @@ pub record Piece : Type 0 where
 -- the pieces stand one behind another, with so many records and samples before them
 abbrev pub ArePlaced : ℕ → ℕ → List Piece → Type 0
 ArePlaced number first [] = ⊤
-ArePlaced number first (p ∷ ps) = (p.number ≡ number) × (p.first ≡ first) × ArePlaced (number + 1) (first + length p.samples) ps
+ArePlaced number first (p ∷ ps) = (p.number ≡ number) × (p.first ≡ first)
+    × ArePlaced (number + 1) (first + length p.samples) ps
 
 -- What a record's header says. Sequence numbers have six digits: behind 999999 comes 000000. The start is the instant
 -- of the record's first sample, and a leap second at its end is flagged.
@@ -47,7 +49,8 @@ pub record IsHeaderOf (s : Trace) (o : Options) (p : Piece) (frames : ℕ) (h : 
 -- room is left for another; zeros behind them. There are no frames.
 pub record HoldsIntegers (width left : ℕ) (samples : List ℤ) (frames : ℕ) (payload : List ℕ) : Type 0 where
   pub bytes : payload
-      ≡ flat_map (λ z. big_bytes width (residue (2 ^ (8 * width)) z)) samples ++ replicate (length payload - width * length samples) 0
+      ≡ flat_map (λ z. big_bytes width (residue (2 ^ (8 * width)) z)) samples ++ replicate
+      (length payload - width * length samples) 0
   pub full : (length samples ≡ left) ⊎ (length payload < width * (length samples + 1))
   pub no_frames : frames ≡ 0
 

@@ -1,5 +1,6 @@
 -- What records say that a series is packed into.
-use Rattle.std.specs.Prelude.{⊤, ◌≡◌, ◌≢◌, ℕ, ◌+◌, nat_le, nat_lt, ℤ, Bool, ◌&&◌, List, [], ◌∷◌, ◌++◌, length, map, IsTrue, Result, Ok, Err}
+use Rattle.std.specs.Prelude.{⊤, ◌≡◌, ◌≢◌, ℕ, ◌+◌, nat_le, nat_lt, ℤ, Bool, ◌&&◌, List, [], ◌∷◌, ◌++◌, length, map}
+use Rattle.std.specs.Prelude.{IsTrue, Result, Ok, Err}
 use Rattle.std.specs.List.{AllByRecursion, filter, flat_map}
 use Rattle.mseed_time.specs.declared.outcome.LeapStep.{LeapStep}
 use Rattle.mseed_record.specs.View.{View, IsView}
@@ -64,8 +65,9 @@ is_among place end step = nat_lt place step.0 && nat_le step.0 end
 abbrev pub moved : ℕ → ℕ × LeapStep → ℕ × LeapStep
 moved place step = (place + step.0, step.1)
 
--- A part of a series that has so many samples before it begins at the instant of its first one, at the series' rate, and
--- its leap seconds are the series' own that stand behind one of its samples: their places are counted from its first.
+-- A part of a series that has so many samples before it begins at the instant of its first one, at the series' rate,
+-- and its leap seconds are the series' own that stand behind one of its samples: their places are counted from its
+-- first.
 pub record IsTimedFrom (s : Trace) (place : ℕ) (part : Trace) : Type 0 where
   pub start : part.start ≡ instant_at s place
   pub factor : part.rate.factor ≡ s.rate.factor

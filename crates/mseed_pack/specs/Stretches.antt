@@ -1,5 +1,6 @@
 -- The differences of a series, and how far a record can go on.
-use Rattle.std.specs.Prelude.{ℕ, ◌==◌, nat_lt, List, [], ◌∷◌, length, slice_range, ℤ, pos, ◌-ℤ◌, Option, Some, None, unwrap_or, option_map, find}
+use Rattle.std.specs.Prelude.{ℕ, ◌==◌, nat_lt, List, [], ◌∷◌, length, slice_range, ℤ, pos, ◌-ℤ◌, Option, Some, None}
+use Rattle.std.specs.Prelude.{unwrap_or, option_map, find}
 use Rattle.mseed_time.specs.declared.outcome.LeapStep.{LeapStep}
 use Rattle.mseed_time.specs.declared.outcome.LeapStep.TheVariants.{Plus, Minus}
 use Rattle.mseed_audit.specs.Series.{Trace}
@@ -17,7 +18,8 @@ differences (x ∷ xs) = pos 0 ∷ differences_from x xs
 -- how many samples stand before the next leap second, where so many have been packed; all, where there's none left
 abbrev pub stretch_end : Trace → ℕ → ℕ
 stretch_end s first =
-    unwrap_or (option_map (λ (step : ℕ × LeapStep). step.0) (find (λ (step : ℕ × LeapStep). nat_lt first step.0) s.steps)) (length s.samples)
+    unwrap_or (option_map (λ (step : ℕ × LeapStep). step.0)
+    (find (λ (step : ℕ × LeapStep). nat_lt first step.0) s.steps)) (length s.samples)
 
 -- the differences up to there
 abbrev pub left_of : Trace → ℕ → List ℤ
@@ -32,4 +34,5 @@ flags_of (Some Minus) = 32
 
 -- the leap second with so many samples before it
 abbrev pub step_behind : Trace → ℕ → Option LeapStep
-step_behind s place = option_map (λ (step : ℕ × LeapStep). step.1) (find (λ (step : ℕ × LeapStep). step.0 == place) s.steps)
+step_behind s place = option_map (λ (step : ℕ × LeapStep). step.1)
+    (find (λ (step : ℕ × LeapStep). step.0 == place) s.steps)

@@ -26,13 +26,13 @@ use mseed_stream::one_input;
 use mseed_time::one_name;
 
 /// A series is packed into one list of records, byte for byte; and records that it is packed into up to some samples
-/// that are left are a front of them.
+/// that are left are a prefix of them.
 pub fn one_packing()
     ensures whole { (s : Trace) (o : Options) (records others : List (List ℕ)) → IsPacking s o records
         → IsPacking s o others → records ≡ others }
-    ensures front { (s : Trace) (o : Options) (front records : List (List ℕ)) (left : List ℤ)
-        → PacksUpTo s o front left → IsPacking s o records
-        → (rest : List (List ℕ)) × (records ≡ front ++ rest) }
+    ensures prefix { (s : Trace) (o : Options) (prefix records : List (List ℕ)) (left : List ℤ)
+        → PacksUpTo s o prefix left → IsPacking s o records
+        → (rest : List (List ℕ)) × (records ≡ prefix ++ rest) }
 {
     one_run();
     one_name();

@@ -5,7 +5,7 @@ ghost use Rattle.std.specs.List.{AllByRecursion};
 ghost use Rattle.mseed_audit.specs.Series.{AreSteps};
 ghost use Rattle.mseed_pack.specs.Fitting.{Fits};
 ghost use Rattle.mseed_pack.specs.FewestWords.{HasFewestWords};
-ghost use Rattle.mseed_pack.specs.Outcome.{IsOutcome, IsTrace, TookAll, TookFront};
+ghost use Rattle.mseed_pack.specs.Outcome.{IsOutcome, IsTrace, TookAll, TookPrefix};
 ghost use Rattle.mseed_pack.specs.Packing.{IsPacking};
 ghost use Rattle.mseed_pack.specs.ReadBack.{ReadsAs};
 ghost use Rattle.mseed_pack.specs.declared.options.Encoding.TheVariants.{Steim2};
@@ -37,11 +37,11 @@ pub fn pack<A: Allocator + Copy, W: Sink>(
     options: &Options,
     sink: &mut W,
 ) -> Result<u64, PackFault>
-    ensures outcome { IsOutcome result series.now options.now (W.said sink.old) (W.said sink.new) }
+    ensures outcome { IsOutcome result series.now options.now (W.written sink.old) (W.written sink.new) }
     ensures beside { W.beside sink.new ≡ W.beside sink.old }
 
     // What the sink is known to hold grew by what it took.
-    ensures contents { (bytes : List ℕ) → (W.said sink.new).bytes ≡ (W.said sink.old).bytes ++ bytes
+    ensures contents { (bytes : List ℕ) → (W.written sink.new).bytes ≡ (W.written sink.old).bytes ++ bytes
         → Appends (W.contents sink.old) (W.contents sink.new) bytes }
 
     // What a series that fits is packed into reads back as the series: a continuous channel.
@@ -68,11 +68,11 @@ pub fn pack_view<W: Sink>(
     sink: &mut W,
 ) -> Result<u64, PackFault>
     requires steps { AreSteps (length series.now.samples.now) series.now.steps.now }
-    ensures outcome { IsOutcome result (trace_of series.now) options.now (W.said sink.old) (W.said sink.new) }
+    ensures outcome { IsOutcome result (trace_of series.now) options.now (W.written sink.old) (W.written sink.new) }
     ensures beside { W.beside sink.new ≡ W.beside sink.old }
 
     // What the sink is known to hold grew by what it took.
-    ensures contents { (bytes : List ℕ) → (W.said sink.new).bytes ≡ (W.said sink.old).bytes ++ bytes
+    ensures contents { (bytes : List ℕ) → (W.written sink.new).bytes ≡ (W.written sink.old).bytes ++ bytes
         → Appends (W.contents sink.old) (W.contents sink.new) bytes }
 
     // What a series that fits is packed into reads back as the series: a continuous channel.
@@ -95,8 +95,8 @@ fn pack_if_fit<W: Sink>(
     sink: &mut W,
 ) -> Result<u64, PackFault>
     requires steps { AreSteps (length series.now.samples.now) series.now.steps.now }
-    ensures outcome { IsOutcome result (trace_of series.now) options.now (W.said sink.old) (W.said sink.new) }
-    ensures contents { (bytes : List ℕ) → (W.said sink.new).bytes ≡ (W.said sink.old).bytes ++ bytes
+    ensures outcome { IsOutcome result (trace_of series.now) options.now (W.written sink.old) (W.written sink.new) }
+    ensures contents { (bytes : List ℕ) → (W.written sink.new).bytes ≡ (W.written sink.old).bytes ++ bytes
         → Appends (W.contents sink.old) (W.contents sink.new) bytes }
     ensures beside { W.beside sink.new ≡ W.beside sink.old }
     ensures trace { IsTrace (trace_of series.now) }
@@ -124,10 +124,10 @@ pub fn pack_fitting<W: Sink>(
     requires fits { Fits (trace_of series.now) options.now }
     requires steps { AreSteps (length series.now.samples.now) series.now.steps.now }
     ensures ok { IfOk result (λ count.
-        TookAll (trace_of series.now) options.now count (W.said sink.old) (W.said sink.new)) }
+        TookAll (trace_of series.now) options.now count (W.written sink.old) (W.written sink.new)) }
     ensures err { IfErr result (λ taken.
-        TookFront (trace_of series.now) options.now taken (W.said sink.old) (W.said sink.new)) }
-    ensures contents { (bytes : List ℕ) → (W.said sink.new).bytes ≡ (W.said sink.old).bytes ++ bytes
+        TookPrefix (trace_of series.now) options.now taken (W.written sink.old) (W.written sink.new)) }
+    ensures contents { (bytes : List ℕ) → (W.written sink.new).bytes ≡ (W.written sink.old).bytes ++ bytes
         → Appends (W.contents sink.old) (W.contents sink.new) bytes }
     ensures beside { W.beside sink.new ≡ W.beside sink.old }
 {
@@ -146,10 +146,10 @@ fn pack_through<W: Sink>(
     requires steps { AreSteps (length series.now.samples.now) series.now.steps.now }
     requires long { 4096 ≤ length records.old }
     ensures ok { IfOk result (λ count.
-        TookAll (trace_of series.now) options.now count (W.said sink.old) (W.said sink.new)) }
+        TookAll (trace_of series.now) options.now count (W.written sink.old) (W.written sink.new)) }
     ensures err { IfErr result (λ taken.
-        TookFront (trace_of series.now) options.now taken (W.said sink.old) (W.said sink.new)) }
-    ensures contents { (bytes : List ℕ) → (W.said sink.new).bytes ≡ (W.said sink.old).bytes ++ bytes
+        TookPrefix (trace_of series.now) options.now taken (W.written sink.old) (W.written sink.new)) }
+    ensures contents { (bytes : List ℕ) → (W.written sink.new).bytes ≡ (W.written sink.old).bytes ++ bytes
         → Appends (W.contents sink.old) (W.contents sink.new) bytes }
     ensures beside { W.beside sink.new ≡ W.beside sink.old }
 {

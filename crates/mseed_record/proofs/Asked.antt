@@ -15,7 +15,7 @@ use Rattle.mseed_record.specs.Scan.{at_offset, DecidesFrom, Decides, short, by_c
 use Rattle.mseed_record.specs.Scan.{exponent, record_end}
 use Rattle.mseed_record.proofs.Passing.{none_within}
 use Rattle.mseed_record.proofs.Framed.{passes_above, other_at, record_room}
-use Rattle.mseed_record.proofs.Fronts.{Alike, alike_cut, byte_alike, number_alike, order_alike}
+use Rattle.mseed_record.proofs.Prefixes.{Alike, alike_cut, byte_alike, number_alike, order_alike}
 
 -- bytes are asked for behind those that are there
 pub needs_more : (b : List ℕ) (n : ℕ) → Needs b n → length b < n
@@ -25,42 +25,43 @@ needs_more b n (exponent order os last d p t i s) = s
 needs_more b n (record_end k s h) = s
 
 -- what is asked for at an offset
-data Asks (order : Order) (front : List ℕ) (o n : ℕ) : Type 0 where
-  head : n ≡ o + 4 → Asks order front o n
-  rest : n ≡ o + 8 → Asks order front o n
-  whole : type_at order front o ≡ 1000 → o + 8 ≤ length front → exponent_at front o ≤ 20 → n ≡ 2 ^ exponent_at front o
-      → Asks order front o n
+data Asks (order : Order) (prefix : List ℕ) (o n : ℕ) : Type 0 where
+  head : n ≡ o + 4 → Asks order prefix o n
+  rest : n ≡ o + 8 → Asks order prefix o n
+  whole : type_at order prefix o ≡ 1000 → o + 8 ≤ length prefix → exponent_at prefix o ≤ 20
+      → n ≡ 2 ^ exponent_at prefix o
+      → Asks order prefix o n
 
-asks_four : (order : Order) (front : List ℕ) (low o n : ℕ) → at_offset order front low o ≡ Some (Need n)
-    → length front < o + 4 → n ≡ o + 4
-asks_four order front low o n e s = grind (arith, nat_tests, e, s)
+asks_four : (order : Order) (prefix : List ℕ) (low o n : ℕ) → at_offset order prefix low o ≡ Some (Need n)
+    → length prefix < o + 4 → n ≡ o + 4
+asks_four order prefix low o n e s = grind (arith, nat_tests, e, s)
 
-asks_eight : (order : Order) (front : List ℕ) (low o n : ℕ) → at_offset order front low o ≡ Some (Need n)
-    → o + 4 ≤ length front → length front < o + 8 → n ≡ o + 8
-asks_eight order front low o n e l s = grind (arith, nat_tests, e, l, s)
+asks_eight : (order : Order) (prefix : List ℕ) (low o n : ℕ) → at_offset order prefix low o ≡ Some (Need n)
+    → o + 4 ≤ length prefix → length prefix < o + 8 → n ≡ o + 8
+asks_eight order prefix low o n e l s = grind (arith, nat_tests, e, l, s)
 
-asks_type : (order : Order) (front : List ℕ) (low o n : ℕ) → at_offset order front low o ≡ Some (Need n)
-    → o + 4 ≤ length front → type_at order front o ≡ 1000
-asks_type order front low o n e l = grind (arith, nat_tests, e, l)
+asks_type : (order : Order) (prefix : List ℕ) (low o n : ℕ) → at_offset order prefix low o ≡ Some (Need n)
+    → o + 4 ≤ length prefix → type_at order prefix o ≡ 1000
+asks_type order prefix low o n e l = grind (arith, nat_tests, e, l)
 
-asks_most : (order : Order) (front : List ℕ) (low o n : ℕ) → at_offset order front low o ≡ Some (Need n)
-    → o + 8 ≤ length front → exponent_at front o ≤ 20
-asks_most order front low o n e l = grind (arith, nat_tests, e, l)
+asks_most : (order : Order) (prefix : List ℕ) (low o n : ℕ) → at_offset order prefix low o ≡ Some (Need n)
+    → o + 8 ≤ length prefix → exponent_at prefix o ≤ 20
+asks_most order prefix low o n e l = grind (arith, nat_tests, e, l)
 
-asks_whole : (order : Order) (front : List ℕ) (low o n : ℕ) → at_offset order front low o ≡ Some (Need n)
-    → o + 8 ≤ length front → n ≡ 2 ^ exponent_at front o
-asks_whole order front low o n e l = grind (arith, nat_tests, e, l)
+asks_whole : (order : Order) (prefix : List ℕ) (low o n : ℕ) → at_offset order prefix low o ≡ Some (Need n)
+    → o + 8 ≤ length prefix → n ≡ 2 ^ exponent_at prefix o
+asks_whole order prefix low o n e l = grind (arith, nat_tests, e, l)
 
-asks : (order : Order) (front : List ℕ) (low o n : ℕ) → at_offset order front low o ≡ Some (Need n)
-    → Asks order front o n
-asks order front low o n e = ⊎_elim
-    (λ (s : length front < o + 4). head (asks_four order front low o n e s))
-    (λ (l : o + 4 ≤ length front). ⊎_elim
-    (λ (s : length front < o + 8). rest (asks_eight order front low o n e l s))
-    (λ (g : o + 8 ≤ length front). whole (asks_type order front low o n e l) g (asks_most order front low o n e g)
-    (asks_whole order front low o n e g))
-    (cases_lt (length front) (o + 8)))
-    (cases_lt (length front) (o + 4))
+asks : (order : Order) (prefix : List ℕ) (low o n : ℕ) → at_offset order prefix low o ≡ Some (Need n)
+    → Asks order prefix o n
+asks order prefix low o n e = ⊎_elim
+    (λ (s : length prefix < o + 4). head (asks_four order prefix low o n e s))
+    (λ (l : o + 4 ≤ length prefix). ⊎_elim
+    (λ (s : length prefix < o + 8). rest (asks_eight order prefix low o n e l s))
+    (λ (g : o + 8 ≤ length prefix). whole (asks_type order prefix low o n e l) g (asks_most order prefix low o n e g)
+    (asks_whole order prefix low o n e g))
+    (cases_lt (length prefix) (o + 8)))
+    (cases_lt (length prefix) (o + 4))
 
 -- the first 1000 of a record, and the record's length
 record Ends (order : Order) (b : List ℕ) (last : ℕ) : Type 0 where
@@ -69,72 +70,73 @@ record Ends (order : Order) (b : List ℕ) (last : ℕ) : Type 0 where
   size : length b ≡ 2 ^ exponent_at b last
 
 -- what is asked for at the first 1000 of a record
-asks_last : (order : Order) (b front : List ℕ) (o n : ℕ) → Alike b front → Ends order b o → Asks order front o n
+asks_last : (order : Order) (b prefix : List ℕ) (o n : ℕ) → Alike b prefix → Ends order b o → Asks order prefix o n
     → n ≤ length b
-asks_last order b front o n alike ends (head e) = omega (arith, ends.room)
-asks_last order b front o n alike ends (rest e) = omega (arith, ends.room)
-asks_last order b front o n alike ends (whole t l m e) =
+asks_last order b prefix o n alike ends (head e) = omega (arith, ends.room)
+asks_last order b prefix o n alike ends (rest e) = omega (arith, ends.room)
+asks_last order b prefix o n alike ends (whole t l m e) =
     let there : o + 6 < length b = omega (arith, ends.room) in
-    let same : get_or b (o + 6) 0 ≡ get_or front (o + 6) 0 = byte_alike b front (o + 6) alike there (omega arith) in
+    let same : get_or b (o + 6) 0 ≡ get_or prefix (o + 6) 0 = byte_alike b prefix (o + 6) alike there (omega arith) in
     let size : length b ≡ n = ends.size ∙ (ap (λ (k : ℕ). 2 ^ k) same ∙ sym e) in
     omega (arith, size)
 
 -- what is asked for at a blockette of a record before its first 1000
-asks_other : (order : Order) (b front : List ℕ) (o last n : ℕ) → Alike b front → Ends order b last
-    → type_at order b o ≢ 1000 → o + 4 ≤ last → Asks order front o n → n ≤ length b
-asks_other order b front o last n alike ends other on (head e) = omega (arith, ends.room)
-asks_other order b front o last n alike ends other on (rest e) = omega (arith, ends.room)
-asks_other order b front o last n alike ends other on (whole t l m e) =
-    let same : type_at order b o ≡ type_at order front o =
-    number_alike order 2 o b front alike (omega (arith, ends.room)) (omega arith) in
+asks_other : (order : Order) (b prefix : List ℕ) (o last n : ℕ) → Alike b prefix → Ends order b last
+    → type_at order b o ≢ 1000 → o + 4 ≤ last → Asks order prefix o n → n ≤ length b
+asks_other order b prefix o last n alike ends other on (head e) = omega (arith, ends.room)
+asks_other order b prefix o last n alike ends other on (rest e) = omega (arith, ends.room)
+asks_other order b prefix o last n alike ends other on (whole t l m e) =
+    let same : type_at order b o ≡ type_at order prefix o =
+    number_alike order 2 o b prefix alike (omega (arith, ends.room)) (omega arith) in
     absurd (other (same ∙ t))
 
--- along one chain in the front and in a record that begins with it
-asks_along : (order : Order) (b front : List ℕ) (low o : ℕ) (passed os : List ℕ) (last n : ℕ) → Alike b front
-    → Ends order b last → DecidesFrom order front low o passed (Need n) → Passes order b o os last → n ≤ length b
-asks_along order b front low o [] [] last n alike ends asked there =
-    asks_last order b front o n alike (subst (λ (k : ℕ). Ends order b k) (sym there) ends)
-    (asks order front low o n asked)
-asks_along order b front low o [] (q ∷ os) last n alike ends asked there =
+-- along one chain in the prefix and in a record that begins with it
+asks_along : (order : Order) (b prefix : List ℕ) (low o : ℕ) (passed os : List ℕ) (last n : ℕ) → Alike b prefix
+    → Ends order b last → DecidesFrom order prefix low o passed (Need n) → Passes order b o os last → n ≤ length b
+asks_along order b prefix low o [] [] last n alike ends asked there =
+    asks_last order b prefix o n alike (subst (λ (k : ℕ). Ends order b k) (sym there) ends)
+    (asks order prefix low o n asked)
+asks_along order b prefix low o [] (q ∷ os) last n alike ends asked there =
     let further : next_at order b o ≤ last = passes_above order b (next_at order b o) os last there.3 in
-    asks_other order b front o last n alike ends there.1 (omega (arith, there.2)) (asks order front low o n asked)
-asks_along order b front low o (p ∷ passed) [] last n alike ends asked there =
-    let within : o + 4 ≤ length front = (none_within order front low o asked.1).1 in
-    let same : type_at order b o ≡ type_at order front o =
-    number_alike order 2 o b front alike (omega (arith, there, ends.room)) (omega arith) in
-    absurd (other_at order front low o asked.1 (sym same ∙ (ap (λ (k : ℕ). type_at order b k) there ∙ ends.type)))
-asks_along order b front low o (p ∷ passed) (q ∷ os) last n alike ends asked there =
-    let within : o + 4 ≤ length front = (none_within order front low o asked.1).1 in
+    asks_other order b prefix o last n alike ends there.1 (omega (arith, there.2)) (asks order prefix low o n asked)
+asks_along order b prefix low o (p ∷ passed) [] last n alike ends asked there =
+    let within : o + 4 ≤ length prefix = (none_within order prefix low o asked.1).1 in
+    let same : type_at order b o ≡ type_at order prefix o =
+    number_alike order 2 o b prefix alike (omega (arith, there, ends.room)) (omega arith) in
+    absurd (other_at order prefix low o asked.1 (sym same ∙ (ap (λ (k : ℕ). type_at order b k) there ∙ ends.type)))
+asks_along order b prefix low o (p ∷ passed) (q ∷ os) last n alike ends asked there =
+    let within : o + 4 ≤ length prefix = (none_within order prefix low o asked.1).1 in
     let further : next_at order b o ≤ last = passes_above order b (next_at order b o) os last there.3 in
-    let same : next_at order b o ≡ next_at order front o =
-    number_alike order 2 (o + 2) b front alike (omega (arith, there.2, ends.room)) (omega arith) in
-    asks_along order b front (o + 4) (next_at order front o) passed os last n alike ends asked.2
+    let same : next_at order b o ≡ next_at order prefix o =
+    number_alike order 2 (o + 2) b prefix alike (omega (arith, there.2, ends.room)) (omega arith) in
+    asks_along order b prefix (o + 4) (next_at order prefix o) passed os last n alike ends asked.2
     (subst (λ (k : ℕ). Passes order b k os last) same there.3)
 
-asked_by : (front b : List ℕ) (n : ℕ) (order : Order) (os : List ℕ) (last : ℕ) → Alike b front
-    → IsRecordBy order os last b → Decides front (Need n) → n ≤ length b
-asked_by front b n order os last alike r (short _ s) =
+asked_by : (prefix b : List ℕ) (n : ℕ) (order : Order) (os : List ℕ) (last : ℕ) → Alike b prefix
+    → IsRecordBy order os last b → Decides prefix (Need n) → n ≤ length b
+asked_by prefix b n order os last alike r (short _ s) =
     let room = record_room order os last b r in
     omega (arith, room)
-asked_by front b n order os last alike r (by_chain found passed answer _ long _ dated asked) =
+asked_by prefix b n order os last alike r (by_chain found passed answer _ long _ dated asked) =
     let room = record_room order os last b r in
     let one : Some found ≡ Some order =
-    sym dated ∙ (sym (order_alike b front alike (omega (arith, room)) long) ∙ r.order_is) in
+    sym dated ∙ (sym (order_alike b prefix alike (omega (arith, room)) long) ∙ r.order_is) in
     let same : found ≡ order = grind arith in
-    let start : blockette_at order b ≡ blockette_at order front =
-    number_alike order 2 46 b front alike (omega (arith, room)) (omega (arith, long)) in
-    let there : Passes order b (blockette_at order front) os last =
+    let start : blockette_at order b ≡ blockette_at order prefix =
+    number_alike order 2 46 b prefix alike (omega (arith, room)) (omega (arith, long)) in
+    let there : Passes order b (blockette_at order prefix) os last =
     subst (λ (k : ℕ). Passes order b k os last) start r.chain.others in
-    let steps : DecidesFrom order front 48 (blockette_at order front) passed (Need n) =
-    subst (λ (chosen : Order). DecidesFrom chosen front 48 (blockette_at chosen front) passed (Need n)) same
+    let steps : DecidesFrom order prefix 48 (blockette_at order prefix) passed (Need n) =
+    subst (λ (chosen : Order). DecidesFrom chosen prefix 48 (blockette_at chosen prefix) passed (Need n)) same
     asked in
-    asks_along order b front 48 (blockette_at order front) passed os last n alike
+    asks_along order b prefix 48 (blockette_at order prefix) passed os last n alike
     (record { room = room.1; type = r.chain.found; size = r.size }) steps there
 
--- a record has all the bytes that are asked for at its front
-pub asked : (front more : List ℕ) (n k : ℕ) → Decides front (Need n) → IsRecord (take k (front ++ more))
-    → n ≤ length (take k (front ++ more))
-asked front more n k d r = asked_by front (take k (front ++ more)) n r.0 r.1.0 r.1.1.0 (alike_cut front more k) r.1.1.1
+-- a record has all the bytes that are asked for at its beginning
+pub asked : (prefix more : List ℕ) (n k : ℕ) → Decides prefix (Need n) → IsRecord (take k (prefix ++ more))
+    → n ≤ length (take k (prefix ++ more))
+asked prefix more n k d r = asked_by prefix (take k (prefix ++ more)) n r.0 r.1.0 r.1.1.0 (alike_cut prefix more k)
+    r.1.1.1
     d
 
 pub record_long : (b : List ℕ) → IsRecord b → 48 ≤ length b
@@ -144,23 +146,25 @@ number_small : (order : Order) (b : List ℕ) (o : ℕ) → ((i : ℕ) → get_o
 number_small Big b o octets = omega (arith, octets o, octets (suc o))
 number_small Little b o octets = omega (arith, octets o, octets (suc o))
 
-asks_few : (order : Order) (front : List ℕ) (o n : ℕ) → o < 2 ^ 16 → Asks order front o n → n ≤ 2 ^ 20
-asks_few order front o n small (head e) = omega (arith, e)
-asks_few order front o n small (rest e) = omega (arith, e)
-asks_few order front o n small (whole t l m e) =
+asks_few : (order : Order) (prefix : List ℕ) (o n : ℕ) → o < 2 ^ 16 → Asks order prefix o n → n ≤ 2 ^ 20
+asks_few order prefix o n small (head e) = omega (arith, e)
+asks_few order prefix o n small (rest e) = omega (arith, e)
+asks_few order prefix o n small (whole t l m e) =
     subst (λ (k : ℕ). k ≤ 2 ^ 20) (sym e) (pow-le-pow_right {n = 2} (omega arith) m)
 
-few_along : (order : Order) (front : List ℕ) (low o : ℕ) (passed : List ℕ) (n : ℕ) → ((i : ℕ) → get_or front i 0 < 256)
-    → o < 2 ^ 16 → DecidesFrom order front low o passed (Need n) → n ≤ 2 ^ 20
-few_along order front low o [] n octets small d = asks_few order front o n small (asks order front low o n d)
-few_along order front low o (p ∷ passed) n octets small d =
-    few_along order front (o + 4) (next_at order front o) passed n octets (number_small order front (o + 2) octets) d.2
+few_along : (order : Order) (prefix : List ℕ) (low o : ℕ) (passed : List ℕ) (n : ℕ)
+    → ((i : ℕ) → get_or prefix i 0 < 256)
+    → o < 2 ^ 16 → DecidesFrom order prefix low o passed (Need n) → n ≤ 2 ^ 20
+few_along order prefix low o [] n octets small d = asks_few order prefix o n small (asks order prefix low o n d)
+few_along order prefix low o (p ∷ passed) n octets small d =
+    few_along order prefix (o + 4) (next_at order prefix o) passed n octets (number_small order prefix (o + 2) octets)
+    d.2
 
 -- no more bytes are asked for than the longest record has
-pub few_asked : (front : List ℕ) (n : ℕ) → ((i : ℕ) → get_or front i 0 < 256) → Decides front (Need n) → n ≤ 2 ^ 20
-few_asked front n octets (short _ s) = omega arith
-few_asked front n octets (by_chain order passed answer _ long _ dated d) =
-    few_along order front 48 (blockette_at order front) passed n octets (number_small order front 46 octets) d
+pub few_asked : (prefix : List ℕ) (n : ℕ) → ((i : ℕ) → get_or prefix i 0 < 256) → Decides prefix (Need n) → n ≤ 2 ^ 20
+few_asked prefix n octets (short _ s) = omega arith
+few_asked prefix n octets (by_chain order passed answer _ long _ dated d) =
+    few_along order prefix 48 (blockette_at order prefix) passed n octets (number_small order prefix 46 octets) d
 
 -- a record has more than its header
 pub record_more : (b : List ℕ) → IsRecord b → 48 < length b

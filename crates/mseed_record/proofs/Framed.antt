@@ -16,30 +16,30 @@ use Rattle.mseed_record.specs.Record.{exponent_at, IsRecordBy, IsRecord}
 use Rattle.mseed_record.specs.Scan.{at_offset, DecidesFrom}
 use Rattle.mseed_record.proofs.Passing.{none_within}
 
--- a front and its first k bytes spell the same
-pub number_front : (order : Order) (b : List ℕ) (o k : ℕ) → o + 2 ≤ k
+-- a prefix and its first k bytes spell the same
+pub number_prefix : (order : Order) (b : List ℕ) (o k : ℕ) → o + 2 ≤ k
     → number_at order 2 o (take k b) ≡ number_at order 2 o b
-number_front Big b o k h =
+number_prefix Big b o k h =
     let one : o < k = omega arith in
     let two : suc o < k = omega arith in
     rw (get_or-take k b o 0 one, get_or-take k b (suc o) 0 two) refl
-number_front Little b o k h =
+number_prefix Little b o k h =
     let one : o < k = omega arith in
     let two : suc o < k = omega arith in
     rw (get_or-take k b o 0 one, get_or-take k b (suc o) 0 two) refl
 
 -- what the first 1000 of a whole record says
-pub record Stands (order : Order) (front : List ℕ) (o k : ℕ) : Type 0 where
-  pub type : type_at order front o ≡ 1000
-  pub exponent_low : 7 ≤ exponent_at front o
-  pub exponent_high : exponent_at front o ≤ 20
-  pub inside : o + 8 ≤ 2 ^ exponent_at front o
-  pub whole : 2 ^ exponent_at front o ≤ length front
-  pub size : k ≡ 2 ^ exponent_at front o
+pub record Stands (order : Order) (prefix : List ℕ) (o k : ℕ) : Type 0 where
+  pub type : type_at order prefix o ≡ 1000
+  pub exponent_low : 7 ≤ exponent_at prefix o
+  pub exponent_high : exponent_at prefix o ≤ 20
+  pub inside : o + 8 ≤ 2 ^ exponent_at prefix o
+  pub whole : 2 ^ exponent_at prefix o ≤ length prefix
+  pub size : k ≡ 2 ^ exponent_at prefix o
 
-record_at : (order : Order) (front : List ℕ) (low o k : ℕ) → at_offset order front low o ≡ Some (Record k)
-    → (low ≤ o) × Stands order front o k
-record_at order front low o k e = (
+record_at : (order : Order) (prefix : List ℕ) (low o k : ℕ) → at_offset order prefix low o ≡ Some (Record k)
+    → (low ≤ o) × Stands order prefix o k
+record_at order prefix low o k e = (
   grind (arith, nat_tests, e),
   record {
     type = grind (arith, nat_tests, e);
@@ -51,23 +51,23 @@ record_at order front low o k e = (
   },
 )
 
-pub other_at : (order : Order) (front : List ℕ) (low o : ℕ) → at_offset order front low o ≡ None
-    → type_at order front o ≢ 1000
-other_at order front low o e = λ t. absurd (grind (arith, nat_tests, e, t))
+pub other_at : (order : Order) (prefix : List ℕ) (low o : ℕ) → at_offset order prefix low o ≡ None
+    → type_at order prefix o ≢ 1000
+other_at order prefix low o e = λ t. absurd (grind (arith, nat_tests, e, t))
 
 -- the first 1000 of a record that was answered, behind the blockettes that were passed
-pub found : (order : Order) (front : List ℕ) (low o : ℕ) (os : List ℕ) (k : ℕ)
-    → DecidesFrom order front low o os (Record k)
-    → (last : ℕ) × ((low ≤ o) × Passes order front o os last × Stands order front last k)
-found order front low o [] k e =
-    let there = record_at order front low o k e in
+pub found : (order : Order) (prefix : List ℕ) (low o : ℕ) (os : List ℕ) (k : ℕ)
+    → DecidesFrom order prefix low o os (Record k)
+    → (last : ℕ) × ((low ≤ o) × Passes order prefix o os last × Stands order prefix last k)
+found order prefix low o [] k e =
+    let there = record_at order prefix low o k e in
     (o, (there.0, refl, there.1))
-found order front low o (p ∷ os) k e =
-    let later = found order front (o + 4) (next_at order front o) os k e.2 in (
+found order prefix low o (p ∷ os) k e =
+    let later = found order prefix (o + 4) (next_at order prefix o) os k e.2 in (
       later.0,
       (
-        (none_within order front low o e.1).0,
-        (e.0, other_at order front low o e.1, later.1.0, later.1.1),
+        (none_within order prefix low o e.1).0,
+        (e.0, other_at order prefix low o e.1, later.1.0, later.1.1),
         later.1.2,
       ),
     )
@@ -86,71 +86,72 @@ record_room order os last b r =
     (omega (arith, on, r.chain.low), omega (arith, r.inside, r.size))
 
 -- the same blockettes stand in the first k bytes
-pub passes_front : (order : Order) (b : List ℕ) (k o : ℕ) (os : List ℕ) (last : ℕ) → last + 8 ≤ k
+pub passes_prefix : (order : Order) (b : List ℕ) (k o : ℕ) (os : List ℕ) (last : ℕ) → last + 8 ≤ k
     → Passes order b o os last → Passes order (take k b) o os last
-passes_front order b k o [] last w h = h
-passes_front order b k o (q ∷ os) last w h =
+passes_prefix order b k o [] last w h = h
+passes_prefix order b k o (q ∷ os) last w h =
     let above = passes_above order b (next_at order b o) os last h.3 in
-    let type : type_at order (take k b) o ≡ type_at order b o = number_front order b o k (omega (arith, h.2)) in
-    let next : next_at order (take k b) o ≡ next_at order b o = number_front order b (o + 2) k (omega (arith, h.2)) in
-    let later = passes_front order b k (next_at order b o) os last w h.3 in
+    let type : type_at order (take k b) o ≡ type_at order b o = number_prefix order b o k (omega (arith, h.2)) in
+    let next : next_at order (take k b) o ≡ next_at order b o = number_prefix order b (o + 2) k (omega (arith, h.2)) in
+    let later = passes_prefix order b k (next_at order b o) os last w h.3 in
     (h.0, λ t. h.1 (sym type ∙ t), rw next h.2, subst (λ (n : ℕ). Passes order (take k b) n os last) (sym next) later)
 
-pub fixed_front : (b : List ℕ) (k : ℕ) → 48 ≤ k → has_fixed_bytes (take k b) ≡ has_fixed_bytes b
-fixed_front b k h =
-    let front : take 6 (take k b) ≡ take 6 b = take-take 6 k b (omega arith) in
+pub fixed_prefix : (b : List ℕ) (k : ℕ) → 48 ≤ k → has_fixed_bytes (take k b) ≡ has_fixed_bytes b
+fixed_prefix b k h =
+    let prefix : take 6 (take k b) ≡ take 6 b = take-take 6 k b (omega arith) in
     let quality : get_or (take k b) 6 0 ≡ get_or b 6 0 = get_or-take k b 6 0 (omega arith) in
     let reserved : get_or (take k b) 7 0 ≡ get_or b 7 0 = get_or-take k b 7 0 (omega arith) in
-    rw (front, quality, reserved) refl
+    rw (prefix, quality, reserved) refl
 
-dated_front : (order : Order) (b : List ℕ) (k : ℕ) → 48 ≤ k → is_dated order (take k b) ≡ is_dated order b
-dated_front order b k h =
-    let year : number_at order 2 20 (take k b) ≡ number_at order 2 20 b = number_front order b 20 k (omega arith) in
-    let day : number_at order 2 22 (take k b) ≡ number_at order 2 22 b = number_front order b 22 k (omega arith) in
+dated_prefix : (order : Order) (b : List ℕ) (k : ℕ) → 48 ≤ k → is_dated order (take k b) ≡ is_dated order b
+dated_prefix order b k h =
+    let year : number_at order 2 20 (take k b) ≡ number_at order 2 20 b = number_prefix order b 20 k (omega arith) in
+    let day : number_at order 2 22 (take k b) ≡ number_at order 2 22 b = number_prefix order b 22 k (omega arith) in
     rw (year, day) refl
 
-pub order_front : (b : List ℕ) (k : ℕ) → 48 ≤ k → order_of (take k b) ≡ order_of b
-order_front b k h = rw (dated_front Big b k h, dated_front Little b k h) refl
+pub order_prefix : (b : List ℕ) (k : ℕ) → 48 ≤ k → order_of (take k b) ≡ order_of b
+order_prefix b k h = rw (dated_prefix Big b k h, dated_prefix Little b k h) refl
 
-octets_front : (b : List ℕ) (k : ℕ) → ((i : ℕ) → get_or b i 0 < 256) → (i : ℕ) → get_or (take k b) i 0 < 256
-octets_front b k octets i = ⊎_elim
+octets_prefix : (b : List ℕ) (k : ℕ) → ((i : ℕ) → get_or b i 0 < 256) → (i : ℕ) → get_or (take k b) i 0 < 256
+octets_prefix b k octets i = ⊎_elim
     (λ (l : i < k). rw (get_or-take k b i 0 l) (octets i))
     (λ (g : k ≤ i). let out : length (take k b) ≤ i = omega (arith, length-take k b) in
     rw (get_or-eq_default (take k b) 0 out) (lit< tt))
     (cases_lt i k)
 
 -- the first k bytes are a record where the steps answer k
-pub framed : (order : Order) (front : List ℕ) (os : List ℕ) (k : ℕ) → ((i : ℕ) → get_or front i 0 < 256)
-    → 48 ≤ length front → has_fixed_bytes front ≡ true → order_of front ≡ Some order
-    → DecidesFrom order front 48 (blockette_at order front) os (Record k) → (k ≤ length front) × IsRecord (take k front)
-framed order front os k octets long fixed dated decided =
-    let it = found order front 48 (blockette_at order front) os k decided in
+pub framed : (order : Order) (prefix : List ℕ) (os : List ℕ) (k : ℕ) → ((i : ℕ) → get_or prefix i 0 < 256)
+    → 48 ≤ length prefix → has_fixed_bytes prefix ≡ true → order_of prefix ≡ Some order
+    → DecidesFrom order prefix 48 (blockette_at order prefix) os (Record k)
+    → (k ≤ length prefix) × IsRecord (take k prefix)
+framed order prefix os k octets long fixed dated decided =
+    let it = found order prefix 48 (blockette_at order prefix) os k decided in
     let last = it.0 in
     let stands = it.1.2 in
-    let above = passes_above order front (blockette_at order front) os last it.1.1 in
+    let above = passes_above order prefix (blockette_at order prefix) os last it.1.1 in
     let inside : last + 8 ≤ k = subst (λ (n : ℕ). last + 8 ≤ n) (sym stands.size) stands.inside in
     let least : 48 ≤ k = omega (arith, it.1.0) in
-    let whole : k ≤ length front = subst (λ (n : ℕ). n ≤ length front) (sym stands.size) stands.whole in
-    let exponent : exponent_at (take k front) last ≡ exponent_at front last =
-    get_or-take k front (last + 6) 0 (omega arith) in
-    let begins : blockette_at order (take k front) ≡ blockette_at order front =
-    number_front order front 46 k (omega arith) in
-    let type : type_at order (take k front) last ≡ type_at order front last =
-    number_front order front last k (omega arith) in
-    let chain : IsChain order (take k front) os last = record {
+    let whole : k ≤ length prefix = subst (λ (n : ℕ). n ≤ length prefix) (sym stands.size) stands.whole in
+    let exponent : exponent_at (take k prefix) last ≡ exponent_at prefix last =
+    get_or-take k prefix (last + 6) 0 (omega arith) in
+    let begins : blockette_at order (take k prefix) ≡ blockette_at order prefix =
+    number_prefix order prefix 46 k (omega arith) in
+    let type : type_at order (take k prefix) last ≡ type_at order prefix last =
+    number_prefix order prefix last k (omega arith) in
+    let chain : IsChain order (take k prefix) os last = record {
       low = rw begins it.1.0;
-      others = subst (λ (n : ℕ). Passes order (take k front) n os last) (sym begins)
-          (passes_front order front k (blockette_at order front) os last inside it.1.1);
+      others = subst (λ (n : ℕ). Passes order (take k prefix) n os last) (sym begins)
+          (passes_prefix order prefix k (blockette_at order prefix) os last inside it.1.1);
       found = type ∙ stands.type;
     } in
-    let facts : IsRecordBy order os last (take k front) = record {
-      octets = octets_front front k octets;
-      fixed = fixed_front front k least ∙ fixed;
-      order_is = order_front front k least ∙ dated;
+    let facts : IsRecordBy order os last (take k prefix) = record {
+      octets = octets_prefix prefix k octets;
+      fixed = fixed_prefix prefix k least ∙ fixed;
+      order_is = order_prefix prefix k least ∙ dated;
       chain = chain;
       exponent_low = rw exponent stands.exponent_low;
       exponent_high = rw exponent stands.exponent_high;
       inside = rw exponent stands.inside;
-      size = length-take-le k front whole ∙ stands.size ∙ ap (λ (n : ℕ). 2 ^ n) (sym exponent);
+      size = length-take-le k prefix whole ∙ stands.size ∙ ap (λ (n : ℕ). 2 ^ n) (sym exponent);
     } in
     (whole, (order, (os, (last, facts))))

@@ -34,7 +34,7 @@ begun : (h : Header) (b : List ℕ) → IsWritable h → IsHeaded h b → b ≡ 
 begun h b w e =
     let begins : take 64 b ≡ spelled h =
     e.begins ∙ ap (λ (ks : List ℕ). header_bytes (record h { key = ks })) (key_bytes h.key w.key) in
-    sym (take-append-drop 64 b) ∙ ap (λ (front : List ℕ). front ++ drop 64 b) begins
+    sym (take-append-drop 64 b) ∙ ap (λ (prefix : List ℕ). prefix ++ drop 64 b) begins
 
 -- the bytes before the start are twenty
 pub length-name_bytes : (h : Header) → length h.key ≡ 12 → length (name_bytes h) ≡ 20

@@ -19,48 +19,49 @@ use Rattle.mseed_record.specs.Record.{exponent_at, IsRecordBy, IsRecord}
 use Rattle.mseed_record.specs.Scan.{at_offset, DecidesFrom, Decides, version3, short, no_data, no_order, by_chain}
 use Rattle.mseed_record.specs.Scan.{HasRecord, Needs, header, blockette, exponent, record_end}
 use Rattle.mseed_record.proofs.Passing.{none_within}
-use Rattle.mseed_record.proofs.Framed.{number_front, fixed_front, order_front, other_at}
+use Rattle.mseed_record.proofs.Framed.{number_prefix, fixed_prefix, order_prefix, other_at}
 
-pub number_more : (order : Order) (front more : List ℕ) (o : ℕ) → o + 2 ≤ length front
-    → number_at order 2 o (front ++ more) ≡ number_at order 2 o front
-number_more order front more o h =
-    sym (number_front order (front ++ more) o (length front) h)
-    ∙ ap (λ (b : List ℕ). number_at order 2 o b) (take-append_seam front more)
+pub number_more : (order : Order) (prefix more : List ℕ) (o : ℕ) → o + 2 ≤ length prefix
+    → number_at order 2 o (prefix ++ more) ≡ number_at order 2 o prefix
+number_more order prefix more o h =
+    sym (number_prefix order (prefix ++ more) o (length prefix) h)
+    ∙ ap (λ (b : List ℕ). number_at order 2 o b) (take-append_seam prefix more)
 
 -- what the first 1000 of a record that may come says
-record Grows (order : Order) (front : List ℕ) (o k : ℕ) : Type 0 where
-  type : type_at order front o ≡ 1000
-  there : o + 8 ≤ length front
-  exponent_low : 7 ≤ exponent_at front o
-  exponent_high : exponent_at front o ≤ 20
-  inside : o + 8 ≤ 2 ^ exponent_at front o
-  short : length front < 2 ^ exponent_at front o
-  size : k ≡ 2 ^ exponent_at front o
+record Grows (order : Order) (prefix : List ℕ) (o k : ℕ) : Type 0 where
+  type : type_at order prefix o ≡ 1000
+  there : o + 8 ≤ length prefix
+  exponent_low : 7 ≤ exponent_at prefix o
+  exponent_high : exponent_at prefix o ≤ 20
+  inside : o + 8 ≤ 2 ^ exponent_at prefix o
+  short : length prefix < 2 ^ exponent_at prefix o
+  size : k ≡ 2 ^ exponent_at prefix o
 
 -- the three places where bytes are missing
-data Lacks (order : Order) (front : List ℕ) (o k : ℕ) : Type 0 where
-  four : length front < o + 4 → k ≡ o + 4 → Lacks order front o k
-  eight : type_at order front o ≡ 1000 → o + 4 ≤ length front → length front < o + 8 → k ≡ o + 8 → Lacks order front o k
-  rest : Grows order front o k → Lacks order front o k
+data Lacks (order : Order) (prefix : List ℕ) (o k : ℕ) : Type 0 where
+  four : length prefix < o + 4 → k ≡ o + 4 → Lacks order prefix o k
+  eight : type_at order prefix o ≡ 1000 → o + 4 ≤ length prefix → length prefix < o + 8 → k ≡ o + 8
+      → Lacks order prefix o k
+  rest : Grows order prefix o k → Lacks order prefix o k
 
-low_of : (order : Order) (front : List ℕ) (low o k : ℕ) → at_offset order front low o ≡ Some (Need k) → low ≤ o
-low_of order front low o k e = grind (arith, nat_tests, e)
+low_of : (order : Order) (prefix : List ℕ) (low o k : ℕ) → at_offset order prefix low o ≡ Some (Need k) → low ≤ o
+low_of order prefix low o k e = grind (arith, nat_tests, e)
 
-lacks_four : (order : Order) (front : List ℕ) (low o k : ℕ) → at_offset order front low o ≡ Some (Need k)
-    → length front < o + 4 → k ≡ o + 4
-lacks_four order front low o k e s = grind (arith, nat_tests, e, s)
+lacks_four : (order : Order) (prefix : List ℕ) (low o k : ℕ) → at_offset order prefix low o ≡ Some (Need k)
+    → length prefix < o + 4 → k ≡ o + 4
+lacks_four order prefix low o k e s = grind (arith, nat_tests, e, s)
 
-type_of : (order : Order) (front : List ℕ) (low o k : ℕ) → at_offset order front low o ≡ Some (Need k)
-    → o + 4 ≤ length front → type_at order front o ≡ 1000
-type_of order front low o k e s = grind (arith, nat_tests, e, s)
+type_of : (order : Order) (prefix : List ℕ) (low o k : ℕ) → at_offset order prefix low o ≡ Some (Need k)
+    → o + 4 ≤ length prefix → type_at order prefix o ≡ 1000
+type_of order prefix low o k e s = grind (arith, nat_tests, e, s)
 
-lacks_eight : (order : Order) (front : List ℕ) (low o k : ℕ) → at_offset order front low o ≡ Some (Need k)
-    → o + 4 ≤ length front → length front < o + 8 → k ≡ o + 8
-lacks_eight order front low o k e l s = grind (arith, nat_tests, e, l, s)
+lacks_eight : (order : Order) (prefix : List ℕ) (low o k : ℕ) → at_offset order prefix low o ≡ Some (Need k)
+    → o + 4 ≤ length prefix → length prefix < o + 8 → k ≡ o + 8
+lacks_eight order prefix low o k e l s = grind (arith, nat_tests, e, l, s)
 
-grows : (order : Order) (front : List ℕ) (low o k : ℕ) → at_offset order front low o ≡ Some (Need k)
-    → o + 8 ≤ length front → Grows order front o k
-grows order front low o k e l = record {
+grows : (order : Order) (prefix : List ℕ) (low o k : ℕ) → at_offset order prefix low o ≡ Some (Need k)
+    → o + 8 ≤ length prefix → Grows order prefix o k
+grows order prefix low o k e l = record {
   type = grind (arith, nat_tests, e, l);
   there = l;
   exponent_low = grind (arith, nat_tests, e, l);
@@ -70,54 +71,56 @@ grows order front low o k e l = record {
   size = grind (arith, nat_tests, e, l);
 }
 
-lacks : (order : Order) (front : List ℕ) (low o k : ℕ) → at_offset order front low o ≡ Some (Need k)
-    → Lacks order front o k
-lacks order front low o k e = ⊎_elim
-    (λ (s : length front < o + 4). four s (lacks_four order front low o k e s))
-    (λ (l : o + 4 ≤ length front). ⊎_elim
-    (λ (s : length front < o + 8). eight (type_of order front low o k e l) l s (lacks_eight order front low o k e l s))
-    (λ (g : o + 8 ≤ length front). rest (grows order front low o k e g))
-    (cases_lt (length front) (o + 8)))
-    (cases_lt (length front) (o + 4))
+lacks : (order : Order) (prefix : List ℕ) (low o k : ℕ) → at_offset order prefix low o ≡ Some (Need k)
+    → Lacks order prefix o k
+lacks order prefix low o k e = ⊎_elim
+    (λ (s : length prefix < o + 4). four s (lacks_four order prefix low o k e s))
+    (λ (l : o + 4 ≤ length prefix). ⊎_elim
+    (λ (s : length prefix < o + 8). eight (type_of order prefix low o k e l) l s
+    (lacks_eight order prefix low o k e l s))
+    (λ (g : o + 8 ≤ length prefix). rest (grows order prefix low o k e g))
+    (cases_lt (length prefix) (o + 8)))
+    (cases_lt (length prefix) (o + 4))
 
 -- these blockettes have their first four bytes
 abbrev Within : List ℕ → List ℕ → Type 0
-Within front [] = ⊤
-Within front (o ∷ os) = (o + 4 ≤ length front) × Within front os
+Within prefix [] = ⊤
+Within prefix (o ∷ os) = (o + 4 ≤ length prefix) × Within prefix os
 
 -- the blockette where bytes are missing, behind those that were passed
-lacking : (order : Order) (front : List ℕ) (low o : ℕ) (os : List ℕ) (k : ℕ)
-    → DecidesFrom order front low o os (Need k)
-    → (last : ℕ) × ((low ≤ o) × Passes order front o os last × Within front os × Lacks order front last k)
-lacking order front low o [] k e = (o, (low_of order front low o k e, refl, tt, lacks order front low o k e))
-lacking order front low o (p ∷ os) k e =
-    let later = lacking order front (o + 4) (next_at order front o) os k e.2 in
-    let here = none_within order front low o e.1 in
-    let place : p + 4 ≤ length front = rw e.0 here.1 in
-    (later.0, (here.0, (e.0, other_at order front low o e.1, later.1.0, later.1.1), (place, later.1.2), later.1.3))
+lacking : (order : Order) (prefix : List ℕ) (low o : ℕ) (os : List ℕ) (k : ℕ)
+    → DecidesFrom order prefix low o os (Need k)
+    → (last : ℕ) × ((low ≤ o) × Passes order prefix o os last × Within prefix os × Lacks order prefix last k)
+lacking order prefix low o [] k e = (o, (low_of order prefix low o k e, refl, tt, lacks order prefix low o k e))
+lacking order prefix low o (p ∷ os) k e =
+    let later = lacking order prefix (o + 4) (next_at order prefix o) os k e.2 in
+    let here = none_within order prefix low o e.1 in
+    let place : p + 4 ≤ length prefix = rw e.0 here.1 in
+    (later.0, (here.0, (e.0, other_at order prefix low o e.1, later.1.0, later.1.1), (place, later.1.2), later.1.3))
 
-passes_more : (order : Order) (front more : List ℕ) (o : ℕ) (os : List ℕ) (last : ℕ) → Within front os
-    → Passes order front o os last → Passes order (front ++ more) o os last
-passes_more order front more o [] last w h = h
-passes_more order front more o (q ∷ os) last w h =
-    let place : o + 4 ≤ length front = subst (λ (n : ℕ). n + 4 ≤ length front) h.0 w.0 in
-    let type : type_at order (front ++ more) o ≡ type_at order front o = number_more order front more o (omega arith) in
-    let next : next_at order (front ++ more) o ≡ next_at order front o =
-    number_more order front more (o + 2) (omega arith) in
-    let later = passes_more order front more (next_at order front o) os last w.1 h.3 in (
+passes_more : (order : Order) (prefix more : List ℕ) (o : ℕ) (os : List ℕ) (last : ℕ) → Within prefix os
+    → Passes order prefix o os last → Passes order (prefix ++ more) o os last
+passes_more order prefix more o [] last w h = h
+passes_more order prefix more o (q ∷ os) last w h =
+    let place : o + 4 ≤ length prefix = subst (λ (n : ℕ). n + 4 ≤ length prefix) h.0 w.0 in
+    let type : type_at order (prefix ++ more) o ≡ type_at order prefix o =
+    number_more order prefix more o (omega arith) in
+    let next : next_at order (prefix ++ more) o ≡ next_at order prefix o =
+    number_more order prefix more (o + 2) (omega arith) in
+    let later = passes_more order prefix more (next_at order prefix o) os last w.1 h.3 in (
       h.0,
       λ t. h.1 (sym type ∙ t),
       rw next h.2,
-      subst (λ (n : ℕ). Passes order (front ++ more) n os last)
+      subst (λ (n : ℕ). Passes order (prefix ++ more) n os last)
           (sym next) later,
     )
 
-within_more : (front more : List ℕ) (os : List ℕ) → Within front os → Within (front ++ more) os
-within_more front more [] w = tt
-within_more front more (o ∷ os) w =
+within_more : (prefix more : List ℕ) (os : List ℕ) → Within prefix os → Within (prefix ++ more) os
+within_more prefix more [] w = tt
+within_more prefix more (o ∷ os) w =
     let place = w.0 in
-    let wide : o + 4 ≤ length (front ++ more) = omega (arith, length-append front more) in
-    (wide, within_more front more os w.1)
+    let wide : o + 4 ≤ length (prefix ++ more) = omega (arith, length-append prefix more) in
+    (wide, within_more prefix more os w.1)
 
 -- lists of bytes
 abbrev Octets : List ℕ → Type 0
@@ -139,47 +142,48 @@ octets_append [] ys h k = k
 octets_append (x ∷ xs) ys h k = octets_cons x (xs ++ ys) (h 0) (octets_append xs ys (λ i. h (suc i)) k)
 
 -- a header and the blockettes that its chain passes
-record Headed (order : Order) (front : List ℕ) (os : List ℕ) (last : ℕ) : Type 0 where
-  octets : Octets front
-  long : 48 ≤ length front
-  fixed : has_fixed_bytes front ≡ true
-  dated : order_of front ≡ Some order
-  begins : 48 ≤ blockette_at order front
-  passes : Passes order front (blockette_at order front) os last
-  within : Within front os
+record Headed (order : Order) (prefix : List ℕ) (os : List ℕ) (last : ℕ) : Type 0 where
+  octets : Octets prefix
+  long : 48 ≤ length prefix
+  fixed : has_fixed_bytes prefix ≡ true
+  dated : order_of prefix ≡ Some order
+  begins : 48 ≤ blockette_at order prefix
+  passes : Passes order prefix (blockette_at order prefix) os last
+  within : Within prefix os
 
-headed_more : (order : Order) (front more : List ℕ) (os : List ℕ) (last : ℕ) → Octets more → Headed order front os last
-    → Headed order (front ++ more) os last
-headed_more order front more os last octets h =
-    let all : List ℕ = front ++ more in
-    let cut : take (length front) all ≡ front = take-append_seam front more in
+headed_more : (order : Order) (prefix more : List ℕ) (os : List ℕ) (last : ℕ) → Octets more
+    → Headed order prefix os last
+    → Headed order (prefix ++ more) os last
+headed_more order prefix more os last octets h =
+    let all : List ℕ = prefix ++ more in
+    let cut : take (length prefix) all ≡ prefix = take-append_seam prefix more in
     let long = h.long in
-    let same : blockette_at order all ≡ blockette_at order front = number_more order front more 46 (omega arith) in
+    let same : blockette_at order all ≡ blockette_at order prefix = number_more order prefix more 46 (omega arith) in
     record {
-      octets = octets_append front more h.octets octets;
-      long = omega (arith, length-append front more);
-      fixed = sym (fixed_front all (length front) h.long) ∙ ap (λ (b : List ℕ). has_fixed_bytes b) cut ∙ h.fixed;
-      dated = sym (order_front all (length front) h.long) ∙ ap (λ (b : List ℕ). order_of b) cut ∙ h.dated;
+      octets = octets_append prefix more h.octets octets;
+      long = omega (arith, length-append prefix more);
+      fixed = sym (fixed_prefix all (length prefix) h.long) ∙ ap (λ (b : List ℕ). has_fixed_bytes b) cut ∙ h.fixed;
+      dated = sym (order_prefix all (length prefix) h.long) ∙ ap (λ (b : List ℕ). order_of b) cut ∙ h.dated;
       begins = rw same h.begins;
       passes = subst (λ (n : ℕ). Passes order all n os last) (sym same)
-          (passes_more order front more (blockette_at order front) os last h.within h.passes);
-      within = within_more front more os h.within;
+          (passes_more order prefix more (blockette_at order prefix) os last h.within h.passes);
+      within = within_more prefix more os h.within;
     }
 
 -- a record whose end isn't there yet: what is missing may be zeros
-grown : (order : Order) (front : List ℕ) (os : List ℕ) (last k : ℕ) → Headed order front os last
-    → Grows order front last k → HasRecord front
-grown order front os last k h g =
-    let more : List ℕ = replicate (k - length front) 0 in
-    let all : List ℕ = front ++ more in
-    let headed = headed_more order front more os last (octets_zeros (k - length front)) h in
-    let short : length front < k = subst (λ (n : ℕ). length front < n) (sym g.size) g.short in
+grown : (order : Order) (prefix : List ℕ) (os : List ℕ) (last k : ℕ) → Headed order prefix os last
+    → Grows order prefix last k → HasRecord prefix
+grown order prefix os last k h g =
+    let more : List ℕ = replicate (k - length prefix) 0 in
+    let all : List ℕ = prefix ++ more in
+    let headed = headed_more order prefix more os last (octets_zeros (k - length prefix)) h in
+    let short : length prefix < k = subst (λ (n : ℕ). length prefix < n) (sym g.size) g.short in
     let size : length all ≡ k =
-    omega (arith, length-append front more, length-replicate {A = ℕ} (k - length front) 0) in
-    let same : exponent_at all last ≡ exponent_at front last =
-    get_or-append front more 0 (last + 6) (omega (arith, g.there)) in
-    let type : type_at order all last ≡ type_at order front last =
-    number_more order front more last (omega (arith, g.there)) in
+    omega (arith, length-append prefix more, length-replicate {A = ℕ} (k - length prefix) 0) in
+    let same : exponent_at all last ≡ exponent_at prefix last =
+    get_or-append prefix more 0 (last + 6) (omega (arith, g.there)) in
+    let type : type_at order all last ≡ type_at order prefix last =
+    number_more order prefix more last (omega (arith, g.there)) in
     let facts : IsRecordBy order os last all = record {
       octets = headed.octets;
       fixed = headed.fixed;
@@ -215,16 +219,16 @@ last_small order b os last h =
     h.passes in
     omega arith
 
--- bytes behind a front
+-- bytes behind a prefix
 behind : (xs ys : List ℕ) (p i : ℕ) → p ≡ length xs + i → get_or (xs ++ ys) p 0 ≡ get_or ys i 0
 behind xs ys p i e =
     let over : length xs ≤ p = omega (arith, e) in
     let same : p - length xs ≡ i = omega (arith, e) in
     get_or-append_right xs ys p 0 over ∙ ap (λ (n : ℕ). get_or ys n 0) same
 
--- the same record may come of a front and of what is put behind it
-before : (front middle : List ℕ) → HasRecord (front ++ middle) → HasRecord front
-before front middle r = (middle ++ r.0, subst (λ (b : List ℕ). IsRecord b) (append_assoc front middle r.0) r.1)
+-- the same record may come of a prefix and of what is put behind it
+before : (prefix middle : List ℕ) → HasRecord (prefix ++ middle) → HasRecord prefix
+before prefix middle r = (middle ++ r.0, subst (λ (b : List ℕ). IsRecord b) (append_assoc prefix middle r.0) r.1)
 
 -- a 1000 with the longest record that there is
 abbrev longest : Order → List ℕ
@@ -257,17 +261,18 @@ longest_exponent : (order : Order) → get_or (longest order) 6 0 ≡ 20
 longest_exponent Big = refl
 longest_exponent Little = refl
 
-longest_type : (order : Order) (front : List ℕ) (last : ℕ) → length front ≡ last
-    → type_at order (front ++ longest order) last ≡ 1000
-longest_type Big front last e =
-    let one : get_or (front ++ longest Big) last 0 ≡ 3 = behind front (longest Big) last 0 (omega (arith, e)) in
-    let two : get_or (front ++ longest Big) (suc last) 0 ≡ 232 =
-    behind front (longest Big) (suc last) 1 (omega (arith, e)) in
+longest_type : (order : Order) (prefix : List ℕ) (last : ℕ) → length prefix ≡ last
+    → type_at order (prefix ++ longest order) last ≡ 1000
+longest_type Big prefix last e =
+    let one : get_or (prefix ++ longest Big) last 0 ≡ 3 = behind prefix (longest Big) last 0 (omega (arith, e)) in
+    let two : get_or (prefix ++ longest Big) (suc last) 0 ≡ 232 =
+    behind prefix (longest Big) (suc last) 1 (omega (arith, e)) in
     rw (one, two) refl
-longest_type Little front last e =
-    let one : get_or (front ++ longest Little) last 0 ≡ 232 = behind front (longest Little) last 0 (omega (arith, e)) in
-    let two : get_or (front ++ longest Little) (suc last) 0 ≡ 3 =
-    behind front (longest Little) (suc last) 1 (omega (arith, e)) in
+longest_type Little prefix last e =
+    let one : get_or (prefix ++ longest Little) last 0 ≡ 232 =
+    behind prefix (longest Little) last 0 (omega (arith, e)) in
+    let two : get_or (prefix ++ longest Little) (suc last) 0 ≡ 3 =
+    behind prefix (longest Little) (suc last) 1 (omega (arith, e)) in
     rw (one, two) refl
 
 seven_twenty : 7 ≤ 20
@@ -277,9 +282,10 @@ twenty_twenty : 20 ≤ 20
 twenty_twenty = omega arith
 
 -- a 1000 whose exponent is 20 has its record to come
-grows_by : (order : Order) (front : List ℕ) (last : ℕ) → type_at order front last ≡ 1000 → exponent_at front last ≡ 20
-    → last + 8 ≡ length front → last + 8 < 2 ^ 20 → Grows order front last (2 ^ 20)
-grows_by order front last t e l s = record {
+grows_by : (order : Order) (prefix : List ℕ) (last : ℕ) → type_at order prefix last ≡ 1000
+    → exponent_at prefix last ≡ 20
+    → last + 8 ≡ length prefix → last + 8 < 2 ^ 20 → Grows order prefix last (2 ^ 20)
+grows_by order prefix last t e l s = record {
   type = t;
   there = omega (arith, l);
   exponent_low = rw e seven_twenty;
@@ -289,70 +295,70 @@ grows_by order front last t e l s = record {
   size = ap (λ (n : ℕ). 2 ^ n) (sym e);
 }
 
-at_its_place : (order : Order) (front : List ℕ) (os : List ℕ) (last : ℕ) → length front ≡ last
-    → Headed order front os last → HasRecord front
-at_its_place order front os last e h =
-    let all : List ℕ = front ++ longest order in
-    let headed = headed_more order front (longest order) os last (octets_longest order) h in
-    let size : last + 8 ≡ length all = omega (arith, e, length-append front (longest order), longest_length order) in
-    let exponent : exponent_at all last ≡ 20 = behind front (longest order) (last + 6) 6 (omega (arith, e))
+at_its_place : (order : Order) (prefix : List ℕ) (os : List ℕ) (last : ℕ) → length prefix ≡ last
+    → Headed order prefix os last → HasRecord prefix
+at_its_place order prefix os last e h =
+    let all : List ℕ = prefix ++ longest order in
+    let headed = headed_more order prefix (longest order) os last (octets_longest order) h in
+    let size : last + 8 ≡ length all = omega (arith, e, length-append prefix (longest order), longest_length order) in
+    let exponent : exponent_at all last ≡ 20 = behind prefix (longest order) (last + 6) 6 (omega (arith, e))
     ∙ longest_exponent order in
     let small = last_small order all os last headed in
-    before front (longest order)
+    before prefix (longest order)
     (grown order all os last (2 ^ 20) headed
-    (grows_by order all last (longest_type order front last e) exponent size small))
+    (grows_by order all last (longest_type order prefix last e) exponent size small))
 
-ahead_of_it : (order : Order) (front : List ℕ) (os : List ℕ) (last : ℕ) → length front ≤ last
-    → Headed order front os last → HasRecord front
-ahead_of_it order front os last l h =
-    let zeros : List ℕ = replicate (last - length front) 0 in
-    let headed = headed_more order front zeros os last (octets_zeros (last - length front)) h in
-    let size : length (front ++ zeros) ≡ last =
-    omega (arith, l, length-append front zeros, length-replicate {A = ℕ} (last - length front) 0) in
-    before front zeros (at_its_place order (front ++ zeros) os last size headed)
+ahead_of_it : (order : Order) (prefix : List ℕ) (os : List ℕ) (last : ℕ) → length prefix ≤ last
+    → Headed order prefix os last → HasRecord prefix
+ahead_of_it order prefix os last l h =
+    let zeros : List ℕ = replicate (last - length prefix) 0 in
+    let headed = headed_more order prefix zeros os last (octets_zeros (last - length prefix)) h in
+    let size : length (prefix ++ zeros) ≡ last =
+    omega (arith, l, length-append prefix zeros, length-replicate {A = ℕ} (last - length prefix) 0) in
+    before prefix zeros (at_its_place order (prefix ++ zeros) os last size headed)
 
-at_its_exponent : (order : Order) (front : List ℕ) (os : List ℕ) (last : ℕ) → length front ≡ last + 4
-    → type_at order front last ≡ 1000 → Headed order front os last → HasRecord front
-at_its_exponent order front os last e t h =
-    let all : List ℕ = front ++ exponent_bytes in
-    let headed = headed_more order front exponent_bytes os last octets_exponent h in
-    let size : last + 8 ≡ length all = omega (arith, e, length-append front exponent_bytes) in
-    let type : type_at order all last ≡ 1000 = number_more order front exponent_bytes last (omega (arith, e)) ∙ t in
-    let exponent : exponent_at all last ≡ 20 = behind front exponent_bytes (last + 6) 2 (omega (arith, e)) in
+at_its_exponent : (order : Order) (prefix : List ℕ) (os : List ℕ) (last : ℕ) → length prefix ≡ last + 4
+    → type_at order prefix last ≡ 1000 → Headed order prefix os last → HasRecord prefix
+at_its_exponent order prefix os last e t h =
+    let all : List ℕ = prefix ++ exponent_bytes in
+    let headed = headed_more order prefix exponent_bytes os last octets_exponent h in
+    let size : last + 8 ≡ length all = omega (arith, e, length-append prefix exponent_bytes) in
+    let type : type_at order all last ≡ 1000 = number_more order prefix exponent_bytes last (omega (arith, e)) ∙ t in
+    let exponent : exponent_at all last ≡ 20 = behind prefix exponent_bytes (last + 6) 2 (omega (arith, e)) in
     let small = last_small order all os last headed in
-    before front exponent_bytes
+    before prefix exponent_bytes
     (grown order all os last (2 ^ 20) headed (grows_by order all last type exponent size small))
 
-needs_by : (order : Order) (front : List ℕ) (os : List ℕ) (last k : ℕ) → Headed order front os last
-    → Lacks order front last k → Needs front k
-needs_by order front os last k h (four s e) = subst (λ (n : ℕ). Needs front n) (sym e) (⊎_elim
-    (λ (i : last < length front). blockette order os last h.dated h.passes i s)
-    (λ (l : length front ≤ last). record_end (last + 4) s (ahead_of_it order front os last l h))
-    (cases_lt last (length front)))
-needs_by order front os last k h (eight t l s e) = subst (λ (n : ℕ). Needs front n) (sym e) (⊎_elim
-    (λ (i : last + 4 < length front). exponent order os last h.dated h.passes t i s)
-    (λ (o : length front ≤ last + 4). record_end (last + 8) s
-    (at_its_exponent order front os last (omega (arith, l, o)) t h))
-    (cases_lt (last + 4) (length front)))
-needs_by order front os last k h (rest g) =
-    let short : length front < k = subst (λ (n : ℕ). length front < n) (sym g.size) g.short in
-    record_end k short (grown order front os last k h g)
+needs_by : (order : Order) (prefix : List ℕ) (os : List ℕ) (last k : ℕ) → Headed order prefix os last
+    → Lacks order prefix last k → Needs prefix k
+needs_by order prefix os last k h (four s e) = subst (λ (n : ℕ). Needs prefix n) (sym e) (⊎_elim
+    (λ (i : last < length prefix). blockette order os last h.dated h.passes i s)
+    (λ (l : length prefix ≤ last). record_end (last + 4) s (ahead_of_it order prefix os last l h))
+    (cases_lt last (length prefix)))
+needs_by order prefix os last k h (eight t l s e) = subst (λ (n : ℕ). Needs prefix n) (sym e) (⊎_elim
+    (λ (i : last + 4 < length prefix). exponent order os last h.dated h.passes t i s)
+    (λ (o : length prefix ≤ last + 4). record_end (last + 8) s
+    (at_its_exponent order prefix os last (omega (arith, l, o)) t h))
+    (cases_lt (last + 4) (length prefix)))
+needs_by order prefix os last k h (rest g) =
+    let short : length prefix < k = subst (λ (n : ℕ). length prefix < n) (sym g.size) g.short in
+    record_end k short (grown order prefix os last k h g)
 
-needs_of : (front : List ℕ) (k : ℕ) (a : Scan) → ((i : ℕ) → get_or front i 0 < 256) → Decides front a → a ≡ Need k
-    → Needs front k
-needs_of front k _ octets (version3 v) e = cc
-needs_of front k _ octets (short v s) e =
+needs_of : (prefix : List ℕ) (k : ℕ) (a : Scan) → ((i : ℕ) → get_or prefix i 0 < 256) → Decides prefix a → a ≡ Need k
+    → Needs prefix k
+needs_of prefix k _ octets (version3 v) e = cc
+needs_of prefix k _ octets (short v s) e =
     let same : 48 ≡ k = cc in
-    subst (λ (n : ℕ). Needs front n) same (header s)
-needs_of front k _ octets (no_data v s f) e = cc
-needs_of front k _ octets (no_order v s f o) e = cc
-needs_of front k a octets (by_chain order ps answer v s f o d) e =
-    let it = lacking order front 48 (blockette_at order front) ps k
-    (subst (λ (x : Scan). DecidesFrom order front 48 (blockette_at order front) ps x) e d) in
-    let headed : Headed order front ps it.0 =
+    subst (λ (n : ℕ). Needs prefix n) same (header s)
+needs_of prefix k _ octets (no_data v s f) e = cc
+needs_of prefix k _ octets (no_order v s f o) e = cc
+needs_of prefix k a octets (by_chain order ps answer v s f o d) e =
+    let it = lacking order prefix 48 (blockette_at order prefix) ps k
+    (subst (λ (x : Scan). DecidesFrom order prefix 48 (blockette_at order prefix) ps x) e d) in
+    let headed : Headed order prefix ps it.0 =
     record { octets = octets; long = s; fixed = f; dated = o; begins = it.1.0; passes = it.1.1; within = it.1.2 } in
-    needs_by order front ps it.0 k headed it.1.3
+    needs_by order prefix ps it.0 k headed it.1.3
 
 -- the steps ask for bytes only where they are needed
-pub needed : (front : List ℕ) (k : ℕ) → ((i : ℕ) → get_or front i 0 < 256) → Decides front (Need k) → Needs front k
-needed front k octets d = needs_of front k (Need k) octets d refl
+pub needed : (prefix : List ℕ) (k : ℕ) → ((i : ℕ) → get_or prefix i 0 < 256) → Decides prefix (Need k) → Needs prefix k
+needed prefix k octets d = needs_of prefix k (Need k) octets d refl

@@ -1,4 +1,4 @@
--- At most one front of some bytes is a record.
+-- At most one prefix of some bytes is a record.
 use Rattle.std.proofs.Common.{◌≡◌, ℕ, ◌+◌, ◌^◌, ◌≤◌, List, [], ◌∷◌, length, take, Some, sym, ap, subst, ◌∙◌, arith}
 use Rattle.std.proofs.lemmas.List.{length-take-le, take-take}
 use Rattle.std.proofs.Math.Seq.{take-length}
@@ -7,7 +7,7 @@ use Rattle.mseed_record.specs.Header.{blockette_at}
 use Rattle.mseed_record.specs.Chain.{type_at, next_at, Passes}
 use Rattle.mseed_record.specs.Record.{exponent_at, IsRecordBy, IsRecord}
 use Rattle.mseed_record.proofs.Framed.{passes_above, record_room}
-use Rattle.mseed_record.proofs.Fronts.{Alike, byte_alike, number_alike, order_alike}
+use Rattle.mseed_record.proofs.Prefixes.{Alike, byte_alike, number_alike, order_alike}
 
 -- two chains along the same bytes come to the same 1000
 one_last : (order : Order) (b c : List ℕ) (o : ℕ) (os ps : List ℕ) (last other : ℕ) → Alike b c → last + 8 ≤ length b
@@ -64,7 +64,7 @@ one_record b j k h l r s =
     same_length (take j b) (take k b) r.0 s.0 r.1.0 s.1.0 r.1.1.0 s.1.1.0 (two_cuts b j k h l) r.1.1.1 s.1.1.1 in
     sym (length-take-le j b h) ∙ (same ∙ length-take-le k b l)
 
--- a front of a record that is one is all of it
+-- a prefix of a record that is one is all of it
 pub whole_record : (b : List ℕ) (k : ℕ) → k ≤ length b → IsRecord (take k b) → IsRecord b → k ≡ length b
 whole_record b k h r s =
     let all : length b ≤ length b = omega arith in

@@ -10,22 +10,22 @@ each_byte xs n h =
     let whole : take n xs ≡ xs = subst (λ (k : ℕ). take k xs ≡ xs) h (take-length xs) in
     sym (take-drop-bytes xs 0 n (omega arith)) ∙ whole
 
--- a front has been written over the first n bytes
-pub record Begins (old new front : List ℕ) (n : ℕ) : Type 0 where
-  pub bytes : new ≡ front ++ drop n old
-  pub size : length front ≡ n
+-- a prefix has been written over the first n bytes
+pub record Begins (old new prefix : List ℕ) (n : ℕ) : Type 0 where
+  pub bytes : new ≡ prefix ++ drop n old
+  pub size : length prefix ≡ n
 
 -- a part put behind it makes it longer
-pub put_next : (old before after front part : List ℕ) (n m : ℕ) → n + length part ≡ m → Begins old before front n
-    → after ≡ take n before ++ part ++ drop (n + length part) before → Begins old after (front ++ part) m
-put_next old before after front part n m sizes begins put =
+pub put_next : (old before after prefix part : List ℕ) (n m : ℕ) → n + length part ≡ m → Begins old before prefix n
+    → after ≡ take n before ++ part ++ drop (n + length part) before → Begins old after (prefix ++ part) m
+put_next old before after prefix part n m sizes begins put =
     let bytes = begins.bytes in
     let size = sym begins.size in
-    let kept : take n before ≡ front = rw (bytes, size) (take-append_seam front (drop (length front) old)) in
+    let kept : take n before ≡ prefix = rw (bytes, size) (take-append_seam prefix (drop (length prefix) old)) in
     let rest : drop (n + length part) before ≡ drop (n + length part) old =
-    rw (bytes, size) (drop-append-add front (drop (length front) old) (length part)
-    ∙ drop-drop (length part) (length front) old) in
+    rw (bytes, size) (drop-append-add prefix (drop (length prefix) old) (length part)
+    ∙ drop-drop (length part) (length prefix) old) in
     record {
       bytes = put ∙ (rw (kept, rest, sizes) refl);
-      size = omega (arith, length-append front part);
+      size = omega (arith, length-append prefix part);
     }

@@ -12,93 +12,94 @@ use Rattle.mseed_record.specs.Chain.{type_at, next_at}
 use Rattle.mseed_record.specs.Scan.{is_version3, at_offset, Decides, by_chain}
 use Rattle.mseed_record.specs.Framer.{PassesTo, HasReached, IsFramerOf}
 use Rattle.mseed_record.proofs.Passing.{none_within, passes_more, passes_decides}
-use Rattle.mseed_record.proofs.Framed.{fixed_front, order_front, other_at}
+use Rattle.mseed_record.proofs.Framed.{fixed_prefix, order_prefix, other_at}
 use Rattle.mseed_record.proofs.Answered.{none_at}
 use Rattle.mseed_record.proofs.Needed.{number_more}
 
 -- what is decided where the look stands
-pub reached_decides : (r : Reached) (front : List ℕ) (answer : Scan) → HasReached r front
-    → at_offset r.order front r.low r.offset ≡ Some answer → Decides front answer
-reached_decides r front answer h e =
+pub reached_decides : (r : Reached) (prefix : List ℕ) (answer : Scan) → HasReached r prefix
+    → at_offset r.order prefix r.low r.offset ≡ Some answer → Decides prefix answer
+reached_decides r prefix answer h e =
     by_chain r.order h.passed.0 answer h.other_version h.header h.fixed h.order_is
-    (passes_decides r.order front 48 (blockette_at r.order front) h.passed.0 r.low r.offset answer h.passed.1 e)
+    (passes_decides r.order prefix 48 (blockette_at r.order prefix) h.passed.0 r.low r.offset answer h.passed.1 e)
 
 -- one blockette further on
-pub reached_next : (r : Reached) (front : List ℕ) (next : ℕ) → HasReached r front
-    → at_offset r.order front r.low r.offset ≡ None → next ≡ next_at r.order front r.offset → next < 2 ^ 16
-    → HasReached (record { order = r.order; low = r.offset + 4; offset = next }) front
-reached_next r front next h e is small =
-    let more = passes_more r.order front 48 (blockette_at r.order front) h.passed.0 r.low r.offset h.passed.1 e in
+pub reached_next : (r : Reached) (prefix : List ℕ) (next : ℕ) → HasReached r prefix
+    → at_offset r.order prefix r.low r.offset ≡ None → next ≡ next_at r.order prefix r.offset → next < 2 ^ 16
+    → HasReached (record { order = r.order; low = r.offset + 4; offset = next }) prefix
+reached_next r prefix next h e is small =
+    let more = passes_more r.order prefix 48 (blockette_at r.order prefix) h.passed.0 r.low r.offset h.passed.1 e in
     let passed = h.passed.0 ++ r.offset ∷ [] in
     record {
       other_version = h.other_version;
       header = h.header;
       fixed = h.fixed;
       order_is = h.order_is;
-      low = (none_within r.order front r.low r.offset e).1;
+      low = (none_within r.order prefix r.low r.offset e).1;
       small = small;
       passed = (
         passed,
-        subst (λ (n : ℕ). PassesTo r.order front 48 (blockette_at r.order front) passed (r.offset + 4)
+        subst (λ (n : ℕ). PassesTo r.order prefix 48 (blockette_at r.order prefix) passed (r.offset + 4)
             n) (sym is) more,
       );
     }
 
 -- what is said of a header is said of all bytes that begin with it
-version3_more : (front more : List ℕ) → 3 ≤ length front → is_version3 (front ++ more) ≡ is_version3 front
+version3_more : (prefix more : List ℕ) → 3 ≤ length prefix → is_version3 (prefix ++ more) ≡ is_version3 prefix
 version3_more [] more h = absurd (omega arith)
 version3_more (a ∷ []) more h = absurd (omega arith)
 version3_more (a ∷ b ∷ []) more h = absurd (omega arith)
 version3_more (a ∷ b ∷ c ∷ rest) more h = refl
 
 -- a blockette that is passed is passed in all bytes that begin so
-none_more : (order : Order) (front more : List ℕ) (low o : ℕ) → 0 < low → at_offset order front low o ≡ None
-    → at_offset order (front ++ more) low o ≡ None
-none_more order front more low o some e =
-    let within = none_within order front low o e in
-    let wide : o + 4 ≤ length (front ++ more) = omega (arith, within.1, length-append front more) in
-    let type : type_at order (front ++ more) o ≡ type_at order front o =
-    number_more order front more o (omega (arith, within.1)) in
-    none_at order (front ++ more) low o within.0 some wide (λ t. other_at order front low o e (sym type ∙ t))
+none_more : (order : Order) (prefix more : List ℕ) (low o : ℕ) → 0 < low → at_offset order prefix low o ≡ None
+    → at_offset order (prefix ++ more) low o ≡ None
+none_more order prefix more low o some e =
+    let within = none_within order prefix low o e in
+    let wide : o + 4 ≤ length (prefix ++ more) = omega (arith, within.1, length-append prefix more) in
+    let type : type_at order (prefix ++ more) o ≡ type_at order prefix o =
+    number_more order prefix more o (omega (arith, within.1)) in
+    none_at order (prefix ++ more) low o within.0 some wide (λ t. other_at order prefix low o e (sym type ∙ t))
 
-passes_to_more : (order : Order) (front more : List ℕ) (low o : ℕ) (os : List ℕ) (least q : ℕ) → 0 < low
-    → PassesTo order front low o os least q → PassesTo order (front ++ more) low o os least q
-passes_to_more order front more low o [] least q some h = h
-passes_to_more order front more low o (p ∷ os) least q some h =
-    let within = none_within order front low o h.1 in
-    let next : next_at order (front ++ more) o ≡ next_at order front o =
-    number_more order front more (o + 2) (omega (arith, within.1)) in
-    let later = passes_to_more order front more (o + 4) (next_at order front o) os least q (omega arith) h.2 in (
+passes_to_more : (order : Order) (prefix more : List ℕ) (low o : ℕ) (os : List ℕ) (least q : ℕ) → 0 < low
+    → PassesTo order prefix low o os least q → PassesTo order (prefix ++ more) low o os least q
+passes_to_more order prefix more low o [] least q some h = h
+passes_to_more order prefix more low o (p ∷ os) least q some h =
+    let within = none_within order prefix low o h.1 in
+    let next : next_at order (prefix ++ more) o ≡ next_at order prefix o =
+    number_more order prefix more (o + 2) (omega (arith, within.1)) in
+    let later = passes_to_more order prefix more (o + 4) (next_at order prefix o) os least q (omega arith) h.2 in (
       h.0,
-      none_more order front more low o some h.1,
-      subst (λ (n : ℕ). PassesTo order (front ++ more) (o + 4) n os least q) (sym next) later,
+      none_more order prefix more low o some h.1,
+      subst (λ (n : ℕ). PassesTo order (prefix ++ more) (o + 4) n os least q) (sym next) later,
     )
 
-pub reached_more : (r : Reached) (front more : List ℕ) → HasReached r front → HasReached r (front ++ more)
-reached_more r front more h =
-    let all : List ℕ = front ++ more in
+pub reached_more : (r : Reached) (prefix more : List ℕ) → HasReached r prefix → HasReached r (prefix ++ more)
+reached_more r prefix more h =
+    let all : List ℕ = prefix ++ more in
     let long = h.header in
-    let cut : take (length front) all ≡ front = take-append_seam front more in
-    let begins : blockette_at r.order all ≡ blockette_at r.order front =
-    number_more r.order front more 46 (omega arith) in
-    let passed = passes_to_more r.order front more 48 (blockette_at r.order front) h.passed.0 r.low r.offset
+    let cut : take (length prefix) all ≡ prefix = take-append_seam prefix more in
+    let begins : blockette_at r.order all ≡ blockette_at r.order prefix =
+    number_more r.order prefix more 46 (omega arith) in
+    let passed = passes_to_more r.order prefix more 48 (blockette_at r.order prefix) h.passed.0 r.low r.offset
     (omega arith) h.passed.1 in
-    let wide : length front ≤ length all = omega (arith, length-append front more) in
+    let wide : length prefix ≤ length all = omega (arith, length-append prefix more) in
     record {
-      other_version = version3_more front more (omega arith) ∙ h.other_version;
+      other_version = version3_more prefix more (omega arith) ∙ h.other_version;
       header = omega (arith, wide);
-      fixed = sym (fixed_front all (length front) long) ∙ ap (λ (b : List ℕ). has_fixed_bytes b) cut ∙ h.fixed;
-      order_is = sym (order_front all (length front) long) ∙ ap (λ (b : List ℕ). order_of b) cut ∙ h.order_is;
+      fixed = sym (fixed_prefix all (length prefix) long) ∙ ap (λ (b : List ℕ). has_fixed_bytes b) cut ∙ h.fixed;
+      order_is = sym (order_prefix all (length prefix) long) ∙ ap (λ (b : List ℕ). order_of b) cut ∙ h.order_is;
       low = omega (arith, h.low, wide);
       small = h.small;
       passed = (h.passed.0, subst (λ (n : ℕ). PassesTo r.order all 48 n h.passed.0 r.low r.offset) (sym begins) passed);
     }
 
-some_more : (o : Option Reached) (front more : List ℕ) → IfSome o (λ r. HasReached r front)
-    → IfSome o (λ r. HasReached r (front ++ more))
-some_more None front more h = h
-some_more (Some r) front more h = reached_more r front more h
+some_more : (o : Option Reached) (prefix more : List ℕ) → IfSome o (λ r. HasReached r prefix)
+    → IfSome o (λ r. HasReached r (prefix ++ more))
+some_more None prefix more h = h
+some_more (Some r) prefix more h = reached_more r prefix more h
 
 -- a framer goes on while bytes come
-pub framer_more : (framer : Framer) (front more : List ℕ) → IsFramerOf framer front → IsFramerOf framer (front ++ more)
-framer_more framer front more h = some_more framer.reached front more h
+pub framer_more : (framer : Framer) (prefix more : List ℕ) → IsFramerOf framer prefix
+    → IsFramerOf framer (prefix ++ more)
+framer_more framer prefix more h = some_more framer.reached prefix more h

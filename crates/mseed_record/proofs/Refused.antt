@@ -11,97 +11,99 @@ use Rattle.mseed_record.specs.Chain.{type_at, next_at, Passes}
 use Rattle.mseed_record.specs.Record.{IsRecordBy, exponent_at}
 use Rattle.mseed_record.specs.Scan.{is_version3, at_1000, at_offset, DecidesFrom, Decides, version3, no_data, no_order}
 use Rattle.mseed_record.specs.Scan.{by_chain, HasNoRecord}
-use Rattle.mseed_record.proofs.Fronts.{Alike, alike_cut, byte_alike, number_alike, fixed_alike, order_alike}
+use Rattle.mseed_record.proofs.Prefixes.{Alike, alike_cut, byte_alike, number_alike, fixed_alike, order_alike}
 use Rattle.mseed_record.proofs.Framed.{passes_above, other_at, record_room}
 use Rattle.mseed_record.proofs.Passing.{none_within}
 
 -- the first byte of miniSEED 3 isn't one of a sequence number
-version3_first : (front : List ℕ) → is_version3 front ≡ true → (0 < length front) × (get_or front 0 0 ≡ 77)
+version3_first : (prefix : List ℕ) → is_version3 prefix ≡ true → (0 < length prefix) × (get_or prefix 0 0 ≡ 77)
 version3_first [] e = grind (arith, nat_tests)
-version3_first (c ∷ front) e = grind (arith, nat_tests)
+version3_first (c ∷ prefix) e = grind (arith, nat_tests)
 
 fixed_first : (b : List ℕ) → 0 < length b → has_fixed_bytes b ≡ true → get_or b 0 0 ≢ 77
 fixed_first [] long e = λ same. omega arith
 fixed_first (c ∷ b) long e = λ same. grind (arith, nat_tests)
 
--- what is refused at an offset that is far enough on is a blockette 1000 that lies within the front
-refused_at : (order : Order) (front : List ℕ) (low o : ℕ) (f : FrameFault) → 0 < low → low ≤ o
-    → at_offset order front low o ≡ Some (Not f) → (type_at order front o ≡ 1000) × (o + 8 ≤ length front)
-    × (at_1000 front o ≡ Not f)
-refused_at order front low o f positive on e = grind (arith, nat_tests)
+-- what is refused at an offset that is far enough on is a blockette 1000 that lies within the prefix
+refused_at : (order : Order) (prefix : List ℕ) (low o : ℕ) (f : FrameFault) → 0 < low → low ≤ o
+    → at_offset order prefix low o ≡ Some (Not f) → (type_at order prefix o ≡ 1000) × (o + 8 ≤ length prefix)
+    × (at_1000 prefix o ≡ Not f)
+refused_at order prefix low o f positive on e = grind (arith, nat_tests)
 
 -- a blockette 1000 isn't refused for its own length
-not_refused : (front : List ℕ) (o : ℕ) (f : FrameFault) → 7 ≤ exponent_at front o → exponent_at front o ≤ 20
-    → o + 8 ≤ 2 ^ exponent_at front o → at_1000 front o ≡ Not f → ⊥
-not_refused front o f low high inside e = grind (arith, nat_tests)
+not_refused : (prefix : List ℕ) (o : ℕ) (f : FrameFault) → 7 ≤ exponent_at prefix o → exponent_at prefix o ≤ 20
+    → o + 8 ≤ 2 ^ exponent_at prefix o → at_1000 prefix o ≡ Not f → ⊥
+not_refused prefix o f low high inside e = grind (arith, nat_tests)
 
--- Along one chain in the front and in the bytes, no step refuses what the bytes have.
-chain_goes_on : (order : Order) (b front : List ℕ) (low o : ℕ) (passed os : List ℕ) (last : ℕ) (f : FrameFault)
-    → Alike b front → 0 < low → low ≤ o → last + 8 ≤ length b → type_at order b last ≡ 1000
+-- Along one chain in the prefix and in the bytes, no step refuses what the bytes have.
+chain_goes_on : (order : Order) (b prefix : List ℕ) (low o : ℕ) (passed os : List ℕ) (last : ℕ) (f : FrameFault)
+    → Alike b prefix → 0 < low → low ≤ o → last + 8 ≤ length b → type_at order b last ≡ 1000
     → 7 ≤ exponent_at b last → exponent_at b last ≤ 20 → last + 8 ≤ 2 ^ exponent_at b last
-    → DecidesFrom order front low o passed (Not f) → Passes order b o os last → ⊥
-chain_goes_on order b front low o [] [] last f alike positive on room found low_enough high inside refused there =
-    let at_o = refused_at order front low o f positive on refused in
-    let exponent : get_or b (o + 6) 0 ≡ get_or front (o + 6) 0 =
-    byte_alike b front (o + 6) alike (omega (arith, there, room)) (omega (arith, at_o.1)) in
-    let same : exponent_at b last ≡ exponent_at front o = ap (λ (n : ℕ). exponent_at b n) (sym there) ∙ exponent in
-    not_refused front o f (rw same at low_enough) (rw same at high) (rw (same, sym there) at inside) at_o.2
-chain_goes_on order b front low o [] (q ∷ os) last f alike positive on room found low_enough high inside refused there =
-    let at_o = refused_at order front low o f positive on refused in
-    let further : next_at order b o ≤ last = passes_above order b (next_at order b o) os last there.3 in
-    let same : type_at order b o ≡ type_at order front o =
-    number_alike order 2 o b front alike (omega (arith, there.2, further, room)) (omega (arith, at_o.1)) in
-    there.1 (same ∙ at_o.0)
-chain_goes_on order b front low o (p ∷ passed) [] last f alike positive on room found low_enough high inside refused
+    → DecidesFrom order prefix low o passed (Not f) → Passes order b o os last → ⊥
+chain_goes_on order b prefix low o [] [] last f alike positive on room found low_enough high inside refused there =
+    let at_o = refused_at order prefix low o f positive on refused in
+    let exponent : get_or b (o + 6) 0 ≡ get_or prefix (o + 6) 0 =
+    byte_alike b prefix (o + 6) alike (omega (arith, there, room)) (omega (arith, at_o.1)) in
+    let same : exponent_at b last ≡ exponent_at prefix o = ap (λ (n : ℕ). exponent_at b n) (sym there) ∙ exponent in
+    not_refused prefix o f (rw same at low_enough) (rw same at high) (rw (same, sym there) at inside) at_o.2
+chain_goes_on order b prefix low o [] (q ∷ os) last f alike positive on room found low_enough high inside refused
     there =
-    let within : o + 4 ≤ length front = (none_within order front low o refused.1).1 in
-    let same : type_at order b o ≡ type_at order front o =
-    number_alike order 2 o b front alike (omega (arith, there, room)) (omega (arith, within)) in
-    other_at order front low o refused.1 (sym same ∙ (ap (λ (n : ℕ). type_at order b n) there ∙ found))
-chain_goes_on order b front low o (p ∷ passed) (q ∷ os) last f alike positive on room found low_enough high inside
-    refused there =
-    let within : o + 4 ≤ length front = (none_within order front low o refused.1).1 in
+    let at_o = refused_at order prefix low o f positive on refused in
     let further : next_at order b o ≤ last = passes_above order b (next_at order b o) os last there.3 in
-    let same : next_at order b o ≡ next_at order front o =
-    number_alike order 2 (o + 2) b front alike (omega (arith, there.2, further, room)) (omega (arith, within)) in
-    let rest : Passes order b (next_at order front o) os last =
+    let same : type_at order b o ≡ type_at order prefix o =
+    number_alike order 2 o b prefix alike (omega (arith, there.2, further, room)) (omega (arith, at_o.1)) in
+    there.1 (same ∙ at_o.0)
+chain_goes_on order b prefix low o (p ∷ passed) [] last f alike positive on room found low_enough high inside refused
+    there =
+    let within : o + 4 ≤ length prefix = (none_within order prefix low o refused.1).1 in
+    let same : type_at order b o ≡ type_at order prefix o =
+    number_alike order 2 o b prefix alike (omega (arith, there, room)) (omega (arith, within)) in
+    other_at order prefix low o refused.1 (sym same ∙ (ap (λ (n : ℕ). type_at order b n) there ∙ found))
+chain_goes_on order b prefix low o (p ∷ passed) (q ∷ os) last f alike positive on room found low_enough high inside
+    refused there =
+    let within : o + 4 ≤ length prefix = (none_within order prefix low o refused.1).1 in
+    let further : next_at order b o ≤ last = passes_above order b (next_at order b o) os last there.3 in
+    let same : next_at order b o ≡ next_at order prefix o =
+    number_alike order 2 (o + 2) b prefix alike (omega (arith, there.2, further, room)) (omega (arith, within)) in
+    let rest : Passes order b (next_at order prefix o) os last =
     subst (λ (n : ℕ). Passes order b n os last) same there.3 in
-    let on_there : o + 4 ≤ next_at order front o = subst (λ (n : ℕ). o + 4 ≤ n) same there.2 in
-    chain_goes_on order b front (o + 4) (next_at order front o) passed os last f alike (omega arith) on_there room
+    let on_there : o + 4 ≤ next_at order prefix o = subst (λ (n : ℕ). o + 4 ≤ n) same there.2 in
+    chain_goes_on order b prefix (o + 4) (next_at order prefix o) passed os last f alike (omega arith) on_there room
     found low_enough high inside refused.2 rest
 
-refused_by : (front b : List ℕ) (f : FrameFault) (order : Order) (os : List ℕ) (last : ℕ) → Alike b front
-    → IsRecordBy order os last b → Decides front (Not f) → ⊥
-refused_by front b f order os last alike r (version3 is) =
+refused_by : (prefix b : List ℕ) (f : FrameFault) (order : Order) (os : List ℕ) (last : ℕ) → Alike b prefix
+    → IsRecordBy order os last b → Decides prefix (Not f) → ⊥
+refused_by prefix b f order os last alike r (version3 is) =
     let room = record_room order os last b r in
-    let first = version3_first front is in
-    let same : get_or b 0 0 ≡ get_or front 0 0 = byte_alike b front 0 alike (omega (arith, room)) first.0 in
+    let first = version3_first prefix is in
+    let same : get_or b 0 0 ≡ get_or prefix 0 0 = byte_alike b prefix 0 alike (omega (arith, room)) first.0 in
     fixed_first b (omega (arith, room)) r.fixed (same ∙ first.1)
-refused_by front b f order os last alike r (no_data _ long other) =
+refused_by prefix b f order os last alike r (no_data _ long other) =
     let room = record_room order os last b r in
-    both_ways (has_fixed_bytes b) (fixed_alike b front alike (omega (arith, room)) long ∙ other) r.fixed
-refused_by front b f order os last alike r (no_order _ long _ none) =
+    both_ways (has_fixed_bytes b) (fixed_alike b prefix alike (omega (arith, room)) long ∙ other) r.fixed
+refused_by prefix b f order os last alike r (no_order _ long _ none) =
     let room = record_room order os last b r in
-    let no : None ≡ Some order = sym none ∙ (sym (order_alike b front alike (omega (arith, room)) long) ∙ r.order_is) in
+    let no : None ≡ Some order =
+    sym none ∙ (sym (order_alike b prefix alike (omega (arith, room)) long) ∙ r.order_is) in
     grind arith
-refused_by front b f order os last alike r (by_chain found passed answer _ long _ dated refused) =
+refused_by prefix b f order os last alike r (by_chain found passed answer _ long _ dated refused) =
     let room = record_room order os last b r in
     let one : Some found ≡ Some order =
-    sym dated ∙ (sym (order_alike b front alike (omega (arith, room)) long) ∙ r.order_is) in
+    sym dated ∙ (sym (order_alike b prefix alike (omega (arith, room)) long) ∙ r.order_is) in
     let same : found ≡ order = grind arith in
-    let start : blockette_at order b ≡ blockette_at order front =
-    number_alike order 2 46 b front alike (omega (arith, room)) (omega (arith, long)) in
-    let there : Passes order b (blockette_at order front) os last =
+    let start : blockette_at order b ≡ blockette_at order prefix =
+    number_alike order 2 46 b prefix alike (omega (arith, room)) (omega (arith, long)) in
+    let there : Passes order b (blockette_at order prefix) os last =
     subst (λ (n : ℕ). Passes order b n os last) start r.chain.others in
-    let low : 48 ≤ blockette_at order front = subst (λ (n : ℕ). 48 ≤ n) start r.chain.low in
-    let steps : DecidesFrom order front 48 (blockette_at order front) passed (Not f) =
-    subst (λ (chosen : Order). DecidesFrom chosen front 48 (blockette_at chosen front) passed (Not f)) same
+    let low : 48 ≤ blockette_at order prefix = subst (λ (n : ℕ). 48 ≤ n) start r.chain.low in
+    let steps : DecidesFrom order prefix 48 (blockette_at order prefix) passed (Not f) =
+    subst (λ (chosen : Order). DecidesFrom chosen prefix 48 (blockette_at chosen prefix) passed (Not f)) same
     refused in
-    chain_goes_on order b front 48 (blockette_at order front) passed os last f alike (omega arith) low room.1
+    chain_goes_on order b prefix 48 (blockette_at order prefix) passed os last f alike (omega arith) low room.1
     r.chain.found r.exponent_low r.exponent_high r.inside steps there
 
--- refused for good: no bytes that follow make a record of such a front
-pub refused : (front : List ℕ) (f : FrameFault) → Decides front (Not f) → HasNoRecord front
-refused front f decided more k whole =
-    refused_by front (take k (front ++ more)) f whole.0 whole.1.0 whole.1.1.0 (alike_cut front more k) whole.1.1.1
+-- refused for good: no bytes that follow make a record of such a prefix
+pub refused : (prefix : List ℕ) (f : FrameFault) → Decides prefix (Not f) → HasNoRecord prefix
+refused prefix f decided more k whole =
+    refused_by prefix (take k (prefix ++ more)) f whole.0 whole.1.0 whole.1.1.0 (alike_cut prefix more k) whole.1.1.1
     decided

@@ -3,7 +3,7 @@ ghost use Rattle.std.specs.Prelude.{◌≡◌};
 
 use mseed_time::LeapStep;
 
-/// Why the bytes at the front of an input begin no record, by the first framing step that applies. No
+/// Why the bytes at the beginning of an input begin no record, by the first framing step that applies. No
 /// bytes that may come can make one of them.
 #[derive(Clone, Copy, Debug, PartialEq, Eq)]
 pub enum FrameFault {
@@ -23,7 +23,7 @@ pub enum FrameFault {
     Version3,
 }
 
-/// What the front of an input is.
+/// What the prefix of an input is.
 #[derive(Clone, Copy, Debug, PartialEq, Eq)]
 pub enum Scan {
     /// So many bytes are needed before it can be said.

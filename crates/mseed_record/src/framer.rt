@@ -33,85 +33,85 @@ pub(crate) struct Reached {
 impl Framer {
     /// A framer that was shown nothing yet.
     pub fn new() -> Framer
-        ensures { (front : List ℕ) → IsFramerOf result front }
+        ensures { (prefix : List ℕ) → IsFramerOf result prefix }
     {
         Framer { reached: None }
     }
 
-    /// Says of a front what [`scan`](crate::scan) says of it, and looks only at what it didn't pass before.
-    /// The front begins with the bytes of the looks before.
-    pub fn look(&mut self, front: &[u8]) -> Scan
-        requires { IsFramerOf self.old front.now }
-        ensures goes_on { (more : List ℕ) → IsFramerOf self.new (front.now ++ more) }
+    /// Says of a prefix what [`scan`](crate::scan) says of it, and looks only at what it didn't pass before.
+    /// The prefix begins with the bytes of the looks before.
+    pub fn look(&mut self, prefix: &[u8]) -> Scan
+        requires { IsFramerOf self.old prefix.now }
+        ensures goes_on { (more : List ℕ) → IsFramerOf self.new (prefix.now ++ more) }
 
         // It is kept where the answer was decided: at an offset of the chain, or nowhere while none begins.
-        ensures stands { StandsAt self.new front.now result }
-        ensures decides { Decides front.now result }
-        ensures record { (k : ℕ) → result ≡ Record k → (k ≤ length front.now) × IsRecord (take k front.now) }
-        ensures bound { (k : ℕ) → result ≡ Need k → (length front.now < k) × (k ≤ 2 ^ 20) }
+        ensures stands { StandsAt self.new prefix.now result }
+        ensures decides { Decides prefix.now result }
+        ensures record { (k : ℕ) → result ≡ Record k → (k ≤ length prefix.now) × IsRecord (take k prefix.now) }
+        ensures bound { (k : ℕ) → result ≡ Need k → (length prefix.now < k) × (k ≤ 2 ^ 20) }
     {
         let from = match self.reached {
             Some(reached) => reached,
-            None => match chain_of(front) {
+            None => match chain_of(prefix) {
                 Ok(begin) => begin,
                 Err(answer) => return answer,
             },
         };
-        let (reached, answer) = go_along(front, from);
+        let (reached, answer) = go_along(prefix, from);
         self.reached = Some(reached);
         answer
     }
 }
 
 /// Where the chain begins, or what is decided before it.
-fn chain_of(front: &[u8]) -> Result<Reached, Scan>
-    ensures ok { IfOk result (λ begin. HasReached begin front.now) }
-    ensures err { IfErr result (λ answer. Decides front.now answer) }
-    ensures none { OnErr result (HasNoChain front.now) }
+fn chain_of(prefix: &[u8]) -> Result<Reached, Scan>
+    ensures ok { IfOk result (λ begin. HasReached begin prefix.now) }
+    ensures err { IfErr result (λ answer. Decides prefix.now answer) }
+    ensures none { OnErr result (HasNoChain prefix.now) }
 {
-    if front.starts_with(b"MS\x03") {
+    if prefix.starts_with(b"MS\x03") {
         return Err(Scan::Not(FrameFault::Version3));
     }
-    if front.len() < HEADER {
+    if prefix.len() < HEADER {
         return Err(Scan::Need(HEADER));
     }
-    if !has_fixed_bytes(front) {
+    if !has_fixed_bytes(prefix) {
         return Err(Scan::Not(FrameFault::NotData));
     }
-    match order_of(front) {
+    match order_of(prefix) {
         Some(order) => Ok(Reached {
             order,
             low: HEADER,
-            offset: usize::from(order.u16_at(front, 46)),
+            offset: usize::from(order.u16_at(prefix, 46)),
         }),
         None => Err(Scan::Not(FrameFault::Order)),
     }
 }
 
 /// Goes along the chain of blockettes up to the first 1000, or to where bytes are missing.
-fn go_along(front: &[u8], from: Reached) -> (Reached, Scan)
-    requires { HasReached from front.now }
-    ensures reached { HasReached result.0 front.now }
-    ensures stands { at_offset result.0.order front.now result.0.low result.0.offset ≡ Some result.1 }
-    ensures decides { Decides front.now result.1 }
+fn go_along(prefix: &[u8], from: Reached) -> (Reached, Scan)
+    requires { HasReached from prefix.now }
+    ensures reached { HasReached result.0 prefix.now }
+    ensures stands { at_offset result.0.order prefix.now result.0.low result.0.offset ≡ Some result.1 }
+    ensures decides { Decides prefix.now result.1 }
 {
     let order = from.order;
     let mut low = from.low;
     let mut offset = from.offset;
     'chain: loop {
-        if let Some(answer) = at_offset(front, order, low, offset) {
+        if let Some(answer) = at_offset(prefix, order, low, offset) {
             return (Reached { order, low, offset }, answer);
         }
         low = offset + 4;
-        offset = usize::from(order.u16_at(front, offset + 2));
+        offset = usize::from(order.u16_at(prefix, offset + 2));
     }
 }
 
 /// What is decided at an offset that a header or a blockette names; `None` where the blockette there is
 /// of another type.
-fn at_offset(front: &[u8], order: Order, low: usize, offset: usize) -> Option<Scan>
+fn at_offset(prefix: &[u8], order: Order, low: usize, offset: usize) -> Option<Scan>
     requires { offset < 2 ^ 16 }
-    ensures { result ≡ at_offset order front.now low offset }
+    ensures { result ≡ at_offset order prefix.now low offset }
 {
     if offset == 0 {
         return Some(Scan::Not(FrameFault::No1000));
@@ -119,31 +119,31 @@ fn at_offset(front: &[u8], order: Order, low: usize, offset: usize) -> Option<Sc
     if offset < low {
         return Some(Scan::Not(FrameFault::Chain));
     }
-    if front.len() < offset + 4 {
+    if prefix.len() < offset + 4 {
         return Some(Scan::Need(offset + 4));
     }
-    if order.u16_at(front, offset) != 1000 {
+    if order.u16_at(prefix, offset) != 1000 {
         return None;
     }
-    if front.len() < offset + 8 {
+    if prefix.len() < offset + 8 {
         return Some(Scan::Need(offset + 8));
     }
-    Some(at_1000(front, offset))
+    Some(at_1000(prefix, offset))
 }
 
 /// What the first blockette 1000 decides.
-fn at_1000(front: &[u8], offset: usize) -> Scan
-    requires within { offset + 8 ≤ length front.now }
-    ensures { result ≡ at_1000 front.now offset }
+fn at_1000(prefix: &[u8], offset: usize) -> Scan
+    requires within { offset + 8 ≤ length prefix.now }
+    ensures { result ≡ at_1000 prefix.now offset }
 {
-    let exponent = front[offset + 6];
+    let exponent = prefix[offset + 6];
     if !(7..=20).contains(&exponent) {
         return Scan::Not(FrameFault::Length(exponent));
     }
     let record = 1 << exponent;
     if record < offset + 8 {
         Scan::Not(FrameFault::Outside)
-    } else if front.len() < record {
+    } else if prefix.len() < record {
         Scan::Need(record)
     } else {
         Scan::Record(record)

@@ -15,18 +15,19 @@ use crate::framer::Framer;
 /// `Need` names how many bytes there have to be in all before more can be said, `Not` the step by which
 /// no bytes that may come can help. Each blockette up to the first 1000 is looked at once; a [`Framer`]
 /// goes on along them while more bytes come.
-pub fn scan(front: &[u8]) -> Scan
-    ensures decides { Decides front.now result }
-    ensures one_answer { (other : Scan) → Decides front.now other → other ≡ result }
-    ensures record { (k : ℕ) → (result ≡ Record k) ↔ ((k ≤ length front.now) × IsRecord (take k front.now)) }
-    ensures only { (k : ℕ) → result ≡ Record k → (j : ℕ) → j ≤ length front.now → IsRecord (take j front.now) → j ≡ k }
-    ensures refused { (f : FrameFault) → result ≡ Not f → HasNoRecord front.now }
-    ensures needed { (k : ℕ) → result ≡ Need k → Needs front.now k }
+pub fn scan(prefix: &[u8]) -> Scan
+    ensures decides { Decides prefix.now result }
+    ensures one_answer { (other : Scan) → Decides prefix.now other → other ≡ result }
+    ensures record { (k : ℕ) → (result ≡ Record k) ↔ ((k ≤ length prefix.now) × IsRecord (take k prefix.now)) }
+    ensures only { (k : ℕ) → result ≡ Record k → (j : ℕ) → j ≤ length prefix.now → IsRecord (take j prefix.now)
+        → j ≡ k }
+    ensures refused { (f : FrameFault) → result ≡ Not f → HasNoRecord prefix.now }
+    ensures needed { (k : ℕ) → result ≡ Need k → Needs prefix.now k }
 
     // What is asked for is more than there is, no more than the longest record has, and no more than any record
     // that may come has.
-    ensures bound { (k : ℕ) → result ≡ Need k → (length front.now < k) × (k ≤ 2 ^ 20) }
-    ensures least { (k : ℕ) → result ≡ Need k → HasNoShorter front.now k }
+    ensures bound { (k : ℕ) → result ≡ Need k → (length prefix.now < k) × (k ≤ 2 ^ 20) }
+    ensures least { (k : ℕ) → result ≡ Need k → HasNoShorter prefix.now k }
 {
-    Framer::new().look(front)
+    Framer::new().look(prefix)
 }

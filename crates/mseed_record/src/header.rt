@@ -99,13 +99,13 @@ pub fn is_blank(byte: u8) -> bool
 }
 
 /// The byte order of a header.
-pub(crate) fn order_of(front: &[u8]) -> Option<Order>
-    requires { 48 ≤ length front.now }
-    ensures { result ≡ order_of front.now }
+pub(crate) fn order_of(prefix: &[u8]) -> Option<Order>
+    requires { 48 ≤ length prefix.now }
+    ensures { result ≡ order_of prefix.now }
 {
-    if is_dated(front, Order::Big) {
+    if is_dated(prefix, Order::Big) {
         Some(Order::Big)
-    } else if is_dated(front, Order::Little) {
+    } else if is_dated(prefix, Order::Little) {
         Some(Order::Little)
     } else {
         None
@@ -113,10 +113,10 @@ pub(crate) fn order_of(front: &[u8]) -> Option<Order>
 }
 
 /// Whether the start has a year and a day in this order.
-fn is_dated(front: &[u8], order: Order) -> bool
-    requires { 48 ≤ length front.now }
-    ensures { result ≡ is_dated order front.now }
+fn is_dated(prefix: &[u8], order: Order) -> bool
+    requires { 48 ≤ length prefix.now }
+    ensures { result ≡ is_dated order prefix.now }
 {
-    let (year, day) = (order.u16_at(front, 20), order.u16_at(front, 22));
+    let (year, day) = (order.u16_at(prefix, 20), order.u16_at(prefix, 22));
     (1900..=2100).contains(&year) && (1..=366).contains(&day)
 }

@@ -61,7 +61,7 @@ impl<'a> RecordView<'a> {
     /// `Not` where no bytes that may come make a record of them, `Short` where more are needed.
     pub fn of(bytes: &'a [u8]) -> Result<RecordView<'a>, ViewFault>
         ensures ok { IsOk result ↔ ((k : ℕ) × ((k ≤ length bytes.now) × IsRecord (take k bytes.now))) }
-        ensures front { IfOk result (λ r. (view_of r).bytes ≡ take (length (view_of r).bytes) bytes.now) }
+        ensures prefix { IfOk result (λ r. (view_of r).bytes ≡ take (length (view_of r).bytes) bytes.now) }
         ensures view { IfOk result (λ r. IsView (view_of r)) }
         ensures only { IfOk result (λ r. (v : View) → IsView v → v.bytes ≡ (view_of r).bytes → v ≡ view_of r) }
         ensures decides { Decides bytes.now (scan_of result) }

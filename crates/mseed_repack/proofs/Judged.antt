@@ -1,5 +1,6 @@
 -- Channels that are judged, and what is found of their series.
-use Rattle.std.proofs.Common.{◌≡◌, ℕ, ℤ, ◌+◌, ◌≤◌, ◌<◌, List, [], ◌∷◌, length, take, get_or, refl, sym, ap, subst, ◌∙◌, arith, IsTrue, Option, Some, Result, Ok, Err, OnOk, IfErr, All}
+use Rattle.std.proofs.Common.{◌≡◌, ℕ, ℤ, ◌+◌, ◌≤◌, ◌<◌, List, [], ◌∷◌, length, take, get_or, refl, sym, ap, subst, ◌∙◌}
+use Rattle.std.proofs.Common.{arith, IsTrue, Option, Some, Result, Ok, Err, OnOk, IfErr, All}
 use Rattle.std.specs.Map.{lookup}
 use Rattle.std.proofs.lemmas.Bool.{false≢true}
 use Rattle.std.proofs.lemmas.List.{length-take-le}
@@ -7,7 +8,7 @@ use Rattle.std.proofs.lemmas.List.Elements.{All-from_recursion, All-more, All-we
 use Rattle.mseed_time.specs.declared.outcome.LeapStep.{LeapStep}
 use Rattle.mseed_time.specs.declared.rate.Rate.{Rate}
 use Rattle.mseed_record.specs.View.{View}
-use Rattle.mseed_stream.specs.Device.{Said}
+use Rattle.mseed_stream.specs.Device.{BytesWritten}
 use Rattle.mseed_steim.specs.Reading.{count_of}
 use Rattle.mseed_audit.specs.Channels.{Added, Placed, added_from, records_of, sample_count, same_key, views_in}
 use Rattle.mseed_audit.specs.Series.{Trace, AreSteps, IsSeriesOf}
@@ -19,20 +20,26 @@ use Rattle.mseed_audit.proofs.Behind.{views_are}
 use Rattle.mseed_pack.specs.Fitting.{Fits, IsMisfit}
 use Rattle.mseed_pack.specs.declared.fault.PackFault.{PackFault}
 use Rattle.mseed_pack.specs.declared.options.Options.{Options}
-use Rattle.mseed_repack.specs.Reading.{AreOf, channel_in, samples_of, samples_said}
-use Rattle.mseed_repack.specs.Repack.{ArePackedInto, AreContinuous, CanBePacked, CantBePacked, Channel, Wrote, records_in}
+use Rattle.mseed_repack.specs.Reading.{AreOf, channel_in, samples_of, samples_written}
+use Rattle.mseed_repack.specs.Repack.{ArePackedInto, AreContinuous, CanBePacked, CantBePacked, Channel, Wrote}
+use Rattle.mseed_repack.specs.Repack.{records_in}
 use Rattle.mseed_repack.specs.Repacking.{AreJudged, FailsToFit, FailsToPack, FailsToPackAnew, IsJudged, IsPackedAnew}
 use Rattle.mseed_repack.specs.declared.fault.RepackFault.{RepackFault}
-use Rattle.mseed_repack.specs.declared.fault.RepackFault.TheVariants.{Stream, Broken as BrokenChannel, Misfit, Write, Memory}
+use Rattle.mseed_repack.specs.declared.fault.RepackFault.TheVariants.{Stream, Broken as BrokenChannel, Misfit, Write}
+use Rattle.mseed_repack.specs.declared.fault.RepackFault.TheVariants.{Memory}
 use Rattle.mseed_repack.proofs.Repacks.{exact_each, found}
 
-verdict_each : (added : List Added) (cs : List Channel) → AreVerdicts added cs → All (λ (c : Channel). IsVerdict c.1 (records_of c.0 added)) cs
+verdict_each : (added : List Added) (cs : List Channel) → AreVerdicts added cs
+    → All (λ (c : Channel). IsVerdict c.1 (records_of c.0 added)) cs
 verdict_each added cs are =
-    All-weaker (λ (c : Channel). lookup (same_key c.0) cs ≡ Some c.1) (λ (c : Channel). IsVerdict c.1 (records_of c.0 added))
-    (λ c e. subst (λ (o : Option Verdict). IsVerdictAt o (records_of c.0 added)) e (are.each c.0)) cs (All-from_recursion (λ (c : Channel). lookup (same_key c.0) cs ≡ Some c.1) cs (found cs are.ascending))
+    All-weaker (λ (c : Channel). lookup (same_key c.0) cs ≡ Some c.1)
+    (λ (c : Channel). IsVerdict c.1 (records_of c.0 added))
+    (λ c e. subst (λ (o : Option Verdict). IsVerdictAt o (records_of c.0 added)) e (are.each c.0)) cs
+    (All-from_recursion (λ (c : Channel). lookup (same_key c.0) cs ≡ Some c.1) cs (found cs are.ascending))
 
 -- channels that are all continuous
-pub judged_each : (views : List View) (cs : List Channel) → AreVerdicts (added_from 0 views) cs → AreContinuous views cs → AreJudged views cs
+pub judged_each : (views : List View) (cs : List Channel) → AreVerdicts (added_from 0 views) cs
+    → AreContinuous views cs → AreJudged views cs
 judged_each views cs are continuous = λ k d lt. record {
   verdict = verdict_each (added_from 0 views) cs are k d lt;
   says = (exact_each (added_from 0 views) cs are k d lt).1 (continuous k d lt);
@@ -40,58 +47,77 @@ judged_each views cs are continuous = λ k d lt. record {
 }
 
 -- what holds of each channel holds of the one at an index
-pub at_each : (P : Channel → Type 0) (cs : List Channel) (i : ℕ) (c : Channel) → i < length cs → c ≡ get_or cs i c → All P cs → P c
+pub at_each : (P : Channel → Type 0) (cs : List Channel) (i : ℕ) (c : Channel) → i < length cs → c ≡ get_or cs i c
+    → All P cs → P c
 at_each P cs i c lt is all = subst P (sym is) (all i c lt)
 
 counted : (ps : List Placed) → sample_count ps ≡ samples_of (views_in ps)
 counted [] = refl
 counted (p ∷ ps) = ap (λ (n : ℕ). count_of p.view + n) (counted ps)
 
-said_by : (v : Verdict) (ps : List Placed) → IsVerdict v ps → IsTrue (says_continuous v) → samples_of (views_in ps) ≡ samples_said v
-said_by (Continuous start rate records samples) ps verdict says =
+written_by : (v : Verdict) (ps : List Placed) → IsVerdict v ps → IsTrue (says_continuous v)
+    → samples_of (views_in ps) ≡ samples_written v
+written_by (Continuous start rate records samples) ps verdict says =
     let first : Placed = verdict.0 in
     let rest : List Placed = verdict.1.0 in
-    ap (λ (qs : List Placed). samples_of (views_in qs)) verdict.1.1.0 ∙ sym (counted (first ∷ rest)) ∙ sym verdict.1.1.1.samples_is
-said_by (Broken first count) ps verdict says = absurd (false≢true says)
+    ap (λ (qs : List Placed). samples_of (views_in qs)) verdict.1.1.0 ∙ sym (counted (first ∷ rest))
+    ∙ sym verdict.1.1.1.samples_is
+written_by (Broken first count) ps verdict says = absurd (false≢true says)
 
 -- a channel has as many samples as the verdict says
-pub said_is : (views : List View) (c : Channel) → IsJudged views c → samples_of (channel_in c.0 views) ≡ samples_said c.1
-said_is views c judged = ap samples_of (sym (views_are c.0 views)) ∙ said_by c.1 (records_of c.0 (added_from 0 views)) judged.verdict judged.says
+pub written_is : (views : List View) (c : Channel) → IsJudged views c
+    → samples_of (channel_in c.0 views) ≡ samples_written c.1
+written_is views c judged = ap samples_of (sym (views_are c.0 views))
+    ∙ written_by c.1 (records_of c.0 (added_from 0 views)) judged.verdict judged.says
 
 -- the series of a channel, with the verdict's start and rate
-pub series_by : (views : List View) (key : List ℕ) (v : Verdict) (start : ℤ) (rate : Rate) (records samples : ℕ) (xs : List ℤ) (ss : List (ℕ × LeapStep)) → v ≡ Continuous start rate records samples
+pub series_by : (views : List View) (key : List ℕ) (v : Verdict) (start : ℤ) (rate : Rate) (records samples : ℕ)
+    (xs : List ℤ) (ss : List (ℕ × LeapStep)) → v ≡ Continuous start rate records samples
     → IsVerdict v (records_of key (added_from 0 views)) → AreOf key (channel_in key views) xs ss
     → IsSeriesOf (record { codes = key; start = start; rate = rate; samples = xs; steps = ss }) (records_in views key)
 series_by views key v start rate records samples xs ss is verdict are =
-    series_of key views start rate records samples (record { codes = key; start = start; rate = rate; samples = xs; steps = ss })
+    series_of key views start rate records samples (record {
+      codes = key;
+      start = start;
+      rate = rate;
+      samples = xs;
+      steps = ss;
+    })
     (subst (λ (w : Verdict). IsVerdict w (records_of key (added_from 0 views))) is verdict) (are start rate)
 
 -- the leap seconds of the samples in front
-pub front_places : (m : ℕ) (xs ys : List ℤ) (ss ts : List (ℕ × LeapStep)) → m ≤ length xs → ys ≡ take m xs → ts ≡ ss → AreSteps m ss → AreSteps (length ys) ts
-front_places m xs ys ss ts inside e f h =
+pub prefix_places : (m : ℕ) (xs ys : List ℤ) (ss ts : List (ℕ × LeapStep)) → m ≤ length xs → ys ≡ take m xs → ts ≡ ss
+    → AreSteps m ss → AreSteps (length ys) ts
+prefix_places m xs ys ss ts inside e f h =
     let long : m ≡ length ys = sym (ap (λ (zs : List ℤ). length zs) e ∙ length-take-le m xs inside) in
     subst (λ (us : List (ℕ × LeapStep)). AreSteps (length ys) us) (sym f) (subst (λ (n : ℕ). AreSteps n ss) long h)
 
-pub read_as : (key : List ℕ) (vs : List View) (xs ys : List ℤ) (ss ts : List (ℕ × LeapStep)) → ys ≡ xs → ts ≡ ss → AreOf key vs xs ss → AreOf key vs ys ts
+pub read_as : (key : List ℕ) (vs : List View) (xs ys : List ℤ) (ss ts : List (ℕ × LeapStep)) → ys ≡ xs → ts ≡ ss
+    → AreOf key vs xs ss → AreOf key vs ys ts
 read_as key vs xs ys ss ts e f h =
-    subst (λ (us : List (ℕ × LeapStep)). AreOf key vs ys us) (sym f) (subst (λ (zs : List ℤ). AreOf key vs zs ss) (sym e) h)
+    subst (λ (us : List (ℕ × LeapStep)). AreOf key vs ys us) (sym f)
+    (subst (λ (zs : List ℤ). AreOf key vs zs ss) (sym e) h)
 
-pub fits_as : {U : Type 0} (r : Result U PackFault) (o : Options) (views : List View) (key : List ℕ) (s : Trace) → IsSeriesOf s (records_in views key) → OnOk r (Fits s o) → OnOk r (CanBePacked o views key)
+pub fits_as : {U : Type 0} (r : Result U PackFault) (o : Options) (views : List View) (key : List ℕ) (s : Trace)
+    → IsSeriesOf s (records_in views key) → OnOk r (Fits s o) → OnOk r (CanBePacked o views key)
 fits_as (Ok u) o views key s series fits = record { trace = s; series = series; fits = fits }
 fits_as (Err e) o views key s series fits = tt
 
-pub misfits_as : {U : Type 0} (r : Result U PackFault) (o : Options) (views : List View) (key : List ℕ) (s : Trace) → IsSeriesOf s (records_in views key) → IfErr r (λ f. IsMisfit s o f)
+pub misfits_as : {U : Type 0} (r : Result U PackFault) (o : Options) (views : List View) (key : List ℕ) (s : Trace)
+    → IsSeriesOf s (records_in views key) → IfErr r (λ f. IsMisfit s o f)
     → IfErr r (λ f. CantBePacked o views f key)
 misfits_as (Ok u) o views key s series misfit = tt
 misfits_as (Err f) o views key s series misfit = record { trace = s; series = series; misfit = misfit }
 
 -- how it ends, by its two steps
-pub anew_ok : {U : Type 0} (r : Result U RepackFault) (o : Options) (views : List View) (cs : List Channel) (old new : Said) → All (λ (c : Channel). CanBePacked o views c.0) cs
+pub anew_ok : {U : Type 0} (r : Result U RepackFault) (o : Options) (views : List View) (cs : List Channel)
+    (old new : BytesWritten) → All (λ (c : Channel). CanBePacked o views c.0) cs
     → OnOk r (Wrote (ArePackedInto o views cs) 0 old new) → OnOk r (IsPackedAnew o views cs old new)
 anew_ok (Ok u) o views cs old new fit wrote = record { fit = fit; wrote = wrote }
 anew_ok (Err e) o views cs old new fit wrote = tt
 
-pub anew_err : {U : Type 0} (r : Result U RepackFault) (o : Options) (views : List View) (cs : List Channel) (old new : Said) → All (λ (c : Channel). CanBePacked o views c.0) cs
+pub anew_err : {U : Type 0} (r : Result U RepackFault) (o : Options) (views : List View) (cs : List Channel)
+    (old new : BytesWritten) → All (λ (c : Channel). CanBePacked o views c.0) cs
     → IfErr r (λ f. FailsToPack o views cs old new f) → IfErr r (λ f. FailsToPackAnew o views cs old new f)
 anew_err (Ok u) o views cs old new fit fails = tt
 anew_err (Err (Stream f)) o views cs old new fit fails = fails
@@ -100,17 +126,21 @@ anew_err (Err (Misfit k f)) o views cs old new fit fails = absurd fails
 anew_err (Err Write) o views cs old new fit fails = (fit, fails)
 anew_err (Err Memory) o views cs old new fit fails = absurd fails
 
-pub misfit_anew : (fault : RepackFault) (o : Options) (views : List View) (cs : List Channel) (said : Said) → FailsToFit o views cs fault → FailsToPackAnew o views cs said said fault
-misfit_anew (Stream f) o views cs said fails = fails
-misfit_anew (BrokenChannel k) o views cs said fails = fails
-misfit_anew (Misfit k f) o views cs said fails = (fails, refl)
-misfit_anew Write o views cs said fails = absurd fails
-misfit_anew Memory o views cs said fails = absurd fails
+pub misfit_anew : (fault : RepackFault) (o : Options) (views : List View) (cs : List Channel) (written : BytesWritten)
+    → FailsToFit o views cs fault → FailsToPackAnew o views cs written written fault
+misfit_anew (Stream f) o views cs written fails = fails
+misfit_anew (BrokenChannel k) o views cs written fails = fails
+misfit_anew (Misfit k f) o views cs written fails = (fails, refl)
+misfit_anew Write o views cs written fails = absurd fails
+misfit_anew Memory o views cs written fails = absurd fails
 
 -- room for the samples of the channels so far
-pub room_more : (cs : List Channel) (i most next : ℕ) (c : Channel) → i < length cs → c ≡ get_or cs i c → most ≤ next → samples_said c.1 ≤ next
-    → All (λ (d : Channel). samples_said d.1 ≤ most) (take i cs) → All (λ (d : Channel). samples_said d.1 ≤ next) (take (i + 1) cs)
+pub room_more : (cs : List Channel) (i most next : ℕ) (c : Channel) → i < length cs → c ≡ get_or cs i c → most ≤ next
+    → samples_written c.1 ≤ next
+    → All (λ (d : Channel). samples_written d.1 ≤ most) (take i cs)
+    → All (λ (d : Channel). samples_written d.1 ≤ next) (take (i + 1) cs)
 room_more cs i most next c lt is le one before =
-    All-more (λ (d : Channel). samples_said d.1 ≤ next) cs i c lt
-    (All-weaker (λ (d : Channel). samples_said d.1 ≤ most) (λ (d : Channel). samples_said d.1 ≤ next) (λ d h. omega (arith, h, le)) (take i cs) before)
-    (subst (λ (d : Channel). samples_said d.1 ≤ next) is one)
+    All-more (λ (d : Channel). samples_written d.1 ≤ next) cs i c lt
+    (All-weaker (λ (d : Channel). samples_written d.1 ≤ most) (λ (d : Channel). samples_written d.1 ≤ next)
+    (λ d h. omega (arith, h, le)) (take i cs) before)
+    (subst (λ (d : Channel). samples_written d.1 ≤ next) is one)

@@ -1,5 +1,6 @@
 -- Samples of records that are near one another.
-use Rattle.std.proofs.Common.{◌≡◌, ℕ, ◌+◌, ◌-◌, List, [], ◌∷◌, ◌++◌, length, slice_get, refl, sym, subst, ◌∙◌, arith, ℤ, pos, ◌-ℤ◌, Some, All}
+use Rattle.std.proofs.Common.{◌≡◌, ℕ, ◌+◌, ◌-◌, List, [], ◌∷◌, ◌++◌, length, slice_get, refl, sym, subst, ◌∙◌, arith, ℤ}
+use Rattle.std.proofs.Common.{pos, ◌-ℤ◌, Some, All}
 use Rattle.std.specs.List.{AllByRecursion}
 use Rattle.std.proofs.lemmas.Int.{ints}
 use Rattle.std.proofs.lemmas.List.Elements.{All-from_recursion}
@@ -22,7 +23,8 @@ use Rattle.mseed_repack.specs.declared.outline.Nearness.TheVariants.{Near}
 zero_near : IsWithin 30 (pos 0)
 zero_near = (omega (arith, ints), omega (arith, ints))
 
-from_near : (before : ℤ) (ss : List ℤ) → AreNearFrom before ss → AllByRecursion (IsWithin 30) (differences_from before ss)
+from_near : (before : ℤ) (ss : List ℤ) → AreNearFrom before ss
+    → AllByRecursion (IsWithin 30) (differences_from before ss)
 from_near before [] h = tt
 from_near before (s ∷ ss) h = (h.0, from_near s ss h.1)
 
@@ -31,21 +33,27 @@ pub near_by : (ss : List ℤ) → AreNeighboursNear ss → AreNear ss
 near_by [] h = tt
 near_by (s ∷ ss) h = (zero_near, from_near s ss h)
 
-begins_within : (order : Order) (width : Width) (bytes : List ℕ) (place : ℕ) (zs : List ℤ) → BeginsWith order (bytes_of width) bytes place zs → AllByRecursion (IsWithin 32) zs
+begins_within : (order : Order) (width : Width) (bytes : List ℕ) (place : ℕ) (zs : List ℤ)
+    → BeginsWith order (bytes_of width) bytes place zs → AllByRecursion (IsWithin 32) zs
 begins_within order width bytes place [] h = tt
-begins_within order Two bytes place (z ∷ zs) h = (within_wider 16 32 z (omega arith) h.1, begins_within order Two bytes (place + 2) zs h.3)
+begins_within order Two bytes place (z ∷ zs) h =
+    (within_wider 16 32 z (omega arith) h.1, begins_within order Two bytes (place + 2) zs h.3)
 begins_within order Four bytes place (z ∷ zs) h = (h.1, begins_within order Four bytes (place + 4) zs h.3)
 
-payload_within : (form : Form) (order : Order) (payload : List ℕ) (n : ℕ) (ss : List ℤ) → IsPayloadReading form order payload n ss → All (IsWithin 32) ss
-payload_within (Integers width) order payload n ss h = All-from_recursion (IsWithin 32) ss (begins_within order width payload 0 ss h.1)
+payload_within : (form : Form) (order : Order) (payload : List ℕ) (n : ℕ) (ss : List ℤ)
+    → IsPayloadReading form order payload n ss → All (IsWithin 32) ss
+payload_within (Integers width) order payload n ss h =
+    All-from_recursion (IsWithin 32) ss (begins_within order width payload 0 ss h.1)
 payload_within (Frames scheme) order payload n ss h = h.2
 
 -- samples have 32 bits
 pub whole_within : (v : View) (s : List ℤ) → IsWhole v s → All (IsWithin 32) s
 whole_within v s whole = payload_within whole.0.form v.payload_order (payload_of v) (count_of v) s whole.0.spelled
 
-behind_near : (before last : ℤ) (xs ys : List ℤ) → AllByRecursion (IsWithin 30) (differences_from before xs) → last_behind before xs ≡ last
-    → AllByRecursion (IsWithin 30) (differences_from last ys) → AllByRecursion (IsWithin 30) (differences_from before (xs ++ ys))
+behind_near : (before last : ℤ) (xs ys : List ℤ) → AllByRecursion (IsWithin 30) (differences_from before xs)
+    → last_behind before xs ≡ last
+    → AllByRecursion (IsWithin 30) (differences_from last ys)
+    → AllByRecursion (IsWithin 30) (differences_from before (xs ++ ys))
 behind_near before last [] ys a e b = subst (λ (z : ℤ). AllByRecursion (IsWithin 30) (differences_from z ys)) (sym e) b
 behind_near before last (x ∷ xs) ys a e b = (a.0, behind_near x last xs ys a.1 e b)
 
@@ -63,17 +71,21 @@ ends_on ends x xs h =
     last_at x xs ends.last (subst (λ (n : ℕ). slice_get (x ∷ xs) n ≡ Some ends.last) at h.1)
 
 -- the first record's samples
-pub known_first : (ends : Ends) (xs s : List ℤ) → xs ≡ [] → AreEnds ends s → AreNear s → IsKnown (Near ends.last) (xs ++ s)
+pub known_first : (ends : Ends) (xs s : List ℤ) → xs ≡ [] → AreEnds ends s → AreNear s
+    → IsKnown (Near ends.last) (xs ++ s)
 known_first ends xs [] e h near = let none : slice_get {X = ℤ} [] 0 ≡ Some ends.first = h.0 in cc
 known_first ends xs (x ∷ s) e h near =
     subst (λ (zs : List ℤ). IsKnown (Near ends.last) (zs ++ x ∷ s)) (sym e) (ends_on ends x s h, near)
 
 -- and those of one more, of which the first is near the last one before
-pub known_more : (ends : Ends) (last : ℤ) (xs s : List ℤ) → IsKnown (Near last) xs → AreEnds ends s → AreNear s → IsWithin 30 (ends.first -ℤ last) → IsKnown (Near ends.last) (xs ++ s)
+pub known_more : (ends : Ends) (last : ℤ) (xs s : List ℤ) → IsKnown (Near last) xs → AreEnds ends s → AreNear s
+    → IsWithin 30 (ends.first -ℤ last) → IsKnown (Near ends.last) (xs ++ s)
 known_more ends last [] s known h near step = absurd known.0
 known_more ends last (x ∷ xs) [] known h near step = let none : slice_get {X = ℤ} [] 0 ≡ Some ends.first = h.0 in cc
 known_more ends last (x ∷ xs) (y ∷ s) known h near step =
     let first : slice_get (y ∷ s) 0 ≡ Some ends.first = h.0 in
     let is : y ≡ ends.first = cc in
-    let here : IsWithin 30 (y -ℤ last) = subst (λ (z : ℤ). IsWithin 30 (z -ℤ last)) (sym is) step in
-    (last_append x xs (y ∷ s) ∙ ends_on ends y s h, (zero_near, behind_near x last xs (y ∷ s) known.1.1 known.0 (here, near.1)))
+    let here : IsWithin 30 (y -ℤ last) = subst (λ (z : ℤ). IsWithin 30 (z -ℤ last)) (sym is) step in (
+      last_append x xs (y ∷ s) ∙ ends_on ends y s h,
+      (zero_near, behind_near x last xs (y ∷ s) known.1.1 known.0 (here, near.1)),
+    )

@@ -1,6 +1,8 @@
 -- Packing an archive anew comes to one thing.
 use Rattle.std.specs.Prelude.{⊤}
-use Rattle.std.proofs.Common.{◌≡◌, ◌≢◌, ℕ, ℤ, ◌+◌, ◌≤◌, ◌<◌, ◌^◌, ◌⊎◌, inl, inr, List, [], ◌∷◌, ◌++◌, length, length-append, length-take, take, drop, All, Option, Some, None, Result, Ok, Err, IsTrue, refl, sym, ap, subst, ◌∙◌, arith, append_assoc, append-nil}
+use Rattle.std.proofs.Common.{◌≡◌, ◌≢◌, ℕ, ℤ, ◌+◌, ◌≤◌, ◌<◌, ◌^◌, ◌⊎◌, inl, inr, List, [], ◌∷◌, ◌++◌, length}
+use Rattle.std.proofs.Common.{length-append, length-take, take, drop, All, Option, Some, None, Result, Ok, Err, IsTrue}
+use Rattle.std.proofs.Common.{refl, sym, ap, subst, ◌∙◌, arith, append_assoc, append-nil}
 use Rattle.std.proofs.lemmas.Bool.{false≢true}
 use Rattle.std.proofs.lemmas.List.{append_cancel_left, length-drop, length-map, take-append-drop, take_all}
 use Rattle.std.proofs.lemmas.List.Elements.{All-head, All-tail}
@@ -12,7 +14,7 @@ use Rattle.mseed_record.specs.View.{View}
 use Rattle.mseed_record.proofs.Asked.{record_long}
 use Rattle.mseed_record.proofs.OneRecord.{one_record}
 use Rattle.mseed_stream.specs.Archive.{End, HasNoFurther, IsArchive, IsEndOf, clean, frame, truncated, is_clean}
-use Rattle.mseed_stream.specs.Device.{Heard, Said, nothing_heard}
+use Rattle.mseed_stream.specs.Device.{BytesRead, BytesWritten, nothing_read}
 use Rattle.mseed_stream.specs.Fault.{IsStreamFault}
 use Rattle.mseed_stream.specs.Split.{EndsBehind, GoesOnBehind, IsSplitFault}
 use Rattle.mseed_stream.specs.Walk.{AreAllViews, bytes_in}
@@ -29,28 +31,33 @@ use Rattle.mseed_pack.specs.Fitting.{Fits, IsMisfit}
 use Rattle.mseed_pack.specs.Packing.{IsPacking, PacksUpTo}
 use Rattle.mseed_pack.specs.declared.fault.PackFault.{PackFault}
 use Rattle.mseed_pack.specs.declared.options.Options.{Options}
-use Rattle.mseed_repack.specs.OneRepacking.{ComeToOne, HasWrittenFront, HaveWrittenOne}
-use Rattle.mseed_repack.specs.Repack.{ArePackedInto, CanBePacked, CantBePacked, Channel, IsArchiveOf, IsFirst, IsFitFor, IsPackedInto, IsPartPacked, IsRepacking, IsUnread, IsWhole, Wrote, none, more, records_in}
+use Rattle.mseed_repack.specs.OneRepacking.{ComeToOne, HasWrittenPrefix, HaveWrittenOne}
+use Rattle.mseed_repack.specs.Repack.{ArePackedInto, CanBePacked, CantBePacked, Channel, IsArchiveOf, IsFirst, IsFitFor}
+use Rattle.mseed_repack.specs.Repack.{IsPackedInto, IsPartPacked, IsRepacking, IsUnread, IsWhole, Wrote, none, more}
+use Rattle.mseed_repack.specs.Repack.{records_in}
 use Rattle.mseed_repack.specs.declared.fault.RepackFault.{RepackFault}
 use Rattle.mseed_repack.specs.declared.fault.RepackFault.TheVariants.{Stream, Broken, Misfit, Write, Memory}
 
-front_is : (r rest bytes : List ℕ) → bytes ≡ r ++ rest → take (length r) bytes ≡ r
-front_is r rest bytes e = ap (take (length r)) e ∙ take-append_seam r rest
+prefix_is : (r rest bytes : List ℕ) → bytes ≡ r ++ rest → take (length r) bytes ≡ r
+prefix_is r rest bytes e = ap (take (length r)) e ∙ take-append_seam r rest
 
 -- a first record, and what is left behind it, are the only ones
-one_first : (bytes r s tail rest : List ℕ) → IsRecord r → IsRecord s → bytes ≡ r ++ tail → bytes ≡ s ++ rest → (r ≡ s) × (tail ≡ rest)
+one_first : (bytes r s tail rest : List ℕ) → IsRecord r → IsRecord s → bytes ≡ r ++ tail → bytes ≡ s ++ rest
+    → (r ≡ s) × (tail ≡ rest)
 one_first bytes r s tail rest is it d e =
     let fits : length r ≤ length bytes = omega (arith, ap (λ (xs : List ℕ). length xs) d, length-append r tail) in
     let within : length s ≤ length bytes = omega (arith, ap (λ (xs : List ℕ). length xs) e, length-append s rest) in
-    let one : take (length r) bytes ≡ r = front_is r tail bytes d in
-    let two : take (length s) bytes ≡ s = front_is s rest bytes e in
-    let size : length r ≡ length s = one_record bytes (length r) (length s) fits within (subst IsRecord (sym one) is) (subst IsRecord (sym two) it) in
+    let one : take (length r) bytes ≡ r = prefix_is r tail bytes d in
+    let two : take (length s) bytes ≡ s = prefix_is s rest bytes e in
+    let size : length r ≡ length s = one_record bytes (length r) (length s) fits within (subst IsRecord (sym one) is)
+    (subst IsRecord (sym two) it) in
     let same : r ≡ s = sym one ∙ (ap (λ (n : ℕ). take n bytes) size ∙ two) in
     (same, append_cancel_left s tail rest (ap (λ (x : List ℕ). x ++ tail) (sym same) ∙ (sym d ∙ e)))
 
 -- What a law of a lower room says.
 abbrev OneInput : Type 0
-OneInput = (h : Heard) (views others : List View) (end other : Option StreamFault) → AreAllViews h views end → AreAllViews h others other → (views ≡ others) × (end ≡ other)
+OneInput = (h : BytesRead) (views others : List View) (end other : Option StreamFault) → AreAllViews h views end
+    → AreAllViews h others other → (views ≡ others) × (end ≡ other)
 
 abbrev OneList : Type 0
 OneList = (added : List Added) (vs ws : List Channel) → AreVerdicts added vs → AreVerdicts added ws → vs ≡ ws
@@ -59,10 +66,12 @@ abbrev OneSeries : Type 0
 OneSeries = (s t : Trace) (vs : List View) → IsSeriesOf s vs → IsSeriesOf t vs → s ≡ t
 
 abbrev OnePacking : Type 0
-OnePacking = (s : Trace) (o : Options) (records others : List (List ℕ)) → IsPacking s o records → IsPacking s o others → records ≡ others
+OnePacking = (s : Trace) (o : Options) (records others : List (List ℕ)) → IsPacking s o records → IsPacking s o others
+    → records ≡ others
 
-abbrev OneFront : Type 0
-OneFront = (s : Trace) (o : Options) (front records : List (List ℕ)) (left : List ℤ) → PacksUpTo s o front left → IsPacking s o records → (rest : List (List ℕ)) × (records ≡ front ++ rest)
+abbrev OnePrefix : Type 0
+OnePrefix = (s : Trace) (o : Options) (prefix records : List (List ℕ)) (left : List ℤ) → PacksUpTo s o prefix left
+    → IsPacking s o records → (rest : List (List ℕ)) × (records ≡ prefix ++ rest)
 
 abbrev OneMisfit : Type 0
 OneMisfit = (s : Trace) (o : Options) (f g : PackFault) → IsMisfit s o f → IsMisfit s o g → f ≡ g
@@ -76,17 +85,18 @@ pub record Laws : Type 0 where
   pub list : OneList
   pub series : OneSeries
   pub packing : OnePacking
-  pub front : OneFront
+  pub prefix : OnePrefix
   pub misfit : OneMisfit
   pub none : NoMisfit
 
--- Where a whole archive was heard, it is one.
+-- Where a whole archive was read, it is one.
 
-all_views : (h : Heard) (views : List View) → IsWhole h views → AreAllViews h views None
+all_views : (h : BytesRead) (views : List View) → IsWhole h views → AreAllViews h views None
 all_views h views w =
     let whole : h.bytes ≡ concat (bytes_in views) = w.archive.joined ∙ append-nil (concat (bytes_in views)) in
     let behind : drop (length h.bytes) h.bytes ≡ [] = append_cancel_left h.bytes (drop (length h.bytes) h.bytes) []
-    (ap (λ (xs : List ℕ). xs ++ drop (length h.bytes) h.bytes) (sym (take_all (length h.bytes) h.bytes (omega arith))) ∙ (take-append-drop (length h.bytes) h.bytes ∙ sym (append-nil h.bytes))) in
+    (ap (λ (xs : List ℕ). xs ++ drop (length h.bytes) h.bytes) (sym (take_all (length h.bytes) h.bytes (omega arith)))
+    ∙ (take-append-drop (length h.bytes) h.bytes ∙ sym (append-nil h.bytes))) in
     record {
       offset = length h.bytes;
       records = record {
@@ -98,10 +108,15 @@ all_views h views w =
       few = w.few;
     }
 
-one_whole : Laws → (h : Heard) (views others : List View) (cs ds : List Channel) → IsArchiveOf h views cs → IsArchiveOf h others ds → (views ≡ others) × (cs ≡ ds)
+one_whole : Laws → (h : BytesRead) (views others : List View) (cs ds : List Channel) → IsArchiveOf h views cs
+    → IsArchiveOf h others ds → (views ≡ others) × (cs ≡ ds)
 one_whole laws h views others cs ds a b =
-    let same : views ≡ others = (laws.input h views others None None (all_views h views a.whole) (all_views h others b.whole)).0 in
-    (same, laws.list (added_from 0 others) cs ds (subst (λ (vs : List View). AreVerdicts (added_from 0 vs) cs) same a.verdicts) b.verdicts)
+    let same : views ≡ others =
+    (laws.input h views others None None (all_views h views a.whole) (all_views h others b.whole)).0 in (
+      same,
+      laws.list (added_from 0 others) cs ds
+          (subst (λ (vs : List View). AreVerdicts (added_from 0 vs) cs) same a.verdicts) b.verdicts,
+    )
 
 -- How bytes end that are no whole archive.
 
@@ -111,8 +126,10 @@ at n (frame f) = Some (Frame n f)
 at n (truncated have) = Some (Truncated n have)
 
 data Broke (bytes : List ℕ) (fault : StreamFault) : Type 0 where
-  by_end : (n : ℕ) (records : List (List ℕ)) (end : End) → EndsBehind bytes n records end → at n end ≡ Some fault → Broke bytes fault
-  by_turns : (n : ℕ) (records : List (List ℕ)) → GoesOnBehind bytes n records → length records + 1 ≡ 2 ^ 40 → fault ≡ Turns n → Broke bytes fault
+  by_end : (n : ℕ) (records : List (List ℕ)) (end : End) → EndsBehind bytes n records end → at n end ≡ Some fault
+      → Broke bytes fault
+  by_turns : (n : ℕ) (records : List (List ℕ)) → GoesOnBehind bytes n records → length records + 1 ≡ 2 ^ 40
+      → fault ≡ Turns n → Broke bytes fault
 
 broke : (bytes : List ℕ) (fault : StreamFault) → fault ≢ NoMemory → IsSplitFault fault bytes → Broke bytes fault
 broke bytes (Frame n f) other is = by_end n is.0 (frame f) is.1 refl
@@ -121,71 +138,103 @@ broke bytes (Read n) other is = absurd is
 broke bytes (Turns n) other is = by_turns n is.0 is.1 is.2 refl
 broke bytes NoMemory other is = absurd (other refl)
 
--- Records that stand one behind another at the front of an archive are its first.
+-- Records that stand one behind another at the beginning of an archive are its first.
 no_more : (rest r tail : List ℕ) → HasNoFurther rest → IsRecord r → rest ≡ r ++ tail → ⊥
 no_more rest r tail ends is e =
-    let front : take (length r) rest ≡ r = ap (take (length r)) e ∙ take-append_seam r tail in
-    ends (length r) (omega (arith, ap (λ (xs : List ℕ). length xs) e, length-append r tail)) (subst IsRecord (sym front) is)
+    let prefix : take (length r) rest ≡ r = ap (take (length r)) e ∙ take-append_seam r tail in
+    ends (length r) (omega (arith, ap (λ (xs : List ℕ). length xs) e, length-append r tail))
+    (subst IsRecord (sym prefix) is)
 
-fewer : (bytes tail rest : List ℕ) (xs all : List (List ℕ)) → AllByRecursion IsRecord xs → bytes ≡ concat xs ++ tail → IsArchive bytes all rest → length xs ≤ length all
+fewer : (bytes tail rest : List ℕ) (xs all : List (List ℕ)) → AllByRecursion IsRecord xs → bytes ≡ concat xs ++ tail
+    → IsArchive bytes all rest → length xs ≤ length all
 fewer bytes tail rest [] all each e a = omega arith
-fewer bytes tail rest (x ∷ xs) [] each e a = absurd (no_more rest x (concat xs ++ tail) a.no_further each.0 (sym a.joined ∙ (e ∙ append_assoc x (concat xs) tail)))
+fewer bytes tail rest (x ∷ xs) [] each e a =
+    absurd (no_more rest x (concat xs ++ tail) a.no_further each.0 (sym a.joined
+    ∙ (e ∙ append_assoc x (concat xs) tail)))
 fewer bytes tail rest (x ∷ xs) (r ∷ all) each e a =
     let first : (x ≡ r) × (concat xs ++ tail ≡ concat all ++ rest) =
-    one_first bytes x r (concat xs ++ tail) (concat all ++ rest) each.0 a.each.0 (e ∙ append_assoc x (concat xs) tail) (a.joined ∙ append_assoc r (concat all) rest) in
-    let less : length xs ≤ length all = fewer (concat xs ++ tail) tail rest xs all each.1 refl (record { joined = first.1; each = a.each.1; no_further = a.no_further }) in
+    one_first bytes x r (concat xs ++ tail) (concat all ++ rest) each.0 a.each.0 (e ∙ append_assoc x (concat xs) tail)
+    (a.joined ∙ append_assoc r (concat all) rest) in
+    let less : length xs ≤ length all =
+    fewer (concat xs ++ tail) tail rest xs all each.1 refl
+    (record { joined = first.1; each = a.each.1; no_further = a.no_further }) in
     omega (arith, less)
 
-as_many : (bytes tail rest : List ℕ) (xs ys : List (List ℕ)) → AllByRecursion IsRecord xs → AllByRecursion IsRecord ys → bytes ≡ concat xs ++ tail → bytes ≡ concat ys ++ rest → length xs ≡ length ys → xs ≡ ys
+as_many : (bytes tail rest : List ℕ) (xs ys : List (List ℕ)) → AllByRecursion IsRecord xs → AllByRecursion IsRecord ys
+    → bytes ≡ concat xs ++ tail → bytes ≡ concat ys ++ rest → length xs ≡ length ys → xs ≡ ys
 as_many bytes tail rest [] [] a b d e same = refl
 as_many bytes tail rest [] (y ∷ ys) a b d e same = absurd (omega (arith, same))
 as_many bytes tail rest (x ∷ xs) [] a b d e same = absurd (omega (arith, same))
 as_many bytes tail rest (x ∷ xs) (y ∷ ys) a b d e same =
     let first : (x ≡ y) × (concat xs ++ tail ≡ concat ys ++ rest) =
-    one_first bytes x y (concat xs ++ tail) (concat ys ++ rest) a.0 b.0 (d ∙ append_assoc x (concat xs) tail) (e ∙ append_assoc y (concat ys) rest) in
+    one_first bytes x y (concat xs ++ tail) (concat ys ++ rest) a.0 b.0 (d ∙ append_assoc x (concat xs) tail) (e
+    ∙ append_assoc y (concat ys) rest) in
     let others : xs ≡ ys = as_many (concat xs ++ tail) tail rest xs ys a.1 b.1 refl first.1 (omega (arith, same)) in
     λ i. first.0 i ∷ others i
 
 -- and the further one behind them is there
-each_more : (xs : List (List ℕ)) (x : List ℕ) → AllByRecursion IsRecord xs → IsRecord x → AllByRecursion IsRecord (xs ++ x ∷ [])
+each_more : (xs : List (List ℕ)) (x : List ℕ) → AllByRecursion IsRecord xs → IsRecord x
+    → AllByRecursion IsRecord (xs ++ x ∷ [])
 each_more [] x all is = (is, tt)
 each_more (y ∷ ys) x all is = (all.0, each_more ys x all.1 is)
 
-turns_fewer : (bytes rest : List ℕ) (n : ℕ) (records all : List (List ℕ)) → GoesOnBehind bytes n records → IsArchive bytes all rest → length records + 1 ≤ length all
+turns_fewer : (bytes rest : List ℕ) (n : ℕ) (records all : List (List ℕ)) → GoesOnBehind bytes n records
+    → IsArchive bytes all rest → length records + 1 ≤ length all
 turns_fewer bytes rest n records all g a =
     let behind : List ℕ = drop n bytes in
     let k : ℕ = g.further.0 in
     let last : List ℕ = take k behind in
-    let one : concat (records ++ last ∷ []) ≡ concat records ++ last = concat-append records (last ∷ []) ∙ ap (λ (xs : List ℕ). concat records ++ xs) (append-nil last) in
+    let one : concat (records ++ last ∷ []) ≡ concat records ++ last = concat-append records (last ∷ [])
+    ∙ ap (λ (xs : List ℕ). concat records ++ xs) (append-nil last) in
     let joined : bytes ≡ concat (records ++ last ∷ []) ++ drop k behind =
     sym (take-append-drop n bytes) ∙ (ap (λ (xs : List ℕ). xs ++ behind) g.before.joined
-    ∙ (ap (λ (xs : List ℕ). concat records ++ xs) (sym (take-append-drop k behind)) ∙ (sym (append_assoc (concat records) last (drop k behind)) ∙ ap (λ (xs : List ℕ). xs ++ drop k behind) (sym one)))) in
-    let less : length (records ++ last ∷ []) ≤ length all = fewer bytes (drop k behind) rest (records ++ last ∷ []) all (each_more records last g.before.each g.further.1.1) joined a in
+    ∙ (ap (λ (xs : List ℕ). concat records ++ xs) (sym (take-append-drop k behind))
+    ∙ (sym (append_assoc (concat records) last (drop k behind))
+    ∙ ap (λ (xs : List ℕ). xs ++ drop k behind) (sym one)))) in
+    let less : length (records ++ last ∷ []) ≤ length all =
+    fewer bytes (drop k behind) rest (records ++ last ∷ []) all
+    (each_more records last g.before.each g.further.1.1) joined a in
     omega (arith, less, length-append records (last ∷ []))
 
-turns_at : (bytes : List ℕ) (n : ℕ) (records : List (List ℕ)) → GoesOnBehind bytes n records → length (concat records) ≡ n
+turns_at : (bytes : List ℕ) (n : ℕ) (records : List (List ℕ)) → GoesOnBehind bytes n records
+    → length (concat records) ≡ n
 turns_at bytes n records g =
-    let long : 48 ≤ length (take g.further.0 (drop n bytes)) = record_long (take g.further.0 (drop n bytes)) g.further.1.1 in
-    omega (arith, long, length-take g.further.0 (drop n bytes), length-drop n bytes, length-take n bytes, ap (λ (xs : List ℕ). length xs) g.before.joined)
+    let long : 48 ≤ length (take g.further.0 (drop n bytes)) =
+    record_long (take g.further.0 (drop n bytes)) g.further.1.1 in
+    omega (
+      arith,
+      long,
+      length-take g.further.0 (drop n bytes),
+      length-drop n bytes,
+      length-take n bytes,
+      ap (λ (xs : List ℕ). length xs) g.before.joined,
+    )
 
 same_split : (bytes : List ℕ) (f g : StreamFault) → Broke bytes f → Broke bytes g → f ≡ g
 same_split bytes f g (by_end n rs end a d) (by_end m qs other b e) =
-    let both : (rs ≡ qs) × (drop n bytes ≡ drop m bytes) = one_archive bytes rs qs (drop n bytes) (drop m bytes) a.archive b.archive in
+    let both : (rs ≡ qs) × (drop n bytes ≡ drop m bytes) =
+    one_archive bytes rs qs (drop n bytes) (drop m bytes) a.archive b.archive in
     let offset : n ≡ m = sym a.offset_is ∙ (ap (λ (xs : List (List ℕ)). length (concat xs)) both.0 ∙ b.offset_is) in
-    let ends : end ≡ other = one_end (drop m bytes) end other (subst (λ (xs : List ℕ). IsEndOf xs end) both.1 a.ends) b.ends in
+    let ends : end ≡ other = one_end (drop m bytes) end other (subst (λ (xs : List ℕ). IsEndOf xs end) both.1 a.ends)
+    b.ends in
     let one : Some f ≡ Some g = sym d ∙ (ap (λ (k : ℕ). at k end) offset ∙ (ap (at m) ends ∙ e)) in
     cc
-same_split bytes f g (by_end n rs end a d) (by_turns m qs b count e) = absurd (omega (arith, turns_fewer bytes (drop n bytes) m qs rs b a.archive, count, a.few))
-same_split bytes f g (by_turns n rs a count d) (by_end m qs other b e) = absurd (omega (arith, turns_fewer bytes (drop m bytes) n rs qs a b.archive, count, b.few))
+same_split bytes f g (by_end n rs end a d) (by_turns m qs b count e) =
+    absurd (omega (arith, turns_fewer bytes (drop n bytes) m qs rs b a.archive, count, a.few))
+same_split bytes f g (by_turns n rs a count d) (by_end m qs other b e) =
+    absurd (omega (arith, turns_fewer bytes (drop m bytes) n rs qs a b.archive, count, b.few))
 same_split bytes f g (by_turns n rs a count d) (by_turns m qs b number e) =
     let same : rs ≡ qs = as_many bytes (drop n bytes) (drop m bytes) rs qs a.before.each b.before.each
     (sym (take-append-drop n bytes) ∙ ap (λ (xs : List ℕ). xs ++ drop n bytes) a.before.joined)
-    (sym (take-append-drop m bytes) ∙ ap (λ (xs : List ℕ). xs ++ drop m bytes) b.before.joined) (omega (arith, count, number)) in
-    let offset : n ≡ m = sym (turns_at bytes n rs a) ∙ (ap (λ (xs : List (List ℕ)). length (concat xs)) same ∙ turns_at bytes m qs b) in
+    (sym (take-append-drop m bytes) ∙ ap (λ (xs : List ℕ). xs ++ drop m bytes) b.before.joined)
+    (omega (arith, count, number)) in
+    let offset : n ≡ m = sym (turns_at bytes n rs a)
+    ∙ (ap (λ (xs : List (List ℕ)). length (concat xs)) same ∙ turns_at bytes m qs b) in
     d ∙ (ap Turns offset ∙ sym e)
 
 -- How an input fails that isn't read to its end.
-same_stream : (h : Heard) (f g : StreamFault) → f ≢ NoMemory → g ≢ NoMemory → IsStreamFault f nothing_heard h → IsStreamFault g nothing_heard h → f ≡ g
+same_stream : (h : BytesRead) (f g : StreamFault) → f ≢ NoMemory → g ≢ NoMemory → IsStreamFault f nothing_read h
+    → IsStreamFault g nothing_read h → f ≡ g
 same_stream h (Frame n f) g o p a b = absurd a
 same_stream h (Truncated n have) g o p a b = absurd a
 same_stream h NoMemory g o p a b = absurd (o refl)
@@ -200,14 +249,14 @@ same_stream h (Turns n) NoMemory o p a b = absurd (p refl)
 same_stream h (Turns n) (Read m) o p a b = absurd (omega (arith, a.1, b.1))
 same_stream h (Turns n) (Turns m) o p a b = ap Turns (omega (arith, a.0, b.0))
 
-goes_on : (h : Heard) (f : StreamFault) → f ≢ NoMemory → IsStreamFault f nothing_heard h → IsTrue h.is_at_end → ⊥
+goes_on : (h : BytesRead) (f : StreamFault) → f ≢ NoMemory → IsStreamFault f nothing_read h → IsTrue h.is_at_end → ⊥
 goes_on h (Frame n f) o is ended = absurd is
 goes_on h (Truncated n have) o is ended = absurd is
 goes_on h (Read n) o is ended = false≢true (sym is.2 ∙ ended)
 goes_on h (Turns n) o is ended = false≢true (sym is.3 ∙ ended)
 goes_on h NoMemory o is ended = o refl
 
-one_unread : (h : Heard) (f g : StreamFault) → f ≢ NoMemory → g ≢ NoMemory → IsUnread f h → IsUnread g h → f ≡ g
+one_unread : (h : BytesRead) (f g : StreamFault) → f ≢ NoMemory → g ≢ NoMemory → IsUnread f h → IsUnread g h → f ≡ g
 one_unread h f g o p (inl a) (inl b) = same_stream h f g o p a b
 one_unread h f g o p (inl a) (inr b) = absurd (goes_on h f o a b.0)
 one_unread h f g o p (inr a) (inl b) = absurd (goes_on h g p b a.0)
@@ -216,16 +265,21 @@ one_unread h f g o p (inr a) (inr b) = same_split h.bytes f g (broke h.bytes f o
 not_none : (f : StreamFault) → None ≡ Some f → ⊥
 not_none f e = cc
 
-whole_end : (bytes : List ℕ) (f : StreamFault) (all : List (List ℕ)) → Broke bytes f → IsArchive bytes all [] → length all < 2 ^ 40 → ⊥
+whole_end : (bytes : List ℕ) (f : StreamFault) (all : List (List ℕ)) → Broke bytes f → IsArchive bytes all []
+    → length all < 2 ^ 40 → ⊥
 whole_end bytes f all (by_end n rs end a d) archive few =
     let both : (rs ≡ all) × (drop n bytes ≡ []) = one_archive bytes rs all (drop n bytes) [] a.archive archive in
-    let ends : end ≡ clean = one_end [] end clean (subst (λ (xs : List ℕ). IsEndOf xs end) both.1 a.ends) (is_clean refl) in
+    let ends : end ≡ clean = one_end [] end clean (subst (λ (xs : List ℕ). IsEndOf xs end) both.1 a.ends)
+    (is_clean refl) in
     not_none f (ap (at n) (sym ends) ∙ d)
-whole_end bytes f all (by_turns n rs a count d) archive few = omega (arith, turns_fewer bytes [] n rs all a archive, count, few)
+whole_end bytes f all (by_turns n rs a count d) archive few =
+    omega (arith, turns_fewer bytes [] n rs all a archive, count, few)
 
-never_unread : (h : Heard) (f : StreamFault) (views : List View) → f ≢ NoMemory → IsUnread f h → IsWhole h views → ⊥
+never_unread : (h : BytesRead) (f : StreamFault) (views : List View) → f ≢ NoMemory → IsUnread f h → IsWhole h views → ⊥
 never_unread h f views o (inl a) w = goes_on h f o a w.ended
-never_unread h f views o (inr a) w = whole_end h.bytes f (bytes_in views) (broke h.bytes f o a.2) w.archive (omega (arith, w.few, length-map views (λ (v : View). v.bytes)))
+never_unread h f views o (inr a) w =
+    whole_end h.bytes f (bytes_in views) (broke h.bytes f o a.2) w.archive
+    (omega (arith, w.few, length-map views (λ (v : View). v.bytes)))
 
 -- The first channel of a kind is one.
 
@@ -239,36 +293,49 @@ key_head k v y a b e =
     let head : (k, v) ≡ y = cc in
     ap (λ (c : Channel). c.0) head
 
-same_first : (Before : List ℕ → Type 0) (xs ys : List Channel) (k l : List ℕ) (v w : Verdict) (a b : List Channel) → xs ++ (k, v) ∷ a ≡ ys ++ (l, w) ∷ b
+same_first : (Before : List ℕ → Type 0) (xs ys : List Channel) (k l : List ℕ) (v w : Verdict) (a b : List Channel)
+    → xs ++ (k, v) ∷ a ≡ ys ++ (l, w) ∷ b
     → All (λ (c : Channel). Before c.0) xs → All (λ (c : Channel). Before c.0) ys → ¬ (Before k) → ¬ (Before l) → k ≡ l
 same_first Before [] [] k l v w a b e p q n m = key_one k l v w a b e
 same_first Before [] (y ∷ ys) k l v w a b e p q n m =
-    absurd (n (subst Before (sym (key_head k v y a (ys ++ (l, w) ∷ b) e)) (All-head (λ (c : Channel). Before c.0) y ys q)))
+    absurd (n (subst Before (sym (key_head k v y a (ys ++ (l, w) ∷ b) e))
+    (All-head (λ (c : Channel). Before c.0) y ys q)))
 same_first Before (x ∷ xs) [] k l v w a b e p q n m =
-    absurd (m (subst Before (sym (key_head l w x b (xs ++ (k, v) ∷ a) (sym e))) (All-head (λ (c : Channel). Before c.0) x xs p)))
+    absurd (m (subst Before (sym (key_head l w x b (xs ++ (k, v) ∷ a) (sym e)))
+    (All-head (λ (c : Channel). Before c.0) x xs p)))
 same_first Before (x ∷ xs) (y ∷ ys) k l v w a b e p q n m =
     let tail : xs ++ (k, v) ∷ a ≡ ys ++ (l, w) ∷ b = cc in
-    same_first Before xs ys k l v w a b tail (All-tail (λ (c : Channel). Before c.0) x xs p) (All-tail (λ (c : Channel). Before c.0) y ys q) n m
+    same_first Before xs ys k l v w a b tail (All-tail (λ (c : Channel). Before c.0) x xs p)
+    (All-tail (λ (c : Channel). Before c.0) y ys q) n m
 
-one_first_key : (Before At To : List ℕ → Type 0) (k l : List ℕ) (cs : List Channel) → ((key : List ℕ) → At key → ¬ (Before key)) → ((key : List ℕ) → To key → ¬ (Before key))
+one_first_key : (Before At To : List ℕ → Type 0) (k l : List ℕ) (cs : List Channel)
+    → ((key : List ℕ) → At key → ¬ (Before key)) → ((key : List ℕ) → To key → ¬ (Before key))
     → IsFirst Before At k cs → IsFirst Before To l cs → k ≡ l
 one_first_key Before At To k l cs not nor a b =
-    same_first Before a.front b.front k l a.verdict b.verdict a.back b.back (sym a.parts ∙ b.parts) a.before b.before (not k a.is_it) (nor l b.is_it)
+    same_first Before a.prefix b.prefix k l a.verdict b.verdict a.back b.back (sym a.parts ∙ b.parts) a.before b.before
+    (not k a.is_it) (nor l b.is_it)
 
 -- where all are of another kind, there is none
-holds_of : (P : List ℕ → Type 0) (front back : List Channel) (k : List ℕ) (v : Verdict) → All (λ (c : Channel). P c.0) (front ++ (k, v) ∷ back) → P k
+holds_of : (P : List ℕ → Type 0) (prefix back : List Channel) (k : List ℕ) (v : Verdict)
+    → All (λ (c : Channel). P c.0) (prefix ++ (k, v) ∷ back) → P k
 holds_of P [] back k v all = All-head (λ (c : Channel). P c.0) (k, v) back all
-holds_of P (x ∷ xs) back k v all = holds_of P xs back k v (All-tail (λ (c : Channel). P c.0) x (xs ++ (k, v) ∷ back) all)
+holds_of P (x ∷ xs) back k v all =
+    holds_of P xs back k v (All-tail (λ (c : Channel). P c.0) x (xs ++ (k, v) ∷ back) all)
 
-none_first : (Before At : List ℕ → Type 0) (k : List ℕ) (cs : List Channel) → ((key : List ℕ) → At key → ¬ (Before key)) → All (λ (c : Channel). Before c.0) cs → IsFirst Before At k cs → ⊥
-none_first Before At k cs not all is = not k is.is_it (holds_of Before is.front is.back k is.verdict (subst (All (λ (c : Channel). Before c.0)) is.parts all))
+none_first : (Before At : List ℕ → Type 0) (k : List ℕ) (cs : List Channel)
+    → ((key : List ℕ) → At key → ¬ (Before key)) → All (λ (c : Channel). Before c.0) cs → IsFirst Before At k cs → ⊥
+none_first Before At k cs not all is =
+    not k is.is_it (holds_of Before is.prefix is.back k is.verdict
+    (subst (All (λ (c : Channel). Before c.0)) is.parts all))
 
-cant : Laws → (o : Options) (views : List View) (f : PackFault) (key : List ℕ) → CantBePacked o views f key → ¬ (CanBePacked o views key)
+cant : Laws → (o : Options) (views : List View) (f : PackFault) (key : List ℕ) → CantBePacked o views f key
+    → ¬ (CanBePacked o views key)
 cant laws o views f key is can =
     let same : is.trace ≡ can.trace = laws.series is.trace can.trace (records_in views key) is.series can.series in
     laws.none can.trace o f can.fits (subst (λ (t : Trace). IsMisfit t o f) same is.misfit)
 
-one_cant : Laws → (o : Options) (views : List View) (f g : PackFault) (key : List ℕ) → CantBePacked o views f key → CantBePacked o views g key → f ≡ g
+one_cant : Laws → (o : Options) (views : List View) (f g : PackFault) (key : List ℕ) → CantBePacked o views f key
+    → CantBePacked o views g key → f ≡ g
 one_cant laws o views f g key a b =
     let same : a.trace ≡ b.trace = laws.series a.trace b.trace (records_in views key) a.series b.series in
     laws.misfit b.trace o f g (subst (λ (t : Trace). IsMisfit t o f) same a.misfit) b.misfit
@@ -277,82 +344,131 @@ one_cant laws o views f g key a b =
 
 abbrev Along : Options → List View → List Channel → List ℕ → Type 0
 Along o views [] text = text ≡ []
-Along o views (c ∷ cs) text = (records : List (List ℕ)) × ((rest : List ℕ) × (IsPackedInto o views c.0 records × (text ≡ concat records ++ rest) × Along o views cs rest))
+Along o views (c ∷ cs) text =
+    (records : List (List ℕ))
+    × ((rest : List ℕ) × (IsPackedInto o views c.0 records × (text ≡ concat records ++ rest) × Along o views cs rest))
 
-along_more : (o : Options) (views : List View) (cs : List Channel) (c : Channel) (text : List ℕ) (records : List (List ℕ)) → Along o views cs text → IsPackedInto o views c.0 records
+along_more : (o : Options) (views : List View) (cs : List Channel) (c : Channel) (text : List ℕ)
+    (records : List (List ℕ)) → Along o views cs text → IsPackedInto o views c.0 records
     → Along o views (cs ++ c ∷ []) (text ++ concat records)
 along_more o views [] c text records e is =
     (records, ([], (is, ap (λ (t : List ℕ). t ++ concat records) e ∙ sym (append-nil (concat records)), refl)))
-along_more o views (d ∷ cs) c text records (rs, (rest, a)) is =
-    (rs, (rest ++ concat records, (a.0, ap (λ (t : List ℕ). t ++ concat records) a.1 ∙ append_assoc (concat rs) rest (concat records), along_more o views cs c rest records a.2 is)))
+along_more o views (d ∷ cs) c text records (rs, (rest, a)) is = (
+  rs,
+  (
+    rest ++ concat records,
+    (
+      a.0,
+      ap (λ (t : List ℕ). t ++ concat records) a.1 ∙ append_assoc (concat rs) rest (concat records),
+      along_more o views cs c rest records a.2 is,
+    ),
+  ),
+)
 
-along : (o : Options) (views : List View) (cs : List Channel) (text : List ℕ) → ArePackedInto o views cs text → Along o views cs text
+along : (o : Options) (views : List View) (cs : List Channel) (text : List ℕ) → ArePackedInto o views cs text
+    → Along o views cs text
 along o views _ _ none = refl
-along o views _ _ (more cs c text records before is) = along_more o views cs c text records (along o views cs text before) is
+along o views _ _ (more cs c text records before is) =
+    along_more o views cs c text records (along o views cs text before) is
 
-one_records : Laws → (o : Options) (views : List View) (key : List ℕ) (rs qs : List (List ℕ)) → IsPackedInto o views key rs → IsPackedInto o views key qs → rs ≡ qs
+one_records : Laws → (o : Options) (views : List View) (key : List ℕ) (rs qs : List (List ℕ))
+    → IsPackedInto o views key rs → IsPackedInto o views key qs → rs ≡ qs
 one_records laws o views key rs qs a b =
     let same : a.trace ≡ b.trace = laws.series a.trace b.trace (records_in views key) a.series b.series in
     laws.packing b.trace o rs qs (subst (λ (t : Trace). IsPacking t o rs) same a.packing) b.packing
 
-one_text : Laws → (o : Options) (views : List View) (cs : List Channel) (t u : List ℕ) → Along o views cs t → Along o views cs u → t ≡ u
+one_text : Laws → (o : Options) (views : List View) (cs : List Channel) (t u : List ℕ) → Along o views cs t
+    → Along o views cs u → t ≡ u
 one_text laws o views [] t u a b = a ∙ sym b
 one_text laws o views (c ∷ cs) t u (rs, (rest, a)) (qs, (left, b)) =
     let records : rs ≡ qs = one_records laws o views c.0 rs qs a.0 b.0 in
     let others : rest ≡ left = one_text laws o views cs rest left a.2 b.2 in
-    a.1 ∙ (ap (λ (xs : List (List ℕ)). concat xs ++ rest) records ∙ (ap (λ (xs : List ℕ). concat qs ++ xs) others ∙ sym b.1))
+    a.1 ∙ (ap (λ (xs : List (List ℕ)). concat xs ++ rest) records
+    ∙ (ap (λ (xs : List ℕ). concat qs ++ xs) others ∙ sym b.1))
 
--- A part of the text is a front of it.
+-- A part of the text is a prefix of it.
 
 abbrev Behind : List ℕ → List ℕ → Type 0
-Behind front text = (rest : List ℕ) × (text ≡ front ++ rest)
+Behind prefix text = (rest : List ℕ) × (text ≡ prefix ++ rest)
 
-part_first : Laws → (o : Options) (views : List View) (text : List ℕ) (next : Channel) (back : List Channel) (trace : Trace) (records : List (List ℕ)) (left : List ℤ) (taken : ℕ)
-    → IsSeriesOf trace (records_in views next.0) → PacksUpTo trace o records left → Along o views (next ∷ back) text → Behind (take taken (concat records)) text
+part_first : Laws → (o : Options) (views : List View) (text : List ℕ) (next : Channel) (back : List Channel)
+    (trace : Trace) (records : List (List ℕ)) (left : List ℤ) (taken : ℕ)
+    → IsSeriesOf trace (records_in views next.0) → PacksUpTo trace o records left → Along o views (next ∷ back) text
+    → Behind (take taken (concat records)) text
 part_first laws o views text next back trace records left taken series packs (rs, (rest, a)) =
     let same : a.0.trace ≡ trace = laws.series a.0.trace trace (records_in views next.0) a.0.series series in
-    let others : (more : List (List ℕ)) × (rs ≡ records ++ more) = laws.front trace o records rs left packs (subst (λ (t : Trace). IsPacking t o rs) same a.0.packing) in
-    let front : List ℕ = take taken (concat records) in
+    let others : (more : List (List ℕ)) × (rs ≡ records ++ more) =
+    laws.prefix trace o records rs left packs (subst (λ (t : Trace). IsPacking t o rs) same a.0.packing) in
+    let prefix : List ℕ = take taken (concat records) in
     let behind : List ℕ = drop taken (concat records) in
-    let whole : concat rs ≡ front ++ (behind ++ concat others.0) =
+    let whole : concat rs ≡ prefix ++ (behind ++ concat others.0) =
     ap (λ (xs : List (List ℕ)). concat xs) others.1 ∙ (concat-append records others.0
-    ∙ (ap (λ (xs : List ℕ). xs ++ concat others.0) (sym (take-append-drop taken (concat records))) ∙ append_assoc front behind (concat others.0))) in
-    ((behind ++ concat others.0) ++ rest, a.1 ∙ (ap (λ (xs : List ℕ). xs ++ rest) whole ∙ append_assoc front (behind ++ concat others.0) rest))
+    ∙ (ap (λ (xs : List ℕ). xs ++ concat others.0) (sym (take-append-drop taken (concat records)))
+    ∙ append_assoc prefix behind (concat others.0))) in (
+      (behind ++ concat others.0) ++ rest,
+      a.1
+          ∙ (ap (λ (xs : List ℕ). xs ++ rest) whole ∙ append_assoc prefix (behind ++ concat others.0) rest),
+    )
 
-part_behind : Laws → (o : Options) (views : List View) (text : List ℕ) (cs : List Channel) (next : Channel) (back : List Channel) (before : List ℕ) (trace : Trace) (records : List (List ℕ)) (left : List ℤ) (taken : ℕ)
-    → IsSeriesOf trace (records_in views next.0) → PacksUpTo trace o records left → Along o views cs before → Along o views (cs ++ next ∷ back) text → Behind (before ++ take taken (concat records)) text
+part_behind : Laws → (o : Options) (views : List View) (text : List ℕ) (cs : List Channel) (next : Channel)
+    (back : List Channel) (before : List ℕ) (trace : Trace) (records : List (List ℕ)) (left : List ℤ) (taken : ℕ)
+    → IsSeriesOf trace (records_in views next.0) → PacksUpTo trace o records left → Along o views cs before
+    → Along o views (cs ++ next ∷ back) text → Behind (before ++ take taken (concat records)) text
 part_behind laws o views text [] next back before trace records left taken series packs e a =
-    subst (λ (b : List ℕ). Behind (b ++ take taken (concat records)) text) (sym e) (part_first laws o views text next back trace records left taken series packs a)
-part_behind laws o views text (c ∷ cs) next back before trace records left taken series packs (qs, (b, p)) (rs, (rest, a)) =
+    subst (λ (b : List ℕ). Behind (b ++ take taken (concat records)) text) (sym e)
+    (part_first laws o views text next back trace records left taken series packs a)
+part_behind laws o views text (c ∷ cs) next back before trace records left taken series packs (qs, (b, p)) (
+  rs,
+  (rest, a),
+) =
     let part : List ℕ = take taken (concat records) in
     let same : rs ≡ qs = one_records laws o views c.0 rs qs a.0 p.0 in
-    let later : Behind (b ++ part) rest = part_behind laws o views rest cs next back b trace records left taken series packs p.2 a.2 in
-    let joined : text ≡ concat qs ++ ((b ++ part) ++ later.0) = a.1 ∙ (ap (λ (xs : List (List ℕ)). concat xs ++ rest) same ∙ ap (λ (xs : List ℕ). concat qs ++ xs) later.1) in
+    let later : Behind (b ++ part) rest =
+    part_behind laws o views rest cs next back b trace records left taken series packs p.2 a.2 in
+    let joined : text ≡ concat qs ++ ((b ++ part) ++ later.0) =
+    a.1 ∙ (ap (λ (xs : List (List ℕ)). concat xs ++ rest) same ∙ ap (λ (xs : List ℕ). concat qs ++ xs) later.1) in
     let again : concat qs ++ ((b ++ part) ++ later.0) ≡ ((concat qs ++ b) ++ part) ++ later.0 =
-    sym (append_assoc (concat qs) (b ++ part) later.0) ∙ ap (λ (xs : List ℕ). xs ++ later.0) (sym (append_assoc (concat qs) b part)) in
+    sym (append_assoc (concat qs) (b ++ part) later.0)
+    ∙ ap (λ (xs : List ℕ). xs ++ later.0) (sym (append_assoc (concat qs) b part)) in
     (later.0, joined ∙ (again ∙ ap (λ (xs : List ℕ). (xs ++ part) ++ later.0) (sym p.1)))
 
-text_front : Laws → (o : Options) (views : List View) (cs : List Channel) (text part : List ℕ) → ArePackedInto o views cs text → IsPartPacked o views cs part → Behind part text
-text_front laws o views cs text part all p =
+text_prefix : Laws → (o : Options) (views : List View) (cs : List Channel) (text part : List ℕ)
+    → ArePackedInto o views cs text → IsPartPacked o views cs part → Behind part text
+text_prefix laws o views cs text part all p =
     let found : Behind (p.before ++ take p.taken (concat p.records)) text =
-    part_behind laws o views text p.front p.next p.back p.before p.trace p.records p.left p.taken p.series p.packing (along o views p.front p.before p.packed)
+    part_behind laws o views text p.prefix p.next p.back p.before p.trace p.records p.left p.taken p.series p.packing
+    (along o views p.prefix p.before p.packed)
     (subst (λ (xs : List Channel). Along o views xs text) p.parts (along o views cs text all)) in
     subst (λ (xs : List ℕ). Behind xs text) (sym p.text_is) found
 
-written_front : Laws → (o : Options) (h : Heard) (views others : List View) (cs ds : List Channel) (old new before after : Said) → IsFitFor o h views cs → IsFitFor o h others ds
-    → Wrote (ArePackedInto o views cs) 0 old new → Wrote (IsPartPacked o others ds) 1 before after → HasWrittenFront old new before after
-written_front laws o h views others cs ds old new before after a b w v =
+written_prefix : Laws → (o : Options) (h : BytesRead) (views others : List View) (cs ds : List Channel)
+    (old new before after : BytesWritten) → IsFitFor o h views cs → IsFitFor o h others ds
+    → Wrote (ArePackedInto o views cs) 0 old new → Wrote (IsPartPacked o others ds) 1 before after
+    → HasWrittenPrefix old new before after
+written_prefix laws o h views others cs ds old new before after a b w v =
     let same : (views ≡ others) × (cs ≡ ds) = one_whole laws h views others cs ds a.archive b.archive in
-    let all : ArePackedInto o others ds w.text = subst (λ (vs : List View). ArePackedInto o vs ds w.text) same.0 (subst (λ (xs : List Channel). ArePackedInto o views xs w.text) same.1 w.text_is) in
-    let found : Behind v.text w.text = text_front laws o others ds w.text v.text all v.text_is in
-    record { front = v.text; rest = found.0; here = w.bytes ∙ ap (λ (xs : List ℕ). old.bytes ++ xs) found.1; there = v.bytes }
+    let all : ArePackedInto o others ds w.text =
+    subst (λ (vs : List View). ArePackedInto o vs ds w.text) same.0
+    (subst (λ (xs : List Channel). ArePackedInto o views xs w.text) same.1 w.text_is) in
+    let found : Behind v.text w.text = text_prefix laws o others ds w.text v.text all v.text_is in
+    record {
+      prefix = v.text;
+      rest = found.0;
+      here = w.bytes ∙ ap (λ (xs : List ℕ). old.bytes ++ xs) found.1;
+      there = v.bytes;
+    }
 
-written_one : Laws → (o : Options) (h : Heard) (views others : List View) (cs ds : List Channel) (old new before after : Said) → IsFitFor o h views cs → IsFitFor o h others ds
-    → Wrote (ArePackedInto o views cs) 0 old new → Wrote (ArePackedInto o others ds) 0 before after → HaveWrittenOne old new before after
+written_one : Laws → (o : Options) (h : BytesRead) (views others : List View) (cs ds : List Channel)
+    (old new before after : BytesWritten) → IsFitFor o h views cs → IsFitFor o h others ds
+    → Wrote (ArePackedInto o views cs) 0 old new → Wrote (ArePackedInto o others ds) 0 before after
+    → HaveWrittenOne old new before after
 written_one laws o h views others cs ds old new before after a b w v =
     let same : (views ≡ others) × (cs ≡ ds) = one_whole laws h views others cs ds a.archive b.archive in
-    let all : ArePackedInto o others ds w.text = subst (λ (vs : List View). ArePackedInto o vs ds w.text) same.0 (subst (λ (xs : List Channel). ArePackedInto o views xs w.text) same.1 w.text_is) in
-    let text : w.text ≡ v.text = one_text laws o others ds w.text v.text (along o others ds w.text all) (along o others ds v.text v.text_is) in
+    let all : ArePackedInto o others ds w.text =
+    subst (λ (vs : List View). ArePackedInto o vs ds w.text) same.0
+    (subst (λ (xs : List Channel). ArePackedInto o views xs w.text) same.1 w.text_is) in
+    let text : w.text ≡ v.text =
+    one_text laws o others ds w.text v.text (along o others ds w.text all) (along o others ds v.text v.text_is) in
     record { text = v.text; here = w.bytes ∙ ap (λ (xs : List ℕ). old.bytes ++ xs) text; there = v.bytes }
 
 -- A continuous channel isn't broken, and one that can be packed isn't one that can't.
@@ -366,73 +482,107 @@ FirstBroken views cs key = IsFirst (Whole views) (λ (k : List ℕ). ¬ (Whole v
 abbrev FirstMisfit : Options → List View → List Channel → PackFault → List ℕ → Type 0
 FirstMisfit o views cs fault key = IsFirst (CanBePacked o views) (CantBePacked o views fault) key cs
 
-never_broken : Laws → (h : Heard) (views others : List View) (cs ds : List Channel) (key : List ℕ) → IsArchiveOf h views cs → IsArchiveOf h others ds
+never_broken : Laws → (h : BytesRead) (views others : List View) (cs ds : List Channel) (key : List ℕ)
+    → IsArchiveOf h views cs → IsArchiveOf h others ds
     → All (λ (c : Channel). Whole views c.0) cs → FirstBroken others ds key → ⊥
 never_broken laws h views others cs ds key a b all is =
     let same : (views ≡ others) × (cs ≡ ds) = one_whole laws h views others cs ds a b in
-    let each : All (λ (c : Channel). Whole others c.0) ds = subst (λ (vs : List View). All (λ (c : Channel). Whole vs c.0) ds) same.0 (subst (λ (xs : List Channel). All (λ (c : Channel). Whole views c.0) xs) same.1 all) in
+    let each : All (λ (c : Channel). Whole others c.0) ds =
+    subst (λ (vs : List View). All (λ (c : Channel). Whole vs c.0) ds) same.0
+    (subst (λ (xs : List Channel). All (λ (c : Channel). Whole views c.0) xs) same.1 all) in
     none_first (Whole others) (λ (k : List ℕ). ¬ (Whole others k)) key ds (λ k no yes. no yes) each is
 
-never_misfit : Laws → (o : Options) (h : Heard) (views others : List View) (cs ds : List Channel) (key : List ℕ) (fault : PackFault) → IsArchiveOf h views cs → IsArchiveOf h others ds
+never_misfit : Laws → (o : Options) (h : BytesRead) (views others : List View) (cs ds : List Channel) (key : List ℕ)
+    (fault : PackFault) → IsArchiveOf h views cs → IsArchiveOf h others ds
     → All (λ (c : Channel). CanBePacked o views c.0) cs → FirstMisfit o others ds fault key → ⊥
 never_misfit laws o h views others cs ds key fault a b all is =
     let same : (views ≡ others) × (cs ≡ ds) = one_whole laws h views others cs ds a b in
     let each : All (λ (c : Channel). CanBePacked o others c.0) ds =
-    subst (λ (vs : List View). All (λ (c : Channel). CanBePacked o vs c.0) ds) same.0 (subst (λ (xs : List Channel). All (λ (c : Channel). CanBePacked o views c.0) xs) same.1 all) in
+    subst (λ (vs : List View). All (λ (c : Channel). CanBePacked o vs c.0) ds) same.0
+    (subst (λ (xs : List Channel). All (λ (c : Channel). CanBePacked o views c.0) xs) same.1 all) in
     none_first (CanBePacked o others) (CantBePacked o others fault) key ds (cant laws o others fault) each is
 
-same_broken : Laws → (h : Heard) (views others : List View) (cs ds : List Channel) (k l : List ℕ) → IsArchiveOf h views cs → IsArchiveOf h others ds → FirstBroken views cs k → FirstBroken others ds l → k ≡ l
+same_broken : Laws → (h : BytesRead) (views others : List View) (cs ds : List Channel) (k l : List ℕ)
+    → IsArchiveOf h views cs → IsArchiveOf h others ds → FirstBroken views cs k → FirstBroken others ds l → k ≡ l
 same_broken laws h views others cs ds k l a b p q =
     let same : (views ≡ others) × (cs ≡ ds) = one_whole laws h views others cs ds a b in
-    let first : FirstBroken others ds k = subst (λ (vs : List View). FirstBroken vs ds k) same.0 (subst (λ (xs : List Channel). FirstBroken views xs k) same.1 p) in
+    let first : FirstBroken others ds k =
+    subst (λ (vs : List View). FirstBroken vs ds k) same.0
+    (subst (λ (xs : List Channel). FirstBroken views xs k) same.1 p) in
     let no : (key : List ℕ) → ¬ (Whole others key) → ¬ (Whole others key) = λ key n. n in
-    one_first_key (Whole others) (λ (key : List ℕ). ¬ (Whole others key)) (λ (key : List ℕ). ¬ (Whole others key)) k l ds no no first q
+    one_first_key (Whole others) (λ (key : List ℕ). ¬ (Whole others key)) (λ (key : List ℕ). ¬ (Whole others key)) k l
+    ds no no first q
 
-same_misfit : Laws → (o : Options) (h : Heard) (views others : List View) (cs ds : List Channel) (k l : List ℕ) (f g : PackFault) → IsArchiveOf h views cs → IsArchiveOf h others ds
+same_misfit : Laws → (o : Options) (h : BytesRead) (views others : List View) (cs ds : List Channel) (k l : List ℕ)
+    (f g : PackFault) → IsArchiveOf h views cs → IsArchiveOf h others ds
     → FirstMisfit o views cs f k → FirstMisfit o others ds g l → Misfit k f ≡ Misfit l g
 same_misfit laws o h views others cs ds k l f g a b p q =
     let same : (views ≡ others) × (cs ≡ ds) = one_whole laws h views others cs ds a b in
-    let first : FirstMisfit o others ds f k = subst (λ (vs : List View). FirstMisfit o vs ds f k) same.0 (subst (λ (xs : List Channel). FirstMisfit o views xs f k) same.1 p) in
-    let key : k ≡ l = one_first_key (CanBePacked o others) (CantBePacked o others f) (CantBePacked o others g) k l ds (cant laws o others f) (cant laws o others g) first q in
+    let first : FirstMisfit o others ds f k =
+    subst (λ (vs : List View). FirstMisfit o vs ds f k) same.0
+    (subst (λ (xs : List Channel). FirstMisfit o views xs f k) same.1 p) in
+    let key : k ≡ l = one_first_key (CanBePacked o others) (CantBePacked o others f) (CantBePacked o others g) k l ds
+    (cant laws o others f) (cant laws o others g) first q in
     let fault : f ≡ g = one_cant laws o others f g l (subst (CantBePacked o others f) key first.is_it) q.is_it in
     cc
 
-beside : Laws → (o : Options) (h : Heard) (fault : RepackFault) (old new before after : Said) → IsRepacking {U = ⊤} o (Ok tt) h old new → IsRepacking {U = ⊤} o (Err fault) h before after
+beside : Laws → (o : Options) (h : BytesRead) (fault : RepackFault) (old new before after : BytesWritten)
+    → IsRepacking {U = ⊤} o (Ok tt) h old new → IsRepacking {U = ⊤} o (Err fault) h before after
     → ComeToOne (Ok tt) (Err fault) old new before after
 beside laws o h (Stream f) old new before after p q = absurd (never_unread h f p.0 q.0 q.1 p.1.1.0.archive.whole)
-beside laws o h (Broken key) old new before after p q = absurd (never_broken laws h p.0 q.0 p.1.0 q.1.0 key p.1.1.0.archive q.1.1.0 p.1.1.0.continuous q.1.1.1)
-beside laws o h (Misfit key f) old new before after p q = absurd (never_misfit laws o h p.0 q.0 p.1.0 q.1.0 key f p.1.1.0.archive q.1.1.0 p.1.1.0.fit q.1.1.2)
-beside laws o h Write old new before after p q = written_front laws o h p.0 q.0 p.1.0 q.1.0 old new before after p.1.1.0 q.1.1.0 p.1.1.1 q.1.1.1
+beside laws o h (Broken key) old new before after p q =
+    absurd (never_broken laws h p.0 q.0 p.1.0 q.1.0 key p.1.1.0.archive q.1.1.0 p.1.1.0.continuous q.1.1.1)
+beside laws o h (Misfit key f) old new before after p q =
+    absurd (never_misfit laws o h p.0 q.0 p.1.0 q.1.0 key f p.1.1.0.archive q.1.1.0 p.1.1.0.fit q.1.1.2)
+beside laws o h Write old new before after p q =
+    written_prefix laws o h p.0 q.0 p.1.0 q.1.0 old new before after p.1.1.0 q.1.1.0 p.1.1.1 q.1.1.1
 beside laws o h Memory old new before after p q = tt
 
-one_fault : Laws → (o : Options) (h : Heard) (f g : RepackFault) (old new before after : Said) → IsRepacking {U = ⊤} o (Err f) h old new → IsRepacking {U = ⊤} o (Err g) h before after
+one_fault : Laws → (o : Options) (h : BytesRead) (f g : RepackFault) (old new before after : BytesWritten)
+    → IsRepacking {U = ⊤} o (Err f) h old new → IsRepacking {U = ⊤} o (Err g) h before after
     → (f ≡ Memory) ⊎ ((g ≡ Memory) ⊎ (f ≡ g))
 one_fault laws o h Memory g old new before after p q = inl refl
 one_fault laws o h (Stream f) Memory old new before after p q = inr (inl refl)
-one_fault laws o h (Stream f) (Stream g) old new before after p q = inr (inr (ap Stream (one_unread h f g p.0 q.0 p.1 q.1)))
+one_fault laws o h (Stream f) (Stream g) old new before after p q =
+    inr (inr (ap Stream (one_unread h f g p.0 q.0 p.1 q.1)))
 one_fault laws o h (Stream f) (Broken l) old new before after p q = absurd (never_unread h f q.0 p.0 p.1 q.1.1.0.whole)
-one_fault laws o h (Stream f) (Misfit l g) old new before after p q = absurd (never_unread h f q.0 p.0 p.1 q.1.1.0.whole)
-one_fault laws o h (Stream f) Write old new before after p q = absurd (never_unread h f q.0 p.0 p.1 q.1.1.0.archive.whole)
+one_fault laws o h (Stream f) (Misfit l g) old new before after p q =
+    absurd (never_unread h f q.0 p.0 p.1 q.1.1.0.whole)
+one_fault laws o h (Stream f) Write old new before after p q =
+    absurd (never_unread h f q.0 p.0 p.1 q.1.1.0.archive.whole)
 one_fault laws o h (Broken k) Memory old new before after p q = inr (inl refl)
 one_fault laws o h (Broken k) (Stream g) old new before after p q = absurd (never_unread h g p.0 q.0 q.1 p.1.1.0.whole)
-one_fault laws o h (Broken k) (Broken l) old new before after p q = inr (inr (ap Broken (same_broken laws h p.0 q.0 p.1.0 q.1.0 k l p.1.1.0 q.1.1.0 p.1.1.1 q.1.1.1)))
-one_fault laws o h (Broken k) (Misfit l g) old new before after p q = absurd (never_broken laws h q.0 p.0 q.1.0 p.1.0 k q.1.1.0 p.1.1.0 q.1.1.1 p.1.1.1)
-one_fault laws o h (Broken k) Write old new before after p q = absurd (never_broken laws h q.0 p.0 q.1.0 p.1.0 k q.1.1.0.archive p.1.1.0 q.1.1.0.continuous p.1.1.1)
+one_fault laws o h (Broken k) (Broken l) old new before after p q =
+    inr (inr (ap Broken (same_broken laws h p.0 q.0 p.1.0 q.1.0 k l p.1.1.0 q.1.1.0 p.1.1.1 q.1.1.1)))
+one_fault laws o h (Broken k) (Misfit l g) old new before after p q =
+    absurd (never_broken laws h q.0 p.0 q.1.0 p.1.0 k q.1.1.0 p.1.1.0 q.1.1.1 p.1.1.1)
+one_fault laws o h (Broken k) Write old new before after p q =
+    absurd (never_broken laws h q.0 p.0 q.1.0 p.1.0 k q.1.1.0.archive p.1.1.0 q.1.1.0.continuous p.1.1.1)
 one_fault laws o h (Misfit k f) Memory old new before after p q = inr (inl refl)
-one_fault laws o h (Misfit k f) (Stream g) old new before after p q = absurd (never_unread h g p.0 q.0 q.1 p.1.1.0.whole)
-one_fault laws o h (Misfit k f) (Broken l) old new before after p q = absurd (never_broken laws h p.0 q.0 p.1.0 q.1.0 l p.1.1.0 q.1.1.0 p.1.1.1 q.1.1.1)
-one_fault laws o h (Misfit k f) (Misfit l g) old new before after p q = inr (inr (same_misfit laws o h p.0 q.0 p.1.0 q.1.0 k l f g p.1.1.0 q.1.1.0 p.1.1.2 q.1.1.2))
-one_fault laws o h (Misfit k f) Write old new before after p q = absurd (never_misfit laws o h q.0 p.0 q.1.0 p.1.0 k f q.1.1.0.archive p.1.1.0 q.1.1.0.fit p.1.1.2)
+one_fault laws o h (Misfit k f) (Stream g) old new before after p q =
+    absurd (never_unread h g p.0 q.0 q.1 p.1.1.0.whole)
+one_fault laws o h (Misfit k f) (Broken l) old new before after p q =
+    absurd (never_broken laws h p.0 q.0 p.1.0 q.1.0 l p.1.1.0 q.1.1.0 p.1.1.1 q.1.1.1)
+one_fault laws o h (Misfit k f) (Misfit l g) old new before after p q =
+    inr (inr (same_misfit laws o h p.0 q.0 p.1.0 q.1.0 k l f g p.1.1.0 q.1.1.0 p.1.1.2 q.1.1.2))
+one_fault laws o h (Misfit k f) Write old new before after p q =
+    absurd (never_misfit laws o h q.0 p.0 q.1.0 p.1.0 k f q.1.1.0.archive p.1.1.0 q.1.1.0.fit p.1.1.2)
 one_fault laws o h Write Memory old new before after p q = inr (inl refl)
-one_fault laws o h Write (Stream g) old new before after p q = absurd (never_unread h g p.0 q.0 q.1 p.1.1.0.archive.whole)
-one_fault laws o h Write (Broken l) old new before after p q = absurd (never_broken laws h p.0 q.0 p.1.0 q.1.0 l p.1.1.0.archive q.1.1.0 p.1.1.0.continuous q.1.1.1)
-one_fault laws o h Write (Misfit l g) old new before after p q = absurd (never_misfit laws o h p.0 q.0 p.1.0 q.1.0 l g p.1.1.0.archive q.1.1.0 p.1.1.0.fit q.1.1.2)
+one_fault laws o h Write (Stream g) old new before after p q =
+    absurd (never_unread h g p.0 q.0 q.1 p.1.1.0.archive.whole)
+one_fault laws o h Write (Broken l) old new before after p q =
+    absurd (never_broken laws h p.0 q.0 p.1.0 q.1.0 l p.1.1.0.archive q.1.1.0 p.1.1.0.continuous q.1.1.1)
+one_fault laws o h Write (Misfit l g) old new before after p q =
+    absurd (never_misfit laws o h p.0 q.0 p.1.0 q.1.0 l g p.1.1.0.archive q.1.1.0 p.1.1.0.fit q.1.1.2)
 one_fault laws o h Write Write old new before after p q = inr (inr refl)
 
 -- packing an archive anew comes to one text or to one fault, memory aside
-pub one_repacking : Laws → (o : Options) (h : Heard) (result other : Result ⊤ RepackFault) (old new before after : Said) → IsRepacking o result h old new → IsRepacking o other h before after
+pub one_repacking : Laws
+    → (o : Options) (h : BytesRead) (result other : Result ⊤ RepackFault) (old new before after : BytesWritten)
+    → IsRepacking o result h old new → IsRepacking o other h before after
     → ComeToOne result other old new before after
-one_repacking laws o h (Ok u) (Ok v) old new before after p q = written_one laws o h p.0 q.0 p.1.0 q.1.0 old new before after p.1.1.0 q.1.1.0 p.1.1.1 q.1.1.1
+one_repacking laws o h (Ok u) (Ok v) old new before after p q =
+    written_one laws o h p.0 q.0 p.1.0 q.1.0 old new before after p.1.1.0 q.1.1.0 p.1.1.1 q.1.1.1
 one_repacking laws o h (Ok u) (Err g) old new before after p q = beside laws o h g old new before after p q
 one_repacking laws o h (Err f) (Ok v) old new before after p q = beside laws o h f before after old new q p
 one_repacking laws o h (Err f) (Err g) old new before after p q = one_fault laws o h f g old new before after p q

@@ -1,5 +1,6 @@
 -- What is known of a channel's samples, record by record.
-use Rattle.std.proofs.Common.{◌≡◌, ℕ, ℤ, ◌+◌, ◌≤◌, ◌<◌, List, [], ◌∷◌, ◌++◌, length, take, refl, sym, ap, subst, ◌∙◌, arith, All}
+use Rattle.std.proofs.Common.{◌≡◌, ℕ, ℤ, ◌+◌, ◌≤◌, ◌<◌, List, [], ◌∷◌, ◌++◌, length, take, refl, sym, ap, subst, ◌∙◌}
+use Rattle.std.proofs.Common.{arith, All}
 use Rattle.std.proofs.lemmas.List.{take_all, length-append}
 use Rattle.std.proofs.lemmas.List.Elements.{All-append, All-nil}
 use Rattle.mseed_time.specs.declared.outcome.LeapStep.{LeapStep}
@@ -19,7 +20,8 @@ use Rattle.mseed_repack.proofs.Near.{whole_within}
 use Rattle.mseed_repack.proofs.ReadChannels.{IsRead, read_more, read_none}
 
 -- what is known of the samples of these records, as if they had been read
-pub record IsOutlined (key : List ℕ) (vs : List View) (m k : ℕ) (nearness : Nearness) (steps : List (ℕ × LeapStep)) : Type 0 where
+pub record IsOutlined (key : List ℕ) (vs : List View) (m k : ℕ) (nearness : Nearness)
+    (steps : List (ℕ × LeapStep)) : Type 0 where
   pub samples : List ℤ
   pub read : IsRead key vs m k samples steps
   pub long : length samples ≡ m
@@ -36,23 +38,29 @@ outlined_none key steps = record {
 }
 
 -- one more record
-pub outlined_more : (key : List ℕ) (vs : List View) (v : View) (m k m' k' : ℕ) (near near' : Nearness) (s : List ℤ) (ss ss' : List (ℕ × LeapStep)) → IsOutlined key vs m k near ss
-    → IsWhole v s → m' ≡ m + count_of v → take k' ss' ≡ take k ss ++ step_at m' (step_in (leap_of v.bytes)) → k' ≡ k + step_count v
-    → ((xs s : List ℤ) → IsKnown near xs → IsWhole v s → IsKnown near' (xs ++ s)) → IsOutlined key (vs ++ v ∷ []) m' k' near' ss'
+pub outlined_more : (key : List ℕ) (vs : List View) (v : View) (m k m' k' : ℕ) (near near' : Nearness) (s : List ℤ)
+    (ss ss' : List (ℕ × LeapStep)) → IsOutlined key vs m k near ss
+    → IsWhole v s → m' ≡ m + count_of v → take k' ss' ≡ take k ss ++ step_at m' (step_in (leap_of v.bytes))
+    → k' ≡ k + step_count v
+    → ((xs s : List ℤ) → IsKnown near xs → IsWhole v s → IsKnown near' (xs ++ s))
+    → IsOutlined key (vs ++ v ∷ []) m' k' near' ss'
 outlined_more key vs v m k m' k' near near' s ss ss' h whole count steps bears known =
     let xs : List ℤ = h.samples in
     let inside : length xs ≤ m = omega (arith, h.long) in
     let size : length (xs ++ s) ≡ m' = omega (arith, length-append xs s, h.long, count, count_is v s whole) in
     let all : length (xs ++ s) ≤ m' = omega (arith, size) in
-    let taken : take m' (xs ++ s) ≡ take m xs ++ s = take_all m' (xs ++ s) all ∙ ap (λ (ys : List ℤ). ys ++ s) (sym (take_all m xs inside)) in record {
+    let taken : take m' (xs ++ s) ≡ take m xs ++ s = take_all m' (xs ++ s) all
+    ∙ ap (λ (ys : List ℤ). ys ++ s) (sym (take_all m xs inside)) in record {
       samples = xs ++ s;
-      read = read_more key vs v m k m' k' xs (xs ++ s) s ss ss' (omega (arith, h.long)) h.read whole taken steps count bears;
+      read = read_more key vs v m k m' k' xs (xs ++ s) s ss ss' (omega (arith, h.long)) h.read whole taken steps count
+          bears;
       long = size;
       within = All-append (IsWithin 32) xs s h.within (whole_within v s whole);
       known = known xs s h.known whole;
     }
 
-pub outline_is : (key : List ℕ) (vs : List View) (m k : ℕ) (near : Nearness) (ss : List (ℕ × LeapStep)) → IsOutlined key vs m k near ss → IsOutline key vs m k near ss
+pub outline_is : (key : List ℕ) (vs : List View) (m k : ℕ) (near : Nearness) (ss : List (ℕ × LeapStep))
+    → IsOutlined key vs m k near ss → IsOutline key vs m k near ss
 outline_is key vs m k near ss h = record {
   samples = h.samples;
   are = subst (λ (xs : List ℤ). AreOf key vs xs (take k ss)) (take_all m h.samples (omega (arith, h.long))) h.read.read;
@@ -67,7 +75,8 @@ empty_list [] e = refl
 empty_list (y ∷ ys) e = absurd (omega (arith, e))
 
 -- a series fits where another of as many samples does, and the encoding holds its own
-pub fits_with : (s : Trace) (xs : List ℤ) (o p : Options) → length xs ≡ length s.samples → Fits s p → AreHeld o.encoding xs → Fits (with_samples xs s) o
+pub fits_with : (s : Trace) (xs : List ℤ) (o p : Options) → length xs ≡ length s.samples → Fits s p
+    → AreHeld o.encoding xs → Fits (with_samples xs s) o
 fits_with s xs o p size fits held = record {
   some = λ none. fits.some (empty_list s.samples (sym size ∙ ap (λ (ys : List ℤ). length ys) none));
   slow = fits.slow;

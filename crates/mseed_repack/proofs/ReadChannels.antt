@@ -1,5 +1,6 @@
 -- A channel's samples and leap seconds, record by record.
-use Rattle.std.proofs.Common.{◌≡◌, ℕ, ℤ, ◌+◌, ◌<◌, ◌≤◌, ◌++◌, List, [], ◌∷◌, Bool, true, false, if◌then◌else◌, length, take, drop, get_or, map, refl, sym, ap, ◌∙◌, arith, append-nil, Option, Some, None}
+use Rattle.std.proofs.Common.{◌≡◌, ℕ, ℤ, ◌+◌, ◌<◌, ◌≤◌, ◌++◌, List, [], ◌∷◌, Bool, true, false, if◌then◌else◌, length}
+use Rattle.std.proofs.Common.{take, drop, get_or, map, refl, sym, ap, ◌∙◌, arith, append-nil, Option, Some, None}
 use Rattle.std.proofs.lemmas.List.{length-take-le, take-append-drop, take_more, map-append}
 use Rattle.std.proofs.lemmas.List.Elements.{filter-append}
 use Rattle.mseed_time.specs.declared.outcome.LeapStep.{LeapStep}
@@ -15,7 +16,8 @@ use Rattle.mseed_audit.proofs.Places.{steps_behind, steps_kept}
 use Rattle.mseed_repack.specs.Reading.{AreOf, channel_in, samples_of, step_count, steps_of}
 
 -- what of the lists was read of these records
-pub record IsRead (key : List ℕ) (vs : List View) (m k : ℕ) (samples : List ℤ) (steps : List (ℕ × LeapStep)) : Type 0 where
+pub record IsRead (key : List ℕ) (vs : List View) (m k : ℕ) (samples : List ℤ) (steps : List (ℕ × LeapStep)) : Type
+    0 where
   pub read : AreOf key vs (take m samples) (take k steps)
   pub places : AreSteps m (take k steps)
   pub samples_count : m ≡ samples_of vs
@@ -33,67 +35,104 @@ steps_in : (key : List ℕ) (vs : List View) → steps_of (channel_in key vs) �
 steps_in key [] = omega arith
 steps_in key (v ∷ vs) = by (is_of key v) (steps_in key vs)
   where
-    by : (b : Bool) → steps_of (channel_in key vs) ≤ steps_of vs → steps_of (if b then v ∷ channel_in key vs else channel_in key vs) ≤ step_count v + steps_of vs
+    by : (b : Bool) → steps_of (channel_in key vs) ≤ steps_of vs
+        → steps_of (if b then v ∷ channel_in key vs else channel_in key vs) ≤ step_count v + steps_of vs
     by true rest = omega (arith, rest)
     by false rest = omega (arith, rest)
 
 cut : (rs : List RecordView) (n : ℕ) → map view_of (take n rs) ++ map view_of (drop n rs) ≡ map view_of rs
-cut rs n = sym (map-append view_of (take n rs) (drop n rs)) ∙ ap (λ (qs : List RecordView). map view_of qs) (take-append-drop n rs)
+cut rs n = sym (map-append view_of (take n rs) (drop n rs))
+    ∙ ap (λ (qs : List RecordView). map view_of qs) (take-append-drop n rs)
 
 -- the first records have no more samples, and bear no more leap seconds, than all have
-pub samples_front : (key : List ℕ) (rs : List RecordView) (n : ℕ) → samples_of (channel_in key (map view_of (take n rs))) ≤ samples_of (channel_in key (map view_of rs))
-samples_front key rs n =
-    let front = map view_of (take n rs) in
+pub samples_prefix : (key : List ℕ) (rs : List RecordView) (n : ℕ)
+    → samples_of (channel_in key (map view_of (take n rs))) ≤ samples_of (channel_in key (map view_of rs))
+samples_prefix key rs n =
+    let prefix = map view_of (take n rs) in
     let back = map view_of (drop n rs) in
-    let whole : samples_of (channel_in key (map view_of rs)) ≡ samples_of (channel_in key front) + samples_of (channel_in key back) =
-    ap (λ (vs : List View). samples_of (channel_in key vs)) (sym (cut rs n)) ∙ ap samples_of (filter-append (is_of key) front back) ∙ samples_append (channel_in key front) (channel_in key back) in
+    let whole : samples_of (channel_in key (map view_of rs)) ≡ samples_of (channel_in key prefix) + samples_of
+    (channel_in key back) =
+    ap (λ (vs : List View). samples_of (channel_in key vs)) (sym (cut rs n))
+    ∙ ap samples_of (filter-append (is_of key) prefix back)
+    ∙ samples_append (channel_in key prefix) (channel_in key back) in
     omega (arith, whole)
 
-pub steps_front : (key : List ℕ) (rs : List RecordView) (n : ℕ) → steps_of (channel_in key (map view_of (take n rs))) ≤ steps_of (map view_of rs)
-steps_front key rs n =
-    let front = map view_of (take n rs) in
+pub steps_prefix : (key : List ℕ) (rs : List RecordView) (n : ℕ)
+    → steps_of (channel_in key (map view_of (take n rs))) ≤ steps_of (map view_of rs)
+steps_prefix key rs n =
+    let prefix = map view_of (take n rs) in
     let back = map view_of (drop n rs) in
-    let whole : steps_of (map view_of rs) ≡ steps_of front + steps_of back = ap (λ (vs : List View). steps_of vs) (sym (cut rs n)) ∙ steps_append front back in
-    let few = steps_in key front in
+    let whole : steps_of (map view_of rs) ≡ steps_of prefix + steps_of back =
+    ap (λ (vs : List View). steps_of vs) (sym (cut rs n)) ∙ steps_append prefix back in
+    let few = steps_in key prefix in
     omega (arith, whole, few)
 
-pub steps_next : (rs : List RecordView) (n : ℕ) (r : RecordView) → n < length rs → r ≡ get_or rs n r → steps_of (map view_of (take (n + 1) rs)) ≡ steps_of (map view_of (take n rs)) + step_count (view_of r)
+pub steps_next : (rs : List RecordView) (n : ℕ) (r : RecordView) → n < length rs → r ≡ get_or rs n r
+    → steps_of (map view_of (take (n + 1) rs)) ≡ steps_of (map view_of (take n rs)) + step_count (view_of r)
 steps_next rs n r h is =
-    let front = map view_of (take n rs) in
-    let all : map view_of (take (n + 1) rs) ≡ front ++ view_of r ∷ [] =
-    ap (λ (qs : List RecordView). map view_of qs) (take_more rs n r h ∙ ap (λ (q : RecordView). take n rs ++ q ∷ []) (sym is)) ∙ map-append view_of (take n rs) (r ∷ []) in
-    let sum : steps_of (map view_of (take (n + 1) rs)) ≡ steps_of front + steps_of (view_of r ∷ []) = ap (λ (vs : List View). steps_of vs) all ∙ steps_append front (view_of r ∷ []) in
+    let prefix = map view_of (take n rs) in
+    let all : map view_of (take (n + 1) rs) ≡ prefix ++ view_of r ∷ [] =
+    ap (λ (qs : List RecordView). map view_of qs) (take_more rs n r h
+    ∙ ap (λ (q : RecordView). take n rs ++ q ∷ []) (sym is)) ∙ map-append view_of (take n rs) (r ∷ []) in
+    let sum : steps_of (map view_of (take (n + 1) rs)) ≡ steps_of prefix + steps_of (view_of r ∷ []) =
+    ap (λ (vs : List View). steps_of vs) all ∙ steps_append prefix (view_of r ∷ []) in
     omega (arith, sum)
 
 pub read_none : (key : List ℕ) (samples : List ℤ) (steps : List (ℕ × LeapStep)) → IsRead key [] 0 0 samples steps
 read_none key samples steps = record {
-  read = λ start rate. holds_none key start rate [] (record { codes = key; start = start; rate = rate; samples = []; steps = [] }) refl refl;
+  read = λ start rate. holds_none key start rate [] (record {
+    codes = key;
+    start = start;
+    rate = rate;
+    samples = [];
+    steps = [];
+  }) refl refl;
   places = tt;
   samples_count = refl;
   steps_count = refl;
 }
 
-places_more : (o : Option LeapStep) (m n : ℕ) (old new : List (ℕ × LeapStep)) → m < n → AreSteps m old → new ≡ old ++ step_at n o → AreSteps n new
+places_more : (o : Option LeapStep) (m n : ℕ) (old new : List (ℕ × LeapStep)) → m < n → AreSteps m old
+    → new ≡ old ++ step_at n o → AreSteps n new
 places_more None m n old new less h e = steps_kept m n old new (omega (arith, less)) h (e ∙ append-nil old)
 places_more (Some step) m n old new less h e = steps_behind m n n old new step less refl h e
 
 -- one more record
-pub read_more : (key : List ℕ) (vs : List View) (v : View) (m k m' k' : ℕ) (xs xs' s : List ℤ) (ss ss' : List (ℕ × LeapStep)) → m ≤ length xs → IsRead key vs m k xs ss
-    → IsWhole v s → take m' xs' ≡ take m xs ++ s → take k' ss' ≡ take k ss ++ step_at m' (step_in (leap_of v.bytes)) → m' ≡ m + count_of v → k' ≡ k + step_count v
+pub read_more : (key : List ℕ) (vs : List View) (v : View) (m k m' k' : ℕ) (xs xs' s : List ℤ)
+    (ss ss' : List (ℕ × LeapStep)) → m ≤ length xs → IsRead key vs m k xs ss
+    → IsWhole v s → take m' xs' ≡ take m xs ++ s → take k' ss' ≡ take k ss ++ step_at m' (step_in (leap_of v.bytes))
+    → m' ≡ m + count_of v → k' ≡ k + step_count v
     → IsRead key (vs ++ v ∷ []) m' k' xs' ss'
 read_more key vs v m k m' k' xs xs' s ss ss' inside h whole samples steps count bears =
     let o : Option LeapStep = step_in (leap_of v.bytes) in
     let long : length (take m xs) ≡ m = length-take-le m xs inside in
     let at : m' ≡ length (take m xs) + length s = omega (arith, long, count, count_is v s whole) in
-    let behind : take k' ss' ≡ take k ss ++ step_at (length (take m xs) + length s) o = steps ∙ ap (λ (n : ℕ). take k ss ++ step_at n o) at in
+    let behind : take k' ss' ≡ take k ss ++ step_at (length (take m xs) + length s) o =
+    steps ∙ ap (λ (n : ℕ). take k ss ++ step_at n o) at in
     let some = whole.0.some in
     record {
       read = λ start rate.
-          holds_more key start rate vs v s o (record { codes = key; start = start; rate = rate; samples = take m xs; steps = take k ss })
-          (record { codes = key; start = start; rate = rate; samples = take m' xs'; steps = take k' ss' }) (h.read start rate) whole refl
-          (ap (λ (ys : List ℤ). record { codes = key; start = start; rate = rate; samples = ys; steps = take k' ss' }) samples
-          ∙ ap (λ (ts : List (ℕ × LeapStep)). record { codes = key; start = start; rate = rate; samples = take m xs ++ s; steps = ts }) behind);
+          holds_more key start rate vs v s o (record {
+            codes = key;
+            start = start;
+            rate = rate;
+            samples = take m xs;
+            steps = take k ss;
+          })
+          (record { codes = key; start = start; rate = rate; samples = take m' xs'; steps = take k' ss' })
+          (h.read start rate) whole refl
+          (ap (λ (ys : List ℤ). record { codes = key; start = start; rate = rate; samples = ys; steps = take k' ss' })
+          samples
+          ∙ ap (λ (ts : List (ℕ × LeapStep)). record {
+            codes = key;
+            start = start;
+            rate = rate;
+            samples = take m xs ++ s;
+            steps = ts;
+          }) behind);
       places = places_more o m m' (take k ss) (take k' ss') (omega (arith, count, some)) h.places steps;
-      samples_count = let before = h.samples_count in let all = samples_append vs (v ∷ []) in omega (arith, count, before, all);
-      steps_count = let before = h.steps_count in let all = steps_append vs (v ∷ []) in omega (arith, bears, before, all);
+      samples_count = let before = h.samples_count in let all = samples_append vs (v ∷ []) in
+          omega (arith, count, before, all);
+      steps_count = let before = h.steps_count in let all = steps_append vs (v ∷ []) in
+          omega (arith, bears, before, all);
     }

@@ -1,5 +1,7 @@
 -- Channels of an archive, as they are packed one by one.
-use Rattle.std.proofs.Common.{◌≡◌, ℕ, suc, ◌+◌, ◌<◌, ◌≤◌, ◌↔◌, Bool, true, ◌++◌, List, [], ◌∷◌, length, take, drop, map, get_or, refl, sym, ap, subst, ◌∙◌, append_assoc, arith, false, IsTrue, Option, Some, All, append-nil}
+use Rattle.std.proofs.Common.{◌≡◌, ℕ, suc, ◌+◌, ◌<◌, ◌≤◌, ◌↔◌, Bool, true, ◌++◌, List, [], ◌∷◌, length, take, drop, map}
+use Rattle.std.proofs.Common.{get_or, refl, sym, ap, subst, ◌∙◌, append_assoc, arith, false, IsTrue, Option, Some, All}
+use Rattle.std.proofs.Common.{append-nil}
 use Rattle.std.specs.List.{concat, AllByRecursion}
 use Rattle.std.specs.Map.{lookup, keys_of}
 use Rattle.std.specs.Ordering.{nat_cmp, is_eq}
@@ -16,7 +18,7 @@ use Rattle.std.proofs.lemmas.Map.Entries.{lookup_head, lookup_tail}
 use Rattle.mseed_record.specs.View.{View}
 use Rattle.mseed_record.specs.Viewing.{view_of}
 use Rattle.mseed_record.specs.declared.view.RecordView.{RecordView}
-use Rattle.mseed_stream.specs.Device.{Said}
+use Rattle.mseed_stream.specs.Device.{BytesWritten}
 use Rattle.mseed_audit.specs.Channels.{Added, added_from, records_of, same_key, views_in}
 use Rattle.mseed_audit.specs.Follows.{IsContinuous}
 use Rattle.mseed_audit.specs.Series.{Trace, IsSeriesOf}
@@ -25,10 +27,11 @@ use Rattle.mseed_audit.specs.declared.verdict.Verdict.{Verdict}
 use Rattle.mseed_audit.specs.Audit.{Held, IsAuditOf}
 use Rattle.mseed_audit.proofs.Behind.{end_of}
 use Rattle.mseed_audit.proofs.Maps.{same_back, same_itself}
-use Rattle.mseed_pack.specs.Outcome.{TookAll, TookFront}
+use Rattle.mseed_pack.specs.Outcome.{TookAll, TookPrefix}
 use Rattle.mseed_pack.specs.declared.fault.PackFault.{PackFault}
 use Rattle.mseed_pack.specs.declared.options.Options.{Options}
-use Rattle.mseed_repack.specs.Repack.{Channel, AreContinuous, ArePackedInto, CanBePacked, CantBePacked, IsFirst, IsPartPacked, Wrote, more, none, records_in}
+use Rattle.mseed_repack.specs.Repack.{Channel, AreContinuous, ArePackedInto, CanBePacked, CantBePacked, IsFirst}
+use Rattle.mseed_repack.specs.Repack.{IsPartPacked, Wrote, more, none, records_in}
 use Rattle.mseed_repack.specs.Repacking.{FailsToPack, FailsToPackOne, IsPackedInPart, IsPackedWhole}
 use Rattle.mseed_repack.specs.declared.fault.RepackFault.{RepackFault}
 use Rattle.mseed_repack.specs.declared.fault.RepackFault.TheVariants.{Stream, Broken, Misfit, Write, Memory}
@@ -38,34 +41,44 @@ apart : (x y : List ℕ) → slice_cmp nat_cmp x y ≡ Less → same_key y x ≡
 apart x y e = same_back y x ∙ ap is_eq e
 
 past : (x : Channel) (whole ys : List Channel) → All (λ k. slice_cmp nat_cmp x.0 k ≡ Less) (keys_of ys)
-    → AllByRecursion (λ (y : Channel). lookup (same_key y.0) whole ≡ Some y.1) ys → AllByRecursion (λ (y : Channel). lookup (same_key y.0) (x ∷ whole) ≡ Some y.1) ys
+    → AllByRecursion (λ (y : Channel). lookup (same_key y.0) whole ≡ Some y.1) ys
+    → AllByRecursion (λ (y : Channel). lookup (same_key y.0) (x ∷ whole) ≡ Some y.1) ys
 past x whole [] low h = tt
 past x whole (y ∷ ys) low h =
-    let behind_x : List ℕ → Type 0 = λ k. slice_cmp nat_cmp x.0 k ≡ Less in
-    (lookup_tail (same_key y.0) x whole (apart x.0 y.0 (All-head behind_x y.0 (keys_of ys) low)) ∙ h.0, past x whole ys (All-tail behind_x y.0 (keys_of ys) low) h.1)
+    let behind_x : List ℕ → Type 0 = λ k. slice_cmp nat_cmp x.0 k ≡ Less in (
+      lookup_tail (same_key y.0) x whole (apart x.0 y.0 (All-head behind_x y.0 (keys_of ys) low)) ∙ h.0,
+      past x whole ys (All-tail behind_x y.0 (keys_of ys) low) h.1,
+    )
 
-pub found : (cs : List Channel) → IsStrictlySortedBy (slice_cmp nat_cmp) (keys_of cs) → AllByRecursion (λ (c : Channel). lookup (same_key c.0) cs ≡ Some c.1) cs
+pub found : (cs : List Channel) → IsStrictlySortedBy (slice_cmp nat_cmp) (keys_of cs)
+    → AllByRecursion (λ (c : Channel). lookup (same_key c.0) cs ≡ Some c.1) cs
 found [] s = tt
 found (x ∷ xs) s = (
   lookup_head (same_key x.0) x xs (same_itself x.0),
-  past x xs xs (All-after_first (slice_cmp nat_cmp) x.0 (keys_of xs) s) (found xs (sorted_tail (slice_cmp nat_cmp) x.0 (keys_of xs) s)),
+  past x xs xs (All-after_first (slice_cmp nat_cmp) x.0 (keys_of xs) s)
+      (found xs (sorted_tail (slice_cmp nat_cmp) x.0 (keys_of xs) s)),
 )
 
 -- each verdict says that its channel is continuous exactly where it is
-pub exact_each : (added : List Added) (cs : List Channel) → AreVerdicts added cs → All (λ (c : Channel). IsTrue (says_continuous c.1) ↔ IsContinuous (views_in (records_of c.0 added))) cs
+pub exact_each : (added : List Added) (cs : List Channel) → AreVerdicts added cs
+    → All (λ (c : Channel). IsTrue (says_continuous c.1) ↔ IsContinuous (views_in (records_of c.0 added))) cs
 exact_each added cs are =
-    All-weaker (λ (c : Channel). lookup (same_key c.0) cs ≡ Some c.1) (λ (c : Channel). IsTrue (says_continuous c.1) ↔ IsContinuous (views_in (records_of c.0 added)))
-    (λ c e. subst (λ (o : Option Verdict). IsExactAt o (records_of c.0 added)) e (are.exact c.0)) cs (All-from_recursion (λ (c : Channel). lookup (same_key c.0) cs ≡ Some c.1) cs (found cs are.ascending))
+    All-weaker (λ (c : Channel). lookup (same_key c.0) cs ≡ Some c.1) (λ (c : Channel). IsTrue (says_continuous c.1)
+    ↔ IsContinuous (views_in (records_of c.0 added)))
+    (λ c e. subst (λ (o : Option Verdict). IsExactAt o (records_of c.0 added)) e (are.exact c.0)) cs
+    (All-from_recursion (λ (c : Channel). lookup (same_key c.0) cs ≡ Some c.1) cs (found cs are.ascending))
 
 -- a list about one of its members
 cut_at : (cs : List Channel) (i : ℕ) (d : Channel) → i < length cs → cs ≡ take i cs ++ get_or cs i d ∷ drop (suc i) cs
-cut_at cs i d lt = sym (take-append-drop (suc i) cs) ∙ ap (λ (xs : List Channel). xs ++ drop (suc i) cs) (take-suc cs i d lt)
+cut_at cs i d lt = sym (take-append-drop (suc i) cs)
+    ∙ ap (λ (xs : List Channel). xs ++ drop (suc i) cs) (take-suc cs i d lt)
     ∙ append_assoc (take i cs) (get_or cs i d ∷ []) (drop (suc i) cs)
 
-pub first_at : (Before At : List ℕ → Type 0) (cs : List Channel) (i : ℕ) (d : Channel) → i < length cs → All (λ (c : Channel). Before c.0) (take i cs) → At (get_or cs i d).0
+pub first_at : (Before At : List ℕ → Type 0) (cs : List Channel) (i : ℕ) (d : Channel) → i < length cs
+    → All (λ (c : Channel). Before c.0) (take i cs) → At (get_or cs i d).0
     → IsFirst Before At (get_or cs i d).0 cs
 first_at Before At cs i d lt before is = record {
-  front = take i cs;
+  prefix = take i cs;
   verdict = (get_or cs i d).1;
   back = drop (suc i) cs;
   parts = cut_at cs i d lt;
@@ -74,27 +87,33 @@ first_at Before At cs i d lt before is = record {
 }
 
 -- the records of one more channel
-pub packed_next : (o : Options) (views : List View) (cs : List Channel) (i : ℕ) (d : Channel) (first old new : Said) → i < length cs
+pub packed_next : (o : Options) (views : List View) (cs : List Channel) (i : ℕ) (d : Channel)
+    (first old new : BytesWritten) → i < length cs
     → Wrote (ArePackedInto o views (take i cs)) 0 first old → Wrote (IsPackedWhole o views (get_or cs i d).0) 0 old new
     → Wrote (ArePackedInto o views (take (i + 1) cs)) 0 first new
 packed_next o views cs i d first old new lt before one =
-    let next : take i cs ++ get_or cs i d ∷ [] ≡ take (i + 1) cs = sym (take-suc cs i d lt) ∙ ap (λ (n : ℕ). take n cs) {x = suc i} (omega arith) in
+    let next : take i cs ++ get_or cs i d ∷ [] ≡ take (i + 1) cs = sym (take-suc cs i d lt)
+    ∙ ap (λ (n : ℕ). take n cs) {x = suc i} (omega arith) in
     let text : List ℕ = before.text ++ concat one.text_is.0 in
-    let packed : ArePackedInto o views (take i cs ++ get_or cs i d ∷ []) text = more (take i cs) (get_or cs i d) before.text one.text_is.0 before.text_is one.text_is.1.0 in record {
+    let packed : ArePackedInto o views (take i cs ++ get_or cs i d ∷ []) text =
+    more (take i cs) (get_or cs i d) before.text one.text_is.0 before.text_is one.text_is.1.0 in record {
       text = text;
       text_is = subst (λ (ds : List Channel). ArePackedInto o views ds text) next packed;
-      bytes = one.bytes ∙ ap (λ (xs : List ℕ). xs ++ one.text) before.bytes ∙ append_assoc first.bytes before.text one.text ∙ ap (λ (xs : List ℕ). first.bytes ++ (before.text ++ xs)) one.text_is.1.1;
+      bytes = one.bytes ∙ ap (λ (xs : List ℕ). xs ++ one.text) before.bytes
+          ∙ append_assoc first.bytes before.text one.text
+          ∙ ap (λ (xs : List ℕ). first.bytes ++ (before.text ++ xs)) one.text_is.1.1;
       failed = omega (arith, one.failed, before.failed);
     }
 
 -- or a part of its records
-pub part_of_next : (o : Options) (views : List View) (cs : List Channel) (i : ℕ) (d : Channel) (first old new : Said) → i < length cs
+pub part_of_next : (o : Options) (views : List View) (cs : List Channel) (i : ℕ) (d : Channel)
+    (first old new : BytesWritten) → i < length cs
     → Wrote (ArePackedInto o views (take i cs)) 0 first old → Wrote (IsPackedInPart o views (get_or cs i d).0) 1 old new
     → Wrote (IsPartPacked o views cs) 1 first new
 part_of_next o views cs i d first old new lt before one = record {
   text = before.text ++ one.text;
   text_is = record {
-    front = take i cs;
+    prefix = take i cs;
     next = get_or cs i d;
     back = drop (suc i) cs;
     parts = cut_at cs i d lt;
@@ -113,81 +132,110 @@ part_of_next o views cs i d first old new lt before one = record {
 }
 
 -- a record behind all others
-behind : (offset : ℕ) (vs : List View) (v : View) → added_from offset (vs ++ v ∷ []) ≡ added_from offset vs ++ record { view = v; offset = end_of offset vs } ∷ []
+behind : (offset : ℕ) (vs : List View) (v : View)
+    → added_from offset (vs ++ v ∷ []) ≡ added_from offset vs ++ record { view = v; offset = end_of offset vs } ∷ []
 behind offset [] v = refl
 behind offset (w ∷ vs) v =
     let here : Added = record { view = w; offset = offset } in
     ap (λ (xs : List Added). here ∷ xs) (behind (offset + length w.bytes) vs v)
 
 -- an audit of the records that a loop has passed takes in the next one
-pub audit_next : (rs : List RecordView) (n : ℕ) (r : RecordView) (offset : ℕ) (old new : Held) → n < length rs → r ≡ get_or rs n r → offset ≡ end_of 0 (map view_of (take n rs))
+pub audit_next : (rs : List RecordView) (n : ℕ) (r : RecordView) (offset : ℕ) (old new : Held) → n < length rs
+    → r ≡ get_or rs n r → offset ≡ end_of 0 (map view_of (take n rs))
     → IsAuditOf old (added_from 0 (map view_of (take n rs)))
-    → ((added : List Added) → IsAuditOf old added → IsAuditOf new (added ++ record { view = view_of r; offset = offset } ∷ []))
+    → ((added : List Added) → IsAuditOf old added
+    → IsAuditOf new (added ++ record { view = view_of r; offset = offset } ∷ []))
     → IsAuditOf new (added_from 0 (map view_of (take (n + 1) rs)))
 audit_next rs n r offset old new lt is at before step =
     let vs : List View = map view_of (take n rs) in
-    let passed : map view_of (take (n + 1) rs) ≡ vs ++ view_of r ∷ [] = map_more view_of rs n r lt ∙ ap (λ (s : RecordView). vs ++ view_of s ∷ []) (sym is) in
-    let all : added_from 0 (map view_of (take (n + 1) rs)) ≡ added_from 0 vs ++ record { view = view_of r; offset = offset } ∷ [] =
-    ap (λ (ws : List View). added_from 0 ws) passed ∙ behind 0 vs (view_of r) ∙ ap (λ (k : ℕ). added_from 0 vs ++ record { view = view_of r; offset = k } ∷ []) (sym at) in
+    let passed : map view_of (take (n + 1) rs) ≡ vs ++ view_of r ∷ [] = map_more view_of rs n r lt
+    ∙ ap (λ (s : RecordView). vs ++ view_of s ∷ []) (sym is) in
+    let all : added_from 0 (map view_of (take (n + 1) rs)) ≡ added_from 0 vs ++ record {
+      view = view_of r;
+      offset = offset;
+    } ∷ [] =
+    ap (λ (ws : List View). added_from 0 ws) passed ∙ behind 0 vs (view_of r)
+    ∙ ap (λ (k : ℕ). added_from 0 vs ++ record { view = view_of r; offset = k } ∷ []) (sym at) in
     subst (λ (added : List Added). IsAuditOf new added) (sym all) (step (added_from 0 vs) before)
 
 -- what a verdict says of its channel
-says_of : (views : List View) (cs : List Channel) (i : ℕ) (c : Channel) (b : Bool) → AreVerdicts (added_from 0 views) cs → i < length cs → c ≡ get_or cs i c → b ≡ says_continuous c.1
+says_of : (views : List View) (cs : List Channel) (i : ℕ) (c : Channel) (b : Bool)
+    → AreVerdicts (added_from 0 views) cs → i < length cs → c ≡ get_or cs i c → b ≡ says_continuous c.1
     → IsTrue b ↔ IsContinuous (records_in views (get_or cs i c).0)
 says_of views cs i c b are lt is of =
     let same : says_continuous (get_or cs i c).1 ≡ b = sym (of ∙ ap (λ (d : Channel). says_continuous d.1) is) in
-    subst (λ (a : Bool). IsTrue a ↔ IsContinuous (records_in views (get_or cs i c).0)) same (exact_each (added_from 0 views) cs are i c lt)
+    subst (λ (a : Bool). IsTrue a ↔ IsContinuous (records_in views (get_or cs i c).0)) same
+    (exact_each (added_from 0 views) cs are i c lt)
 
-pub continuous_next : (views : List View) (cs : List Channel) (i : ℕ) (c : Channel) (b : Bool) → AreVerdicts (added_from 0 views) cs → i < length cs → c ≡ get_or cs i c → b ≡ says_continuous c.1
+pub continuous_next : (views : List View) (cs : List Channel) (i : ℕ) (c : Channel) (b : Bool)
+    → AreVerdicts (added_from 0 views) cs → i < length cs → c ≡ get_or cs i c → b ≡ says_continuous c.1
     → b ≡ true → AreContinuous views (take i cs) → AreContinuous views (take (i + 1) cs)
 continuous_next views cs i c b are lt is of e before =
-    All-more (λ (d : Channel). IsContinuous (records_in views d.0)) cs i c lt before ((says_of views cs i c b are lt is of).0 e)
+    All-more (λ (d : Channel). IsContinuous (records_in views d.0)) cs i c lt before
+    ((says_of views cs i c b are lt is of).0 e)
 
-pub broken_at : (views : List View) (cs : List Channel) (i : ℕ) (c : Channel) (b : Bool) → AreVerdicts (added_from 0 views) cs → i < length cs → c ≡ get_or cs i c → b ≡ says_continuous c.1
+pub broken_at : (views : List View) (cs : List Channel) (i : ℕ) (c : Channel) (b : Bool)
+    → AreVerdicts (added_from 0 views) cs → i < length cs → c ≡ get_or cs i c → b ≡ says_continuous c.1
     → b ≡ false → AreContinuous views (take i cs)
     → IsFirst (λ k. IsContinuous (records_in views k)) (λ k. ¬ (IsContinuous (records_in views k))) c.0 cs
 broken_at views cs i c b are lt is of e before =
     let C : List ℕ → Type 0 = λ k. IsContinuous (records_in views k) in
     let N : List ℕ → Type 0 = λ k. ¬ (IsContinuous (records_in views k)) in
     let denied : N (get_or cs i c).0 = λ h. false≢true (sym e ∙ (says_of views cs i c b are lt is of).1 h) in
-    subst (λ (key : List ℕ). IsFirst C N key cs) (sym (ap (λ (d : Channel). d.0) is)) (first_at C N cs i c lt before denied)
+    subst (λ (key : List ℕ). IsFirst C N key cs) (sym (ap (λ (d : Channel). d.0) is))
+    (first_at C N cs i c lt before denied)
 
 -- a loop has passed all channels
 pub all_passed : (P : Channel → Type 0) (cs : List Channel) (i : ℕ) → length cs ≤ i → All P (take i cs) → All P cs
 all_passed P cs i le all = subst (λ (ds : List Channel). All P ds) (take_all i cs le) all
 
 -- what holds of each channel holds of the one at an index
-pub of_each : (P : List ℕ → Type 0) (cs : List Channel) (i : ℕ) (c : Channel) → i < length cs → c ≡ get_or cs i c → All (λ (d : Channel). P d.0) cs → P c.0
+pub of_each : (P : List ℕ → Type 0) (cs : List Channel) (i : ℕ) (c : Channel) → i < length cs → c ≡ get_or cs i c
+    → All (λ (d : Channel). P d.0) cs → P c.0
 of_each P cs i c lt is all = subst (λ (d : Channel). P d.0) (sym is) (all i c lt)
 
-pub fit_next : (o : Options) (views : List View) (cs : List Channel) (i : ℕ) (c : Channel) → i < length cs → c ≡ get_or cs i c → CanBePacked o views c.0
-    → All (λ (d : Channel). CanBePacked o views d.0) (take i cs) → All (λ (d : Channel). CanBePacked o views d.0) (take (i + 1) cs)
+pub fit_next : (o : Options) (views : List View) (cs : List Channel) (i : ℕ) (c : Channel) → i < length cs
+    → c ≡ get_or cs i c → CanBePacked o views c.0
+    → All (λ (d : Channel). CanBePacked o views d.0) (take i cs)
+    → All (λ (d : Channel). CanBePacked o views d.0) (take (i + 1) cs)
 fit_next o views cs i c lt is can before =
-    All-more (λ (d : Channel). CanBePacked o views d.0) cs i c lt before (subst (λ (d : Channel). CanBePacked o views d.0) is can)
+    All-more (λ (d : Channel). CanBePacked o views d.0) cs i c lt before
+    (subst (λ (d : Channel). CanBePacked o views d.0) is can)
 
-pub misfit_at : (o : Options) (views : List View) (cs : List Channel) (i : ℕ) (c : Channel) (fault : PackFault) → i < length cs → c ≡ get_or cs i c → CantBePacked o views fault c.0
-    → All (λ (d : Channel). CanBePacked o views d.0) (take i cs) → IsFirst (CanBePacked o views) (CantBePacked o views fault) c.0 cs
+pub misfit_at : (o : Options) (views : List View) (cs : List Channel) (i : ℕ) (c : Channel) (fault : PackFault)
+    → i < length cs → c ≡ get_or cs i c → CantBePacked o views fault c.0
+    → All (λ (d : Channel). CanBePacked o views d.0) (take i cs)
+    → IsFirst (CanBePacked o views) (CantBePacked o views fault) c.0 cs
 misfit_at o views cs i c fault lt is cant before =
-    let there : CantBePacked o views fault (get_or cs i c).0 = subst (λ (d : Channel). CantBePacked o views fault d.0) is cant in
-    subst (λ (key : List ℕ). IsFirst (CanBePacked o views) (CantBePacked o views fault) key cs) (sym (ap (λ (d : Channel). d.0) is))
+    let there : CantBePacked o views fault (get_or cs i c).0 =
+    subst (λ (d : Channel). CantBePacked o views fault d.0) is cant in
+    subst (λ (key : List ℕ). IsFirst (CanBePacked o views) (CantBePacked o views fault) key cs)
+    (sym (ap (λ (d : Channel). d.0) is))
     (first_at (CanBePacked o views) (CantBePacked o views fault) cs i c lt before there)
 
-pub wrote_next : (o : Options) (views : List View) (cs : List Channel) (i : ℕ) (c : Channel) (first old new : Said) → i < length cs → c ≡ get_or cs i c
-    → Wrote (ArePackedInto o views (take i cs)) 0 first old → Wrote (IsPackedWhole o views c.0) 0 old new → Wrote (ArePackedInto o views (take (i + 1) cs)) 0 first new
+pub wrote_next : (o : Options) (views : List View) (cs : List Channel) (i : ℕ) (c : Channel)
+    (first old new : BytesWritten) → i < length cs → c ≡ get_or cs i c
+    → Wrote (ArePackedInto o views (take i cs)) 0 first old → Wrote (IsPackedWhole o views c.0) 0 old new
+    → Wrote (ArePackedInto o views (take (i + 1) cs)) 0 first new
 wrote_next o views cs i c first old new lt is before one =
-    packed_next o views cs i c first old new lt before (subst (λ (d : Channel). Wrote (IsPackedWhole o views d.0) 0 old new) is one)
+    packed_next o views cs i c first old new lt before
+    (subst (λ (d : Channel). Wrote (IsPackedWhole o views d.0) 0 old new) is one)
 
-pub fails_next : (o : Options) (views : List View) (cs : List Channel) (i : ℕ) (c : Channel) (first old new : Said) (fault : RepackFault) → i < length cs → c ≡ get_or cs i c
-    → Wrote (ArePackedInto o views (take i cs)) 0 first old → FailsToPackOne o views c.0 old new fault → FailsToPack o views cs first new fault
+pub fails_next : (o : Options) (views : List View) (cs : List Channel) (i : ℕ) (c : Channel)
+    (first old new : BytesWritten) (fault : RepackFault) → i < length cs → c ≡ get_or cs i c
+    → Wrote (ArePackedInto o views (take i cs)) 0 first old → FailsToPackOne o views c.0 old new fault
+    → FailsToPack o views cs first new fault
 fails_next o views cs i c first old new (Stream f) lt is before one = one
 fails_next o views cs i c first old new (Broken k) lt is before one = one
 fails_next o views cs i c first old new (Misfit k f) lt is before one = one
 fails_next o views cs i c first old new Write lt is before one =
-    part_of_next o views cs i c first old new lt before (subst (λ (d : Channel). Wrote (IsPackedInPart o views d.0) 1 old new) is one)
+    part_of_next o views cs i c first old new lt before
+    (subst (λ (d : Channel). Wrote (IsPackedInPart o views d.0) 1 old new) is one)
 fails_next o views cs i c first old new Memory lt is before one = one
 
 -- nothing yet
-pub wrote_none : (o : Options) (views : List View) (cs : List Channel) (s : Said) → Wrote (ArePackedInto o views (take 0 cs)) 0 s s
+pub wrote_none : (o : Options) (views : List View) (cs : List Channel) (s : BytesWritten)
+    → Wrote (ArePackedInto o views (take 0 cs)) 0 s s
 wrote_none o views cs s = record {
   text = [];
   text_is = none;
@@ -196,7 +244,8 @@ wrote_none o views cs s = record {
 }
 
 -- what packing a series left behind
-pub took_all : (o : Options) (views : List View) (key : List ℕ) (s : Trace) (count : ℕ) (old new : Said) → IsSeriesOf s (records_in views key) → TookAll s o count old new
+pub took_all : (o : Options) (views : List View) (key : List ℕ) (s : Trace) (count : ℕ) (old new : BytesWritten)
+    → IsSeriesOf s (records_in views key) → TookAll s o count old new
     → Wrote (IsPackedWhole o views key) 0 old new
 took_all o views key s count old new series took = record {
   text = concat took.records;
@@ -205,9 +254,10 @@ took_all o views key s count old new series took = record {
   failed = omega (arith, took.failures);
 }
 
-pub took_front : (o : Options) (views : List View) (key : List ℕ) (s : Trace) (taken : ℕ) (old new : Said) → IsSeriesOf s (records_in views key) → TookFront s o taken old new
+pub took_prefix : (o : Options) (views : List View) (key : List ℕ) (s : Trace) (taken : ℕ) (old new : BytesWritten)
+    → IsSeriesOf s (records_in views key) → TookPrefix s o taken old new
     → Wrote (IsPackedInPart o views key) 1 old new
-took_front o views key s taken old new series took = record {
+took_prefix o views key s taken old new series took = record {
   text = take taken (concat (took.records ++ took.last ∷ []));
   text_is = record {
     trace = s;

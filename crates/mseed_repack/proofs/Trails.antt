@@ -1,5 +1,6 @@
 -- The trails of channels, laid from the last record on.
-use Rattle.std.proofs.Common.{◌≡◌, ◌≢◌, ℕ, zero, suc, ◌+◌, ◌<◌, ◌≤◌, ◌&&◌, Bool, true, false, List, [], ◌∷◌, length, set, get_or, refl, sym, ap, subst, ◌∙◌, arith, ⊎_elim, nat_lt, Ok, Err, All}
+use Rattle.std.proofs.Common.{◌≡◌, ◌≢◌, ℕ, zero, suc, ◌+◌, ◌<◌, ◌≤◌, ◌&&◌, Bool, true, false, List, [], ◌∷◌, length}
+use Rattle.std.proofs.Common.{set, get_or, refl, sym, ap, subst, ◌∙◌, arith, ⊎_elim, nat_lt, Ok, Err, All}
 use Rattle.std.specs.List.{AllByRecursion}
 use Rattle.std.specs.Map.{keys_of}
 use Rattle.std.specs.Ordering.{nat_cmp, is_eq, ordering_index}
@@ -21,49 +22,62 @@ use Rattle.mseed_repack.specs.Repack.{Channel}
 use Rattle.mseed_repack.specs.Trails.{AreTrails, AreTrailsFrom, IsTrail, IsTrailFrom, Skips}
 
 -- the channel at an index is below each behind it
-less_at : (key : List ℕ) (cs : List Channel) → AllByRecursion (λ k. slice_cmp nat_cmp key k ≡ Less) (keys_of cs) → (k : ℕ) (d : Channel) → k < length cs → slice_cmp nat_cmp key (get_or cs k d).0 ≡ Less
+less_at : (key : List ℕ) (cs : List Channel) → AllByRecursion (λ k. slice_cmp nat_cmp key k ≡ Less) (keys_of cs)
+    → (k : ℕ) (d : Channel) → k < length cs → slice_cmp nat_cmp key (get_or cs k d).0 ≡ Less
 less_at key [] low k d lt = absurd (omega (arith, lt))
 less_at key (c ∷ cs) low zero d lt = low.0
 less_at key (c ∷ cs) low (suc k) d lt = less_at key cs low.1 k d (omega (arith, lt))
 
-ascending_at : (cs : List Channel) → IsStrictlySortedBy (slice_cmp nat_cmp) (keys_of cs) → (j k : ℕ) (d : Channel) → j < k → k < length cs → slice_cmp nat_cmp (get_or cs j d).0 (get_or cs k d).0 ≡ Less
+ascending_at : (cs : List Channel) → IsStrictlySortedBy (slice_cmp nat_cmp) (keys_of cs) → (j k : ℕ) (d : Channel)
+    → j < k → k < length cs → slice_cmp nat_cmp (get_or cs j d).0 (get_or cs k d).0 ≡ Less
 unfolding IsStrictlySortedBy
 ascending_at [] sorted j k d less lt = absurd (omega (arith, lt))
 ascending_at (c ∷ cs) sorted j zero d less lt = absurd (omega (arith, less))
 ascending_at (c ∷ cs) sorted zero (suc k) d less lt = less_at c.0 cs sorted.0 k d (omega (arith, lt))
-ascending_at (c ∷ cs) sorted (suc j) (suc k) d less lt = ascending_at cs sorted.1 j k d (omega (arith, less)) (omega (arith, lt))
+ascending_at (c ∷ cs) sorted (suc j) (suc k) d less lt =
+    ascending_at cs sorted.1 j k d (omega (arith, less)) (omega (arith, lt))
 
 -- so no two have one key
-apart_at : (cs : List Channel) → IsStrictlySortedBy (slice_cmp nat_cmp) (keys_of cs) → (j k : ℕ) (d : Channel) → j < length cs → k < length cs → j ≢ k → same_key (get_or cs j d).0 (get_or cs k d).0 ≡ false
+apart_at : (cs : List Channel) → IsStrictlySortedBy (slice_cmp nat_cmp) (keys_of cs) → (j k : ℕ) (d : Channel)
+    → j < length cs → k < length cs → j ≢ k → same_key (get_or cs j d).0 (get_or cs k d).0 ≡ false
 apart_at cs sorted j k d a b differ = ⊎_elim
     (λ (less : j < k). ap is_eq (ascending_at cs sorted j k d less b))
-    (λ (more : k ≤ j). same_back (get_or cs j d).0 (get_or cs k d).0 ∙ ap is_eq (ascending_at cs sorted k j d (further j k more differ) a))
+    (λ (more : k ≤ j). same_back (get_or cs j d).0 (get_or cs k d).0
+    ∙ ap is_eq (ascending_at cs sorted k j d (further j k more differ) a))
     (cases_lt j k)
   where
     further : (j k : ℕ) → k ≤ j → j ≢ k → k < j
-    further j k more differ = ⊎_elim (λ (less : k < j). less) (λ (le : j ≤ k). absurd (differ (omega (arith, more, le)))) (cases_lt k j)
+    further j k more differ =
+        ⊎_elim (λ (less : k < j). less) (λ (le : j ≤ k). absurd (differ (omega (arith, more, le)))) (cases_lt k j)
 
 most : (o : Ordering) → ordering_index o ≤ 2
 most Less = omega arith
 most Equal = omega arith
 most Greater = omega arith
 
-rises : (x y z : List ℕ) (o : Ordering) → slice_cmp nat_cmp y z ≡ o → slice_cmp nat_cmp x y ≡ Less → ordering_index (slice_cmp nat_cmp x z) ≤ ordering_index (slice_cmp nat_cmp y z)
+rises : (x y z : List ℕ) (o : Ordering) → slice_cmp nat_cmp y z ≡ o → slice_cmp nat_cmp x y ≡ Less
+    → ordering_index (slice_cmp nat_cmp x z) ≤ ordering_index (slice_cmp nat_cmp y z)
 rises x y z Less e less = rw (e, nat_list_cmp_total.trans x y z less e) (omega arith)
 rises x y z Equal e less = let same : y ≡ z = same_is y z (ap is_eq e) in rw (e, ← same, less) (omega arith)
 rises x y z Greater e less = rw e (most (slice_cmp nat_cmp x z))
 
-all_rise : (cs : List Channel) (key : List ℕ) → IsStrictlySortedBy (slice_cmp nat_cmp) (keys_of cs) → IsNonDecreasingBy (λ (c : Channel). ordering_index (slice_cmp nat_cmp c.0 key)) cs
+all_rise : (cs : List Channel) (key : List ℕ) → IsStrictlySortedBy (slice_cmp nat_cmp) (keys_of cs)
+    → IsNonDecreasingBy (λ (c : Channel). ordering_index (slice_cmp nat_cmp c.0 key)) cs
 all_rise cs key sorted i j d le lt = ⊎_elim
-    (λ (less : i < j). rises (get_or cs i d).0 (get_or cs j d).0 key (slice_cmp nat_cmp (get_or cs j d).0 key) refl (ascending_at cs sorted i j d less lt))
+    (λ (less : i < j). rises (get_or cs i d).0 (get_or cs j d).0 key (slice_cmp nat_cmp (get_or cs j d).0 key) refl
+    (ascending_at cs sorted i j d less lt))
     (λ (back : j ≤ i). let same : i ≡ j = omega (arith, le, back) in rw same (omega arith))
     (cases_lt i j)
 
 -- what a search by the key finds
-pub searched_some : (cs : List Channel) (key : List ℕ) (k : ℕ) → IsBinarySearchResult (λ (c : Channel). slice_cmp nat_cmp c.0 key) cs (Ok k) → (c : Channel) → same_key (get_or cs k c).0 key ≡ true
+pub searched_some : (cs : List Channel) (key : List ℕ) (k : ℕ)
+    → IsBinarySearchResult (λ (c : Channel). slice_cmp nat_cmp c.0 key) cs (Ok k) → (c : Channel)
+    → same_key (get_or cs k c).0 key ≡ true
 searched_some cs key k h = λ c. ap is_eq (h c)
 
-pub searched_none : (cs : List Channel) (key : List ℕ) (k : ℕ) → IsStrictlySortedBy (slice_cmp nat_cmp) (keys_of cs) → IsBinarySearchResult (λ (c : Channel). slice_cmp nat_cmp c.0 key) cs (Err k) → All (λ (c : Channel). same_key c.0 key ≡ false) cs
+pub searched_none : (cs : List Channel) (key : List ℕ) (k : ℕ) → IsStrictlySortedBy (slice_cmp nat_cmp) (keys_of cs)
+    → IsBinarySearchResult (λ (c : Channel). slice_cmp nat_cmp c.0 key) cs (Err k)
+    → All (λ (c : Channel). same_key c.0 key ≡ false) cs
 searched_none cs key k sorted h = λ j d lt.
     let parted = h (all_rise cs key sorted) in
     ⊎_elim
@@ -76,19 +90,29 @@ pub skips_none : (key : List ℕ) (rs : List RecordView) (n : ℕ) → Skips key
 skips_none key rs n = record { order = omega arith; none = refl }
 
 -- a record of another channel is
-pub skips_more : (key : List ℕ) (rs : List RecordView) (n at : ℕ) (r : RecordView) → n < length rs → r ≡ get_or rs n r → is_of key (view_of r) ≡ false → Skips key rs (n + 1) at → Skips key rs n at
-skips_more key rs n at r lt is of h = record { order = let far = h.order in omega (arith, far); none = h.none ∙ kept_next key rs n r false lt is (sym of) }
+pub skips_more : (key : List ℕ) (rs : List RecordView) (n at : ℕ) (r : RecordView) → n < length rs → r ≡ get_or rs n r
+    → is_of key (view_of r) ≡ false → Skips key rs (n + 1) at → Skips key rs n at
+skips_more key rs n at r lt is of h =
+    record {
+      order = let far = h.order in omega (arith, far);
+      none = h.none
+          ∙ kept_next key rs n r false lt is (sym of);
+    }
 
-one_record : (rs : List RecordView) (n : ℕ) (q r : RecordView) → n < length rs → q ≡ get_or rs n q → r ≡ get_or rs n r → q ≡ r
+one_record : (rs : List RecordView) (n : ℕ) (q r : RecordView) → n < length rs → q ≡ get_or rs n q → r ≡ get_or rs n r
+    → q ≡ r
 one_record rs n q r lt a b = a ∙ get_or_default rs n q r lt ∙ sym b
 
 -- another channel's trail isn't changed
-pub trail_past : (key : List ℕ) (rs : List RecordView) (n first : ℕ) (nexts new : List ℕ) (r : RecordView) → n < length rs → r ≡ get_or rs n r → is_of key (view_of r) ≡ false
-    → ((i : ℕ) → n < i → get_or new i 0 ≡ get_or nexts i 0) → IsTrailFrom (n + 1) key rs first nexts → IsTrailFrom n key rs first new
+pub trail_past : (key : List ℕ) (rs : List RecordView) (n first : ℕ) (nexts new : List ℕ) (r : RecordView)
+    → n < length rs → r ≡ get_or rs n r → is_of key (view_of r) ≡ false
+    → ((i : ℕ) → n < i → get_or new i 0 ≡ get_or nexts i 0) → IsTrailFrom (n + 1) key rs first nexts
+    → IsTrailFrom n key rs first new
 trail_past key rs n first nexts new r lt is of kept h = record {
   first_is = skips_more key rs n first r lt is of h.first_is;
   nexts_are = λ i q from less at there. ⊎_elim
-      (λ (behind : n < i). subst (λ (m : ℕ). Skips key rs (i + 1) m) (sym (kept i behind)) (h.nexts_are i q (omega (arith, behind)) less at there))
+      (λ (behind : n < i). subst (λ (m : ℕ). Skips key rs (i + 1) m) (sym (kept i behind))
+      (h.nexts_are i q (omega (arith, behind)) less at there))
       (λ (here : i ≤ n).
       let index : i ≡ n = omega (arith, from, here) in
       let at_n : q ≡ get_or rs n q = subst (λ (m : ℕ). q ≡ get_or rs m q) index at in
@@ -98,20 +122,26 @@ trail_past key rs n first nexts new r lt is of kept h = record {
 }
 
 -- the record's own channel is led to it, and from it to where it was led before
-pub trail_here : (key : List ℕ) (rs : List RecordView) (n first : ℕ) (nexts new : List ℕ) → n < length rs → get_or new n 0 ≡ first → ((i : ℕ) → n < i → get_or new i 0 ≡ get_or nexts i 0) → IsTrailFrom (n + 1) key rs first nexts
+pub trail_here : (key : List ℕ) (rs : List RecordView) (n first : ℕ) (nexts new : List ℕ) → n < length rs
+    → get_or new n 0 ≡ first → ((i : ℕ) → n < i → get_or new i 0 ≡ get_or nexts i 0)
+    → IsTrailFrom (n + 1) key rs first nexts
     → IsTrailFrom n key rs n new
 trail_here key rs n first nexts new lt put kept h = record {
   first_is = skips_none key rs n;
   nexts_are = λ i q from less at there. ⊎_elim
-      (λ (behind : n < i). subst (λ (m : ℕ). Skips key rs (i + 1) m) (sym (kept i behind)) (h.nexts_are i q (omega (arith, behind)) less at there))
-      (λ (here : i ≤ n). let index : n ≡ i = omega (arith, from, here) in subst (λ (m : ℕ). Skips key rs (m + 1) (get_or new m 0)) index (subst (λ (m : ℕ). Skips key rs (n + 1) m) (sym put) h.first_is))
+      (λ (behind : n < i). subst (λ (m : ℕ). Skips key rs (i + 1) m) (sym (kept i behind))
+      (h.nexts_are i q (omega (arith, behind)) less at there))
+      (λ (here : i ≤ n). let index : n ≡ i = omega (arith, from, here) in
+      subst (λ (m : ℕ). Skips key rs (m + 1) (get_or new m 0)) index
+      (subst (λ (m : ℕ). Skips key rs (n + 1) m) (sym put) h.first_is))
       (cases_lt n i);
 }
 
 silent : (key : List ℕ) (r : RecordView) → count_of (view_of r) ≡ 0 → is_of key (view_of r) ≡ false
 silent key r none = rw none refl
 
-foreign : (key : List ℕ) (r : RecordView) → same_key key (key_at (view_of r).bytes) ≡ false → is_of key (view_of r) ≡ false
+foreign : (key : List ℕ) (r : RecordView) → same_key key (key_at (view_of r).bytes) ≡ false
+    → is_of key (view_of r) ≡ false
 foreign key r other = by (nat_lt 0 (count_of (view_of r))) (same_key key (key_at (view_of r).bytes)) other
   where
     by : (a b : Bool) → b ≡ false → (a && b) ≡ false
@@ -119,19 +149,27 @@ foreign key r other = by (nat_lt 0 (count_of (view_of r))) (same_key key (key_at
     by false b e = refl
 
 -- a record without samples
-pub trails_silent : (rs : List RecordView) (cs : List Channel) (n : ℕ) (firsts nexts : List ℕ) (r : RecordView) → count_of (view_of r) ≡ 0 → n < length rs → r ≡ get_or rs n r → AreTrailsFrom (n + 1) rs cs firsts nexts → AreTrailsFrom n rs cs firsts nexts
+pub trails_silent : (rs : List RecordView) (cs : List Channel) (n : ℕ) (firsts nexts : List ℕ) (r : RecordView)
+    → count_of (view_of r) ≡ 0 → n < length rs → r ≡ get_or rs n r → AreTrailsFrom (n + 1) rs cs firsts nexts
+    → AreTrailsFrom n rs cs firsts nexts
 trails_silent rs cs n firsts nexts r none lt is h = λ k c less.
-    trail_past (get_or cs k c).0 rs n (get_or firsts k 0) nexts nexts r lt is (silent (get_or cs k c).0 r none) (λ i _. refl) (h k c less)
+    trail_past (get_or cs k c).0 rs n (get_or firsts k 0) nexts nexts r lt is (silent (get_or cs k c).0 r none)
+    (λ i _. refl) (h k c less)
 
 -- or of no channel
-pub trails_foreign : (rs : List RecordView) (cs : List Channel) (n : ℕ) (firsts nexts : List ℕ) (r : RecordView) → All (λ (c : Channel). same_key c.0 (key_at (view_of r).bytes) ≡ false) cs → n < length rs → r ≡ get_or rs n r
+pub trails_foreign : (rs : List RecordView) (cs : List Channel) (n : ℕ) (firsts nexts : List ℕ) (r : RecordView)
+    → All (λ (c : Channel). same_key c.0 (key_at (view_of r).bytes) ≡ false) cs → n < length rs → r ≡ get_or rs n r
     → AreTrailsFrom (n + 1) rs cs firsts nexts → AreTrailsFrom n rs cs firsts nexts
 trails_foreign rs cs n firsts nexts r none lt is h = λ k c less.
-    trail_past (get_or cs k c).0 rs n (get_or firsts k 0) nexts nexts r lt is (foreign (get_or cs k c).0 r (none k c less)) (λ i _. refl) (h k c less)
+    trail_past (get_or cs k c).0 rs n (get_or firsts k 0) nexts nexts r lt is
+    (foreign (get_or cs k c).0 r (none k c less)) (λ i _. refl) (h k c less)
 
 -- or of the channel with this number
-pub trails_more : (rs : List RecordView) (cs : List Channel) (n number : ℕ) (firsts nexts : List ℕ) (r : RecordView) → IsStrictlySortedBy (slice_cmp nat_cmp) (keys_of cs) → number < length cs → length firsts ≡ length cs → n < length nexts
-    → ((c : Channel) → same_key (get_or cs number c).0 (key_at (view_of r).bytes) ≡ true) → n < length rs → r ≡ get_or rs n r → AreTrailsFrom (n + 1) rs cs firsts nexts
+pub trails_more : (rs : List RecordView) (cs : List Channel) (n number : ℕ) (firsts nexts : List ℕ) (r : RecordView)
+    → IsStrictlySortedBy (slice_cmp nat_cmp) (keys_of cs) → number < length cs → length firsts ≡ length cs
+    → n < length nexts
+    → ((c : Channel) → same_key (get_or cs number c).0 (key_at (view_of r).bytes) ≡ true) → n < length rs
+    → r ≡ get_or rs n r → AreTrailsFrom (n + 1) rs cs firsts nexts
     → AreTrailsFrom n rs cs (set firsts number n) (set nexts n (get_or firsts number 0))
 trails_more rs cs n number firsts nexts r sorted inside long room found lt is h = λ k c less. ⊎_elim
     (λ (below : k < number). other k c less (λ e. omega (arith, below, e)))
@@ -147,21 +185,30 @@ trails_more rs cs n number firsts nexts r sorted inside long room found lt is h 
     kept : (i : ℕ) → n < i → get_or new i 0 ≡ get_or nexts i 0
     kept i behind = get_or-set_other nexts n i (get_or firsts number 0) 0 (λ e. omega (arith, behind, e))
 
-    own : (k : ℕ) (c : Channel) → k < length cs → k ≡ number → IsTrailFrom n (get_or cs k c).0 rs (get_or (set firsts number n) k 0) new
+    own : (k : ℕ) (c : Channel) → k < length cs → k ≡ number
+        → IsTrailFrom n (get_or cs k c).0 rs (get_or (set firsts number n) k 0) new
     own k c less e =
-        let put : get_or (set firsts number n) k 0 ≡ n = ap (λ (m : ℕ). get_or (set firsts number n) m 0) e ∙ get_or-set_same firsts number n 0 (omega (arith, inside, long)) in
+        let put : get_or (set firsts number n) k 0 ≡ n = ap (λ (m : ℕ). get_or (set firsts number n) m 0) e
+        ∙ get_or-set_same firsts number n 0 (omega (arith, inside, long)) in
         subst (λ (m : ℕ). IsTrailFrom n (get_or cs k c).0 rs m new) (sym put)
-        (trail_here (get_or cs k c).0 rs n (get_or firsts k 0) nexts new lt (get_or-set_same nexts n (get_or firsts number 0) 0 room ∙ ap (λ (m : ℕ). get_or firsts m 0) (sym e)) kept (h k c less))
+        (trail_here (get_or cs k c).0 rs n (get_or firsts k 0) nexts new lt
+        (get_or-set_same nexts n (get_or firsts number 0) 0 room ∙ ap (λ (m : ℕ). get_or firsts m 0) (sym e)) kept
+        (h k c less))
 
-    other : (k : ℕ) (c : Channel) → k < length cs → k ≢ number → IsTrailFrom n (get_or cs k c).0 rs (get_or (set firsts number n) k 0) new
+    other : (k : ℕ) (c : Channel) → k < length cs → k ≢ number
+        → IsTrailFrom n (get_or cs k c).0 rs (get_or (set firsts number n) k 0) new
     other k c less differ =
-        let same : key_at (view_of r).bytes ≡ (get_or cs number c).0 = sym (same_is (get_or cs number c).0 (key_at (view_of r).bytes) (found c)) in
-        let apart : same_key (get_or cs k c).0 (key_at (view_of r).bytes) ≡ false = ap (λ (x : List ℕ). same_key (get_or cs k c).0 x) same ∙ apart_at cs sorted k number c less inside differ in
+        let same : key_at (view_of r).bytes ≡ (get_or cs number c).0 =
+        sym (same_is (get_or cs number c).0 (key_at (view_of r).bytes) (found c)) in
+        let apart : same_key (get_or cs k c).0 (key_at (view_of r).bytes) ≡ false =
+        ap (λ (x : List ℕ). same_key (get_or cs k c).0 x) same ∙ apart_at cs sorted k number c less inside differ in
         subst (λ (m : ℕ). IsTrailFrom n (get_or cs k c).0 rs m new) (sym (get_or-set_other firsts number k n 0 differ))
-        (trail_past (get_or cs k c).0 rs n (get_or firsts k 0) nexts new r lt is (foreign (get_or cs k c).0 r apart) kept (h k c less))
+        (trail_past (get_or cs k c).0 rs n (get_or firsts k 0) nexts new r lt is (foreign (get_or cs k c).0 r apart)
+        kept (h k c less))
 
 -- before any record is met
-pub trails_none : (rs : List RecordView) (cs : List Channel) (firsts nexts : List ℕ) (from : ℕ) → from ≡ length rs → length firsts ≡ length cs → All (λ first. first ≡ length rs) firsts → AreTrailsFrom from rs cs firsts nexts
+pub trails_none : (rs : List RecordView) (cs : List Channel) (firsts nexts : List ℕ) (from : ℕ) → from ≡ length rs
+    → length firsts ≡ length cs → All (λ first. first ≡ length rs) firsts → AreTrailsFrom from rs cs firsts nexts
 trails_none rs cs firsts nexts from end long each = λ k c less. record {
   first_is =
       let at : get_or firsts k 0 ≡ from = each k 0 (omega (arith, less, long)) ∙ sym end in
@@ -170,8 +217,11 @@ trails_none rs cs firsts nexts from end long each = λ k c less. record {
 }
 
 -- the trail of the channel at an index
-pub trail_of : (rs : List RecordView) (cs : List Channel) (firsts nexts : List ℕ) (k : ℕ) (c : Channel) (first : ℕ) (ns : List ℕ) → AreTrails rs cs firsts nexts → k < length cs → c ≡ get_or cs k c → first ≡ get_or firsts k 0 → ns ≡ nexts
+pub trail_of : (rs : List RecordView) (cs : List Channel) (firsts nexts : List ℕ) (k : ℕ) (c : Channel) (first : ℕ)
+    (ns : List ℕ) → AreTrails rs cs firsts nexts → k < length cs → c ≡ get_or cs k c → first ≡ get_or firsts k 0
+    → ns ≡ nexts
     → IsTrail c.0 rs first ns
 trail_of rs cs firsts nexts k c first ns laid lt is e f =
     subst (λ (m : ℕ). IsTrail c.0 rs m ns) (sym e)
-    (subst (λ (ms : List ℕ). IsTrail c.0 rs (get_or firsts k 0) ms) (sym f) (subst (λ (d : Channel). IsTrail d.0 rs (get_or firsts k 0) nexts) (sym is) (laid k c lt)))
+    (subst (λ (ms : List ℕ). IsTrail c.0 rs (get_or firsts k 0) ms) (sym f)
+    (subst (λ (d : Channel). IsTrail d.0 rs (get_or firsts k 0) nexts) (sym is) (laid k c lt)))

@@ -1,5 +1,6 @@
 -- A whole archive, and how packing it anew ends.
-use Rattle.std.proofs.Common.{◌≡◌, ℕ, ◌<◌, ◌^◌, List, [], ◌∷◌, length, map, refl, sym, ap, subst, arith, IsTrue, Result, Ok, Err, OnOk, IfErr}
+use Rattle.std.proofs.Common.{◌≡◌, ℕ, ◌<◌, ◌^◌, List, [], ◌∷◌, length, map, refl, sym, ap, subst, arith, IsTrue, Result}
+use Rattle.std.proofs.Common.{Ok, Err, OnOk, IfErr}
 use Rattle.std.specs.List.{AllByRecursion}
 use Rattle.std.specs.Result.{IsErrAnd}
 use Rattle.std.proofs.lemmas.List.{length-map}
@@ -7,7 +8,7 @@ use Rattle.mseed_record.specs.View.{View, IsView}
 use Rattle.mseed_record.specs.Viewing.{view_of}
 use Rattle.mseed_record.specs.declared.view.RecordView.{RecordView}
 use Rattle.mseed_stream.specs.Archive.{IsArchive}
-use Rattle.mseed_stream.specs.Device.{Heard, Said}
+use Rattle.mseed_stream.specs.Device.{BytesRead, BytesWritten}
 use Rattle.mseed_stream.specs.Split.{bytes_of_each}
 use Rattle.mseed_stream.specs.Walk.{bytes_in}
 use Rattle.mseed_audit.specs.Channels.{added_from}
@@ -22,16 +23,20 @@ bytes_are : (rs : List RecordView) → bytes_of_each rs ≡ bytes_in (map view_o
 bytes_are [] = refl
 bytes_are (r ∷ rs) = ap (λ (bs : List (List ℕ)). (view_of r).bytes ∷ bs) (bytes_are rs)
 
-views_each : (rs : List RecordView) → AllByRecursion (λ (r : RecordView). IsView (view_of r)) rs → AllByRecursion IsView (map view_of rs)
+views_each : (rs : List RecordView) → AllByRecursion (λ (r : RecordView). IsView (view_of r)) rs
+    → AllByRecursion IsView (map view_of rs)
 views_each [] h = tt
 views_each (r ∷ rs) h = (h.0, views_each rs h.1)
 
 -- what was read and split is an archive
-pub archive_is : (h : Heard) (bytes : List ℕ) (rs : List RecordView) (cs : List Channel) → h.bytes ≡ bytes → IsArchive bytes (bytes_of_each rs) []
-    → AllByRecursion (λ (r : RecordView). IsView (view_of r)) rs → length rs < 2 ^ 40 → IsTrue h.is_at_end → h.failures ≡ 0 → AreVerdicts (added_from 0 (map view_of rs)) cs → IsArchiveOf h (map view_of rs) cs
+pub archive_is : (h : BytesRead) (bytes : List ℕ) (rs : List RecordView) (cs : List Channel) → h.bytes ≡ bytes
+    → IsArchive bytes (bytes_of_each rs) []
+    → AllByRecursion (λ (r : RecordView). IsView (view_of r)) rs → length rs < 2 ^ 40 → IsTrue h.is_at_end
+    → h.failures ≡ 0 → AreVerdicts (added_from 0 (map view_of rs)) cs → IsArchiveOf h (map view_of rs) cs
 archive_is h bytes rs cs same archive each few ended fine verdicts = record {
   whole = record {
-    archive = subst (λ (bs : List (List ℕ)). IsArchive h.bytes bs []) (bytes_are rs) (subst (λ (xs : List ℕ). IsArchive xs (bytes_of_each rs) []) (sym same) archive);
+    archive = subst (λ (bs : List (List ℕ)). IsArchive h.bytes bs []) (bytes_are rs)
+        (subst (λ (xs : List ℕ). IsArchive xs (bytes_of_each rs) []) (sym same) archive);
     each = views_each rs each;
     few = omega (arith, few, length-map rs view_of);
     ended = ended;
@@ -46,12 +51,15 @@ errs_by (Ok x) Q P h f = tt
 errs_by (Err e) Q P h f = f e h
 
 -- an error that is passed on
-ends_by : {U : Type 0} (r : Result U RepackFault) (Q : RepackFault → Type 0) (fault : RepackFault) (o : Options) (h : Heard) (old new : Said) → IsErrAnd r Q → ((e : RepackFault) → Q e → e ≡ fault)
+ends_by : {U : Type 0} (r : Result U RepackFault) (Q : RepackFault → Type 0) (fault : RepackFault) (o : Options)
+    (h : BytesRead) (old new : BytesWritten) → IsErrAnd r Q → ((e : RepackFault) → Q e → e ≡ fault)
     → IsRepacking {U = U} o (Err fault) h old new → IsRepacking o r h old new
 ends_by (Ok u) Q fault o h old new is q ends = absurd is
-ends_by {U} (Err e) Q fault o h old new is q ends = subst (λ (f : RepackFault). IsRepacking {U = U} o (Err f) h old new) (sym (q e is)) ends
+ends_by {U} (Err e) Q fault o h old new is q ends =
+    subst (λ (f : RepackFault). IsRepacking {U = U} o (Err f) h old new) (sym (q e is)) ends
 
-broken_is : (U : Type 0) (o : Options) (h : Heard) (s : Said) (views : List View) (cs : List Channel) (fault : RepackFault) → IsArchiveOf h views cs → IsFirstBroken views cs fault
+broken_is : (U : Type 0) (o : Options) (h : BytesRead) (s : BytesWritten) (views : List View) (cs : List Channel)
+    (fault : RepackFault) → IsArchiveOf h views cs → IsFirstBroken views cs fault
     → IsRepacking {U = U} o (Err fault) h s s
 broken_is U o h s views cs (Stream f) archive is = absurd is
 broken_is U o h s views cs (Broken key) archive is = (views, (cs, (archive, is, refl)))
@@ -59,15 +67,23 @@ broken_is U o h s views cs (Misfit key f) archive is = absurd is
 broken_is U o h s views cs Write archive is = absurd is
 broken_is U o h s views cs Memory archive is = absurd is
 
-pub packed_is : {U : Type 0} (r : Result U RepackFault) (o : Options) (h : Heard) (old new : Said) (views : List View) (cs : List Channel) → IsArchiveOf h views cs → AreContinuous views cs
-    → OnOk r (IsPackedAnew o views cs old new) → IfErr r (FailsToPackAnew o views cs old new) → IsRepacking o r h old new
-packed_is (Ok u) o h old new views cs archive continuous done fails = (views, (cs, (record { archive = archive; continuous = continuous; fit = done.fit }, done.wrote)))
+pub packed_is : {U : Type 0} (r : Result U RepackFault) (o : Options) (h : BytesRead) (old new : BytesWritten)
+    (views : List View) (cs : List Channel) → IsArchiveOf h views cs → AreContinuous views cs
+    → OnOk r (IsPackedAnew o views cs old new) → IfErr r (FailsToPackAnew o views cs old new)
+    → IsRepacking o r h old new
+packed_is (Ok u) o h old new views cs archive continuous done fails =
+    (views, (cs, (record { archive = archive; continuous = continuous; fit = done.fit }, done.wrote)))
 packed_is (Err (Stream f)) o h old new views cs archive continuous done fails = absurd fails
 packed_is (Err (Broken key)) o h old new views cs archive continuous done fails = absurd fails
-packed_is (Err (Misfit key f)) o h old new views cs archive continuous done fails = (views, (cs, (archive, continuous, fails.0, fails.1)))
-packed_is (Err Write) o h old new views cs archive continuous done fails = (views, (cs, (record { archive = archive; continuous = continuous; fit = fails.0 }, fails.1)))
+packed_is (Err (Misfit key f)) o h old new views cs archive continuous done fails =
+    (views, (cs, (archive, continuous, fails.0, fails.1)))
+packed_is (Err Write) o h old new views cs archive continuous done fails =
+    (views, (cs, (record { archive = archive; continuous = continuous; fit = fails.0 }, fails.1)))
 packed_is (Err Memory) o h old new views cs archive continuous done fails = fails
 
-pub broken_ends : {U : Type 0} (r : Result U RepackFault) (Q : RepackFault → Type 0) (o : Options) (h : Heard) (s : Said) (views : List View) (cs : List Channel) (fault : RepackFault) → IsErrAnd r Q
-    → ((e : RepackFault) → Q e → e ≡ fault) → IsArchiveOf h views cs → IsFirstBroken views cs fault → IsRepacking o r h s s
-broken_ends {U} r Q o h s views cs fault err q archive is = ends_by r Q fault o h s s err q (broken_is U o h s views cs fault archive is)
+pub broken_ends : {U : Type 0} (r : Result U RepackFault) (Q : RepackFault → Type 0) (o : Options) (h : BytesRead)
+    (s : BytesWritten) (views : List View) (cs : List Channel) (fault : RepackFault) → IsErrAnd r Q
+    → ((e : RepackFault) → Q e → e ≡ fault) → IsArchiveOf h views cs → IsFirstBroken views cs fault
+    → IsRepacking o r h s s
+broken_ends {U} r Q o h s views cs fault err q archive is =
+    ends_by r Q fault o h s s err q (broken_is U o h s views cs fault archive is)

@@ -56,7 +56,8 @@ with_samples xs s = record s { samples = xs }
 
 -- The samples of these records are so many numbers of 32 bits, of which this is known, and their leap seconds are the
 -- first so many of a list.
-pub record IsOutline (key : List ℕ) (vs : List View) (count bears : ℕ) (nearness : Nearness) (steps : List (ℕ × LeapStep)) : Type 0 where
+pub record IsOutline (key : List ℕ) (vs : List View) (count bears : ℕ) (nearness : Nearness)
+    (steps : List (ℕ × LeapStep)) : Type 0 where
   pub samples : List ℤ
   pub are : AreOf key vs samples (take bears steps)
   pub places : AreSteps count (take bears steps)

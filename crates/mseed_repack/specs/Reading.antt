@@ -32,9 +32,16 @@ channel_in key views = filter (is_of key) views
 -- the samples and leap seconds are those of the records, whatever the start and the rate are
 abbrev pub AreOf : List ℕ → List View → List ℤ → List (ℕ × LeapStep) → Type 0
 AreOf key vs samples steps =
-    (start : ℤ) (rate : Rate) → HoldsAll key start rate vs (record { codes = key; start = start; rate = rate; samples = samples; steps = steps })
+    (start : ℤ) (rate : Rate)
+    → HoldsAll key start rate vs (record {
+      codes = key;
+      start = start;
+      rate = rate;
+      samples = samples;
+      steps = steps;
+    })
 
 -- how many samples a verdict says that a channel has
-abbrev pub samples_said : Verdict → ℕ
-samples_said (Continuous start rate records samples) = samples
-samples_said (Broken first count) = 0
+abbrev pub samples_written : Verdict → ℕ
+samples_written (Continuous start rate records samples) = samples
+samples_written (Broken first count) = 0

@@ -1,9 +1,10 @@
 -- What is written when an archive is packed anew.
-use Rattle.std.specs.Prelude.{ℤ, ◌≡◌, ◌≢◌, ◌⊎◌, ℕ, ◌+◌, ◌<◌, ◌^◌, List, [], ◌∷◌, ◌++◌, length, take, IsTrue, All, Result, Ok, Err}
+use Rattle.std.specs.Prelude.{ℤ, ◌≡◌, ◌≢◌, ◌⊎◌, ℕ, ◌+◌, ◌<◌, ◌^◌, List, [], ◌∷◌, ◌++◌, length, take, IsTrue, All}
+use Rattle.std.specs.Prelude.{Result, Ok, Err}
 use Rattle.std.specs.List.{concat, AllByRecursion}
 use Rattle.mseed_record.specs.View.{View, IsView}
 use Rattle.mseed_stream.specs.Archive.{IsArchive}
-use Rattle.mseed_stream.specs.Device.{Heard, Said, nothing_heard}
+use Rattle.mseed_stream.specs.Device.{BytesRead, BytesWritten, nothing_read}
 use Rattle.mseed_stream.specs.Fault.{IsStreamFault}
 use Rattle.mseed_stream.specs.Split.{IsSplitFault}
 use Rattle.mseed_stream.specs.Walk.{bytes_in}
@@ -33,8 +34,8 @@ stream_fault NoMemory = Memory
 abbrev pub Channel : Type 0
 Channel = List ℕ × Verdict
 
--- what was heard, to its end, is the bytes of these records
-pub record IsWhole (h : Heard) (views : List View) : Type 0 where
+-- what was read, to its end, is the bytes of these records
+pub record IsWhole (h : BytesRead) (views : List View) : Type 0 where
   pub archive : IsArchive h.bytes (bytes_in views) []
   pub each : AllByRecursion IsView views
   pub few : length views < 2 ^ 40
@@ -42,9 +43,9 @@ pub record IsWhole (h : Heard) (views : List View) : Type 0 where
   pub fine : h.failures ≡ 0
 
 -- the input failed, or its bytes are no whole archive
-abbrev pub IsUnread : StreamFault → Heard → Type 0
+abbrev pub IsUnread : StreamFault → BytesRead → Type 0
 IsUnread fault h =
-    IsStreamFault fault nothing_heard h ⊎ (IsTrue h.is_at_end × (h.failures ≡ 0) × IsSplitFault fault h.bytes)
+    IsStreamFault fault nothing_read h ⊎ (IsTrue h.is_at_end × (h.failures ≡ 0) × IsSplitFault fault h.bytes)
 
 -- the records of the channel with this key
 abbrev pub records_in : List View → List ℕ → List View
@@ -67,11 +68,11 @@ pub record CantBePacked (o : Options) (views : List View) (fault : PackFault) (k
 
 -- of these channels the one with this key is the first of its kind
 pub record IsFirst (Before At : List ℕ → Type 0) (key : List ℕ) (channels : List Channel) : Type 0 where
-  pub front : List Channel
+  pub prefix : List Channel
   pub verdict : Verdict
   pub back : List Channel
-  pub parts : channels ≡ front ++ (key, verdict) ∷ back
-  pub before : All (λ c. Before c.0) front
+  pub parts : channels ≡ prefix ++ (key, verdict) ∷ back
+  pub before : All (λ c. Before c.0) prefix
   pub is_it : At key
 
 -- the channel's series is packed into these records
@@ -88,12 +89,12 @@ pub data ArePackedInto (o : Options) (views : List View) : List Channel → List
 
 -- the records of the first channels, and of the next channel's a part
 pub record IsPartPacked (o : Options) (views : List View) (channels : List Channel) (text : List ℕ) : Type 0 where
-  pub front : List Channel
+  pub prefix : List Channel
   pub next : Channel
   pub back : List Channel
-  pub parts : channels ≡ front ++ next ∷ back
+  pub parts : channels ≡ prefix ++ next ∷ back
   pub before : List ℕ
-  pub packed : ArePackedInto o views front before
+  pub packed : ArePackedInto o views prefix before
   pub trace : Trace
   pub series : IsSeriesOf trace (records_in views next.0)
   pub records : List (List ℕ)
@@ -102,19 +103,19 @@ pub record IsPartPacked (o : Options) (views : List View) (channels : List Chann
   pub taken : ℕ
   pub text_is : text ≡ before ++ take taken (concat records)
 
--- What was heard is a whole archive, and these are its channels, in the order of their keys.
-pub record IsArchiveOf (h : Heard) (views : List View) (channels : List Channel) : Type 0 where
+-- What was read is a whole archive, and these are its channels, in the order of their keys.
+pub record IsArchiveOf (h : BytesRead) (views : List View) (channels : List Channel) : Type 0 where
   pub whole : IsWhole h views
   pub verdicts : AreVerdicts (added_from 0 views) channels
 
 -- each channel is continuous, and can be packed
-pub record IsFitFor (o : Options) (h : Heard) (views : List View) (channels : List Channel) : Type 0 where
+pub record IsFitFor (o : Options) (h : BytesRead) (views : List View) (channels : List Channel) : Type 0 where
   pub archive : IsArchiveOf h views channels
   pub continuous : AreContinuous views channels
   pub fit : All (λ c. CanBePacked o views c.0) channels
 
 -- this was written
-pub record Wrote (P : List ℕ → Type 0) (failures : ℕ) (old new : Said) : Type 0 where
+pub record Wrote (P : List ℕ → Type 0) (failures : ℕ) (old new : BytesWritten) : Type 0 where
   pub text : List ℕ
   pub text_is : P text
   pub bytes : new.bytes ≡ old.bytes ++ text
@@ -124,14 +125,16 @@ abbrev pub Exists : (List View → List Channel → Type 0) → Type 0
 Exists P = (views : List View) × ((channels : List Channel) × P views channels)
 
 -- What packing anew comes to. All is written where the input is a whole archive, each channel continuous, and each
--- series can be packed; a front of that where the output failed; and nothing otherwise, where memory was refused too.
-abbrev pub IsRepacking : {U : Type 0} → Options → Result U RepackFault → Heard → Said → Said → Type 0
+-- series can be packed; a prefix of that where the output failed; and nothing otherwise, where memory was refused too.
+abbrev pub IsRepacking : {U : Type 0} → Options → Result U RepackFault → BytesRead → BytesWritten → BytesWritten
+    → Type 0
 IsRepacking o (Ok u) h old new =
     Exists (λ views channels. IsFitFor o h views channels × Wrote (ArePackedInto o views channels) 0 old new)
 IsRepacking o (Err (Stream fault)) h old new = (fault ≢ NoMemory) × IsUnread fault h × (new ≡ old)
 IsRepacking o (Err (Broken key)) h old new =
     Exists (λ views channels. IsArchiveOf h views channels
-    × IsFirst (λ k. IsContinuous (records_in views k)) (λ k. ¬ (IsContinuous (records_in views k))) key channels × (new ≡ old))
+    × IsFirst (λ k. IsContinuous (records_in views k)) (λ k. ¬ (IsContinuous (records_in views k))) key channels
+    × (new ≡ old))
 IsRepacking o (Err (Misfit key fault)) h old new =
     Exists (λ views channels. IsArchiveOf h views channels × AreContinuous views channels
     × IsFirst (CanBePacked o views) (CantBePacked o views fault) key channels × (new ≡ old))

@@ -14,7 +14,8 @@ pub record Skips (key : List ℕ) (rs : List RecordView) (from at : ℕ) : Type 
 -- behind each of the channel's records from an index on, where the next one stands
 abbrev pub AreNexts : List ℕ → List RecordView → ℕ → List ℕ → Type 0
 AreNexts key rs from nexts =
-    (i : ℕ) (r : RecordView) → from ≤ i → i < length rs → r ≡ slice_index_or rs i r → is_of key (view_of r) ≡ true → Skips key rs (i + 1) (slice_index_or nexts i 0)
+    (i : ℕ) (r : RecordView) → from ≤ i → i < length rs → r ≡ slice_index_or rs i r → is_of key (view_of r) ≡ true
+    → Skips key rs (i + 1) (slice_index_or nexts i 0)
 
 -- of the channel's records from an index on, where the first one stands, and behind each the next one
 pub record IsTrailFrom (from : ℕ) (key : List ℕ) (rs : List RecordView) (first : ℕ) (nexts : List ℕ) : Type 0 where
@@ -27,7 +28,8 @@ IsTrail key rs first nexts = IsTrailFrom 0 key rs first nexts
 -- the same of each channel
 abbrev pub AreTrailsFrom : ℕ → List RecordView → List Channel → List ℕ → List ℕ → Type 0
 AreTrailsFrom from rs cs firsts nexts =
-    (k : ℕ) (c : Channel) → k < length cs → IsTrailFrom from (slice_index_or cs k c).0 rs (slice_index_or firsts k 0) nexts
+    (k : ℕ) (c : Channel) → k < length cs
+    → IsTrailFrom from (slice_index_or cs k c).0 rs (slice_index_or firsts k 0) nexts
 
 abbrev pub AreTrails : List RecordView → List Channel → List ℕ → List ℕ → Type 0
 AreTrails rs cs firsts nexts = AreTrailsFrom 0 rs cs firsts nexts

@@ -15,7 +15,7 @@ pub enum RepackFault {
     Misfit(Codes, PackFault),
     /// The output failed.
     Write,
-    /// A growth was refused.
+    /// An allocation was refused.
     Memory,
 }
 

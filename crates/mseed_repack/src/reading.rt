@@ -23,7 +23,7 @@ pub(crate) struct Read {
     pub(crate) steps: usize,
 }
 
-/// Reads the samples and leap seconds of a channel of which each record is sound, from the front of the lists on,
+/// Reads the samples and leap seconds of a channel of which each record is sound, from the beginning of the lists on,
 /// and answers how many there are. It takes no memory.
 pub(crate) fn read_channel(
     views: &[RecordView],

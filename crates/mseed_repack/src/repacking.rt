@@ -7,14 +7,15 @@ ghost use Rattle.std.specs.Map.{keys_of};
 ghost use Rattle.std.specs.Ordering.{nat_cmp};
 ghost use Rattle.mseed_record.specs.View.{View};
 ghost use Rattle.mseed_record.specs.Viewing.{view_of};
-ghost use Rattle.mseed_stream.specs.Device.{nothing_heard};
+ghost use Rattle.mseed_stream.specs.Device.{nothing_read};
 ghost use Rattle.mseed_audit.specs.Channels.{added_from};
 ghost use Rattle.mseed_audit.specs.Series.{IsSeriesOf};
 ghost use Rattle.mseed_audit.specs.Verdict.{AreVerdicts, says_continuous};
 ghost use Rattle.mseed_pack.specs.Traces.{trace_of};
 ghost use Rattle.mseed_repack.specs.Outline.{with_samples};
-ghost use Rattle.mseed_repack.specs.Reading.{AreOf, channel_in, samples_said, steps_of};
-ghost use Rattle.mseed_repack.specs.Repack.{AreContinuous, ArePackedInto, CanBePacked, CantBePacked, IsRepacking, Wrote};
+ghost use Rattle.mseed_repack.specs.Reading.{AreOf, channel_in, samples_written, steps_of};
+ghost use Rattle.mseed_repack.specs.Repack.{AreContinuous, ArePackedInto, CanBePacked, CantBePacked, IsRepacking};
+ghost use Rattle.mseed_repack.specs.Repack.{Wrote};
 ghost use Rattle.mseed_repack.specs.Repack.{records_in};
 ghost use Rattle.mseed_repack.specs.Repacking.{AreJudged, FailsToFit, FailsToPack, FailsToPackAnew, FailsToPackOne};
 ghost use Rattle.mseed_repack.specs.Repacking.{IsFirstBroken, IsJudged, IsPackedAnew, IsPackedWhole};
@@ -39,15 +40,15 @@ use std::alloc::{AllocError, Allocator};
 ///
 /// `Stream` where the input is no whole archive, `Broken` where a channel isn't continuous, `Misfit` where a
 /// series can't be packed: each is asked of the whole archive before the next. `Write` where the output failed,
-/// `Memory` where a growth was refused.
+/// `Memory` where an allocation was refused.
 pub fn repack<A: Allocator + Copy, R: Source, W: Sink>(
     alloc: A,
     options: &Options,
     input: &mut R,
     output: &mut W,
 ) -> Result<(), RepackFault>
-    requires { R.heard input.old ≡ nothing_heard }
-    ensures { IsRepacking options.now result (R.heard input.new) (W.said output.old) (W.said output.new) }
+    requires { R.read input.old ≡ nothing_read }
+    ensures { IsRepacking options.now result (R.read input.new) (W.written output.old) (W.written output.new) }
 {
     let archive = read_all_in(alloc, input)?;
     let views = split_in(alloc, &archive)?;
@@ -102,9 +103,9 @@ fn repack_continuous<A: Allocator + Copy, W: Sink>(
     requires judged { AreJudged (map view_of views.now) channels.now }
     requires ascending { IsStrictlySortedBy (slice_cmp nat_cmp) (keys_of channels.now) }
     ensures ok { OnOk result (IsPackedAnew options.now (map view_of views.now) channels.now
-        (W.said output.old) (W.said output.new)) }
+        (W.written output.old) (W.written output.new)) }
     ensures err { IfErr result (FailsToPackAnew options.now (map view_of views.now) channels.now
-        (W.said output.old) (W.said output.new)) }
+        (W.written output.old) (W.written output.new)) }
 {
     let mut firsts = match indices(alloc, views.len(), channels.len()) {
         Ok(firsts) => firsts,
@@ -141,9 +142,9 @@ fn repack_along<A: Allocator + Copy, W: Sink>(
     requires none { All (λ first. first ≡ length views.now) firsts.old }
     requires nexts { length nexts.old ≡ length views.now }
     ensures ok { OnOk result (IsPackedAnew options.now (map view_of views.now) channels.now
-        (W.said output.old) (W.said output.new)) }
+        (W.written output.old) (W.written output.new)) }
     ensures err { IfErr result (FailsToPackAnew options.now (map view_of views.now) channels.now
-        (W.said output.old) (W.said output.new)) }
+        (W.written output.old) (W.written output.new)) }
 {
     let mut samples = match zeros(alloc, longest(channels)) {
         Ok(samples) => samples,
@@ -185,18 +186,18 @@ fn blank_steps<A: Allocator + Copy>(
 
 /// The most samples of a channel.
 fn longest(channels: &[(Codes, Verdict)]) -> usize
-    ensures { All (λ c. samples_said c.1 ≤ result) channels.now }
+    ensures { All (λ c. samples_written c.1 ≤ result) channels.now }
 {
     let mut most = 0;
     for channel in channels {
-        most = most.max(samples_said(&channel.1));
+        most = most.max(samples_written(&channel.1));
     }
     most
 }
 
 /// How many samples a verdict says that a channel has.
-fn samples_said(verdict: &Verdict) -> usize
-    ensures { result ≡ samples_said verdict.now }
+fn samples_written(verdict: &Verdict) -> usize
+    ensures { result ≡ samples_written verdict.now }
 {
     match *verdict {
         Verdict::Continuous { samples, .. } => samples as usize,
@@ -216,12 +217,12 @@ fn repack_within<W: Sink>(
 ) -> Result<(), RepackFault>
     requires judged { AreJudged (map view_of views.now) channels.now }
     requires laid { AreLaid views.now channels.now trails.firsts.now trails.nexts.now }
-    requires samples_fit { All (λ c. samples_said c.1 ≤ length samples.old) channels.now }
+    requires samples_fit { All (λ c. samples_written c.1 ≤ length samples.old) channels.now }
     requires steps_fit { steps_of (map view_of views.now) ≤ length steps.old }
     ensures ok { OnOk result (IsPackedAnew options.now (map view_of views.now) channels.now
-        (W.said output.old) (W.said output.new)) }
+        (W.written output.old) (W.written output.new)) }
     ensures err { IfErr result (FailsToPackAnew options.now (map view_of views.now) channels.now
-        (W.said output.old) (W.said output.new)) }
+        (W.written output.old) (W.written output.new)) }
 {
     match fit_all(views, trails, channels, options, samples, steps) {
         Ok(()) => pack_all(views, trails, channels, options, samples, steps, output),
@@ -240,7 +241,7 @@ fn fit_all(
 ) -> Result<(), RepackFault>
     requires judged { AreJudged (map view_of views.now) channels.now }
     requires laid { AreLaid views.now channels.now trails.firsts.now trails.nexts.now }
-    requires samples_fit { All (λ c. samples_said c.1 ≤ length samples.old) channels.now }
+    requires samples_fit { All (λ c. samples_written c.1 ≤ length samples.old) channels.now }
     requires steps_fit { steps_of (map view_of views.now) ≤ length steps.old }
     ensures ok { OnOk result (All (λ c. CanBePacked options.now (map view_of views.now) c.0) channels.now) }
     ensures err { IfErr result (FailsToFit options.now (map view_of views.now) channels.now) }
@@ -266,7 +267,7 @@ fn fit_channel(
     requires judged { IsJudged (map view_of views.now) channel.now }
     requires trail { IsTrail channel.now.0 views.now trail.first trail.nexts.now }
     requires nexts { length trail.nexts.now ≡ length views.now }
-    requires samples_fit { samples_said channel.now.1 ≤ length samples.old }
+    requires samples_fit { samples_written channel.now.1 ≤ length samples.old }
     requires steps_fit { steps_of (map view_of views.now) ≤ length steps.old }
     ensures ok { OnOk result (CanBePacked options.now (map view_of views.now) channel.now.0) }
     ensures err { IfErr result (λ fault.
@@ -292,11 +293,11 @@ fn fits_unread(
     requires judged { IsJudged (map view_of views.now) channel.now }
     requires trail { IsTrail channel.now.0 views.now trail.first trail.nexts.now }
     requires nexts { length trail.nexts.now ≡ length views.now }
-    requires samples_fit { samples_said channel.now.1 ≤ length others.now }
+    requires samples_fit { samples_written channel.now.1 ≤ length others.now }
     requires steps_fit { steps_of (map view_of views.now) ≤ length steps.old }
     ensures { OnTrue result (CanBePacked options.now (map view_of views.now) channel.now.0) }
 {
-    let count = samples_said(&channel.1);
+    let count = samples_written(&channel.1);
     let outline = outline_channel(views, trail, &channel.0, steps);
     if !is_held(outline.nearness, options.encoding) {
         return false;
@@ -325,7 +326,7 @@ fn fit_read(
     requires judged { IsJudged (map view_of views.now) channel.now }
     requires trail { IsTrail channel.now.0 views.now trail.first trail.nexts.now }
     requires nexts { length trail.nexts.now ≡ length views.now }
-    requires samples_fit { samples_said channel.now.1 ≤ length samples.old }
+    requires samples_fit { samples_written channel.now.1 ≤ length samples.old }
     requires steps_fit { steps_of (map view_of views.now) ≤ length steps.old }
     ensures ok { OnOk result (CanBePacked options.now (map view_of views.now) channel.now.0) }
     ensures err { IfErr result (λ fault.
@@ -348,13 +349,13 @@ fn pack_all<W: Sink>(
 ) -> Result<(), RepackFault>
     requires judged { AreJudged (map view_of views.now) channels.now }
     requires laid { AreLaid views.now channels.now trails.firsts.now trails.nexts.now }
-    requires samples_fit { All (λ c. samples_said c.1 ≤ length samples.old) channels.now }
+    requires samples_fit { All (λ c. samples_written c.1 ≤ length samples.old) channels.now }
     requires steps_fit { steps_of (map view_of views.now) ≤ length steps.old }
     requires fit { All (λ c. CanBePacked options.now (map view_of views.now) c.0) channels.now }
     ensures ok { OnOk result (Wrote (ArePackedInto options.now (map view_of views.now) channels.now) 0
-        (W.said output.old) (W.said output.new)) }
+        (W.written output.old) (W.written output.new)) }
     ensures err { IfErr result (FailsToPack options.now (map view_of views.now) channels.now
-        (W.said output.old) (W.said output.new)) }
+        (W.written output.old) (W.written output.new)) }
 {
     for (number, channel) in channels.iter().enumerate() {
         pack_channel(
@@ -383,13 +384,13 @@ fn pack_channel<W: Sink>(
     requires judged { IsJudged (map view_of views.now) channel.now }
     requires trail { IsTrail channel.now.0 views.now trail.first trail.nexts.now }
     requires nexts { length trail.nexts.now ≡ length views.now }
-    requires samples_fit { samples_said channel.now.1 ≤ length samples.old }
+    requires samples_fit { samples_written channel.now.1 ≤ length samples.old }
     requires steps_fit { steps_of (map view_of views.now) ≤ length steps.old }
     requires fit { CanBePacked options.now (map view_of views.now) channel.now.0 }
     ensures ok { OnOk result (Wrote (IsPackedWhole options.now (map view_of views.now) channel.now.0) 0
-        (W.said output.old) (W.said output.new)) }
+        (W.written output.old) (W.written output.new)) }
     ensures err { IfErr result (FailsToPackOne options.now (map view_of views.now) channel.now.0
-        (W.said output.old) (W.said output.new)) }
+        (W.written output.old) (W.written output.new)) }
 {
     one_series();
     let read = read_channel(views, trail, &channel.0, samples, steps);

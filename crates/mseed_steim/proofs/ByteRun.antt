@@ -185,9 +185,9 @@ run_one s (w ∷ ws) ds es h k =
     h.1.1.0 ∙ ap (λ (xs : List ℤ). xs ++ h.1.0) one ∙ ap (λ (xs : List ℤ). k.0 ++ xs) later ∙ sym k.1.1.0
 
 -- the next word, and those behind it
-pub front : (p : List ℕ) (k end : ℕ) → k < end → k % 16 ≢ 0
+pub prefix : (p : List ℕ) (k end : ℕ) → k < end → k % 16 ≢ 0
     → words_from p k (end - k) ≡ data_word p k ∷ words_from p (k + 1) (end - (k + 1))
-front p k end h data_place = let more : end - k ≡ suc (end - (k + 1)) = omega arith in
+prefix p k end h data_place = let more : end - k ≡ suc (end - (k + 1)) = omega arith in
     rw more (words_step p k (end - (k + 1)) data_place)
 
 -- a frame's first word

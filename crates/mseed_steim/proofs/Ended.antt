@@ -26,7 +26,7 @@ get_last x (s ∷ ss) = get_last s ss
 get_end : (x : ℤ) (ss : List ℤ) → slice_get (x ∷ ss) (length (x ∷ ss) - 1) ≡ Some (last_of x ss)
 get_end x ss = let place : length (x ∷ ss) - 1 ≡ length ss = omega arith in rw place (get_last x ss)
 
-before_last : (x : ℤ) (ss : List ℤ) → (front : List ℤ) × (x ∷ ss ≡ front ++ last_of x ss ∷ [])
+before_last : (x : ℤ) (ss : List ℤ) → (prefix : List ℤ) × (x ∷ ss ≡ prefix ++ last_of x ss ∷ [])
 before_last x [] = ([], refl)
 before_last x (s ∷ ss) = let found = before_last s ss in (x ∷ found.0, ap (λ (xs : List ℤ). x ∷ xs) found.1)
 
@@ -89,15 +89,15 @@ walk_fault s p n f h octets e o =
     is_fault s p n _ (items_of s (data_words p)) f h (items_given s (data_words p) (words_small p octets 3 _))
     (constant_fits p octets 1) b l
 
-last_pushed : (x : ℤ) (front : List ℤ) (last : ℤ) → last_of x (front ++ last ∷ []) ≡ last
+last_pushed : (x : ℤ) (prefix : List ℤ) (last : ℤ) → last_of x (prefix ++ last ∷ []) ≡ last
 last_pushed x [] last = refl
-last_pushed x (y ∷ front) last = last_pushed y front last
+last_pushed x (y ∷ prefix) last = last_pushed y prefix last
 
 -- the last of samples, one of which was pushed
-pub get_pushed : (front : List ℤ) (last : ℤ) → slice_get (front ++ last ∷ []) (length (front ++ last ∷ []) - 1)
+pub get_pushed : (prefix : List ℤ) (last : ℤ) → slice_get (prefix ++ last ∷ []) (length (prefix ++ last ∷ []) - 1)
     ≡ Some last
 get_pushed [] last = refl
-get_pushed (x ∷ front) last = get_end x (front ++ last ∷ []) ∙ ap (λ (z : ℤ). Some z) (last_pushed x front last)
+get_pushed (x ∷ prefix) last = get_end x (prefix ++ last ∷ []) ∙ ap (λ (z : ℤ). Some z) (last_pushed x prefix last)
 
 -- samples that were put in their places
 pub filled_met : (s : Scheme) (p : List ℕ) (n : ℕ) (sum : Sum) (out : List ℤ) → 0 < n → ((i : ℕ) → get_or p i 0 < 256)

@@ -12,7 +12,7 @@ use Rattle.mseed_steim.specs.Frames.{DataWord, data_word, words_from, data_words
 use Rattle.mseed_steim.specs.Runs.{SpellsRun}
 use Rattle.mseed_steim.specs.Packing.{IsFullest, PacksRun, IsEmptyWord, IsTooLargeAt, IsFirstTooLarge, IsFewest}
 use Rattle.mseed_steim.specs.Packing.{IsFarthest, LeavesRoom}
-use Rattle.mseed_steim.proofs.Packs.{run_more, run_front, front_spelled, first_large, taken_not_large}
+use Rattle.mseed_steim.proofs.Packs.{run_more, run_prefix, prefix_spelled, first_large, taken_not_large}
 use Rattle.mseed_steim.proofs.Fewest.{is_fewest, is_farthest, no_room}
 
 words_skip : (p : List ℕ) (k n : ℕ) → k % 16 ≡ 0 → words_from p k (suc n) ≡ words_from p (k + 1) n
@@ -234,13 +234,13 @@ filled s ds p index used words f h end =
     let both : data_words p ≡ ws ++ words_from p index (word_count p - index) =
     ap (λ (i : ℕ). words_from p 3 i) cut ∙ words_split p 3 (index - 3) (word_count p - index)
     ∙ ap (λ (i : ℕ). ws ++ words_from p i (word_count p - index)) place in
-    let front : take words (data_words p) ≡ ws = ap (λ (xs : List DataWord). take words xs) both
+    let prefix : take words (data_words p) ≡ ws = ap (λ (xs : List DataWord). take words xs) both
     ∙ take_at ws (words_from p index (word_count p - index)) words f.count in
     let rest : drop words (data_words p) ≡ words_from p index (word_count p - index) =
     ap (λ (xs : List DataWord). drop words xs) both
     ∙ drop_at ws (words_from p index (word_count p - index)) words f.count in
     let packed : PacksRun s (take words (data_words p)) ds (drop used ds) =
-    subst (λ (xs : List DataWord). PacksRun s xs ds (drop used ds)) (sym front) f.run in
+    subst (λ (xs : List DataWord). PacksRun s xs ds (drop used ds)) (sym prefix) f.run in
     let long : length (data_words p) ≡ words + length (words_from p index (word_count p - index)) =
     ap (λ (xs : List DataWord). length xs) both ∙ length-append ws (words_from p index (word_count p - index))
     ∙ ap (λ (i : ℕ). i + length (words_from p index (word_count p - index))) f.count in
@@ -252,14 +252,14 @@ filled s ds p index used words f h end =
     ∙ ap (λ (xs : List DataWord). length xs) (words_none p index) in
     inr (omega (arith, long, empty))) end in record {
       packed = packed;
-      spelled = front_spelled s (take words (data_words p)) ds used packed;
+      spelled = prefix_spelled s (take words (data_words p)) ds used packed;
       inside = (f.inside, omega (arith, long));
       whole = over;
       behind = subst (λ (xs : List DataWord). AllByRecursion IsEmptyWord xs) (sym rest)
           (words_empty p index (word_count p - index) (λ i low high d. (f.no_codes i low, f.no_words i low d)));
       fewest = λ two. subst (λ (n : ℕ). IsFewest (take used ds) n) f.count
           (is_fewest ws (take used ds) (subst (λ (x : Scheme). PacksRun x ws (take used ds) []) two
-          (run_front s ws (take used ds) (drop used ds) split)));
+          (run_prefix s ws (take used ds) (drop used ds) split)));
       farthest = λ two. subst (λ (n : ℕ). IsFarthest ds n used) f.count
           (is_farthest ws ds used (subst (λ (x : Scheme). PacksRun x ws ds (drop used ds)) two f.run) f.inside);
       refused = λ i large room. ⊎_elim
@@ -300,7 +300,7 @@ filling_refused s ds p q index used words f h plain e large =
         ws,
         (
           omega (arith, both, more, same),
-          run_front s ws (take used ds) (drop used ds)
+          run_prefix s ws (take used ds) (drop used ds)
               (subst (λ (xs : List ℤ). PacksRun s ws xs (drop used ds)) split f.run),
         ),
       ),

@@ -19,7 +19,7 @@ use Rattle.mseed_steim.proofs.Given.{word_small}
 use Rattle.mseed_steim.proofs.Folds.{fold_first, fold_bad, fold_short}
 use Rattle.mseed_steim.proofs.Folded.{last_of, Folds, done, short as short_folds, bad as bad_folds, over as over_folds}
 use Rattle.mseed_steim.proofs.Folded.{folds, met_first, Lacks, nothing, short as short_lacks, bad as bad_lacks}
-use Rattle.mseed_steim.proofs.Fronts.{Fronted, fronted, spelled_all, broken_at}
+use Rattle.mseed_steim.proofs.Prefixes.{Prefixed, prefixed, spelled_all, broken_at}
 
 -- the payload's first constant is a sample
 pub minus : (x m : ℕ) → x < suc m → pos x +ℤ negsuc m ≡ negsuc (m - x)
@@ -73,15 +73,15 @@ adds_longer x ds [] t h = tt
 adds_longer x [] (s ∷ ss) t h = absurd h
 adds_longer x (d ∷ ds) (s ∷ ss) t h = (h.0, adds_longer s ds ss t h.1)
 
--- the sums over a front of the words
-sums_of : (s : Scheme) (p : List ℕ) (n : ℕ) (d : ℤ) (ds ss : List ℤ) → Fronted s (data_words p) (d ∷ ds)
+-- the sums over a prefix of the words
+sums_of : (s : Scheme) (p : List ℕ) (n : ℕ) (d : ℤ) (ds ss : List ℤ) → Prefixed s (data_words p) (d ∷ ds)
     → length ds + 1 ≡ n → length ss ≡ length ds → Adds (first_constant p) ds ss → AreSums s p n (first_constant p ∷ ss)
 sums_of s p n d ds ss f count same adds =
     let long : length f.differences ≡ length (d ∷ ds) + length f.tail = ap (λ (xs : List ℤ). length xs) f.longer
     ∙ length-append (d ∷ ds) f.tail in
     record {
       count = omega arith;
-      front = f.front;
+      prefix = f.prefix;
       rest = f.rest;
       cut = f.cut;
       differences = f.differences;
@@ -98,10 +98,11 @@ pub all_met : (s : Scheme) (p : List ℕ) (n : ℕ) (mets : List ℤ) (items : L
     → Met s p n mets next.last
 all_met s p n mets items next g fit
     (some d later others r q (done next' ds ss more e count same adds all met last kept)) =
-    let front = fronted s (data_words p) items (d ∷ ds) more g (ap (λ (xs : List (Result ℤ BadWordAt)). Ok d ∷ xs) e) in
+    let prefix = prefixed s (data_words p) items (d ∷ ds) more g
+    (ap (λ (xs : List (Result ℤ BadWordAt)). Ok d ∷ xs) e) in
     record {
       others = ss;
-      sums = sums_of s p n d ds ss front count same adds;
+      sums = sums_of s p n d ds ss prefix count same adds;
       range = All-cons IsSample (first_constant p) ss fit all;
       ends = last;
       kept =
@@ -173,12 +174,12 @@ is_over s p n k c d ds ss es more later g fit e count place less same adds all n
     let rest : List ℤ = more_sums sum found.0 in
     let whole : length es ≡ length (c ∷ ds) + suc (length found.0) = ap (λ (xs : List ℤ). length xs) found.1
     ∙ length-append (c ∷ ds) (d ∷ found.0) in
-    let front = fronted s (data_words p) (Ok c ∷ map Ok ds ++ Ok d ∷ more) es later g e in
-    let front' : Fronted s (data_words p) (c ∷ (ds ++ d ∷ found.0)) =
-    subst (λ (xs : List ℤ). Fronted s (data_words p) xs) found.1 front in
+    let prefix = prefixed s (data_words p) (Ok c ∷ map Ok ds ++ Ok d ∷ more) es later g e in
+    let prefix' : Prefixed s (data_words p) (c ∷ (ds ++ d ∷ found.0)) =
+    subst (λ (xs : List ℤ). Prefixed s (data_words p) xs) found.1 prefix in
     let added : Adds (first_constant p) (ds ++ d ∷ found.0) (ss ++ sum ∷ rest) =
     adds_past (first_constant p) ds ss (d ∷ found.0) (sum ∷ rest) same adds (refl, more_adds sum found.0) in
-    let sums = sums_of s p n c (ds ++ d ∷ found.0) (ss ++ sum ∷ rest) front'
+    let sums = sums_of s p n c (ds ++ d ∷ found.0) (ss ++ sum ∷ rest) prefix'
     (omega (arith, whole, length-append ds (d ∷ found.0)))
     (omega (arith, length-append ds (d ∷ found.0), length-append ss (sum ∷ rest), length-more_sums sum found.0))
     added in

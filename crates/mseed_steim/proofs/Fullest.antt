@@ -45,14 +45,14 @@ sized_more ds i size next m less known one small e =
       fits = λ w h. All-more (IsWithin w) ds i (pos 0) less (known.fits w (omega (arith, top.0, h)))
           ((one w).0 (omega (arith, top.1, h)));
       least = λ w h.
-          let front : All (IsWithin w) (take i ds) =
+          let prefix : All (IsWithin w) (take i ds) =
           rw (take-take i (i + 1) ds (omega arith)) at (All-take (IsWithin w) i (take (i + 1) ds) h) in
           let long : i < length (take (i + 1) ds) =
           rw (length-take-le (i + 1) ds (omega (arith, less))) (omega arith) in
           let last : IsWithin w (get_or ds i (pos 0)) =
           rw (get_or-take (i + 1) ds i (pos 0) (omega arith)) at
           (All-get_or (IsWithin w) (take (i + 1) ds) i (pos 0) long h) in
-          let old = known.least w front in
+          let old = known.least w prefix in
           let new = (one w).1 last in
           ⊎_elim (λ (q : m ≡ size). omega (arith, q, old)) (λ (q : m ≡ next). omega (arith, q, new)) top.2;
       small = let before = known.small in
@@ -67,19 +67,19 @@ first_fits ds i size p h known =
     rw (get_or-take i ds 0 (pos 0) p) at
     (All-get_or (IsWithin 32) (take i ds) 0 (pos 0) long (known.fits 32 known.small))
 
--- a front that a word spells fits the row of its length
-pub front_fits : (s : Scheme) (ds : List ℤ) (k : ℕ) → 0 < k → k ≤ length ds → CanSpell s (take k ds)
+-- a prefix that a word spells fits the row of its length
+pub prefix_fits : (s : Scheme) (ds : List ℤ) (k : ℕ) → 0 < k → k ≤ length ds → CanSpell s (take k ds)
     → (r : Row) × ((row_for s k ≡ Some r) × All (IsWithin r.width) (take k ds))
-front_fits s ds k p in' can =
+prefix_fits s ds k p in' can =
     let long : length (take k ds) ≡ k = length-take-le k ds in' in
     let fits : FitsRow s (take k ds) = spelled_fits s (take k ds) (omega (arith, long, p)) can in
     (fits.row, (subst (λ (n : ℕ). row_for s n ≡ Some fits.row) long fits.found, fits.range))
 
--- a front that no word spells, since one of its differences needs more
+-- a prefix that no word spells, since one of its differences needs more
 not_spelled : (s : Scheme) (ds : List ℤ) (k size : ℕ) → 0 < k → k ≤ length ds → Sized ds k size
     → size_limit (row_for s k) ≤ size → ¬ (CanSpell s (take k ds))
 not_spelled s ds k size p in' known wide can =
-    let fits = front_fits s ds k p in' can in
+    let fits = prefix_fits s ds k p in' can in
     let enough : size < 2 ^ (fits.0.width - 1) = known.least fits.0.width fits.1.1 in
     let limit : size_limit (row_for s k) ≡ 2 ^ (fits.0.width - 1) = ap size_limit fits.1.0 in
     omega (arith, enough, limit, wide)
@@ -137,6 +137,6 @@ best_all s ds i o over less best =
     best_extends s ds i (length ds) o less
     (λ k h l can.
     let seven : 7 < k = omega (arith, over, h, l) in
-    let fits = front_fits s ds k (omega (arith, seven)) l can in
+    let fits = prefix_fits s ds k (omega (arith, seven)) l can in
     let is = row_is s k fits.0 fits.1.0 in
     omega (arith, is.0.most, is.1, seven)) best

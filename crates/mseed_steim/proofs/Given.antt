@@ -64,9 +64,9 @@ all_after s (w ∷ ws) ds h run more =
     ap (λ (zs : List ℤ). map {B = Result ℤ BadWordAt} Ok zs) run.1.1.0 ∙ map-append Ok first rest in
     rw (found, later, joined) (sym (append_assoc (map Ok first) (map Ok rest) (items_of s more)))
 
-front_words : (before after : List DataWord) → AllByRecursion IsWord (before ++ after) → AllByRecursion IsWord before
-front_words [] after h = tt
-front_words (w ∷ ws) after h = (h.0, front_words ws after h.1)
+prefix_words : (before after : List DataWord) → AllByRecursion IsWord (before ++ after) → AllByRecursion IsWord before
+prefix_words [] after h = tt
+prefix_words (w ∷ ws) after h = (h.0, prefix_words ws after h.1)
 
 word_behind : (before : List DataWord) (bad : DataWord) (after : List DataWord)
     → AllByRecursion IsWord (before ++ bad ∷ after) → bad.bits < 2 ^ 32
@@ -99,11 +99,11 @@ given_items s ws items h (all ds run e) =
 given_items s ws items h (broken before bad after ds cut run fails e) =
     let there : AllByRecursion IsWord (before ++ bad ∷ after) =
     subst (λ (xs : List DataWord). AllByRecursion IsWord xs) cut h in
-    let front : items_of s (before ++ bad ∷ after) ≡ map Ok ds ++ items_of s (bad ∷ after) =
-    all_after s before ds (front_words before (bad ∷ after) there) run (bad ∷ after) in
+    let prefix : items_of s (before ++ bad ∷ after) ≡ map Ok ds ++ items_of s (bad ∷ after) =
+    all_after s before ds (prefix_words before (bad ∷ after) there) run (bad ∷ after) in
     let last : items_of s (bad ∷ after) ≡ Err (place_of bad) ∷ [] =
     bad_items s bad after (word_behind before bad after there) fails in
-    rw cut (e ∙ sym (front ∙ ap (λ (xs : List (Result ℤ BadWordAt)). map Ok ds ++ xs) last))
+    rw cut (e ∙ sym (prefix ∙ ap (λ (xs : List (Result ℤ BadWordAt)). map Ok ds ++ xs) last))
 
 -- the words of a payload have 32 bits
 data_small : (p : List ℕ) → ((i : ℕ) → get_or p i 0 < 256) → (k n : ℕ)

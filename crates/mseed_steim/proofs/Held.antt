@@ -17,7 +17,7 @@ use Rattle.mseed_steim.specs.declared.ahead.Ahead.{Ahead}
 use Rattle.mseed_steim.proofs.Rows.{row_is, spelled_fits}
 use Rattle.mseed_steim.proofs.Sizes.{one_3, two_6}
 use Rattle.mseed_steim.proofs.Widths.{within_by}
-use Rattle.mseed_steim.proofs.Fullest.{front_fits}
+use Rattle.mseed_steim.proofs.Fullest.{prefix_fits}
 
 -- whether a size is below a limit, by the number that says so
 yes : (x limit k m : ℕ) → x < limit → k ≤ m → (x < limit) ↔ (k ≤ m)
@@ -374,13 +374,13 @@ is_ahead s ds held i most long early says is some =
     (subst (λ (x : ℕ). taken s most ≤ x) (at j (omega (arith, h, count, less, seven)))
     (let q : most ≤ get_or held (i + j) 0 = (is most).0 (omega arith) j (omega (arith, h, count, less))
     (omega (arith, h, count, less, seven)) in omega (arith, q, less))) in
-    let front : length (take t.row.count xs) ≡ t.row.count = length-take-le t.row.count xs inside in
+    let prefix : length (take t.row.count xs) ≡ t.row.count = length-take-le t.row.count xs inside in
     let range : All (IsWithin t.row.width) (take t.row.count xs) =
     All-from_get_or (IsWithin t.row.width) (take t.row.count xs) (pos 0) (λ j h.
-    let l : j < t.row.count = omega (arith, h, front) in
+    let l : j < t.row.count = omega (arith, h, prefix) in
     subst (λ (z : ℤ). IsWithin t.row.width z) (sym (get_or-take t.row.count xs j (pos 0) l)) (each j l)) in
     let none : (k : ℕ) → t.row.count < k → k ≤ length xs → ¬ (CanSpell s (take k xs)) = λ k over in' can.
-    let fits = front_fits s xs k (omega (arith, over)) in' can in
+    let fits = prefix_fits s xs k (omega (arith, over)) in' can in
     let row_k = row_is s k fits.0 fits.1.0 in
     let few_k : k ≤ 7 = omega (arith, row_k.0.most, row_k.1) in
     let long_k : length (take k xs) ≡ k = length-take-le k xs in' in

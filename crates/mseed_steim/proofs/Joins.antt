@@ -26,8 +26,8 @@ positional_push w (x ∷ xs) d =
     rw (f, k) (omega arith)
 
 -- the first of the differences are short
-front_lt : (w i b : ℕ) (ds : List ℤ) → w * length ds ≤ b → positional w (take i ds) < 2 ^ b
-front_lt w i b ds h =
+prefix_lt : (w i b : ℕ) (ds : List ℤ) → w * length ds ≤ b → positional w (take i ds) < 2 ^ b
+prefix_lt w i b ds h =
     let few : length (take i ds) ≤ length ds = rw length-take (omega arith) in
     let less : w * length (take i ds) ≤ w * length ds = mul-le-mul_left w few in
     let most : 2 ^ (w * length (take i ds)) ≤ 2 ^ b = pow-le-pow_right (lit< tt) (omega (arith, less, h)) in
@@ -35,7 +35,7 @@ front_lt w i b ds h =
 
 pub joined_fits : (w : ℕ) (ds : List ℤ) (i word : ℕ) → w * length ds ≤ 32 → word ≡ positional w (take i ds)
     → Fits w32 word
-joined_fits w ds i word h e = record { fits = rw e (front_lt w i 32 ds h) }
+joined_fits w ds i word h e = record { fits = rw e (prefix_lt w i 32 ds h) }
 
 -- a number's low bits in two's complement
 low_bits : (w n : ℕ) → w ≤ 32 → n < 2 ^ 31 → (2 ^ 32 - suc n) % 2 ^ w ≡ 2 ^ w - 1 - n % 2 ^ w
@@ -62,7 +62,7 @@ pub joined_more : (w : ℕ) (ds : List ℤ) (i word digit : ℕ) → 0 < w → w
     → bit_or (word * 2 ^ w % 2 ^ 64) (bit_and digit (1 * 2 ^ w % 2 ^ 64 - 1)) ≡ positional w (take (i + 1) ds)
 joined_more w ds i word digit p n h less e f q =
     let one : 1 * 2 ^ w % 2 ^ 64 ≡ 2 ^ w = one_shl w 64 (omega (arith, n)) in
-    let small : word < 2 ^ 32 = rw e (front_lt w i 32 ds h) in
+    let small : word < 2 ^ 32 = rw e (prefix_lt w i 32 ds h) in
     let shifted : word * 2 ^ w % 2 ^ 64 ≡ word * 2 ^ w = shl_whole word 32 w 64 small (omega (arith, n)) in
     let digit_is : digit % 2 ^ w ≡ residue (2 ^ w) (get_or ds i (pos 0)) = ap (λ (x : ℕ). x % 2 ^ w) q
     ∙ digit_of w (get_or ds i (pos 0)) n f in
@@ -90,18 +90,18 @@ placed_more : (w c i : ℕ) (ds : List ℤ) (word digit : ℕ) → 0 < w → w �
     → Placed w c ds i word → FitsSigned w32 (get_or ds i (pos 0)) → digit ≡ of_z w32 (get_or ds i (pos 0))
     → Placed w c ds (i + 1) ((word + digit % 2 ^ w * 2 ^ (w * (c - 1 - i)) % 2 ^ 32) % 2 ^ 32)
 placed_more w c i ds word digit p n room inside less e f q =
-    let front = take c ds in
+    let prefix = take c ds in
     let d = get_or ds i (pos 0) in
     let r = residue (2 ^ w) d in
-    let before = positional w (take i front) in
+    let before = positional w (take i prefix) in
     let rest = w * (c - 1 - i) in
-    let long : length front ≡ c = length-take-le c ds inside in
-    let same : get_or front i (pos 0) ≡ d = get_or-take c ds i (pos 0) less in
+    let long : length prefix ≡ c = length-take-le c ds inside in
+    let same : get_or prefix i (pos 0) ≡ d = get_or-take c ds i (pos 0) less in
     let digit_is : digit % 2 ^ w ≡ r = ap (λ (x : ℕ). x % 2 ^ w) q ∙ digit_of w d n f in
     let low : r < 2 ^ w = residue_lt (2 ^ w) d (pow_pos w) in
-    let grown : positional w (take (i + 1) front) ≡ before * 2 ^ w + r =
-    ap (λ (l : List ℤ). positional w l) (take_more front i (pos 0) (omega (arith, long, less))
-    ∙ ap (λ (z : ℤ). take i front ++ z ∷ []) same) ∙ positional_push w (take i front) d in
+    let grown : positional w (take (i + 1) prefix) ≡ before * 2 ^ w + r =
+    ap (λ (l : List ℤ). positional w l) (take_more prefix i (pos 0) (omega (arith, long, less))
+    ∙ ap (λ (z : ℤ). take i prefix ++ z ∷ []) same) ∙ positional_push w (take i prefix) d in
     let step : c - i ≡ suc (c - 1 - i) = omega (arith, less) in
     let bits : w * (c - i) ≡ w + rest = ap (λ (x : ℕ). w * x) step ∙ mul-suc w (c - 1 - i) ∙ omega arith in
     let power : 2 ^ (w * (c - i)) ≡ 2 ^ w * 2 ^ rest = ap (λ (x : ℕ). 2 ^ x) bits ∙ pow-add 2 w rest in
@@ -109,13 +109,13 @@ placed_more w c i ds word digit p n room inside less e f q =
     let whole : (before * 2 ^ w + r) * 2 ^ rest ≡ before * 2 ^ w * 2 ^ rest + r * 2 ^ rest =
     add-mul (before * 2 ^ w) r (2 ^ rest) in
     let word_is : word ≡ before * 2 ^ w * 2 ^ rest = e ∙ ap (λ (x : ℕ). before * x) power ∙ over in
-    let count : length (take (i + 1) front) ≡ i + 1 = length-take-le (i + 1) front (omega (arith, long, less)) in
-    let small : positional w (take (i + 1) front) < 2 ^ (w * (i + 1)) =
-    rw count at (positional_lt w (take (i + 1) front)) in
+    let count : length (take (i + 1) prefix) ≡ i + 1 = length-take-le (i + 1) prefix (omega (arith, long, less)) in
+    let small : positional w (take (i + 1) prefix) < 2 ^ (w * (i + 1)) =
+    rw count at (positional_lt w (take (i + 1) prefix)) in
     let all : w * (i + 1) + rest ≡ w * c = sym (mul-add w (i + 1) (c - 1 - i))
     ∙ ap (λ (x : ℕ). w * x) (omega (arith, less)) in
-    let fits : positional w (take (i + 1) front) * 2 ^ rest % 2 ^ 32 ≡ positional w (take (i + 1) front) * 2 ^ rest =
-    shl_whole (positional w (take (i + 1) front)) (w * (i + 1)) rest 32 small (omega (arith, all, room)) in
+    let fits : positional w (take (i + 1) prefix) * 2 ^ rest % 2 ^ 32 ≡ positional w (take (i + 1) prefix) * 2 ^ rest =
+    shl_whole (positional w (take (i + 1) prefix)) (w * (i + 1)) rest 32 small (omega (arith, all, room)) in
     let one : r * 2 ^ rest % 2 ^ 32 ≡ r * 2 ^ rest =
     shl_whole r w rest 32 low (omega (arith, bits, all, room, step, mul-le-mul_left w (i_most i c less))) in
     let left : c - (i + 1) ≡ c - 1 - i = omega arith in
@@ -128,17 +128,17 @@ placed_more w c i ds word digit p n room inside less e f q =
 placed_over : (w c i : ℕ) (ds : List ℤ) (word : ℕ) → w * c ≤ 32 → c ≤ length ds → c ≤ i → Placed w c ds i word
     → Placed w c ds (i + 1) ((word + 0 % 2 ^ 32) % 2 ^ 32)
 placed_over w c i ds word room inside over e =
-    let front = take c ds in
-    let long : length front ≡ c = length-take-le c ds inside in
-    let here : take i front ≡ front = take_all i front (omega (arith, long, over)) in
-    let next : take (i + 1) front ≡ front = take_all (i + 1) front (omega (arith, long, over)) in
+    let prefix = take c ds in
+    let long : length prefix ≡ c = length-take-le c ds inside in
+    let here : take i prefix ≡ prefix = take_all i prefix (omega (arith, long, over)) in
+    let next : take (i + 1) prefix ≡ prefix = take_all (i + 1) prefix (omega (arith, long, over)) in
     let none : c - i ≡ 0 = omega (arith, over) in
     let none_left : c - (i + 1) ≡ 0 = omega (arith, over) in
     let one : 2 ^ (w * 0) ≡ 1 = ap (λ n. 2 ^ n) (mul-zero w) in
-    let word_is : word ≡ positional w front = e ∙ rw (here, none, one) (omega arith) in
-    let bits : w * length front ≤ 32 = rw long room in
-    let most : 2 ^ (w * length front) ≤ 2 ^ 32 = pow-le-pow_right (lit< tt) bits in
-    let short : positional w front < 2 ^ 32 = omega (arith, positional_lt w front, most) in
+    let word_is : word ≡ positional w prefix = e ∙ rw (here, none, one) (omega arith) in
+    let bits : w * length prefix ≤ 32 = rw long room in
+    let most : 2 ^ (w * length prefix) ≤ 2 ^ 32 = pow-le-pow_right (lit< tt) bits in
+    let short : positional w prefix < 2 ^ 32 = omega (arith, positional_lt w prefix, most) in
     rw (next, none_left, one, word_is) (omega (arith, short))
 
 pub placed_next : (w c i : ℕ) (ds : List ℤ) (word digit mask place : ℕ) → 0 < w → w ≤ 32 → w * c ≤ 32 → c ≤ length ds

@@ -13,11 +13,11 @@ use Rattle.mseed_steim.proofs.Spelled.{digits_step, digits_over}
 use Rattle.mseed_steim.proofs.Folded.{take_put}
 
 -- one lane more
-pub next_lane : (out front : List ℤ) (at lane count w word : ℕ) (z : ℤ) → at + lane < length out
+pub next_lane : (out prefix : List ℤ) (at lane count w word : ℕ) (z : ℤ) → at + lane < length out
     → (lane < count → z ≡ digit_at w word (count - 1 - lane))
-    → take (at + min lane count) out ++ digits w word (count - lane) ≡ front
-    → take (at + min (lane + 1) count) (set out (at + lane) z) ++ digits w word (count - (lane + 1)) ≡ front
-next_lane out front at lane count w word z inside value so_far = ⊎_elim
+    → take (at + min lane count) out ++ digits w word (count - lane) ≡ prefix
+    → take (at + min (lane + 1) count) (set out (at + lane) z) ++ digits w word (count - (lane + 1)) ≡ prefix
+next_lane out prefix at lane count w word z inside value so_far = ⊎_elim
     (λ (less : lane < count).
     let now : min lane count ≡ lane = min-eq_left (omega (arith, less)) in
     let next : min (lane + 1) count ≡ lane + 1 = min-eq_left (omega (arith, less)) in

@@ -118,25 +118,25 @@ same_payload v form s e a =
     subst (λ (x : Form). IsPayloadReading x v.payload_order (payload_of v) (count_of v) s) same a.spelled
 
 -- what a fault of frames denies
-differs : (v : View) (scheme : Scheme) (front : List ℤ) (last : ℤ) → 0 < count_of v → v.has_rate_blockette ≡ false
+differs : (v : View) (scheme : Scheme) (prefix : List ℤ) (last : ℤ) → 0 < count_of v → v.has_rate_blockette ≡ false
     → form_of v.encoding ≡ Some (Frames scheme) → v.payload_order ≡ Big → HasPayload v
-    → IsPayloadReading (Frames scheme) v.payload_order (payload_of v) (count_of v) (front ++ last ∷ [])
+    → IsPayloadReading (Frames scheme) v.payload_order (payload_of v) (count_of v) (prefix ++ last ∷ [])
     → last ≢ last_constant (payload_of v) → Denies v (LastDiffers last (last_constant (payload_of v)))
-differs v scheme front last some a e big p h not =
-    let whole : IsReading v (front ++ last ∷ []) =
+differs v scheme prefix last some a e big p h not =
+    let whole : IsReading v (prefix ++ last ∷ []) =
     record { some = some; one_rate = a; form = Frames scheme; encoding = e; payload = p; spelled = h } in (
-      front ++ last ∷ [],
+      prefix ++ last ∷ [],
       (
         whole,
         λ t b.
-            let one : front ++ last ∷ [] ≡ t = reading_one v (front ++ last ∷ []) t whole b in (
+            let one : prefix ++ last ∷ [] ≡ t = reading_one v (prefix ++ last ∷ []) t whole b in (
               one,
               λ ends.
-                  let end : slice_get (front ++ last ∷ []) (length (front ++ last ∷ []) - 1)
+                  let end : slice_get (prefix ++ last ∷ []) (length (prefix ++ last ∷ []) - 1)
                   ≡ Some (last_constant (payload_of v)) =
                   subst (λ (xs : List ℤ). slice_get xs (length xs - 1) ≡ Some (last_constant (payload_of v)))
                   (sym one) (ends (Frames scheme) e) in
-                  not (cc (end, get_pushed front last)),
+                  not (cc (end, get_pushed prefix last)),
             ),
       ),
     )
@@ -149,12 +149,12 @@ frames_deny v scheme f some a e big p (short ds h less) = λ s r.
 frames_deny v scheme f some a e big p (bad_word before bad after ds cut h less none) = λ s r.
     let q = same_payload v (Frames scheme) s e r in
     not_bad scheme (payload_of v) (count_of v) s before bad after ds q.1 cut h less none
-frames_deny v scheme f some a e big p (overflow front sum rest sums all not) = λ s r.
+frames_deny v scheme f some a e big p (overflow prefix sum rest sums all not) = λ s r.
     let q = same_payload v (Frames scheme) s e r in
-    not_in front sum rest (subst (λ (xs : List ℤ). All IsSample xs)
-    (sums_one scheme (payload_of v) (count_of v) s (front ++ sum ∷ rest) q.1 sums) q.2) not
-frames_deny v scheme f some a e big p (last_differs front last sums all not) =
-    differs v scheme front last some a e big p (big, sums, all) not
+    not_in prefix sum rest (subst (λ (xs : List ℤ). All IsSample xs)
+    (sums_one scheme (payload_of v) (count_of v) s (prefix ++ sum ∷ rest) q.1 sums) q.2) not
+frames_deny v scheme f some a e big p (last_differs prefix last sums all not) =
+    differs v scheme prefix last some a e big p (big, sums, all) not
 
 -- What a fault says of readings.
 pub fault_denies : (v : View) (f : ReadFault) → 0 < count_of v → IsFault v f → Denies v f

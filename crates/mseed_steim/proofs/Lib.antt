@@ -8,7 +8,7 @@ pub mod Few
 pub mod Folds
 pub mod Folded
 pub mod Shifts
-pub mod Fronts
+pub mod Prefixes
 pub mod Framed
 pub mod Ended
 pub mod Integers

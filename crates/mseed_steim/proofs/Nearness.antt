@@ -123,10 +123,10 @@ words_near_one : (p : List ℕ) → ((i : ℕ) → get_or p i 0 < 256) → (k n 
 unfolding words_from
 words_near_one p octets k n narrow = all_near_one p octets k n narrow
 
-front_of : (P : DataWord → Type 0) (front rest : List DataWord) → AllByRecursion P (front ++ rest)
-    → AllByRecursion P front
-front_of P [] rest h = tt
-front_of P (w ∷ front) rest h = (h.0, front_of P front rest h.1)
+prefix_of : (P : DataWord → Type 0) (prefix rest : List DataWord) → AllByRecursion P (prefix ++ rest)
+    → AllByRecursion P prefix
+prefix_of P [] rest h = tt
+prefix_of P (w ∷ prefix) rest h = (h.0, prefix_of P prefix rest h.1)
 
 run_near : (s : Scheme) (ws : List DataWord) (ds : List ℤ) → AllByRecursion (IsNearWord s) ws → SpellsRun s ws ds
     → All (IsWithin 30) ds
@@ -150,10 +150,10 @@ starts_near first (d ∷ ds) (s ∷ ss) h all = adds_near s ds ss (subst (λ (z 
 sums_near : (s : Scheme) (p : List ℕ) (n : ℕ) (ss : List ℤ) → AreSums s p n ss
     → AllByRecursion (IsNearWord s) (data_words p) → AreNear ss
 sums_near s p n ss sums near =
-    let front = front_of (IsNearWord s) sums.front sums.rest
+    let prefix = prefix_of (IsNearWord s) sums.prefix sums.rest
     (subst (λ (ws : List DataWord). AllByRecursion (IsNearWord s) ws) sums.cut near) in
     starts_near (first_constant p) sums.differences ss sums.sums
-    (recursion_from_All (IsWithin 30) sums.differences (run_near s sums.front sums.differences front sums.spelled))
+    (recursion_from_All (IsWithin 30) sums.differences (run_near s sums.prefix sums.differences prefix sums.spelled))
 
 -- integers
 short_from : (before : ℤ) (ss : List ℤ) → IsWithin 29 before → AllByRecursion (IsWithin 29) ss → AreNearFrom before ss

@@ -73,9 +73,9 @@ one_row : (s : Scheme) (ds : List ℤ) (r : Row) → row_for s 1 ≡ Some r → 
     → IsWithin r.width (get_or ds 0 (pos 0)) → CanSpell s (take 1 ds)
 one_row s ds r e h fit =
     let long : length (take 1 ds) ≡ 1 = length-take-le 1 ds h in
-    let front : take (0 + 1) ds ≡ take 0 ds ++ get_or ds 0 (pos 0) ∷ [] = take_more ds 0 (pos 0) h in
+    let prefix : take (0 + 1) ds ≡ take 0 ds ++ get_or ds 0 (pos 0) ∷ [] = take_more ds 0 (pos 0) h in
     let range : All (IsWithin r.width) (take 1 ds) =
-    rw front (All-cons (IsWithin r.width) (get_or ds 0 (pos 0)) [] fit (All-nil (IsWithin r.width))) in
+    rw prefix (All-cons (IsWithin r.width) (get_or ds 0 (pos 0)) [] fit (All-nil (IsWithin r.width))) in
     fits_spelled s (take 1 ds) (record { row = r; found = rw long e; range = range })
 
 pub none_large : (s : Scheme) (ds : List ℤ) → 0 < length ds → IsWithin 32 (get_or ds 0 (pos 0))
@@ -109,7 +109,7 @@ run_more s (v ∷ ws) w ds mid used run full = (run.0, (run.1.0, run_more s ws w
 
 -- what is packed is spelled
 pub run_spelled : (s : Scheme) (ws : List DataWord) (ds rest : List ℤ) → PacksRun s ws ds rest
-    → (front : List ℤ) × ((ds ≡ front ++ rest) × SpellsRun s ws front)
+    → (prefix : List ℤ) × ((ds ≡ prefix ++ rest) × SpellsRun s ws prefix)
 run_spelled s [] ds rest run = ([], (run, refl))
 run_spelled s (w ∷ ws) ds rest run =
     let later = run_spelled s ws (drop run.0 ds) rest run.1.1 in
@@ -117,39 +117,39 @@ run_spelled s (w ∷ ws) ds rest run =
     ∙ ap (λ (xs : List ℤ). take run.0 ds ++ xs) later.1.0 ∙ sym (append_assoc (take run.0 ds) later.0 rest) in
     (take run.0 ds ++ later.0, (whole, (take run.0 ds, (later.0, (refl, (run.1.0.spelled, later.1.1))))))
 
-pub front_spelled : (s : Scheme) (ws : List DataWord) (ds : List ℤ) (used : ℕ) → PacksRun s ws ds (drop used ds)
+pub prefix_spelled : (s : Scheme) (ws : List DataWord) (ds : List ℤ) (used : ℕ) → PacksRun s ws ds (drop used ds)
     → SpellsRun s ws (take used ds)
-front_spelled s ws ds used run =
+prefix_spelled s ws ds used run =
     let found = run_spelled s ws ds (drop used ds) run in
     let same : found.0 ≡ take used ds =
     append_cancel_right found.0 (take used ds) (drop used ds) (sym found.1.0 ∙ sym (take-append-drop used ds)) in
     subst (λ (xs : List ℤ). SpellsRun s ws xs) same found.1.1
 
 -- it's a packing of those differences alone, too
-front_fullest : (s : Scheme) (front rest : List ℤ) (code word used : ℕ) → IsFullest s (front ++ rest) code word used
-    → used ≤ length front → IsFullest s front code word used
-front_fullest s front rest code word used full h = record {
+prefix_fullest : (s : Scheme) (prefix rest : List ℤ) (code word used : ℕ) → IsFullest s (prefix ++ rest) code word used
+    → used ≤ length prefix → IsFullest s prefix code word used
+prefix_fullest s prefix rest code word used full h = record {
   some = full.some;
   inside = h;
-  spelled = subst (λ (xs : List ℤ). Spells s code word xs) (take-append-le used front rest h) full.spelled;
+  spelled = subst (λ (xs : List ℤ). Spells s code word xs) (take-append-le used prefix rest h) full.spelled;
   plain = full.plain;
-  largest = λ k more less can. full.largest k more (omega (arith, less, length-append front rest))
-      (subst (λ (xs : List ℤ). CanSpell s xs) (sym (take-append-le k front rest less)) can);
+  largest = λ k more less can. full.largest k more (omega (arith, less, length-append prefix rest))
+      (subst (λ (xs : List ℤ). CanSpell s xs) (sym (take-append-le k prefix rest less)) can);
 }
 
-pub run_front : (s : Scheme) (ws : List DataWord) (front rest : List ℤ) → PacksRun s ws (front ++ rest) rest
-    → PacksRun s ws front []
-run_front s [] front rest run = append_cancel_right front [] rest run
-run_front s (w ∷ ws) front rest run =
-    let later = rest_shorter s ws (drop run.0 (front ++ rest)) rest run.1.1 in
+pub run_prefix : (s : Scheme) (ws : List DataWord) (prefix rest : List ℤ) → PacksRun s ws (prefix ++ rest) rest
+    → PacksRun s ws prefix []
+run_prefix s [] prefix rest run = append_cancel_right prefix [] rest run
+run_prefix s (w ∷ ws) prefix rest run =
+    let later = rest_shorter s ws (drop run.0 (prefix ++ rest)) rest run.1.1 in
     let inside = run.1.0.inside in
-    let less : run.0 ≤ length front =
-    omega (arith, later, inside, length-drop run.0 (front ++ rest), length-append front rest) in
-    let cut : drop run.0 (front ++ rest) ≡ drop run.0 front ++ rest = drop-append-le run.0 front rest less in (
+    let less : run.0 ≤ length prefix =
+    omega (arith, later, inside, length-drop run.0 (prefix ++ rest), length-append prefix rest) in
+    let cut : drop run.0 (prefix ++ rest) ≡ drop run.0 prefix ++ rest = drop-append-le run.0 prefix rest less in (
       run.0,
       (
-        front_fullest s front rest w.code w.bits run.0 run.1.0 less,
-        run_front s ws (drop run.0 front) rest (subst (λ (xs : List ℤ). PacksRun s ws xs rest) cut run.1.1),
+        prefix_fullest s prefix rest w.code w.bits run.0 run.1.0 less,
+        run_prefix s ws (drop run.0 prefix) rest (subst (λ (xs : List ℤ). PacksRun s ws xs rest) cut run.1.1),
       ),
     )
 

@@ -68,21 +68,21 @@ starts_one x (d ∷ ds) (e ∷ es) (s ∷ ss) (t ∷ ts) g l h k =
 pub sums_one : (s : Scheme) (p : List ℕ) (n : ℕ) (ss ts : List ℤ) → AreSums s p n ss → AreSums s p n ts → ss ≡ ts
 sums_one s p n ss ts a b =
     starts_one (first_constant p) a.differences b.differences ss ts
-    (runs_agree s a.front a.rest b.front b.rest a.differences b.differences (sym a.cut ∙ b.cut) a.spelled b.spelled)
+    (runs_agree s a.prefix a.rest b.prefix b.rest a.differences b.differences (sym a.cut ∙ b.cut) a.spelled b.spelled)
     (a.count ∙ sym b.count) a.sums b.sums
 
--- a front of words spells no more than all of them do
-front_shorter : (s : Scheme) (fa fb rb : List DataWord) (ds es : List ℤ) → fa ≡ fb ++ rb → SpellsRun s fa ds
+-- a prefix of words spells no more than all of them do
+prefix_shorter : (s : Scheme) (fa fb rb : List DataWord) (ds es : List ℤ) → fa ≡ fb ++ rb → SpellsRun s fa ds
     → SpellsRun s fb es → length es ≤ length ds
-front_shorter s fa [] rb ds es e h k = let none : length es ≡ 0 = ap (λ (xs : List ℤ). length xs) k in
+prefix_shorter s fa [] rb ds es e h k = let none : length es ≡ 0 = ap (λ (xs : List ℤ). length xs) k in
     omega (arith, none)
-front_shorter s [] (v ∷ fb) rb ds es e h k = cc
-front_shorter s (w ∷ fa) (v ∷ fb) rb ds es e h k =
+prefix_shorter s [] (v ∷ fb) rb ds es e h k = cc
+prefix_shorter s (w ∷ fa) (v ∷ fb) rb ds es e h k =
     let same : w ≡ v = cc in
     let rest : fa ≡ fb ++ rb = cc in
     let one : h.0 ≡ k.0 = spells_one s v.code v.bits h.0 k.0
     (subst (λ (u : DataWord). Spells s u.code u.bits h.0) same h.1.1.1.0) k.1.1.1.0 in
-    let later : length k.1.0 ≤ length h.1.0 = front_shorter s fa fb rb h.1.0 k.1.0 rest h.1.1.1.1 k.1.1.1.1 in
+    let later : length k.1.0 ≤ length h.1.0 = prefix_shorter s fa fb rb h.1.0 k.1.0 rest h.1.1.1.1 k.1.1.1.1 in
     let left : length ds ≡ length k.0 + length h.1.0 =
     ap (λ (xs : List ℤ). length xs) (h.1.1.0 ∙ ap (λ (xs : List ℤ). xs ++ h.1.0) one) ∙ length-append k.0 h.1.0 in
     let right : length es ≡ length k.0 + length k.1.0 = ap (λ (xs : List ℤ). length xs) k.1.1.0
@@ -138,9 +138,9 @@ run_one s (w ∷ ws) ds es h k =
     cc (h.1.1.0, k.1.1.0)
 
 -- the first sum that isn't a sample
-pub not_in : (front : List ℤ) (sum : ℤ) (rest : List ℤ) → All IsSample (front ++ sum ∷ rest) → ¬ (IsSample sum) → ⊥
+pub not_in : (prefix : List ℤ) (sum : ℤ) (rest : List ℤ) → All IsSample (prefix ++ sum ∷ rest) → ¬ (IsSample sum) → ⊥
 not_in [] sum rest h not = not (All-head IsSample sum rest h)
-not_in (x ∷ front) sum rest h not = not_in front sum rest (All-tail IsSample x (front ++ sum ∷ rest) h) not
+not_in (x ∷ prefix) sum rest h not = not_in prefix sum rest (All-tail IsSample x (prefix ++ sum ∷ rest) h) not
 
 first_over : (fa : List ℤ) (a : ℤ) (ra fb : List ℤ) (b : ℤ) (rb : List ℤ) → fa ++ a ∷ ra ≡ fb ++ b ∷ rb
     → All IsSample fa → All IsSample fb → ¬ (IsSample a) → ¬ (IsSample b) → length fa ≡ length fb
@@ -165,14 +165,14 @@ last_one (x ∷ fa) a (y ∷ fb) b e = let rest : fa ++ a ∷ [] ≡ fb ++ b ∷
 pub not_short : (s : Scheme) (p : List ℕ) (n : ℕ) (ss ds : List ℤ) → AreSums s p n ss → SpellsRun s (data_words p) ds
     → length ds < n → ⊥
 not_short s p n ss ds a h less =
-    let most = front_shorter s (data_words p) a.front a.rest ds a.differences a.cut h a.spelled in
+    let most = prefix_shorter s (data_words p) a.prefix a.rest ds a.differences a.cut h a.spelled in
     omega (arith, most, a.enough)
 
 pub not_bad : (s : Scheme) (p : List ℕ) (n : ℕ) (ss : List ℤ) (before : List DataWord) (bad : DataWord)
     (after : List DataWord) (ds : List ℤ) → AreSums s p n ss → data_words p ≡ before ++ bad ∷ after
     → SpellsRun s before ds → length ds < n → SpellsNone s bad.code bad.bits → ⊥
 not_bad s p n ss before bad after ds a cut h less none =
-    let most = bad_bounds s before bad after a.front a.rest ds a.differences (sym cut ∙ a.cut) h none a.spelled in
+    let most = bad_bounds s before bad after a.prefix a.rest ds a.differences (sym cut ∙ a.cut) h none a.spelled in
     omega (arith, most, a.enough)
 
 -- Frames have one fault at most.
@@ -182,53 +182,53 @@ fault_one s p n f g (short ds h less) (short es k less') =
     ap (λ (xs : List ℤ). Short (length xs)) (run_one s (data_words p) ds es h k)
 fault_one s p n f g (short ds h less) (bad_word before bad after es cut k less' none) =
     absurd (not_spelled s before bad after ds (subst (λ (ws : List DataWord). SpellsRun s ws ds) cut h) none)
-fault_one s p n f g (short ds h less) (overflow front sum rest a all not) =
-    absurd (not_short s p n (front ++ sum ∷ rest) ds a h less)
-fault_one s p n f g (short ds h less) (last_differs front last a all not) =
-    absurd (not_short s p n (front ++ last ∷ []) ds a h less)
+fault_one s p n f g (short ds h less) (overflow prefix sum rest a all not) =
+    absurd (not_short s p n (prefix ++ sum ∷ rest) ds a h less)
+fault_one s p n f g (short ds h less) (last_differs prefix last a all not) =
+    absurd (not_short s p n (prefix ++ last ∷ []) ds a h less)
 fault_one s p n f g (bad_word before bad after es cut k less' none) (short ds h less) =
     absurd (not_spelled s before bad after ds (subst (λ (ws : List DataWord). SpellsRun s ws ds) cut h) none)
 fault_one s p n f g (bad_word before bad after es cut k less none)
     (bad_word before' bad' after' es' cut' k' less' none') =
     ap (λ (w : DataWord). BadWord w.frame w.place) (first_bad s before bad after before' bad' after' es es' (sym cut
     ∙ cut') k k' none none')
-fault_one s p n f g (bad_word before bad after es cut k less none) (overflow front sum rest a all not) =
-    absurd (not_bad s p n (front ++ sum ∷ rest) before bad after es a cut k less none)
-fault_one s p n f g (bad_word before bad after es cut k less none) (last_differs front last a all not) =
-    absurd (not_bad s p n (front ++ last ∷ []) before bad after es a cut k less none)
-fault_one s p n f g (overflow front sum rest a all not) (short ds h less) =
-    absurd (not_short s p n (front ++ sum ∷ rest) ds a h less)
-fault_one s p n f g (overflow front sum rest a all not) (bad_word before bad after es cut k less none) =
-    absurd (not_bad s p n (front ++ sum ∷ rest) before bad after es a cut k less none)
-fault_one s p n f g (overflow front sum rest a all not) (overflow front' sum' rest' b all' not') =
-    ap Overflow (first_over front sum rest front' sum' rest'
-    (sums_one s p n (front ++ sum ∷ rest) (front' ++ sum' ∷ rest') a b) all all' not not')
-fault_one s p n f g (overflow front sum rest a all not) (last_differs front' last b all' not') =
-    absurd (not_in front sum rest
-    (subst (λ (xs : List ℤ). All IsSample xs) (sums_one s p n (front' ++ last ∷ []) (front ++ sum ∷ rest) b a)
+fault_one s p n f g (bad_word before bad after es cut k less none) (overflow prefix sum rest a all not) =
+    absurd (not_bad s p n (prefix ++ sum ∷ rest) before bad after es a cut k less none)
+fault_one s p n f g (bad_word before bad after es cut k less none) (last_differs prefix last a all not) =
+    absurd (not_bad s p n (prefix ++ last ∷ []) before bad after es a cut k less none)
+fault_one s p n f g (overflow prefix sum rest a all not) (short ds h less) =
+    absurd (not_short s p n (prefix ++ sum ∷ rest) ds a h less)
+fault_one s p n f g (overflow prefix sum rest a all not) (bad_word before bad after es cut k less none) =
+    absurd (not_bad s p n (prefix ++ sum ∷ rest) before bad after es a cut k less none)
+fault_one s p n f g (overflow prefix sum rest a all not) (overflow prefix' sum' rest' b all' not') =
+    ap Overflow (first_over prefix sum rest prefix' sum' rest'
+    (sums_one s p n (prefix ++ sum ∷ rest) (prefix' ++ sum' ∷ rest') a b) all all' not not')
+fault_one s p n f g (overflow prefix sum rest a all not) (last_differs prefix' last b all' not') =
+    absurd (not_in prefix sum rest
+    (subst (λ (xs : List ℤ). All IsSample xs) (sums_one s p n (prefix' ++ last ∷ []) (prefix ++ sum ∷ rest) b a)
     all') not)
-fault_one s p n f g (last_differs front last a all not) (short ds h less) =
-    absurd (not_short s p n (front ++ last ∷ []) ds a h less)
-fault_one s p n f g (last_differs front last a all not) (bad_word before bad after es cut k less none) =
-    absurd (not_bad s p n (front ++ last ∷ []) before bad after es a cut k less none)
-fault_one s p n f g (last_differs front' last b all' not') (overflow front sum rest a all not) =
-    absurd (not_in front sum rest
-    (subst (λ (xs : List ℤ). All IsSample xs) (sums_one s p n (front' ++ last ∷ []) (front ++ sum ∷ rest) b a)
+fault_one s p n f g (last_differs prefix last a all not) (short ds h less) =
+    absurd (not_short s p n (prefix ++ last ∷ []) ds a h less)
+fault_one s p n f g (last_differs prefix last a all not) (bad_word before bad after es cut k less none) =
+    absurd (not_bad s p n (prefix ++ last ∷ []) before bad after es a cut k less none)
+fault_one s p n f g (last_differs prefix' last b all' not') (overflow prefix sum rest a all not) =
+    absurd (not_in prefix sum rest
+    (subst (λ (xs : List ℤ). All IsSample xs) (sums_one s p n (prefix' ++ last ∷ []) (prefix ++ sum ∷ rest) b a)
     all') not)
-fault_one s p n f g (last_differs front last a all not) (last_differs front' last' b all' not') =
+fault_one s p n f g (last_differs prefix last a all not) (last_differs prefix' last' b all' not') =
     ap (λ (z : ℤ). LastDiffers z (last_constant p))
-    (last_one front last front' last' (sums_one s p n (front ++ last ∷ []) (front' ++ last' ∷ []) a b))
+    (last_one prefix last prefix' last' (sums_one s p n (prefix ++ last ∷ []) (prefix' ++ last' ∷ []) a b))
 
 -- sums within 32 bits leave one fault alone: that the last isn't the constant
 pub fault_of_sums : (s : Scheme) (p : List ℕ) (n : ℕ) (ss : List ℤ) (f : ReadFault) → AreSums s p n ss
     → All IsSample ss → IsFrameFault s p n f
-    → (front : List ℤ) × ((last : ℤ)
-    × ((ss ≡ front ++ last ∷ []) × (last ≢ last_constant p) × (f ≡ LastDiffers last (last_constant p))))
+    → (prefix : List ℤ) × ((last : ℤ)
+    × ((ss ≡ prefix ++ last ∷ []) × (last ≢ last_constant p) × (f ≡ LastDiffers last (last_constant p))))
 fault_of_sums s p n ss f a all (short ds h less) = absurd (not_short s p n ss ds a h less)
 fault_of_sums s p n ss f a all (bad_word before bad after es cut k less none) =
     absurd (not_bad s p n ss before bad after es a cut k less none)
-fault_of_sums s p n ss f a all (overflow front sum rest b all' not) =
-    absurd (not_in front sum rest
-    (subst (λ (xs : List ℤ). All IsSample xs) (sums_one s p n ss (front ++ sum ∷ rest) a b) all) not)
-fault_of_sums s p n ss f a all (last_differs front last b all' not) =
-    (front, (last, (sums_one s p n ss (front ++ last ∷ []) a b, not, refl)))
+fault_of_sums s p n ss f a all (overflow prefix sum rest b all' not) =
+    absurd (not_in prefix sum rest
+    (subst (λ (xs : List ℤ). All IsSample xs) (sums_one s p n ss (prefix ++ sum ∷ rest) a b) all) not)
+fault_of_sums s p n ss f a all (last_differs prefix last b all' not) =
+    (prefix, (last, (sums_one s p n ss (prefix ++ last ∷ []) a b, not, refl)))

@@ -324,13 +324,13 @@ pub put_length : (n a : ℕ) (xs ys : List ℕ) → length xs ≡ n → a ≤ n
     → length (put_mid a (n - a) xs (put_chunk 0 (mid_of a (n - a) xs) ys)) ≡ n
 put_length n a xs ys e room =
     let all : length (drop a xs) ≡ n - a = length-drop a xs ∙ ap (λ (m : ℕ). m - a) e in
-    let front : length (take a xs) ≡ a = length-take-le a xs (omega (arith, e, room)) in
+    let prefix : length (take a xs) ≡ a = length-take-le a xs (omega (arith, e, room)) in
     let mid : length (mid_of a (n - a) xs) ≡ n - a = length-take-le (n - a) (drop a xs) (omega (arith, all)) in
     let put : length (put_chunk 0 (mid_of a (n - a) xs) ys) ≡ n - a = length-put_chunk 0 (mid_of a (n - a) xs) ys
     ∙ mid in
     let post : length (post_of a (n - a) xs) ≡ 0 = length-drop (n - a) (drop a xs) ∙ omega (arith, all) in
     length-append (take a xs) (put_chunk 0 (mid_of a (n - a) xs) ys ++ post_of a (n - a) xs)
-    ∙ rw (length-append (put_chunk 0 (mid_of a (n - a) xs) ys) (post_of a (n - a) xs), front, put, post)
+    ∙ rw (length-append (put_chunk 0 (mid_of a (n - a) xs) ys) (post_of a (n - a) xs), prefix, put, post)
     (omega (arith, room))
 
 -- what is the most in a part of a list is so in the whole

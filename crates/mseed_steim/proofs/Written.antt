@@ -22,11 +22,11 @@ with_bytes a p bytes = take a p ++ (bytes ++ drop (a + 4) p)
 pub length_with : (a : ℕ) (p bytes : List ℕ) → length bytes ≡ 4 → a + 4 ≤ length p
     → length (with_bytes a p bytes) ≡ length p
 length_with a p bytes four h =
-    let front : length (take a p) ≡ a = length-take-le a p (omega (arith, h)) in
+    let prefix : length (take a p) ≡ a = length-take-le a p (omega (arith, h)) in
     let back : length (drop (a + 4) p) ≡ length p - (a + 4) = length-drop (a + 4) p in
     let rest : length (bytes ++ drop (a + 4) p) ≡ length bytes + length (drop (a + 4) p) =
     length-append bytes (drop (a + 4) p) in
-    omega (arith, length-append (take a p) (bytes ++ drop (a + 4) p), front, rest, four, back, h)
+    omega (arith, length-append (take a p) (bytes ++ drop (a + 4) p), prefix, rest, four, back, h)
 
 pub word_with : (a n : ℕ) (p : List ℕ) (k j : ℕ) → a ≡ 4 * j → 4 * (j + 1) ≤ length p → n < 2 ^ 32
     → word_at (with_bytes a p (big_bytes 4 n)) k ≡ cond (eqb k j) n (word_at p k)

@@ -12,7 +12,7 @@ abbrev pub CanSpell : Scheme → List ℤ → Type 0
 CanSpell scheme ds = (code : ℕ) × ((word : ℕ) × Spells scheme code word ds)
 
 -- The word takes the largest number of the differences: it spells the first `used`, at least one, and no word
--- spells a longer front. The bits of a word of seven of which nothing is said are 0.
+-- spells a longer prefix. The bits of a word of seven of which nothing is said are 0.
 pub record IsFullest (scheme : Scheme) (ds : List ℤ) (code word used : ℕ) : Type 0 where
   pub some : 0 < used
   pub inside : used ≤ length ds

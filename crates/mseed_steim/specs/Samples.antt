@@ -56,14 +56,14 @@ StartsAndAdds first ds [] = ⊤
 StartsAndAdds first [] (s ∷ ss) = ⊥
 StartsAndAdds first (d ∷ ds) (s ∷ ss) = (s ≡ first) × Adds first ds ss
 
--- The samples are the n sums of the differences that some front of the data words spells.
+-- The samples are the n sums of the differences that some prefix of the data words spells.
 pub record AreSums (scheme : Scheme) (payload : List ℕ) (n : ℕ) (samples : List ℤ) : Type 0 where
   pub count : length samples ≡ n
-  pub front : List DataWord
+  pub prefix : List DataWord
   pub rest : List DataWord
-  pub cut : data_words payload ≡ front ++ rest
+  pub cut : data_words payload ≡ prefix ++ rest
   pub differences : List ℤ
-  pub spelled : SpellsRun scheme front differences
+  pub spelled : SpellsRun scheme prefix differences
   pub enough : n ≤ length differences
   pub sums : StartsAndAdds (first_constant payload) differences samples
 
@@ -89,11 +89,11 @@ pub data IsFrameFault (scheme : Scheme) (payload : List ℕ) (n : ℕ) : ReadFau
       → data_words payload ≡ before ++ bad ∷ after
       → SpellsRun scheme before ds → length ds < n → SpellsNone scheme bad.code bad.bits
       → IsFrameFault scheme payload n (BadWord bad.frame bad.place)
-  overflow : (front : List ℤ) (sum : ℤ) (rest : List ℤ) → AreSums scheme payload n (front ++ sum ∷ rest)
-      → All IsSample front → ¬ (IsSample sum)
-      → IsFrameFault scheme payload n (Overflow (length front))
-  last_differs : (front : List ℤ) (last : ℤ) → AreSums scheme payload n (front ++ last ∷ [])
-      → All IsSample (front ++ last ∷ []) → last ≢ last_constant payload
+  overflow : (prefix : List ℤ) (sum : ℤ) (rest : List ℤ) → AreSums scheme payload n (prefix ++ sum ∷ rest)
+      → All IsSample prefix → ¬ (IsSample sum)
+      → IsFrameFault scheme payload n (Overflow (length prefix))
+  last_differs : (prefix : List ℤ) (last : ℤ) → AreSums scheme payload n (prefix ++ last ∷ [])
+      → All IsSample (prefix ++ last ∷ []) → last ≢ last_constant payload
       → IsFrameFault scheme payload n (LastDiffers last (last_constant payload))
 
 -- Why n samples of a payload can't be read; of integers, since it has fewer whole ones.

@@ -67,7 +67,7 @@ pub(crate) fn code_in(codes: u32, index: usize) -> u8
 
 /// The first data word from a word on, up to a frame's end, and its frame's codes; these are known unless the word
 /// is the frame's first.
-fn front_of(payload: &[u8], from: usize, end: usize, codes: u32) -> (usize, u32)
+fn prefix_of(payload: &[u8], from: usize, end: usize, codes: u32) -> (usize, u32)
     requires order { from ≤ end }
     requires whole { end % 16 ≡ 0 }
     requires inside { 4 * end ≤ length payload.now }
@@ -148,7 +148,7 @@ impl<'a> Words<'a> {
     pub(crate) fn begins_empty(&self) -> bool
         ensures { result ≡ begins_empty self.now }
     {
-        let (next, codes) = front_of(self.payload, self.next, self.end, self.codes);
+        let (next, codes) = prefix_of(self.payload, self.next, self.end, self.codes);
         next < self.end && code_in(codes, next) == 0
     }
 
@@ -165,7 +165,7 @@ impl<'a> Words<'a> {
         ensures count { length result.now ≡ 4 * length (byte_run self.old) }
         ensures few { length result.now ≤ 60 }
     {
-        let (from, codes) = front_of(self.payload, self.next, self.end, self.codes);
+        let (from, codes) = prefix_of(self.payload, self.next, self.end, self.codes);
         let frame_end = (from / FRAME + 1) * FRAME;
         let to = run_end(codes, from, frame_end.min(self.end));
         let bytes = &self.payload[WORD * from..WORD * to];

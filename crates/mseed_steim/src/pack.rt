@@ -43,7 +43,7 @@ pub struct Packed {
 /// `TooLarge` exactly where no word holds the first.
 pub fn pack_word(scheme: Scheme, diffs: &[i32]) -> Result<(u8, u32, usize), TooLarge>
     requires { 0 < length diffs.now }
-    // No word spells a longer front than this one does.
+    // No word spells a longer prefix than this one does.
     ensures fullest { IfOk result (λ word. IsFullest scheme diffs.now word.0 word.1 word.2) }
     // It's refused exactly where the first difference is too large for Steim-2.
     ensures refused { MatchResult result (λ _. ¬ (IsTooLargeAt scheme diffs.now 0))

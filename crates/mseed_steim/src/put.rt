@@ -214,7 +214,7 @@ fn put_first_frame(
     out: &mut [i32],
 ) -> Result<Sum, ReadFault>
     requires inside { 64 ≤ length payload.now }
-    requires front { frame.now ≡ take 64 payload.now }
+    requires prefix { frame.now ≡ take 64 payload.now }
     requires places { length out.old ≡ samples }
     ensures goes_on { (rest : List DataWord)
         → GoesOn samples (record { met = 0; last = first })

@@ -87,7 +87,7 @@ fn add_first_frame(
     first: i32,
 ) -> Result<Sum, ReadFault>
     requires inside { 64 ≤ length payload.now }
-    requires front { frame.now ≡ take 64 payload.now }
+    requires prefix { frame.now ≡ take 64 payload.now }
     ensures goes_on { (rest : List DataWord)
         → GoesOn samples (record { met = 0; last = first })
         (items_of scheme (words_from payload.now 3 13 ++ rest)) (items_of scheme rest) result }

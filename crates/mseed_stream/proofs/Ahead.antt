@@ -15,7 +15,7 @@ use Rattle.mseed_record.specs.Framer.{HasReached}
 use Rattle.mseed_record.specs.Record.{exponent_at, IsRecordBy, IsRecord}
 use Rattle.mseed_record.specs.Scan.{is_version3, at_offset, short}
 use Rattle.mseed_record.proofs.Answered.{none_at}
-use Rattle.mseed_record.proofs.Framed.{number_front, fixed_front, order_front, passes_above}
+use Rattle.mseed_record.proofs.Framed.{number_prefix, fixed_prefix, order_prefix, passes_above}
 use Rattle.mseed_record.proofs.Reached.{reached_decides, reached_next, reached_more}
 use Rattle.mseed_stream.specs.Cutting.{IsStop, IsReadTo, at_start, asked_for}
 
@@ -32,7 +32,7 @@ other_version : (b : List ℕ) → has_fixed_bytes b ≡ true → is_version3 b 
 other_version [] h v = absurd (cc v)
 other_version (x ∷ xs) h v = grind (arith, nat_tests, h, v)
 
--- the framing steps have come along a front of so many bytes to this offset
+-- the framing steps have come along a prefix of so many bytes to this offset
 reached_to : Order → ℕ → ℕ → List ℕ → Type 0
 reached_to order s o b = HasReached (record { order = order; low = s; offset = o }) (take s b)
 
@@ -47,19 +47,19 @@ further order s n o b l h =
     subst (λ (xs : List ℕ). HasReached (record { order = order; low = s; offset = o }) xs) whole
     (reached_more (record { order = order; low = s; offset = o }) (take s b) (drop s (take n b)) h)
 
-needs_four : (order : Order) (front : List ℕ) (low o : ℕ) → low ≤ o → 0 < low → length front < o + 4
-    → at_offset order front low o ≡ Some (Need (o + 4))
-needs_four order front low o l z s = grind (arith, nat_tests)
+needs_four : (order : Order) (prefix : List ℕ) (low o : ℕ) → low ≤ o → 0 < low → length prefix < o + 4
+    → at_offset order prefix low o ≡ Some (Need (o + 4))
+needs_four order prefix low o l z s = grind (arith, nat_tests)
 
-needs_eight : (order : Order) (front : List ℕ) (low o : ℕ) → low ≤ o → 0 < low → o + 4 ≤ length front
-    → length front < o + 8 → type_at order front o ≡ 1000 → at_offset order front low o ≡ Some (Need (o + 8))
-needs_eight order front low o l z s e t = grind (arith, nat_tests, t)
+needs_eight : (order : Order) (prefix : List ℕ) (low o : ℕ) → low ≤ o → 0 < low → o + 4 ≤ length prefix
+    → length prefix < o + 8 → type_at order prefix o ≡ 1000 → at_offset order prefix low o ≡ Some (Need (o + 8))
+needs_eight order prefix low o l z s e t = grind (arith, nat_tests, t)
 
-needs_whole : (order : Order) (front : List ℕ) (low o : ℕ) → low ≤ o → 0 < low → o + 8 ≤ length front
-    → type_at order front o ≡ 1000 → 7 ≤ exponent_at front o → exponent_at front o ≤ 20
-    → o + 8 ≤ 2 ^ exponent_at front o → length front < 2 ^ exponent_at front o
-    → at_offset order front low o ≡ Some (Need (2 ^ exponent_at front o))
-needs_whole order front low o l z s t low_exponent high_exponent inside less = grind (arith, nat_tests, t)
+needs_whole : (order : Order) (prefix : List ℕ) (low o : ℕ) → low ≤ o → 0 < low → o + 8 ≤ length prefix
+    → type_at order prefix o ≡ 1000 → 7 ≤ exponent_at prefix o → exponent_at prefix o ≤ 20
+    → o + 8 ≤ 2 ^ exponent_at prefix o → length prefix < 2 ^ exponent_at prefix o
+    → at_offset order prefix low o ≡ Some (Need (2 ^ exponent_at prefix o))
+needs_whole order prefix low o l z s t low_exponent high_exponent inside less = grind (arith, nat_tests, t)
 
 -- at the first 1000 of a record
 stop_last : (order : Order) (os : List ℕ) (last : ℕ) (b : List ℕ) (s : ℕ) → IsRecordBy order os last b
@@ -71,9 +71,9 @@ stop_last order os last b s r room some l stop h =
     let size_s : length (take s b) ≡ s = length-take-le s b (omega arith) in
     let size_four : length (take (last + 4) b) ≡ last + 4 = length-take-le (last + 4) b (omega arith) in
     let size_eight : length (take (last + 8) b) ≡ last + 8 = length-take-le (last + 8) b room in
-    let type_four : type_at order (take (last + 4) b) last ≡ 1000 = number_front order b last (last + 4) (omega arith)
+    let type_four : type_at order (take (last + 4) b) last ≡ 1000 = number_prefix order b last (last + 4) (omega arith)
     ∙ r.chain.found in
-    let type_eight : type_at order (take (last + 8) b) last ≡ 1000 = number_front order b last (last + 8) (omega arith)
+    let type_eight : type_at order (take (last + 8) b) last ≡ 1000 = number_prefix order b last (last + 8) (omega arith)
     ∙ r.chain.found in
     let exponent : exponent_at (take (last + 8) b) last ≡ exponent_at b last =
     get_or-take (last + 8) b (last + 6) 0 (omega arith) in
@@ -111,9 +111,9 @@ stop_along order all last b s o (q ∷ os) r room some l stop h p =
     let size_s : length (take s b) ≡ s = length-take-le s b (omega (arith, p.2)) in
     let size_four : length (take (o + 4) b) ≡ o + 4 = length-take-le (o + 4) b (omega (arith, p.2)) in
     let r_four = further order s (o + 4) o b (omega arith) h in
-    let type : type_at order (take (o + 4) b) o ≡ type_at order b o = number_front order b o (o + 4) (omega arith) in
+    let type : type_at order (take (o + 4) b) o ≡ type_at order b o = number_prefix order b o (o + 4) (omega arith) in
     let next : next_at order (take (o + 4) b) o ≡ next_at order b o =
-    number_front order b (o + 2) (o + 4) (omega arith) in
+    number_prefix order b (o + 2) (o + 4) (omega arith) in
     let none = none_at order (take (o + 4) b) s o l some (omega arith) (λ t. p.1 (sym type ∙ t)) in
     let four = asked_for s (o + 4) stop (omega (arith, p.2))
     (reached_decides (record { order = order; low = s; offset = o }) (take s b) (Need (o + 4)) h
@@ -128,15 +128,15 @@ stop_by b order os last r =
     let room : last + 8 ≤ length b = omega (arith, r.inside, r.size) in
     let low = r.chain.low in
     let size : length (take 48 b) ≡ 48 = length-take-le 48 b (omega arith) in
-    let fixed : has_fixed_bytes (take 48 b) ≡ true = fixed_front b 48 (omega arith) ∙ r.fixed in
+    let fixed : has_fixed_bytes (take 48 b) ≡ true = fixed_prefix b 48 (omega arith) ∙ r.fixed in
     let begins : blockette_at order b ≡ blockette_at order (take 48 b) =
-    sym (number_front order b 46 48 (omega arith)) in
+    sym (number_prefix order b 46 48 (omega arith)) in
     let header : IsStop b 48 = asked_for 0 48 at_start (omega arith) (short refl (omega arith)) in
     let reached : HasReached (record { order = order; low = 48; offset = blockette_at order b }) (take 48 b) = record {
       other_version = false_is (is_version3 (take 48 b)) (other_version (take 48 b) fixed);
       header = omega arith;
       fixed = fixed;
-      order_is = order_front b 48 (omega arith) ∙ r.order_is;
+      order_is = order_prefix b 48 (omega arith) ∙ r.order_is;
       low = omega arith;
       small = number_small order b 46 r.octets;
       passed = ([], (refl, sym begins));
@@ -153,9 +153,9 @@ record_few b r = let by = r.1.1.1 in
     subst (λ (n : ℕ). n ≤ 2 ^ 20) (sym by.size) (pow-le-pow_right {n = 2} (omega arith) by.exponent_high)
 
 -- bytes that are a record are read to its end and no further
-pub read_to_record : (front bytes : List ℕ) (is_at_end : Bool) → front ≡ bytes → IsRecord bytes → is_at_end ≡ false
-    → IsReadTo front is_at_end
-read_to_record front bytes is_at_end same r going =
-    let stop : IsStop front (length front) =
+pub read_to_record : (prefix bytes : List ℕ) (is_at_end : Bool) → prefix ≡ bytes → IsRecord bytes → is_at_end ≡ false
+    → IsReadTo prefix is_at_end
+read_to_record prefix bytes is_at_end same r going =
+    let stop : IsStop prefix (length prefix) =
     subst (λ (xs : List ℕ). IsStop xs (length xs)) (sym same) (stop_record_end bytes r) in
-    subst (λ (e : Bool). IsReadTo front e) (sym going) stop
+    subst (λ (e : Bool). IsReadTo prefix e) (sym going) stop

@@ -8,7 +8,7 @@ use Rattle.mseed_record.specs.Record.{IsRecord}
 use Rattle.mseed_record.specs.Scan.{Decides, short}
 use Rattle.mseed_record.proofs.OneAnswer.{one_answer}
 use Rattle.mseed_stream.specs.Archive.{is_truncated}
-use Rattle.mseed_stream.specs.Device.{Heard}
+use Rattle.mseed_stream.specs.Device.{BytesRead}
 use Rattle.mseed_stream.specs.Standing.{Standing}
 use Rattle.mseed_stream.specs.Cutting.{IsStop, IsReadTo, is_short, asks_of}
 use Rattle.mseed_stream.specs.private.Steps.{IsFillFault, IsCuttingFault, IsAnswerAtEnd}
@@ -23,15 +23,15 @@ pub found : (b : List ℕ) (is_at_end : Bool) (k : ℕ) → IsReadTo b is_at_end
 found b true k less within r = absurd (none_short b less k within r)
 found b false k stop within r = ((record_whole b (length b) k stop (omega arith) within r).0, refl)
 
-pub fault_at_end : (answer : Result Bool StreamFault) (k : ℕ) (c after : Standing) (old new : Heard)
-    → IsAnswerAtEnd answer after.offset after.front → after.offset ≡ c.offset → new.failures ≡ old.failures
-    → new.is_at_end ≡ true → Decides after.front (Need k)
+pub fault_at_end : (answer : Result Bool StreamFault) (k : ℕ) (c after : Standing) (old new : BytesRead)
+    → IsAnswerAtEnd answer after.offset after.prefix → after.offset ≡ c.offset → new.failures ≡ old.failures
+    → new.is_at_end ≡ true → Decides after.prefix (Need k)
     → IfErr answer (λ e. IsCuttingFault e c after old new)
 fault_at_end (Ok found) k c after old new is offset fine end d = tt
 fault_at_end (Err e) k c after old new is offset fine end d =
     subst (λ (x : StreamFault). IsCuttingFault x c after old new) (sym is.0) (offset, fine, is_truncated k is.1 d, end)
 
-pub read_to_err : (e : StreamFault) (after : List ℕ) (needed offset room : ℕ) (old new : Heard)
+pub read_to_err : (e : StreamFault) (after : List ℕ) (needed offset room : ℕ) (old new : BytesRead)
     → IsFillFault e offset room needed old new → IsStop after needed → length after < needed
     → (new ≡ old → IsStop after (length after))
     → IsReadTo after (is_short {X = Bool} (Err e) new.is_at_end)
@@ -42,10 +42,10 @@ read_to_err (Turns n) after needed offset room old new is stop less held = (need
 read_to_err Memory after needed offset room old new is stop less held = held is.1
 
 -- a fault of the reads for one stop is one of the reads for the record
-pub cutting_err : (e : StreamFault) (c before after : Standing) (old middle new : Heard) (needed : ℕ)
+pub cutting_err : (e : StreamFault) (c before after : Standing) (old middle new : BytesRead) (needed : ℕ)
     → IsFillFault e before.offset before.room needed middle new → before.offset ≡ c.offset → c.room ≤ before.room
-    → middle.failures ≡ old.failures → middle.is_at_end ≡ false → IsStop after.front needed
-    → length after.front < needed → (new ≡ middle → Decides after.front (Need needed))
+    → middle.failures ≡ old.failures → middle.is_at_end ≡ false → IsStop after.prefix needed
+    → length after.prefix < needed → (new ≡ middle → Decides after.prefix (Need needed))
     → IsCuttingFault e c after old new
 cutting_err (Frame n f) c before after old middle new needed is offset room fine going stop less asks = absurd is
 cutting_err (Truncated n have) c before after old middle new needed is offset room fine going stop less asks = absurd is
@@ -54,8 +54,8 @@ cutting_err (Read n) c before after old middle new needed is offset room fine go
 cutting_err (Turns n) c before after old middle new needed is offset room fine going stop less asks =
     (is.0 ∙ offset, is.1 ∙ fine, is.2, is.3, (needed, (stop, less)))
 cutting_err Memory c before after old middle new needed is offset room fine going stop less asks = (
-  ap (λ (h : Heard). h.failures) is.1 ∙ fine,
-  ap (λ (h : Heard). h.is_at_end) is.1 ∙ going,
+  ap (λ (h : BytesRead). h.failures) is.1 ∙ fine,
+  ap (λ (h : BytesRead). h.is_at_end) is.1 ∙ going,
   (needed, omega (arith, room, is.0), asks is.1),
 )
 
@@ -74,13 +74,13 @@ pub stop_here : (b : List ℕ) (is_at_end : Bool) → IsReadTo b is_at_end → i
 stop_here b is_at_end stops e = subst (λ (x : Bool). IsReadTo b x) e stops
 
 -- what is held of a record, and how often the source was asked for it: once for its header, and for the rest
-pub asked_twice : (held front : List ℕ) (old new : ℕ) → old < new → (held ≡ [] → new ≤ old + 1 → length front ≤ 48)
-    → IsRecord front → old + 2 ≤ new + asks_of held
-asked_twice [] front old new more few r = ⊎_elim
-    (λ (less : new < old + 2). absurd (omega (arith, few refl (omega arith), record_more front r)))
+pub asked_twice : (held prefix : List ℕ) (old new : ℕ) → old < new → (held ≡ [] → new ≤ old + 1 → length prefix ≤ 48)
+    → IsRecord prefix → old + 2 ≤ new + asks_of held
+asked_twice [] prefix old new more few r = ⊎_elim
+    (λ (less : new < old + 2). absurd (omega (arith, few refl (omega arith), record_more prefix r)))
     (λ (many : old + 2 ≤ new). omega (arith, many))
     (cases_lt new (old + 2))
-asked_twice (x ∷ xs) front old new more few r = omega arith
+asked_twice (x ∷ xs) prefix old new more few r = omega arith
 
 -- the first reads for a record are those for its header
 pub first_fill : (before after : List ℕ) (needed : ℕ) (is_at_end : Bool) → before ≡ [] → Decides before (Need needed)

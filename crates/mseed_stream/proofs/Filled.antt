@@ -4,9 +4,9 @@ use Rattle.std.proofs.Common.{subst, ◌∙◌, arith, length-append}
 use Rattle.std.proofs.lemmas.List.{take-take, drop-append-le}
 use Rattle.std.proofs.Math.Seq.{take-add, take-append_seam}
 use Rattle.std.specs.Prelude.{slice_range}
-use Rattle.mseed_stream.specs.Device.{Heard}
+use Rattle.mseed_stream.specs.Device.{BytesRead}
 use Rattle.mseed_stream.specs.Standing.{Standing}
-use Rattle.mseed_stream.specs.Cutting.{held_of, IsHeard}
+use Rattle.mseed_stream.specs.Cutting.{held_of, IsRead}
 
 -- a write back of as many bytes is all of them
 pub written_back : (held items : List ℕ) (n : ℕ) → length held ≡ n → take n (held ++ drop (length held) items) ≡ held
@@ -14,31 +14,32 @@ written_back held items n e = ap (λ (k : ℕ). take k (held ++ drop (length hel
     ∙ take-append_seam held (drop (length held) items)
 
 -- n bytes more behind those that there were
-pub front_more : (held now : List ℕ) (have n needed : ℕ) → take have now ≡ take have held → have + n ≤ needed
+pub prefix_more : (held now : List ℕ) (have n needed : ℕ) → take have now ≡ take have held → have + n ≤ needed
     → take (have + n) now ≡ take have held ++ take n (slice_range now have needed)
-front_more held now have n needed same fits =
+prefix_more held now have n needed same fits =
     let cut : take n (take (needed - have) (drop have now)) ≡ take n (drop have now) =
     take-take n (needed - have) (drop have now) (omega arith) in
     take-add have n now ∙ (ap (λ (xs : List ℕ). xs ++ take n (drop have now)) same
     ∙ ap (λ (xs : List ℕ). take have held ++ xs) (sym cut))
 
-pub held_is : (c : Standing) → c.is_lent ≡ false → held_of c ≡ c.front
+pub held_is : (c : Standing) → c.is_lent ≡ false → held_of c ≡ c.prefix
 held_is c e = rw e
 
-pub heard_more : (h now : Heard) (c after : Standing) (more : List ℕ) → IsHeard h c → c.is_lent ≡ false
-    → after.is_lent ≡ false → after.offset ≡ c.offset → after.front ≡ c.front ++ more
+pub read_more : (h now : BytesRead) (c after : Standing) (more : List ℕ) → IsRead h c → c.is_lent ≡ false
+    → after.is_lent ≡ false → after.offset ≡ c.offset → after.prefix ≡ c.prefix ++ more
     → now.bytes ≡ h.bytes ++ more → now.calls ≡ h.calls + 1 → after.reads ≡ c.reads + 1 → c.reads < 2 ^ 40
-    → length after.front ≤ after.room → after.room ≤ 2 ^ 20 → IsHeard now after
-heard_more h now c after more is lent lent_after offset front bytes calls reads few within small =
-    let held : held_of c ≡ c.front = held_is c lent in
-    let held_after : held_of after ≡ c.front ++ more = held_is after lent_after ∙ front in
-    let size : length h.bytes ≡ c.offset + length c.front = is.told ∙ ap (λ (xs : List ℕ). c.offset + length xs) held in
+    → length after.prefix ≤ after.room → after.room ≤ 2 ^ 20 → IsRead now after
+read_more h now c after more is lent lent_after offset prefix bytes calls reads few within small =
+    let held : held_of c ≡ c.prefix = held_is c lent in
+    let held_after : held_of after ≡ c.prefix ++ more = held_is after lent_after ∙ prefix in
+    let size : length h.bytes ≡ c.offset + length c.prefix =
+    is.told ∙ ap (λ (xs : List ℕ). c.offset + length xs) held in
     let size_now : length now.bytes ≡ length h.bytes + length more = ap (λ (xs : List ℕ). length xs) bytes
     ∙ length-append h.bytes more in
-    let size_held : length (held_of after) ≡ length c.front + length more = ap (λ (xs : List ℕ). length xs) held_after
-    ∙ length-append c.front more in
-    let size_front : length after.front ≡ length c.front + length more = ap (λ (xs : List ℕ). length xs) front
-    ∙ length-append c.front more in
+    let size_held : length (held_of after) ≡ length c.prefix + length more = ap (λ (xs : List ℕ). length xs) held_after
+    ∙ length-append c.prefix more in
+    let size_prefix : length after.prefix ≡ length c.prefix + length more = ap (λ (xs : List ℕ). length xs) prefix
+    ∙ length-append c.prefix more in
     let bounded = is.few_bytes in
     let asked = is.reads in
     record {
@@ -54,21 +55,21 @@ heard_more h now c after more is lent lent_after offset front bytes calls reads 
     }
 
 -- where nothing was held, as many bytes told by two reads
-pub heard_whole : (h now : Heard) (c middle after : Standing) (room : ℕ) (bytes : List ℕ) → IsHeard h c
-    → c.is_lent ≡ false → c.front ≡ [] → middle ≡ record c { room = room } → room ≤ 2 ^ 20
-    → after ≡ record middle { front = bytes; reads = middle.reads + 2 } → now.bytes ≡ h.bytes ++ bytes
-    → now.calls ≡ h.calls + 2 → c.reads + 2 ≤ 2 ^ 40 → length bytes ≤ room → IsHeard now after
-heard_whole h now c middle after room bytes is lent none middle_is small after_is told calls few fits =
+pub read_whole : (h now : BytesRead) (c middle after : Standing) (room : ℕ) (bytes : List ℕ) → IsRead h c
+    → c.is_lent ≡ false → c.prefix ≡ [] → middle ≡ record c { room = room } → room ≤ 2 ^ 20
+    → after ≡ record middle { prefix = bytes; reads = middle.reads + 2 } → now.bytes ≡ h.bytes ++ bytes
+    → now.calls ≡ h.calls + 2 → c.reads + 2 ≤ 2 ^ 40 → length bytes ≤ room → IsRead now after
+read_whole h now c middle after room bytes is lent none middle_is small after_is told calls few fits =
     let target : Standing = record {
       offset = c.offset;
-      front = bytes;
+      prefix = bytes;
       is_lent = c.is_lent;
       room = room;
       reads = c.reads + 2;
       answer = c.answer;
     } in
     let same : after ≡ target =
-    after_is ∙ ap (λ (m : Standing). let n : Standing = record m { front = bytes; reads = m.reads + 2 } in
+    after_is ∙ ap (λ (m : Standing). let n : Standing = record m { prefix = bytes; reads = m.reads + 2 } in
     n) middle_is in
     let held : held_of c ≡ [] = held_is c lent ∙ none in
     let held_after : held_of target ≡ bytes = held_is target lent in
@@ -78,7 +79,7 @@ heard_whole h now c middle after room bytes is lent none middle_is small after_i
     let size_held : length (held_of target) ≡ length bytes = ap (λ (xs : List ℕ). length xs) held_after in
     let bounded = is.few_bytes in
     let asked = is.reads in
-    let heard : IsHeard now target = record {
+    let read : IsRead now target = record {
       told = omega arith;
       held = ap (λ (xs : List ℕ). drop c.offset xs) told
           ∙ (drop-append-le c.offset h.bytes bytes (omega arith)
@@ -89,7 +90,7 @@ heard_whole h now c middle after room bytes is lent none middle_is small after_i
       within = fits;
       small = small;
     } in
-    subst (λ (s : Standing). IsHeard now s) (sym same) heard
+    subst (λ (s : Standing). IsRead now s) (sym same) read
 
 -- the header, and then the rest, are all of them
 pub two_parts : (bytes : List ℕ) (m n : ℕ) → m ≤ n → take n bytes ≡ take m bytes ++ take (n - m) (drop m bytes)
@@ -98,9 +99,9 @@ two_parts bytes m n l =
     ap (λ (k : ℕ). take k bytes) (sym all) ∙ take-add m (n - m) bytes
 
 -- what is held grows by what is told
-pub held_grows : (h now : Heard) (c after : Standing) (more : List ℕ) → IsHeard h c → IsHeard now after
+pub held_grows : (h now : BytesRead) (c after : Standing) (more : List ℕ) → IsRead h c → IsRead now after
     → c.is_lent ≡ false → after.is_lent ≡ false → after.offset ≡ c.offset → now.bytes ≡ h.bytes ++ more
-    → after.front ≡ c.front ++ more
+    → after.prefix ≡ c.prefix ++ more
 held_grows h now c after more is then lent lent_after offset bytes =
     let size = is.told in
     let within : c.offset ≤ length h.bytes = omega arith in
@@ -109,9 +110,9 @@ held_grows h now c after more is then lent lent_after offset bytes =
     ∙ (drop-append-le c.offset h.bytes more within ∙ ap (λ (xs : List ℕ). xs ++ more) (is.held ∙ held_is c lent))))
 
 -- and stays where nothing is told
-pub held_stays : (h now : Heard) (c after : Standing) → IsHeard h c → IsHeard now after → c.is_lent ≡ false
-    → after.is_lent ≡ false → after.offset ≡ c.offset → now ≡ h → after.front ≡ c.front
+pub held_stays : (h now : BytesRead) (c after : Standing) → IsRead h c → IsRead now after → c.is_lent ≡ false
+    → after.is_lent ≡ false → after.offset ≡ c.offset → now ≡ h → after.prefix ≡ c.prefix
 held_stays h now c after is then lent lent_after offset same =
     sym (then.held ∙ held_is after lent_after)
     ∙ (ap (λ (n : ℕ). drop n now.bytes) offset
-    ∙ (ap (λ (x : Heard). drop c.offset x.bytes) same ∙ (is.held ∙ held_is c lent)))
+    ∙ (ap (λ (x : BytesRead). drop c.offset x.bytes) same ∙ (is.held ∙ held_is c lent)))

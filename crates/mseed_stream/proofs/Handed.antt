@@ -9,14 +9,14 @@ use Rattle.mseed_record.specs.Record.{IsRecord}
 use Rattle.mseed_record.proofs.Answered.{answered}
 use Rattle.mseed_stream.specs.Archive.{HasNoFurther, IsArchive, HasRecords, End, IsEndOf, clean, frame, truncated}
 use Rattle.mseed_stream.specs.Archive.{is_clean, is_frame, is_truncated}
-use Rattle.mseed_stream.specs.Device.{Heard}
-use Rattle.mseed_stream.specs.Cutting.{told_from, moves_by, handed_by, IfEnds, IsCutFault, IsCleanEnd}
+use Rattle.mseed_stream.specs.Device.{BytesRead}
+use Rattle.mseed_stream.specs.Cutting.{read_from, moves_by, handed_by, IfEnds, IsCutFault, IsCleanEnd}
 use Rattle.mseed_stream.specs.declared.fault.StreamFault.{StreamFault}
 use Rattle.mseed_stream.specs.declared.fault.StreamFault.TheVariants.{Frame, Truncated, Read, Turns, Memory}
 use Rattle.mseed_record.proofs.Asked.{record_long}
 use Rattle.mseed_stream.proofs.Stops.{none_short}
 
--- no front of a rest with an end is a record
+-- no prefix of a rest with an end is a record
 pub no_further : (rest : List ℕ) (e : End) → IsEndOf rest e → (k : ℕ) → k ≤ length rest → IsRecord (take k rest) → ⊥
 no_further rest _ (is_clean empty) k l r =
     let long : 48 ≤ length (take k rest) = record_long (take k rest) r in
@@ -31,9 +31,9 @@ all_more [] x all is = (is, tt)
 all_more (y ∷ ys) x all is = (all.0, all_more ys x all.1 is)
 
 -- what was handed out stays where more is told
-same_front : (old new more : List ℕ) (offset : ℕ) → offset ≤ length old → new ≡ old ++ more
+same_prefix : (old new more : List ℕ) (offset : ℕ) → offset ≤ length old → new ≡ old ++ more
     → take offset new ≡ take offset old
-same_front old new more offset l e = ap (λ (xs : List ℕ). take offset xs) e ∙ take-append-le offset old more l
+same_prefix old new more offset l e = ap (λ (xs : List ℕ). take offset xs) e ∙ take-append-le offset old more l
 
 pub records_stay : (old new more : List ℕ) (offset : ℕ) (records : List (List ℕ)) → offset ≤ length old
     → new ≡ old ++ more → HasRecords old offset records → HasRecords new (offset + 0) (records ++ [])
@@ -42,7 +42,7 @@ records_stay old new more offset records l e has =
     let list : records ++ [] ≡ records = append-nil records in
     record {
       joined = ap (λ (n : ℕ). take n new) same
-          ∙ (same_front old new more offset l e ∙ (has.joined ∙ ap (λ (xs : List (List ℕ)). concat xs) (sym list)));
+          ∙ (same_prefix old new more offset l e ∙ (has.joined ∙ ap (λ (xs : List (List ℕ)). concat xs) (sym list)));
       each = subst (λ (xs : List (List ℕ)). AllByRecursion IsRecord xs) (sym list) has.each;
     }
 
@@ -53,19 +53,19 @@ records_more old new more offset records l e is has =
     let r : List ℕ = drop offset new in
     let cut : take (offset + length r) new ≡ take offset new ++ r = take-add offset (length r) new
     ∙ ap (λ (xs : List ℕ). take offset new ++ xs) (take-length r) in
-    let front : take offset new ≡ concat records = same_front old new more offset l e ∙ has.joined in
+    let prefix : take offset new ≡ concat records = same_prefix old new more offset l e ∙ has.joined in
     let one : concat (r ∷ []) ≡ r = append-nil r in
     record {
-      joined = cut ∙ (ap (λ (xs : List ℕ). xs ++ r) front
+      joined = cut ∙ (ap (λ (xs : List ℕ). xs ++ r) prefix
           ∙ (ap (λ (xs : List ℕ). concat records ++ xs) (sym one) ∙ sym (concat-append records (r ∷ []))));
       each = all_more records r has.each is;
     }
 
-pub records_after : (result : Result (Option ℕ) StreamFault) (old new : Heard) (more : List ℕ) (offset : ℕ)
+pub records_after : (result : Result (Option ℕ) StreamFault) (old new : BytesRead) (more : List ℕ) (offset : ℕ)
     (records : List (List ℕ)) → offset ≤ length old.bytes → new.bytes ≡ old.bytes ++ more
-    → IfOk result (λ o. IfSome o (λ n. IsRecord (told_from offset new))) → HasRecords old.bytes offset records
-    → HasRecords new.bytes (offset + moves_by result (told_from offset new))
-    (records ++ handed_by result (told_from offset new))
+    → IfOk result (λ o. IfSome o (λ n. IsRecord (read_from offset new))) → HasRecords old.bytes offset records
+    → HasRecords new.bytes (offset + moves_by result (read_from offset new))
+    (records ++ handed_by result (read_from offset new))
 records_after (Ok (Some n)) old new more offset records l e is has =
     records_more old.bytes new.bytes more offset records l e is has
 records_after (Ok None) old new more offset records l e is has =
@@ -78,7 +78,7 @@ archive_of : (old new more : List ℕ) (offset : ℕ) (records : List (List ℕ)
     → HasRecords old offset records → HasNoFurther (drop offset new) → IsArchive new records (drop offset new)
 archive_of old new more offset records l e has none = record {
   joined = sym (take-append-drop offset new)
-      ∙ ap (λ (xs : List ℕ). xs ++ drop offset new) (same_front old new more offset l e ∙ has.joined);
+      ∙ ap (λ (xs : List ℕ). xs ++ drop offset new) (same_prefix old new more offset l e ∙ has.joined);
   each = has.each;
   no_further = none;
 }
@@ -89,11 +89,11 @@ archive_by : (old new more : List ℕ) (offset : ℕ) (records : List (List ℕ)
 archive_by old new more offset records end l e has is =
     archive_of old new more offset records l e has (no_further (drop offset new) end is)
 
-pub archive_at : (result : Result (Option ℕ) StreamFault) (old new : Heard) (more : List ℕ) (offset : ℕ)
+pub archive_at : (result : Result (Option ℕ) StreamFault) (old new : BytesRead) (more : List ℕ) (offset : ℕ)
     (records : List (List ℕ)) → offset ≤ length old.bytes → new.bytes ≡ old.bytes ++ more
     → HasRecords old.bytes offset records
     → (result ≡ Ok None → IsCleanEnd offset new) → IfErr result (λ e. IsCutFault e offset new)
-    → IfEnds result (IsArchive new.bytes records (told_from offset new))
+    → IfEnds result (IsArchive new.bytes records (read_from offset new))
 archive_at (Ok (Some n)) old new more offset records l e has end fault = tt
 archive_at (Ok None) old new more offset records l e has end fault =
     archive_by old.bytes new.bytes more offset records clean l e has (end refl).0
@@ -102,7 +102,7 @@ archive_at (Err (Frame n f)) old new more offset records l e has end fault =
 archive_at (Err (Truncated n have)) old new more offset records l e has end fault =
     archive_by old.bytes new.bytes more offset records (truncated have) l e has fault.1
 archive_at (Err (Read n)) old new more offset records l e has end fault =
-    archive_of old.bytes new.bytes more offset records l e has (none_short (told_from offset new) fault.3)
+    archive_of old.bytes new.bytes more offset records l e has (none_short (read_from offset new) fault.3)
 archive_at (Err (Turns n)) old new more offset records l e has end fault =
-    archive_of old.bytes new.bytes more offset records l e has (none_short (told_from offset new) fault.3)
+    archive_of old.bytes new.bytes more offset records l e has (none_short (read_from offset new) fault.3)
 archive_at (Err Memory) old new more offset records l e has end fault = tt

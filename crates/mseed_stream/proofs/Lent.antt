@@ -1,4 +1,4 @@
--- What a buffered reader lends is the front of what it is known to have left.
+-- What a buffered reader lends is the prefix of what it is known to have left.
 use Rattle.std.proofs.Common.{◌≡◌, ℕ, ◌==◌, ◌++◌, Bool, true, false, if◌then◌else◌, List, [], take, drop, Option, Some}
 use Rattle.std.proofs.Common.{None, sym, ap, ◌∙◌, append_assoc, refl, zero, suc}
 use Rattle.std.proofs.lemmas.List.{take-append-drop}
@@ -6,17 +6,17 @@ use Rattle.std.specs.Io.KnownBytes.{Consumes, prepend_known}
 use Rattle.std.specs.Io.Buffered.{reader_buffer, reader_capacity, reader_inner, reader_remaining}
 use Rattle.std.specs.declared.io.buffered.BufReader.{BufReader}
 
-front_taken : (known : Option (List ℕ)) (buffer : List ℕ) (n : ℕ)
+prefix_taken : (known : Option (List ℕ)) (buffer : List ℕ) (n : ℕ)
     → Consumes (prepend_known buffer known) (prepend_known (drop n buffer) known) (take n buffer)
-front_taken None buffer n = tt
-front_taken (Some xs) buffer n = ap (λ (front : List ℕ). front ++ xs) (sym (take-append-drop n buffer))
+prefix_taken None buffer n = tt
+prefix_taken (Some xs) buffer n = ap (λ (prefix : List ℕ). prefix ++ xs) (sym (take-append-drop n buffer))
     ∙ append_assoc (take n buffer) (drop n buffer) xs
 
 where_known : (unknown : Bool) (known : Option (List ℕ)) (buffer : List ℕ) (n : ℕ)
     → Consumes (if unknown then None else prepend_known buffer known)
     (if unknown then None else prepend_known (drop n buffer) known) (take n buffer)
 where_known true known buffer n = tt
-where_known false known buffer n = front_taken known buffer n
+where_known false known buffer n = prefix_taken known buffer n
 
 reader_taken : {T A : Type 0} (remaining : T → Option (List ℕ)) (old new : BufReader T A) (n : ℕ)
     → reader_capacity new ≡ reader_capacity old → reader_inner new ≡ reader_inner old

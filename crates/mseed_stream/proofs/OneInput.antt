@@ -1,4 +1,4 @@
--- What was heard of an input has one list of records, and one end behind them.
+-- What was read of an input has one list of records, and one end behind them.
 use Rattle.std.proofs.Common.{◌≡◌, ℕ, suc, ◌<◌, ◌≤◌, ◌++◌, Bool, true, false, List, [], ◌∷◌, length, take, drop, Option}
 use Rattle.std.proofs.Common.{Some, None, refl, sym, ap, subst, ◌∙◌, arith, ⊎_elim, append-nil, length-take}
 use Rattle.std.proofs.lemmas.Bool.{cases_lt, false≢true}
@@ -12,9 +12,9 @@ use Rattle.mseed_record.specs.View.{View, IsView}
 use Rattle.mseed_record.proofs.Asked.{record_long}
 use Rattle.mseed_record.proofs.OneAnswer.{one_answer}
 use Rattle.mseed_record.proofs.Viewed.{view_once}
-use Rattle.mseed_stream.specs.Device.{Heard}
+use Rattle.mseed_stream.specs.Device.{BytesRead}
 use Rattle.mseed_stream.specs.Archive.{HasNoFurther, IsArchive, End, clean, frame, truncated, IsEndOf, is_frame}
-use Rattle.mseed_stream.specs.Cutting.{IsStop, at_start, asked_for, FallsShort, IsReadTo, told_from}
+use Rattle.mseed_stream.specs.Cutting.{IsStop, at_start, asked_for, FallsShort, IsReadTo, read_from}
 use Rattle.mseed_stream.specs.Walk.{bytes_in, AreViews, IsEnd, AreAllViews}
 use Rattle.mseed_stream.specs.declared.fault.StreamFault.{StreamFault}
 use Rattle.mseed_stream.specs.declared.fault.StreamFault.TheVariants.{Frame, Truncated, Read, Turns, Memory}
@@ -116,16 +116,16 @@ one_views bytes offset vs ws a b =
     same_views vs ws a.each b.each both.0
 
 -- no record begins behind the last
-none_behind : (end : Option StreamFault) (offset : ℕ) (h : Heard) → IsEnd end offset h
-    → HasNoFurther (told_from offset h)
-none_behind None offset h is = no_further (told_from offset h) clean is.0.0
-none_behind (Some (Frame n f)) offset h is = no_further (told_from offset h) (frame f) is.0.1
-none_behind (Some (Truncated n have)) offset h is = no_further (told_from offset h) (truncated have) is.0.1
-none_behind (Some (Read n)) offset h is = none_short (told_from offset h) is.0.3
-none_behind (Some (Turns n)) offset h is = none_short (told_from offset h) is.0.3
+none_behind : (end : Option StreamFault) (offset : ℕ) (h : BytesRead) → IsEnd end offset h
+    → HasNoFurther (read_from offset h)
+none_behind None offset h is = no_further (read_from offset h) clean is.0.0
+none_behind (Some (Frame n f)) offset h is = no_further (read_from offset h) (frame f) is.0.1
+none_behind (Some (Truncated n have)) offset h is = no_further (read_from offset h) (truncated have) is.0.1
+none_behind (Some (Read n)) offset h is = none_short (read_from offset h) is.0.3
+none_behind (Some (Turns n)) offset h is = none_short (read_from offset h) is.0.3
 none_behind (Some Memory) offset h is = absurd (is.1 refl)
 
-archive_is : (offset : ℕ) (views : List View) (end : Option StreamFault) (h : Heard) → AreViews h.bytes offset views
+archive_is : (offset : ℕ) (views : List View) (end : Option StreamFault) (h : BytesRead) → AreViews h.bytes offset views
     → IsEnd end offset h → IsArchive h.bytes (bytes_in views) (drop offset h.bytes)
 archive_is offset views end h are is = record {
   joined = sym (take-append-drop offset h.bytes) ∙ ap (λ (xs : List ℕ). xs ++ drop offset h.bytes) are.records.joined;
@@ -143,11 +143,11 @@ ended offset (truncated have) = Some (Truncated offset have)
 abbrev RefusedAtStop : List ℕ → Type 0
 RefusedAtStop bytes = (f : FrameFault) × (IsStop bytes (length bytes) × Decides bytes (Not f))
 
-data Ended (offset : ℕ) (h : Heard) (end : Option StreamFault) : Type 0 where
-  by_bytes : (e : End) → IsEndOf (told_from offset h) e → h.failures ≡ 0
-      → (h.is_at_end ≡ false → RefusedAtStop (told_from offset h)) → end ≡ ended offset e → Ended offset h end
+data Ended (offset : ℕ) (h : BytesRead) (end : Option StreamFault) : Type 0 where
+  by_bytes : (e : End) → IsEndOf (read_from offset h) e → h.failures ≡ 0
+      → (h.is_at_end ≡ false → RefusedAtStop (read_from offset h)) → end ≡ ended offset e → Ended offset h end
   by_failure : h.failures ≡ 1 → end ≡ Some (Read offset) → Ended offset h end
-  by_turns : h.failures ≡ 0 → h.is_at_end ≡ false → FallsShort (told_from offset h) → end ≡ Some (Turns offset)
+  by_turns : h.failures ≡ 0 → h.is_at_end ≡ false → FallsShort (read_from offset h) → end ≡ Some (Turns offset)
       → Ended offset h end
 
 refused_of : (bytes : List ℕ) (f : FrameFault) → IsEndOf bytes (frame f) → Decides bytes (Not f)
@@ -156,10 +156,10 @@ refused_of bytes f (is_frame _ d) = d
 not_both : (b : Bool) → b ≡ true → b ≡ false → ⊥
 not_both b t f = false≢true (sym f ∙ t)
 
-ends : (end : Option StreamFault) (offset : ℕ) (h : Heard) → IsEnd end offset h → Ended offset h end
+ends : (end : Option StreamFault) (offset : ℕ) (h : BytesRead) → IsEnd end offset h → Ended offset h end
 ends None offset h is = by_bytes clean is.0.0 is.1 (λ going. absurd (not_both h.is_at_end is.0.1 going)) refl
 ends (Some (Frame n f)) offset h is =
-    let told : List ℕ = told_from offset h in
+    let told : List ℕ = read_from offset h in
     by_bytes (frame f) is.0.1 is.2
     (λ going. (f, (subst (λ (b : Bool). IsReadTo told b) going is.0.2, refused_of told f is.0.1)))
     (ap (λ (k : ℕ). Some (Frame k f)) is.0.0)
@@ -171,15 +171,15 @@ ends (Some (Turns n)) offset h is = by_turns is.2 is.0.2 is.0.3 (ap (λ (k : ℕ
 ends (Some Memory) offset h is = absurd (is.1 refl)
 
 -- bytes that end an input don't fall short of more while it goes on
-never_both : (offset : ℕ) (h : Heard) → (h.is_at_end ≡ false → RefusedAtStop (told_from offset h))
-    → h.is_at_end ≡ false → FallsShort (told_from offset h) → ⊥
+never_both : (offset : ℕ) (h : BytesRead) → (h.is_at_end ≡ false → RefusedAtStop (read_from offset h))
+    → h.is_at_end ≡ false → FallsShort (read_from offset h) → ⊥
 never_both offset h refused going short =
     let it = refused going in
-    refused_whole (told_from offset h) it.0 it.1.0 it.1.1 short
+    refused_whole (read_from offset h) it.0 it.1.0 it.1.1 short
 
-same_end : (offset : ℕ) (h : Heard) (a b : Option StreamFault) → Ended offset h a → Ended offset h b → a ≡ b
+same_end : (offset : ℕ) (h : BytesRead) (a b : Option StreamFault) → Ended offset h a → Ended offset h b → a ≡ b
 same_end offset h a b (by_bytes e is none going at) (by_bytes d are nor wide to) =
-    at ∙ ap (ended offset) (one_end (told_from offset h) e d is are) ∙ sym to
+    at ∙ ap (ended offset) (one_end (read_from offset h) e d is are) ∙ sym to
 same_end offset h a b (by_bytes e is none going at) (by_failure failed to) = absurd (omega (arith, none, failed))
 same_end offset h a b (by_bytes e is none going at) (by_turns nor goes short to) =
     absurd (never_both offset h going goes short)
@@ -191,8 +191,8 @@ same_end offset h a b (by_turns none goes short at) (by_bytes e is nor going to)
 same_end offset h a b (by_turns none goes short at) (by_failure failed to) = absurd (omega (arith, none, failed))
 same_end offset h a b (by_turns none goes short at) (by_turns nor runs less to) = at ∙ sym to
 
--- all records of what was heard, and its end, are the only ones
-pub one_input : (h : Heard) (vs ws : List View) (a b : Option StreamFault) → AreAllViews h vs a → AreAllViews h ws b
+-- all records of what was read, and its end, are the only ones
+pub one_input : (h : BytesRead) (vs ws : List View) (a b : Option StreamFault) → AreAllViews h vs a → AreAllViews h ws b
     → (vs ≡ ws) × (a ≡ b)
 one_input h vs ws a b p q =
     let both = one_archive h.bytes (bytes_in vs) (bytes_in ws) (drop p.offset h.bytes) (drop q.offset h.bytes)

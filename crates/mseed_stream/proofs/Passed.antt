@@ -6,9 +6,9 @@ use Rattle.mseed_record.specs.Record.{IsRecord}
 use Rattle.mseed_record.specs.Scan.{short}
 use Rattle.mseed_record.specs.View.{View, IsView}
 use Rattle.mseed_stream.specs.Archive.{HasRecords}
-use Rattle.mseed_stream.specs.Cutting.{IsAhead, IsAlong, IsEnding, IsHeard, at_start, held_of, asks_of, told_from}
-use Rattle.mseed_stream.specs.Cutting.{told_whole}
-use Rattle.mseed_stream.specs.Device.{Heard, told_also}
+use Rattle.mseed_stream.specs.Cutting.{IsAhead, IsAlong, IsEnding, IsRead, at_start, held_of, asks_of, read_from}
+use Rattle.mseed_stream.specs.Cutting.{lent_whole}
+use Rattle.mseed_stream.specs.Device.{BytesRead, lent_also}
 use Rattle.mseed_stream.specs.Standing.{Standing}
 use Rattle.mseed_stream.specs.Walk.{HasHandedOut, bytes_in}
 use Rattle.mseed_stream.proofs.Ahead.{record_few}
@@ -17,8 +17,8 @@ use Rattle.mseed_stream.proofs.Settled.{nothing_ended}
 use Rattle.mseed_stream.proofs.Walks.{handed_record}
 
 -- two parts are told as one
-pub told_twice : (h : Heard) (xs ys : List ℕ) → told_also (told_also h xs) ys ≡ told_whole h (xs ++ ys)
-told_twice h xs ys =
+pub lent_twice : (h : BytesRead) (xs ys : List ℕ) → lent_also (lent_also h xs) ys ≡ lent_whole h (xs ++ ys)
+lent_twice h xs ys =
     let calls : h.calls + 1 + 1 ≡ h.calls + 2 = omega arith in
     rw (append_assoc h.bytes xs ys, calls) refl
 
@@ -31,26 +31,26 @@ rest_twice size lent middle after l first second =
 
 -- how the cutter stands then
 abbrev pub passed : Standing → ℕ → Standing
-passed c size = record c { offset = c.offset + size; front = []; is_lent = false; reads = c.reads + 2 }
+passed c size = record c { offset = c.offset + size; prefix = []; is_lent = false; reads = c.reads + 2 }
 
 -- a cutter that forgot what it lent, with a record behind it
 abbrev pub behind : Standing → ℕ → Standing
 behind c size = record c { offset = c.offset + size; reads = c.reads + 2 }
 
-pub stands_behind : (here old : Standing) (size : ℕ) → here ≡ record old { front = held_of old; is_lent = false }
+pub stands_behind : (here old : Standing) (size : ℕ) → here ≡ record old { prefix = held_of old; is_lent = false }
     → held_of old ≡ [] → behind here size ≡ passed old size
 stands_behind here old size is none =
     ap (λ (s : Standing). behind s size) is
     ∙ ap (λ (xs : List ℕ). let s : Standing = record old {
       offset = old.offset + size;
-      front = xs;
+      prefix = xs;
       is_lent = false;
       reads = old.reads + 2;
     } in s) none
 
-passed_heard : (h : Heard) (c : Standing) (bytes : List ℕ) → IsHeard h c → held_of c ≡ [] → c.reads + 2 ≤ 2 ^ 40
-    → length bytes ≤ 2 ^ 20 → IsHeard (told_whole h bytes) (passed c (length bytes))
-passed_heard h c bytes is none few small =
+passed_read : (h : BytesRead) (c : Standing) (bytes : List ℕ) → IsRead h c → held_of c ≡ [] → c.reads + 2 ≤ 2 ^ 40
+    → length bytes ≤ 2 ^ 20 → IsRead (lent_whole h bytes) (passed c (length bytes))
+passed_read h c bytes is none few small =
     let size : length h.bytes ≡ c.offset + 0 = is.told ∙ ap (λ (xs : List ℕ). c.offset + length xs) none in
     let size_now : length (h.bytes ++ bytes) ≡ length h.bytes + length bytes = length-append h.bytes bytes in
     let bounded = is.few_bytes in
@@ -64,56 +64,56 @@ passed_heard h c bytes is none few small =
       small = is.small;
     }
 
-pub passed_along : (h : Heard) (c : Standing) (size : ℕ) (lent : List ℕ) → IsAlong h c → IsAhead size c lent
-    → IsAlong (told_whole h (take size lent)) (passed c size)
+pub passed_along : (h : BytesRead) (c : Standing) (size : ℕ) (lent : List ℕ) → IsAlong h c → IsAhead size c lent
+    → IsAlong (lent_whole h (take size lent)) (passed c size)
 passed_along h c size lent is ahead =
     let bytes : List ℕ = take size lent in
     let long : length bytes ≡ size = length-take-le size lent ahead.whole in
-    let heard : IsHeard (told_whole h bytes) (passed c size) =
-    subst (λ (n : ℕ). IsHeard (told_whole h bytes) (passed c n)) long
-    (passed_heard h c bytes is.heard ahead.none ahead.turns (record_few bytes ahead.is_record)) in
+    let read : IsRead (lent_whole h bytes) (passed c size) =
+    subst (λ (n : ℕ). IsRead (lent_whole h bytes) (passed c n)) long
+    (passed_read h c bytes is.read ahead.none ahead.turns (record_few bytes ahead.is_record)) in
     record {
-      heard = heard;
+      read = read;
       stop = λ same. at_start;
       asks = λ same. (48, short refl (omega arith));
       going_on = is.going_on;
-      ended = nothing_ended c.answer (λ e. IsEnding e (c.offset + size) (told_whole h bytes)) ahead.goes_on;
+      ended = nothing_ended c.answer (λ e. IsEnding e (c.offset + size) (lent_whole h bytes)) ahead.goes_on;
     }
 
 -- what is told from the offset on
-told_then : (h : Heard) (c : Standing) (bytes : List ℕ) → IsHeard h c → held_of c ≡ []
-    → told_from c.offset (told_whole h bytes) ≡ bytes
+told_then : (h : BytesRead) (c : Standing) (bytes : List ℕ) → IsRead h c → held_of c ≡ []
+    → read_from c.offset (lent_whole h bytes) ≡ bytes
 told_then h c bytes is none =
     let size : length h.bytes ≡ c.offset + 0 = is.told ∙ ap (λ (xs : List ℕ). c.offset + length xs) none in
     drop-append-le c.offset h.bytes bytes (omega arith) ∙ ap (λ (xs : List ℕ). xs ++ bytes) (is.held ∙ none)
 
-pub passed_records : (h : Heard) (c : Standing) (size : ℕ) (lent : List ℕ) (records : List (List ℕ)) → IsHeard h c
+pub passed_records : (h : BytesRead) (c : Standing) (size : ℕ) (lent : List ℕ) (records : List (List ℕ)) → IsRead h c
     → IsAhead size c lent → HasRecords h.bytes c.offset records
-    → HasRecords (told_whole h (take size lent)).bytes (c.offset + size) (records ++ take size lent ∷ [])
+    → HasRecords (lent_whole h (take size lent)).bytes (c.offset + size) (records ++ take size lent ∷ [])
 passed_records h c size lent records is ahead has =
     let bytes : List ℕ = take size lent in
-    let now : Heard = told_whole h bytes in
+    let now : BytesRead = lent_whole h bytes in
     let long : length bytes ≡ size = length-take-le size lent ahead.whole in
-    let told : told_from c.offset now ≡ bytes = told_then h c bytes is ahead.none in
+    let told : read_from c.offset now ≡ bytes = told_then h c bytes is ahead.none in
     let within : c.offset ≤ length h.bytes = omega (arith, is.told) in
     let more = records_more h.bytes now.bytes bytes c.offset records within refl
     (subst IsRecord (sym told) ahead.is_record) has in
     subst (λ (n : ℕ). HasRecords now.bytes (c.offset + n) (records ++ bytes ∷ [])) long
     (subst (λ (xs : List ℕ). HasRecords now.bytes (c.offset + length xs) (records ++ xs ∷ [])) told more)
 
-pub passed_handed : (h : Heard) (c : Standing) (size : ℕ) (lent : List ℕ) (views : List View) (v : View)
+pub passed_handed : (h : BytesRead) (c : Standing) (size : ℕ) (lent : List ℕ) (views : List View) (v : View)
     → IsAhead size c lent → HasHandedOut h c views → IsView v → v.bytes ≡ take size lent
-    → HasHandedOut (told_whole h (take size lent)) (passed c size) (views ++ v ∷ [])
+    → HasHandedOut (lent_whole h (take size lent)) (passed c size) (views ++ v ∷ [])
 passed_handed h c size lent views v ahead before is same =
     let bytes : List ℕ = take size lent in
-    let now : Heard = told_whole h bytes in
-    let heard = before.along.heard in
+    let now : BytesRead = lent_whole h bytes in
+    let read = before.along.read in
     let long : length bytes ≡ size = length-take-le size lent ahead.whole in
-    let told : told_from c.offset now ≡ bytes = told_then h c bytes heard ahead.none in
-    let within : c.offset ≤ length h.bytes = omega (arith, heard.told) in
+    let told : read_from c.offset now ≡ bytes = told_then h c bytes read ahead.none in
+    let within : c.offset ≤ length h.bytes = omega (arith, read.told) in
     let more = records_more h.bytes now.bytes bytes c.offset (bytes_in views) within refl
     (subst IsRecord (sym told) ahead.is_record) before.records.records in
-    let offset : c.offset + size ≡ c.offset + length (told_from c.offset now) = ap (λ (n : ℕ). c.offset + n) (sym long)
+    let offset : c.offset + size ≡ c.offset + length (read_from c.offset now) = ap (λ (n : ℕ). c.offset + n) (sym long)
     ∙ ap (λ (xs : List ℕ). c.offset + length xs) (sym told) in
     let asks : asks_of (held_of c) ≡ 0 = ap (λ (xs : List ℕ). asks_of xs) ahead.none in
     handed_record h now c (passed c size) views v before is (same ∙ sym told) more

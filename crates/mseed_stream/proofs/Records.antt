@@ -9,22 +9,22 @@ use Rattle.mseed_record.specs.View.{View, IsView}
 use Rattle.mseed_record.proofs.OneRecord.{one_record}
 use Rattle.mseed_stream.specs.Archive.{IsArchive}
 
-front_is : (r rest bytes : List ℕ) → bytes ≡ r ++ rest → take (length r) bytes ≡ r
-front_is r rest bytes e = ap (λ (xs : List ℕ). take (length r) xs) e ∙ take-append_seam r rest
+prefix_is : (r rest bytes : List ℕ) → bytes ≡ r ++ rest → take (length r) bytes ≡ r
+prefix_is r rest bytes e = ap (λ (xs : List ℕ). take (length r) xs) e ∙ take-append_seam r rest
 
 none_left : (bytes : List ℕ) (r tail rest : List ℕ) → IsRecord r → bytes ≡ r ++ tail → bytes ≡ rest
     → ((k : ℕ) → k ≤ length rest → IsRecord (take k rest) → ⊥) → ⊥
 none_left bytes r tail rest is e same no_further =
     let whole : rest ≡ r ++ tail = sym same ∙ e in
     let fits : length r ≤ length rest = omega (arith, ap (λ (xs : List ℕ). length xs) whole, length-append r tail) in
-    no_further (length r) fits (subst (λ (xs : List ℕ). IsRecord xs) (sym (front_is r tail rest whole)) is)
+    no_further (length r) fits (subst (λ (xs : List ℕ). IsRecord xs) (sym (prefix_is r tail rest whole)) is)
 
 one_first : (bytes r s tail rest : List ℕ) → IsRecord r → IsRecord s → bytes ≡ r ++ tail → bytes ≡ s ++ rest → r ≡ s
 one_first bytes r s tail rest is it d e =
     let fits : length r ≤ length bytes = omega (arith, ap (λ (xs : List ℕ). length xs) d, length-append r tail) in
     let within : length s ≤ length bytes = omega (arith, ap (λ (xs : List ℕ). length xs) e, length-append s rest) in
-    let one = front_is r tail bytes d in
-    let two = front_is s rest bytes e in
+    let one = prefix_is r tail bytes d in
+    let two = prefix_is s rest bytes e in
     let same : length r ≡ length s =
     one_record bytes (length r) (length s) fits within (subst (λ (xs : List ℕ). IsRecord xs) (sym one) is)
     (subst (λ (xs : List ℕ). IsRecord xs) (sym two) it) in
@@ -58,5 +58,5 @@ one_archive bytes (r ∷ records) (s ∷ others) rest left a b =
 pub view_record : (v : View) → IsView v → IsRecord v.bytes
 view_record v is = (v.order, (is.0, (is.1.0, is.1.1.1.record_is)))
 
-pub front_within : (b xs : List ℕ) → xs ≡ take (length xs) b → length xs ≤ length b
-front_within b xs e = omega (arith, ap (λ (ys : List ℕ). length ys) e, length-take (length xs) b)
+pub prefix_within : (b xs : List ℕ) → xs ≡ take (length xs) b → length xs ≤ length b
+prefix_within b xs e = omega (arith, ap (λ (ys : List ℕ). length ys) e, length-take (length xs) b)

@@ -7,9 +7,9 @@ use Rattle.mseed_record.specs.Record.{IsRecord}
 use Rattle.mseed_record.specs.Scan.{Decides, short}
 use Rattle.mseed_record.specs.declared.frame.Scan.TheVariants.{Need}
 use Rattle.mseed_stream.specs.Archive.{IsEndOf, clean, frame, truncated, is_clean}
-use Rattle.mseed_stream.specs.Device.{Heard}
+use Rattle.mseed_stream.specs.Device.{BytesRead}
 use Rattle.mseed_stream.specs.Standing.{Standing}
-use Rattle.mseed_stream.specs.Cutting.{IsStop, at_start, told_from, IsHeard, IsAlong, IsEnding, FallsShort, IsReadTo}
+use Rattle.mseed_stream.specs.Cutting.{IsStop, at_start, read_from, IsRead, IsAlong, IsEnding, FallsShort, IsReadTo}
 use Rattle.mseed_stream.specs.Cutting.{is_short, IsCutFault, IsCleanEnd, answer_of, held_of, asks_of, count_of}
 use Rattle.mseed_stream.specs.private.Steps.{IsCuttingFault, lent_of, settled}
 use Rattle.mseed_stream.specs.declared.cutter.Ending.{Ending}
@@ -19,22 +19,23 @@ use Rattle.mseed_stream.specs.declared.fault.StreamFault.TheVariants.{Frame, Tru
 use Rattle.mseed_stream.proofs.Filled.{held_is}
 
 -- what is told from the offset on is what is held
-pub told_is : (h : Heard) (c : Standing) → IsHeard h c → c.is_lent ≡ false → told_from c.offset h ≡ c.front
+pub told_is : (h : BytesRead) (c : Standing) → IsRead h c → c.is_lent ≡ false → read_from c.offset h ≡ c.prefix
 told_is h c is lent = is.held ∙ held_is c lent
 
-told_size : (h : Heard) (c : Standing) → IsHeard h c → c.is_lent ≡ false → length h.bytes ≡ c.offset + length c.front
+told_size : (h : BytesRead) (c : Standing) → IsRead h c → c.is_lent ≡ false
+    → length h.bytes ≡ c.offset + length c.prefix
 told_size h c is lent = is.told ∙ ap (λ (xs : List ℕ). c.offset + length xs) (held_is c lent)
 
 pub nothing_ended : (answer : Option Ending) (P : Ending → Type 0) → answer ≡ None → IfSome answer P
 nothing_ended answer P e = subst (λ (o : Option Ending). IfSome o P) (sym e) tt
 
 -- a record was lent
-lent_heard : (h : Heard) (c : Standing) → IsHeard h c → c.is_lent ≡ false → IsHeard h (settled c (Ok true))
-lent_heard h c is lent =
+lent_read : (h : BytesRead) (c : Standing) → IsRead h c → c.is_lent ≡ false → IsRead h (settled c (Ok true))
+lent_read h c is lent =
     let size = told_size h c is lent in
     record {
       told = omega arith;
-      held = drop_all (c.offset + length c.front) h.bytes (omega arith);
+      held = drop_all (c.offset + length c.prefix) h.bytes (omega arith);
       reads = is.reads;
       few_reads = is.few_reads;
       few_bytes = is.few_bytes;
@@ -43,9 +44,9 @@ lent_heard h c is lent =
     }
 
 -- the answer is kept
-kept_heard : (h : Heard) (c : Standing) (answer : Option Ending) → IsHeard h c
-    → IsHeard h (record c { answer = answer })
-kept_heard h c answer is = record {
+kept_read : (h : BytesRead) (c : Standing) (answer : Option Ending) → IsRead h c
+    → IsRead h (record c { answer = answer })
+kept_read h c answer is = record {
   told = is.told;
   held = is.held;
   reads = is.reads;
@@ -55,39 +56,40 @@ kept_heard h c answer is = record {
   small = is.small;
 }
 
-ended_along : (h : Heard) (c : Standing) (e : Ending) → IsHeard h c → IsEnding e c.offset h
+ended_along : (h : BytesRead) (c : Standing) (e : Ending) → IsRead h c → IsEnding e c.offset h
     → IsAlong h (record c { answer = Some e })
 ended_along h c e is ending = record {
-  heard = kept_heard h c (Some e) is;
+  read = kept_read h c (Some e) is;
   stop = λ other. cc;
   asks = λ other. absurd cc;
   going_on = λ other. cc;
   ended = ending;
 }
 
-pub along_record : (h : Heard) (c : Standing) → IsHeard h c → c.is_lent ≡ false → c.answer ≡ None → h.is_at_end ≡ false
+pub along_record : (h : BytesRead) (c : Standing) → IsRead h c → c.is_lent ≡ false → c.answer ≡ None
+    → h.is_at_end ≡ false
     → IsAlong h (settled c (Ok true))
 along_record h c is lent goes going_on = record {
-  heard = lent_heard h c is lent;
+  read = lent_read h c is lent;
   stop = λ same. at_start;
   asks = λ same. (48, short refl (omega arith));
   going_on = λ same. going_on;
-  ended = nothing_ended c.answer (λ e. IsEnding e (c.offset + length c.front) h) goes;
+  ended = nothing_ended c.answer (λ e. IsEnding e (c.offset + length c.prefix) h) goes;
 }
 
-pub clean_end : (h : Heard) (c : Standing) → IsHeard h c → c.is_lent ≡ false → c.front ≡ []
-    → IsEndOf (told_from c.offset h) clean
+pub clean_end : (h : BytesRead) (c : Standing) → IsRead h c → c.is_lent ≡ false → c.prefix ≡ []
+    → IsEndOf (read_from c.offset h) clean
 clean_end h c is lent empty = is_clean (told_is h c is lent ∙ empty)
 
-along_fault : (h : Heard) (c : Standing) (e : StreamFault) → IsHeard h c → e ≢ Memory → IsCutFault e c.offset h
+along_fault : (h : BytesRead) (c : Standing) (e : StreamFault) → IsRead h c → e ≢ Memory → IsCutFault e c.offset h
     → IsAlong h (record c { answer = Some (Fault e) })
 along_fault h c e is other fault = ended_along h c (Fault e) is (fault, other)
 
-along_memory : (h : Heard) (c : Standing) → IsHeard h c → c.is_lent ≡ false → c.answer ≡ None
-    → IsStop c.front (length c.front) → h.is_at_end ≡ false → (n : ℕ) → Decides c.front (Need n) → IsAlong h c
+along_memory : (h : BytesRead) (c : Standing) → IsRead h c → c.is_lent ≡ false → c.answer ≡ None
+    → IsStop c.prefix (length c.prefix) → h.is_at_end ≡ false → (n : ℕ) → Decides c.prefix (Need n) → IsAlong h c
 along_memory h c is lent goes stop going_on n asks =
     record {
-      heard = is;
+      read = is;
       stop = λ same. subst (λ (xs : List ℕ). IsStop xs (length xs)) (sym (held_is c lent)) stop;
       asks = λ same. (n, subst (λ (xs : List ℕ). Decides xs (Need n)) (sym (held_is c lent)) asks);
       going_on = λ same. going_on;
@@ -95,7 +97,7 @@ along_memory h c is lent goes stop going_on n asks =
     }
 
 -- what a fault of the reads for one record says of the offset
-pub cut_fault : (e : StreamFault) (c after : Standing) (old new : Heard) → IsHeard new after → after.is_lent ≡ false
+pub cut_fault : (e : StreamFault) (c after : Standing) (old new : BytesRead) → IsRead new after → after.is_lent ≡ false
     → after.offset ≡ c.offset → IsCuttingFault e c after old new → IsCutFault e after.offset new
 cut_fault (Frame n f) c after old new is lent offset it =
     let told = sym (told_is new after is lent) in (
@@ -121,11 +123,11 @@ cut_fault (Turns n) c after old new is lent offset it =
 cut_fault Memory c after old new is lent offset it = tt
 
 -- by each answer
-pub along_settled : (found : Result Bool StreamFault) (c after : Standing) (old new : Heard) → IsHeard new after
+pub along_settled : (found : Result Bool StreamFault) (c after : Standing) (old new : BytesRead) → IsRead new after
     → after.is_lent ≡ false → after.answer ≡ None → after.offset ≡ c.offset
-    → (found ≡ Ok true → IsRecord after.front × (new.is_at_end ≡ false))
-    → (found ≡ Ok false → (after.front ≡ []) × (new.is_at_end ≡ true))
-    → IsReadTo after.front (is_short found new.is_at_end)
+    → (found ≡ Ok true → IsRecord after.prefix × (new.is_at_end ≡ false))
+    → (found ≡ Ok false → (after.prefix ≡ []) × (new.is_at_end ≡ true))
+    → IsReadTo after.prefix (is_short found new.is_at_end)
     → IfErr found (λ e. IsCuttingFault e c after old new) → IsAlong new (settled after found)
 along_settled (Ok true) c after old new is lent goes offset one ended read fault =
     along_record new after is lent goes (one refl).1
@@ -149,14 +151,15 @@ nothing_found (Ok true) n e = cc
 nothing_found (Ok false) n e = refl
 nothing_found (Err f) n e = cc
 
-pub record_found : (found : Result Bool StreamFault) (n : ℕ) (front : List ℕ) (is_at_end : Bool)
-    → (found ≡ Ok true → IsRecord front × (is_at_end ≡ false))
-    → IfOk (lent_of n found) (λ o. IfSome o (λ m. IsRecord front))
-record_found (Ok true) n front is_at_end one = (one refl).0
-record_found (Ok false) n front is_at_end one = tt
-record_found (Err f) n front is_at_end one = tt
+pub record_found : (found : Result Bool StreamFault) (n : ℕ) (prefix : List ℕ) (is_at_end : Bool)
+    → (found ≡ Ok true → IsRecord prefix × (is_at_end ≡ false))
+    → IfOk (lent_of n found) (λ o. IfSome o (λ m. IsRecord prefix))
+record_found (Ok true) n prefix is_at_end one = (one refl).0
+record_found (Ok false) n prefix is_at_end one = tt
+record_found (Err f) n prefix is_at_end one = tt
 
-pub fault_found : (found : Result Bool StreamFault) (n : ℕ) (c after : Standing) (old new : Heard) → IsHeard new after
+pub fault_found : (found : Result Bool StreamFault) (n : ℕ) (c after : Standing) (old new : BytesRead)
+    → IsRead new after
     → after.is_lent ≡ false → after.offset ≡ c.offset → IfErr found (λ e. IsCuttingFault e c after old new)
     → IfErr (lent_of n found) (λ e. IsCutFault e after.offset new)
 fault_found (Ok true) n c after old new is lent offset fault = tt
@@ -164,7 +167,7 @@ fault_found (Ok false) n c after old new is lent offset fault = tt
 fault_found (Err e) n c after old new is lent offset fault = cut_fault e c after old new is lent offset fault
 
 pub fault_again : (result : Result (Option ℕ) StreamFault) (answer : Option Ending) (e : Ending) (offset : ℕ)
-    (h : Heard) → answer ≡ Some e → result ≡ answer_of e → IfSome answer (λ x. IsEnding x offset h)
+    (h : BytesRead) → answer ≡ Some e → result ≡ answer_of e → IfSome answer (λ x. IsEnding x offset h)
     → IfErr result (λ f. IsCutFault f offset h)
 fault_again result answer Clean offset h same is ending =
     subst (λ (r : Result (Option ℕ) StreamFault). IfErr r (λ f. IsCutFault f offset h)) (sym is) tt
@@ -173,7 +176,8 @@ fault_again result answer (Fault f) offset h same is ending =
     subst (λ (o : Option Ending). IfSome o (λ x. IsEnding x offset h)) same ending in
     subst (λ (r : Result (Option ℕ) StreamFault). IfErr r (λ x. IsCutFault x offset h)) (sym is) it.0
 
-pub end_again : (result : Result (Option ℕ) StreamFault) (answer : Option Ending) (e : Ending) (offset : ℕ) (h : Heard)
+pub end_again : (result : Result (Option ℕ) StreamFault) (answer : Option Ending) (e : Ending) (offset : ℕ)
+    (h : BytesRead)
     → answer ≡ Some e → result ≡ answer_of e → IfSome answer (λ x. IsEnding x offset h) → result ≡ Ok None
     → IsCleanEnd offset h
 end_again result answer Clean offset h same is ending none =
@@ -184,29 +188,29 @@ pub few_asks : (held : List ℕ) → asks_of held ≤ 1
 few_asks [] = omega arith
 few_asks (x ∷ xs) = omega arith
 
-asks_other : (held front : List ℕ) (old new : ℕ) → old ≤ new → (new ≤ old → front ≡ held)
-    → old + asks_of front ≤ new + asks_of held
-asks_other held front old new calls quiet = ⊎_elim
-    (λ (less : old < new). omega (arith, few_asks front))
+asks_other : (held prefix : List ℕ) (old new : ℕ) → old ≤ new → (new ≤ old → prefix ≡ held)
+    → old + asks_of prefix ≤ new + asks_of held
+asks_other held prefix old new calls quiet = ⊎_elim
+    (λ (less : old < new). omega (arith, few_asks prefix))
     (λ (none : new ≤ old). omega (arith, ap (λ (xs : List ℕ). asks_of xs) (quiet none)))
     (cases_lt old new)
 
 -- two asks of the source for each record, and one for what is held of the next
 pub asks_settled : (found : Result Bool StreamFault) (n : ℕ) (held : List ℕ) (after : Standing) (old new : ℕ)
-    → after.is_lent ≡ false → old ≤ new → (new ≤ old → after.front ≡ held)
+    → after.is_lent ≡ false → old ≤ new → (new ≤ old → after.prefix ≡ held)
     → (found ≡ Ok true → old + 2 ≤ new + asks_of held)
     → old + 2 * count_of (lent_of n found) + asks_of (held_of (settled after found)) ≤ new + asks_of held
 asks_settled (Ok true) n held after old new lent calls quiet twice = omega (arith, twice refl)
 asks_settled (Ok false) n held after old new lent calls quiet twice =
-    let same : held_of (settled after (Ok false)) ≡ after.front = held_is (settled after (Ok false)) lent in
-    omega (arith, asks_other held after.front old new calls quiet, ap (λ (xs : List ℕ). asks_of xs) same)
+    let same : held_of (settled after (Ok false)) ≡ after.prefix = held_is (settled after (Ok false)) lent in
+    omega (arith, asks_other held after.prefix old new calls quiet, ap (λ (xs : List ℕ). asks_of xs) same)
 asks_settled (Err e) n held after old new lent calls quiet twice =
-    let same : held_of (settled after (Err e)) ≡ after.front = settled_front e after lent in
-    omega (arith, asks_other held after.front old new calls quiet, ap (λ (xs : List ℕ). asks_of xs) same)
+    let same : held_of (settled after (Err e)) ≡ after.prefix = settled_prefix e after lent in
+    omega (arith, asks_other held after.prefix old new calls quiet, ap (λ (xs : List ℕ). asks_of xs) same)
   where
-    settled_front : (f : StreamFault) (c : Standing) → c.is_lent ≡ false → held_of (settled c (Err f)) ≡ c.front
-    settled_front Memory c l = held_is c l
-    settled_front (Frame k f) c l = held_is (settled c (Err (Frame k f))) l
-    settled_front (Truncated k have) c l = held_is (settled c (Err (Truncated k have))) l
-    settled_front (Read k) c l = held_is (settled c (Err (Read k))) l
-    settled_front (Turns k) c l = held_is (settled c (Err (Turns k))) l
+    settled_prefix : (f : StreamFault) (c : Standing) → c.is_lent ≡ false → held_of (settled c (Err f)) ≡ c.prefix
+    settled_prefix Memory c l = held_is c l
+    settled_prefix (Frame k f) c l = held_is (settled c (Err (Frame k f))) l
+    settled_prefix (Truncated k have) c l = held_is (settled c (Err (Truncated k have))) l
+    settled_prefix (Read k) c l = held_is (settled c (Err (Read k))) l
+    settled_prefix (Turns k) c l = held_is (settled c (Err (Turns k))) l

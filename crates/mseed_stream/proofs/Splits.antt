@@ -15,7 +15,7 @@ use Rattle.mseed_record.specs.Scan.{Decides}
 use Rattle.mseed_stream.specs.Archive.{HasRecords, End, IsEndOf, frame, truncated, is_frame, is_truncated}
 use Rattle.mseed_stream.specs.Split.{bytes_of_each, fault_at, EndsBehind, IsSplitFault}
 use Rattle.mseed_stream.proofs.Handed.{no_further, all_more}
-use Rattle.mseed_stream.proofs.Records.{view_record, front_within}
+use Rattle.mseed_stream.proofs.Records.{view_record, prefix_within}
 
 ends_behind : (bytes : List ℕ) (offset : ℕ) (records : List (List ℕ)) (end : End) → offset ≤ length bytes
     → HasRecords bytes offset records → length records < 2 ^ 40 → IsEndOf (drop offset bytes) end
@@ -59,12 +59,12 @@ pub split_more : (bytes : List ℕ) (offset : ℕ) (views : List RecordView) (r 
     → HasRecords bytes offset (bytes_of_each views) → IsView (view_of r)
     → (view_of r).bytes ≡ take (length (view_of r).bytes) (drop offset bytes)
     → HasRecords bytes (offset + length (view_of r).bytes) (bytes_of_each (views ++ r ∷ []))
-split_more bytes offset views r has is front =
+split_more bytes offset views r has is prefix =
     let b : List ℕ = (view_of r).bytes in
     let one : concat (b ∷ []) ≡ b = append-nil b in
     let all : bytes_of_each (views ++ r ∷ []) ≡ bytes_of_each views ++ b ∷ [] = bytes_more views r in
     record {
-      joined = take-add offset (length b) bytes ∙ (ap (λ (xs : List ℕ). take offset bytes ++ xs) (sym front)
+      joined = take-add offset (length b) bytes ∙ (ap (λ (xs : List ℕ). take offset bytes ++ xs) (sym prefix)
           ∙ (ap (λ (xs : List ℕ). xs ++ b) has.joined
           ∙ (ap (λ (xs : List ℕ). concat (bytes_of_each views) ++ xs) (sym one)
           ∙ (sym (concat-append (bytes_of_each views) (b ∷ [])) ∙ ap (λ (xs : List (List ℕ)). concat xs) (sym all)))));
@@ -74,8 +74,8 @@ split_more bytes offset views r has is front =
 
 pub split_within : (bytes : List ℕ) (offset : ℕ) (b : List ℕ) → offset < length bytes
     → b ≡ take (length b) (drop offset bytes) → offset + length b ≤ length bytes
-split_within bytes offset b within front =
-    omega (arith, front_within (drop offset bytes) b front, length-drop offset bytes)
+split_within bytes offset b within prefix =
+    omega (arith, prefix_within (drop offset bytes) b prefix, length-drop offset bytes)
 
 length_of_each : (views : List RecordView) → length (bytes_of_each views) ≡ length views
 length_of_each [] = refl

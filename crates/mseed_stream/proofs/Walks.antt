@@ -3,10 +3,10 @@ use Rattle.std.proofs.Common.{◌≡◌, ◌≢◌, ℕ, ◌+◌, ◌^◌, ◌<�
 use Rattle.std.proofs.Common.{Ok, Err, IfErr, refl, sym, ap, subst, ◌∙◌, arith, length-append, append-nil}
 use Rattle.std.specs.List.{concat, AllByRecursion}
 use Rattle.mseed_record.specs.View.{View, IsView}
-use Rattle.mseed_stream.specs.Device.{Heard}
+use Rattle.mseed_stream.specs.Device.{BytesRead}
 use Rattle.mseed_stream.specs.Standing.{Standing}
 use Rattle.mseed_stream.specs.Archive.{HasRecords}
-use Rattle.mseed_stream.specs.Cutting.{told_from, held_of, asks_of, IsAlong, IsCleanEnd, IsCutFault, IfEnds, failed_by}
+use Rattle.mseed_stream.specs.Cutting.{read_from, held_of, asks_of, IsAlong, IsCleanEnd, IsCutFault, IfEnds, failed_by}
 use Rattle.mseed_stream.specs.Walk.{bytes_in, AreViews, HasHandedOut, AreAllViews, end_of}
 use Rattle.mseed_stream.specs.declared.fault.StreamFault.{StreamFault}
 use Rattle.mseed_stream.specs.declared.fault.StreamFault.TheVariants.{Frame, Truncated, Read, Turns, Memory}
@@ -61,14 +61,14 @@ length_more : (views : List View) (v : View) → length (views ++ v ∷ []) ≡ 
 length_more views v = length-append views (v ∷ [])
 
 -- a record was handed out
-pub handed_record : (h now : Heard) (c after : Standing) (views : List View) (v : View) → HasHandedOut h c views
-    → IsView v → v.bytes ≡ told_from c.offset now
-    → HasRecords now.bytes (c.offset + length (told_from c.offset now)) (bytes_in views ++ told_from c.offset now ∷ [])
-    → IsAlong now after → after.offset ≡ c.offset + length (told_from c.offset now) → after.answer ≡ None
+pub handed_record : (h now : BytesRead) (c after : Standing) (views : List View) (v : View) → HasHandedOut h c views
+    → IsView v → v.bytes ≡ read_from c.offset now
+    → HasRecords now.bytes (c.offset + length (read_from c.offset now)) (bytes_in views ++ read_from c.offset now ∷ [])
+    → IsAlong now after → after.offset ≡ c.offset + length (read_from c.offset now) → after.answer ≡ None
     → now.failures ≡ h.failures → h.calls + 2 + asks_of (held_of after) ≤ now.calls + asks_of (held_of c)
     → HasHandedOut now after (views ++ v ∷ [])
 handed_record h now c after views v before is same has along offset goes fine asked =
-    let more = views_more h.bytes now.bytes c.offset views v (told_from c.offset now) before.records is same has in
+    let more = views_more h.bytes now.bytes c.offset views v (read_from c.offset now) before.records is same has in
     record {
       along = along;
       goes_on = goes;
@@ -78,12 +78,12 @@ handed_record h now c after views v before is same has along offset goes fine as
     }
 
 -- memory was refused
-pub handed_none : (h now : Heard) (c after : Standing) (views : List View) (more : List ℕ) → HasHandedOut h c views
+pub handed_none : (h now : BytesRead) (c after : Standing) (views : List View) (more : List ℕ) → HasHandedOut h c views
     → now.bytes ≡ h.bytes ++ more → IsAlong now after → after.offset ≡ c.offset → after.answer ≡ None
     → now.failures ≡ h.failures → h.calls + asks_of (held_of after) ≤ now.calls + asks_of (held_of c)
     → HasHandedOut now after (views ++ [])
 handed_none h now c after views more before told along offset goes fine asked =
-    let within : c.offset ≤ length h.bytes = omega (arith, before.along.heard.told) in
+    let within : c.offset ≤ length h.bytes = omega (arith, before.along.read.told) in
     let stay = views_stay h.bytes now.bytes more c.offset views within told before.records in
     let same : HasHandedOut now after views = record {
       along = along;
@@ -94,16 +94,16 @@ handed_none h now c after views more before told along offset goes fine asked =
     } in
     subst (λ (vs : List View). HasHandedOut now after vs) (sym (append-nil views)) same
 
-few_views : (h : Heard) (c : Standing) (views : List View) → HasHandedOut h c views → length views < 2 ^ 40
-few_views h c views before = omega (arith, before.asked, before.along.heard.reads, before.along.heard.few_reads)
+few_views : (h : BytesRead) (c : Standing) (views : List View) → HasHandedOut h c views → length views < 2 ^ 40
+few_views h c views before = omega (arith, before.asked, before.along.read.reads, before.along.read.few_reads)
 
 -- the input ended
-pub all_views : {X : Type 0} (r : Result (Option X) StreamFault) (h now : Heard) (c : Standing) (views : List View)
+pub all_views : {X : Type 0} (r : Result (Option X) StreamFault) (h now : BytesRead) (c : Standing) (views : List View)
     (more : List ℕ) → HasHandedOut h c views → now.bytes ≡ h.bytes ++ more → (r ≡ Ok None → IsCleanEnd c.offset now)
     → IfErr r (λ e. IsCutFault e c.offset now) → now.failures ≡ h.failures + failed_by r
     → IfEnds r (AreAllViews now views (end_of r))
 all_views r h now c views more before told end fault failed =
-    let within : c.offset ≤ length h.bytes = omega (arith, before.along.heard.told) in
+    let within : c.offset ≤ length h.bytes = omega (arith, before.along.read.told) in
     let stay = views_stay h.bytes now.bytes more c.offset views within told before.records in
     let few = few_views h c views before in
     go r end fault failed stay few
@@ -133,7 +133,7 @@ all_views r h now c views more before told end fault failed =
     go (Err (Turns m)) e f n s w = fault_all (Turns m) (λ same. cc) f n s w
 
 -- all but a want of memory end the input
-pub all_at_fault : (X : Type 0) (fault : StreamFault) (h : Heard) (views : List View) → fault ≢ Memory
+pub all_at_fault : (X : Type 0) (fault : StreamFault) (h : BytesRead) (views : List View) → fault ≢ Memory
     → IfEnds {X = X} (Err fault) (AreAllViews h views (Some fault)) → AreAllViews h views (Some fault)
 all_at_fault X (Frame n f) h views other all = all
 all_at_fault X (Truncated n have) h views other all = all

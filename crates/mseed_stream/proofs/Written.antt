@@ -1,13 +1,14 @@
 -- What is known after a write.
 use Rattle.std.proofs.Common.{◌≡◌, ℕ, ◌+◌, ◌<◌, ◌++◌, List, length, take, Result, Ok, Err, OnOk, OnErr, IfErr, inl, inr}
-use Rattle.mseed_stream.specs.Device.{Said}
+use Rattle.mseed_stream.specs.Device.{BytesWritten}
 use Rattle.mseed_stream.specs.Telling.{Tells}
 
--- the whole line, or a front of it where the device failed
-pub told : {U : Type 0} (r : Result U ℕ) (line : List ℕ) (old new : Said) → OnOk r (new.bytes ≡ old.bytes ++ line)
+-- the whole line, or a prefix of it where the device failed
+pub told : {U : Type 0} (r : Result U ℕ) (line : List ℕ) (old new : BytesWritten)
+    → OnOk r (new.bytes ≡ old.bytes ++ line)
     → OnOk r (new.failures ≡ old.failures)
     → IfErr r (λ n. new.bytes ≡ old.bytes ++ take n line) → IfErr r (λ n. n < length line)
     → OnErr r (new.failures ≡ old.failures + 1) → Tells line old new
-told (Ok u) line old new all fine front part failed = record { either = inl (record { text = all; fine = fine }) }
-told (Err n) line old new all fine front part failed =
-    record { either = inr (record { front = (n, (part, front)); failed = failed }) }
+told (Ok u) line old new all fine prefix part failed = record { either = inl (record { text = all; fine = fine }) }
+told (Err n) line old new all fine prefix part failed =
+    record { either = inr (record { prefix = (n, (part, prefix)); failed = failed }) }

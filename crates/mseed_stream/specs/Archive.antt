@@ -6,11 +6,11 @@ use Rattle.mseed_record.specs.declared.frame.Scan.TheVariants.{Need, Not}
 use Rattle.mseed_record.specs.Record.{IsRecord}
 use Rattle.mseed_record.specs.Scan.{Decides}
 
--- no front of the rest is a record
+-- no prefix of the rest is a record
 abbrev pub HasNoFurther : List ℕ → Type 0
 HasNoFurther rest = (k : ℕ) → k ≤ length rest → IsRecord (take k rest) → ⊥
 
--- the bytes are the records, joined, and then the rest, no front of which is a record
+-- the bytes are the records, joined, and then the rest, no prefix of which is a record
 pub record IsArchive (bytes : List ℕ) (records : List (List ℕ)) (rest : List ℕ) : Type 0 where
   pub joined : bytes ≡ concat records ++ rest
   pub each : AllByRecursion IsRecord records

@@ -2,17 +2,17 @@
 use Rattle.std.specs.Prelude.{ℕ, List, [], Option, if◌then◌else◌}
 use Rattle.std.specs.Io.Buffered.{reader_buffer, reader_remaining}
 use Rattle.std.specs.declared.io.buffered.BufReader.{BufReader}
-use Rattle.mseed_stream.specs.Counted.{heard_by, inner_of, remaining_of}
-use Rattle.mseed_stream.specs.Device.{Heard}
+use Rattle.mseed_stream.specs.Counted.{read_by, inner_of, remaining_of}
+use Rattle.mseed_stream.specs.Device.{BytesRead}
 use Rattle.mseed_stream.specs.declared.buffered.Buffered.{Buffered}
 
 -- the reader, as it stands
 abbrev pub reader_of : {T A : Type 0} → Buffered T A → BufReader T A
 reader_of b = inner_of b.counted
 
--- what it told so far
-abbrev pub told_by : {T A : Type 0} → Buffered T A → Heard
-told_by b = heard_by b.counted
+-- what was read of it so far
+abbrev pub read_through : {T A : Type 0} → Buffered T A → BytesRead
+read_through b = read_by b.counted
 
 -- what it will tell, where its reader is known to have it left: what stands in the buffer comes first
 abbrev pub left_of : {T A : Type 0} → (T → Option (List ℕ)) → Buffered T A → Option (List ℕ)

@@ -1,15 +1,15 @@
 -- What a contract reads of a `Counted`.
 use Rattle.std.specs.Prelude.{ℕ, List, [], Option, Some, if◌then◌else◌}
-use Rattle.mseed_stream.specs.Device.{Heard, Said}
+use Rattle.mseed_stream.specs.Device.{BytesRead, BytesWritten}
 use Rattle.mseed_stream.specs.declared.counted.Counted.{Counted}
 
 -- the reader or writer
 abbrev pub inner_of : {T : Type 0} → Counted T → T
 inner_of c = c.inner
 
--- what it told so far
-abbrev pub heard_by : {T : Type 0} → Counted T → Heard
-heard_by c = record {
+-- what was read of it so far
+abbrev pub read_by : {T : Type 0} → Counted T → BytesRead
+read_by c = record {
   bytes = c.reads.bytes;
   calls = c.reads.calls;
   failures = c.reads.failures;
@@ -17,8 +17,8 @@ heard_by c = record {
 }
 
 -- what it took so far
-abbrev pub said_by : {T : Type 0} → Counted T → Said
-said_by c = record { bytes = c.writes.bytes; calls = c.writes.calls; failures = c.writes.failures }
+abbrev pub written_by : {T : Type 0} → Counted T → BytesWritten
+written_by c = record { bytes = c.writes.bytes; calls = c.writes.calls; failures = c.writes.failures }
 
 -- what it will tell: nothing, once it is at its end, and else what its reader is known to have left
 abbrev pub remaining_of : {T : Type 0} → (T → Option (List ℕ)) → Counted T → Option (List ℕ)

@@ -5,7 +5,7 @@ use Rattle.std.specs.Io.KnownBytes.{Consumes}
 use Rattle.mseed_record.specs.declared.frame.Scan.TheVariants.{Need}
 use Rattle.mseed_record.specs.Record.{IsRecord}
 use Rattle.mseed_record.specs.Scan.{Decides}
-use Rattle.mseed_stream.specs.Device.{Heard}
+use Rattle.mseed_stream.specs.Device.{BytesRead}
 use Rattle.mseed_stream.specs.Standing.{Standing}
 use Rattle.mseed_stream.specs.Archive.{IsEndOf, clean, frame, truncated}
 use Rattle.mseed_stream.specs.declared.cutter.Ending.{Ending}
@@ -21,11 +21,11 @@ pub data IsStop (bytes : List ℕ) : ℕ → Type 0 where
 
 -- the bytes told from the offset on, by what is held
 abbrev pub held_of : Standing → List ℕ
-held_of c = if c.is_lent then [] else c.front
+held_of c = if c.is_lent then [] else c.prefix
 
 -- what was told from an offset on
-abbrev pub told_from : ℕ → Heard → List ℕ
-told_from offset h = drop offset h.bytes
+abbrev pub read_from : ℕ → BytesRead → List ℕ
+read_from offset h = drop offset h.bytes
 
 -- The bytes fall short of the stop that the framing steps ask for at an earlier one: so there's no record yet.
 abbrev pub FallsShort : List ℕ → Type 0
@@ -36,39 +36,39 @@ abbrev pub IsReadTo : List ℕ → Bool → Type 0
 IsReadTo bytes false = IsStop bytes (length bytes)
 IsReadTo bytes true = FallsShort bytes
 
--- What a fault means, of the offset where the next record begins and of what was heard. Bytes are refused once all
+-- What a fault means, of the offset where the next record begins and of what was read. Bytes are refused once all
 -- that was asked for is there, or at the input's end; where a read failed or the turns ran out, more was asked for.
-abbrev pub IsCutFault : StreamFault → ℕ → Heard → Type 0
-IsCutFault (Frame n f) offset h = (n ≡ offset) × IsEndOf (told_from offset h) (frame f)
-    × IsReadTo (told_from offset h) h.is_at_end
-IsCutFault (Truncated n have) offset h = (n ≡ offset) × IsEndOf (told_from offset h) (truncated have)
+abbrev pub IsCutFault : StreamFault → ℕ → BytesRead → Type 0
+IsCutFault (Frame n f) offset h = (n ≡ offset) × IsEndOf (read_from offset h) (frame f)
+    × IsReadTo (read_from offset h) h.is_at_end
+IsCutFault (Truncated n have) offset h = (n ≡ offset) × IsEndOf (read_from offset h) (truncated have)
     × (h.is_at_end ≡ true)
-IsCutFault (Read n) offset h = (n ≡ offset) × (0 < h.failures) × (h.is_at_end ≡ false) × FallsShort (told_from offset h)
+IsCutFault (Read n) offset h = (n ≡ offset) × (0 < h.failures) × (h.is_at_end ≡ false) × FallsShort (read_from offset h)
 IsCutFault (Turns n) offset h = (n ≡ offset) × (h.calls ≡ 2 ^ 40) × (h.is_at_end ≡ false)
-    × FallsShort (told_from offset h)
+    × FallsShort (read_from offset h)
 IsCutFault Memory offset h = ⊤
 
 -- the input ended where a record ended
-abbrev pub IsCleanEnd : ℕ → Heard → Type 0
-IsCleanEnd offset h = IsEndOf (told_from offset h) clean × (h.is_at_end ≡ true)
+abbrev pub IsCleanEnd : ℕ → BytesRead → Type 0
+IsCleanEnd offset h = IsEndOf (read_from offset h) clean × (h.is_at_end ≡ true)
 
-abbrev pub IsEnding : Ending → ℕ → Heard → Type 0
+abbrev pub IsEnding : Ending → ℕ → BytesRead → Type 0
 IsEnding Clean offset h = IsCleanEnd offset h
 IsEnding (Fault e) offset h = IsCutFault e offset h × (e ≢ Memory)
 
 -- A cutter holds of what its source told the bytes from the offset on, and was alone to ask it.
-pub record IsHeard (h : Heard) (c : Standing) : Type 0 where
+pub record IsRead (h : BytesRead) (c : Standing) : Type 0 where
   pub told : length h.bytes ≡ c.offset + length (held_of c)
-  pub held : told_from c.offset h ≡ held_of c
+  pub held : read_from c.offset h ≡ held_of c
   pub reads : h.calls ≡ c.reads
   pub few_reads : c.reads ≤ 2 ^ 40
   pub few_bytes : length h.bytes ≤ 2 ^ 20 * c.reads
-  pub within : length c.front ≤ c.room
+  pub within : length c.prefix ≤ c.room
   pub small : c.room ≤ 2 ^ 20
 
 -- And it goes on, where the framing steps are to be taken next, or has answered for ever.
-pub record IsAlong (h : Heard) (c : Standing) : Type 0 where
-  pub heard : IsHeard h c
+pub record IsAlong (h : BytesRead) (c : Standing) : Type 0 where
+  pub read : IsRead h c
   pub stop : c.answer ≡ None → IsStop (held_of c) (length (held_of c))
   pub asks : c.answer ≡ None → (k : ℕ) × Decides (held_of c) (Need k)
   pub going_on : c.answer ≡ None → h.is_at_end ≡ false
@@ -84,9 +84,9 @@ pub record IsAhead (size : ℕ) (c : Standing) (lent : List ℕ) : Type 0 where
   pub goes_on : c.answer ≡ None
   pub turns : c.reads + 2 ≤ 2 ^ 40
 
--- what a source told, with a record more that it held whole: by two asks
-abbrev pub told_whole : Heard → List ℕ → Heard
-told_whole h bytes = record {
+-- what was read of a source, with a record more that it held whole: by two asks
+abbrev pub lent_whole : BytesRead → List ℕ → BytesRead
+lent_whole h bytes = record {
   bytes = h.bytes ++ bytes;
   calls = h.calls + 2;
   failures = h.failures;
@@ -94,7 +94,7 @@ told_whole h bytes = record {
 }
 
 -- what more a source told, and what it's known to have left
-abbrev pub TellsMore : Heard → Heard → Option (List ℕ) → Option (List ℕ) → Type 0
+abbrev pub TellsMore : BytesRead → BytesRead → Option (List ℕ) → Option (List ℕ) → Type 0
 TellsMore old new left rest = (more : List ℕ) × (new.bytes ≡ old.bytes ++ more) × Consumes left rest more
 
 -- whether less was read before an answer than was asked for: at the input's end, a failed read and the last turn

@@ -2,26 +2,26 @@
 use Rattle.std.specs.Prelude.{◌≡◌, ℕ, Bool, false, ◌==◌, ◌&&◌, ◌||◌, ◌+◌, ◌++◌, not, length, List, [], take, Result, Ok}
 use Rattle.std.specs.Prelude.{Err}
 
--- what a source told: its bytes, the calls made and failed, and whether the input is at its end
-pub record Heard : Type 0 where
+-- what was read of a source: its bytes, the calls made and failed, and whether the input is at its end
+pub record BytesRead : Type 0 where
   pub bytes : List ℕ
   pub calls : ℕ
   pub failures : ℕ
   pub is_at_end : Bool
 
 -- what a sink took: its bytes, and the calls made and failed
-pub record Said : Type 0 where
+pub record BytesWritten : Type 0 where
   pub bytes : List ℕ
   pub calls : ℕ
   pub failures : ℕ
 
 -- no call of the source yet
-abbrev pub nothing_heard : Heard
-nothing_heard = record { bytes = []; calls = 0; failures = 0; is_at_end = false }
+abbrev pub nothing_read : BytesRead
+nothing_read = record { bytes = []; calls = 0; failures = 0; is_at_end = false }
 
 -- no call of the sink yet
-abbrev pub nothing_said : Said
-nothing_said = record { bytes = []; calls = 0; failures = 0 }
+abbrev pub nothing_written : BytesWritten
+nothing_written = record { bytes = []; calls = 0; failures = 0 }
 
 -- the bytes that went through: the first n at `Ok(n)`, and none at `Err`
 abbrev pub passed : {E : Type 0} → Result ℕ E → List ℕ → List ℕ
@@ -39,8 +39,8 @@ is_end (Ok n) room = (n == 0) && not (room == 0)
 is_end (Err e) room = false
 
 -- one more read, by its answer and what the buffer then holds
-abbrev pub heard_also : {E : Type 0} → Heard → Result ℕ E → List ℕ → Heard
-heard_also h r buf = record {
+abbrev pub read_also : {E : Type 0} → BytesRead → Result ℕ E → List ℕ → BytesRead
+read_also h r buf = record {
   bytes = h.bytes ++ passed r buf;
   calls = h.calls + 1;
   failures = h.failures + failed_count r;
@@ -48,27 +48,27 @@ heard_also h r buf = record {
 }
 
 -- so many bytes more, told by one call
-abbrev pub told_also : Heard → List ℕ → Heard
-told_also h more = record {
+abbrev pub lent_also : BytesRead → List ℕ → BytesRead
+lent_also h more = record {
   bytes = h.bytes ++ more;
   calls = h.calls + 1;
   failures = h.failures;
   is_at_end = h.is_at_end;
 }
 
--- what was held comes first: the bytes that are read begin with it, or are a front of it, and no read fails
+-- what was held comes first: the bytes that are read begin with it, or are a prefix of it, and no read fails
 abbrev pub ComesFirst : {E : Type 0} → List ℕ → Result ℕ E → List ℕ → Type 0
 ComesFirst lent (Ok n) buf = take n lent ≡ take (length lent) (take n buf)
 ComesFirst lent (Err e) buf = lent ≡ []
 
 -- one more write, by its answer
-abbrev pub said_also : {E : Type 0} → Said → Result ℕ E → List ℕ → Said
-said_also s r bytes = record {
+abbrev pub written_also : {E : Type 0} → BytesWritten → Result ℕ E → List ℕ → BytesWritten
+written_also s r bytes = record {
   bytes = s.bytes ++ passed r bytes;
   calls = s.calls + 1;
   failures = s.failures + failed_count r;
 }
 
--- the whole is the front, with something or nothing behind it
-abbrev pub IsFrontOf : List ℕ → List ℕ → Type 0
-IsFrontOf front whole = (more : List ℕ) × (whole ≡ front ++ more)
+-- the whole is the prefix, with something or nothing behind it
+abbrev pub IsPrefixOf : List ℕ → List ℕ → Type 0
+IsPrefixOf prefix whole = (more : List ℕ) × (whole ≡ prefix ++ more)

@@ -1,22 +1,22 @@
 -- What went over links, one after another.
 use Rattle.std.specs.Prelude.{ℕ, Bool, List, refl}
 use Rattle.std.specs.Coded.{Coded, code_by, coded×, coded_ℕ, coded_bool, coded_list}
-use Rattle.mseed_stream.specs.Counted.{heard_by, said_by}
-use Rattle.mseed_stream.specs.Device.{Heard, Said}
+use Rattle.mseed_stream.specs.Counted.{read_by, written_by}
+use Rattle.mseed_stream.specs.Device.{BytesRead, BytesWritten}
 use Rattle.mseed_stream.specs.declared.counted.Counted.{Counted}
 
 -- what a link told, and what it took
 pub record Exchange : Type 0 where
-  pub heard : Heard
-  pub said : Said
+  pub read : BytesRead
+  pub written : BytesWritten
 
--- of what was heard and said
-abbrev pub exchange : Heard → Said → Exchange
-exchange heard said = record { heard = heard; said = said }
+-- of what was read and written
+abbrev pub exchange : BytesRead → BytesWritten → Exchange
+exchange read written = record { read = read; written = written }
 
 -- over a reader and writer in one
 abbrev pub exchange_over : {T : Type 0} → Counted T → Exchange
-exchange_over link = exchange (heard_by link) (said_by link)
+exchange_over link = exchange (read_by link) (written_by link)
 
 -- the parts by which the logic stores an exchange
 abbrev Parts : Type 0
@@ -24,14 +24,14 @@ Parts = List ℕ × (ℕ × (ℕ × (Bool × (List ℕ × (ℕ × ℕ)))))
 
 abbrev to_parts : Exchange → Parts
 to_parts e = (
-  e.heard.bytes,
-  (e.heard.calls, (e.heard.failures, (e.heard.is_at_end, (e.said.bytes, (e.said.calls, e.said.failures))))),
+  e.read.bytes,
+  (e.read.calls, (e.read.failures, (e.read.is_at_end, (e.written.bytes, (e.written.calls, e.written.failures))))),
 )
 
 abbrev of_parts : Parts → Exchange
 of_parts p = record {
-  heard = record { bytes = p.0; calls = p.1.0; failures = p.1.1.0; is_at_end = p.1.1.1.0 };
-  said = record { bytes = p.1.1.1.1.0; calls = p.1.1.1.1.1.0; failures = p.1.1.1.1.1.1 };
+  read = record { bytes = p.0; calls = p.1.0; failures = p.1.1.0; is_at_end = p.1.1.1.0 };
+  written = record { bytes = p.1.1.1.1.0; calls = p.1.1.1.1.1.0; failures = p.1.1.1.1.1.1 };
 }
 
 -- how the logic stores exchanges

@@ -1,17 +1,17 @@
 -- A line that is written as far as the device takes it.
 use Rattle.std.specs.Prelude.{◌≡◌, ◌⊎◌, ℕ, ◌+◌, ◌<◌, List, ◌++◌, length, take}
-use Rattle.mseed_stream.specs.Device.{Said}
+use Rattle.mseed_stream.specs.Device.{BytesWritten}
 
 -- a line was written
-pub record TellsAll (line : List ℕ) (old new : Said) : Type 0 where
+pub record TellsAll (line : List ℕ) (old new : BytesWritten) : Type 0 where
   pub text : new.bytes ≡ old.bytes ++ line
   pub fine : new.failures ≡ old.failures
 
--- a front of a line was written, and then the device failed, and wasn't asked again
-pub record TellsFront (line : List ℕ) (old new : Said) : Type 0 where
-  pub front : (n : ℕ) × ((n < length line) × (new.bytes ≡ old.bytes ++ take n line))
+-- a prefix of a line was written, and then the device failed, and wasn't asked again
+pub record TellsPrefix (line : List ℕ) (old new : BytesWritten) : Type 0 where
+  pub prefix : (n : ℕ) × ((n < length line) × (new.bytes ≡ old.bytes ++ take n line))
   pub failed : new.failures ≡ old.failures + 1
 
 -- a line was written, whole unless the device failed
-pub record Tells (line : List ℕ) (old new : Said) : Type 0 where
-  pub either : TellsAll line old new ⊎ TellsFront line old new
+pub record Tells (line : List ℕ) (old new : BytesWritten) : Type 0 where
+  pub either : TellsAll line old new ⊎ TellsPrefix line old new

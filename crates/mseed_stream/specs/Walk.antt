@@ -5,7 +5,7 @@ use Rattle.std.specs.List.{AllByRecursion, concat}
 use Rattle.mseed_record.specs.View.{View, IsView}
 use Rattle.mseed_record.specs.Viewing.{view_of}
 use Rattle.mseed_record.specs.declared.view.RecordView.{RecordView}
-use Rattle.mseed_stream.specs.Device.{Heard}
+use Rattle.mseed_stream.specs.Device.{BytesRead}
 use Rattle.mseed_stream.specs.Standing.{Standing}
 use Rattle.mseed_stream.specs.Archive.{HasRecords}
 use Rattle.mseed_stream.specs.Cutting.{IsAlong, IsCleanEnd, IsCutFault, held_of, asks_of, failed_reads}
@@ -23,12 +23,12 @@ pub record AreViews (bytes : List ℕ) (offset : ℕ) (views : List View) : Type
   pub offset_is : length (concat (bytes_in views)) ≡ offset
 
 -- how an input ends behind them: where a record ended, or by a fault; no read failed before
-abbrev pub IsEnd : Option StreamFault → ℕ → Heard → Type 0
+abbrev pub IsEnd : Option StreamFault → ℕ → BytesRead → Type 0
 IsEnd None offset h = IsCleanEnd offset h × (h.failures ≡ 0)
 IsEnd (Some fault) offset h = IsCutFault fault offset h × (fault ≢ Memory) × (h.failures ≡ failed_reads fault)
 
 -- A cutter that goes on has handed out these records, each for two asks of its source at least, and no read failed.
-pub record HasHandedOut (h : Heard) (c : Standing) (views : List View) : Type 0 where
+pub record HasHandedOut (h : BytesRead) (c : Standing) (views : List View) : Type 0 where
   pub along : IsAlong h c
   pub goes_on : c.answer ≡ None
   pub fine : h.failures ≡ 0
@@ -36,7 +36,7 @@ pub record HasHandedOut (h : Heard) (c : Standing) (views : List View) : Type 0 
   pub asked : 2 * length views + asks_of (held_of c) ≤ h.calls
 
 -- these are all the records of an input, fewer than 2^40, and it ends so behind them
-pub record AreAllViews (h : Heard) (views : List View) (end : Option StreamFault) : Type 0 where
+pub record AreAllViews (h : BytesRead) (views : List View) (end : Option StreamFault) : Type 0 where
   pub offset : ℕ
   pub records : AreViews h.bytes offset views
   pub ends : IsEnd end offset h

@@ -1,6 +1,6 @@
 //! The maker of sources that lend what they hold.
 ghost use Rattle.std.specs.Prelude.{◌≡◌};
-ghost use Rattle.mseed_stream.specs.Device.{nothing_heard};
+ghost use Rattle.mseed_stream.specs.Device.{nothing_read};
 
 use crate::counted::Counted;
 use crate::device::{Failed, Source};
@@ -15,11 +15,11 @@ pub struct Buffered<T, A: Allocator = Global> {
 }
 
 impl<T: Read, A: Allocator> Buffered<T, A> {
-    ghost use Rattle.mseed_stream.specs.Buffered.{told_by, reader_of};
+    ghost use Rattle.mseed_stream.specs.Buffered.{read_through, reader_of};
 
     /// The reader, of which nothing was asked yet: what stands in its buffer is the first that is lent.
     pub fn new(reader: BufReader<T, A>) -> Buffered<T, A>
-        ensures heard { told_by result ≡ nothing_heard }
+        ensures read { read_through result ≡ nothing_read }
         ensures reader { reader_of result ≡ reader }
     {
         Buffered {
@@ -29,9 +29,9 @@ impl<T: Read, A: Allocator> Buffered<T, A> {
 }
 
 impl<T: Read, A: Allocator> Source for Buffered<T, A> {
-    ghost use Rattle.mseed_stream.specs.Buffered.{told_by, left_of, lent_by};
+    ghost use Rattle.mseed_stream.specs.Buffered.{read_through, left_of, lent_by};
 
-    ghost heard = { told_by };
+    ghost read = { read_through };
 
     ghost remaining = { left_of T.remaining };
 

@@ -1,6 +1,6 @@
 //! The one maker of sources and sinks.
 ghost use Rattle.std.specs.Prelude.{◌≡◌, refl};
-ghost use Rattle.mseed_stream.specs.Device.{nothing_heard, nothing_said};
+ghost use Rattle.mseed_stream.specs.Device.{nothing_read, nothing_written};
 
 use crate::device::{Duplex, Failed, Sink, Source};
 use crate::tally::Tally;
@@ -20,12 +20,12 @@ pub struct Counted<T> {
 }
 
 impl<T> Counted<T> {
-    ghost use Rattle.mseed_stream.specs.Counted.{heard_by, said_by, inner_of};
+    ghost use Rattle.mseed_stream.specs.Counted.{read_by, written_by, inner_of};
 
     /// The reader or writer, of which nothing was asked yet.
     pub fn new(inner: T) -> Counted<T>
-        ensures heard { heard_by result ≡ nothing_heard }
-        ensures said { said_by result ≡ nothing_said }
+        ensures read { read_by result ≡ nothing_read }
+        ensures written { written_by result ≡ nothing_written }
         ensures inner { inner_of result ≡ inner }
     {
         Counted {
@@ -52,13 +52,13 @@ impl<T> Counted<T> {
 }
 
 impl<T: Read> Source for Counted<T> {
-    ghost use Rattle.mseed_stream.specs.Counted.{heard_by, said_by, remaining_of};
+    ghost use Rattle.mseed_stream.specs.Counted.{read_by, written_by, remaining_of};
 
-    ghost heard = { heard_by };
+    ghost read = { read_by };
 
     ghost remaining = { remaining_of T.remaining };
 
-    ghost beside = { said_by };
+    ghost beside = { written_by };
 
     fn pull(&mut self, buf: &mut [u8]) -> Result<usize, Failed> {
         if self.is_at_end {
@@ -88,13 +88,13 @@ impl<T: Read> Source for Counted<T> {
 }
 
 impl<T: Write> Sink for Counted<T> {
-    ghost use Rattle.mseed_stream.specs.Counted.{heard_by, said_by, contents_of};
+    ghost use Rattle.mseed_stream.specs.Counted.{read_by, written_by, contents_of};
 
-    ghost said = { said_by };
+    ghost written = { written_by };
 
     ghost contents = { contents_of T.contents };
 
-    ghost beside = { heard_by };
+    ghost beside = { read_by };
 
     fn put(&mut self, bytes: &[u8]) -> Result<usize, Failed> {
         match self.inner.write(bytes) {

@@ -8,12 +8,12 @@ ghost use Rattle.mseed_record.specs.Scan.{Decides};
 ghost use Rattle.mseed_record.specs.View.{View, IsView};
 ghost use Rattle.mseed_record.specs.Viewing.{view_of};
 ghost use Rattle.mseed_record.specs.declared.frame.Scan.TheVariants.{Need, Record};
-ghost use Rattle.mseed_stream.specs.Device.{heard_also, nothing_heard};
+ghost use Rattle.mseed_stream.specs.Device.{read_also, nothing_read};
 ghost use Rattle.mseed_stream.specs.Archive.{HasRecords, IsArchive};
-ghost use Rattle.mseed_stream.specs.Cutting.{IsHeard, IsAlong, IsStop, TellsMore, IsReadTo, is_short};
+ghost use Rattle.mseed_stream.specs.Cutting.{IsRead, IsAlong, IsStop, TellsMore, IsReadTo, is_short};
 ghost use Rattle.mseed_stream.specs.Cutting.{asks_of, count_of, IsCutFault, IsCleanEnd, NeedsRoom, held_of};
-ghost use Rattle.mseed_stream.specs.Cutting.{told_from, moves_by, failed_by, answer_of, kept_of, handed_by};
-ghost use Rattle.mseed_stream.specs.Cutting.{IfEnds, IsAhead, told_whole};
+ghost use Rattle.mseed_stream.specs.Cutting.{read_from, moves_by, failed_by, answer_of, kept_of, handed_by};
+ghost use Rattle.mseed_stream.specs.Cutting.{IfEnds, IsAhead, lent_whole};
 ghost use Rattle.mseed_stream.specs.Walk.{HasHandedOut, AreAllViews, IfGoesOn, end_of};
 ghost use Rattle.mseed_stream.specs.private.Steps.{IsFillFault, IsAnswerAtEnd, IsCut, MayCut, lent_of, settled};
 
@@ -61,7 +61,7 @@ impl Ending {
 pub struct Cutter<A: Allocator = Global> {
     // The bytes that were told and not handed out, and room behind them.
     held: Vec<u8, A>,
-    // How many bytes stand at its front.
+    // How many bytes stand at its beginning.
     have: usize,
     // They are a record that was lent, and not needed any more.
     is_lent: bool,
@@ -69,7 +69,7 @@ pub struct Cutter<A: Allocator = Global> {
     offset: u64,
     // How often the source was asked.
     reads: u64,
-    // How far framing has come along the bytes at its front.
+    // How far framing has come along the bytes at its beginning.
     framer: Framer,
     // The answer for ever, once there is one.
     ending: Option<Ending>,
@@ -85,7 +85,7 @@ impl<A: Allocator> Model for Cutter<A> {
 
     ghost view = { λ c. record {
       offset = c.offset;
-      front = take c.have c.held.items;
+      prefix = take c.have c.held.items;
       is_lent = c.is_lent;
       room = vec_len c.held;
       reads = c.reads;
@@ -105,10 +105,10 @@ impl<A: Allocator> Cutter<A> {
 
     /// A cutter of which nothing was asked yet. It takes no memory.
     pub fn new(alloc: A) -> Cutter<A>
-        ensures along { IsAlong nothing_heard result }
+        ensures along { IsAlong nothing_read result }
         ensures offset { result.offset ≡ 0 }
         ensures records { HasRecords [] result.offset [] }
-        ensures handed { HasHandedOut nothing_heard result [] }
+        ensures handed { HasHandedOut nothing_read result [] }
         ensures goes_on { result.answer ≡ None }
         ensures room { result.room ≡ 0 }
     {
@@ -153,61 +153,61 @@ impl<A: Allocator> Cutter<A> {
     /// made; `Memory` where more room was needed than there is. After `Memory` no byte told is lost, and a
     /// further call goes on.
     pub fn next<R: Source>(&mut self, source: &mut R) -> Result<Option<RecordView<'_>>, StreamFault>
-        requires { IsAlong (R.heard source.old) self.old }
+        requires { IsAlong (R.read source.old) self.old }
 
-        // What the source told is kept, and what it is known to have left is what it told.
-        ensures more { TellsMore (R.heard source.old) (R.heard source.new) (R.remaining source.old)
+        // What the source told is kept, and what it is known to have left is what was read of it.
+        ensures more { TellsMore (R.read source.old) (R.read source.new) (R.remaining source.old)
             (R.remaining source.new) }
 
         // A record is lent as its view: the bytes told from the offset on.
         ensures record { IfOk result (λ o. IfSome o (λ r. IsView (view_of r)
-            × ((view_of r).bytes ≡ told_from self.old.offset (R.heard source.new)))) }
+            × ((view_of r).bytes ≡ read_from self.old.offset (R.read source.new)))) }
 
         // There is no further record where the input ended behind the last.
-        ensures end { result ≡ Ok None → IsCleanEnd self.old.offset (R.heard source.new) }
+        ensures end { result ≡ Ok None → IsCleanEnd self.old.offset (R.read source.new) }
 
         // A fault is what became of the input, at the offset.
-        ensures fault { IfErr result (λ e. IsCutFault e self.old.offset (R.heard source.new)) }
+        ensures fault { IfErr result (λ e. IsCutFault e self.old.offset (R.read source.new)) }
 
         // A record that is lent is the next of the archive.
-        ensures records { (records : List (List ℕ)) → HasRecords (R.heard source.old).bytes self.old.offset records
-            → HasRecords (R.heard source.new).bytes (self.old.offset + moves_by result (told_from self.old.offset
-            (R.heard source.new))) (records ++ handed_by result (told_from self.old.offset (R.heard source.new))) }
+        ensures records { (records : List (List ℕ)) → HasRecords (R.read source.old).bytes self.old.offset records
+            → HasRecords (R.read source.new).bytes (self.old.offset + moves_by result (read_from self.old.offset
+            (R.read source.new))) (records ++ handed_by result (read_from self.old.offset (R.read source.new))) }
 
         // Where the records end for ever, those so far and the rest are the archive of the bytes told.
-        ensures archive { (records : List (List ℕ)) → HasRecords (R.heard source.old).bytes self.old.offset records
-            → IfEnds result (IsArchive (R.heard source.new).bytes records (told_from self.old.offset
-            (R.heard source.new))) }
+        ensures archive { (records : List (List ℕ)) → HasRecords (R.read source.old).bytes self.old.offset records
+            → IfEnds result (IsArchive (R.read source.new).bytes records (read_from self.old.offset
+            (R.read source.new))) }
 
-        // Where the records end for ever, those so far are all of what was heard.
-        ensures all { (views : List View) → HasHandedOut (R.heard source.old) self.old views
-            → IfEnds result (AreAllViews (R.heard source.new) views (end_of result)) }
+        // Where the records end for ever, those so far are all of what was read.
+        ensures all { (views : List View) → HasHandedOut (R.read source.old) self.old views
+            → IfEnds result (AreAllViews (R.read source.new) views (end_of result)) }
 
         // Memory is wanted only where framing asked for more than the buffer ever had.
         ensures memory { result ≡ Err StreamFault.Memory
-            → NeedsRoom self.old.room (told_from self.old.offset (R.heard source.new)) }
+            → NeedsRoom self.old.room (read_from self.old.offset (R.read source.new)) }
 
         // No more is read than framing asks for, and less only at the end, a failed read or the last turn.
         ensures read_to { self.old.answer ≡ None
-            → IsReadTo (told_from self.old.offset (R.heard source.new)) (is_short result
-            (R.heard source.new).is_at_end) }
+            → IsReadTo (read_from self.old.offset (R.read source.new)) (is_short result
+            (R.read source.new).is_at_end) }
 
         // A record asks the source.
-        ensures asked { IfOk result (λ o. IfSome o (λ r. (R.heard source.old).calls < (R.heard source.new).calls)) }
+        ensures asked { IfOk result (λ o. IfSome o (λ r. (R.read source.old).calls < (R.read source.new).calls)) }
 
         // A read failed exactly where the answer says so.
         ensures failed { self.old.answer ≡ None
-            → (R.heard source.new).failures ≡ (R.heard source.old).failures + failed_by result }
+            → (R.read source.new).failures ≡ (R.read source.old).failures + failed_by result }
 
         // The answer for ever is given again, and the source is not asked.
         ensures repeats { IfSome self.old.answer (λ e. (result ≡ answer_of e)
-            × (R.heard source.new ≡ R.heard source.old)) }
+            × (R.read source.new ≡ R.read source.old)) }
 
         // No more bytes are held than the longest record has.
-        ensures most { length (R.heard source.new).bytes ≤ self.old.offset + 2 ^ 20 }
+        ensures most { length (R.read source.new).bytes ≤ self.old.offset + 2 ^ 20 }
 
         // The input's end is that of the bytes that the source is known to have.
-        ensures known { self.old.answer ≡ None → (R.heard source.new).is_at_end ≡ true
+        ensures known { self.old.answer ≡ None → (R.read source.new).is_at_end ≡ true
             → IsAtEnd (R.remaining source.new) }
 
         // What the source takes stays as it was.
@@ -216,11 +216,11 @@ impl<A: Allocator> Cutter<A> {
         // Then the cutter stands behind the record, goes on or has its answer for ever, and keeps its buffer.
         ensures* after { sem 𝓛 (follows_so (the_row A.row A.Allocator)
             (the_row A.row A.Allocator) self.entry.ghost_name none (λ _ _. ⊤)
-            (λ c. IsAlong (R.heard source.new) c
-            × (c.offset ≡ self.old.offset + moves_by result (told_from self.old.offset (R.heard source.new)))
+            (λ c. IsAlong (R.read source.new) c
+            × (c.offset ≡ self.old.offset + moves_by result (read_from self.old.offset (R.read source.new)))
             × (c.answer ≡ kept_of result) × (self.old.room ≤ c.room)
-            × ((views : List View) → HasHandedOut (R.heard source.old) self.old views
-            → IfGoesOn result (λ more. HasHandedOut (R.heard source.new) c (views ++ more))))) }
+            × ((views : List View) → HasHandedOut (R.read source.old) self.old views
+            → IfGoesOn result (λ more. HasHandedOut (R.read source.new) c (views ++ more))))) }
     {
         match self.advance(source)? {
             Some(length) => Ok(Some(RecordView::of_record(&self.held[..length]))),
@@ -265,27 +265,27 @@ impl<A: Allocator> Cutter<A> {
     /// Goes behind a record of so many bytes that the source holds whole, as [`next`](Cutter::next) does that lends
     /// it: the source tells what framing asks for, the header and then the rest.
     pub fn pass<R: Source>(&mut self, source: &mut R, size: usize)
-        requires along { IsAlong (R.heard source.old) self.old }
+        requires along { IsAlong (R.read source.old) self.old }
         requires ahead { IsAhead size self.old (R.lent source.old) }
 
         // The source told the record, by two asks that didn't fail, and holds what follows.
-        ensures told { R.heard source.new ≡ told_whole (R.heard source.old) (take size (R.lent source.old)) }
+        ensures told { R.read source.new ≡ lent_whole (R.read source.old) (take size (R.lent source.old)) }
         ensures rest { R.lent source.new ≡ drop size (R.lent source.old) }
         ensures known { Consumes (R.remaining source.old) (R.remaining source.new) (take size (R.lent source.old)) }
         ensures beside { R.beside source.new ≡ R.beside source.old }
 
         // The cutter stands behind it, goes on, and keeps its buffer.
-        ensures along { IsAlong (R.heard source.new) self.new }
+        ensures along { IsAlong (R.read source.new) self.new }
         ensures offset { self.new.offset ≡ self.old.offset + size }
         ensures goes_on { self.new.answer ≡ None }
         ensures room { self.new.room ≡ self.old.room }
 
         // It is the next record of the archive.
-        ensures records { (records : List (List ℕ)) → HasRecords (R.heard source.old).bytes self.old.offset records
-            → HasRecords (R.heard source.new).bytes self.new.offset
+        ensures records { (records : List (List ℕ)) → HasRecords (R.read source.old).bytes self.old.offset records
+            → HasRecords (R.read source.new).bytes self.new.offset
             (records ++ take size (R.lent source.old) ∷ []) }
-        ensures handed { (views : List View) (v : View) → HasHandedOut (R.heard source.old) self.old views → IsView v
-            → v.bytes ≡ take size (R.lent source.old) → HasHandedOut (R.heard source.new) self.new (views ++ v ∷ []) }
+        ensures handed { (views : List View) (v : View) → HasHandedOut (R.read source.old) self.old views → IsView v
+            → v.bytes ≡ take size (R.lent source.old) → HasHandedOut (R.read source.new) self.new (views ++ v ∷ []) }
     {
         self.forget();
         tell_whole(source, size);
@@ -295,36 +295,36 @@ impl<A: Allocator> Cutter<A> {
 
     /// The next answer, by which the bytes of a record that is found are lent.
     fn advance<R: Source>(&mut self, source: &mut R) -> Result<Option<usize>, StreamFault>
-        requires { IsAlong (R.heard source.old) self.old }
-        ensures along { IsAlong (R.heard source.new) self.new }
-        ensures more { TellsMore (R.heard source.old) (R.heard source.new) (R.remaining source.old)
+        requires { IsAlong (R.read source.old) self.old }
+        ensures along { IsAlong (R.read source.new) self.new }
+        ensures more { TellsMore (R.read source.old) (R.read source.new) (R.remaining source.old)
             (R.remaining source.new) }
-        ensures record { IfOk result (λ o. IfSome o (λ n. (n ≡ length self.new.front) × IsRecord self.new.front
-            × (self.new.front ≡ told_from self.old.offset (R.heard source.new)))) }
-        ensures offset { self.new.offset ≡ self.old.offset + moves_by result self.new.front }
-        ensures end { result ≡ Ok None → IsCleanEnd self.old.offset (R.heard source.new) }
-        ensures fault { IfErr result (λ e. IsCutFault e self.old.offset (R.heard source.new)) }
-        ensures records { (records : List (List ℕ)) → HasRecords (R.heard source.old).bytes self.old.offset records
-            → HasRecords (R.heard source.new).bytes (self.old.offset + moves_by result (told_from self.old.offset
-            (R.heard source.new))) (records ++ handed_by result (told_from self.old.offset (R.heard source.new))) }
-        ensures archive { (records : List (List ℕ)) → HasRecords (R.heard source.old).bytes self.old.offset records
-            → IfEnds result (IsArchive (R.heard source.new).bytes records (told_from self.old.offset
-            (R.heard source.new))) }
+        ensures record { IfOk result (λ o. IfSome o (λ n. (n ≡ length self.new.prefix) × IsRecord self.new.prefix
+            × (self.new.prefix ≡ read_from self.old.offset (R.read source.new)))) }
+        ensures offset { self.new.offset ≡ self.old.offset + moves_by result self.new.prefix }
+        ensures end { result ≡ Ok None → IsCleanEnd self.old.offset (R.read source.new) }
+        ensures fault { IfErr result (λ e. IsCutFault e self.old.offset (R.read source.new)) }
+        ensures records { (records : List (List ℕ)) → HasRecords (R.read source.old).bytes self.old.offset records
+            → HasRecords (R.read source.new).bytes (self.old.offset + moves_by result (read_from self.old.offset
+            (R.read source.new))) (records ++ handed_by result (read_from self.old.offset (R.read source.new))) }
+        ensures archive { (records : List (List ℕ)) → HasRecords (R.read source.old).bytes self.old.offset records
+            → IfEnds result (IsArchive (R.read source.new).bytes records (read_from self.old.offset
+            (R.read source.new))) }
         ensures memory { result ≡ Err StreamFault.Memory
-            → NeedsRoom self.old.room (told_from self.old.offset (R.heard source.new)) }
+            → NeedsRoom self.old.room (read_from self.old.offset (R.read source.new)) }
         ensures read_to { self.old.answer ≡ None
-            → IsReadTo (told_from self.old.offset (R.heard source.new)) (is_short result
-            (R.heard source.new).is_at_end) }
-        ensures asked { (R.heard source.old).calls + 2 * count_of result + asks_of (held_of self.new) ≤
-            (R.heard source.new).calls + asks_of (held_of self.old) }
+            → IsReadTo (read_from self.old.offset (R.read source.new)) (is_short result
+            (R.read source.new).is_at_end) }
+        ensures asked { (R.read source.old).calls + 2 * count_of result + asks_of (held_of self.new) ≤
+            (R.read source.new).calls + asks_of (held_of self.old) }
         ensures failed { self.old.answer ≡ None
-            → (R.heard source.new).failures ≡ (R.heard source.old).failures + failed_by result }
+            → (R.read source.new).failures ≡ (R.read source.old).failures + failed_by result }
         ensures repeats { IfSome self.old.answer (λ e. (result ≡ answer_of e)
-            × (R.heard source.new ≡ R.heard source.old)) }
+            × (R.read source.new ≡ R.read source.old)) }
         ensures kept { self.new.answer ≡ kept_of result }
         ensures room { self.old.room ≤ self.new.room }
-        ensures most { length (R.heard source.new).bytes ≤ self.old.offset + 2 ^ 20 }
-        ensures known { self.old.answer ≡ None → (R.heard source.new).is_at_end ≡ true
+        ensures most { length (R.read source.new).bytes ≤ self.old.offset + 2 ^ 20 }
+        ensures known { self.old.answer ≡ None → (R.read source.new).is_at_end ≡ true
             → IsAtEnd (R.remaining source.new) }
         ensures beside { R.beside source.new ≡ R.beside source.old }
     {
@@ -338,7 +338,7 @@ impl<A: Allocator> Cutter<A> {
 
     /// Forgets the record that was lent.
     fn forget(&mut self)
-        ensures { self.new ≡ record self.old { front = held_of self.old; is_lent = false } }
+        ensures { self.new ≡ record self.old { prefix = held_of self.old; is_lent = false } }
     {
         if self.is_lent {
             self.have = 0;
@@ -351,7 +351,7 @@ impl<A: Allocator> Cutter<A> {
     fn settle(&mut self, found: Result<bool, StreamFault>) -> Result<Option<usize>, StreamFault>
         requires { self.old.is_lent ≡ false }
         ensures after { self.new ≡ settled self.old found }
-        ensures answer { result ≡ lent_of (length self.old.front) found }
+        ensures answer { result ≡ lent_of (length self.old.prefix) found }
     {
         match found {
             Ok(true) => {
@@ -373,11 +373,11 @@ impl<A: Allocator> Cutter<A> {
 
     /// Reads to the next record's end, or answers that the input ended where a record ended.
     fn cut<R: Source>(&mut self, source: &mut R) -> Result<bool, StreamFault>
-        requires { MayCut (R.heard source.old) self.old }
-        ensures cut { IsCut result self.old self.new (R.heard source.old) (R.heard source.new) }
-        ensures more { TellsMore (R.heard source.old) (R.heard source.new) (R.remaining source.old)
+        requires { MayCut (R.read source.old) self.old }
+        ensures cut { IsCut result self.old self.new (R.read source.old) (R.read source.new) }
+        ensures more { TellsMore (R.read source.old) (R.read source.new) (R.remaining source.old)
             (R.remaining source.new) }
-        ensures known { (R.heard source.new).is_at_end ≡ true → IsAtEnd (R.remaining source.new) }
+        ensures known { (R.read source.new).is_at_end ≡ true → IsAtEnd (R.remaining source.new) }
         ensures beside { R.beside source.new ≡ R.beside source.old }
     {
         if let Some(size) = self.foresee(source) {
@@ -391,7 +391,7 @@ impl<A: Allocator> Cutter<A> {
 
     /// The length of the next record, where nothing of it is held here and the source holds it whole.
     fn foresee<R: Source>(&self, source: &R) -> Option<usize>
-        ensures none { IfSome result (λ n. self.now.front ≡ []) }
+        ensures none { IfSome result (λ n. self.now.prefix ≡ []) }
         ensures turns { IfSome result (λ n. self.now.reads + 2 ≤ 2 ^ 40) }
         ensures size { IfSome result (λ n. (48 ≤ n) × (n ≤ 2 ^ 20)) }
         ensures whole { IfSome result (λ n. (n ≤ length (R.lent source.now)) × IsRecord (take n (R.lent source.now))) }
@@ -407,20 +407,20 @@ impl<A: Allocator> Cutter<A> {
 
     /// Takes so many of the bytes that the source holds, as framing asks for them: the header, and then the rest.
     fn take_whole<R: Source>(&mut self, source: &mut R, size: usize)
-        requires none { self.old.front ≡ [] }
+        requires none { self.old.prefix ≡ [] }
         requires turns { self.old.reads + 2 ≤ 2 ^ 40 }
         requires header { 48 ≤ size }
         requires room { size ≤ self.old.room }
         requires whole { size ≤ length (R.lent source.old) }
         ensures stays { self.new ≡ record self.old {
-          front = take size (R.lent source.old);
+          prefix = take size (R.lent source.old);
           reads = self.old.reads + 2;
         } }
-        ensures told { R.heard source.new ≡ told_whole (R.heard source.old) (take size (R.lent source.old)) }
+        ensures told { R.read source.new ≡ lent_whole (R.read source.old) (take size (R.lent source.old)) }
         ensures known { Consumes (R.remaining source.old) (R.remaining source.new) (take size (R.lent source.old)) }
         ensures beside { R.beside source.new ≡ R.beside source.old }
     {
-        copy_front(&mut self.held, source.lend(), size);
+        copy_prefix(&mut self.held, source.lend(), size);
         tell_whole(source, size);
         self.reads += 2;
         self.have = size;
@@ -429,11 +429,11 @@ impl<A: Allocator> Cutter<A> {
 
     /// Reads from stop to stop up to the next record's end, or answers that the input ended where a record ended.
     fn cut_by_stops<R: Source>(&mut self, source: &mut R) -> Result<bool, StreamFault>
-        requires { MayCut (R.heard source.old) self.old }
-        ensures cut { IsCut result self.old self.new (R.heard source.old) (R.heard source.new) }
-        ensures more { TellsMore (R.heard source.old) (R.heard source.new) (R.remaining source.old)
+        requires { MayCut (R.read source.old) self.old }
+        ensures cut { IsCut result self.old self.new (R.read source.old) (R.read source.new) }
+        ensures more { TellsMore (R.read source.old) (R.read source.new) (R.remaining source.old)
             (R.remaining source.new) }
-        ensures known { (R.heard source.new).is_at_end ≡ true → IsAtEnd (R.remaining source.new) }
+        ensures known { (R.read source.new).is_at_end ≡ true → IsAtEnd (R.remaining source.new) }
         ensures beside { R.beside source.new ≡ R.beside source.old }
     {
         let mut is_at_end = false;
@@ -449,7 +449,7 @@ impl<A: Allocator> Cutter<A> {
 
     /// The answer at the input's end, by how many bytes are left.
     fn end(&self) -> Result<bool, StreamFault>
-        ensures { IsAnswerAtEnd result self.now.offset self.now.front }
+        ensures { IsAnswerAtEnd result self.now.offset self.now.prefix }
     {
         if self.have == 0 {
             Ok(false)
@@ -461,9 +461,10 @@ impl<A: Allocator> Cutter<A> {
     /// What the bytes that are held begin: framing goes on where it ended.
     fn look(&mut self) -> Scan
         ensures stays { self.new ≡ self.old }
-        ensures decides { Decides self.old.front result }
-        ensures record { (k : ℕ) → result ≡ Record k → (k ≤ length self.old.front) × IsRecord (take k self.old.front) }
-        ensures needed { (k : ℕ) → result ≡ Need k → (length self.old.front < k) × (k ≤ 2 ^ 20) }
+        ensures decides { Decides self.old.prefix result }
+        ensures record { (k : ℕ) → result ≡ Record k
+            → (k ≤ length self.old.prefix) × IsRecord (take k self.old.prefix) }
+        ensures needed { (k : ℕ) → result ≡ Need k → (length self.old.prefix < k) × (k ≤ 2 ^ 20) }
     {
         self.framer.look(&self.held[..self.have])
     }
@@ -485,29 +486,29 @@ impl<A: Allocator> Cutter<A> {
 
     /// Reads until so many bytes are held, and answers whether the input ended before.
     fn fill<R: Source>(&mut self, source: &mut R, needed: usize) -> Result<bool, StreamFault>
-        requires heard { IsHeard (R.heard source.old) self.old }
+        requires read { IsRead (R.read source.old) self.old }
         requires not_lent { self.old.is_lent ≡ false }
-        requires more { length self.old.front < needed }
+        requires more { length self.old.prefix < needed }
         requires most { needed ≤ 2 ^ 20 }
-        requires going_on { (R.heard source.old).is_at_end ≡ false }
-        ensures heard { IsHeard (R.heard source.new) self.new }
-        ensures more { TellsMore (R.heard source.old) (R.heard source.new) (R.remaining source.old)
+        requires going_on { (R.read source.old).is_at_end ≡ false }
+        ensures read { IsRead (R.read source.new) self.new }
+        ensures more { TellsMore (R.read source.old) (R.read source.new) (R.remaining source.old)
             (R.remaining source.new) }
         ensures stays { (self.new.offset ≡ self.old.offset) × (self.new.is_lent ≡ false)
             × (self.new.answer ≡ self.old.answer) }
         ensures room { self.old.room ≤ self.new.room }
-        ensures whole { result ≡ Ok false → (length self.new.front ≡ needed)
-            × ((R.heard source.new).is_at_end ≡ false) }
-        ensures ended { result ≡ Ok true → (length self.new.front < needed)
-            × ((R.heard source.new).is_at_end ≡ true) × IsAtEnd (R.remaining source.new) }
-        ensures fine { OnOk result ((R.heard source.new).failures ≡ (R.heard source.old).failures) }
-        ensures fault { IfErr result (λ e. IsFillFault e self.old.offset self.old.room needed (R.heard source.old)
-            (R.heard source.new)) }
-        ensures short { OnErr result (length self.new.front < needed) }
-        ensures asked { OnOk result ((R.heard source.old).calls < (R.heard source.new).calls) }
-        ensures calls { (R.heard source.old).calls ≤ (R.heard source.new).calls }
-        ensures quiet { length self.old.front < length self.new.front
-            → (R.heard source.old).calls < (R.heard source.new).calls }
+        ensures whole { result ≡ Ok false → (length self.new.prefix ≡ needed)
+            × ((R.read source.new).is_at_end ≡ false) }
+        ensures ended { result ≡ Ok true → (length self.new.prefix < needed)
+            × ((R.read source.new).is_at_end ≡ true) × IsAtEnd (R.remaining source.new) }
+        ensures fine { OnOk result ((R.read source.new).failures ≡ (R.read source.old).failures) }
+        ensures fault { IfErr result (λ e. IsFillFault e self.old.offset self.old.room needed (R.read source.old)
+            (R.read source.new)) }
+        ensures short { OnErr result (length self.new.prefix < needed) }
+        ensures asked { OnOk result ((R.read source.old).calls < (R.read source.new).calls) }
+        ensures calls { (R.read source.old).calls ≤ (R.read source.new).calls }
+        ensures quiet { length self.old.prefix < length self.new.prefix
+            → (R.read source.old).calls < (R.read source.new).calls }
         ensures beside { R.beside source.new ≡ R.beside source.old }
     {
         self.make_room(needed)?;
@@ -526,8 +527,8 @@ impl<A: Allocator> Cutter<A> {
     }
 }
 
-/// Copies the front of the bytes, so many of them.
-fn copy_front(held: &mut [u8], bytes: &[u8], size: usize)
+/// Copies the prefix of the bytes, so many of them.
+fn copy_prefix(held: &mut [u8], bytes: &[u8], size: usize)
     requires room { size ≤ length held.old }
     requires whole { size ≤ length bytes.now }
     ensures { take size held.new ≡ take size bytes.now }
@@ -539,7 +540,7 @@ fn copy_front(held: &mut [u8], bytes: &[u8], size: usize)
 fn tell_whole<R: Source>(source: &mut R, size: usize)
     requires header { 48 ≤ size }
     requires whole { size ≤ length (R.lent source.old) }
-    ensures told { R.heard source.new ≡ told_whole (R.heard source.old) (take size (R.lent source.old)) }
+    ensures told { R.read source.new ≡ lent_whole (R.read source.old) (take size (R.lent source.old)) }
     ensures rest { R.lent source.new ≡ drop size (R.lent source.old) }
     ensures known { Consumes (R.remaining source.old) (R.remaining source.new) (take size (R.lent source.old)) }
     ensures beside { R.beside source.new ≡ R.beside source.old }
@@ -559,7 +560,7 @@ fn pull_between<R: Source>(
     requires high { end ≤ length held.old }
     ensures bound { IfOk result (λ n. begin + n ≤ end) }
     ensures before { take begin held.new ≡ take begin held.old }
-    ensures heard { R.heard source.new ≡ heard_also (R.heard source.old) result (slice_range held.new begin end) }
+    ensures read { R.read source.new ≡ read_also (R.read source.old) result (slice_range held.new begin end) }
     ensures known { ReadConsumes (R.remaining source.old) (R.remaining source.new) result
         (slice_range held.new begin end) }
     ensures beside { R.beside source.new ≡ R.beside source.old }

@@ -2,8 +2,9 @@
 ghost use Rattle.std.specs.Prelude.{◌≡◌, List, ℕ, IsTrue, ◌<◌, ◌≤◌, [], length, take, drop, IfOk, IfSome, Option, None};
 ghost use Rattle.std.specs.Io.{StartsWith};
 ghost use Rattle.std.specs.Io.KnownBytes.{Consumes, ReadConsumes, WriteAppends};
-ghost use Rattle.mseed_stream.specs.Device.{Heard, Said, nothing_heard, nothing_said, heard_also, told_also};
-ghost use Rattle.mseed_stream.specs.Device.{said_also, ComesFirst};
+ghost use Rattle.mseed_stream.specs.Device.{BytesRead, BytesWritten, nothing_read, nothing_written, read_also};
+ghost use Rattle.mseed_stream.specs.Device.{lent_also};
+ghost use Rattle.mseed_stream.specs.Device.{written_also, ComesFirst};
 
 /// A device failed at a call, for whatever cause. By that call no byte went through.
 #[derive(Debug, Clone, Copy, PartialEq, Eq)]
@@ -11,12 +12,12 @@ pub struct Failed;
 
 /// Where bytes come from.
 ///
-/// Contracts name four things of a source: `heard`, the record of what it told so far;
+/// Contracts name four things of a source: `read`, the record of what was read of it so far;
 /// `remaining`, the bytes that it has left, where they are known; `lent`, those of them that it
 /// holds already; and `beside`, what it took meanwhile, where it is a sink as well.
 pub trait Source {
-    // What it told so far.
-    ghost heard: { Self → Heard };
+    // What was read of it so far.
+    ghost read: { Self → BytesRead };
 
     // The bytes that it will tell from here on, where they are known.
     ghost remaining: { Self → Option (List ℕ) } = { λ _. None };
@@ -25,9 +26,9 @@ pub trait Source {
     ghost lent: { Self → List ℕ } = { λ _. [] };
 
     // What it took so far, where it is a sink as well. A read leaves it as it was.
-    ghost beside: { Self → Said } = { λ _. nothing_said };
+    ghost beside: { Self → BytesWritten } = { λ _. nothing_written };
 
-    /// Reads once, into the front of `buf`, and answers how many bytes it read.
+    /// Reads once, into the beginning of `buf`, and answers how many bytes it read.
     ///
     /// The first 0 for a slice that isn't empty is the input's end. From then on each answer is
     /// `Ok(0)`, and the device isn't asked. A short answer is no end.
@@ -38,8 +39,8 @@ pub trait Source {
     /// call asks the device again.
     fn pull(&mut self, buf: &mut [u8]) -> Result<usize, Failed>
         ensures bound { IfOk result (λ n. n ≤ length buf.new) }
-        ensures heard { heard self.new ≡ heard_also (heard self.old) result buf.new }
-        ensures silent { IsTrue (heard self.old).is_at_end → result ≡ Ok 0 }
+        ensures read { read self.new ≡ read_also (read self.old) result buf.new }
+        ensures silent { IsTrue (read self.old).is_at_end → result ≡ Ok 0 }
         ensures known { ReadConsumes (remaining self.old) (remaining self.new) result buf.new }
         ensures first { ComesFirst (lent self.old) result buf.new }
         ensures beside { beside self.new ≡ beside self.old };
@@ -52,7 +53,7 @@ pub trait Source {
     /// Tells so many of the bytes that it holds, in one call, which can't fail.
     fn consume(&mut self, amount: usize)
         requires { amount ≤ length (lent self.old) }
-        ensures heard { heard self.new ≡ told_also (heard self.old) (take amount (lent self.old)) }
+        ensures read { read self.new ≡ lent_also (read self.old) (take amount (lent self.old)) }
         ensures rest { lent self.new ≡ drop amount (lent self.old) }
         ensures known { Consumes (remaining self.old) (remaining self.new) (take amount (lent self.old)) }
         ensures beside { beside self.new ≡ beside self.old };
@@ -60,20 +61,20 @@ pub trait Source {
 
 /// Where bytes go to.
 ///
-/// Contracts name three things of a sink: `said`, the record of what it took so far; `contents`,
-/// the bytes that it holds, where they are known; and `beside`, what it told meanwhile, where it
+/// Contracts name three things of a sink: `written`, the record of what it took so far; `contents`,
+/// the bytes that it holds, where they are known; and `beside`, what was read of it meanwhile, where it
 /// is a source as well.
 pub trait Sink {
     // What it took so far.
-    ghost said: { Self → Said };
+    ghost written: { Self → BytesWritten };
 
     // The bytes that it holds, where they are known.
     ghost contents: { Self → Option (List ℕ) } = { λ _. None };
 
-    // What it told so far, where it is a source as well. A write leaves it as it was.
-    ghost beside: { Self → Heard } = { λ _. nothing_heard };
+    // What was read of it so far, where it is a source as well. A write leaves it as it was.
+    ghost beside: { Self → BytesRead } = { λ _. nothing_read };
 
-    /// Writes once, from the front of `bytes`, and answers how many bytes it took.
+    /// Writes once, from the beginning of `bytes`, and answers how many bytes it took.
     ///
     /// Of a slice that isn't empty it takes at least one byte, or it fails.
     ///
@@ -83,7 +84,7 @@ pub trait Sink {
     fn put(&mut self, bytes: &[u8]) -> Result<usize, Failed>
         ensures bound { IfOk result (λ n. n ≤ length bytes.now) }
         ensures progress { IfOk result (λ n. 0 < length bytes.now → 0 < n) }
-        ensures said { said self.new ≡ said_also (said self.old) result bytes.now }
+        ensures written { written self.new ≡ written_also (written self.old) result bytes.now }
         ensures known { WriteAppends (contents self.old) (contents self.new) result bytes.now }
         ensures beside { beside self.new ≡ beside self.old };
 }
@@ -92,8 +93,8 @@ pub trait Sink {
 /// nothing.
 pub trait Duplex: Source + Sink {
     // What a read leaves as it was is what it took.
-    ghost reads_apart: { (s : Self) → Self.Source.beside s ≡ Self.Sink.said s };
+    ghost reads_apart: { (s : Self) → Self.Source.beside s ≡ Self.Sink.written s };
 
-    // What a write leaves as it was is what it told.
-    ghost writes_apart: { (s : Self) → Self.Sink.beside s ≡ Self.Source.heard s };
+    // What a write leaves as it was is what was read of it.
+    ghost writes_apart: { (s : Self) → Self.Sink.beside s ≡ Self.Source.read s };
 }

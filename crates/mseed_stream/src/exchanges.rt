@@ -38,13 +38,13 @@ impl Exchanges {
     /// One more link, by the calls that were counted.
     fn note(&mut self, _reads: &Tally, _writes: &Tally, _is_at_end: bool)
         ensures { self.new.all ≡ self.old.all ++ (record {
-          heard = record {
+          read = record {
             bytes = _reads.now.bytes;
             calls = _reads.now.calls;
             failures = _reads.now.failures;
             is_at_end = _is_at_end;
           };
-          said = record {
+          written = record {
             bytes = _writes.now.bytes;
             calls = _writes.now.calls;
             failures = _writes.now.failures;

@@ -18,6 +18,6 @@ pub enum StreamFault {
     /// The input wasn't at its end after 2^40 reads, behind so many bytes; for [`split`](crate::split), a
     /// 2^40th record stands there.
     Turns(u64),
-    /// A growth was refused.
+    /// An allocation was refused.
     Memory,
 }

@@ -2,7 +2,7 @@
 ghost use Rattle.std.specs.Prelude.{◌≡◌, IsTrue, ◌+◌, ◌++◌, ◌<◌, length, take, IfOk, OnOk, IfErr, OnErr};
 ghost use Rattle.std.specs.Prelude.{IfSome, MatchResult};
 ghost use Rattle.std.specs.Io.KnownBytes.{Appends};
-ghost use Rattle.mseed_stream.specs.Device.{IsFrontOf};
+ghost use Rattle.mseed_stream.specs.Device.{IsPrefixOf};
 ghost use Rattle.mseed_stream.specs.Fault.{IsStreamFault};
 
 use crate::device::{Failed, Sink, Source};
@@ -24,20 +24,20 @@ const ROOM: usize = 4096;
 /// told in the call are lost then.
 pub fn read_all<R: Source>(alloc: Global, source: &mut R) -> Result<Vec<u8>, StreamFault>
     ensures ok { IfOk result (λ bytes.
-        (R.heard source.new).bytes ≡ (R.heard source.old).bytes ++ bytes.items) }
-    ensures end { OnOk result (IsTrue (R.heard source.new).is_at_end) }
-    ensures fine { OnOk result ((R.heard source.new).failures ≡ (R.heard source.old).failures) }
+        (R.read source.new).bytes ≡ (R.read source.old).bytes ++ bytes.items) }
+    ensures end { OnOk result (IsTrue (R.read source.new).is_at_end) }
+    ensures fine { OnOk result ((R.read source.new).failures ≡ (R.read source.old).failures) }
 
-    // What the source is known to have left is what it told.
+    // What the source is known to have left is what was read of it.
     ensures known { IfOk result (λ bytes.
         IfSome (R.remaining source.old) (λ xs. bytes.items ≡ xs)) }
     ensures fault { IfErr result (λ fault.
-        IsStreamFault fault (R.heard source.old) (R.heard source.new)) }
+        IsStreamFault fault (R.read source.old) (R.read source.new)) }
 
     // Memory is asked for only where a byte was told.
     ensures memory { result ≡ Err StreamFault.Memory
-        → length (R.heard source.old).bytes < length (R.heard source.new).bytes }
-    ensures front { IsFrontOf (R.heard source.old).bytes (R.heard source.new).bytes }
+        → length (R.read source.old).bytes < length (R.read source.new).bytes }
+    ensures prefix { IsPrefixOf (R.read source.old).bytes (R.read source.new).bytes }
     ensures beside { R.beside source.new ≡ R.beside source.old }
 {
     read_all_in(alloc, source)
@@ -53,20 +53,20 @@ pub fn read_all_in<A: Allocator, R: Source>(
     source: &mut R,
 ) -> Result<Vec<u8, A>, StreamFault>
     ensures ok { IfOk result (λ bytes.
-        (R.heard source.new).bytes ≡ (R.heard source.old).bytes ++ bytes.items) }
-    ensures end { OnOk result (IsTrue (R.heard source.new).is_at_end) }
-    ensures fine { OnOk result ((R.heard source.new).failures ≡ (R.heard source.old).failures) }
+        (R.read source.new).bytes ≡ (R.read source.old).bytes ++ bytes.items) }
+    ensures end { OnOk result (IsTrue (R.read source.new).is_at_end) }
+    ensures fine { OnOk result ((R.read source.new).failures ≡ (R.read source.old).failures) }
 
-    // What the source is known to have left is what it told.
+    // What the source is known to have left is what was read of it.
     ensures known { IfOk result (λ bytes.
         IfSome (R.remaining source.old) (λ xs. bytes.items ≡ xs)) }
     ensures fault { IfErr result (λ fault.
-        IsStreamFault fault (R.heard source.old) (R.heard source.new)) }
+        IsStreamFault fault (R.read source.old) (R.read source.new)) }
 
     // Memory is asked for only where a byte was told.
     ensures memory { result ≡ Err StreamFault.Memory
-        → length (R.heard source.old).bytes < length (R.heard source.new).bytes }
-    ensures front { IsFrontOf (R.heard source.old).bytes (R.heard source.new).bytes }
+        → length (R.read source.old).bytes < length (R.read source.new).bytes }
+    ensures prefix { IsPrefixOf (R.read source.old).bytes (R.read source.new).bytes }
     ensures beside { R.beside source.new ≡ R.beside source.old }
 {
     let mut bytes = Vec::new(alloc);
@@ -91,12 +91,12 @@ pub fn read_all_in<A: Allocator, R: Source>(
 /// How many of the bytes were taken before the sink failed: fewer than there are. The sink isn't
 /// asked again.
 pub fn write_all_of<W: Sink>(sink: &mut W, bytes: &[u8]) -> Result<(), usize>
-    ensures ok { OnOk result ((W.said sink.new).bytes ≡ (W.said sink.old).bytes ++ bytes.now) }
-    ensures fine { OnOk result ((W.said sink.new).failures ≡ (W.said sink.old).failures) }
+    ensures ok { OnOk result ((W.written sink.new).bytes ≡ (W.written sink.old).bytes ++ bytes.now) }
+    ensures fine { OnOk result ((W.written sink.new).failures ≡ (W.written sink.old).failures) }
     ensures err { IfErr result (λ n.
-        (W.said sink.new).bytes ≡ (W.said sink.old).bytes ++ take n bytes.now) }
+        (W.written sink.new).bytes ≡ (W.written sink.old).bytes ++ take n bytes.now) }
     ensures within { IfErr result (λ n. n < length bytes.now) }
-    ensures failed { OnErr result ((W.said sink.new).failures ≡ (W.said sink.old).failures + 1) }
+    ensures failed { OnErr result ((W.written sink.new).failures ≡ (W.written sink.old).failures + 1) }
 
     // What the sink is known to hold grew by what it took.
     ensures known { MatchResult result

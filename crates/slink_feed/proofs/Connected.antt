@@ -3,14 +3,14 @@ use Rattle.std.proofs.Common.{◌≡◌, ℕ, ◌+◌, ◌<◌, ◌==◌, inl, i
 use Rattle.std.proofs.Common.{if◌then◌else◌, List, [], ◌∷◌, ◌++◌, append_assoc, append-nil, length, take, drop}
 use Rattle.std.proofs.Common.{take-append-drop, Option, Some, None, slice_get}
 use Rattle.std.proofs.lemmas.Bool.Decides.{eqb_tells}
-use Rattle.mseed_stream.specs.Device.{Heard, IsFrontOf}
+use Rattle.mseed_stream.specs.Device.{BytesRead, IsPrefixOf}
 use Rattle.slink_wire.specs.declared.command.Command.{Command}
 use Rattle.slink_wire.specs.declared.command.Command.TheVariants.{Hello, Station, SelectAll, Data, Fetch, End, Bye}
 use Rattle.slink_wire.specs.declared.command.Command.TheVariants.{Other}
 use Rattle.slink_wire.specs.declared.lines.What.{What}
 use Rattle.slink_wire.specs.declared.lines.What.TheVariants.{More, Line, TooLong}
 use Rattle.slink_wire.specs.declared.reply.Reply.{Reply}
-use Rattle.slink_wire.specs.declared.reply.Reply.TheVariants as said
+use Rattle.slink_wire.specs.declared.reply.Reply.TheVariants as written
 use Rattle.slink_wire.specs.Lines.{IsHeld}
 use Rattle.slink_wire.specs.Reply.{reply_bytes}
 use Rattle.slink_feed.specs.declared.grant.Grant.{Grant}
@@ -26,13 +26,13 @@ use Rattle.slink_feed.specs.Connection.{FailsInTurn, SendsStretches, ShowPushed,
 use Rattle.slink_feed.specs.Connection.{fails_now, no_turn, turn_taken}
 use Rattle.slink_feed.specs.Rounds.{Attending, Gives, SendsAll, all_sent, place_behind}
 use Rattle.slink_feed.specs.Running.{HasStream, Stands, StandsFor}
-use Rattle.slink_feed.specs.Sending.{AreAsked, AreShown, Asked, IsHeardFrom, packet_in, packets_of}
+use Rattle.slink_feed.specs.Sending.{AreAsked, AreShown, Asked, IsReadFrom, packet_in, packets_of}
 use Rattle.slink_feed.specs.Serving.{Answers, IsAnswer, Serves, Standing, Takes, none_served, piece_served}
 use Rattle.slink_feed.specs.Session.{IsBefore, State, all_done, answered_in, at_next, grant_at, in_streaming, packet_at}
 use Rattle.slink_feed.specs.Session.{reply_at_next, sent, sent_bytes, sent_in, sent_of}
 use Rattle.slink_feed.specs.Window.{Shows, Window, record_at}
 use Rattle.slink_feed.proofs.Closing.{Open, open_or}
-use Rattle.slink_feed.proofs.Sendings.{IsOn, answer_heard, heard_on, none_either, set_other, stretch_sent}
+use Rattle.slink_feed.proofs.Sendings.{IsOn, answer_read, read_on, none_either, set_other, stretch_sent}
 
 -- A session streams on, or is closed, once it was asked.
 on_packet : (t : State) (place : ℕ) (h : Grant) (o : Option (List ℕ)) → t.phase ≡ Streaming
@@ -118,9 +118,9 @@ bare_sent k place feed t at_k (inr shut) =
     subst (λ (p : Phase). Bare k place (sent_in p feed t place)) (sym shut)
     (record { none = none_either (place == k); stays = at_k })
 
-grants_heard : (s t : State) → IsHeardFrom s t → t.grants ≡ s.grants
-grants_heard s t (inl same) = ap (λ (u : State). u.grants) same
-grants_heard s t (inr shut) = ap (λ (u : State). u.grants) shut
+grants_read : (s t : State) → IsReadFrom s t → t.grants ≡ s.grants
+grants_read s t (inl same) = ap (λ (u : State). u.grants) same
+grants_read s t (inr shut) = ap (λ (u : State). u.grants) shut
 
 none_sent : (k : ℕ) (asked : List Asked) (s : State) → IsOn s.phase → grant_at s.grants k ≡ None → AreAsked s asked
     → packets_of k asked ≡ []
@@ -128,23 +128,23 @@ none_sent k [] s on at_k are = refl
 none_sent k (a ∷ more) s on at_k are =
     let t : State = are.0 in
     let bare : Bare k a.place (sent a.feed t a.place) =
-    bare_sent k a.place a.feed t (ap (λ gs. grant_at gs k) (grants_heard s t are.1) ∙ at_k)
-    (heard_on s t are.1 on) in
+    bare_sent k a.place a.feed t (ap (λ gs. grant_at gs k) (grants_read s t are.1) ∙ at_k)
+    (read_on s t are.1 on) in
     let one : (if a.place == k then packet_in a.answer else []) ≡ [] =
     ap (λ x. if a.place == k then packet_in x else []) (sym are.2) ∙ bare.none in
     ap (λ ps. ps ++ packets_of k more) one
-    ∙ none_sent k more (sent a.feed t a.place).0 (on_sent a.feed t a.place (heard_on s t are.1 on)) bare.stays are.3
+    ∙ none_sent k more (sent a.feed t a.place).0 (on_sent a.feed t a.place (read_on s t are.1 on)) bare.stays are.3
 
 -- lines, one after another
-heard_further : (s t u : State) → IsHeardFrom s t → IsHeardFrom t u → IsHeardFrom s u
-heard_further s t u (inl same) more = subst (λ (x : State). IsHeardFrom x u) same more
-heard_further s t u (inr shut) (inl same) = inr (same ∙ shut)
-heard_further s t u (inr shut) (inr again) =
+read_further : (s t u : State) → IsReadFrom s t → IsReadFrom t u → IsReadFrom s u
+read_further s t u (inl same) more = subst (λ (x : State). IsReadFrom x u) same more
+read_further s t u (inr shut) (inl same) = inr (same ∙ shut)
+read_further s t u (inr shut) (inr again) =
     inr (again ∙ ap (λ gs. record { phase = Closed; grants = gs }) (ap (λ (x : State). x.grants) shut))
 
-heard_first : (s t : State) (asked : List Asked) → IsHeardFrom s t → AreAsked t asked → AreAsked s asked
-heard_first s t [] heard are = tt
-heard_first s t (a ∷ more) heard are = (are.0, heard_further s t are.0 heard are.1, are.2, are.3)
+read_first : (s t : State) (asked : List Asked) → IsReadFrom s t → AreAsked t asked → AreAsked s asked
+read_first s t [] read are = tt
+read_first s t (a ∷ more) read are = (are.0, read_further s t are.0 read are.1, are.2, are.3)
 
 -- what a round asks for
 abbrev asks : List Window → ℕ → List Sent → List Asked
@@ -152,11 +152,11 @@ asks feed k [] = []
 asks feed k (a ∷ more) = record { feed = feed; place = k; answer = a } ∷ asks feed (place_behind feed k) more
 
 asks_then : (feed : List Window) (k last : ℕ) (s u v : State) (given : List Sent) (rest : List Asked)
-    → Gives feed k s given last u → IsHeardFrom u v → AreAsked v rest → AreAsked s (asks feed k given ++ rest)
-asks_then feed k last s u v [] rest gives heard are =
-    heard_first s v rest (subst (λ (x : State). IsHeardFrom x v) gives.1 heard) are
-asks_then feed k last s u v (a ∷ more) rest gives heard are =
-    (s, inl refl, gives.0, asks_then feed (place_behind feed k) last (sent feed s k).0 u v more rest gives.1 heard are)
+    → Gives feed k s given last u → IsReadFrom u v → AreAsked v rest → AreAsked s (asks feed k given ++ rest)
+asks_then feed k last s u v [] rest gives read are =
+    read_first s v rest (subst (λ (x : State). IsReadFrom x v) gives.1 read) are
+asks_then feed k last s u v (a ∷ more) rest gives read are =
+    (s, inl refl, gives.0, asks_then feed (place_behind feed k) last (sent feed s k).0 u v more rest gives.1 read are)
 
 asks_bytes : (feed : List Window) (k : ℕ) (given : List Sent) (rest : List Asked)
     → bytes_sent (asks feed k given ++ rest) ≡ all_sent given ++ bytes_sent rest
@@ -193,7 +193,7 @@ stretches feeds s bytes on w = record {
 }
 
 -- what a session that streams replies: nothing
-quiet_line : (s : State) (c : Command) → (in_streaming s c).1 ≡ said.Nothing
+quiet_line : (s : State) (c : Command) → (in_streaming s c).1 ≡ written.Nothing
 quiet_line s Bye = refl
 quiet_line s Hello = refl
 quiet_line s (Station sta net) = refl
@@ -204,7 +204,7 @@ quiet_line s End = refl
 quiet_line s Other = refl
 
 reply_none : (feed : List Window) (s new : State) (what : What) (reply : Reply) → s.phase ≡ Streaming
-    → IsAnswer feed s what new reply → reply ≡ said.Nothing
+    → IsAnswer feed s what new reply → reply ≡ written.Nothing
 reply_none feed s new More reply on is = is.1
 reply_none feed s new (Line line) reply on is =
     sym (ap (λ (x : State × Reply). x.1) is.2)
@@ -216,18 +216,18 @@ streaming p (inl on) awake = on
 streaming p (inr shut) awake = absurd (awake shut)
 
 -- What lines leave of a session that streams.
-record HeardOn (s last : Standing) (way all : List ℕ) : Type 0 where
-  heard : IsHeardFrom s.state last.state
+record ReadOn (s last : Standing) (way all : List ℕ) : Type 0 where
+  read : IsReadFrom s.state last.state
   quiet : all ≡ way
   stream : HasStream last
 
 module _ (feed : List Window) where
-  piece_heard_on : (u now : Standing) (piece : List ℕ) (reply : Reply) → Takes feed u piece now reply
-      → IsOn u.state.phase → HasStream u → HeardOn u now [] (reply_bytes reply)
-  piece_heard_on u now piece reply takes on stream = elim (open_or u.state.phase) [
-    | inl shut ↦ let same : (reply ≡ said.Nothing) × (now ≡ u) = takes.closed shut in
+  piece_read_on : (u now : Standing) (piece : List ℕ) (reply : Reply) → Takes feed u piece now reply
+      → IsOn u.state.phase → HasStream u → ReadOn u now [] (reply_bytes reply)
+  piece_read_on u now piece reply takes on stream = elim (open_or u.state.phase) [
+    | inl shut ↦ let same : (reply ≡ written.Nothing) × (now ≡ u) = takes.closed shut in
         record {
-          heard = inl (ap (λ (x : Standing). x.state) same.1);
+          read = inl (ap (λ (x : Standing). x.state) same.1);
           quiet = ap reply_bytes same.0;
           stream = subst HasStream (sym same.1) stream;
         }
@@ -236,23 +236,23 @@ module _ (feed : List Window) where
         takes.answers stream.0 awake (stream.1 awake) in
         let at : u.state.phase ≡ Streaming = streaming u.state.phase on awake in
         record {
-          heard = answer_heard feed u.state now.state answer.0 reply at answer.2;
+          read = answer_read feed u.state now.state answer.0 reply at answer.2;
           quiet = ap reply_bytes (reply_none feed u.state now.state answer.0 reply at answer.2);
           stream = (stream.0 ++ piece, λ _. takes.held stream.0 awake (stream.1 awake));
         }
   ]
 
-  heard_all_on : (s : Standing) (bytes way : List ℕ) (last : Standing) (all : List ℕ)
-      → Serves feed s bytes way last all → IsOn s.state.phase → HasStream s → HeardOn s last way all
-  heard_all_on s bytes way last all (none_served u w) on stream =
-      record { heard = inl refl; quiet = refl; stream = stream }
-  heard_all_on s bytes way last all (piece_served u now v bs piece others w sent reply split takes more) on stream =
-      let one : HeardOn u now [] (reply_bytes reply) = piece_heard_on u now piece reply takes on stream in
-      let rest : HeardOn now v (w ++ reply_bytes reply) sent =
-      heard_all_on now others (w ++ reply_bytes reply) v sent more (heard_on u.state now.state one.heard on)
+  read_all_on : (s : Standing) (bytes way : List ℕ) (last : Standing) (all : List ℕ)
+      → Serves feed s bytes way last all → IsOn s.state.phase → HasStream s → ReadOn s last way all
+  read_all_on s bytes way last all (none_served u w) on stream =
+      record { read = inl refl; quiet = refl; stream = stream }
+  read_all_on s bytes way last all (piece_served u now v bs piece others w sent reply split takes more) on stream =
+      let one : ReadOn u now [] (reply_bytes reply) = piece_read_on u now piece reply takes on stream in
+      let rest : ReadOn now v (w ++ reply_bytes reply) sent =
+      read_all_on now others (w ++ reply_bytes reply) v sent more (read_on u.state now.state one.read on)
       one.stream in
       record {
-        heard = heard_further u.state now.state v.state one.heard rest.heard;
+        read = read_further u.state now.state v.state one.read rest.read;
         quiet = rest.quiet ∙ (ap (λ b. w ++ b) one.quiet ∙ append-nil w);
         stream = rest.stream;
       }
@@ -263,8 +263,8 @@ module _ (feed : List Window) where
     place : ℕ
     state : State
     gives : Gives feed 0 a.session.state given place state
-    heard : IsHeardFrom state now.session.state
-    bytes : now.said.bytes ≡ a.said.bytes ++ all_sent given
+    read : IsReadFrom state now.session.state
+    bytes : now.written.bytes ≡ a.written.bytes ++ all_sent given
     on : IsOn now.session.state.phase
     stream : HasStream now.session
 
@@ -283,39 +283,39 @@ module _ (feed : List Window) where
     place = sends.place;
     state = now.session.state;
     gives = sends.gives;
-    heard = inl refl;
-    bytes = sends.said.bytes;
+    read = inl refl;
+    bytes = sends.written.bytes;
     on = on_given feed 0 sends.place a.session.state now.session.state sends.given sends.gives on;
     stream = given_stream a now sends stream;
   }
 
   replies_on : (a now new : Attending) (bytes : List ℕ) → TurnOn a now → RepliesToAll feed now new bytes → TurnOn a new
   replies_on a now new bytes t done =
-      let rest : HeardOn now.session new.session now.said.bytes new.said.bytes =
-      heard_all_on now.session bytes now.said.bytes new.session new.said.bytes done.serves t.on t.stream in
+      let rest : ReadOn now.session new.session now.written.bytes new.written.bytes =
+      read_all_on now.session bytes now.written.bytes new.session new.written.bytes done.serves t.on t.stream in
       record {
         given = t.given;
         place = t.place;
         state = t.state;
         gives = t.gives;
-        heard = heard_further t.state now.session.state new.session.state t.heard rest.heard;
+        read = read_further t.state now.session.state new.session.state t.read rest.read;
         bytes = rest.quiet ∙ t.bytes;
-        on = heard_on now.session.state new.session.state rest.heard t.on;
+        on = read_on now.session.state new.session.state rest.read t.on;
         stream = rest.stream;
       }
 
-  turn_on : (a now : Attending) (before after : Heard) (turn : Turn) → Attends feed a now before after turn
+  turn_on : (a now : Attending) (before after : BytesRead) (turn : Turn) → Attends feed a now before after turn
       → IsOn a.session.state.phase → HasStream a.session → TurnOn a now
   turn_on a now before after turn (is_closed sends shut same) on stream = sends_on a now sends on stream
   turn_on a now before after turn (is_at_end goes same) on stream = sends_on a now goes.sends on stream
-  turn_on a now before after turn (replies mid bytes goes heard some few done) on stream =
+  turn_on a now before after turn (replies mid bytes goes read some few done) on stream =
       replies_on a mid now bytes (sends_on a mid goes.sends on stream) done
 
   wrote_more : (feeds : List (List Window)) (a now : Attending) (bytes : List ℕ) (t : TurnOn a now)
       → Wrote feeds now.session.state bytes → Wrote (feed ∷ feeds) a.session.state (all_sent t.given ++ bytes)
   wrote_more feeds a now bytes t w = record {
     asked = asks feed 0 t.given ++ w.asked;
-    are_asked = asks_then feed 0 t.place a.session.state t.state now.session.state t.given w.asked t.gives t.heard
+    are_asked = asks_then feed 0 t.place a.session.state t.state now.session.state t.given w.asked t.gives t.read
         w.are_asked;
     bytes_are = ap (λ b. all_sent t.given ++ b) w.bytes_are ∙ sym (asks_bytes feed 0 t.given w.asked);
     shown = λ k first pushed shown. asks_shown feed k 0 first pushed t.given w.asked shown.0
@@ -324,22 +324,23 @@ module _ (feed : List Window) where
 
 -- all turns
 abbrev AllWrote : List (List Window) → Attending → Attending → Type 0
-AllWrote feeds a b = (bytes : List ℕ) × (b.said.bytes ≡ a.said.bytes ++ bytes) × Wrote feeds a.session.state bytes
+AllWrote feeds a b = (bytes : List ℕ) × (b.written.bytes ≡ a.written.bytes ++ bytes) × Wrote feeds a.session.state bytes
 
 turns_wrote : (feeds : List (List Window)) (a b : Attending) → TakesTurns a feeds b → IsOn a.session.state.phase
     → HasStream a.session → AllWrote feeds a b
-turns_wrote feeds a b (no_turn x) on stream = ([], sym (append-nil x.said.bytes), nothing_wrote x.session.state)
+turns_wrote feeds a b (no_turn x) on stream = ([], sym (append-nil x.written.bytes), nothing_wrote x.session.state)
 turns_wrote feeds a b (turn_taken x now y feed more before after turn one rest) on stream =
     let t : TurnOn feed x now = turn_on feed x now before after turn one on stream in
     let w : AllWrote more now y = turns_wrote more now y rest t.on t.stream in (
       all_sent t.given ++ w.0,
-      w.1 ∙ (ap (λ b. b ++ w.0) t.bytes ∙ append_assoc x.said.bytes (all_sent t.given) w.0),
+      w.1 ∙ (ap (λ b. b ++ w.0) t.bytes ∙ append_assoc x.written.bytes (all_sent t.given) w.0),
       wrote_more feed more x now w.0 t w.2,
     )
 
 -- the last of which failed
-abbrev FrontWrote : List (List Window) → Attending → Attending → Type 0
-FrontWrote feeds a b = (bytes front : List ℕ) × IsFrontOf front bytes × (b.said.bytes ≡ a.said.bytes ++ front)
+abbrev PrefixWrote : List (List Window) → Attending → Attending → Type 0
+PrefixWrote feeds a b = (bytes prefix : List ℕ) × IsPrefixOf prefix bytes
+    × (b.written.bytes ≡ a.written.bytes ++ prefix)
     × Wrote feeds a.session.state bytes
 
 sent_wrote : (feed : List Window) (a : Attending) (u : State) (given : List Sent) (place : ℕ)
@@ -351,44 +352,44 @@ sent_wrote feed a u given place gives = record {
   shown = λ k first pushed shown. asks_shown feed k 0 first pushed given [] shown.0 tt;
 }
 
-fault_wrote : (feed : List Window) (a b : Attending) (before after : Heard) (fault : LinkFault)
+fault_wrote : (feed : List Window) (a b : Attending) (before after : BytesRead) (fault : LinkFault)
     → IsServeFault feed a b before after fault → IsOn a.session.state.phase → HasStream a.session
-    → FrontWrote (feed ∷ []) a b
+    → PrefixWrote (feed ∷ []) a b
 fault_wrote feed a b before after fault (at_send count fails same) on stream =
     let all : List ℕ = all_sent (fails.given ++ fails.last ∷ []) in (
       all,
       take count all,
       (drop count all, sym (take-append-drop count all)),
-      fails.said.bytes,
+      fails.written.bytes,
       sent_wrote feed a b.session.state (fails.given ++ fails.last ∷ []) fails.place fails.gives,
     )
-fault_wrote feed a b before after fault (at_read goes heard) on stream = (
+fault_wrote feed a b before after fault (at_read goes read) on stream = (
   all_sent goes.sends.given,
   all_sent goes.sends.given,
   ([], sym (append-nil (all_sent goes.sends.given))),
-  goes.sends.said.bytes,
+  goes.sends.written.bytes,
   sent_wrote feed a b.session.state goes.sends.given goes.sends.place goes.sends.gives,
 )
-fault_wrote feed a b before after fault (at_reply count now bytes goes heard few fails counted) on stream =
+fault_wrote feed a b before after fault (at_reply count now bytes goes read few fails counted) on stream =
     let t : TurnOn feed a now = sends_on feed a now goes.sends on stream in
-    let u : TurnOn feed a fails.before = replies_on feed a now fails.before fails.front t fails.replies in
-    let one : HeardOn fails.before.session b.session [] (reply_bytes fails.reply) =
-    piece_heard_on feed fails.before.session b.session fails.piece fails.reply fails.takes u.on u.stream in
-    let part : fails.count < length (reply_bytes fails.reply) = fails.said.part in
+    let u : TurnOn feed a fails.before = replies_on feed a now fails.before fails.prefix t fails.replies in
+    let one : ReadOn fails.before.session b.session [] (reply_bytes fails.reply) =
+    piece_read_on feed fails.before.session b.session fails.piece fails.reply fails.takes u.on u.stream in
+    let part : fails.count < length (reply_bytes fails.reply) = fails.written.part in
     let none : length (reply_bytes fails.reply) ≡ 0 = ap length one.quiet in
     absurd (omega (arith, part, none))
 
 fails_wrote : (feeds : List (List Window)) (a b : Attending) → FailsInTurn a feeds b → IsOn a.session.state.phase
-    → HasStream a.session → FrontWrote feeds a b
+    → HasStream a.session → PrefixWrote feeds a b
 fails_wrote feeds a b (fails_now x y feed before after fault one) on stream =
     fault_wrote feed x y before after fault one on stream
 fails_wrote feeds a b (fails_later x now y feed more before after turn one rest) on stream =
     let t : TurnOn feed x now = turn_on feed x now before after turn one on stream in
-    let w : FrontWrote more now y = fails_wrote more now y rest t.on t.stream in (
+    let w : PrefixWrote more now y = fails_wrote more now y rest t.on t.stream in (
       all_sent t.given ++ w.0,
       all_sent t.given ++ w.1,
       (w.2.0, ap (λ b. all_sent t.given ++ b) w.2.1 ∙ sym (append_assoc (all_sent t.given) w.1 w.2.0)),
-      w.3 ∙ (ap (λ b. b ++ w.1) t.bytes ∙ append_assoc x.said.bytes (all_sent t.given) w.1),
+      w.3 ∙ (ap (λ b. b ++ w.1) t.bytes ∙ append_assoc x.written.bytes (all_sent t.given) w.1),
       wrote_more feed more x now w.0 t w.4,
     )
 
@@ -401,17 +402,17 @@ stream_of s stands = elim (open_or s.state.phase) [
 
 pub turns_sent : (feeds : List (List Window)) (old new : Attending) → old.session.state.phase ≡ Streaming
     → Stands old.session → TakesTurns old feeds new
-    → (bytes : List ℕ) × (new.said.bytes ≡ old.said.bytes ++ bytes) × SendsStretches feeds old.session.state bytes
+    → (bytes : List ℕ) × (new.written.bytes ≡ old.written.bytes ++ bytes) × SendsStretches feeds old.session.state bytes
 turns_sent feeds old new on stands turns =
     let w : AllWrote feeds old new = turns_wrote feeds old new turns (inl on) (stream_of old.session stands) in
     (w.0, w.1, stretches feeds old.session.state w.0 (inl on) w.2)
 
 pub turns_failed : (feeds : List (List Window)) (old new : Attending) → old.session.state.phase ≡ Streaming
     → Stands old.session → FailsInTurn old feeds new
-    → (bytes front : List ℕ) × IsFrontOf front bytes × (new.said.bytes ≡ old.said.bytes ++ front)
+    → (bytes prefix : List ℕ) × IsPrefixOf prefix bytes × (new.written.bytes ≡ old.written.bytes ++ prefix)
     × SendsStretches feeds old.session.state bytes
 turns_failed feeds old new on stands turns =
-    let w : FrontWrote feeds old new = fails_wrote feeds old new turns (inl on) (stream_of old.session stands) in
+    let w : PrefixWrote feeds old new = fails_wrote feeds old new turns (inl on) (stream_of old.session stands) in
     (w.0, w.1, w.2, w.3, stretches feeds old.session.state w.0 (inl on) w.4)
 
 -- before records are sent
@@ -435,11 +436,11 @@ before_given feed k last s u (a ∷ more) is gives =
     (rest.0, ap (λ b. sent_bytes b ++ all_sent more) waits ∙ rest.1)
 
 pub before_sent : (feed : List Window) (old new : Attending) → IsBefore old.session.state.phase → SendsAll feed old new
-    → (new.session ≡ old.session) × (new.said.bytes ≡ old.said.bytes)
+    → (new.session ≡ old.session) × (new.written.bytes ≡ old.written.bytes)
 before_sent feed old new is sends =
     let one : (new.session.state ≡ old.session.state) × (all_sent sends.given ≡ []) =
     before_given feed 0 sends.place old.session.state new.session.state sends.given is sends.gives in (
       ap (λ (x : State). record { state = x; held = new.session.held }) one.0
           ∙ ap (λ h. record { state = old.session.state; held = h }) sends.held,
-      sends.said.bytes ∙ (ap (λ b. old.said.bytes ++ b) one.1 ∙ append-nil old.said.bytes),
+      sends.written.bytes ∙ (ap (λ b. old.written.bytes ++ b) one.1 ∙ append-nil old.written.bytes),
     )

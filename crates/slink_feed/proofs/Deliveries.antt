@@ -2,7 +2,7 @@
 use Rattle.std.proofs.Common.{◌≡◌, ◌≢◌, ℕ, ◌+◌, ◌-◌, ◌*◌, ◌≤◌, ◌<◌, zero, suc, refl, sym, ap, subst, ◌∙◌, arith, List}
 use Rattle.std.proofs.Common.{[], ◌∷◌, ◌++◌, append_assoc, append-nil, length, length-append, length-drop, take}
 use Rattle.std.proofs.Common.{take_all, drop}
-use Rattle.mseed_stream.specs.Device.{Heard, IsFrontOf, Said}
+use Rattle.mseed_stream.specs.Device.{BytesRead, IsPrefixOf, BytesWritten}
 use Rattle.slink_feed.specs.declared.dialogue.Event.{Event}
 use Rattle.slink_feed.specs.declared.dialogue.Event.TheVariants as events
 use Rattle.slink_feed.specs.declared.dialogue.Stage.TheVariants.{Unlinked}
@@ -10,25 +10,25 @@ use Rattle.slink_feed.specs.declared.fetching.Counts.{Counts}
 use Rattle.slink_feed.specs.declared.turn.LinkFault.{LinkFault}
 use Rattle.slink_feed.specs.declared.turn.LinkFault.TheVariants as faults
 use Rattle.slink_feed.specs.declared.turn.Turn.TheVariants as turns
-use Rattle.slink_feed.specs.Delivery.{IsDelivered, IsUndelivered, IsUnsaid, IsUnwritten}
+use Rattle.slink_feed.specs.Delivery.{IsDelivered, IsUndelivered, IsUnwritten, FailsToOutput}
 use Rattle.slink_feed.specs.Fetching.{Delivers, FailsAt, Fetches, Fetching, ReadsOn, Takes, bytes_told, joined_by}
-use Rattle.slink_feed.specs.Fetching.{line_said, lines_said, record_told}
+use Rattle.slink_feed.specs.Fetching.{line_written, lines_written, record_told}
 use Rattle.slink_feed.specs.Listening.{Brings, IsLinked, Listening, Reads, telling}
-use Rattle.slink_feed.specs.Turns.{Took, TookFront, told_once}
+use Rattle.slink_feed.specs.Turns.{Took, TookPrefix, told_once}
 use Rattle.slink_feed.proofs.Goings.{says_on, still_linked, tells_on}
-use Rattle.slink_feed.proofs.Fronts.{from_offset}
+use Rattle.slink_feed.proofs.Prefixes.{from_offset}
 
-pub record SoFar (old now : Fetching) (bytes : List ℕ) (offset said_count written_count : ℕ) : Type 0 where
+pub record SoFar (old now : Fetching) (bytes : List ℕ) (offset written_count output_count_is : ℕ) : Type 0 where
   pub told : List Event
   pub within : offset ≤ length bytes
   pub reads : ReadsOn old.client (take offset bytes) told now.client
   pub linked : IsLinked old.client.talk.stage → now.client.talk.stage ≢ Unlinked
-  pub said : Took old.said now.said (lines_said told)
+  pub written : Took old.written now.written (lines_written told)
   pub output : Took old.output now.output (bytes_told told)
-  pub said_counted : said_count ≡ length (lines_said told)
-  pub written_counted : written_count ≡ length (bytes_told told)
-  pub said_few : said_count ≤ 32 * offset
-  pub written_few : written_count ≤ 512 * offset
+  pub written_counted : written_count ≡ length (lines_written told)
+  pub output_counted : output_count_is ≡ length (bytes_told told)
+  pub written_few : written_count ≤ 32 * offset
+  pub output_few : output_count_is ≤ 512 * offset
 
 reads_none : (c : Listening) → ReadsOn c [] [] c
 reads_none c start stream before reads =
@@ -42,10 +42,11 @@ reads_further a b c xs ys es fs one more start stream before reads =
     (subst (λ (t : List Event). Reads start ((stream ++ xs) ++ ys) t c) (append_assoc before es fs)
     (more start (stream ++ xs) (before ++ es) (one start stream before reads)))
 
-pub took_none : (s : Said) → Took s s []
+pub took_none : (s : BytesWritten) → Took s s []
 took_none s = record { bytes = sym (append-nil s.bytes); failures = refl }
 
-pub took_further : (a b c : Said) (xs ys all : List ℕ) → all ≡ xs ++ ys → Took a b xs → Took b c ys → Took a c all
+pub took_further : (a b c : BytesWritten) (xs ys all : List ℕ) → all ≡ xs ++ ys → Took a b xs → Took b c ys
+    → Took a c all
 took_further a b c xs ys all e one more = record {
   bytes = more.bytes ∙ (ap (λ s. s ++ ys) one.bytes ∙ (append_assoc a.bytes xs ys ∙ ap (λ s. a.bytes ++ s) (sym e)));
   failures = more.failures ∙ one.failures;
@@ -56,9 +57,9 @@ take_past [] ys n = let none : 0 + n ≡ n = omega arith in ap (λ m. take m ys)
 take_past (x ∷ xs) ys n = let one : suc (length xs) + n ≡ suc (length xs + n) = omega arith in
     ap (λ m. take m (x ∷ (xs ++ ys))) one ∙ ap (λ s. x ∷ s) (take_past xs ys n)
 
-pub front_further : (a b c : Said) (xs ys all : List ℕ) (count n : ℕ) → all ≡ xs ++ ys → count ≡ length xs + n
-    → Took a b xs → TookFront b c ys n → TookFront a c all count
-front_further a b c xs ys all count n e is one more = record {
+pub prefix_further : (a b c : BytesWritten) (xs ys all : List ℕ) (count n : ℕ) → all ≡ xs ++ ys → count ≡ length xs + n
+    → Took a b xs → TookPrefix b c ys n → TookPrefix a c all count
+prefix_further a b c xs ys all count n e is one more = record {
   bytes = more.bytes ∙ (ap (λ s. s ++ take n ys) one.bytes ∙ (append_assoc a.bytes xs (take n ys)
       ∙ ap (λ s. a.bytes ++ s) (sym (take_past xs ys n)
       ∙ (ap (λ m. take m (xs ++ ys)) (sym is) ∙ ap (λ s. take count s) (sym e)))));
@@ -107,26 +108,26 @@ pub record IsPiece (now new : Listening) (bytes : List ℕ) (offset used : ℕ) 
   pub some : 0 < used
   pub bound : used ≤ length bytes - offset
 
-pub take_front : (bytes : List ℕ) (n m : ℕ) → take (n + m) bytes ≡ take n bytes ++ take m (drop n bytes)
-take_front bytes zero m = let none : zero + m ≡ m = omega arith in ap (λ k. take k bytes) none
-take_front [] (suc n) zero = let one : suc n + zero ≡ suc (n + zero) = omega arith in ap (λ k. take k []) one
-take_front [] (suc n) (suc m) = let one : suc n + suc m ≡ suc (n + suc m) = omega arith in ap (λ k. take k []) one
-take_front (b ∷ bs) (suc n) m = let one : suc n + m ≡ suc (n + m) = omega arith in ap (λ k. take k (b ∷ bs)) one
-    ∙ ap (λ s. b ∷ s) (take_front bs n m)
+pub take_prefix : (bytes : List ℕ) (n m : ℕ) → take (n + m) bytes ≡ take n bytes ++ take m (drop n bytes)
+take_prefix bytes zero m = let none : zero + m ≡ m = omega arith in ap (λ k. take k bytes) none
+take_prefix [] (suc n) zero = let one : suc n + zero ≡ suc (n + zero) = omega arith in ap (λ k. take k []) one
+take_prefix [] (suc n) (suc m) = let one : suc n + suc m ≡ suc (n + suc m) = omega arith in ap (λ k. take k []) one
+take_prefix (b ∷ bs) (suc n) m = let one : suc n + m ≡ suc (n + m) = omega arith in ap (λ k. take k (b ∷ bs)) one
+    ∙ ap (λ s. b ∷ s) (take_prefix bs n m)
 
 pub piece_is : (bytes : List ℕ) (offset used : ℕ)
     → take offset bytes ++ take used (take (length bytes - offset) (drop offset bytes)) ≡ take (offset + used) bytes
 piece_is bytes offset used = ap (λ s. take offset bytes ++ take used s) (from_offset bytes offset)
-    ∙ sym (take_front bytes offset used)
+    ∙ sym (take_prefix bytes offset used)
 
 pub piece_length : (bytes : List ℕ) (offset : ℕ)
     → length (take (length bytes - offset) (drop offset bytes)) ≡ length bytes - offset
 piece_length bytes offset = ap length (from_offset bytes offset) ∙ length-drop offset bytes
 
-is_front : (bytes : List ℕ) (n : ℕ) → IsFrontOf (take n bytes) bytes
-is_front bytes zero = (bytes, refl)
-is_front [] (suc n) = ([], refl)
-is_front (b ∷ bs) (suc n) = let more : IsFrontOf (take n bs) bs = is_front bs n in (more.0, ap (λ s. b ∷ s) more.1)
+is_prefix : (bytes : List ℕ) (n : ℕ) → IsPrefixOf (take n bytes) bytes
+is_prefix bytes zero = (bytes, refl)
+is_prefix [] (suc n) = ([], refl)
+is_prefix (b ∷ bs) (suc n) = let more : IsPrefixOf (take n bs) bs = is_prefix bs n in (more.0, ap (λ s. b ∷ s) more.1)
 
 pub nothing_so_far : (s : Fetching) (bytes : List ℕ) → SoFar s s bytes 0 0 0
 nothing_so_far s bytes = record {
@@ -134,16 +135,16 @@ nothing_so_far s bytes = record {
   within = omega arith;
   reads = reads_none s.client;
   linked = λ linked e. subst IsLinked e linked;
-  said = took_none s.said;
+  written = took_none s.written;
   output = took_none s.output;
-  said_counted = refl;
   written_counted = refl;
-  said_few = omega arith;
+  output_counted = refl;
   written_few = omega arith;
+  output_few = omega arith;
 }
 
 module _ (old now new : Fetching) (bytes : List ℕ) (offset used : ℕ) (event : Event) (before : Counts)
-    (so_far : SoFar old now bytes offset before.said before.written)
+    (so_far : SoFar old now bytes offset before.written before.output)
     (piece : IsPiece now.client new.client bytes offset used event) where
   further : ReadsOn old.client (take (offset + used) bytes) (so_far.told ++ telling event) new.client
   further = subst (λ (s : List ℕ). ReadsOn old.client s (so_far.told ++ telling event) new.client)
@@ -152,11 +153,11 @@ module _ (old now new : Fetching) (bytes : List ℕ) (offset used : ℕ) (event 
       (take used (take (length bytes - offset) (drop offset bytes))) so_far.told (telling event) so_far.reads
       piece.reads)
 
-  pub one_more : (after : Counts) → IsDelivered event before after now.said new.said now.output new.output
-      → SoFar old new bytes (offset + used) after.said after.written
+  pub one_more : (after : Counts) → IsDelivered event before after now.written new.written now.output new.output
+      → SoFar old new bytes (offset + used) after.written after.output
   one_more after done =
-      let lines : lines_said (so_far.told ++ telling event) ≡ lines_said so_far.told ++ line_said event =
-      joined_once line_said so_far.told event refl in
+      let lines : lines_written (so_far.told ++ telling event) ≡ lines_written so_far.told ++ line_written event =
+      joined_once line_written so_far.told event refl in
       let records : bytes_told (so_far.told ++ telling event) ≡ bytes_told so_far.told ++ record_told event =
       joined_once record_told so_far.told event refl in
       record {
@@ -166,35 +167,35 @@ module _ (old now new : Fetching) (bytes : List ℕ) (offset used : ℕ) (event 
         linked = λ linked. still_linked now.client.talk
             (now.client.kept ++ take used (take (length bytes - offset) (drop offset bytes))) new.client event
             piece.brings piece.linked;
-        said = took_further old.said now.said new.said (lines_said so_far.told) (line_said event)
-            (lines_said (so_far.told ++ telling event)) lines so_far.said done.said;
+        written = took_further old.written now.written new.written (lines_written so_far.told) (line_written event)
+            (lines_written (so_far.told ++ telling event)) lines so_far.written done.written;
         output = took_further old.output now.output new.output (bytes_told so_far.told) (record_told event)
             (bytes_told (so_far.told ++ telling event)) records so_far.output done.output;
-        said_counted = done.said_count ∙ (ap (λ n. n + length (line_said event)) so_far.said_counted
-            ∙ (sym (length-append (lines_said so_far.told) (line_said event)) ∙ ap length (sym lines)));
-        written_counted = done.output_count ∙ (ap (λ n. n + length (record_told event)) so_far.written_counted
+        written_counted = done.written_count ∙ (ap (λ n. n + length (line_written event)) so_far.written_counted
+            ∙ (sym (length-append (lines_written so_far.told) (line_written event)) ∙ ap length (sym lines)));
+        output_counted = done.output_count ∙ (ap (λ n. n + length (record_told event)) so_far.output_counted
             ∙ (sym (length-append (bytes_told so_far.told) (record_told event)) ∙ ap length (sym records)));
-        said_few = omega (arith, done.said_count, done.short, so_far.said_few, piece.some);
-        written_few = omega (arith, done.output_count, done.sized, so_far.written_few, piece.some);
+        written_few = omega (arith, done.written_count, done.short, so_far.written_few, piece.some);
+        output_few = omega (arith, done.output_count, done.sized, so_far.output_few, piece.some);
       }
 
   takes_last : telling event ≡ event ∷ [] → Takes old.client new.client bytes (so_far.told ++ event ∷ [])
   takes_last one = record {
     taken = take (offset + used) bytes;
-    front = is_front bytes (offset + used);
+    prefix = is_prefix bytes (offset + used);
     reads = subst (λ (es : List Event). ReadsOn old.client (take (offset + used) bytes) (so_far.told ++ es) new.client)
         one further;
   }
 
-  fails_at_say : (count : ℕ) → IsUnsaid event before.said count now.said new.said now.output new.output
+  fails_at_say : (count : ℕ) → IsUnwritten event before.written count now.written new.written now.output new.output
       → FailsAt (faults.Write count) old new bytes
   fails_at_say count cut =
-      let some : 0 < length (line_said event) = omega (arith, cut.said.part) in
-      let one : telling event ≡ event ∷ [] = telling_some line_said event refl some in
-      let lines : lines_said (so_far.told ++ event ∷ []) ≡ lines_said so_far.told ++ line_said event =
-      ap (λ es. lines_said (so_far.told ++ es)) (sym one) ∙ joined_once line_said so_far.told event refl in
-      let counted : count ≡ length (lines_said so_far.told) + cut.more =
-      cut.count_is ∙ ap (λ n. n + cut.more) so_far.said_counted in
+      let some : 0 < length (line_written event) = omega (arith, cut.written.part) in
+      let one : telling event ≡ event ∷ [] = telling_some line_written event refl some in
+      let lines : lines_written (so_far.told ++ event ∷ []) ≡ lines_written so_far.told ++ line_written event =
+      ap (λ es. lines_written (so_far.told ++ es)) (sym one) ∙ joined_once line_written so_far.told event refl in
+      let counted : count ≡ length (lines_written so_far.told) + cut.more =
+      cut.count_is ∙ ap (λ n. n + cut.more) so_far.written_counted in
       record {
         told = so_far.told;
         last = event;
@@ -202,13 +203,14 @@ module _ (old now new : Fetching) (bytes : List ℕ) (offset used : ℕ) (event 
         linked = says_on now.client.talk
             (now.client.kept ++ take used (take (length bytes - offset) (drop offset bytes))) new.client event
             piece.brings some;
-        said = front_further old.said now.said new.said (lines_said so_far.told) (line_said event)
-            (lines_said (so_far.told ++ event ∷ [])) count cut.more lines counted so_far.said cut.said;
+        written = prefix_further old.written now.written new.written (lines_written so_far.told) (line_written event)
+            (lines_written (so_far.told ++ event ∷ [])) count cut.more lines counted so_far.written cut.written;
         behind = omega (arith, counted);
-        output = subst (λ (o : Said). Took old.output o (bytes_told so_far.told)) (sym cut.output) so_far.output;
+        output = subst (λ (o : BytesWritten). Took old.output o (bytes_told so_far.told)) (sym cut.output)
+            so_far.output;
       }
 
-  fails_at_write : (count : ℕ) → IsUnwritten event before.written count now.said new.said now.output new.output
+  fails_at_write : (count : ℕ) → FailsToOutput event before.output count now.written new.written now.output new.output
       → FailsAt (faults.Output count) old new bytes
   fails_at_write count cut =
       let some : 0 < length (record_told event) = omega (arith, cut.output.part) in
@@ -216,7 +218,7 @@ module _ (old now new : Fetching) (bytes : List ℕ) (offset used : ℕ) (event 
       let records : bytes_told (so_far.told ++ event ∷ []) ≡ bytes_told so_far.told ++ record_told event =
       ap (λ es. bytes_told (so_far.told ++ es)) (sym one) ∙ joined_once record_told so_far.told event refl in
       let counted : count ≡ length (bytes_told so_far.told) + cut.more =
-      cut.count_is ∙ ap (λ n. n + cut.more) so_far.written_counted in
+      cut.count_is ∙ ap (λ n. n + cut.more) so_far.output_counted in
       record {
         told = so_far.told;
         last = event;
@@ -224,39 +226,41 @@ module _ (old now new : Fetching) (bytes : List ℕ) (offset used : ℕ) (event 
         linked = tells_on now.client.talk
             (now.client.kept ++ take used (take (length bytes - offset) (drop offset bytes))) new.client event
             piece.brings some;
-        said = subst (λ (o : Said). Took old.said o (lines_said so_far.told)) (sym cut.said) so_far.said;
-        output = front_further old.output now.output new.output (bytes_told so_far.told) (record_told event)
+        written = subst (λ (o : BytesWritten). Took old.written o (lines_written so_far.told)) (sym cut.written)
+            so_far.written;
+        output = prefix_further old.output now.output new.output (bytes_told so_far.told) (record_told event)
             (bytes_told (so_far.told ++ event ∷ [])) count cut.more records counted so_far.output cut.output;
         behind = omega (arith, counted);
       }
 
-  pub fails_here : (fault : LinkFault) → IsUndelivered fault event before now.said new.said now.output new.output
+  pub fails_here : (fault : LinkFault) → IsUndelivered fault event before now.written new.written now.output new.output
       → FailsAt fault old new bytes
   fails_here faults.Read cut = absurd cut
   fails_here (faults.Write count) cut = fails_at_say count cut
   fails_here (faults.Output count) cut = fails_at_write count cut
 
 -- nothing is left, or the client takes no more
-pub all_delivered : (old now : Fetching) (bytes : List ℕ) (offset said_count written_count : ℕ)
-    → (IsLinked now.client.talk.stage → length bytes ≤ offset) → SoFar old now bytes offset said_count written_count
+pub all_delivered : (old now : Fetching) (bytes : List ℕ) (offset written_count output_count_is : ℕ)
+    → (IsLinked now.client.talk.stage → length bytes ≤ offset)
+    → SoFar old now bytes offset written_count output_count_is
     → Delivers old now bytes
-all_delivered old now bytes offset said_count written_count ends so_far = record {
+all_delivered old now bytes offset written_count output_count_is ends so_far = record {
   told = so_far.told;
-  takes = record { taken = take offset bytes; front = is_front bytes offset; reads = so_far.reads };
+  takes = record { taken = take offset bytes; prefix = is_prefix bytes offset; reads = so_far.reads };
   whole = λ linked. take_all offset bytes (ends linked);
   linked = so_far.linked;
-  said = so_far.said;
+  written = so_far.written;
   output = so_far.output;
 }
 
 pub nothing_delivered : (s : Fetching) → Delivers s s []
 nothing_delivered s = all_delivered s s [] 0 0 0 (λ linked. omega arith) (nothing_so_far s [])
 
-pub closed_turn : (old new : Fetching) (before after : Heard) → new ≡ old → after ≡ told_once before []
+pub closed_turn : (old new : Fetching) (before after : BytesRead) → new ≡ old → after ≡ told_once before []
     → Fetches old new before after turns.Closed
-closed_turn old new before after same heard = record {
+closed_turn old new before after same read = record {
   bytes = [];
-  heard = heard;
+  read = read;
   most = omega arith;
   delivers = subst (λ (f : Fetching). Delivers old f []) (sym same) (nothing_delivered old);
   nothing = λ none. same;

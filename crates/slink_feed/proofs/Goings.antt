@@ -10,15 +10,15 @@ use Rattle.slink_feed.specs.declared.dialogue.Stage.{Stage}
 use Rattle.slink_feed.specs.declared.dialogue.Stage.TheVariants.{Unlinked, Station, Number, Packets, Ended}
 use Rattle.slink_feed.specs.declared.dialogue.Wanted.{Wanted}
 use Rattle.slink_feed.specs.Dialogue.{Talk, Whole, Reply, Packet, End, Garbage, answer_of, at_packet, bearer, ended}
-use Rattle.slink_feed.specs.Dialogue.{heard_at, if_wanted, next_at, says_number, says_place, to_answer, to_place, told}
+use Rattle.slink_feed.specs.Dialogue.{read_at, if_wanted, next_at, says_number, says_place, to_answer, to_place, told}
 use Rattle.slink_feed.specs.Dialogue.{want_at}
-use Rattle.slink_feed.specs.Fetching.{line_said, record_told}
+use Rattle.slink_feed.specs.Fetching.{line_written, record_told}
 use Rattle.slink_feed.specs.Listening.{Brings, IsLinked, Listening, begun, whole}
 
 -- More is taken of the link, or nothing is said or told of.
 pub data GoesOn (x : Talk × Event) : Type 0 where
   goes_on : IsLinked x.0.stage → GoesOn x
-  stays_quiet : line_said x.1 ≡ [] → record_told x.1 ≡ [] → GoesOn x
+  stays_quiet : line_written x.1 ≡ [] → record_told x.1 ≡ [] → GoesOn x
 
 at_end : (t : Talk) (ending : Ending) → GoesOn (ended ending t)
 at_end t endings.End = stays_quiet refl refl
@@ -50,7 +50,7 @@ at_bearer : (t : Talk) (n : ℕ) (r : List ℕ) (o : Option ℕ) → IsLinked t.
 at_bearer t n r None linked = at_end t endings.Foreign
 at_bearer t n r (Some k) linked = at_wanted t k n r (next_at t.wants k) linked
 
-at_whole : (t : Talk) (stage : Stage) (w : Whole) → t.stage ≡ stage → GoesOn (heard_at stage t w)
+at_whole : (t : Talk) (stage : Stage) (w : Whole) → t.stage ≡ stage → GoesOn (read_at stage t w)
 at_whole t (Station k) (Reply line) is = at_answer t k (says_number k t) (answer_of line) (goes_on tt)
 at_whole t (Station k) Garbage is = at_end t endings.Garbage
 at_whole t (Station k) (Packet n r) is = stays_quiet refl refl
@@ -77,20 +77,20 @@ at_whole t (Ended e) Garbage is = stays_quiet refl refl
 pub goes_on_by : (talk : Talk) (bytes : List ℕ) (new : Listening) (event : Event) → Brings talk bytes new event
     → GoesOn (new.talk, event)
 goes_on_by talk bytes new event (whole w is h none) = subst GoesOn h (at_whole talk talk.stage w refl)
-goes_on_by talk bytes new event (begun is same quiet) = stays_quiet (ap line_said quiet) (ap record_told quiet)
+goes_on_by talk bytes new event (begun is same quiet) = stays_quiet (ap line_written quiet) (ap record_told quiet)
 
 pub says_on : (talk : Talk) (bytes : List ℕ) (new : Listening) (event : Event) → Brings talk bytes new event
-    → 0 < length (line_said event) → IsLinked new.talk.stage
+    → 0 < length (line_written event) → IsLinked new.talk.stage
 says_on talk bytes new event brings some = elim (goes_on_by talk bytes new event brings) [
   | goes_on linked ↦ linked
-  | stays_quiet said told ↦ absurd (omega (arith, some, ap length said))
+  | stays_quiet written told ↦ absurd (omega (arith, some, ap length written))
 ]
 
 pub tells_on : (talk : Talk) (bytes : List ℕ) (new : Listening) (event : Event) → Brings talk bytes new event
     → 0 < length (record_told event) → IsLinked new.talk.stage
 tells_on talk bytes new event brings some = elim (goes_on_by talk bytes new event brings) [
   | goes_on linked ↦ linked
-  | stays_quiet said told ↦ absurd (omega (arith, some, ap length told))
+  | stays_quiet written told ↦ absurd (omega (arith, some, ap length told))
 ]
 
 -- A link is linked until it is at an end.
@@ -119,7 +119,7 @@ bearer_linked : (t : Talk) (n : ℕ) (r : List ℕ) (o : Option ℕ) → t.stage
 bearer_linked t n r None linked = λ e. cc e
 bearer_linked t n r (Some k) linked = wanted_linked t k n r (next_at t.wants k) linked
 
-whole_linked : (t : Talk) (stage : Stage) (w : Whole) → t.stage ≢ Unlinked → (heard_at stage t w).0.stage ≢ Unlinked
+whole_linked : (t : Talk) (stage : Stage) (w : Whole) → t.stage ≢ Unlinked → (read_at stage t w).0.stage ≢ Unlinked
 whole_linked t (Station k) (Reply line) on = answers_linked t k (says_number k t) (answer_of line) (λ e. cc e)
 whole_linked t (Station k) Garbage on = λ e. cc e
 whole_linked t (Station k) (Packet n r) on = on

@@ -83,10 +83,10 @@ at_number w first F p r h e =
     ap (slice_get F) (sym at)
     ∙ (sym (get_drop d F (p - oldest_of w)) ∙ (ap (λ xs. slice_get xs (p - oldest_of w)) (sym h.records) ∙ got.1))
 
-drop_front : (d : ℕ) (xs ys : List (List ℕ)) → d ≤ length xs → drop d (xs ++ ys) ≡ drop d xs ++ ys
-drop_front zero xs ys le = refl
-drop_front (suc d) [] ys le = absurd (omega (arith, le))
-drop_front (suc d) (x ∷ xs) ys le = drop_front d xs ys (omega (arith, le))
+drop_prefix : (d : ℕ) (xs ys : List (List ℕ)) → d ≤ length xs → drop d (xs ++ ys) ≡ drop d xs ++ ys
+drop_prefix zero xs ys le = refl
+drop_prefix (suc d) [] ys le = absurd (omega (arith, le))
+drop_prefix (suc d) (x ∷ xs) ys le = drop_prefix d xs ys (omega (arith, le))
 
 pub drop_none : (n : ℕ) → ◌≡◌ {A = List (List ℕ)} (drop n []) []
 drop_none zero = refl
@@ -101,10 +101,10 @@ drop_twice m (suc d) (x ∷ xs) = drop_twice m d xs ∙ sym (let e : suc d + m �
 pub keep_more : (n : ℕ) (xs : List (List ℕ)) (r : List ℕ) → window n (window n xs ++ r ∷ []) ≡ window n (xs ++ r ∷ [])
 keep_more n xs r =
     let d : ℕ = length xs - n in
-    let front : drop d xs ++ r ∷ [] ≡ drop d (xs ++ r ∷ []) = sym (drop_front d xs (r ∷ []) (omega arith)) in
+    let prefix : drop d xs ++ r ∷ [] ≡ drop d (xs ++ r ∷ []) = sym (drop_prefix d xs (r ∷ []) (omega arith)) in
     let long : d + (length (drop d xs ++ r ∷ []) - n) ≡ length (xs ++ r ∷ []) - n =
     omega (arith, length-append (drop d xs) (r ∷ []), length-append xs (r ∷ []), length-drop d xs) in
-    ap (λ l. drop (length (drop d xs ++ r ∷ []) - n) l) front
+    ap (λ l. drop (length (drop d xs ++ r ∷ []) - n) l) prefix
     ∙ (drop_twice (length (drop d xs ++ r ∷ []) - n) d (xs ++ r ∷ []) ∙ ap (λ k. drop k (xs ++ r ∷ [])) long)
 
 -- the ring shows one record more

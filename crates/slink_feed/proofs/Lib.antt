@@ -6,11 +6,11 @@ pub mod Deliveries
 pub mod Done
 pub mod Dues
 pub mod Fitting
-pub mod Fronted
-pub mod Fronts
+pub mod Prefixed
+pub mod Prefixes
 pub mod Goings
 pub mod Heads
-pub mod Heard
+pub mod Received
 pub mod Items
 pub mod Numbers
 pub mod OneReading

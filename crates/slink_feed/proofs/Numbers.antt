@@ -17,7 +17,7 @@ use Rattle.slink_feed.specs.declared.dialogue.Stage.{Stage}
 use Rattle.slink_feed.specs.declared.dialogue.Stage.TheVariants.{Unlinked, Station, Number, Packets, Ended}
 use Rattle.slink_feed.specs.declared.dialogue.Wanted.{Wanted}
 use Rattle.slink_feed.specs.Dialogue.{Talk, Wants, Whole, Reply, Packet, End, Garbage, answer_of, at_packet, bearer}
-use Rattle.slink_feed.specs.Dialogue.{ended, heard_at, if_wanted, is_borne, next_at, next_set, says, says_number}
+use Rattle.slink_feed.specs.Dialogue.{ended, read_at, if_wanted, is_borne, next_at, next_set, says, says_number}
 use Rattle.slink_feed.specs.Dialogue.{says_place, to_answer, to_place, told, want_at, with_next}
 use Rattle.slink_feed.specs.Holding.{GoOn, Turn, connects, brings, numbers_in, numbers_of, talk_behind, turned}
 
@@ -134,32 +134,32 @@ moved_packet k n bytes t None is = moved_end k t endings.Foreign
 moved_packet k n bytes t (Some j) is = let some : (w : Wanted) × (want_at t.wants j ≡ Some w) =
     bearer_some t.wants bytes j is in moved_wanted k j n bytes t some.0 (next_at t.wants j) some.1 refl
 
-moved_heard : (k : ℕ) (t : Talk) (stage : Stage) (w : Whole) → Moved k t (heard_at stage t w)
-moved_heard k t (Station j) (Reply line) = moved_answer k j t (says_number j t) (answer_of line) (stays refl refl)
-moved_heard k t (Station j) Garbage = moved_end k t endings.Garbage
-moved_heard k t (Station j) (Packet n r) = stays refl refl
-moved_heard k t (Station j) End = stays refl refl
-moved_heard k t (Number j) (Reply line) =
+moved_read : (k : ℕ) (t : Talk) (stage : Stage) (w : Whole) → Moved k t (read_at stage t w)
+moved_read k t (Station j) (Reply line) = moved_answer k j t (says_number j t) (answer_of line) (stays refl refl)
+moved_read k t (Station j) Garbage = moved_end k t endings.Garbage
+moved_read k t (Station j) (Packet n r) = stays refl refl
+moved_read k t (Station j) End = stays refl refl
+moved_read k t (Number j) (Reply line) =
     moved_answer k j t (says_place (j + 1) t) (answer_of line) (moved_place k (j + 1) t (want_at t.wants (j + 1)))
-moved_heard k t (Number j) Garbage = moved_end k t endings.Garbage
-moved_heard k t (Number j) (Packet n r) = stays refl refl
-moved_heard k t (Number j) End = stays refl refl
-moved_heard k t Packets (Packet n bytes) = moved_packet k n bytes t (bearer t.wants bytes) refl
-moved_heard k t Packets End = moved_end k t endings.End
-moved_heard k t Packets Garbage = moved_end k t endings.Garbage
-moved_heard k t Packets (Reply line) = stays refl refl
-moved_heard k t Unlinked (Reply line) = stays refl refl
-moved_heard k t Unlinked (Packet n r) = stays refl refl
-moved_heard k t Unlinked End = stays refl refl
-moved_heard k t Unlinked Garbage = stays refl refl
-moved_heard k t (Ended e) (Reply line) = stays refl refl
-moved_heard k t (Ended e) (Packet n r) = stays refl refl
-moved_heard k t (Ended e) End = stays refl refl
-moved_heard k t (Ended e) Garbage = stays refl refl
+moved_read k t (Number j) Garbage = moved_end k t endings.Garbage
+moved_read k t (Number j) (Packet n r) = stays refl refl
+moved_read k t (Number j) End = stays refl refl
+moved_read k t Packets (Packet n bytes) = moved_packet k n bytes t (bearer t.wants bytes) refl
+moved_read k t Packets End = moved_end k t endings.End
+moved_read k t Packets Garbage = moved_end k t endings.Garbage
+moved_read k t Packets (Reply line) = stays refl refl
+moved_read k t Unlinked (Reply line) = stays refl refl
+moved_read k t Unlinked (Packet n r) = stays refl refl
+moved_read k t Unlinked End = stays refl refl
+moved_read k t Unlinked Garbage = stays refl refl
+moved_read k t (Ended e) (Reply line) = stays refl refl
+moved_read k t (Ended e) (Packet n r) = stays refl refl
+moved_read k t (Ended e) End = stays refl refl
+moved_read k t (Ended e) Garbage = stays refl refl
 
 moved_turn : (k : ℕ) (t : Talk) (turn : Turn) → Moved k t (turned t turn)
 moved_turn k t connects = moved_place k 0 t (want_at t.wants 0)
-moved_turn k t (brings w) = moved_heard k t t.stage w
+moved_turn k t (brings w) = moved_read k t t.stage w
 
 pub go_on_more : (want last : Option ℕ) (n : ℕ) (ns : List ℕ) → IfSome want (λ x. n ≡ x)
     → GoOn (Some ((n + 1) % 2 ^ 24)) ns last → GoOn want (n ∷ ns) last

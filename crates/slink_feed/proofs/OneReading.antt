@@ -2,14 +2,14 @@
 use Rattle.std.proofs.Common.{◌≡◌, ℕ, inl, inr, refl, sym, ap, subst, ◌∙◌, arith, List, [], ◌∷◌, ◌++◌, append_assoc}
 use Rattle.std.proofs.Common.{append-nil}
 use Rattle.std.proofs.lemmas.List.{append_cancel_left}
-use Rattle.slink_wire.proofs.Fronts.{fronts}
+use Rattle.slink_wire.proofs.Prefixes.{prefixes}
 use Rattle.slink_feed.specs.declared.dialogue.Event.{Event}
 use Rattle.slink_feed.specs.declared.dialogue.Stage.{Stage}
 use Rattle.slink_feed.specs.declared.dialogue.Stage.TheVariants.{Unlinked, Station, Number, Packets, Ended}
 use Rattle.slink_feed.specs.Cutting.{IsBegun, IsWhole}
-use Rattle.slink_feed.specs.Dialogue.{Talk, Whole, heard}
+use Rattle.slink_feed.specs.Dialogue.{Talk, Whole, read}
 use Rattle.slink_feed.specs.Listening.{AreBrought, Brought, IsLinked, Listening, Reads, bytes_of, events_of, talk_after}
-use Rattle.slink_feed.proofs.Wholes.{begun_no_whole, front_begun, one_whole}
+use Rattle.slink_feed.proofs.Wholes.{begun_no_whole, prefix_begun, one_whole}
 
 -- a whole that another goes on with is that other
 no_further : (stage : Stage) (a z b : List ℕ) (w v : Whole) → IsWhole stage a w → IsWhole stage b v → b ≡ a ++ z → b ≡ a
@@ -17,11 +17,11 @@ no_further stage a [] b w v p q e = e ∙ append-nil a
 no_further stage a (x ∷ z) b w v p q e =
     absurd (begun_no_whole stage a [] w
     (subst (IsBegun stage) (sym (append-nil a))
-    (front_begun stage a (x ∷ z) v (omega arith) (subst (λ (bytes : List ℕ). IsWhole stage bytes v) e q))) p)
+    (prefix_begun stage a (x ∷ z) v (omega arith) (subst (λ (bytes : List ℕ). IsWhole stage bytes v) e q))) p)
 
-pub one_front : (stage : Stage) (a b x y : List ℕ) (w v : Whole) → IsWhole stage a w → IsWhole stage b v
+pub one_prefix : (stage : Stage) (a b x y : List ℕ) (w v : Whole) → IsWhole stage a w → IsWhole stage b v
     → a ++ x ≡ b ++ y → a ≡ b
-one_front stage a b x y w v p q e = elim (fronts a b x y e) [
+one_prefix stage a b x y w v p q e = elim (prefixes a b x y e) [
   | inl more ↦ sym (no_further stage a more.0 b w v p q more.1)
   | inr more ↦ no_further stage b more.0 a v w q p more.1
 ]
@@ -56,19 +56,19 @@ one_brought t (b ∷ bs) [] k m p q e f g =
 one_brought t (b ∷ bs) (c ∷ cs) k m p q e f g =
     let both : b.bytes ++ (bytes_of bs ++ k) ≡ c.bytes ++ (bytes_of cs ++ m) =
     sym (append_assoc b.bytes (bytes_of bs) k) ∙ (e ∙ append_assoc c.bytes (bytes_of cs) m) in
-    let front : b.bytes ≡ c.bytes =
-    one_front t.stage b.bytes c.bytes (bytes_of bs ++ k) (bytes_of cs ++ m) b.whole c.whole p.0 q.0 both in
+    let prefix : b.bytes ≡ c.bytes =
+    one_prefix t.stage b.bytes c.bytes (bytes_of bs ++ k) (bytes_of cs ++ m) b.whole c.whole p.0 q.0 both in
     let rest : bytes_of bs ++ k ≡ bytes_of cs ++ m =
     append_cancel_left c.bytes (bytes_of bs ++ k) (bytes_of cs ++ m)
-    (ap (λ xs. xs ++ (bytes_of bs ++ k)) (sym front) ∙ both) in
+    (ap (λ xs. xs ++ (bytes_of bs ++ k)) (sym prefix) ∙ both) in
     let whole : b.whole ≡ c.whole =
-    one_whole t.stage c.bytes b.whole c.whole (subst (λ (bytes : List ℕ). IsWhole t.stage bytes b.whole) front p.0)
+    one_whole t.stage c.bytes b.whole c.whole (subst (λ (bytes : List ℕ). IsWhole t.stage bytes b.whole) prefix p.0)
     q.0 in
-    let talk : (heard t b.whole).0 ≡ (heard t c.whole).0 = ap (λ w. (heard t w).0) whole in
+    let talk : (read t b.whole).0 ≡ (read t c.whole).0 = ap (λ w. (read t w).0) whole in
     let more : (bs ≡ cs) × (k ≡ m) =
-    one_brought (heard t c.whole).0 bs cs k m (subst (λ u. AreBrought u bs) talk p.1) q.1 rest
+    one_brought (read t c.whole).0 bs cs k m (subst (λ u. AreBrought u bs) talk p.1) q.1 rest
     (subst (λ u. IsRest (talk_after u bs).stage k) talk f) g in
-    let one : b ≡ c = brought_same b c front whole in
+    let one : b ≡ c = brought_same b c prefix whole in
     (ap (λ h. h ∷ bs) one ∙ ap (λ t. c ∷ t) more.0, more.1)
 
 pub seen_same : (m n : Listening) → m.talk ≡ n.talk → m.kept ≡ n.kept → m ≡ n

@@ -7,12 +7,12 @@ use Rattle.slink_wire.specs.declared.command.Command.{Command}
 use Rattle.slink_wire.specs.declared.lines.What.{What}
 use Rattle.slink_wire.specs.declared.lines.What.TheVariants.{More, Line, TooLong}
 use Rattle.slink_wire.specs.declared.reply.Reply.{Reply}
-use Rattle.slink_wire.specs.declared.reply.Reply.TheVariants as said
+use Rattle.slink_wire.specs.declared.reply.Reply.TheVariants as written
 use Rattle.slink_wire.specs.Command.{IsCommand, folded, words}
 use Rattle.slink_wire.specs.Lines.{IsHeld, Spelled, lines_of, unless_empty}
 use Rattle.slink_wire.specs.Reply.{reply_bytes}
 use Rattle.slink_wire.specs.Taking.{Tells}
-use Rattle.slink_wire.proofs.Said.{one_command}
+use Rattle.slink_wire.proofs.Written.{one_command}
 use Rattle.slink_wire.proofs.Spelled.{checked, continued, lines_byte, lines_cr, with_cr}
 use Rattle.slink_feed.specs.declared.session.Phase.{Phase}
 use Rattle.slink_feed.specs.declared.session.Phase.TheVariants.{Closed}
@@ -20,7 +20,7 @@ use Rattle.slink_feed.specs.Serving.{Answers, IsAnswer, Serves, Standing, Takes,
 use Rattle.slink_feed.specs.Session.{State, answered, answered_in, ended, reply_at_next}
 use Rattle.slink_feed.specs.Window.{Window}
 use Rattle.slink_feed.proofs.Closing.{Open, held_same, open_or, shut_on}
-use Rattle.slink_wire.proofs.Fronts.{fronts}
+use Rattle.slink_wire.proofs.Prefixes.{prefixes}
 
 -- With more bytes a stream spells what it spelled, and lines behind that; once one was too long, none.
 record Grows (old new : Spelled) : Type 0 where
@@ -132,10 +132,10 @@ module _ (feed : List Window) where
       )
 
   -- A closed session answers nothing.
-  shut_answered : (s : State) (c : Command) → s.phase ≡ Closed → answered feed s c ≡ (s, said.Nothing)
+  shut_answered : (s : State) (c : Command) → s.phase ≡ Closed → answered feed s c ≡ (s, written.Nothing)
   shut_answered s c shut = ap (λ (p : Phase). answered_in p feed s c) shut
 
-  shut_ended : (s : State) → s.phase ≡ Closed → ended s ≡ (s, said.Nothing)
+  shut_ended : (s : State) → s.phase ≡ Closed → ended s ≡ (s, written.Nothing)
   shut_ended s shut = ap (λ (p : Phase). (record { phase = p; grants = s.grants }, reply_at_next s.phase)) (sym shut)
       ∙ ap (λ (p : Phase). (s, reply_at_next p)) shut
 
@@ -143,7 +143,7 @@ module _ (feed : List Window) where
       → (v ≡ s) × (out ≡ [])
   shut_replied s v [] out shut p = p
   shut_replied s v (line ∷ lines) out shut p =
-      let same : answered feed s p.0 ≡ (s, said.Nothing) = shut_answered s p.0 shut in
+      let same : answered feed s p.0 ≡ (s, written.Nothing) = shut_answered s p.0 shut in
       let rest : (v ≡ s) × (p.2 ≡ []) =
       shut_replied s v lines p.2 shut
       (subst (λ (z : State). AreReplied z lines v p.2) (ap (λ (x : State × Reply). x.0) same) p.4) in
@@ -164,7 +164,7 @@ module _ (feed : List Window) where
   shut_comes false s v lines more u x out p shut q = shut_further s v lines more u x out p shut q
   shut_comes true s v lines more u x out p shut q =
       let before : (q.0 ≡ u) × (q.1 ≡ x) = shut_further s q.0 lines more u x q.1 p shut q.2 in
-      let last : ended q.0 ≡ (u, said.Nothing) = ap ended before.0 ∙ shut_ended u shut in (
+      let last : ended q.0 ≡ (u, written.Nothing) = ap ended before.0 ∙ shut_ended u shut in (
         q.3 ∙ ap (λ (z : State × Reply). z.0) last,
         q.4 ∙ (ap (λ (z : State × Reply). q.1 ++ reply_bytes z.1) last
             ∙ (append-nil q.1 ∙ before.1)),
@@ -172,13 +172,13 @@ module _ (feed : List Window) where
 
   -- What a session comes to in bytes behind a stream.
   record Ran (s : Standing) (stream bytes way : List ℕ) (last : Standing) (all : List ℕ) : Type 0 where
-    front : List ℕ
+    prefix : List ℕ
     left : List ℕ
-    split : bytes ≡ front ++ left
+    split : bytes ≡ prefix ++ left
     lines : List (List ℕ)
-    told : (lines_of (stream ++ front)).lines ≡ (lines_of stream).lines ++ lines
+    told : (lines_of (stream ++ prefix)).lines ≡ (lines_of stream).lines ++ lines
     out : List ℕ
-    comes : Comes (lines_of (stream ++ front)).is_too_long s.state lines last.state out
+    comes : Comes (lines_of (stream ++ prefix)).is_too_long s.state lines last.state out
     sent : all ≡ way ++ out
     ends : (last.state.phase ≡ Closed) ⊎ ((left ≡ []) × IsHeld last.held (stream ++ bytes))
 
@@ -187,7 +187,7 @@ module _ (feed : List Window) where
       → all ≡ way → (last.state.phase ≡ Closed) ⊎ ((bytes ≡ []) × IsHeld last.held (stream ++ bytes))
       → Ran s stream bytes way last all
   ran_none s last stream bytes way all fits same none ends = record {
-    front = [];
+    prefix = [];
     left = bytes;
     split = refl;
     lines = [];
@@ -215,20 +215,20 @@ module _ (feed : List Window) where
 
   module _ (u now last : Standing) (stream piece others way all : List ℕ) (reply : Reply) where
     -- a piece that told nothing
-    ran_more : (now.state ≡ u.state) × (reply ≡ said.Nothing) → Tells More stream (stream ++ piece)
+    ran_more : (now.state ≡ u.state) × (reply ≡ written.Nothing) → Tells More stream (stream ++ piece)
         → Ran now (stream ++ piece) others (way ++ reply_bytes reply) last all
         → Ran u stream (piece ++ others) way last all
     ran_more same tells r = record {
-      front = piece ++ r.front;
+      prefix = piece ++ r.prefix;
       left = r.left;
-      split = ap (λ b. piece ++ b) r.split ∙ sym (append_assoc piece r.front r.left);
+      split = ap (λ b. piece ++ b) r.split ∙ sym (append_assoc piece r.prefix r.left);
       lines = r.lines;
-      told = ap (λ b. (lines_of b).lines) (sym (append_assoc stream piece r.front))
+      told = ap (λ b. (lines_of b).lines) (sym (append_assoc stream piece r.prefix))
           ∙ (r.told ∙ ap (λ ls. ls ++ r.lines) tells.0);
       out = r.out;
       comes = subst (λ b. Comes (lines_of b).is_too_long u.state r.lines last.state r.out)
-          (append_assoc stream piece r.front)
-          (subst (λ (z : State). Comes (lines_of ((stream ++ piece) ++ r.front)).is_too_long z r.lines last.state
+          (append_assoc stream piece r.prefix)
+          (subst (λ (z : State). Comes (lines_of ((stream ++ piece) ++ r.prefix)).is_too_long z r.lines last.state
           r.out) same.0 r.comes);
       sent = r.sent ∙ ap (λ b. b ++ r.out) (ap (λ x. way ++ reply_bytes x) same.1 ∙ append-nil way);
       ends = subst (λ b. (last.state.phase ≡ Closed) ⊎ ((r.left ≡ []) × IsHeld last.held b))
@@ -244,18 +244,18 @@ module _ (feed : List Window) where
         let reply_is : reply_bytes (answered feed u.state c).1 ≡ reply_bytes reply =
         ap (λ (z : State × Reply). reply_bytes z.1) done in
         record {
-          front = piece ++ r.front;
+          prefix = piece ++ r.prefix;
           left = r.left;
-          split = ap (λ b. piece ++ b) r.split ∙ sym (append_assoc piece r.front r.left);
+          split = ap (λ b. piece ++ b) r.split ∙ sym (append_assoc piece r.prefix r.left);
           lines = line ∷ r.lines;
-          told = ap (λ b. (lines_of b).lines) (sym (append_assoc stream piece r.front))
+          told = ap (λ b. (lines_of b).lines) (sym (append_assoc stream piece r.prefix))
               ∙ (r.told ∙ (ap (λ ls. ls ++ r.lines) tells ∙ append_assoc (lines_of stream).lines (line ∷ []) r.lines));
           out = reply_bytes (answered feed u.state c).1 ++ r.out;
           comes = subst (λ b. Comes (lines_of b).is_too_long u.state (line ∷ r.lines) last.state
-              (reply_bytes (answered feed u.state c).1 ++ r.out)) (append_assoc stream piece r.front)
-              (comes_line (lines_of ((stream ++ piece) ++ r.front)).is_too_long u.state last.state line r.lines r.out c
+              (reply_bytes (answered feed u.state c).1 ++ r.out)) (append_assoc stream piece r.prefix)
+              (comes_line (lines_of ((stream ++ piece) ++ r.prefix)).is_too_long u.state last.state line r.lines r.out c
               is
-              (subst (λ (z : State). Comes (lines_of ((stream ++ piece) ++ r.front)).is_too_long z r.lines last.state
+              (subst (λ (z : State). Comes (lines_of ((stream ++ piece) ++ r.prefix)).is_too_long z r.lines last.state
               r.out) (sym (ap (λ (z : State × Reply). z.0) done)) r.comes));
           sent = r.sent ∙ (append_assoc way (reply_bytes reply) r.out ∙ ap (λ b. way ++ (b ++ r.out)) (sym reply_is));
           ends = subst (λ b. (last.state.phase ≡ Closed) ⊎ ((r.left ≡ []) × IsHeld last.held b))
@@ -269,7 +269,7 @@ module _ (feed : List Window) where
         let at_last : last.state ≡ (ended u.state).0 = ap (λ (x : Standing). x.state) rest.0
         ∙ sym (ap (λ (z : State × Reply). z.0) done) in
         record {
-          front = piece;
+          prefix = piece;
           left = others;
           split = refl;
           lines = [];
@@ -322,48 +322,50 @@ module _ (feed : List Window) where
 
   -- of two runs the one that took no more
   ran_further : (s a b : Standing) (stream bytes way x y : List ℕ) (p : Ran s stream bytes way a x)
-      (q : Ran s stream bytes way b y) → (z : List ℕ) × (q.front ≡ p.front ++ z) → (a.state ≡ b.state) × (p.out ≡ q.out)
+      (q : Ran s stream bytes way b y) → (z : List ℕ) × (q.prefix ≡ p.prefix ++ z)
+      → (a.state ≡ b.state) × (p.out ≡ q.out)
   ran_further s a b stream bytes way x y p q far =
-      let at : stream ++ q.front ≡ (stream ++ p.front) ++ far.0 = ap (λ z. stream ++ z) far.1
-      ∙ sym (append_assoc stream p.front far.0) in
-      let g : Grows (lines_of (stream ++ p.front)) (lines_of (stream ++ q.front)) =
-      subst (λ z. Grows (lines_of (stream ++ p.front)) (lines_of z)) (sym at) (grows (stream ++ p.front) far.0) in
+      let at : stream ++ q.prefix ≡ (stream ++ p.prefix) ++ far.0 = ap (λ z. stream ++ z) far.1
+      ∙ sym (append_assoc stream p.prefix far.0) in
+      let g : Grows (lines_of (stream ++ p.prefix)) (lines_of (stream ++ q.prefix)) =
+      subst (λ z. Grows (lines_of (stream ++ p.prefix)) (lines_of z)) (sym at) (grows (stream ++ p.prefix) far.0) in
       let lines : q.lines ≡ p.lines ++ g.more = append_cancel_left (lines_of stream).lines q.lines (p.lines ++ g.more)
       (sym q.told ∙ (g.lines ∙ (ap (λ ls. ls ++ g.more) p.told
       ∙ append_assoc (lines_of stream).lines p.lines g.more))) in
-      let q_comes : Comes (lines_of (stream ++ q.front)).is_too_long s.state (p.lines ++ g.more) b.state q.out =
-      subst (λ ls. Comes (lines_of (stream ++ q.front)).is_too_long s.state ls b.state q.out) lines q.comes in
+      let q_comes : Comes (lines_of (stream ++ q.prefix)).is_too_long s.state (p.lines ++ g.more) b.state q.out =
+      subst (λ ls. Comes (lines_of (stream ++ q.prefix)).is_too_long s.state ls b.state q.out) lines q.comes in
       elim p.ends [
-        | inl shut ↦ shut_both (lines_of (stream ++ p.front)).is_too_long s.state a.state b.state p.lines g.more p.out
-            q.out (lines_of (stream ++ q.front)).is_too_long shut g.over p.comes q_comes
-        | inr all ↦ (let whole : length far.0 ≡ 0 = no_more bytes p.front p.left q.front q.left far.0 p.split q.split
+        | inl shut ↦ shut_both (lines_of (stream ++ p.prefix)).is_too_long s.state a.state b.state p.lines g.more p.out
+            q.out (lines_of (stream ++ q.prefix)).is_too_long shut g.over p.comes q_comes
+        | inr all ↦ (let whole : length far.0 ≡ 0 = no_more bytes p.prefix p.left q.prefix q.left far.0 p.split q.split
             far.1 (ap length all.0) in
-            let same : q.front ≡ p.front =
-            far.1 ∙ (ap (λ z. p.front ++ z) (nothing far.0 whole) ∙ append-nil p.front) in
+            let same : q.prefix ≡ p.prefix =
+            far.1 ∙ (ap (λ z. p.prefix ++ z) (nothing far.0 whole) ∙ append-nil p.prefix) in
             let none : q.lines ≡ p.lines =
             append_cancel_left (lines_of stream).lines q.lines p.lines (sym q.told
             ∙ (ap (λ z. (lines_of (stream ++ z)).lines) same ∙ p.told)) in
-            comes_once (lines_of (stream ++ p.front)).is_too_long s.state a.state b.state p.lines p.out q.out p.comes
+            comes_once (lines_of (stream ++ p.prefix)).is_too_long s.state a.state b.state p.lines p.out q.out p.comes
             (subst (λ z. Comes (lines_of (stream ++ z)).is_too_long s.state p.lines b.state q.out) same
-            (subst (λ ls. Comes (lines_of (stream ++ q.front)).is_too_long s.state ls b.state q.out) none q.comes)))
+            (subst (λ ls. Comes (lines_of (stream ++ q.prefix)).is_too_long s.state ls b.state q.out) none q.comes)))
       ]
     where
       nothing : (z : List ℕ) → length z ≡ 0 → z ≡ []
       nothing [] e = refl
       nothing (c ∷ z) e = absurd (omega (arith, e))
 
-      no_more : (all front left other rest z : List ℕ) → all ≡ front ++ left → all ≡ other ++ rest → other ≡ front ++ z
+      no_more : (all prefix left other rest z : List ℕ) → all ≡ prefix ++ left → all ≡ other ++ rest
+          → other ≡ prefix ++ z
           → length left ≡ 0 → length z ≡ 0
-      no_more all front left other rest z e f g none =
+      no_more all prefix left other rest z e f g none =
           omega (
             arith,
             ap length e,
             ap length f,
             ap length g,
             none,
-            length-append front left,
+            length-append prefix left,
             length-append other rest,
-            length-append front z,
+            length-append prefix z,
           )
 
       shut_both : (t : Bool) (s0 u v : State) (ls more : List (List ℕ)) (o1 o2 : List ℕ) (t2 : Bool) → u.phase ≡ Closed
@@ -394,7 +396,7 @@ module _ (feed : List Window) where
       let r : Ran s stream bytes way a x = ran s bytes way a x stream p held fits in
       let t : Ran s stream bytes way b y = ran s bytes way b y stream q held fits in
       let both : (a.state ≡ b.state) × (r.out ≡ t.out) =
-      elim (fronts r.front t.front r.left t.left (sym r.split ∙ t.split)) [
+      elim (prefixes r.prefix t.prefix r.left t.left (sym r.split ∙ t.split)) [
         | inl far ↦ ran_further s a b stream bytes way x y r t far
         | inr far ↦ (let one : (b.state ≡ a.state) × (t.out ≡ r.out) = ran_further s b a stream bytes way y x t r
             far in (sym one.0, sym one.1))
@@ -503,7 +505,7 @@ module _ (feed : List Window) where
   cut_once s a b all r t p q m n part other total =
       let x : (more : List (List ℕ)) × (all ≡ p.lines ++ more) = rest_of p.lines all p.until a r p.last in
       let y : (more : List (List ℕ)) × (all ≡ q.lines ++ more) = rest_of q.lines all q.until b t q.last in
-      elim (fronts p.lines q.lines x.0 y.0 (sym x.1 ∙ y.1)) [
+      elim (prefixes p.lines q.lines x.0 y.0 (sym x.1 ∙ y.1)) [
         | inl far ↦ cut_further s a b all r t p q m n part total far.0 far.1
         | inr far ↦ (let one : CutAlike b a t r q.out p.out = cut_further s b a all t r q p n m other (sym total) far.0
             far.1 in (sym one.0, sym one.1))
@@ -514,19 +516,19 @@ module _ (feed : List Window) where
   comes_open false s last lines out p awake = p
   comes_open true s last lines out p awake = absurd (awake (ap (λ (z : State). z.phase) p.3))
 
-  replies_some : (reply : Reply) (n : ℕ) → n < length (reply_bytes reply) → reply ≡ said.Nothing → ⊥
+  replies_some : (reply : Reply) (n : ℕ) → n < length (reply_bytes reply) → reply ≡ written.Nothing → ⊥
   replies_some reply n part none = let e : length (reply_bytes reply) ≡ 0 = ap (λ r. length (reply_bytes r)) none in
       omega (arith, part, e)
 
   -- the lines of all bytes
-  module _ (stream front piece rest bytes : List ℕ) (split : bytes ≡ front ++ (piece ++ rest)) where
-    all_bytes : ((stream ++ front) ++ piece) ++ rest ≡ stream ++ bytes
-    all_bytes = append_assoc (stream ++ front) piece rest
-        ∙ (append_assoc stream front (piece ++ rest) ∙ ap (λ b. stream ++ b) (sym split))
+  module _ (stream prefix piece rest bytes : List ℕ) (split : bytes ≡ prefix ++ (piece ++ rest)) where
+    all_bytes : ((stream ++ prefix) ++ piece) ++ rest ≡ stream ++ bytes
+    all_bytes = append_assoc (stream ++ prefix) piece rest
+        ∙ (append_assoc stream prefix (piece ++ rest) ∙ ap (λ b. stream ++ b) (sym split))
 
-    all_lines : (lines more : List (List ℕ)) → (lines_of ((stream ++ front) ++ piece)).lines ≡ (lines_of stream).lines
-        ++ lines → (lines_of (((stream ++ front) ++ piece) ++ rest)).lines
-        ≡ (lines_of ((stream ++ front) ++ piece)).lines ++ more
+    all_lines : (lines more : List (List ℕ)) → (lines_of ((stream ++ prefix) ++ piece)).lines ≡ (lines_of stream).lines
+        ++ lines → (lines_of (((stream ++ prefix) ++ piece) ++ rest)).lines
+        ≡ (lines_of ((stream ++ prefix) ++ piece)).lines ++ more
         → (grows stream bytes).more ≡ lines ++ more
     all_lines lines more told on =
         append_cancel_left (lines_of stream).lines (grows stream bytes).more (lines ++ more)
@@ -535,21 +537,21 @@ module _ (feed : List Window) where
         ∙ (on ∙ (ap (λ ls. ls ++ more) told ∙ append_assoc (lines_of stream).lines lines more))))
 
     cut_at : (u v : State) (lines : List (List ℕ)) (reply : Reply) (n : ℕ) (what : What)
-        → n < length (reply_bytes reply) → (lines_of (stream ++ front)).lines ≡ (lines_of stream).lines ++ lines
-        → Tells what (stream ++ front) ((stream ++ front) ++ piece)
+        → n < length (reply_bytes reply) → (lines_of (stream ++ prefix)).lines ≡ (lines_of stream).lines ++ lines
+        → Tells what (stream ++ prefix) ((stream ++ prefix) ++ piece)
         → IsAnswer feed u what v reply → CutAt lines (grows stream bytes).more u v reply
     cut_at u v lines reply n More part told tells is = absurd (replies_some reply n part is.1)
     cut_at u v lines reply n (Line line) part told tells is =
-        let on : Grows (lines_of ((stream ++ front) ++ piece)) (lines_of (((stream ++ front) ++ piece) ++ rest)) =
-        grows ((stream ++ front) ++ piece) rest in
+        let on : Grows (lines_of ((stream ++ prefix) ++ piece)) (lines_of (((stream ++ prefix) ++ piece) ++ rest)) =
+        grows ((stream ++ prefix) ++ piece) rest in
         at_line line.items on.more is.0
         (all_lines (lines ++ line.items ∷ []) on.more (tells.0
         ∙ (ap (λ ls. ls ++ line.items ∷ []) told ∙ append_assoc (lines_of stream).lines lines (line.items ∷ [])))
         on.lines ∙ append_assoc lines (line.items ∷ []) on.more)
         is.1 is.2
     cut_at u v lines reply n TooLong part told tells is =
-        let on : Grows (lines_of ((stream ++ front) ++ piece)) (lines_of (((stream ++ front) ++ piece) ++ rest)) =
-        grows ((stream ++ front) ++ piece) rest in
+        let on : Grows (lines_of ((stream ++ prefix) ++ piece)) (lines_of (((stream ++ prefix) ++ piece) ++ rest)) =
+        grows ((stream ++ prefix) ++ piece) rest in
         at_over (all_lines lines on.more (tells.0 ∙ told) on.lines
         ∙ (ap (λ m. lines ++ m) (on.over tells.1).0 ∙ append-nil lines)) is
 
@@ -558,28 +560,28 @@ module _ (feed : List Window) where
     cut : Cut s.state (grows stream bytes).more v reply
     sent : all ≡ way ++ cut.out
 
-  cut_in : (s u last : Standing) (stream bytes front piece rest way all : List ℕ) (reply : Reply) (n : ℕ)
+  cut_in : (s u last : Standing) (stream bytes prefix piece rest way all : List ℕ) (reply : Reply) (n : ℕ)
       → (Open s.state.phase → IsHeld s.held stream) → (lines_of stream).is_too_long ≡ false
-      → bytes ≡ front ++ (piece ++ rest)
-      → Serves feed s front way u all → Takes feed u piece last reply → n < length (reply_bytes reply)
+      → bytes ≡ prefix ++ (piece ++ rest)
+      → Serves feed s prefix way u all → Takes feed u piece last reply → n < length (reply_bytes reply)
       → CutIn s stream bytes way last.state reply all
-  cut_in s u last stream bytes front piece rest way all reply n held fits split serves takes part =
+  cut_in s u last stream bytes prefix piece rest way all reply n held fits split serves takes part =
       elim (open_or u.state.phase) [
         | inl shut ↦ absurd (replies_some reply n part (takes.closed shut).0)
-        | inr awake ↦ (let r : Ran s stream front way u all = ran s front way u all stream serves held fits in
-            let here : (r.left ≡ []) × IsHeld u.held (stream ++ front) =
-            still_open u stream front r.left r.ends awake in
-            let whole : r.front ≡ front = sym (r.split ∙ (ap (λ b. r.front ++ b) here.0 ∙ append-nil r.front)) in
-            let answer : Answers feed u.state (stream ++ front) ((stream ++ front) ++ piece) last.state reply =
-            takes.answers (stream ++ front) awake here.1 in
+        | inr awake ↦ (let r : Ran s stream prefix way u all = ran s prefix way u all stream serves held fits in
+            let here : (r.left ≡ []) × IsHeld u.held (stream ++ prefix) =
+            still_open u stream prefix r.left r.ends awake in
+            let whole : r.prefix ≡ prefix = sym (r.split ∙ (ap (λ b. r.prefix ++ b) here.0 ∙ append-nil r.prefix)) in
+            let answer : Answers feed u.state (stream ++ prefix) ((stream ++ prefix) ++ piece) last.state reply =
+            takes.answers (stream ++ prefix) awake here.1 in
             record {
               cut = record {
                 lines = r.lines;
                 until = u.state;
                 out = r.out;
-                replied = comes_open (lines_of (stream ++ r.front)).is_too_long s.state u.state r.lines r.out r.comes
+                replied = comes_open (lines_of (stream ++ r.prefix)).is_too_long s.state u.state r.lines r.out r.comes
                     awake;
-                last = cut_at stream front piece rest bytes split u.state last.state r.lines reply n answer.0 part
+                last = cut_at stream prefix piece rest bytes split u.state last.state r.lines reply n answer.0 part
                     (ap (λ b. (lines_of (stream ++ b)).lines) (sym whole) ∙ r.told) answer.1 answer.2;
               };
               sent = r.sent;

@@ -4,7 +4,7 @@ use Rattle.std.proofs.Common.{Bool, true, false, if◌then◌else◌, List, [], 
 use Rattle.std.proofs.Common.{length-append, replicate, take, Option, Some, None, slice_get}
 use Rattle.std.proofs.lemmas.Bool.Decides.{eqb_tells, leb_tells}
 use Rattle.std.proofs.lemmas.List.{append_cancel_left}
-use Rattle.mseed_stream.specs.Device.{Heard}
+use Rattle.mseed_stream.specs.Device.{BytesRead}
 use Rattle.slink_wire.specs.Lines.{IsHeld}
 use Rattle.slink_wire.specs.Reply.{reply_bytes}
 use Rattle.slink_feed.specs.declared.grant.Grant.{Grant}
@@ -247,8 +247,8 @@ sent_once feed old a b p q =
     record {
       state = both.0;
       held = λ awake. p.held ∙ sym q.held;
-      bytes = p.said.bytes ∙ (ap (λ x. old.said.bytes ++ x) both.1 ∙ sym q.said.bytes);
-      failures = p.said.failures ∙ sym q.said.failures;
+      bytes = p.written.bytes ∙ (ap (λ x. old.written.bytes ++ x) both.1 ∙ sym q.written.bytes);
+      failures = p.written.failures ∙ sym q.written.failures;
     }
 
 -- A link that failed at a write took no more than what came before and a part of that.
@@ -284,28 +284,29 @@ sending_failed_once feed old a b n p q =
     elim (one_run feed 0 p.place q.place old.session.state a.session.state b.session.state x y p.gives q.gives) [
       | inl far ↦ (let one : (b.session.state ≡ a.session.state)
           × (all_sent y ≡ all_sent x) =
-          failed_alike feed p.place q.place n a.session.state b.session.state x q.given q.last p.said.part q.behind
+          failed_alike feed p.place q.place n a.session.state b.session.state x q.given q.last p.written.part q.behind
           far in
           (sym one.0, sym one.1))
-      | inr far ↦ failed_alike feed q.place p.place n b.session.state a.session.state y p.given p.last q.said.part
+      | inr far ↦ failed_alike feed q.place p.place n b.session.state a.session.state y p.given p.last q.written.part
           p.behind far
     ] in
     record {
       state = both.0;
       held = λ awake. p.held ∙ sym q.held;
-      bytes = p.said.bytes ∙ (ap (λ bs. old.said.bytes ++ take n bs) both.1 ∙ sym q.said.bytes);
-      failures = p.said.failures ∙ sym q.said.failures;
+      bytes = p.written.bytes ∙ (ap (λ bs. old.written.bytes ++ take n bs) both.1 ∙ sym q.written.bytes);
+      failures = p.written.failures ∙ sym q.written.failures;
     }
 
--- What one read told is told by what was heard.
-still_unread : (before : Heard) (bytes : List ℕ) → before ≡ told_once before bytes → ⊥
-still_unread before bytes e = let calls : before.calls ≡ before.calls + 1 = ap (λ (h : Heard). h.calls) e in
+-- What one read told is told by what was read.
+still_unread : (before : BytesRead) (bytes : List ℕ) → before ≡ told_once before bytes → ⊥
+still_unread before bytes e = let calls : before.calls ≡ before.calls + 1 = ap (λ (h : BytesRead). h.calls) e in
     omega (arith, calls)
 
-told_same : (before : Heard) (some more : List ℕ) → told_once before some ≡ told_once before more → some ≡ more
-told_same before some more e = append_cancel_left before.bytes some more (ap (λ (h : Heard). h.bytes) e)
+told_same : (before : BytesRead) (some more : List ℕ) → told_once before some ≡ told_once before more → some ≡ more
+told_same before some more e = append_cancel_left before.bytes some more (ap (λ (h : BytesRead). h.bytes) e)
 
-nothing_told : (before : Heard) (bytes : List ℕ) → 0 < length bytes → told_once before [] ≡ told_once before bytes → ⊥
+nothing_told : (before : BytesRead) (bytes : List ℕ) → 0 < length bytes → told_once before [] ≡ told_once before bytes
+    → ⊥
 nothing_told before bytes some e = let none : 0 ≡ length bytes = ap length (told_same before [] bytes e) in
     omega (arith, some, none)
 
@@ -320,12 +321,13 @@ replied_alike feed old m n a b bytes more stands g h same p q =
     (shut_given feed 0 g.sends.place old.session.state m.session.state g.sends.given g.sends.gives shut) ∙ shut) in
     let some : (stream : List ℕ) × StandsFor old.session stream = stands awake in
     let held : IsHeld m.session.held some.0 = subst (λ h. IsHeld h some.0) (sym g.sends.held) some.1.0 in
-    let other : Serves feed m.session bytes m.said.bytes b.session b.said.bytes =
-    subst (λ (s : Standing). Serves feed s bytes m.said.bytes b.session b.said.bytes) session
-    (subst (λ w. Serves feed n.session bytes w b.session b.said.bytes) (sym mid.bytes)
-    (subst (λ bs. Serves feed n.session bs n.said.bytes b.session b.said.bytes) same q.serves)) in
-    let one : Same feed a.session b.session a.said.bytes b.said.bytes =
-    served_once feed m.session a.session b.session some.0 bytes m.said.bytes a.said.bytes b.said.bytes (λ _. held)
+    let other : Serves feed m.session bytes m.written.bytes b.session b.written.bytes =
+    subst (λ (s : Standing). Serves feed s bytes m.written.bytes b.session b.written.bytes) session
+    (subst (λ w. Serves feed n.session bytes w b.session b.written.bytes) (sym mid.bytes)
+    (subst (λ bs. Serves feed n.session bs n.written.bytes b.session b.written.bytes) same q.serves)) in
+    let one : Same feed a.session b.session a.written.bytes b.written.bytes =
+    served_once feed m.session a.session b.session some.0 bytes m.written.bytes a.written.bytes b.written.bytes
+    (λ _. held)
     (sym some.1.0.1 ∙ some.1.1) p.serves other in
     record {
       state = one.state;
@@ -335,7 +337,8 @@ replied_alike feed old m n a b bytes more stands g h same p q =
           ∙ (mid.failures ∙ sym q.failures);
     }
 
-pub turned_once : (feed : List Window) (old a b : Attending) (before after : Heard) (t u : Turn) → Stands old.session
+pub turned_once : (feed : List Window) (old a b : Attending) (before after : BytesRead) (t u : Turn)
+    → Stands old.session
     → Attends feed old a before after t → Attends feed old b before after u → (t ≡ u) × AreAlike a b
 turned_once feed old a b before after t u stands (is_closed p shut e) (is_closed q over f) =
     (refl, sent_once feed old a b p q)
@@ -363,7 +366,8 @@ took_alike a b same = record { state = same.state; bytes = same.bytes; failures 
 -- it failed in a reply
 cut_alike : (feed : List Window) (old m n a b : Attending) (bytes more : List ℕ) (count : ℕ) → Stands old.session
     → GoesOn feed old m → GoesOn feed old n → more ≡ bytes → FailsToReply feed m a bytes → FailsToReply feed n b more
-    → length a.said.bytes ≡ length old.said.bytes + count → length b.said.bytes ≡ length old.said.bytes + count
+    → length a.written.bytes ≡ length old.written.bytes + count
+    → length b.written.bytes ≡ length old.written.bytes + count
     → TookAlike a b
 cut_alike feed old m n a b bytes more count stands g h same p q long short =
     let mid : AreAlike m n = sent_once feed old m n g.sends h.sends in
@@ -373,30 +377,31 @@ cut_alike feed old m n a b bytes more count stands g h same p q long short =
     (shut_given feed 0 g.sends.place old.session.state m.session.state g.sends.given g.sends.gives shut) ∙ shut) in
     let some : (stream : List ℕ) × StandsFor old.session stream = stands awake in
     let held : IsHeld m.session.held some.0 = subst (λ h. IsHeld h some.0) (sym g.sends.held) some.1.0 in
-    let other : Serves feed m.session q.front m.said.bytes q.before.session q.before.said.bytes =
-    subst (λ (s : Standing). Serves feed s q.front m.said.bytes q.before.session q.before.said.bytes) session
-    (subst (λ w. Serves feed n.session q.front w q.before.session q.before.said.bytes) (sym mid.bytes)
+    let other : Serves feed m.session q.prefix m.written.bytes q.before.session q.before.written.bytes =
+    subst (λ (s : Standing). Serves feed s q.prefix m.written.bytes q.before.session q.before.written.bytes) session
+    (subst (λ w. Serves feed n.session q.prefix w q.before.session q.before.written.bytes) (sym mid.bytes)
     q.replies.serves) in
-    let total : length (p.before.said.bytes ++ take p.count (reply_bytes p.reply))
-    ≡ length (q.before.said.bytes ++ take q.count (reply_bytes q.reply)) =
-    ap length (sym p.said.bytes) ∙ (long ∙ (sym short ∙ ap length q.said.bytes)) in
+    let total : length (p.before.written.bytes ++ take p.count (reply_bytes p.reply))
+    ≡ length (q.before.written.bytes ++ take q.count (reply_bytes q.reply)) =
+    ap length (sym p.written.bytes) ∙ (long ∙ (sym short ∙ ap length q.written.bytes)) in
     let one : (a.session.state ≡ b.session.state)
-    × (p.before.said.bytes ++ take p.count (reply_bytes p.reply) ≡ q.before.said.bytes ++ take q.count
+    × (p.before.written.bytes ++ take p.count (reply_bytes p.reply) ≡ q.before.written.bytes ++ take q.count
     (reply_bytes q.reply)) =
-    cut_in_once feed m.session p.before.session q.before.session a.session b.session some.0 bytes p.front p.piece
-    p.rest q.front q.piece q.rest m.said.bytes p.before.said.bytes q.before.said.bytes p.reply q.reply p.count
+    cut_in_once feed m.session p.before.session q.before.session a.session b.session some.0 bytes p.prefix p.piece
+    p.rest q.prefix q.piece q.rest m.written.bytes p.before.written.bytes q.before.written.bytes p.reply q.reply p.count
     q.count
-    (λ _. held) (sym some.1.0.1 ∙ some.1.1) (p.bytes_are ∙ append_assoc p.front p.piece p.rest) p.replies.serves
-    p.takes p.said.part (sym same ∙ (q.bytes_are ∙ append_assoc q.front q.piece q.rest)) other q.takes q.said.part
+    (λ _. held) (sym some.1.0.1 ∙ some.1.1) (p.bytes_are ∙ append_assoc p.prefix p.piece p.rest) p.replies.serves
+    p.takes p.written.part (sym same ∙ (q.bytes_are ∙ append_assoc q.prefix q.piece q.rest)) other q.takes
+    q.written.part
     total in
     record {
       state = one.0;
-      bytes = p.said.bytes ∙ (one.1 ∙ sym q.said.bytes);
-      failures = p.said.failures ∙ (ap (λ n. n + 1) (p.replies.failures ∙ (mid.failures ∙ sym q.replies.failures))
-          ∙ sym q.said.failures);
+      bytes = p.written.bytes ∙ (one.1 ∙ sym q.written.bytes);
+      failures = p.written.failures ∙ (ap (λ n. n + 1) (p.replies.failures ∙ (mid.failures ∙ sym q.replies.failures))
+          ∙ sym q.written.failures);
     }
 
-pub cut_once : (feed : List Window) (old a b : Attending) (before after : Heard) (fault : LinkFault)
+pub cut_once : (feed : List Window) (old a b : Attending) (before after : BytesRead) (fault : LinkFault)
     → Stands old.session → IsServeFault feed old a before after fault → IsServeFault feed old b before after fault
     → TookAlike a b
 cut_once feed old a b before after (faults.Write count) stands (at_send n p e) (at_send m q f) =

@@ -18,7 +18,7 @@ use Rattle.slink_feed.specs.declared.session.Sent.TheVariants as Sents
 use Rattle.slink_feed.specs.Serving.{IsAnswer}
 use Rattle.slink_feed.specs.Session.{Grants, State, all_done, answered_in, at_next, grant_at, in_streaming, packet_at}
 use Rattle.slink_feed.specs.Session.{sent, sent_in, sent_of}
-use Rattle.slink_feed.specs.Sending.{AreAsked, AreShown, Asked, IsHeardFrom, IsStretch, packet_in, packets_from}
+use Rattle.slink_feed.specs.Sending.{AreAsked, AreShown, Asked, IsReadFrom, IsStretch, packet_in, packets_from}
 use Rattle.slink_feed.specs.Sending.{packets_of}
 use Rattle.slink_feed.specs.Window.{Shows, Window, oldest_of, record_at}
 
@@ -161,13 +161,13 @@ step_sent k place g feed t at_k (inr closed) =
     subst (λ (p : Phase). Stepped k g feed place (sent_in p feed t place)) (sym closed)
     (quiet (none_either (place == k)) at_k (inr closed))
 
-pub heard_on : (s t : State) → IsHeardFrom s t → IsOn s.phase → IsOn t.phase
-heard_on s t (inl same) on = subst (λ (u : State). IsOn u.phase) (sym same) on
-heard_on s t (inr closed) on = inr (ap (λ (u : State). u.phase) closed)
+pub read_on : (s t : State) → IsReadFrom s t → IsOn s.phase → IsOn t.phase
+read_on s t (inl same) on = subst (λ (u : State). IsOn u.phase) (sym same) on
+read_on s t (inr closed) on = inr (ap (λ (u : State). u.phase) closed)
 
-heard_grants : (s t : State) → IsHeardFrom s t → t.grants ≡ s.grants
-heard_grants s t (inl same) = ap (λ (u : State). u.grants) same
-heard_grants s t (inr closed) = ap (λ (u : State). u.grants) closed
+read_grants : (s t : State) → IsReadFrom s t → t.grants ≡ s.grants
+read_grants s t (inl same) = ap (λ (u : State). u.grants) same
+read_grants s t (inr closed) = ap (λ (u : State). u.grants) closed
 
 same_here : (n : ℕ) → (n == n) ≡ true
 same_here n = elim (eqb_tells n n) [ inl same ↦ same.0 | inr other ↦ absurd (other.1 refl) ]
@@ -192,8 +192,8 @@ pub stretch_sent : (k first : ℕ) (pushed : List (List ℕ)) (more : List Asked
 stretch_sent k first pushed [] s g on at_k asked shown = refl
 stretch_sent k first pushed (a ∷ more) s g on at_k asked shown =
     let t : State = asked.0 in
-    let grant : grant_at t.grants k ≡ Some g = ap (λ gs. grant_at gs k) (heard_grants s t asked.1) ∙ at_k in
-    elim (step_sent k a.place g a.feed t grant (heard_on s t asked.1 on)) [
+    let grant : grant_at t.grants k ≡ Some g = ap (λ gs. grant_at gs k) (read_grants s t asked.1) ∙ at_k in
+    elim (step_sent k a.place g a.feed t grant (read_on s t asked.1 on)) [
       | quiet none stays goes ↦ subst (λ ps. IsStretch first pushed g.position (ps ++ packets_of k more))
           (sym (ap (λ y. if a.place == k then packet_in y else []) (sym asked.2) ∙ none))
           (stretch_sent k first pushed more (sent a.feed t a.place).0 g goes stays asked.3 shown.1)
@@ -207,20 +207,20 @@ stretch_sent k first pushed (a ∷ more) s g on at_k asked shown =
     ]
 
 -- what a line leaves of a session that streams
-line_heard : (s : State) (c : Command) → IsHeardFrom s (in_streaming s c).0
-line_heard s Bye = inr refl
-line_heard s Hello = inl refl
-line_heard s (Station sta net) = inl refl
-line_heard s SelectAll = inl refl
-line_heard s (Data number) = inl refl
-line_heard s (Fetch number) = inl refl
-line_heard s End = inl refl
-line_heard s Other = inl refl
+line_read : (s : State) (c : Command) → IsReadFrom s (in_streaming s c).0
+line_read s Bye = inr refl
+line_read s Hello = inl refl
+line_read s (Station sta net) = inl refl
+line_read s SelectAll = inl refl
+line_read s (Data number) = inl refl
+line_read s (Fetch number) = inl refl
+line_read s End = inl refl
+line_read s Other = inl refl
 
-pub answer_heard : (feed : List Window) (s new : State) (what : What) (reply : Reply) → s.phase ≡ Streaming
-    → IsAnswer feed s what new reply → IsHeardFrom s new
-answer_heard feed s new More reply on is = inl is.0
-answer_heard feed s new (Line line) reply on is =
-    subst (IsHeardFrom s) (ap (λ (p : Phase). (answered_in p feed s is.0).0) (sym on)
-    ∙ ap (λ (x : State × Reply). x.0) is.2) (line_heard s is.0)
-answer_heard feed s new TooLong reply on is = inr (sym (ap (λ (x : State × Reply). x.0) is))
+pub answer_read : (feed : List Window) (s new : State) (what : What) (reply : Reply) → s.phase ≡ Streaming
+    → IsAnswer feed s what new reply → IsReadFrom s new
+answer_read feed s new More reply on is = inl is.0
+answer_read feed s new (Line line) reply on is =
+    subst (IsReadFrom s) (ap (λ (p : Phase). (answered_in p feed s is.0).0) (sym on)
+    ∙ ap (λ (x : State × Reply). x.0) is.2) (line_read s is.0)
+answer_read feed s new TooLong reply on is = inr (sym (ap (λ (x : State × Reply). x.0) is))

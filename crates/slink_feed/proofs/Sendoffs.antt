@@ -12,24 +12,24 @@ use Rattle.slink_feed.specs.declared.session.Sent.TheVariants as sents
 use Rattle.slink_feed.specs.declared.turn.LinkFault.{LinkFault}
 use Rattle.slink_feed.specs.declared.turn.LinkFault.TheVariants as faults
 use Rattle.slink_feed.specs.Attending.{RepliesToAll}
-use Rattle.slink_feed.specs.Replying.{HasFailed, HasSent, IsReplyFault, IsSaid, IsSayFault, IsSendFault, IsUnsaid}
+use Rattle.slink_feed.specs.Replying.{HasFailed, HasSent, IsReplyFault, IsWritten, IsSayFault, IsSendFault, IsUnwritten}
 use Rattle.slink_feed.specs.Replying.{waits_after}
 use Rattle.slink_feed.specs.Rounds.{Attending, FailsToSend, Gives, HasWaited, all_sent, place_behind}
 use Rattle.slink_feed.specs.Serving.{Serves, Standing, Takes, none_served, piece_served}
 use Rattle.slink_feed.specs.Session.{State, sent, sent_bytes}
 use Rattle.slink_feed.specs.Turns.{Took}
 use Rattle.slink_feed.specs.Window.{Window}
-use Rattle.slink_feed.proofs.Deliveries.{front_further, piece_is, took_further, took_none}
+use Rattle.slink_feed.proofs.Deliveries.{prefix_further, piece_is, took_further, took_none}
 use Rattle.slink_feed.proofs.Dues.{Moves, due, few_due, moves, waits}
 
-pub record SentSoFar (feed : List Window) (old now : Attending) (k waits said : ℕ) : Type 0 where
+pub record SentSoFar (feed : List Window) (old now : Attending) (k waits written : ℕ) : Type 0 where
   pub given : List Sent
   pub gives : Gives feed 0 old.session.state given k now.session.state
   pub waited : HasWaited waits given
   pub held : now.session.held ≡ old.session.held
-  pub took : Took old.said now.said (all_sent given)
-  pub counted : said ≡ length (all_sent given)
-  pub few : said + 520 * due feed now.session.state ≤ 520 * due feed old.session.state
+  pub took : Took old.written now.written (all_sent given)
+  pub counted : written ≡ length (all_sent given)
+  pub few : written + 520 * due feed now.session.state ≤ 520 * due feed old.session.state
   pub within : 0 < length feed → k < length feed
   pub waits_few : waits ≤ length feed
 
@@ -39,7 +39,7 @@ nothing_sent feed s = record {
   gives = (refl, refl);
   waited = ([], refl);
   held = refl;
-  took = took_none s.said;
+  took = took_none s.written;
   counted = refl;
   few = omega arith;
   within = λ some. some;
@@ -95,18 +95,18 @@ place_within feed k lt = elim (eqb_tells (k + 1) (length feed)) [
 ]
 
 -- nothing was given, so that nothing was written
-few_more : (feed : List Window) (s : State) (x : State × Sent) (said count all : ℕ) → Moves feed s x → count ≤ 520
-    → (x.1 ≡ sents.Wait → count ≡ 0) → said + 520 * due feed s ≤ all → (said + count) + 520 * due feed x.0 ≤ all
-few_more feed s x said count all (waits is same) short none before =
+few_more : (feed : List Window) (s : State) (x : State × Sent) (written count all : ℕ) → Moves feed s x → count ≤ 520
+    → (x.1 ≡ sents.Wait → count ≡ 0) → written + 520 * due feed s ≤ all → (written + count) + 520 * due feed x.0 ≤ all
+few_more feed s x written count all (waits is same) short none before =
     let e : due feed x.0 ≡ due feed s = ap (due feed) same in
     omega (arith, none is, e, before)
-few_more feed s x said count all (moves is less) short none before = omega (arith, less, short, before)
+few_more feed s x written count all (moves is less) short none before = omega (arith, less, short, before)
 
 none_waits : (a : Sent) → a ≡ sents.Wait → length (sent_bytes a) ≡ 0
 none_waits a is = ap (λ b. length (sent_bytes b)) is
 
-module _ (feed : List Window) (old now new : Attending) (k waits_now said : ℕ)
-    (so_far : SentSoFar feed old now k waits_now said) (x : State × Sent) (is : sent feed now.session.state k ≡ x)
+module _ (feed : List Window) (old now new : Attending) (k waits_now written : ℕ)
+    (so_far : SentSoFar feed old now k waits_now written) (x : State × Sent) (is : sent feed now.session.state k ≡ x)
     (state : new.session.state ≡ x.0) (held : new.session.held ≡ now.session.held) where
   given : List Sent
   given = so_far.given ++ x.1 ∷ []
@@ -116,20 +116,21 @@ module _ (feed : List Window) (old now new : Attending) (k waits_now said : ℕ)
       (sym state) (gives_more feed 0 k old.session.state now.session.state so_far.given x is so_far.gives)
 
   pub one_sent : (after : ℕ) → Moves feed now.session.state x → waits_now < length feed → k < length feed
-      → length (sent_bytes x.1) ≤ 520 → IsSaid now.said new.said (sent_bytes x.1) said after
+      → length (sent_bytes x.1) ≤ 520 → IsWritten now.written new.written (sent_bytes x.1) written after
       → SentSoFar feed old new (place_behind feed k) (waits_after x.1 waits_now) after
   one_sent after moved lt within short done = record {
     given = so_far.given ++ x.1 ∷ [];
     gives = gives;
     waited = waited_more so_far.given x.1 waits_now so_far.waited;
     held = held ∙ so_far.held;
-    took = took_further old.said now.said new.said (all_sent so_far.given) (sent_bytes x.1)
-        (all_sent (so_far.given ++ x.1 ∷ [])) (all_more so_far.given x.1) so_far.took done.said;
+    took = took_further old.written now.written new.written (all_sent so_far.given) (sent_bytes x.1)
+        (all_sent (so_far.given ++ x.1 ∷ [])) (all_more so_far.given x.1) so_far.took done.written;
     counted = done.count ∙ (ap (λ n. n + length (sent_bytes x.1)) so_far.counted
         ∙ (sym (length-append (all_sent so_far.given) (sent_bytes x.1)) ∙ ap length (sym (all_more so_far.given x.1))));
     few =
-        let more : (said + length (sent_bytes x.1)) + 520 * due feed x.0 ≤ 520 * due feed old.session.state =
-        few_more feed now.session.state x said (length (sent_bytes x.1)) (520 * due feed old.session.state) moved short
+        let more : (written + length (sent_bytes x.1)) + 520 * due feed x.0 ≤ 520 * due feed old.session.state =
+        few_more feed now.session.state x written (length (sent_bytes x.1)) (520 * due feed old.session.state) moved
+        short
         (none_waits x.1) so_far.few in
         let e : due feed new.session.state ≡ due feed x.0 = ap (due feed) state in
         omega (arith, more, e, done.count);
@@ -137,7 +138,8 @@ module _ (feed : List Window) (old now new : Attending) (k waits_now said : ℕ)
     waits_few = waits_within x.1 waits_now (length feed) lt;
   }
 
-  unsent : (after : ℕ) → IsUnsaid now.said new.said (sent_bytes x.1) said after → FailsToSend feed old new after
+  unsent : (after : ℕ) → IsUnwritten now.written new.written (sent_bytes x.1) written after
+      → FailsToSend feed old new after
   unsent after cut =
       let counted : after ≡ length (all_sent so_far.given) + cut.more =
       cut.count ∙ ap (λ n. n + cut.more) so_far.counted in
@@ -147,13 +149,13 @@ module _ (feed : List Window) (old now new : Attending) (k waits_now said : ℕ)
         place = place_behind feed k;
         gives = gives;
         held = held ∙ so_far.held;
-        said = front_further old.said now.said new.said (all_sent so_far.given) (sent_bytes x.1)
+        written = prefix_further old.written now.written new.written (all_sent so_far.given) (sent_bytes x.1)
             (all_sent (so_far.given ++ x.1 ∷ [])) after cut.more (all_more so_far.given x.1) counted so_far.took
-            cut.said;
+            cut.written;
         behind = omega (arith, counted);
       }
 
-  pub not_sent : (fault : LinkFault) → IsSayFault fault now.said new.said (sent_bytes x.1) said
+  pub not_sent : (fault : LinkFault) → IsSayFault fault now.written new.written (sent_bytes x.1) written
       → IsSendFault fault feed old new
   not_sent faults.Read cut = absurd cut
   not_sent (faults.Write after) cut = unsent after cut
@@ -169,10 +171,10 @@ less_left feed s new x n (waits is same) e lt =
 less_left feed s new x n (moves is less) e lt = let one : due feed new ≡ due feed x.0 = ap (due feed) e in
     omega (arith, one, less, lt)
 
-pub has_sent : (feed : List Window) (old now : Attending) (k n said : ℕ) → length feed ≤ 16
-    → (now.session.state.phase ≡ Closed) ⊎ (length feed ≤ n) → SentSoFar feed old now k n said
-    → HasSent feed old now said
-has_sent feed old now k n said most ends so_far = record {
+pub has_sent : (feed : List Window) (old now : Attending) (k n written : ℕ) → length feed ≤ 16
+    → (now.session.state.phase ≡ Closed) ⊎ (length feed ≤ n) → SentSoFar feed old now k n written
+    → HasSent feed old now written
+has_sent feed old now k n written most ends so_far = record {
   sends = record {
     given = so_far.given;
     place = k;
@@ -183,32 +185,32 @@ has_sent feed old now k n said most ends so_far = record {
           subst (λ m. HasWaited m so_far.given) same so_far.waited)
     ];
     held = so_far.held;
-    said = so_far.took;
+    written = so_far.took;
   };
   counted = ap length so_far.took.bytes
-      ∙ (length-append old.said.bytes (all_sent so_far.given)
-      ∙ ap (λ m. length old.said.bytes + m) (sym so_far.counted));
+      ∙ (length-append old.written.bytes (all_sent so_far.given)
+      ∙ ap (λ m. length old.written.bytes + m) (sym so_far.counted));
   few = omega (arith, so_far.few, few_due feed old.session.state, most);
 }
 
-pub few_said : (feed : List Window) (old now : Attending) (k n said : ℕ) → length feed ≤ 16
-    → SentSoFar feed old now k n said → said ≤ 1099511627776
-few_said feed old now k n said most so_far = omega (arith, so_far.few, few_due feed old.session.state, most)
+pub few_written : (feed : List Window) (old now : Attending) (k n written : ℕ) → length feed ≤ 16
+    → SentSoFar feed old now k n written → written ≤ 1099511627776
+few_written feed old now k n written most so_far = omega (arith, so_far.few, few_due feed old.session.state, most)
 
 -- the bytes that a session took are answered
-pub record RepliedSoFar (feed : List Window) (old now : Attending) (bytes : List ℕ) (start before said : ℕ) : Type
+pub record RepliedSoFar (feed : List Window) (old now : Attending) (bytes : List ℕ) (start before written : ℕ) : Type
     0 where
   pub within : start ≤ length bytes
-  pub serves : Serves feed old.session (take start bytes) old.said.bytes now.session now.said.bytes
-  pub failures : now.said.failures ≡ old.said.failures
-  pub counted : length now.said.bytes + before ≡ length old.said.bytes + said
-  pub few : said ≤ before + 35 * start
+  pub serves : Serves feed old.session (take start bytes) old.written.bytes now.session now.written.bytes
+  pub failures : now.written.failures ≡ old.written.failures
+  pub counted : length now.written.bytes + before ≡ length old.written.bytes + written
+  pub few : written ≤ before + 35 * start
 
 pub nothing_replied : (feed : List Window) (s : Attending) (bytes : List ℕ) (before : ℕ)
     → RepliedSoFar feed s s bytes 0 before before
 nothing_replied feed s bytes before = record {
   within = omega arith;
-  serves = none_served s.session s.said.bytes;
+  serves = none_served s.session s.written.bytes;
   failures = refl;
   counted = refl;
   few = omega arith;
@@ -220,10 +222,10 @@ serves_piece : (feed : List Window) (s now last : Standing) (bytes piece way on 
 serves_piece feed s now last bytes piece way on reply (none_served t w) takes =
     piece_served t last last piece piece [] w (w ++ reply_bytes reply) reply (sym (append-nil piece)) takes
     (none_served last (w ++ reply_bytes reply))
-serves_piece feed s now last bytes piece way on reply (piece_served t u v bs front rest w all other split one more)
+serves_piece feed s now last bytes piece way on reply (piece_served t u v bs prefix rest w all other split one more)
     takes =
-    piece_served t u last (bs ++ piece) front (rest ++ piece) w (all ++ reply_bytes reply) other
-    (ap (λ xs. xs ++ piece) split ∙ append_assoc front rest piece) one
+    piece_served t u last (bs ++ piece) prefix (rest ++ piece) w (all ++ reply_bytes reply) other
+    (ap (λ xs. xs ++ piece) split ∙ append_assoc prefix rest piece) one
     (serves_piece feed u v last rest piece (w ++ reply_bytes other) all reply more takes)
 
 pub reply_short : (reply : Reply) → length (reply_bytes reply) ≤ 35
@@ -232,54 +234,55 @@ reply_short replies.Ok = omega arith
 reply_short replies.Error = omega arith
 reply_short replies.Hello = omega arith
 
-front : (xs : List ℕ) (n : ℕ) → xs ≡ take n xs ++ drop n xs
-front xs zero = refl
-front [] (suc n) = refl
-front (x ∷ xs) (suc n) = ap (λ s. x ∷ s) (front xs n)
+prefix : (xs : List ℕ) (n : ℕ) → xs ≡ take n xs ++ drop n xs
+prefix xs zero = refl
+prefix [] (suc n) = refl
+prefix (x ∷ xs) (suc n) = ap (λ s. x ∷ s) (prefix xs n)
 
-length_front : (xs : List ℕ) (n : ℕ) → n < length xs → length (take n xs) ≡ n
-length_front xs zero lt = refl
-length_front [] (suc n) lt = absurd (omega (arith, lt))
-length_front (x ∷ xs) (suc n) lt = ap suc (length_front xs n (omega (arith, lt)))
+length_prefix : (xs : List ℕ) (n : ℕ) → n < length xs → length (take n xs) ≡ n
+length_prefix xs zero lt = refl
+length_prefix [] (suc n) lt = absurd (omega (arith, lt))
+length_prefix (x ∷ xs) (suc n) lt = ap suc (length_prefix xs n (omega (arith, lt)))
 
 split_piece : (bytes : List ℕ) (start used : ℕ)
     → bytes ≡ (take start bytes ++ take used (take (length bytes - start) (drop start bytes))) ++ drop (start + used)
     bytes
-split_piece bytes start used = front bytes (start + used)
+split_piece bytes start used = prefix bytes (start + used)
     ∙ ap (λ s. s ++ drop (start + used) bytes) (sym (piece_is bytes start used))
 
-module _ (feed : List Window) (old now new : Attending) (bytes : List ℕ) (start before said used : ℕ) (reply : Reply)
-    (so_far : RepliedSoFar feed old now bytes start before said)
+module _ (feed : List Window) (old now new : Attending) (bytes : List ℕ) (start before written used : ℕ) (reply : Reply)
+    (so_far : RepliedSoFar feed old now bytes start before written)
     (takes : Takes feed now.session (take used (take (length bytes - start) (drop start bytes))) new.session
     reply) where
   pub one_replied : (after : ℕ) → 0 < used → used ≤ length bytes - start
-      → IsSaid now.said new.said (reply_bytes reply) said after
+      → IsWritten now.written new.written (reply_bytes reply) written after
       → RepliedSoFar feed old new bytes (start + used) before after
   one_replied after some bound done = record {
     within = omega (arith, so_far.within, bound);
-    serves = subst (λ (on : List ℕ). Serves feed old.session (take (start + used) bytes) old.said.bytes new.session on)
-        (sym done.said.bytes)
-        (subst (λ (bs : List ℕ). Serves feed old.session bs old.said.bytes new.session
-        (now.said.bytes ++ reply_bytes reply)) (piece_is bytes start used)
+    serves = subst (λ (on : List ℕ). Serves feed old.session (take (start + used) bytes) old.written.bytes new.session
+        on)
+        (sym done.written.bytes)
+        (subst (λ (bs : List ℕ). Serves feed old.session bs old.written.bytes new.session
+        (now.written.bytes ++ reply_bytes reply)) (piece_is bytes start used)
         (serves_piece feed old.session now.session new.session (take start bytes)
-        (take used (take (length bytes - start) (drop start bytes))) old.said.bytes now.said.bytes reply
+        (take used (take (length bytes - start) (drop start bytes))) old.written.bytes now.written.bytes reply
         so_far.serves takes));
-    failures = done.said.failures ∙ so_far.failures;
+    failures = done.written.failures ∙ so_far.failures;
     counted = omega (
       arith,
-      ap length done.said.bytes,
-      length-append now.said.bytes (reply_bytes reply),
+      ap length done.written.bytes,
+      length-append now.written.bytes (reply_bytes reply),
       done.count,
       so_far.counted,
     );
     few = omega (arith, done.count, reply_short reply, so_far.few, some);
   }
 
-  unreplied : (after : ℕ) → IsUnsaid now.said new.said (reply_bytes reply) said after
+  unreplied : (after : ℕ) → IsUnwritten now.written new.written (reply_bytes reply) written after
       → HasFailed feed old new bytes before after
   unreplied after cut = record {
     fails = record {
-      front = take start bytes;
+      prefix = take start bytes;
       piece = take used (take (length bytes - start) (drop start bytes));
       rest = drop (start + used) bytes;
       bytes_are = split_piece bytes start used;
@@ -288,28 +291,28 @@ module _ (feed : List Window) (old now new : Attending) (bytes : List ℕ) (star
       reply = reply;
       takes = takes;
       count = cut.more;
-      said = cut.said;
+      written = cut.written;
     };
     counted = omega (
       arith,
-      ap length cut.said.bytes,
-      length-append now.said.bytes (take cut.more (reply_bytes reply)),
-      length_front (reply_bytes reply) cut.more cut.said.part,
+      ap length cut.written.bytes,
+      length-append now.written.bytes (take cut.more (reply_bytes reply)),
+      length_prefix (reply_bytes reply) cut.more cut.written.part,
       cut.count,
       so_far.counted,
     );
   }
 
-  pub not_replied : (fault : LinkFault) → IsSayFault fault now.said new.said (reply_bytes reply) said
+  pub not_replied : (fault : LinkFault) → IsSayFault fault now.written new.written (reply_bytes reply) written
       → IsReplyFault fault feed old new bytes before
   not_replied faults.Read cut = absurd cut
   not_replied (faults.Write after) cut = unreplied after cut
   not_replied (faults.Output after) cut = absurd cut
 
-pub all_replied : (feed : List Window) (old now : Attending) (bytes : List ℕ) (start before said : ℕ)
-    → length bytes ≤ start → RepliedSoFar feed old now bytes start before said → RepliesToAll feed old now bytes
-all_replied feed old now bytes start before said all so_far = record {
-  serves = subst (λ (bs : List ℕ). Serves feed old.session bs old.said.bytes now.session now.said.bytes)
+pub all_replied : (feed : List Window) (old now : Attending) (bytes : List ℕ) (start before written : ℕ)
+    → length bytes ≤ start → RepliedSoFar feed old now bytes start before written → RepliesToAll feed old now bytes
+all_replied feed old now bytes start before written all so_far = record {
+  serves = subst (λ (bs : List ℕ). Serves feed old.session bs old.written.bytes now.session now.written.bytes)
       (take_all start bytes all) so_far.serves;
   failures = so_far.failures;
 }

@@ -18,7 +18,7 @@ use Rattle.slink_feed.specs.declared.dialogue.Wanted.{Wanted}
 use Rattle.slink_feed.specs.Cutting.{IsWhole}
 use Rattle.slink_feed.specs.Delivered.{Numbered}
 use Rattle.slink_feed.specs.Dialogue.{Talk, Wants, Whole, Reply, Packet, End, Garbage, answer_of, at_packet, bearer}
-use Rattle.slink_feed.specs.Dialogue.{ended, heard, heard_at, if_wanted, is_borne, next_at, next_set, says_number}
+use Rattle.slink_feed.specs.Dialogue.{ended, read, read_at, if_wanted, is_borne, next_at, next_set, says_number}
 use Rattle.slink_feed.specs.Dialogue.{says_place, to_answer, to_place, told, want_at}
 use Rattle.slink_feed.specs.Holding.{GoOn}
 use Rattle.slink_feed.specs.Listening.{AreBrought, Brought, Listening, Reads, events_of, talk_after, telling}
@@ -72,25 +72,25 @@ comes_packet n bytes t (Some k) long bears = comes_wanted k n bytes t (next_at t
 record_long : (packet bytes : List ℕ) → drop 8 packet ≡ bytes → length packet ≡ 520 → length bytes ≡ 512
 record_long packet bytes is long = ap length (sym is) ∙ (length-drop 8 packet ∙ omega (arith, long))
 
-comes_heard : (t : Talk) (stage : Stage) (bytes : List ℕ) (w : Whole) → IsWhole stage bytes w
-    → Comes t (heard_at stage t w)
-comes_heard t (Station j) bytes (Reply line) is =
+comes_read : (t : Talk) (stage : Stage) (bytes : List ℕ) (w : Whole) → IsWhole stage bytes w
+    → Comes t (read_at stage t w)
+comes_read t (Station j) bytes (Reply line) is =
     comes_answer j t (says_number j t) (answer_of line) (nothing refl refl)
-comes_heard t (Station j) bytes Garbage is = comes_end t endings.Garbage
-comes_heard t (Station j) bytes (Packet n r) is = absurd is
-comes_heard t (Station j) bytes End is = absurd is
-comes_heard t (Number j) bytes (Reply line) is =
+comes_read t (Station j) bytes Garbage is = comes_end t endings.Garbage
+comes_read t (Station j) bytes (Packet n r) is = absurd is
+comes_read t (Station j) bytes End is = absurd is
+comes_read t (Number j) bytes (Reply line) is =
     comes_answer j t (says_place (j + 1) t) (answer_of line) (comes_place (j + 1) t (want_at t.wants (j + 1)))
-comes_heard t (Number j) bytes Garbage is = comes_end t endings.Garbage
-comes_heard t (Number j) bytes (Packet n r) is = absurd is
-comes_heard t (Number j) bytes End is = absurd is
-comes_heard t Packets bytes (Packet n r) is =
+comes_read t (Number j) bytes Garbage is = comes_end t endings.Garbage
+comes_read t (Number j) bytes (Packet n r) is = absurd is
+comes_read t (Number j) bytes End is = absurd is
+comes_read t Packets bytes (Packet n r) is =
     comes_packet n r t (bearer t.wants r) (record_long bytes r is.0.2 is.1) refl
-comes_heard t Packets bytes End is = comes_end t endings.End
-comes_heard t Packets bytes Garbage is = comes_end t endings.Garbage
-comes_heard t Packets bytes (Reply line) is = absurd is
-comes_heard t Unlinked bytes w is = absurd is
-comes_heard t (Ended e) bytes w is = absurd is
+comes_read t Packets bytes End is = comes_end t endings.End
+comes_read t Packets bytes Garbage is = comes_end t endings.Garbage
+comes_read t Packets bytes (Reply line) is = absurd is
+comes_read t Unlinked bytes w is = absurd is
+comes_read t (Ended e) bytes w is = absurd is
 
 -- whether a record bears a place
 abbrev is_place : List ℕ → Option Fields → Bool
@@ -212,9 +212,9 @@ told_brought : (t : Talk) (bs : List Brought) → AreBrought t bs
     → HasTold t.wants (talk_after t bs).wants (records_told (events_of t bs))
 told_brought t [] are = told_none t.wants
 told_brought t (b ∷ bs) are =
-    let x : Talk × Event = heard t b.whole in
+    let x : Talk × Event = read t b.whole in
     let one : HasTold t.wants x.0.wants (records_told (telling x.1)) =
-    told_one t x (comes_heard t t.stage b.bytes b.whole are.0) in
+    told_one t x (comes_read t t.stage b.bytes b.whole are.0) in
     let more : HasTold x.0.wants (talk_after x.0 bs).wants (records_told (events_of x.0 bs)) =
     told_brought x.0 bs are.1 in
     subst (λ rs. HasTold t.wants (talk_after x.0 bs).wants rs) (sym (records_both (telling x.1) (events_of x.0 bs)))
@@ -230,9 +230,9 @@ told_link start stream events now reads =
     (told_brought start reads.brought reads.are_brought))
 
 -- A new link changes nothing of what is wanted.
-pub wants_said : (t : Talk) (o : Option Wanted) → (to_place o 0 t).0.wants ≡ t.wants
-wants_said t None = refl
-wants_said t (Some w) = refl
+pub wants_written : (t : Talk) (o : Option Wanted) → (to_place o 0 t).0.wants ≡ t.wants
+wants_written t None = refl
+wants_written t (Some w) = refl
 
 go_far : (n : ℕ) (ns : List ℕ) (last : Option ℕ) → n < 2 ^ 24 → GoOn (Some n) ns last
     → last ≡ Some ((n + length ns) % 2 ^ 24)

@@ -14,14 +14,14 @@ pub wanted_more : (places : List (Fields × Option ℕ)) (k : ℕ) (p : Fields �
     → set (map wanted_of (take k places) ++ replicate (16 - k) None) k (wanted_of p) ≡ map wanted_of
     (take (k + 1) places) ++ replicate (16 - (k + 1)) None
 wanted_more places k p lt most read =
-    let front : List (Option Wanted) = map wanted_of (take k places) in
+    let prefix : List (Option Wanted) = map wanted_of (take k places) in
     let rest : List (Option Wanted) = replicate (16 - (k + 1)) None in
-    let long : length front ≡ k = length-map (take k places) wanted_of ∙ length-take-le k places (omega (arith, lt)) in
+    let long : length prefix ≡ k = length-map (take k places) wanted_of ∙ length-take-le k places (omega (arith, lt)) in
     let left : 16 - k ≡ suc (16 - (k + 1)) = omega (arith, lt, most) in
-    ap (λ n. set (front ++ replicate n None) k (wanted_of p)) left
-    ∙ (set_at front None rest (wanted_of p) k long
-    ∙ (sym (append_assoc front (wanted_of p ∷ []) rest)
-    ∙ (ap (λ (q : Fields × Option ℕ). (front ++ wanted_of q ∷ []) ++ rest) read
+    ap (λ n. set (prefix ++ replicate n None) k (wanted_of p)) left
+    ∙ (set_at prefix None rest (wanted_of p) k long
+    ∙ (sym (append_assoc prefix (wanted_of p ∷ []) rest)
+    ∙ (ap (λ (q : Fields × Option ℕ). (prefix ++ wanted_of q ∷ []) ++ rest) read
     ∙ ap (λ ws. ws ++ rest) (sym (map_more wanted_of places k p lt)))))
 
 -- the number of a place is short

@@ -1,4 +1,4 @@
--- No front of a whole is another, and bytes are one whole at most.
+-- No prefix of a whole is another, and bytes are one whole at most.
 use Rattle.std.proofs.Common.{◌≡◌, ◌≢◌, ℕ, ◌+◌, ◌<◌, inl, inr, refl, sym, ap, subst, ◌∙◌, arith, List, [], ◌∷◌, ◌++◌}
 use Rattle.std.proofs.Common.{append_assoc, append-nil, length, length-append, Some, slice_get, codes}
 use Rattle.std.proofs.lemmas.Bool.{cases_lt}
@@ -13,15 +13,15 @@ use Rattle.slink_feed.specs.Cutting.{Begins, IsBegun, IsNoPacket, IsPacketBegun,
 use Rattle.slink_feed.specs.Cutting.{IsWholePacket, IsWholeReply, LacksEnd, no_first, no_end, no_head, nothing}
 use Rattle.slink_feed.specs.Cutting.{end_begun, head_begun, record_begun}
 use Rattle.slink_feed.specs.Dialogue.{Whole, Reply, Packet, End, Garbage}
-use Rattle.slink_feed.proofs.Fronts.{get_left, get_here}
+use Rattle.slink_feed.proofs.Prefixes.{get_left, get_here}
 use Rattle.slink_feed.proofs.Heads.{head_before, one_begins}
 
--- the first byte of a front
-begins_front : (a z : List ℕ) (b : ℕ) → Begins a b → Begins (a ++ z) b
-begins_front a z b is = get_left a z 0 (slice_get_within a 0 b is) ∙ is
+-- the first byte of a prefix
+begins_prefix : (a z : List ℕ) (b : ℕ) → Begins a b → Begins (a ++ z) b
+begins_prefix a z b is = get_left a z 0 (slice_get_within a 0 b is) ∙ is
 
-front_begins : (a z : List ℕ) (b : ℕ) → 0 < length a → Begins (a ++ z) b → Begins a b
-front_begins a z b some is = sym (get_left a z 0 some) ∙ is
+prefix_begins : (a z : List ℕ) (b : ℕ) → 0 < length a → Begins (a ++ z) b → Begins a b
+prefix_begins a z b some is = sym (get_left a z 0 some) ∙ is
 
 other_begins : (xs : List ℕ) (b : ℕ) → Begins xs b → b ≢ 83 → Begins xs 83 → ⊥
 other_begins xs b is other it = other (one_begins xs b 83 is it)
@@ -52,12 +52,12 @@ reply_end a z line is lacks =
     lacks (length line) (get_left a z (length line) (omega (arith, long)) ∙ cr)
     (get_left a z (length line + 1) (omega (arith, long)) ∙ lf)
 
-lacks_front : (a z : List ℕ) → LacksEnd (a ++ z) → LacksEnd a
-lacks_front a z lacks i cr lf =
+lacks_prefix : (a z : List ℕ) → LacksEnd (a ++ z) → LacksEnd a
+lacks_prefix a z lacks i cr lf =
     lacks i (get_left a z i (slice_get_within a i 13 cr) ∙ cr) (get_left a z (i + 1) (slice_get_within a (i + 1) 10 lf)
     ∙ lf)
 
--- a front of a reply without its last byte
+-- a prefix of a reply without its last byte
 lacks_before : (a z line : List ℕ) → a ++ z ≡ line ++ line_end → 0 < length z → LacksEnd (line ++ 13 ∷ []) → LacksEnd a
 lacks_before a z line is some lacks i cr lf =
     let split : a ++ z ≡ (line ++ 13 ∷ []) ++ 10 ∷ [] = is ∙ sym (append_assoc line (13 ∷ []) (10 ∷ [])) in
@@ -76,13 +76,13 @@ reply_begun_no a z (Packet n r) begun is = is
 reply_begun_no a z End begun is = is
 reply_begun_no a z Garbage begun is = omega (arith, begun.1, is.1, length-append a z)
 
--- a front of a whole is begun
-reply_front : (a z : List ℕ) (w : Whole) → 0 < length z → IsWholeReply (a ++ z) w → IsReplyBegun a
-reply_front a z (Reply line) some is =
+-- a prefix of a whole is begun
+reply_prefix : (a z : List ℕ) (w : Whole) → 0 < length z → IsWholeReply (a ++ z) w → IsReplyBegun a
+reply_prefix a z (Reply line) some is =
     (lacks_before a z line is.0 some is.1, omega (arith, is.2, some, length-append a z))
-reply_front a z (Packet n r) some is = absurd is
-reply_front a z End some is = absurd is
-reply_front a z Garbage some is = (lacks_front a z is.0, omega (arith, is.1, some, length-append a z))
+reply_prefix a z (Packet n r) some is = absurd is
+reply_prefix a z End some is = absurd is
+reply_prefix a z Garbage some is = (lacks_prefix a z is.0, omega (arith, is.1, some, length-append a z))
 
 no_more : (a line : List ℕ) → IsReply a line → LacksEnd a → ⊥
 no_more a line is lacks = reply_end a [] line is.0 (subst LacksEnd (sym (append-nil a)) lacks)
@@ -105,25 +105,25 @@ begun_no_garbage a z (nothing e) (no_first b is s t one) = omega (arith, e, one,
 begun_no_garbage a z (nothing e) (no_end is three other) = omega (arith, e, three, length-append a z)
 begun_no_garbage a z (nothing e) (no_head is eight lacks) = omega (arith, e, eight, length-append a z)
 begun_no_garbage a z (end_begun e short) (no_first b is s t one) =
-    t (one_begins (a ++ z) b 69 (begins_front a z b is) e)
+    t (one_begins (a ++ z) b 69 (begins_prefix a z b is) e)
 begun_no_garbage a z (end_begun e short) (no_end is three other) = omega (arith, short, three, length-append a z)
 begun_no_garbage a z (end_begun e short) (no_head is eight lacks) = omega (arith, short, eight, length-append a z)
 begun_no_garbage a z (head_begun e short) (no_first b is s t one) =
-    s (one_begins (a ++ z) b 83 (begins_front a z b is) e)
-begun_no_garbage a z (head_begun e short) (no_end is three other) = not_both (a ++ z) (begins_front a z 69 is) e
+    s (one_begins (a ++ z) b 83 (begins_prefix a z b is) e)
+begun_no_garbage a z (head_begun e short) (no_end is three other) = not_both (a ++ z) (begins_prefix a z 69 is) e
 begun_no_garbage a z (head_begun e short) (no_head is eight lacks) = omega (arith, short, eight, length-append a z)
 begun_no_garbage a z (record_begun n e has long short) (no_first b is s t one) =
-    s (one_begins (a ++ z) b 83 (begins_front a z b is) e)
+    s (one_begins (a ++ z) b 83 (begins_prefix a z b is) e)
 begun_no_garbage a z (record_begun n e has long short) (no_end is three other) =
-    not_both (a ++ z) (begins_front a z 69 is) e
+    not_both (a ++ z) (begins_prefix a z 69 is) e
 begun_no_garbage a z (record_begun n e has long short) (no_head is eight lacks) =
     lacks n (head_before a z n (omega (arith, eight)) has)
 
 begun_no_end : (a z : List ℕ) → IsPacketBegun (a ++ z) → Begins a 69 → length a ≡ 3 → ⊥
 begun_no_end a z (nothing e) is three = omega (arith, e, three, length-append a z)
 begun_no_end a z (end_begun e short) is three = omega (arith, short, three, length-append a z)
-begun_no_end a z (head_begun e short) is three = not_both (a ++ z) (begins_front a z 69 is) e
-begun_no_end a z (record_begun n e has long short) is three = not_both (a ++ z) (begins_front a z 69 is) e
+begun_no_end a z (head_begun e short) is three = not_both (a ++ z) (begins_prefix a z 69 is) e
+begun_no_end a z (record_begun n e has long short) is three = not_both (a ++ z) (begins_prefix a z 69 is) e
 
 begun_short : (a : List ℕ) → IsPacketBegun a → length a < 520
 begun_short a (nothing e) = omega (arith, e)
@@ -138,40 +138,41 @@ packet_begun_no a z End begun is = let e : (Begins a 69) × (length a ≡ 3) = e
     begun_no_end a z begun e.0 e.1
 packet_begun_no a z Garbage begun is = begun_no_garbage a z begun is
 
-garbage_front : (a z : List ℕ) → 0 < length z → IsNoPacket (a ++ z) → IsPacketBegun a
-garbage_front a z some (no_first b is s t one) = nothing (omega (arith, one, some, length-append a z))
-garbage_front a z some (no_end is three other) = elim (cases_lt 0 (length a)) [
-  | inl front ↦ end_begun (front_begins a z 69 front is) (omega (arith, three, some, length-append a z))
+garbage_prefix : (a z : List ℕ) → 0 < length z → IsNoPacket (a ++ z) → IsPacketBegun a
+garbage_prefix a z some (no_first b is s t one) = nothing (omega (arith, one, some, length-append a z))
+garbage_prefix a z some (no_end is three other) = elim (cases_lt 0 (length a)) [
+  | inl prefix ↦ end_begun (prefix_begins a z 69 prefix is) (omega (arith, three, some, length-append a z))
   | inr none ↦ nothing (omega (arith, none))
 ]
-garbage_front a z some (no_head is eight lacks) = elim (cases_lt 0 (length a)) [
-  | inl front ↦ head_begun (front_begins a z 83 front is) (omega (arith, eight, some, length-append a z))
+garbage_prefix a z some (no_head is eight lacks) = elim (cases_lt 0 (length a)) [
+  | inl prefix ↦ head_begun (prefix_begins a z 83 prefix is) (omega (arith, eight, some, length-append a z))
   | inr none ↦ nothing (omega (arith, none))
 ]
 
-record_front : (a z r : List ℕ) (n : ℕ) → 0 < length z → IsPacket (a ++ z) n r → length (a ++ z) ≡ 520 → IsPacketBegun a
-record_front a z r n some is long = elim (cases_lt 0 (length a)) [
-  | inl front ↦ elim (cases_lt (length a) 8) [
-    | inl short ↦ head_begun (front_begins a z 83 front (packet_begins (a ++ z) r n is)) short
-    | inr head ↦ record_begun n (front_begins a z 83 front (packet_begins (a ++ z) r n is))
+record_prefix : (a z r : List ℕ) (n : ℕ) → 0 < length z → IsPacket (a ++ z) n r → length (a ++ z) ≡ 520
+    → IsPacketBegun a
+record_prefix a z r n some is long = elim (cases_lt 0 (length a)) [
+  | inl prefix ↦ elim (cases_lt (length a) 8) [
+    | inl short ↦ head_begun (prefix_begins a z 83 prefix (packet_begins (a ++ z) r n is)) short
+    | inr head ↦ record_begun n (prefix_begins a z 83 prefix (packet_begins (a ++ z) r n is))
         (head_before a z n head (is.0, is.1)) head (omega (arith, long, some, length-append a z))
   ]
   | inr none ↦ nothing (omega (arith, none))
 ]
 
-end_front : (a z : List ℕ) → 0 < length z → a ++ z ≡ codes "END" → IsPacketBegun a
-end_front a z some is =
+end_prefix : (a z : List ℕ) → 0 < length z → a ++ z ≡ codes "END" → IsPacketBegun a
+end_prefix a z some is =
     let e : (Begins (a ++ z) 69) × (length (a ++ z) ≡ 3) = end_begins (a ++ z) is in
     elim (cases_lt 0 (length a)) [
-      | inl front ↦ end_begun (front_begins a z 69 front e.0) (omega (arith, e.1, some, length-append a z))
+      | inl prefix ↦ end_begun (prefix_begins a z 69 prefix e.0) (omega (arith, e.1, some, length-append a z))
       | inr none ↦ nothing (omega (arith, none))
     ]
 
-packet_front : (a z : List ℕ) (w : Whole) → 0 < length z → IsWholePacket (a ++ z) w → IsPacketBegun a
-packet_front a z (Reply line) some is = absurd is
-packet_front a z (Packet n r) some is = record_front a z r n some is.0 is.1
-packet_front a z End some is = end_front a z some is
-packet_front a z Garbage some is = garbage_front a z some is
+packet_prefix : (a z : List ℕ) (w : Whole) → 0 < length z → IsWholePacket (a ++ z) w → IsPacketBegun a
+packet_prefix a z (Reply line) some is = absurd is
+packet_prefix a z (Packet n r) some is = record_prefix a z r n some is.0 is.1
+packet_prefix a z End some is = end_prefix a z some is
+packet_prefix a z Garbage some is = garbage_prefix a z some is
 
 packet_no_garbage : (a r : List ℕ) (n : ℕ) → IsPacket a n r → length a ≡ 520 → IsNoPacket a → ⊥
 packet_no_garbage a r n is long (no_first b begins s t one) = omega (arith, long, one)
@@ -212,12 +213,13 @@ begun_no_whole (Number k) a z w begun is = reply_begun_no a z w begun is
 begun_no_whole Packets a z w begun is = packet_begun_no a z w begun is
 begun_no_whole (Ended ending) a z w begun is = is
 
-pub front_begun : (stage : Stage) (a z : List ℕ) (w : Whole) → 0 < length z → IsWhole stage (a ++ z) w → IsBegun stage a
-front_begun Unlinked a z w some is = absurd is
-front_begun (Station k) a z w some is = reply_front a z w some is
-front_begun (Number k) a z w some is = reply_front a z w some is
-front_begun Packets a z w some is = packet_front a z w some is
-front_begun (Ended ending) a z w some is = absurd is
+pub prefix_begun : (stage : Stage) (a z : List ℕ) (w : Whole) → 0 < length z → IsWhole stage (a ++ z) w
+    → IsBegun stage a
+prefix_begun Unlinked a z w some is = absurd is
+prefix_begun (Station k) a z w some is = reply_prefix a z w some is
+prefix_begun (Number k) a z w some is = reply_prefix a z w some is
+prefix_begun Packets a z w some is = packet_prefix a z w some is
+prefix_begun (Ended ending) a z w some is = absurd is
 
 pub one_whole : (stage : Stage) (a : List ℕ) (w v : Whole) → IsWhole stage a w → IsWhole stage a v → w ≡ v
 one_whole Unlinked a w v p q = absurd p

@@ -1,6 +1,6 @@
 -- A turn of a session with its link: what is due is sent, or else one read is answered.
 use Rattle.std.specs.Prelude.{◌≡◌, ◌≢◌, ℕ, ◌+◌, ◌≤◌, ◌<◌, List, [], ◌++◌, length}
-use Rattle.mseed_stream.specs.Device.{Heard, Said}
+use Rattle.mseed_stream.specs.Device.{BytesRead, BytesWritten}
 use Rattle.slink_wire.specs.declared.reply.Reply.{Reply}
 use Rattle.slink_wire.specs.Reply.{reply_bytes}
 use Rattle.slink_feed.specs.declared.session.Phase.TheVariants.{Closed}
@@ -10,26 +10,26 @@ use Rattle.slink_feed.specs.declared.turn.Turn.{Turn}
 use Rattle.slink_feed.specs.declared.turn.Turn.TheVariants as turns
 use Rattle.slink_feed.specs.Rounds.{Attending, FailsToSend, SendsAll}
 use Rattle.slink_feed.specs.Serving.{Serves, Standing, Takes}
-use Rattle.slink_feed.specs.Turns.{TookFront, failed_once, told_once}
+use Rattle.slink_feed.specs.Turns.{TookPrefix, failed_once, told_once}
 use Rattle.slink_feed.specs.Window.{Window}
 
 -- A session took all of these bytes, line by line, and each reply was written.
 pub record RepliesToAll (feed : List Window) (old new : Attending) (bytes : List ℕ) : Type 0 where
-  pub serves : Serves feed old.session bytes old.said.bytes new.session new.said.bytes
-  pub failures : new.said.failures ≡ old.said.failures
+  pub serves : Serves feed old.session bytes old.written.bytes new.session new.written.bytes
+  pub failures : new.written.failures ≡ old.written.failures
 
--- The link failed within the reply to the piece behind a front of these bytes.
+-- The link failed within the reply to the piece behind a prefix of these bytes.
 pub record FailsToReply (feed : List Window) (old new : Attending) (bytes : List ℕ) : Type 0 where
-  pub front : List ℕ
+  pub prefix : List ℕ
   pub piece : List ℕ
   pub rest : List ℕ
-  pub bytes_are : bytes ≡ front ++ piece ++ rest
+  pub bytes_are : bytes ≡ prefix ++ piece ++ rest
   pub before : Attending
-  pub replies : RepliesToAll feed old before front
+  pub replies : RepliesToAll feed old before prefix
   pub reply : Reply
   pub takes : Takes feed before.session piece new.session reply
   pub count : ℕ
-  pub said : TookFront before.said new.said (reply_bytes reply) count
+  pub written : TookPrefix before.written new.written (reply_bytes reply) count
 
 -- What is due was sent, and the session isn't closed by that.
 pub record GoesOn (feed : List Window) (old new : Attending) : Type 0 where
@@ -38,7 +38,7 @@ pub record GoesOn (feed : List Window) (old new : Attending) : Type 0 where
 
 -- A turn: the session is closed, so that nothing is read; or the link is at its end; or the bytes that it told, at most
 -- 512, are answered.
-pub data Attends (feed : List Window) (old new : Attending) (before after : Heard) : Turn → Type 0 where
+pub data Attends (feed : List Window) (old new : Attending) (before after : BytesRead) : Turn → Type 0 where
   is_closed : SendsAll feed old new → new.session.state.phase ≡ Closed → after ≡ before
       → Attends feed old new before after turns.Closed
   is_at_end : GoesOn feed old new → after ≡ told_once before [] → Attends feed old new before after turns.Closed
@@ -48,15 +48,15 @@ pub data Attends (feed : List Window) (old new : Attending) (before after : Hear
 
 -- A turn in which the link failed: at a write of what was due, at the read, or at a write of a reply. The bytes that it
 -- took in the turn are counted.
-pub data IsServeFault (feed : List Window) (old new : Attending) (before after : Heard) : LinkFault → Type 0 where
+pub data IsServeFault (feed : List Window) (old new : Attending) (before after : BytesRead) : LinkFault → Type 0 where
   at_send : (count : ℕ) → FailsToSend feed old new count → after ≡ before
       → IsServeFault feed old new before after (faults.Write count)
   at_read : GoesOn feed old new → after ≡ failed_once before → IsServeFault feed old new before after faults.Read
   at_reply : (count : ℕ) (now : Attending) (bytes : List ℕ) → GoesOn feed old now → after ≡ told_once before bytes
       → length bytes ≤ 512
-      → FailsToReply feed now new bytes → length new.said.bytes ≡ length old.said.bytes + count
+      → FailsToReply feed now new bytes → length new.written.bytes ≡ length old.written.bytes + count
       → IsServeFault feed old new before after (faults.Write count)
 
 -- a session with what its link took so far
-abbrev pub attending : Standing → Said → Attending
-attending session said = record { session = session; said = said }
+abbrev pub attending : Standing → BytesWritten → Attending
+attending session written = record { session = session; written = written }

@@ -1,6 +1,6 @@
 -- What the link of one session takes in its turns.
 use Rattle.std.specs.Prelude.{◌≡◌, ◌≢◌, ℕ, List, [], ◌∷◌, ◌++◌, take, Some, None, slice_get}
-use Rattle.mseed_stream.specs.Device.{Heard}
+use Rattle.mseed_stream.specs.Device.{BytesRead}
 use Rattle.slink_feed.specs.declared.grant.Grant.{Grant}
 use Rattle.slink_feed.specs.declared.session.Phase.TheVariants.{Closed}
 use Rattle.slink_feed.specs.declared.turn.LinkFault.{LinkFault}
@@ -14,19 +14,20 @@ use Rattle.slink_feed.specs.Window.{Shows, Window}
 -- Turns one after another, each with the feed as it then stands.
 pub data TakesTurns : Attending → List (List Window) → Attending → Type 0 where
   no_turn : (a : Attending) → TakesTurns a [] a
-  turn_taken : (a now b : Attending) (feed : List Window) (feeds : List (List Window)) (before after : Heard)
+  turn_taken : (a now b : Attending) (feed : List Window) (feeds : List (List Window)) (before after : BytesRead)
       (turn : Turn)
       → Attends feed a now before after turn → TakesTurns now feeds b → TakesTurns a (feed ∷ feeds) b
 
 -- In the last of them the link failed.
 pub data FailsInTurn : Attending → List (List Window) → Attending → Type 0 where
-  fails_now : (a b : Attending) (feed : List Window) (before after : Heard) (fault : LinkFault)
+  fails_now : (a b : Attending) (feed : List Window) (before after : BytesRead) (fault : LinkFault)
       → IsServeFault feed a b before after fault → FailsInTurn a (feed ∷ []) b
-  fails_later : (a now b : Attending) (feed : List Window) (feeds : List (List Window)) (before after : Heard)
+  fails_later : (a now b : Attending) (feed : List Window) (feeds : List (List Window)) (before after : BytesRead)
       (turn : Turn)
       → Attends feed a now before after turn → FailsInTurn now feeds b → FailsInTurn a (feed ∷ feeds) b
 
--- At each turn the ring of the place shows the last of the records that were pushed so far, which are a front of these.
+-- At each turn the ring of the place shows the last of the records that were pushed so far, which are a prefix of
+-- these.
 abbrev pub ShowPushed : ℕ → ℕ → List (List ℕ) → List (List Window) → Type 0
 ShowPushed k first pushed [] = Unit {0}
 ShowPushed k first pushed (feed ∷ feeds) =
@@ -55,11 +56,11 @@ pub record SendsStretches (feeds : List (List Window)) (s : State) (bytes : List
 pub record AreAlike (a b : Attending) : Type 0 where
   pub state : a.session.state ≡ b.session.state
   pub held : a.session.state.phase ≢ Closed → a.session.held ≡ b.session.held
-  pub bytes : a.said.bytes ≡ b.said.bytes
-  pub failures : a.said.failures ≡ b.said.failures
+  pub bytes : a.written.bytes ≡ b.written.bytes
+  pub failures : a.written.failures ≡ b.written.failures
 
 -- Two turns left the session in the same state, and the link took the same bytes.
 pub record TookAlike (a b : Attending) : Type 0 where
   pub state : a.session.state ≡ b.session.state
-  pub bytes : a.said.bytes ≡ b.said.bytes
-  pub failures : a.said.failures ≡ b.said.failures
+  pub bytes : a.written.bytes ≡ b.written.bytes
+  pub failures : a.written.failures ≡ b.written.failures

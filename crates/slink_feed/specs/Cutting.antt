@@ -59,7 +59,7 @@ IsWhole (Number k) bytes whole = IsWholeReply bytes whole
 IsWhole Packets bytes whole = IsWholePacket bytes whole
 IsWhole (Ended ending) bytes whole = ⊥
 
--- These bytes are the front of one, and not yet a whole.
+-- These bytes are the prefix of one, and not yet a whole.
 abbrev pub IsBegun : Stage → List ℕ → Type 0
 IsBegun Unlinked bytes = bytes ≡ []
 IsBegun (Station k) bytes = IsReplyBegun bytes

@@ -140,15 +140,15 @@ at_packet None number bytes t = ended endings.Foreign t
 at_packet (Some k) number bytes t = if_wanted (next_at t.wants k) k number bytes t
 
 -- The client's table: what it does with what has come, by what it waits for.
-abbrev pub heard_at : Stage → Talk → Whole → Talk × Event
-heard_at (Station k) t (Reply line) = to_answer (answer_of line) k (says_number k t) t
-heard_at (Station k) t Garbage = ended endings.Garbage t
-heard_at (Number k) t (Reply line) = to_answer (answer_of line) k (says_place (k + 1) t) t
-heard_at (Number k) t Garbage = ended endings.Garbage t
-heard_at Packets t (Packet number bytes) = at_packet (bearer t.wants bytes) number bytes t
-heard_at Packets t End = ended endings.End t
-heard_at Packets t Garbage = ended endings.Garbage t
-heard_at stage t whole = (t, events.None)
+abbrev pub read_at : Stage → Talk → Whole → Talk × Event
+read_at (Station k) t (Reply line) = to_answer (answer_of line) k (says_number k t) t
+read_at (Station k) t Garbage = ended endings.Garbage t
+read_at (Number k) t (Reply line) = to_answer (answer_of line) k (says_place (k + 1) t) t
+read_at (Number k) t Garbage = ended endings.Garbage t
+read_at Packets t (Packet number bytes) = at_packet (bearer t.wants bytes) number bytes t
+read_at Packets t End = ended endings.End t
+read_at Packets t Garbage = ended endings.Garbage t
+read_at stage t whole = (t, events.None)
 
-abbrev pub heard : Talk → Whole → Talk × Event
-heard t whole = heard_at t.stage t whole
+abbrev pub read : Talk → Whole → Talk × Event
+read t whole = read_at t.stage t whole

@@ -1,6 +1,6 @@
 -- A turn of a client with its link: one read, and what comes of the bytes that it told.
 use Rattle.std.specs.Prelude.{◌≡◌, ◌≢◌, ℕ, ◌≤◌, List, [], ◌∷◌, ◌++◌, length}
-use Rattle.mseed_stream.specs.Device.{Heard, IsFrontOf, Said}
+use Rattle.mseed_stream.specs.Device.{BytesRead, IsPrefixOf, BytesWritten}
 use Rattle.slink_feed.specs.declared.dialogue.Ending.{Ending}
 use Rattle.slink_feed.specs.declared.dialogue.Ending.TheVariants as endings
 use Rattle.slink_feed.specs.declared.dialogue.Event.{Event}
@@ -13,18 +13,18 @@ use Rattle.slink_feed.specs.declared.turn.Turn.{Turn}
 use Rattle.slink_feed.specs.declared.turn.Turn.TheVariants as turns
 use Rattle.slink_feed.specs.Dialogue.{Talk}
 use Rattle.slink_feed.specs.Listening.{IsLinked, Listening, Reads}
-use Rattle.slink_feed.specs.Turns.{Took, TookFront, failed_once, told_once}
+use Rattle.slink_feed.specs.Turns.{Took, TookPrefix, failed_once, told_once}
 
 -- the line that an event says
-abbrev pub line_said : Event → List ℕ
-line_said events.None = []
-line_said (events.Say line) = line.items
-line_said (events.Record k number bytes) = []
-line_said events.End = []
-line_said (events.Refused k) = []
-line_said (events.Gap k want got) = []
-line_said events.Garbage = []
-line_said events.Foreign = []
+abbrev pub line_written : Event → List ℕ
+line_written events.None = []
+line_written (events.Say line) = line.items
+line_written (events.Record k number bytes) = []
+line_written events.End = []
+line_written (events.Refused k) = []
+line_written (events.Gap k want got) = []
+line_written events.Garbage = []
+line_written events.Foreign = []
 
 -- the bytes of the record that an event tells of
 abbrev pub record_told : Event → List ℕ
@@ -43,8 +43,8 @@ joined_by given [] = []
 joined_by given (e ∷ es) = given e ++ joined_by given es
 
 -- the lines that events say
-abbrev pub lines_said : List Event → List ℕ
-lines_said told = joined_by line_said told
+abbrev pub lines_written : List Event → List ℕ
+lines_written told = joined_by line_written told
 
 -- the bytes of the records that they tell of
 abbrev pub bytes_told : List Event → List ℕ
@@ -55,17 +55,17 @@ abbrev pub ReadsOn : Listening → List ℕ → List Event → Listening → Typ
 ReadsOn old bytes told new = (start : Talk) (stream : List ℕ) (before : List Event)
     → Reads start stream before old → Reads start (stream ++ bytes) (before ++ told) new
 
--- Of these bytes a client took a front, of which it tells these events.
+-- Of these bytes a client took a prefix, of which it tells these events.
 pub record Takes (old new : Listening) (bytes : List ℕ) (told : List Event) : Type 0 where
   pub taken : List ℕ
-  pub front : IsFrontOf taken bytes
+  pub prefix : IsPrefixOf taken bytes
   pub reads : ReadsOn old taken told new
 
 -- a client with what its link took so far, and its output
 pub record Fetching : Type 0 where
   pub client : Listening
-  pub said : Said
-  pub output : Said
+  pub written : BytesWritten
+  pub output : BytesWritten
 
 -- A client took these bytes: all of them, unless it came to an end. The lines that it says went to the link, and the
 -- records that it tells of went to the output.
@@ -74,7 +74,7 @@ pub record Delivers (old new : Fetching) (bytes : List ℕ) : Type 0 where
   pub takes : Takes old.client new.client bytes told
   pub whole : IsLinked new.client.talk.stage → takes.taken ≡ bytes
   pub linked : IsLinked old.client.talk.stage → new.client.talk.stage ≢ Unlinked
-  pub said : Took old.said new.said (lines_said told)
+  pub written : Took old.written new.written (lines_written told)
   pub output : Took old.output new.output (bytes_told told)
 
 -- The link failed within the line of the last event, once it had taken so many bytes.
@@ -83,8 +83,8 @@ pub record FailsToSay (old new : Fetching) (bytes : List ℕ) (count : ℕ) : Ty
   pub last : Event
   pub takes : Takes old.client new.client bytes (told ++ last ∷ [])
   pub linked : IsLinked new.client.talk.stage
-  pub said : TookFront old.said new.said (lines_said (told ++ last ∷ [])) count
-  pub behind : length (lines_said told) ≤ count
+  pub written : TookPrefix old.written new.written (lines_written (told ++ last ∷ [])) count
+  pub behind : length (lines_written told) ≤ count
   pub output : Took old.output new.output (bytes_told told)
 
 -- The output failed within the record of the last event, once it had taken so many bytes.
@@ -93,8 +93,8 @@ pub record FailsToWrite (old new : Fetching) (bytes : List ℕ) (count : ℕ) : 
   pub last : Event
   pub takes : Takes old.client new.client bytes (told ++ last ∷ [])
   pub linked : IsLinked new.client.talk.stage
-  pub said : Took old.said new.said (lines_said told)
-  pub output : TookFront old.output new.output (bytes_told (told ++ last ∷ [])) count
+  pub written : Took old.written new.written (lines_written told)
+  pub output : TookPrefix old.output new.output (bytes_told (told ++ last ∷ [])) count
   pub behind : length (bytes_told told) ≤ count
 
 -- what failed while a client took these bytes
@@ -124,27 +124,27 @@ turn_after [] stage = turns.Closed
 turn_after (b ∷ bs) stage = turn_at stage
 
 -- A turn: one read told these bytes, at most 1024, and what came of them is done.
-pub record Fetches (old new : Fetching) (before after : Heard) (turn : Turn) : Type 0 where
+pub record Fetches (old new : Fetching) (before after : BytesRead) (turn : Turn) : Type 0 where
   pub bytes : List ℕ
-  pub heard : after ≡ told_once before bytes
+  pub read : after ≡ told_once before bytes
   pub most : length bytes ≤ 1024
   pub delivers : Delivers old new bytes
   pub nothing : bytes ≡ [] → new ≡ old
   pub turn_is : turn ≡ turn_after bytes new.client.talk.stage
 
 -- A turn in which a write failed: one read told these bytes.
-pub record IsCutShort (old new : Fetching) (before after : Heard) (fault : LinkFault) : Type 0 where
+pub record IsCutShort (old new : Fetching) (before after : BytesRead) (fault : LinkFault) : Type 0 where
   pub bytes : List ℕ
-  pub heard : after ≡ told_once before bytes
+  pub read : after ≡ told_once before bytes
   pub most : length bytes ≤ 1024
   pub fails : FailsAt fault old new bytes
 
 -- Where the read failed, nothing else was done.
-abbrev pub IsFetchFault : LinkFault → Fetching → Fetching → Heard → Heard → Type 0
+abbrev pub IsFetchFault : LinkFault → Fetching → Fetching → BytesRead → BytesRead → Type 0
 IsFetchFault faults.Read old new before after = (new ≡ old) × (after ≡ failed_once before)
 IsFetchFault (faults.Write count) old new before after = IsCutShort old new before after (faults.Write count)
 IsFetchFault (faults.Output count) old new before after = IsCutShort old new before after (faults.Output count)
 
 -- a client with what the two devices took so far
-abbrev pub fetching : Listening → Said → Said → Fetching
-fetching client said output = record { client = client; said = said; output = output }
+abbrev pub fetching : Listening → BytesWritten → BytesWritten → Fetching
+fetching client written output = record { client = client; written = written; output = output }

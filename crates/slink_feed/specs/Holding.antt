@@ -2,7 +2,7 @@
 use Rattle.std.specs.Prelude.{◌≡◌, ℕ, ◌+◌, ◌%◌, ◌^◌, ◌==◌, List, [], ◌∷◌, ◌++◌, Option, Some, None, if◌then◌else◌}
 use Rattle.slink_feed.specs.declared.dialogue.Event.{Event}
 use Rattle.slink_feed.specs.declared.dialogue.Event.TheVariants as events
-use Rattle.slink_feed.specs.Dialogue.{Talk, Whole, heard, says_place}
+use Rattle.slink_feed.specs.Dialogue.{Talk, Whole, read, says_place}
 
 -- a new link begins, or a link brings a whole
 pub data Turn : Type 0 where
@@ -11,7 +11,7 @@ pub data Turn : Type 0 where
 
 abbrev pub turned : Talk → Turn → Talk × Event
 turned t connects = says_place 0 t
-turned t (brings w) = heard t w
+turned t (brings w) = read t w
 
 -- the numbers of the records that are told of a place
 abbrev pub numbers_in : ℕ → Event → List ℕ

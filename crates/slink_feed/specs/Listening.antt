@@ -5,7 +5,7 @@ use Rattle.slink_feed.specs.declared.dialogue.Event.TheVariants as events
 use Rattle.slink_feed.specs.declared.dialogue.Stage.{Stage}
 use Rattle.slink_feed.specs.declared.dialogue.Stage.TheVariants.{Unlinked, Station, Number, Packets, Ended}
 use Rattle.slink_feed.specs.Cutting.{IsBegun, IsWhole}
-use Rattle.slink_feed.specs.Dialogue.{Talk, Whole, heard}
+use Rattle.slink_feed.specs.Dialogue.{Talk, Whole, read}
 
 -- what a client has come to, and the bytes of a whole that is begun
 pub record Listening : Type 0 where
@@ -28,10 +28,10 @@ IsLinked (Number k) = Unit {0}
 IsLinked Packets = Unit {0}
 IsLinked (Ended ending) = ⊥
 
--- What comes of bytes that are there since the last whole: they are one, which is heard, and nothing is kept; or they
+-- What comes of bytes that are there since the last whole: they are one, which is read, and nothing is kept; or they
 -- are kept, and more are awaited.
 pub data Brings (talk : Talk) (bytes : List ℕ) (new : Listening) (event : Event) : Type 0 where
-  whole : (w : Whole) → IsWhole talk.stage bytes w → heard talk w ≡ (new.talk, event) → new.kept ≡ []
+  whole : (w : Whole) → IsWhole talk.stage bytes w → read talk w ≡ (new.talk, event) → new.kept ≡ []
       → Brings talk bytes new event
   begun : IsBegun talk.stage bytes → new ≡ record { talk = talk; kept = bytes } → event ≡ events.None
       → Brings talk bytes new event
@@ -52,20 +52,20 @@ pub record Brought : Type 0 where
   pub bytes : List ℕ
   pub whole : Whole
 
--- each is a whole of what is awaited once those before it were heard
+-- each is a whole of what is awaited once those before it were read
 abbrev pub AreBrought : Talk → List Brought → Type 0
 AreBrought talk [] = Unit {0}
-AreBrought talk (b ∷ bs) = IsWhole talk.stage b.bytes b.whole × AreBrought (heard talk b.whole).0 bs
+AreBrought talk (b ∷ bs) = IsWhole talk.stage b.bytes b.whole × AreBrought (read talk b.whole).0 bs
 
--- what the client has come to once all were heard
+-- what the client has come to once all were read
 abbrev pub talk_after : Talk → List Brought → Talk
 talk_after talk [] = talk
-talk_after talk (b ∷ bs) = talk_after (heard talk b.whole).0 bs
+talk_after talk (b ∷ bs) = talk_after (read talk b.whole).0 bs
 
 -- the events that tell of them
 abbrev pub events_of : Talk → List Brought → List Event
 events_of talk [] = []
-events_of talk (b ∷ bs) = telling (heard talk b.whole).1 ++ events_of (heard talk b.whole).0 bs
+events_of talk (b ∷ bs) = telling (read talk b.whole).1 ++ events_of (read talk b.whole).0 bs
 
 abbrev pub bytes_of : List Brought → List ℕ
 bytes_of [] = []

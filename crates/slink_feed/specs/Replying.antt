@@ -1,29 +1,29 @@
 -- What the parts of a session's turn do.
 use Rattle.std.specs.Prelude.{◌≡◌, ℕ, ◌+◌, ◌≤◌, List, length}
-use Rattle.mseed_stream.specs.Device.{Said}
+use Rattle.mseed_stream.specs.Device.{BytesWritten}
 use Rattle.slink_feed.specs.declared.session.Sent.{Sent}
 use Rattle.slink_feed.specs.declared.session.Sent.TheVariants as sents
 use Rattle.slink_feed.specs.declared.turn.LinkFault.{LinkFault}
 use Rattle.slink_feed.specs.declared.turn.LinkFault.TheVariants as faults
 use Rattle.slink_feed.specs.Attending.{FailsToReply}
 use Rattle.slink_feed.specs.Rounds.{Attending, FailsToSend, SendsAll}
-use Rattle.slink_feed.specs.Turns.{Took, TookFront}
+use Rattle.slink_feed.specs.Turns.{Took, TookPrefix}
 use Rattle.slink_feed.specs.Window.{Window}
 
 -- Behind so many bytes these were written.
-pub record IsSaid (old new : Said) (bytes : List ℕ) (before after : ℕ) : Type 0 where
-  pub said : Took old new bytes
+pub record IsWritten (old new : BytesWritten) (bytes : List ℕ) (before after : ℕ) : Type 0 where
+  pub written : Took old new bytes
   pub count : after ≡ before + length bytes
 
--- Behind so many bytes a front of these was.
-pub record IsUnsaid (old new : Said) (bytes : List ℕ) (before after : ℕ) : Type 0 where
+-- Behind so many bytes a prefix of these was.
+pub record IsUnwritten (old new : BytesWritten) (bytes : List ℕ) (before after : ℕ) : Type 0 where
   pub more : ℕ
-  pub said : TookFront old new bytes more
+  pub written : TookPrefix old new bytes more
   pub count : after ≡ before + more
 
-abbrev pub IsSayFault : LinkFault → Said → Said → List ℕ → ℕ → Type 0
+abbrev pub IsSayFault : LinkFault → BytesWritten → BytesWritten → List ℕ → ℕ → Type 0
 IsSayFault faults.Read old new bytes before = ⊥
-IsSayFault (faults.Write after) old new bytes before = IsUnsaid old new bytes before after
+IsSayFault (faults.Write after) old new bytes before = IsUnwritten old new bytes before after
 IsSayFault (faults.Output after) old new bytes before = ⊥
 
 -- how often there was nothing to give, one after another
@@ -37,7 +37,7 @@ waits_after sents.Closed waits = 0
 -- All that is due was sent, which was so many bytes.
 pub record HasSent (feed : List Window) (old new : Attending) (count : ℕ) : Type 0 where
   pub sends : SendsAll feed old new
-  pub counted : length new.said.bytes ≡ length old.said.bytes + count
+  pub counted : length new.written.bytes ≡ length old.written.bytes + count
   pub few : count ≤ 1099511627776
 
 abbrev pub IsSendFault : LinkFault → List Window → Attending → Attending → Type 0
@@ -48,7 +48,7 @@ IsSendFault (faults.Output count) feed old new = ⊥
 -- The link failed within a reply; with so many before, the bytes that it took are counted.
 pub record HasFailed (feed : List Window) (old new : Attending) (bytes : List ℕ) (before after : ℕ) : Type 0 where
   pub fails : FailsToReply feed old new bytes
-  pub counted : length new.said.bytes + before ≡ length old.said.bytes + after
+  pub counted : length new.written.bytes + before ≡ length old.written.bytes + after
 
 abbrev pub IsReplyFault : LinkFault → List Window → Attending → Attending → List ℕ → ℕ → Type 0
 IsReplyFault faults.Read feed old new bytes before = ⊥

@@ -1,12 +1,12 @@
 -- What a session sends that is asked for a packet of one place after another, round and round.
 use Rattle.std.specs.Prelude.{◌≡◌, ℕ, ◌+◌, ◌≤◌, ◌==◌, ◌⊎◌, List, [], ◌∷◌, ◌++◌, length, replicate, if◌then◌else◌}
-use Rattle.mseed_stream.specs.Device.{Said}
+use Rattle.mseed_stream.specs.Device.{BytesWritten}
 use Rattle.slink_feed.specs.declared.session.Phase.TheVariants.{Closed}
 use Rattle.slink_feed.specs.declared.session.Sent.{Sent}
 use Rattle.slink_feed.specs.declared.session.Sent.TheVariants.{Wait}
 use Rattle.slink_feed.specs.Serving.{Standing}
 use Rattle.slink_feed.specs.Session.{State, sent, sent_bytes}
-use Rattle.slink_feed.specs.Turns.{Took, TookFront}
+use Rattle.slink_feed.specs.Turns.{Took, TookPrefix}
 use Rattle.slink_feed.specs.Window.{Window}
 
 -- the place behind another; behind the last place the first one
@@ -32,7 +32,7 @@ HasWaited n given = (before : List Sent) × (given ≡ before ++ replicate n Wai
 -- a session with what its link took so far
 pub record Attending : Type 0 where
   pub session : Standing
-  pub said : Said
+  pub written : BytesWritten
 
 -- A session was asked from the first place on, until it is closed or a whole round of the places gives nothing. All
 -- that
@@ -43,7 +43,7 @@ pub record SendsAll (feed : List Window) (old new : Attending) : Type 0 where
   pub gives : Gives feed 0 old.session.state given place new.session.state
   pub ends : (new.session.state.phase ≡ Closed) ⊎ HasWaited (length feed) given
   pub held : new.session.held ≡ old.session.held
-  pub said : Took old.said new.said (all_sent given)
+  pub written : Took old.written new.written (all_sent given)
 
 -- The link failed within the last that it gave, once it had taken so many bytes. The session stands behind that.
 pub record FailsToSend (feed : List Window) (old new : Attending) (count : ℕ) : Type 0 where
@@ -52,5 +52,5 @@ pub record FailsToSend (feed : List Window) (old new : Attending) (count : ℕ) 
   pub place : ℕ
   pub gives : Gives feed 0 old.session.state (given ++ last ∷ []) place new.session.state
   pub held : new.session.held ≡ old.session.held
-  pub said : TookFront old.said new.said (all_sent (given ++ last ∷ [])) count
+  pub written : TookPrefix old.written new.written (all_sent (given ++ last ∷ [])) count
   pub behind : length (all_sent given) ≤ count

@@ -15,13 +15,13 @@ pub record Asked : Type 0 where
   pub answer : Sent
 
 -- The session is as it was, or closed: so a line leaves it while it streams.
-abbrev pub IsHeardFrom : State → State → Type 0
-IsHeardFrom s new = (new ≡ s) ⊎ (new ≡ at Closed s.grants)
+abbrev pub IsReadFrom : State → State → Type 0
+IsReadFrom s new = (new ≡ s) ⊎ (new ≡ at Closed s.grants)
 
 -- It was asked again and again, with any lines in between.
 abbrev pub AreAsked : State → List Asked → Type 0
 AreAsked s [] = Unit {0}
-AreAsked s (a ∷ more) = (t : State) × IsHeardFrom s t × ((sent a.feed t a.place).1 ≡ a.answer)
+AreAsked s (a ∷ more) = (t : State) × IsReadFrom s t × ((sent a.feed t a.place).1 ≡ a.answer)
     × AreAsked (sent a.feed t a.place).0 more
 
 -- the packets that were sent of a place
@@ -36,7 +36,7 @@ abbrev pub packets_of : ℕ → List Asked → List (List ℕ)
 packets_of k [] = []
 packets_of k (a ∷ more) = (if a.place == k then packet_in a.answer else []) ++ packets_of k more
 
--- the ring of the place shows the last of the records that were pushed so far, which are a front of these
+-- the ring of the place shows the last of the records that were pushed so far, which are a prefix of these
 abbrev pub AreShown : ℕ → ℕ → List (List ℕ) → List Asked → Type 0
 AreShown k first pushed [] = Unit {0}
 AreShown k first pushed (a ∷ more) =

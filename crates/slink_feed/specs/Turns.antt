@@ -1,13 +1,13 @@
 -- What goes through the devices of a turn.
 use Rattle.std.specs.Prelude.{◌≡◌, ℕ, Bool, true, false, ◌+◌, ◌||◌, ◌++◌, ◌<◌, List, [], ◌∷◌, length, take}
-use Rattle.mseed_stream.specs.Device.{Heard, Said}
+use Rattle.mseed_stream.specs.Device.{BytesRead, BytesWritten}
 
 abbrev pub is_empty : List ℕ → Bool
 is_empty [] = true
 is_empty (b ∷ bs) = false
 
 -- one read more, which told these bytes: none of them, where the link is at its end
-abbrev pub told_once : Heard → List ℕ → Heard
+abbrev pub told_once : BytesRead → List ℕ → BytesRead
 told_once h told = record {
   bytes = h.bytes ++ told;
   calls = h.calls + 1;
@@ -16,16 +16,16 @@ told_once h told = record {
 }
 
 -- one read more, which failed
-abbrev pub failed_once : Heard → Heard
+abbrev pub failed_once : BytesRead → BytesRead
 failed_once h = record { bytes = h.bytes; calls = h.calls + 1; failures = h.failures + 1; is_at_end = h.is_at_end }
 
 -- A sink took these bytes, and didn't fail.
-pub record Took (old new : Said) (more : List ℕ) : Type 0 where
+pub record Took (old new : BytesWritten) (more : List ℕ) : Type 0 where
   pub bytes : new.bytes ≡ old.bytes ++ more
   pub failures : new.failures ≡ old.failures
 
 -- A sink took so many of these bytes, and not all, and failed.
-pub record TookFront (old new : Said) (more : List ℕ) (count : ℕ) : Type 0 where
+pub record TookPrefix (old new : BytesWritten) (more : List ℕ) (count : ℕ) : Type 0 where
   pub bytes : new.bytes ≡ old.bytes ++ take count more
   pub part : count < length more
   pub failures : new.failures ≡ old.failures + 1

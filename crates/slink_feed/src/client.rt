@@ -64,7 +64,7 @@ impl Client {
 
     /// Begins on a new link, to which these bytes are to be written. What was kept of the one before is dropped.
     pub fn connect(&mut self) -> Bytes
-        ensures said { says_place 0 self.old.talk ≡ (self.new.talk, Event.Say result) }
+        ensures written { says_place 0 self.old.talk ≡ (self.new.talk, Event.Say result) }
         ensures dropped { self.new.kept ≡ [] }
         // The new link has brought nothing.
         ensures reads { Reads self.new.talk [] [] self.new }
@@ -78,7 +78,7 @@ impl Client {
     /// The bytes that a link brought read as replies, packets and the end in one way, so that the pieces make no
     /// difference.
     pub fn take(&mut self, bytes: &[u8]) -> (usize, Event)
-        // With those that were kept they are a whole, which is heard; or they are kept.
+        // With those that were kept they are a whole, which is read; or they are kept.
         ensures brings { IsLinked self.old.talk.stage
             → Brings self.old.talk (self.old.kept ++ take result.0 bytes.now) self.new result.1 }
         // The client goes on to stand for all that the link brought, and the events for what it reads as.
@@ -99,11 +99,11 @@ impl Client {
             Stage::Unlinked => (bytes.len(), Event::None),
             Stage::Station(_) | Stage::Number(_) => {
                 let (used, part) = take_reply(&mut self.kept, bytes);
-                (used, hear_reply(&mut self.dialogue, &mut self.kept, part))
+                (used, read_reply(&mut self.dialogue, &mut self.kept, part))
             }
             Stage::Packets => {
                 let (used, part) = take_packet(&mut self.kept, bytes);
-                (used, hear_packets(&mut self.dialogue, &mut self.kept, part))
+                (used, read_packets(&mut self.dialogue, &mut self.kept, part))
             }
             Stage::Ended(ending) => (0, ending.event()),
         }
@@ -149,7 +149,7 @@ fn line_of(bytes: &[u8]) -> &[u8]
 }
 
 /// Hears what the bytes of a reply have come to.
-fn hear_reply(dialogue: &mut Dialogue, kept: &mut ArrayVec<u8, 520>, part: Part) -> Event
+fn read_reply(dialogue: &mut Dialogue, kept: &mut ArrayVec<u8, 520>, part: Part) -> Event
     requires stage { AwaitsReply dialogue.old.stage }
     requires part { IsReplyPart kept.old.items part }
     ensures brings { Brings dialogue.old kept.old.items (record { talk = dialogue.new; kept = kept.new.items }) result }
@@ -157,7 +157,7 @@ fn hear_reply(dialogue: &mut Dialogue, kept: &mut ArrayVec<u8, 520>, part: Part)
 {
     let event = match part {
         Part::Begun => return Event::None,
-        Part::Whole => dialogue.hear_reply(line_of(kept.as_slice())),
+        Part::Whole => dialogue.read_reply(line_of(kept.as_slice())),
         Part::End => unreachable!(),
         Part::Garbage => dialogue.end(Ending::Garbage),
     };
@@ -166,7 +166,7 @@ fn hear_reply(dialogue: &mut Dialogue, kept: &mut ArrayVec<u8, 520>, part: Part)
 }
 
 /// Hears what the bytes of a packet have come to.
-fn hear_packets(dialogue: &mut Dialogue, kept: &mut ArrayVec<u8, 520>, part: Part) -> Event
+fn read_packets(dialogue: &mut Dialogue, kept: &mut ArrayVec<u8, 520>, part: Part) -> Event
     requires stage { dialogue.old.stage ≡ Stage.Packets }
     requires part { IsPacketPart kept.old.items part }
     ensures brings { Brings dialogue.old kept.old.items (record { talk = dialogue.new; kept = kept.new.items }) result }
@@ -174,7 +174,7 @@ fn hear_packets(dialogue: &mut Dialogue, kept: &mut ArrayVec<u8, 520>, part: Par
 {
     let event = match part {
         Part::Begun => return Event::None,
-        Part::Whole => hear_packet(dialogue, kept.as_slice()),
+        Part::Whole => read_packet(dialogue, kept.as_slice()),
         Part::End => dialogue.end(Ending::End),
         Part::Garbage => dialogue.end(Ending::Garbage),
     };
@@ -183,9 +183,9 @@ fn hear_packets(dialogue: &mut Dialogue, kept: &mut ArrayVec<u8, 520>, part: Par
 }
 
 /// Hears a packet.
-fn hear_packet(dialogue: &mut Dialogue, bytes: &[u8]) -> Event
+fn read_packet(dialogue: &mut Dialogue, bytes: &[u8]) -> Event
     requires { (n : ℕ) × HasHead bytes.now n × (length bytes.now ≡ 520) }
-    ensures heard { (n : ℕ) × (r : List ℕ) × IsPacket bytes.now n r
+    ensures read { (n : ℕ) × (r : List ℕ) × IsPacket bytes.now n r
         × (at_packet (bearer dialogue.old.wants r) n r dialogue.old ≡ (dialogue.new, result)) }
     ensures told { result ≢ Event.None }
 {
@@ -193,7 +193,7 @@ fn hear_packet(dialogue: &mut Dialogue, bytes: &[u8]) -> Event
         unreachable!();
     };
     match Packet::read(packet) {
-        Ok((number, record)) => dialogue.hear_packet(number, record),
+        Ok((number, record)) => dialogue.read_packet(number, record),
         Err(_) => unreachable!(),
     }
 }

@@ -1,6 +1,6 @@
 //! The laws of what the link of one session takes in its turns.
 ghost use Rattle.std.specs.Prelude.{◌≡◌, ◌++◌, List, ℕ};
-ghost use Rattle.mseed_stream.specs.Device.{Heard, IsFrontOf};
+ghost use Rattle.mseed_stream.specs.Device.{BytesRead, IsPrefixOf};
 ghost use Rattle.slink_feed.specs.declared.turn.LinkFault.{LinkFault};
 ghost use Rattle.slink_feed.specs.declared.turn.Turn.{Turn};
 ghost use Rattle.slink_feed.specs.Attending.{Attends, IsServeFault};
@@ -15,13 +15,14 @@ use crate::session::Phase;
 /// A turn of a session with its link comes to one thing: what the session comes to, which bytes the link takes and what
 /// the turn is are determined by the session, by its feed, and by what the link told.
 pub fn one_turn()
-    ensures turn { (feed : List Window) (old a b : Attending) (before after : Heard) (t u : Turn) → Stands old.session
+    ensures turn { (feed : List Window) (old a b : Attending) (before after : BytesRead) (t u : Turn)
+        → Stands old.session
         → Attends feed old a before after t → Attends feed old b before after u → (t ≡ u) × AreAlike a b }
     // So are the rounds in which it sends what is due.
     ensures rounds { (feed : List Window) (old a b : Attending) → SendsAll feed old a → SendsAll feed old b
         → AreAlike a b }
     // So is a turn in which the link fails: by how many bytes it took, and by what was read before.
-    ensures fault { (feed : List Window) (old a b : Attending) (before after : Heard) (fault : LinkFault)
+    ensures fault { (feed : List Window) (old a b : Attending) (before after : BytesRead) (fault : LinkFault)
         → Stands old.session → IsServeFault feed old a before after fault
         → IsServeFault feed old b before after fault → TookAlike a b }
 {}
@@ -32,12 +33,13 @@ pub fn one_turn()
 /// are none.
 pub fn turns_send_stretches()
     ensures before { (feed : List Window) (old new : Attending) → IsBefore old.session.state.phase
-        → SendsAll feed old new → (new.session ≡ old.session) × (new.said.bytes ≡ old.said.bytes) }
+        → SendsAll feed old new → (new.session ≡ old.session) × (new.written.bytes ≡ old.written.bytes) }
     ensures taken { (feeds : List (List Window)) (old new : Attending) → old.session.state.phase ≡ Phase.Streaming
         → Stands old.session → TakesTurns old feeds new
-        → (bytes : List ℕ) × (new.said.bytes ≡ old.said.bytes ++ bytes) × SendsStretches feeds old.session.state bytes }
-    // Where the link failed in the last turn, it took a front of such bytes.
+        → (bytes : List ℕ) × (new.written.bytes ≡ old.written.bytes ++ bytes)
+        × SendsStretches feeds old.session.state bytes }
+    // Where the link failed in the last turn, it took a prefix of such bytes.
     ensures failed { (feeds : List (List Window)) (old new : Attending) → old.session.state.phase ≡ Phase.Streaming
-        → Stands old.session → FailsInTurn old feeds new → (bytes front : List ℕ) × IsFrontOf front bytes
-        × (new.said.bytes ≡ old.said.bytes ++ front) × SendsStretches feeds old.session.state bytes }
+        → Stands old.session → FailsInTurn old feeds new → (bytes prefix : List ℕ) × IsPrefixOf prefix bytes
+        × (new.written.bytes ≡ old.written.bytes ++ prefix) × SendsStretches feeds old.session.state bytes }
 {}

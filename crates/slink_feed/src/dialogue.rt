@@ -2,7 +2,7 @@
 ghost use Rattle.std.specs.Prelude.{◌≡◌, ◌≢◌, ◌+◌, ◌^◌, ◌<◌, ◌≤◌, IfSome, length};
 ghost use Rattle.slink_wire.specs.Request.{IsSpelled};
 ghost use Rattle.slink_feed.specs.Dialogue.{AreNumbers, IsStage, Reply, answer_of, at_packet, bearer, ended, event_of};
-ghost use Rattle.slink_feed.specs.Dialogue.{heard, if_wanted, is_borne, next_at, says, says_number, says_place};
+ghost use Rattle.slink_feed.specs.Dialogue.{read, if_wanted, is_borne, next_at, says, says_number, says_place};
 ghost use Rattle.slink_feed.specs.Dialogue.{to_answer, want_at, wants_of, with_next};
 ghost use Rattle.slink_feed.specs.Listening.{AwaitsReply};
 
@@ -113,7 +113,7 @@ pub(crate) fn answer_of(line: &[u8]) -> Answer
     }
 }
 
-/// What a client has come to in what it says and hears.
+/// What a client has come to in what it says and reads.
 #[derive(Drop)]
 pub(crate) struct Dialogue {
     mode: Mode,
@@ -235,22 +235,22 @@ impl Dialogue {
     }
 
     /// Hears a reply.
-    pub(crate) fn hear_reply(&mut self, line: &[u8]) -> Event
+    pub(crate) fn read_reply(&mut self, line: &[u8]) -> Event
         requires { AwaitsReply self.old.stage }
-        ensures heard { heard self.old (Reply line.now) ≡ (self.new, result) }
+        ensures read { read self.old (Reply line.now) ≡ (self.new, result) }
         ensures told { result ≢ Event.None }
     {
         match self.stage {
-            Stage::Station(k) => self.hear_station(k, answer_of(line)),
-            Stage::Number(k) => self.hear_number(k, answer_of(line)),
+            Stage::Station(k) => self.read_station(k, answer_of(line)),
+            Stage::Number(k) => self.read_number(k, answer_of(line)),
             Stage::Unlinked | Stage::Packets | Stage::Ended(_) => unreachable!(),
         }
     }
 
     /// Hears the reply to the STATION of a place.
-    fn hear_station(&mut self, k: usize, answer: Answer) -> Event
+    fn read_station(&mut self, k: usize, answer: Answer) -> Event
         requires { k < 16 }
-        ensures heard { to_answer answer k (says_number k self.old) self.old ≡ (self.new, result) }
+        ensures read { to_answer answer k (says_number k self.old) self.old ≡ (self.new, result) }
         ensures told { result ≢ Event.None }
     {
         match answer {
@@ -261,9 +261,9 @@ impl Dialogue {
     }
 
     /// Hears the reply to the DATA or FETCH of a place.
-    fn hear_number(&mut self, k: usize, answer: Answer) -> Event
+    fn read_number(&mut self, k: usize, answer: Answer) -> Event
         requires { k < 16 }
-        ensures heard { to_answer answer k (says_place (k + 1) self.old) self.old ≡ (self.new, result) }
+        ensures read { to_answer answer k (says_place (k + 1) self.old) self.old ≡ (self.new, result) }
         ensures told { result ≢ Event.None }
     {
         match answer {
@@ -274,22 +274,22 @@ impl Dialogue {
     }
 
     /// Hears a packet.
-    pub(crate) fn hear_packet(&mut self, number: u32, bytes: &[u8; 512]) -> Event
+    pub(crate) fn read_packet(&mut self, number: u32, bytes: &[u8; 512]) -> Event
         requires { number < 2 ^ 24 }
-        ensures heard { at_packet (bearer self.old.wants bytes.now) number bytes.now self.old ≡ (self.new, result) }
+        ensures read { at_packet (bearer self.old.wants bytes.now) number bytes.now self.old ≡ (self.new, result) }
         ensures told { result ≢ Event.None }
     {
         match self.bearer(bytes) {
-            Some(k) => self.hear_record(k, number, bytes),
+            Some(k) => self.read_record(k, number, bytes),
             None => self.end(Ending::Foreign),
         }
     }
 
     /// Hears a record of a place.
-    fn hear_record(&mut self, k: usize, number: u32, bytes: &[u8; 512]) -> Event
+    fn read_record(&mut self, k: usize, number: u32, bytes: &[u8; 512]) -> Event
         requires place { k < 16 }
         requires number { number < 2 ^ 24 }
-        ensures heard { if_wanted (next_at self.old.wants k) k number bytes.now self.old ≡ (self.new, result) }
+        ensures read { if_wanted (next_at self.old.wants k) k number bytes.now self.old ≡ (self.new, result) }
         ensures told { result ≢ Event.None }
     {
         match self.next(k) {
@@ -329,7 +329,7 @@ impl Dialogue {
 
     /// Takes nothing more of the link.
     pub(crate) fn end(&mut self, ending: Ending) -> Event
-        ensures heard { ended ending self.old ≡ (self.new, result) }
+        ensures read { ended ending self.old ≡ (self.new, result) }
         ensures told { result ≢ Event.None }
     {
         self.stage = Stage::Ended(ending);

@@ -16,12 +16,13 @@ const ROOM: usize = 1024;
 /// How many bytes the link and the output took in a turn so far.
 #[derive(Clone, Copy)]
 pub(crate) struct Counts {
-    pub(crate) said: usize,
     pub(crate) written: usize,
+    pub(crate) output: usize,
 }
 
-/// Takes a turn with a client's link: reads once, at most 1024 bytes, and takes what it told event by event. A line
-/// goes to the link, and the bytes of a record to the output. The line of `connect` is the caller's to write first.
+/// Takes a turn with a client's link: reads once, at most 1024 bytes, and takes what was read of it event by event. A
+/// line goes to the link, and the bytes of a record to the output. The line of `connect` is the caller's to write
+/// first.
 ///
 /// The answer is `Closed` where the link is at its end; else `Ended` or `Stopped` where the client has ended, and
 /// `Goes` where it hasn't. A client that isn't connected, or has ended, drops what is read.
@@ -35,11 +36,11 @@ pub fn fetch_turn<S: Duplex, W: Sink>(
     link: &mut S,
     output: &mut W,
 ) -> Result<Turn, LinkFault>
-    ensures ok { IfOk result (λ turn. Fetches (fetching client.old (S.said link.old) (W.said output.old))
-        (fetching client.new (S.said link.new) (W.said output.new)) (S.heard link.old) (S.heard link.new) turn) }
+    ensures ok { IfOk result (λ turn. Fetches (fetching client.old (S.written link.old) (W.written output.old))
+        (fetching client.new (S.written link.new) (W.written output.new)) (S.read link.old) (S.read link.new) turn) }
     ensures fault { IfErr result (λ fault. IsFetchFault fault
-        (fetching client.old (S.said link.old) (W.said output.old))
-        (fetching client.new (S.said link.new) (W.said output.new)) (S.heard link.old) (S.heard link.new)) }
+        (fetching client.old (S.written link.old) (W.written output.old))
+        (fetching client.new (S.written link.new) (W.written output.new)) (S.read link.old) (S.read link.new)) }
     // The bytes that the client kept read as what is begun: so the turn tells what they read as with those of the link.
     ensures reading { Reads client.old.talk client.old.kept [] client.old }
 {
@@ -52,28 +53,29 @@ pub fn fetch_turn<S: Duplex, W: Sink>(
     if count == 0 {
         return Ok(Turn::Closed);
     }
-    hear(client, &room[..count], link, output)?;
+    read(client, &room[..count], link, output)?;
     Ok(client.turn())
 }
 
 /// Takes bytes of a link, and delivers what they tell.
-fn hear<L: Sink, W: Sink>(
+fn read<L: Sink, W: Sink>(
     client: &mut Client,
     bytes: &[u8],
     link: &mut L,
     output: &mut W,
 ) -> Result<(), LinkFault>
     requires { length bytes.now ≤ 1024 }
-    ensures ok { OnOk result (Delivers (fetching client.old (L.said link.old) (W.said output.old))
-        (fetching client.new (L.said link.new) (W.said output.new)) bytes.now) }
-    ensures fault { IfErr result (λ fault. FailsAt fault (fetching client.old (L.said link.old) (W.said output.old))
-        (fetching client.new (L.said link.new) (W.said output.new)) bytes.now) }
+    ensures ok { OnOk result (Delivers (fetching client.old (L.written link.old) (W.written output.old))
+        (fetching client.new (L.written link.new) (W.written output.new)) bytes.now) }
+    ensures fault { IfErr result
+        (λ fault. FailsAt fault (fetching client.old (L.written link.old) (W.written output.old))
+        (fetching client.new (L.written link.new) (W.written output.new)) bytes.now) }
     ensures beside { L.beside link.new ≡ L.beside link.old }
 {
     let mut offset = 0;
     let mut counts = Counts {
-        said: 0,
         written: 0,
+        output: 0,
     };
     while offset < bytes.len() {
         if !client.is_linked() {
@@ -93,28 +95,29 @@ fn deliver<L: Sink, W: Sink>(
     output: &mut W,
     counts: Counts,
 ) -> Result<Counts, LinkFault>
-    requires said { counts.said ≤ 2 ^ 32 }
     requires written { counts.written ≤ 2 ^ 32 }
-    ensures ok { IfOk result (λ after. IsDelivered event.now counts after (L.said link.old) (L.said link.new)
-        (W.said output.old) (W.said output.new)) }
-    ensures fault { IfErr result (λ fault. IsUndelivered fault event.now counts (L.said link.old) (L.said link.new)
-        (W.said output.old) (W.said output.new)) }
+    requires output { counts.output ≤ 2 ^ 32 }
+    ensures ok { IfOk result (λ after. IsDelivered event.now counts after (L.written link.old) (L.written link.new)
+        (W.written output.old) (W.written output.new)) }
+    ensures fault { IfErr result (λ fault. IsUndelivered fault event.now counts (L.written link.old)
+        (L.written link.new)
+        (W.written output.old) (W.written output.new)) }
     ensures beside { L.beside link.new ≡ L.beside link.old }
 {
     match event {
         Event::Say(line) => match write_all_of(link, line.as_slice()) {
             Ok(()) => Ok(Counts {
-                said: counts.said + line.len(),
-                written: counts.written,
+                written: counts.written + line.len(),
+                output: counts.output,
             }),
-            Err(count) => Err(LinkFault::Write(counts.said + count)),
+            Err(count) => Err(LinkFault::Write(counts.written + count)),
         },
         Event::Record(_, _, record) => match write_all_of(output, record) {
             Ok(()) => Ok(Counts {
-                said: counts.said,
-                written: counts.written + record.len(),
+                written: counts.written,
+                output: counts.output + record.len(),
             }),
-            Err(count) => Err(LinkFault::Output(counts.written + count)),
+            Err(count) => Err(LinkFault::Output(counts.output + count)),
         },
         Event::None | Event::End | Event::Refused(_) | Event::Gap { .. } => Ok(counts),
         Event::Garbage | Event::Foreign => Ok(counts),

@@ -11,7 +11,7 @@ ghost use Rattle.slink_feed.specs.declared.grant.Mode.{Mode};
 ghost use Rattle.slink_feed.specs.Grant.{grant_of};
 ghost use Rattle.slink_feed.specs.Holding.{GoOn, Turn, numbers_of, talk_behind};
 ghost use Rattle.slink_feed.specs.Listening.{Listening, Reads};
-ghost use Rattle.slink_feed.specs.Sending.{AreAsked, AreShown, Asked, IsHeardFrom, IsStretch, packets_from, packets_of};
+ghost use Rattle.slink_feed.specs.Sending.{AreAsked, AreShown, Asked, IsReadFrom, IsStretch, packets_from, packets_of};
 ghost use Rattle.slink_feed.specs.Serving.{IsAnswer};
 ghost use Rattle.slink_feed.specs.Session.{State, grant_at};
 ghost use Rattle.slink_feed.specs.Window.{Window, oldest_of};
@@ -45,7 +45,7 @@ pub fn a_stretch_is_sent()
         → AreAsked s asked → AreShown k first pushed asked → IsStretch first pushed g.position (packets_of k asked) }
     // Lines leave a session that streams as it is, or close it.
     ensures lines { (feed : List Window) (s new : State) (what : What) (reply : Reply)
-        → s.phase ≡ Phase.Streaming → IsAnswer feed s what new reply → IsHeardFrom s new }
+        → s.phase ≡ Phase.Streaming → IsAnswer feed s what new reply → IsReadFrom s new }
 {}
 
 /// A client tells each record once and in order, over any links and whatever they bring: the numbers of the records of

@@ -58,7 +58,7 @@ impl<A: Allocator> Ring<A> {
     ///
     /// # Errors
     ///
-    /// `Capacity`, else `First`, where that number isn't in its range; else `Memory` where a growth was refused.
+    /// `Capacity`, else `First`, where that number isn't in its range; else `Memory` where an allocation was refused.
     pub fn new(alloc: A, place: Place, capacity: usize, first: u32) -> Result<Self, RingFault>
         ensures empty { IfOk result
             (λ r. r ≡ record { place = place; capacity = capacity; records = []; next = first }) }

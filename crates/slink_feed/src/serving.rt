@@ -1,7 +1,7 @@
 //! One turn of a session with its link.
 ghost use Rattle.std.specs.Prelude.{◌≡◌, ◌≤◌, ◌<◌, IfErr, IfOk, OnOk, length};
 ghost use Rattle.slink_feed.specs.Attending.{Attends, IsServeFault, RepliesToAll, attending};
-ghost use Rattle.slink_feed.specs.Replying.{HasSent, IsReplyFault, IsSaid, IsSayFault, IsSendFault, waits_after};
+ghost use Rattle.slink_feed.specs.Replying.{HasSent, IsReplyFault, IsWritten, IsSayFault, IsSendFault, waits_after};
 ghost use Rattle.slink_feed.specs.Rounds.{place_behind};
 ghost use Rattle.slink_feed.specs.Running.{Stands};
 ghost use Rattle.slink_feed.specs.Session.{Fits};
@@ -35,14 +35,14 @@ pub fn serve_turn<A: Allocator, S: Duplex>(
 ) -> Result<Turn, LinkFault>
     requires fits { Fits feed.now session.old.state }
     requires stands { Stands session.old }
-    ensures ok { IfOk result (λ turn. Attends feed.now (attending session.old (S.said link.old))
-        (attending session.new (S.said link.new)) (S.heard link.old) (S.heard link.new) turn) }
-    ensures fault { IfErr result (λ fault. IsServeFault feed.now (attending session.old (S.said link.old))
-        (attending session.new (S.said link.new)) (S.heard link.old) (S.heard link.new) fault) }
+    ensures ok { IfOk result (λ turn. Attends feed.now (attending session.old (S.written link.old))
+        (attending session.new (S.written link.new)) (S.read link.old) (S.read link.new) turn) }
+    ensures fault { IfErr result (λ fault. IsServeFault feed.now (attending session.old (S.written link.old))
+        (attending session.new (S.written link.new)) (S.read link.old) (S.read link.new) fault) }
     ensures fits { Fits feed.now session.new.state }
     ensures stands { Stands session.new }
 {
-    let said = send_all(session, feed, link)?;
+    let written = send_all(session, feed, link)?;
     if session.is_closed() {
         return Ok(Turn::Closed);
     }
@@ -54,7 +54,7 @@ pub fn serve_turn<A: Allocator, S: Duplex>(
     if count == 0 {
         return Ok(Turn::Closed);
     }
-    reply_to_all(session, feed, &room[..count], link, said)?;
+    reply_to_all(session, feed, &room[..count], link, written)?;
     Ok(Turn::Goes)
 }
 
@@ -66,15 +66,15 @@ fn send_all<A: Allocator, L: Sink>(
 ) -> Result<usize, LinkFault>
     requires fits { Fits feed.now session.old.state }
     requires stands { Stands session.old }
-    ensures ok { IfOk result (λ said. HasSent feed.now (attending session.old (L.said link.old))
-        (attending session.new (L.said link.new)) said) }
-    ensures fault { IfErr result (λ fault. IsSendFault fault feed.now (attending session.old (L.said link.old))
-        (attending session.new (L.said link.new))) }
+    ensures ok { IfOk result (λ written. HasSent feed.now (attending session.old (L.written link.old))
+        (attending session.new (L.written link.new)) written) }
+    ensures fault { IfErr result (λ fault. IsSendFault fault feed.now (attending session.old (L.written link.old))
+        (attending session.new (L.written link.new))) }
     ensures fits { Fits feed.now session.new.state }
     ensures stands { Stands session.new }
     ensures beside { L.beside link.new ≡ L.beside link.old }
 {
-    let mut said = 0;
+    let mut written = 0;
     let mut k = 0;
     let mut waits = 0;
     while waits < feed.len() {
@@ -82,11 +82,11 @@ fn send_all<A: Allocator, L: Sink>(
             break;
         }
         let sent = session.packet(feed, k);
-        said = say(link, sent.bytes(), said)?;
+        written = say(link, sent.bytes(), written)?;
         waits = count_waits(&sent, waits);
         k = next_place(feed, k);
     }
-    Ok(said)
+    Ok(written)
 }
 
 /// How often there was nothing to give, one after another.
@@ -121,19 +121,19 @@ fn reply_to_all<A: Allocator, L: Sink>(
     requires stands { Stands session.old }
     requires few { length bytes.now ≤ 512 }
     requires room { before ≤ 1099511627776 }
-    ensures ok { OnOk result (RepliesToAll feed.now (attending session.old (L.said link.old))
-        (attending session.new (L.said link.new)) bytes.now) }
-    ensures fault { IfErr result (λ fault. IsReplyFault fault feed.now (attending session.old (L.said link.old))
-        (attending session.new (L.said link.new)) bytes.now before) }
+    ensures ok { OnOk result (RepliesToAll feed.now (attending session.old (L.written link.old))
+        (attending session.new (L.written link.new)) bytes.now) }
+    ensures fault { IfErr result (λ fault. IsReplyFault fault feed.now (attending session.old (L.written link.old))
+        (attending session.new (L.written link.new)) bytes.now before) }
     ensures fits { Fits feed.now session.new.state }
     ensures stands { Stands session.new }
     ensures beside { L.beside link.new ≡ L.beside link.old }
 {
     let mut start = 0;
-    let mut said = before;
+    let mut written = before;
     while start < bytes.len() {
         let (used, reply) = session.take(feed, &bytes[start..]);
-        said = say(link, reply.bytes(), said)?;
+        written = say(link, reply.bytes(), written)?;
         start += used;
     }
     Ok(())
@@ -143,9 +143,9 @@ fn reply_to_all<A: Allocator, L: Sink>(
 fn say<L: Sink>(link: &mut L, bytes: &[u8], before: usize) -> Result<usize, LinkFault>
     requires room { before ≤ 2199023255552 }
     requires few { length bytes.now ≤ 520 }
-    ensures ok { IfOk result (λ after. IsSaid (L.said link.old) (L.said link.new) bytes.now before after) }
+    ensures ok { IfOk result (λ after. IsWritten (L.written link.old) (L.written link.new) bytes.now before after) }
     ensures fault { IfErr result
-        (λ fault. IsSayFault fault (L.said link.old) (L.said link.new) bytes.now before) }
+        (λ fault. IsSayFault fault (L.written link.old) (L.written link.new) bytes.now before) }
     ensures beside { L.beside link.new ≡ L.beside link.old }
 {
     match write_all_of(link, bytes) {

@@ -3,7 +3,7 @@ use Rattle.std.proofs.Common.{◌≡◌, ◌⊎◌, ℕ, ◌+◌, ◌<◌, ◌�
 use Rattle.std.proofs.Common.{◌++◌, append_assoc, append-nil, length, length-append, take, Option, Some, None, Result}
 use Rattle.std.proofs.Common.{Ok, Err, IfOk, IfErr}
 use Rattle.std.proofs.Math.Seq.{take-append-add}
-use Rattle.mseed_stream.specs.Device.{Heard, IsFrontOf, Said, nothing_heard, nothing_said}
+use Rattle.mseed_stream.specs.Device.{BytesRead, IsPrefixOf, BytesWritten, nothing_read, nothing_written}
 use Rattle.mseed_stream.specs.Exchanges.{Exchange, exchange}
 use Rattle.slink_feed.specs.declared.dialogue.Ending.{Ending}
 use Rattle.slink_feed.specs.declared.dialogue.Ending.TheVariants as endings
@@ -18,12 +18,13 @@ use Rattle.slink_feed.specs.declared.turn.Turn.{Turn}
 use Rattle.slink_feed.specs.Delivered.{Numbered}
 use Rattle.slink_feed.specs.Dialogue.{Talk, Wants, says_place, to_place, want_at}
 use Rattle.slink_feed.specs.Fetching.{Delivers, FailsToSay, FailsToWrite, Fetches, IsFetchFault, ReadsOn, bytes_told}
-use Rattle.slink_feed.specs.Fetching.{fetching, line_said, lines_said, record_told, turn_after, turn_of}
+use Rattle.slink_feed.specs.Fetching.{fetching, line_written, lines_written, record_told, turn_after, turn_of}
 use Rattle.slink_feed.specs.Listening.{IsLinked, Listening, Reads}
 use Rattle.slink_feed.specs.Told.{HasTold, bytes_in, record_in, records_told}
-use Rattle.slink_feed.specs.Turns.{Took, TookFront}
+use Rattle.slink_feed.specs.Turns.{Took, TookPrefix}
 use Rattle.slink_feed.proofs.OneReading as one
-use Rattle.slink_feed.proofs.Telling.{bytes_both, records_both, told_both, told_far, told_link, told_none, wants_said}
+use Rattle.slink_feed.proofs.Telling.{bytes_both, records_both, told_both, told_far, told_link, told_none}
+use Rattle.slink_feed.proofs.Telling.{wants_written}
 use Rattle.slink_links.specs.declared.fetching.FetchEnd.{FetchEnd}
 use Rattle.slink_links.specs.declared.fetching.FetchEnd.TheVariants.{Done, Refused, BadFeed, WriteFailed, LinkFailed}
 use Rattle.slink_links.specs.Fetched.{AreTaken, HasFetched, HasReadEach, HasReadLink, HasReadLinks, HasTurned}
@@ -31,18 +32,18 @@ use Rattle.slink_links.specs.Fetched.{HaveMoved, IsFetchedOver, IsReading, IsUne
 use Rattle.slink_links.specs.Fetched.{all, but_last, end_by, failures_by, over_none, over_one_more, over_the_last}
 
 -- What the output takes, one part after another.
-took_none : (old : Said) → Took old old []
+took_none : (old : BytesWritten) → Took old old []
 took_none old = record { bytes = sym (append-nil old.bytes); failures = refl }
 
-took_both : (a b c : Said) (xs ys : List ℕ) → Took a b xs → Took b c ys → Took a c (xs ++ ys)
+took_both : (a b c : BytesWritten) (xs ys : List ℕ) → Took a b xs → Took b c ys → Took a c (xs ++ ys)
 took_both a b c xs ys p q = record {
   bytes = q.bytes ∙ (ap (λ z. z ++ ys) p.bytes ∙ append_assoc a.bytes xs ys);
   failures = q.failures ∙ p.failures;
 }
 
-took_front : (a b c : Said) (xs ys : List ℕ) (n : ℕ) → Took a b xs → TookFront b c ys n
-    → TookFront a c (xs ++ ys) (length xs + n)
-took_front a b c xs ys n p q = record {
+took_prefix : (a b c : BytesWritten) (xs ys : List ℕ) (n : ℕ) → Took a b xs → TookPrefix b c ys n
+    → TookPrefix a c (xs ++ ys) (length xs + n)
+took_prefix a b c xs ys n p q = record {
   bytes = q.bytes ∙ (ap (λ z. z ++ take n ys) p.bytes
       ∙ (append_assoc a.bytes xs (take n ys) ∙ ap (λ z. a.bytes ++ z) (sym (take-append-add xs ys n))));
   part = omega (arith, q.part, length-append xs ys);
@@ -50,34 +51,36 @@ took_front a b c xs ys n p q = record {
 }
 
 -- What a sink took, said of an equal list.
-pub took_as : (a b : Said) (xs ys : List ℕ) → b.bytes ≡ a.bytes ++ xs → b.failures ≡ a.failures → xs ≡ ys → Took a b ys
+pub took_as : (a b : BytesWritten) (xs ys : List ℕ) → b.bytes ≡ a.bytes ++ xs → b.failures ≡ a.failures → xs ≡ ys
+    → Took a b ys
 took_as a b xs ys bytes fine same = subst (Took a b) same (record { bytes = bytes; failures = fine })
 
-pub took_front_as : (a b : Said) (xs ys : List ℕ) (n : ℕ) → b.bytes ≡ a.bytes ++ take n xs → n < length xs
-    → b.failures ≡ a.failures + 1 → xs ≡ ys → TookFront a b ys n
-took_front_as a b xs ys n bytes within failed same =
-    subst (λ zs. TookFront a b zs n) same (record { bytes = bytes; part = within; failures = failed })
+pub took_prefix_as : (a b : BytesWritten) (xs ys : List ℕ) (n : ℕ) → b.bytes ≡ a.bytes ++ take n xs → n < length xs
+    → b.failures ≡ a.failures + 1 → xs ≡ ys → TookPrefix a b ys n
+took_prefix_as a b xs ys n bytes within failed same =
+    subst (λ zs. TookPrefix a b zs n) same (record { bytes = bytes; part = within; failures = failed })
 
-takes_none : (old : Said) → TakesRecords [] old old
+takes_none : (old : BytesWritten) → TakesRecords [] old old
 takes_none old = all (took_none old)
 
-takes_both : (a b c : Said) (some more : List Numbered) → Took a b (bytes_in some) → TakesRecords more b c
+takes_both : (a b c : BytesWritten) (some more : List Numbered) → Took a b (bytes_in some) → TakesRecords more b c
     → TakesRecords (some ++ more) a c
 takes_both a b c some more p q = elim q [
   | all took ↦ all (subst (Took a c) (sym (bytes_both some more))
       (took_both a b c (bytes_in some) (bytes_in more) p took))
-  | but_last front last n is behind took ↦
-      but_last (some ++ front) last (length (bytes_in some) + n) (ap (λ rs. some ++ rs) is
-      ∙ sym (append_assoc some front (last ∷ [])))
-      (omega (arith, behind, ap length (bytes_both some front), length-append (bytes_in some) (bytes_in front)))
-      (subst (λ bytes. TookFront a c bytes (length (bytes_in some) + n)) (sym (bytes_both some more))
-      (took_front a b c (bytes_in some) (bytes_in more) n p took))
+  | but_last prefix last n is behind took ↦
+      but_last (some ++ prefix) last (length (bytes_in some) + n) (ap (λ rs. some ++ rs) is
+      ∙ sym (append_assoc some prefix (last ∷ [])))
+      (omega (arith, behind, ap length (bytes_both some prefix), length-append (bytes_in some) (bytes_in prefix)))
+      (subst (λ bytes. TookPrefix a c bytes (length (bytes_in some) + n)) (sym (bytes_both some more))
+      (took_prefix a b c (bytes_in some) (bytes_in more) n p took))
 ]
 
 -- Where the output didn't fail, it took all.
-all_taken : (rs : List Numbered) (a b : Said) → TakesRecords rs a b → b.failures ≡ a.failures → Took a b (bytes_in rs)
+all_taken : (rs : List Numbered) (a b : BytesWritten) → TakesRecords rs a b → b.failures ≡ a.failures
+    → Took a b (bytes_in rs)
 all_taken rs a b takes fine =
-    elim takes [ all took ↦ took | but_last front last n is behind took ↦ absurd (omega (arith, took.failures, fine)) ]
+    elim takes [ all took ↦ took | but_last prefix last n is behind took ↦ absurd (omega (arith, took.failures, fine)) ]
 
 -- the bytes of the records that events tell of
 record_bytes : (e : Event) → record_told e ≡ bytes_in (record_in e)
@@ -95,16 +98,16 @@ told_bytes [] = refl
 told_bytes (e ∷ es) = ap (λ bytes. bytes ++ bytes_told es) (record_bytes e)
     ∙ (ap (λ bytes. bytes_in (record_in e) ++ bytes) (told_bytes es) ∙ sym (bytes_both (record_in e) (records_told es)))
 
-lines_both : (es : List Event) (e : Event) → lines_said (es ++ e ∷ []) ≡ lines_said es ++ line_said e
-lines_both [] e = append-nil (line_said e)
-lines_both (x ∷ es) e = ap (λ bytes. line_said x ++ bytes) (lines_both es e)
-    ∙ sym (append_assoc (line_said x) (lines_said es) (line_said e))
+lines_both : (es : List Event) (e : Event) → lines_written (es ++ e ∷ []) ≡ lines_written es ++ line_written e
+lines_both [] e = append-nil (line_written e)
+lines_both (x ∷ es) e = ap (λ bytes. line_written x ++ bytes) (lines_both es e)
+    ∙ sym (append_assoc (line_written x) (lines_written es) (line_written e))
 
 records_last : (es : List Event) (e : Event) → records_told (es ++ e ∷ []) ≡ records_told es ++ record_in e
 records_last es e = records_both es (e ∷ []) ∙ ap (λ rs. records_told es ++ rs) (append-nil (record_in e))
 
 -- what a line that says something tells of: no record
-line_alone : (e : Event) → 0 < length (line_said e) → record_in e ≡ []
+line_alone : (e : Event) → 0 < length (line_written e) → record_in e ≡ []
 line_alone events.None some = refl
 line_alone (events.Say line) some = refl
 line_alone (events.Record k n bytes) some = absurd (omega (arith, some))
@@ -126,17 +129,18 @@ record_alone events.Garbage some = absurd (omega (arith, some))
 record_alone events.Foreign some = absurd (omega (arith, some))
 
 -- a line that wasn't taken whole
-unsaid_none : (es : List Event) (e : Event) (n : ℕ) → n < length (lines_said (es ++ e ∷ []))
-    → length (lines_said es) ≤ n → records_told (es ++ e ∷ []) ≡ records_told es
-unsaid_none es e n part behind =
-    let long : 0 < length (line_said e) =
-    omega (arith, part, behind, ap length (lines_both es e), length-append (lines_said es) (line_said e)) in
+unwritten_none : (es : List Event) (e : Event) (n : ℕ) → n < length (lines_written (es ++ e ∷ []))
+    → length (lines_written es) ≤ n → records_told (es ++ e ∷ []) ≡ records_told es
+unwritten_none es e n part behind =
+    let long : 0 < length (line_written e) =
+    omega (arith, part, behind, ap length (lines_both es e), length-append (lines_written es) (line_written e)) in
     records_last es e ∙ (ap (λ rs. records_told es ++ rs) (line_alone e long) ∙ append-nil (records_told es))
 
 -- a record that wasn't taken whole
-unwritten : (es : List Event) (e : Event) (n : ℕ) (old new : Said) → TookFront old new (bytes_told (es ++ e ∷ [])) n
+left_unwritten : (es : List Event) (e : Event) (n : ℕ) (old new : BytesWritten)
+    → TookPrefix old new (bytes_told (es ++ e ∷ [])) n
     → length (bytes_told es) ≤ n → TakesRecords (records_told (es ++ e ∷ [])) old new
-unwritten es e n old new took behind =
+left_unwritten es e n old new took behind =
     let whole : bytes_told (es ++ e ∷ []) ≡ bytes_in (records_told es) ++ bytes_in (record_in e) =
     told_bytes (es ++ e ∷ []) ∙ (ap bytes_in (records_last es e) ∙ bytes_both (records_told es) (record_in e)) in
     let sum : length (bytes_told (es ++ e ∷ [])) ≡ length (bytes_in (records_told es)) + length
@@ -147,7 +151,7 @@ unwritten es e n old new took behind =
     let last : (r : Numbered) × (record_in e ≡ r ∷ []) = record_alone e long in
     but_last (records_told es) last.0 n (records_last es e ∙ ap (λ rs. records_told es ++ rs) last.1)
     (omega (arith, behind, ap length (told_bytes es)))
-    (subst (λ bytes. TookFront old new bytes n) (told_bytes (es ++ e ∷ [])) took)
+    (subst (λ bytes. TookPrefix old new bytes n) (told_bytes (es ++ e ∷ [])) took)
 
 -- Reading on, one turn after another.
 on_none : (now : Listening) → ReadsOn now [] [] now
@@ -170,9 +174,9 @@ same_by_none old new told reading on =
     (on reading.0 reading.1 reading.2 reading.3) in
     sym (one.one_reading reading.0 reading.1 reading.2 (reading.2 ++ told) old new reading.3 again).1
 
-no_front : (xs ys : List ℕ) → IsFrontOf xs ys → ys ≡ [] → xs ≡ []
-no_front [] ys front none = refl
-no_front (x ∷ xs) ys front none = absurd (let bad : [] ≡ x ∷ (xs ++ front.0) = sym none ∙ front.1 in cc bad)
+no_prefix : (xs ys : List ℕ) → IsPrefixOf xs ys → ys ≡ [] → xs ≡ []
+no_prefix [] ys prefix none = refl
+no_prefix (x ∷ xs) ys prefix none = absurd (let bad : [] ≡ x ∷ (xs ++ prefix.0) = sym none ∙ prefix.1 in cc bad)
 
 reading_on : (old new : Listening) (bytes : List ℕ) (told : List Event) → IsReading old → ReadsOn old bytes told new
     → IsReading new
@@ -224,24 +228,25 @@ goes_linked (b ∷ bs) (Number k) some e = tt
 goes_linked (b ∷ bs) Packets some e = tt
 goes_linked (b ∷ bs) (Ended ending) some e = absurd (never_goes ending e)
 
-front_taken : (end : Option FetchEnd) (before after : Heard) (bytes taken : List ℕ)
-    → after.bytes ≡ before.bytes ++ bytes → IsFrontOf taken bytes → (end ≡ None → taken ≡ bytes)
+prefix_taken : (end : Option FetchEnd) (before after : BytesRead) (bytes taken : List ℕ)
+    → after.bytes ≡ before.bytes ++ bytes → IsPrefixOf taken bytes → (end ≡ None → taken ≡ bytes)
     → AreTaken end taken before after
-front_taken end before after bytes taken heard front whole = record {
-  front = (front.0, heard ∙ (ap (λ xs. before.bytes ++ xs) front.1 ∙ sym (append_assoc before.bytes taken front.0)));
-  whole = λ goes. heard ∙ ap (λ xs. before.bytes ++ xs) (sym (whole goes));
+prefix_taken end before after bytes taken read prefix whole = record {
+  prefix = (prefix.0, read ∙ (ap (λ xs. before.bytes ++ xs) prefix.1 ∙ sym (append_assoc before.bytes taken prefix.0)));
+  whole = λ goes. read ∙ ap (λ xs. before.bytes ++ xs) (sym (whole goes));
 }
 
-none_taken : (end : Option FetchEnd) (before after : Heard) → after.bytes ≡ before.bytes → AreTaken end [] before after
-none_taken end before after same = front_taken end before after [] [] (same ∙ sym (append-nil before.bytes)) ([], refl)
+none_taken : (end : Option FetchEnd) (before after : BytesRead) → after.bytes ≡ before.bytes
+    → AreTaken end [] before after
+none_taken end before after same = prefix_taken end before after [] [] (same ∙ sym (append-nil before.bytes)) ([], refl)
     (λ goes. refl)
 
-taken_both : (end : Option FetchEnd) (a b c : Heard) (xs ys : List ℕ) → AreTaken None xs a b → AreTaken end ys b c
+taken_both : (end : Option FetchEnd) (a b c : BytesRead) (xs ys : List ℕ) → AreTaken None xs a b → AreTaken end ys b c
     → AreTaken end (xs ++ ys) a c
 taken_both end a b c xs ys p q =
     let joined : (zs : List ℕ) → (b.bytes ++ ys) ++ zs ≡ (a.bytes ++ (xs ++ ys)) ++ zs =
     λ zs. ap (λ ws. ws ++ zs) (ap (λ ws. ws ++ ys) (p.whole refl) ∙ append_assoc a.bytes xs ys) in record {
-      front = (q.front.0, q.front.1 ∙ joined q.front.0);
+      prefix = (q.prefix.0, q.prefix.1 ∙ joined q.prefix.0);
       whole = λ goes. q.whole goes ∙ (ap (λ ws. ws ++ ys) (p.whole refl) ∙ append_assoc a.bytes xs ys);
     }
 
@@ -261,14 +266,14 @@ fine_turn (b ∷ bs) Packets = refl
 fine_turn (b ∷ bs) (Ended ending) = fine_stopped ending
 
 unended_none : (old new : Listening) (bytes taken : List ℕ) (told : List Event) → IsReading old
-    → IsUnended old.talk.stage → ReadsOn old taken told new → IsFrontOf taken bytes → bytes ≡ []
+    → IsUnended old.talk.stage → ReadsOn old taken told new → IsPrefixOf taken bytes → bytes ≡ []
     → IsUnended new.talk.stage
-unended_none old new bytes taken told reading unended on front none =
-    let nothing : taken ≡ [] = no_front taken bytes front none in
+unended_none old new bytes taken told reading unended on prefix none =
+    let nothing : taken ≡ [] = no_prefix taken bytes prefix none in
     subst (λ (now : Listening). IsUnended now.talk.stage)
     (sym (same_by_none old new told reading (subst (λ xs. ReadsOn old xs told new) nothing on))) unended
 
-turned_ok : (turn : Turn) (old new : Listening) (s0 s1 w0 w1 : Said) (h0 h1 : Heard)
+turned_ok : (turn : Turn) (old new : Listening) (s0 s1 w0 w1 : BytesWritten) (h0 h1 : BytesRead)
     → Fetches (fetching old s0 w0) (fetching new s1 w1) h0 h1 turn → IsReading old → IsLinked old.talk.stage
     → HasTurned (end_by (Ok turn)) old new h0 h1 w0 w1
 turned_ok turn old new s0 s1 w0 w1 h0 h1 f reading linked =
@@ -278,60 +283,61 @@ turned_ok turn old new s0 s1 w0 w1 h0 h1 f reading linked =
     let by : end_by (Ok turn) ≡ end_by (Ok (turn_after f.bytes new.talk.stage)) = ap (λ t. end_by (Ok t)) f.turn_is in
     record {
       bytes = d.takes.taken;
-      taken = front_taken (end_by (Ok turn)) h0 h1 f.bytes d.takes.taken (ap (λ (h : Heard). h.bytes) f.heard)
-          d.takes.front (λ goes. d.whole (goes_linked f.bytes new.talk.stage some (sym by ∙ goes)));
+      taken = prefix_taken (end_by (Ok turn)) h0 h1 f.bytes d.takes.taken (ap (λ (h : BytesRead). h.bytes) f.read)
+          d.takes.prefix (λ goes. d.whole (goes_linked f.bytes new.talk.stage some (sym by ∙ goes)));
       told = d.told;
       reads = d.takes.reads;
       took = all took;
       stands = subst (λ end. StandsBy end old new) (sym by)
           (stands_turn f.bytes new.talk.stage old new refl some
           (unended_none old new f.bytes d.takes.taken d.told reading (linked_unended old.talk.stage linked)
-          d.takes.reads d.takes.front));
+          d.takes.reads d.takes.prefix));
       failures = took.failures ∙ let none : failures_by (end_by (Ok turn)) ≡ 0 =
           ap failures_by by ∙ fine_turn f.bytes new.talk.stage in omega (arith, none);
     }
 
-turned_err : (fault : LinkFault) (old new : Listening) (s0 s1 w0 w1 : Said) (h0 h1 : Heard)
+turned_err : (fault : LinkFault) (old new : Listening) (s0 s1 w0 w1 : BytesWritten) (h0 h1 : BytesRead)
     → IsFetchFault fault (fetching old s0 w0) (fetching new s1 w1) h0 h1 → IsReading old → IsLinked old.talk.stage
     → HasTurned (end_by (Err fault)) old new h0 h1 w0 w1
 turned_err faults.Read old new s0 s1 w0 w1 h0 h1 f reading linked =
     let client : new ≡ old = ap (λ x. x.client) f.0 in
     let output : w1 ≡ w0 = ap (λ x. x.output) f.0 in record {
       bytes = [];
-      taken = none_taken (Some LinkFailed) h0 h1 (ap (λ (h : Heard). h.bytes) f.1);
+      taken = none_taken (Some LinkFailed) h0 h1 (ap (λ (h : BytesRead). h.bytes) f.1);
       told = [];
       reads = subst (ReadsOn old [] []) (sym client) (on_none old);
       took = subst (TakesRecords [] w0) (sym output) (takes_none w0);
       stands = inl (subst (λ (now : Listening). IsUnended now.talk.stage) (sym client)
           (linked_unended old.talk.stage linked));
-      failures = ap (λ (w : Said). w.failures) output ∙ omega arith;
+      failures = ap (λ (w : BytesWritten). w.failures) output ∙ omega arith;
     }
 turned_err (faults.Write n) old new s0 s1 w0 w1 h0 h1 f reading linked =
     let x : FailsToSay (fetching old s0 w0) (fetching new s1 w1) f.bytes n = f.fails in
     let took : Took w0 w1 (bytes_in (records_told x.told)) = subst (Took w0 w1) (told_bytes x.told) x.output in record {
       bytes = x.takes.taken;
-      taken = front_taken (Some LinkFailed) h0 h1 f.bytes x.takes.taken (ap (λ (h : Heard). h.bytes) f.heard)
-          x.takes.front (λ goes. absurd (some_end LinkFailed goes));
+      taken = prefix_taken (Some LinkFailed) h0 h1 f.bytes x.takes.taken (ap (λ (h : BytesRead). h.bytes) f.read)
+          x.takes.prefix (λ goes. absurd (some_end LinkFailed goes));
       told = x.told ++ x.last ∷ [];
       reads = x.takes.reads;
-      took = subst (λ rs. TakesRecords rs w0 w1) (sym (unsaid_none x.told x.last n x.said.part x.behind)) (all took);
+      took = subst (λ rs. TakesRecords rs w0 w1) (sym (unwritten_none x.told x.last n x.written.part x.behind))
+          (all took);
       stands = inl (linked_unended new.talk.stage x.linked);
       failures = took.failures ∙ omega arith;
     }
 turned_err (faults.Output n) old new s0 s1 w0 w1 h0 h1 f reading linked =
     let x : FailsToWrite (fetching old s0 w0) (fetching new s1 w1) f.bytes n = f.fails in record {
       bytes = x.takes.taken;
-      taken = front_taken (Some WriteFailed) h0 h1 f.bytes x.takes.taken (ap (λ (h : Heard). h.bytes) f.heard)
-          x.takes.front (λ goes. absurd (some_end WriteFailed goes));
+      taken = prefix_taken (Some WriteFailed) h0 h1 f.bytes x.takes.taken (ap (λ (h : BytesRead). h.bytes) f.read)
+          x.takes.prefix (λ goes. absurd (some_end WriteFailed goes));
       told = x.told ++ x.last ∷ [];
       reads = x.takes.reads;
-      took = unwritten x.told x.last n w0 w1 x.output x.behind;
+      took = left_unwritten x.told x.last n w0 w1 x.output x.behind;
       stands = linked_unended new.talk.stage x.linked;
       failures = x.output.failures;
     }
 
 -- what one turn comes to
-pub turned : (r : Result Turn LinkFault) (old new : Listening) (s0 s1 w0 w1 : Said) (h0 h1 : Heard)
+pub turned : (r : Result Turn LinkFault) (old new : Listening) (s0 s1 w0 w1 : BytesWritten) (h0 h1 : BytesRead)
     → IfOk r (λ turn. Fetches (fetching old s0 w0) (fetching new s1 w1) h0 h1 turn)
     → IfErr r (λ fault. IsFetchFault fault (fetching old s0 w0) (fetching new s1 w1) h0 h1) → IsReading old
     → IsLinked old.talk.stage → HasTurned (end_by r) old new h0 h1 w0 w1
@@ -341,14 +347,14 @@ turned (Err e) old new s0 s1 w0 w1 h0 h1 ok fault reading linked =
     turned_err e old new s0 s1 w0 w1 h0 h1 fault reading linked
 
 -- no turn yet
-pub turned_none : (now : Listening) (heard : Heard) (said : Said) → IsLinked now.talk.stage
-    → HasTurned None now now heard heard said said
-turned_none now heard said linked = record {
+pub turned_none : (now : Listening) (read : BytesRead) (written : BytesWritten) → IsLinked now.talk.stage
+    → HasTurned None now now read read written written
+turned_none now read written linked = record {
   bytes = [];
-  taken = none_taken None heard heard refl;
+  taken = none_taken None read read refl;
   told = [];
   reads = on_none now;
-  took = takes_none said;
+  took = takes_none written;
   stands = linked;
   failures = omega arith;
 }
@@ -367,7 +373,7 @@ stands_on (Some LinkFailed) a b c linked stands =
     ]
 
 -- one turn after another
-pub turned_both : (end : Option FetchEnd) (a b c : Listening) (h i j : Heard) (s t u : Said)
+pub turned_both : (end : Option FetchEnd) (a b c : Listening) (h i j : BytesRead) (s t u : BytesWritten)
     → HasTurned None a b h i s t → HasTurned end b c i j t u → HasTurned end a c h j s u
 turned_both end a b c h i j s t u p q =
     let took : Took s t (bytes_in (records_told p.told)) =
@@ -383,11 +389,11 @@ turned_both end a b c h i j s t u p q =
     }
 
 -- as many turns as there may be
-pub turned_out : (a b : Listening) (h i : Heard) (s t : Said) → HasTurned None a b h i s t
+pub turned_out : (a b : Listening) (h i : BytesRead) (s t : BytesWritten) → HasTurned None a b h i s t
     → HasTurned (Some LinkFailed) a b h i s t
 turned_out a b h i s t p = record {
   bytes = p.bytes;
-  taken = record { front = p.taken.front; whole = λ goes. absurd (some_end LinkFailed goes) };
+  taken = record { prefix = p.taken.prefix; whole = λ goes. absurd (some_end LinkFailed goes) };
   told = p.told;
   reads = p.reads;
   took = p.took;
@@ -395,25 +401,25 @@ turned_out a b h i s t p = record {
   failures = p.failures;
 }
 
-pub turned_reading : (end : Option FetchEnd) (a b : Listening) (h i : Heard) (s t : Said) → IsReading a
+pub turned_reading : (end : Option FetchEnd) (a b : Listening) (h i : BytesRead) (s t : BytesWritten) → IsReading a
     → HasTurned end a b h i s t → IsReading b
 turned_reading end a b h i s t reading p = reading_on a b p.bytes p.told reading p.reads
 
 -- A new link changes nothing of what is wanted.
-said_linked : (t : Talk) (o : Option Wanted) → IsLinked (to_place o 0 t).0.stage
-said_linked t None = tt
-said_linked t (Some w) = tt
+written_linked : (t : Talk) (o : Option Wanted) → IsLinked (to_place o 0 t).0.stage
+written_linked t None = tt
+written_linked t (Some w) = tt
 
 pub connected_linked : (old : Talk) (new : Talk) (event : Event) → says_place 0 old ≡ (new, event) → IsLinked new.stage
 connected_linked old new event says =
-    subst (λ (t : Talk). IsLinked t.stage) (ap (λ p. p.0) says) (said_linked old (want_at old.wants 0))
+    subst (λ (t : Talk). IsLinked t.stage) (ap (λ p. p.0) says) (written_linked old (want_at old.wants 0))
 
 connected_unended : (old : Talk) (new : Talk) (event : Event) → says_place 0 old ≡ (new, event) → IsUnended new.stage
 connected_unended old new event says = linked_unended new.stage (connected_linked old new event says)
 
 pub connected_wants : (old : Talk) (new : Talk) (event : Event) → says_place 0 old ≡ (new, event)
     → new.wants ≡ old.wants
-connected_wants old new event says = ap (λ p. p.0.wants) (sym says) ∙ wants_said old (want_at old.wants 0)
+connected_wants old new event says = ap (λ p. p.0.wants) (sym says) ∙ wants_written old (want_at old.wants 0)
 
 moved_by : (old new : Wants) (records : List Numbered) → HasTold old new records → HaveMoved old new records
 moved_by old new records told k n short at = told_far old new records k n told short at
@@ -431,7 +437,7 @@ stands_linked LinkFailed old now new unended stands =
     ]
 
 -- a link, from its first byte on
-pub fetched_link : (end : FetchEnd) (old now new : Listening) (event : Event) (h i : Heard) (s t : Said)
+pub fetched_link : (end : FetchEnd) (old now new : Listening) (event : Event) (h i : BytesRead) (s t : BytesWritten)
     → says_place 0 old.talk ≡ (now.talk, event) → Reads now.talk [] [] now → HasTurned (Some end) now new h i s t
     → HasFetched end old new s t
 fetched_link end old now new event h i s t says reads p =
@@ -448,7 +454,7 @@ fetched_link end old now new event h i s t says reads p =
       failures = p.failures;
     }
 
-pub read_link : (end : FetchEnd) (old now new : Listening) (event : Event) (h i : Heard) (s t : Said)
+pub read_link : (end : FetchEnd) (old now new : Listening) (event : Event) (h i : BytesRead) (s t : BytesWritten)
     → says_place 0 old.talk ≡ (now.talk, event) → Reads now.talk [] [] now → HasTurned (Some end) now new h i s t
     → HasReadLink old new h i s t
 read_link end old now new event h i s t says reads p = record {
@@ -456,19 +462,19 @@ read_link end old now new event h i s t says reads p = record {
   line = event;
   begins = says;
   bytes = p.bytes;
-  front = p.taken.front;
+  prefix = p.taken.prefix;
   told = p.told;
   reads = p.reads now.talk [] [] reads;
   took = p.took;
 }
 
 -- no link yet
-pub fetched_none : (now : Listening) (said : Said) → HasFetched LinkFailed now now said said
-fetched_none now said = record {
+pub fetched_none : (now : Listening) (written : BytesWritten) → HasFetched LinkFailed now now written written
+fetched_none now written = record {
   records = [];
   told = told_none now.talk.wants;
   moved = moved_by now.talk.wants now.talk.wants [] (told_none now.talk.wants);
-  took = takes_none said;
+  took = takes_none written;
   stands = inr refl;
   failures = omega arith;
 }
@@ -484,7 +490,7 @@ stands_behind LinkFailed a b c before stands = elim stands [
 ]
 
 -- one link after another
-pub fetched_both : (end : FetchEnd) (a b c : Listening) (s t u : Said) → HasFetched LinkFailed a b s t
+pub fetched_both : (end : FetchEnd) (a b c : Listening) (s t u : BytesWritten) → HasFetched LinkFailed a b s t
     → HasFetched end b c t u → HasFetched end a c s u
 fetched_both end a b c s t u p q =
     let took : Took s t (bytes_in p.records) = all_taken p.records s t p.took (p.failures ∙ omega arith) in
@@ -499,19 +505,19 @@ fetched_both end a b c s t u p q =
     }
 
 -- no link given back yet
-pub reads_none : (now : Listening) (links : List Exchange) (said : Said)
-    → HasReadEach LinkFailed now now links links said said
-reads_none now links said = record { links = []; given_back = sym (append-nil links); read = over_none now said }
+pub reads_none : (now : Listening) (links : List Exchange) (written : BytesWritten)
+    → HasReadEach LinkFailed now now links links written written
+reads_none now links written = record { links = []; given_back = sym (append-nil links); read = over_none now written }
 
-links_both : (end : FetchEnd) (a b c : Listening) (some others : List Exchange) (s t u : Said)
+links_both : (end : FetchEnd) (a b c : Listening) (some others : List Exchange) (s t u : BytesWritten)
     → HasReadLinks LinkFailed a b some s t → HasReadLinks end b c others t u → HasReadLinks end a c (some ++ others) s u
-links_both end _ _ c _ others _ _ u (over_none now said) q = q
+links_both end _ _ c _ others _ _ u (over_none now written) q = q
 links_both end _ _ c _ others _ _ u (over_one_more _ a now b link links s r t p ps) q =
     over_one_more end a now c link (links ++ others) s r u p (links_both end now b c links others r t u ps q)
 links_both end _ _ c _ others _ _ u (over_the_last _ a b link s t p) q = over_one_more end a b c link others s t u p q
 
 -- some and then others
-pub reads_both : (end : FetchEnd) (a b c : Listening) (before now after : List Exchange) (s t u : Said)
+pub reads_both : (end : FetchEnd) (a b c : Listening) (before now after : List Exchange) (s t u : BytesWritten)
     → HasReadEach LinkFailed a b before now s t → HasReadEach end b c now after t u
     → HasReadEach end a c before after s u
 reads_both end a b c before now after s t u p q = record {
@@ -521,16 +527,19 @@ reads_both end a b c before now after s t u p q = record {
 }
 
 -- a new link that was fetched over
-pub reads_one : (a b : Listening) (before after : List Exchange) (h h' : Heard) (said said' s t : Said) (end : FetchEnd)
-    → h ≡ nothing_heard → said ≡ nothing_said → HasReadLink a b h h' s t
-    → IsFetchedOver (fetching a said s) h end (fetching b said' t) h' → after ≡ before ++ exchange h' said' ∷ []
+pub reads_one : (a b : Listening) (before after : List Exchange) (h h' : BytesRead)
+    (written written' s t : BytesWritten) (end : FetchEnd)
+    → h ≡ nothing_read → written ≡ nothing_written → HasReadLink a b h h' s t
+    → IsFetchedOver (fetching a written s) h end (fetching b written' t) h'
+    → after ≡ before ++ exchange h' written' ∷ []
     → HasReadEach end a b before after s t
-reads_one a b before after h h' said said' s t end unheard unsaid is over given = record {
-  links = exchange h' said' ∷ [];
+reads_one a b before after h h' written written' s t end unread unwritten is over given = record {
+  links = exchange h' written' ∷ [];
   given_back = given;
-  read = over_the_last end a b (exchange h' said') s t (record {
-    read = subst (λ (x : Heard). HasReadLink a b x h' s t) unheard is;
-    turns = subst (λ (x : Heard). IsFetchedOver (fetching a nothing_said s) x end (fetching b said' t) h') unheard
-        (subst (λ (x : Said). IsFetchedOver (fetching a x s) h end (fetching b said' t) h') unsaid over);
+  read = over_the_last end a b (exchange h' written') s t (record {
+    read = subst (λ (x : BytesRead). HasReadLink a b x h' s t) unread is;
+    turns = subst (λ (x : BytesRead). IsFetchedOver (fetching a nothing_written s) x end (fetching b written' t) h')
+        unread
+        (subst (λ (x : BytesWritten). IsFetchedOver (fetching a x s) h end (fetching b written' t) h') unwritten over);
   });
 }

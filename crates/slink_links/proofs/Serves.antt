@@ -4,7 +4,7 @@ use Rattle.std.proofs.Common.{◌≡◌, ◌⊎◌, inl, inr, ℕ, ◌+◌, ◌<
 use Rattle.std.proofs.Common.{◌++◌, append_assoc, Result, Ok, Err, refl, sym, ap, subst, ◌∙◌, arith}
 use Rattle.std.proofs.lemmas.List.Elements.{All-append}
 use Rattle.std.specs.Result.{IsErrAnd, is_ok}
-use Rattle.mseed_stream.specs.Device.{Heard, Said, nothing_heard, nothing_said}
+use Rattle.mseed_stream.specs.Device.{BytesRead, BytesWritten, nothing_read, nothing_written}
 use Rattle.mseed_stream.specs.Exchanges.{Exchange}
 use Rattle.slink_feed.specs.Attending.{Attends, IsServeFault, attending, is_closed, is_at_end, replies, at_send}
 use Rattle.slink_feed.specs.Attending.{at_read, at_reply}
@@ -18,42 +18,43 @@ use Rattle.slink_links.specs.Served.{HasServedEach, HasTakenAll, HasTakenTurns, 
 use Rattle.slink_links.specs.Served.{has_failed, none, more, to_the_end, for_long, to_a_fault}
 
 -- a session of its own has taken so many turns
-pub record IsServing (feed : List Window) (n : ℕ) (heard_old heard_now : Heard) (said_old said_now : Said)
+pub record IsServing (feed : List Window) (n : ℕ) (read_old read_now : BytesRead)
+    (written_old written_now : BytesWritten)
     (now : Standing) : Type 0 where
   pub first : Standing
   pub fresh : IsFresh first
-  pub taken : HasTakenTurns feed (attending first said_old) heard_old n (attending now said_now) heard_now
+  pub taken : HasTakenTurns feed (attending first written_old) read_old n (attending now written_now) read_now
 
 -- how many calls failed
-abbrev failures_of : Heard → Said → ℕ
-failures_of heard said = heard.failures + said.failures
+abbrev failures_of : BytesRead → BytesWritten → ℕ
+failures_of read written = read.failures + written.failures
 
-turn_fine : (feed : List Window) (old new : Attending) (before after : Heard) (turn : Turn)
-    → Attends feed old new before after turn → failures_of after new.said ≡ failures_of before old.said
+turn_fine : (feed : List Window) (old new : Attending) (before after : BytesRead) (turn : Turn)
+    → Attends feed old new before after turn → failures_of after new.written ≡ failures_of before old.written
 turn_fine feed old new before after _ (is_closed sends closed same) =
-    omega (arith, sends.said.failures, ap (λ (h : Heard). h.failures) same)
+    omega (arith, sends.written.failures, ap (λ (h : BytesRead). h.failures) same)
 turn_fine feed old new before after _ (is_at_end goes told) =
-    omega (arith, goes.sends.said.failures, ap (λ (h : Heard). h.failures) told)
+    omega (arith, goes.sends.written.failures, ap (λ (h : BytesRead). h.failures) told)
 turn_fine feed old new before after _ (replies now bytes goes told some few answered) =
-    omega (arith, goes.sends.said.failures, answered.failures, ap (λ (h : Heard). h.failures) told)
+    omega (arith, goes.sends.written.failures, answered.failures, ap (λ (h : BytesRead). h.failures) told)
 
-fault_counted : (feed : List Window) (old new : Attending) (before after : Heard) (fault : LinkFault)
-    → IsServeFault feed old new before after fault → failures_of after new.said ≡ failures_of before old.said + 1
+fault_counted : (feed : List Window) (old new : Attending) (before after : BytesRead) (fault : LinkFault)
+    → IsServeFault feed old new before after fault → failures_of after new.written ≡ failures_of before old.written + 1
 fault_counted feed old new before after _ (at_send count fails same) =
-    omega (arith, fails.said.failures, ap (λ (h : Heard). h.failures) same)
+    omega (arith, fails.written.failures, ap (λ (h : BytesRead). h.failures) same)
 fault_counted feed old new before after _ (at_read goes failed) =
-    omega (arith, goes.sends.said.failures, ap (λ (h : Heard). h.failures) failed)
+    omega (arith, goes.sends.written.failures, ap (λ (h : BytesRead). h.failures) failed)
 fault_counted feed old new before after _ (at_reply count now bytes goes told few fails size) =
     omega (
       arith,
-      goes.sends.said.failures,
+      goes.sends.written.failures,
       fails.replies.failures,
-      fails.said.failures,
-      ap (λ (h : Heard). h.failures) told,
+      fails.written.failures,
+      ap (λ (h : BytesRead). h.failures) told,
     )
 
-turns_fine : (feed : List Window) (first : Attending) (before : Heard) (n : ℕ) (now : Attending) (mid : Heard)
-    → HasTakenTurns feed first before n now mid → failures_of mid now.said ≡ failures_of before first.said
+turns_fine : (feed : List Window) (first : Attending) (before : BytesRead) (n : ℕ) (now : Attending) (mid : BytesRead)
+    → HasTakenTurns feed first before n now mid → failures_of mid now.written ≡ failures_of before first.written
 turns_fine feed first before _ _ _ none = refl
 turns_fine feed first before _ _ _ (more n now new mid after taken turn) = turn_fine feed now new mid after _ turn
     ∙ turns_fine feed first before n now mid taken
@@ -62,9 +63,9 @@ turns_fine feed first before _ _ _ (more n now new mid after taken turn) = turn_
 abbrev pub is_fault : Result ⊤ LinkFault → Bool
 is_fault result = not (is_ok result)
 
-served_failures : (feed : List Window) (first last : Attending) (before after : Heard) (result : Result ⊤ LinkFault)
+served_failures : (feed : List Window) (first last : Attending) (before after : BytesRead) (result : Result ⊤ LinkFault)
     → HasTakenAll feed first before result last after
-    → failures_of after last.said ≡ failures_of before first.said + (if is_fault result then 1 else 0)
+    → failures_of after last.written ≡ failures_of before first.written + (if is_fault result then 1 else 0)
 served_failures feed first _ before _ _ (to_the_end u n now last mid after few taken turn) =
     omega (arith, turn_fine feed now last mid after _ turn, turns_fine feed first before n now mid taken)
 served_failures feed first _ before _ _ (for_long u last after taken) =
@@ -78,22 +79,22 @@ failed_by (Ok u) n e = ap (nat_lt 0) (sym e)
 failed_by (Err fault) n e = ap (nat_lt 0) (sym e)
 
 -- of a new link a call has failed exactly where the result is a fault
-pub failed_exactly : (feed : List Window) (result : Result ⊤ LinkFault) (h h' : Heard) (s s' : Said)
-    → h ≡ nothing_heard → s ≡ nothing_said → IsServed feed result h h' s s' → is_fault result ≡ has_failed h' s'
-failed_exactly feed result h h' s s' unheard unsaid is =
+pub failed_exactly : (feed : List Window) (result : Result ⊤ LinkFault) (h h' : BytesRead) (s s' : BytesWritten)
+    → h ≡ nothing_read → s ≡ nothing_written → IsServed feed result h h' s s' → is_fault result ≡ has_failed h' s'
+failed_exactly feed result h h' s s' unread unwritten is =
     failed_by result (failures_of h' s')
     (omega (
       arith,
       served_failures feed (attending is.first s) (attending is.last s') h h' result is.turns,
-      ap (λ (x : Heard). x.failures) unheard,
-      ap (λ (x : Said). x.failures) unsaid,
+      ap (λ (x : BytesRead). x.failures) unread,
+      ap (λ (x : BytesWritten). x.failures) unwritten,
     ))
 
-pub serving_none : (feed : List Window) (h : Heard) (s : Said) (first : Standing) → IsFresh first
+pub serving_none : (feed : List Window) (h : BytesRead) (s : BytesWritten) (first : Standing) → IsFresh first
     → IsServing feed 0 h h s s first
 serving_none feed h s first fresh = record { first = first; fresh = fresh; taken = none }
 
-pub serving_more : (feed : List Window) (n : ℕ) (h0 h1 h2 : Heard) (s0 s1 s2 : Said) (now new : Standing)
+pub serving_more : (feed : List Window) (n : ℕ) (h0 h1 h2 : BytesRead) (s0 s1 s2 : BytesWritten) (now new : Standing)
     → IsServing feed n h0 h1 s0 s1 now
     → (turn : Turn) → Attends feed (attending now s1) (attending new s2) h1 h2 turn → turn ≡ Turn.Goes
     → IsServing feed (n + 1) h0 h2 s0 s2 new
@@ -113,13 +114,14 @@ goes_ends (inl e) = cc
 goes_ends (inr (inl e)) = cc
 goes_ends (inr (inr (event, e))) = cc
 
-closes : (feed : List Window) (old new : Attending) (before after : Heard) (turn : Turn)
+closes : (feed : List Window) (old new : Attending) (before after : BytesRead) (turn : Turn)
     → Attends feed old new before after turn → Ends turn → turn ≡ Turn.Closed
 closes feed old new before after _ (is_closed sends closed same) ends = refl
 closes feed old new before after _ (is_at_end goes told) ends = refl
 closes feed old new before after _ (replies now bytes goes told some few answered) ends = absurd (goes_ends ends)
 
-pub served_end : (feed : List Window) (n : ℕ) (h0 h1 h2 : Heard) (s0 s1 s2 : Said) (now last : Standing) (turn : Turn)
+pub served_end : (feed : List Window) (n : ℕ) (h0 h1 h2 : BytesRead) (s0 s1 s2 : BytesWritten) (now last : Standing)
+    (turn : Turn)
     → n < 2 ^ 40 → IsServing feed n h0 h1 s0 s1 now
     → Attends feed (attending now s1) (attending last s2) h1 h2 turn → Ends turn → IsServed feed (Ok tt) h0 h2 s0 s2
 served_end feed n h0 h1 h2 s0 s1 s2 now last turn few p a ends =
@@ -131,7 +133,8 @@ served_end feed n h0 h1 h2 s0 s1 s2 now last turn few p a ends =
           (subst (Attends feed (attending now s1) (attending last s2) h1 h2) closed a);
     }
 
-pub served_for_long : (feed : List Window) (n : ℕ) (h0 h1 : Heard) (s0 s1 : Said) (now : Standing) → n ≡ 2 ^ 40
+pub served_for_long : (feed : List Window) (n : ℕ) (h0 h1 : BytesRead) (s0 s1 : BytesWritten) (now : Standing)
+    → n ≡ 2 ^ 40
     → IsServing feed n h0 h1 s0 s1 now → IsServed feed (Ok tt) h0 h1 s0 s1
 served_for_long feed n h0 h1 s0 s1 now all p = record {
   first = p.first;
@@ -141,7 +144,8 @@ served_for_long feed n h0 h1 s0 s1 now all p = record {
       (subst (λ (k : ℕ). HasTakenTurns feed (attending p.first s0) h0 k (attending now s1) h1) all p.taken);
 }
 
-pub served_to_a_fault : (feed : List Window) (n : ℕ) (h0 h1 h2 : Heard) (s0 s1 s2 : Said) (now last : Standing)
+pub served_to_a_fault : (feed : List Window) (n : ℕ) (h0 h1 h2 : BytesRead) (s0 s1 s2 : BytesWritten)
+    (now last : Standing)
     (fault : LinkFault) → n < 2 ^ 40 → IsServing feed n h0 h1 s0 s1 now
     → IsServeFault feed (attending now s1) (attending last s2) h1 h2 fault → IsServed feed (Err fault) h0 h2 s0 s2
 served_to_a_fault feed n h0 h1 h2 s0 s1 s2 now last fault few p a = record {
@@ -153,7 +157,7 @@ served_to_a_fault feed n h0 h1 h2 s0 s1 s2 now last fault few p a = record {
 
 -- an error that is passed on
 pub served_by_err : (feed : List Window) (r : Result ⊤ LinkFault) (Q : LinkFault → Type 0) (fault : LinkFault)
-    (h h' : Heard) (s s' : Said) → IsErrAnd r Q → ((e : LinkFault) → Q e → e ≡ fault)
+    (h h' : BytesRead) (s s' : BytesWritten) → IsErrAnd r Q → ((e : LinkFault) → Q e → e ≡ fault)
     → IsServed feed (Err fault) h h' s s' → IsServed feed r h h' s s'
 served_by_err feed (Ok u) Q fault h h' s s' is q p = absurd is
 served_by_err feed (Err e) Q fault h h' s s' is q p =

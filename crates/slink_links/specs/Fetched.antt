@@ -1,7 +1,7 @@
 -- How fetching over one link after another ends, and what the output took by then.
 use Rattle.std.specs.Prelude.{◌≡◌, ◌⊎◌, ℕ, ◌+◌, ◌%◌, ◌^◌, ◌<◌, ◌≤◌, List, ◌∷◌, ◌++◌, [], length, Option, Some, None}
 use Rattle.std.specs.Prelude.{Result, Ok, Err, IfOk, IfErr, codes}
-use Rattle.mseed_stream.specs.Device.{Heard, IsFrontOf, Said, nothing_heard, nothing_said}
+use Rattle.mseed_stream.specs.Device.{BytesRead, IsPrefixOf, BytesWritten, nothing_read, nothing_written}
 use Rattle.mseed_stream.specs.Exchanges.{Exchange}
 use Rattle.slink_feed.specs.declared.dialogue.Ending.{Ending}
 use Rattle.slink_feed.specs.declared.dialogue.Ending.TheVariants as endings
@@ -15,20 +15,20 @@ use Rattle.slink_feed.specs.declared.turn.Turn.{Turn}
 use Rattle.slink_feed.specs.declared.turn.Turn.TheVariants as turns
 use Rattle.slink_feed.specs.Delivered.{Numbered}
 use Rattle.slink_feed.specs.Dialogue.{Talk, Wants, next_at, says_place}
-use Rattle.slink_feed.specs.Fetching.{Fetches, Fetching, IsFetchFault, ReadsOn, fetching, line_said}
+use Rattle.slink_feed.specs.Fetching.{Fetches, Fetching, IsFetchFault, ReadsOn, fetching, line_written}
 use Rattle.slink_feed.specs.Listening.{IsLinked, Listening, Reads}
 use Rattle.slink_feed.specs.Told.{HasTold, bytes_in, numbers_at, records_told}
-use Rattle.slink_feed.specs.Turns.{Took, TookFront}
+use Rattle.slink_feed.specs.Turns.{Took, TookPrefix}
 use Rattle.slink_links.specs.declared.fetching.FetchEnd.{FetchEnd}
 use Rattle.slink_links.specs.declared.fetching.FetchEnd.TheVariants.{Done, Refused, BadFeed, WriteFailed, LinkFailed}
 use Rattle.mseed_stream.specs.Telling.{Tells}
 
--- The output took these records: all of them; or, where it failed, those before the last one, and a front of that.
-pub data TakesRecords (records : List Numbered) (old new : Said) : Type 0 where
+-- The output took these records: all of them; or, where it failed, those before the last one, and a prefix of that.
+pub data TakesRecords (records : List Numbered) (old new : BytesWritten) : Type 0 where
   all : Took old new (bytes_in records) → TakesRecords records old new
   but_last : (some : List Numbered) (last : Numbered) (count : ℕ) → records ≡ some ++ last ∷ []
       → length (bytes_in some) ≤ count
-      → TookFront old new (bytes_in records) count → TakesRecords records old new
+      → TookPrefix old new (bytes_in records) count → TakesRecords records old new
 
 -- The number that a place wanted moved by how many records of it there are.
 abbrev pub HaveMoved : Wants → Wants → List Numbered → Type 0
@@ -84,7 +84,7 @@ fetch_status WriteFailed = 2
 fetch_status LinkFailed = 2
 
 -- the line on standard error, or none
-abbrev pub TellsOfFetch : FetchEnd → Said → Said → Type 0
+abbrev pub TellsOfFetch : FetchEnd → BytesWritten → BytesWritten → Type 0
 TellsOfFetch Done old new = new ≡ old
 TellsOfFetch Refused old new = Tells (codes "mseed: refused\n") old new
 TellsOfFetch BadFeed old new = Tells (codes "mseed: bad feed\n") old new
@@ -92,13 +92,13 @@ TellsOfFetch WriteFailed old new = Tells (codes "mseed: write failed\n") old new
 TellsOfFetch LinkFailed old new = Tells (codes "mseed: link failed\n") old new
 
 -- Links were fetched over, up to an end: a client told of these records, and the output took them.
-pub record HasFetched (end : FetchEnd) (old new : Listening) (said_old said_new : Said) : Type 0 where
+pub record HasFetched (end : FetchEnd) (old new : Listening) (written_old written_new : BytesWritten) : Type 0 where
   pub records : List Numbered
   pub told : HasTold old.talk.wants new.talk.wants records
   pub moved : HaveMoved old.talk.wants new.talk.wants records
-  pub took : TakesRecords records said_old said_new
+  pub took : TakesRecords records written_old written_new
   pub stands : StandsAt end old new
-  pub failures : said_new.failures ≡ said_old.failures + output_failures end
+  pub failures : written_new.failures ≡ written_old.failures + output_failures end
 
 -- how a fetch ends by the event at which a client stopped
 abbrev pub stopped_by : Event → FetchEnd
@@ -130,58 +130,59 @@ abbrev pub failures_by : Option FetchEnd → ℕ
 failures_by None = 0
 failures_by (Some end) = output_failures end
 
--- Of what a link told meanwhile these bytes were taken: all of it while there is no end, and else a front.
-pub record AreTaken (end : Option FetchEnd) (bytes : List ℕ) (heard_old heard_new : Heard) : Type 0 where
-  pub front : IsFrontOf (heard_old.bytes ++ bytes) heard_new.bytes
-  pub whole : end ≡ None → heard_new.bytes ≡ heard_old.bytes ++ bytes
+-- Of what a link told meanwhile these bytes were taken: all of it while there is no end, and else a prefix.
+pub record AreTaken (end : Option FetchEnd) (bytes : List ℕ) (read_old read_new : BytesRead) : Type 0 where
+  pub prefix : IsPrefixOf (read_old.bytes ++ bytes) read_new.bytes
+  pub whole : end ≡ None → read_new.bytes ≡ read_old.bytes ++ bytes
 
 -- Turns were taken with a link, up to an end or not: a client read on by what the link told, and the output took the
 -- records that it told of.
-pub record HasTurned (end : Option FetchEnd) (old new : Listening) (heard_old heard_new : Heard)
-    (said_old said_new : Said) : Type 0 where
+pub record HasTurned (end : Option FetchEnd) (old new : Listening) (read_old read_new : BytesRead)
+    (written_old written_new : BytesWritten) : Type 0 where
   pub bytes : List ℕ
-  pub taken : AreTaken end bytes heard_old heard_new
+  pub taken : AreTaken end bytes read_old read_new
   pub told : List Event
   pub reads : ReadsOn old bytes told new
-  pub took : TakesRecords (records_told told) said_old said_new
+  pub took : TakesRecords (records_told told) written_old written_new
   pub stands : StandsBy end old new
-  pub failures : said_new.failures ≡ said_old.failures + failures_by end
+  pub failures : written_new.failures ≡ written_old.failures + failures_by end
 
 -- There is something that the client has read.
 abbrev pub IsReading : Listening → Type 0
 IsReading now = (start : Talk) × (stream : List ℕ) × (events : List Event) × Reads start stream events now
 
--- A link was fetched over: a client begins on it, reads a front of what it told, and tells of these events, whose
+-- A link was fetched over: a client begins on it, reads a prefix of what came over it, and tells of these events, whose
 -- records the output took.
-pub record HasReadLink (old new : Listening) (heard_old heard_new : Heard) (said_old said_new : Said) : Type 0 where
+pub record HasReadLink (old new : Listening) (read_old read_new : BytesRead)
+    (written_old written_new : BytesWritten) : Type 0 where
   pub begun : Listening
   pub line : Event
   pub begins : says_place 0 old.talk ≡ (begun.talk, line)
   pub bytes : List ℕ
-  pub front : IsFrontOf (heard_old.bytes ++ bytes) heard_new.bytes
+  pub prefix : IsPrefixOf (read_old.bytes ++ bytes) read_new.bytes
   pub told : List Event
   pub reads : Reads begun.talk bytes told new
-  pub took : TakesRecords (records_told told) said_old said_new
+  pub took : TakesRecords (records_told told) written_old written_new
 
 -- A turn was taken with a link, by which the fetch ends so, or goes on.
-pub record IsTurnBy (end : Option FetchEnd) (old new : Fetching) (before after : Heard) : Type 0 where
+pub record IsTurnBy (end : Option FetchEnd) (old new : Fetching) (before after : BytesRead) : Type 0 where
   pub turn : Result Turn LinkFault
   pub goes : IfOk turn (λ t. Fetches old new before after t)
   pub fails : IfErr turn (λ fault. IsFetchFault fault old new before after)
   pub ends : end ≡ end_by turn
 
 -- So many turns were taken with a link, and the fetch goes on behind each.
-pub data HasTakenTurns (first : Fetching) (before : Heard) : ℕ → Fetching → Heard → Type 0 where
+pub data HasTakenTurns (first : Fetching) (before : BytesRead) : ℕ → Fetching → BytesRead → Type 0 where
   none : HasTakenTurns first before 0 first before
-  more : (n : ℕ) (now new : Fetching) (mid after : Heard) → HasTakenTurns first before n now mid
+  more : (n : ℕ) (now new : Fetching) (mid after : BytesRead) → HasTakenTurns first before n now mid
       → IsTurnBy None now new mid after → HasTakenTurns first before (n + 1) new after
 
 -- Turns were taken up to the one by which the fetch ends so; or 2^40 of them.
-pub data HasTakenAll (first : Fetching) (before : Heard) : FetchEnd → Fetching → Heard → Type 0 where
-  to_the_end : (end : FetchEnd) (n : ℕ) (now last : Fetching) (mid after : Heard) → n < 2 ^ 40
+pub data HasTakenAll (first : Fetching) (before : BytesRead) : FetchEnd → Fetching → BytesRead → Type 0 where
+  to_the_end : (end : FetchEnd) (n : ℕ) (now last : Fetching) (mid after : BytesRead) → n < 2 ^ 40
       → HasTakenTurns first before n now mid
       → IsTurnBy (Some end) now last mid after → HasTakenAll first before end last after
-  for_long : (last : Fetching) (after : Heard) → HasTakenTurns first before (2 ^ 40) last after
+  for_long : (last : Fetching) (after : BytesRead) → HasTakenTurns first before (2 ^ 40) last after
       → HasTakenAll first before LinkFailed last after
 
 -- A client begins on a link by this line, and nothing is kept of the link before.
@@ -190,35 +191,40 @@ pub record Begins (old begun : Listening) (line : Event) : Type 0 where
   pub kept : begun.kept ≡ []
 
 -- The line was written to the link, and turns were taken; or the link failed within the line, and wasn't read.
-pub data IsFetchedOver (old : Fetching) (before : Heard) : FetchEnd → Fetching → Heard → Type 0 where
-  by_turns : (end : FetchEnd) (begun : Listening) (line : Event) (said : Said) (new : Fetching) (after : Heard)
+pub data IsFetchedOver (old : Fetching) (before : BytesRead) : FetchEnd → Fetching → BytesRead → Type 0 where
+  by_turns : (end : FetchEnd) (begun : Listening) (line : Event) (written : BytesWritten) (new : Fetching)
+      (after : BytesRead)
       → Begins old.client begun line
-      → Took old.said said (line_said line) → HasTakenAll (fetching begun said old.output) before end new after
+      → Took old.written written (line_written line)
+      → HasTakenAll (fetching begun written old.output) before end new after
       → IsFetchedOver old before end new after
-  unsaid : (begun : Listening) (line : Event) (said : Said) (count : ℕ) → Begins old.client begun line
-      → TookFront old.said said (line_said line) count
-      → IsFetchedOver old before LinkFailed (fetching begun said old.output) before
+  unwritten : (begun : Listening) (line : Event) (written : BytesWritten) (count : ℕ) → Begins old.client begun line
+      → TookPrefix old.written written (line_written line) count
+      → IsFetchedOver old before LinkFailed (fetching begun written old.output) before
 
--- A link was fetched over from its first byte on: what it told was read, and turns were taken with it up to the one by
--- which the fetch ended so.
-pub record WasFetchedOver (end : FetchEnd) (old new : Listening) (link : Exchange) (said_old said_new : Said) : Type
+-- A link was fetched over from its first byte on: what came over it was read, and turns were taken with it up to the
+-- one by which the fetch ended so.
+pub record WasFetchedOver (end : FetchEnd) (old new : Listening) (link : Exchange)
+    (written_old written_new : BytesWritten) : Type
     0 where
-  pub read : HasReadLink old new nothing_heard link.heard said_old said_new
-  pub turns : IsFetchedOver (fetching old nothing_said said_old) nothing_heard end (fetching new link.said said_new)
-      link.heard
+  pub read : HasReadLink old new nothing_read link.read written_old written_new
+  pub turns : IsFetchedOver (fetching old nothing_written written_old) nothing_read end
+      (fetching new link.written written_new)
+      link.read
 
 -- One link after another was fetched over, each up to where it failed, and the last one up to this end.
-pub data HasReadLinks : FetchEnd → Listening → Listening → List Exchange → Said → Said → Type 0 where
-  over_none : (now : Listening) (said : Said) → HasReadLinks LinkFailed now now [] said said
-  over_one_more : (end : FetchEnd) (old now new : Listening) (link : Exchange) (links : List Exchange) (a b c : Said)
+pub data HasReadLinks : FetchEnd → Listening → Listening → List Exchange → BytesWritten → BytesWritten → Type 0 where
+  over_none : (now : Listening) (written : BytesWritten) → HasReadLinks LinkFailed now now [] written written
+  over_one_more : (end : FetchEnd) (old now new : Listening) (link : Exchange) (links : List Exchange)
+      (a b c : BytesWritten)
       → WasFetchedOver LinkFailed old now link a b
       → HasReadLinks end now new links b c → HasReadLinks end old new (link ∷ links) a c
-  over_the_last : (end : FetchEnd) (old new : Listening) (link : Exchange) (a b : Said)
+  over_the_last : (end : FetchEnd) (old new : Listening) (link : Exchange) (a b : BytesWritten)
       → WasFetchedOver end old new link a b → HasReadLinks end old new (link ∷ []) a b
 
 -- Some links were given back behind those before, and these were fetched over in turn.
 pub record HasReadEach (end : FetchEnd) (old new : Listening) (before after : List Exchange)
-    (said_old said_new : Said) : Type 0 where
+    (written_old written_new : BytesWritten) : Type 0 where
   pub links : List Exchange
   pub given_back : after ≡ before ++ links
-  pub read : HasReadLinks end old new links said_old said_new
+  pub read : HasReadLinks end old new links written_old written_new

@@ -1,7 +1,7 @@
 -- How serving one connection after another ends.
 use Rattle.std.specs.Prelude.{⊤, ◌≡◌, ℕ, ◌+◌, ◌<◌, ◌^◌, nat_lt, Bool, List, [], ◌++◌, All, replicate, None, Result, Ok}
 use Rattle.std.specs.Prelude.{Err, codes}
-use Rattle.mseed_stream.specs.Device.{Heard, Said, nothing_heard, nothing_said}
+use Rattle.mseed_stream.specs.Device.{BytesRead, BytesWritten, nothing_read, nothing_written}
 use Rattle.mseed_stream.specs.Exchanges.{Exchange}
 use Rattle.slink_wire.specs.Lines.{IsHeld}
 use Rattle.slink_feed.specs.Attending.{Attends, IsServeFault, attending}
@@ -15,44 +15,46 @@ use Rattle.slink_feed.specs.declared.turn.Turn.TheVariants.{Goes, Closed}
 use Rattle.mseed_stream.specs.Telling.{Tells}
 
 -- a call of the link failed
-abbrev pub has_failed : Heard → Said → Bool
-has_failed heard said = nat_lt 0 (heard.failures + said.failures)
+abbrev pub has_failed : BytesRead → BytesWritten → Bool
+has_failed read written = nat_lt 0 (read.failures + written.failures)
 
 -- So many turns were taken with a link, and the session goes on behind each.
-pub data HasTakenTurns (feed : List Window) (first : Attending) (before : Heard) : ℕ → Attending → Heard → Type 0 where
+pub data HasTakenTurns (feed : List Window) (first : Attending) (before : BytesRead) : ℕ → Attending → BytesRead
+    → Type 0 where
   none : HasTakenTurns feed first before 0 first before
-  more : (n : ℕ) (now new : Attending) (mid after : Heard) → HasTakenTurns feed first before n now mid
+  more : (n : ℕ) (now new : Attending) (mid after : BytesRead) → HasTakenTurns feed first before n now mid
       → Attends feed now new mid after Goes → HasTakenTurns feed first before (n + 1) new after
 
 -- Turns were taken up to one behind which nothing more is to be sent, or in which the link failed; or 2^40 of them.
-pub data HasTakenAll (feed : List Window) (first : Attending) (before : Heard) : Result ⊤ LinkFault → Attending → Heard
+pub data HasTakenAll (feed : List Window) (first : Attending) (before : BytesRead) : Result ⊤ LinkFault → Attending
+    → BytesRead
     → Type 0 where
-  to_the_end : (u : ⊤) (n : ℕ) (now last : Attending) (mid after : Heard) → n < 2 ^ 40
+  to_the_end : (u : ⊤) (n : ℕ) (now last : Attending) (mid after : BytesRead) → n < 2 ^ 40
       → HasTakenTurns feed first before n now mid
       → Attends feed now last mid after Closed → HasTakenAll feed first before (Ok u) last after
-  for_long : (u : ⊤) (last : Attending) (after : Heard) → HasTakenTurns feed first before (2 ^ 40) last after
+  for_long : (u : ⊤) (last : Attending) (after : BytesRead) → HasTakenTurns feed first before (2 ^ 40) last after
       → HasTakenAll feed first before (Ok u) last after
-  to_a_fault : (fault : LinkFault) (n : ℕ) (now last : Attending) (mid after : Heard) → n < 2 ^ 40
+  to_a_fault : (fault : LinkFault) (n : ℕ) (now last : Attending) (mid after : BytesRead) → n < 2 ^ 40
       → HasTakenTurns feed first before n now mid
       → IsServeFault feed now last mid after fault → HasTakenAll feed first before (Err fault) last after
 
--- The session has heard nothing, and granted nothing.
+-- The session has read nothing, and granted nothing.
 pub record IsFresh (s : Standing) : Type 0 where
   pub state : s.state ≡ at Fresh (replicate 16 None)
   pub held : IsHeld s.held []
 
 -- A link was served by a session of its own.
-pub record IsServed (feed : List Window) (result : Result ⊤ LinkFault) (heard_old heard_new : Heard)
-    (said_old said_new : Said) : Type 0 where
+pub record IsServed (feed : List Window) (result : Result ⊤ LinkFault) (read_old read_new : BytesRead)
+    (written_old written_new : BytesWritten) : Type 0 where
   pub first : Standing
   pub fresh : IsFresh first
   pub last : Standing
-  pub turns : HasTakenAll feed (attending first said_old) heard_old result (attending last said_new) heard_new
+  pub turns : HasTakenAll feed (attending first written_old) read_old result (attending last written_new) read_new
 
 -- A link was served from its first byte on.
 abbrev pub WasServed : List Window → Exchange → Type 0
-WasServed feed link = (result : Result ⊤ LinkFault) × IsServed feed result nothing_heard link.heard nothing_said
-    link.said
+WasServed feed link = (result : Result ⊤ LinkFault) × IsServed feed result nothing_read link.read nothing_written
+    link.written
 
 -- Some links were given back behind those before, and each of them was served.
 pub record HasServedEach (feed : List Window) (before after : List Exchange) : Type 0 where
@@ -61,7 +63,7 @@ pub record HasServedEach (feed : List Window) (before after : List Exchange) : T
   pub served : All (WasServed feed) links
 
 -- the exit status, and what standard error took
-pub data HasServed (status : ℕ) (told_old told_new : Said) : Type 0 where
+pub data HasServed (status : ℕ) (told_old told_new : BytesWritten) : Type 0 where
   all_went_well : status ≡ 0 → told_new ≡ told_old → HasServed status told_old told_new
   something_failed : status ≡ 2 → Tells (codes "mseed: link failed\n") told_old told_new
       → HasServed status told_old told_new

@@ -1,6 +1,6 @@
 //! Where a client asks for links.
 ghost use Rattle.std.specs.Prelude.{◌≡◌, ◌+◌, ◌++◌, ◌∷◌, [], ℕ, List, IfSome, is_none, if◌then◌else◌};
-ghost use Rattle.mseed_stream.specs.Device.{nothing_heard, nothing_said};
+ghost use Rattle.mseed_stream.specs.Device.{nothing_read, nothing_written};
 ghost use Rattle.mseed_stream.specs.Exchanges.{Exchange, exchange};
 ghost use Rattle.slink_links.specs.Out.{AreOut};
 
@@ -25,14 +25,14 @@ pub trait Dial {
         ensures calls { calls self.new ≡ calls self.old + 1 }
         ensures failures { failures self.new ≡ failures self.old + (if is_none result then 1 else 0) }
         ensures given_back { given_back self.new ≡ given_back self.old }
-        ensures unheard { IfSome result (λ link. Self.Link.Source.heard link ≡ nothing_heard) }
-        ensures unsaid { IfSome result (λ link. Self.Link.Sink.said link ≡ nothing_said) };
+        ensures unread { IfSome result (λ link. Self.Link.Source.read link ≡ nothing_read) }
+        ensures unwritten { IfSome result (λ link. Self.Link.Sink.written link ≡ nothing_written) };
 
     /// Takes a link back and closes it.
     fn hang_up(&mut self, link: Self::Link)
         requires { AreOut 1 (calls self.old) (failures self.old) (given_back self.old) }
         ensures given_back { given_back self.new
-            ≡ given_back self.old ++ exchange (Self.Link.Source.heard link) (Self.Link.Sink.said link) ∷ [] }
+            ≡ given_back self.old ++ exchange (Self.Link.Source.read link) (Self.Link.Sink.written link) ∷ [] }
         ensures calls { calls self.new ≡ calls self.old }
         ensures failures { failures self.new ≡ failures self.old };
 }

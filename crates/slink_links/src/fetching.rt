@@ -46,11 +46,11 @@ pub fn fetch_all<D: Dial, W: Sink, E: Sink>(
     ensures done { result ≡ 0 → client.new.talk.stage ≡ Stage.Ended Ending.End }
     // What the client told of went to the output, and the status and the line are by how it ended. Each link was
     // fetched over before it was given back, one behind another, and all but the last one failed.
-    ensures end { (end : FetchEnd) × HasFetched end client.old client.new (W.said output.old) (W.said output.new)
+    ensures end { (end : FetchEnd) × HasFetched end client.old client.new (W.written output.old) (W.written output.new)
         × HasDialled end tries (D.calls dialler.old) (D.calls dialler.new)
         × HasReadEach end client.old client.new (D.given_back dialler.old) (D.given_back dialler.new)
-        (W.said output.old) (W.said output.new)
-        × (result ≡ fetch_status end) × TellsOfFetch end (E.said errors.old) (E.said errors.new) }
+        (W.written output.old) (W.written output.new)
+        × (result ≡ fetch_status end) × TellsOfFetch end (E.written errors.old) (E.written errors.new) }
     // Each link was given back before the next one was dialled.
     ensures out { AreOut 0 (D.calls dialler.new) (D.failures dialler.new) (D.given_back dialler.new) }
 {
@@ -73,11 +73,11 @@ fn fetch_links<D: Dial, W: Sink>(
     output: &mut W,
 ) -> FetchEnd
     requires { AreOut 0 (D.calls dialler.old) (D.failures dialler.old) (D.given_back dialler.old) }
-    ensures fetched { HasFetched result client.old client.new (W.said output.old) (W.said output.new) }
+    ensures fetched { HasFetched result client.old client.new (W.written output.old) (W.written output.new) }
     ensures dialled { HasDialled result tries (D.calls dialler.old) (D.calls dialler.new) }
     ensures out { AreOut 0 (D.calls dialler.new) (D.failures dialler.new) (D.given_back dialler.new) }
     ensures read { HasReadEach result client.old client.new (D.given_back dialler.old) (D.given_back dialler.new)
-        (W.said output.old) (W.said output.new) }
+        (W.written output.old) (W.written output.new) }
 {
     for dialled in 0..tries {
         let end = try_link(client, dialler, output);
@@ -91,11 +91,11 @@ fn fetch_links<D: Dial, W: Sink>(
 /// Dials once and fetches over that link, and answers how it ended.
 fn try_link<D: Dial, W: Sink>(client: &mut Client, dialler: &mut D, output: &mut W) -> FetchEnd
     requires { AreOut 0 (D.calls dialler.old) (D.failures dialler.old) (D.given_back dialler.old) }
-    ensures fetched { HasFetched result client.old client.new (W.said output.old) (W.said output.new) }
+    ensures fetched { HasFetched result client.old client.new (W.written output.old) (W.written output.new) }
     ensures dialled { D.calls dialler.new ≡ D.calls dialler.old + 1 }
     ensures out { AreOut 0 (D.calls dialler.new) (D.failures dialler.new) (D.given_back dialler.new) }
     ensures read { HasReadEach result client.old client.new (D.given_back dialler.old) (D.given_back dialler.new)
-        (W.said output.old) (W.said output.new) }
+        (W.written output.old) (W.written output.new) }
 {
     match dialler.dial() {
         Some(mut link) => {
@@ -109,12 +109,13 @@ fn try_link<D: Dial, W: Sink>(client: &mut Client, dialler: &mut D, output: &mut
 
 /// Fetches over one link, and answers how it ended. The output takes the records that the link brought, and no others.
 pub fn fetch_link<S: Duplex, W: Sink>(client: &mut Client, link: &mut S, output: &mut W) -> FetchEnd
-    ensures fetched { HasFetched result client.old client.new (W.said output.old) (W.said output.new) }
-    ensures read { HasReadLink client.old client.new (S.heard link.old) (S.heard link.new) (W.said output.old)
-        (W.said output.new) }
+    ensures fetched { HasFetched result client.old client.new (W.written output.old) (W.written output.new) }
+    ensures read { HasReadLink client.old client.new (S.read link.old) (S.read link.new) (W.written output.old)
+        (W.written output.new) }
     // The client's first line was written, and then turns were taken, up to the one by which the fetch ends so.
-    ensures turns { IsFetchedOver (fetching client.old (S.said link.old) (W.said output.old)) (S.heard link.old) result
-        (fetching client.new (S.said link.new) (W.said output.new)) (S.heard link.new) }
+    ensures turns { IsFetchedOver (fetching client.old (S.written link.old) (W.written output.old)) (S.read link.old)
+        result
+        (fetching client.new (S.written link.new) (W.written output.new)) (S.read link.new) }
 {
     let line = client.connect();
     match write_all_of(link, line.as_slice()) {
@@ -127,10 +128,11 @@ pub fn fetch_link<S: Duplex, W: Sink>(client: &mut Client, link: &mut S, output:
 fn take_turns<S: Duplex, W: Sink>(client: &mut Client, link: &mut S, output: &mut W) -> FetchEnd
     requires reading { IsReading client.old }
     requires linked { IsLinked client.old.talk.stage }
-    ensures turned { HasTurned (Some result) client.old client.new (S.heard link.old) (S.heard link.new)
-        (W.said output.old) (W.said output.new) }
-    ensures taken { HasTakenAll (fetching client.old (S.said link.old) (W.said output.old)) (S.heard link.old) result
-        (fetching client.new (S.said link.new) (W.said output.new)) (S.heard link.new) }
+    ensures turned { HasTurned (Some result) client.old client.new (S.read link.old) (S.read link.new)
+        (W.written output.old) (W.written output.new) }
+    ensures taken { HasTakenAll (fetching client.old (S.written link.old) (W.written output.old)) (S.read link.old)
+        result
+        (fetching client.new (S.written link.new) (W.written output.new)) (S.read link.new) }
 {
     for turn in 0..TURNS {
         if let Some(end) = take_turn(client, link, output) {
@@ -148,10 +150,10 @@ fn take_turn<S: Duplex, W: Sink>(
 ) -> Option<FetchEnd>
     requires reading { IsReading client.old }
     requires linked { IsLinked client.old.talk.stage }
-    ensures turned { HasTurned result client.old client.new (S.heard link.old) (S.heard link.new) (W.said output.old)
-        (W.said output.new) }
-    ensures by { IsTurnBy result (fetching client.old (S.said link.old) (W.said output.old))
-        (fetching client.new (S.said link.new) (W.said output.new)) (S.heard link.old) (S.heard link.new) }
+    ensures turned { HasTurned result client.old client.new (S.read link.old) (S.read link.new) (W.written output.old)
+        (W.written output.new) }
+    ensures by { IsTurnBy result (fetching client.old (S.written link.old) (W.written output.old))
+        (fetching client.new (S.written link.new) (W.written output.new)) (S.read link.old) (S.read link.new) }
 {
     let turn = fetch_turn(client, link, output);
     end_by(&turn)

@@ -24,7 +24,7 @@ pub fn serve_planned<B: Allocator, A: Accept, E: Sink>(
     ensures accepts { A.calls acceptor.new ≡ A.calls acceptor.old + plan.now.connections }
     ensures fine { result ≡ 0
         ↔ (A.failures acceptor.new ≡ A.failures acceptor.old) × (A.lost acceptor.new ≡ A.lost acceptor.old) }
-    ensures told { HasServed result (E.said errors.old) (E.said errors.new) }
+    ensures told { HasServed result (E.written errors.old) (E.written errors.new) }
     ensures out { AreOut 0 (A.calls acceptor.new) (A.failures acceptor.new) (A.given_back acceptor.new) }
     ensures served { HasServedEach plan.now.feed (A.given_back acceptor.old) (A.given_back acceptor.new) }
 {
@@ -42,11 +42,11 @@ pub fn fetch_planned<D: Dial, W: Sink, E: Sink>(
     ensures dials { D.calls dialler.new ≤ D.calls dialler.old + plan.old.tries }
     ensures done { result ≡ 0 → plan.new.client.talk.stage ≡ Stage.Ended Ending.End }
     ensures end { (end : FetchEnd)
-        × HasFetched end plan.old.client plan.new.client (W.said output.old) (W.said output.new)
+        × HasFetched end plan.old.client plan.new.client (W.written output.old) (W.written output.new)
         × HasDialled end plan.old.tries (D.calls dialler.old) (D.calls dialler.new)
         × HasReadEach end plan.old.client plan.new.client (D.given_back dialler.old) (D.given_back dialler.new)
-        (W.said output.old) (W.said output.new)
-        × (result ≡ fetch_status end) × TellsOfFetch end (E.said errors.old) (E.said errors.new) }
+        (W.written output.old) (W.written output.new)
+        × (result ≡ fetch_status end) × TellsOfFetch end (E.written errors.old) (E.written errors.new) }
     ensures out { AreOut 0 (D.calls dialler.new) (D.failures dialler.new) (D.given_back dialler.new) }
 {
     let tries = u64::from(plan.tries);

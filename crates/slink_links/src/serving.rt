@@ -27,7 +27,7 @@ pub fn serve_all<B: Allocator, A: Accept, E: Sink>(
     ensures accepts { A.calls acceptor.new ≡ A.calls acceptor.old + connections }
     ensures fine { result ≡ 0
         ↔ (A.failures acceptor.new ≡ A.failures acceptor.old) × (A.lost acceptor.new ≡ A.lost acceptor.old) }
-    ensures told { HasServed result (E.said errors.old) (E.said errors.new) }
+    ensures told { HasServed result (E.written errors.old) (E.written errors.new) }
     // Each link was given back before the next connection, and was served by then.
     ensures out { AreOut 0 (A.calls acceptor.new) (A.failures acceptor.new) (A.given_back acceptor.new) }
     ensures served { HasServedEach feed.now (A.given_back acceptor.old) (A.given_back acceptor.new) }
@@ -90,7 +90,7 @@ fn serve_next<B: Allocator, A: Accept>(feed: &Feed<B>, acceptor: &mut A) -> bool
 ///
 /// Why the link failed.
 pub fn serve_link<B: Allocator, S: Duplex>(feed: &Feed<B>, link: &mut S) -> Result<(), LinkFault>
-    ensures { IsServed feed.now result (S.heard link.old) (S.heard link.new) (S.said link.old) (S.said link.new) }
+    ensures { IsServed feed.now result (S.read link.old) (S.read link.new) (S.written link.old) (S.written link.new) }
 {
     let mut session = Session::new();
     for turn in 0..TURNS {

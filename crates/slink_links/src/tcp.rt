@@ -1,7 +1,7 @@
 //! Links over TCP on this host.
 ghost use Rattle.std.specs.Prelude.{◌≡◌, IfOk};
-ghost use Rattle.mseed_stream.specs.Counted.{heard_by, said_by};
-ghost use Rattle.mseed_stream.specs.Device.{nothing_heard, nothing_said};
+ghost use Rattle.mseed_stream.specs.Counted.{read_by, written_by};
+ghost use Rattle.mseed_stream.specs.Device.{nothing_read, nothing_written};
 ghost use Rattle.slink_links.specs.Fetched.{HasFetched, TellsOfFetch, fetch_status};
 ghost use Rattle.slink_links.specs.Out.{AreOut};
 ghost use Rattle.slink_links.specs.Served.{HasServed};
@@ -30,8 +30,8 @@ fn address_of(port: u16) -> SocketAddr {
 
 /// The link over a new stream. Its bytes go out at once, where the stream can be told so.
 fn link_over<S: OpenStream>(stream: S) -> Counted<S>
-    ensures heard { heard_by result ≡ nothing_heard }
-    ensures said { said_by result ≡ nothing_said }
+    ensures read { read_by result ≡ nothing_read }
+    ensures written { written_by result ≡ nothing_written }
 {
     let _ = stream.set_nodelay(true);
     Counted::new(stream)
@@ -204,7 +204,7 @@ pub fn serve<N: Net + Clock, A: Allocator, E: Sink>(
     plan: &ServePlan<A>,
     errors: &mut E,
 ) -> u8
-    ensures { HasServed result (E.said errors.old) (E.said errors.new) }
+    ensures { HasServed result (E.written errors.old) (E.written errors.new) }
 {
     match Listening::bind(host, plan.port) {
         Ok(mut listening) => serve_planned(plan, &mut listening, errors),
@@ -222,8 +222,9 @@ pub fn fetch<N: Net, W: Sink, E: Sink>(
     output: &mut W,
     errors: &mut E,
 ) -> u8
-    ensures { (end : FetchEnd) × HasFetched end plan.old.client plan.new.client (W.said output.old) (W.said output.new)
-        × (result ≡ fetch_status end) × TellsOfFetch end (E.said errors.old) (E.said errors.new) }
+    ensures { (end : FetchEnd) × HasFetched end plan.old.client plan.new.client (W.written output.old)
+        (W.written output.new)
+        × (result ≡ fetch_status end) × TellsOfFetch end (E.written errors.old) (E.written errors.new) }
 {
     fetch_planned(plan, &mut Dialler::new(net, plan.port), output, errors)
 }

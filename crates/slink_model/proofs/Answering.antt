@@ -13,8 +13,8 @@ use Rattle.slink_wire.specs.Request.{request_line, requested}
 use Rattle.slink_feed.specs.Serving.{Answers, IsAnswer, Serves, Standing, none_served, piece_served}
 use Rattle.slink_feed.specs.Session.{State, answered}
 use Rattle.slink_feed.specs.Window.{Window}
-use Rattle.slink_wire.specs.Said.{said_bytes}
-use Rattle.slink_model.proofs.Lined.{IsAnswered, IsAsking, IsHeard, bytes_more, more_answered, more_asked, nothing}
+use Rattle.slink_wire.specs.Written.{written_bytes}
+use Rattle.slink_model.proofs.Lined.{IsAnswered, IsAsking, IsRead, bytes_more, more_answered, more_asked, nothing}
 use Rattle.slink_model.proofs.Lined.{the_line}
 use Rattle.slink_model.proofs.Requested.{request_answered}
 use Rattle.slink_model.proofs.Shaking.{IsQuiet}
@@ -23,11 +23,16 @@ use Rattle.slink_feed.proofs.Closing.{Open, open_or, nothing_behind, shut_on}
 -- a line can't be told and awaited
 pub not_both : (line taken way : List ℕ) → IsAsking line taken way → IsAnswered taken way → ⊥
 not_both line taken way a b =
-    let same : said_bytes a.before ≡ said_bytes (a.before ++ line ∷ []) = ap said_bytes (sym a.told ∙ b.told)
-    ∙ (sym b.said ∙ a.said) in
-    let long : length (said_bytes a.before) ≡ length (said_bytes a.before ++ (line ++ 13 ∷ 10 ∷ [])) =
+    let same : written_bytes a.before ≡ written_bytes (a.before ++ line ∷ []) = ap written_bytes (sym a.told ∙ b.told)
+    ∙ (sym b.written ∙ a.written) in
+    let long : length (written_bytes a.before) ≡ length (written_bytes a.before ++ (line ++ 13 ∷ 10 ∷ [])) =
     ap length (same ∙ bytes_more a.before line) in
-    omega (arith, long, length-append (said_bytes a.before) (line ++ 13 ∷ 10 ∷ []), length-append line (13 ∷ 10 ∷ []))
+    omega (
+      arith,
+      long,
+      length-append (written_bytes a.before) (line ++ 13 ∷ 10 ∷ []),
+      length-append line (13 ∷ 10 ∷ []),
+    )
 
 module _ (feed : List Window) where
   -- what a piece tells
@@ -111,7 +116,7 @@ module _ (feed : List Window) where
 
     piece_on : (now last : Standing) (taken piece others rest way all : List ℕ) (reply : Reply) (what : What)
         → IsHeld now.held (taken ++ piece) → IsAnswer feed s what now.state reply
-        → IsHeard line (taken ++ piece) (others ++ rest) what
+        → IsRead line (taken ++ piece) (others ++ rest) what
         → Serves feed now others (way ++ reply_bytes reply) last all
         → (IsAsking line (taken ++ piece) (others ++ rest) → now.state ≡ s
         → Comes last (way ++ reply_bytes reply) all ((taken ++ piece) ++ others) rest)
@@ -126,7 +131,7 @@ module _ (feed : List Window) where
         (stays_open now.state reply it) held told in
         it_came reply after.sent (subst (λ (x : State). answered feed s (requested request) ≡ (x, reply))
         (sym after.state) it) after.held after.told
-    piece_on now last taken piece others rest way all reply TooLong held is heard more next = elim heard [ ]
+    piece_on now last taken piece others rest way all reply TooLong held is read more next = elim read [ ]
 
     pub asked_on : (u : Standing) (bytes way : List ℕ) (last : Standing) (all rest taken : List ℕ)
         → Serves feed u bytes way last all → u.state ≡ s → IsHeld u.held taken → IsAsking line taken (bytes ++ rest)
@@ -138,13 +143,13 @@ module _ (feed : List Window) where
         held asks =
         let still : Open u'.state.phase = subst (λ (x : State). Open x.phase) (sym same) awake in
         let answer : Answers feed u'.state taken (taken ++ piece) now.state reply = takes.answers taken still held in
-        let heard : IsHeard line (taken ++ piece) (others ++ rest) answer.0 =
+        let read : IsRead line (taken ++ piece) (others ++ rest) answer.0 =
         more_asked line taken piece (others ++ rest) answer.0
         (subst (IsAsking line taken) (ap (λ b. b ++ rest) split ∙ append_assoc piece others rest) asks) answer.1 in
         let all_taken : (taken ++ piece) ++ others ≡ taken ++ bs = append_assoc taken piece others
         ∙ ap (λ b. taken ++ b) (sym split) in
         subst (λ b. Comes v w sent b rest) all_taken (piece_on now v taken piece others rest w sent reply answer.0
         (takes.held taken still held) (subst (λ (x : State). IsAnswer feed x answer.0 now.state reply) same
-        answer.2) heard more
+        answer.2) read more
         (λ asked now_same. asked_on now others (w ++ reply_bytes reply) v sent rest (taken ++ piece) more now_same
         (takes.held taken still held) asked))

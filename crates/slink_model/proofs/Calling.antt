@@ -292,7 +292,7 @@ module _ (places : Places) (differ : Differ places) (codes : (k : ℕ) (p : Fiel
       ≡ (m.session.state, reply) → IsAnsweredBy w k l m
   by_number k reply none sent is = record {
     reply = reply;
-    said = sent ∙ ap (λ b. b ++ reply_bytes reply) none;
+    written = sent ∙ ap (λ b. b ++ reply_bytes reply) none;
     number = is;
     behind = λ start ring held here.
         sym (resumes k start ring (mode places differ codes w t l) l.session.state held here) ∙ is;

@@ -1,4 +1,4 @@
--- What a client hears of items, by how many bytes of them it took.
+-- What a client reads of items, by how many bytes of them it took.
 use Rattle.std.proofs.Common.{◌≡◌, ◌≢◌, ℕ, ◌+◌, ◌-◌, ◌%◌, ◌^◌, ◌<◌, inl, inr, refl, sym, ap, subst, ◌∙◌, arith, List}
 use Rattle.std.proofs.Common.{[], ◌∷◌, ◌++◌, length, length-drop, map, set, take, drop, take-append-drop, codes, Option}
 use Rattle.std.proofs.Common.{Some, None, slice_get}
@@ -20,7 +20,7 @@ use Rattle.slink_feed.specs.declared.session.Phase.TheVariants.{Granted, Chosen,
 use Rattle.slink_model.specs.Counted.{Gained, behind, events_upon, on_item, part, talk_upon, wholes, with_event}
 use Rattle.slink_model.specs.Counted.{with_events}
 use Rattle.slink_feed.specs.Cutting.{IsBegun, IsWhole}
-use Rattle.slink_feed.specs.Dialogue.{Talk, Wants, Reply, Packet, End, at_packet, bearer, ended, heard, heard_at}
+use Rattle.slink_feed.specs.Dialogue.{Talk, Wants, Reply, Packet, End, at_packet, bearer, ended, read, read_at}
 use Rattle.slink_feed.specs.Dialogue.{next_at, next_set, numbered, says, to_place, told, want_at, with_next}
 use Rattle.slink_feed.specs.Listening.{AreBrought, IsLinked, events_of, talk_after, telling}
 use Rattle.slink_feed.specs.Session.{Grants, State, grant_at}
@@ -31,8 +31,8 @@ use Rattle.slink_feed.proofs.Closing.{Open}
 use Rattle.slink_model.proofs.Calling.{open_at}
 use Rattle.slink_model.proofs.Counting.{brought_of, whole_of, whole_or}
 use Rattle.slink_model.proofs.Counts.{EndsIn}
-use Rattle.slink_feed.proofs.Fronted.{wanted_told}
-use Rattle.slink_feed.proofs.Heard.{begun_none}
+use Rattle.slink_feed.proofs.Prefixed.{wanted_told}
+use Rattle.slink_feed.proofs.Received.{begun_none}
 use Rattle.slink_model.proofs.Items.{carried_here, carried_there}
 use Rattle.slink_feed.proofs.Items.{is_within, put_here, put_there, same_or_not}
 use Rattle.slink_model.proofs.Lined.{IsAnswered, asks_more}
@@ -45,28 +45,28 @@ use Rattle.slink_model.proofs.Shaken.{asked_next, bearer_found, lacks_end, some_
 use Rattle.slink_model.proofs.Shaken.{want_slot}
 use Rattle.slink_model.proofs.Shaking.{AreAsked, AreBorne, AreSent, IsSuited, Shakes, asks_end, asks_number, asks_place}
 use Rattle.slink_model.proofs.Shaking.{has_none, has_number, has_place, streams}
-use Rattle.slink_feed.proofs.Wholes.{front_begun}
+use Rattle.slink_feed.proofs.Wholes.{prefix_begun}
 
 -- what the client's table makes of items is what they are
 abbrev pub Same : Talk → List Item → Type 0
 Same t ws = (talk_after t (map brought_of ws) ≡ talk_upon t ws) × ((f : Numbers) (g : Gained)
     → with_events f (events_of t (map brought_of ws)) g ≡ with_events f (events_upon t ws) g)
 
-same_more : (t : Talk) (i : Item) (ws : List Item) → heard t (whole_of i) ≡ on_item t.stage i t
-    → Same (heard t (whole_of i)).0 ws → Same t (i ∷ ws)
+same_more : (t : Talk) (i : Item) (ws : List Item) → read t (whole_of i) ≡ on_item t.stage i t
+    → Same (read t (whole_of i)).0 ws → Same t (i ∷ ws)
 same_more t i ws h more = (
   more.0 ∙ ap (λ (x : Talk × Event). talk_upon x.0 ws) h,
-  λ f g. told_events f (heard t (whole_of i)).1 (events_of (heard t (whole_of i)).0 (map brought_of ws)) g
-      ∙ (more.1 f (with_event f (heard t (whole_of i)).1 g)
+  λ f g. told_events f (read t (whole_of i)).1 (events_of (read t (whole_of i)).0 (map brought_of ws)) g
+      ∙ (more.1 f (with_event f (read t (whole_of i)).1 g)
       ∙ ap (λ (x : Talk × Event). with_events f (events_upon x.0 ws) (with_event f x.1 g)) h),
 )
 
--- a front of an item that isn't whole is begun
+-- a prefix of an item that isn't whole is begun
 part_begun : (stage : Stage) (i : Item) (is : List Item) (d : ℕ) → IsWhole stage (item_bytes i) (whole_of i)
     → d < length (item_bytes i) → IsBegun stage (take d (way_bytes (i ∷ is)))
 part_begun stage i is d whole lt =
     subst (IsBegun stage) (sym (take-append-le d (item_bytes i) (way_bytes is) (omega (arith, lt))))
-    (front_begun stage (take d (item_bytes i)) (drop d (item_bytes i)) (whole_of i)
+    (prefix_begun stage (take d (item_bytes i)) (drop d (item_bytes i)) (whole_of i)
     (omega (arith, lt, length-drop d (item_bytes i)))
     (subst (λ b. IsWhole stage b (whole_of i)) (sym (take-append-drop d (item_bytes i))) whole))
 
@@ -82,10 +82,10 @@ module _ (places : Places) (differ : Differ places) (codes_are : (k : ℕ) (p : 
     pub ends : EndsIn phase items
 
   -- what some of them leave
-  pub record Front (grants : Grants) (phase : Phase) (t : Talk) (ws bs : List Item) (p : ℕ) : Type 0 where
+  pub record Prefix (grants : Grants) (phase : Phase) (t : Talk) (ws bs : List Item) (p : ℕ) : Type 0 where
     pub are : AreBrought t (map brought_of ws)
     pub is_begun : IsRest (talk_after t (map brought_of ws)).stage (take p (way_bytes bs))
-    pub unsaid : (f : Numbers) (g : Gained) → (with_events f (events_of t (map brought_of ws)) g).to_server
+    pub unwritten : (f : Numbers) (g : Gained) → (with_events f (events_of t (map brought_of ws)) g).to_server
         ≡ g.to_server
     pub same : Same t ws
     pub after : IsLinked (talk_after t (map brought_of ws)).stage
@@ -95,13 +95,13 @@ module _ (places : Places) (differ : Differ places) (codes_are : (k : ℕ) (p : 
       → IsWhole t.stage (item_bytes i) (whole_of i)
   at_stage t i stage is = subst (λ (s : Stage). IsWhole s (item_bytes i) (whole_of i)) (sym stage) is
 
-  none_front : (grants : Grants) (phase : Phase) (t : Talk) (i : Item) (is : List Item) (d : ℕ)
+  none_prefix : (grants : Grants) (phase : Phase) (t : Talk) (i : Item) (is : List Item) (d : ℕ)
       → IsWhole Packets (item_bytes i) (whole_of i) → d < length (item_bytes i) → Streams grants phase t (i ∷ is)
-      → Front grants phase t [] (i ∷ is) d
-  none_front grants phase t i is d whole lt s = record {
+      → Prefix grants phase t [] (i ∷ is) d
+  none_prefix grants phase t i is d whole lt s = record {
     are = tt;
     is_begun = λ _. part_begun t.stage i is d (at_stage t i s.stage whole) lt;
-    unsaid = λ f g. refl;
+    unwritten = λ f g. refl;
     same = (refl, λ f g. refl);
     after = λ _. s;
   }
@@ -110,7 +110,7 @@ module _ (places : Places) (differ : Differ places) (codes_are : (k : ℕ) (p : 
       → IsWhole Packets (packet_bytes (n % 2 ^ 24) r) (Packet (n % 2 ^ 24) r)
   carried_whole k n r long = (read_back (n % 2 ^ 24) r (omega arith), packet_length (n % 2 ^ 24) r long)
 
-  -- a packet is heard
+  -- a packet is read
   module _ (grants : Grants) (phase : Phase) (t : Talk) (k n : ℕ) (r : List ℕ) (rest : List Item)
       (s : Streams grants phase t (Carried k n r ∷ rest)) where
     abbrev m : ℕ
@@ -128,8 +128,8 @@ module _ (places : Places) (differ : Differ places) (codes_are : (k : ℕ) (p : 
     suited_k : IsSuited (next_at t.wants k) (grant_at grants k) ((n, r) ∷ of_place k rest)
     suited_k = subst (IsSuited (next_at t.wants k) (grant_at grants k)) of_k (s.suited k)
 
-    pub packet_told : heard t (Packet m r) ≡ told k m r t
-    packet_told = ap (λ (y : Stage). heard_at y t (Packet m r)) s.stage
+    pub packet_told : read t (Packet m r) ≡ told k m r t
+    packet_told = ap (λ (y : Stage). read_at y t (Packet m r)) s.stage
         ∙ (ap (λ (o : Option ℕ). at_packet o m r t) found.0
         ∙ wanted_told (next_at t.wants k) k m r t
         (some_if (next_at t.wants k) m (suited_wanted (next_at t.wants k) (grant_at grants k) n r (of_place k rest)
@@ -164,63 +164,63 @@ module _ (places : Places) (differ : Differ places) (codes_are : (k : ℕ) (p : 
           ends = s.ends;
         }
 
-    pub packet_front : (ws bs : List Item) (p : ℕ) → Front grants phase (told k m r t).0 ws bs p
-        → Front grants phase t (Carried k n r ∷ ws) bs p
-    packet_front ws bs p h =
-        let h' : Front grants phase (heard t (Packet m r)).0 ws bs p =
-        subst (λ (y : Talk × Event). Front grants phase y.0 ws bs p) (sym packet_told) h in
+    pub packet_prefix : (ws bs : List Item) (p : ℕ) → Prefix grants phase (told k m r t).0 ws bs p
+        → Prefix grants phase t (Carried k n r ∷ ws) bs p
+    packet_prefix ws bs p h =
+        let h' : Prefix grants phase (read t (Packet m r)).0 ws bs p =
+        subst (λ (y : Talk × Event). Prefix grants phase y.0 ws bs p) (sym packet_told) h in
         record {
           are = (at_stage t (Carried k n r) s.stage (carried_whole k n r s.borne.0.2), h'.are);
           is_begun = h'.is_begun;
-          unsaid = λ f g. ap (λ (z : Gained). z.to_server)
-              (told_events f (heard t (Packet m r)).1 (events_of (heard t (Packet m r)).0 (map brought_of ws)) g)
-              ∙ (h'.unsaid f (with_event f (heard t (Packet m r)).1 g)
+          unwritten = λ f g. ap (λ (z : Gained). z.to_server)
+              (told_events f (read t (Packet m r)).1 (events_of (read t (Packet m r)).0 (map brought_of ws)) g)
+              ∙ (h'.unwritten f (with_event f (read t (Packet m r)).1 g)
               ∙ ap (λ (y : Talk × Event). (with_event f y.1 g).to_server) packet_told);
           same = same_more t (Carried k n r) ws (packet_told
               ∙ ap (λ (y : Stage). on_item y (Carried k n r) t) (sym s.stage)) h'.same;
           after = h'.after;
         }
 
-  -- the end is heard
-  end_front : (grants : Grants) (phase : Phase) (t : Talk) → Streams grants phase t (Finished ∷ [])
-      → Front grants phase t (Finished ∷ []) [] 0
-  end_front grants phase t s =
-      let h : heard t End ≡ ended endings.End t = ap (λ (y : Stage). heard_at y t End) s.stage in
+  -- the end is read
+  end_prefix : (grants : Grants) (phase : Phase) (t : Talk) → Streams grants phase t (Finished ∷ [])
+      → Prefix grants phase t (Finished ∷ []) [] 0
+  end_prefix grants phase t s =
+      let h : read t End ≡ ended endings.End t = ap (λ (y : Stage). read_at y t End) s.stage in
       record {
         are = (at_stage t Finished s.stage refl, tt);
-        is_begun = λ _. begun_none (heard t End).0.stage;
-        unsaid = λ f g. ap (λ (y : Talk × Event). (with_events f (telling y.1 ++ []) g).to_server) h;
+        is_begun = λ _. begun_none (read t End).0.stage;
+        unwritten = λ f g. ap (λ (y : Talk × Event). (with_events f (telling y.1 ++ []) g).to_server) h;
         same = same_more t Finished [] (h ∙ ap (λ (y : Stage). on_item y Finished t) (sym s.stage)) (refl, λ f g. refl);
         after = λ linked. absurd (subst (λ (y : Talk × Event). IsLinked y.0.stage) h linked);
       }
 
-  -- so many bytes are heard
-  pub streamed_front : (items : List Item) (grants : Grants) (phase : Phase) (t : Talk) (d : ℕ)
-      → Streams grants phase t items → Front grants phase t (wholes d items) (behind d items) (part d items)
-  streamed_front [] grants phase t d s = record {
+  -- so many bytes are read
+  pub streamed_prefix : (items : List Item) (grants : Grants) (phase : Phase) (t : Talk) (d : ℕ)
+      → Streams grants phase t items → Prefix grants phase t (wholes d items) (behind d items) (part d items)
+  streamed_prefix [] grants phase t d s = record {
     are = tt;
     is_begun = λ _. begun_none t.stage;
-    unsaid = λ f g. refl;
+    unwritten = λ f g. refl;
     same = (refl, λ f g. refl);
     after = λ _. s;
   }
-  streamed_front (Accepted ∷ rest) grants phase t d s = absurd s.sent.0
-  streamed_front (Refused ∷ rest) grants phase t d s = absurd s.sent.0
-  streamed_front (Greeted ∷ rest) grants phase t d s = absurd s.sent.0
-  streamed_front (Carried k n r ∷ rest) grants phase t d s =
+  streamed_prefix (Accepted ∷ rest) grants phase t d s = absurd s.sent.0
+  streamed_prefix (Refused ∷ rest) grants phase t d s = absurd s.sent.0
+  streamed_prefix (Greeted ∷ rest) grants phase t d s = absurd s.sent.0
+  streamed_prefix (Carried k n r ∷ rest) grants phase t d s =
       let size : ℕ = length (item_bytes (Carried k n r)) in
-      whole_or (Carried k n r) rest d (λ ws bs p. Front grants phase t ws bs p)
-      (λ fits. packet_front grants phase t k n r rest s (wholes (d - size) rest) (behind (d - size) rest)
+      whole_or (Carried k n r) rest d (λ ws bs p. Prefix grants phase t ws bs p)
+      (λ fits. packet_prefix grants phase t k n r rest s (wholes (d - size) rest) (behind (d - size) rest)
       (part (d - size) rest)
-      (streamed_front rest grants phase (told k (n % 2 ^ 24) r t).0 (d - size)
+      (streamed_prefix rest grants phase (told k (n % 2 ^ 24) r t).0 (d - size)
       (packet_next grants phase t k n r rest s)))
-      (λ lt. none_front grants phase t (Carried k n r) rest d (carried_whole k n r s.borne.0.2) lt s)
-  streamed_front (Finished ∷ []) grants phase t d s =
-      whole_or Finished [] d (λ ws bs p. Front grants phase t ws bs p) (λ fits. end_front grants phase t s)
-      (λ lt. none_front grants phase t Finished [] d refl lt s)
-  streamed_front (Finished ∷ i ∷ rest) grants phase t d s = absurd (let bad : i ∷ rest ≡ [] = s.ends.0 in cc bad)
+      (λ lt. none_prefix grants phase t (Carried k n r) rest d (carried_whole k n r s.borne.0.2) lt s)
+  streamed_prefix (Finished ∷ []) grants phase t d s =
+      whole_or Finished [] d (λ ws bs p. Prefix grants phase t ws bs p) (λ fits. end_prefix grants phase t s)
+      (λ lt. none_prefix grants phase t Finished [] d refl lt s)
+  streamed_prefix (Finished ∷ i ∷ rest) grants phase t d s = absurd (let bad : i ∷ rest ≡ [] = s.ends.0 in cc bad)
 
-  -- what is on its way once a client has heard
+  -- what is on its way once a client has read
   pub record Left (s : State) (taken : List ℕ) (t : Talk) (way : List ℕ) (items : List Item) : Type 0 where
     pub borne : AreBorne places items
     pub suited : (k : ℕ) → IsSuited (next_at t.wants k) (grant_at s.grants k) (of_place k items)
@@ -231,7 +231,7 @@ module _ (places : Places) (differ : Differ places) (codes_are : (k : ℕ) (p : 
     pub are : AreBrought t (map brought_of ws)
     pub is_begun : IsRest (talk_after t (map brought_of ws)).stage (take p (way_bytes bs))
     pub same : Same t ws
-    pub unsaid : s.phase ≡ Closed → (f : Numbers) (g : Gained)
+    pub unwritten : s.phase ≡ Closed → (f : Numbers) (g : Gained)
         → (with_events f (events_of t (map brought_of ws)) g).to_server ≡ g.to_server
     pub after : (f : Numbers) (g : Gained) → g.to_server ≡ way → IsLinked (talk_after t (map brought_of ws)).stage
         → Left s taken (talk_after t (map brought_of ws)) (with_events f (events_of t (map brought_of ws)) g).to_server
@@ -241,29 +241,29 @@ module _ (places : Places) (differ : Differ places) (codes_are : (k : ℕ) (p : 
 
   module _ (s : State) (taken way : List ℕ) (t : Talk) where
     -- nothing is whole
-    nothing_heard : (items : List Item) (p : ℕ) → IsBegun t.stage (take p (way_bytes items)) → IsLinked t.stage
+    nothing_read : (items : List Item) (p : ℕ) → IsBegun t.stage (take p (way_bytes items)) → IsLinked t.stage
         → Left s taken t way items → Outcome s taken way t [] items p
-    nothing_heard items p begun linked left = record {
+    nothing_read items p begun linked left = record {
       are = tt;
       is_begun = λ _. begun;
       same = (refl, λ f g. refl);
-      unsaid = λ _ f g. refl;
+      unwritten = λ _ f g. refl;
       after = λ f g same _. subst (λ b. Left s taken t b items) (sym same) left;
       quiet = λ f g same over. absurd (over linked);
     }
 
     -- a line is said
-    line_said : (i : Item) (stage : Stage) (request : Request) → Open s.phase
-        → heard t (whole_of i) ≡ on_item t.stage i t → IsWhole t.stage (item_bytes i) (whole_of i)
-        → heard t (whole_of i) ≡ says t stage request → IsLinked stage
+    line_written : (i : Item) (stage : Stage) (request : Request) → Open s.phase
+        → read t (whole_of i) ≡ on_item t.stage i t → IsWhole t.stage (item_bytes i) (whole_of i)
+        → read t (whole_of i) ≡ says t stage request → IsLinked stage
         → ((k : ℕ) → IsSuited (next_at t.wants k) (grant_at s.grants k) [])
         → Shakes (record t { stage = stage }) s.phase taken (way ++ request_bytes request) []
         → Outcome s taken way t (i ∷ []) [] 0
-    line_said i stage request awake on whole h linked suited shakes = record {
+    line_written i stage request awake on whole h linked suited shakes = record {
       are = (whole, tt);
-      is_begun = λ _. begun_none (heard t (whole_of i)).0.stage;
+      is_begun = λ _. begun_none (read t (whole_of i)).0.stage;
       same = same_more t i [] on (refl, λ f g. refl);
-      unsaid = λ shut f g. absurd (awake shut);
+      unwritten = λ shut f g. absurd (awake shut);
       after = λ f g same _. subst
           (λ (y : Talk × Event). Left s taken y.0 (with_events f (telling y.1 ++ []) g).to_server []) (sym h)
           (subst (λ b. Left s taken (record t { stage = stage }) (b ++ request_bytes request) []) (sym same)
@@ -272,15 +272,15 @@ module _ (places : Places) (differ : Differ places) (codes_are : (k : ℕ) (p : 
     }
 
     -- a place is refused
-    refusal_heard : (k : ℕ) → Open s.phase → heard t (Reply (codes "ERROR")) ≡ on_item t.stage Refused t
+    refusal_read : (k : ℕ) → Open s.phase → read t (Reply (codes "ERROR")) ≡ on_item t.stage Refused t
         → IsWhole t.stage (item_bytes Refused) (whole_of Refused)
-        → heard t (Reply (codes "ERROR")) ≡ ended (endings.Refused k) t → IsAnswered taken way
+        → read t (Reply (codes "ERROR")) ≡ ended (endings.Refused k) t → IsAnswered taken way
         → Outcome s taken way t (Refused ∷ []) [] 0
-    refusal_heard k awake on whole h told = record {
+    refusal_read k awake on whole h told = record {
       are = (whole, tt);
-      is_begun = λ _. begun_none (heard t (Reply (codes "ERROR"))).0.stage;
+      is_begun = λ _. begun_none (read t (Reply (codes "ERROR"))).0.stage;
       same = same_more t Refused [] on (refl, λ f g. refl);
-      unsaid = λ shut f g. absurd (awake shut);
+      unwritten = λ shut f g. absurd (awake shut);
       after = λ f g same linked. absurd (subst (λ (y : Talk × Event). IsLinked y.0.stage) h linked);
       quiet = λ f g same _ _. subst
           (λ (y : Talk × Event). IsAnswered taken (with_events f (telling y.1 ++ []) g).to_server) (sym h)
@@ -292,7 +292,7 @@ module _ (places : Places) (differ : Differ places) (codes_are : (k : ℕ) (p : 
         → Outcome s taken way t (wholes d (i ∷ [])) (behind d (i ∷ [])) (part d (i ∷ []))
     one_or i d linked whole done left =
         whole_or i [] d (λ ws bs p. Outcome s taken way t ws bs p) (λ fits. done)
-        (λ lt. nothing_heard (i ∷ []) d (part_begun t.stage i [] d whole lt) linked left)
+        (λ lt. nothing_read (i ∷ []) d (part_begun t.stage i [] d whole lt) linked left)
 
     ok_reply : (k : ℕ) → IsWhole (Station k) (item_bytes Accepted) (whole_of Accepted)
     ok_reply k = (refl, lacks_end (codes "OK" ++ 13 ∷ []) refl, omega arith)
@@ -300,22 +300,22 @@ module _ (places : Places) (differ : Differ places) (codes_are : (k : ℕ) (p : 
     error_reply : (k : ℕ) → IsWhole (Number k) (item_bytes Refused) (whole_of Refused)
     error_reply k = (refl, lacks_end (codes "ERROR" ++ 13 ∷ []) refl, omega arith)
 
-    next_said : (k : ℕ) (o : Option Wanted) → AreAsked places t.wants → t.stage ≡ Number k → s.phase ≡ Granted k
+    next_written : (k : ℕ) (o : Option Wanted) → AreAsked places t.wants → t.stage ≡ Number k → s.phase ≡ Granted k
         → IsAnswered taken way → want_at t.wants (k + 1) ≡ o
-        → heard t (Reply (codes "OK")) ≡ on_item t.stage Accepted t
-        → heard t (Reply (codes "OK")) ≡ to_place o (k + 1) t
+        → read t (Reply (codes "OK")) ≡ on_item t.stage Accepted t
+        → read t (Reply (codes "OK")) ≡ to_place o (k + 1) t
         → ((i : ℕ) → IsSuited (next_at t.wants i) (grant_at s.grants i) []) → Outcome s taken way t (Accepted ∷ []) [] 0
-    next_said k None asked stage phase told want on h suited =
-        line_said Accepted Packets requests.End (open_at s.phase (Granted k) phase tt) on
+    next_written k None asked stage phase told want on h suited =
+        line_written Accepted Packets requests.End (open_at s.phase (Granted k) phase tt) on
         (subst (λ (y : Stage). IsWhole y (item_bytes Accepted) (whole_of Accepted)) (sym stage) (ok_reply k)) h tt
         suited (asks_end k refl phase (asks_more (request_line requests.End) taken way end_line told) refl)
-    next_said k (Some w) asked stage phase told want on h suited =
+    next_written k (Some w) asked stage phase told want on h suited =
         let q : (p : Fields × Option ℕ) × (slice_get places (k + 1) ≡ Some p) × (w.place ≡ p.0) =
         also_at (λ (x : Wanted). x.place) (λ (p : Fields × Option ℕ). p.0) (want_at t.wants (k + 1))
         (slice_get places (k + 1)) w (asked.alike (k + 1)) want in
         let fields : IsField 5 w.place.station × IsField 2 w.place.network =
         subst (λ (f : Fields). IsField 5 f.station × IsField 2 f.network) (sym q.2) (codes_are (k + 1) q.0 q.1) in
-        line_said Accepted (Station (k + 1)) (requests.Station w.place) (open_at s.phase (Granted k) phase tt) on
+        line_written Accepted (Station (k + 1)) (requests.Station w.place) (open_at s.phase (Granted k) phase tt) on
         (subst (λ (y : Stage). IsWhole y (item_bytes Accepted) (whole_of Accepted)) (sym stage) (ok_reply k)) h tt
         suited
         (asks_place (k + 1) w refl want (inr (k, refl, phase))
@@ -335,7 +335,7 @@ module _ (places : Places) (differ : Differ places) (codes_are : (k : ℕ) (p : 
 
       empty : items ≡ [] → IsLinked t.stage → Result items
       empty none linked = subst Result (sym none)
-          (nothing_heard [] 0 (begun_none t.stage) linked (subst (Left s taken t way) none left))
+          (nothing_read [] 0 (begun_none t.stage) linked (subst (Left s taken t way) none left))
 
       suits : (i : Item) → ((k : ℕ) → of_place k (i ∷ []) ≡ []) → items ≡ i ∷ [] → (k : ℕ)
           → IsSuited (next_at t.wants k) (grant_at s.grants k) []
@@ -350,60 +350,61 @@ module _ (places : Places) (differ : Differ places) (codes_are : (k : ℕ) (p : 
       whole_at stage i is whole = subst (λ (y : Stage). IsWhole y (item_bytes i) (whole_of i)) (sym is) whole
 
       -- the table says the same at this stage
-      on_is : (i : Item) (stage : Stage) → t.stage ≡ stage → heard_at stage t (whole_of i) ≡ on_item stage i t
-          → heard t (whole_of i) ≡ on_item t.stage i t
-      on_is i stage is at = subst (λ (y : Stage). heard_at y t (whole_of i) ≡ on_item y i t) (sym is) at
+      on_is : (i : Item) (stage : Stage) → t.stage ≡ stage → read_at stage t (whole_of i) ≡ on_item stage i t
+          → read t (whole_of i) ≡ on_item t.stage i t
+      on_is i stage is at = subst (λ (y : Stage). read_at y t (whole_of i) ≡ on_item y i t) (sym is) at
 
       by_shakes : Shakes t s.phase taken way items → Result items
       by_shakes (asks_place k w stage want ready asks none) = empty none (there (Station k) stage tt)
-      by_shakes (has_place k stage phase said one) =
+      by_shakes (has_place k stage phase written one) =
           let request : Request = numbered t.mode (next_at t.wants k) in
           subst Result (sym one) (one_or Accepted d (there (Station k) stage tt)
           (whole_at (Station k) Accepted stage (ok_reply k))
-          (line_said Accepted (Number k) request (open_at s.phase (Chosen k) phase tt)
+          (line_written Accepted (Number k) request (open_at s.phase (Chosen k) phase tt)
           (on_is Accepted (Station k) stage refl) (whole_at (Station k) Accepted stage (ok_reply k))
-          (ap (λ (y : Stage). heard_at y t (Reply (codes "OK"))) stage) tt (suits Accepted (λ i. refl) one)
+          (ap (λ (y : Stage). read_at y t (Reply (codes "OK"))) stage) tt (suits Accepted (λ i. refl) one)
           (asks_number k refl phase
-          (asks_more (request_line request) taken way (number_line t.mode (next_at t.wants k)) said) refl))
+          (asks_more (request_line request) taken way (number_line t.mode (next_at t.wants k)) written) refl))
           (subst (Left s taken t way) one left))
       by_shakes (asks_number k stage phase asks none) = empty none (there (Number k) stage tt)
-      by_shakes (has_number k stage phase said one) =
+      by_shakes (has_number k stage phase written one) =
           subst Result (sym one) (one_or Accepted d (there (Number k) stage tt)
           (whole_at (Number k) Accepted stage (ok_reply k))
-          (next_said k (want_at t.wants (k + 1)) asked stage phase said refl (on_is Accepted (Number k) stage refl)
-          (ap (λ (y : Stage). heard_at y t (Reply (codes "OK"))) stage) (suits Accepted (λ i. refl) one))
+          (next_written k (want_at t.wants (k + 1)) asked stage phase written refl
+          (on_is Accepted (Number k) stage refl)
+          (ap (λ (y : Stage). read_at y t (Reply (codes "OK"))) stage) (suits Accepted (λ i. refl) one))
           (subst (Left s taken t way) one left))
-      by_shakes (has_none k stage phase said one) =
+      by_shakes (has_none k stage phase written one) =
           subst Result (sym one) (one_or Refused d (there (Number k) stage tt)
           (whole_at (Number k) Refused stage (error_reply k))
-          (refusal_heard k (open_at s.phase (Chosen k) phase tt) (on_is Refused (Number k) stage refl)
+          (refusal_read k (open_at s.phase (Chosen k) phase tt) (on_is Refused (Number k) stage refl)
           (whole_at (Number k) Refused stage (error_reply k))
-          (ap (λ (y : Stage). heard_at y t (Reply (codes "ERROR"))) stage) said)
+          (ap (λ (y : Stage). read_at y t (Reply (codes "ERROR"))) stage) written)
           (subst (Left s taken t way) one left))
       by_shakes (asks_end k stage phase asks none) = empty none (there Packets stage tt)
-      by_shakes (streams stage later sent said) =
-          let front : Front s.grants s.phase t (wholes d items) (behind d items) (part d items) =
-          streamed_front items s.grants s.phase t d
+      by_shakes (streams stage later sent written) =
+          let prefix : Prefix s.grants s.phase t (wholes d items) (behind d items) (part d items) =
+          streamed_prefix items s.grants s.phase t d
           (record { stage = stage; asked = asked; borne = borne; suited = suited; sent = sent; ends = ends }) in
           record {
-            are = front.are;
-            is_begun = front.is_begun;
-            same = front.same;
-            unsaid = λ _ f g. front.unsaid f g;
+            are = prefix.are;
+            is_begun = prefix.is_begun;
+            same = prefix.same;
+            unwritten = λ _ f g. prefix.unwritten f g;
             after = λ f g same linked.
                 let u : Streams s.grants s.phase (talk_after t (map brought_of (wholes d items))) (behind d items) =
-                front.after linked in
+                prefix.after linked in
                 let same_way : (with_events f (events_of t (map brought_of (wholes d items))) g).to_server ≡ way =
-                front.unsaid f g ∙ same in
+                prefix.unwritten f g ∙ same in
                 subst (λ b. Left s taken (talk_after t (map brought_of (wholes d items))) b (behind d items))
                 (sym same_way) (record {
                   borne = u.borne;
                   suited = u.suited;
-                  shakes = streams u.stage later u.sent said;
+                  shakes = streams u.stage later u.sent written;
                   ends = u.ends;
                 });
-            quiet = λ f g same over awake. subst (IsAnswered taken) (sym (front.unsaid f g ∙ same)) (said awake);
+            quiet = λ f g same over awake. subst (IsAnswered taken) (sym (prefix.unwritten f g ∙ same)) (written awake);
           }
 
-      pub heard_outcome : Result items
-      heard_outcome = by_shakes shakes
+      pub read_outcome : Result items
+      read_outcome = by_shakes shakes

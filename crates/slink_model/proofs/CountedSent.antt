@@ -46,7 +46,7 @@ module _ (places : Places) (client : Listening) (feed : List Window) (ringed : A
   s = l.session.state
 
   abbrev before : List ℕ
-  before = take c.taken c.said
+  before = take c.taken c.written
 
   abbrev its : List Item
   its = behind c.delivered c.sent

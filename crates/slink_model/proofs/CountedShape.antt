@@ -11,7 +11,7 @@ use Rattle.slink_model.specs.declared.world.Setup.{Setup}
 use Rattle.slink_model.specs.declared.world.Step.{Step}
 use Rattle.slink_model.specs.declared.world.Step.TheVariants.{Append, Connect, ToServer, ToClient, Send, Cut}
 use Rattle.slink_model.specs.Counted.{AreItems, ArePackets, AreStreamed, Counted, CountedLink, answer_at, behind}
-use Rattle.slink_model.specs.Counted.{counted_step, delivered_by, heard_by, if_come, items_sent, new_link, news}
+use Rattle.slink_model.specs.Counted.{counted_step, delivered_by, read_by, if_come, items_sent, new_link, news}
 use Rattle.slink_model.specs.Counted.{on_item, part, sent_by, served_by, taken_by, talk_upon, waits, wholes, windows_of}
 use Rattle.slink_feed.specs.Dialogue.{Talk, to_place, want_at}
 use Rattle.slink_feed.specs.Listening.{AwaitsReply, IsLinked}
@@ -19,8 +19,8 @@ use Rattle.slink_feed.specs.Session.{sent}
 use Rattle.slink_model.specs.Ties.{Item, Accepted, Refused, Greeted, Carried, Finished, Places, item_bytes, items_of}
 use Rattle.slink_model.specs.Ties.{way_bytes}
 use Rattle.slink_feed.specs.Window.{Window}
-use Rattle.slink_model.specs.World.{said}
-use Rattle.slink_model.proofs.CountedHeard.{unlinked_upon}
+use Rattle.slink_model.specs.World.{written}
+use Rattle.slink_model.proofs.CountedRead.{unlinked_upon}
 use Rattle.slink_model.proofs.Counting.{behind_more, left_after, whole_or}
 use Rattle.slink_model.proofs.Counts.{EndsIn}
 use Rattle.slink_feed.proofs.Items.{is_within, within_is}
@@ -29,7 +29,7 @@ use Rattle.slink_model.proofs.Requested.{also_at}
 use Rattle.slink_model.proofs.Shaking.{AreAsked, AreBorne, AreSent, IsBorne, IsSent, Shakes, asks_end, asks_number}
 use Rattle.slink_model.proofs.Shaking.{asks_place, has_none, has_number, has_place, streams}
 
--- how many replies a client heard that waits for this
+-- how many replies a client read that waits for this
 abbrev replies_at : Places → Stage → ℕ
 replies_at places Unlinked = 0
 replies_at places (Station k) = 2 * k
@@ -50,7 +50,7 @@ pub record Shape (places : Places) (stage : Stage) (sent : List Item) (d : ℕ) 
   pub done : 4 * replies_at places stage ≤ d
   pub still : AwaitsReply stage → packets ≡ behind d sent
   pub within : IsWithin places stage
-  pub are : stage ≡ Packets → (front : List Item) × (packets ≡ front ++ behind d sent) × ArePackets front
+  pub are : stage ≡ Packets → (prefix : List Item) × (packets ≡ prefix ++ behind d sent) × ArePackets prefix
 
 -- what is known of a link of which more is taken
 pub record LinkFacts (places : Places) (talk : Talk) (c : CountedLink) : Type 0 where
@@ -110,31 +110,31 @@ all_there (suc m) d none = whole_or Accepted (replicate m Accepted ++ []) d (λ 
     (λ fits none. let more : 4 * m ≤ d - 4 = all_there m (d - 4) none in omega (arith, more, fits))
     (λ lt none. absurd (let bad : Accepted ∷ (replicate m Accepted ++ []) ≡ [] = none in cc bad)) none
 
--- what a client hears that goes on to await packets
-heard_packets : (places : Places) (is : List Item) (t : Talk) → t.stage ≡ Packets → AreSent is → AreBorne places is
+-- what a client reads that goes on to await packets
+read_packets : (places : Places) (is : List Item) (t : Talk) → t.stage ≡ Packets → AreSent is → AreBorne places is
     → IsLinked (talk_upon t is).stage → ArePackets is × ((talk_upon t is).stage ≡ Packets)
-heard_packets places [] t p sent borne linked = (tt, p)
-heard_packets places (i ∷ is) t p sent borne linked =
+read_packets places [] t p sent borne linked = (tt, p)
+read_packets places (i ∷ is) t p sent borne linked =
     let same : (on_item t.stage i t).0 ≡ (on_item Packets i t).0 = ap (λ (s : Stage). (on_item s i t).0) p in
     elim (linked_or (on_item t.stage i t).0.stage) [
       | inl there ↦
           let next : ((on_item Packets i t).0.stage ≡ Packets) × (ArePackets is → ArePackets (i ∷ is)) =
-          one_heard i sent.0 borne.0 (subst (λ (u : Talk). IsLinked u.stage) same there) in
+          one_read i sent.0 borne.0 (subst (λ (u : Talk). IsLinked u.stage) same there) in
           let rest : ArePackets is × ((talk_upon (on_item t.stage i t).0 is).stage ≡ Packets) =
-          heard_packets places is (on_item t.stage i t).0 (ap (λ (u : Talk). u.stage) same ∙ next.0) sent.1 borne.1
+          read_packets places is (on_item t.stage i t).0 (ap (λ (u : Talk). u.stage) same ∙ next.0) sent.1 borne.1
           linked in
           (next.1 rest.0, rest.1)
       | inr over ↦ absurd (over
           (subst (λ (u : Talk). IsLinked u.stage) (unlinked_upon (on_item t.stage i t).0 is over).0 linked))
     ]
   where
-    one_heard : (i : Item) → IsSent i → IsBorne places i → IsLinked (on_item Packets i t).0.stage
+    one_read : (i : Item) → IsSent i → IsBorne places i → IsLinked (on_item Packets i t).0.stage
         → ((on_item Packets i t).0.stage ≡ Packets) × (ArePackets is → ArePackets (i ∷ is))
-    one_heard Accepted sent borne there = absurd sent
-    one_heard Refused sent borne there = absurd sent
-    one_heard Greeted sent borne there = absurd sent
-    one_heard (Carried k n r) sent borne there = (p, λ are. (borne.2, are))
-    one_heard Finished sent borne there = absurd there
+    one_read Accepted sent borne there = absurd sent
+    one_read Refused sent borne there = absurd sent
+    one_read Greeted sent borne there = absurd sent
+    one_read (Carried k n r) sent borne there = (p, λ are. (borne.2, are))
+    one_read Finished sent borne there = absurd there
 
 -- the items that are whole, and the others
 wholes_behind : (is : List Item) (d : ℕ) → is ≡ wholes d is ++ behind d is
@@ -143,13 +143,13 @@ wholes_behind (i ∷ is) d =
     whole_or i is d (λ ws bs p. i ∷ is ≡ ws ++ bs)
     (λ fits. ap (λ xs. i ∷ xs) (wholes_behind is (d - length (item_bytes i)))) (λ lt. refl)
 
-sent_front : (xs ys : List Item) → AreSent (xs ++ ys) → AreSent xs
-sent_front [] ys h = tt
-sent_front (x ∷ xs) ys h = (h.0, sent_front xs ys h.1)
+sent_prefix : (xs ys : List Item) → AreSent (xs ++ ys) → AreSent xs
+sent_prefix [] ys h = tt
+sent_prefix (x ∷ xs) ys h = (h.0, sent_prefix xs ys h.1)
 
-borne_front : (places : Places) (xs ys : List Item) → AreBorne places (xs ++ ys) → AreBorne places xs
-borne_front places [] ys h = tt
-borne_front places (x ∷ xs) ys h = (h.0, borne_front places xs ys h.1)
+borne_prefix : (places : Places) (xs ys : List Item) → AreBorne places (xs ++ ys) → AreBorne places xs
+borne_prefix places [] ys h = tt
+borne_prefix places (x ∷ xs) ys h = (h.0, borne_prefix places xs ys h.1)
 
 packets_more : (xs ys : List Item) → ArePackets xs → ArePackets ys → ArePackets (xs ++ ys)
 packets_more [] ys a b = b
@@ -183,10 +183,10 @@ module _ (places : Places) (talk : Talk) (asked : AreAsked places talk.wants) (n
     are = λ p. ((h.are p).0, (h.are p).1 ∙ ap (λ (x : List Item). (h.are p).0 ++ x) (sym rest), (h.are p).2);
   })
 
-  reply_heard : (new : Stage) → its ≡ Accepted ∷ [] → AwaitsReply talk.stage
+  reply_read : (new : Stage) → its ≡ Accepted ∷ [] → AwaitsReply talk.stage
       → replies_at places new ≡ replies_at places talk.stage + 1 → IsWithin places new → behind d l.sent ≡ []
       → Shape places new l.sent d
-  reply_heard new one awaits more within none =
+  reply_read new one awaits more within none =
       let m : ℕ = replies_at places talk.stage in
       let is : l.sent ≡ replicate (replies_at places new) Accepted ++ [] =
       h.sent_is ∙ (ap (λ (ps : List Item). replicate m Accepted ++ ps) (h.still awaits ∙ one)
@@ -200,25 +200,25 @@ module _ (places : Places) (talk : Talk) (asked : AreAsked places talk.wants) (n
         are = λ _. ([], sym none, tt);
       }
 
-  packets_heard : talk.stage ≡ Packets → AreSent its → behind d l.sent ≡ behind e its
+  packets_read : talk.stage ≡ Packets → AreSent its → behind d l.sent ≡ behind e its
       → IsLinked (talk_upon talk (wholes e its)).stage → Shape places (talk_upon talk (wholes e its)).stage l.sent d
-  packets_heard p sent same linked =
+  packets_read p sent same linked =
       let ws : List Item = wholes e its in
       let split : its ≡ ws ++ behind d l.sent = wholes_behind its e ∙ ap (λ (x : List Item). ws ++ x) (sym same) in
-      let heard : ArePackets ws × ((talk_upon talk ws).stage ≡ Packets) =
-      heard_packets places ws talk p (sent_front ws (behind d l.sent) (subst AreSent split sent))
-      (borne_front places ws (behind d l.sent) (subst (AreBorne places) split f.borne)) linked in
-      let front : List Item = (h.are p).0 in
-      subst (λ (s : Stage). Shape places s l.sent d) (p ∙ sym heard.1) (record {
+      let read : ArePackets ws × ((talk_upon talk ws).stage ≡ Packets) =
+      read_packets places ws talk p (sent_prefix ws (behind d l.sent) (subst AreSent split sent))
+      (borne_prefix places ws (behind d l.sent) (subst (AreBorne places) split f.borne)) linked in
+      let prefix : List Item = (h.are p).0 in
+      subst (λ (s : Stage). Shape places s l.sent d) (p ∙ sym read.1) (record {
         packets = h.packets;
         sent_is = h.sent_is;
         done = omega (arith, h.done, f.few);
         still = λ awaits. absurd (subst AwaitsReply p awaits);
         within = h.within;
         are = λ _. (
-          front ++ ws,
-          (h.are p).1 ∙ (ap (λ (x : List Item). front ++ x) split ∙ sym (append_assoc front ws (behind d l.sent))),
-          packets_more front ws (h.are p).2 heard.0,
+          prefix ++ ws,
+          (h.are p).1 ∙ (ap (λ (x : List Item). prefix ++ x) split ∙ sym (append_assoc prefix ws (behind d l.sent))),
+          packets_more prefix ws (h.are p).2 read.0,
         );
       })
 
@@ -240,7 +240,7 @@ module _ (places : Places) (talk : Talk) (asked : AreAsked places talk.wants) (n
   after_number k None one stage want none =
       let lt : k < length places = subst (IsWithin places) stage h.within in
       let last : length places ≤ k + 1 = past (within_or) in
-      reply_heard Packets one (subst AwaitsReply (sym stage) tt)
+      reply_read Packets one (subst AwaitsReply (sym stage) tt)
       (let r : replies_at places talk.stage ≡ 2 * k + 1 = ap (replies_at places) stage in
       omega (arith, r, lt, last)) tt none
     where
@@ -261,7 +261,7 @@ module _ (places : Places) (talk : Talk) (asked : AreAsked places talk.wants) (n
       let q : (p : Fields × Option ℕ) × (slice_get places (k + 1) ≡ Some p) × (w.place ≡ p.0) =
       also_at (λ (x : Wanted). x.place) (λ (p : Fields × Option ℕ). p.0) (want_at talk.wants (k + 1))
       (slice_get places (k + 1)) w (asked.alike (k + 1)) want in
-      reply_heard (Station (k + 1)) one (subst AwaitsReply (sym stage) tt)
+      reply_read (Station (k + 1)) one (subst AwaitsReply (sym stage) tt)
       (let r : replies_at places talk.stage ≡ 2 * k + 1 = ap (replies_at places) stage in
       omega (arith, r)) (is_within places (k + 1) q.0 q.1) none
 
@@ -269,7 +269,7 @@ module _ (places : Places) (talk : Talk) (asked : AreAsked places talk.wants) (n
   by_shakes (asks_place k w stage want ready asks none) = nothing none
   by_shakes (has_place k stage phase told one) = one_item Accepted one (λ none linked.
       subst (λ (t : Stage). Shape places (on_item t Accepted talk).0.stage l.sent d) (sym stage)
-      (reply_heard (Number k) one (subst AwaitsReply (sym stage) tt)
+      (reply_read (Number k) one (subst AwaitsReply (sym stage) tt)
       (let r : replies_at places talk.stage ≡ 2 * k = ap (replies_at places) stage in
       omega (arith, r)) (subst (IsWithin places) stage h.within) none))
   by_shakes (asks_number k stage phase asks none) = nothing none
@@ -280,14 +280,15 @@ module _ (places : Places) (talk : Talk) (asked : AreAsked places talk.wants) (n
       one_item Refused one (λ none linked.
       absurd (subst (λ (t : Stage). IsLinked (on_item t Refused talk).0.stage) stage linked))
   by_shakes (asks_end k stage phase asks none) = nothing none
-  by_shakes (streams stage later sent told) = packets_heard stage sent
+  by_shakes (streams stage later sent told) = packets_read stage sent
 
-  pub shape_heard : IsLinked (talk_upon talk (news n l)).stage → Shape places (talk_upon talk (news n l)).stage l.sent d
-  shape_heard linked = by_shakes f.shakes left linked
+  pub shape_read : IsLinked (talk_upon talk (news n l)).stage → Shape places (talk_upon talk (news n l)).stage l.sent d
+  shape_read linked = by_shakes f.shakes left linked
 
 -- what a step makes of it
 connect_shaped : (places : Places) (talk : Talk) (o : Option Wanted) → 0 < length places → AreAsked places talk.wants
-    → want_at talk.wants 0 ≡ o → AreShaped places (to_place o 0 talk).0 (Some (new_link (said (to_place o 0 talk).1)))
+    → want_at talk.wants 0 ≡ o
+    → AreShaped places (to_place o 0 talk).0 (Some (new_link (written (to_place o 0 talk).1)))
 connect_shaped places talk None some asked want =
     let p : (p : Fields × Option ℕ) × (slice_get places 0 ≡ Some p) = within_is places 0 some in
     let first : (x : Wanted) × (want_at talk.wants 0 ≡ Some x) × (p.0.0 ≡ x.place) =
@@ -307,7 +308,7 @@ served_shaped : (places : Places) (feed : List Window) (talk : Talk) (n : ℕ) (
     → AreFacts places talk q → AreShaped places talk q → AreShaped places talk (option_map (served_by feed talk n) q)
 served_shaped places feed talk n None f h = tt
 served_shaped places feed talk n (Some l) f h =
-    λ linked. come_shape places (waits l.taken l.said && not (waits (taken_by n l) l.said)) feed talk
+    λ linked. come_shape places (waits l.taken l.written && not (waits (taken_by n l) l.written)) feed talk
     (record l { taken = taken_by n l }) (f linked).few (h linked)
 
 sent_shaped : (places : Places) (feed : List Window) (talk : Talk) (k : ℕ) (q : Option CountedLink)
@@ -317,12 +318,12 @@ sent_shaped places feed talk k (Some l) f h =
     λ linked. shape_more places talk l.sent (items_sent feed l.session.grants k (sent feed l.session k).1) l.delivered
     (f linked).few (h linked)
 
-heard_shaped : (places : Places) (c : Counted) (n : ℕ) (q : Option CountedLink) → AreAsked places c.talk.wants
+read_shaped : (places : Places) (c : Counted) (n : ℕ) (q : Option CountedLink) → AreAsked places c.talk.wants
     → AreFacts places c.talk q → AreShaped places c.talk q → AreShaped places c.talk c.link
-    → AreShaped places (heard_by n c q).talk (heard_by n c q).link
-heard_shaped places c n None asked f h same = same
-heard_shaped places c n (Some l) asked f h same = λ linked. elim (linked_or c.talk.stage) [
-  | inl there ↦ shape_heard places c.talk asked n l (f there) (h there) linked
+    → AreShaped places (read_by n c q).talk (read_by n c q).link
+read_shaped places c n None asked f h same = same
+read_shaped places c n (Some l) asked f h same = λ linked. elim (linked_or c.talk.stage) [
+  | inl there ↦ shape_read places c.talk asked n l (f there) (h there) linked
   | inr over ↦ absurd (over (subst (λ (t : Talk). IsLinked t.stage) (unlinked_upon c.talk (news n l) over).0 linked))
 ]
 
@@ -335,7 +336,7 @@ step_shaped setup c Connect some asked f h =
     connect_shaped setup.places.items c.talk (want_at c.talk.wants 0) some asked refl
 step_shaped setup c (ToServer n) some asked f h =
     served_shaped setup.places.items (windows_of setup c) c.talk n c.link f h
-step_shaped setup c (ToClient n) some asked f h = heard_shaped setup.places.items c n c.link asked f h h
+step_shaped setup c (ToClient n) some asked f h = read_shaped setup.places.items c n c.link asked f h h
 step_shaped setup c (Send k) some asked f h = sent_shaped setup.places.items (windows_of setup c) c.talk k c.link f h
 step_shaped setup c Cut some asked f h = tt
 
@@ -355,19 +356,19 @@ packets_sent talk phase taken way is p (has_none k stage at told one) =
 packets_sent talk phase taken way is p (asks_end k stage at asks none) = subst AreSent (sym none) tt
 packets_sent talk phase taken way is p (streams stage later sent told) = sent
 
-items_are : (places : Places) (phase : Phase) (front is : List Item) → ArePackets front → AreSent is
-    → AreBorne places is → EndsIn phase is → AreItems (front ++ is)
+items_are : (places : Places) (phase : Phase) (prefix is : List Item) → ArePackets prefix → AreSent is
+    → AreBorne places is → EndsIn phase is → AreItems (prefix ++ is)
 items_are places phase [] [] a s b e = tt
 items_are places phase [] (Accepted ∷ is) a s b e = absurd s.0
 items_are places phase [] (Refused ∷ is) a s b e = absurd s.0
 items_are places phase [] (Greeted ∷ is) a s b e = absurd s.0
 items_are places phase [] (Carried k n r ∷ is) a s b e = (b.0.2, items_are places phase [] is tt s.1 b.1 e)
 items_are places phase [] (Finished ∷ is) a s b e = e.0
-items_are places phase (Accepted ∷ front) is a s b e = absurd a
-items_are places phase (Refused ∷ front) is a s b e = absurd a
-items_are places phase (Greeted ∷ front) is a s b e = absurd a
-items_are places phase (Carried k n r ∷ front) is a s b e = (a.0, items_are places phase front is a.1 s b e)
-items_are places phase (Finished ∷ front) is a s b e = absurd a
+items_are places phase (Accepted ∷ prefix) is a s b e = absurd a
+items_are places phase (Refused ∷ prefix) is a s b e = absurd a
+items_are places phase (Greeted ∷ prefix) is a s b e = absurd a
+items_are places phase (Carried k n r ∷ prefix) is a s b e = (a.0, items_are places phase prefix is a.1 s b e)
+items_are places phase (Finished ∷ prefix) is a s b e = absurd a
 
 pub streamed_of : (places : Places) (talk : Talk) (q : Option CountedLink) → AreFacts places talk q
     → AreShaped places talk q → AreStreamed (length places) talk q

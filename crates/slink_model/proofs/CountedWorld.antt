@@ -14,7 +14,7 @@ use Rattle.slink_model.specs.declared.world.Setup.{Setup}
 use Rattle.slink_model.specs.declared.world.Step.{Step}
 use Rattle.slink_model.specs.declared.world.Step.TheVariants.{Append, Connect, ToServer, ToClient, Send, Cut}
 use Rattle.slink_model.specs.Counted.{AreCountedLinks, AreStreamed, behind, Counted, CountedLink, IsCounted}
-use Rattle.slink_model.specs.Counted.{IsCountedLink, counted_after, counted_opening, counted_step, heard_by, new_link}
+use Rattle.slink_model.specs.Counted.{IsCountedLink, counted_after, counted_opening, counted_step, read_by, new_link}
 use Rattle.slink_model.specs.Counted.{news, sent_by, served_by, talk_upon, shown_all, shown_of}
 use Rattle.slink_feed.specs.Dialogue.{Talk, next_at, says_place, to_place, want_at}
 use Rattle.slink_feed.specs.Listening.{Listening}
@@ -23,10 +23,10 @@ use Rattle.slink_model.specs.Spared.{AreAskable}
 use Rattle.slink_model.specs.Stretch.{IsSchedule}
 use Rattle.slink_model.specs.Ties.{Places}
 use Rattle.slink_feed.specs.Window.{Window, window, with_record}
-use Rattle.slink_model.specs.World.{AllHappen, Both, Connects, Differ, Happens, IsHeard, IsOf, IsServed, LinkState}
-use Rattle.slink_model.specs.World.{Lists, Numbers, WorldState, empty_window, opening, pushed_to, said, sent_on}
+use Rattle.slink_model.specs.World.{AllHappen, Both, Connects, Differ, Happens, IsRead, IsOf, IsServed, LinkState}
+use Rattle.slink_model.specs.World.{Lists, Numbers, WorldState, empty_window, opening, pushed_to, written, sent_on}
 use Rattle.slink_model.specs.World.{with_one}
-use Rattle.slink_model.proofs.CountedHeard.{HeardCounts, gains, heard_counts, now_counted}
+use Rattle.slink_model.proofs.CountedRead.{ReadCounts, gains, read_counts, now_counted}
 use Rattle.slink_model.proofs.CountedSent.{sent_counts}
 use Rattle.slink_model.proofs.CountedShape.{AreFacts, AreShaped, step_shaped, streamed_of}
 use Rattle.slink_model.proofs.Counting.{kept_part}
@@ -170,24 +170,24 @@ module _ (setup : Setup) (differ : Differ setup.places.items) (codes : (k : ℕ)
       } in
       let done : IsWorld (record (beside w q) {
         talk = (to_place (Some first.0) 0 talk).0;
-        link = Some (new_link (said (to_place (Some first.0) 0 talk).1));
+        link = Some (new_link (written (to_place (Some first.0) 0 talk).1));
       }) (record w {
         client = record { talk = (to_place (Some first.0) 0 talk).0; kept = [] };
         link = Some (record {
           session = c.session;
           first_sent = replicate 16 None;
-          to_server = said (to_place (Some first.0) 0 talk).1;
+          to_server = written (to_place (Some first.0) 0 talk).1;
           to_client = [];
         });
       }) = record { link = Some (new_link bytes); is = refl; windows = windows; counts = counts } in
       subst (IsWorld (counted_step setup (beside w q) Connect)) (sym c.becomes)
-      (subst (λ (x : Talk × Event). IsWorld (record (beside w q) { talk = x.0; link = Some (new_link (said x.1)) })
+      (subst (λ (x : Talk × Event). IsWorld (record (beside w q) { talk = x.0; link = Some (new_link (written x.1)) })
       (record w {
         client = record { talk = x.0; kept = [] };
         link = Some (record {
           session = c.session;
           first_sent = replicate 16 None;
-          to_server = said x.1;
+          to_server = written x.1;
           to_client = [];
         });
       })) (sym says) done)
@@ -214,19 +214,19 @@ module _ (setup : Setup) (differ : Differ setup.places.items) (codes : (k : ℕ)
   sent_links w k (Some c) (Some l) t counts = sent_counts places w.client w.windows t.ringed l c counts k
 
   -- ToClient
-  heard_world : (w v : WorldState) (n : ℕ) (q : Option CountedLink) (o p : Option LinkState) → Talks w → Keeps w
+  read_world : (w v : WorldState) (n : ℕ) (q : Option CountedLink) (o p : Option LinkState) → Talks w → Keeps w
       → w.windows ≡ shown_all setup places w.pushed → v.windows ≡ w.windows → v.pushed ≡ w.pushed → w.link ≡ o
-      → v.link ≡ p → Both (IsHeard n w v) o p → (w.link ≡ None → v ≡ w)
-      → AreCounts w.client q o → IsWorld (heard_by n (beside w q) q) v
-  heard_world w v n None None p t keeps windows same pushed was now h unlinked counts =
+      → v.link ≡ p → Both (IsRead n w v) o p → (w.link ≡ None → v ≡ w)
+      → AreCounts w.client q o → IsWorld (read_by n (beside w q) q) v
+  read_world w v n None None p t keeps windows same pushed was now h unlinked counts =
       subst (IsWorld (beside w None)) (sym (unlinked was))
       (record { link = None; is = refl; windows = windows; counts = subst (AreCounts w.client None) (sym was) tt })
-  heard_world w v n None (Some l) p t keeps windows same pushed was now h unlinked counts = absurd counts
-  heard_world w v n (Some c) None p t keeps windows same pushed was now h unlinked counts = absurd counts
-  heard_world w v n (Some c) (Some l) None t keeps windows same pushed was now h unlinked counts = absurd h
-  heard_world w v n (Some c) (Some l) (Some m) t keeps windows same pushed was now h unlinked counts =
-      let r : HeardCounts places differ codes w v n l m c counts h keeps t.asked =
-      heard_counts places differ codes w v n l m c counts h keeps t.asked in
+  read_world w v n None (Some l) p t keeps windows same pushed was now h unlinked counts = absurd counts
+  read_world w v n (Some c) None p t keeps windows same pushed was now h unlinked counts = absurd counts
+  read_world w v n (Some c) (Some l) None t keeps windows same pushed was now h unlinked counts = absurd h
+  read_world w v n (Some c) (Some l) (Some m) t keeps windows same pushed was now h unlinked counts =
+      let r : ReadCounts places differ codes w v n l m c counts h keeps t.asked =
+      read_counts places differ codes w v n l m c counts h keeps t.asked in
       let d : CountedLink = now_counted places differ codes w v n l m c counts h keeps t.asked in
       let talk : Talk = talk_upon w.client.talk (news n c) in
       let held : Lists = (gains places differ codes w v n l m c counts h keeps t.asked).held in
@@ -255,7 +255,7 @@ module _ (setup : Setup) (differ : Differ setup.places.items) (codes : (k : ℕ)
             windows (served_links w n q w.link v.link t counts h.1);
       })
   step_world w v (ToClient n) q some of h t keeps windows counts =
-      heard_world w v n q w.link v.link t keeps windows h.windows h.pushed refl refl h.link h.unlinked counts
+      read_world w v n q w.link v.link t keeps windows h.windows h.pushed refl refl h.link h.unlinked counts
   step_world w v (Send k) q some of h t keeps windows counts =
       subst (IsWorld (counted_step setup (beside w q) (Send k))) (sym h) (record {
         link = option_map (sent_by (shown_all setup places w.pushed) k) q;
@@ -281,11 +281,11 @@ module _ (setup : Setup) (differ : Differ setup.places.items) (codes : (k : ℕ)
   facts_beside client None (Some l) k = absurd k
   facts_beside client (Some c) None k = absurd k
   facts_beside client (Some c) (Some l) k = λ linked.
-      let pin : Pinned places client l.session.state (take c.taken c.said) l.to_server l.to_client
+      let pin : Pinned places client l.session.state (take c.taken c.written) l.to_server l.to_client
       (behind c.delivered c.sent) = k.linked linked in
       record {
         phase = l.session.state.phase;
-        taken = take c.taken c.said;
+        taken = take c.taken c.written;
         way = l.to_server;
         shakes = pin.shakes;
         borne = pin.flows.borne;

@@ -10,7 +10,7 @@ use Rattle.slink_feed.specs.Listening.{Brought, bytes_of}
 use Rattle.slink_model.specs.Ties.{Item, Accepted, Refused, Greeted, Carried, Finished, item_bytes, way_bytes}
 use Rattle.slink_model.specs.Counted.{behind, part, wholes}
 
--- what a client hears in an item
+-- what a client reads in an item
 abbrev pub whole_of : Item → Whole
 whole_of Accepted = Reply (codes "OK")
 whole_of Refused = Reply (codes "ERROR")

@@ -65,14 +65,16 @@ pub record Pinned (places : Places) (client : Listening) (s : State) (taken way 
 pub record Counts (places : Places) (client : Listening) (c : CountedLink) (l : LinkState) : Type 0 where
   pub session : l.session.state ≡ c.session
   pub first_sent : l.first_sent ≡ c.first_sent
-  pub to_server : l.to_server ≡ drop c.taken c.said
+  pub to_server : l.to_server ≡ drop c.taken c.written
   pub to_client : l.to_client ≡ drop c.delivered (way_bytes c.sent)
-  pub taken_few : c.taken ≤ length c.said
+  pub taken_few : c.taken ≤ length c.written
   pub delivered_few : c.delivered ≤ length (way_bytes c.sent)
-  pub held : Open l.session.state.phase → IsHeld l.session.held (take c.taken c.said)
+  pub held : Open l.session.state.phase → IsHeld l.session.held (take c.taken c.written)
   pub linked : IsLinked client.talk.stage
-      → Pinned places client l.session.state (take c.taken c.said) l.to_server l.to_client (behind c.delivered c.sent)
-  pub quiet : ¬ (IsLinked client.talk.stage) → Open l.session.state.phase → IsAnswered (take c.taken c.said) l.to_server
+      → Pinned places client l.session.state (take c.taken c.written) l.to_server l.to_client
+      (behind c.delivered c.sent)
+  pub quiet : ¬ (IsLinked client.talk.stage) → Open l.session.state.phase
+      → IsAnswered (take c.taken c.written) l.to_server
   pub over : l.session.state.phase ≡ Closed → length l.to_server ≤ 1
 
 pub pinned_as : (places : Places) (client : Listening) (s : State) (a b x y p q : List ℕ) (i j : List Item) → a ≡ b
@@ -83,15 +85,16 @@ pinned_as places client s a b x y p q i j ab xy pq ij h =
     (subst (λ z. Pinned places client s a x z j) pq (subst (Pinned places client s a x p) ij h)))
 
 -- whether a line waits
-waits_true : (taken : ℕ) (said way : List ℕ) → way ≡ drop taken said → 2 ≤ length way → waits taken said ≡ true
-waits_true taken said way is some = elim (leb_tells (taken + 2) (length said)) [
+waits_true : (taken : ℕ) (written way : List ℕ) → way ≡ drop taken written → 2 ≤ length way → waits taken written ≡ true
+waits_true taken written way is some = elim (leb_tells (taken + 2) (length written)) [
   | inl more ↦ more.0
-  | inr few ↦ absurd (omega (arith, few.1, some, ap length is, length-drop taken said))
+  | inr few ↦ absurd (omega (arith, few.1, some, ap length is, length-drop taken written))
 ]
 
-waits_false : (taken : ℕ) (said way : List ℕ) → way ≡ drop taken said → length way ≤ 1 → waits taken said ≡ false
-waits_false taken said way is few = elim (leb_tells (taken + 2) (length said)) [
-  | inl more ↦ absurd (omega (arith, more.1, few, ap length is, length-drop taken said))
+waits_false : (taken : ℕ) (written way : List ℕ) → way ≡ drop taken written → length way ≤ 1
+    → waits taken written ≡ false
+waits_false taken written way is few = elim (leb_tells (taken + 2) (length written)) [
+  | inl more ↦ absurd (omega (arith, more.1, few, ap length is, length-drop taken written))
   | inr less ↦ less.0
 ]
 
@@ -175,7 +178,7 @@ module _ (places : Places) (differ : Differ places) (codes : (k : ℕ) (p : Fiel
     rest = drop n l.to_server
 
     abbrev before : List ℕ
-    before = take c.taken c.said
+    before = take c.taken c.written
 
     abbrev items : List Item
     items = behind c.delivered c.sent
@@ -183,11 +186,11 @@ module _ (places : Places) (differ : Differ places) (codes : (k : ℕ) (p : Fiel
     cut : l.to_server ≡ bytes ++ rest
     cut = sym (take-append-drop n l.to_server)
 
-    take_now : take (taken_by n c) c.said ≡ before ++ bytes
-    take_now = take_on c.said c.taken n ∙ ap (λ b. before ++ take n b) (sym counts.to_server)
+    take_now : take (taken_by n c) c.written ≡ before ++ bytes
+    take_now = take_on c.written c.taken n ∙ ap (λ b. before ++ take n b) (sym counts.to_server)
 
-    drop_now : rest ≡ drop (taken_by n c) c.said
-    drop_now = ap (drop n) counts.to_server ∙ sym (drop_on c.said c.taken n)
+    drop_now : rest ≡ drop (taken_by n c) c.written
+    drop_now = ap (drop n) counts.to_server ∙ sym (drop_on c.written c.taken n)
 
     abbrev base : CountedLink
     base = record c { taken = taken_by n c }
@@ -224,7 +227,8 @@ module _ (places : Places) (differ : Differ places) (codes : (k : ℕ) (p : Fiel
             length-append (way_bytes c.sent) (way_bytes (items_of reply)),
           );
           held = λ awake. subst (IsHeld m.session.held) (sym take_now) (held awake);
-          linked = λ there. pinned_as places client m.session.state (before ++ bytes) (take (taken_by n c) c.said) rest
+          linked = λ there. pinned_as places client m.session.state (before ++ bytes) (take (taken_by n c) c.written)
+              rest
               m.to_server (l.to_client ++ reply_bytes reply) m.to_client (items ++ items_of reply)
               (behind c.delivered (c.sent ++ items_of reply))
               (sym take_now) (sym served.left) (sym sent)
@@ -255,9 +259,9 @@ module _ (places : Places) (differ : Differ places) (codes : (k : ℕ) (p : Fiel
         let same : m.session.state ≡ s = ap (λ (x : Standing). x.state) on.0 in
         let closed : m.session.state.phase ≡ Closed = ap (λ (x : State). x.phase) same ∙ shut in
         let few : length l.to_server ≤ 1 = counts.over shut in
-        let none : waits c.taken c.said ≡ false = waits_false c.taken c.said l.to_server counts.to_server few in
+        let none : waits c.taken c.written ≡ false = waits_false c.taken c.written l.to_server counts.to_server few in
         made (served_by feed client.talk n c) replies.Nothing
-        (ap (λ t. if_come (t && not (waits (taken_by n c) c.said)) feed client.talk base) none
+        (ap (λ t. if_come (t && not (waits (taken_by n c) c.written)) feed client.talk base) none
         ∙ base_is (sym same)) (nothing_more on.1) (λ awake. absurd (awake closed))
         (λ there. pinned_still same (pinned there)) (λ over awake. absurd (awake closed))
         (λ _. omega (arith, few, length-drop n l.to_server))
@@ -271,10 +275,10 @@ module _ (places : Places) (differ : Differ places) (codes : (k : ℕ) (p : Fiel
         let on : IsOn feed l.session m.session l.to_client m.to_client (before ++ bytes) rest =
         quiet_on feed l.session bytes l.to_client m.session m.to_client rest before served.serves awake
         (counts.held awake) (subst (IsAnswered before) cut told) in
-        let none : waits c.taken c.said ≡ false =
-        waits_false c.taken c.said l.to_server counts.to_server (answered_few before l.to_server told) in
+        let none : waits c.taken c.written ≡ false =
+        waits_false c.taken c.written l.to_server counts.to_server (answered_few before l.to_server told) in
         made (served_by feed client.talk n c) replies.Nothing
-        (ap (λ t. if_come (t && not (waits (taken_by n c) c.said)) feed client.talk base) none
+        (ap (λ t. if_come (t && not (waits (taken_by n c) c.written)) feed client.talk base) none
         ∙ base_is (sym on.state)) (nothing_more on.sent) (λ _. on.held)
         (λ there. pinned_still on.state (pinned there on.told)) (λ over _. on.told)
         (λ _. answered_few (before ++ bytes) rest on.told)
@@ -295,20 +299,20 @@ module _ (places : Places) (differ : Differ places) (codes : (k : ℕ) (p : Fiel
         which (asked_on feed s r awake known stays_open l.session bytes l.to_client m.session m.to_client rest before
         served.serves refl (counts.held awake) (subst (IsAsking (request_line r) before) cut asks))
       where
-        old : waits c.taken c.said ≡ true
-        old = waits_true c.taken c.said l.to_server counts.to_server
+        old : waits c.taken c.written ≡ true
+        old = waits_true c.taken c.written l.to_server counts.to_server
             (asking_waits (request_line r) before l.to_server asks)
 
-        served_as : (t : Bool) → waits (taken_by n c) c.said ≡ t
+        served_as : (t : Bool) → waits (taken_by n c) c.written ≡ t
             → served_by feed client.talk n c ≡ if_come (true && not t) feed client.talk base
-        served_as t new = ap (λ b. if_come (b && not (waits (taken_by n c) c.said)) feed client.talk base) old
+        served_as t new = ap (λ b. if_come (b && not (waits (taken_by n c) c.written)) feed client.talk base) old
             ∙ ap (λ b. if_come (true && not b) feed client.talk base) new
 
         which : Comes feed s r awake known stays_open m.session l.to_client m.to_client (before ++ bytes) rest
             → Counts places client (served_by feed client.talk n c) m
         which (not_yet same sent kept more) =
             made (served_by feed client.talk n c) replies.Nothing
-            (served_as true (waits_true (taken_by n c) c.said rest drop_now
+            (served_as true (waits_true (taken_by n c) c.written rest drop_now
             (asking_waits (request_line r) (before ++ bytes) rest more)) ∙ base_is (sym same)) (nothing_more sent)
             (λ _. kept)
             (λ _. pinned_still same (still more)) (λ over _. absurd (over there))
@@ -318,7 +322,7 @@ module _ (places : Places) (differ : Differ places) (codes : (k : ℕ) (p : Fiel
             ap (λ (x : State). answer_at client.talk.stage feed client.talk x) (sym counts.session)
             ∙ answer m.session.state reply done in
             made (served_by feed client.talk n c) reply
-            (served_as false (waits_false (taken_by n c) c.said rest drop_now
+            (served_as false (waits_false (taken_by n c) c.written rest drop_now
             (answered_few (before ++ bytes) rest told)) ∙ ap (λ (x : State × Reply). counted_reply x base) is) sent
             (λ _. kept)
             (λ _. next m.session.state reply done told) (λ over _. absurd (over there))

@@ -12,12 +12,12 @@ near_alike m n e a b = omega arith
 
 -- where a record stands, the list is split
 pub split_at : (xs : List (List ℕ)) (i : ℕ) (r : List ℕ) → slice_get xs i ≡ Some r
-    → (front : List (List ℕ)) × (back : List (List ℕ)) × (xs ≡ front ++ r ∷ back) × (length front ≡ i)
+    → (prefix : List (List ℕ)) × (back : List (List ℕ)) × (xs ≡ prefix ++ r ∷ back) × (length prefix ≡ i)
 split_at [] i r h = absurd (let bad : None ≡ Some r = h in cc bad)
 split_at (x ∷ xs) zero r h = let both : Some x ≡ Some r = h in let same : x ≡ r = cc both in
     ([], xs, ap (λ y. y ∷ xs) same, refl)
 split_at (x ∷ xs) (suc i) r h =
-    let more : (front : List (List ℕ)) × (back : List (List ℕ)) × (xs ≡ front ++ r ∷ back) × (length front ≡ i) =
+    let more : (prefix : List (List ℕ)) × (back : List (List ℕ)) × (xs ≡ prefix ++ r ∷ back) × (length prefix ≡ i) =
     split_at xs i r h in
     (x ∷ more.0, more.1, ap (λ ys. x ∷ ys) more.2, omega (arith, more.3))
 
@@ -43,7 +43,8 @@ pub holds_next : (first n : ℕ) (F : List (List ℕ)) (next : Option ℕ) (held
     → ((s : ℕ) → start ≡ Some s → n ≡ s + length held) → Holds first F next held start
     → Holds first F (Some ((n + 1) % 2 ^ 24)) (held ++ r ∷ []) (or_else start (Some n))
 holds_next first n F next held None r from at same h =
-    let cut : (front : List (List ℕ)) × (back : List (List ℕ)) × (F ≡ front ++ r ∷ back) × (length front ≡ n - first) =
+    let cut : (prefix : List (List ℕ)) × (back : List (List ℕ)) × (F ≡ prefix ++ r ∷ back)
+    × (length prefix ≡ n - first) =
     split_at F (n - first) r at in
     let one : r ∷ [] ≡ held ++ r ∷ [] = ap (λ xs. xs ++ r ∷ []) (sym h) in (
       cut.0,

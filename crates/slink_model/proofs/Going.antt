@@ -157,8 +157,8 @@ module _ (places : Places) (differ : Differ places) where
   same_many (Finished ∷ xs) (Finished ∷ ys) p q e j = same_many xs ys p.1 q.1 (ap (drop 3) e) j
 
   -- what is carried was pushed, and so bears its place
-  each_borne : (items : List Item) → AreWhole items → ((k n : ℕ) (r : List ℕ) (front back : List (ℕ × List ℕ))
-      → of_place k items ≡ front ++ (n, r) ∷ back → (p : Fields × Option ℕ) × (slice_get places k ≡ Some p)
+  each_borne : (items : List Item) → AreWhole items → ((k n : ℕ) (r : List ℕ) (prefix back : List (ℕ × List ℕ))
+      → of_place k items ≡ prefix ++ (n, r) ∷ back → (p : Fields × Option ℕ) × (slice_get places k ≡ Some p)
       × (length r ≡ 512) × Bears r p.0) → AreBorne places items
   each_borne [] are each = tt
   each_borne (Accepted ∷ is) are each = (tt, each_borne is are each)
@@ -166,24 +166,24 @@ module _ (places : Places) (differ : Differ places) where
   each_borne (Greeted ∷ is) are each = (tt, each_borne is are each)
   each_borne (Carried k n r ∷ is) are each = (
     each k n r [] (of_place k is) (ap (λ b. b ++ of_place k is) (carried_here k n r)),
-    each_borne is are.1 (λ i m x front back e. each i m x (carried_of i (Carried k n r) ++ front) back
+    each_borne is are.1 (λ i m x prefix back e. each i m x (carried_of i (Carried k n r) ++ prefix) back
         (ap (λ b. carried_of i (Carried k n r) ++ b) e
-        ∙ sym (append_assoc (carried_of i (Carried k n r)) front ((m, x) ∷ back)))),
+        ∙ sym (append_assoc (carried_of i (Carried k n r)) prefix ((m, x) ∷ back)))),
   )
   each_borne (Finished ∷ is) are each = (tt, each_borne is are each)
 
 -- a record among those that come next was pushed
-next_at_split : (first : ℕ) (F : List (List ℕ)) (n : ℕ) (front back : List (ℕ × List ℕ)) (m : ℕ) (r : List ℕ)
-    → AreNext first F n (front ++ (m, r) ∷ back) → (i : ℕ) × (slice_get F i ≡ Some r)
+next_at_split : (first : ℕ) (F : List (List ℕ)) (n : ℕ) (prefix back : List (ℕ × List ℕ)) (m : ℕ) (r : List ℕ)
+    → AreNext first F n (prefix ++ (m, r) ∷ back) → (i : ℕ) × (slice_get F i ≡ Some r)
 next_at_split first F n [] back m r a = (n - first, a.1)
-next_at_split first F n (x ∷ front) back m r a = next_at_split first F (n + 1) front back m r a.2
+next_at_split first F n (x ∷ prefix) back m r a = next_at_split first F (n + 1) prefix back m r a.2
 
 way_pushed_some : (first : ℕ) (F held : List (List ℕ)) (start sent : Option ℕ) (o : Option Grant)
-    (front back : List (ℕ × List ℕ)) (m : ℕ) (r : List ℕ)
-    → IsOnWay any first F held start sent o (front ++ (m, r) ∷ back) → (i : ℕ) × (slice_get F i ≡ Some r)
-way_pushed_some first F held start sent None front back m r w =
-    absurd (omega (arith, ap length w, length-append front ((m, r) ∷ back)))
-way_pushed_some first F held start sent (Some g) front back m r w = next_at_split first F w.0 front back m r w.2
+    (prefix back : List (ℕ × List ℕ)) (m : ℕ) (r : List ℕ)
+    → IsOnWay any first F held start sent o (prefix ++ (m, r) ∷ back) → (i : ℕ) × (slice_get F i ≡ Some r)
+way_pushed_some first F held start sent None prefix back m r w =
+    absurd (omega (arith, ap length w, length-append prefix ((m, r) ∷ back)))
+way_pushed_some first F held start sent (Some g) prefix back m r w = next_at_split first F w.0 prefix back m r w.2
 
 -- the number of the first packet on its way
 goes_next : (first : ℕ) (F held : List (List ℕ)) (next sent : Option ℕ) (s : ℕ) (o : Option Grant) (i : ℕ × List ℕ)
@@ -215,20 +215,21 @@ module _ (places : Places) (differ : Differ places) (codes : (k : ℕ) (p : Fiel
       let both : IsTalking places differ codes w.client (Some l) =
       subst (IsTalking places differ codes w.client) is talks.link in
       let talk : LinkTalks places w.client l.session l.to_server l.to_client = both.0 linked in
-      let borne : AreBorne places ties.items = each_borne places differ ties.items ties.are_whole (λ k n r front back e.
+      let borne : AreBorne places ties.items =
+      each_borne places differ ties.items ties.are_whole (λ k n r prefix back e.
       let lt : k < length places =
       elim (cases_lt k (length places)) [
         | inl below ↦ below
         | inr past ↦ absurd (omega (
           arith,
           ap length (sym e ∙ ties.within k past),
-          length-append front ((n, r) ∷ back),
+          length-append prefix ((n, r) ∷ back),
         ))
       ] in
       let q : (p : Fields × Option ℕ) × (slice_get places k ≡ Some p) = within_is places k lt in
       let at : (i : ℕ) × (slice_get (get_or w.pushed k []) i ≡ Some r) =
       way_pushed_some first (get_or w.pushed k []) (get_or w.held k []) (number_at w.start k)
-      (number_at l.first_sent k) (grant_at l.session.state.grants k) front back n r
+      (number_at l.first_sent k) (grant_at l.session.state.grants k) prefix back n r
       (subst (IsOnWay any first (get_or w.pushed k []) (get_or w.held k []) (number_at w.start k)
       (number_at l.first_sent k) (grant_at l.session.state.grants k)) e (ties.places_are k lt)) in
       let sound : (length r ≡ 512) × Bears r q.0.0 = t.sound k q.0 q.1 at.0 r at.1 in

@@ -2,7 +2,7 @@ pub mod Briefly
 pub mod Calling
 pub mod Commanded
 pub mod Counted
-pub mod CountedHeard
+pub mod CountedRead
 pub mod CountedPackets
 pub mod CountedSent
 pub mod CountedShape
@@ -11,7 +11,7 @@ pub mod Counting
 pub mod Counts
 pub mod Following
 pub mod Going
-pub mod Hearing
+pub mod Reading
 pub mod Lined
 pub mod Linked
 pub mod OneWorld

@@ -5,16 +5,16 @@ use Rattle.std.proofs.lemmas.List.{append_cancel_left, length-take-le}
 use Rattle.slink_wire.specs.declared.lines.What.{What}
 use Rattle.slink_wire.specs.declared.lines.What.TheVariants.{More, Line, TooLong}
 use Rattle.slink_wire.specs.Lines.{lines_of}
-use Rattle.slink_wire.specs.Said.{AreLines, IsLine, SpellsFront, said_bytes}
+use Rattle.slink_wire.specs.Written.{AreLines, IsLine, SpellsPrefix, written_bytes}
 use Rattle.slink_wire.specs.Taking.{Tells}
-use Rattle.slink_wire.proofs.SaidBack.{front_spelled, none_quiet}
+use Rattle.slink_wire.proofs.WrittenBack.{prefix_spelled, none_quiet}
 
 pub bytes_more : (lines : List (List ℕ)) (line : List ℕ)
-    → said_bytes (lines ++ line ∷ []) ≡ said_bytes lines ++ (line ++ 13 ∷ 10 ∷ [])
+    → written_bytes (lines ++ line ∷ []) ≡ written_bytes lines ++ (line ++ 13 ∷ 10 ∷ [])
 bytes_more [] line = refl
 bytes_more (l ∷ lines) line =
     ap (λ b. l ++ 13 ∷ 10 ∷ b) (bytes_more lines line)
-    ∙ sym (append_assoc l (13 ∷ 10 ∷ said_bytes lines) (line ++ 13 ∷ 10 ∷ []))
+    ∙ sym (append_assoc l (13 ∷ 10 ∷ written_bytes lines) (line ++ 13 ∷ 10 ∷ []))
 
 pub lines_more : (lines : List (List ℕ)) (line : List ℕ) → AreLines lines → IsLine line → AreLines (lines ++ line ∷ [])
 lines_more [] line are is = (is, tt)
@@ -24,14 +24,14 @@ lines_more (l ∷ lines) line are is = (are.0, lines_more lines line are.1 is)
 pub record IsAsking (line taken way : List ℕ) : Type 0 where
   pub before : List (List ℕ)
   pub are_lines : AreLines (before ++ line ∷ [])
-  pub said : taken ++ way ≡ said_bytes (before ++ line ∷ [])
+  pub written : taken ++ way ≡ written_bytes (before ++ line ∷ [])
   pub told : (lines_of taken).lines ≡ before
 
 -- all lines are told
 pub record IsAnswered (taken way : List ℕ) : Type 0 where
   pub before : List (List ℕ)
   pub are_lines : AreLines before
-  pub said : taken ++ way ≡ said_bytes before
+  pub written : taken ++ way ≡ written_bytes before
   pub told : (lines_of taken).lines ≡ before
 
 -- one line more is said
@@ -40,13 +40,13 @@ pub asks_more : (line taken way : List ℕ) → IsLine line → IsAnswered taken
 asks_more line taken way is a = record {
   before = a.before;
   are_lines = lines_more a.before line a.are_lines is;
-  said = sym (append_assoc taken way (line ++ 13 ∷ 10 ∷ []))
-      ∙ (ap (λ b. b ++ (line ++ 13 ∷ 10 ∷ [])) a.said ∙ sym (bytes_more a.before line));
+  written = sym (append_assoc taken way (line ++ 13 ∷ 10 ∷ []))
+      ∙ (ap (λ b. b ++ (line ++ 13 ∷ 10 ∷ [])) a.written ∙ sym (bytes_more a.before line));
   told = a.told;
 }
 
 asks_first : (line : List ℕ) → IsLine line → (lines_of []).lines ≡ [] → IsAsking line [] (line ++ 13 ∷ 10 ∷ [])
-asks_first line is none = record { before = []; are_lines = (is, tt); said = refl; told = none }
+asks_first line is none = record { before = []; are_lines = (is, tt); written = refl; told = none }
 
 pub begins_asking : (line : List ℕ) → IsLine line → IsAsking line [] (line ++ 13 ∷ 10 ∷ [])
 begins_asking line is = asks_first line is none_quiet.0
@@ -80,23 +80,24 @@ true_false : (b : Bool) → b ≡ true → b ≡ false → ⊥
 true_false b t f = let bad : true ≡ false = sym t ∙ f in cc bad
 
 -- what more bytes tell: nothing, or the line that was asked last
-pub data IsHeard (line taken way : List ℕ) : What → Type 0 where
-  nothing : IsAsking line taken way → IsHeard line taken way More
+pub data IsRead (line taken way : List ℕ) : What → Type 0 where
+  nothing : IsAsking line taken way → IsRead line taken way More
   the_line : (items : List ℕ) → items ≡ line → IsAnswered taken way
-      → IsHeard line taken way (Line (record { items = items }))
+      → IsRead line taken way (Line (record { items = items }))
 
 pub more_asked : (line taken piece way : List ℕ) (what : What) → IsAsking line taken (piece ++ way)
-    → Tells what taken (taken ++ piece) → IsHeard line (taken ++ piece) way what
+    → Tells what taken (taken ++ piece) → IsRead line (taken ++ piece) way what
 more_asked line taken piece way More a tells = nothing (record {
   before = a.before;
   are_lines = a.are_lines;
-  said = append_assoc taken piece way ∙ a.said;
+  written = append_assoc taken piece way ∙ a.written;
   told = tells.0 ∙ a.told;
 })
 more_asked line taken piece way (Line l) a tells =
-    let said : (taken ++ piece) ++ way ≡ said_bytes (a.before ++ line ∷ []) = append_assoc taken piece way ∙ a.said in
-    let told : SpellsFront (taken ++ piece) (a.before ++ line ∷ []) =
-    front_spelled (a.before ++ line ∷ []) (taken ++ piece) way a.are_lines said in
+    let written : (taken ++ piece) ++ way ≡ written_bytes (a.before ++ line ∷ []) = append_assoc taken piece way
+    ∙ a.written in
+    let told : SpellsPrefix (taken ++ piece) (a.before ++ line ∷ []) =
+    prefix_spelled (a.before ++ line ∷ []) (taken ++ piece) way a.are_lines written in
     let now : (lines_of (taken ++ piece)).lines ≡ a.before ++ l.items ∷ [] =
     tells.0 ∙ ap (λ ls. ls ++ l.items ∷ []) a.told in
     let same : line ≡ l.items =
@@ -104,13 +105,13 @@ more_asked line taken piece way (Line l) a tells =
     the_line l.items (sym same) (record {
       before = a.before ++ line ∷ [];
       are_lines = a.are_lines;
-      said = said;
+      written = written;
       told = now ∙ ap (λ x. a.before ++ x ∷ []) (sym same);
     })
 more_asked line taken piece way TooLong a tells =
-    let told : SpellsFront (taken ++ piece) (a.before ++ line ∷ []) =
-    front_spelled (a.before ++ line ∷ []) (taken ++ piece) way a.are_lines (append_assoc taken piece way
-    ∙ a.said) in
+    let told : SpellsPrefix (taken ++ piece) (a.before ++ line ∷ []) =
+    prefix_spelled (a.before ++ line ∷ []) (taken ++ piece) way a.are_lines (append_assoc taken piece way
+    ∙ a.written) in
     absurd (true_false (lines_of (taken ++ piece)).is_too_long tells.1 told.3)
 
 -- nothing is told any more
@@ -121,16 +122,16 @@ more_answered taken piece way More a tells = (
   record {
     before = a.before;
     are_lines = a.are_lines;
-    said = append_assoc taken piece way ∙ a.said;
+    written = append_assoc taken piece way ∙ a.written;
     told = tells.0 ∙ a.told;
   },
 )
 more_answered taken piece way (Line l) a tells =
-    let told : SpellsFront (taken ++ piece) a.before =
-    front_spelled a.before (taken ++ piece) way a.are_lines (append_assoc taken piece way ∙ a.said) in
+    let told : SpellsPrefix (taken ++ piece) a.before =
+    prefix_spelled a.before (taken ++ piece) way a.are_lines (append_assoc taken piece way ∙ a.written) in
     absurd (one_more a.before (lines_of (taken ++ piece)).lines l.items told.0 told.2 told.1 (tells.0
     ∙ ap (λ ls. ls ++ l.items ∷ []) a.told))
 more_answered taken piece way TooLong a tells =
-    let told : SpellsFront (taken ++ piece) a.before =
-    front_spelled a.before (taken ++ piece) way a.are_lines (append_assoc taken piece way ∙ a.said) in
+    let told : SpellsPrefix (taken ++ piece) a.before =
+    prefix_spelled a.before (taken ++ piece) way a.are_lines (append_assoc taken piece way ∙ a.written) in
     absurd (true_false (lines_of (taken ++ piece)).is_too_long tells.1 told.3)

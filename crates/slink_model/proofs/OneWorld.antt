@@ -17,7 +17,7 @@ use Rattle.slink_model.specs.declared.world.Step.{Step}
 use Rattle.slink_model.specs.declared.world.Step.TheVariants.{Append, Connect, ToServer, ToClient, Send, Cut}
 use Rattle.slink_model.specs.Counted.{Gained, with_event, with_events}
 use Rattle.slink_feed.specs.Cutting.{IsBegun, IsWhole}
-use Rattle.slink_feed.specs.Dialogue.{Talk, Whole, heard, says_place}
+use Rattle.slink_feed.specs.Dialogue.{Talk, Whole, read, says_place}
 use Rattle.slink_feed.specs.Listening.{AreBrought, Brings, Brought, IsLinked, Listening, begun, bytes_of, events_of}
 use Rattle.slink_feed.specs.Listening.{talk_after, telling, whole}
 use Rattle.slink_feed.specs.Serving.{Serves, Standing}
@@ -26,13 +26,13 @@ use Rattle.slink_model.specs.Spared.{AreAskable}
 use Rattle.slink_model.specs.Stretch.{IsSchedule}
 use Rattle.slink_model.specs.Ties.{Places}
 use Rattle.slink_feed.specs.Window.{Window}
-use Rattle.slink_model.specs.World.{AllHappen, Both, Connects, Delivers, Differ, Happens, Hears, IsHeard, IsServed}
-use Rattle.slink_model.specs.World.{LinkState, Numbers, Taking, WorldState, none_heard, noted, opening, piece_heard}
-use Rattle.slink_model.specs.World.{piece_lost, pushed_to, said, taking}
+use Rattle.slink_model.specs.World.{AllHappen, Both, Connects, Delivers, Differ, Happens, Reads, IsRead, IsServed}
+use Rattle.slink_model.specs.World.{LinkState, Numbers, Taking, WorldState, none_read, noted, opening, piece_read}
+use Rattle.slink_model.specs.World.{piece_lost, pushed_to, written, taking}
 use Rattle.slink_model.proofs.Answering.{Comes, IsOn, IsPending, asked_on, it_came, not_both, not_yet, quiet_on}
 use Rattle.slink_feed.proofs.Closing.{Open, open_or, shut_on, held_same, standings_same}
 use Rattle.slink_model.proofs.Calling.{pending_or}
-use Rattle.slink_feed.proofs.Heard.{begun_after, begun_none}
+use Rattle.slink_feed.proofs.Received.{begun_after, begun_none}
 use Rattle.slink_model.proofs.Lined.{IsAnswered}
 use Rattle.slink_feed.proofs.OneReading.{IsRest, one_brought, seen_same}
 use Rattle.slink_model.proofs.Shaking.{IsQuiet, LinkTalks}
@@ -65,8 +65,8 @@ told_events f (events.Gap k want got) es g = refl
 told_events f events.Garbage es g = refl
 told_events f events.Foreign es g = refl
 
--- the wholes that a client heard, and what was lost behind its end
-pub record HeardAll (f : Numbers) (t : Taking) (bytes : List ℕ) (last : Taking) : Type 0 where
+-- the wholes that a client read, and what was lost behind its end
+pub record ReadAllOf (f : Numbers) (t : Taking) (bytes : List ℕ) (last : Taking) : Type 0 where
   pub brought : List Brought
   pub lost : List ℕ
   pub are_brought : AreBrought t.client.talk brought
@@ -76,22 +76,22 @@ pub record HeardAll (f : Numbers) (t : Taking) (bytes : List ℕ) (last : Taking
   pub is_begun : IsBegun last.client.talk.stage last.client.kept
   pub all : IsLinked last.client.talk.stage → lost ≡ []
 
-pub lost_all : (f : Numbers) (t : Taking) (bytes : List ℕ) (last : Taking) → Hears f t bytes last
+pub lost_all : (f : Numbers) (t : Taking) (bytes : List ℕ) (last : Taking) → Reads f t bytes last
     → ¬ (IsLinked t.client.talk.stage) → last ≡ t
-lost_all f t bytes last (none_heard u) over = refl
-lost_all f t bytes last (piece_heard u v now all piece rest e split linked brings more) over = absurd (over linked)
+lost_all f t bytes last (none_read u) over = refl
+lost_all f t bytes last (piece_read u v now all piece rest e split linked brings more) over = absurd (over linked)
 lost_all f t bytes last (piece_lost u v all piece rest split lost more) over = lost_all f u rest v more over
 
--- a whole is heard, and then the rest
-heard_whole : (f : Numbers) (u v : Taking) (now : Listening) (all piece rest : List ℕ) (e : Event) (w : Whole)
+-- a whole is read, and then the rest
+read_whole : (f : Numbers) (u v : Taking) (now : Listening) (all piece rest : List ℕ) (e : Event) (w : Whole)
     → all ≡ piece ++ rest → IsWhole u.client.talk.stage (u.client.kept ++ piece) w
-    → heard u.client.talk w ≡ (now.talk, e) → now.kept ≡ []
-    → HeardAll f (noted f e (record u { client = now })) rest v → HeardAll f u all v
-heard_whole f u v now all piece rest e w split is h none more =
+    → read u.client.talk w ≡ (now.talk, e) → now.kept ≡ []
+    → ReadAllOf f (noted f e (record u { client = now })) rest v → ReadAllOf f u all v
+read_whole f u v now all piece rest e w split is h none more =
     let client : (noted f e (record u { client = now })).client ≡ now = same_client f e (record u { client = now }) in
     let b : Brought = record { bytes = u.client.kept ++ piece; whole = w } in
-    let talk : (heard u.client.talk w).0 ≡ now.talk = ap (λ (p : Talk × Event). p.0) h in
-    let event : (heard u.client.talk w).1 ≡ e = ap (λ (p : Talk × Event). p.1) h in
+    let talk : (read u.client.talk w).0 ≡ now.talk = ap (λ (p : Talk × Event). p.0) h in
+    let event : (read u.client.talk w).1 ≡ e = ap (λ (p : Talk × Event). p.1) h in
     let left : rest ≡ bytes_of more.brought ++ (v.client.kept ++ more.lost) = ap (λ k. k ++ rest) (sym none)
     ∙ (ap (λ (c : Listening). c.kept ++ rest) (sym client) ∙ more.bytes_are) in
     record {
@@ -111,19 +111,19 @@ heard_whole f u v now all piece rest e w split is h none more =
       gains = more.gains ∙ (ap
           (λ (t : Talk). with_events f (events_of t more.brought) (gained (noted f e (record u { client = now }))))
           (ap (λ (c : Listening). c.talk) client ∙ sym talk)
-          ∙ (ap (with_events f (events_of (heard u.client.talk w).0 more.brought))
+          ∙ (ap (with_events f (events_of (read u.client.talk w).0 more.brought))
           (same_gained f e (record u { client = now }) ∙ ap (λ (x : Event). with_event f x (gained u)) (sym event))
-          ∙ sym (told_events f (heard u.client.talk w).1 (events_of (heard u.client.talk w).0 more.brought)
+          ∙ sym (told_events f (read u.client.talk w).1 (events_of (read u.client.talk w).0 more.brought)
           (gained u))));
       is_begun = more.is_begun;
       all = more.all;
     }
 
--- more is kept, and then the rest is heard
-heard_begun : (f : Numbers) (u v : Taking) (now : Listening) (all piece rest : List ℕ) (e : Event)
+-- more is kept, and then the rest is read
+read_begun : (f : Numbers) (u v : Taking) (now : Listening) (all piece rest : List ℕ) (e : Event)
     → all ≡ piece ++ rest → now ≡ record { talk = u.client.talk; kept = u.client.kept ++ piece } → e ≡ events.None
-    → HeardAll f (noted f e (record u { client = now })) rest v → HeardAll f u all v
-heard_begun f u v now all piece rest e split same quiet more =
+    → ReadAllOf f (noted f e (record u { client = now })) rest v → ReadAllOf f u all v
+read_begun f u v now all piece rest e split same quiet more =
     let client : (noted f e (record u { client = now })).client ≡ now = same_client f e (record u { client = now }) in
     let talk : (noted f e (record u { client = now })).client.talk ≡ u.client.talk =
     ap (λ (c : Listening). c.talk) (client ∙ same) in
@@ -143,17 +143,17 @@ heard_begun f u v now all piece rest e split same quiet more =
       all = more.all;
     }
 
-heard_piece : (f : Numbers) (u v : Taking) (now : Listening) (all piece rest : List ℕ) (e : Event)
+read_piece : (f : Numbers) (u v : Taking) (now : Listening) (all piece rest : List ℕ) (e : Event)
     → all ≡ piece ++ rest → Brings u.client.talk (u.client.kept ++ piece) now e
-    → HeardAll f (noted f e (record u { client = now })) rest v → HeardAll f u all v
-heard_piece f u v now all piece rest e split (whole w is h none) more =
-    heard_whole f u v now all piece rest e w split is h none more
-heard_piece f u v now all piece rest e split (begun is same quiet) more =
-    heard_begun f u v now all piece rest e split same quiet more
+    → ReadAllOf f (noted f e (record u { client = now })) rest v → ReadAllOf f u all v
+read_piece f u v now all piece rest e split (whole w is h none) more =
+    read_whole f u v now all piece rest e w split is h none more
+read_piece f u v now all piece rest e split (begun is same quiet) more =
+    read_begun f u v now all piece rest e split same quiet more
 
-pub heard_all : (f : Numbers) (t : Taking) (bytes : List ℕ) (last : Taking) → Hears f t bytes last
-    → IsBegun t.client.talk.stage t.client.kept → HeardAll f t bytes last
-heard_all f t bytes last (none_heard u) is =
+pub read_all : (f : Numbers) (t : Taking) (bytes : List ℕ) (last : Taking) → Reads f t bytes last
+    → IsBegun t.client.talk.stage t.client.kept → ReadAllOf f t bytes last
+read_all f t bytes last (none_read u) is =
     record {
       brought = [];
       lost = [];
@@ -164,13 +164,13 @@ heard_all f t bytes last (none_heard u) is =
       is_begun = is;
       all = λ _. refl;
     }
-heard_all f t bytes last (piece_heard u v now all piece rest e split linked brings more) is =
-    heard_piece f u v now all piece rest e split brings (heard_all f (noted f e (record u { client = now })) rest v more
+read_all f t bytes last (piece_read u v now all piece rest e split linked brings more) is =
+    read_piece f u v now all piece rest e split brings (read_all f (noted f e (record u { client = now })) rest v more
     (subst (λ (c : Listening). IsBegun c.talk.stage c.kept) (sym (same_client f e (record u { client = now })))
     (begun_after u.client.talk (u.client.kept ++ piece) now e brings)))
-heard_all f t bytes last (piece_lost u v all piece rest split over more) is =
+read_all f t bytes last (piece_lost u v all piece rest split over more) is =
     let same : v ≡ u = lost_all f u rest v more over in
-    subst (λ (x : Taking). HeardAll f u all x) (sym same)
+    subst (λ (x : Taking). ReadAllOf f u all x) (sym same)
     (record {
       brought = [];
       lost = all;
@@ -194,7 +194,7 @@ kept_same (Number j) k m x y a b p q e = kept_linked k m x y (p tt) (q tt) e
 kept_same Packets k m x y a b p q e = kept_linked k m x y (p tt) (q tt) e
 kept_same (Ended ending) k m x y a b p q e = a ∙ sym b
 
-pub rest_is : (f : Numbers) (t : Taking) (bytes : List ℕ) (last : Taking) (h : HeardAll f t bytes last)
+pub rest_is : (f : Numbers) (t : Taking) (bytes : List ℕ) (last : Taking) (h : ReadAllOf f t bytes last)
     → IsRest (talk_after t.client.talk h.brought).stage (last.client.kept ++ h.lost)
 rest_is f t bytes last h linked =
     let at_last : IsLinked last.client.talk.stage = subst (λ (x : Talk). IsLinked x.stage) (sym h.talk) linked in
@@ -208,11 +208,11 @@ takings_same a b p q =
     ∙ ap (λ (g : Gained). record { client = b.client; held = g.held; start = g.start; to_server = g.to_server }) q
 
 -- however bytes are cut, a client comes to the same
-pub one_hearing : (f : Numbers) (t a b : Taking) (bytes : List ℕ) → Hears f t bytes a → Hears f t bytes b
+pub one_reading : (f : Numbers) (t a b : Taking) (bytes : List ℕ) → Reads f t bytes a → Reads f t bytes b
     → IsBegun t.client.talk.stage t.client.kept → a ≡ b
-one_hearing f t a b bytes x y is =
-    let p : HeardAll f t bytes a = heard_all f t bytes a x is in
-    let q : HeardAll f t bytes b = heard_all f t bytes b y is in
+one_reading f t a b bytes x y is =
+    let p : ReadAllOf f t bytes a = read_all f t bytes a x is in
+    let q : ReadAllOf f t bytes b = read_all f t bytes b y is in
     let one : (p.brought ≡ q.brought) × (a.client.kept ++ p.lost ≡ b.client.kept ++ q.lost) =
     one_brought t.client.talk p.brought q.brought (a.client.kept ++ p.lost) (b.client.kept ++ q.lost) p.are_brought
     q.are_brought (sym p.bytes_are ∙ q.bytes_are) (rest_is f t bytes a p) (rest_is f t bytes b q) in
@@ -410,11 +410,11 @@ module _ (places : Places) (differ : Differ places) (codes : (k : ℕ) (p : Fiel
         link = x;
       }) v))))
 
-  heard_once : (n : ℕ) (a b : WorldState) (l x y : LinkState) → Delivers n w a → Delivers n w b → a.link ≡ Some x
-      → b.link ≡ Some y → IsHeard n w a l x → IsHeard n w b l y → a ≡ b
-  heard_once n a b l x y p q at_a at_b h k =
+  read_once : (n : ℕ) (a b : WorldState) (l x y : LinkState) → Delivers n w a → Delivers n w b → a.link ≡ Some x
+      → b.link ≡ Some y → IsRead n w a l x → IsRead n w b l y → a ≡ b
+  read_once n a b l x y p q at_a at_b h k =
       let one : taking a x ≡ taking b y =
-      one_hearing l.first_sent (taking w l) (taking a x) (taking b y) (take n l.to_client) h.hears k.hears keeps in
+      one_reading l.first_sent (taking w l) (taking a x) (taking b y) (take n l.to_client) h.reads k.reads keeps in
       let link : x ≡ y = links_same x y (h.session ∙ sym k.session) (h.first_sent ∙ sym k.first_sent)
       (ap (λ (z : Taking). z.to_server) one) (h.left ∙ sym k.left) in
       worlds_same a b (p.windows ∙ sym q.windows) (p.pushed ∙ sym q.pushed) (ap (λ (z : Taking). z.client) one)
@@ -422,11 +422,11 @@ module _ (places : Places) (differ : Differ places) (codes : (k : ℕ) (p : Fiel
       (at_a ∙ (ap (λ (z : LinkState). Some z) link ∙ sym at_b))
 
   delivered_once : (n : ℕ) (a b : WorldState) (o x y : Option LinkState) → Delivers n w a → Delivers n w b → w.link ≡ o
-      → a.link ≡ x → b.link ≡ y → Both (IsHeard n w a) o x → Both (IsHeard n w b) o y → a ≡ b
+      → a.link ≡ x → b.link ≡ y → Both (IsRead n w a) o x → Both (IsRead n w b) o y → a ≡ b
   delivered_once n a b None x y p q was at_a at_b h k = p.unlinked was ∙ sym (q.unlinked was)
   delivered_once n a b (Some l) None y p q was at_a at_b h k = absurd h
   delivered_once n a b (Some l) (Some x) None p q was at_a at_b h k = absurd k
-  delivered_once n a b (Some l) (Some x) (Some y) p q was at_a at_b h k = heard_once n a b l x y p q at_a at_b h k
+  delivered_once n a b (Some l) (Some x) (Some y) p q was at_a at_b h k = read_once n a b l x y p q at_a at_b h k
 
   -- Connect
   connected_once : (a b : WorldState) → Connects w a → Connects w b → a ≡ b
@@ -439,7 +439,7 @@ module _ (places : Places) (differ : Differ places) (codes : (k : ℕ) (p : Fiel
         link = Some (record {
           session = x;
           first_sent = replicate 16 None;
-          to_server = said (says_place 0 w.client.talk).1;
+          to_server = written (says_place 0 w.client.talk).1;
           to_client = [];
         });
       }) session ∙ sym q.becomes)
@@ -455,13 +455,13 @@ module _ (places : Places) (differ : Differ places) (codes : (k : ℕ) (p : Fiel
   step_once Cut a b p q = p ∙ sym q
 
   -- what is kept stays begun
-  heard_keeps : (n : ℕ) (a : WorldState) (o x : Option LinkState) → Delivers n w a → w.link ≡ o
-      → Both (IsHeard n w a) o x → Keeps a
-  heard_keeps n a None x p was h = subst Keeps (sym (p.unlinked was)) keeps
-  heard_keeps n a (Some l) None p was h = absurd h
-  heard_keeps n a (Some l) (Some x) p was h =
-      let y : HeardAll l.first_sent (taking w l) (take n l.to_client) (taking a x) =
-      heard_all l.first_sent (taking w l) (take n l.to_client) (taking a x) h.hears keeps in y.is_begun
+  read_keeps : (n : ℕ) (a : WorldState) (o x : Option LinkState) → Delivers n w a → w.link ≡ o
+      → Both (IsRead n w a) o x → Keeps a
+  read_keeps n a None x p was h = subst Keeps (sym (p.unlinked was)) keeps
+  read_keeps n a (Some l) None p was h = absurd h
+  read_keeps n a (Some l) (Some x) p was h =
+      let y : ReadAllOf l.first_sent (taking w l) (take n l.to_client) (taking a x) =
+      read_all l.first_sent (taking w l) (take n l.to_client) (taking a x) h.reads keeps in y.is_begun
 
   pushed_keeps : (k : ℕ) (bytes : List ℕ) (o : Option Window) → Keeps (pushed_to w k bytes o)
   pushed_keeps k bytes None = keeps
@@ -471,7 +471,7 @@ module _ (places : Places) (differ : Differ places) (codes : (k : ℕ) (p : Fiel
   step_keeps (Append k bytes) a p = subst Keeps (sym p) (pushed_keeps k bytes (slice_get w.windows k))
   step_keeps Connect a p = subst Keeps (sym p.becomes) (begun_none (says_place 0 w.client.talk).0.stage)
   step_keeps (ToServer n) a p = subst Keeps (sym p.0) keeps
-  step_keeps (ToClient n) a p = heard_keeps n a w.link a.link p refl p.link
+  step_keeps (ToClient n) a p = read_keeps n a w.link a.link p refl p.link
   step_keeps (Send k) a p = subst Keeps (sym p) keeps
   step_keeps Cut a p = subst Keeps (sym p) keeps
 

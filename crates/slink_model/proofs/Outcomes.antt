@@ -22,7 +22,7 @@ use Rattle.slink_feed.specs.declared.dialogue.Stage.TheVariants.{Unlinked, Stati
 use Rattle.slink_feed.specs.declared.dialogue.Wanted.{Wanted}
 use Rattle.slink_feed.specs.Cutting.{IsWhole}
 use Rattle.slink_feed.specs.Dialogue.{Talk, Whole, Reply, Packet, End, Garbage, answer_of, at_packet, bearer, ended}
-use Rattle.slink_feed.specs.Dialogue.{event_of, heard, heard_at, if_wanted, next_at, says_number, says_place, to_answer}
+use Rattle.slink_feed.specs.Dialogue.{event_of, read, read_at, if_wanted, next_at, says_number, says_place, to_answer}
 use Rattle.slink_feed.specs.Dialogue.{to_place, told, want_at, with_next}
 use Rattle.slink_feed.specs.Listening.{Brings, Listening, begun, whole}
 use Rattle.slink_model.specs.Ties.{AreWhole, Item, Accepted, Refused, Greeted, Carried, Finished, Outcome, ends, says}
@@ -70,10 +70,10 @@ granted_is line h = bytes_same line (codes "OK")
     (only_ok (bytes_eq line (codes "OK")) (starts_with nat_eq line (codes "ERROR")) h)
 
 -- what is said leaves what is wanted
-pub place_said : (o : Option Wanted) (k : ℕ) (t : Talk) → ((to_place o k t).0.wants ≡ t.wants)
+pub place_written : (o : Option Wanted) (k : ℕ) (t : Talk) → ((to_place o k t).0.wants ≡ t.wants)
     × (told_of (to_place o k t).1 ≡ None)
-place_said None k t = (refl, refl)
-place_said (Some w) k t = (refl, refl)
+place_written None k t = (refl, refl)
+place_written (Some w) k t = (refl, refl)
 
 module _ (t : Talk) (bytes way : List ℕ) (new : Listening) (e : Event) where
   -- the link is ended
@@ -118,16 +118,16 @@ module _ (t : Talk) (bytes way : List ℕ) (new : Listening) (e : Event) where
   first_carried : (items : List Item) (n : ℕ) (r : List ℕ) → AreWhole items → IsPacket bytes n r → length bytes ≡ 520
       → bytes ++ way ≡ way_bytes items → take 2 (way_bytes items) ≡ codes "SL"
       → (k m : ℕ) × (rest : List Item) × (items ≡ Carried k m r ∷ rest) × (way ≡ way_bytes rest) × (n ≡ m % 2 ^ 24)
-  first_carried [] n r are is long h front = absurd (no_byte (codes "SL") [] 0 83 (sym front) refl refl)
-  first_carried (Accepted ∷ rest) n r are is long h front =
-      absurd (omega (arith, one_byte (take 2 (way_bytes (Accepted ∷ rest))) (codes "SL") 0 79 83 front refl refl))
-  first_carried (Refused ∷ rest) n r are is long h front =
-      absurd (omega (arith, one_byte (take 2 (way_bytes (Refused ∷ rest))) (codes "SL") 0 69 83 front refl refl))
-  first_carried (Greeted ∷ rest) n r are is long h front =
-      absurd (omega (arith, one_byte (take 2 (way_bytes (Greeted ∷ rest))) (codes "SL") 1 101 76 front refl refl))
-  first_carried (Finished ∷ rest) n r are is long h front =
-      absurd (omega (arith, one_byte (take 2 (way_bytes (Finished ∷ rest))) (codes "SL") 0 69 83 front refl refl))
-  first_carried (Carried k m x ∷ rest) n r are is long h front =
+  first_carried [] n r are is long h prefix = absurd (no_byte (codes "SL") [] 0 83 (sym prefix) refl refl)
+  first_carried (Accepted ∷ rest) n r are is long h prefix =
+      absurd (omega (arith, one_byte (take 2 (way_bytes (Accepted ∷ rest))) (codes "SL") 0 79 83 prefix refl refl))
+  first_carried (Refused ∷ rest) n r are is long h prefix =
+      absurd (omega (arith, one_byte (take 2 (way_bytes (Refused ∷ rest))) (codes "SL") 0 69 83 prefix refl refl))
+  first_carried (Greeted ∷ rest) n r are is long h prefix =
+      absurd (omega (arith, one_byte (take 2 (way_bytes (Greeted ∷ rest))) (codes "SL") 1 101 76 prefix refl refl))
+  first_carried (Finished ∷ rest) n r are is long h prefix =
+      absurd (omega (arith, one_byte (take 2 (way_bytes (Finished ∷ rest))) (codes "SL") 0 69 83 prefix refl refl))
+  first_carried (Carried k m x ∷ rest) n r are is long h prefix =
       let cut : (bytes ≡ packet_bytes (m % 2 ^ 24) x) × (way ≡ way_bytes rest) =
       same_cut bytes way (packet_bytes (m % 2 ^ 24) x) (way_bytes rest) (long
       ∙ sym (packet_length (m % 2 ^ 24) x are.0)) h in
@@ -143,28 +143,28 @@ module _ (t : Talk) (bytes way : List ℕ) (new : Listening) (e : Event) where
       first_carried items n r are is long h (sym (ap (take 2) h)
       ∙ (take-append-le 2 bytes way (omega (arith, long)) ∙ is.0))
 
-  -- a reply that is heard, where an `OK` is answered by a line
+  -- a reply that is read, where an `OK` is answered by a line
   has_reply : (items : List Item) (line : List ℕ) (k : ℕ) (next : Talk × Event) (a : Answer) → answer_of line ≡ a
       → bytes ≡ line ++ line_end → bytes ++ way ≡ way_bytes items
       → (next.0.wants ≡ t.wants) × (told_of next.1 ≡ None) → to_answer a k next t ≡ (new.talk, e) → new.kept ≡ []
       → Outcome t items bytes way new e
-  has_reply items line k next Granted a is h quiet heard none =
+  has_reply items line k next Granted a is h quiet read none =
       let ok : line ≡ codes "OK" = granted_is line a in
       let top : (rest : List Item) × (items ≡ Accepted ∷ rest) × (way ≡ way_bytes rest) =
       accepted_first items (ap (λ xs. (xs ++ line_end) ++ way) (sym ok) ∙ (ap (λ xs. xs ++ way) (sym is) ∙ h)) in
-      says top.0 top.1 top.2 (ap (λ (p : Talk × Event). p.0.wants) (sym heard) ∙ quiet.0) none
-      (ap (λ (p : Talk × Event). told_of p.1) (sym heard) ∙ quiet.1)
-  has_reply items line k next Refusal a is h quiet heard none = has_ended items (endings.Refused k) heard none
-  has_reply items line k next Neither a is h quiet heard none = has_ended items endings.Garbage heard none
+      says top.0 top.1 top.2 (ap (λ (p : Talk × Event). p.0.wants) (sym read) ∙ quiet.0) none
+      (ap (λ (p : Talk × Event). told_of p.1) (sym read) ∙ quiet.1)
+  has_reply items line k next Refusal a is h quiet read none = has_ended items (endings.Refused k) read none
+  has_reply items line k next Neither a is h quiet read none = has_ended items endings.Garbage read none
 
   has_told : (items : List Item) (n j : ℕ) (r : List ℕ) (k m : ℕ) (rest : List Item) → items ≡ Carried k m r ∷ rest
       → way ≡ way_bytes rest → n ≡ m % 2 ^ 24 → bearer t.wants r ≡ Some j
       → ((w : ℕ) → next_at t.wants j ≡ Some w → n ≡ w) → told j n r t ≡ (new.talk, e) → new.kept ≡ []
       → Outcome t items bytes way new e
-  has_told items n j r k m rest is left number at wanted heard none =
+  has_told items n j r k m rest is left number at wanted read none =
       let talk : new.talk ≡ record t { wants = with_next t.wants j ((n + 1) % 2 ^ 24) } =
-      sym (ap (λ (p : Talk × Event). p.0) heard) in
-      let event : e ≡ events.Record j n r = sym (ap (λ (p : Talk × Event). p.1) heard) in
+      sym (ap (λ (p : Talk × Event). p.0) read) in
+      let event : e ≡ events.Record j n r = sym (ap (λ (p : Talk × Event). p.1) read) in
       takes k j m r rest is left at (λ w next. sym number ∙ wanted w next)
       (talk ∙ ap (λ x. record t { wants = with_next t.wants j ((x + 1) % 2 ^ 24) }) number) none
       (ap told_of event ∙ ap (λ x. Some (record { index = j; number = x; bytes = r })) number)
@@ -174,50 +174,50 @@ module _ (t : Talk) (bytes way : List ℕ) (new : Listening) (e : Event) where
       → items ≡ Carried k m r ∷ rest → way ≡ way_bytes rest → n ≡ m % 2 ^ 24 → bearer t.wants r ≡ Some j
       → next_at t.wants j ≡ o
       → if_wanted o j n r t ≡ (new.talk, e) → new.kept ≡ [] → Outcome t items bytes way new e
-  has_wanted items n j r k m rest None is left number at next heard none =
+  has_wanted items n j r k m rest None is left number at next read none =
       has_told items n j r k m rest is left number at (λ w some. absurd (let bad : None ≡ Some w = sym next ∙ some in
-      cc bad)) heard none
-  has_wanted items n j r k m rest (Some want) is left number at next heard none = elim (eqb_tells n want) [
+      cc bad)) read none
+  has_wanted items n j r k m rest (Some want) is left number at next read none = elim (eqb_tells n want) [
     | inl same ↦ has_told items n j r k m rest is left number at (λ w some. let both : Some want ≡ Some w = sym next
         ∙ some in let one : want ≡ w = cc both in same.1 ∙ one)
-        (ap (λ (b : Bool). if b then told j n r t else ended (endings.Gap j want n) t) (sym same.0) ∙ heard) none
+        (ap (λ (b : Bool). if b then told j n r t else ended (endings.Gap j want n) t) (sym same.0) ∙ read) none
     | inr other ↦ has_ended items (endings.Gap j want n)
-        (ap (λ (b : Bool). if b then told j n r t else ended (endings.Gap j want n) t) (sym other.0) ∙ heard) none
+        (ap (λ (b : Bool). if b then told j n r t else ended (endings.Gap j want n) t) (sym other.0) ∙ read) none
   ]
 
-  -- a packet that is heard
+  -- a packet that is read
   has_packet : (items : List Item) (n : ℕ) (r : List ℕ) (o : Option ℕ) → AreWhole items → IsPacket bytes n r
       → length bytes ≡ 520 → bytes ++ way ≡ way_bytes items → bearer t.wants r ≡ o
       → at_packet o n r t ≡ (new.talk, e) → new.kept ≡ [] → Outcome t items bytes way new e
-  has_packet items n r None are is long h at heard none = has_ended items endings.Foreign heard none
-  has_packet items n r (Some j) are is long h at heard none =
+  has_packet items n r None are is long h at read none = has_ended items endings.Foreign read none
+  has_packet items n r (Some j) are is long h at read none =
       let top : (k m : ℕ) × (rest : List Item) × (items ≡ Carried k m r ∷ rest) × (way ≡ way_bytes rest)
       × (n ≡ m % 2 ^ 24) = carried_first items n r are is long h in
-      has_wanted items n j r top.0 top.1 top.2 (next_at t.wants j) top.3 top.4 top.5 at refl heard none
+      has_wanted items n j r top.0 top.1 top.2 (next_at t.wants j) top.3 top.4 top.5 at refl read none
 
   has_whole : (stage : Stage) (items : List Item) (w : Whole) → AreWhole items → bytes ++ way ≡ way_bytes items
-      → IsWhole stage bytes w → heard_at stage t w ≡ (new.talk, e) → new.kept ≡ [] → Outcome t items bytes way new e
-  has_whole Unlinked items w are h is heard none = absurd is
-  has_whole (Station k) items (Reply line) are h is heard none =
-      has_reply items line k (says_number k t) (answer_of line) refl is.0 h (refl, refl) heard none
-  has_whole (Station k) items (Packet n r) are h is heard none = absurd is
-  has_whole (Station k) items End are h is heard none = absurd is
-  has_whole (Station k) items Garbage are h is heard none = has_ended items endings.Garbage heard none
-  has_whole (Number k) items (Reply line) are h is heard none =
+      → IsWhole stage bytes w → read_at stage t w ≡ (new.talk, e) → new.kept ≡ [] → Outcome t items bytes way new e
+  has_whole Unlinked items w are h is read none = absurd is
+  has_whole (Station k) items (Reply line) are h is read none =
+      has_reply items line k (says_number k t) (answer_of line) refl is.0 h (refl, refl) read none
+  has_whole (Station k) items (Packet n r) are h is read none = absurd is
+  has_whole (Station k) items End are h is read none = absurd is
+  has_whole (Station k) items Garbage are h is read none = has_ended items endings.Garbage read none
+  has_whole (Number k) items (Reply line) are h is read none =
       has_reply items line k (says_place (k + 1) t) (answer_of line) refl is.0 h
-      (place_said (want_at t.wants (k + 1)) (k + 1) t) heard none
-  has_whole (Number k) items (Packet n r) are h is heard none = absurd is
-  has_whole (Number k) items End are h is heard none = absurd is
-  has_whole (Number k) items Garbage are h is heard none = has_ended items endings.Garbage heard none
-  has_whole Packets items (Reply line) are h is heard none = absurd is
-  has_whole Packets items (Packet n r) are h is heard none =
-      has_packet items n r (bearer t.wants r) are is.0 is.1 h refl heard none
-  has_whole Packets items End are h is heard none = has_ended items endings.End heard none
-  has_whole Packets items Garbage are h is heard none = has_ended items endings.Garbage heard none
-  has_whole (Ended ending) items w are h is heard none = absurd is
+      (place_written (want_at t.wants (k + 1)) (k + 1) t) read none
+  has_whole (Number k) items (Packet n r) are h is read none = absurd is
+  has_whole (Number k) items End are h is read none = absurd is
+  has_whole (Number k) items Garbage are h is read none = has_ended items endings.Garbage read none
+  has_whole Packets items (Reply line) are h is read none = absurd is
+  has_whole Packets items (Packet n r) are h is read none =
+      has_packet items n r (bearer t.wants r) are is.0 is.1 h refl read none
+  has_whole Packets items End are h is read none = has_ended items endings.End read none
+  has_whole Packets items Garbage are h is read none = has_ended items endings.Garbage read none
+  has_whole (Ended ending) items w are h is read none = absurd is
 
   -- what comes of bytes, with those that were kept
   pub outcome : (items : List Item) → AreWhole items → bytes ++ way ≡ way_bytes items → Brings t bytes new e
       → Outcome t items bytes way new e
-  outcome items are h (whole w is heard none) = has_whole t.stage items w are h is heard none
+  outcome items are h (whole w is read none) = has_whole t.stage items w are h is read none
   outcome items are h (begun is same quiet) = waits same (ap told_of quiet)

@@ -6,12 +6,12 @@ use Rattle.slink_wire.specs.Reply.{reply_bytes}
 use Rattle.slink_feed.specs.Listening.{IsLinked}
 use Rattle.slink_feed.specs.Serving.{Serves, Standing, Takes, none_served, piece_served}
 use Rattle.slink_feed.specs.Window.{Window}
-use Rattle.slink_model.specs.World.{Hears, Numbers, Taking, none_heard, piece_lost}
+use Rattle.slink_model.specs.World.{Reads, Numbers, Taking, none_read, piece_lost}
 
-front : (bytes : List ℕ) (used : ℕ) → bytes ≡ take used bytes ++ drop used bytes
-front bytes zero = refl
-front [] (suc n) = refl
-front (b ∷ bs) (suc n) = ap (λ t. b ∷ t) (front bs n)
+prefix : (bytes : List ℕ) (used : ℕ) → bytes ≡ take used bytes ++ drop used bytes
+prefix bytes zero = refl
+prefix [] (suc n) = refl
+prefix (b ∷ bs) (suc n) = ap (λ t. b ∷ t) (prefix bs n)
 
 nothing : (used : ℕ) → ◌≡◌ {A = List ℕ} (take used []) []
 nothing zero = refl
@@ -21,7 +21,7 @@ nothing (suc n) = refl
 pub at_offset : (bytes : List ℕ) (start used : ℕ)
     → drop start bytes ≡ take used (drop start bytes) ++ drop (start + used) bytes
 at_offset bytes zero used = let none : zero + used ≡ used = omega arith in
-    front bytes used ∙ ap (λ n. take used bytes ++ drop n bytes) (sym none)
+    prefix bytes used ∙ ap (λ n. take used bytes ++ drop n bytes) (sym none)
 at_offset [] (suc n) used = let more : suc n + used ≡ suc (n + used) = omega arith in
     sym (ap (λ xs. xs ++ drop (suc n + used) []) (nothing used) ∙ ap (λ k. drop k []) more)
 at_offset (b ∷ bs) (suc n) used = let more : suc n + used ≡ suc (n + used) = omega arith in at_offset bs n used
@@ -46,11 +46,11 @@ pub serves_all : (feed : List Window) (s : Standing) (bytes : List ℕ) (start :
 serves_all feed s bytes start way past =
     subst (λ (b : List ℕ). Serves feed s b way s way) (sym (nothing_left bytes start past)) (none_served s way)
 
-pub hears_all : (first_sent : Numbers) (t : Taking) (bytes : List ℕ) (start : ℕ) → length bytes ≤ start
-    → Hears first_sent t (drop start bytes) t
-hears_all first_sent t bytes start past =
-    subst (λ (b : List ℕ). Hears first_sent t b t) (sym (nothing_left bytes start past)) (none_heard t)
+pub reads_all : (first_sent : Numbers) (t : Taking) (bytes : List ℕ) (start : ℕ) → length bytes ≤ start
+    → Reads first_sent t (drop start bytes) t
+reads_all first_sent t bytes start past =
+    subst (λ (b : List ℕ). Reads first_sent t b t) (sym (nothing_left bytes start past)) (none_read t)
 
 pub rest_lost : (first_sent : Numbers) (t : Taking) (bytes : List ℕ) → ¬ (IsLinked t.client.talk.stage)
-    → Hears first_sent t bytes t
-rest_lost first_sent t bytes unlinked = piece_lost t t bytes bytes [] (sym (append-nil bytes)) unlinked (none_heard t)
+    → Reads first_sent t bytes t
+rest_lost first_sent t bytes unlinked = piece_lost t t bytes bytes [] (sym (append-nil bytes)) unlinked (none_read t)

@@ -181,21 +181,21 @@ here : (k : ℕ) (b : List ℕ) → k < 1 → appended_by 0 (Append k b) ≡ b �
 here zero b lt = refl
 here (suc k) b lt = absurd (omega (arith, lt))
 
-pub front : (steps : List Step) (rs : List (List ℕ)) → AllByRecursion IsOfOne steps
+pub prefix : (steps : List Step) (rs : List (List ℕ)) → AllByRecursion IsOfOne steps
     → (rest : List (List ℕ)) × (rs ≡ appended 0 (fed steps rs) ++ rest)
-front [] rs of = (rs, refl)
-front (Append k b ∷ steps) [] of = front steps [] of.1
-front (Append k b ∷ steps) (r ∷ rs) of =
-    let more = front steps rs of.1 in (
+prefix [] rs of = (rs, refl)
+prefix (Append k b ∷ steps) [] of = prefix steps [] of.1
+prefix (Append k b ∷ steps) (r ∷ rs) of =
+    let more = prefix steps rs of.1 in (
       more.0,
       ap (λ (qs : List (List ℕ)). r ∷ qs) more.1
           ∙ ap (λ (qs : List (List ℕ)). (qs ++ appended 0 (fed steps rs)) ++ more.0) (sym (here k r of.0)),
     )
-front (Connect ∷ steps) rs of = front steps rs of.1
-front (ToServer n ∷ steps) rs of = front steps rs of.1
-front (ToClient n ∷ steps) rs of = front steps rs of.1
-front (Send k ∷ steps) rs of = front steps rs of.1
-front (Cut ∷ steps) rs of = front steps rs of.1
+prefix (Connect ∷ steps) rs of = prefix steps rs of.1
+prefix (ToServer n ∷ steps) rs of = prefix steps rs of.1
+prefix (ToClient n ∷ steps) rs of = prefix steps rs of.1
+prefix (Send k ∷ steps) rs of = prefix steps rs of.1
+prefix (Cut ∷ steps) rs of = prefix steps rs of.1
 
 -- what is held are some of them, one behind another
 pub record Between (rs held : List (List ℕ)) : Type 0 where
@@ -214,7 +214,7 @@ pub between : (rs pushed held : List (List ℕ)) (steps : List Step) (first : �
     → Between rs held
 between rs pushed held steps first next start of is h =
     let part = slice first pushed held next start h in
-    let whole = front steps rs of in
+    let whole = prefix steps rs of in
     record {
       before = part.before;
       after = part.after ++ whole.0;

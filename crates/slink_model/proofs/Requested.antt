@@ -13,11 +13,11 @@ use Rattle.slink_wire.specs.declared.request.Request.TheVariants.{Station, End}
 use Rattle.slink_wire.specs.Command.{IsCommand, folded, words}
 use Rattle.slink_wire.specs.Place.{Fields, IsField, code_in, matches}
 use Rattle.slink_wire.specs.Request.{IsShort, request_line, requested}
-use Rattle.slink_wire.specs.Said.{IsLine}
+use Rattle.slink_wire.specs.Written.{IsLine}
 use Rattle.slink_wire.proofs.Cuts.{both}
 use Rattle.slink_wire.proofs.RequestLines.{data_line, fetch_line}
-use Rattle.slink_wire.proofs.Requests.{data_said, end_said, fetch_said, station_said}
-use Rattle.slink_wire.proofs.Said.{one_command}
+use Rattle.slink_wire.proofs.Requests.{data_written, end_written, fetch_written, station_written}
+use Rattle.slink_wire.proofs.Written.{one_command}
 use Rattle.slink_feed.specs.declared.grant.Mode.{Mode}
 use Rattle.slink_feed.specs.declared.grant.Mode.TheVariants as modes
 use Rattle.slink_feed.specs.Dialogue.{numbered}
@@ -35,15 +35,15 @@ number_line modes.Fetch number = fetch_line number
 -- the commands of these lines
 pub station_command : (place : Fields) → IsField 5 place.station → IsField 2 place.network
     → IsCommand (request_line (Station place)) (requested (Station place))
-station_command place p q = station_said place.station place.network p q
+station_command place p q = station_written place.station place.network p q
 
 pub number_command : (mode : Mode) (number : Option ℕ) → IsShort number
     → IsCommand (request_line (numbered mode number)) (requested (numbered mode number))
-number_command modes.Data number short = data_said number short
-number_command modes.Fetch number short = fetch_said number short
+number_command modes.Data number short = data_written number short
+number_command modes.Fetch number short = fetch_written number short
 
 pub end_command : IsCommand (request_line End) (requested End)
-end_command = end_said
+end_command = end_written
 
 -- what is answered to the line of a request
 pub request_answered : (feed : List Window) (s new : State) (items : List ℕ) (request : Request) (reply : Reply)

@@ -27,22 +27,22 @@ use Rattle.slink_feed.specs.declared.dialogue.Wanted.{Wanted}
 use Rattle.slink_feed.specs.declared.grant.Grant.{Grant}
 use Rattle.slink_feed.specs.declared.session.Phase.TheVariants.{Chosen, Granted, Closed}
 use Rattle.slink_feed.specs.Cutting.{IsWhole, LacksEnd}
-use Rattle.slink_feed.specs.Dialogue.{Talk, Wants, Whole, Reply, Packet, End, at_packet, bearer, ended, event_of, heard}
-use Rattle.slink_feed.specs.Dialogue.{heard_at, is_borne, next_at, next_set, numbered, says_number, says_place}
+use Rattle.slink_feed.specs.Dialogue.{Talk, Wants, Whole, Reply, Packet, End, at_packet, bearer, ended, event_of, read}
+use Rattle.slink_feed.specs.Dialogue.{read_at, is_borne, next_at, next_set, numbered, says_number, says_place}
 use Rattle.slink_feed.specs.Dialogue.{to_place, told, want_at, with_next}
 use Rattle.slink_feed.specs.Listening.{Brings, IsLinked, Listening, begun, whole}
 use Rattle.slink_feed.specs.Serving.{Standing}
 use Rattle.slink_feed.specs.Session.{IsBefore, grant_at}
 use Rattle.slink_model.specs.Spared.{IsFair, IsSpared}
 use Rattle.slink_model.specs.Ties.{Item, Accepted, Refused, Greeted, Carried, Finished, Places, of_place, way_bytes}
-use Rattle.slink_model.specs.World.{Differ, Hears, Numbers, Taking, none_heard, noted, piece_heard, piece_lost}
-use Rattle.slink_feed.proofs.Fronted.{wanted_told}
-use Rattle.slink_feed.proofs.Heard.{begun_none}
+use Rattle.slink_model.specs.World.{Differ, Reads, Numbers, Taking, none_read, noted, piece_read, piece_lost}
+use Rattle.slink_feed.proofs.Prefixed.{wanted_told}
+use Rattle.slink_feed.proofs.Received.{begun_none}
 use Rattle.slink_model.proofs.Items.{carried_here, carried_there}
 use Rattle.slink_feed.proofs.Items.{is_within, put_here, put_there, same_or_not}
-use Rattle.slink_wire.proofs.SaidBack.{nothing_left}
+use Rattle.slink_wire.proofs.WrittenBack.{nothing_left}
 use Rattle.slink_model.proofs.Lined.{IsAnswered, asks_more}
-use Rattle.slink_feed.proofs.OneReading.{one_front, seen_same}
+use Rattle.slink_feed.proofs.OneReading.{one_prefix, seen_same}
 use Rattle.slink_model.proofs.Outcomes.{packet_length}
 use Rattle.slink_wire.proofs.RequestLines.{end_line, station_line}
 use Rattle.slink_model.proofs.Requested.{also_at, both_pass, by_cases, first_found, number_line}
@@ -72,7 +72,7 @@ lacks_end bytes lacks i cr lf = lacks_byte bytes (i + 1) lacks lf
 the_whole : (stage : Stage) (b a left rest : List ℕ) (w v : Whole) → IsWhole stage b w → IsWhole stage a v
     → b ++ left ≡ a ++ rest → (w ≡ v) × (left ≡ rest)
 the_whole stage b a left rest w v p q e =
-    let same : b ≡ a = one_front stage b a left rest w v p q e in (
+    let same : b ≡ a = one_prefix stage b a left rest w v p q e in (
       one_whole stage a w v (subst (λ (x : List ℕ). IsWhole stage x w) same p) q,
       append_cancel_left a left rest (ap (λ x. x ++ left) (sym same) ∙ e),
     )
@@ -204,7 +204,7 @@ module _ (places : Places) (differ : Differ places) (codes_are : (k : ℕ) (p : 
     seen_as talk new is none = seen_same new (record { talk = talk; kept = [] }) is none
 
     -- a line is said
-    said_talks : (t : Taking) (new : Listening) (stage : Stage) (request : Request) (e : Event) (left taken : List ℕ)
+    written_talks : (t : Taking) (new : Listening) (stage : Stage) (request : Request) (e : Event) (left taken : List ℕ)
         → ◌≡◌ {A = Talk × Event} (
           record t.client.talk { stage = stage },
           events.Say (record { items = request_bytes request }),
@@ -215,7 +215,7 @@ module _ (places : Places) (differ : Differ places) (codes_are : (k : ℕ) (p : 
         → Shakes (record t.client.talk { stage = stage }) session.state.phase taken
         (t.to_server ++ request_bytes request) []
         → ClientTalks new (Way t new e) left
-    said_talks t new stage request e left taken h none gone spared linked asked suited held shakes =
+    written_talks t new stage request e left taken h none gone spared linked asked suited held shakes =
         let talk : Talk = record t.client.talk { stage = stage } in
         let is : new ≡ record { talk = talk; kept = [] } =
         seen_as talk new (sym (ap (λ (p : Talk × Event). p.0) h)) none in
@@ -249,7 +249,7 @@ module _ (places : Places) (differ : Differ places) (codes_are : (k : ℕ) (p : 
         (l : LinkTalks places t.client session t.to_server (bytes ++ left)) → AreAsked places t.client.talk.wants
         → t.client.talk.stage ≡ Station k
         → session.state.phase ≡ Chosen k → IsAnswered l.taken t.to_server → l.items ≡ Accepted ∷ []
-        → IsWhole t.client.talk.stage (t.client.kept ++ bytes) w → heard t.client.talk w ≡ (new.talk, e)
+        → IsWhole t.client.talk.stage (t.client.kept ++ bytes) w → read t.client.talk w ≡ (new.talk, e)
         → new.kept ≡ [] → ClientTalks new (Way t new e) left
     place_talks t new bytes left e w k l asked stage phase told one is h none =
         let flow : (t.client.kept ++ bytes) ++ left ≡ (codes "OK" ++ line_end) ++ [] =
@@ -261,11 +261,11 @@ module _ (places : Places) (differ : Differ places) (codes_are : (k : ℕ) (p : 
           lacks_end (codes "OK" ++ 13 ∷ []) refl,
           omega arith,
         ) flow in
-        let said : says_number k t.client.talk ≡ (new.talk, e) =
-        sym (ap (λ (s : Stage). heard_at s t.client.talk (Reply (codes "OK"))) stage)
-        ∙ (ap (heard t.client.talk) (sym the.0) ∙ h) in
+        let written : says_number k t.client.talk ≡ (new.talk, e) =
+        sym (ap (λ (s : Stage). read_at s t.client.talk (Reply (codes "OK"))) stage)
+        ∙ (ap (read t.client.talk) (sym the.0) ∙ h) in
         let request : Request = numbered t.client.talk.mode (next_at t.client.talk.wants k) in
-        said_talks t new (Number k) request e left l.taken said none the.1 tt tt asked
+        written_talks t new (Number k) request e left l.taken written none the.1 tt tt asked
         (reply_suited t.client (bytes ++ left) l.items Accepted one (λ i. refl) l.flows) l.held
         (asks_number k refl phase
         (asks_more (request_line request) l.taken t.to_server
@@ -277,16 +277,17 @@ module _ (places : Places) (differ : Differ places) (codes_are : (k : ℕ) (p : 
         → want_at t.client.talk.wants (k + 1) ≡ o → to_place o (k + 1) t.client.talk ≡ (new.talk, e) → new.kept ≡ []
         → left ≡ [] → ((i : ℕ) → IsSuited (next_at t.client.talk.wants i) (grant_at session.state.grants i) [])
         → (¬ (session.state.phase ≡ Closed) → IsHeld session.held taken) → ClientTalks new (Way t new e) left
-    next_talks t new left taken e k None asked phase told want said none gone suited held =
-        said_talks t new Packets requests.End e left taken said none gone tt tt asked suited held
+    next_talks t new left taken e k None asked phase told want written none gone suited held =
+        written_talks t new Packets requests.End e left taken written none gone tt tt asked suited held
         (asks_end k refl phase (asks_more (request_line requests.End) taken t.to_server end_line told) refl)
-    next_talks t new left taken e k (Some w) asked phase told want said none gone suited held =
+    next_talks t new left taken e k (Some w) asked phase told want written none gone suited held =
         let q : (p : Fields × Option ℕ) × (slice_get places (k + 1) ≡ Some p) × (w.place ≡ p.0) =
         also_at (λ (x : Wanted). x.place) (λ (p : Fields × Option ℕ). p.0) (want_at t.client.talk.wants (k + 1))
         (slice_get places (k + 1)) w (asked.alike (k + 1)) want in
         let fields : IsField 5 w.place.station × IsField 2 w.place.network =
         subst (λ (f : Fields). IsField 5 f.station × IsField 2 f.network) (sym q.2) (codes_are (k + 1) q.0 q.1) in
-        said_talks t new (Station (k + 1)) (requests.Station w.place) e left taken said none gone tt tt asked suited
+        written_talks t new (Station (k + 1)) (requests.Station w.place) e left taken written none gone tt tt asked
+        suited
         held
         (asks_place (k + 1) w refl want (inr (k, refl, phase))
         (asks_more (request_line (requests.Station w.place)) taken t.to_server
@@ -296,7 +297,7 @@ module _ (places : Places) (differ : Differ places) (codes_are : (k : ℕ) (p : 
         (l : LinkTalks places t.client session t.to_server (bytes ++ left)) → AreAsked places t.client.talk.wants
         → t.client.talk.stage ≡ Number k
         → session.state.phase ≡ Granted k → IsAnswered l.taken t.to_server → l.items ≡ Accepted ∷ []
-        → IsWhole t.client.talk.stage (t.client.kept ++ bytes) w → heard t.client.talk w ≡ (new.talk, e)
+        → IsWhole t.client.talk.stage (t.client.kept ++ bytes) w → read t.client.talk w ≡ (new.talk, e)
         → new.kept ≡ [] → ClientTalks new (Way t new e) left
     number_talks t new bytes left e w k l asked stage phase told one is h none =
         let flow : (t.client.kept ++ bytes) ++ left ≡ (codes "OK" ++ line_end) ++ [] =
@@ -308,10 +309,10 @@ module _ (places : Places) (differ : Differ places) (codes_are : (k : ℕ) (p : 
           lacks_end (codes "OK" ++ 13 ∷ []) refl,
           omega arith,
         ) flow in
-        let said : says_place (k + 1) t.client.talk ≡ (new.talk, e) =
-        sym (ap (λ (s : Stage). heard_at s t.client.talk (Reply (codes "OK"))) stage)
-        ∙ (ap (heard t.client.talk) (sym the.0) ∙ h) in
-        next_talks t new left l.taken e k (want_at t.client.talk.wants (k + 1)) asked phase told refl said none the.1
+        let written : says_place (k + 1) t.client.talk ≡ (new.talk, e) =
+        sym (ap (λ (s : Stage). read_at s t.client.talk (Reply (codes "OK"))) stage)
+        ∙ (ap (read t.client.talk) (sym the.0) ∙ h) in
+        next_talks t new left l.taken e k (want_at t.client.talk.wants (k + 1)) asked phase told refl written none the.1
         (reply_suited t.client (bytes ++ left) l.items Accepted one (λ i. refl) l.flows) l.held
 
     -- and where by `ERROR`
@@ -319,7 +320,7 @@ module _ (places : Places) (differ : Differ places) (codes_are : (k : ℕ) (p : 
         (l : LinkTalks places t.client session t.to_server (bytes ++ left)) → AreAsked places t.client.talk.wants
         → t.client.talk.stage ≡ Number k
         → IsAnswered l.taken t.to_server → l.items ≡ Refused ∷ []
-        → IsWhole t.client.talk.stage (t.client.kept ++ bytes) w → heard t.client.talk w ≡ (new.talk, e)
+        → IsWhole t.client.talk.stage (t.client.kept ++ bytes) w → read t.client.talk w ≡ (new.talk, e)
         → ClientTalks new (Way t new e) left
     refused_talks t new bytes left e w k l asked stage told one is h =
         let flow : (t.client.kept ++ bytes) ++ left ≡ (codes "ERROR" ++ line_end) ++ [] =
@@ -331,12 +332,12 @@ module _ (places : Places) (differ : Differ places) (codes_are : (k : ℕ) (p : 
           lacks_end (codes "ERROR" ++ 13 ∷ []) refl,
           omega arith,
         ) flow in
-        let said : ended (endings.Refused k) t.client.talk ≡ (new.talk, e) =
-        sym (ap (λ (s : Stage). heard_at s t.client.talk (Reply (codes "ERROR"))) stage)
-        ∙ (ap (heard t.client.talk) (sym the.0) ∙ h) in
+        let written : ended (endings.Refused k) t.client.talk ≡ (new.talk, e) =
+        sym (ap (λ (s : Stage). read_at s t.client.talk (Reply (codes "ERROR"))) stage)
+        ∙ (ap (read t.client.talk) (sym the.0) ∙ h) in
         ended_talks t.client.talk new (endings.Refused k) (Way t new e) left
-        (sym (ap (λ (p : Talk × Event). p.0) said)) tt asked
-        (ended_quiet t new (endings.Refused k) e said (l.taken, λ awake. (l.held awake, told)))
+        (sym (ap (λ (p : Talk × Event). p.0) written)) tt asked
+        (ended_quiet t new (endings.Refused k) e written (l.taken, λ awake. (l.held awake, told)))
 
     -- a packet comes
     packet_talks : (t : Taking) (new : Listening) (bytes left : List ℕ) (e : Event) (w : Whole) (k n : ℕ) (r : List ℕ)
@@ -344,7 +345,7 @@ module _ (places : Places) (differ : Differ places) (codes_are : (k : ℕ) (p : 
         → IsSpared t.client.talk.stage → AreAsked places t.client.talk.wants
         → t.client.talk.stage ≡ Packets → ¬ (IsBefore session.state.phase) → AreSent rest
         → (¬ (session.state.phase ≡ Closed) → IsAnswered l.taken t.to_server) → l.items ≡ Carried k n r ∷ rest
-        → IsWhole t.client.talk.stage (t.client.kept ++ bytes) w → heard t.client.talk w ≡ (new.talk, e) → new.kept ≡ []
+        → IsWhole t.client.talk.stage (t.client.kept ++ bytes) w → read t.client.talk w ≡ (new.talk, e) → new.kept ≡ []
         → ClientTalks new (Way t new e) left
     packet_talks t new bytes left e w k n r rest l spared asked stage later sent answered one is h none =
         let m : ℕ = n % 2 ^ 24 in
@@ -367,18 +368,18 @@ module _ (places : Places) (differ : Differ places) (codes_are : (k : ℕ) (p : 
         ((n, r) ∷ of_place k rest) =
         subst (IsSuited (next_at t.client.talk.wants k) (grant_at session.state.grants k)) of_k
         (l.flows.suited k) in
-        let said : told k m r t.client.talk ≡ (new.talk, e) =
+        let written : told k m r t.client.talk ≡ (new.talk, e) =
         sym (wanted_told (next_at t.client.talk.wants k) k m r t.client.talk
         (some_if (next_at t.client.talk.wants k) m
         (suited_wanted (next_at t.client.talk.wants k) (grant_at session.state.grants k) n r (of_place k rest)
         suited_k)))
         ∙ (sym (ap (λ (o : Option ℕ). at_packet o m r t.client.talk) found.0)
-        ∙ (sym (ap (λ (s : Stage). heard_at s t.client.talk (Packet m r)) stage)
-        ∙ (ap (heard t.client.talk) (sym the.0) ∙ h))) in
+        ∙ (sym (ap (λ (s : Stage). read_at s t.client.talk (Packet m r)) stage)
+        ∙ (ap (read t.client.talk) (sym the.0) ∙ h))) in
         let talk : Talk = record t.client.talk { wants = with_next t.client.talk.wants k x } in
         let now : new ≡ record { talk = talk; kept = [] } =
-        seen_as talk new (sym (ap (λ (p : Talk × Event). p.0) said)) none in
-        let event : e ≡ events.Record k m r = sym (ap (λ (p : Talk × Event). p.1) said) in
+        seen_as talk new (sym (ap (λ (p : Talk × Event). p.0) written)) none in
+        let event : e ≡ events.Record k m r = sym (ap (λ (p : Talk × Event). p.1) written) in
         let ws : Wants = with_next t.client.talk.wants k x in
         let becomes : ws ≡ set t.client.talk.wants k (Some (record { place = found.1.place; next = Some x })) =
         ap (λ (o : Option Wanted). next_set o t.client.talk.wants k x) found.2 in
@@ -428,7 +429,7 @@ module _ (places : Places) (differ : Differ places) (codes_are : (k : ℕ) (p : 
         (l : LinkTalks places t.client session t.to_server (bytes ++ left)) → AreAsked places t.client.talk.wants
         → t.client.talk.stage ≡ Packets
         → (¬ (session.state.phase ≡ Closed) → IsAnswered l.taken t.to_server) → l.items ≡ Finished ∷ rest
-        → IsWhole t.client.talk.stage (t.client.kept ++ bytes) w → heard t.client.talk w ≡ (new.talk, e)
+        → IsWhole t.client.talk.stage (t.client.kept ++ bytes) w → read t.client.talk w ≡ (new.talk, e)
         → ClientTalks new (Way t new e) left
     end_talks t new bytes left e w rest l asked stage answered one is h =
         let flow : (t.client.kept ++ bytes) ++ left ≡ codes "END" ++ way_bytes rest =
@@ -436,10 +437,10 @@ module _ (places : Places) (differ : Differ places) (codes_are : (k : ℕ) (p : 
         let the : (w ≡ End) × (left ≡ way_bytes rest) =
         the_whole Packets (t.client.kept ++ bytes) (codes "END") left (way_bytes rest) w End
         (subst (λ (s : Stage). IsWhole s (t.client.kept ++ bytes) w) stage is) refl flow in
-        let said : ended endings.End t.client.talk ≡ (new.talk, e) =
-        sym (ap (λ (s : Stage). heard_at s t.client.talk End) stage) ∙ (ap (heard t.client.talk) (sym the.0) ∙ h) in
-        ended_talks t.client.talk new endings.End (Way t new e) left (sym (ap (λ (p : Talk × Event). p.0) said)) tt
-        asked (ended_quiet t new endings.End e said (l.taken, λ awake. (l.held awake, answered awake)))
+        let written : ended endings.End t.client.talk ≡ (new.talk, e) =
+        sym (ap (λ (s : Stage). read_at s t.client.talk End) stage) ∙ (ap (read t.client.talk) (sym the.0) ∙ h) in
+        ended_talks t.client.talk new endings.End (Way t new e) left (sym (ap (λ (p : Talk × Event). p.0) written)) tt
+        asked (ended_quiet t new endings.End e written (l.taken, λ awake. (l.held awake, answered awake)))
 
     nothing_talks : (t : Taking) (new : Listening) (bytes left way : List ℕ) (w : Whole)
         (l : LinkTalks places t.client session t.to_server (bytes ++ left)) → l.items ≡ []
@@ -453,7 +454,7 @@ module _ (places : Places) (differ : Differ places) (codes_are : (k : ℕ) (p : 
         → AreAsked places t.client.talk.wants
         → t.client.talk.stage ≡ Packets → ¬ (IsBefore session.state.phase) → AreSent items
         → (¬ (session.state.phase ≡ Closed) → IsAnswered l.taken t.to_server) → l.items ≡ items
-        → IsWhole t.client.talk.stage (t.client.kept ++ bytes) w → heard t.client.talk w ≡ (new.talk, e)
+        → IsWhole t.client.talk.stage (t.client.kept ++ bytes) w → read t.client.talk w ≡ (new.talk, e)
         → new.kept ≡ [] → ClientTalks new (Way t new e) left
     stream_talks t new bytes left e w [] l spared asked stage later sent answered one is h none =
         nothing_talks t new bytes left (Way t new e) w l one is
@@ -472,18 +473,18 @@ module _ (places : Places) (differ : Differ places) (codes_are : (k : ℕ) (p : 
         (l : LinkTalks places t.client session t.to_server (bytes ++ left)) → IsSpared t.client.talk.stage
         → AreAsked places t.client.talk.wants
         → Shakes t.client.talk session.state.phase l.taken t.to_server l.items
-        → IsWhole t.client.talk.stage (t.client.kept ++ bytes) w → heard t.client.talk w ≡ (new.talk, e)
+        → IsWhole t.client.talk.stage (t.client.kept ++ bytes) w → read t.client.talk w ≡ (new.talk, e)
         → new.kept ≡ [] → ClientTalks new (Way t new e) left
     whole_talks t new bytes left e w l spared asked (asks_place k v stage want ready asks one) is h none =
         nothing_talks t new bytes left (Way t new e) w l one is
-    whole_talks t new bytes left e w l spared asked (has_place k stage phase said one) is h none =
-        place_talks t new bytes left e w k l asked stage phase said one is h none
+    whole_talks t new bytes left e w l spared asked (has_place k stage phase written one) is h none =
+        place_talks t new bytes left e w k l asked stage phase written one is h none
     whole_talks t new bytes left e w l spared asked (asks_number k stage phase asks one) is h none =
         nothing_talks t new bytes left (Way t new e) w l one is
-    whole_talks t new bytes left e w l spared asked (has_number k stage phase said one) is h none =
-        number_talks t new bytes left e w k l asked stage phase said one is h none
-    whole_talks t new bytes left e w l spared asked (has_none k stage phase said one) is h none =
-        refused_talks t new bytes left e w k l asked stage said one is h
+    whole_talks t new bytes left e w l spared asked (has_number k stage phase written one) is h none =
+        number_talks t new bytes left e w k l asked stage phase written one is h none
+    whole_talks t new bytes left e w l spared asked (has_none k stage phase written one) is h none =
+        refused_talks t new bytes left e w k l asked stage written one is h
     whole_talks t new bytes left e w l spared asked (asks_end k stage phase asks one) is h none =
         nothing_talks t new bytes left (Way t new e) w l one is
     whole_talks t new bytes left e w l spared asked (streams stage later sent answered) is h none =
@@ -523,15 +524,15 @@ module _ (places : Places) (differ : Differ places) (codes_are : (k : ℕ) (p : 
         kept_talks t new bytes left e (c.link linked) c.spared linked c.asked same quiet
 
     -- all of these bytes are taken, piece by piece
-    pub hears_talks : (t : Taking) (bytes : List ℕ) (last : Taking) (left : List ℕ) → Hears first_sent t bytes last
+    pub reads_talks : (t : Taking) (bytes : List ℕ) (last : Taking) (left : List ℕ) → Reads first_sent t bytes last
         → ClientTalks t.client t.to_server (bytes ++ left) → ClientTalks last.client last.to_server left
-    hears_talks t bytes last left (none_heard u) c = c
-    hears_talks t bytes last left (piece_heard u v now all piece rest e split linked brings more) c =
-        hears_talks (noted first_sent e (record u { client = now })) rest v left more
+    reads_talks t bytes last left (none_read u) c = c
+    reads_talks t bytes last left (piece_read u v now all piece rest e split linked brings more) c =
+        reads_talks (noted first_sent e (record u { client = now })) rest v left more
         (subst (λ (x : Listening). ClientTalks x (Way u now e) (rest ++ left))
         (sym (same_client first_sent e (record u { client = now })))
         (piece_talks u now piece (rest ++ left) e linked brings
         (subst (ClientTalks u.client u.to_server) (ap (λ b. b ++ left) split ∙ append_assoc piece rest left) c)))
-    hears_talks t bytes last left (piece_lost u v all piece rest split over more) c =
-        hears_talks u rest v left more
+    reads_talks t bytes last left (piece_lost u v all piece rest split over more) c =
+        reads_talks u rest v left more
         (record { spared = c.spared; asked = c.asked; link = λ linked. absurd (over linked); quiet = c.quiet })

@@ -33,7 +33,7 @@ use Rattle.slink_feed.specs.Window.{Window}
 use Rattle.slink_model.specs.World.{Differ}
 use Rattle.slink_model.proofs.Commanded.{grant_set, leaves}
 use Rattle.slink_model.proofs.Items.{flow_more, reply_carries, reply_items}
-use Rattle.slink_model.proofs.Lined.{IsAnswered, IsAsking, IsHeard, more_answered, more_asked, nothing, the_line}
+use Rattle.slink_model.proofs.Lined.{IsAnswered, IsAsking, IsRead, more_answered, more_asked, nothing, the_line}
 use Rattle.slink_model.proofs.Requested.{also_at, end_command, number_command, request_answered, station_command}
 use Rattle.slink_model.proofs.Requested.{station_found}
 use Rattle.slink_model.proofs.Resolved.{resolved_alike}
@@ -329,34 +329,34 @@ module _ (places : Places) (differ : Differ places) (codes : (k : ℕ) (p : Fiel
       )
 
   -- the line that was asked last, or nothing yet
-  place_heard : (s now : Standing) (taken rest way : List ℕ) (items : List Item) (reply : Reply) (what : What) (k : ℕ)
+  place_read : (s now : Standing) (taken rest way : List ℕ) (items : List Item) (reply : Reply) (what : What) (k : ℕ)
       (w : Wanted) → client.talk.stage ≡ Station k → want_at client.talk.wants k ≡ Some w → IsReadyFor k s.state.phase
       → items ≡ []
-      → IsHeard (request_line (requests.Station w.place)) taken rest what → IsAnswer feed s.state what now.state reply
+      → IsRead (request_line (requests.Station w.place)) taken rest what → IsAnswer feed s.state what now.state reply
       → Flows places client s.state.grants way items → Then now taken rest way reply
-  place_heard s now taken rest way items reply More k w stage want ready none (nothing asks) is f held =
+  place_read s now taken rest way items reply More k w stage want ready none (nothing asks) is f held =
       stays_put s now taken rest way items reply is.0 is.1 (asks_place k w stage want ready asks none) f held
-  place_heard s now taken rest way items reply (Line l) k w stage want ready none (the_line bytes same told) is f held =
+  place_read s now taken rest way items reply (Line l) k w stage want ready none (the_line bytes same told) is f held =
       let at_k : (IsField 5 w.place.station × IsField 2 w.place.network)
       × (station_at feed w.place.station (Some w.place.network) ≡ Some k) = asked_place k w want in
       place_answered s now taken rest way items reply k stage
       (place_chosen s.state now.state reply k w ready at_k.1
       (request_answered feed s.state now.state bytes (requests.Station w.place) reply same
       (station_command w.place at_k.0.0 at_k.0.1) is)) told none f held
-  place_heard s now taken rest way items reply TooLong k w stage want ready none heard is f held = elim heard [ ]
+  place_read s now taken rest way items reply TooLong k w stage want ready none read is f held = elim read [ ]
 
   pub is_short : (o : Option ℕ) → ((n : ℕ) → o ≡ Some n → n < 2 ^ 24) → IsShort o
   is_short None short = tt
   is_short (Some n) short = short n refl
 
-  number_heard : (s now : Standing) (taken rest way : List ℕ) (items : List Item) (reply : Reply) (what : What) (k : ℕ)
+  number_read : (s now : Standing) (taken rest way : List ℕ) (items : List Item) (reply : Reply) (what : What) (k : ℕ)
       → client.talk.stage ≡ Number k → s.state.phase ≡ Chosen k → items ≡ []
-      → IsHeard (request_line (numbered client.talk.mode (next_at client.talk.wants k))) taken rest what
+      → IsRead (request_line (numbered client.talk.mode (next_at client.talk.wants k))) taken rest what
       → IsAnswer feed s.state what now.state reply → Flows places client s.state.grants way items
       → Then now taken rest way reply
-  number_heard s now taken rest way items reply More k stage phase none (nothing asks) is f held =
+  number_read s now taken rest way items reply More k stage phase none (nothing asks) is f held =
       stays_put s now taken rest way items reply is.0 is.1 (asks_number k stage phase asks none) f held
-  number_heard s now taken rest way items reply (Line l) k stage phase none (the_line bytes same told) is f held =
+  number_read s now taken rest way items reply (Line l) k stage phase none (the_line bytes same told) is f held =
       let mode : Mode = client.talk.mode in
       let number : Option ℕ = next_at client.talk.wants k in
       number_answered s now taken rest way items reply k mode
@@ -366,19 +366,19 @@ module _ (places : Places) (differ : Differ places) (codes : (k : ℕ) (p : Fiel
       (number_command mode number (is_short number (λ n e. asked_for.short k n e))) is))
       (λ p m e wanted. granted_alike mode number (slice_get feed k) p m e wanted (asked_for.short k m wanted)) told
       none f held
-  number_heard s now taken rest way items reply TooLong k stage phase none heard is f held = elim heard [ ]
+  number_read s now taken rest way items reply TooLong k stage phase none read is f held = elim read [ ]
 
-  end_heard : (s now : Standing) (taken rest way : List ℕ) (items : List Item) (reply : Reply) (what : What) (k : ℕ)
+  end_read : (s now : Standing) (taken rest way : List ℕ) (items : List Item) (reply : Reply) (what : What) (k : ℕ)
       → client.talk.stage ≡ Packets → s.state.phase ≡ Granted k → items ≡ []
-      → IsHeard (request_line requests.End) taken rest what → IsAnswer feed s.state what now.state reply
+      → IsRead (request_line requests.End) taken rest what → IsAnswer feed s.state what now.state reply
       → Flows places client s.state.grants way items → Then now taken rest way reply
-  end_heard s now taken rest way items reply More k stage phase none (nothing asks) is f held =
+  end_read s now taken rest way items reply More k stage phase none (nothing asks) is f held =
       stays_put s now taken rest way items reply is.0 is.1 (asks_end k stage phase asks none) f held
-  end_heard s now taken rest way items reply (Line l) k stage phase none (the_line bytes same told) is f held =
+  end_read s now taken rest way items reply (Line l) k stage phase none (the_line bytes same told) is f held =
       end_answered s now taken rest way items reply stage
       (in_phase (Granted k) s.state now.state reply requests.End phase
       (request_answered feed s.state now.state bytes requests.End reply same end_command is)) told none f held
-  end_heard s now taken rest way items reply TooLong k stage phase none heard is f held = elim heard [ ]
+  end_read s now taken rest way items reply TooLong k stage phase none read is f held = elim read [ ]
 
   -- nothing is said any more
   put_by : (s now : Standing) (taken rest way : List ℕ) (items : List Item) (reply : Reply) (what : What) → what ≡ More
@@ -421,13 +421,13 @@ module _ (places : Places) (differ : Differ places) (codes : (k : ℕ) (p : Fiel
       → Flows places client s.state.grants way items → Then now (taken ++ piece) rest way reply
   piece_shaken s now taken piece rest way items reply what awake tells is (asks_place k w stage want ready asks none) f
       held =
-      place_heard s now (taken ++ piece) rest way items reply what k w stage want ready none
+      place_read s now (taken ++ piece) rest way items reply what k w stage want ready none
       (more_asked (request_line (requests.Station w.place)) taken piece rest what asks tells) is f held
   piece_shaken s now taken piece rest way items reply what awake tells is (has_place k stage phase told one) f held =
       let more : (what ≡ More) × IsAnswered (taken ++ piece) rest = more_answered taken piece rest what told tells in
       put_by s now (taken ++ piece) rest way items reply what more.0 is (has_place k stage phase more.1 one) f held
   piece_shaken s now taken piece rest way items reply what awake tells is (asks_number k stage phase asks none) f held =
-      number_heard s now (taken ++ piece) rest way items reply what k stage phase none
+      number_read s now (taken ++ piece) rest way items reply what k stage phase none
       (more_asked (request_line (numbered client.talk.mode (next_at client.talk.wants k))) taken piece rest what
       asks tells) is f held
   piece_shaken s now taken piece rest way items reply what awake tells is (has_number k stage phase told one) f held =
@@ -437,7 +437,7 @@ module _ (places : Places) (differ : Differ places) (codes : (k : ℕ) (p : Fiel
       let more : (what ≡ More) × IsAnswered (taken ++ piece) rest = more_answered taken piece rest what told tells in
       put_by s now (taken ++ piece) rest way items reply what more.0 is (has_none k stage phase more.1 one) f held
   piece_shaken s now taken piece rest way items reply what awake tells is (asks_end k stage phase asks none) f held =
-      end_heard s now (taken ++ piece) rest way items reply what k stage phase none
+      end_read s now (taken ++ piece) rest way items reply what k stage phase none
       (more_asked (request_line requests.End) taken piece rest what asks tells) is f held
   piece_shaken s now taken piece rest way items reply what awake tells is (streams stage not_before sent told) f held =
       streamed s now (taken ++ piece) rest way items reply what stage not_before sent

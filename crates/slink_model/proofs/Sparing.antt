@@ -27,8 +27,8 @@ use Rattle.slink_model.specs.Spared.{AreAskable, IsSpared}
 use Rattle.slink_model.specs.Stretch.{IsSchedule, IsSound}
 use Rattle.slink_model.specs.Ties.{AreSound, Item, Carried, Finished, Places, of_place, way_bytes}
 use Rattle.slink_feed.specs.Window.{Window, oldest_of, record_at, with_record}
-use Rattle.slink_model.specs.World.{AllHappen, Both, Connects, Differ, Happens, IsHeard, IsOf, IsServed, LinkState}
-use Rattle.slink_model.specs.World.{WorldState, empty_window, opening, pushed_to, said, sent_on, taking}
+use Rattle.slink_model.specs.World.{AllHappen, Both, Connects, Differ, Happens, IsRead, IsOf, IsServed, LinkState}
+use Rattle.slink_model.specs.World.{WorldState, empty_window, opening, pushed_to, written, sent_on, taking}
 use Rattle.slink_model.proofs.Answering.{stays_quiet}
 use Rattle.slink_model.proofs.Items.{carried_here, carried_there, carries_none, flow_more, of_more}
 use Rattle.slink_feed.proofs.Items.{get_drop, get_here, get_there, is_within, one_value, put_here, put_there}
@@ -36,7 +36,7 @@ use Rattle.slink_feed.proofs.Items.{same_or_not, within_is}
 use Rattle.slink_model.proofs.Lined.{IsAnswered, begins_asking}
 use Rattle.slink_wire.proofs.RequestLines.{station_line}
 use Rattle.slink_model.proofs.Requested.{also_at}
-use Rattle.slink_model.proofs.Shaken.{ClientTalks, hears_talks}
+use Rattle.slink_model.proofs.Shaken.{ClientTalks, reads_talks}
 use Rattle.slink_model.proofs.Shaking.{AreAsked, AreBorne, AreFrom, AreRinged, AreSent, IsSuited, IsQuiet, LinkTalks}
 use Rattle.slink_model.proofs.Shaking.{Shakes, asks_end, asks_number, asks_place, has_none, has_number, has_place}
 use Rattle.slink_model.proofs.Shaking.{serves_talks, streams}
@@ -309,7 +309,7 @@ module _ (places : Places) (differ : Differ places) (codes_are : (k : ℕ) (p : 
         link = Some (record {
           session = c.session;
           first_sent = replicate 16 None;
-          to_server = said (to_place (Some first.0) 0 talk).1;
+          to_server = written (to_place (Some first.0) 0 talk).1;
           to_client = [];
         });
       }) = record { ringed = t.ringed; spared = tt; asked = t.asked; link = (λ _. link, λ over. absurd (over tt)) } in
@@ -318,7 +318,7 @@ module _ (places : Places) (differ : Differ places) (codes_are : (k : ℕ) (p : 
         link = Some (record {
           session = c.session;
           first_sent = replicate 16 None;
-          to_server = said x.1;
+          to_server = written x.1;
           to_client = [];
         });
       })) (sym says) done)
@@ -362,9 +362,9 @@ module _ (places : Places) (differ : Differ places) (codes_are : (k : ℕ) (p : 
   )
 
   -- ToClient
-  heard_talks : (w v : WorldState) (n : ℕ) (l m : LinkState) → v.windows ≡ w.windows → v.link ≡ Some m
-      → IsHeard n w v l m → WorldTalks w → IsTalking w.client (Some l) → WorldTalks v
-  heard_talks w v n l m windows link s t talks =
+  read_talks : (w v : WorldState) (n : ℕ) (l m : LinkState) → v.windows ≡ w.windows → v.link ≡ Some m
+      → IsRead n w v l m → WorldTalks w → IsTalking w.client (Some l) → WorldTalks v
+  read_talks w v n l m windows link s t talks =
       let all : l.to_client ≡ take n l.to_client ++ drop n l.to_client = sym (take-append-drop n l.to_client) in
       let c : ClientTalks places differ codes_are l.session l.first_sent w.client l.to_server
       (take n l.to_client ++ drop n l.to_client) = record {
@@ -374,8 +374,8 @@ module _ (places : Places) (differ : Differ places) (codes_are : (k : ℕ) (p : 
         quiet = λ over. talks.1 over;
       } in
       let d : ClientTalks places differ codes_are l.session l.first_sent v.client m.to_server (drop n l.to_client) =
-      hears_talks places differ codes_are l.session l.first_sent (taking w l) (take n l.to_client) (taking v m)
-      (drop n l.to_client) s.hears c in
+      reads_talks places differ codes_are l.session l.first_sent (taking w l) (take n l.to_client) (taking v m)
+      (drop n l.to_client) s.reads c in
       record {
         ringed = subst (AreRinged places) (sym windows) t.ringed;
         spared = d.spared;
@@ -388,12 +388,12 @@ module _ (places : Places) (differ : Differ places) (codes_are : (k : ℕ) (p : 
       }
 
   delivered_talks : (w v : WorldState) (n : ℕ) (o p : Option LinkState) → v.windows ≡ w.windows → w.link ≡ o
-      → v.link ≡ p → Both (IsHeard n w v) o p → (w.link ≡ None → v ≡ w) → WorldTalks w → WorldTalks v
+      → v.link ≡ p → Both (IsRead n w v) o p → (w.link ≡ None → v ≡ w) → WorldTalks w → WorldTalks v
   delivered_talks w v n None None windows was is s unlinked t = subst WorldTalks (sym (unlinked was)) t
   delivered_talks w v n None (Some m) windows was is s unlinked t = absurd s
   delivered_talks w v n (Some l) None windows was is s unlinked t = absurd s
   delivered_talks w v n (Some l) (Some m) windows was is s unlinked t =
-      heard_talks w v n l m windows is s t (subst (IsTalking w.client) was t.link)
+      read_talks w v n l m windows is s t (subst (IsTalking w.client) was t.link)
 
   pub step_talks : (w v : WorldState) (step : Step) → 0 < length places → IsOf places step → IsSound step
       → Happens w step v → WorldTalks w → WorldTalks v

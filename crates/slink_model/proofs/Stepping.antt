@@ -44,12 +44,12 @@ module _ {X : Type 0} where
   get_written P (y ∷ ys) (suc k) x here each zero v is = each zero v is
   get_written P (y ∷ ys) (suc k) x here each (suc j) v is = get_written P ys k x here (λ i w e. each (suc i) w e) j v is
 
-  get_front : (xs : List X) (n j : ℕ) (x : X) → slice_get (take n xs) j ≡ Some x → (j < n) × (slice_get xs j ≡ Some x)
-  get_front [] zero j x is = absurd (let bad : None ≡ Some x = is in cc bad)
-  get_front [] (suc n) j x is = absurd (let bad : None ≡ Some x = is in cc bad)
-  get_front (y ∷ ys) zero j x is = absurd (let bad : None ≡ Some x = is in cc bad)
-  get_front (y ∷ ys) (suc n) zero x is = (omega arith, is)
-  get_front (y ∷ ys) (suc n) (suc j) x is = let more : (j < n) × (slice_get ys j ≡ Some x) = get_front ys n j x is in
+  get_prefix : (xs : List X) (n j : ℕ) (x : X) → slice_get (take n xs) j ≡ Some x → (j < n) × (slice_get xs j ≡ Some x)
+  get_prefix [] zero j x is = absurd (let bad : None ≡ Some x = is in cc bad)
+  get_prefix [] (suc n) j x is = absurd (let bad : None ≡ Some x = is in cc bad)
+  get_prefix (y ∷ ys) zero j x is = absurd (let bad : None ≡ Some x = is in cc bad)
+  get_prefix (y ∷ ys) (suc n) zero x is = (omega arith, is)
+  get_prefix (y ∷ ys) (suc n) (suc j) x is = let more : (j < n) × (slice_get ys j ≡ Some x) = get_prefix ys n j x is in
       (omega (arith, more.0), more.1)
 
 -- the rings of a setup
@@ -68,10 +68,10 @@ pub no_double : (setup : Setup) (places : List (Fields × Option ℕ)) (i : ℕ)
 no_double setup places i p differ is has =
     let there : (j : ℕ) × (q : Fields × Option ℕ) × (slice_get (take i places) j ≡ Some q) × (q.0 ≡ p.0) =
     has_place setup (take i places) p.0 has in
-    let front : (there.0 < i) × (slice_get places there.0 ≡ Some there.1) =
-    get_front places i there.0 there.1 there.2 in
-    let same : there.0 ≡ i = differ there.0 i there.1 p front.1 is there.3 in
-    omega (arith, front.0, same)
+    let prefix : (there.0 < i) × (slice_get places there.0 ≡ Some there.1) =
+    get_prefix places i there.0 there.1 there.2 in
+    let same : there.0 ≡ i = differ there.0 i there.1 p prefix.1 is there.3 in
+    omega (arith, prefix.0, same)
 
 same_places : (setup : Setup) (ps : List (Fields × Option ℕ))
     → map (λ (v : Window). v.place) (map (empty_window setup) ps) ≡ map (λ (p : Fields × Option ℕ). p.0) ps

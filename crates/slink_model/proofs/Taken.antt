@@ -18,8 +18,8 @@ use Rattle.slink_feed.specs.Session.{State, grant_at}
 use Rattle.slink_model.specs.Ties.{AllHold, AreOfPlaces, AreWanted, AreWhole, Carried, Holds, IsOnWay, Item, LinkTies}
 use Rattle.slink_model.specs.Ties.{Outcome, Places, Told, ends, of_place, says, takes, WantFirst, told_of, waits}
 use Rattle.slink_model.specs.Ties.{way_bytes}
-use Rattle.slink_model.specs.World.{Differ, Hears, Lists, Numbers, Taking, none_heard, noted, number_at, or_else}
-use Rattle.slink_model.specs.World.{piece_heard, piece_lost, with_first, with_one}
+use Rattle.slink_model.specs.World.{Differ, Reads, Lists, Numbers, Taking, none_read, noted, number_at, or_else}
+use Rattle.slink_model.specs.World.{piece_read, piece_lost, with_first, with_one}
 use Rattle.slink_model.proofs.Items.{carried_here, carried_there}
 use Rattle.slink_feed.proofs.Items.{is_within, one_value, put_here, put_there, same_or_not, set_here, set_there}
 use Rattle.slink_feed.proofs.Items.{within_is}
@@ -382,13 +382,13 @@ module _ (places : Places) (first : ℕ) (pushed : Lists) (state : State) (first
       left e c linked out (λ q. quiet_held first_sent e u q) (λ a q. told_held first_sent e u a q))
 
   -- all of these bytes are taken, piece by piece
-  pub hears_ties : (t : Taking) (bytes : List ℕ) (last : Taking) (left : List ℕ) → Hears first_sent t bytes last
+  pub reads_ties : (t : Taking) (bytes : List ℕ) (last : Taking) (left : List ℕ) → Reads first_sent t bytes last
       → ClientTies t.client t.held t.start (bytes ++ left) → ClientTies last.client last.held last.start left
-  hears_ties t bytes last left (none_heard u) c = c
-  hears_ties t bytes last left (piece_heard u v now all piece rest e split linked brings more) c =
-      hears_ties (noted first_sent e (record u { client = now })) rest v left more
+  reads_ties t bytes last left (none_read u) c = c
+  reads_ties t bytes last left (piece_read u v now all piece rest e split linked brings more) c =
+      reads_ties (noted first_sent e (record u { client = now })) rest v left more
       (piece_ties u now piece (rest ++ left) e linked brings
       (subst (ClientTies u.client u.held u.start) (ap (λ b. b ++ left) split ∙ append_assoc piece rest left) c))
-  hears_ties t bytes last left (piece_lost u v all piece rest split over more) c =
-      hears_ties u rest v left more (quiet_ties u.client u.client u.held u.start (all ++ left) (rest ++ left) refl c
+  reads_ties t bytes last left (piece_lost u v all piece rest split over more) c =
+      reads_ties u rest v left more (quiet_ties u.client u.client u.held u.start (all ++ left) (rest ++ left) refl c
       c.link.items c.link.are_whole (λ linked. absurd (over linked)) c.link (λ k. refl))

@@ -4,9 +4,9 @@ use Rattle.std.proofs.Common.{append-nil, append_assoc, length, length-append}
 use Rattle.std.proofs.lemmas.List.{append_cancel_left}
 use Rattle.slink_wire.specs.Lines.{Spelled, lines_of}
 use Rattle.slink_wire.proofs.Cuts.{Lacks}
-use Rattle.slink_wire.specs.Said.{AreLines, IsLine, said_bytes}
-use Rattle.slink_wire.proofs.Fronts.{fronts}
-use Rattle.slink_wire.proofs.SaidBack.{lacks_front, lines_lf, lines_then, none_quiet, part_quiet}
+use Rattle.slink_wire.specs.Written.{AreLines, IsLine, written_bytes}
+use Rattle.slink_wire.proofs.Prefixes.{prefixes}
+use Rattle.slink_wire.proofs.WrittenBack.{lacks_prefix, lines_lf, lines_then, none_quiet, part_quiet}
 use Rattle.slink_model.proofs.Lined.{IsAnswered, IsAsking, bytes_more}
 use Rattle.slink_model.proofs.Outcomes.{same_cut}
 
@@ -20,62 +20,64 @@ one_told line rest is = ap (λ (s : Spelled). length s.lines) (lines_then line r
 line_untold : (line : List ℕ) → IsLine line → told line ≡ 0
 line_untold line is = ap length (part_quiet line is.no_cr is.short).0
 
-front_untold : (line t z : List ℕ) → IsLine line → line ≡ t ++ z → told t ≡ 0
-front_untold line t z is e =
-    ap length (part_quiet t (lacks_front t z (subst (Lacks 13) e is.no_cr))
+prefix_untold : (line t z : List ℕ) → IsLine line → line ≡ t ++ z → told t ≡ 0
+prefix_untold line t z is e =
+    ap length (part_quiet t (lacks_prefix t z (subst (Lacks 13) e is.no_cr))
     (let long : length line ≡ length (t ++ z) = ap length e in omega (arith, long, length-append t z, is.short))).0
 
 none_told : told [] ≡ 0
 none_told = ap length none_quiet.0
 
-no_lines : (lines : List (List ℕ)) (w : List ℕ) → w ≡ 10 ∷ said_bytes lines → 0 ≡ length lines → length w ≤ 1
+no_lines : (lines : List (List ℕ)) (w : List ℕ) → w ≡ 10 ∷ written_bytes lines → 0 ≡ length lines → length w ≤ 1
 no_lines [] w e none = omega (arith, ap length e)
 no_lines (l ∷ lines) w e none = absurd (omega (arith, none))
 
-behind_lf : (lines : List (List ℕ)) (z w : List ℕ) → z ++ w ≡ 10 ∷ said_bytes lines → told z ≡ length lines
-    → ((u : List ℕ) → u ++ w ≡ said_bytes lines → told u ≡ length lines → length w ≤ 1) → length w ≤ 1
+behind_lf : (lines : List (List ℕ)) (z w : List ℕ) → z ++ w ≡ 10 ∷ written_bytes lines → told z ≡ length lines
+    → ((u : List ℕ) → u ++ w ≡ written_bytes lines → told u ≡ length lines → length w ≤ 1) → length w ≤ 1
 behind_lf lines [] w e all more = no_lines lines w e (sym none_told ∙ all)
 behind_lf lines (x ∷ u) w e all more =
     let first : x ≡ 10 = cc e in
-    let others : u ++ w ≡ said_bytes lines = cc e in
+    let others : u ++ w ≡ written_bytes lines = cc e in
     more u others (ap (λ (s : Spelled). length s.lines) (sym (lines_lf u)) ∙ (ap (λ b. told (b ∷ u)) (sym first) ∙ all))
 
-behind_cr : (line : List ℕ) (lines : List (List ℕ)) (z w : List ℕ) → IsLine line → z ++ w ≡ 13 ∷ 10 ∷ said_bytes lines
+behind_cr : (line : List ℕ) (lines : List (List ℕ)) (z w : List ℕ) → IsLine line
+    → z ++ w ≡ 13 ∷ 10 ∷ written_bytes lines
     → told (line ++ z) ≡ suc (length lines)
-    → ((u : List ℕ) → u ++ w ≡ said_bytes lines → told u ≡ length lines → length w ≤ 1) → length w ≤ 1
+    → ((u : List ℕ) → u ++ w ≡ written_bytes lines → told u ≡ length lines → length w ≤ 1) → length w ≤ 1
 behind_cr line lines [] w is e all more = absurd (omega (arith, line_untold line is, ap told (append-nil line), all))
 behind_cr line lines (x ∷ z) w is e all more =
     let first : x ≡ 13 = cc e in
-    let others : z ++ w ≡ 10 ∷ said_bytes lines = cc e in
+    let others : z ++ w ≡ 10 ∷ written_bytes lines = cc e in
     let count : suc (told z) ≡ suc (length lines) = sym (one_told line z is)
     ∙ (ap (λ b. told (line ++ b ∷ z)) (sym first) ∙ all) in
     behind_lf lines z w others (omega (arith, count)) more
 
-few_left : (lines : List (List ℕ)) (t w : List ℕ) → AreLines lines → t ++ w ≡ said_bytes lines → told t ≡ length lines
+few_left : (lines : List (List ℕ)) (t w : List ℕ) → AreLines lines → t ++ w ≡ written_bytes lines
+    → told t ≡ length lines
     → length w ≤ 1
 few_left [] t w are e all = omega (arith, ap length e, length-append t w)
-few_left (line ∷ lines) t w are e all = elim (fronts t line w (13 ∷ 10 ∷ said_bytes lines) e) [
-  | inl more ↦ absurd (omega (arith, front_untold line t more.0 are.0 more.1, all))
+few_left (line ∷ lines) t w are e all = elim (prefixes t line w (13 ∷ 10 ∷ written_bytes lines) e) [
+  | inl more ↦ absurd (omega (arith, prefix_untold line t more.0 are.0 more.1, all))
   | inr more ↦ behind_cr line lines more.0 w are.0
-      (append_cancel_left line (more.0 ++ w) (13 ∷ 10 ∷ said_bytes lines) (sym (append_assoc line more.0 w)
+      (append_cancel_left line (more.0 ++ w) (13 ∷ 10 ∷ written_bytes lines) (sym (append_assoc line more.0 w)
       ∙ (ap (λ b. b ++ w) (sym more.1) ∙ e)))
       (ap told (sym more.1) ∙ all) (λ u same count. few_left lines u w are.1 same count)
 ]
 
 -- No more than an LF is on its way once all lines are told.
 pub answered_few : (taken way : List ℕ) → IsAnswered taken way → length way ≤ 1
-answered_few taken way a = few_left a.before taken way a.are_lines a.said (ap length a.told)
+answered_few taken way a = few_left a.before taken way a.are_lines a.written (ap length a.told)
 
 all_told : (lines : List (List ℕ)) (rest : List ℕ) → AreLines lines
-    → told (said_bytes lines ++ rest) ≡ length lines + told rest
+    → told (written_bytes lines ++ rest) ≡ length lines + told rest
 all_told [] rest are = let e : told rest ≡ 0 + told rest = omega arith in e
 all_told (line ∷ lines) rest are =
-    let more : told (said_bytes lines ++ rest) ≡ length lines + told rest = all_told lines rest are.1 in
-    let front : told ((line ++ 13 ∷ 10 ∷ said_bytes lines) ++ rest) ≡ suc (told (said_bytes lines ++ rest)) =
-    ap told (append_assoc line (13 ∷ 10 ∷ said_bytes lines) rest)
-    ∙ (one_told line (10 ∷ (said_bytes lines ++ rest)) are.0
-    ∙ ap (λ (s : Spelled). suc (length s.lines)) (lines_lf (said_bytes lines ++ rest))) in
-    omega (arith, more, front)
+    let more : told (written_bytes lines ++ rest) ≡ length lines + told rest = all_told lines rest are.1 in
+    let prefix : told ((line ++ 13 ∷ 10 ∷ written_bytes lines) ++ rest) ≡ suc (told (written_bytes lines ++ rest)) =
+    ap told (append_assoc line (13 ∷ 10 ∷ written_bytes lines) rest)
+    ∙ (one_told line (10 ∷ (written_bytes lines ++ rest)) are.0
+    ∙ ap (λ (s : Spelled). suc (length s.lines)) (lines_lf (written_bytes lines ++ rest))) in
+    omega (arith, more, prefix)
 
 the_last : (before : List (List ℕ)) (line : List ℕ) → AreLines (before ++ line ∷ []) → AreLines before × IsLine line
 the_last [] line are = (tt, are.0)
@@ -85,28 +87,28 @@ the_last (l ∷ before) line are = let more : AreLines before × IsLine line = t
 -- The CR and LF of a line that isn't told are on their way.
 pub asking_waits : (line taken way : List ℕ) → IsAsking line taken way → 2 ≤ length way
 asking_waits line taken [] a =
-    let all : told (said_bytes (a.before ++ line ∷ []) ++ []) ≡ length (a.before ++ line ∷ []) + told [] =
+    let all : told (written_bytes (a.before ++ line ∷ []) ++ []) ≡ length (a.before ++ line ∷ []) + told [] =
     all_told (a.before ++ line ∷ []) [] a.are_lines in
-    let same : told (said_bytes (a.before ++ line ∷ []) ++ []) ≡ length a.before =
-    ap told (append-nil (said_bytes (a.before ++ line ∷ [])) ∙ (sym a.said ∙ append-nil taken))
+    let same : told (written_bytes (a.before ++ line ∷ []) ++ []) ≡ length a.before =
+    ap told (append-nil (written_bytes (a.before ++ line ∷ [])) ∙ (sym a.written ∙ append-nil taken))
     ∙ ap length a.told in
     absurd (omega (arith, all, same, length-append a.before (line ∷ [])))
 asking_waits line taken (x ∷ []) a =
     let are : AreLines a.before × IsLine line = the_last a.before line a.are_lines in
-    let split : taken ++ x ∷ [] ≡ (said_bytes a.before ++ (line ++ 13 ∷ [])) ++ 10 ∷ [] =
-    a.said ∙ (bytes_more a.before line
-    ∙ (ap (λ b. said_bytes a.before ++ b) (sym (append_assoc line (13 ∷ []) (10 ∷ [])))
-    ∙ sym (append_assoc (said_bytes a.before) (line ++ 13 ∷ []) (10 ∷ [])))) in
-    let long : length taken ≡ length (said_bytes a.before ++ (line ++ 13 ∷ [])) =
+    let split : taken ++ x ∷ [] ≡ (written_bytes a.before ++ (line ++ 13 ∷ [])) ++ 10 ∷ [] =
+    a.written ∙ (bytes_more a.before line
+    ∙ (ap (λ b. written_bytes a.before ++ b) (sym (append_assoc line (13 ∷ []) (10 ∷ [])))
+    ∙ sym (append_assoc (written_bytes a.before) (line ++ 13 ∷ []) (10 ∷ [])))) in
+    let long : length taken ≡ length (written_bytes a.before ++ (line ++ 13 ∷ [])) =
     omega (
       arith,
       ap length split,
       length-append taken (x ∷ []),
-      length-append (said_bytes a.before ++ (line ++ 13 ∷ [])) (10 ∷ []),
+      length-append (written_bytes a.before ++ (line ++ 13 ∷ [])) (10 ∷ []),
     ) in
-    let cut : taken ≡ said_bytes a.before ++ (line ++ 13 ∷ []) =
-    (same_cut taken (x ∷ []) (said_bytes a.before ++ (line ++ 13 ∷ [])) (10 ∷ []) long split).0 in
-    let all : told (said_bytes a.before ++ (line ++ 13 ∷ [])) ≡ length a.before + told (line ++ 13 ∷ []) =
+    let cut : taken ≡ written_bytes a.before ++ (line ++ 13 ∷ []) =
+    (same_cut taken (x ∷ []) (written_bytes a.before ++ (line ++ 13 ∷ [])) (10 ∷ []) long split).0 in
+    let all : told (written_bytes a.before ++ (line ++ 13 ∷ [])) ≡ length a.before + told (line ++ 13 ∷ []) =
     all_told a.before (line ++ 13 ∷ []) are.0 in
     let one : told (line ++ 13 ∷ []) ≡ suc (told []) = one_told line [] are.1 in
     absurd (omega (arith, all, one, ap told cut, ap length a.told))

@@ -19,16 +19,16 @@ use Rattle.slink_model.specs.Ties.{AllHold, AreOfPlaces, AreShown, AreSound, Are
 use Rattle.slink_model.specs.Ties.{LinkTies, Places, WantFirst, WorldTies, of_place}
 use Rattle.slink_feed.specs.Running.{HasStream}
 use Rattle.slink_feed.specs.Window.{Shows, Window, with_record}
-use Rattle.slink_model.specs.World.{AllHappen, Both, Connects, Differ, Happens, IsHeard, IsOf, IsServed, LinkState}
+use Rattle.slink_model.specs.World.{AllHappen, Both, Connects, Differ, Happens, IsRead, IsOf, IsServed, LinkState}
 use Rattle.slink_model.specs.World.{Lists, Numbers, WorldState, empty_window, number_at, opening, pushed_to, sent_on}
 use Rattle.slink_model.specs.World.{taking, with_one}
 use Rattle.slink_feed.proofs.Items.{at_number, get_here, get_there, is_within, one_value, same_or_not, set_here}
 use Rattle.slink_feed.proofs.Items.{set_there, shows_more, within_is}
 use Rattle.slink_model.proofs.Linked.{any, sent_link}
-use Rattle.slink_model.proofs.Outcomes.{place_said}
+use Rattle.slink_model.proofs.Outcomes.{place_written}
 use Rattle.slink_model.proofs.Served.{serves_link}
 use Rattle.slink_model.proofs.Following.{holds_pushed, way_any, way_few, way_pushed}
-use Rattle.slink_model.proofs.Taken.{ClientTies, hears_ties}
+use Rattle.slink_model.proofs.Taken.{ClientTies, reads_ties}
 
 -- the last element, or one before it
 get_last : (xs : List (List ℕ)) (b : List ℕ) (i : ℕ) (r : List ℕ) → slice_get (xs ++ b ∷ []) i ≡ Some r
@@ -198,7 +198,8 @@ module _ (places : Places) (first : ℕ) where
   connect_ties : (w v : WorldState) → Connects w v → WorldTies places first w → WorldTies places first v
   connect_ties w v c t =
       let talk : Talk = (says_place 0 w.client.talk).0 in
-      let wants : talk.wants ≡ w.client.talk.wants = (place_said (want_at w.client.talk.wants 0) 0 w.client.talk).0 in
+      let wants : talk.wants ≡ w.client.talk.wants =
+      (place_written (want_at w.client.talk.wants 0) 0 w.client.talk).0 in
       let grants : c.session.state.grants ≡ replicate 16 None = ap (λ (s : State). s.grants) c.is_new.state in
       subst (WorldTies places first) (sym c.becomes) (record {
         shown = t.shown;
@@ -289,10 +290,10 @@ module _ (places : Places) (first : ℕ) where
     room = l.room;
   }
 
-  heard_ties : (w v : WorldState) (n : ℕ) (l m : LinkState) → Differ places → LacksFew first w → v.windows ≡ w.windows
-      → v.pushed ≡ w.pushed → v.link ≡ Some m → IsHeard n w v l m → WorldTies places first w
+  read_ties : (w v : WorldState) (n : ℕ) (l m : LinkState) → Differ places → LacksFew first w → v.windows ≡ w.windows
+      → v.pushed ≡ w.pushed → v.link ≡ Some m → IsRead n w v l m → WorldTies places first w
       → IsLinkTied places first w (Some l) → WorldTies places first v
-  heard_ties w v n l m differ lacks windows pushed link s t tied =
+  read_ties w v n l m differ lacks windows pushed link s t tied =
       let all : l.to_client ≡ take n l.to_client ++ drop n l.to_client = sym (take-append-drop n l.to_client) in
       let c : ClientTies places first w.pushed l.session.state l.first_sent differ t.sound w.client w.held w.start
       (take n l.to_client ++ drop n l.to_client) = record {
@@ -306,8 +307,8 @@ module _ (places : Places) (first : ℕ) where
       } in
       let d : ClientTies places first w.pushed l.session.state l.first_sent differ t.sound v.client v.held v.start
       (drop n l.to_client)
-      = hears_ties places first w.pushed l.session.state l.first_sent differ t.sound (taking w l) (take n l.to_client)
-      (taking v m) (drop n l.to_client) s.hears c in
+      = reads_ties places first w.pushed l.session.state l.first_sent differ t.sound (taking w l) (take n l.to_client)
+      (taking v m) (drop n l.to_client) s.reads c in
       let now : LinkTies places first (λ k. any) w.pushed v.client v.held v.start l.session.state l.first_sent
       (drop n l.to_client)
       = relaxed (λ k x. first + length (get_or w.pushed k []) < x + 2 ^ 24) w.pushed v.client v.held v.start
@@ -334,14 +335,14 @@ module _ (places : Places) (first : ℕ) where
       }
 
   delivered_ties : (w v : WorldState) (n : ℕ) (o p : Option LinkState) → Differ places → LacksFew first w
-      → v.windows ≡ w.windows → v.pushed ≡ w.pushed → w.link ≡ o → v.link ≡ p → Both (IsHeard n w v) o p
+      → v.windows ≡ w.windows → v.pushed ≡ w.pushed → w.link ≡ o → v.link ≡ p → Both (IsRead n w v) o p
       → (w.link ≡ None → v ≡ w) → WorldTies places first w → WorldTies places first v
   delivered_ties w v n None None differ lacks windows pushed was is s unlinked t =
       subst (WorldTies places first) (sym (unlinked was)) t
   delivered_ties w v n None (Some m) differ lacks windows pushed was is s unlinked t = absurd s
   delivered_ties w v n (Some l) None differ lacks windows pushed was is s unlinked t = absurd s
   delivered_ties w v n (Some l) (Some m) differ lacks windows pushed was is s unlinked t =
-      heard_ties w v n l m differ lacks windows pushed is s t (subst (IsLinkTied places first w) was t.link)
+      read_ties w v n l m differ lacks windows pushed is s t (subst (IsLinkTied places first w) was t.link)
 
   pub step_ties : (w v : WorldState) (step : Step) → length places ≤ 16 → Differ places → IsOf places step
       → IsSound step → LacksFew first w → Happens w step v → WorldTies places first w → WorldTies places first v

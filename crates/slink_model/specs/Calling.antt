@@ -24,7 +24,7 @@ IsUnanswered l m = (m.session.state ≡ l.session.state) × (m.to_client ≡ [])
 -- answer is the grant of the record behind the last one held, where there is that grant, and else the refusal.
 pub record IsAnswered (w : WorldState) (k : ℕ) (l m : LinkState) : Type 0 where
   pub reply : Reply
-  pub said : m.to_client ≡ reply_bytes reply
+  pub written : m.to_client ≡ reply_bytes reply
   pub number : asked w.windows k w.client.talk.mode (next_at w.client.talk.wants k) l.session.state ≡ (
     m.session.state,
     reply,

@@ -26,7 +26,7 @@ use Rattle.slink_feed.specs.Listening.{IsLinked}
 use Rattle.slink_feed.specs.Session.{Grants, State, asked, at, chosen, grant_at, sent}
 use Rattle.slink_model.specs.Ties.{Item, Accepted, Refused, Greeted, Carried, Finished, item_bytes, items_of, way_bytes}
 use Rattle.slink_feed.specs.Window.{Window, record_at, window}
-use Rattle.slink_model.specs.World.{LinkState, Lists, Numbers, WorldState, first_after, number_at, said, with_first}
+use Rattle.slink_model.specs.World.{LinkState, Lists, Numbers, WorldState, first_after, number_at, written, with_first}
 use Rattle.slink_model.specs.World.{with_one}
 
 -- a link: where its session stands, the number of the first packet that was sent of each place; the bytes of all lines
@@ -35,7 +35,7 @@ use Rattle.slink_model.specs.World.{with_one}
 pub record CountedLink : Type 0 where
   pub session : State
   pub first_sent : List (Option ℕ)
-  pub said : List ℕ
+  pub written : List ℕ
   pub taken : ℕ
   pub sent : List Item
   pub delivered : ℕ
@@ -79,7 +79,7 @@ answer_at (Ended ending) feed t s = (s, replies.Nothing)
 
 -- A line waits for its answer while its CR isn't taken, which an LF follows.
 abbrev pub waits : ℕ → List ℕ → Bool
-waits taken said = nat_le (taken + 2) (length said)
+waits taken written = nat_le (taken + 2) (length written)
 
 abbrev pub replied : State × ServerReply → CountedLink → CountedLink
 replied x l = record l { session = x.0; sent = l.sent ++ items_of x.1 }
@@ -90,11 +90,11 @@ if_come true feed talk l = replied (answer_at talk.stage feed talk l.session) l
 if_come false feed talk l = l
 
 abbrev pub taken_by : ℕ → CountedLink → ℕ
-taken_by n l = min (l.taken + n) (length l.said)
+taken_by n l = min (l.taken + n) (length l.written)
 
 -- So many bytes come to the server.
 abbrev pub served_by : List Window → Talk → ℕ → CountedLink → CountedLink
-served_by feed talk n l = if_come (waits l.taken l.said && not (waits (taken_by n l) l.said)) feed talk
+served_by feed talk n l = if_come (waits l.taken l.written && not (waits (taken_by n l) l.written)) feed talk
     (record l { taken = taken_by n l })
 
 -- what a session sends of a place: the packet of the record at its position, or the end
@@ -181,23 +181,23 @@ delivered_by n l = min (l.delivered + n) (length (way_bytes l.sent))
 
 abbrev pub gained_by : ℕ → Counted → CountedLink → Gained
 gained_by n c l = with_events l.first_sent (events_upon c.talk (news n l))
-    (record { held = c.held; start = c.start; to_server = l.said })
+    (record { held = c.held; start = c.start; to_server = l.written })
 
--- The client hears it.
-abbrev pub heard_by : ℕ → Counted → Option CountedLink → Counted
-heard_by n c None = c
-heard_by n c (Some l) = record c {
+-- The client reads it.
+abbrev pub read_by : ℕ → Counted → Option CountedLink → Counted
+read_by n c None = c
+read_by n c (Some l) = record c {
   talk = talk_upon c.talk (news n l);
   held = (gained_by n c l).held;
   start = (gained_by n c l).start;
-  link = Some (record l { said = (gained_by n c l).to_server; delivered = delivered_by n l });
+  link = Some (record l { written = (gained_by n c l).to_server; delivered = delivered_by n l });
 }
 
 abbrev pub new_link : List ℕ → CountedLink
-new_link said = record {
+new_link written = record {
   session = at Fresh (replicate 16 None);
   first_sent = replicate 16 None;
-  said = said;
+  written = written;
   taken = 0;
   sent = [];
   delivered = 0;
@@ -207,9 +207,9 @@ new_link said = record {
 abbrev pub counted_step : Setup → Counted → Step → Counted
 counted_step setup c (Append k bytes) = record c { pushed = with_one c.pushed k bytes }
 counted_step setup c Connect =
-    record c { talk = (says_place 0 c.talk).0; link = Some (new_link (said (says_place 0 c.talk).1)) }
+    record c { talk = (says_place 0 c.talk).0; link = Some (new_link (written (says_place 0 c.talk).1)) }
 counted_step setup c (ToServer n) = record c { link = option_map (served_by (windows_of setup c) c.talk n) c.link }
-counted_step setup c (ToClient n) = heard_by n c c.link
+counted_step setup c (ToClient n) = read_by n c c.link
 counted_step setup c (Send k) = record c { link = option_map (sent_by (windows_of setup c) k) c.link }
 counted_step setup c Cut = record c { link = None }
 
@@ -233,12 +233,12 @@ counted_opening setup = record {
 -- delivered of the first reply or packet that isn't whole.
 pub record IsCountedLink (talk : Talk) (kept : List ℕ) (c : CountedLink) (l : LinkState) : Type 0 where
   pub session : l.session.state ≡ c.session
-  pub begun : ¬ (c.session.phase ≡ Closed) → IsHeld l.session.held (take c.taken c.said)
+  pub begun : ¬ (c.session.phase ≡ Closed) → IsHeld l.session.held (take c.taken c.written)
   pub first_sent : l.first_sent ≡ c.first_sent
-  pub to_server : l.to_server ≡ drop c.taken c.said
+  pub to_server : l.to_server ≡ drop c.taken c.written
   pub to_client : l.to_client ≡ drop c.delivered (way_bytes c.sent)
   pub kept_is : IsLinked talk.stage → kept ≡ take (part c.delivered c.sent) (way_bytes (behind c.delivered c.sent))
-  pub taken_few : c.taken ≤ length c.said
+  pub taken_few : c.taken ≤ length c.written
   pub delivered_few : c.delivered ≤ length (way_bytes c.sent)
 
 abbrev pub AreCountedLinks : Talk → List ℕ → Option CountedLink → Option LinkState → Type 0

@@ -1,6 +1,6 @@
 -- What a sink in memory took.
-use Rattle.mseed_stream.specs.Device.{Said}
+use Rattle.mseed_stream.specs.Device.{BytesWritten}
 use Rattle.slink_model.specs.declared.kept.Kept.{Kept}
 
-abbrev pub said_by : {A : Type 0} → Kept A → Said
-said_by k = record { bytes = k.bytes.items; calls = k.calls.calls; failures = k.calls.failures }
+abbrev pub written_by : {A : Type 0} → Kept A → BytesWritten
+written_by k = record { bytes = k.bytes.items; calls = k.calls.calls; failures = k.calls.failures }

@@ -82,14 +82,14 @@ noted first_sent (events.Record k number bytes) t =
 noted first_sent event t = t
 
 -- A client takes all of these bytes, piece by piece. Once it is at an end, the rest is lost.
-pub data Hears (first_sent : List (Option ℕ)) : Taking → List ℕ → Taking → Type 0 where
-  none_heard : (t : Taking) → Hears first_sent t [] t
-  piece_heard : (t last : Taking) (now : Listening) (bytes piece rest : List ℕ) (event : Event) → bytes ≡ piece ++ rest
+pub data Reads (first_sent : List (Option ℕ)) : Taking → List ℕ → Taking → Type 0 where
+  none_read : (t : Taking) → Reads first_sent t [] t
+  piece_read : (t last : Taking) (now : Listening) (bytes piece rest : List ℕ) (event : Event) → bytes ≡ piece ++ rest
       → IsLinked t.client.talk.stage → Brings t.client.talk (t.client.kept ++ piece) now event
-      → Hears first_sent (noted first_sent event (record t { client = now })) rest last
-      → Hears first_sent t bytes last
+      → Reads first_sent (noted first_sent event (record t { client = now })) rest last
+      → Reads first_sent t bytes last
   piece_lost : (t last : Taking) (bytes piece rest : List ℕ) → bytes ≡ piece ++ rest
-      → ¬ (IsLinked t.client.talk.stage) → Hears first_sent t rest last → Hears first_sent t bytes last
+      → ¬ (IsLinked t.client.talk.stage) → Reads first_sent t rest last → Reads first_sent t bytes last
 
 -- the first packet of a place is that of its grant's position
 abbrev pub first_after : Numbers → Grants → ℕ → Sent → Numbers
@@ -119,8 +119,8 @@ abbrev pub taking : WorldState → LinkState → Taking
 taking w l = with_client w.client w.held w.start l.to_server
 
 -- The first bytes on their way come to the client.
-pub record IsHeard (n : ℕ) (w v : WorldState) (l m : LinkState) : Type 0 where
-  pub hears : Hears l.first_sent (taking w l) (take n l.to_client) (taking v m)
+pub record IsRead (n : ℕ) (w v : WorldState) (l m : LinkState) : Type 0 where
+  pub reads : Reads l.first_sent (taking w l) (take n l.to_client) (taking v m)
   pub left : m.to_client ≡ drop n l.to_client
   pub session : m.session ≡ l.session
   pub first_sent : m.first_sent ≡ l.first_sent
@@ -138,9 +138,9 @@ pub record IsNew (s : Standing) : Type 0 where
   pub held : IsHeld s.held []
 
 -- what a client says
-abbrev pub said : Event → List ℕ
-said (events.Say line) = line.items
-said event = []
+abbrev pub written : Event → List ℕ
+written (events.Say line) = line.items
+written event = []
 
 -- a record is pushed to the ring of a place
 abbrev pub pushed_to : WorldState → ℕ → List ℕ → Option Window → WorldState
@@ -157,7 +157,7 @@ pub record Connects (w v : WorldState) : Type 0 where
     link = Some (record {
       session = session;
       first_sent = replicate 16 None;
-      to_server = said (says_place 0 w.client.talk).1;
+      to_server = written (says_place 0 w.client.talk).1;
       to_client = [];
     });
   }
@@ -166,7 +166,7 @@ pub record Connects (w v : WorldState) : Type 0 where
 pub record Delivers (n : ℕ) (w v : WorldState) : Type 0 where
   pub windows : v.windows ≡ w.windows
   pub pushed : v.pushed ≡ w.pushed
-  pub link : Both (IsHeard n w v) w.link v.link
+  pub link : Both (IsRead n w v) w.link v.link
   pub unlinked : w.link ≡ None → v ≡ w
 
 -- What a step makes of a world. Without a link there is nothing that is taken, sent or cut.

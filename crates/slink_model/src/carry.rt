@@ -5,14 +5,14 @@ ghost use Rattle.slink_feed.specs.Running.{Stands};
 ghost use Rattle.slink_feed.specs.Serving.{Serves};
 ghost use Rattle.slink_feed.specs.Session.{Fits};
 ghost use Rattle.slink_model.specs.Running.{Keeps};
-ghost use Rattle.slink_model.specs.World.{Hears, Lists, Numbers, Taking, lists_of, noted, taken};
+ghost use Rattle.slink_model.specs.World.{Reads, Lists, Numbers, Taking, lists_of, noted, taken};
 ghost use Rattle.slink_model.specs.World.{with_client, number_at, with_first, with_one};
 
 use crate::world::Memory;
 use slink_feed::{Client, Event, Feed, Session};
 
-/// Takes the front of a queue away.
-pub(crate) fn remove_front(queue: &mut Vec<u8>, count: usize)
+/// Takes the prefix of a queue away.
+pub(crate) fn remove_prefix(queue: &mut Vec<u8>, count: usize)
     requires { count ≤ length queue.old.items }
     ensures { queue.new.items ≡ drop count queue.old.items }
 {
@@ -113,12 +113,12 @@ fn note(
 }
 
 /// Gives bytes to a client, up to the first event.
-fn hear_piece(client: &mut Client, bytes: &[u8]) -> (usize, Event)
+fn read_piece(client: &mut Client, bytes: &[u8]) -> (usize, Event)
     requires some { 0 < length bytes.now }
     requires keeps { Keeps client.old }
-    ensures hears { (first_sent : Numbers) (held : Lists) (start : Numbers) (to_server rest : List ℕ) (last : Taking)
-        → Hears first_sent (noted first_sent result.1 (with_client client.new held start to_server)) rest last
-        → Hears first_sent (with_client client.old held start to_server) (take result.0 bytes.now ++ rest) last }
+    ensures reads { (first_sent : Numbers) (held : Lists) (start : Numbers) (to_server rest : List ℕ) (last : Taking)
+        → Reads first_sent (noted first_sent result.1 (with_client client.new held start to_server)) rest last
+        → Reads first_sent (with_client client.old held start to_server) (take result.0 bytes.now ++ rest) last }
     ensures none { result.0 ≡ 0 → (¬ (IsLinked client.old.talk.stage)) × (client.new ≡ client.old) }
     ensures bound { result.0 ≤ length bytes.now }
     ensures keeps { Keeps client.new }
@@ -127,7 +127,7 @@ fn hear_piece(client: &mut Client, bytes: &[u8]) -> (usize, Event)
 }
 
 /// Gives bytes to a client, and puts what it tells where it belongs. What is behind its end is lost.
-pub(crate) fn hear_bytes(
+pub(crate) fn read_bytes(
     client: &mut Client,
     bytes: &[u8],
     first_sent: &[Option<u64>; 16],
@@ -136,13 +136,13 @@ pub(crate) fn hear_bytes(
     to_server: &mut Vec<u8>,
 ) -> Result<(), Memory>
     requires keeps { Keeps client.old }
-    ensures hears { OnOk result (Hears first_sent.now (taken client.old held.old start.old to_server.old) bytes.now
+    ensures reads { OnOk result (Reads first_sent.now (taken client.old held.old start.old to_server.old) bytes.now
         (taken client.new held.new start.new to_server.new)) }
     ensures keeps { Keeps client.new }
 {
     let mut offset = 0;
     while offset < bytes.len() {
-        let (used, event) = hear_piece(client, &bytes[offset..]);
+        let (used, event) = read_piece(client, &bytes[offset..]);
         if used == 0 {
             break;
         }

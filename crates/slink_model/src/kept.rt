@@ -10,13 +10,13 @@ pub struct Kept<A: Allocator> {
 }
 
 impl<A: Allocator> Kept<A> {
-    ghost use Rattle.slink_model.specs.Keeping.{said_by};
-    ghost use Rattle.mseed_stream.specs.Device.{nothing_said};
+    ghost use Rattle.slink_model.specs.Keeping.{written_by};
+    ghost use Rattle.mseed_stream.specs.Device.{nothing_written};
     ghost use Rattle.std.specs.Prelude.{◌≡◌};
 
     /// Nothing yet.
     pub fn new(alloc: A) -> Kept<A>
-        ensures { said_by result ≡ nothing_said }
+        ensures { written_by result ≡ nothing_written }
     {
         Kept {
             bytes: Vec::new(alloc),
@@ -26,9 +26,9 @@ impl<A: Allocator> Kept<A> {
 }
 
 impl<A: Allocator> Sink for Kept<A> {
-    ghost use Rattle.slink_model.specs.Keeping.{said_by};
+    ghost use Rattle.slink_model.specs.Keeping.{written_by};
 
-    ghost said = { said_by };
+    ghost written = { written_by };
 
     fn put(&mut self, bytes: &[u8]) -> Result<usize, Failed> {
         match self.bytes.extend_from_slice(bytes) {

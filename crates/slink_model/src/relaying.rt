@@ -26,7 +26,7 @@ use std::alloc::Global;
 pub enum RelayFault {
     /// The series can't be packed.
     Pack(PackFault),
-    /// A growth was refused.
+    /// An allocation was refused.
     Memory,
 }
 
@@ -37,7 +37,7 @@ pub enum RelayFault {
 ///
 /// # Errors
 ///
-/// `Pack` where the series can't be packed, as of `fit`; `Memory` where a growth was refused.
+/// `Pack` where the series can't be packed, as of `fit`; `Memory` where an allocation was refused.
 pub fn relay(
     alloc: Global,
     series: &Series,

@@ -104,7 +104,7 @@ fn open(alloc: Global, setup: &Setup) -> Result<World, Memory>
 ///
 /// # Errors
 ///
-/// `Memory` where a growth was refused.
+/// `Memory` where an allocation was refused.
 pub fn run_schedule(alloc: Global, setup: &Setup, steps: &[Step]) -> Result<World, Memory>
     requires capacity { IsCapacity setup.now.capacity }
     requires first { setup.now.first < 2 ^ 24 }

@@ -98,9 +98,9 @@ pub fn is_the_counted_world()
         → IsCounted setup (counted_after setup (counted_opening setup) steps) now }
 {}
 
-/// Of two replies to each of so many places, and packets behind them, there are whole in a front of their bytes, behind
-/// the replies, as many packets as the front has whole 520 bytes behind these. So it is where the end is behind the
-/// packets, which is whole where all bytes are there.
+/// Of two replies to each of so many places, and packets behind them, there are whole in a prefix of their bytes,
+/// behind the replies, as many packets as the prefix has whole 520 bytes behind these. So it is where the end is behind
+/// the packets, which is whole where all bytes are there.
 pub fn counts_whole_packets()
     ensures whole { (places delivered : ℕ) (packets : List Item) → ArePackets packets → 8 * places ≤ delivered
         → wholes delivered (replicate (2 * places) Accepted ++ packets)

@@ -2,9 +2,9 @@
 ghost use Rattle.std.specs.Prelude.{◌≡◌, ◌↔◌, ◌++◌, ◌≤◌, ◌<◌, All, IsTrue, OnOk, drop, length, take};
 ghost use Rattle.slink_model.specs.Running.{IsPossible, IsRunning, IsServing, Keeps};
 ghost use Rattle.slink_model.specs.Stretch.{IsSound};
-ghost use Rattle.slink_model.specs.World.{Happens, Hears, IsOf, IsServed, link_state, seen, sent_on, taken};
+ghost use Rattle.slink_model.specs.World.{Happens, Reads, IsOf, IsServed, link_state, seen, sent_on, taken};
 
-use crate::carry::{add_bytes, add_record, hear_bytes, note_first, remove_front, serve_bytes};
+use crate::carry::{add_bytes, add_record, note_first, read_bytes, remove_prefix, serve_bytes};
 use slink_feed::{Client, Feed, Mode, Sent, Session};
 use slink_wire::Place;
 use std::alloc::Global;
@@ -111,7 +111,7 @@ impl Link {
             &self.to_server[..count],
             &mut self.to_client,
         )?;
-        remove_front(&mut self.to_server, count);
+        remove_prefix(&mut self.to_server, count);
         Ok(())
     }
 
@@ -124,7 +124,7 @@ impl Link {
         start: &mut Vec<Option<u64>>,
     ) -> Result<(), Memory>
         requires keeps { Keeps client.old }
-        ensures hears { OnOk result (Hears self.old.first_sent (taken client.old held.old start.old self.old.to_server)
+        ensures reads { OnOk result (Reads self.old.first_sent (taken client.old held.old start.old self.old.to_server)
             (take count self.old.to_client.items) (taken client.new held.new start.new self.new.to_server)) }
         ensures left { OnOk result (self.new.to_client.items ≡ drop count self.old.to_client.items) }
         ensures session { self.new.session ≡ self.old.session }
@@ -132,7 +132,7 @@ impl Link {
         ensures keeps { Keeps client.new }
     {
         let count = count.min(self.to_client.len());
-        hear_bytes(
+        read_bytes(
             client,
             &self.to_client[..count],
             &self.first_sent,
@@ -140,7 +140,7 @@ impl Link {
             start,
             &mut self.to_server,
         )?;
-        remove_front(&mut self.to_client, count);
+        remove_prefix(&mut self.to_client, count);
         Ok(())
     }
 

@@ -105,8 +105,8 @@ one_cut byte xs ys xs' ys' h h' e =
     let there : position_or_len (λ b. b == byte) (xs' ++ byte ∷ ys') ≡ length xs' =
     first_at (λ b. b == byte) xs' byte ys' h' yes in
     let long : length xs ≡ length xs' = sym here ∙ (ap (position_or_len (λ b. b == byte)) e ∙ there) in
-    let front : xs ≡ xs' = sym (take_at xs (byte ∷ ys) (length xs) refl)
+    let prefix : xs ≡ xs' = sym (take_at xs (byte ∷ ys) (length xs) refl)
     ∙ (ap (take (length xs)) e ∙ take_at xs' (byte ∷ ys') (length xs) (sym long)) in
     let back : byte ∷ ys ≡ byte ∷ ys' = sym (drop_at xs (byte ∷ ys) (length xs) refl)
     ∙ (ap (drop (length xs)) e ∙ drop_at xs' (byte ∷ ys') (length xs) (sym long)) in
-    (front, cc)
+    (prefix, cc)

@@ -107,10 +107,10 @@ digit_within (suc k) n i h = elim (leb_tells (suc i) k) [
   )
 ]
 
-pub none_said : (digits : List ℕ) (i : ℕ) → i < length digits
+pub none_written : (digits : List ℕ) (i : ℕ) → i < length digits
     → ((d : ℕ) → d < 16 → to_ascii_uppercase (get_or digits i 0) ≡ digit_byte d → ⊥)
     → (n : ℕ) → SaysNumber digits n → ⊥
-none_said digits i lt other n h =
+none_written digits i lt other n h =
     let d : (d : ℕ) × (d < 16) × (get_or (hexadecimal (length digits) n) i 0 ≡ digit_byte d) =
     digit_within (length digits) n i lt in
     other d.0 d.1 (sym (get_or-map to_ascii_uppercase digits i 0 0 lt) ∙ (ap (λ ds. get_or ds i 0) h.1 ∙ d.2))
@@ -118,19 +118,19 @@ none_said digits i lt other n h =
 -- the digits so far, and one more
 pub record Reads (digits : List ℕ) (i n : ℕ) : Type 0 where
   pub small : n < 16 ^ i
-  pub said : map to_ascii_uppercase (take i digits) ≡ hexadecimal i n
+  pub written : map to_ascii_uppercase (take i digits) ≡ hexadecimal i n
 
 pub reads_none : (digits : List ℕ) → Reads digits 0 0
 unfolding hexadecimal
-reads_none digits = record { small = omega arith; said = refl }
+reads_none digits = record { small = omega arith; written = refl }
 
 pub reads_more : (digits : List ℕ) (i n d : ℕ) → i < length digits → d < 16
     → to_ascii_uppercase (get_or digits i 0) ≡ digit_byte d → Reads digits i n → Reads digits (i + 1) (n * 16 + d)
 reads_more digits i n d lt h digit r = record {
   small = (let wide : 16 ^ (i + 1) ≡ 16 ^ i * 16 = rw add-one (pow-suc 16 i) in omega (arith, wide, r.small));
-  said = ap (map to_ascii_uppercase) (take_more digits i 0 lt)
+  written = ap (map to_ascii_uppercase) (take_more digits i 0 lt)
       ∙ (map_push to_ascii_uppercase (take i digits) (get_or digits i 0)
-      ∙ (ap (λ ds. ds ++ to_ascii_uppercase (get_or digits i 0) ∷ []) r.said
+      ∙ (ap (λ ds. ds ++ to_ascii_uppercase (get_or digits i 0) ∷ []) r.written
       ∙ (ap (λ b. hexadecimal i n ++ b ∷ []) digit ∙ sym (hexadecimal_more i n d h))));
 }
 
@@ -138,7 +138,7 @@ pub reads_all : (digits : List ℕ) (n : ℕ) → Reads digits (length digits) n
 reads_all digits n r = (
   r.small,
   ap (map to_ascii_uppercase) (sym (take_all (length digits) digits (omega arith)))
-      ∙ r.said,
+      ∙ r.written,
 )
 
 -- a number of at most six digits fits

@@ -2,14 +2,14 @@ pub mod Cuts
 pub mod Codes
 pub mod Digits
 pub mod Packets
-pub mod Fronts
+pub mod Prefixes
 pub mod Pieces
 pub mod Spelled
 pub mod Stepped
 pub mod Keywords
-pub mod Said
+pub mod Written
 pub mod Worded
 pub mod Calls
 pub mod Requests
-pub mod SaidBack
+pub mod WrittenBack
 pub mod RequestLines

@@ -10,11 +10,11 @@ use Rattle.slink_wire.specs.Command.{IsCommand}
 use Rattle.slink_wire.specs.Hexadecimal.{digit_byte, hexadecimal}
 use Rattle.slink_wire.specs.Place.{Fields, IsField, code_in}
 use Rattle.slink_wire.specs.Request.{HasPlace, IsSpelled, number_bytes, request_line, requested}
-use Rattle.slink_wire.specs.Said.{IsLine}
+use Rattle.slink_wire.specs.Written.{IsLine}
 use Rattle.slink_wire.proofs.Codes.{without}
 use Rattle.slink_wire.proofs.Cuts.{Lacks}
 use Rattle.slink_wire.proofs.Digits.{digit_above, length-hexadecimal}
-use Rattle.slink_wire.proofs.Requests.{data_said, end_said, fetch_said, station_said}
+use Rattle.slink_wire.proofs.Requests.{data_written, end_written, fetch_written, station_written}
 
 lacks_both : (xs ys : List ℕ) → Lacks 13 xs → Lacks 13 ys → Lacks 13 (xs ++ ys)
 lacks_both xs ys p q = list_all-append (λ b. not (b == 13)) xs ys
@@ -81,7 +81,7 @@ line_of_request (Fetch number) spelled has = fetch_line number
 line_of_request End spelled has = end_line
 
 pub command_of_request : (r : Request) → IsSpelled r → HasPlace r → IsCommand (request_line r) (requested r)
-command_of_request (Station place) spelled has = station_said place.station place.network has.0 has.1
-command_of_request (Data number) spelled has = data_said number spelled
-command_of_request (Fetch number) spelled has = fetch_said number spelled
-command_of_request End spelled has = end_said
+command_of_request (Station place) spelled has = station_written place.station place.network has.0 has.1
+command_of_request (Data number) spelled has = data_written number spelled
+command_of_request (Fetch number) spelled has = fetch_written number spelled
+command_of_request End spelled has = end_written

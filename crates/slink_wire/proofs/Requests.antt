@@ -35,24 +35,26 @@ two_words : (keyword : List ℕ) (n : ℕ) → 1 ≤ length keyword → Lacks 32
 two_words keyword n h lacks = words_then keyword (hexadecimal 6 n) h lacks
     ∙ ap (λ ws. keyword ∷ ws) (words_last (hexadecimal 6 n) (omega (arith, length-hexadecimal 6 n)) (digits_lack 6 n))
 
-pub data_said : (number : Option ℕ) → IsShort number → IsCommand (codes "DATA" ++ number_bytes number) (Data number)
-data_said None h = subst (λ ws. IsRow (Data None) (folded ws)) (sym (words_last (codes "DATA") (omega arith) refl))
+pub data_written : (number : Option ℕ) → IsShort number → IsCommand (codes "DATA" ++ number_bytes number) (Data number)
+data_written None h = subst (λ ws. IsRow (Data None) (folded ws)) (sym (words_last (codes "DATA") (omega arith) refl))
     (inl refl)
-data_said (Some n) h = subst (λ ws. IsRow (Data (Some n)) (folded ws))
+data_written (Some n) h = subst (λ ws. IsRow (Data (Some n)) (folded ws))
     (sym (two_words (codes "DATA") n (omega arith) refl)) (inl (hexadecimal 6 n, is_number n h, refl))
 
-pub fetch_said : (number : Option ℕ) → IsShort number → IsCommand (codes "FETCH" ++ number_bytes number) (Fetch number)
-fetch_said None h = subst (λ ws. IsRow (Fetch None) (folded ws)) (sym (words_last (codes "FETCH") (omega arith) refl))
+pub fetch_written : (number : Option ℕ) → IsShort number
+    → IsCommand (codes "FETCH" ++ number_bytes number) (Fetch number)
+fetch_written None h = subst (λ ws. IsRow (Fetch None) (folded ws))
+    (sym (words_last (codes "FETCH") (omega arith) refl))
     (inl refl)
-fetch_said (Some n) h = subst (λ ws. IsRow (Fetch (Some n)) (folded ws))
+fetch_written (Some n) h = subst (λ ws. IsRow (Fetch (Some n)) (folded ws))
     (sym (two_words (codes "FETCH") n (omega arith) refl)) (inl (hexadecimal 6 n, is_number n h, refl))
 
-pub end_said : IsCommand (codes "END") End
-end_said = subst (λ ws. IsRow End (folded ws)) (sym (words_last (codes "END") (omega arith) refl)) (inl refl)
+pub end_written : IsCommand (codes "END") End
+end_written = subst (λ ws. IsRow End (folded ws)) (sym (words_last (codes "END") (omega arith) refl)) (inl refl)
 
-pub station_said : (station network : List ℕ) → IsField 5 station → IsField 2 network
+pub station_written : (station network : List ℕ) → IsField 5 station → IsField 2 network
     → IsCommand (codes "STATION " ++ code_in station ++ codes " " ++ code_in network) (Station station (Some network))
-station_said station network p q =
+station_written station network p q =
     let sta : List ℕ = code_in station in
     let net : List ℕ = code_in network in
     let behind : words (sta ++ 32 ∷ net) ≡ sta ∷ net ∷ [] = words_then sta net p.0.0 (without 32 refl sta p.0.2)

@@ -25,23 +25,24 @@ abbrev pub IsNumber : List ℕ → ℕ → Type 0
 IsNumber word n = (1 ≤ length word) × (length word ≤ 6) × SaysNumber word n
 
 -- the words of each command
-abbrev pub IsSaid : Command → List (List ℕ) → Type 0
-IsSaid Hello ws = ws ≡ codes "hello" ∷ []
-IsSaid (Station sta None) ws = (s : List ℕ) × IsCode 5 s × (sta ≡ filled 5 s) × (ws ≡ codes "station" ∷ s ∷ [])
-IsSaid (Station sta (Some net)) ws = (s n : List ℕ) × IsCode 5 s × IsCode 2 n × (sta ≡ filled 5 s) × (net ≡ filled 2 n)
+abbrev pub IsWritten : Command → List (List ℕ) → Type 0
+IsWritten Hello ws = ws ≡ codes "hello" ∷ []
+IsWritten (Station sta None) ws = (s : List ℕ) × IsCode 5 s × (sta ≡ filled 5 s) × (ws ≡ codes "station" ∷ s ∷ [])
+IsWritten (Station sta (Some net)) ws = (s n : List ℕ) × IsCode 5 s × IsCode 2 n × (sta ≡ filled 5 s)
+    × (net ≡ filled 2 n)
     × (ws ≡ codes "station" ∷ s ∷ n ∷ [])
-IsSaid SelectAll ws = ws ≡ codes "select" ∷ []
-IsSaid (Data None) ws = ws ≡ codes "data" ∷ []
-IsSaid (Data (Some n)) ws = (h : List ℕ) × IsNumber h n × (ws ≡ codes "data" ∷ h ∷ [])
-IsSaid (Fetch None) ws = ws ≡ codes "fetch" ∷ []
-IsSaid (Fetch (Some n)) ws = (h : List ℕ) × IsNumber h n × (ws ≡ codes "fetch" ∷ h ∷ [])
-IsSaid End ws = ws ≡ codes "end" ∷ []
-IsSaid Bye ws = ws ≡ codes "bye" ∷ []
-IsSaid Other ws = ⊥
+IsWritten SelectAll ws = ws ≡ codes "select" ∷ []
+IsWritten (Data None) ws = ws ≡ codes "data" ∷ []
+IsWritten (Data (Some n)) ws = (h : List ℕ) × IsNumber h n × (ws ≡ codes "data" ∷ h ∷ [])
+IsWritten (Fetch None) ws = ws ≡ codes "fetch" ∷ []
+IsWritten (Fetch (Some n)) ws = (h : List ℕ) × IsNumber h n × (ws ≡ codes "fetch" ∷ h ∷ [])
+IsWritten End ws = ws ≡ codes "end" ∷ []
+IsWritten Bye ws = ws ≡ codes "bye" ∷ []
+IsWritten Other ws = ⊥
 
 -- Words that say no command are another.
 abbrev pub IsRow : Command → List (List ℕ) → Type 0
-IsRow c ws = IsSaid c ws ⊎ ((c ≡ Other) × ((d : Command) → ¬ (IsSaid d ws)))
+IsRow c ws = IsWritten c ws ⊎ ((c ≡ Other) × ((d : Command) → ¬ (IsWritten d ws)))
 
 -- the command that a line is
 abbrev pub IsCommand : List ℕ → Command → Type 0

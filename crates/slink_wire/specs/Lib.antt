@@ -2,7 +2,7 @@ pub mod Place
 pub mod Hexadecimal
 pub mod Packet
 pub mod Lines
-pub mod Said
+pub mod Written
 pub mod Taking
 pub mod Command
 pub mod Reply

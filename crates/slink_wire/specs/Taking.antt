@@ -11,7 +11,7 @@ Tells (Line line) before after = ((lines_of after).lines ≡ (lines_of before).l
     × ((lines_of after).is_too_long ≡ false)
 Tells TooLong before after = ((lines_of after).lines ≡ (lines_of before).lines) × ((lines_of after).is_too_long ≡ true)
 
--- a call: the bytes that it took, and what it told
+-- a call: the bytes that it took, and what was read of it
 pub record Call : Type 0 where
   pub bytes : List ℕ
   pub what : What

@@ -40,7 +40,7 @@ fn number(word: &[u8]) -> Option<u32>
 }
 
 /// The command of one word.
-#[tactic(auto, using(crate::proofs::Said::unknown))]
+#[tactic(auto, using(crate::proofs::Written::unknown))]
 fn bare(word: &[u8]) -> Command
     ensures { IsRow result (in_small_letters word.now ∷ []) }
 {
@@ -72,7 +72,7 @@ fn station(sta: &[u8]) -> Command
 }
 
 /// The command of two words.
-#[tactic(auto, using(crate::proofs::Said::unknown))]
+#[tactic(auto, using(crate::proofs::Written::unknown))]
 fn with_word(word: &[u8], argument: &[u8]) -> Command
     ensures { IsRow result (in_small_letters word.now ∷ argument.now ∷ []) }
 {
@@ -107,7 +107,7 @@ fn station_in(sta: &[u8], net: &[u8]) -> Command
 }
 
 /// The command of three words.
-#[tactic(auto, using(crate::proofs::Said::unknown))]
+#[tactic(auto, using(crate::proofs::Written::unknown))]
 fn with_two_words(word: &[u8], sta: &[u8], net: &[u8]) -> Command
     ensures { IsRow result (in_small_letters word.now ∷ sta.now ∷ net.now ∷ []) }
 {

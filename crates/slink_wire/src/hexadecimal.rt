@@ -50,7 +50,7 @@ fn digit_of(byte: u8) -> Option<u32>
 /// The number that digits say, in either case.
 pub(crate) fn number_of(digits: &[u8]) -> Option<u32>
     requires { length digits.now ≤ 6 }
-    ensures said { IfSome result (SaysNumber digits.now) }
+    ensures written { IfSome result (SaysNumber digits.now) }
     ensures none { IfNone result ((n : ℕ) → ¬ (SaysNumber digits.now n)) }
 {
     let mut number = 0;

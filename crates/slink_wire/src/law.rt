@@ -6,7 +6,7 @@ ghost use Rattle.slink_wire.specs.Command.{IsCommand};
 ghost use Rattle.slink_wire.specs.Lines.{lines_of};
 ghost use Rattle.slink_wire.specs.Packet.{IsPacket, packet_bytes};
 ghost use Rattle.slink_wire.specs.Request.{HasPlace, IsSpelled, request_line, requested};
-ghost use Rattle.slink_wire.specs.Said.{AreLines, IsLine, SpellsFront, only_lines, said_bytes};
+ghost use Rattle.slink_wire.specs.Written.{AreLines, IsLine, SpellsPrefix, only_lines, written_bytes};
 ghost use Rattle.slink_wire.specs.Taking.{AreCalls, Call, bytes_in, lines_in};
 
 /// However a stream of command lines is cut into the pieces that are taken, its lines are told, each once and in order.
@@ -17,13 +17,13 @@ pub fn any_pieces()
         → lines_in a ≡ lines_in b }
 {}
 
-/// Lines that are said, each with CR LF, are what the stream spells; a front of the stream spells a front of them. Each
-/// line that any stream spells can be said so.
-#[tactic(auto, using(crate::proofs::SaidBack::whole_spelled, crate::proofs::SaidBack::front_spelled, crate::proofs::SaidBack::spelled_lines))]
+/// Lines that are said, each with CR LF, are what the stream spells; a prefix of the stream spells a prefix of them.
+/// Each line that any stream spells can be said so.
+#[tactic(auto, using(crate::proofs::WrittenBack::whole_spelled, crate::proofs::WrittenBack::prefix_spelled, crate::proofs::WrittenBack::spelled_lines))]
 pub fn lines_read_back()
-    ensures whole { (lines : List (List ℕ)) → AreLines lines → lines_of (said_bytes lines) ≡ only_lines lines }
-    ensures front { (lines : List (List ℕ)) (stream rest : List ℕ) → AreLines lines
-        → stream ++ rest ≡ said_bytes lines → SpellsFront stream lines }
+    ensures whole { (lines : List (List ℕ)) → AreLines lines → lines_of (written_bytes lines) ≡ only_lines lines }
+    ensures prefix { (lines : List (List ℕ)) (stream rest : List ℕ) → AreLines lines
+        → stream ++ rest ≡ written_bytes lines → SpellsPrefix stream lines }
     ensures lines { (stream : List ℕ) → AreLines (lines_of stream).lines }
 {}
 
@@ -35,7 +35,7 @@ pub fn requests_are_lines()
 {}
 
 /// A line is one command.
-#[tactic(auto, using(crate::proofs::Said::line_once))]
+#[tactic(auto, using(crate::proofs::Written::line_once))]
 pub fn one_command()
     ensures { (line : List ℕ) (c d : Command) → IsCommand line c → IsCommand line d → c ≡ d }
 {}

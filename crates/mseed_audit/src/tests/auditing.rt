@@ -49,8 +49,8 @@ fn cut_in_turn<A: Allocator + Copy, R: Source, B: Drop>(
     source: &mut R,
     blocks: &mut Vec<B>,
 ) -> Option<(usize, usize)>
-    requires { IsAlong (R.heard source.old) cutter.old }
-    ensures { IsAlong (R.heard source.new) cutter.new }
+    requires { IsAlong (R.read source.old) cutter.old }
+    ensures { IsAlong (R.read source.new) cutter.new }
 {
     for refusals in 0..300 {
         let offset = cutter.offset();

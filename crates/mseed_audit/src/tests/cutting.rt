@@ -1,9 +1,9 @@
 //! Records cut out of small readers: lengths, places and ends are those of the header's fields and of
 // blockette 1000.
 ghost use Rattle.std.specs.Prelude.{◌≡◌};
-ghost use Rattle.mseed_stream.specs.Counted.{heard_by};
+ghost use Rattle.mseed_stream.specs.Counted.{read_by};
 ghost use Rattle.mseed_stream.specs.Cutting.{IsAlong};
-ghost use Rattle.mseed_stream.specs.Device.{nothing_heard};
+ghost use Rattle.mseed_stream.specs.Device.{nothing_read};
 
 use linked_list_allocator::LocalHeap;
 use mseed_stream::{Buffered, Counted, Cutter, Source, StreamFault, split, split_in};
@@ -50,7 +50,7 @@ impl Read for Pieces<'_> {
 
 /// The bytes in pieces, of which nothing was read yet.
 fn in_pieces(rest: &[u8], most: usize) -> Counted<Pieces<'_>>
-    ensures { heard_by result ≡ nothing_heard }
+    ensures { read_by result ≡ nothing_read }
 {
     Counted::new(Pieces {
         rest,
@@ -70,8 +70,8 @@ enum Answer {
 
 /// The next answer. The cutter can be asked again, whatever it was.
 fn next_answer<A: Allocator, R: Source>(cutter: &mut Cutter<A>, source: &mut R) -> Answer
-    requires { IsAlong (R.heard source.old) cutter.old }
-    ensures { IsAlong (R.heard source.new) cutter.new }
+    requires { IsAlong (R.read source.old) cutter.old }
+    ensures { IsAlong (R.read source.new) cutter.new }
 {
     let offset = cutter.offset();
     match cutter.next(source) {
@@ -83,8 +83,8 @@ fn next_answer<A: Allocator, R: Source>(cutter: &mut Cutter<A>, source: &mut R) 
 
 /// The next answer, where a record that the source holds whole is looked at there.
 fn answer_where_it_lies<A: Allocator, R: Source>(cutter: &mut Cutter<A>, source: &mut R) -> Answer
-    requires { IsAlong (R.heard source.old) cutter.old }
-    ensures { IsAlong (R.heard source.new) cutter.new }
+    requires { IsAlong (R.read source.old) cutter.old }
+    ensures { IsAlong (R.read source.new) cutter.new }
 {
     let offset = cutter.offset();
     if let Some(record) = cutter.peek(source) {
@@ -101,8 +101,8 @@ fn refusals_before_record<A: Allocator, R: Source, B: Drop>(
     source: &mut R,
     blocks: &mut Vec<B>,
 ) -> Option<usize>
-    requires { IsAlong (R.heard source.old) cutter.old }
-    ensures { IsAlong (R.heard source.new) cutter.new }
+    requires { IsAlong (R.read source.old) cutter.old }
+    ensures { IsAlong (R.read source.new) cutter.new }
 {
     for refusals in 0..100 {
         match next_answer(cutter, source) {
@@ -116,7 +116,7 @@ fn refusals_before_record<A: Allocator, R: Source, B: Drop>(
 
 /// The first four answers of a cutter.
 fn answers<R: Source>(alloc: Global, source: &mut R) -> [Answer; 4]
-    requires { R.heard source.old ≡ nothing_heard }
+    requires { R.read source.old ≡ nothing_read }
 {
     let mut cutter = Cutter::new(alloc);
     let first = next_answer(&mut cutter, source);

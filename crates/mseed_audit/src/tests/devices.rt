@@ -1,6 +1,6 @@
 //! Small devices that tell, take and fail by turns.
 ghost use Rattle.std.specs.Prelude.{◌≡◌, IfOk, IfSome};
-ghost use Rattle.mseed_stream.specs.Device.{nothing_heard, nothing_said};
+ghost use Rattle.mseed_stream.specs.Device.{nothing_read, nothing_written};
 
 use linked_list_allocator::LocalHeap;
 use mseed_stream::{
@@ -91,14 +91,14 @@ fn read_new<T: Read + Drop>(alloc: Global, reader: T) -> Result<Vec<u8>, StreamF
     ensures { IfOk result (λ bytes. IfSome (T.remaining reader) (λ xs. bytes.items ≡ xs)) }
 {
     let mut source = Counted::new(reader);
-    expect_nothing_heard(&mut source);
+    expect_nothing_read(&mut source);
     read_all(alloc, &mut source)
 }
 
-fn expect_nothing_heard<R: Source>(source: &mut R)
-    requires heard { R.heard source.old ≡ nothing_heard }
-    requires beside { R.beside source.old ≡ nothing_said }
-    ensures heard { R.heard source.new ≡ R.heard source.old }
+fn expect_nothing_read<R: Source>(source: &mut R)
+    requires read { R.read source.old ≡ nothing_read }
+    requires beside { R.beside source.old ≡ nothing_written }
+    ensures read { R.read source.new ≡ R.read source.old }
     ensures remaining { R.remaining source.new ≡ R.remaining source.old }
 {
     let _ = source;
@@ -185,7 +185,7 @@ fn writes_what_there_is_room_for(rt: HostRuntime) {
 }
 
 #[test]
-fn answers_memory_where_a_growth_is_refused(rt: HostRuntime) -> Result<(), Fail> {
+fn answers_memory_where_a_allocation_is_refused(rt: HostRuntime) -> Result<(), Fail> {
     let told = [7; 600];
     let mut was_refused = false;
     let mut was_read = false;

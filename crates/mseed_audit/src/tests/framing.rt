@@ -5,8 +5,8 @@ use mseed_record::{FrameFault, Scan, scan};
 
 /// The answer for the first bytes alone.
 fn scan_first(bytes: &[u8], len: usize) -> Scan {
-    let (front, _) = bytes.split_at(len.min(bytes.len()));
-    scan(front)
+    let (prefix, _) = bytes.split_at(len.min(bytes.len()));
+    scan(prefix)
 }
 
 #[test]

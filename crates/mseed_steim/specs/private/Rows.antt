@@ -32,7 +32,7 @@ abbrev pub size_limit : Option Row → ℕ
 size_limit None = 0
 size_limit (Some row) = 2 ^ (row.width - 1)
 
--- no word spells a front of more than `low` and at most `high` of the differences
+-- no word spells a prefix of more than `low` and at most `high` of the differences
 abbrev pub NoneSpelled : Scheme → List ℤ → ℕ → ℕ → Type 0
 NoneSpelled scheme ds low high = (k : ℕ) → low < k → k ≤ high → ¬ (CanSpell scheme (take k ds))
 

@@ -46,7 +46,7 @@ abbrev pub GoesOn : ℕ → Sum → List (Result ℤ BadWordAt) → List (Result
 GoesOn n sum items behind (Ok next) = (fold n sum items ≡ fold n next behind)
 GoesOn n sum items behind (Err fault) = (fold n sum items ≡ Err fault)
 
--- Where the walk goes on, what stands in the places before and after it is the same front of all samples: those
+-- Where the walk goes on, what stands in the places before and after it is the same prefix of all samples: those
 -- that have been put in their places, and behind them those that are still to be met.
 abbrev pub Keeps : ℕ → Sum → List ℤ → List (Result ℤ BadWordAt) → List (Result ℤ BadWordAt) → List ℤ
     → Result Sum ReadFault → Type 0

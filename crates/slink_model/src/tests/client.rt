@@ -80,7 +80,7 @@ fn all_but_one(packet: &[u8; 520]) -> &[u8] {
 }
 
 /// What an event says.
-fn said(event: &Event) -> &[u8] {
+fn written(event: &Event) -> &[u8] {
     match event {
         Event::Say(bytes) => bytes.as_slice(),
         _ => b"",
@@ -101,7 +101,7 @@ fn asks_for_each_place(rt: HostRuntime) -> Result<(), Fail> {
     for wanted in dialogue {
         let (used, event) = client.take(b"OK\r\nOK\r\n");
         assert_eq!(rt; used, 4);
-        assert_eq!(rt; said(&event), wanted);
+        assert_eq!(rt; written(&event), wanted);
     }
     let first = record(b"STA  ", 1);
     let other = record(b"STB  ", 2);
@@ -115,6 +115,6 @@ fn asks_for_each_place(rt: HostRuntime) -> Result<(), Fail> {
     assert_eq!(rt; client.next(1), Some(8));
     client.connect();
     let (_, event) = client.take(b"OK\r\n");
-    assert_eq!(rt; said(&event), b"DATA 000000\r\n".as_slice());
+    assert_eq!(rt; written(&event), b"DATA 000000\r\n".as_slice());
     Ok(())
 }

@@ -4,4 +4,5 @@ use Rattle.mseed.specs.Filling.{ring_of}
 use Rattle.mseed.proofs.filling.open.Given as goal
 
 abbrev pub invariant-loop-place : goal.invariant-loop-place
-invariant-loop-place g l = (l.feed ≡ map (ring_of l.serving []) (map (λ (p : Asked). p.0) (take l.place-index l.serving.places)))
+invariant-loop-place g l =
+    (l.feed ≡ map (ring_of l.serving []) (map (λ (p : Asked). p.0) (take l.place-index l.serving.places)))

@@ -7,4 +7,5 @@ use Rattle.mseed.proofs.found.has_only.Given as goal
 
 abbrev pub invariant-loop-id : goal.invariant-loop-id
 invariant-loop-id l = (goal.iterator-loop-id).can_next l.ids × (goal.iterator-loop-id).is_finite l.ids
-    × (has_only (map (λ n. n.now) l.names) (rows_of (found_of l.matches)) ≡ list_all (is_among (map (λ n. n.now) l.names)) (ids_left l.ids))
+    × (has_only (map (λ n. n.now) l.names) (rows_of (found_of l.matches))
+    ≡ list_all (is_among (map (λ n. n.now) l.names)) (ids_left l.ids))

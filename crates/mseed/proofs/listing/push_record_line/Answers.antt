@@ -14,4 +14,5 @@ returns g c =
     let a1 = rw c.in_ok-push_offset.ensures at c.in_ok-push_size.ensures in
     let a2 = rw a1 at c.in_ok-push_times.ensures in
     let a3 = rw a2 at c.push_payload.ensures in
-    IfOk-equal c.push_payload.result _ _ _ a3 (regroup c.args.text.now.items (offset_words c.args.offset v) (size_words v) (time_words v) (payload_words v))
+    IfOk-equal c.push_payload.result _ _ _ a3 (regroup c.args.text.now.items (offset_words c.args.offset v)
+    (size_words v) (time_words v) (payload_words v))

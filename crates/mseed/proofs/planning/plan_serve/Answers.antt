@@ -5,7 +5,7 @@ pub returns-in-Ok : goal.returns-in-Ok
 returns-in-Ok g c = record {
   outcome = Ok c.in-Ok.feed;
   filling = c.in-Ok.ensures;
-  only = c.one_filling.ensures c.args.serving.now (g.R.Source.heard c.fill.new.input) (Ok c.in-Ok.feed) c.in-Ok.ensures;
+  only = c.one_filling.ensures c.args.serving.now (g.R.Source.read c.fill.new.input) (Ok c.in-Ok.feed) c.in-Ok.ensures;
   planned = (record { port = refl; connections = refl; feed_is = refl }, refl);
 }
 
@@ -13,6 +13,7 @@ pub returns-in-Err : goal.returns-in-Err
 returns-in-Err g c = record {
   outcome = Err c.in-Err.fault;
   filling = c.in-Err.ensures;
-  only = c.one_filling.ensures c.args.serving.now (g.R.Source.heard c.fill.new.input) (Err c.in-Err.fault) c.in-Err.ensures;
+  only = c.one_filling.ensures c.args.serving.now (g.R.Source.read c.fill.new.input) (Err c.in-Err.fault)
+      c.in-Err.ensures;
   planned = (c.refuse_to_serve.ensures.status, c.refuse_to_serve.ensures.told);
 }

@@ -9,4 +9,5 @@ regroup t a b c = simp append_assoc
 pub returns : goal.returns
 returns g c =
     let a = rw c.in_ok-push_channel.ensures at c.push_words.ensures in
-    IfOk-equal c.push_words.result _ _ _ a (regroup c.args.line.now.items (codes "mseed: ") (name_text c.args.channel.now) (codes " is broken\n"))
+    IfOk-equal c.push_words.result _ _ _ a
+    (regroup c.args.line.now.items (codes "mseed: ") (name_text c.args.channel.now) (codes " is broken\n"))

@@ -10,4 +10,5 @@ regroup t a b c = simp append_assoc
 pub returns : goal.returns
 returns g c =
     let a = rw c.in_ok-push_channel.ensures at c.push_reason.ensures in
-    IfOk-equal c.push_reason.result _ _ _ a (regroup c.args.line.now.items (codes "mseed: ") (name_text c.args.channel.now) (reason_text c.args.fault.now))
+    IfOk-equal c.push_reason.result _ _ _ a
+    (regroup c.args.line.now.items (codes "mseed: ") (name_text c.args.channel.now) (reason_text c.args.fault.now))

@@ -7,11 +7,11 @@ use Rattle.mseed.specs.Listing.{record_lines}
 use Rattle.mseed.proofs.show.list.Given as goal
 
 abbrev pub invariant-records : goal.invariant-records
-invariant-records g l = IsAlong (g.R.Source.heard l.input) l.cutter × (l.records ≤ (g.R.Source.heard l.input).calls)
-    × ((g.W.Sink.said l.output).failures ≡ (g.W.Sink.said l.fn.output).failures)
-    × ((views : List View) × (HasHandedOut (g.R.Source.heard l.input) l.cutter views
-    × AreGathered (g.W.Sink.said l.fn.output) (g.W.Sink.said l.output) l.text.items (record_lines 0 views)
+invariant-records g l = IsAlong (g.R.Source.read l.input) l.cutter × (l.records ≤ (g.R.Source.read l.input).calls)
+    × ((g.W.Sink.written l.output).failures ≡ (g.W.Sink.written l.fn.output).failures)
+    × ((views : List View) × (HasHandedOut (g.R.Source.read l.input) l.cutter views
+    × AreGathered (g.W.Sink.written l.fn.output) (g.W.Sink.written l.output) l.text.items (record_lines 0 views)
     × (l.records ≡ length views)))
 
 abbrev pub decreases-records : goal.decreases-records
-decreases-records g l = 2 ^ 40 + 1 - (g.R.Source.heard l.input).calls
+decreases-records g l = 2 ^ 40 + 1 - (g.R.Source.read l.input).calls

@@ -1,5 +1,5 @@
 use Rattle.std.proofs.Common.{◌∙◌}
-use Rattle.mseed_stream.specs.Device.{Said}
+use Rattle.mseed_stream.specs.Device.{BytesWritten}
 use Rattle.mseed.specs.declared.ending.ShowFault.{ShowFault}
 use Rattle.mseed.specs.declared.ending.ShowFault.TheVariants.{Memory}
 use Rattle.mseed.proofs.Gathered.{end_short, listed, memory_short, shown_err}
@@ -9,23 +9,29 @@ pub returns-in_err-write_out : goal.returns-in_err-write_out
 returns-in_err-write_out g c =
     let gathered = c.in_ok-records.ensures in
     let fault : ShowFault = c.in_err-write_out.field-0.0 in
-    let first : Said = g.W.Sink.said c.args.output.now in
-    let new : Said = g.W.Sink.said c.write_out.new.output in
-    let ends = end_short fault c.in_ok-records.records c.in_ok-records.end _ first _ new _ _ gathered.0 gathered.1 c.in_ok-push_end.ensures.ok c.in_err-write_out.ensures.err in
-    shown_err c.from_residual-in_err-write_out.result _ fault _ first new c.from_residual-in_err-write_out.ensures.1 (λ e q. q) ends
+    let first : BytesWritten = g.W.Sink.written c.args.output.now in
+    let new : BytesWritten = g.W.Sink.written c.write_out.new.output in
+    let ends = end_short fault c.in_ok-records.records c.in_ok-records.end _ first _ new _ _ gathered.0 gathered.1
+    c.in_ok-push_end.ensures.ok c.in_err-write_out.ensures.err in
+    shown_err c.from_residual-in_err-write_out.result _ fault _ first new c.from_residual-in_err-write_out.ensures.1
+    (λ e q. q) ends
 
 pub returns-in_err-push_end : goal.returns-in_err-push_end
 returns-in_err-push_end g c =
     let gathered = c.in_ok-records.ensures in
-    let first : Said = g.W.Sink.said c.args.output.now in
-    let new : Said = g.W.Sink.said c.list.new.output in
+    let first : BytesWritten = g.W.Sink.written c.args.output.now in
+    let new : BytesWritten = g.W.Sink.written c.list.new.output in
     let ends = memory_short c.in_ok-records.records c.in_ok-records.end _ first new _ gathered.0 gathered.1 in
-    shown_err c.from_residual-in_err-push_end.result _ Memory _ first new c.from_residual-in_err-push_end.ensures.1 (λ e q. q ∙ c.in_err-push_end.ensures.err) ends
+    shown_err c.from_residual-in_err-push_end.result _ Memory _ first new c.from_residual-in_err-push_end.ensures.1
+    (λ e q. q ∙ c.in_err-push_end.ensures.err) ends
 
 pub returns : goal.returns
 returns g c =
     let gathered = c.in_ok-records.ensures in
-    let first : Said = g.W.Sink.said c.args.output.now in
-    let old : Said = g.W.Sink.said c.list.new.output in
-    let new : Said = g.W.Sink.said c.write_out.new.output in
-    (gathered.0, listed c.in_ok-records.records c.in_ok-records.end _ first old new _ _ gathered.0 gathered.1 c.in_ok-push_end.ensures.ok c.in_ok-write_out.ensures.ok c.in_ok-write_out.ensures.fine)
+    let first : BytesWritten = g.W.Sink.written c.args.output.now in
+    let old : BytesWritten = g.W.Sink.written c.list.new.output in
+    let new : BytesWritten = g.W.Sink.written c.write_out.new.output in (
+      gathered.0,
+      listed c.in_ok-records.records c.in_ok-records.end _ first old new _ _ gathered.0 gathered.1
+          c.in_ok-push_end.ensures.ok c.in_ok-write_out.ensures.ok c.in_ok-write_out.ensures.fine,
+    )

@@ -5,8 +5,13 @@ use Rattle.mseed.proofs.words.command.Goals as goal
 
 pub returns : goal.returns
 returns c =
-    let one = subst (λ (a : App). app_of c.in_ok-command.command ≡ with_rule a word_rule) c.bare_command.ensures c.in_ok-command.ensures in
-    let two = subst (λ (a : App). app_of c.in_ok-command-2.command ≡ with_rule a places_rule) one c.in_ok-command-2.ensures in
-    let three = subst (λ (a : App). app_of c.in_ok-command-3.command ≡ with_rules a packing_rules) two c.in_ok-command-3.ensures in
-    let four = subst (λ (a : App). app_of c.in_ok-command-4.command ≡ with_rules a feed_rules) three c.in_ok-command-4.ensures in
-    subst (λ (a : App). IfOk c.with_numbers.result (λ c'. app_of c' ≡ with_rules a number_rules)) four c.with_numbers.ensures
+    let one = subst (λ (a : App). app_of c.in_ok-command.command ≡ with_rule a word_rule) c.bare_command.ensures
+    c.in_ok-command.ensures in
+    let two = subst (λ (a : App). app_of c.in_ok-command-2.command ≡ with_rule a places_rule) one
+    c.in_ok-command-2.ensures in
+    let three = subst (λ (a : App). app_of c.in_ok-command-3.command ≡ with_rules a packing_rules) two
+    c.in_ok-command-3.ensures in
+    let four = subst (λ (a : App). app_of c.in_ok-command-4.command ≡ with_rules a feed_rules) three
+    c.in_ok-command-4.ensures in
+    subst (λ (a : App). IfOk c.with_numbers.result (λ c'. app_of c' ≡ with_rules a number_rules)) four
+    c.with_numbers.ensures

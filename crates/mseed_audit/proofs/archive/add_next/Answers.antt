@@ -1,7 +1,7 @@
 use Rattle.std.proofs.Common.{◌≡◌, ◌++◌, ◌∷◌, [], ◌∙◌, ℕ, List, length, take, sym, ap, subst, arith, rules}
 use Rattle.mseed_record.specs.View.{View}
 use Rattle.mseed_record.specs.Viewing.{view_of}
-use Rattle.mseed_stream.specs.Device.{Heard}
+use Rattle.mseed_stream.specs.Device.{BytesRead}
 use Rattle.mseed_stream.specs.Walk.{HasHandedOut}
 use Rattle.mseed_audit.specs.Channels.{Added, added_from}
 use Rattle.mseed_audit.specs.Audit.{IsAuditOf}
@@ -13,13 +13,16 @@ returns-in-Some-clause-next g c = λ views before is.
     let view : View = view_of c.in-Some.view in
     let lent : List ℕ = g.R.Source.lent c.args.source.now in
     let shown = c.in-Some.ensures.record in
-    let same : view.bytes ≡ take (length c.bytes-size.result.now) lent = shown.1 ∙ ap (λ (xs : List ℕ). take (length xs) lent) (sym c.bytes-size.ensures.value) in
-    let calls = ap (λ (h : Heard). h.calls) c.pass.ensures.told in
+    let same : view.bytes ≡ take (length c.bytes-size.result.now) lent =
+    shown.1 ∙ ap (λ (xs : List ℕ). take (length xs) lent) (sym c.bytes-size.ensures.value) in
+    let calls = ap (λ (h : BytesRead). h.calls) c.pass.ensures.told in
     let added = rw c.offset-offset.ensures at c.in_ok-add.ensures.adds (added_from 0 views) is in
     record {
       view = view;
       handed = c.pass.ensures.handed views view before shown.0 same;
-      audit = subst (λ (xs : List Added). IsAuditOf c.add.new.self xs) (sym (added_more (g.R.Source.heard c.args.source.now).bytes c.args.cutter.now.offset views view before.records)) added;
+      audit = subst (λ (xs : List Added). IsAuditOf c.add.new.self xs)
+          (sym (added_more (g.R.Source.read c.args.source.now).bytes c.args.cutter.now.offset views view
+          before.records)) added;
       asked = omega (arith, calls);
       few = omega (arith, calls, c.requires.few, c.in_ok-add.ensures.number);
     }
@@ -29,12 +32,15 @@ returns-in_ok-add-in-Ok-Some-clause-next g c = λ views before is.
     let view : View = view_of c.in-Ok-Some.view in
     let some = c.in-Ok-Some.field-0-is in
     let asked = rw some at c.in-Ok-Some.ensures.asked in
-    let handed : HasHandedOut (g.R.Source.heard c.next.new.source) c.next.follows.lender-at-none (views ++ view ∷ []) = search rules in
+    let handed : HasHandedOut (g.R.Source.read c.next.new.source) c.next.follows.lender-at-none (views ++ view ∷ []) =
+    search rules in
     let added = rw c.offset-offset.ensures at c.in_ok-add-in-Ok-Some.ensures.adds (added_from 0 views) is in
     record {
       view = view;
       handed = handed;
-      audit = subst (λ (xs : List Added). IsAuditOf c.add-in-Ok-Some.new.self xs) (sym (added_more (g.R.Source.heard c.args.source.now).bytes c.args.cutter.now.offset views view before.records)) added;
+      audit = subst (λ (xs : List Added). IsAuditOf c.add-in-Ok-Some.new.self xs)
+          (sym (added_more (g.R.Source.read c.args.source.now).bytes c.args.cutter.now.offset views view
+          before.records)) added;
       asked = asked;
       few = omega (arith, asked, c.requires.few, c.in_ok-add-in-Ok-Some.ensures.number);
     }

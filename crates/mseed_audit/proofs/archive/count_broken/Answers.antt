@@ -5,7 +5,8 @@ use Rattle.mseed_audit.proofs.archive.count_broken.Goals.{then-not-is_continuous
 
 pub loop-verdict-preserved : goal.loop-verdict-preserved
 loop-verdict-preserved c =
-    let more = count_more c.args.verdicts.now c.loop-verdict.verdict-index c.loop-verdict-item.result c.loop-verdict-test.true c.loop-verdict-item.is in
+    let more = count_more c.args.verdicts.now c.loop-verdict.verdict-index c.loop-verdict-item.result
+    c.loop-verdict-test.true c.loop-verdict-item.is in
     let says = c.is_continuous.ensures in
     elim c.if-not-is_continuous.branch [
       | then-not-is_continuous w ↦ grind (arith, more, says, w, c.loop-verdict.invariant)

@@ -12,12 +12,15 @@ records-preserved g c =
       along = next.handed.along;
       few = next.few;
       added = (views ++ next.view ∷ [], (next.handed, next.audit));
-      more = tells_on (g.R.Source.heard c.args.source.now) (g.R.Source.heard c.records.source) (g.R.Source.heard c.add_next.new.source) _ _ _ c.records.invariant.more c.in_ok-add_next.ensures.more;
+      more = tells_on (g.R.Source.read c.args.source.now) (g.R.Source.read c.records.source)
+          (g.R.Source.read c.add_next.new.source) _ _ _ c.records.invariant.more c.in_ok-add_next.ensures.more;
       beside = c.in_ok-add_next.ensures.beside ∙ c.records.invariant.beside;
     }
 
 pub returns-in_err-add_next-clause-more : goal.returns-in_err-add_next-clause-more
-returns-in_err-add_next-clause-more g c = tells_on (g.R.Source.heard c.args.source.now) (g.R.Source.heard c.records.source) (g.R.Source.heard c.add_next.new.source) _ _ _ c.records.invariant.more c.add_next.ensures.more
+returns-in_err-add_next-clause-more g c =
+    tells_on (g.R.Source.read c.args.source.now) (g.R.Source.read c.records.source)
+    (g.R.Source.read c.add_next.new.source) _ _ _ c.records.invariant.more c.add_next.ensures.more
 
 pub returns-in-Ended-clause-gathered : goal.returns-in-Ended-clause-gathered
 returns-in-Ended-clause-gathered g c =
@@ -26,4 +29,5 @@ returns-in-Ended-clause-gathered g c =
     (views, rw c.in-Ended.is at c.in_ok-add_next.ensures.next views before.0 before.1)
 
 pub returns-in-Ended-clause-more : goal.returns-in-Ended-clause-more
-returns-in-Ended-clause-more g c = tells_on (g.R.Source.heard c.args.source.now) (g.R.Source.heard c.records.source) (g.R.Source.heard c.add_next.new.source) _ _ _ c.records.invariant.more c.add_next.ensures.more
+returns-in-Ended-clause-more g c = tells_on (g.R.Source.read c.args.source.now) (g.R.Source.read c.records.source)
+    (g.R.Source.read c.add_next.new.source) _ _ _ c.records.invariant.more c.add_next.ensures.more

@@ -8,12 +8,14 @@ use Rattle.mseed_audit.proofs.archive.gather.Given as goal
 
 abbrev pub invariant-records : goal.invariant-records
 invariant-records g l = record {
-  along : IsAlong (g.R.Source.heard l.source) l.cutter;
-  few : l.audit.added ≤ (g.R.Source.heard l.source).calls;
-  added : (views : List View) × (HasHandedOut (g.R.Source.heard l.source) l.cutter views × IsAuditOf l.audit (added_from 0 views));
-  more : TellsMore (g.R.Source.heard l.fn.source) (g.R.Source.heard l.source) (g.R.Source.remaining l.fn.source) (g.R.Source.remaining l.source);
+  along : IsAlong (g.R.Source.read l.source) l.cutter;
+  few : l.audit.added ≤ (g.R.Source.read l.source).calls;
+  added : (views : List View) × (HasHandedOut (g.R.Source.read l.source) l.cutter views
+      × IsAuditOf l.audit (added_from 0 views));
+  more : TellsMore (g.R.Source.read l.fn.source) (g.R.Source.read l.source) (g.R.Source.remaining l.fn.source)
+      (g.R.Source.remaining l.source);
   beside : g.R.Source.beside l.source ≡ g.R.Source.beside l.fn.source;
 }
 
 abbrev pub decreases-records : goal.decreases-records
-decreases-records g l = 2 ^ 40 + 1 - (g.R.Source.heard l.source).calls
+decreases-records g l = 2 ^ 40 + 1 - (g.R.Source.read l.source).calls

@@ -6,4 +6,5 @@ use Rattle.mseed_audit.specs.Series.{HoldsAll}
 use Rattle.mseed_audit.proofs.assembly.assemble.Given as goal
 
 abbrev pub invariant-loop-view : goal.invariant-loop-view
-invariant-loop-view g l = HoldsAll l.codes l.fn.start l.fn.rate (filter (is_of l.codes) (map view_of (take l.view-index l.views))) l.series
+invariant-loop-view g l =
+    HoldsAll l.codes l.fn.start l.fn.rate (filter (is_of l.codes) (map view_of (take l.view-index l.views))) l.series

@@ -10,7 +10,8 @@ assemble-requires g c =
     let key = c.args.codes.now in
     let vs : List View = map view_of c.args.views.now in
     let run = c.in-Continuous in
-    let is = continuous_by c.continuous_exactly.ensures c.in-Some.channel.verdict run.start run.rate run.records run.samples (records_of key (added_from 0 vs)) run.ensures c.in-Some.ensures.verdict in
+    let is = continuous_by c.continuous_exactly.ensures c.in-Some.channel.verdict run.start run.rate run.records
+    run.samples (records_of key (added_from 0 vs)) run.ensures c.in-Some.ensures.verdict in
     all_sound key vs is.1
 
 pub returns-in-Continuous : goal.returns-in-Continuous
@@ -18,5 +19,7 @@ returns-in-Continuous g c =
     let key = c.args.codes.now in
     let vs : List View = map view_of c.args.views.now in
     let run = c.in-Continuous in
-    let is = continuous_by c.continuous_exactly.ensures c.in-Some.channel.verdict run.start run.rate run.records run.samples (records_of key (added_from 0 vs)) run.ensures c.in-Some.ensures.verdict in
-    assembled key vs run.start run.rate run.records run.samples c.assemble.result is.0 is.1 c.assemble.ensures.holds c.assemble.ensures.memory
+    let is = continuous_by c.continuous_exactly.ensures c.in-Some.channel.verdict run.start run.rate run.records
+    run.samples (records_of key (added_from 0 vs)) run.ensures c.in-Some.ensures.verdict in
+    assembled key vs run.start run.rate run.records run.samples c.assemble.result is.0 is.1 c.assemble.ensures.holds
+    c.assemble.ensures.memory

@@ -11,7 +11,8 @@ use Rattle.mseed_audit.specs.Audit.{IsTailOf}
 use Rattle.mseed_audit.specs.Kept.{IsTailBefore}
 use Rattle.mseed_audit.proofs.Judged.{after_none, after_some, found_whole}
 use Rattle.mseed_audit.proofs.channel.judge.Goals as goal
-use Rattle.mseed_audit.proofs.channel.judge.Goals.{in-Ok-check_samples+in-Some, in-Ok-check_samples+in-None, in-Err-check_samples}
+use Rattle.mseed_audit.proofs.channel.judge.Goals.{in-Ok-check_samples+in-Some, in-Ok-check_samples+in-None}
+use Rattle.mseed_audit.proofs.channel.judge.Goals.{in-Err-check_samples}
 
 pub returns-clause-why : goal.returns-clause-why
 returns-clause-why c = λ b before.
@@ -20,17 +21,24 @@ returns-clause-why c = λ b before.
     let known : known_rate v ≡ Some next = c.in-Ok.ensures.ok.rate in
     subst (λ (why : Option Why). IsFound b v why) (sym c.with_end.ensures.why) (elim c.match-check_samples.branch [
       | in-Ok-check_samples+in-Some w ↦
-          let kept : IsTailBefore (Some w.in-Some.before) b = subst (λ (t : Option Tail). IsTailBefore t b) w.in-Some.is before in
+          let kept : IsTailBefore (Some w.in-Some.before) b =
+          subst (λ (t : Option Tail). IsTailBefore t b) w.in-Some.is before in
           let whole = w.in-Ok-check_samples.ensures.ends in
-          found_whole b v next whole.0 c.match-check_samples.why known whole.1.0 whole.1.1 (after_some w.in-Some.before b v next w.break_to.result kept (λ before-view tail. w.break_to.ensures before-view v tail c.in-Ok.ensures.ok) ∙ sym w.why-is)
+          found_whole b v next whole.0 c.match-check_samples.why known whole.1.0 whole.1.1
+          (after_some w.in-Some.before b v next w.break_to.result kept
+          (λ before-view tail. w.break_to.ensures before-view v tail c.in-Ok.ensures.ok) ∙ sym w.why-is)
       | in-Ok-check_samples+in-None w ↦
           let kept : IsTailBefore None b = subst (λ (t : Option Tail). IsTailBefore t b) w.in-None.is before in
           let whole = w.in-Ok-check_samples.ensures.ends in
-          found_whole b v next whole.0 c.match-check_samples.why known whole.1.0 whole.1.1 (after_none b v next kept ∙ sym w.why-is)
+          found_whole b v next whole.0 c.match-check_samples.why known whole.1.0 whole.1.1 (after_none b v next kept
+          ∙ sym w.why-is)
       | in-Err-check_samples w ↦
-          let fault : IsFault v w.in-Err-check_samples.fault = (w.in-Err-check_samples.ensures.fault w.in-Err-check_samples.fault).0 refl in
-          subst (λ (why : Option Why). IsFound b v why) (sym w.why-is) (read next known w.in-Err-check_samples.fault fault)
+          let fault : IsFault v w.in-Err-check_samples.fault =
+          (w.in-Err-check_samples.ensures.fault w.in-Err-check_samples.fault).0 refl in
+          subst (λ (why : Option Why). IsFound b v why) (sym w.why-is)
+          (read next known w.in-Err-check_samples.fault fault)
     ])
 
 pub returns-clause-tail : goal.returns-clause-tail
-returns-clause-tail c = subst (λ (t : Option Tail). IsTailOf t (view_of c.args.view.now)) (sym c.with_end.ensures.tail) c.in-Ok.ensures.ok
+returns-clause-tail c = subst (λ (t : Option Tail). IsTailOf t (view_of c.args.view.now)) (sym c.with_end.ensures.tail)
+    c.in-Ok.ensures.ok

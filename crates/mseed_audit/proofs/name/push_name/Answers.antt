@@ -1,7 +1,7 @@
 use Rattle.std.proofs.Common.{append_assoc}
 use Rattle.std.proofs.lemmas.Result.{IfOk-equal}
-use Rattle.mseed_stream.specs.Device.{IsFrontOf}
-use Rattle.mseed_audit.proofs.Pieces.{front_trans}
+use Rattle.mseed_stream.specs.Device.{IsPrefixOf}
+use Rattle.mseed_audit.proofs.Pieces.{prefix_trans}
 use Rattle.mseed_audit.proofs.name.push_name.Goals as goal
 
 pub returns-clause-ok : goal.returns-clause-ok
@@ -15,14 +15,20 @@ returns-clause-ok g c =
     let a7 = rw (a6, c.channel.ensures) at c.push_code-4.ensures.ok in
     IfOk-equal c.push_code-4.result _ _ _ a7 (simp append_assoc)
 
-pub returns-in_err-push_parts-3-clause-front : goal.returns-in_err-push_parts-3-clause-front
-returns-in_err-push_parts-3-clause-front g c =
-    let code : IsFrontOf c.args.text.now.items c.push_parts.new.text.items = front_trans _ _ _ c.push_code.ensures.front c.push_parts.ensures.front in
-    let codes : IsFrontOf c.args.text.now.items c.push_parts-2.new.text.items = front_trans _ _ _ code (front_trans _ _ _ c.push_code-2.ensures.front c.push_parts-2.ensures.front) in
-    front_trans _ _ _ codes (front_trans _ _ _ c.push_code-3.ensures.front c.push_parts-3.ensures.front)
+pub returns-in_err-push_parts-3-clause-prefix : goal.returns-in_err-push_parts-3-clause-prefix
+returns-in_err-push_parts-3-clause-prefix g c =
+    let code : IsPrefixOf c.args.text.now.items c.push_parts.new.text.items =
+    prefix_trans _ _ _ c.push_code.ensures.prefix c.push_parts.ensures.prefix in
+    let codes : IsPrefixOf c.args.text.now.items c.push_parts-2.new.text.items =
+    prefix_trans _ _ _ code (prefix_trans _ _ _ c.push_code-2.ensures.prefix c.push_parts-2.ensures.prefix) in
+    prefix_trans _ _ _ codes (prefix_trans _ _ _ c.push_code-3.ensures.prefix c.push_parts-3.ensures.prefix)
 
-pub returns-clause-front : goal.returns-clause-front
-returns-clause-front g c =
-    let code : IsFrontOf c.args.text.now.items c.push_parts.new.text.items = front_trans _ _ _ c.push_code.ensures.front c.push_parts.ensures.front in
-    let codes : IsFrontOf c.args.text.now.items c.push_parts-2.new.text.items = front_trans _ _ _ code (front_trans _ _ _ c.push_code-2.ensures.front c.push_parts-2.ensures.front) in
-    front_trans _ _ _ codes (front_trans _ _ _ (front_trans _ _ _ c.push_code-3.ensures.front c.push_parts-3.ensures.front) c.push_code-4.ensures.front)
+pub returns-clause-prefix : goal.returns-clause-prefix
+returns-clause-prefix g c =
+    let code : IsPrefixOf c.args.text.now.items c.push_parts.new.text.items =
+    prefix_trans _ _ _ c.push_code.ensures.prefix c.push_parts.ensures.prefix in
+    let codes : IsPrefixOf c.args.text.now.items c.push_parts-2.new.text.items =
+    prefix_trans _ _ _ code (prefix_trans _ _ _ c.push_code-2.ensures.prefix c.push_parts-2.ensures.prefix) in
+    prefix_trans _ _ _ codes
+    (prefix_trans _ _ _ (prefix_trans _ _ _ c.push_code-3.ensures.prefix c.push_parts-3.ensures.prefix)
+    c.push_code-4.ensures.prefix)

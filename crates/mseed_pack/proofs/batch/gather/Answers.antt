@@ -34,11 +34,14 @@ loop-out-preserved c =
     let same : l.bytes + size - l.bytes ≡ size = omega arith in
     let buf_long : length buf ≡ size = (let e : length buf ≡ l.bytes + size - l.bytes = search rules in e) ∙ same in
     let kept : length (put_mid l.bytes (l.bytes + size - l.bytes) l.out buf) ≡ length l.out = search rules in
-    let front : take (l.bytes + size) (put_mid l.bytes (l.bytes + size - l.bytes) l.out buf) ≡ take l.bytes l.out ++ buf = take-put_mid l.bytes (l.bytes + size - l.bytes) l.out buf (l.bytes + size) (omega (arith, buf_long)) (omega (arith, within)) in
+    let prefix : take (l.bytes + size) (put_mid l.bytes (l.bytes + size - l.bytes) l.out buf) ≡ take l.bytes l.out
+    ++ buf = take-put_mid l.bytes (l.bytes + size - l.bytes) l.out buf (l.bytes + size) (omega (arith, buf_long))
+    (omega (arith, within)) in
     record {
       held = c.put_record-next.ensures.held;
       standing = c.put_record-next.ensures.standing;
-      on = subst (λ (b : List ℕ). PacksOn s o c.args.place next b) (sym front) (on_join s o c.args.place l.next next (take l.bytes l.out) buf l.invariant.on c.put_record-next.ensures.on);
+      on = subst (λ (b : List ℕ). PacksOn s o c.args.place next b) (sym prefix)
+          (on_join s o c.args.place l.next next (take l.bytes l.out) buf l.invariant.on c.put_record-next.ensures.on);
       within = omega (arith, kept, room);
       order = omega (arith, order, more);
       some = omega (arith, order, some, more, short);

@@ -22,5 +22,11 @@ write_record-count-requires-clause-whole c =
 pub returns-clause-on : goal.returns-clause-on
 returns-clause-on c =
     let n = c.write_record-count.result in
-    on_one (trace_of c.args.series.now) c.args.options.now c.args.place (record { stretch = c.stretch_at-stretch.result; number = c.args.place.number + 1; first = c.args.place.first + n }) n c.write_record-count.new.out refl refl
-    (omega (arith, c.write_record-count.ensures.within, c.stretch_at-stretch.ensures.most)) c.write_record-count.ensures.packed
+    on_one (trace_of c.args.series.now) c.args.options.now c.args.place
+    (record {
+      stretch = c.stretch_at-stretch.result;
+      number = c.args.place.number + 1;
+      first = c.args.place.first + n;
+    }) n c.write_record-count.new.out refl refl
+    (omega (arith, c.write_record-count.ensures.within, c.stretch_at-stretch.ensures.most))
+    c.write_record-count.ensures.packed

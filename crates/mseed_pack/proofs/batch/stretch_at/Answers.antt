@@ -6,8 +6,14 @@ pub returns-then-first-stretch : goal.returns-then-first-stretch
 returns-then-first-stretch c =
     let n = c.next_stretch in
     let begin = n.ensures.begin in
-    let ends = end_inside c.args.series.now.steps.now (length c.args.series.now.samples.now) n.result n.ensures.stretch (omega (arith, begin, c.if-first-stretch.true, c.requires.more)) in
-    record { standing = n.ensures.stretch; begun = omega (arith, begin, c.if-first-stretch.true); inside = omega (arith, begin, ends.0, c.if-first-stretch.true); most = ends.1 }
+    let ends = end_inside c.args.series.now.steps.now (length c.args.series.now.samples.now) n.result n.ensures.stretch
+    (omega (arith, begin, c.if-first-stretch.true, c.requires.more)) in
+    record {
+      standing = n.ensures.stretch;
+      begun = omega (arith, begin, c.if-first-stretch.true);
+      inside = omega (arith, begin, ends.0, c.if-first-stretch.true);
+      most = ends.1;
+    }
 
 pub returns-else-first-stretch : goal.returns-else-first-stretch
 returns-else-first-stretch c = record {

@@ -8,5 +8,8 @@ pub returns-in-Ok-of_micros-clause-none : goal.returns-in-Ok-of_micros-clause-no
 returns-in-Ok-of_micros-clause-none c =
     let value = c.in-Some.ensures.value in
     let whole = c.in-Ok.ensures.1 in
-    let same : c.in-Some.micros ≡ c.args.instant = omega (arith, ints, value, whole) in
-    (λ e. cc, λ out. absurd (false≢true (c.in-Ok-of_micros.ensures.out_of_range.1 (subst (λ (t : ℤ). IsOutside t) (sym same) out))))
+    let same : c.in-Some.micros ≡ c.args.instant = omega (arith, ints, value, whole) in (
+      λ e. cc,
+      λ out. absurd (false≢true
+          (c.in-Ok-of_micros.ensures.out_of_range.1 (subst (λ (t : ℤ). IsOutside t) (sym same) out))),
+    )

@@ -3,4 +3,5 @@ use Rattle.mseed_pack.proofs.Misfits.{near_differences}
 use Rattle.mseed_pack.proofs.fitting.first_wide_difference.Goals as goal
 
 pub returns-then-are_within-clause-none : goal.returns-then-are_within-clause-none
-returns-then-are_within-clause-none c = near_differences c.args.encoding c.args.samples.now (c.if-are_within.ensures.0 refl)
+returns-then-are_within-clause-none c =
+    near_differences c.args.encoding c.args.samples.now (c.if-are_within.ensures.0 refl)

@@ -11,7 +11,9 @@ returns-then-early c =
     let stretch = c.loop-stretch.stretch in
     let h = c.loop-stretch.invariant in
     let ends = end_inside c.args.steps.now c.args.size stretch h.standing c.loop-stretch-test.true in
-    let out = subst (λ (z : ℤ). IsOutside z) (reading_in c.args.start (ratio_of c.args.rate) c.args.steps.now c.args.size stretch stretch.begin h.standing (omega arith) ends.0) (c.if-early.ensures.0 refl) in
+    let out = subst (λ (z : ℤ). IsOutside z)
+    (reading_in c.args.start (ratio_of c.args.rate) c.args.steps.now c.args.size stretch stretch.begin h.standing
+    (omega arith) ends.0) (c.if-early.ensures.0 refl) in
     (λ _. (stretch.begin, (c.loop-stretch-test.true, out)), λ _. refl)
 
 pub returns-then-late : goal.returns-then-late
@@ -19,7 +21,9 @@ returns-then-late c =
     let stretch = c.loop-stretch.stretch in
     let h = c.loop-stretch.invariant in
     let ends = end_inside c.args.steps.now c.args.size stretch h.standing c.loop-stretch-test.true in
-    let out = subst (λ (z : ℤ). IsOutside z) (reading_in c.args.start (ratio_of c.args.rate) c.args.steps.now c.args.size stretch (stretch.end - 1) h.standing (omega (arith, ends.0)) (omega (arith, ends.0))) (c.if-late.ensures.0 refl) in
+    let out = subst (λ (z : ℤ). IsOutside z)
+    (reading_in c.args.start (ratio_of c.args.rate) c.args.steps.now c.args.size stretch (stretch.end - 1)
+    h.standing (omega (arith, ends.0)) (omega (arith, ends.0))) (c.if-late.ensures.0 refl) in
     (λ _. (stretch.end - 1, (omega (arith, ends.0, ends.1), out)), λ _. refl)
 
 pub returns-then-stretch-size : goal.returns-then-stretch-size
@@ -33,18 +37,22 @@ returns-then-stretch-size c =
           (λ (less : out.0 < stretch.begin). h.timed out.0 less out.1.1)
           (λ (more : stretch.begin ≤ out.0).
           let inside = out.1.0 in
-          stretch_timed c.args.start (ratio_of c.args.rate) c.args.steps.now c.args.size stretch (stretch.end - 1) h.standing (omega (arith, ends.0)) (omega (arith, ends.0)) (λ o. false≢true (c.if-early.ensures.1 o)) (λ o. false≢true (c.if-late.ensures.1 o)) out.0 more (omega (arith, end, inside)) out.1.1)
+          stretch_timed c.args.start (ratio_of c.args.rate) c.args.steps.now c.args.size stretch (stretch.end - 1)
+          h.standing (omega (arith, ends.0)) (omega (arith, ends.0)) (λ o. false≢true (c.if-early.ensures.1 o))
+          (λ o. false≢true (c.if-late.ensures.1 o)) out.0 more (omega (arith, end, inside)) out.1.1)
           (cases_lt out.0 stretch.begin)),
     )
 
 pub next_stretch-stretch-requires-clause-more : goal.next_stretch-stretch-requires-clause-more
 next_stretch-stretch-requires-clause-more c =
-    let ends = end_inside c.args.steps.now c.args.size c.loop-stretch.stretch c.loop-stretch.invariant.standing c.loop-stretch-test.true in
+    let ends = end_inside c.args.steps.now c.args.size c.loop-stretch.stretch c.loop-stretch.invariant.standing
+    c.loop-stretch-test.true in
     omega (arith, ends.1, c.if-stretch-size.false)
 
 pub loop-stretch-smaller : goal.loop-stretch-smaller
 loop-stretch-smaller c =
-    let ends = end_inside c.args.steps.now c.args.size c.loop-stretch.stretch c.loop-stretch.invariant.standing c.loop-stretch-test.true in
+    let ends = end_inside c.args.steps.now c.args.size c.loop-stretch.stretch c.loop-stretch.invariant.standing
+    c.loop-stretch-test.true in
     omega (arith, ends.0, ends.1, c.next_stretch-stretch.ensures.begin, c.loop-stretch-test.true)
 
 pub loop-stretch-preserved : goal.loop-stretch-preserved
@@ -57,6 +65,9 @@ loop-stretch-preserved c =
       timed = λ i before. ⊎_elim
           (λ (less : i < stretch.begin). h.timed i less)
           (λ (more : stretch.begin ≤ i).
-          stretch_timed c.args.start (ratio_of c.args.rate) c.args.steps.now c.args.size stretch (stretch.end - 1) h.standing (omega (arith, ends.0)) (omega (arith, ends.0)) (λ o. false≢true (c.if-early.ensures.1 o)) (λ o. false≢true (c.if-late.ensures.1 o)) i more (omega (arith, before, c.next_stretch-stretch.ensures.begin)))
+          stretch_timed c.args.start (ratio_of c.args.rate) c.args.steps.now c.args.size stretch (stretch.end - 1)
+          h.standing (omega (arith, ends.0)) (omega (arith, ends.0)) (λ o. false≢true (c.if-early.ensures.1 o))
+          (λ o. false≢true (c.if-late.ensures.1 o)) i more
+          (omega (arith, before, c.next_stretch-stretch.ensures.begin)))
           (cases_lt i stretch.begin);
     }

@@ -1,39 +1,51 @@
-use Rattle.std.proofs.Common.{◌≡◌, ◌≢◌, ◌<◌, ◌+◌, ◌-◌, ℕ, ℤ, List, pos, negsuc, ◌-ℤ◌, arith, get_or, length, ap, sym, subst, ◌∙◌, rules, FitsSigned, w32, to_z, of_z}
+use Rattle.std.proofs.Common.{◌≡◌, ◌≢◌, ◌<◌, ◌+◌, ◌-◌, ℕ, ℤ, List, pos, negsuc, ◌-ℤ◌, arith, get_or, length, ap, sym}
+use Rattle.std.proofs.Common.{subst, ◌∙◌, rules, FitsSigned, w32, to_z, of_z}
 use Rattle.std.proofs.lemmas.Int.{ints, to_z-of_z}
 use Rattle.mseed_steim.specs.Spelling.{IsWithin}
 use Rattle.mseed_pack.specs.Stretches.{differences}
 use Rattle.mseed_pack.proofs.Differences.{difference_at}
 use Rattle.mseed_pack.proofs.frames.difference_behind.Goals as goal
 
-is : (xs : List ℤ) (index : ℕ) → index ≢ 0 → index < length xs → get_or (differences xs) index (pos 0) ≡ get_or xs index (pos 0) -ℤ get_or xs (index - 1) (pos 0)
+is : (xs : List ℤ) (index : ℕ) → index ≢ 0 → index < length xs
+    → get_or (differences xs) index (pos 0) ≡ get_or xs index (pos 0) -ℤ get_or xs (index - 1) (pos 0)
 is xs index some inside =
     let i = index - 1 in
     let place : i + 1 ≡ index = omega (arith, some) in
-    let at : get_or (differences xs) (i + 1) (pos 0) ≡ get_or xs (i + 1) (pos 0) -ℤ get_or xs i (pos 0) = difference_at xs i (omega (arith, place, inside)) in
-    ap (λ (n : ℕ). get_or (differences xs) n (pos 0)) (sym place) ∙ at ∙ ap (λ (n : ℕ). get_or xs n (pos 0) -ℤ get_or xs i (pos 0)) place
+    let at : get_or (differences xs) (i + 1) (pos 0) ≡ get_or xs (i + 1) (pos 0) -ℤ get_or xs i (pos 0) =
+    difference_at xs i (omega (arith, place, inside)) in
+    ap (λ (n : ℕ). get_or (differences xs) n (pos 0)) (sym place) ∙ at
+    ∙ ap (λ (n : ℕ). get_or xs n (pos 0) -ℤ get_or xs i (pos 0)) place
 
 within_fits : (z : ℤ) → IsWithin 32 z → FitsSigned w32 z
 within_fits (pos n) h = let high = h.1 in record { sfits = omega (arith, ints, high) }
 within_fits (negsuc n) h = let low = h.0 in record { sfits = omega (arith, ints, low) }
 
-fits : (xs : List ℤ) (index : ℕ) → index ≢ 0 → index < length xs → IsWithin 32 (get_or (differences xs) index (pos 0)) → FitsSigned w32 (get_or xs index (pos 0) -ℤ get_or xs (index - 1) (pos 0))
-fits xs index some inside h = subst (λ (z : ℤ). FitsSigned w32 z) (is xs index some inside) (within_fits (get_or (differences xs) index (pos 0)) h)
+fits : (xs : List ℤ) (index : ℕ) → index ≢ 0 → index < length xs → IsWithin 32 (get_or (differences xs) index (pos 0))
+    → FitsSigned w32 (get_or xs index (pos 0) -ℤ get_or xs (index - 1) (pos 0))
+fits xs index some inside h =
+    subst (λ (z : ℤ). FitsSigned w32 z) (is xs index some inside)
+    (within_fits (get_or (differences xs) index (pos 0)) h)
 
 pub overflow_sub-result-2 : goal.overflow_sub-result-2
 overflow_sub-result-2 c =
     let xs = c.args.samples.now in
     let index = c.args.index in
-    let one : to_z w32 (of_z w32 (get_or xs index (pos 0))) ≡ get_or xs index (pos 0) = to_z-of_z w32 _ (search rules) in
-    let two : to_z w32 (of_z w32 (get_or xs (index - 1) (pos 0))) ≡ get_or xs (index - 1) (pos 0) = to_z-of_z w32 _ (search rules) in
+    let one : to_z w32 (of_z w32 (get_or xs index (pos 0))) ≡ get_or xs index (pos 0) =
+    to_z-of_z w32 _ (search rules) in
+    let two : to_z w32 (of_z w32 (get_or xs (index - 1) (pos 0))) ≡ get_or xs (index - 1) (pos 0) =
+    to_z-of_z w32 _ (search rules) in
     subst (λ (z : ℤ). FitsSigned w32 (z -ℤ to_z w32 (of_z w32 (get_or xs (index - 1) (pos 0))))) (sym one)
-    (subst (λ (z : ℤ). FitsSigned w32 (get_or xs index (pos 0) -ℤ z)) (sym two) (fits xs index (λ e. omega (arith, e, c.requires.some)) c.requires.inside c.requires.fits))
+    (subst (λ (z : ℤ). FitsSigned w32 (get_or xs index (pos 0) -ℤ z)) (sym two)
+    (fits xs index (λ e. omega (arith, e, c.requires.some)) c.requires.inside c.requires.fits))
 
 pub returns : goal.returns
 returns c =
     let xs = c.args.samples.now in
     let index = c.args.index in
-    let one : to_z w32 (of_z w32 (get_or xs index (pos 0))) ≡ get_or xs index (pos 0) = to_z-of_z w32 _ (search rules) in
-    let two : to_z w32 (of_z w32 (get_or xs (index - 1) (pos 0))) ≡ get_or xs (index - 1) (pos 0) = to_z-of_z w32 _ (search rules) in
+    let one : to_z w32 (of_z w32 (get_or xs index (pos 0))) ≡ get_or xs index (pos 0) =
+    to_z-of_z w32 _ (search rules) in
+    let two : to_z w32 (of_z w32 (get_or xs (index - 1) (pos 0))) ≡ get_or xs (index - 1) (pos 0) =
+    to_z-of_z w32 _ (search rules) in
     ap (λ (z : ℤ). to_z w32 (of_z w32 (z -ℤ to_z w32 (of_z w32 (get_or xs (index - 1) (pos 0)))))) one
     ∙ ap (λ (z : ℤ). to_z w32 (of_z w32 (get_or xs index (pos 0) -ℤ z))) two
     ∙ to_z-of_z w32 _ (fits xs index (λ e. omega (arith, e, c.requires.some)) c.requires.inside c.requires.fits)

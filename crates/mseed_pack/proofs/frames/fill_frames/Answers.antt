@@ -14,7 +14,8 @@ returns-in-Err c =
     let room : length w.differences ≡ 7056 = search rules in
     let drawn = held_part xs w c.args.first n c.hold.ensures.held c.hold.ensures.first c.hold.ensures.end room in
     let large = (c.in-Err.ensures.refused c.in-Err.field-0.index).0 refl in
-    absurd (none_large c.args.scheme xs c.args.first n c.in-Err.field-0.index (slice_range w.differences (c.args.first - w.first) (c.args.first - w.first + n)) drawn
+    absurd (none_large c.args.scheme xs c.args.first n c.in-Err.field-0.index
+    (slice_range w.differences (c.args.first - w.first) (c.args.first - w.first + n)) drawn
     (omega (arith, c.min-count.ensures, c.requires.some, c.requires.inside)) c.requires.fits large.0.0)
 
 pub finish-requires : goal.finish-requires
@@ -29,7 +30,8 @@ finish-requires c =
     let drawn = held_part xs w c.args.first n c.hold.ensures.held c.hold.ensures.first c.hold.ensures.end room in
     let size : length frames ≡ length c.args.payload.now = search rules in
     let fills : Fills c.args.scheme xs c.args.first c.args.end n used words frames =
-    fills_by c.args.scheme xs c.args.first c.args.end n used words (length c.args.payload.now) frames (slice_range w.differences (c.args.first - w.first) (c.args.first - w.first + n)) drawn
+    fills_by c.args.scheme xs c.args.first c.args.end n used words (length c.args.payload.now) frames
+    (slice_range w.differences (c.args.first - w.first) (c.args.first - w.first + n)) drawn
     c.requires.some c.requires.inside c.min-count.ensures size c.requires.long c.requires.whole
     c.in-Ok.ensures.packed c.in-Ok.ensures.inside c.in-Ok.ensures.whole c.in-Ok.ensures.behind c.in-Ok.ensures.codes in
     let some = some_used_of c.args.scheme xs c.args.first c.args.end n used words frames fills in
@@ -54,14 +56,17 @@ returns-in-Ok c =
     let drawn = held_part xs w c.args.first n c.hold.ensures.held c.hold.ensures.first c.hold.ensures.end room in
     let size : length frames ≡ length c.args.payload.now = search rules in
     let fills : Fills c.args.scheme xs c.args.first c.args.end n packed words frames =
-    fills_by c.args.scheme xs c.args.first c.args.end n packed words (length c.args.payload.now) frames (slice_range w.differences (c.args.first - w.first) (c.args.first - w.first + n)) drawn
+    fills_by c.args.scheme xs c.args.first c.args.end n packed words (length c.args.payload.now) frames
+    (slice_range w.differences (c.args.first - w.first) (c.args.first - w.first + n)) drawn
     c.requires.some c.requires.inside c.min-count.ensures size c.requires.long c.requires.whole
     c.in-Ok.ensures.packed c.in-Ok.ensures.inside c.in-Ok.ensures.whole c.in-Ok.ensures.behind c.in-Ok.ensures.codes in
     let some = some_used_of c.args.scheme xs c.args.first c.args.end n packed words frames fills in
     let few = used_most c.args.scheme xs c.args.first c.args.end n packed words frames fills in
     let used : c.finish.result.samples ≡ packed = c.finish.ensures.samples in
-    let held : HoldsFrames c.args.scheme (slice_range (differences xs) c.args.first c.args.end) (slice_range xs c.args.first (c.args.first + packed)) ((words + 16) / 15) c.finish.new.payload =
-    holds c.args.scheme xs c.args.first c.args.end n packed words frames c.finish.new.payload fills (search rules) c.finish.ensures.set in
+    let held : HoldsFrames c.args.scheme (slice_range (differences xs) c.args.first c.args.end)
+    (slice_range xs c.args.first (c.args.first + packed)) ((words + 16) / 15) c.finish.new.payload =
+    holds c.args.scheme xs c.args.first c.args.end n packed words frames c.finish.new.payload fills (search rules)
+    c.finish.ensures.set in
     record {
       held = c.hold.ensures.held;
       holds = rw (used, c.finish.ensures.frames) held;

@@ -11,6 +11,10 @@ returns c =
     let xs = c.args.samples.now in
     let n = length c.args.out.now in
     let kept : length c.loop-index.out ≡ n = search rules in
-    let size : length (slice_range (differences xs) c.args.first (c.args.first + n)) ≡ c.args.first + n - c.args.first = length_part (differences xs) c.args.first (c.args.first + n) (omega arith) (omega (arith, c.requires.inside, length-differences xs)) in
-    ext_get_or (pos 0) c.loop-index.out (slice_range (differences xs) c.args.first (c.args.first + n)) (omega (arith, size, kept))
-    (λ k h. c.loop-index.invariant k (omega (arith, h, c.loop-index.auto.out, c.loop-index-test.false)) ∙ sym (part_at (differences xs) c.args.first (c.args.first + n) k (omega (arith, h, kept))))
+    let size : length (slice_range (differences xs) c.args.first (c.args.first + n)) ≡ c.args.first + n
+    - c.args.first = length_part (differences xs) c.args.first (c.args.first + n) (omega arith)
+    (omega (arith, c.requires.inside, length-differences xs)) in
+    ext_get_or (pos 0) c.loop-index.out (slice_range (differences xs) c.args.first (c.args.first + n))
+    (omega (arith, size, kept))
+    (λ k h. c.loop-index.invariant k (omega (arith, h, c.loop-index.auto.out, c.loop-index-test.false))
+    ∙ sym (part_at (differences xs) c.args.first (c.args.first + n) k (omega (arith, h, kept))))

@@ -1,4 +1,5 @@
-use Rattle.std.proofs.Common.{◌≡◌, ◌<◌, ◌≤◌, ◌+◌, ◌-◌, ◌*◌, ◌/◌, ◌++◌, ℕ, ℤ, pos, List, length, take, drop, get_or, ap, sym, ◌∙◌, arith, rules}
+use Rattle.std.proofs.Common.{◌≡◌, ◌<◌, ◌≤◌, ◌+◌, ◌-◌, ◌*◌, ◌/◌, ◌++◌, ℕ, ℤ, pos, List, length, take, drop, get_or, ap}
+use Rattle.std.proofs.Common.{sym, ◌∙◌, arith, rules}
 use Rattle.std.specs.List.{flat_map}
 use Rattle.std.specs.Prelude.{slice_range}
 use Rattle.std.proofs.Math.Nat.{mul-div-le, mul-le-mul_left}
@@ -20,7 +21,7 @@ loop-index-preserved c =
     let old = c.args.payload.now in
     let size = length old in
     let same : r ≡ w = c.loop-index.invariant.bytes_are in
-    let front : List ℕ = flat_map (λ (z : ℤ). integer_bytes w z) (slice_range xs first (first + index)) in
+    let prefix : List ℕ = flat_map (λ (z : ℤ). integer_bytes w z) (slice_range xs first (first + index)) in
     let long : length p ≡ size = search rules in
     let count = c.min-count.ensures in
     let test = c.loop-index-test.true in
@@ -28,16 +29,24 @@ loop-index-preserved c =
     let most : r * (size / r) ≤ size = mul-div-le size r in
     let each : r * (index + 1) ≤ r * (size / r) = mul-le-mul_left r more in
     let inside : first + index < length xs = omega (arith, count, test, c.requires.inside, c.requires.some) in
-    let part : length (slice_range xs first (first + index)) ≡ first + index - first = length_part xs first (first + index) (omega arith) (omega (arith, inside)) in
+    let part : length (slice_range xs first (first + index)) ≡ first + index - first =
+    length_part xs first (first + index) (omega arith) (omega (arith, inside)) in
     let index_is : first + index - first ≡ index = omega arith in
-    let front_long : length front ≡ r * index = length_flat w (slice_range xs first (first + index)) ∙ ap (λ (n : ℕ). w * n) (part ∙ index_is) ∙ ap (λ (n : ℕ). n * index) (sym same) in
-    let parts : p ≡ front ++ drop (r * index) old = c.loop-index.invariant.written ∙ ap (λ (n : ℕ). front ++ drop (n * index) old) (sym same) in
+    let prefix_long : length prefix ≡ r * index = length_flat w (slice_range xs first (first + index))
+    ∙ ap (λ (n : ℕ). w * n) (part ∙ index_is) ∙ ap (λ (n : ℕ). n * index) (sym same) in
+    let parts : p ≡ prefix ++ drop (r * index) old = c.loop-index.invariant.written
+    ∙ ap (λ (n : ℕ). prefix ++ drop (n * index) old) (sym same) in
     let all : take (length p - r * index) (drop (r * index) p) ≡ drop (r * index) p = take_rest p (r * index) in
     let bytes : List ℕ = integer_bytes w (get_or xs (first + index) (pos 0)) in
-    let put : c.put_sample.new.out ≡ bytes ++ drop r (drop (r * index) p) = c.put_sample.ensures ∙ ap (λ (l : List ℕ). bytes ++ drop w l) all ∙ ap (λ (n : ℕ). bytes ++ drop n (drop (r * index) p)) (sym same) in
-    let next : put_mid (r * index) (length p - r * index) p c.put_sample.new.out ≡ (front ++ bytes) ++ drop (r * (index + 1)) old =
-    one_more r size index front bytes p old c.put_sample.new.out front_long (omega (arith, most, each)) long parts put in
+    let put : c.put_sample.new.out ≡ bytes ++ drop r (drop (r * index) p) = c.put_sample.ensures
+    ∙ ap (λ (l : List ℕ). bytes ++ drop w l) all
+    ∙ ap (λ (n : ℕ). bytes ++ drop n (drop (r * index) p)) (sym same) in
+    let next : put_mid (r * index) (length p - r * index) p c.put_sample.new.out ≡ (prefix ++ bytes) ++ drop
+    (r * (index + 1)) old =
+    one_more r size index prefix bytes p old c.put_sample.new.out prefix_long (omega (arith, most, each)) long parts
+    put in
     record {
       bytes_are = same;
-      written = next ∙ ap (λ (n : ℕ). (front ++ bytes) ++ drop (n * (index + 1)) old) same ∙ ap (λ (l : List ℕ). l ++ drop (w * (index + 1)) old) (sym (flat_more w xs first index inside));
+      written = next ∙ ap (λ (n : ℕ). (prefix ++ bytes) ++ drop (n * (index + 1)) old) same
+          ∙ ap (λ (l : List ℕ). l ++ drop (w * (index + 1)) old) (sym (flat_more w xs first index inside));
     }

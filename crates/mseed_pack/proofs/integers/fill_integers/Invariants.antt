@@ -7,5 +7,6 @@ use Rattle.mseed_pack.proofs.integers.fill_integers.Given as goal
 abbrev pub invariant-loop-index : goal.invariant-loop-index
 invariant-loop-index l = record {
   bytes_are : l.bytes ≡ bytes_in l.width;
-  written : l.payload ≡ flat_map (λ (z : ℤ). integer_bytes (bytes_in l.width) z) (slice_range l.samples l.first (l.first + l.index)) ++ drop (bytes_in l.width * l.index) l.fn.payload;
+  written : l.payload ≡ flat_map (λ (z : ℤ). integer_bytes (bytes_in l.width) z)
+      (slice_range l.samples l.first (l.first + l.index)) ++ drop (bytes_in l.width * l.index) l.fn.payload;
 }

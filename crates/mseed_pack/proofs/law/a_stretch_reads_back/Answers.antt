@@ -8,7 +8,8 @@ pub returns-clause-continuous : goal.returns-clause-continuous
 returns-clause-continuous c = λ s before held after views. continuous s before held after views
 
 pub returns-clause-part : goal.returns-clause-part
-returns-clause-part c = λ s part before held after views. is_part c.one_series.ensures.samples s part before held after views
+returns-clause-part c = λ s part before held after views. is_part c.one_series.ensures.samples s part before held after
+    views
 
 pub returns-clause-assembled : goal.returns-clause-assembled
 returns-clause-assembled c = λ s before held after views answer. assembled s before held after views answer

@@ -8,5 +8,6 @@ use Rattle.mseed_pack.proofs.packing.pack.Goals as goal
 
 pub returns-clause-fewest : goal.returns-clause-fewest
 returns-clause-fewest g c = subst
-    (λ (s : Trace). (records : List (List ℕ)) (packing : IsPacking s c.args.options.now records) → c.args.options.now.encoding ≡ Steim2 → AllByRecursion (HasFewestWords s) packing.pieces)
+    (λ (s : Trace). (records : List (List ℕ)) (packing : IsPacking s c.args.options.now records)
+    → c.args.options.now.encoding ≡ Steim2 → AllByRecursion (HasFewestWords s) packing.pieces)
     c.of-view.ensures.trace c.pack_view.ensures.fewest

@@ -1,7 +1,7 @@
 use Rattle.std.proofs.Common.{◌≡◌, ◌+◌, ◌*◌, ◌^◌, ℕ, sym, ap, subst, ◌∙◌, take}
-use Rattle.mseed_pack.specs.Outcome.{TookFront}
+use Rattle.mseed_pack.specs.Outcome.{TookPrefix}
 use Rattle.mseed_pack.specs.Traces.{trace_of}
-use Rattle.mseed_pack.proofs.Growing.{took_more, took_front}
+use Rattle.mseed_pack.proofs.Growing.{took_more, took_prefix}
 use Rattle.mseed_audit.proofs.Told.{grew}
 use Rattle.mseed_pack.proofs.Taken.{takes_on}
 use Rattle.mseed_pack.proofs.packing.pack_through.Goals as goal
@@ -12,22 +12,34 @@ returns-in-Err-clause-err g c =
     let o = c.args.options.now in
     let l = c.loop-place in
     let b = take c.gather-batch.result.bytes c.gather-batch.new.out in
-    let front = took_front s o l.place c.gather-batch.result.next c.in-Err.taken b (g.W.Sink.said c.args.sink.now) (g.W.Sink.said l.sink) (g.W.Sink.said c.write_all_of.new.sink) l.invariant.took
+    let prefix = took_prefix s o l.place c.gather-batch.result.next c.in-Err.taken b (g.W.Sink.written c.args.sink.now)
+    (g.W.Sink.written l.sink) (g.W.Sink.written c.write_all_of.new.sink) l.invariant.took
     c.gather-batch.ensures.on c.in-Err.ensures.within c.in-Err.ensures.err c.in-Err.ensures.failed in
-    let number : l.place.number * 2 ^ o.exponent ≡ c.from.result * c.length_of-length.result = ap (λ (m : ℕ). m * 2 ^ o.exponent) (sym c.from.ensures) ∙ ap (λ (m : ℕ). c.from.result * m) (sym c.length_of-length.ensures.value) in
-    subst (λ (m : ℕ). TookFront s o (m + c.in-Err.taken) (g.W.Sink.said c.args.sink.now) (g.W.Sink.said c.write_all_of.new.sink)) number front
+    let number : l.place.number * 2 ^ o.exponent ≡ c.from.result * c.length_of-length.result =
+    ap (λ (m : ℕ). m * 2 ^ o.exponent) (sym c.from.ensures)
+    ∙ ap (λ (m : ℕ). c.from.result * m) (sym c.length_of-length.ensures.value) in
+    subst (λ (m : ℕ). TookPrefix s o (m + c.in-Err.taken) (g.W.Sink.written c.args.sink.now)
+    (g.W.Sink.written c.write_all_of.new.sink)) number prefix
 
 pub returns-in-Err-clause-contents : goal.returns-in-Err-clause-contents
 returns-in-Err-clause-contents g c = λ bytes.
     let l = c.loop-place in
     let b = take c.in-Err.taken (take c.gather-batch.result.bytes c.gather-batch.new.out) in
-    let more = takes_on (g.W.Sink.said c.args.sink.now) (g.W.Sink.said l.sink) (g.W.Sink.said c.write_all_of.new.sink) (g.W.Sink.contents c.args.sink.now) (g.W.Sink.contents l.sink) (g.W.Sink.contents c.write_all_of.new.sink) l.invariant.contents (b, c.in-Err.ensures.err, c.in-Err.ensures.known) in
-    grew (g.W.Sink.said c.args.sink.now) (g.W.Sink.said c.write_all_of.new.sink) (g.W.Sink.contents c.args.sink.now) (g.W.Sink.contents c.write_all_of.new.sink) more.0 bytes more.1 more.2
+    let more = takes_on (g.W.Sink.written c.args.sink.now) (g.W.Sink.written l.sink)
+    (g.W.Sink.written c.write_all_of.new.sink) (g.W.Sink.contents c.args.sink.now) (g.W.Sink.contents l.sink)
+    (g.W.Sink.contents c.write_all_of.new.sink) l.invariant.contents (
+      b,
+      c.in-Err.ensures.err,
+      c.in-Err.ensures.known,
+    ) in
+    grew (g.W.Sink.written c.args.sink.now) (g.W.Sink.written c.write_all_of.new.sink)
+    (g.W.Sink.contents c.args.sink.now) (g.W.Sink.contents c.write_all_of.new.sink) more.0 bytes more.1 more.2
 
 pub returns-clause-contents : goal.returns-clause-contents
 returns-clause-contents g c = λ bytes.
     let more = c.loop-place.invariant.contents in
-    grew (g.W.Sink.said c.args.sink.now) (g.W.Sink.said c.loop-place.sink) (g.W.Sink.contents c.args.sink.now) (g.W.Sink.contents c.loop-place.sink) more.0 bytes more.1 more.2
+    grew (g.W.Sink.written c.args.sink.now) (g.W.Sink.written c.loop-place.sink) (g.W.Sink.contents c.args.sink.now)
+    (g.W.Sink.contents c.loop-place.sink) more.0 bytes more.1 more.2
 
 pub loop-place-preserved : goal.loop-place-preserved
 loop-place-preserved g c =
@@ -38,8 +50,15 @@ loop-place-preserved g c =
     record {
       held = c.gather-batch.ensures.held;
       standing = c.gather-batch.ensures.standing;
-      took = took_more s o l.place c.gather-batch.result.next b (g.W.Sink.said c.args.sink.now) (g.W.Sink.said l.sink) (g.W.Sink.said c.write_all_of.new.sink) l.invariant.took
+      took = took_more s o l.place c.gather-batch.result.next b (g.W.Sink.written c.args.sink.now)
+          (g.W.Sink.written l.sink) (g.W.Sink.written c.write_all_of.new.sink) l.invariant.took
           c.gather-batch.ensures.on c.in_default.ensures.ok c.in_default.ensures.fine;
-      contents = takes_on (g.W.Sink.said c.args.sink.now) (g.W.Sink.said l.sink) (g.W.Sink.said c.write_all_of.new.sink) (g.W.Sink.contents c.args.sink.now) (g.W.Sink.contents l.sink) (g.W.Sink.contents c.write_all_of.new.sink) l.invariant.contents (b, c.in_default.ensures.ok, c.in_default.ensures.known);
+      contents = takes_on (g.W.Sink.written c.args.sink.now) (g.W.Sink.written l.sink)
+          (g.W.Sink.written c.write_all_of.new.sink) (g.W.Sink.contents c.args.sink.now) (g.W.Sink.contents l.sink)
+          (g.W.Sink.contents c.write_all_of.new.sink) l.invariant.contents (
+            b,
+            c.in_default.ensures.ok,
+            c.in_default.ensures.known,
+          );
       beside = c.write_all_of.ensures.beside ∙ l.invariant.beside;
     }

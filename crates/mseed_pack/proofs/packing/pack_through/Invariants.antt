@@ -10,8 +10,10 @@ abbrev pub invariant-loop-place : goal.invariant-loop-place
 invariant-loop-place g l = record {
   held : HoldsDifferences l.series.samples.now l.window;
   standing : StandsAt l.series.steps.now (length l.series.samples.now) l.place;
-  took : TookSo (trace_of l.series) l.options l.place.number l.place.first (g.W.Sink.said l.fn.sink) (g.W.Sink.said l.sink);
-  contents : TakesMore (g.W.Sink.said l.fn.sink) (g.W.Sink.said l.sink) (g.W.Sink.contents l.fn.sink) (g.W.Sink.contents l.sink);
+  took : TookSo (trace_of l.series) l.options l.place.number l.place.first (g.W.Sink.written l.fn.sink)
+      (g.W.Sink.written l.sink);
+  contents : TakesMore (g.W.Sink.written l.fn.sink) (g.W.Sink.written l.sink) (g.W.Sink.contents l.fn.sink)
+      (g.W.Sink.contents l.sink);
   beside : g.W.Sink.beside l.sink ≡ g.W.Sink.beside l.fn.sink;
 }
 

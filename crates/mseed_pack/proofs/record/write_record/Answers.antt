@@ -19,14 +19,21 @@ returns-in-Ok-clause-packed c =
     let filled = c.fill-filled.result in
     let mine : List ℤ = slice_range xs first (first + filled.samples) in
     let few : first + filled.samples - first ≡ filled.samples = omega arith in
-    let count : length mine ≡ filled.samples = length_part xs first (first + filled.samples) (omega arith) (omega (arith, c.fill-filled.ensures.within, c.requires.inside)) ∙ few in
+    let count : length mine ≡ filled.samples =
+    length_part xs first (first + filled.samples) (omega arith)
+    (omega (arith, c.fill-filled.ensures.within, c.requires.inside)) ∙ few in
     let end = end_at (trace_of p) c.args.stretch first c.requires.standing c.requires.begin c.requires.end in
-    let left_is : left_of (trace_of p) first ≡ slice_range (differences xs) first c.args.stretch.end = ap (λ (n : ℕ). slice_range (differences xs) first n) end in
-    let left_long : length (slice_range (differences xs) first c.args.stretch.end) ≡ c.args.stretch.end - first = length_part (differences xs) first c.args.stretch.end (omega (arith, c.requires.end)) (omega (arith, c.requires.inside, length-differences xs)) in
-    let left_size : length (left_of (trace_of p) first) ≡ c.args.stretch.end - first = ap (λ (l : List ℤ). length l) left_is ∙ left_long in
+    let left_is : left_of (trace_of p) first ≡ slice_range (differences xs) first c.args.stretch.end =
+    ap (λ (n : ℕ). slice_range (differences xs) first n) end in
+    let left_long : length (slice_range (differences xs) first c.args.stretch.end) ≡ c.args.stretch.end - first =
+    length_part (differences xs) first c.args.stretch.end (omega (arith, c.requires.end))
+    (omega (arith, c.requires.inside, length-differences xs)) in
+    let left_size : length (left_of (trace_of p) first) ≡ c.args.stretch.end - first =
+    ap (λ (l : List ℤ). length l) left_is ∙ left_long in
     let size : length c.write_header.new.out ≡ length c.args.out.now = search rules in
     let rest : length c.fill-filled.new.payload ≡ length c.args.out.now - 64 = search rules in
-    let parts = header_first (header_bytes (header_of c.in-Some.fields)) c.args.out.now c.fill-filled.new.payload c.write_header.new.out (omega (arith, c.requires.long)) rest size c.in-Ok.ensures.bytes in
+    let parts = header_first (header_bytes (header_of c.in-Some.fields)) c.args.out.now c.fill-filled.new.payload
+    c.write_header.new.out (omega (arith, c.requires.long)) rest size c.in-Ok.ensures.bytes in
     let fields = c.in-Some.ensures.fields mine c.write_header.new.out count in
     record {
       some = omega (arith, count, c.fill-filled.ensures.some);
@@ -41,8 +48,10 @@ returns-in-Ok-clause-packed c =
         exponent_high = omega (arith, fields.exponent, c.args.options.now.short);
         size = size ∙ c.requires.size ∙ ap (λ (n : ℕ). 2 ^ n) (sym fields.exponent);
       };
-      payload = subst (λ (l : List ℕ). HoldsSamples c.args.options.now.encoding (left_of (trace_of p) first) mine filled.frames l) (sym parts.1)
-          (subst (λ (l : List ℤ). HoldsSamples c.args.options.now.encoding l mine filled.frames c.fill-filled.new.payload) (sym left_is) c.fill-filled.ensures.holds);
+      payload = subst (λ (l : List ℕ). HoldsSamples c.args.options.now.encoding (left_of (trace_of p) first) mine
+          filled.frames l) (sym parts.1)
+          (subst (λ (l : List ℤ). HoldsSamples c.args.options.now.encoding l mine filled.frames
+          c.fill-filled.new.payload) (sym left_is) c.fill-filled.ensures.holds);
     }
 
 pub returns-in-Err-clause-packed : goal.returns-in-Err-clause-packed

@@ -58,8 +58,8 @@ returns-in-None-clause-found c =
     c.u16_at-in-chain.ensures c.and-found.ensures.first_1000 c.and-found.ensures.first_1001
     c.and-found.ensures.has_100 in
     let inside : last + 8 ≤ length b = subst (λ (n : ℕ). last + 8 ≤ n) (sym there.size) there.inside in
-    let front = passes_visits order b (blockette_at order b) os last inside there.chain.others in
-    let whole = visits_whole order b (blockette_at order b) os last visited.0 o front visited.1.0 ends in
+    let prefix = passes_visits order b (blockette_at order b) os last inside there.chain.others in
+    let whole = visits_whole order b (blockette_at order b) os last visited.0 o prefix visited.1.0 ends in
     let counts : AreBlockettes order b (os ++ last ∷ whole.0) c.and-found.result =
     subst (λ (ps : List ℕ). AreBlockettes order b ps c.and-found.result) whole.1.0 found in (
       os,

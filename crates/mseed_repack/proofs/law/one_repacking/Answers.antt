@@ -7,7 +7,7 @@ returns c = one_repacking (record {
   list = c.one_list_of_verdicts.ensures;
   series = c.one_series.ensures.series;
   packing = c.one_packing.ensures.whole;
-  front = c.one_packing.ensures.front;
+  prefix = c.one_packing.ensures.prefix;
   misfit = c.one_misfit.ensures.one;
   none = c.one_misfit.ensures.none;
 })

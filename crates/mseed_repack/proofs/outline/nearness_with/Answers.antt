@@ -26,5 +26,7 @@ returns-then-is_near c =
     let first : to_z w32 (of_z w32 ends.first) ≡ ends.first = to_z-of_z w32 _ (search rules) in
     let last : to_z w32 (of_z w32 c.in-Near.last) ≡ c.in-Near.last = to_z-of_z w32 _ (search rules) in
     let step : IsWithin 30 (ends.first -ℤ c.in-Near.last) =
-    subst (λ (z : ℤ). IsWithin 30 (z -ℤ c.in-Near.last)) first (subst (λ (z : ℤ). IsWithin 30 (to_z w32 (of_z w32 ends.first) -ℤ z)) last (c.if-is_near.ensures.0 refl)) in
-    subst (λ (z : ℤ). IsKnown (Near z) (xs ++ s)) (sym same) (known_more ends c.in-Near.last xs s before found.0 found.1 step)
+    subst (λ (z : ℤ). IsWithin 30 (z -ℤ c.in-Near.last)) first
+    (subst (λ (z : ℤ). IsWithin 30 (to_z w32 (of_z w32 ends.first) -ℤ z)) last (c.if-is_near.ensures.0 refl)) in
+    subst (λ (z : ℤ). IsKnown (Near z) (xs ++ s)) (sym same)
+    (known_more ends c.in-Near.last xs s before found.0 found.1 step)

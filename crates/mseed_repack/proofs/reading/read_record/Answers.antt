@@ -15,5 +15,12 @@ returns-clause-samples c =
     let whole = c.in-Ok.ensures.reading in
     let long : length xs ≡ count_of (view_of c.args.view.now) = count_is (view_of c.args.view.now) xs whole in
     let same : c.from.result ≡ count_of (view_of c.args.view.now) = omega (arith, c.from.ensures, c.samples.ensures) in
-    let fits = c.requires.samples_fit in
-    (xs, (whole, take-put_mid c.args.before.samples (c.args.before.samples + c.from.result - c.args.before.samples) c.args.samples.now xs (c.args.before.samples + c.from.result) (omega (arith, long, same)) (omega (arith, fits))))
+    let fits = c.requires.samples_fit in (
+      xs,
+      (
+        whole,
+        take-put_mid c.args.before.samples (c.args.before.samples + c.from.result - c.args.before.samples)
+            c.args.samples.now xs (c.args.before.samples + c.from.result) (omega (arith, long, same))
+            (omega (arith, fits)),
+      ),
+    )

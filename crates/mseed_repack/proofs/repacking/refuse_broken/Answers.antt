@@ -8,17 +8,20 @@ use Rattle.mseed_repack.proofs.repacking.refuse_broken.Goals as goal
 
 pub returns-then-not-is_continuous-clause-err : goal.returns-then-not-is_continuous-clause-err
 returns-then-not-is_continuous-clause-err c =
-    broken_at (map view_of c.args.views.now) c.args.channels.now c.loop-channel.channel-index c.channel-item.result c.is_continuous.result c.requires c.loop-channel-test.true c.channel-item.is
+    broken_at (map view_of c.args.views.now) c.args.channels.now c.loop-channel.channel-index c.channel-item.result
+    c.is_continuous.result c.requires c.loop-channel-test.true c.channel-item.is
     c.is_continuous.ensures c.if-not-is_continuous.true c.loop-channel.invariant
 
 pub loop-channel-preserved : goal.loop-channel-preserved
 loop-channel-preserved c =
-    continuous_next (map view_of c.args.views.now) c.args.channels.now c.loop-channel.channel-index c.channel-item.result c.is_continuous.result c.requires c.loop-channel-test.true c.channel-item.is
+    continuous_next (map view_of c.args.views.now) c.args.channels.now c.loop-channel.channel-index
+    c.channel-item.result c.is_continuous.result c.requires c.loop-channel-test.true c.channel-item.is
     c.is_continuous.ensures c.if-not-is_continuous.false c.loop-channel.invariant
 
 all-continuous : (c : goal.After-loop-channel) → AreContinuous (map view_of c.args.views.now) c.args.channels.now
 all-continuous c =
-    all_passed (λ (d : Channel). IsContinuous (records_in (map view_of c.args.views.now) d.0)) c.args.channels.now c.loop-channel.channel-index (omega (arith, c.loop-channel-test.false)) c.loop-channel.invariant
+    all_passed (λ (d : Channel). IsContinuous (records_in (map view_of c.args.views.now) d.0)) c.args.channels.now
+    c.loop-channel.channel-index (omega (arith, c.loop-channel-test.false)) c.loop-channel.invariant
 
 pub returns-clause-ok : goal.returns-clause-ok
 returns-clause-ok c = all-continuous c

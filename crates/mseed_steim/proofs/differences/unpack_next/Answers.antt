@@ -46,9 +46,9 @@ returns-in_err-next-in-Some-clause-step c =
     let word = c.in_ok-word.word in
     let ds : List ℤ = digits c.in-Some.group.width word.bits c.in-Some.group.count in
     let drawn = rw c.in_err-next-in-Some.was at c.next-in-Some.ensures in
-    let front : past_empty c.args.words.now ≡ as_data word ∷ c.next-2.new.self = sym c.pass_empty.ensures.past ∙ same
+    let prefix : past_empty c.args.words.now ≡ as_data word ∷ c.next-2.new.self = sym c.pass_empty.ensures.past ∙ same
     ∙ c.in_ok-word.ensures.steps in
-    let other = rw front at (past_begins c.args.words.now) in
+    let other = rw prefix at (past_begins c.args.words.now) in
     let some = some_of c.args.scheme word.code word.bits ds other c.in-Some.ensures in
     let none : length ds ≡ 0 = ap (λ (zs : List ℤ). length zs) (sym c.set_group.ensures ∙ drawn.0) in
     absurd (omega (arith, some, none))

@@ -17,11 +17,11 @@ returns c =
     let best : IsBestRow c.args.scheme ds (length ds) (Some layout.row) =
     subst (λ (r : Row). IsBestRow c.args.scheme ds (length ds) (Some r)) (sym told.0) known.2.1.1 in
     let is = (row_is c.args.scheme layout.row.count layout.row best.0).0 in
-    let front = take layout.row.count ds in
-    let long : length front ≡ layout.row.count = length-take-le layout.row.count ds best.1 in
+    let prefix = take layout.row.count ds in
+    let long : length prefix ≡ layout.row.count = length-take-le layout.row.count ds best.1 in
     let head : layout.head ≡ layout.row.dnib * 1073741824 % 4294967296 = omega (arith, told.1.2, is.dnib) in
-    let joined = dnib_joined layout.row.dnib layout.row.width front is.dnib (rw long is.room)
+    let joined = dnib_joined layout.row.dnib layout.row.width prefix is.dnib (rw long is.room)
     (λ some. rw long (is.apart some)) in
-    let word : bit_or layout.head c.join.result ≡ layout.row.dnib * 2 ^ 30 + positional layout.row.width front =
+    let word : bit_or layout.head c.join.result ≡ layout.row.dnib * 2 ^ 30 + positional layout.row.width prefix =
     rw (head, c.join.ensures) joined in
     is_fullest c.args.scheme ds layout.row (bit_or layout.head c.join.result) best.0 best.1 best.2 best.3 word

@@ -48,12 +48,12 @@ returns-in-Some-put_at_once-clause-goes_on c = λ rest.
     let at = (goal.at.returns-in-Some-put_at_once-clause-goes_on c).In-Ok in
     first at rest
     ∙ ap (λ (ws : List DataWord). fold c.args.samples c.in-Ok.sum (items_of c.args.scheme (ws ++ rest))) (behind at)
-    ∙ c.in-Some-put_at_once.ensures.goes_on c.args.payload.now 0 4 rest (inr (refl, refl)) c.requires.front
+    ∙ c.in-Some-put_at_once.ensures.goes_on c.args.payload.now 0 4 rest (inr (refl, refl)) c.requires.prefix
 
 pub returns-in-Some-put_at_once-clause-kept : goal.returns-in-Some-put_at_once-clause-kept
 returns-in-Some-put_at_once-clause-kept c = λ rest.
     let at = (goal.at.returns-in-Some-put_at_once-clause-kept c).In-Ok in
-    c.in-Some-put_at_once.ensures.kept c.args.payload.now 0 4 rest (inr (refl, refl)) c.requires.front
+    c.in-Some-put_at_once.ensures.kept c.args.payload.now 0 4 rest (inr (refl, refl)) c.requires.prefix
     ∙ ap (λ (ws : List DataWord). take c.in-Ok.sum.met c.put_word.new.out ++ met_in c.args.samples c.in-Ok.sum
     (items_of c.args.scheme (ws ++ rest))) (sym (behind at))
     ∙ first_kept at rest

@@ -5,7 +5,7 @@ use Rattle.mseed_steim.proofs.row.word_of.Goals as goal
 
 pub returns : goal.returns
 returns c =
-    let front = take c.args.row.count c.args.diffs.now in
-    let long : length front ≡ c.args.row.count = length-take-le c.args.row.count c.args.diffs.now c.requires.inside in
-    rw c.join_digits.ensures (dnib_joined c.args.row.dnib c.args.row.width front c.requires.dnib
+    let prefix = take c.args.row.count c.args.diffs.now in
+    let long : length prefix ≡ c.args.row.count = length-take-le c.args.row.count c.args.diffs.now c.requires.inside in
+    rw c.join_digits.ensures (dnib_joined c.args.row.dnib c.args.row.width prefix c.requires.dnib
     (rw long c.requires.room) (λ some. rw long (c.requires.apart some)))

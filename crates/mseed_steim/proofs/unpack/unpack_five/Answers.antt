@@ -24,7 +24,7 @@ loop-index-preserved c =
     let most = lanes_few c.args.scheme in
     let enough : by.count ≤ lanes_of s = c.unpacking_of-by.ensures.few in
     let inside : place < 16 = omega (arith, c.loop-index-test.true, c.requires.inside) in
-    let front : List ℤ = take c.args.met c.args.differences.now in
+    let prefix : List ℤ = take c.args.met c.args.differences.now in
     record {
       long = c.spread.array_long;
       few = omega (arith, most, enough, c.loop-index.invariant.few);
@@ -40,9 +40,9 @@ loop-index-preserved c =
           c.spread.ensures width (by_own_count _ width by u)
           ∙ ap (λ (xs : List ℤ). xs ++ digits width c.read_word-word.result by.count)
           (c.loop-index.invariant.so_far from rows narrow)
-          ∙ append_assoc front (unpacked s f from c.args.first index) (digits width c.read_word-word.result by.count)
-          ∙ ap (λ (xs : List ℤ). front ++ (unpacked s f from c.args.first index ++ xs)) same
-          ∙ ap (λ (xs : List ℤ). front ++ xs) (sym (unpacked_more s f from c.args.first index));
+          ∙ append_assoc prefix (unpacked s f from c.args.first index) (digits width c.read_word-word.result by.count)
+          ∙ ap (λ (xs : List ℤ). prefix ++ (unpacked s f from c.args.first index ++ xs)) same
+          ∙ ap (λ (xs : List ℤ). prefix ++ xs) (sym (unpacked_more s f from c.args.first index));
     }
 
 pub returns-clause-unpacked : goal.returns-clause-unpacked

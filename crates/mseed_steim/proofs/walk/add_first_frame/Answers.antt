@@ -37,7 +37,7 @@ first c rest =
 pub returns-in-Some-add_at_once-clause-goes_on : goal.returns-in-Some-add_at_once-clause-goes_on
 returns-in-Some-add_at_once-clause-goes_on c = λ rest.
     let at = (goal.at.returns-in-Some-add_at_once-clause-goes_on c).In-Ok in
-    let found = c.move_of.ensures c.args.payload.now 0 4 (inr (refl, refl)) c.requires.front
+    let found = c.move_of.ensures c.args.payload.now 0 4 (inr (refl, refl)) c.requires.prefix
     c.in-Some-add_at_once.ensures.few in
     first at rest
     ∙ ap (λ (ws : List DataWord). fold c.args.samples c.in-Ok.sum (items_of c.args.scheme (ws ++ rest))) (behind at)

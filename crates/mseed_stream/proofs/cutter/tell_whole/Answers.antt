@@ -1,10 +1,10 @@
 use Rattle.std.proofs.Common.{◌≡◌, ◌-◌, ◌++◌, ℕ, List, length, take, subst, sym, ap, ◌∙◌, arith, length-drop}
 use Rattle.std.proofs.KnownBytes.{Consumes-trans}
 use Rattle.std.specs.Io.KnownBytes.{Consumes}
-use Rattle.mseed_stream.specs.Device.{Heard, told_also}
-use Rattle.mseed_stream.specs.Cutting.{told_whole}
+use Rattle.mseed_stream.specs.Device.{BytesRead, lent_also}
+use Rattle.mseed_stream.specs.Cutting.{lent_whole}
 use Rattle.mseed_stream.proofs.Filled.{two_parts}
-use Rattle.mseed_stream.proofs.Passed.{told_twice, rest_twice}
+use Rattle.mseed_stream.proofs.Passed.{lent_twice, rest_twice}
 use Rattle.mseed_stream.proofs.cutter.tell_whole.Goals as goal
 
 pub consume-requires-2 : goal.consume-requires-2
@@ -16,13 +16,13 @@ pub returns-clause-told : goal.returns-clause-told
 returns-clause-told g c =
     let lent : List ℕ = g.R.Source.lent c.args.source.now in
     let size : ℕ = c.args.size in
-    let told : Heard = g.R.Source.heard c.args.source.now in
+    let told : BytesRead = g.R.Source.read c.args.source.now in
     let later : List ℕ = take (size - 48) (g.R.Source.lent c.consume.new.self) in
     let parts : take 48 lent ++ later ≡ take size lent =
     ap (λ (xs : List ℕ). take 48 lent ++ take (size - 48) xs) c.consume.ensures.rest
     ∙ sym (two_parts lent 48 size c.requires.header) in
-    c.consume-2.ensures.heard ∙ (ap (λ (h : Heard). told_also h later) c.consume.ensures.heard
-    ∙ (told_twice told (take 48 lent) later ∙ ap (λ (xs : List ℕ). told_whole told xs) parts))
+    c.consume-2.ensures.read ∙ (ap (λ (h : BytesRead). lent_also h later) c.consume.ensures.read
+    ∙ (lent_twice told (take 48 lent) later ∙ ap (λ (xs : List ℕ). lent_whole told xs) parts))
 
 pub returns-clause-rest : goal.returns-clause-rest
 returns-clause-rest g c =

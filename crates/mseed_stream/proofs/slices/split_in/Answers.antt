@@ -44,10 +44,10 @@ loop-offset-preserved g c =
     let r : RecordView = c.in-Ok.record in
     let b : List ℕ = (view_of r).bytes in
     let items : c.push.new.self.items ≡ views ++ r ∷ [] = search rules in
-    let front : b ≡ take (length b) (drop offset bytes) = c.in-Ok.ensures.front
+    let prefix : b ≡ take (length b) (drop offset bytes) = c.in-Ok.ensures.prefix
     ∙ ap (λ (xs : List ℕ). take (length b) xs) (tail_is bytes offset) in
     let size : length c.bytes.result.now ≡ length b = ap (λ (xs : List ℕ). length xs) c.bytes.ensures.value in
-    let more = split_more bytes offset views r inv.records c.in-Ok.ensures.view front in
+    let more = split_more bytes offset views r inv.records c.in-Ok.ensures.view prefix in
     let grown : length c.push.new.self.items ≡ length views + 1 = ap (λ (xs : List RecordView). length xs) items
     ∙ length-append views (r ∷ []) in
     let count : length views ≡ c.len.result = omega (arith, c.loop-offset.records.ok, c.len.ensures) in
@@ -58,5 +58,5 @@ loop-offset-preserved g c =
       views = subst (λ (xs : List RecordView). AllByRecursion (λ v. IsView (view_of v)) xs) (sym items)
           (views_more views r inv.views c.in-Ok.ensures.view);
       few = omega (arith, inv.few);
-      within = omega (arith, size, split_within bytes offset b c.loop-offset-test.true front);
+      within = omega (arith, size, split_within bytes offset b c.loop-offset-test.true prefix);
     }

@@ -4,5 +4,5 @@ use Rattle.mseed_stream.proofs.telling.tell.Goals as goal
 pub returns : goal.returns
 returns g c =
     let e = c.write_all_of.ensures in
-    told c.write_all_of.result c.args.line.now (g.E.Sink.said c.args.errors.now)
-    (g.E.Sink.said c.write_all_of.new.sink) e.ok e.fine e.err e.within e.failed
+    told c.write_all_of.result c.args.line.now (g.E.Sink.written c.args.errors.now)
+    (g.E.Sink.written c.write_all_of.new.sink) e.ok e.fine e.err e.within e.failed

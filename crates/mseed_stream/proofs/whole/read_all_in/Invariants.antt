@@ -4,10 +4,10 @@ use Rattle.mseed_stream.proofs.whole.read_all_in.Given as goal
 
 abbrev pub invariant-loop-turn : goal.invariant-loop-turn
 invariant-loop-turn g l = record {
-  bytes : (g.R.Source.heard l.source).bytes ≡ (g.R.Source.heard l.fn.source).bytes ++ l.bytes.items;
-  calls : (g.R.Source.heard l.source).calls ≡ (g.R.Source.heard l.fn.source).calls + l.turn;
-  failures : (g.R.Source.heard l.source).failures ≡ (g.R.Source.heard l.fn.source).failures;
+  bytes : (g.R.Source.read l.source).bytes ≡ (g.R.Source.read l.fn.source).bytes ++ l.bytes.items;
+  calls : (g.R.Source.read l.source).calls ≡ (g.R.Source.read l.fn.source).calls + l.turn;
+  failures : (g.R.Source.read l.source).failures ≡ (g.R.Source.read l.fn.source).failures;
   known : Consumes (g.R.Source.remaining l.fn.source) (g.R.Source.remaining l.source) l.bytes.items;
-  going_on : 0 < l.turn → (g.R.Source.heard l.source).is_at_end ≡ false;
+  going_on : 0 < l.turn → (g.R.Source.read l.source).is_at_end ≡ false;
   beside : g.R.Source.beside l.source ≡ g.R.Source.beside l.fn.source;
 }

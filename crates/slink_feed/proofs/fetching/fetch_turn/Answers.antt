@@ -1,5 +1,5 @@
 use Rattle.std.proofs.Common.{rules, ◌≡◌, [], ap}
-use Rattle.mseed_stream.specs.Device.{Said}
+use Rattle.mseed_stream.specs.Device.{BytesWritten}
 use Rattle.slink_feed.specs.Fetching.{fetching}
 use Rattle.slink_feed.specs.Turns.{told_once}
 use Rattle.slink_feed.proofs.Deliveries.{closed_turn}
@@ -7,7 +7,8 @@ use Rattle.slink_feed.proofs.fetching.fetch_turn.Goals as goal
 
 pub returns-then-count-eq0-clause-ok : goal.returns-then-count-eq0-clause-ok
 returns-then-count-eq0-clause-ok g c =
-    let same : g.S.Sink.said c.pull.new.self ≡ g.S.Sink.said c.args.link.now = search rules in
-    let heard : g.S.Source.heard c.pull.new.self ≡ told_once (g.S.Source.heard c.args.link.now) [] = search rules in
-    closed_turn _ _ _ _ (ap (λ (said : Said). fetching c.args.client.now said (g.W.Sink.said c.args.output.now)) same)
-    heard
+    let same : g.S.Sink.written c.pull.new.self ≡ g.S.Sink.written c.args.link.now = search rules in
+    let read : g.S.Source.read c.pull.new.self ≡ told_once (g.S.Source.read c.args.link.now) [] = search rules in
+    closed_turn _ _ _ _ (ap (λ (written : BytesWritten). fetching c.args.client.now written
+    (g.W.Sink.written c.args.output.now)) same)
+    read

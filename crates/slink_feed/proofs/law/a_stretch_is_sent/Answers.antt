@@ -1,5 +1,5 @@
 use Rattle.std.proofs.Common.{inl}
-use Rattle.slink_feed.proofs.Sendings.{answer_heard, stretch_sent}
+use Rattle.slink_feed.proofs.Sendings.{answer_read, stretch_sent}
 use Rattle.slink_feed.proofs.law.a_stretch_is_sent.Goals as goal
 
 pub returns-clause-stretch : goal.returns-clause-stretch
@@ -7,4 +7,4 @@ returns-clause-stretch c = λ k first pushed asked s g on at_k are shown. stretc
     (inl on) at_k are shown
 
 pub returns-clause-lines : goal.returns-clause-lines
-returns-clause-lines c = λ feed s new what reply on is. answer_heard feed s new what reply on is
+returns-clause-lines c = λ feed s new what reply on is. answer_read feed s new what reply on is

@@ -2,7 +2,7 @@ use Rattle.std.proofs.Common.{◌≡◌, ◌-◌, ◌∙◌, arith, refl, subst,
 use Rattle.std.proofs.lemmas.Result.{err_from_is_err_and}
 use Rattle.slink_wire.specs.Reply.{reply_bytes}
 use Rattle.slink_feed.specs.Attending.{attending}
-use Rattle.slink_feed.specs.Replying.{IsReplyFault, IsSaid, IsSayFault}
+use Rattle.slink_feed.specs.Replying.{IsReplyFault, IsWritten, IsSayFault}
 use Rattle.slink_feed.specs.Rounds.{Attending}
 use Rattle.slink_feed.proofs.Deliveries.{piece_length}
 use Rattle.slink_feed.proofs.Sendoffs.{not_replied, nothing_replied, one_replied, passed_on}
@@ -18,24 +18,24 @@ loop-start-init g c = record {
 
 pub loop-start-preserved : goal.loop-start-preserved
 loop-start-preserved g c =
-    let old : Attending = attending c.args.session.now (g.L.Sink.said c.args.link.now) in
-    let now : Attending = attending c.loop-start.session (g.L.Sink.said c.loop-start.link) in
-    let new : Attending = attending c.take-used.new.self (g.L.Sink.said c.say.new.link) in
+    let old : Attending = attending c.args.session.now (g.L.Sink.written c.args.link.now) in
+    let now : Attending = attending c.loop-start.session (g.L.Sink.written c.loop-start.link) in
+    let new : Attending = attending c.take-used.new.self (g.L.Sink.written c.say.new.link) in
     let long : length (take (length c.args.bytes.now - c.loop-start.start) (drop c.loop-start.start c.args.bytes.now))
     ≡ length c.args.bytes.now - c.loop-start.start = piece_length c.args.bytes.now c.loop-start.start in
-    let done : IsSaid (g.L.Sink.said c.loop-start.link) (g.L.Sink.said c.say.new.link)
-    (reply_bytes c.take-used.result.1) c.loop-start.said c.in_ok-said.said =
-    subst (λ (bytes : List ℕ). IsSaid (g.L.Sink.said c.loop-start.link) (g.L.Sink.said c.say.new.link) bytes
-    c.loop-start.said c.in_ok-said.said) c.bytes.ensures c.in_ok-said.ensures.ok in
+    let done : IsWritten (g.L.Sink.written c.loop-start.link) (g.L.Sink.written c.say.new.link)
+    (reply_bytes c.take-used.result.1) c.loop-start.written c.in_ok-written.written =
+    subst (λ (bytes : List ℕ). IsWritten (g.L.Sink.written c.loop-start.link) (g.L.Sink.written c.say.new.link) bytes
+    c.loop-start.written c.in_ok-written.written) c.bytes.ensures c.in_ok-written.ensures.ok in
     record {
       so_far = one_replied c.args.feed.now old now new c.args.bytes.now c.loop-start.start c.args.before
-          c.loop-start.said c.take-used.result.0 c.take-used.result.1 c.loop-start.invariant.so_far
+          c.loop-start.written c.take-used.result.0 c.take-used.result.1 c.loop-start.invariant.so_far
           (record {
             held = c.take-used.ensures.held;
             answers = c.take-used.ensures.answers;
             closed = λ shut. ((c.take-used.ensures.closed shut).1, (c.take-used.ensures.closed shut).2);
           })
-          c.in_ok-said.said
+          c.in_ok-written.written
           (c.take-used.ensures.some c.loop-start.invariant.stands (omega (arith, long, c.loop-start-test.true)))
           (omega (arith, long, c.take-used.ensures.bound)) done;
       fits = c.take-used.ensures.fits;
@@ -43,30 +43,31 @@ loop-start-preserved g c =
       beside = c.say.ensures.beside ∙ c.loop-start.invariant.beside;
     }
 
-pub returns-in_err-said-clause-fault : goal.returns-in_err-said-clause-fault
-returns-in_err-said-clause-fault g c =
-    let old : Attending = attending c.args.session.now (g.L.Sink.said c.args.link.now) in
-    let now : Attending = attending c.loop-start.session (g.L.Sink.said c.loop-start.link) in
-    let new : Attending = attending c.take-used.new.self (g.L.Sink.said c.say.new.link) in
-    let cut : IsSayFault c.in_err-said.field-0.0 (g.L.Sink.said c.loop-start.link) (g.L.Sink.said c.say.new.link)
-    (reply_bytes c.take-used.result.1) c.loop-start.said =
-    subst (λ (bytes : List ℕ). IsSayFault c.in_err-said.field-0.0 (g.L.Sink.said c.loop-start.link)
-    (g.L.Sink.said c.say.new.link) bytes c.loop-start.said) c.bytes.ensures c.in_err-said.ensures.fault in
-    let fails : IsReplyFault c.in_err-said.field-0.0 c.args.feed.now old new c.args.bytes.now c.args.before =
-    not_replied c.args.feed.now old now new c.args.bytes.now c.loop-start.start c.args.before c.loop-start.said
+pub returns-in_err-written-clause-fault : goal.returns-in_err-written-clause-fault
+returns-in_err-written-clause-fault g c =
+    let old : Attending = attending c.args.session.now (g.L.Sink.written c.args.link.now) in
+    let now : Attending = attending c.loop-start.session (g.L.Sink.written c.loop-start.link) in
+    let new : Attending = attending c.take-used.new.self (g.L.Sink.written c.say.new.link) in
+    let cut : IsSayFault c.in_err-written.field-0.0 (g.L.Sink.written c.loop-start.link)
+    (g.L.Sink.written c.say.new.link)
+    (reply_bytes c.take-used.result.1) c.loop-start.written =
+    subst (λ (bytes : List ℕ). IsSayFault c.in_err-written.field-0.0 (g.L.Sink.written c.loop-start.link)
+    (g.L.Sink.written c.say.new.link) bytes c.loop-start.written) c.bytes.ensures c.in_err-written.ensures.fault in
+    let fails : IsReplyFault c.in_err-written.field-0.0 c.args.feed.now old new c.args.bytes.now c.args.before =
+    not_replied c.args.feed.now old now new c.args.bytes.now c.loop-start.start c.args.before c.loop-start.written
     c.take-used.result.0 c.take-used.result.1 c.loop-start.invariant.so_far
     (record {
       held = c.take-used.ensures.held;
       answers = c.take-used.ensures.answers;
       closed = λ shut. ((c.take-used.ensures.closed shut).1, (c.take-used.ensures.closed shut).2);
     })
-    c.in_err-said.field-0.0 cut in
-    passed_on c.from_residual.result c.in_err-said.field-0.0
+    c.in_err-written.field-0.0 cut in
+    passed_on c.from_residual.result c.in_err-written.field-0.0
     (λ fault. IsReplyFault fault c.args.feed.now old new c.args.bytes.now c.args.before)
     (err_from_is_err_and c.from_residual.result c.from_residual.ensures.1) fails
 
-pub returns-in_err-said-clause-stands : goal.returns-in_err-said-clause-stands
-returns-in_err-said-clause-stands g c = c.take-used.ensures.stands c.loop-start.invariant.stands
+pub returns-in_err-written-clause-stands : goal.returns-in_err-written-clause-stands
+returns-in_err-written-clause-stands g c = c.take-used.ensures.stands c.loop-start.invariant.stands
 
 pub loop-start-smaller : goal.loop-start-smaller
 loop-start-smaller g c =

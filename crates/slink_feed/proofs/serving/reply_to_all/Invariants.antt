@@ -7,8 +7,8 @@ use Rattle.slink_feed.proofs.serving.reply_to_all.Given as goal
 
 abbrev pub invariant-loop-start : goal.invariant-loop-start
 invariant-loop-start g l = record {
-  so_far : RepliedSoFar l.feed (attending l.fn.session (g.L.Sink.said l.fn.link))
-      (attending l.session (g.L.Sink.said l.link)) l.bytes l.start l.before l.said;
+  so_far : RepliedSoFar l.feed (attending l.fn.session (g.L.Sink.written l.fn.link))
+      (attending l.session (g.L.Sink.written l.link)) l.bytes l.start l.before l.written;
   fits : Fits l.feed l.session.state;
   stands : Stands l.session;
   beside : g.L.Sink.beside l.link ≡ g.L.Sink.beside l.fn.link;

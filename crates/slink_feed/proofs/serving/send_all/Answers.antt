@@ -4,12 +4,12 @@ use Rattle.std.proofs.lemmas.Result.{err_from_is_err_and}
 use Rattle.slink_feed.specs.declared.session.Sent.{Sent}
 use Rattle.slink_feed.specs.declared.session.Sent.TheVariants as sents
 use Rattle.slink_feed.specs.Attending.{attending}
-use Rattle.slink_feed.specs.Replying.{IsSaid, IsSayFault, IsSendFault, waits_after}
+use Rattle.slink_feed.specs.Replying.{IsWritten, IsSayFault, IsSendFault, waits_after}
 use Rattle.slink_feed.specs.Rounds.{Attending, place_behind}
 use Rattle.slink_feed.specs.Session.{State, sent, sent_bytes}
 use Rattle.slink_feed.specs.Window.{Window}
 use Rattle.slink_feed.proofs.Dues.{Moves, due, moved}
-use Rattle.slink_feed.proofs.Sendoffs.{SentSoFar, few_said, has_sent, less_left, not_sent, passed_on, nothing_sent}
+use Rattle.slink_feed.proofs.Sendoffs.{SentSoFar, few_written, has_sent, less_left, not_sent, passed_on, nothing_sent}
 use Rattle.slink_feed.proofs.Sendoffs.{one_sent}
 use Rattle.slink_feed.proofs.serving.send_all.Goals as goal
 
@@ -25,27 +25,29 @@ pub say-requires-clause-room : goal.say-requires-clause-room
 say-requires-clause-room g c =
     omega (
       arith,
-      few_said _ _ _ _ _ _ (let most : length c.args.feed.now ≤ 16 = omega (
+      few_written _ _ _ _ _ _ (let most : length c.args.feed.now ≤ 16 = omega (
         arith,
         c.len.ensures.value,
         c.len.ensures.most,
       ) in most) c.loop-waits.invariant.so_far,
     )
 
-pub returns-in_err-said-clause-fault : goal.returns-in_err-said-clause-fault
-returns-in_err-said-clause-fault g c =
-    let old : Attending = attending c.args.session.now (g.L.Sink.said c.args.link.now) in
-    let now : Attending = attending c.loop-waits.session (g.L.Sink.said c.loop-waits.link) in
-    let new : Attending = attending c.packet-sent.new.self (g.L.Sink.said c.say.new.link) in
-    let cut : IsSayFault c.in_err-said.field-0.0 (g.L.Sink.said c.loop-waits.link) (g.L.Sink.said c.say.new.link)
-    (sent_bytes c.packet-sent.result) c.loop-waits.said =
-    subst (λ (bytes : List ℕ). IsSayFault c.in_err-said.field-0.0 (g.L.Sink.said c.loop-waits.link)
-    (g.L.Sink.said c.say.new.link) bytes c.loop-waits.said) c.bytes.ensures.bytes c.in_err-said.ensures.fault in
-    let fails : IsSendFault c.in_err-said.field-0.0 c.args.feed.now old new =
-    not_sent c.args.feed.now old now new c.loop-waits.k c.loop-waits.waits c.loop-waits.said
+pub returns-in_err-written-clause-fault : goal.returns-in_err-written-clause-fault
+returns-in_err-written-clause-fault g c =
+    let old : Attending = attending c.args.session.now (g.L.Sink.written c.args.link.now) in
+    let now : Attending = attending c.loop-waits.session (g.L.Sink.written c.loop-waits.link) in
+    let new : Attending = attending c.packet-sent.new.self (g.L.Sink.written c.say.new.link) in
+    let cut : IsSayFault c.in_err-written.field-0.0 (g.L.Sink.written c.loop-waits.link)
+    (g.L.Sink.written c.say.new.link)
+    (sent_bytes c.packet-sent.result) c.loop-waits.written =
+    subst (λ (bytes : List ℕ). IsSayFault c.in_err-written.field-0.0 (g.L.Sink.written c.loop-waits.link)
+    (g.L.Sink.written c.say.new.link) bytes c.loop-waits.written) c.bytes.ensures.bytes
+    c.in_err-written.ensures.fault in
+    let fails : IsSendFault c.in_err-written.field-0.0 c.args.feed.now old new =
+    not_sent c.args.feed.now old now new c.loop-waits.k c.loop-waits.waits c.loop-waits.written
     c.loop-waits.invariant.so_far (c.packet-sent.new.self.state, c.packet-sent.result) c.packet-sent.ensures.sent
-    refl c.packet-sent.ensures.held c.in_err-said.field-0.0 cut in
-    passed_on c.from_residual.result c.in_err-said.field-0.0 (λ fault. IsSendFault fault c.args.feed.now old new)
+    refl c.packet-sent.ensures.held c.in_err-written.field-0.0 cut in
+    passed_on c.from_residual.result c.in_err-written.field-0.0 (λ fault. IsSendFault fault c.args.feed.now old new)
     (err_from_is_err_and c.from_residual.result c.from_residual.ensures.1) fails
 
 pub loop-waits-smaller : goal.loop-waits-smaller
@@ -70,9 +72,9 @@ loop-waits-smaller g c =
 pub loop-waits-preserved : goal.loop-waits-preserved
 loop-waits-preserved g c =
     let x : State × Sent = (c.packet-sent.new.self.state, c.packet-sent.result) in
-    let old : Attending = attending c.args.session.now (g.L.Sink.said c.args.link.now) in
-    let now : Attending = attending c.loop-waits.session (g.L.Sink.said c.loop-waits.link) in
-    let new : Attending = attending c.packet-sent.new.self (g.L.Sink.said c.say.new.link) in
+    let old : Attending = attending c.args.session.now (g.L.Sink.written c.args.link.now) in
+    let now : Attending = attending c.loop-waits.session (g.L.Sink.written c.loop-waits.link) in
+    let new : Attending = attending c.packet-sent.new.self (g.L.Sink.written c.say.new.link) in
     let lt : c.loop-waits.waits < length c.args.feed.now = omega (arith, c.loop-waits-test.true, c.len.ensures.value) in
     let within : c.loop-waits.k < length c.args.feed.now = c.loop-waits.invariant.so_far.within (omega (arith, lt)) in
     let few : (bytes : List ℕ) (w : Window) → (sent c.args.feed.now c.loop-waits.session.state c.loop-waits.k).1
@@ -83,22 +85,22 @@ loop-waits-preserved g c =
     subst (Moves c.args.feed.now c.loop-waits.session.state) c.packet-sent.ensures.sent
     (moved c.args.feed.now c.loop-waits.session.state c.loop-waits.k c.if-is_closed.ensures.no
     c.loop-waits.invariant.fits.1 few) in
-    let done : IsSaid (g.L.Sink.said c.loop-waits.link) (g.L.Sink.said c.say.new.link)
-    (sent_bytes c.packet-sent.result) c.loop-waits.said c.in_ok-said.said =
-    subst (λ (bytes : List ℕ). IsSaid (g.L.Sink.said c.loop-waits.link) (g.L.Sink.said c.say.new.link) bytes
-    c.loop-waits.said c.in_ok-said.said) c.bytes.ensures.bytes c.in_ok-said.ensures.ok in
+    let done : IsWritten (g.L.Sink.written c.loop-waits.link) (g.L.Sink.written c.say.new.link)
+    (sent_bytes c.packet-sent.result) c.loop-waits.written c.in_ok-written.written =
+    subst (λ (bytes : List ℕ). IsWritten (g.L.Sink.written c.loop-waits.link) (g.L.Sink.written c.say.new.link) bytes
+    c.loop-waits.written c.in_ok-written.written) c.bytes.ensures.bytes c.in_ok-written.ensures.ok in
     let short : length (sent_bytes c.packet-sent.result) ≤ 520 =
     subst (λ (bytes : List ℕ). length bytes ≤ 520) c.bytes.ensures.bytes c.bytes.ensures.few in
     let so_far : SentSoFar c.args.feed.now old new (place_behind c.args.feed.now c.loop-waits.k)
-    (waits_after c.packet-sent.result c.loop-waits.waits) c.in_ok-said.said =
-    one_sent c.args.feed.now old now new c.loop-waits.k c.loop-waits.waits c.loop-waits.said
-    c.loop-waits.invariant.so_far x c.packet-sent.ensures.sent refl c.packet-sent.ensures.held c.in_ok-said.said
+    (waits_after c.packet-sent.result c.loop-waits.waits) c.in_ok-written.written =
+    one_sent c.args.feed.now old now new c.loop-waits.k c.loop-waits.waits c.loop-waits.written
+    c.loop-waits.invariant.so_far x c.packet-sent.ensures.sent refl c.packet-sent.ensures.held c.in_ok-written.written
     moves lt within short done in
     record {
-      so_far = subst (λ (k : ℕ). SentSoFar c.args.feed.now old new k c.count_waits-waits.result c.in_ok-said.said)
+      so_far = subst (λ (k : ℕ). SentSoFar c.args.feed.now old new k c.count_waits-waits.result c.in_ok-written.written)
           (sym c.next_place-k.ensures)
           (subst (λ (n : ℕ). SentSoFar c.args.feed.now old new (place_behind c.args.feed.now c.loop-waits.k) n
-          c.in_ok-said.said) (sym c.count_waits-waits.ensures) so_far);
+          c.in_ok-written.written) (sym c.count_waits-waits.ensures) so_far);
       fits = c.packet-sent.ensures.fits;
       stands = c.packet-sent.ensures.stands c.loop-waits.invariant.stands;
       beside = c.say.ensures.beside ∙ c.loop-waits.invariant.beside;
@@ -107,11 +109,11 @@ loop-waits-preserved g c =
 pub returns-after-loop-waits-clause-ok : goal.returns-after-loop-waits-clause-ok
 returns-after-loop-waits-clause-ok g c =
     let most : length c.args.feed.now ≤ 16 = omega (arith, c.len.ensures.value, c.len.ensures.most) in
-    has_sent c.args.feed.now _ _ c.loop-waits.k c.loop-waits.waits c.loop-waits.said most
+    has_sent c.args.feed.now _ _ c.loop-waits.k c.loop-waits.waits c.loop-waits.written most
     (inr (omega (arith, c.loop-waits-test.false, c.len.ensures.value))) c.loop-waits.invariant.so_far
 
 pub returns-then-is_closed-clause-ok : goal.returns-then-is_closed-clause-ok
 returns-then-is_closed-clause-ok g c =
     let most : length c.args.feed.now ≤ 16 = omega (arith, c.len.ensures.value, c.len.ensures.most) in
-    has_sent c.args.feed.now _ _ c.loop-waits.k c.loop-waits.waits c.loop-waits.said most
+    has_sent c.args.feed.now _ _ c.loop-waits.k c.loop-waits.waits c.loop-waits.written most
     (inl c.if-is_closed.ensures.yes) c.loop-waits.invariant.so_far

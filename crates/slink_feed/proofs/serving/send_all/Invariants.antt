@@ -8,8 +8,8 @@ use Rattle.slink_feed.proofs.serving.send_all.Given as goal
 
 abbrev pub invariant-loop-waits : goal.invariant-loop-waits
 invariant-loop-waits g l = record {
-  so_far : SentSoFar l.feed (attending l.fn.session (g.L.Sink.said l.fn.link))
-      (attending l.session (g.L.Sink.said l.link)) l.k l.waits l.said;
+  so_far : SentSoFar l.feed (attending l.fn.session (g.L.Sink.written l.fn.link))
+      (attending l.session (g.L.Sink.written l.link)) l.k l.waits l.written;
   fits : Fits l.feed l.session.state;
   stands : Stands l.session;
   beside : g.L.Sink.beside l.link ≡ g.L.Sink.beside l.fn.link;

@@ -1,91 +1,97 @@
 use Rattle.std.proofs.Common.{◌≡◌, ◌∙◌, subst, sym}
 use Rattle.slink_feed.specs.declared.dialogue.Event.TheVariants.{Say}
-use Rattle.mseed_stream.specs.Device.{Heard}
+use Rattle.mseed_stream.specs.Device.{BytesRead}
 use Rattle.slink_feed.specs.Fetching.{Fetching, fetching}
 use Rattle.slink_links.specs.declared.fetching.FetchEnd.TheVariants.{LinkFailed}
-use Rattle.slink_links.specs.Fetched.{HasReadLink, HasTakenAll, IsFetchedOver, by_turns, unsaid}
-use Rattle.slink_links.proofs.Fetches.{connected_linked, fetched_link, read_link, took_as, took_front_as, turned_none}
+use Rattle.slink_links.specs.Fetched.{HasReadLink, HasTakenAll, IsFetchedOver, by_turns, unwritten}
+use Rattle.slink_links.proofs.Fetches.{connected_linked, fetched_link, read_link, took_as, took_prefix_as, turned_none}
 use Rattle.slink_links.proofs.Fetches.{turned_out}
 use Rattle.slink_links.proofs.fetching.fetch_link.Goals as goal
 
 pub take_turns-requires-clause-linked : goal.take_turns-requires-clause-linked
 take_turns-requires-clause-linked g c =
     connected_linked c.args.client.now.talk c.connect-line.new.self.talk (Say c.connect-line.result)
-    c.connect-line.ensures.said
+    c.connect-line.ensures.written
 
 pub returns-in-Ok-clause-fetched : goal.returns-in-Ok-clause-fetched
 returns-in-Ok-clause-fetched g c =
     fetched_link c.take_turns.result c.args.client.now c.connect-line.new.self c.take_turns.new.client
-    (Say c.connect-line.result) (g.S.Source.heard c.write_all_of.new.sink)
-    (g.S.Source.heard c.take_turns.new.link) (g.W.Sink.said c.args.output.now) (g.W.Sink.said c.take_turns.new.output)
-    c.connect-line.ensures.said c.connect-line.ensures.reads c.take_turns.ensures.turned
+    (Say c.connect-line.result) (g.S.Source.read c.write_all_of.new.sink)
+    (g.S.Source.read c.take_turns.new.link) (g.W.Sink.written c.args.output.now)
+    (g.W.Sink.written c.take_turns.new.output)
+    c.connect-line.ensures.written c.connect-line.ensures.reads c.take_turns.ensures.turned
 
 pub returns-in-Ok-clause-read : goal.returns-in-Ok-clause-read
 returns-in-Ok-clause-read g c =
-    let same : g.S.Source.heard c.write_all_of.new.sink ≡ g.S.Source.heard c.args.link.now =
+    let same : g.S.Source.read c.write_all_of.new.sink ≡ g.S.Source.read c.args.link.now =
     sym (g.met.S.Duplex.writes_apart c.write_all_of.new.sink)
     ∙ (c.write_all_of.ensures.beside ∙ g.met.S.Duplex.writes_apart c.args.link.now) in
-    subst (λ (h : Heard). HasReadLink c.args.client.now c.take_turns.new.client h
-    (g.S.Source.heard c.take_turns.new.link) (g.W.Sink.said c.args.output.now)
-    (g.W.Sink.said c.take_turns.new.output)) same
+    subst (λ (h : BytesRead). HasReadLink c.args.client.now c.take_turns.new.client h
+    (g.S.Source.read c.take_turns.new.link) (g.W.Sink.written c.args.output.now)
+    (g.W.Sink.written c.take_turns.new.output)) same
     (read_link c.take_turns.result c.args.client.now c.connect-line.new.self c.take_turns.new.client
-    (Say c.connect-line.result) (g.S.Source.heard c.write_all_of.new.sink)
-    (g.S.Source.heard c.take_turns.new.link) (g.W.Sink.said c.args.output.now) (g.W.Sink.said c.take_turns.new.output)
-    c.connect-line.ensures.said c.connect-line.ensures.reads c.take_turns.ensures.turned)
+    (Say c.connect-line.result) (g.S.Source.read c.write_all_of.new.sink)
+    (g.S.Source.read c.take_turns.new.link) (g.W.Sink.written c.args.output.now)
+    (g.W.Sink.written c.take_turns.new.output)
+    c.connect-line.ensures.written c.connect-line.ensures.reads c.take_turns.ensures.turned)
 
 pub returns-in-Err-clause-fetched : goal.returns-in-Err-clause-fetched
 returns-in-Err-clause-fetched g c =
     let now = c.connect-line.new.self in
-    let heard = g.S.Source.heard c.args.link.now in
-    let said = g.W.Sink.said c.args.output.now in
-    let none = turned_none now heard said (connected_linked c.args.client.now.talk now.talk (Say c.connect-line.result)
-    c.connect-line.ensures.said) in
-    fetched_link _ c.args.client.now now now (Say c.connect-line.result) heard heard said said
-    c.connect-line.ensures.said c.connect-line.ensures.reads (turned_out now now heard heard said said none)
+    let read = g.S.Source.read c.args.link.now in
+    let written = g.W.Sink.written c.args.output.now in
+    let none = turned_none now read written
+    (connected_linked c.args.client.now.talk now.talk (Say c.connect-line.result)
+    c.connect-line.ensures.written) in
+    fetched_link _ c.args.client.now now now (Say c.connect-line.result) read read written written
+    c.connect-line.ensures.written c.connect-line.ensures.reads (turned_out now now read read written written none)
 
 pub returns-in-Err-clause-read : goal.returns-in-Err-clause-read
 returns-in-Err-clause-read g c =
     let now = c.connect-line.new.self in
-    let heard = g.S.Source.heard c.args.link.now in
-    let said = g.W.Sink.said c.args.output.now in
-    let same : g.S.Source.heard c.write_all_of.new.sink ≡ heard =
+    let read = g.S.Source.read c.args.link.now in
+    let written = g.W.Sink.written c.args.output.now in
+    let same : g.S.Source.read c.write_all_of.new.sink ≡ read =
     sym (g.met.S.Duplex.writes_apart c.write_all_of.new.sink)
     ∙ (c.write_all_of.ensures.beside ∙ g.met.S.Duplex.writes_apart c.args.link.now) in
-    let none = turned_none now heard said (connected_linked c.args.client.now.talk now.talk (Say c.connect-line.result)
-    c.connect-line.ensures.said) in
-    subst (λ (h : Heard). HasReadLink c.args.client.now now heard h said said) (sym same)
-    (read_link _ c.args.client.now now now (Say c.connect-line.result) heard heard said said
-    c.connect-line.ensures.said c.connect-line.ensures.reads (turned_out now now heard heard said said none))
+    let none = turned_none now read written
+    (connected_linked c.args.client.now.talk now.talk (Say c.connect-line.result)
+    c.connect-line.ensures.written) in
+    subst (λ (h : BytesRead). HasReadLink c.args.client.now now read h written written) (sym same)
+    (read_link _ c.args.client.now now now (Say c.connect-line.result) read read written written
+    c.connect-line.ensures.written c.connect-line.ensures.reads (turned_out now now read read written written none))
 
 pub returns-in-Ok-clause-turns : goal.returns-in-Ok-clause-turns
 returns-in-Ok-clause-turns g c =
-    let same : g.S.Source.heard c.write_all_of.new.sink ≡ g.S.Source.heard c.args.link.now =
+    let same : g.S.Source.read c.write_all_of.new.sink ≡ g.S.Source.read c.args.link.now =
     sym (g.met.S.Duplex.writes_apart c.write_all_of.new.sink)
     ∙ (c.write_all_of.ensures.beside ∙ g.met.S.Duplex.writes_apart c.args.link.now) in
-    let first : Fetching = fetching c.connect-line.new.self (g.S.Sink.said c.write_all_of.new.sink)
-    (g.W.Sink.said c.args.output.now) in
-    let last : Fetching = fetching c.take_turns.new.client (g.S.Sink.said c.take_turns.new.link)
-    (g.W.Sink.said c.take_turns.new.output) in
-    let after = g.S.Source.heard c.take_turns.new.link in
+    let first : Fetching = fetching c.connect-line.new.self (g.S.Sink.written c.write_all_of.new.sink)
+    (g.W.Sink.written c.args.output.now) in
+    let last : Fetching = fetching c.take_turns.new.client (g.S.Sink.written c.take_turns.new.link)
+    (g.W.Sink.written c.take_turns.new.output) in
+    let after = g.S.Source.read c.take_turns.new.link in
     by_turns c.take_turns.result c.connect-line.new.self (Say c.connect-line.result)
-    (g.S.Sink.said c.write_all_of.new.sink) last after
-    (record { says = c.connect-line.ensures.said; kept = c.connect-line.ensures.dropped })
-    (took_as (g.S.Sink.said c.args.link.now) (g.S.Sink.said c.write_all_of.new.sink) c.as_slice.result.now
+    (g.S.Sink.written c.write_all_of.new.sink) last after
+    (record { says = c.connect-line.ensures.written; kept = c.connect-line.ensures.dropped })
+    (took_as (g.S.Sink.written c.args.link.now) (g.S.Sink.written c.write_all_of.new.sink) c.as_slice.result.now
     c.connect-line.result.items c.in-Ok.ensures.ok c.in-Ok.ensures.fine c.as_slice.ensures.value)
-    (subst (λ (h : Heard). HasTakenAll first h c.take_turns.result last after) same c.take_turns.ensures.taken)
+    (subst (λ (h : BytesRead). HasTakenAll first h c.take_turns.result last after) same c.take_turns.ensures.taken)
 
 pub returns-in-Err-clause-turns : goal.returns-in-Err-clause-turns
 returns-in-Err-clause-turns g c =
-    let old : Fetching = fetching c.args.client.now (g.S.Sink.said c.args.link.now) (g.W.Sink.said c.args.output.now) in
-    let heard = g.S.Source.heard c.args.link.now in
-    let same : g.S.Source.heard c.write_all_of.new.sink ≡ heard =
+    let old : Fetching = fetching c.args.client.now (g.S.Sink.written c.args.link.now)
+    (g.W.Sink.written c.args.output.now) in
+    let read = g.S.Source.read c.args.link.now in
+    let same : g.S.Source.read c.write_all_of.new.sink ≡ read =
     sym (g.met.S.Duplex.writes_apart c.write_all_of.new.sink)
     ∙ (c.write_all_of.ensures.beside ∙ g.met.S.Duplex.writes_apart c.args.link.now) in
-    let now : Fetching = fetching c.connect-line.new.self (g.S.Sink.said c.write_all_of.new.sink)
-    (g.W.Sink.said c.args.output.now) in
-    subst (λ (h : Heard). IsFetchedOver old heard LinkFailed now h) (sym same)
-    (unsaid c.connect-line.new.self (Say c.connect-line.result) (g.S.Sink.said c.write_all_of.new.sink) c.in-Err.field-0
-    (record { says = c.connect-line.ensures.said; kept = c.connect-line.ensures.dropped })
-    (took_front_as (g.S.Sink.said c.args.link.now) (g.S.Sink.said c.write_all_of.new.sink) c.as_slice.result.now
+    let now : Fetching = fetching c.connect-line.new.self (g.S.Sink.written c.write_all_of.new.sink)
+    (g.W.Sink.written c.args.output.now) in
+    subst (λ (h : BytesRead). IsFetchedOver old read LinkFailed now h) (sym same)
+    (unwritten c.connect-line.new.self (Say c.connect-line.result) (g.S.Sink.written c.write_all_of.new.sink)
+    c.in-Err.field-0
+    (record { says = c.connect-line.ensures.written; kept = c.connect-line.ensures.dropped })
+    (took_prefix_as (g.S.Sink.written c.args.link.now) (g.S.Sink.written c.write_all_of.new.sink) c.as_slice.result.now
     c.connect-line.result.items c.in-Err.field-0
     c.in-Err.ensures.err c.in-Err.ensures.within c.in-Err.ensures.failed c.as_slice.ensures.value))

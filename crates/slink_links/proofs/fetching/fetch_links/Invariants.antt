@@ -6,9 +6,9 @@ use Rattle.slink_links.proofs.fetching.fetch_links.Given as goal
 
 abbrev pub invariant-loop-dialled : goal.invariant-loop-dialled
 invariant-loop-dialled g l = record {
-  fetched : HasFetched LinkFailed l.fn.client l.client (g.W.Sink.said l.fn.output) (g.W.Sink.said l.output);
+  fetched : HasFetched LinkFailed l.fn.client l.client (g.W.Sink.written l.fn.output) (g.W.Sink.written l.output);
   dialled : g.D.Dial.calls l.dialler ≡ g.D.Dial.calls l.fn.dialler + l.dialled;
   out : AreOut 0 (g.D.Dial.calls l.dialler) (g.D.Dial.failures l.dialler) (g.D.Dial.given_back l.dialler);
   read : HasReadEach LinkFailed l.fn.client l.client (g.D.Dial.given_back l.fn.dialler) (g.D.Dial.given_back l.dialler)
-      (g.W.Sink.said l.fn.output) (g.W.Sink.said l.output);
+      (g.W.Sink.written l.fn.output) (g.W.Sink.written l.output);
 }

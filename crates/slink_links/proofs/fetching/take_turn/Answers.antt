@@ -7,13 +7,14 @@ pub returns-clause-turned : goal.returns-clause-turned
 returns-clause-turned g c =
     let old = c.args.client.now in
     let new = c.fetch_turn-turn.new.client in
-    let before = g.W.Sink.said c.args.output.now in
-    let after = g.W.Sink.said c.fetch_turn-turn.new.output in
-    subst (λ end. HasTurned end old new (g.S.Source.heard c.args.link.now)
-    (g.S.Source.heard c.fetch_turn-turn.new.link) before after) (sym c.end_by.ensures)
-    (turned c.fetch_turn-turn.result old new (g.S.Sink.said c.args.link.now) (g.S.Sink.said c.fetch_turn-turn.new.link)
+    let before = g.W.Sink.written c.args.output.now in
+    let after = g.W.Sink.written c.fetch_turn-turn.new.output in
+    subst (λ end. HasTurned end old new (g.S.Source.read c.args.link.now)
+    (g.S.Source.read c.fetch_turn-turn.new.link) before after) (sym c.end_by.ensures)
+    (turned c.fetch_turn-turn.result old new (g.S.Sink.written c.args.link.now)
+    (g.S.Sink.written c.fetch_turn-turn.new.link)
     before after
-    (g.S.Source.heard c.args.link.now) (g.S.Source.heard c.fetch_turn-turn.new.link) c.fetch_turn-turn.ensures.ok
+    (g.S.Source.read c.args.link.now) (g.S.Source.read c.fetch_turn-turn.new.link) c.fetch_turn-turn.ensures.ok
     c.fetch_turn-turn.ensures.fault
     c.requires.reading c.requires.linked)
 

@@ -5,9 +5,9 @@ use Rattle.slink_links.proofs.fetching.take_turns.Given as goal
 
 abbrev pub invariant-loop-turn : goal.invariant-loop-turn
 invariant-loop-turn g l = record {
-  turned : HasTurned None l.fn.client l.client (g.S.Source.heard l.fn.link) (g.S.Source.heard l.link)
-      (g.W.Sink.said l.fn.output) (g.W.Sink.said l.output);
-  taken : HasTakenTurns (fetching l.fn.client (g.S.Sink.said l.fn.link) (g.W.Sink.said l.fn.output))
-      (g.S.Source.heard l.fn.link) l.turn
-      (fetching l.client (g.S.Sink.said l.link) (g.W.Sink.said l.output)) (g.S.Source.heard l.link);
+  turned : HasTurned None l.fn.client l.client (g.S.Source.read l.fn.link) (g.S.Source.read l.link)
+      (g.W.Sink.written l.fn.output) (g.W.Sink.written l.output);
+  taken : HasTakenTurns (fetching l.fn.client (g.S.Sink.written l.fn.link) (g.W.Sink.written l.fn.output))
+      (g.S.Source.read l.fn.link) l.turn
+      (fetching l.client (g.S.Sink.written l.link) (g.W.Sink.written l.output)) (g.S.Source.read l.link);
 }

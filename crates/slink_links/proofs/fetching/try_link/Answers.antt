@@ -8,21 +8,21 @@ use Rattle.slink_links.proofs.fetching.try_link.Goals as goal
 pub returns-in-Some-clause-read : goal.returns-in-Some-clause-read
 returns-in-Some-clause-read g c =
     reads_one c.args.client.now c.fetch_link-end.new.client (g.D.Dial.given_back c.args.dialler.now)
-    (g.D.Dial.given_back c.hang_up.new.self) (g.D.Link.Source.heard c.in-Some.link)
-    (g.D.Link.Source.heard c.fetch_link-end.new.link) (g.D.Link.Sink.said c.in-Some.link)
-    (g.D.Link.Sink.said c.fetch_link-end.new.link) (g.W.Sink.said c.args.output.now)
-    (g.W.Sink.said c.fetch_link-end.new.output) c.fetch_link-end.result c.in-Some.ensures.unheard
-    c.in-Some.ensures.unsaid c.fetch_link-end.ensures.read c.fetch_link-end.ensures.turns
+    (g.D.Dial.given_back c.hang_up.new.self) (g.D.Link.Source.read c.in-Some.link)
+    (g.D.Link.Source.read c.fetch_link-end.new.link) (g.D.Link.Sink.written c.in-Some.link)
+    (g.D.Link.Sink.written c.fetch_link-end.new.link) (g.W.Sink.written c.args.output.now)
+    (g.W.Sink.written c.fetch_link-end.new.output) c.fetch_link-end.result c.in-Some.ensures.unread
+    c.in-Some.ensures.unwritten c.fetch_link-end.ensures.read c.fetch_link-end.ensures.turns
     (c.hang_up.ensures.given_back
-    ∙ ap (λ links. links ++ exchange (g.D.Link.Source.heard c.fetch_link-end.new.link)
-    (g.D.Link.Sink.said c.fetch_link-end.new.link) ∷ []) c.in-Some.ensures.given_back)
+    ∙ ap (λ links. links ++ exchange (g.D.Link.Source.read c.fetch_link-end.new.link)
+    (g.D.Link.Sink.written c.fetch_link-end.new.link) ∷ []) c.in-Some.ensures.given_back)
 
 pub returns-in-None-clause-fetched : goal.returns-in-None-clause-fetched
-returns-in-None-clause-fetched g c = fetched_none c.args.client.now (g.W.Sink.said c.args.output.now)
+returns-in-None-clause-fetched g c = fetched_none c.args.client.now (g.W.Sink.written c.args.output.now)
 
 pub returns-in-None-clause-read : goal.returns-in-None-clause-read
 returns-in-None-clause-read g c =
     subst (λ links. HasReadEach LinkFailed c.args.client.now c.args.client.now (g.D.Dial.given_back c.args.dialler.now)
-    links (g.W.Sink.said c.args.output.now) (g.W.Sink.said c.args.output.now))
+    links (g.W.Sink.written c.args.output.now) (g.W.Sink.written c.args.output.now))
     (sym c.in-None.ensures.given_back) (reads_none c.args.client.now (g.D.Dial.given_back c.args.dialler.now)
-    (g.W.Sink.said c.args.output.now))
+    (g.W.Sink.written c.args.output.now))

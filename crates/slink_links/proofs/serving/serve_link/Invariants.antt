@@ -7,6 +7,6 @@ abbrev pub invariant-loop-turn : goal.invariant-loop-turn
 invariant-loop-turn g l = record {
   fits : Fits l.feed l.session.state;
   stands : Stands l.session;
-  serving : IsServing l.feed l.turn (g.S.Source.heard l.fn.link) (g.S.Source.heard l.link) (g.S.Sink.said l.fn.link)
-      (g.S.Sink.said l.link) l.session;
+  serving : IsServing l.feed l.turn (g.S.Source.read l.fn.link) (g.S.Source.read l.link) (g.S.Sink.written l.fn.link)
+      (g.S.Sink.written l.link) l.session;
 }

@@ -12,10 +12,10 @@ hang_up-requires g c = record {
     ap length c.in-Some.ensures.given_back,
   );
   told = ap not c.is_ok-is_fine.ensures.value
-      ∙ failed_exactly c.args.feed.now c.serve_link.result (g.A.Link.Source.heard c.in-Some.link)
-      (g.A.Link.Source.heard c.serve_link.new.link)
-      (g.A.Link.Sink.said c.in-Some.link) (g.A.Link.Sink.said c.serve_link.new.link) c.in-Some.ensures.unheard
-      c.in-Some.ensures.unsaid c.serve_link.ensures;
+      ∙ failed_exactly c.args.feed.now c.serve_link.result (g.A.Link.Source.read c.in-Some.link)
+      (g.A.Link.Source.read c.serve_link.new.link)
+      (g.A.Link.Sink.written c.in-Some.link) (g.A.Link.Sink.written c.serve_link.new.link) c.in-Some.ensures.unread
+      c.in-Some.ensures.unwritten c.serve_link.ensures;
 }
 
 pub returns-in-Some-clause-failed : goal.returns-in-Some-clause-failed

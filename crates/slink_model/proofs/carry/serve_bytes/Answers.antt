@@ -1,6 +1,6 @@
 use Rattle.std.proofs.Common.{◌∙◌, ap, subst, arith, ◌++◌, take}
 use Rattle.slink_feed.specs.Serving.{Takes}
-use Rattle.slink_feed.proofs.Fronts.{from_offset}
+use Rattle.slink_feed.proofs.Prefixes.{from_offset}
 use Rattle.slink_model.proofs.Pieces.{serves_all, serves_more}
 use Rattle.slink_model.proofs.carry.serve_bytes.Goals as goal
 

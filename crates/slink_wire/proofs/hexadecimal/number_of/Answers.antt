@@ -1,5 +1,5 @@
 use Rattle.std.proofs.Common.{arith}
-use Rattle.slink_wire.proofs.Digits.{none_said, reads_fits, reads_more, reads_none}
+use Rattle.slink_wire.proofs.Digits.{none_written, reads_fits, reads_more, reads_none}
 use Rattle.slink_wire.proofs.hexadecimal.number_of.Goals as goal
 
 pub loop-byte-init : goal.loop-byte-init
@@ -17,4 +17,5 @@ loop-byte-preserved c = reads_more c.args.digits.now c.loop-byte.byte-index c.lo
     (omega arith) c.in-Some.ensures.small c.in-Some.ensures.value c.loop-byte.invariant
 
 pub returns-in-None-clause-none : goal.returns-in-None-clause-none
-returns-in-None-clause-none c = none_said c.args.digits.now c.loop-byte.byte-index (omega arith) c.in-None.ensures.none
+returns-in-None-clause-none c =
+    none_written c.args.digits.now c.loop-byte.byte-index (omega arith) c.in-None.ensures.none

@@ -12,4 +12,5 @@ returns-clause-adds g c = λ added h.
     let old : Held = record { channels = c.self.inside.roster; added = c.self.inside.added } in
     let new : Held = record { channels = c.add.new.self; added = c.self.inside.added + 1 } in
     let is : IsAuditOf old added = rw (← c.self.view_is) at h in
-    audit_more old new added (record { view = view_of c.args.view.now; offset = c.args.offset }) is refl c.in_ok-add.ensures.stands
+    audit_more old new added (record { view = view_of c.args.view.now; offset = c.args.offset }) is refl
+    c.in_ok-add.ensures.stands

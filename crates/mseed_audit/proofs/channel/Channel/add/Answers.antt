@@ -15,11 +15,15 @@ returns-in-Sound-clause-stands c = λ ps stands.
     let v : View = view_of c.args.view.now in
     let p : Placed = record { view = v; offset = c.args.offset; number = c.args.number } in
     let old : Verdict = c.args.self.now.verdict in
-    let none : IsFound (Some stands.last.view) v None = c.in-Sound.ensures.why (Some stands.last.view) (tail_before c.args.self.now.tail stands.last.view stands.tail) in
+    let none : IsFound (Some stands.last.view) v None =
+    c.in-Sound.ensures.why (Some stands.last.view)
+    (tail_before c.args.self.now.tail stands.last.view stands.tail) in
     let counted : c.with_samples-self.result ≡ with_samples old (count_of v) =
-    c.with_samples-self.ensures ∙ ap (λ (n : ℕ). with_samples old n) (c.samples.ensures ∙ c.in-Sound.ensures.tail.samples) in record {
-      verdict = subst (λ (x : Verdict). IsVerdict x (ps ++ p ∷ [])) (sym counted) (verdict_whole old ps stands.front stands.last p stands.parts stands.verdict none);
-      front = ps;
+    c.with_samples-self.ensures
+    ∙ ap (λ (n : ℕ). with_samples old n) (c.samples.ensures ∙ c.in-Sound.ensures.tail.samples) in record {
+      verdict = subst (λ (x : Verdict). IsVerdict x (ps ++ p ∷ [])) (sym counted)
+          (verdict_whole old ps stands.prefix stands.last p stands.parts stands.verdict none);
+      prefix = ps;
       last = p;
       parts = refl;
       tail = c.in-Sound.ensures.tail;
@@ -30,10 +34,12 @@ returns-in-Faulty-clause-stands c = λ ps stands.
     let v : View = view_of c.args.view.now in
     let p : Placed = record { view = v; offset = c.args.offset; number = c.args.number } in
     let old : Verdict = c.args.self.now.verdict in
-    let why : IsFound (Some stands.last.view) v (Some c.in-Faulty.why) = c.in-Faulty.ensures.why (Some stands.last.view) (tail_before c.args.self.now.tail stands.last.view stands.tail) in record {
+    let why : IsFound (Some stands.last.view) v (Some c.in-Faulty.why) =
+    c.in-Faulty.ensures.why (Some stands.last.view)
+    (tail_before c.args.self.now.tail stands.last.view stands.tail) in record {
       verdict = subst (λ (x : Verdict). IsVerdict x (ps ++ p ∷ [])) (sym c.with_finding-self.ensures)
-          (verdict_found old ps stands.front stands.last p c.in-Faulty.why stands.parts stands.verdict why);
-      front = ps;
+          (verdict_found old ps stands.prefix stands.last p c.in-Faulty.why stands.parts stands.verdict why);
+      prefix = ps;
       last = p;
       parts = refl;
       tail = c.in-Faulty.ensures.tail;

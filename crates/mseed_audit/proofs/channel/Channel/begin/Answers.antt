@@ -9,8 +9,9 @@ pub returns-in-Sound-clause-stands : goal.returns-in-Sound-clause-stands
 returns-in-Sound-clause-stands c =
     let v : View = view_of c.args.view.now in
     let p : Placed = record { view = v; offset = c.args.offset; number = c.args.number } in record {
-      verdict = c.verdict_alone.ensures.is v c.args.number c.args.offset c.in-Sound.ensures.tail (c.in-Sound.ensures.why None tt);
-      front = [];
+      verdict = c.verdict_alone.ensures.is v c.args.number c.args.offset c.in-Sound.ensures.tail
+          (c.in-Sound.ensures.why None tt);
+      prefix = [];
       last = p;
       parts = refl;
       tail = c.in-Sound.ensures.tail;
@@ -21,7 +22,7 @@ returns-in-Faulty-clause-stands c =
     let v : View = view_of c.args.view.now in
     let p : Placed = record { view = v; offset = c.args.offset; number = c.args.number } in record {
       verdict = ([], (findings_one p (Some c.in-Faulty.why) (c.in-Faulty.ensures.why None tt), refl));
-      front = [];
+      prefix = [];
       last = p;
       parts = refl;
       tail = c.in-Faulty.ensures.tail;

@@ -1,4 +1,5 @@
-use Rattle.std.proofs.Common.{◌≡◌, ◌<◌, ◌+◌, ◌^◌, ◌∙◌, ℕ, List, false, length, Option, IsSome, Some, None, is_some, subst, sym, ap, arith, inl, inr, rules}
+use Rattle.std.proofs.Common.{◌≡◌, ◌<◌, ◌+◌, ◌^◌, ◌∙◌, ℕ, List, false, length, Option, IsSome, Some, None, is_some}
+use Rattle.std.proofs.Common.{subst, sym, ap, arith, inl, inr, rules}
 use Rattle.std.specs.Map.{lookup}
 use Rattle.std.proofs.lemmas.Bool.{false≢true}
 use Rattle.mseed_record.specs.Viewing.{view_of}
@@ -7,7 +8,8 @@ use Rattle.mseed_audit.specs.Channels.{Placed, same_key, with_record}
 use Rattle.mseed_audit.specs.Audit.{StandsAt}
 use Rattle.mseed_audit.specs.Kept.{AreBounded, ArePlaces, IsBounded, IsPlace, place_of}
 use Rattle.mseed_audit.proofs.Counts.{within_more}
-use Rattle.mseed_audit.proofs.Rosters.{bounded_at, bounded_where, found_at, kept_where, none_there, place_set, place_within, places_set, set_bounded, set_found, set_stands}
+use Rattle.mseed_audit.proofs.Rosters.{bounded_at, bounded_where, found_at, kept_where, none_there, place_set}
+use Rattle.mseed_audit.proofs.Rosters.{place_within, places_set, set_bounded, set_found, set_stands}
 use Rattle.mseed_audit.proofs.Steps.{new_stands}
 use Rattle.mseed_audit.proofs.roster.Roster.add.Goals as goal
 
@@ -17,7 +19,8 @@ index_mut-requires g c =
     let es : List (List ℕ × Channel) = c.self.inside.channels.items in
     let code : List ℕ = c.codes-codes.result in
     let same : es ≡ c.args.self.now = c.self.view_is ∙ c.find.ensures.stays in
-    let place : place_of (same_key code) es ≡ Some c.in-Some.index = ap (λ (fs : List (List ℕ × Channel)). place_of (same_key code) fs) same ∙ sym c.in-Some.ensures.place in
+    let place : place_of (same_key code) es ≡ Some c.in-Some.index =
+    ap (λ (fs : List (List ℕ × Channel)). place_of (same_key code) fs) same ∙ sym c.in-Some.ensures.place in
     let within : c.in-Some.index < length es = place_within (same_key code) es c.in-Some.index place in
     search rules
 
@@ -26,9 +29,11 @@ add-requires-clause-bounded g c =
     let es : List (List ℕ × Channel) = c.self.inside.channels.items in
     let code : List ℕ = c.codes-codes.result in
     let same : es ≡ c.args.self.now = c.self.view_is ∙ c.find.ensures.stays in
-    let place : place_of (same_key code) es ≡ Some c.in-Some.index = ap (λ (fs : List (List ℕ × Channel)). place_of (same_key code) fs) same ∙ sym c.in-Some.ensures.place in
+    let place : place_of (same_key code) es ≡ Some c.in-Some.index =
+    ap (λ (fs : List (List ℕ × Channel)). place_of (same_key code) fs) same ∙ sym c.in-Some.ensures.place in
     let found = found_at (same_key code) es c.in-Some.index c.index_mut.result.now place c.index_mut.ensures.value in
-    bounded_at (2 ^ 40) es code c.index_mut.result.now.1 found (subst (λ (fs : List (List ℕ × Channel)). AreBounded (2 ^ 40) fs) (sym same) c.requires)
+    bounded_at (2 ^ 40) es code c.index_mut.result.now.1 found
+    (subst (λ (fs : List (List ℕ × Channel)). AreBounded (2 ^ 40) fs) (sym same) c.requires)
 
 pub invariant_of-self : goal.invariant_of-self
 invariant_of-self g c =
@@ -36,12 +41,16 @@ invariant_of-self g c =
     let code : List ℕ = c.codes-codes.result in
     let after : Channel = c.add.new.self in
     let same : es ≡ c.args.self.now = c.self.view_is ∙ c.find.ensures.stays in
-    let place : place_of (same_key code) es ≡ Some c.in-Some.index = ap (λ (fs : List (List ℕ × Channel)). place_of (same_key code) fs) same ∙ sym c.in-Some.ensures.place in
-    let now = set_found (same_key code) es c.in-Some.index c.index_mut.result.now after place c.index_mut.ensures.value in
+    let place : place_of (same_key code) es ≡ Some c.in-Some.index =
+    ap (λ (fs : List (List ℕ × Channel)). place_of (same_key code) fs) same ∙ sym c.in-Some.ensures.place in
+    let now = set_found (same_key code) es c.in-Some.index c.index_mut.result.now after place
+    c.index_mut.ensures.value in
     let is = c.self.invariant in (
-      subst (λ (fs : List (List ℕ × Channel)). ArePlaces c.self.inside.places.entries fs) (sym now) (places_set c.self.inside.places.entries (same_key code) es after is.0),
+      subst (λ (fs : List (List ℕ × Channel)). ArePlaces c.self.inside.places.entries fs) (sym now)
+          (places_set c.self.inside.places.entries (same_key code) es after is.0),
       is.1,
-      subst (λ (fs : List (List ℕ × Channel)). IsPlace c.self.inside.last fs) (sym now) (place_set c.self.inside.last (same_key code) es after is.2),
+      subst (λ (fs : List (List ℕ × Channel)). IsPlace c.self.inside.last fs) (sym now)
+          (place_set c.self.inside.last (same_key code) es after is.2),
     )
 
 pub returns-in-Some-clause-stands : goal.returns-in-Some-clause-stands
@@ -51,12 +60,16 @@ returns-in-Some-clause-stands g c = λ key ps s.
     let after : Channel = c.add.new.self in
     let p : Placed = record { view = view_of c.args.view.now; offset = c.args.offset; number = c.args.number } in
     let same : es ≡ c.args.self.now = c.self.view_is ∙ c.find.ensures.stays in
-    let place : place_of (same_key code) es ≡ Some c.in-Some.index = ap (λ (fs : List (List ℕ × Channel)). place_of (same_key code) fs) same ∙ sym c.in-Some.ensures.place in
+    let place : place_of (same_key code) es ≡ Some c.in-Some.index =
+    ap (λ (fs : List (List ℕ × Channel)). place_of (same_key code) fs) same ∙ sym c.in-Some.ensures.place in
     let found = found_at (same_key code) es c.in-Some.index c.index_mut.result.now place c.index_mut.ensures.value in
-    let now = set_found (same_key code) es c.in-Some.index c.index_mut.result.now after place c.index_mut.ensures.value in
-    let before : StandsAt (lookup (same_key key) es) ps = subst (λ (fs : List (List ℕ × Channel)). StandsAt (lookup (same_key key) fs) ps) (sym same) s in
+    let now = set_found (same_key code) es c.in-Some.index c.index_mut.result.now after place
+    c.index_mut.ensures.value in
+    let before : StandsAt (lookup (same_key key) es) ps =
+    subst (λ (fs : List (List ℕ × Channel)). StandsAt (lookup (same_key key) fs) ps) (sym same) s in
     subst (λ (fs : List (List ℕ × Channel)). StandsAt (lookup (same_key key) fs) (with_record key ps p)) (sym now)
-    (set_stands es code p c.index_mut.result.now.1 after found c.codes-codes.ensures (search rules) c.add.ensures.stands key ps before)
+    (set_stands es code p c.index_mut.result.now.1 after found c.codes-codes.ensures (search rules)
+    c.add.ensures.stands key ps before)
 
 pub returns-in-Some-clause-bounded : goal.returns-in-Some-clause-bounded
 returns-in-Some-clause-bounded g c = λ n all.
@@ -64,12 +77,15 @@ returns-in-Some-clause-bounded g c = λ n all.
     let code : List ℕ = c.codes-codes.result in
     let after : Channel = c.add.new.self in
     let same : es ≡ c.args.self.now = c.self.view_is ∙ c.find.ensures.stays in
-    let place : place_of (same_key code) es ≡ Some c.in-Some.index = ap (λ (fs : List (List ℕ × Channel)). place_of (same_key code) fs) same ∙ sym c.in-Some.ensures.place in
+    let place : place_of (same_key code) es ≡ Some c.in-Some.index =
+    ap (λ (fs : List (List ℕ × Channel)). place_of (same_key code) fs) same ∙ sym c.in-Some.ensures.place in
     let found = found_at (same_key code) es c.in-Some.index c.index_mut.result.now place c.index_mut.ensures.value in
-    let now = set_found (same_key code) es c.in-Some.index c.index_mut.result.now after place c.index_mut.ensures.value in
+    let now = set_found (same_key code) es c.in-Some.index c.index_mut.result.now after place
+    c.index_mut.ensures.value in
     let within : AreBounded n es = subst (λ (fs : List (List ℕ × Channel)). AreBounded n fs) (sym same) all in
     subst (λ (fs : List (List ℕ × Channel)). AreBounded (n + 1) fs) (sym now)
-    (set_bounded n es code after within (c.add.ensures.bounded n (bounded_at n es code c.index_mut.result.now.1 found within)))
+    (set_bounded n es code after within
+    (c.add.ensures.bounded n (bounded_at n es code c.index_mut.result.now.1 found within)))
 
 pub keep-requires : goal.keep-requires
 keep-requires g c =
@@ -84,16 +100,23 @@ returns-in-None-clause-stands g c = λ key ps s.
     let code : List ℕ = c.codes-codes.result in
     let p : Placed = record { view = view_of c.args.view.now; offset = c.args.offset; number = c.args.number } in
     let none : lookup (same_key code) es ≡ None =
-    ap (λ (fs : List (List ℕ × Channel)). lookup (same_key code) fs) c.find.ensures.stays ∙ none_there (same_key code) c.args.self.now (sym c.in-None.ensures.place) in
-    let before : StandsAt (lookup (same_key key) es) ps = subst (λ (fs : List (List ℕ × Channel)). StandsAt (lookup (same_key key) fs) ps) (sym c.find.ensures.stays) s in
-    new_stands es c.keep.new.self code p c.begin.result c.keep.result c.codes-codes.ensures (search rules) (kept_where c.keep.result es c.keep.new.self code c.begin.result c.keep.ensures.kept none) none c.begin.ensures.stands key ps before
+    ap (λ (fs : List (List ℕ × Channel)). lookup (same_key code) fs) c.find.ensures.stays
+    ∙ none_there (same_key code) c.args.self.now (sym c.in-None.ensures.place) in
+    let before : StandsAt (lookup (same_key key) es) ps =
+    subst (λ (fs : List (List ℕ × Channel)). StandsAt (lookup (same_key key) fs) ps) (sym c.find.ensures.stays) s in
+    new_stands es c.keep.new.self code p c.begin.result c.keep.result c.codes-codes.ensures (search rules)
+    (kept_where c.keep.result es c.keep.new.self code c.begin.result c.keep.ensures.kept none) none
+    c.begin.ensures.stands key ps before
 
 pub returns-in-None-clause-bounded : goal.returns-in-None-clause-bounded
 returns-in-None-clause-bounded g c = λ n all.
     let es : List (List ℕ × Channel) = c.find.new.self in
-    let within : AreBounded n es = subst (λ (fs : List (List ℕ × Channel)). AreBounded n fs) (sym c.find.ensures.stays) all in
-    let one : IsBounded (n + 1) c.begin.result.verdict = within_more 1 (n + 1) _ (omega arith) c.begin.ensures.bounded in
-    bounded_where c.keep.result es c.keep.new.self c.codes-codes.result c.begin.result n c.keep.ensures.kept c.keep.ensures.unchanged within one
+    let within : AreBounded n es =
+    subst (λ (fs : List (List ℕ × Channel)). AreBounded n fs) (sym c.find.ensures.stays) all in
+    let one : IsBounded (n + 1) c.begin.result.verdict =
+    within_more 1 (n + 1) _ (omega arith) c.begin.ensures.bounded in
+    bounded_where c.keep.result es c.keep.new.self c.codes-codes.result c.begin.result n c.keep.ensures.kept
+    c.keep.ensures.unchanged within one
 
 pub returns-in-None-clause-memory : goal.returns-in-None-clause-memory
 returns-in-None-clause-memory g c = elim [
@@ -103,6 +126,7 @@ returns-in-None-clause-memory g c = elim [
       let code : List ℕ = c.codes-codes.result in
       let none : lookup (same_key code) es ≡ None = none_there (same_key code) es (sym c.in-None.ensures.place) in
       let gone : is_some (lookup (same_key code) es) ≡ false = ap (λ (o : Option Channel). is_some o) none in
-      let here : IsSome (lookup (same_key code) es) = subst (λ (k : List ℕ). IsSome (lookup (same_key k) es)) (sym c.codes-codes.ensures) there in
+      let here : IsSome (lookup (same_key code) es) =
+      subst (λ (k : List ℕ). IsSome (lookup (same_key k) es)) (sym c.codes-codes.ensures) there in
       absurd (false≢true (sym gone ∙ here))
 ]

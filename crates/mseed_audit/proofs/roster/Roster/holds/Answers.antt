@@ -9,6 +9,7 @@ pub returns : goal.returns
 returns g c =
     let key : List ℕ = c.args.codes.now in
     let place = ap (λ (o : Option ℕ). is_some o) (c.self.invariant.0.each key) in
-    let same : c.contains_key.result ≡ is_some (lookup (same_key key) c.self.inside.channels.items) = c.contains_key.ensures ∙ place ∙ same_some (same_key key) c.self.inside.channels.items in
+    let same : c.contains_key.result ≡ is_some (lookup (same_key key) c.self.inside.channels.items) =
+    c.contains_key.ensures ∙ place ∙ same_some (same_key key) c.self.inside.channels.items in
     let is = same ∙ ap (λ (es : List (List ℕ × Channel)). is_some (lookup (same_key key) es)) c.self.view_is in
     (λ t. sym is ∙ t, λ t. is ∙ t)

@@ -1,4 +1,5 @@
-use Rattle.std.proofs.Common.{◌≡◌, ◌<◌, ◌++◌, ◌∷◌, [], ◌∙◌, ℕ, suc, List, length, append-nil, append_assoc, subst, sym, ap, arith, rules}
+use Rattle.std.proofs.Common.{◌≡◌, ◌<◌, ◌++◌, ◌∷◌, [], ◌∙◌, ℕ, suc, List, length, append-nil, append_assoc, subst, sym}
+use Rattle.std.proofs.Common.{ap, arith, rules}
 use Rattle.std.specs.List.Sorted.{IsStrictlySortedBy}
 use Rattle.std.specs.Map.{keys_of, lookup}
 use Rattle.std.specs.Ordering.{nat_cmp}
@@ -15,13 +16,16 @@ loop-codes-preserved g c =
     let es : List (List ℕ × Channel) = c.self.inside.channels.items in
     let rest : List (List ℕ × ℕ) = c.next.new.self in
     let before : List (List ℕ × Verdict) = c.loop-codes.verdicts.items in
-    let said : List ℕ × Verdict = (c.in-Some.codes, c.verdict.result) in
+    let written : List ℕ × Verdict = (c.in-Some.codes, c.verdict.result) in
     let is = rw c.in-Some.ensures.steps at c.loop-codes.invariant in
     let within : c.in-Some.index < length es = is.2 0 0 (omega arith) in
     let next = verdicts_next es c.in-Some.codes c.in-Some.index rest c.index.result.now within c.index.ensures in
-    let one : said ∷ verdicts_at es rest ≡ verdicts_at es ((c.in-Some.codes, c.in-Some.index) ∷ rest) = ap (λ (v : Verdict). (c.in-Some.codes, v) ∷ verdicts_at es rest) c.verdict.ensures ∙ sym next in
-    let pushed : c.push.new.self.items ≡ before ++ said ∷ [] = search rules in (
-      ap (λ (vs : List (List ℕ × Verdict)). vs ++ verdicts_at es rest) pushed ∙ append_assoc before (said ∷ []) (verdicts_at es rest) ∙ ap (λ (vs : List (List ℕ × Verdict)). before ++ vs) one ∙ is.0,
+    let one : written ∷ verdicts_at es rest ≡ verdicts_at es ((c.in-Some.codes, c.in-Some.index) ∷ rest) =
+    ap (λ (v : Verdict). (c.in-Some.codes, v) ∷ verdicts_at es rest) c.verdict.ensures ∙ sym next in
+    let pushed : c.push.new.self.items ≡ before ++ written ∷ [] = search rules in (
+      ap (λ (vs : List (List ℕ × Verdict)). vs ++ verdicts_at es rest) pushed
+          ∙ append_assoc before (written ∷ []) (verdicts_at es rest)
+          ∙ ap (λ (vs : List (List ℕ × Verdict)). before ++ vs) one ∙ is.0,
       search rules,
       λ k d l. is.2 (suc k) d (omega (arith, l)),
     )
@@ -32,8 +36,10 @@ returns-clause-ascending g c =
     let es : List (List ℕ × Channel) = c.self.inside.channels.items in
     let places : List (List ℕ × ℕ) = c.self.inside.places.entries in
     let all = rw c.in-None.ensures.steps.0 at c.loop-codes.invariant.0 in
-    let there : c.loop-codes.verdicts.items ≡ verdicts_at es places = sym (append-nil c.loop-codes.verdicts.items) ∙ all ∙ ap (λ (ps : List (List ℕ × ℕ)). verdicts_at es ps) made.0 in
-    let keys : keys_of c.loop-codes.verdicts.items ≡ keys_of places = ap (λ (vs : List (List ℕ × Verdict)). keys_of vs) there ∙ verdict_keys es places c.self.invariant.0.within in
+    let there : c.loop-codes.verdicts.items ≡ verdicts_at es places = sym (append-nil c.loop-codes.verdicts.items)
+    ∙ all ∙ ap (λ (ps : List (List ℕ × ℕ)). verdicts_at es ps) made.0 in
+    let keys : keys_of c.loop-codes.verdicts.items ≡ keys_of places =
+    ap (λ (vs : List (List ℕ × Verdict)). keys_of vs) there ∙ verdict_keys es places c.self.invariant.0.within in
     subst (λ (ks : List (List ℕ)). IsStrictlySortedBy (slice_cmp nat_cmp) ks) (sym keys) made.5
 
 pub returns-clause-each : goal.returns-clause-each
@@ -42,6 +48,8 @@ returns-clause-each g c = λ key.
     let es : List (List ℕ × Channel) = c.self.inside.channels.items in
     let places : List (List ℕ × ℕ) = c.self.inside.places.entries in
     let all = rw c.in-None.ensures.steps.0 at c.loop-codes.invariant.0 in
-    let there : c.loop-codes.verdicts.items ≡ verdicts_at es places = sym (append-nil c.loop-codes.verdicts.items) ∙ all ∙ ap (λ (ps : List (List ℕ × ℕ)). verdicts_at es ps) made.0 in
-    ap (λ (vs : List (List ℕ × Verdict)). lookup (same_key key) vs) there ∙ verdict_each es places c.self.invariant.0 key
+    let there : c.loop-codes.verdicts.items ≡ verdicts_at es places = sym (append-nil c.loop-codes.verdicts.items)
+    ∙ all ∙ ap (λ (ps : List (List ℕ × ℕ)). verdicts_at es ps) made.0 in
+    ap (λ (vs : List (List ℕ × Verdict)). lookup (same_key key) vs) there
+    ∙ verdict_each es places c.self.invariant.0 key
     ∙ ap (λ (fs : List (List ℕ × Channel)). verdict_in (lookup (same_key key) fs)) c.self.view_is

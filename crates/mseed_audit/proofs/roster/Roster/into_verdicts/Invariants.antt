@@ -6,6 +6,8 @@ use Rattle.mseed_audit.proofs.Rosters.{verdicts_at}
 use Rattle.mseed_audit.proofs.roster.Roster.into_verdicts.Given as goal
 
 abbrev pub invariant-loop-codes : goal.invariant-loop-codes
-invariant-loop-codes g l = (l.verdicts.items ++ verdicts_at l.channels.items l.codes-iterator ≡ verdicts_at l.channels.items l.initial.codes-iterator)
+invariant-loop-codes g l =
+    (l.verdicts.items ++ verdicts_at l.channels.items l.codes-iterator ≡ verdicts_at l.channels.items
+    l.initial.codes-iterator)
     × (length l.verdicts.items + length l.codes-iterator ≤ vec_capacity l.verdicts)
     × All (λ i. i < length l.channels.items) (values_of l.codes-iterator)

@@ -1,4 +1,5 @@
-use Rattle.std.proofs.Common.{◌≡◌, ◌<◌, ◌+◌, ◌++◌, ◌∷◌, [], ◌∙◌, ℕ, List, None, Some, length, cond, subst, sym, ap, arith, rules}
+use Rattle.std.proofs.Common.{◌≡◌, ◌<◌, ◌+◌, ◌++◌, ◌∷◌, [], ◌∙◌, ℕ, List, None, Some, length, cond, subst, sym, ap}
+use Rattle.std.proofs.Common.{arith, rules}
 use Rattle.std.proofs.lemmas.Map.Views.{All-values-insert_entry}
 use Rattle.std.proofs.lemmas.List.{length-append}
 use Rattle.std.specs.List.{All}
@@ -20,13 +21,25 @@ invariant_of-self-2 g c =
     let next : List (List ℕ × Channel) = old ++ (code, c.args.channel) ∷ [] in
     let before : List (List ℕ × ℕ) = c.self.inside.places.entries in
     let after : List (List ℕ × ℕ) = c.insert.new.self.entries in
-    let kept : (key : List ℕ) → lookup (same_key key) after ≡ cond (same_key code key) (Some (length old)) (lookup (same_key key) before) =
-    λ key. c.in-Ok.ensures.updates.0 key ∙ ap (λ (n : ℕ). cond (same_key code key) (Some n) (lookup (same_key key) before)) index in
+    let kept : (key : List ℕ) → lookup (same_key key) after ≡ cond (same_key code key) (Some (length old))
+    (lookup (same_key key) before) =
+    λ key. c.in-Ok.ensures.updates.0 key
+    ∙ ap (λ (n : ℕ). cond (same_key code key) (Some n) (lookup (same_key key) before)) index in
     let size : length next ≡ length old + 1 = length-append old ((code, c.args.channel) ∷ []) in
-    let below : All (λ i. i < length next) (values_of before) = subst (λ (n : ℕ). All (λ i. i < n) (values_of before)) (sym size) (all_below (values_of before) (length old) c.self.invariant.0.within) in
-    let within : All (λ i. i < length next) (values_of after) = rw c.in-Ok.ensures.entries (All-values-insert_entry _ code c.len-index.result (λ i. i < length next) before below (omega (arith, index, size))) in
-    let are : ArePlaces after next = record { each = λ key. places_more before after old code c.args.channel c.self.invariant.0 none kept key; within = within } in
-    let place : place_of (same_key code) next ≡ Some c.len-index.result = place_behind (same_key code) old (code, c.args.channel) (no_place (same_key code) old none) (same_itself code) ∙ ap (λ (n : ℕ). Some n) (sym index) in (
+    let below : All (λ i. i < length next) (values_of before) =
+    subst (λ (n : ℕ). All (λ i. i < n) (values_of before)) (sym size)
+    (all_below (values_of before) (length old) c.self.invariant.0.within) in
+    let within : All (λ i. i < length next) (values_of after) =
+    rw c.in-Ok.ensures.entries (All-values-insert_entry _ code c.len-index.result (λ i. i < length next) before
+    below (omega (arith, index, size))) in
+    let are : ArePlaces after next =
+    record {
+      each = λ key. places_more before after old code c.args.channel c.self.invariant.0 none kept key;
+      within = within;
+    } in
+    let place : place_of (same_key code) next ≡ Some c.len-index.result =
+    place_behind (same_key code) old (code, c.args.channel) (no_place (same_key code) old none) (same_itself code)
+    ∙ ap (λ (n : ℕ). Some n) (sym index) in (
       subst (λ (fs : List (List ℕ × Channel)). ArePlaces after fs) (sym items) are,
       search rules,
       subst (λ (fs : List (List ℕ × Channel)). place_of (same_key code) fs ≡ Some c.len-index.result) (sym items) place,

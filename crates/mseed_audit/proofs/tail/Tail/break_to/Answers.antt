@@ -9,4 +9,5 @@ returns-then-not-same_as c = λ b v t u.
     let rate : Ratio = ratio_of c.args.self.now.rate in
     let next : Ratio = ratio_of c.args.next.now.rate in
     let other : c.same_as.result ≡ false = c.if-not-same_as.true in
-    sym (changed (rate.num * next.den) (next.num * rate.den) _ (λ same. let no : c.same_as.result ≡ true = c.same_as.ensures.1 same in cc (no, other)))
+    sym (changed (rate.num * next.den) (next.num * rate.den) _
+    (λ same. let no : c.same_as.result ≡ true = c.same_as.ensures.1 same in cc (no, other)))

@@ -18,12 +18,14 @@ pub returns-in-Err-rate-clause-unknown : goal.returns-in-Err-rate-clause-unknown
 returns-in-Err-rate-clause-unknown c =
     let v : View = view_of c.args.view.now in
     let e : time_fault_of v ≡ None = sym c.in-Ok.ensures.fault in
-    let r : rate_in v ≡ None = none_unless (rate_in v) (λ some. let no : false ≡ true = c.in-Err-rate.ensures.ok.1 some in cc) in
+    let r : rate_in v ≡ None =
+    none_unless (rate_in v) (λ some. let no : false ≡ true = c.in-Err-rate.ensures.ok.1 some in cc) in
     known_timed v None e r
 
 pub returns-in-Err-rate-clause-why : goal.returns-in-Err-rate-clause-why
 returns-in-Err-rate-clause-why c =
     let v : View = view_of c.args.view.now in
     let e : time_fault_of v ≡ None = sym c.in-Ok.ensures.fault in
-    let r : rate_in v ≡ None = none_unless (rate_in v) (λ some. let no : false ≡ true = c.in-Err-rate.ensures.ok.1 some in cc) in
+    let r : rate_in v ≡ None =
+    none_unless (rate_in v) (λ some. let no : false ≡ true = c.in-Err-rate.ensures.ok.1 some in cc) in
     λ before. rate e r

@@ -8,15 +8,15 @@ use Rattle.mseed_record.proofs.framer.Framer.look.Goals.{in-Some, in-None+in-Ok}
 
 pub returns-in-Err-clause-record : goal.returns-in-Err-clause-record
 returns-in-Err-clause-record c k e =
-    ((scanned c.args.front.now c.in-Err.answer (λ i. (c.type_inv.front i).fits) c.in-Err.ensures.err).record_is k).0 e
+    ((scanned c.args.prefix.now c.in-Err.answer (λ i. (c.type_inv.prefix i).fits) c.in-Err.ensures.err).record_is k).0 e
 
 pub returns-in-Err-clause-bound : goal.returns-in-Err-clause-bound
 returns-in-Err-clause-bound c =
-    (scanned c.args.front.now c.in-Err.answer (λ i. (c.type_inv.front i).fits) c.in-Err.ensures.err).bound
+    (scanned c.args.prefix.now c.in-Err.answer (λ i. (c.type_inv.prefix i).fits) c.in-Err.ensures.err).bound
 
 pub go_along-answer-requires : goal.go_along-answer-requires
 go_along-answer-requires c =
-    let is_there = λ (o : Option Reached). IfSome o (λ r. HasReached r c.args.front.now) in
+    let is_there = λ (o : Option Reached). IfSome o (λ r. HasReached r c.args.prefix.now) in
     elim c.match-self.branch [
       | in-Some w ↦ rw w.from-is (subst is_there w.in-Some.is c.requires)
       | in-None+in-Ok w ↦ rw w.from-is w.in-Ok.ensures.ok
@@ -24,14 +24,14 @@ go_along-answer-requires c =
 
 pub returns-clause-goes_on : goal.returns-clause-goes_on
 returns-clause-goes_on c more =
-    reached_more c.go_along-answer.result.0 c.args.front.now more c.go_along-answer.ensures.reached
+    reached_more c.go_along-answer.result.0 c.args.prefix.now more c.go_along-answer.ensures.reached
 
 pub returns-clause-record : goal.returns-clause-record
 returns-clause-record c k e =
-    ((scanned c.args.front.now c.go_along-answer.result.1 (λ i. (c.type_inv.front i).fits)
+    ((scanned c.args.prefix.now c.go_along-answer.result.1 (λ i. (c.type_inv.prefix i).fits)
     c.go_along-answer.ensures.decides).record_is k).0 e
 
 pub returns-clause-bound : goal.returns-clause-bound
 returns-clause-bound c =
-    (scanned c.args.front.now c.go_along-answer.result.1 (λ i. (c.type_inv.front i).fits)
+    (scanned c.args.prefix.now c.go_along-answer.result.1 (λ i. (c.type_inv.prefix i).fits)
     c.go_along-answer.ensures.decides).bound

@@ -42,8 +42,8 @@ returns-in-Record-clause-ok c = (
 size : (b : List ℕ) (k : ℕ) (bytes : List ℕ) → bytes ≡ take k b → k ≤ length b → length bytes ≡ k
 size b k bytes e h = ap (λ (xs : List ℕ). length xs) e ∙ length-take-le k b h
 
-pub returns-in-Record-clause-front : goal.returns-in-Record-clause-front
-returns-in-Record-clause-front c =
+pub returns-in-Record-clause-prefix : goal.returns-in-Record-clause-prefix
+returns-in-Record-clause-prefix c =
     let same = size c.args.bytes.now c.in-Record.k c.of_record.result.bytes.now c.of_record.ensures.bytes
     ((c.scan.ensures.record c.in-Record.k).0 c.in-Record.is).0 in
     c.of_record.ensures.bytes ∙ ap (λ (k : ℕ). take k c.args.bytes.now) (sym same)

@@ -3,10 +3,10 @@ use Rattle.std.proofs.Common.{sym, ap, ◌∙◌, arith, rules}
 use Rattle.std.proofs.lemmas.List.{append-nil}
 use Rattle.mseed_record.specs.Record.{IsRecord}
 use Rattle.mseed_stream.specs.declared.fault.StreamFault.{StreamFault}
-use Rattle.mseed_stream.specs.Device.{Heard}
+use Rattle.mseed_stream.specs.Device.{BytesRead}
 use Rattle.mseed_stream.specs.Standing.{Standing}
 use Rattle.mseed_stream.specs.Archive.{IsEndOf, clean}
-use Rattle.mseed_stream.specs.Cutting.{IsAlong, IsCutFault, told_from}
+use Rattle.mseed_stream.specs.Cutting.{IsAlong, IsCutFault, read_from}
 use Rattle.mseed_stream.specs.private.Steps.{lent_of}
 use Rattle.mseed_stream.proofs.Handed.{records_after, archive_at}
 use Rattle.mseed_stream.proofs.Settled.{along_settled, clean_end, nothing_found, told_is, record_found, fault_found}
@@ -17,29 +17,30 @@ pub returns-clause-along : goal.returns-clause-along
 returns-clause-along g c =
     let after : Standing = c.cut-found.new.self in
     let cut = c.cut-found.ensures.cut in
-    let new : Heard = g.R.Source.heard c.cut-found.new.source in
+    let new : BytesRead = g.R.Source.read c.cut-found.new.source in
     let open_still : after.answer ≡ None = search rules in
     subst (λ (s : Standing). IsAlong new s) (sym c.settle.ensures.after)
-    (along_settled c.cut-found.result c.forget.new.self after (g.R.Source.heard c.args.source.now) new cut.heard
+    (along_settled c.cut-found.result c.forget.new.self after (g.R.Source.read c.args.source.now) new cut.read
     cut.stays.1 open_still cut.stays.0 cut.found cut.ended cut.stop cut.fault)
 
 pub returns-clause-end : goal.returns-clause-end
 returns-clause-end g c e =
     let cut = c.cut-found.ensures.cut in
     let after : Standing = c.cut-found.new.self in
-    let new : Heard = g.R.Source.heard c.cut-found.new.source in
-    let nothing = cut.ended (nothing_found c.cut-found.result (length after.front) (sym c.settle.ensures.answer ∙ e)) in
+    let new : BytesRead = g.R.Source.read c.cut-found.new.source in
+    let nothing = cut.ended (nothing_found c.cut-found.result (length after.prefix) (sym c.settle.ensures.answer
+    ∙ e)) in
     let offset : after.offset ≡ c.args.self.now.offset =
     cut.stays.0 ∙ ap (λ (s : Standing). s.offset) c.forget.ensures in (
-      subst (λ (n : ℕ). IsEndOf (told_from n new) clean) offset (clean_end new after cut.heard cut.stays.1 nothing.0),
+      subst (λ (n : ℕ). IsEndOf (read_from n new) clean) offset (clean_end new after cut.read cut.stays.1 nothing.0),
       nothing.1,
     )
 
 pub returns-in-Some-clause-archive : goal.returns-in-Some-clause-archive
 returns-in-Some-clause-archive g c records has =
     let offset : ℕ = c.args.self.now.offset in
-    let told : Heard = g.R.Source.heard c.args.source.now in
-    let within : offset ≤ length told.bytes = omega (arith, c.requires.heard.told) in
+    let told : BytesRead = g.R.Source.read c.args.source.now in
+    let within : offset ≤ length told.bytes = omega (arith, c.requires.read.told) in
     let same : c.args.self.now.answer ≡ Some c.in-Some.ending = sym (ap (λ (s : Standing). s.answer) c.self.view_is)
     ∙ c.in-Some.is in
     archive_at c.answer.result told told [] offset records within (sym (append-nil told.bytes)) has
@@ -53,17 +54,17 @@ returns-clause-records g c records has =
     let cut = c.cut-found.ensures.cut in
     let after : Standing = c.cut-found.new.self in
     let offset : ℕ = c.args.self.now.offset in
-    let old : Heard = g.R.Source.heard c.args.source.now in
-    let new : Heard = g.R.Source.heard c.cut-found.new.source in
-    let within : offset ≤ length old.bytes = omega (arith, c.requires.heard.told) in
+    let old : BytesRead = g.R.Source.read c.args.source.now in
+    let new : BytesRead = g.R.Source.read c.cut-found.new.source in
+    let within : offset ≤ length old.bytes = omega (arith, c.requires.read.told) in
     let same_offset : after.offset ≡ offset = cut.stays.0 ∙ ap (λ (s : Standing). s.offset) c.forget.ensures in
-    let told : after.front ≡ told_from offset new = sym (told_is new after cut.heard cut.stays.1)
-    ∙ ap (λ (n : ℕ). told_from n new) same_offset in
-    let found = record_found c.cut-found.result (length after.front) after.front new.is_at_end cut.found in
-    let is = subst (λ (xs : List ℕ). IfOk (lent_of (length after.front) c.cut-found.result)
+    let told : after.prefix ≡ read_from offset new = sym (told_is new after cut.read cut.stays.1)
+    ∙ ap (λ (n : ℕ). read_from n new) same_offset in
+    let found = record_found c.cut-found.result (length after.prefix) after.prefix new.is_at_end cut.found in
+    let is = subst (λ (xs : List ℕ). IfOk (lent_of (length after.prefix) c.cut-found.result)
     (λ o. IfSome o (λ m. IsRecord xs))) told found in
     let handed = subst (λ (r : Result (Option ℕ) StreamFault). IfOk r
-    (λ o. IfSome o (λ m. IsRecord (told_from offset new)))) (sym c.settle.ensures.answer) is in
+    (λ o. IfSome o (λ m. IsRecord (read_from offset new)))) (sym c.settle.ensures.answer) is in
     records_after c.settle.result old new c.cut-found.ensures.more.0 offset records within c.cut-found.ensures.more.1
     handed has
 
@@ -71,13 +72,13 @@ pub returns-clause-fault : goal.returns-clause-fault
 returns-clause-fault g c =
     let cut = c.cut-found.ensures.cut in
     let after : Standing = c.cut-found.new.self in
-    let old : Heard = g.R.Source.heard c.args.source.now in
-    let new : Heard = g.R.Source.heard c.cut-found.new.source in
+    let old : BytesRead = g.R.Source.read c.args.source.now in
+    let new : BytesRead = g.R.Source.read c.cut-found.new.source in
     let same_offset : after.offset ≡ c.args.self.now.offset =
     cut.stays.0 ∙ ap (λ (s : Standing). s.offset) c.forget.ensures in
-    let fault = fault_found c.cut-found.result (length after.front) c.forget.new.self after old new cut.heard
+    let fault = fault_found c.cut-found.result (length after.prefix) c.forget.new.self after old new cut.read
     cut.stays.1 cut.stays.0 cut.fault in
-    let fault_here = subst (λ (n : ℕ). IfErr (lent_of (length after.front) c.cut-found.result)
+    let fault_here = subst (λ (n : ℕ). IfErr (lent_of (length after.prefix) c.cut-found.result)
     (λ e. IsCutFault e n new)) same_offset fault in
     subst (λ (r : Result (Option ℕ) StreamFault). IfErr r (λ e. IsCutFault e c.args.self.now.offset new))
     (sym c.settle.ensures.answer) fault_here
@@ -87,9 +88,9 @@ returns-clause-archive g c records has =
     let cut = c.cut-found.ensures.cut in
     let after : Standing = c.cut-found.new.self in
     let offset : ℕ = c.args.self.now.offset in
-    let old : Heard = g.R.Source.heard c.args.source.now in
-    let new : Heard = g.R.Source.heard c.cut-found.new.source in
-    let within : offset ≤ length old.bytes = omega (arith, c.requires.heard.told) in
+    let old : BytesRead = g.R.Source.read c.args.source.now in
+    let new : BytesRead = g.R.Source.read c.cut-found.new.source in
+    let within : offset ≤ length old.bytes = omega (arith, c.requires.read.told) in
     let same_offset : after.offset ≡ offset = cut.stays.0 ∙ ap (λ (s : Standing). s.offset) c.forget.ensures in
     archive_at c.settle.result old new c.cut-found.ensures.more.0 offset records within c.cut-found.ensures.more.1 has
     (returns-clause-end g c) (returns-clause-fault g c)

@@ -7,7 +7,7 @@ use Rattle.mseed_record.specs.declared.frame.Scan.{Scan}
 use Rattle.mseed_record.specs.declared.frame.Scan.TheVariants.{Need}
 use Rattle.mseed_record.specs.Scan.{Decides}
 use Rattle.mseed_stream.specs.Archive.{is_frame}
-use Rattle.mseed_stream.specs.Device.{Heard}
+use Rattle.mseed_stream.specs.Device.{BytesRead}
 use Rattle.mseed_stream.specs.Standing.{Standing}
 use Rattle.mseed_stream.specs.Cutting.{IsStop, IsReadTo, is_short}
 use Rattle.mseed_stream.specs.private.Steps.{IsCut, IsCuttingFault}
@@ -23,25 +23,25 @@ returns-in-Record-clause-cut g c =
     let inv = c.stops.invariant in
     let k : ℕ = c.in-Record.field-0 in
     let n : ℕ = c.requires.asks.0 in
-    let front : List ℕ = c.stops.self.front in
-    let before : Heard = g.R.Source.heard c.args.source.now in
-    let after : Heard = g.R.Source.heard c.stops.source in
+    let prefix : List ℕ = c.stops.self.prefix in
+    let before : BytesRead = g.R.Source.read c.args.source.now in
+    let after : BytesRead = g.R.Source.read c.stops.source in
     let old : ℕ = before.calls in
     let new : ℕ = after.calls in
     let record_at = c.look.ensures.record k c.in-Record.is in
-    let it = found front c.stops.is_at_end k inv.stop record_at.0 record_at.1 in
+    let it = found prefix c.stops.is_at_end k inv.stop record_at.0 record_at.1 in
     let more : old < new = ⊎_elim (λ (less : old < new). less)
     (λ (none : new ≤ old).
     let asks = subst (λ (xs : List ℕ). Decides xs (Need n)) (sym (inv.asked none)) c.requires.asks.1 in
-    absurd (cc (answered front k (Need n) asks record_at.0 record_at.1)))
+    absurd (cc (answered prefix k (Need n) asks record_at.0 record_at.1)))
     (cases_lt old new) in
     let cut : IsCut (Ok true) c.args.self.now c.stops.self before after = record {
-      heard = inv.heard;
+      read = inv.read;
       stays = (inv.offset, inv.not_lent, inv.answer);
       room = inv.room;
       stop = rw inv.end inv.stop;
       found = λ same. (it.0, inv.end ∙ it.1);
-      asked = λ same. asked_twice c.args.self.now.front front old new more inv.header it.0;
+      asked = λ same. asked_twice c.args.self.now.prefix prefix old new more inv.header it.0;
       quiet = (inv.asked, inv.calls);
       ended = λ other. cc;
       fine = inv.failures;
@@ -52,10 +52,10 @@ returns-in-Record-clause-cut g c =
 pub returns-in-Not-clause-cut : goal.returns-in-Not-clause-cut
 returns-in-Not-clause-cut g c =
     let inv = c.stops.invariant in
-    let decides = subst (λ (a : Scan). Decides c.stops.self.front a) c.in-Not.is c.look.ensures.decides in
+    let decides = subst (λ (a : Scan). Decides c.stops.self.prefix a) c.in-Not.is c.look.ensures.decides in
     let same = c.look.ensures.stays in
     record {
-      heard = rw same inv.heard;
+      read = rw same inv.read;
       stays = rw same (inv.offset, inv.not_lent, inv.answer);
       room = rw same inv.room;
       stop = rw (same, inv.end) inv.stop;
@@ -76,9 +76,9 @@ pub returns-in-Need-clause-cut : goal.returns-in-Need-clause-cut
 returns-in-Need-clause-cut g c =
     let inv = c.stops.invariant in
     let same = c.look.ensures.stays in
-    let decides = subst (λ (a : Scan). Decides c.stops.self.front a) c.in-Need.is c.look.ensures.decides in
+    let decides = subst (λ (a : Scan). Decides c.stops.self.prefix a) c.in-Need.is c.look.ensures.decides in
     record {
-      heard = rw same inv.heard;
+      read = rw same inv.read;
       stays = rw same (inv.offset, inv.not_lent, inv.answer);
       room = rw same inv.room;
       stop = search rules;
@@ -88,7 +88,7 @@ returns-in-Need-clause-cut g c =
       ended = search rules;
       fine = search rules;
       fault = fault_at_end c.end.result c.in-Need.field-0 c.args.self.now c.look.new.self
-          (g.R.Source.heard c.args.source.now) (g.R.Source.heard c.stops.source) c.end.ensures
+          (g.R.Source.read c.args.source.now) (g.R.Source.read c.stops.source) c.end.ensures
           (ap (λ (s : Standing). s.offset) same ∙ inv.offset) inv.failures (inv.end ∙ c.if-is_at_end.true)
           (rw same decides);
     }
@@ -99,34 +99,34 @@ returns-in_err-is_at_end-in-Need-2-clause-cut g c =
     let err = rw c.look.ensures.stays at c.in_err-is_at_end-in-Need-2.ensures in
     let fault : StreamFault = c.in_err-is_at_end-in-Need-2.field-0.0 in
     let needed : ℕ = c.in-Need.field-0 in
-    let before : List ℕ = c.stops.self.front in
+    let before : List ℕ = c.stops.self.prefix in
     let after : Standing = c.fill.new.self in
-    let first : Heard = g.R.Source.heard c.args.source.now in
-    let old : Heard = g.R.Source.heard c.stops.source in
-    let new : Heard = g.R.Source.heard c.fill.new.source in
+    let first : BytesRead = g.R.Source.read c.args.source.now in
+    let old : BytesRead = g.R.Source.read c.stops.source in
+    let new : BytesRead = g.R.Source.read c.fill.new.source in
     let decides = subst (λ (a : Scan). Decides before a) c.in-Need.is c.look.ensures.decides in
     let here = stop_here before c.stops.is_at_end inv.stop c.if-is_at_end.false in
-    let grown : after.front ≡ before ++ err.more.0 =
-    held_grows old new c.stops.self after err.more.0 inv.heard err.heard inv.not_lent err.stays.1 err.stays.0
+    let grown : after.prefix ≡ before ++ err.more.0 =
+    held_grows old new c.stops.self after err.more.0 inv.read err.read inv.not_lent err.stays.1 err.stays.0
     err.more.1 in
     let stop = subst (λ (xs : List ℕ). IsStop xs needed) (sym grown)
     (stop_grows before err.more.0 needed (stop_next before needed here decides)) in
-    let stays = λ (same : new ≡ old). held_stays old new c.stops.self after inv.heard err.heard inv.not_lent
+    let stays = λ (same : new ≡ old). held_stays old new c.stops.self after inv.read err.read inv.not_lent
     err.stays.1 err.stays.0 same in
     let held = λ (same : new ≡ old). subst (λ (xs : List ℕ). IsStop xs (length xs)) (sym (stays same)) here in
     let asks = λ (same : new ≡ old). subst (λ (xs : List ℕ). Decides xs (Need needed)) (sym (stays same)) decides in
     let same : c.from_residual.result ≡ Err fault = search rules in
     record {
-      heard = err.heard;
+      read = err.read;
       stays = (err.stays.0 ∙ inv.offset, err.stays.1, err.stays.2 ∙ inv.answer);
       room = omega (arith, inv.room, err.room);
-      stop = subst (λ (r : Result Bool StreamFault). IsReadTo after.front (is_short r new.is_at_end)) (sym same)
-          (read_to_err fault after.front needed c.stops.self.offset c.stops.self.room old new err.fault stop err.short
+      stop = subst (λ (r : Result Bool StreamFault). IsReadTo after.prefix (is_short r new.is_at_end)) (sym same)
+          (read_to_err fault after.prefix needed c.stops.self.offset c.stops.self.room old new err.fault stop err.short
           held);
       found = λ other. absurd (cc (sym same ∙ other));
       asked = λ other. absurd (cc (sym same ∙ other));
       quiet = (
-        none_asked c.args.self.now.front before after.front err.more.0 first.calls old.calls new.calls grown
+        none_asked c.args.self.now.prefix before after.prefix err.more.0 first.calls old.calls new.calls grown
             err.calls inv.calls inv.asked err.quiet,
         omega (arith, inv.calls, err.calls),
       );
@@ -143,27 +143,27 @@ stops-preserved g c =
     let inv = c.stops.invariant in
     let ok = rw c.look.ensures.stays at c.in_ok-is_at_end-in-Need-2.ensures in
     let needed : ℕ = c.in-Need.field-0 in
-    let before : List ℕ = c.stops.self.front in
-    let after : List ℕ = c.fill.new.self.front in
-    let old : Heard = g.R.Source.heard c.stops.source in
-    let new : Heard = g.R.Source.heard c.fill.new.source in
+    let before : List ℕ = c.stops.self.prefix in
+    let after : List ℕ = c.fill.new.self.prefix in
+    let old : BytesRead = g.R.Source.read c.stops.source in
+    let new : BytesRead = g.R.Source.read c.fill.new.source in
     let at_end : Bool = c.in_ok-is_at_end-in-Need-2.is_at_end in
     let decides = subst (λ (a : Scan). Decides before a) c.in-Need.is c.look.ensures.decides in
     let here = stop_here before c.stops.is_at_end inv.stop c.if-is_at_end.false in
     let grown : after ≡ before ++ ok.more.0 =
-    held_grows old new c.stops.self c.fill.new.self ok.more.0 inv.heard ok.heard inv.not_lent ok.stays.1 ok.stays.0
+    held_grows old new c.stops.self c.fill.new.self ok.more.0 inv.read ok.read inv.not_lent ok.stays.1 ok.stays.0
     ok.more.1 in
     let stop = subst (λ (xs : List ℕ). IsStop xs needed) (sym grown)
     (stop_grows before ok.more.0 needed (stop_next before needed here decides)) in
     let answer = λ (b : Bool) (e : at_end ≡ b). ap (λ (x : Bool). let r : Result Bool StreamFault = Ok x in r) e in
     record {
-      heard = ok.heard;
+      read = ok.read;
       not_lent = ok.stays.1;
       more = (
         inv.more.0 ++ ok.more.0,
         ok.more.1
             ∙ (ap (λ (xs : List ℕ). xs ++ ok.more.0) inv.more.1
-            ∙ append_assoc (g.R.Source.heard c.args.source.now).bytes inv.more.0 ok.more.0),
+            ∙ append_assoc (g.R.Source.read c.args.source.now).bytes inv.more.0 ok.more.0),
         Consumes-trans _ _ _ _ _ inv.more.2 ok.more.2,
       );
       offset = ok.stays.0 ∙ inv.offset;

@@ -4,9 +4,9 @@ use Rattle.std.proofs.lemmas.Grind.{common_steps}
 use Rattle.std.proofs.KnownBytes.{Consumes-trans}
 use Rattle.mseed_record.specs.Framer.{IsFramerOf}
 use Rattle.mseed_record.proofs.Reached.{framer_more}
-use Rattle.mseed_stream.specs.Device.{Heard}
+use Rattle.mseed_stream.specs.Device.{BytesRead}
 use Rattle.mseed_stream.specs.Standing.{Standing}
-use Rattle.mseed_stream.proofs.Filled.{written_back, front_more, heard_more}
+use Rattle.mseed_stream.proofs.Filled.{written_back, prefix_more, read_more}
 use Rattle.mseed_stream.proofs.cutter.Cutter.fill.Goals as goal
 
 pub loop-self-preserved : goal.loop-self-preserved
@@ -21,46 +21,46 @@ loop-self-preserved g c =
     let told : List ℕ = take n (slice_range now have c.args.needed) in
     let before : Standing = record {
       offset = i.offset;
-      front = take have items;
+      prefix = take have items;
       is_lent = i.is_lent;
       room = room;
       reads = i.reads;
       answer = i.ending;
     } in
-    let front_now : List ℕ = take (have + n) (take room (now ++ drop (length now) items)) in
+    let prefix_now : List ℕ = take (have + n) (take room (now ++ drop (length now) items)) in
     let after : Standing = record {
       offset = i.offset;
-      front = front_now;
+      prefix = prefix_now;
       is_lent = i.is_lent;
       room = room;
       reads = i.reads + 1;
       answer = i.ending;
     } in
-    let old : Heard = g.R.Source.heard c.loop-self.source in
-    let new : Heard = g.R.Source.heard c.pull_between.new.source in
+    let old : BytesRead = g.R.Source.read c.loop-self.source in
+    let new : BytesRead = g.R.Source.read c.pull_between.new.source in
     let size : length now ≡ room = c.pull_between.auto.held ∙ c.deref_mut.ensures.len in
     let same : take have now ≡ take have items = c.in-Ok.ensures.before
     ∙ ap (λ (xs : List ℕ). take have xs) c.deref_mut.ensures.value in
     let bound : have + n ≤ c.args.needed = c.in-Ok.ensures.bound in
     let fits : c.args.needed ≤ room = inv.fits in
-    let front : front_now ≡ take have items ++ told =
+    let prefix : prefix_now ≡ take have items ++ told =
     ap (λ (xs : List ℕ). take (have + n) xs) (written_back now items room size)
-    ∙ front_more items now have n c.args.needed same bound in
-    let bytes : new.bytes ≡ old.bytes ++ told = ap (λ (h : Heard). h.bytes) c.in-Ok.ensures.heard in
-    let calls : new.calls ≡ old.calls + 1 = ap (λ (h : Heard). h.calls) c.in-Ok.ensures.heard in
-    let within : length front_now ≤ room =
+    ∙ prefix_more items now have n c.args.needed same bound in
+    let bytes : new.bytes ≡ old.bytes ++ told = ap (λ (h : BytesRead). h.bytes) c.in-Ok.ensures.read in
+    let calls : new.calls ≡ old.calls + 1 = ap (λ (h : BytesRead). h.calls) c.in-Ok.ensures.read in
+    let within : length prefix_now ≤ room =
     omega (arith, length-take (have + n) (take room (now ++ drop (length now) items))) in
-    let few : i.reads < 2 ^ 40 = omega (arith, inv.heard.few_reads, c.if-self-eq-TURNS.false) in
-    let small : room ≤ 2 ^ 20 = inv.heard.small in
+    let few : i.reads < 2 ^ 40 = omega (arith, inv.read.few_reads, c.if-self-eq-TURNS.false) in
+    let small : room ≤ 2 ^ 20 = inv.read.small in
     record {
-      heard = heard_more old new before after told inv.heard inv.not_lent inv.not_lent refl front bytes calls refl few
+      read = read_more old new before after told inv.read inv.not_lent inv.not_lent refl prefix bytes calls refl few
           within small;
       not_lent = inv.not_lent;
       more = (
         inv.more.0 ++ told,
         bytes
             ∙ (ap (λ (xs : List ℕ). xs ++ told) inv.more.1
-            ∙ append_assoc (g.R.Source.heard c.args.source.now).bytes inv.more.0 told),
+            ∙ append_assoc (g.R.Source.read c.args.source.now).bytes inv.more.0 told),
         Consumes-trans _ _ _ _ _ inv.more.2 c.in-Ok.ensures.known.0,
       );
       offset = inv.offset;
@@ -68,11 +68,11 @@ loop-self-preserved g c =
       room = inv.room;
       fits = inv.fits;
       within = bound;
-      framer = subst (λ (xs : List ℕ). IsFramerOf i.framer xs) (sym front)
+      framer = subst (λ (xs : List ℕ). IsFramerOf i.framer xs) (sym prefix)
           (framer_more i.framer (take have items) told inv.framer);
-      going_on = grind (arith, common_steps, c.in-Ok.ensures.heard);
+      going_on = grind (arith, common_steps, c.in-Ok.ensures.read);
       calls = omega (arith, calls, inv.calls);
       asked = λ grown. omega (arith, calls, inv.calls);
-      failures = grind (arith, common_steps, c.in-Ok.ensures.heard);
+      failures = grind (arith, common_steps, c.in-Ok.ensures.read);
       beside = c.in-Ok.ensures.beside ∙ inv.beside;
     }

@@ -1,20 +1,20 @@
 use Rattle.std.proofs.Common.{◌≡◌, ◌-◌, ◌≤◌, ◌<◌, take, length, false, vec_len}
 use Rattle.mseed_record.specs.Framer.{IsFramerOf}
-use Rattle.mseed_stream.specs.Cutting.{IsHeard, TellsMore}
+use Rattle.mseed_stream.specs.Cutting.{IsRead, TellsMore}
 use Rattle.mseed_stream.proofs.cutter.Cutter.fill.Given as goal
 
 abbrev pub invariant-loop-self : goal.invariant-loop-self
 invariant-loop-self g l = let c = l.self-inside in record {
-  heard : IsHeard (g.R.Source.heard l.source) (record {
+  read : IsRead (g.R.Source.read l.source) (record {
     offset = c.offset;
-    front = take c.have c.held.items;
+    prefix = take c.have c.held.items;
     is_lent = c.is_lent;
     room = vec_len c.held;
     reads = c.reads;
     answer = c.ending;
   });
   not_lent : c.is_lent ≡ false;
-  more : TellsMore (g.R.Source.heard l.fn.source) (g.R.Source.heard l.source) (g.R.Source.remaining l.fn.source)
+  more : TellsMore (g.R.Source.read l.fn.source) (g.R.Source.read l.source) (g.R.Source.remaining l.fn.source)
       (g.R.Source.remaining l.source);
   offset : c.offset ≡ l.fn.self.offset;
   answer : c.ending ≡ l.fn.self.answer;
@@ -22,10 +22,10 @@ invariant-loop-self g l = let c = l.self-inside in record {
   fits : l.needed ≤ vec_len c.held;
   within : c.have ≤ l.needed;
   framer : IsFramerOf c.framer (take c.have c.held.items);
-  going_on : (g.R.Source.heard l.source).is_at_end ≡ false;
-  calls : (g.R.Source.heard l.fn.source).calls ≤ (g.R.Source.heard l.source).calls;
-  asked : length l.fn.self.front < c.have → (g.R.Source.heard l.fn.source).calls < (g.R.Source.heard l.source).calls;
-  failures : (g.R.Source.heard l.source).failures ≡ (g.R.Source.heard l.fn.source).failures;
+  going_on : (g.R.Source.read l.source).is_at_end ≡ false;
+  calls : (g.R.Source.read l.fn.source).calls ≤ (g.R.Source.read l.source).calls;
+  asked : length l.fn.self.prefix < c.have → (g.R.Source.read l.fn.source).calls < (g.R.Source.read l.source).calls;
+  failures : (g.R.Source.read l.source).failures ≡ (g.R.Source.read l.fn.source).failures;
   beside : g.R.Source.beside l.source ≡ g.R.Source.beside l.fn.source;
 }
 

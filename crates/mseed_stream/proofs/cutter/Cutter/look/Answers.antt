@@ -20,7 +20,7 @@ invariant_of-self g c =
 
 pub returns-clause-record : goal.returns-clause-record
 returns-clause-record g c k e =
-    let same : take c.self.inside.have c.deref.result.now ≡ c.args.self.now.front =
+    let same : take c.self.inside.have c.deref.result.now ≡ c.args.self.now.prefix =
     ap (λ (xs : List ℕ). take c.self.inside.have xs) c.deref.ensures.value
-    ∙ ap (λ (s : Standing). s.front) c.self.view_is in
+    ∙ ap (λ (s : Standing). s.prefix) c.self.view_is in
     subst (λ (xs : List ℕ). (k ≤ length xs) × IsRecord (take k xs)) same (c.look.ensures.record k e)

@@ -5,7 +5,7 @@ use Rattle.mseed_stream.proofs.cutter.Cutter.new.Goals as goal
 
 pub returns-clause-along : goal.returns-clause-along
 returns-clause-along g c = record {
-  heard = record {
+  read = record {
     told = refl;
     held = refl;
     reads = refl;

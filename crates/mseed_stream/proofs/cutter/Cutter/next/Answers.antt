@@ -3,10 +3,10 @@ use Rattle.std.proofs.Common.{Option, Some, None, Ok, IfSome}
 use Rattle.std.proofs.lemmas.List.{length-take-le}
 use Rattle.mseed_record.specs.View.{View}
 use Rattle.mseed_record.specs.Viewing.{view_of}
-use Rattle.mseed_stream.specs.Device.{Heard}
+use Rattle.mseed_stream.specs.Device.{BytesRead}
 use Rattle.mseed_stream.specs.Standing.{Standing}
 use Rattle.mseed_record.specs.declared.view.RecordView.{RecordView}
-use Rattle.mseed_stream.specs.Cutting.{told_from, held_of, answer_of}
+use Rattle.mseed_stream.specs.Cutting.{read_from, held_of, answer_of}
 use Rattle.mseed_stream.proofs.Settled.{few_asks}
 use Rattle.mseed_stream.specs.Walk.{HasHandedOut, bytes_in}
 use Rattle.mseed_stream.specs.declared.cutter.Ending.{Ending}
@@ -14,10 +14,10 @@ use Rattle.mseed_stream.specs.declared.cutter.Ending.TheVariants.{Clean, Fault}
 use Rattle.mseed_stream.proofs.Walks.{handed_record}
 use Rattle.mseed_stream.proofs.cutter.Cutter.next.Goals as goal
 
--- as many bytes as the front has are the front
-taken : (items front : List ℕ) (have n : ℕ) → take have items ≡ front → n ≡ length front → have ≤ length items
-    → take n items ≡ front
-taken items front have n is size within =
+-- as many bytes as the prefix has are the prefix
+taken : (items prefix : List ℕ) (have n : ℕ) → take have items ≡ prefix → n ≡ length prefix → have ≤ length items
+    → take n items ≡ prefix
+taken items prefix have n is size within =
     let same : n ≡ have = size ∙ (ap (λ (xs : List ℕ). length xs) (sym is) ∙ length-take-le have items within) in
     ap (λ (k : ℕ). take k items) same ∙ is
 
@@ -33,17 +33,17 @@ returns-in-Some g c =
     let it = rw c.in-Some.is at c.in_ok-length.ensures in
     let before : Standing = c.args.self.now in
     let after : Standing = c.advance.new.self in
-    let old : Heard = g.R.Source.heard c.args.source.now in
-    let new : Heard = g.R.Source.heard c.advance.new.source in
-    let told : List ℕ = told_from before.offset new in
+    let old : BytesRead = g.R.Source.read c.args.source.now in
+    let new : BytesRead = g.R.Source.read c.advance.new.source in
+    let told : List ℕ = read_from before.offset new in
     let view : View = view_of c.of_record.result in
     let items : List ℕ = c.self.inside.held.items in
-    let front : take c.self.inside.have items ≡ after.front = ap (λ (s : Standing). s.front) c.self.view_is in
+    let prefix : take c.self.inside.have items ≡ after.prefix = ap (λ (s : Standing). s.prefix) c.self.view_is in
     let size : length items ≡ length c.deref.result.now = ap (λ (xs : List ℕ). length xs) (sym c.deref.ensures.value) in
     let within : c.self.inside.have ≤ length items = omega (arith, size, c.deref.ensures.len, c.self.invariant.0) in
     let bytes : view.bytes ≡ told = c.of_record.ensures.bytes
     ∙ (ap (λ (xs : List ℕ). take c.in-Some.length xs) c.deref.ensures.value
-    ∙ (taken items after.front c.self.inside.have c.in-Some.length front it.record.0 within ∙ it.record.2)) in
+    ∙ (taken items after.prefix c.self.inside.have c.in-Some.length prefix it.record.0 within ∙ it.record.2)) in
     let moved : after.offset ≡ before.offset + length told =
     it.offset ∙ ap (λ (xs : List ℕ). before.offset + length xs) it.record.2 in
     let handed = λ (views : List View) (h : HasHandedOut old before views). subst

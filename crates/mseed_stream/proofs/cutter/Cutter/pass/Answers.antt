@@ -4,7 +4,7 @@ use Rattle.std.specs.Vec.{vec_len}
 use Rattle.mseed_record.proofs.Asked.{record_long}
 use Rattle.mseed_stream.specs.Archive.{HasRecords}
 use Rattle.mseed_stream.specs.Cutting.{IsAlong, held_of}
-use Rattle.mseed_stream.specs.Device.{Heard}
+use Rattle.mseed_stream.specs.Device.{BytesRead}
 use Rattle.mseed_stream.specs.Standing.{Standing}
 use Rattle.mseed_stream.specs.Walk.{HasHandedOut}
 use Rattle.mseed_stream.proofs.Ahead.{record_few}
@@ -35,29 +35,29 @@ returns-clause-along g c =
     let size : ℕ = c.args.size in
     let here : Standing = record {
       offset = c.self.inside.offset;
-      front = take c.self.inside.have c.self.inside.held.items;
+      prefix = take c.self.inside.have c.self.inside.held.items;
       is_lent = c.self.inside.is_lent;
       room = vec_len c.self.inside.held;
       reads = c.self.inside.reads;
       answer = c.self.inside.ending;
     } in
-    let is : here ≡ record old { front = held_of old; is_lent = false } = c.self.view_is ∙ c.forget.ensures in
+    let is : here ≡ record old { prefix = held_of old; is_lent = false } = c.self.view_is ∙ c.forget.ensures in
     let after : behind here size ≡ passed old size = stands_behind here old size is c.requires.ahead.none in
-    let along = passed_along (g.R.Source.heard c.args.source.now) old size lent c.requires.along c.requires.ahead in
-    subst (λ (s : Standing). IsAlong (g.R.Source.heard c.tell_whole.new.source) s) (sym after)
-    (subst (λ (h : Heard). IsAlong h (passed old size)) (sym c.tell_whole.ensures.told) along)
+    let along = passed_along (g.R.Source.read c.args.source.now) old size lent c.requires.along c.requires.ahead in
+    subst (λ (s : Standing). IsAlong (g.R.Source.read c.tell_whole.new.source) s) (sym after)
+    (subst (λ (h : BytesRead). IsAlong h (passed old size)) (sym c.tell_whole.ensures.told) along)
 
 pub returns-clause-records : goal.returns-clause-records
 returns-clause-records g c = λ records has.
     let lent : List ℕ = g.R.Source.lent c.args.source.now in
     let size : ℕ = c.args.size in
-    let told : Heard = g.R.Source.heard c.args.source.now in
+    let told : BytesRead = g.R.Source.read c.args.source.now in
     let offset : c.self.inside.offset ≡ c.args.self.now.offset =
     ap (λ (s : Standing). s.offset) (c.self.view_is ∙ c.forget.ensures) in
     let whole : List (List ℕ) = records ++ take size lent ∷ [] in
-    let more = passed_records told c.args.self.now size lent records c.requires.along.heard c.requires.ahead has in
-    subst (λ (n : ℕ). HasRecords (g.R.Source.heard c.tell_whole.new.source).bytes (n + size) whole) (sym offset)
-    (subst (λ (h : Heard). HasRecords h.bytes (c.args.self.now.offset + size) whole) (sym c.tell_whole.ensures.told)
+    let more = passed_records told c.args.self.now size lent records c.requires.along.read c.requires.ahead has in
+    subst (λ (n : ℕ). HasRecords (g.R.Source.read c.tell_whole.new.source).bytes (n + size) whole) (sym offset)
+    (subst (λ (h : BytesRead). HasRecords h.bytes (c.args.self.now.offset + size) whole) (sym c.tell_whole.ensures.told)
     more)
 
 pub returns-clause-handed : goal.returns-clause-handed
@@ -67,15 +67,16 @@ returns-clause-handed g c = λ views v before is same.
     let size : ℕ = c.args.size in
     let here : Standing = record {
       offset = c.self.inside.offset;
-      front = take c.self.inside.have c.self.inside.held.items;
+      prefix = take c.self.inside.have c.self.inside.held.items;
       is_lent = c.self.inside.is_lent;
       room = vec_len c.self.inside.held;
       reads = c.self.inside.reads;
       answer = c.self.inside.ending;
     } in
-    let stands : here ≡ record old { front = held_of old; is_lent = false } = c.self.view_is ∙ c.forget.ensures in
+    let stands : here ≡ record old { prefix = held_of old; is_lent = false } = c.self.view_is ∙ c.forget.ensures in
     let after : behind here size ≡ passed old size = stands_behind here old size stands c.requires.ahead.none in
-    let handed = passed_handed (g.R.Source.heard c.args.source.now) old size lent views v c.requires.ahead before is
+    let handed = passed_handed (g.R.Source.read c.args.source.now) old size lent views v c.requires.ahead before is
     same in
-    subst (λ (s : Standing). HasHandedOut (g.R.Source.heard c.tell_whole.new.source) s (views ++ v ∷ [])) (sym after)
-    (subst (λ (h : Heard). HasHandedOut h (passed old size) (views ++ v ∷ [])) (sym c.tell_whole.ensures.told) handed)
+    subst (λ (s : Standing). HasHandedOut (g.R.Source.read c.tell_whole.new.source) s (views ++ v ∷ [])) (sym after)
+    (subst (λ (h : BytesRead). HasHandedOut h (passed old size) (views ++ v ∷ [])) (sym c.tell_whole.ensures.told)
+    handed)

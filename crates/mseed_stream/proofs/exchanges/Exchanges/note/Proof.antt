@@ -48,8 +48,8 @@ note_spec 𝓤 𝓛 𝓜 𝓡 wired =
     let reads = a.1.0.now in let writes = a.1.1.0.now in
     let h' = record h {
       all = h.all ++ (record {
-        heard = record { bytes = reads.bytes; calls = reads.calls; failures = reads.failures; is_at_end = a.1.1.1.0 };
-        said = record { bytes = writes.bytes; calls = writes.calls; failures = writes.failures };
+        read = record { bytes = reads.bytes; calls = reads.calls; failures = reads.failures; is_at_end = a.1.1.1.0 };
+        written = record { bytes = writes.bytes; calls = writes.calls; failures = writes.failures };
       }) ∷ [];
     } in
     let y : W.Ghost = (

@@ -1,6 +1,6 @@
 use Rattle.std.proofs.Common.{rules}
 use Rattle.slink_wire.specs.Command.{folded, words}
-use Rattle.slink_wire.proofs.Said.{one_command}
+use Rattle.slink_wire.proofs.Written.{one_command}
 use Rattle.slink_wire.proofs.command.Command.read.Goals as goal
 
 pub returns-in-Two-clause-only : goal.returns-in-Two-clause-only

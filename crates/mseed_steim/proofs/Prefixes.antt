@@ -7,22 +7,22 @@ use Rattle.mseed_steim.specs.Frames.{DataWord}
 use Rattle.mseed_steim.specs.Runs.{SpellsRun, place_of, Gives, all, broken}
 
 -- some differences in front of items
-fronts_all : (ds es : List ℤ) (more : List (Result ℤ BadWordAt)) → map Ok es ≡ map Ok ds ++ more
+prefixes_all : (ds es : List ℤ) (more : List (Result ℤ BadWordAt)) → map Ok es ≡ map Ok ds ++ more
     → (t : List ℤ) × (es ≡ ds ++ t)
-fronts_all [] es more e = (es, refl)
-fronts_all (d ∷ ds) [] more e = cc
-fronts_all (d ∷ ds) (x ∷ es) more e =
+prefixes_all [] es more e = (es, refl)
+prefixes_all (d ∷ ds) [] more e = cc
+prefixes_all (d ∷ ds) (x ∷ es) more e =
     let rest : map Ok es ≡ map Ok ds ++ more = cc in
-    let found = fronts_all ds es more rest in
+    let found = prefixes_all ds es more rest in
     (found.0, cc (found.1))
 
-fronts_broken : (ds es : List ℤ) (at : BadWordAt) (more : List (Result ℤ BadWordAt))
+prefixes_broken : (ds es : List ℤ) (at : BadWordAt) (more : List (Result ℤ BadWordAt))
     → map Ok es ++ Err at ∷ [] ≡ map Ok ds ++ more → (t : List ℤ) × (es ≡ ds ++ t)
-fronts_broken [] es at more e = (es, refl)
-fronts_broken (d ∷ ds) [] at more e = cc
-fronts_broken (d ∷ ds) (x ∷ es) at more e =
+prefixes_broken [] es at more e = (es, refl)
+prefixes_broken (d ∷ ds) [] at more e = cc
+prefixes_broken (d ∷ ds) (x ∷ es) at more e =
     let rest : map Ok es ++ Err at ∷ [] ≡ map Ok ds ++ more = cc in
-    let found = fronts_broken ds es at more rest in
+    let found = prefixes_broken ds es at more rest in
     (found.0, cc (found.1))
 
 -- all of them
@@ -62,22 +62,22 @@ same_broken (d ∷ ds) (x ∷ es) at bt more e =
     let found = same_broken ds es at bt more rest in
     (cc (found.0), found.1)
 
--- a front of the words that spells these differences and perhaps more
-pub record Fronted (s : Scheme) (words : List DataWord) (ds : List ℤ) : Type 0 where
-  pub front : List DataWord
+-- a prefix of the words that spells these differences and perhaps more
+pub record Prefixed (s : Scheme) (words : List DataWord) (ds : List ℤ) : Type 0 where
+  pub prefix : List DataWord
   pub rest : List DataWord
-  pub cut : words ≡ front ++ rest
+  pub cut : words ≡ prefix ++ rest
   pub differences : List ℤ
-  pub spelled : SpellsRun s front differences
+  pub spelled : SpellsRun s prefix differences
   pub tail : List ℤ
   pub longer : differences ≡ ds ++ tail
 
-pub fronted : (s : Scheme) (words : List DataWord) (items : List (Result ℤ BadWordAt)) (ds : List ℤ)
-    (more : List (Result ℤ BadWordAt)) → Gives s words items → items ≡ map Ok ds ++ more → Fronted s words ds
-fronted s words items ds more (all es run e) q =
-    let found = fronts_all ds es more (sym e ∙ q) in
+pub prefixed : (s : Scheme) (words : List DataWord) (items : List (Result ℤ BadWordAt)) (ds : List ℤ)
+    (more : List (Result ℤ BadWordAt)) → Gives s words items → items ≡ map Ok ds ++ more → Prefixed s words ds
+prefixed s words items ds more (all es run e) q =
+    let found = prefixes_all ds es more (sym e ∙ q) in
     record {
-      front = words;
+      prefix = words;
       rest = [];
       cut = sym (append-nil words);
       differences = es;
@@ -85,10 +85,10 @@ fronted s words items ds more (all es run e) q =
       tail = found.0;
       longer = found.1;
     }
-fronted s words items ds more (broken before bad after es cut run none e) q =
-    let found = fronts_broken ds es (place_of bad) more (sym e ∙ q) in
+prefixed s words items ds more (broken before bad after es cut run none e) q =
+    let found = prefixes_broken ds es (place_of bad) more (sym e ∙ q) in
     record {
-      front = before;
+      prefix = before;
       rest = bad ∷ after;
       cut = cut;
       differences = es;

@@ -1,4 +1,4 @@
--- What a client hears, and what it goes on to stand for.
+-- What a client reads, and what it goes on to stand for.
 use Rattle.std.proofs.Common.{◌≡◌, ℕ, ◌<◌, ◌^◌, refl, sym, ap, subst, ◌∙◌, arith, List, [], ◌∷◌, ◌++◌, append_assoc}
 use Rattle.std.proofs.Common.{append-nil, length, length-drop, take, drop, Some, None}
 use Rattle.std.proofs.lemmas.List.{length-take-le, take_all}
@@ -12,8 +12,8 @@ use Rattle.slink_feed.specs.declared.dialogue.Stage.{Stage}
 use Rattle.slink_feed.specs.declared.dialogue.Stage.TheVariants.{Unlinked, Station, Number, Packets, Ended}
 use Rattle.slink_feed.specs.Cutting.{IsBegun, IsReply, IsWhole, IsWholePacket, IsWholeReply, nothing}
 use Rattle.slink_feed.specs.Parts.{IsPacketPart, IsReplyPart}
-use Rattle.slink_feed.specs.Dialogue.{Talk, Whole, Reply, Packet, End, Garbage, at_packet, bearer, ended, heard}
-use Rattle.slink_feed.specs.Dialogue.{heard_at}
+use Rattle.slink_feed.specs.Dialogue.{Talk, Whole, Reply, Packet, End, Garbage, at_packet, bearer, ended, read}
+use Rattle.slink_feed.specs.Dialogue.{read_at}
 use Rattle.slink_feed.specs.Listening.{AreBrought, AwaitsReply, Brings, Brought, Listening, Reads, begun, bytes_of}
 use Rattle.slink_feed.specs.Listening.{events_of, talk_after, telling, whole}
 
@@ -45,26 +45,26 @@ reply_whole (Number k) bytes w awaits is = is
 reply_whole Packets bytes w awaits is = absurd awaits
 reply_whole (Ended ending) bytes w awaits is = absurd awaits
 
-garbage_heard : (stage : Stage) (t : Talk) → AwaitsReply stage → heard_at stage t Garbage ≡ ended endings.Garbage t
-garbage_heard Unlinked t awaits = absurd awaits
-garbage_heard (Station k) t awaits = refl
-garbage_heard (Number k) t awaits = refl
-garbage_heard Packets t awaits = absurd awaits
-garbage_heard (Ended ending) t awaits = absurd awaits
+garbage_read : (stage : Stage) (t : Talk) → AwaitsReply stage → read_at stage t Garbage ≡ ended endings.Garbage t
+garbage_read Unlinked t awaits = absurd awaits
+garbage_read (Station k) t awaits = refl
+garbage_read (Number k) t awaits = refl
+garbage_read Packets t awaits = absurd awaits
+garbage_read (Ended ending) t awaits = absurd awaits
 
 pub reply_brings : (t d talk : Talk) (bytes slice line kept : List ℕ) (x e : Event) → AwaitsReply t.stage
-    → slice ≡ bytes → IsReply slice line → heard t (Reply line) ≡ (talk, e) → d ≡ talk → x ≡ e → kept ≡ []
+    → slice ≡ bytes → IsReply slice line → read t (Reply line) ≡ (talk, e) → d ≡ talk → x ≡ e → kept ≡ []
     → Brings t bytes (record { talk = d; kept = kept }) x
 reply_brings t d talk bytes slice line kept x e awaits same is h same_talk same_event none =
     whole (Reply line) (reply_whole t.stage bytes (Reply line) awaits (subst (λ (b : List ℕ). IsReply b line) same is))
-    (paired d talk x e (heard t (Reply line)) h same_talk same_event) none
+    (paired d talk x e (read t (Reply line)) h same_talk same_event) none
 
 pub no_reply_brings : (t d talk : Talk) (bytes kept : List ℕ) (part : Part) (x e : Event) → AwaitsReply t.stage
     → IsReplyPart bytes part → part ≡ parts.Garbage → ended endings.Garbage t ≡ (talk, e) → d ≡ talk → x ≡ e → kept ≡ []
     → Brings t bytes (record { talk = d; kept = kept }) x
 no_reply_brings t d talk bytes kept part x e awaits is at h same_talk same_event none =
     whole Garbage (reply_whole t.stage bytes Garbage awaits (subst (IsReplyPart bytes) at is))
-    (paired d talk x e (heard t Garbage) (garbage_heard t.stage t awaits ∙ h) same_talk same_event) none
+    (paired d talk x e (read t Garbage) (garbage_read t.stage t awaits ∙ h) same_talk same_event) none
 
 packet_whole : (t : Talk) (bytes : List ℕ) (w : Whole) → t.stage ≡ Packets → IsWholePacket bytes w
     → IsWhole t.stage bytes w
@@ -79,14 +79,14 @@ packet_brings t d talk bytes slice kept part x e at is whole_part same packet sa
     let long : (n : ℕ) × HasHead bytes n × (length bytes ≡ 520) = subst (IsPacketPart bytes) whole_part is in
     let w : Whole = Packet packet.0 packet.1 in
     whole w (packet_whole t bytes w at (subst (λ (b : List ℕ). IsPacket b packet.0 packet.1) same packet.2, long.2))
-    (paired d talk x e (heard t w) (ap (λ (s : Stage). heard_at s t w) at ∙ packet.3) same_talk same_event) none
+    (paired d talk x e (read t w) (ap (λ (s : Stage). read_at s t w) at ∙ packet.3) same_talk same_event) none
 
 pub end_brings : (t d talk : Talk) (bytes kept : List ℕ) (part : Part) (x e : Event) → t.stage ≡ Packets
     → IsPacketPart bytes part → part ≡ parts.End → ended endings.End t ≡ (talk, e) → d ≡ talk → x ≡ e → kept ≡ []
     → Brings t bytes (record { talk = d; kept = kept }) x
 end_brings t d talk bytes kept part x e at is end_part h same_talk same_event none =
     whole End (packet_whole t bytes End at (subst (IsPacketPart bytes) end_part is))
-    (paired d talk x e (heard t End) (ap (λ (s : Stage). heard_at s t End) at ∙ h) same_talk same_event) none
+    (paired d talk x e (read t End) (ap (λ (s : Stage). read_at s t End) at ∙ h) same_talk same_event) none
 
 pub garbage_brings : (t d talk : Talk) (bytes kept : List ℕ) (part : Part) (x e : Event) → t.stage ≡ Packets
     → IsPacketPart bytes part → part ≡ parts.Garbage → ended endings.Garbage t ≡ (talk, e) → d ≡ talk → x ≡ e
@@ -94,7 +94,7 @@ pub garbage_brings : (t d talk : Talk) (bytes kept : List ℕ) (part : Part) (x 
     → Brings t bytes (record { talk = d; kept = kept }) x
 garbage_brings t d talk bytes kept part x e at is garbage_part h same_talk same_event none =
     whole Garbage (packet_whole t bytes Garbage at (subst (IsPacketPart bytes) garbage_part is))
-    (paired d talk x e (heard t Garbage) (ap (λ (s : Stage). heard_at s t Garbage) at ∙ h) same_talk same_event)
+    (paired d talk x e (read t Garbage) (ap (λ (s : Stage). read_at s t Garbage) at ∙ h) same_talk same_event)
     none
 
 -- before the first byte of a whole
@@ -123,31 +123,31 @@ begun_after talk bytes new e (begun is same quiet) =
 brought_more : (t : Talk) (bs : List Brought) (b : Brought) → AreBrought t bs
     → IsWhole (talk_after t bs).stage b.bytes b.whole → AreBrought t (bs ++ b ∷ [])
 brought_more t [] b are is = (is, tt)
-brought_more t (c ∷ cs) b are is = (are.0, brought_more (heard t c.whole).0 cs b are.1 is)
+brought_more t (c ∷ cs) b are is = (are.0, brought_more (read t c.whole).0 cs b are.1 is)
 
 talk_more : (t : Talk) (bs : List Brought) (b : Brought)
-    → talk_after t (bs ++ b ∷ []) ≡ (heard (talk_after t bs) b.whole).0
+    → talk_after t (bs ++ b ∷ []) ≡ (read (talk_after t bs) b.whole).0
 talk_more t [] b = refl
-talk_more t (c ∷ cs) b = talk_more (heard t c.whole).0 cs b
+talk_more t (c ∷ cs) b = talk_more (read t c.whole).0 cs b
 
 events_more : (t : Talk) (bs : List Brought) (b : Brought)
-    → events_of t (bs ++ b ∷ []) ≡ events_of t bs ++ telling (heard (talk_after t bs) b.whole).1
-events_more t [] b = append-nil (telling (heard t b.whole).1)
+    → events_of t (bs ++ b ∷ []) ≡ events_of t bs ++ telling (read (talk_after t bs) b.whole).1
+events_more t [] b = append-nil (telling (read t b.whole).1)
 events_more t (c ∷ cs) b =
-    ap (λ es. telling (heard t c.whole).1 ++ es) (events_more (heard t c.whole).0 cs b)
-    ∙ sym (append_assoc (telling (heard t c.whole).1) (events_of (heard t c.whole).0 cs)
-    (telling (heard (talk_after t (c ∷ cs)) b.whole).1))
+    ap (λ es. telling (read t c.whole).1 ++ es) (events_more (read t c.whole).0 cs b)
+    ∙ sym (append_assoc (telling (read t c.whole).1) (events_of (read t c.whole).0 cs)
+    (telling (read (talk_after t (c ∷ cs)) b.whole).1))
 
 bytes_more : (bs : List Brought) (b : Brought) → bytes_of (bs ++ b ∷ []) ≡ bytes_of bs ++ b.bytes
 bytes_more [] b = append-nil b.bytes
 bytes_more (c ∷ cs) b = ap (λ xs. c.bytes ++ xs) (bytes_more cs b) ∙ sym (append_assoc c.bytes (bytes_of cs) b.bytes)
 
 reads_whole : (start : Talk) (stream more : List ℕ) (es : List Event) (now new : Listening) (e : Event) (w : Whole)
-    → IsWhole now.talk.stage (now.kept ++ more) w → heard now.talk w ≡ (new.talk, e) → new.kept ≡ []
+    → IsWhole now.talk.stage (now.kept ++ more) w → read now.talk w ≡ (new.talk, e) → new.kept ≡ []
     → Reads start stream es now → Reads start (stream ++ more) (es ++ telling e) new
 reads_whole start stream more es now new e w is h none reads =
     let b : Brought = record { bytes = now.kept ++ more; whole = w } in
-    let at : heard (talk_after start reads.brought) w ≡ (new.talk, e) = ap (λ (t : Talk). heard t w) (sym reads.talk)
+    let at : read (talk_after start reads.brought) w ≡ (new.talk, e) = ap (λ (t : Talk). read t w) (sym reads.talk)
     ∙ h in
     record {
       brought = reads.brought ++ b ∷ [];

@@ -15,15 +15,15 @@ AreLines [] = Unit {0}
 AreLines (line ∷ lines) = IsLine line × AreLines lines
 
 -- their bytes
-abbrev pub said_bytes : List (List ℕ) → List ℕ
-said_bytes [] = []
-said_bytes (line ∷ lines) = line ++ 13 ∷ 10 ∷ said_bytes lines
+abbrev pub written_bytes : List (List ℕ) → List ℕ
+written_bytes [] = []
+written_bytes (line ∷ lines) = line ++ 13 ∷ 10 ∷ written_bytes lines
 
 -- lines, and nothing behind them
 abbrev pub only_lines : List (List ℕ) → Spelled
 only_lines lines = record { lines = lines; begun = []; is_too_long = false }
 
--- The stream spells lines from the front of these on, and none that is too long.
-abbrev pub SpellsFront : List ℕ → List (List ℕ) → Type 0
-SpellsFront stream lines = (count : ℕ) × (count ≤ length lines) × ((lines_of stream).lines ≡ take count lines)
+-- The stream spells lines from the beginning of these on, and none that is too long.
+abbrev pub SpellsPrefix : List ℕ → List (List ℕ) → Type 0
+SpellsPrefix stream lines = (count : ℕ) × (count ≤ length lines) × ((lines_of stream).lines ≡ take count lines)
     × ((lines_of stream).is_too_long ≡ false)

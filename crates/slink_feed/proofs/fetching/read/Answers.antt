@@ -2,18 +2,19 @@ use Rattle.std.proofs.Common.{◌≡◌, ◌∙◌, ◌-◌, arith, drop, length
 use Rattle.slink_feed.specs.Fetching.{Fetching, FailsAt, fetching}
 use Rattle.slink_feed.specs.Listening.{IsLinked}
 use Rattle.slink_feed.proofs.Deliveries.{IsPiece, all_delivered, fails_here, nothing_so_far, one_more, piece_length}
-use Rattle.slink_feed.proofs.fetching.hear.Goals as goal
+use Rattle.slink_feed.proofs.fetching.read.Goals as goal
 
 pub loop-offset-init : goal.loop-offset-init
 loop-offset-init g c = record { so_far = nothing_so_far _ c.args.bytes.now; beside = refl }
 
 pub returns-in_err-counts-clause-fault : goal.returns-in_err-counts-clause-fault
 returns-in_err-counts-clause-fault g c =
-    let old : Fetching = fetching c.args.client.now (g.L.Sink.said c.args.link.now) (g.W.Sink.said c.args.output.now) in
-    let now : Fetching = fetching c.loop-offset.client (g.L.Sink.said c.loop-offset.link)
-    (g.W.Sink.said c.loop-offset.output) in
-    let new : Fetching = fetching c.take-used.new.self (g.L.Sink.said c.deliver.new.link)
-    (g.W.Sink.said c.deliver.new.output) in
+    let old : Fetching = fetching c.args.client.now (g.L.Sink.written c.args.link.now)
+    (g.W.Sink.written c.args.output.now) in
+    let now : Fetching = fetching c.loop-offset.client (g.L.Sink.written c.loop-offset.link)
+    (g.W.Sink.written c.loop-offset.output) in
+    let new : Fetching = fetching c.take-used.new.self (g.L.Sink.written c.deliver.new.link)
+    (g.W.Sink.written c.deliver.new.output) in
     let linked : IsLinked c.loop-offset.client.talk.stage = c.if-not-is_linked.ensures.yes in
     let long : length (take (length c.args.bytes.now - c.loop-offset.offset)
     (drop c.loop-offset.offset c.args.bytes.now)) ≡ length c.args.bytes.now - c.loop-offset.offset = piece_length
@@ -34,11 +35,12 @@ returns-in_err-counts-clause-fault g c =
 
 pub loop-offset-preserved : goal.loop-offset-preserved
 loop-offset-preserved g c =
-    let old : Fetching = fetching c.args.client.now (g.L.Sink.said c.args.link.now) (g.W.Sink.said c.args.output.now) in
-    let now : Fetching = fetching c.loop-offset.client (g.L.Sink.said c.loop-offset.link)
-    (g.W.Sink.said c.loop-offset.output) in
-    let new : Fetching = fetching c.take-used.new.self (g.L.Sink.said c.deliver.new.link)
-    (g.W.Sink.said c.deliver.new.output) in
+    let old : Fetching = fetching c.args.client.now (g.L.Sink.written c.args.link.now)
+    (g.W.Sink.written c.args.output.now) in
+    let now : Fetching = fetching c.loop-offset.client (g.L.Sink.written c.loop-offset.link)
+    (g.W.Sink.written c.loop-offset.output) in
+    let new : Fetching = fetching c.take-used.new.self (g.L.Sink.written c.deliver.new.link)
+    (g.W.Sink.written c.deliver.new.output) in
     let linked : IsLinked c.loop-offset.client.talk.stage = c.if-not-is_linked.ensures.yes in
     let long : length (take (length c.args.bytes.now - c.loop-offset.offset)
     (drop c.loop-offset.offset c.args.bytes.now)) ≡ length c.args.bytes.now - c.loop-offset.offset = piece_length
@@ -59,10 +61,10 @@ loop-offset-preserved g c =
 
 pub returns-after-loop-offset-clause-ok : goal.returns-after-loop-offset-clause-ok
 returns-after-loop-offset-clause-ok g c =
-    all_delivered _ _ c.args.bytes.now c.loop-offset.offset c.loop-offset.counts.said c.loop-offset.counts.written
+    all_delivered _ _ c.args.bytes.now c.loop-offset.offset c.loop-offset.counts.written c.loop-offset.counts.output
     (λ linked. c.loop-offset-test.false) c.loop-offset.invariant.so_far
 
 pub returns-then-not-is_linked-clause-ok : goal.returns-then-not-is_linked-clause-ok
 returns-then-not-is_linked-clause-ok g c =
-    all_delivered _ _ c.args.bytes.now c.loop-offset.offset c.loop-offset.counts.said c.loop-offset.counts.written
+    all_delivered _ _ c.args.bytes.now c.loop-offset.offset c.loop-offset.counts.written c.loop-offset.counts.output
     (λ linked. absurd (c.if-not-is_linked.ensures.no linked)) c.loop-offset.invariant.so_far

@@ -1,15 +1,15 @@
-use Rattle.slink_feed.proofs.Heard.{no_reply_brings, reply_brings}
-use Rattle.slink_feed.proofs.client.hear_reply.Goals as goal
-use Rattle.slink_feed.proofs.client.hear_reply.Goals.{in-Whole, in-Garbage}
+use Rattle.slink_feed.proofs.Received.{no_reply_brings, reply_brings}
+use Rattle.slink_feed.proofs.client.read_reply.Goals as goal
+use Rattle.slink_feed.proofs.client.read_reply.Goals.{in-Whole, in-Garbage}
 
 pub returns-clause-brings : goal.returns-clause-brings
 returns-clause-brings c = elim c.match-part.branch [
   | in-Whole w ↦ reply_brings c.args.dialogue.now c.match-part.dialogue _ c.args.kept.now.items w.as_slice.result.now
       w.line_of.result.now c.clear.new.self.items c.match-part.event _
-      c.requires.stage w.as_slice.ensures.value w.line_of.ensures w.hear_reply-event.ensures.heard w.dialogue-is
+      c.requires.stage w.as_slice.ensures.value w.line_of.ensures w.read_reply-event.ensures.read w.dialogue-is
       w.event-is c.clear.ensures
   | in-Garbage w ↦ no_reply_brings c.args.dialogue.now c.match-part.dialogue _ c.args.kept.now.items
       c.clear.new.self.items c.args.part c.match-part.event _
-      c.requires.stage c.requires.part w.in-Garbage.is w.end-event.ensures.heard w.dialogue-is w.event-is
+      c.requires.stage c.requires.part w.in-Garbage.is w.end-event.ensures.read w.dialogue-is w.event-is
       c.clear.ensures
 ]

@@ -1,10 +1,10 @@
 use Rattle.std.proofs.Common.{subst, List, ℕ, drop}
 use Rattle.slink_wire.specs.Packet.{IsPacket}
-use Rattle.slink_feed.proofs.Heard.{has_packet, packet_short, same_packet}
-use Rattle.slink_feed.proofs.client.hear_packet.Goals as goal
+use Rattle.slink_feed.proofs.Received.{has_packet, packet_short, same_packet}
+use Rattle.slink_feed.proofs.client.read_packet.Goals as goal
 
-pub hear_packet-requires : goal.hear_packet-requires
-hear_packet-requires c =
+pub read_packet-requires : goal.read_packet-requires
+read_packet-requires c =
     packet_short c.args.bytes.now c.in-Some.packet.now c.in-Ok.record.now c.in-Ok.number c.requires.2
     c.in-Some.ensures.cases.same c.in-Ok.ensures.packet
 
@@ -14,12 +14,12 @@ unreachable-requires-in-Err c =
     (has_packet c.args.bytes.now c.in-Some.packet.now c.requires.0
     (same_packet c.args.bytes.now c.in-Some.packet.now c.requires.2 c.in-Some.ensures.cases.same) c.requires.1)
 
-pub returns-clause-heard : goal.returns-clause-heard
-returns-clause-heard c = (
+pub returns-clause-read : goal.returns-clause-read
+returns-clause-read c = (
   c.in-Ok.number,
   c.in-Ok.record.now,
   subst (λ (b : List ℕ). IsPacket b c.in-Ok.number c.in-Ok.record.now)
       (same_packet c.args.bytes.now c.in-Some.packet.now c.requires.2 c.in-Some.ensures.cases.same)
       c.in-Ok.ensures.packet,
-  c.hear_packet.ensures.heard,
+  c.read_packet.ensures.read,
 )

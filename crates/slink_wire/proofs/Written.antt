@@ -7,7 +7,7 @@ use Rattle.slink_wire.specs.declared.command.Command.TheVariants.{Other}
 use Rattle.slink_wire.specs.declared.keyword.Keyword.{Keyword}
 use Rattle.slink_wire.specs.declared.keyword.Keyword.TheVariants as keyword
 use Rattle.slink_wire.specs.Hexadecimal.{SaysNumber}
-use Rattle.slink_wire.specs.Command.{IsCommand, IsRow, IsSaid, folded, words}
+use Rattle.slink_wire.specs.Command.{IsCommand, IsRow, IsWritten, folded, words}
 use Rattle.slink_wire.specs.Place.{filled}
 use Rattle.slink_wire.specs.private.Parsing.{text_of}
 use Rattle.slink_wire.proofs.Digits.{says_one}
@@ -29,7 +29,7 @@ Begins None ws = ⊥
 Begins (Some k) [] = ⊥
 Begins (Some k) (w ∷ ws) = w ≡ text_of k
 
-begins : (d : Command) (ws : List (List ℕ)) → IsSaid d ws → Begins (keyword_at d) ws
+begins : (d : Command) (ws : List (List ℕ)) → IsWritten d ws → Begins (keyword_at d) ws
 begins Hello ws h = subst (Begins (Some keyword.Hello)) (sym h) refl
 begins (Station sta None) ws h = subst (Begins (Some keyword.Station)) (sym h.3) refl
 begins (Station sta (Some net)) ws h = subst (Begins (Some keyword.Station)) (sym h.6) refl
@@ -48,7 +48,7 @@ no_first None w ws n h = h
 no_first (Some k) w ws n h = n k h
 
 -- a first word that is no keyword says none
-pub unknown : (w : List ℕ) (ws : List (List ℕ)) → ((k : Keyword) → w ≢ text_of k) → (d : Command) → IsSaid d (w ∷ ws)
+pub unknown : (w : List ℕ) (ws : List (List ℕ)) → ((k : Keyword) → w ≢ text_of k) → (d : Command) → IsWritten d (w ∷ ws)
     → ⊥
 unknown w ws n d h = no_first (keyword_at d) w ws n (begins d (w ∷ ws) h)
 
@@ -75,34 +75,35 @@ one_keyword (Some j) (Some k) (w ∷ ws) p q = ap (λ x. Some x) (one_text j k (
 one_number : (g h : List ℕ) (n m : ℕ) → g ≡ h → SaysNumber g n → SaysNumber h m → n ≡ m
 one_number g h n m e p q = says_one h n m (subst (λ x. SaysNumber x n) e p) q
 
-said_alike : (ws : List (List ℕ)) (c d : Command) → keyword_at c ≡ keyword_at d → IsSaid c ws → IsSaid d ws → c ≡ d
-said_alike ws Hello Hello k p q = refl
-said_alike ws (Station s None) (Station t None) k p q =
+written_alike : (ws : List (List ℕ)) (c d : Command) → keyword_at c ≡ keyword_at d → IsWritten c ws → IsWritten d ws
+    → c ≡ d
+written_alike ws Hello Hello k p q = refl
+written_alike ws (Station s None) (Station t None) k p q =
     (let e : p.0 ≡ q.0 = cc in ap (λ x. Station x None) (p.2 ∙ (ap (filled 5) e ∙ sym q.2)))
-said_alike ws (Station s None) (Station t (Some m)) k p q = cc
-said_alike ws (Station s (Some n)) (Station t None) k p q = cc
-said_alike ws (Station s (Some n)) (Station t (Some m)) k p q = (let e : p.0 ≡ q.0 = cc in let f : p.1 ≡ q.1 = cc in
+written_alike ws (Station s None) (Station t (Some m)) k p q = cc
+written_alike ws (Station s (Some n)) (Station t None) k p q = cc
+written_alike ws (Station s (Some n)) (Station t (Some m)) k p q = (let e : p.0 ≡ q.0 = cc in let f : p.1 ≡ q.1 = cc in
     ap (λ x. Station x (Some n)) (p.4 ∙ (ap (filled 5) e ∙ sym q.4))
     ∙ ap (λ x. Station t (Some x)) (p.5 ∙ (ap (filled 2) f ∙ sym q.5)))
-said_alike ws SelectAll SelectAll k p q = refl
-said_alike ws (Data None) (Data None) k p q = refl
-said_alike ws (Data None) (Data (Some m)) k p q = cc
-said_alike ws (Data (Some n)) (Data None) k p q = cc
-said_alike ws (Data (Some n)) (Data (Some m)) k p q =
+written_alike ws SelectAll SelectAll k p q = refl
+written_alike ws (Data None) (Data None) k p q = refl
+written_alike ws (Data None) (Data (Some m)) k p q = cc
+written_alike ws (Data (Some n)) (Data None) k p q = cc
+written_alike ws (Data (Some n)) (Data (Some m)) k p q =
     (let e : p.0 ≡ q.0 = cc in ap (λ x. Data (Some x)) (one_number p.0 q.0 n m e p.1.2 q.1.2))
-said_alike ws (Fetch None) (Fetch None) k p q = refl
-said_alike ws (Fetch None) (Fetch (Some m)) k p q = cc
-said_alike ws (Fetch (Some n)) (Fetch None) k p q = cc
-said_alike ws (Fetch (Some n)) (Fetch (Some m)) k p q =
+written_alike ws (Fetch None) (Fetch None) k p q = refl
+written_alike ws (Fetch None) (Fetch (Some m)) k p q = cc
+written_alike ws (Fetch (Some n)) (Fetch None) k p q = cc
+written_alike ws (Fetch (Some n)) (Fetch (Some m)) k p q =
     (let e : p.0 ≡ q.0 = cc in ap (λ x. Fetch (Some x)) (one_number p.0 q.0 n m e p.1.2 q.1.2))
-said_alike ws End End k p q = refl
-said_alike ws Bye Bye k p q = refl
-said_alike ws Other Other k p q = refl
-said_alike ws _ _ k p q = cc k
+written_alike ws End End k p q = refl
+written_alike ws Bye Bye k p q = refl
+written_alike ws Other Other k p q = refl
+written_alike ws _ _ k p q = cc k
 
 pub one_command : (ws : List (List ℕ)) (c d : Command) → IsRow c ws → IsRow d ws → c ≡ d
 one_command ws c d (inl p) (inl q) =
-    said_alike ws c d (one_keyword (keyword_at c) (keyword_at d) ws (begins c ws p) (begins d ws q)) p q
+    written_alike ws c d (one_keyword (keyword_at c) (keyword_at d) ws (begins c ws p) (begins d ws q)) p q
 one_command ws c d (inl p) (inr q) = absurd (q.1 c p)
 one_command ws c d (inr p) (inl q) = absurd (p.1 d q)
 one_command ws c d (inr p) (inr q) = p.0 ∙ sym q.0

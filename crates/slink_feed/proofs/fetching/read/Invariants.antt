@@ -1,13 +1,13 @@
 use Rattle.std.proofs.Common.{◌-◌, ◌≡◌, length}
 use Rattle.slink_feed.specs.Fetching.{fetching}
 use Rattle.slink_feed.proofs.Deliveries.{SoFar}
-use Rattle.slink_feed.proofs.fetching.hear.Given as goal
+use Rattle.slink_feed.proofs.fetching.read.Given as goal
 
 abbrev pub invariant-loop-offset : goal.invariant-loop-offset
 invariant-loop-offset g l = record {
-  so_far : SoFar (fetching l.fn.client (g.L.Sink.said l.fn.link) (g.W.Sink.said l.fn.output))
-      (fetching l.client (g.L.Sink.said l.link) (g.W.Sink.said l.output)) l.bytes l.offset l.counts.said
-      l.counts.written;
+  so_far : SoFar (fetching l.fn.client (g.L.Sink.written l.fn.link) (g.W.Sink.written l.fn.output))
+      (fetching l.client (g.L.Sink.written l.link) (g.W.Sink.written l.output)) l.bytes l.offset l.counts.written
+      l.counts.output;
   beside : g.L.Sink.beside l.link ≡ g.L.Sink.beside l.fn.link;
 }
 

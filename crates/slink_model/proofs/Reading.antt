@@ -10,8 +10,8 @@ use Rattle.slink_feed.specs.Cutting.{IsBegun, IsWhole}
 use Rattle.slink_feed.specs.Dialogue.{Talk, event_of}
 use Rattle.slink_feed.specs.Listening.{Brings, IsLinked, Listening, begun, whole}
 use Rattle.slink_model.specs.Running.{Keeps}
-use Rattle.slink_model.specs.World.{Hears, Lists, Numbers, Taking, noted, piece_heard, piece_lost}
-use Rattle.slink_feed.proofs.Heard.{begun_none}
+use Rattle.slink_model.specs.World.{Reads, Lists, Numbers, Taking, noted, piece_read, piece_lost}
+use Rattle.slink_feed.proofs.Received.{begun_none}
 use Rattle.slink_feed.proofs.Wholes.{begun_no_whole}
 
 -- There is a link of which more is taken, or none, or it is at its end.
@@ -34,7 +34,7 @@ not_ended : (stage : Stage) (ending : Ending) → stage ≡ Ended ending → ¬ 
 not_ended stage ending e is = subst IsLinked e is
 
 -- what a client does with a piece, by its contract
-pub record Heard (old : Listening) (bytes : List ℕ) (used : ℕ) (new : Listening) (event : Event) : Type 0 where
+pub record BytesRead (old : Listening) (bytes : List ℕ) (used : ℕ) (new : Listening) (event : Event) : Type 0 where
   pub brings : IsLinked old.talk.stage → Brings old.talk (old.kept ++ take used bytes) new event
   pub all : event ≡ events.None → used ≡ length bytes
   pub unlinked : old.talk.stage ≡ Unlinked → (used ≡ length bytes) × (event ≡ events.None) × (new ≡ old)
@@ -52,53 +52,53 @@ module _ (first_sent : Numbers) (held : Lists) (start : Numbers) (to_server : Li
   of c = record { client = c; held = held; start = start; to_server = to_server }
 
   by_place : (old new : Listening) (bytes rest : List ℕ) (used : ℕ) (event : Event) (last : Taking)
-      → Place old.talk.stage → Heard old bytes used new event
-      → Hears first_sent (noted first_sent event (of new)) rest last
-      → Hears first_sent (of old) (take used bytes ++ rest) last
+      → Place old.talk.stage → BytesRead old bytes used new event
+      → Reads first_sent (noted first_sent event (of new)) rest last
+      → Reads first_sent (of old) (take used bytes ++ rest) last
   by_place old new bytes rest used event last (linked is) h more =
-      piece_heard (of old) last new (take used bytes ++ rest) (take used bytes) rest event refl is (h.brings is) more
+      piece_read (of old) last new (take used bytes ++ rest) (take used bytes) rest event refl is (h.brings is) more
   by_place old new bytes rest used event last (unlinked is) h more =
       let same : noted first_sent event (of new) ≡ of old =
       ap (λ (e : Event). noted first_sent e (of new)) (h.unlinked is).1 ∙ ap of (h.unlinked is).2 in
       piece_lost (of old) last (take used bytes ++ rest) (take used bytes) rest refl (not_unlinked old.talk.stage is)
-      (subst (λ (t : Taking). Hears first_sent t rest last) same more)
+      (subst (λ (t : Taking). Reads first_sent t rest last) same more)
   by_place old new bytes rest used event last (ended ending is) h more =
       let same : noted first_sent event (of new) ≡ of old =
       ap (λ (e : Event). noted first_sent e (of new)) (h.ended ending is).1
       ∙ (nothing_noted first_sent ending (of new) ∙ ap of (h.ended ending is).2) in
       piece_lost (of old) last (take used bytes ++ rest) (take used bytes) rest refl
-      (not_ended old.talk.stage ending is) (subst (λ (t : Taking). Hears first_sent t rest last) same more)
+      (not_ended old.talk.stage ending is) (subst (λ (t : Taking). Reads first_sent t rest last) same more)
 
-  pub hears_more : (old new : Listening) (bytes rest : List ℕ) (used : ℕ) (event : Event) (last : Taking)
-      → Heard old bytes used new event
-      → Hears first_sent (noted first_sent event (of new)) rest last
-      → Hears first_sent (of old) (take used bytes ++ rest) last
-  hears_more old new bytes rest used event last h more =
+  pub reads_more : (old new : Listening) (bytes rest : List ℕ) (used : ℕ) (event : Event) (last : Taking)
+      → BytesRead old bytes used new event
+      → Reads first_sent (noted first_sent event (of new)) rest last
+      → Reads first_sent (of old) (take used bytes ++ rest) last
+  reads_more old new bytes rest used event last h more =
       by_place old new bytes rest used event last (place_of old.talk.stage) h more
 
 brings_some : (old new : Listening) (bytes : List ℕ) (used : ℕ) (event : Event) → 0 < length bytes → Keeps old
-    → Heard old bytes used new event → used ≡ 0 → Brings old.talk (old.kept ++ take used bytes) new event → ⊥
-brings_some old new bytes used event some keeps h none (whole w is heard empty) =
+    → BytesRead old bytes used new event → used ≡ 0 → Brings old.talk (old.kept ++ take used bytes) new event → ⊥
+brings_some old new bytes used event some keeps h none (whole w is read empty) =
     let same : old.kept ++ take used bytes ≡ old.kept ++ [] = ap (λ n. old.kept ++ take n bytes) none in
     begun_no_whole old.talk.stage old.kept [] w (subst (IsBegun old.talk.stage) (sym (append-nil old.kept)) keeps)
     (subst (λ (b : List ℕ). IsWhole old.talk.stage b w) (same ∙ append-nil old.kept) is)
 brings_some old new bytes used event some keeps h none (begun is same quiet) = let all : used ≡ length bytes =
     h.all quiet in omega (arith, all, none, some)
 
-heard_none : (old new : Listening) (bytes : List ℕ) (used : ℕ) (event : Event) → Place old.talk.stage
-    → 0 < length bytes → Keeps old → Heard old bytes used new event → used ≡ 0 → (¬ (IsLinked old.talk.stage))
+read_none : (old new : Listening) (bytes : List ℕ) (used : ℕ) (event : Event) → Place old.talk.stage
+    → 0 < length bytes → Keeps old → BytesRead old bytes used new event → used ≡ 0 → (¬ (IsLinked old.talk.stage))
     × (new ≡ old)
-heard_none old new bytes used event (linked is) some keeps h none =
+read_none old new bytes used event (linked is) some keeps h none =
     absurd (brings_some old new bytes used event some keeps h none (h.brings is))
-heard_none old new bytes used event (unlinked is) some keeps h none =
+read_none old new bytes used event (unlinked is) some keeps h none =
     (not_unlinked old.talk.stage is, (h.unlinked is).2)
-heard_none old new bytes used event (ended ending is) some keeps h none =
+read_none old new bytes used event (ended ending is) some keeps h none =
     (not_ended old.talk.stage ending is, (h.ended ending is).2)
 
-pub nothing_heard : (old new : Listening) (bytes : List ℕ) (used : ℕ) (event : Event) → 0 < length bytes → Keeps old
-    → Heard old bytes used new event → used ≡ 0 → (¬ (IsLinked old.talk.stage)) × (new ≡ old)
-nothing_heard old new bytes used event some keeps h none =
-    heard_none old new bytes used event (place_of old.talk.stage) some keeps h none
+pub nothing_read : (old new : Listening) (bytes : List ℕ) (used : ℕ) (event : Event) → 0 < length bytes → Keeps old
+    → BytesRead old bytes used new event → used ≡ 0 → (¬ (IsLinked old.talk.stage)) × (new ≡ old)
+nothing_read old new bytes used event some keeps h none =
+    read_none old new bytes used event (place_of old.talk.stage) some keeps h none
 
 begun_once : (talk : Talk) (bytes : List ℕ) (new : Listening) (e : Event) → Brings talk bytes new e → Keeps new
 begun_once talk bytes new e (whole w is h empty) =
@@ -106,12 +106,12 @@ begun_once talk bytes new e (whole w is h empty) =
 begun_once talk bytes new e (begun is same quiet) = subst Keeps (sym same) is
 
 still_kept : (old new : Listening) (bytes : List ℕ) (used : ℕ) (event : Event) → Place old.talk.stage → Keeps old
-    → Heard old bytes used new event → Keeps new
+    → BytesRead old bytes used new event → Keeps new
 still_kept old new bytes used event (linked is) keeps h =
     begun_once old.talk (old.kept ++ take used bytes) new event (h.brings is)
 still_kept old new bytes used event (unlinked is) keeps h = subst Keeps (sym (h.unlinked is).2) keeps
 still_kept old new bytes used event (ended ending is) keeps h = subst Keeps (sym (h.ended ending is).2) keeps
 
 pub still_keeps : (old new : Listening) (bytes : List ℕ) (used : ℕ) (event : Event) → Keeps old
-    → Heard old bytes used new event → Keeps new
+    → BytesRead old bytes used new event → Keeps new
 still_keeps old new bytes used event keeps h = still_kept old new bytes used event (place_of old.talk.stage) keeps h

@@ -1,4 +1,4 @@
--- Lines that are said are spelled again, and of a front of the stream a front of them.
+-- Lines that are said are spelled again, and of a prefix of the stream a prefix of them.
 use Rattle.std.proofs.Common.{◌≡◌, ℕ, ◌<◌, ◌≤◌, inl, inr, suc, refl, sym, ap, subst, ◌∙◌, arith, Bool, true, false, not}
 use Rattle.std.proofs.Common.{cond, ◌==◌, ◌&&◌, nat_lt, if◌then◌else◌, List, [], ◌∷◌, ◌++◌, append-nil, append_assoc}
 use Rattle.std.proofs.Common.{length, length-append}
@@ -7,9 +7,9 @@ use Rattle.std.proofs.lemmas.Bool.Decides.{eqb_tells, leb_tells}
 use Rattle.std.proofs.lemmas.List.{append_cancel_left}
 use Rattle.std.proofs.lemmas.List.Folds.{list_all-append}
 use Rattle.slink_wire.specs.Lines.{Spelled, lines_of, spelled_by, stripped, too_long, unless_empty, with_piece}
-use Rattle.slink_wire.specs.Said.{AreLines, IsLine, SpellsFront, only_lines, said_bytes}
+use Rattle.slink_wire.specs.Written.{AreLines, IsLine, SpellsPrefix, only_lines, written_bytes}
 use Rattle.slink_wire.proofs.Cuts.{Lacks, both}
-use Rattle.slink_wire.proofs.Fronts.{fronts}
+use Rattle.slink_wire.proofs.Prefixes.{prefixes}
 use Rattle.slink_wire.proofs.Pieces.{HasPiece, has_piece}
 use Rattle.slink_wire.proofs.Spelled.{fits_of}
 
@@ -100,11 +100,11 @@ part_quiet part lacks short =
 pub none_quiet : Quiet []
 none_quiet = part_quiet [] refl (omega arith)
 
-none_told : (bytes : List ℕ) (lines : List (List ℕ)) → Quiet bytes → SpellsFront bytes lines
+none_told : (bytes : List ℕ) (lines : List (List ℕ)) → Quiet bytes → SpellsPrefix bytes lines
 none_told bytes lines quiet = (0, omega arith, quiet.0, quiet.1)
 
-one_told : (line rest : List ℕ) (lines : List (List ℕ)) → IsLine line → SpellsFront rest lines
-    → SpellsFront (line ++ 13 ∷ rest) (line ∷ lines)
+one_told : (line rest : List ℕ) (lines : List (List ℕ)) → IsLine line → SpellsPrefix rest lines
+    → SpellsPrefix (line ++ 13 ∷ rest) (line ∷ lines)
 one_told line rest lines is told = (
   suc told.0,
   omega (arith, told.1),
@@ -112,24 +112,24 @@ one_told line rest lines is told = (
   ap (λ (s : Spelled). s.is_too_long) (lines_then line rest is) ∙ told.3,
 )
 
-pub lacks_front : (t z : List ℕ) → Lacks 13 (t ++ z) → Lacks 13 t
-lacks_front t z h = (both (list_all (λ b. not (b == 13)) t) (list_all (λ b. not (b == 13)) z)
+pub lacks_prefix : (t z : List ℕ) → Lacks 13 (t ++ z) → Lacks 13 t
+lacks_prefix t z h = (both (list_all (λ b. not (b == 13)) t) (list_all (λ b. not (b == 13)) z)
     (sym (list_all-append (λ b. not (b == 13)) t z) ∙ h)).0
 
-front_told : (line t z : List ℕ) (lines : List (List ℕ)) → IsLine line → line ≡ t ++ z → SpellsFront t lines
-front_told line t z lines is e =
-    none_told t lines (part_quiet t (lacks_front t z (subst (Lacks 13) e is.no_cr))
+prefix_told : (line t z : List ℕ) (lines : List (List ℕ)) → IsLine line → line ≡ t ++ z → SpellsPrefix t lines
+prefix_told line t z lines is e =
+    none_told t lines (part_quiet t (lacks_prefix t z (subst (Lacks 13) e is.no_cr))
     (let long : length line ≡ length (t ++ z) = ap length e in omega (arith, long, length-append t z, is.short)))
 
 -- what stands behind a line's CR
 behind_told : (z w rest : List ℕ) (lines : List (List ℕ)) → z ++ w ≡ 10 ∷ rest
-    → ((u : List ℕ) → u ++ w ≡ rest → SpellsFront u lines) → SpellsFront z lines
+    → ((u : List ℕ) → u ++ w ≡ rest → SpellsPrefix u lines) → SpellsPrefix z lines
 behind_told [] w rest lines e more = none_told [] lines none_quiet
 behind_told (x ∷ u) w rest lines e more =
     let first : x ≡ 10 = cc e in
     let others : u ++ w ≡ rest = cc e in
-    let told : SpellsFront u lines = more u others in
-    subst (λ b. SpellsFront (b ∷ u) lines) (sym first) (
+    let told : SpellsPrefix u lines = more u others in
+    subst (λ b. SpellsPrefix (b ∷ u) lines) (sym first) (
       told.0,
       told.1,
       ap (λ (s : Spelled). s.lines) (lines_lf u)
@@ -138,29 +138,29 @@ behind_told (x ∷ u) w rest lines e more =
     )
 
 ended_told : (line t z w rest : List ℕ) (lines : List (List ℕ)) → IsLine line → t ≡ line ++ z → z ++ w ≡ 13 ∷ 10 ∷ rest
-    → ((u : List ℕ) → u ++ w ≡ rest → SpellsFront u lines) → SpellsFront t (line ∷ lines)
+    → ((u : List ℕ) → u ++ w ≡ rest → SpellsPrefix u lines) → SpellsPrefix t (line ∷ lines)
 ended_told line t [] w rest lines is e left more =
-    front_told line t [] (line ∷ lines) is (let same : t ≡ line = e ∙ append-nil line in sym same ∙ sym (append-nil t))
+    prefix_told line t [] (line ∷ lines) is (let same : t ≡ line = e ∙ append-nil line in sym same ∙ sym (append-nil t))
 ended_told line t (x ∷ z) w rest lines is e left more =
     let first : x ≡ 13 = cc left in
     let others : z ++ w ≡ 10 ∷ rest = cc left in
-    subst (λ b. SpellsFront b (line ∷ lines)) (sym (e ∙ ap (λ b. line ++ b ∷ z) first))
+    subst (λ b. SpellsPrefix b (line ∷ lines)) (sym (e ∙ ap (λ b. line ++ b ∷ z) first))
     (one_told line z lines is (behind_told z w rest lines others more))
 
 pub nothing_left : (t w : List ℕ) → t ++ w ≡ [] → t ≡ []
 nothing_left [] w e = refl
 nothing_left (x ∷ t) w e = absurd (let bad : x ∷ (t ++ w) ≡ [] = e in cc bad)
 
--- of a front of the lines' bytes
-pub front_spelled : (lines : List (List ℕ)) (t w : List ℕ) → AreLines lines → t ++ w ≡ said_bytes lines
-    → SpellsFront t lines
-front_spelled [] t w are e = subst (λ b. SpellsFront b []) (sym (nothing_left t w e)) (none_told [] [] none_quiet)
-front_spelled (line ∷ lines) t w are e = elim (fronts t line w (13 ∷ 10 ∷ said_bytes lines) e) [
-  | inl more ↦ front_told line t more.0 (line ∷ lines) are.0 more.1
-  | inr more ↦ ended_told line t more.0 w (said_bytes lines) lines are.0 more.1
-      (append_cancel_left line (more.0 ++ w) (13 ∷ 10 ∷ said_bytes lines) (sym (append_assoc line more.0 w)
+-- of a prefix of the lines' bytes
+pub prefix_spelled : (lines : List (List ℕ)) (t w : List ℕ) → AreLines lines → t ++ w ≡ written_bytes lines
+    → SpellsPrefix t lines
+prefix_spelled [] t w are e = subst (λ b. SpellsPrefix b []) (sym (nothing_left t w e)) (none_told [] [] none_quiet)
+prefix_spelled (line ∷ lines) t w are e = elim (prefixes t line w (13 ∷ 10 ∷ written_bytes lines) e) [
+  | inl more ↦ prefix_told line t more.0 (line ∷ lines) are.0 more.1
+  | inr more ↦ ended_told line t more.0 w (written_bytes lines) lines are.0 more.1
+      (append_cancel_left line (more.0 ++ w) (13 ∷ 10 ∷ written_bytes lines) (sym (append_assoc line more.0 w)
       ∙ (ap (λ b. b ++ w) (sym more.1) ∙ e)))
-      (λ u same. front_spelled lines u w are.1 same)
+      (λ u same. prefix_spelled lines u w are.1 same)
 ]
 
 none_spelled : lines_of [] ≡ only_lines []
@@ -168,11 +168,11 @@ unfolding lines_of
 none_spelled = refl
 
 -- of all of their bytes
-pub whole_spelled : (lines : List (List ℕ)) → AreLines lines → lines_of (said_bytes lines) ≡ only_lines lines
+pub whole_spelled : (lines : List (List ℕ)) → AreLines lines → lines_of (written_bytes lines) ≡ only_lines lines
 whole_spelled [] are = none_spelled
 whole_spelled (line ∷ lines) are =
-    lines_then line (10 ∷ said_bytes lines) are.0
-    ∙ (ap (behind line) (lines_lf (said_bytes lines)) ∙ ap (behind line) (whole_spelled lines are.1))
+    lines_then line (10 ∷ written_bytes lines) are.0
+    ∙ (ap (behind line) (lines_lf (written_bytes lines)) ∙ ap (behind line) (whole_spelled lines are.1))
 
 -- each line that is spelled is one that a stream has as it stands
 choice_lacks : (t : Bool) (xs ys : List ℕ) → Lacks 13 xs → Lacks 13 ys → Lacks 13 (if t then xs else ys)

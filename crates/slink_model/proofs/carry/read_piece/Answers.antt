@@ -1,9 +1,9 @@
-use Rattle.slink_model.proofs.Hearing.{nothing_heard, hears_more, still_keeps}
-use Rattle.slink_model.proofs.carry.hear_piece.Goals as goal
+use Rattle.slink_model.proofs.Reading.{nothing_read, reads_more, still_keeps}
+use Rattle.slink_model.proofs.carry.read_piece.Goals as goal
 
-pub returns-clause-hears : goal.returns-clause-hears
-returns-clause-hears c first_sent held start to_server rest last more =
-    hears_more first_sent held start to_server c.args.client.now c.take.new.self c.args.bytes.now rest c.take.result.0
+pub returns-clause-reads : goal.returns-clause-reads
+returns-clause-reads c first_sent held start to_server rest last more =
+    reads_more first_sent held start to_server c.args.client.now c.take.new.self c.args.bytes.now rest c.take.result.0
     c.take.result.1 last
     (record {
       brings = c.take.ensures.brings;
@@ -14,7 +14,7 @@ returns-clause-hears c first_sent held start to_server rest last more =
 
 pub returns-clause-none : goal.returns-clause-none
 returns-clause-none c none =
-    nothing_heard c.args.client.now c.take.new.self c.args.bytes.now c.take.result.0 c.take.result.1 c.requires.some
+    nothing_read c.args.client.now c.take.new.self c.args.bytes.now c.take.result.0 c.take.result.1 c.requires.some
     c.requires.keeps
     (record {
       brings = c.take.ensures.brings;

@@ -1,17 +1,17 @@
 use Rattle.std.proofs.Common.{◌-◌, ◌≤◌, drop, length}
 use Rattle.slink_model.specs.Running.{Keeps}
-use Rattle.slink_model.specs.World.{Hears, Taking, lists_of}
-use Rattle.slink_model.proofs.carry.hear_bytes.Given as goal
+use Rattle.slink_model.specs.World.{Reads, Taking, lists_of}
+use Rattle.slink_model.proofs.carry.read_bytes.Given as goal
 
 -- what the rest leads to, all lead to
 abbrev pub invariant-loop-offset : goal.invariant-loop-offset
 invariant-loop-offset l = record {
   within : l.offset ≤ length l.bytes;
   keeps : Keeps l.client;
-  rest : (last : Taking) → Hears l.first_sent
+  rest : (last : Taking) → Reads l.first_sent
       (record { client = l.client; held = lists_of l.held; start = l.start.items; to_server = l.to_server.items })
       (drop l.offset l.bytes) last
-      → Hears l.first_sent (record {
+      → Reads l.first_sent (record {
         client = l.fn.client;
         held = lists_of l.fn.held;
         start = l.fn.start.items;

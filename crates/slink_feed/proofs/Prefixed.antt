@@ -16,17 +16,17 @@ use Rattle.slink_feed.specs.declared.dialogue.Stage.{Stage}
 use Rattle.slink_feed.specs.declared.dialogue.Stage.TheVariants.{Packets}
 use Rattle.slink_feed.specs.Cutting.{IsBegun, IsWhole}
 use Rattle.slink_feed.specs.Delivered.{AreWanted, Numbered, all_packets, record_events}
-use Rattle.slink_feed.specs.Dialogue.{Talk, Whole, Packet, at_packet, bearer, ended, heard, heard_at, if_wanted}
+use Rattle.slink_feed.specs.Dialogue.{Talk, Whole, Packet, at_packet, bearer, ended, read, read_at, if_wanted}
 use Rattle.slink_feed.specs.Dialogue.{next_at, told}
 use Rattle.slink_feed.specs.Listening.{AreBrought, Brought, Listening, Reads, bytes_of, events_of, talk_after, telling}
-use Rattle.slink_feed.proofs.Heard.{begun_none}
-use Rattle.slink_feed.proofs.Wholes.{front_begun}
+use Rattle.slink_feed.proofs.Received.{begun_none}
+use Rattle.slink_feed.proofs.Wholes.{prefix_begun}
 
 packet_long : (n : ℕ) (bytes : List ℕ) → length bytes ≡ 512 → length (packet_bytes n bytes) ≡ 520
 packet_long n bytes long =
-    let front : length (codes "SL" ++ hexadecimal 6 n) ≡ 8 = length-append (codes "SL") (hexadecimal 6 n)
+    let prefix : length (codes "SL" ++ hexadecimal 6 n) ≡ 8 = length-append (codes "SL") (hexadecimal 6 n)
     ∙ omega (arith, length-hexadecimal 6 n) in
-    length-append (codes "SL" ++ hexadecimal 6 n) bytes ∙ omega (arith, front, long)
+    length-append (codes "SL" ++ hexadecimal 6 n) bytes ∙ omega (arith, prefix, long)
 
 packet_whole : (t : Talk) (r : Numbered) → t.stage ≡ Packets → length r.bytes ≡ 512 → r.number < 2 ^ 24
     → IsWhole t.stage (packet_bytes r.number r.bytes) (Packet r.number r.bytes)
@@ -43,11 +43,11 @@ wanted_told None k n bytes t is = refl
 wanted_told (Some want) k n bytes t is =
     ap (λ b. if b then told k n bytes t else ended (endings.Gap k want n) t) (same_here n want is)
 
-packet_heard : (t : Talk) (r : Numbered) → t.stage ≡ Packets → bearer t.wants r.bytes ≡ Some r.place
+packet_read : (t : Talk) (r : Numbered) → t.stage ≡ Packets → bearer t.wants r.bytes ≡ Some r.place
     → IfSome (next_at t.wants r.place) (λ want. r.number ≡ want)
-    → heard t (Packet r.number r.bytes) ≡ told r.place r.number r.bytes t
-packet_heard t r at bears wanted =
-    ap (λ (s : Stage). heard_at s t (Packet r.number r.bytes)) at
+    → read t (Packet r.number r.bytes) ≡ told r.place r.number r.bytes t
+packet_read t r at bears wanted =
+    ap (λ (s : Stage). read_at s t (Packet r.number r.bytes)) at
     ∙ (ap (λ o. at_packet o r.number r.bytes t) bears
     ∙ wanted_told (next_at t.wants r.place) r.place r.number r.bytes t wanted)
 
@@ -58,11 +58,11 @@ take_past (x ∷ p) rest m =
     ∙ ap (λ xs. x ∷ xs) (take_past p rest m)
 
 -- so many bytes of the packets were delivered: what is told of them, and what the client comes to
-abbrev Fronted : Talk → List Numbered → ℕ → Type 0
-Fronted t items d = (now : Listening) × Reads t (take d (all_packets items)) (record_events (take (d / 520) items)) now
+abbrev Prefixed : Talk → List Numbered → ℕ → Type 0
+Prefixed t items d = (now : Listening) × Reads t (take d (all_packets items)) (record_events (take (d / 520) items)) now
 
-none_fronted : (t : Talk) → Fronted t [] 0
-none_fronted t = (
+none_prefixed : (t : Talk) → Prefixed t [] 0
+none_prefixed t = (
   record { talk = t; kept = [] },
   record {
     brought = [];
@@ -75,16 +75,16 @@ none_fronted t = (
 )
 
 -- the first packet isn't whole
-part_fronted : (t : Talk) (r : Numbered) (rs : List Numbered) (d : ℕ) → t.stage ≡ Packets → length r.bytes ≡ 512
-    → r.number < 2 ^ 24 → d < 520 → Fronted t (r ∷ rs) d
-part_fronted t r rs d at long small lt =
+part_prefixed : (t : Talk) (r : Numbered) (rs : List Numbered) (d : ℕ) → t.stage ≡ Packets → length r.bytes ≡ 512
+    → r.number < 2 ^ 24 → d < 520 → Prefixed t (r ∷ rs) d
+part_prefixed t r rs d at long small lt =
     let p : List ℕ = packet_bytes r.number r.bytes in
     let all : length p ≡ 520 = packet_long r.number r.bytes long in
     let stream : take d (p ++ all_packets rs) ≡ take d p =
     take-append-le d p (all_packets rs) (omega (arith, all, lt)) in
     let none : d / 520 ≡ 0 = omega (arith, lt) in
     let begun : IsBegun t.stage (take d p) =
-    front_begun t.stage (take d p) (drop d p) (Packet r.number r.bytes) (omega (arith, length-drop d p, all, lt))
+    prefix_begun t.stage (take d p) (drop d p) (Packet r.number r.bytes) (omega (arith, length-drop d p, all, lt))
     (subst (λ (xs : List ℕ). IsWhole t.stage xs (Packet r.number r.bytes)) (sym (take-append-drop d p))
     (packet_whole t r at long small)) in
     let now : Listening = record { talk = t; kept = take d p } in (
@@ -95,14 +95,14 @@ part_fronted t r rs d at long small lt =
     )
 
 -- the first packet is told
-whole_fronted : (t : Talk) (r : Numbered) (rs : List Numbered) (d : ℕ) → t.stage ≡ Packets → AreWanted t (r ∷ rs)
-    → 520 ≤ d → Fronted (told r.place r.number r.bytes t).0 rs (d - 520) → Fronted t (r ∷ rs) d
-whole_fronted t r rs d at are ge more =
+whole_prefixed : (t : Talk) (r : Numbered) (rs : List Numbered) (d : ℕ) → t.stage ≡ Packets → AreWanted t (r ∷ rs)
+    → 520 ≤ d → Prefixed (told r.place r.number r.bytes t).0 rs (d - 520) → Prefixed t (r ∷ rs) d
+whole_prefixed t r rs d at are ge more =
     let p : List ℕ = packet_bytes r.number r.bytes in
     let u : Talk = (told r.place r.number r.bytes t).0 in
     let w : Whole = Packet r.number r.bytes in
     let bs : List Brought = more.1.brought in
-    let h : heard t w ≡ told r.place r.number r.bytes t = packet_heard t r at are.2 are.3 in
+    let h : read t w ≡ told r.place r.number r.bytes t = packet_read t r at are.2 are.3 in
     let all : length p ≡ 520 = packet_long r.number r.bytes are.0 in
     let stream : take d (p ++ all_packets rs) ≡ p ++ take (d - 520) (all_packets rs) =
     ap (λ n. take n (p ++ all_packets rs)) (let e : d ≡ length p + (d - 520) = omega (arith, all, ge) in e)
@@ -127,13 +127,13 @@ whole_fronted t r rs d at are ge more =
           (sym count) reading),
     )
 
-pub fronts_told : (items : List Numbered) (t : Talk) (d : ℕ) → t.stage ≡ Packets → AreWanted t items
-    → d ≤ length (all_packets items) → Fronted t items d
-fronts_told [] t d at are within = let none : d ≡ 0 = omega (arith, within) in
-    subst (λ n. Fronted t [] n) (sym none) (none_fronted t)
-fronts_told (r ∷ rs) t d at are within = elim (cases_lt d 520) [
-  | inl lt ↦ part_fronted t r rs d at are.0 are.1 lt
-  | inr ge ↦ whole_fronted t r rs d at are ge (fronts_told rs (told r.place r.number r.bytes t).0 (d - 520) at are.4
+pub prefixes_told : (items : List Numbered) (t : Talk) (d : ℕ) → t.stage ≡ Packets → AreWanted t items
+    → d ≤ length (all_packets items) → Prefixed t items d
+prefixes_told [] t d at are within = let none : d ≡ 0 = omega (arith, within) in
+    subst (λ n. Prefixed t [] n) (sym none) (none_prefixed t)
+prefixes_told (r ∷ rs) t d at are within = elim (cases_lt d 520) [
+  | inl lt ↦ part_prefixed t r rs d at are.0 are.1 lt
+  | inr ge ↦ whole_prefixed t r rs d at are ge (prefixes_told rs (told r.place r.number r.bytes t).0 (d - 520) at are.4
       (omega (
         arith,
         within,

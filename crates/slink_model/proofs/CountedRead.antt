@@ -19,50 +19,50 @@ use Rattle.slink_feed.specs.Listening.{Brought, IsLinked, bytes_of, events_of, t
 use Rattle.slink_feed.specs.Serving.{Standing}
 use Rattle.slink_feed.specs.Session.{State}
 use Rattle.slink_model.specs.Ties.{Item, Places, way_bytes}
-use Rattle.slink_model.specs.World.{Differ, IsHeard, LinkState, Numbers, Taking, WorldState, taking}
+use Rattle.slink_model.specs.World.{Differ, IsRead, LinkState, Numbers, Taking, WorldState, taking}
 use Rattle.slink_feed.proofs.Closing.{Open}
-use Rattle.slink_model.proofs.Counted.{Left, Outcome, heard_outcome}
+use Rattle.slink_model.proofs.Counted.{Left, Outcome, read_outcome}
 use Rattle.slink_model.proofs.Counting.{brought_of, drop_behind, drop_on, kept_part, left_after, take_wholes}
 use Rattle.slink_model.proofs.Counts.{Counts, Pinned, pinned_as}
 use Rattle.slink_model.proofs.Lined.{IsAnswered}
 use Rattle.slink_feed.proofs.OneReading.{one_brought}
-use Rattle.slink_model.proofs.OneWorld.{HeardAll, gained, heard_all, linked_or, lost_all, rest_is}
+use Rattle.slink_model.proofs.OneWorld.{ReadAllOf, gained, read_all, linked_or, lost_all, rest_is}
 use Rattle.slink_model.proofs.Shaking.{AreAsked}
 
 -- with bytes in front of what was said
 abbrev put : List ℕ → Gained → Gained
 put a g = record g { to_server = a ++ g.to_server }
 
-front_event : (f : Numbers) (e : Event) (a : List ℕ) (g : Gained) → with_event f e (put a g) ≡ put a (with_event f e g)
-front_event f (events.Say line) a g =
+prefix_event : (f : Numbers) (e : Event) (a : List ℕ) (g : Gained) → with_event f e (put a g) ≡ put a (with_event f e g)
+prefix_event f (events.Say line) a g =
     ap (λ (b : List ℕ). record g { to_server = b }) (append_assoc a g.to_server line.items)
-front_event f (events.Record k n bytes) a g = refl
-front_event f events.None a g = refl
-front_event f events.End a g = refl
-front_event f (events.Refused k) a g = refl
-front_event f (events.Gap k want got) a g = refl
-front_event f events.Garbage a g = refl
-front_event f events.Foreign a g = refl
+prefix_event f (events.Record k n bytes) a g = refl
+prefix_event f events.None a g = refl
+prefix_event f events.End a g = refl
+prefix_event f (events.Refused k) a g = refl
+prefix_event f (events.Gap k want got) a g = refl
+prefix_event f events.Garbage a g = refl
+prefix_event f events.Foreign a g = refl
 
-front_events : (f : Numbers) (es : List Event) (a : List ℕ) (g : Gained)
+prefix_events : (f : Numbers) (es : List Event) (a : List ℕ) (g : Gained)
     → with_events f es (put a g) ≡ put a (with_events f es g)
-front_events f [] a g = refl
-front_events f (e ∷ es) a g = ap (with_events f es) (front_event f e a g) ∙ front_events f es a (with_event f e g)
+prefix_events f [] a g = refl
+prefix_events f (e ∷ es) a g = ap (with_events f es) (prefix_event f e a g) ∙ prefix_events f es a (with_event f e g)
 
 -- a client that takes no more
-unheard : (t : Talk) (stage : Stage) (i : Item) → t.stage ≡ stage → ¬ (IsLinked stage)
+unread : (t : Talk) (stage : Stage) (i : Item) → t.stage ≡ stage → ¬ (IsLinked stage)
     → on_item t.stage i t ≡ (t, events.None)
-unheard t Unlinked i is over = ap (λ (s : Stage). on_item s i t) is
-unheard t (Station k) i is over = absurd (over tt)
-unheard t (Number k) i is over = absurd (over tt)
-unheard t Packets i is over = absurd (over tt)
-unheard t (Ended ending) i is over = ap (λ (s : Stage). on_item s i t) is
+unread t Unlinked i is over = ap (λ (s : Stage). on_item s i t) is
+unread t (Station k) i is over = absurd (over tt)
+unread t (Number k) i is over = absurd (over tt)
+unread t Packets i is over = absurd (over tt)
+unread t (Ended ending) i is over = ap (λ (s : Stage). on_item s i t) is
 
 pub unlinked_upon : (t : Talk) (is : List Item) → ¬ (IsLinked t.stage)
     → (talk_upon t is ≡ t) × ((f : Numbers) (g : Gained) → with_events f (events_upon t is) g ≡ g)
 unlinked_upon t [] over = (refl, λ f g. refl)
 unlinked_upon t (i ∷ is) over =
-    let h : on_item t.stage i t ≡ (t, events.None) = unheard t t.stage i refl over in
+    let h : on_item t.stage i t ≡ (t, events.None) = unread t t.stage i refl over in
     let more : (talk_upon t is ≡ t) × ((f : Numbers) (g : Gained) → with_events f (events_upon t is) g ≡ g) =
     unlinked_upon t is over in (
       ap (λ (x : Talk × Event). talk_upon x.0 is) h ∙ more.0,
@@ -72,7 +72,7 @@ unlinked_upon t (i ∷ is) over =
 module _ (places : Places) (differ : Differ places) (codes : (k : ℕ) (p : Fields × Option ℕ)
     → slice_get places k ≡ Some p → IsField 5 p.0.station × IsField 2 p.0.network) (w v : WorldState) (n : ℕ)
     (l m : LinkState) (c : CountedLink)
-    (tie : Counts places w.client c l) (h : IsHeard n w v l m) (keeps : IsBegun w.client.talk.stage w.client.kept)
+    (tie : Counts places w.client c l) (h : IsRead n w v l m) (keeps : IsBegun w.client.talk.stage w.client.kept)
     (asked : AreAsked places w.client.talk.wants) where
   abbrev its : List Item
   its = behind c.delivered c.sent
@@ -84,16 +84,16 @@ module _ (places : Places) (differ : Differ places) (codes : (k : ℕ) (p : Fiel
   e = p + n
 
   abbrev before : List ℕ
-  before = take c.taken c.said
+  before = take c.taken c.written
 
   abbrev pub gains : Gained
   gains = with_events c.first_sent (events_upon w.client.talk (news n c))
-      (record { held = w.held; start = w.start; to_server = c.said })
+      (record { held = w.held; start = w.start; to_server = c.written })
 
   abbrev pub now_counted : CountedLink
-  now_counted = record c { said = gains.to_server; delivered = delivered_by n c }
+  now_counted = record c { written = gains.to_server; delivered = delivered_by n c }
 
-  pub record HeardCounts : Type 0 where
+  pub record ReadCounts : Type 0 where
     pub talk : v.client.talk ≡ talk_upon w.client.talk (news n c)
     pub held : v.held ≡ gains.held
     pub start : v.start ≡ gains.start
@@ -106,11 +106,11 @@ module _ (places : Places) (differ : Differ places) (codes : (k : ℕ) (p : Fiel
   gains_is : gained (taking v m) ≡ with_events l.first_sent (events_upon w.client.talk (news n c))
       (gained (taking w l)) → gains ≡ put before (gained (taking v m))
   gains_is g =
-      let all : before ++ l.to_server ≡ c.said = ap (λ b. before ++ b) tie.to_server
-      ∙ take-append-drop c.taken c.said in
+      let all : before ++ l.to_server ≡ c.written = ap (λ b. before ++ b) tie.to_server
+      ∙ take-append-drop c.taken c.written in
       ap (λ (b : List ℕ). with_events c.first_sent (events_upon w.client.talk (news n c))
       (record { held = w.held; start = w.start; to_server = b })) (sym all)
-      ∙ (front_events c.first_sent (events_upon w.client.talk (news n c)) before (gained (taking w l))
+      ∙ (prefix_events c.first_sent (events_upon w.client.talk (news n c)) before (gained (taking w l))
       ∙ ap (put before) (ap (λ (f : Numbers). with_events f (events_upon w.client.talk (news n c))
       (gained (taking w l))) (sym tie.first_sent) ∙ sym g))
 
@@ -119,12 +119,12 @@ module _ (places : Places) (differ : Differ places) (codes : (k : ℕ) (p : Fiel
       → (IsLinked v.client.talk.stage
       → Pinned places v.client l.session.state before m.to_server m.to_client (behind e its))
       → (¬ (IsLinked v.client.talk.stage) → Open l.session.state.phase → IsAnswered before m.to_server)
-      → (l.session.state.phase ≡ Closed → length m.to_server ≤ 1) → HeardCounts
+      → (l.session.state.phase ≡ Closed → length m.to_server ≤ 1) → ReadCounts
   made talk g pinned quiet few =
       let is : gains ≡ put before (gained (taking v m)) = gains_is g in
-      let said : gains.to_server ≡ before ++ m.to_server = ap (λ (x : Gained). x.to_server) is in
-      let long : length before ≡ c.taken = length-take-le c.taken c.said tie.taken_few in
-      let front : take c.taken gains.to_server ≡ before = ap (take c.taken) said
+      let written : gains.to_server ≡ before ++ m.to_server = ap (λ (x : Gained). x.to_server) is in
+      let long : length before ≡ c.taken = length-take-le c.taken c.written tie.taken_few in
+      let prefix : take c.taken gains.to_server ≡ before = ap (take c.taken) written
       ∙ take_at before m.to_server c.taken long in
       record {
         talk = talk;
@@ -133,37 +133,37 @@ module _ (places : Places) (differ : Differ places) (codes : (k : ℕ) (p : Fiel
         counts = record {
           session = state_is ∙ tie.session;
           first_sent = h.first_sent ∙ tie.first_sent;
-          to_server = sym (ap (drop c.taken) said ∙ drop_at before m.to_server c.taken long);
+          to_server = sym (ap (drop c.taken) written ∙ drop_at before m.to_server c.taken long);
           to_client = h.left ∙ (ap (drop n) tie.to_client ∙ sym (drop_on (way_bytes c.sent) c.delivered n));
-          taken_few = omega (arith, ap length said, length-append before m.to_server, long);
+          taken_few = omega (arith, ap length written, length-append before m.to_server, long);
           delivered_few = omega arith;
           held = λ awake. subst (λ (s : Standing). IsHeld s.held (take c.taken gains.to_server)) (sym h.session)
-              (subst (IsHeld l.session.held) (sym front)
+              (subst (IsHeld l.session.held) (sym prefix)
               (tie.held (subst (λ (s : State). Open s.phase) state_is awake)));
           linked = λ there. subst (λ (s : State). Pinned places v.client s (take c.taken gains.to_server) m.to_server
               m.to_client (behind (delivered_by n c) c.sent)) (sym state_is)
               (pinned_as places v.client l.session.state before (take c.taken gains.to_server) m.to_server m.to_server
               m.to_client m.to_client (behind e its) (behind (delivered_by n c) c.sent)
-              (sym front) refl refl (sym (left_after c.sent c.delivered n tie.delivered_few)) (pinned there));
-          quiet = λ over awake. subst (λ b. IsAnswered b m.to_server) (sym front)
+              (sym prefix) refl refl (sym (left_after c.sent c.delivered n tie.delivered_few)) (pinned there));
+          quiet = λ over awake. subst (λ b. IsAnswered b m.to_server) (sym prefix)
               (quiet over (subst (λ (s : State). Open s.phase) state_is awake));
           over = λ shut. few (ap (λ (s : State). s.phase) (sym state_is) ∙ shut);
         };
       }
 
   -- while more is taken
-  linked_heard : IsLinked w.client.talk.stage → HeardCounts
-  linked_heard there =
+  linked_read : IsLinked w.client.talk.stage → ReadCounts
+  linked_read there =
       let pin : Pinned places w.client l.session.state before l.to_server l.to_client its = tie.linked there in
       let all : List ℕ = way_bytes its in
       let bs : List Brought = map brought_of (news n c) in
       let rest : List ℕ = take (part e its) (way_bytes (behind e its)) in
       let out : Outcome places differ codes l.session.state before l.to_server w.client.talk (wholes e its)
       (behind e its) (part e its)
-      = heard_outcome places differ codes l.session.state before l.to_server w.client.talk its e asked pin.flows.borne
+      = read_outcome places differ codes l.session.state before l.to_server w.client.talk its e asked pin.flows.borne
       pin.flows.suited pin.ends pin.shakes in
-      let x : HeardAll l.first_sent (taking w l) (take n l.to_client) (taking v m) =
-      heard_all l.first_sent (taking w l) (take n l.to_client) (taking v m) h.hears keeps in
+      let x : ReadAllOf l.first_sent (taking w l) (take n l.to_client) (taking v m) =
+      read_all l.first_sent (taking w l) (take n l.to_client) (taking v m) h.reads keeps in
       let way : l.to_client ≡ drop p all = tie.to_client ∙ drop_behind c.sent c.delivered in
       let kept : w.client.kept ≡ take p all =
       kept_part w.client.kept c.sent c.delivered (ap (λ b. w.client.kept ++ b) (sym tie.to_client)
@@ -203,14 +203,14 @@ module _ (places : Places) (differ : Differ places) (codes : (k : ℕ) (p : Fiel
       (λ over awake. subst (IsAnswered before) server
       (out.quiet l.first_sent (gained (taking w l)) refl
       (λ on. over (subst (λ (t : Talk). IsLinked t.stage) (sym talk) on)) awake))
-      (λ shut. subst (λ b. length b ≤ 1) (sym (out.unsaid shut l.first_sent (gained (taking w l))) ∙ server)
+      (λ shut. subst (λ b. length b ≤ 1) (sym (out.unwritten shut l.first_sent (gained (taking w l))) ∙ server)
       (tie.over shut))
 
   -- and afterwards
-  unlinked_heard : ¬ (IsLinked w.client.talk.stage) → HeardCounts
-  unlinked_heard over =
+  unlinked_read : ¬ (IsLinked w.client.talk.stage) → ReadCounts
+  unlinked_read over =
       let same : taking v m ≡ taking w l =
-      lost_all l.first_sent (taking w l) (take n l.to_client) (taking v m) h.hears over in
+      lost_all l.first_sent (taking w l) (take n l.to_client) (taking v m) h.reads over in
       let nothing : (talk_upon w.client.talk (news n c) ≡ w.client.talk) × ((f : Numbers) (g : Gained)
       → with_events f (events_upon w.client.talk (news n c)) g ≡ g) = unlinked_upon w.client.talk (news n c) over in
       let talk : v.client.talk ≡ w.client.talk = ap (λ (t : Taking). t.client.talk) same in
@@ -220,8 +220,8 @@ module _ (places : Places) (differ : Differ places) (codes : (k : ℕ) (p : Fiel
       (λ _ awake. subst (IsAnswered before) (sym server) (tie.quiet over awake))
       (λ shut. subst (λ b. length b ≤ 1) (sym server) (tie.over shut))
 
-  pub heard_counts : HeardCounts
-  heard_counts = elim (linked_or w.client.talk.stage) [
-    | inl there ↦ linked_heard there
-    | inr over ↦ unlinked_heard over
+  pub read_counts : ReadCounts
+  read_counts = elim (linked_or w.client.talk.stage) [
+    | inl there ↦ linked_read there
+    | inr over ↦ unlinked_read over
   ]
