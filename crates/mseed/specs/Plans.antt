@@ -1,5 +1,5 @@
 -- The plans of the two commands of a feed, and what is said where there is none.
-use Rattle.std.specs.Prelude.{◌≡◌, ◌⊎◌, ℕ, List, [], ◌++◌, Result, Ok, Err, codes, decimal}
+use Rattle.std.specs.Prelude.{◌≡◌, ℕ, List, [], ◌++◌, Result, Ok, Err, codes, decimal}
 use Rattle.mseed_stream.specs.Device.{BytesRead, BytesWritten}
 use Rattle.mseed_audit.specs.Text.{fault_line}
 use Rattle.slink_feed.specs.Dialogue.{wants_of}
@@ -23,10 +23,6 @@ fill_text (Stream fault) = codes "mseed: " ++ fault_line fault
 fill_text (Foreign number) = codes "mseed: record " ++ decimal number ++ codes " is not of this feed\n"
 fill_text Memory = codes "mseed: no memory\n"
 
--- the line on standard error; there may be no memory for it
-abbrev pub TellsOfFilling : FillFault → BytesWritten → BytesWritten → Type 0
-TellsOfFilling fault old new = Tells (fill_text fault) old new ⊎ Tells (codes "mseed: no memory\n") old new
-
 -- the feed, and the values that were asked for
 pub record IsServePlan {A : Type 0} (serving : Serving) (feed : List Window) (plan : ServePlan A) : Type 0 where
   pub port : plan.port ≡ serving.port
@@ -39,7 +35,7 @@ abbrev pub IsPlannedBy : {A : Type 0} → Serving → Result (List Window) FillF
 IsPlannedBy serving (Ok feed) (Status status) old new = ⊥
 IsPlannedBy serving (Ok feed) (Serve plan) old new = IsServePlan serving feed plan × (new ≡ old)
 IsPlannedBy serving (Ok feed) (Fetch plan) old new = ⊥
-IsPlannedBy serving (Err fault) (Status status) old new = (status ≡ 2) × TellsOfFilling fault old new
+IsPlannedBy serving (Err fault) (Status status) old new = (status ≡ 2) × Tells (fill_text fault) old new
 IsPlannedBy serving (Err fault) (Serve plan) old new = ⊥
 IsPlannedBy serving (Err fault) (Fetch plan) old new = ⊥
 

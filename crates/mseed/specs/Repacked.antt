@@ -1,5 +1,5 @@
 -- What packing anew says, and its exit status.
-use Rattle.std.specs.Prelude.{⊤, ◌≡◌, ◌⊎◌, ℕ, List, ◌++◌, Result, Ok, Err, codes, decimal}
+use Rattle.std.specs.Prelude.{⊤, ◌≡◌, ℕ, List, ◌++◌, Result, Ok, Err, codes, decimal}
 use Rattle.mseed_stream.specs.Device.{BytesRead, BytesWritten}
 use Rattle.mseed_audit.specs.Text.{name_text, fault_line}
 use Rattle.mseed_pack.specs.declared.fault.PackFault.{PackFault}
@@ -47,10 +47,10 @@ refusal_status (Misfit key fault) = 2
 refusal_status Write = 2
 refusal_status Memory = 2
 
--- the status and the line on standard error; there may be no memory for the line
+-- the status and the line on standard error
 pub record IsRefusedRepack (fault : RepackFault) (status : ℕ) (told_old told_new : BytesWritten) : Type 0 where
-  pub either : ((status ≡ refusal_status fault) × Tells (refusal_text fault) told_old told_new)
-      ⊎ ((status ≡ 2) × Tells (codes "mseed: no memory\n") told_old told_new)
+  pub status_is : status ≡ refusal_status fault
+  pub told : Tells (refusal_text fault) told_old told_new
 
 -- by the outcome: 0, and no line, where all was packed
 abbrev pub TellsOfRepack : {U : Type 0} → Result U RepackFault → ℕ → BytesWritten → BytesWritten → Type 0

@@ -8,7 +8,7 @@ ghost use Rattle.mseed.specs.Outcome.{IsAuditRun, summary_status};
 ghost use Rattle.mseed.specs.Run.{HasCarriedOut, HasRefusedRequest, HasRefusedWords, UnlessMemoryLacks, streams};
 ghost use Rattle.mseed.specs.Words.{AsksFor, AsksForNothing, AreRefused, CanBeAsked};
 ghost use Rattle.mseed.specs.Done.{IsShowRun};
-ghost use Rattle.mseed.specs.Repacked.{IsRepackRun, IsRefusedRepack, refusal_status};
+ghost use Rattle.mseed.specs.Repacked.{IsRepackRun};
 ghost use Rattle.clap.specs.Values.{kind_of};
 ghost use Rattle.mseed_stream.specs.declared.fault.StreamFault.{StreamFault};
 ghost use Rattle.mseed.specs.declared.ending.ShowFault.{ShowFault};
@@ -19,7 +19,7 @@ ghost use Rattle.mseed_pack.specs.Options.{code_of};
 use crate::ending::ShowFault;
 use crate::outcome::{BAD_COMMAND, BROKEN, DONE, FAULT, Run};
 use crate::planning::{plan_fetch, plan_serve};
-use crate::refusal::push_refusal;
+use crate::refusal::refuse_to_repack;
 use crate::request::{Packing, Request};
 use crate::show::show;
 use crate::words;
@@ -27,7 +27,7 @@ use clap::Error;
 use clap::error::ErrorKind;
 use mseed_audit::{AuditFault, Summary, audit};
 use mseed_pack::Options;
-use mseed_repack::{RepackFault, repack};
+use mseed_repack::repack;
 use mseed_stream::{Sink, Source, tell};
 use std::alloc::{Allocator, Global};
 
@@ -163,43 +163,12 @@ fn run_repack<A: Allocator + Copy, R: Source, W: Sink, E: Sink>(
     };
     match repack(alloc, &options, input, output) {
         Ok(()) => DONE,
-        Err(fault) => refuse_to_repack(alloc, errors, &fault),
-    }
-}
-
-/// Says why an archive wasn't packed anew.
-fn refuse_to_repack<A: Allocator + Copy, E: Sink>(
-    alloc: A,
-    errors: &mut E,
-    fault: &RepackFault,
-) -> u8
-    ensures { IsRefusedRepack fault.now result (E.written errors.old) (E.written errors.new) }
-{
-    let mut line = Vec::new(alloc);
-    match push_refusal(&mut line, fault) {
-        Ok(()) => {
-            tell(errors, &line);
-            refusal_status(fault)
-        }
-        Err(_) => refuse_memory(errors),
-    }
-}
-
-/// The exit status of a fault: a broken channel is none of the program's.
-fn refusal_status(fault: &RepackFault) -> u8
-    ensures { result ≡ refusal_status fault.now }
-{
-    match fault {
-        RepackFault::Broken(_) => BROKEN,
-        RepackFault::Stream(_)
-        | RepackFault::Misfit(_, _)
-        | RepackFault::Write
-        | RepackFault::Memory => FAULT,
+        Err(fault) => refuse_to_repack(errors, &fault),
     }
 }
 
 /// Says that the output failed.
-fn write_failed<E: Sink>(errors: &mut E) -> u8
+pub fn write_failed<E: Sink>(errors: &mut E) -> u8
     ensures status { result ≡ 2 }
     ensures told { Tells (codes "mseed: write failed\n") (E.written errors.old) (E.written errors.new) }
 {

@@ -2,15 +2,13 @@
 ghost use Rattle.std.specs.Prelude.{◌≡◌};
 ghost use Rattle.mseed_stream.specs.Device.{nothing_read};
 ghost use Rattle.mseed.specs.FeedWords.{CanFetch, CanServe};
-ghost use Rattle.mseed.specs.Plans.{IsFetchPlan, IsServeRun, TellsOfFilling};
+ghost use Rattle.mseed.specs.Plans.{IsFetchPlan, IsServeRun};
 
-use crate::command::refuse_memory;
-use crate::fill_fault::FillFault;
 use crate::filling::{fill, one_filling};
-use crate::outcome::{FAULT, Run};
-use crate::refusal::push_fill_refusal;
+use crate::outcome::Run;
+use crate::refusal::refuse_to_serve;
 use crate::request::{Fetching, Serving};
-use mseed_stream::{Sink, Source, tell};
+use mseed_stream::{Sink, Source};
 use slink_feed::{Client, Mode};
 use slink_links::{FetchPlan, ServePlan};
 use std::alloc::Allocator;
@@ -33,22 +31,7 @@ pub fn plan_serve<A: Allocator + Copy, R: Source, E: Sink>(
             connections: serving.connections,
             feed,
         }),
-        Err(fault) => Run::Status(refuse_to_serve(alloc, errors, &fault)),
-    }
-}
-
-/// Says why a feed wasn't filled.
-fn refuse_to_serve<A: Allocator + Copy, E: Sink>(alloc: A, errors: &mut E, fault: &FillFault) -> u8
-    ensures status { result ≡ 2 }
-    ensures told { TellsOfFilling fault.now (E.written errors.old) (E.written errors.new) }
-{
-    let mut line = Vec::new(alloc);
-    match push_fill_refusal(&mut line, fault) {
-        Ok(()) => {
-            tell(errors, &line);
-            FAULT
-        }
-        Err(_) => refuse_memory(errors),
+        Err(fault) => Run::Status(refuse_to_serve(errors, &fault)),
     }
 }
 

@@ -1,135 +1,99 @@
-//! The lines that say why an archive wasn't packed anew, or a feed not filled.
-ghost use Rattle.std.specs.Prelude.{◌≡◌, ◌++◌, OnOk, codes};
-ghost use Rattle.mseed_audit.specs.Text.{name_text};
-ghost use Rattle.mseed.specs.Plans.{fill_text};
+//! The lines that say why an archive wasn't packed anew, or a feed not filled. They are built without the heap: a line
+//! is told whatever memory there is.
+ghost use Rattle.std.specs.Prelude.{◌≡◌, ◌≤◌, ◌++◌, length, codes};
+ghost use Rattle.mseed_audit.specs.Text.{fault_line, name_text};
+ghost use Rattle.mseed_stream.specs.Telling.{Tells};
 ghost use Rattle.mseed.specs.declared.fill_fault.FillFault.{FillFault};
-ghost use Rattle.mseed.specs.Repacked.{refusal_text, broken_text, misfit_text, reason_text, misfit_number};
+ghost use Rattle.mseed.specs.Plans.{fill_text};
+ghost use Rattle.mseed.specs.Repacked.{refusal_status, refusal_text, reason_text};
 
+use crate::command::{refuse_memory, write_failed};
 use crate::fill_fault::FillFault;
+use crate::outcome::{BROKEN, FAULT};
 use mseed_audit::Part::{Count, Words};
-use mseed_audit::{push_fault_line, push_name, push_parts};
+use mseed_audit::{fault_line_of, line_of, name_of};
 use mseed_pack::PackFault;
 use mseed_record::Codes;
 use mseed_repack::RepackFault;
-use std::alloc::{AllocError, Allocator};
+use mseed_stream::{Sink, StreamFault, tell};
 
-/// Adds the line of a fault.
-///
-/// # Errors
-///
-/// `AllocError` where an allocation was refused. A part of it may have been added then.
-pub fn push_refusal<A: Allocator>(
-    line: &mut Vec<u8, A>,
-    fault: &RepackFault,
-) -> Result<(), AllocError>
-    ensures { OnOk result (line.new.items ≡ line.old.items ++ refusal_text fault.now) }
+/// Says why an archive wasn't packed anew, and answers the exit status: a broken channel is no fault.
+pub fn refuse_to_repack<E: Sink>(errors: &mut E, fault: &RepackFault) -> u8
+    ensures status { result ≡ refusal_status fault.now }
+    ensures told { Tells (refusal_text fault.now) (E.written errors.old) (E.written errors.new) }
 {
     match fault {
-        RepackFault::Stream(fault) => {
-            push_parts(line, &[Words(b"mseed: ")])?;
-            push_fault_line(line, fault)
+        RepackFault::Stream(fault) => tell_fault(errors, fault),
+        RepackFault::Broken(channel) => {
+            tell_of_channel(errors, channel, b" is broken\n");
+            BROKEN
         }
-        RepackFault::Broken(channel) => push_broken(line, channel),
-        RepackFault::Misfit(channel, fault) => push_misfit(line, channel, fault),
-        RepackFault::Write => push_parts(line, &[Words(b"mseed: write failed\n")]),
-        RepackFault::Memory => push_parts(line, &[Words(b"mseed: no memory\n")]),
-    }
-}
-
-/// Adds the line of a channel that isn't continuous.
-fn push_broken<A: Allocator>(line: &mut Vec<u8, A>, channel: &Codes) -> Result<(), AllocError>
-    ensures { OnOk result (line.new.items ≡ line.old.items ++ broken_text channel.now) }
-{
-    push_channel(line, channel)?;
-    push_words(line, b" is broken\n")
-}
-
-/// Adds the line of a channel that can't be packed.
-fn push_misfit<A: Allocator>(
-    line: &mut Vec<u8, A>,
-    channel: &Codes,
-    fault: &PackFault,
-) -> Result<(), AllocError>
-    ensures { OnOk result (line.new.items ≡ line.old.items ++ misfit_text channel.now fault.now) }
-{
-    push_channel(line, channel)?;
-    push_reason(line, fault)
-}
-
-/// Adds some words.
-fn push_words<A: Allocator>(line: &mut Vec<u8, A>, words: &[u8]) -> Result<(), AllocError>
-    ensures { OnOk result (line.new.items ≡ line.old.items ++ words.now) }
-{
-    line.extend_from_slice(words)
-}
-
-/// Adds why a channel can't be packed.
-fn push_reason<A: Allocator>(line: &mut Vec<u8, A>, fault: &PackFault) -> Result<(), AllocError>
-    ensures { OnOk result (line.new.items ≡ line.old.items ++ reason_text fault.now) }
-{
-    push_parts(
-        line,
-        &[
-            Words(b" does not fit "),
-            Count(misfit_number(fault)),
-            Words(b"\n"),
-        ],
-    )
-}
-
-/// Adds the beginning of a line about a channel.
-fn push_channel<A: Allocator>(line: &mut Vec<u8, A>, channel: &Codes) -> Result<(), AllocError>
-    ensures { OnOk result (line.new.items ≡ line.old.items ++ codes "mseed: " ++ name_text channel.now) }
-{
-    push_parts(line, &[Words(b"mseed: ")])?;
-    push_name(line, channel)
-}
-
-/// The number by which a fault of packing is told.
-fn misfit_number(fault: &PackFault) -> u64
-    ensures { result ≡ misfit_number fault.now }
-{
-    match fault {
-        PackFault::Empty => 1,
-        PackFault::RateTooHigh => 2,
-        PackFault::TimeOutOfRange => 3,
-        PackFault::SampleTooLarge(_) => 4,
-        PackFault::DifferenceTooLarge(_) => 5,
-        PackFault::Write(_) => 6,
-    }
-}
-
-/// Adds the line of a feed that wasn't filled.
-///
-/// # Errors
-///
-/// `AllocError` where an allocation was refused. A part of it may have been added then.
-pub fn push_fill_refusal<A: Allocator>(
-    line: &mut Vec<u8, A>,
-    fault: &FillFault,
-) -> Result<(), AllocError>
-    ensures { OnOk result (line.new.items ≡ line.old.items ++ fill_text fault.now) }
-{
-    match fault {
-        FillFault::Stream(fault) => {
-            push_parts(line, &[Words(b"mseed: ")])?;
-            push_fault_line(line, fault)
+        RepackFault::Misfit(channel, fault) => {
+            tell_of_channel(errors, channel, reason(fault));
+            FAULT
         }
-        FillFault::Foreign(number) => push_foreign(line, *number),
-        FillFault::Memory => push_parts(line, &[Words(b"mseed: no memory\n")]),
+        RepackFault::Write => write_failed(errors),
+        RepackFault::Memory => refuse_memory(errors),
     }
 }
 
-/// Adds the line of a record that isn't the feed's.
-fn push_foreign<A: Allocator>(line: &mut Vec<u8, A>, number: u64) -> Result<(), AllocError>
-    ensures { OnOk result (line.new.items ≡ line.old.items ++ fill_text (FillFault.Foreign number)) }
+/// Says why a feed wasn't filled, and answers the exit status.
+pub fn refuse_to_serve<E: Sink>(errors: &mut E, fault: &FillFault) -> u8
+    ensures status { result ≡ 2 }
+    ensures told { Tells (fill_text fault.now) (E.written errors.old) (E.written errors.new) }
 {
-    push_parts(
-        line,
-        &[
-            Words(b"mseed: record "),
-            Count(number),
-            Words(b" is not of this feed\n"),
-        ],
-    )
+    match fault {
+        FillFault::Stream(fault) => tell_fault(errors, fault),
+        FillFault::Foreign(number) => tell_foreign(errors, *number),
+        FillFault::Memory => refuse_memory(errors),
+    }
+}
+
+/// Says with what fault the input ended.
+fn tell_fault<E: Sink>(errors: &mut E, fault: &StreamFault) -> u8
+    ensures status { result ≡ 2 }
+    ensures told { Tells (codes "mseed: " ++ fault_line fault.now) (E.written errors.old) (E.written errors.new) }
+{
+    let line = line_of(&[Words(b"mseed: "), Words(&fault_line_of(fault))]);
+    tell(errors, &line);
+    FAULT
+}
+
+/// Says something of a channel.
+fn tell_of_channel<E: Sink>(errors: &mut E, channel: &Codes, words: &[u8])
+    requires { length words.now ≤ 32 }
+    ensures { Tells (codes "mseed: " ++ name_text channel.now ++ words.now) (E.written errors.old)
+        (E.written errors.new) }
+{
+    let line = line_of(&[Words(b"mseed: "), Words(&name_of(channel)), Words(words)]);
+    tell(errors, &line);
+}
+
+/// Why a channel can't be packed, by the number of the reason.
+fn reason(fault: &PackFault) -> &'static [u8]
+    ensures text { result.now ≡ reason_text fault.now }
+    ensures most { length result.now ≤ 32 }
+{
+    match fault {
+        PackFault::Empty => b" does not fit 1\n",
+        PackFault::RateTooHigh => b" does not fit 2\n",
+        PackFault::TimeOutOfRange => b" does not fit 3\n",
+        PackFault::SampleTooLarge(_) => b" does not fit 4\n",
+        PackFault::DifferenceTooLarge(_) => b" does not fit 5\n",
+        PackFault::Write(_) => b" does not fit 6\n",
+    }
+}
+
+/// Says which record isn't the feed's.
+fn tell_foreign<E: Sink>(errors: &mut E, number: u64) -> u8
+    ensures status { result ≡ 2 }
+    ensures told { Tells (fill_text (FillFault.Foreign number)) (E.written errors.old) (E.written errors.new) }
+{
+    let line = line_of(&[
+        Words(b"mseed: record "),
+        Count(number),
+        Words(b" is not of this feed\n"),
+    ]);
+    tell(errors, &line);
+    FAULT
 }

@@ -8,6 +8,7 @@ pub mod Findings
 pub mod Finished
 pub mod Joined
 pub mod Judged
+pub mod Lines
 pub mod Maps
 pub mod More
 pub mod OneMore

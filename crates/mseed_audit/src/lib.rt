@@ -8,6 +8,7 @@ mod channel;
 mod channel_series;
 mod finding;
 mod law;
+mod line;
 mod name;
 mod parts;
 mod roster;
@@ -26,6 +27,7 @@ pub use law::{
     continuous_exactly, one_audit, one_bad_step, one_finding, one_list_of_verdicts, one_series,
     one_verdict,
 };
+pub use line::{Line, fault_line_of, line_of, name_of};
 pub use name::push_name;
 pub use parts::{Part, push_count, push_parts};
 pub use text::push_fault_line;

@@ -40,7 +40,7 @@ fn push_code<A: Allocator>(text: &mut Vec<u8, A>, code: &[u8]) -> Result<(), All
 }
 
 /// A code without its trailing spaces and NULs.
-fn trimmed(code: &[u8]) -> &[u8]
+pub(crate) fn trimmed(code: &[u8]) -> &[u8]
     ensures { result.now ≡ trimmed code.now }
 {
     let mut end = code.len();
@@ -54,7 +54,7 @@ fn trimmed(code: &[u8]) -> &[u8]
 }
 
 /// A byte of a name as it is printed.
-fn printed(byte: u8) -> u8
+pub(crate) fn printed(byte: u8) -> u8
     ensures { result ≡ printed byte }
 {
     if (33..=126).contains(&byte) {

@@ -21,5 +21,5 @@ returns-in-Err-repack g c = record {
   sequence = c.in-Ok.ensures.sequence;
   outcome = Err c.in-Err-repack.fault;
   packed = c.in-Err-repack.ensures;
-  told = c.refuse_to_repack.ensures;
+  told = record { status_is = c.refuse_to_repack.ensures.status; told = c.refuse_to_repack.ensures.told };
 }

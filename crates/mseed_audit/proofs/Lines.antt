@@ -1,0 +1,71 @@
+-- Lines that are built without the heap: how long their parts are.
+use Rattle.std.proofs.Common.{◌≡◌, ℕ, zero, suc, Bool, true, false, if◌then◌else◌, ◌+◌, ◌<◌, ◌≤◌, ◌^◌, ◌++◌, List, []}
+use Rattle.std.proofs.Common.{◌∷◌, length, map, ◌-◌, take, drop, get_or, ap, arith, decimal}
+use Rattle.std.proofs.lemmas.List.{length-append, length-map, length-take}
+use Rattle.std.proofs.lemmas.Fmt.{length-decimal-le}
+use Rattle.std.specs.List.{list_all, slice_range}
+use Rattle.mseed_record.specs.Header.{is_blank}
+use Rattle.mseed_audit.specs.declared.parts.Part.{Part}
+use Rattle.mseed_audit.specs.Parts.{part_text, parts_text}
+use Rattle.mseed_audit.specs.Text.{printed, trimmed}
+
+-- a part stands within the text of all
+pub part_fits : (ps : List Part) (n : ℕ) (d : Part) → n < length ps
+    → length (parts_text (take n ps)) + length (part_text (get_or ps n d)) ≤ length (parts_text ps)
+part_fits [] n d h = absurd (omega (arith, h))
+part_fits (p ∷ ps) zero d h = omega (arith, length-append (part_text p) (parts_text ps))
+part_fits (p ∷ ps) (suc n) d h =
+    omega (
+      arith,
+      length-append (part_text p) (parts_text ps),
+      length-append (part_text p) (parts_text (take n ps)),
+      part_fits ps n d (omega (arith, h)),
+    )
+
+-- there is room for it behind those before it
+pub part_room : (ps : List Part) (n : ℕ) (d : Part) (line : List ℕ) → n < length ps → line ≡ parts_text (take n ps)
+    → length (parts_text ps) ≤ 128
+    → length line + length (part_text (get_or ps n d)) ≤ 128
+part_room ps n d line h e room = rw e (omega (arith, part_fits ps n d h, room))
+
+-- the digits of a number of 64 bits
+pub digits_fit : (n : ℕ) → n < 2 ^ 64 → length (decimal n) ≤ 20
+digits_fit n h = length-decimal-le 20 n (omega arith) (omega (arith, h)) h
+
+-- with what follows them
+pub counted_fits : (n : ℕ) (rest : List ℕ) → n < 2 ^ 64 → length (decimal n ++ rest) ≤ 20 + length rest
+counted_fits n rest h = omega (arith, length-append (decimal n) rest, digits_fit n h)
+
+-- those of a byte
+pub few_digits : (n : ℕ) → n < 256 → length (decimal n) ≤ 3
+few_digits n h = length-decimal-le 3 n (omega arith) (omega (arith, h)) (omega (arith, h))
+
+-- a code is no longer for having lost its end
+no_longer : (b : Bool) (c : ℕ) (cs more : List ℕ) → length more ≤ length cs
+    → length (if b then [] else c ∷ more) ≤ length (c ∷ cs)
+no_longer true c cs more h = omega arith
+no_longer false c cs more h = omega (arith, h)
+
+pub trimmed_fits : (code : List ℕ) → length (trimmed code) ≤ length code
+trimmed_fits [] = omega arith
+trimmed_fits (c ∷ cs) = no_longer (list_all is_blank (c ∷ cs)) c cs (trimmed cs) (trimmed_fits cs)
+
+-- a line to which the prefix of a code was added
+pub printed_fits : (old code line : List ℕ) (n : ℕ) → line ≡ old ++ map printed (take n code)
+    → length line ≤ length old + n
+printed_fits old code line n e =
+    omega (
+      arith,
+      ap length e,
+      length-append old (map printed (take n code)),
+      length-map (take n code) printed,
+      length-take n code,
+    )
+
+-- a piece of a key
+pub piece_fits : (key piece : List ℕ) (a b : ℕ) → piece ≡ slice_range key a b → length piece ≤ b - a
+piece_fits key piece a b e = omega (arith, ap length e, length-take (b - a) (drop a key))
+
+-- a line with one more byte
+pub one_longer : (old line : List ℕ) (byte : ℕ) → line ≡ old ++ byte ∷ [] → length line ≡ length old + 1
+one_longer old line byte e = omega (arith, ap length e, length-append old (byte ∷ []))

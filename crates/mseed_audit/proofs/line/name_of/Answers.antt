@@ -1,0 +1,59 @@
+use Rattle.std.proofs.Common.{length, ap, arith}
+use Rattle.mseed_audit.proofs.Lines.{one_longer, piece_fits}
+use Rattle.mseed_audit.proofs.line.name_of.Goals as goal
+
+pub put_code-requires-3 : goal.put_code-requires-3
+put_code-requires-3 c =
+    let key = c.args.codes.now in
+    omega (
+      arith,
+      ap length c.new-name.ensures,
+      piece_fits key _ 0 2 c.network.ensures,
+      piece_fits key _ 2 7 c.station.ensures,
+      piece_fits key _ 7 9 c.location.ensures,
+      one_longer _ _ 95 c.put.ensures,
+      one_longer _ _ 95 c.put-2.ensures,
+    )
+
+pub put-requires-3 : goal.put-requires-3
+put-requires-3 c =
+    let key = c.args.codes.now in
+    omega (
+      arith,
+      ap length c.new-name.ensures,
+      piece_fits key _ 0 2 c.network.ensures,
+      piece_fits key _ 2 7 c.station.ensures,
+      piece_fits key _ 7 9 c.location.ensures,
+      one_longer _ _ 95 c.put.ensures,
+      one_longer _ _ 95 c.put-2.ensures,
+    )
+
+pub put_code-requires-4 : goal.put_code-requires-4
+put_code-requires-4 c =
+    let key = c.args.codes.now in
+    omega (
+      arith,
+      ap length c.new-name.ensures,
+      piece_fits key _ 0 2 c.network.ensures,
+      piece_fits key _ 2 7 c.station.ensures,
+      piece_fits key _ 7 9 c.location.ensures,
+      piece_fits key _ 9 12 c.channel.ensures,
+      one_longer _ _ 95 c.put.ensures,
+      one_longer _ _ 95 c.put-2.ensures,
+      one_longer _ _ 95 c.put-3.ensures,
+    )
+
+pub returns-clause-most : goal.returns-clause-most
+returns-clause-most c =
+    let key = c.args.codes.now in
+    omega (
+      arith,
+      ap length c.new-name.ensures,
+      piece_fits key _ 0 2 c.network.ensures,
+      piece_fits key _ 2 7 c.station.ensures,
+      piece_fits key _ 7 9 c.location.ensures,
+      piece_fits key _ 9 12 c.channel.ensures,
+      one_longer _ _ 95 c.put.ensures,
+      one_longer _ _ 95 c.put-2.ensures,
+      one_longer _ _ 95 c.put-3.ensures,
+    )

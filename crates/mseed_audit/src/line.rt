@@ -1,0 +1,125 @@
+//! A line that is built without the heap.
+ghost use Rattle.std.specs.Prelude.{◌≡◌, ◌≤◌, ◌+◌, ◌++◌, length, codes, decimal};
+ghost use Rattle.mseed_audit.specs.Parts.{part_text, parts_text};
+ghost use Rattle.mseed_audit.specs.Text.{code_text, name_text, fault_line, frame_words};
+
+use crate::name::{printed, trimmed};
+use crate::parts::Part::{self, Count, Words};
+use arrayvec::ArrayVec;
+use itoa::Buffer;
+use mseed_record::{Codes, FrameFault};
+use mseed_stream::StreamFault;
+
+/// A line, or a piece of one.
+pub type Line = ArrayVec<u8, 128>;
+
+/// The parts, one behind another.
+pub fn line_of(parts: &[Part<'_>]) -> Line
+    requires { length (parts_text parts.now) ≤ 128 }
+    ensures { result.items ≡ parts_text parts.now }
+{
+    let mut line = ArrayVec::new();
+    for part in parts {
+        put_part(&mut line, *part);
+    }
+    line
+}
+
+/// Puts a part behind a line.
+fn put_part(line: &mut Line, part: Part<'_>)
+    requires { length line.old.items + length (part_text part) ≤ 128 }
+    ensures { line.new.items ≡ line.old.items ++ part_text part.entry }
+{
+    match part {
+        Part::Words(words) => put(line, words),
+        Part::Count(count) => put(line, Buffer::new().format(count).as_bytes()),
+        Part::Wide(count) => put(line, Buffer::new().format(count).as_bytes()),
+        Part::Signed(number) => put(line, Buffer::new().format(number).as_bytes()),
+    }
+}
+
+/// Puts bytes behind a line.
+fn put(line: &mut Line, bytes: &[u8])
+    requires { length line.old.items + length bytes.now ≤ 128 }
+    ensures { line.new.items ≡ line.old.items ++ bytes.now }
+{
+    // There is room.
+    let _ = line.try_extend_from_slice(bytes);
+}
+
+/// A channel's name, as [`push_name`](crate::push_name) adds it.
+pub fn name_of(codes: &Codes) -> Line
+    ensures text { result.items ≡ name_text codes.now }
+    ensures most { length result.items ≤ 15 }
+{
+    let mut name = ArrayVec::new();
+    put_code(&mut name, codes.network());
+    put(&mut name, b"_");
+    put_code(&mut name, codes.station());
+    put(&mut name, b"_");
+    put_code(&mut name, codes.location());
+    put(&mut name, b"_");
+    put_code(&mut name, codes.channel());
+    name
+}
+
+/// Puts a code without its trailing spaces and NULs behind a line.
+fn put_code(line: &mut Line, code: &[u8])
+    requires { length line.old.items + length code.now ≤ 128 }
+    ensures text { line.new.items ≡ line.old.items ++ code_text code.now }
+    ensures most { length line.new.items ≤ length line.old.items + length code.now }
+{
+    for byte in trimmed(code) {
+        line.push(printed(*byte));
+    }
+}
+
+/// The line of a stream's fault, as [`push_fault_line`](crate::push_fault_line) adds it.
+pub fn fault_line_of(fault: &StreamFault) -> Line
+    ensures text { result.items ≡ fault_line fault.now }
+    ensures most { length result.items ≤ 64 }
+{
+    match fault {
+        StreamFault::Frame(offset, fault) => fault_at(
+            *offset,
+            &[Words(b" "), Words(&frame_words_of(fault))],
+        ),
+        StreamFault::Truncated(offset, have) => fault_at(
+            *offset,
+            &[Words(b" truncated "), Count(*have as u64)],
+        ),
+        StreamFault::Read(offset) => fault_at(*offset, &[Words(b" read")]),
+        StreamFault::Turns(offset) => fault_at(*offset, &[Words(b" turns")]),
+        StreamFault::Memory => ArrayVec::new(),
+    }
+}
+
+/// The line of a fault at an offset, by what follows the offset.
+fn fault_at(offset: u64, words: &[Part<'_>]) -> Line
+    requires { length (parts_text words.now) ≤ 31 }
+    ensures text { result.items ≡ codes "fault at " ++ decimal offset ++ parts_text words.now ++ codes "\n" }
+    ensures most { length result.items ≤ 61 }
+{
+    line_of(&[
+        Words(b"fault at "),
+        Count(offset),
+        Words(&line_of(words)),
+        Words(b"\n"),
+    ])
+}
+
+/// Why bytes begin no record.
+fn frame_words_of(fault: &FrameFault) -> Line
+    ensures text { result.items ≡ frame_words fault.now }
+    ensures most { length result.items ≤ 10 }
+{
+    match fault {
+        FrameFault::NotData => line_of(&[Words(b"notdata")]),
+        FrameFault::Order => line_of(&[Words(b"order")]),
+        FrameFault::Chain => line_of(&[Words(b"chain")]),
+        FrameFault::No1000 => line_of(&[Words(b"no1000")]),
+        FrameFault::Length(exponent) => line_of(&[Words(b"length "), Count(u64::from(*exponent))]),
+        FrameFault::Outside => line_of(&[Words(b"outside")]),
+        FrameFault::Version3 => line_of(&[Words(b"version3")]),
+    }
+}
