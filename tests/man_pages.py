@@ -1,7 +1,8 @@
 #!/usr/bin/env python3
 """Reads the manual pages: each is without a warning of mandoc or man, each command that it shows prints what stands
-there, and the options that the pages name are those of the program's help. MSEED names the program. With --write what
-the commands print is written into the pages. The last line is `N passed, M failed`, with `, K skipped` where neither
+there, and the options that the pages name are those of the program's help. The help names the commands of the pages,
+and says at once how a file is read; the version is that of the file VERSION. MSEED names the program. With --write
+what the commands print is written into the pages. The last line is `N passed, M failed`, with `, K skipped` where neither
 mandoc nor man is installed.
 """
 
@@ -60,6 +61,13 @@ def ran(page, block, folder):
     return found
 
 
+def said_of(word):
+    """What the program says on standard error, where it ends with status 3 and says nothing else."""
+    run = subprocess.run([PROGRAM, word], stdin=subprocess.DEVNULL, capture_output=True, text=True, timeout=100)
+    judge(f"{word} has status 3, and no output", (run.returncode, run.stdout) == (3, ""))
+    return run.stderr
+
+
 def options_in(text):
     return set(re.findall(r"--([a-z][a-z-]*)", text))
 
@@ -83,8 +91,14 @@ def main():
                 found = ran(page, block, folder)
                 judge(f"{page}:\n{found}", found == block)
     named = {name for page in pages for name in re.findall(r"^\.(?:It |Op )?Fl -([a-z-]+)", text_of(page), re.MULTILINE)}
-    told = subprocess.run([PROGRAM, "--help"], stdin=subprocess.DEVNULL, capture_output=True, text=True).stderr
+    told = said_of("--help")
     judge(f"the options of the pages, {sorted(named)}, and of the help", named == options_in(told))
+    judge("the help says at once how a file is read", "mseed audit < my.mseed" in told.splitlines()[1])
+    for page in pages[:-1]:
+        command = page.removeprefix("mseed-").removesuffix(".1")
+        judge(f"the help has an example of {command}", re.search(f"^ +mseed {command} .*[<>] ", told, re.MULTILINE))
+    with open(os.path.join(ROOT, "VERSION"), encoding="utf-8") as file:
+        judge("the version is that of VERSION", said_of("--version") == "mseed " + file.read())
     skipped = f", {counts['skipped']} skipped" if counts["skipped"] else ""
     print(f"{counts['passed']} passed, {counts['failed']} failed{skipped}")
     sys.exit(bool(counts["failed"]) or not counts["passed"])

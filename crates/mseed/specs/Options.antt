@@ -40,9 +40,9 @@ abbrev pub with_rules : App → List Rule → App
 with_rules a [] = a
 with_rules a (r ∷ rs) = with_rules (with_rule a r) rs
 
--- without places and options; the program's name isn't among the words
+-- without places and options, but that it says its version; the program's name isn't among the words
 abbrev pub bare_command : App
-bare_command = on_top (λ s. record s { no_binary_name = true }) (new_app (codes "mseed"))
+bare_command = on_top (λ s. record s { has_version = true; no_binary_name = true }) (new_app (codes "mseed"))
 
 -- with all places and options side by side
 abbrev pub the_command : App

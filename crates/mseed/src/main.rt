@@ -8,6 +8,7 @@ mod feed_words;
 mod fill_fault;
 mod filling;
 mod found;
+mod help;
 mod listing;
 mod numbers;
 mod outcome;

@@ -14,6 +14,7 @@ ghost use Rattle.mseed.specs.Options.{number_rules, option_rule, number_rule, wi
 
 use crate::feed_words::{fetching_of, serving_of};
 use crate::found::{has_only, text_of};
+use crate::help::{ABOUT, COMMANDS, VERSION};
 use crate::numbers::number_in;
 use crate::request::{Packing, Request};
 use clap::builder::ValueParser;
@@ -178,7 +179,9 @@ fn bare_command<'a>(alloc: Global) -> Command<'a>
     ensures { app_of result ≡ bare_command }
 {
     Command::new(alloc, "mseed")
-        .about("Audits, lists, repacks, serves and fetches seismic waveforms in miniSEED.")
+        .about(ABOUT)
+        .after_help(COMMANDS)
+        .version(VERSION)
         .no_binary_name(true)
 }
 
@@ -195,7 +198,7 @@ fn with_places<'a>(alloc: Global, command: Command<'a>) -> Result<Command<'a>, A
 {
     command.arg(
         Arg::new(alloc, "place").action(ArgAction::Append).help(
-            "further places of a feed: NET_STA, to fetch also NET_STA:HEX",
+            "serve, fetch: further stations, NET_STA; of fetch also NET_STA:HEX",
         ),
     )
 }
@@ -209,13 +212,13 @@ fn with_packing<'a>(alloc: Global, command: Command<'a>) -> Result<Command<'a>, 
         alloc,
         command,
         "length",
-        "bytes of a packed record: 128, 256, .. 4096; 512 where none is given",
+        "repack: bytes of a record, 128, 256, .. 4096; by default 512",
     )?;
     with_option(
         alloc,
         command,
         "encoding",
-        "int16, int32, steim1 or steim2; the last where none is given",
+        "repack: int16, int32, steim1 or steim2; by default steim2",
     )
 }
 
@@ -223,25 +226,25 @@ fn with_packing<'a>(alloc: Global, command: Command<'a>) -> Result<Command<'a>, 
 fn with_feed<'a>(alloc: Global, command: Command<'a>) -> Result<Command<'a>, AllocError>
     ensures { IfOk result (λ c. app_of c ≡ with_rules (app_of command.entry) feed_rules) }
 {
-    let command = with_option(alloc, command, "station", "the station of a feed")?;
-    let command = with_option(alloc, command, "network", "its network")?;
+    let command = with_option(alloc, command, "station", "serve, fetch: the first station")?;
+    let command = with_option(alloc, command, "network", "serve, fetch: its network")?;
     let command = with_option(
         alloc,
         command,
         "capacity",
-        "how many records of a place to serve; 1000 where none is given",
+        "serve: how many records of each station to keep; by default 1000",
     )?;
     let command = with_option(
         alloc,
         command,
         "first",
-        "the first record's number to serve, in hexadecimal; 000000 where none is given",
+        "serve: each first record's number, in hexadecimal; by default 0",
     )?;
     with_option(
         alloc,
         command,
         "from",
-        "the number to fetch from, in hexadecimal; the oldest where none is given",
+        "fetch: the first number, in hexadecimal; by default the oldest",
     )
 }
 
@@ -249,20 +252,26 @@ fn with_feed<'a>(alloc: Global, command: Command<'a>) -> Result<Command<'a>, All
 fn with_numbers<'a>(alloc: Global, command: Command<'a>) -> Result<Command<'a>, AllocError>
     ensures { IfOk result (λ c. app_of c ≡ with_rules (app_of command.entry) number_rules) }
 {
-    let command = with_number(alloc, command, "port", ports(), "the port on this machine")?;
+    let command = with_number(
+        alloc,
+        command,
+        "port",
+        ports(),
+        "serve, fetch: the port on this machine",
+    )?;
     let command = with_number(
         alloc,
         command,
         "connections",
         counts(),
-        "how many connections to serve; 1 where none is given",
+        "serve: how many connections to serve; by default 1",
     )?;
     with_number(
         alloc,
         command,
         "tries",
         counts(),
-        "how many times to connect to fetch; 1 where none is given",
+        "fetch: how many times to connect in all; by default 1",
     )
 }
 

@@ -1,0 +1,40 @@
+//! What `--version` and `--help` say beside the list of the options.
+
+/// The number of the release, as in the file `VERSION`.
+pub const VERSION: &str = "0.1.0";
+
+/// What the program does, and how it is given a file.
+pub const ABOUT: &str = "Audits, lists, repacks, serves and fetches seismic waveforms in miniSEED.
+A file is read from standard input: mseed audit < my.mseed";
+
+/// Each command by what it reads and writes, its options, its statuses and an example.
+pub const COMMANDS: &str = "Commands:
+  audit   says which channels are continuous, and where the others break
+          reads an archive, writes a line for each channel; status 1: a channel is broken
+            mseed audit < my.mseed
+  show    lists the records
+          reads an archive, writes a line for each record
+            mseed show < my.mseed
+  repack  packs each channel anew, in records of one length and one encoding
+          reads an archive, writes an archive; status 1: a channel isn't continuous
+          options: --length, --encoding
+            mseed repack --length 4096 --encoding steim1 < my.mseed > packed.mseed
+  serve   sends the records of stations to clients on this machine, over SeedLink 3
+          reads an archive of records of 512 bytes, writes nothing
+          options: --port, --station and --network, which it needs, --capacity, --first,
+          --connections; further stations as NET_STA
+            mseed serve --port 18000 --station ANMO --network IU < packed.mseed
+  fetch   asks a server on this machine for the records of stations, over SeedLink 3
+          reads nothing, writes each record as soon as it is whole
+          options: --port, --station and --network, which it needs, --from, --tries;
+          further stations as NET_STA or NET_STA:HEX
+            mseed fetch --port 18000 --station ANMO --network IU > fetched.mseed
+
+What is read is standard input, and what is written standard output; messages go to standard error.
+
+Statuses:
+  0  done; of audit: each channel is continuous
+  1  of audit: a channel is broken; of repack: one isn't continuous, and nothing was written
+  2  a fault: of the input, the output or a connection, of what is asked for, or out of memory;
+     a line says which
+  3  a bad command line, this help, or the version";
