@@ -1,8 +1,8 @@
 -- The lines of a listing, record after record.
-use Rattle.std.proofs.Common.{◌≡◌, ℕ, ◌+◌, ◌++◌, List, [], ◌∷◌, length, take, map, refl, sym, ap, ◌∙◌, subst}
+use Rattle.std.proofs.Common.{◌≡◌, ℕ, ◌+◌, ◌++◌, List, [], ◌∷◌, length, ◌≤◌, take, map, refl, sym, ap, ◌∙◌, subst}
 use Rattle.std.proofs.Common.{append_assoc, arith, inl, inr, Option, Result, Ok, Err}
 use Rattle.std.proofs.lemmas.List.{append-nil, length-append}
-use Rattle.std.proofs.Math.Seq.{take-append-add, take-append_seam}
+use Rattle.std.proofs.Math.Seq.{take-append-add, take-append_seam, take-length}
 use Rattle.std.specs.List.{concat}
 use Rattle.mseed_record.specs.View.{View}
 use Rattle.mseed_stream.specs.Device.{BytesRead, BytesWritten}
@@ -12,7 +12,10 @@ use Rattle.mseed_stream.specs.Walk.{AreViews}
 use Rattle.mseed_audit.specs.Text.{end_line}
 use Rattle.mseed.specs.Show.{IsListed, IsShown, TookFirst, TookPart, show_text}
 use Rattle.std.specs.Result.{IsErrAnd}
-use Rattle.mseed.specs.Gathering.{AreGathered, IsPrefixWritten, IsListing, HasLines}
+use Rattle.mseed_stream.specs.Standing.{Standing}
+use Rattle.mseed.specs.declared.show.Step.{Step}
+use Rattle.mseed.specs.declared.show.Step.TheVariants.{Listed, Ended}
+use Rattle.mseed.specs.Gathering.{AreGathered, IsPrefixWritten, IsGatheredAlso, IsListing, IsNext, HasLines}
 use Rattle.mseed.specs.declared.ending.ShowFault.{ShowFault}
 use Rattle.mseed.specs.declared.ending.ShowFault.TheVariants.{Write, Memory}
 
@@ -90,56 +93,107 @@ pub lines_more : (bytes : List ℕ) (offset : ℕ) (views : List View) (v : View
     → record_lines 0 (views ++ v ∷ []) ≡ record_lines 0 views ++ record_line offset v
 lines_more bytes offset views v shown = lines_from 0 views v offset (omega (arith, shown.offset_is))
 
--- a line was added to what is gathered
-pub gathered_line : (first old : BytesWritten) (text added bytes : List ℕ) (offset : ℕ) (views : List View) (v : View)
-    → AreViews bytes offset views → AreGathered first old text (record_lines 0 views)
-    → added ≡ text ++ record_line offset v → AreGathered first old added (record_lines 0 (views ++ v ∷ []))
-gathered_line first old text added bytes offset views v shown before e =
-    let line : List ℕ = record_line offset v in
-    let one : AreGathered old old added (text ++ line) =
-    subst (λ (xs : List ℕ). AreGathered old old added xs) e (gathered_all old added) in
-    gathered_more first old old text added (record_lines 0 views) line (record_lines 0 (views ++ v ∷ [])) before one
-    (lines_more bytes offset views v shown)
+all_written : (old new : BytesWritten) (text rest : List ℕ) → AreGathered old new rest text → rest ≡ []
+    → new.bytes ≡ old.bytes ++ text
+all_written old new text rest written none =
+    let all : written.taken ≡ text = sym (append-nil written.taken)
+    ∙ ap (λ (xs : List ℕ). written.taken ++ xs) (sym none) ∙ written.joined in
+    written.bytes ∙ ap (λ (xs : List ℕ). old.bytes ++ xs) all
 
--- what is gathered was written
-pub gathered_written : (first old new : BytesWritten) (text rest lines : List ℕ) → AreGathered first old text lines
-    → new.bytes ≡ old.bytes ++ text → rest ≡ [] → AreGathered first new rest lines
-gathered_written first old new text rest lines before written none =
-    let all : AreGathered old new rest (text ++ []) =
-    record { taken = text; bytes = written; joined = ap (λ (xs : List ℕ). text ++ xs) none } in
-    gathered_more first old new text rest lines [] lines before all (sym (append-nil lines))
+-- all that was gathered was written, and then a line gathered
+also_written : (old new : BytesWritten) (text added line : List ℕ) → new.bytes ≡ old.bytes ++ text
+    → new.failures ≡ old.failures → added ≡ line → IsGatheredAlso old new text added line
+also_written old new text added line bytes fine e = record {
+  lines = record { taken = text; bytes = bytes; joined = ap (λ (xs : List ℕ). text ++ xs) e };
+  fine = fine;
+}
+
+-- what comes next, once all that was gathered was written
+pub next_written : (r : Result Step ShowFault) (views : List View) (offset : ℕ) (before after : BytesRead)
+    (c : Standing) (old new : BytesWritten) (text rest added : List ℕ) → AreGathered old new rest text → rest ≡ []
+    → new.failures ≡ old.failures
+    → IsNext r views offset before after c (λ line. added ≡ line) (λ fault. fault ≡ Memory)
+    → IsNext r views offset before after c (λ line. IsGatheredAlso old new text added line)
+    (λ fault. IsPrefixWritten fault old new text)
+next_written (Ok Listed) views offset before after c old new text rest added written none fine next = record {
+  view = next.view;
+  handed = next.handed;
+  asked = next.asked;
+  line = also_written old new text added (record_line offset next.view) (all_written old new text rest written none)
+      fine next.line;
+}
+next_written (Ok (Ended end)) views offset before after c old new text rest added written none fine next =
+    (next.0, also_written old new text added [] (all_written old new text rest written none) fine next.1)
+next_written (Err fault) views offset before after c old new text rest added written none fine next =
+    let all : TookFirst old new text = (
+      length text,
+      all_written old new text rest written none
+          ∙ ap (λ (xs : List ℕ). old.bytes ++ xs) (sym (take-length text)),
+    ) in
+    let memory : IsPrefixWritten Memory old new text = (fine, all) in
+    (subst (λ (f : ShowFault). IsPrefixWritten f old new text) (sym next.0) memory, next.1)
+
+-- no memory for a line, before anything was written
+pub next_err : (r : Result Step ShowFault) (Q : ShowFault → Type 0) (views : List View) (offset : ℕ)
+    (before h : BytesRead) (c : Standing) (s : BytesWritten) (text added : List ℕ) → AreViews h.bytes offset views
+    → IsErrAnd r Q → ((e : ShowFault) → Q e → e ≡ Memory)
+    → IsNext r views offset before h c (λ line. IsGatheredAlso s s text added line)
+    (λ fault. IsPrefixWritten fault s s text)
+next_err (Ok step) Q views offset before h c s text added shown is q = absurd is
+next_err (Err e) Q views offset before h c s text added shown is q =
+    let none : IsPrefixWritten Memory s s text = (refl, (0, sym (append-nil s.bytes))) in
+    (subst (λ (f : ShowFault). IsPrefixWritten f s s text) (sym (q e is)) none, shown)
+
+-- some of what is gathered was written
+pub gathered_on : (first old new : BytesWritten) (text rest lines : List ℕ) → AreGathered first old text lines
+    → AreGathered old new rest text → AreGathered first new rest lines
+gathered_on first old new text rest lines before written =
+    let some : AreGathered old new rest (text ++ []) =
+    subst (λ (xs : List ℕ). AreGathered old new rest xs) (sym (append-nil text)) written in
+    gathered_more first old new text rest lines [] lines before some (sym (append-nil lines))
+
+-- none is left
+pub none_left : (text : List ℕ) → length text ≤ 0 → text ≡ []
+none_left [] few = refl
+none_left (c ∷ cs) few = absurd (omega (arith, few))
 
 -- a fault before which a prefix of the lines was written
-pub cut_short : (fault : ShowFault) (h : BytesRead) (first old new : BytesWritten) (text lines line : List ℕ)
-    (offset : ℕ) (views : List View) → AreViews h.bytes offset views → old.failures ≡ first.failures
-    → AreGathered first old text lines → record_lines 0 views ≡ lines ++ line
-    → IsPrefixWritten fault old new (text ++ line) → IsShown (Err fault) h first new
-cut_short Write h first old new text lines line offset views shown same before e written = (
-  omega (arith, same, written.0),
-  (
-    offset,
-    (
-      views,
-      record {
-        shown = shown;
-        prefix = inl (part_behind first old new text lines line (record_lines 0 views) before e written.1);
-      },
-    ),
-  ),
-)
-cut_short Memory h first old new text lines line offset views shown same before e written = (
-  written.0 ∙ same,
-  (
-    offset,
-    (
-      views,
-      record {
-        shown = shown;
-        prefix = inl (first_behind first old new text lines line (record_lines 0 views) before e written.1);
-      },
-    ),
-  ),
-)
+pub cut_short : (fault : ShowFault) (h : BytesRead) (first old new : BytesWritten) (text : List ℕ) (offset : ℕ)
+    (views : List View) → AreViews h.bytes offset views → old.failures ≡ first.failures
+    → AreGathered first old text (record_lines 0 views) → IsPrefixWritten fault old new text
+    → IsShown (Err fault) h first new
+cut_short Write h first old new text offset views shown same before written =
+    let lines : List ℕ = record_lines 0 views in
+    let took : TookPart old new (text ++ []) =
+    subst (λ (xs : List ℕ). TookPart old new xs) (sym (append-nil text)) written.1 in (
+      omega (arith, same, written.0),
+      (
+        offset,
+        (
+          views,
+          record {
+            shown = shown;
+            prefix = inl (part_behind first old new text lines [] lines before (sym (append-nil lines)) took);
+          },
+        ),
+      ),
+    )
+cut_short Memory h first old new text offset views shown same before written =
+    let lines : List ℕ = record_lines 0 views in
+    let took : TookFirst old new (text ++ []) =
+    subst (λ (xs : List ℕ). TookFirst old new xs) (sym (append-nil text)) written.1 in (
+      written.0 ∙ same,
+      (
+        offset,
+        (
+          views,
+          record {
+            shown = shown;
+            prefix = inl (first_behind first old new text lines [] lines before (sym (append-nil lines)) took);
+          },
+        ),
+      ),
+    )
 
 pub gathered_err : (r : Result (ℕ × Option StreamFault) ShowFault) (Q : ShowFault → Type 0) (fault : ShowFault)
     (h : BytesRead) (old new : BytesWritten) (text : List ℕ) → IsErrAnd r Q → ((e : ShowFault) → Q e → e ≡ fault)

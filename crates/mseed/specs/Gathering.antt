@@ -23,19 +23,25 @@ pub record AreGathered (old new : BytesWritten) (gathered text : List ℕ) : Typ
   pub bytes : new.bytes ≡ old.bytes ++ taken
   pub joined : taken ++ gathered ≡ text
 
+-- a line was added to what was gathered, of which nothing or all was written meanwhile
+pub record IsGatheredAlso (old new : BytesWritten) (text added line : List ℕ) : Type 0 where
+  pub lines : AreGathered old new added (text ++ line)
+  pub fine : new.failures ≡ old.failures
+
 -- a record more was handed out than these, and its line was added
-pub record IsOneMore (views : List View) (offset : ℕ) (old new : BytesRead) (c : Standing) (text added : List ℕ) : Type
-    0 where
+pub record IsOneMore (views : List View) (offset : ℕ) (old new : BytesRead) (c : Standing) (Adds : List ℕ
+    → Type 0) : Type 0 where
   pub view : View
   pub handed : HasHandedOut new c (views ++ view ∷ [])
   pub asked : old.calls < new.calls
-  pub line : added ≡ text ++ record_line offset view
+  pub line : Adds (record_line offset view)
 
--- What comes next of an input, behind these records: one more, its end, so that they are all, or a want of memory.
-abbrev pub IsNext : Result Step ShowFault → List View → ℕ → BytesRead → BytesRead → Standing → List ℕ → List ℕ → Type 0
-IsNext (Ok Listed) views offset old new c text added = IsOneMore views offset old new c text added
-IsNext (Ok (Ended end)) views offset old new c text added = AreAllViews new views end × (added ≡ text)
-IsNext (Err fault) views offset old new c text added = (fault ≡ Memory) × AreViews new.bytes offset views
+-- What comes next of an input, behind these records: one more, its end, so that they are all, or a fault.
+abbrev pub IsNext : Result Step ShowFault → List View → ℕ → BytesRead → BytesRead → Standing → (List ℕ → Type 0)
+    → (ShowFault → Type 0) → Type 0
+IsNext (Ok Listed) views offset old new c Adds Fails = IsOneMore views offset old new c Adds
+IsNext (Ok (Ended end)) views offset old new c Adds Fails = AreAllViews new views end × Adds []
+IsNext (Err fault) views offset old new c Adds Fails = Fails fault × AreViews new.bytes offset views
 
 -- the lines of the records up to the end were written or are gathered
 pub record HasLines (records : ℕ) (end : Option StreamFault) (h : BytesRead) (old new : BytesWritten) (text : List ℕ)

@@ -1,5 +1,5 @@
 //! The listing of an input's records.
-ghost use Rattle.std.specs.Prelude.{◌≡◌, ◌++◌, List, [], IfErr, OnOk};
+ghost use Rattle.std.specs.Prelude.{◌≡◌, ◌≤◌, ◌++◌, List, [], IfErr, OnOk, length};
 ghost use Rattle.mseed_record.specs.View.{View};
 ghost use Rattle.mseed_stream.specs.Cutting.{IsAlong};
 ghost use Rattle.mseed_stream.specs.Device.{nothing_read};
@@ -7,7 +7,7 @@ ghost use Rattle.mseed_stream.specs.Walk.{HasHandedOut};
 ghost use Rattle.mseed.specs.Listing.{count_line};
 ghost use Rattle.mseed_audit.specs.Text.{end_line};
 ghost use Rattle.mseed.specs.Show.{IsShown};
-ghost use Rattle.mseed.specs.Gathering.{IsPrefixWritten, IsListing, IsNext};
+ghost use Rattle.mseed.specs.Gathering.{AreGathered, IsPrefixWritten, IsGatheredAlso, IsListing, IsNext};
 
 use crate::ending::ShowFault;
 use crate::listing::{push_count_line, push_record_line};
@@ -15,7 +15,7 @@ use mseed_audit::push_fault_line;
 use mseed_stream::{Cutter, Sink, Source, StreamFault, write_all_of};
 use std::alloc::Allocator;
 
-/// So many bytes of text are gathered before they are written.
+/// At most so many bytes of text are kept for the next record.
 const GATHERED: usize = 1 << 16;
 
 /// What comes next of an input.
@@ -61,26 +61,27 @@ fn list<A: Allocator + Copy, R: Source, W: Sink>(
     let mut cutter = Cutter::new(alloc);
     let mut records = 0;
     'records: loop {
-        match push_next(&mut cutter, input, text)? {
+        match push_next(&mut cutter, input, output, text)? {
             Step::Listed => records += 1,
             Step::Ended(end) => return Ok((records, end)),
         }
-        if text.len() >= GATHERED {
-            write_out(output, text)?;
-        }
+        write_beyond(output, text, GATHERED)?;
     }
 }
 
-/// Adds the next record's line, or answers how the input ends. A record that the input holds whole isn't copied.
-fn push_next<A: Allocator, R: Source>(
+/// Adds the next record's line, or answers how the input ends. A record that the input holds whole isn't copied. Where
+/// it holds none, the lines that are gathered are written before it is asked.
+fn push_next<A: Allocator, R: Source, W: Sink>(
     cutter: &mut Cutter<A>,
     input: &mut R,
+    output: &mut W,
     text: &mut Vec<u8, A>,
 ) -> Result<Step, ShowFault>
     requires { IsAlong (R.read input.old) cutter.old }
     ensures { (views : List View) → HasHandedOut (R.read input.old) cutter.old views
-        → IsNext result views cutter.old.offset (R.read input.old) (R.read input.new) cutter.new text.old.items
-        text.new.items }
+        → IsNext result views cutter.old.offset (R.read input.old) (R.read input.new) cutter.new
+        (λ line. IsGatheredAlso (W.written output.old) (W.written output.new) text.old.items text.new.items line)
+        (λ fault. IsPrefixWritten fault (W.written output.old) (W.written output.new) text.old.items) }
 {
     let offset = cutter.offset();
     if let Some(view) = cutter.peek(input) {
@@ -89,6 +90,24 @@ fn push_next<A: Allocator, R: Source>(
         cutter.pass(input, size);
         return Ok(Step::Listed);
     }
+    write_beyond(output, text, 0)?;
+    ask_next(cutter, input, text)
+}
+
+/// Asks the input for the next record and adds its line, or answers how the input ends. The lines of all records
+/// before it are written.
+fn ask_next<A: Allocator, R: Source>(
+    cutter: &mut Cutter<A>,
+    input: &mut R,
+    text: &mut Vec<u8, A>,
+) -> Result<Step, ShowFault>
+    requires along { IsAlong (R.read input.old) cutter.old }
+    requires written { text.old.items ≡ [] }
+    ensures { (views : List View) → HasHandedOut (R.read input.old) cutter.old views
+        → IsNext result views cutter.old.offset (R.read input.old) (R.read input.new) cutter.new
+        (λ line. text.new.items ≡ line) (λ fault. fault ≡ ShowFault.Memory) }
+{
+    let offset = cutter.offset();
     match cutter.next(input) {
         Ok(Some(view)) => {
             push_record_line(text, offset, &view)?;
@@ -114,6 +133,24 @@ fn push_end<A: Allocator>(
         push_fault_line(text, fault)?;
     }
     Ok(())
+}
+
+/// Writes what was gathered, where it is more than so many bytes.
+fn write_beyond<A: Allocator, W: Sink>(
+    output: &mut W,
+    text: &mut Vec<u8, A>,
+    most: usize,
+) -> Result<(), ShowFault>
+    ensures ok { OnOk result (AreGathered (W.written output.old) (W.written output.new) text.new.items text.old.items) }
+    ensures most { OnOk result (length text.new.items ≤ most) }
+    ensures fine { OnOk result ((W.written output.new).failures ≡ (W.written output.old).failures) }
+    ensures err { IfErr result (λ fault. IsPrefixWritten fault (W.written output.old) (W.written output.new)
+        text.old.items) }
+{
+    if text.len() <= most {
+        return Ok(());
+    }
+    write_out(output, text)
 }
 
 /// Writes what was gathered.

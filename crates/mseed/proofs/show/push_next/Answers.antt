@@ -1,9 +1,10 @@
-use Rattle.std.proofs.Common.{◌≡◌, ◌++◌, ◌∷◌, [], ◌∙◌, ℕ, List, length, take, sym, ap, arith, rules}
+use Rattle.std.proofs.Common.{◌≡◌, ◌++◌, ◌∙◌, ℕ, List, length, take, refl, sym, ap, arith, subst}
 use Rattle.mseed_record.specs.View.{View}
 use Rattle.mseed_record.specs.Viewing.{view_of}
-use Rattle.mseed_stream.specs.Device.{BytesRead}
-use Rattle.mseed_stream.specs.Walk.{HasHandedOut}
+use Rattle.mseed_stream.specs.Device.{BytesRead, BytesWritten}
+use Rattle.mseed.specs.Gathering.{AreGathered}
 use Rattle.mseed.specs.Listing.{record_line}
+use Rattle.mseed.proofs.Gathered.{gathered_all, next_err, next_written, none_left}
 use Rattle.mseed.proofs.show.push_next.Goals as goal
 
 pub returns-in-Some : goal.returns-in-Some
@@ -11,28 +12,39 @@ returns-in-Some g c = λ views before.
     let view : View = view_of c.in-Some.view in
     let lent : List ℕ = g.R.Source.lent c.args.input.now in
     let text : List ℕ = c.args.text.now.items in
+    let written : BytesWritten = g.W.Sink.written c.args.output.now in
     let is = c.in-Some.ensures.record in
     let same : view.bytes ≡ take (length c.bytes-size.result.now) lent =
     is.1 ∙ ap (λ (xs : List ℕ). take (length xs) lent) (sym c.bytes-size.ensures.value) in
+    let line : c.push_record_line.new.text.items ≡ text ++ record_line c.args.cutter.now.offset view =
+    c.in_ok-push_record_line.ensures ∙ ap (λ (n : ℕ). text ++ record_line n view) c.offset-offset.ensures in
     record {
       view = view;
       handed = c.pass.ensures.handed views view before is.0 same;
       asked = omega (arith, ap (λ (h : BytesRead). h.calls) c.pass.ensures.told);
-      line = c.in_ok-push_record_line.ensures ∙ ap (λ (n : ℕ). text ++ record_line n view) c.offset-offset.ensures;
+      line = record {
+        lines = subst (λ (xs : List ℕ). AreGathered written written c.push_record_line.new.text.items xs) line
+            (gathered_all written c.push_record_line.new.text.items);
+        fine = refl;
+      };
     }
 
-pub returns-in_ok-push_record_line-in-Ok-Some : goal.returns-in_ok-push_record_line-in-Ok-Some
-returns-in_ok-push_record_line-in-Ok-Some g c = λ views before.
-    let view : View = view_of c.in-Ok-Some.view in
-    let text : List ℕ = c.args.text.now.items in
-    let some = c.in-Ok-Some.field-0-is in
-    let asked = rw some at c.in-Ok-Some.ensures.asked in
-    let handed : HasHandedOut (g.R.Source.read c.next.new.source) c.next.follows.lender-at-none (views ++ view ∷ []) =
-    search rules in
-    record {
-      view = view;
-      handed = handed;
-      asked = asked;
-      line = c.in_ok-push_record_line-in-Ok-Some.ensures
-          ∙ ap (λ (n : ℕ). text ++ record_line n view) c.offset-offset.ensures;
-    }
+pub returns-in_err-push_record_line : goal.returns-in_err-push_record_line
+returns-in_err-push_record_line g c = λ views before.
+    next_err c.from_residual.result _ views c.args.cutter.now.offset (g.R.Source.read c.args.input.now)
+    (g.R.Source.read c.args.input.now) c.args.cutter.now
+    (g.W.Sink.written c.args.output.now) c.args.text.now.items c.push_record_line.new.text.items before.records
+    c.from_residual.ensures.1 (λ e q. q)
+
+pub ask_next-requires-clause-written : goal.ask_next-requires-clause-written
+ask_next-requires-clause-written g c = none_left c.write_beyond.new.text.items c.in_ok-write_beyond.ensures.most
+
+pub returns : goal.returns
+returns g c = λ views before.
+    let rest : List ℕ = c.write_beyond.new.text.items in
+    next_written c.ask_next.result views c.args.cutter.now.offset (g.R.Source.read c.args.input.now)
+    (g.R.Source.read c.ask_next.new.input) c.ask_next.new.cutter
+    (g.W.Sink.written c.args.output.now) (g.W.Sink.written c.write_beyond.new.output) c.args.text.now.items rest
+    c.ask_next.new.text.items
+    c.in_ok-write_beyond.ensures.ok (none_left rest c.in_ok-write_beyond.ensures.most)
+    c.in_ok-write_beyond.ensures.fine (c.ask_next.ensures views before)
