@@ -9,6 +9,7 @@ pub mod Finished
 pub mod Joined
 pub mod Judged
 pub mod Lines
+pub mod Lasts
 pub mod Maps
 pub mod More
 pub mod OneMore

@@ -1,7 +1,6 @@
 -- Where channels stand on a roster, and what is kept of them there.
 use Rattle.std.proofs.Common.{◌≡◌, ℕ, suc, ◌+◌, ◌<◌, List, [], ◌∷◌, ◌++◌, Bool, true, false, cond, length, get_or, set}
-use Rattle.std.proofs.Common.{is_some, Option, IsSome, Some, None, Result, Ok, Err, OnOk, OnErr, if◌then◌else◌, refl}
-use Rattle.std.proofs.Common.{sym, ap, subst, ◌∙◌, arith}
+use Rattle.std.proofs.Common.{is_some, Option, IsSome, Some, None, if◌then◌else◌, refl, sym, ap, subst, ◌∙◌, arith}
 use Rattle.std.specs.List.{All, slice_get}
 use Rattle.std.specs.Map.{keys_of, lookup, set_value, values_of}
 use Rattle.std.specs.Option.{option_map, unwrap_or}
@@ -223,28 +222,23 @@ set_bounded n es code c all one =
     (all_within_more n (n + 1) es (omega arith) all) one
 
 -- what is kept, where there was room for a new channel
-pub kept_where : {E : Type 0} (r : Result (Unit {0}) E) (old new : List (List ℕ × Channel)) (code : List ℕ)
-    (c : Channel) → OnOk r (new ≡ old ++ (code, c) ∷ []) → lookup (same_key code) old ≡ None
-    → (key : List ℕ) → OnOk r
-    (lookup (same_key key) new ≡ (if same_key key code then Some c else lookup (same_key key) old))
-kept_where (Ok u) old new code c is none key = ap (λ (es : List (List ℕ × Channel)). lookup (same_key key) es) is
+pub kept_where : (old new : List (List ℕ × Channel)) (code : List ℕ) (c : Channel) → new ≡ old ++ (code, c) ∷ []
+    → lookup (same_key code) old ≡ None
+    → (key : List ℕ) → lookup (same_key key) new ≡ (if same_key key code then Some c else lookup (same_key key) old)
+kept_where old new code c is none key = ap (λ (es : List (List ℕ × Channel)). lookup (same_key key) es) is
     ∙ kept_more old code c none key
-kept_where (Err e) old new code c is none key = tt
 
 -- and the counts
-pub bounded_where : {E : Type 0} (r : Result (Unit {0}) E) (old new : List (List ℕ × Channel)) (code : List ℕ)
-    (c : Channel) (n : ℕ) → OnOk r (new ≡ old ++ (code, c) ∷ []) → OnErr r (new ≡ old)
+pub bounded_where : (old new : List (List ℕ × Channel)) (code : List ℕ) (c : Channel) (n : ℕ)
+    → new ≡ old ++ (code, c) ∷ []
     → AreBounded n old → IsBounded (n + 1) c.verdict → AreBounded (n + 1) new
-bounded_where (Ok u) old new code c n is same all one =
+bounded_where old new code c n is all one =
     let before : AreBounded (n + 1) old = all_within_more n (n + 1) old (omega arith) all in
     let values : values_of (old ++ (code, c) ∷ []) ≡ values_of old ++ c ∷ [] =
     map-append (λ (e : List ℕ × Channel). e.1) old ((code, c) ∷ []) in
     let more = All-push (λ (d : Channel). IsBounded (n + 1) d.verdict) (values_of old) c before one in
     subst (λ (es : List (List ℕ × Channel)). AreBounded (n + 1) es) (sym is)
     (subst (λ (cs : List Channel). All (λ d. IsBounded (n + 1) d.verdict) cs) (sym values) more)
-bounded_where (Err e) old new code c n is same all one =
-    subst (λ (es : List (List ℕ × Channel)). AreBounded (n + 1) es) (sym same)
-    (all_within_more n (n + 1) old (omega arith) all)
 
 -- the verdicts on the channels at these places
 abbrev read_through : List ℕ → Option (List ℕ × Channel) → List (List ℕ × Verdict)

@@ -1,7 +1,7 @@
 -- One more record, by channel.
-use Rattle.std.proofs.Common.{◌≡◌, ◌≢◌, ℕ, ◌+◌, ◌<◌, is_some, length, arith, ◌&&◌, Option, IsSome, Result, Ok, Err}
-use Rattle.std.proofs.Common.{OnOk, nat_lt, List, [], ◌∷◌, ◌++◌, Bool, true, false, cond, if◌then◌else◌, Some, None}
-use Rattle.std.proofs.Common.{sym, ap, subst, refl, ◌∙◌, rules}
+use Rattle.std.proofs.Common.{◌≡◌, ◌≢◌, ℕ, ◌+◌, ◌<◌, is_some, length, arith, ◌&&◌, Option, IsSome, nat_lt, List, []}
+use Rattle.std.proofs.Common.{◌∷◌, ◌++◌, Bool, true, false, cond, if◌then◌else◌, Some, None, sym, ap, subst, refl, ◌∙◌}
+use Rattle.std.proofs.Common.{rules}
 use Rattle.std.specs.Map.{lookup}
 use Rattle.std.proofs.lemmas.Bool.{false≢true}
 use Rattle.std.proofs.lemmas.List.{length-append}
@@ -55,20 +55,18 @@ stands_more old new code p c at some kept step key ps before =
 pub some_is : {X : Type 0} (o : Option X) (x : X) → Some x ≡ o → IsSome o
 some_is o x e = subst (λ o. IsSome o) e (search rules)
 
--- a new channel begins with the record, where it could be kept
-pub new_stands : {E : Type 0} (old new : List (List ℕ × Channel)) (code : List ℕ) (p : Placed) (c : Channel)
-    (result : Result (Unit {0}) E) → code ≡ key_at p.view.bytes → 0 < count_of p.view
-    → ((q : List ℕ) → OnOk result
-    (lookup (same_key q) new ≡ (if same_key q code then Some c else lookup (same_key q) old)))
+-- a new channel begins with the record
+pub new_stands : (old new : List (List ℕ × Channel)) (code : List ℕ) (p : Placed) (c : Channel)
+    → code ≡ key_at p.view.bytes → 0 < count_of p.view
+    → ((q : List ℕ) → lookup (same_key q) new ≡ (if same_key q code then Some c else lookup (same_key q) old))
     → lookup (same_key code) old ≡ None → Stands c (p ∷ [])
     → (key : List ℕ) (ps : List Placed) → StandsAt (lookup (same_key key) old) ps
-    → OnOk result (StandsAt (lookup (same_key key) new) (with_record key ps p))
-new_stands old new code p c (Ok done) at some kept none stands key ps before =
+    → StandsAt (lookup (same_key key) new) (with_record key ps p)
+new_stands old new code p c at some kept none stands key ps before =
     let begins : (qs : List Placed) → StandsAt (lookup (same_key code) old) qs → Stands c (qs ++ p ∷ []) =
     λ qs s. subst (λ (rs : List Placed). Stands c (rs ++ p ∷ [])) (sym (subst (λ o. StandsAt o qs) none s)) stands in
     stands_more old new code p c at some (λ q. kept q ∙ ap (λ (b : Bool). cond b (Some c) (lookup (same_key q) old))
     (same_back q code)) begins key ps before
-new_stands old new code p c (Err e) at some kept none stands key ps before = search rules
 
 snoc_some : (ps prefix : List Placed) (last : Placed) → ps ≡ prefix ++ last ∷ [] → ps ≢ []
 snoc_some ps prefix last e none =

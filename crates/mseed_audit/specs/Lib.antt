@@ -7,4 +7,5 @@ pub mod Parts
 pub mod Series
 pub mod Summary
 pub mod Text
+pub mod Told
 pub mod Verdict

@@ -96,7 +96,10 @@ fn channel_with(
         return channel;
     }
     match channel {
-        None => Some(Channel::begin(view, number, offset)),
+        None => {
+            let (channel, _) = Channel::begin(view, number, offset);
+            Some(channel)
+        }
         Some(mut channel) => {
             channel.add(view, number, offset);
             Some(channel)

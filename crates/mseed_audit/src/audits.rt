@@ -1,11 +1,14 @@
 //! The audit of records as they come, and the verdicts that it ends with.
-ghost use Rattle.std.specs.Prelude.{◌≡◌, ◌≢◌, ◌↔◌, ◌⊎◌, ◌<◌, ◌+◌, ◌^◌, List, [], ◌∷◌, ◌++◌, OnOk, OnErr, IsOk, IsTrue};
+ghost use Rattle.std.specs.Prelude.{◌≡◌, ◌≢◌, ◌↔◌, ◌⊎◌, ◌<◌, ◌+◌, ◌^◌, List, [], ◌∷◌, ◌++◌, OnOk, OnErr, IfOk, IsOk};
+ghost use Rattle.std.specs.Prelude.{IsTrue};
 ghost use Rattle.mseed_record.specs.Header.{key_at};
 ghost use Rattle.mseed_record.specs.Viewing.{view_of};
 ghost use Rattle.mseed_steim.specs.Reading.{count_of};
-ghost use Rattle.mseed_audit.specs.Channels.{Added, records_of};
+ghost use Rattle.mseed_audit.specs.Channels.{Added, numbered, records_of};
+ghost use Rattle.mseed_audit.specs.Told.{IsFoundBehind};
 ghost use Rattle.mseed_audit.specs.Verdict.{AreVerdicts};
 
+use crate::finding::Why;
 use crate::law::continuous_exactly;
 use crate::roster::Roster;
 use crate::verdict::Verdict;
@@ -97,10 +100,30 @@ impl<A: Allocator + Copy> Audit<A> {
         ensures memory { (count_of (view_of view.now) ≡ 0)
             ⊎ HoldsKey self.old (key_at (view_of view.now).bytes) → IsOk result }
     {
-        let number = self.added + 1;
-        self.roster.add(view, number, offset)?;
-        self.added = number;
+        self.add_judged(view, offset)?;
         Ok(())
+    }
+
+    /// Adds a record as `add` does, and answers what is found of it: of a silent one, nothing.
+    ///
+    /// # Errors
+    ///
+    /// `Memory` as `add`.
+    pub fn add_judged(&mut self, view: &RecordView, offset: u64) -> Result<Option<Why>, Memory>
+        requires { self.old.added < 2 ^ 40 }
+        ensures adds { (added : List Added) → IsAuditOf self.old added
+            → OnOk result (IsAuditOf self.new (added ++ record { view = view_of view.now; offset = offset } ∷ [])) }
+        ensures found { (added : List Added) → IsAuditOf self.old added
+            → IfOk result (λ why. IsFoundBehind (numbered 1 added) (view_of view.now) why) }
+        ensures number { OnOk result (self.new.added ≡ self.old.added + 1) }
+        ensures unchanged { OnErr result (self.new ≡ self.old) }
+        ensures memory { (count_of (view_of view.now) ≡ 0)
+            ⊎ HoldsKey self.old (key_at (view_of view.now).bytes) → IsOk result }
+    {
+        let number = self.added + 1;
+        let why = self.roster.add(view, number, offset)?;
+        self.added = number;
+        Ok(why)
     }
 
     /// What the audit says of the records that were added: of each channel with samples its verdict, which says

@@ -6,6 +6,7 @@ ghost use Rattle.mseed_steim.specs.Reading.{count_of};
 ghost use Rattle.mseed_audit.specs.Judging.{IsFound};
 ghost use Rattle.mseed_audit.specs.Audit.{IsTailOf};
 ghost use Rattle.mseed_audit.specs.Kept.{IsTailBefore, why_in, tail_in};
+ghost use Rattle.mseed_audit.specs.Told.{last_of};
 
 use crate::finding::{Finding, Why};
 use crate::tail::Tail;
@@ -36,43 +37,50 @@ impl Channel {
     ghost use Rattle.mseed_audit.specs.Audit.{Stands};
     ghost use Rattle.mseed_audit.specs.Kept.{IsBounded};
 
-    /// A channel of one record.
-    pub(crate) fn begin(view: &RecordView, number: u64, offset: u64) -> Channel
+    /// A channel of one record, and what is found of it.
+    pub(crate) fn begin(view: &RecordView, number: u64, offset: u64) -> (Channel, Option<Why>)
         requires { 0 < count_of (view_of view.now) }
-        ensures stands { Stands result (record { view = view_of view.now; offset = offset; number = number } ∷ []) }
-        ensures bounded { IsBounded 1 result.verdict }
+        ensures stands { Stands result.0 (record { view = view_of view.now; offset = offset; number = number } ∷ []) }
+        ensures bounded { IsBounded 1 result.0.verdict }
+        ensures found { IsFound None (view_of view.now) result.1 }
     {
         match judge(None, view) {
-            Judged::Sound(tail) => Channel {
-                verdict: tail.verdict_alone(),
-                tail: Some(tail),
-            },
-            Judged::Faulty(why, tail) => Channel {
-                verdict: Verdict::Broken {
-                    first: Finding {
-                        number,
-                        offset,
-                        why,
-                    },
-                    count: 1,
-                },
-                tail,
-            },
+            Judged::Sound(tail) => {
+                let channel = Channel {
+                    verdict: tail.verdict_alone(),
+                    tail: Some(tail),
+                };
+                (channel, None)
+            }
+            Judged::Faulty(why, tail) => {
+                let first = Finding {
+                    number,
+                    offset,
+                    why,
+                };
+                let channel = Channel {
+                    verdict: Verdict::Broken { first, count: 1 },
+                    tail,
+                };
+                (channel, Some(why))
+            }
         }
     }
 
-    /// One more record of the channel.
-    pub(crate) fn add(&mut self, view: &RecordView, number: u64, offset: u64)
+    /// One more record of the channel. Answers what is found of it.
+    pub(crate) fn add(&mut self, view: &RecordView, number: u64, offset: u64) -> Option<Why>
         requires some { 0 < count_of (view_of view.now) }
         requires bounded { IsBounded (2 ^ 40) self.old.verdict }
         ensures stands { (ps : List Placed) → Stands self.old ps
             → Stands self.new (ps ++ record { view = view_of view.now; offset = offset; number = number } ∷ []) }
         ensures bounded { (n : ℕ) → IsBounded n self.old.verdict → IsBounded (n + 1) self.new.verdict }
+        ensures found { (ps : List Placed) → Stands self.old ps → IsFound (last_of None ps) (view_of view.now) result }
     {
         match judge(self.tail, view) {
             Judged::Sound(tail) => {
                 self.verdict = self.verdict.with_samples(tail.samples());
                 self.tail = Some(tail);
+                None
             }
             Judged::Faulty(why, tail) => {
                 self.verdict = self.verdict.with_finding(Finding {
@@ -81,6 +89,7 @@ impl Channel {
                     why,
                 });
                 self.tail = tail;
+                Some(why)
             }
         }
     }

@@ -1,5 +1,5 @@
 //! What is kept of each channel while records come.
-ghost use Rattle.std.specs.Prelude.{◌≡◌, ◌↔◌, ◌⊎◌, ◌+◌, ◌^◌, List, ℕ, [], ◌∷◌, ◌++◌, OnOk, OnErr, IsOk, IsSome};
+ghost use Rattle.std.specs.Prelude.{◌≡◌, ◌↔◌, ◌⊎◌, ◌+◌, ◌^◌, List, ℕ, [], ◌∷◌, ◌++◌, OnOk, OnErr, IfOk, IsOk, IsSome};
 ghost use Rattle.std.specs.Prelude.{IsTrue, Option, Some, None};
 ghost use Rattle.mseed_record.specs.Header.{key_at};
 ghost use Rattle.mseed_record.specs.Viewing.{view_of};
@@ -11,9 +11,11 @@ ghost use Rattle.std.specs.List.Sorted.{IsStrictlySortedBy};
 ghost use Rattle.mseed_audit.specs.Channels.{Placed, same_key, with_record};
 ghost use Rattle.mseed_audit.specs.Audit.{StandsAt};
 ghost use Rattle.mseed_audit.specs.Kept.{AreBounded, place_of, verdict_in};
+ghost use Rattle.mseed_audit.specs.Told.{IsFoundOf};
 
 use crate::audits::Memory;
 use crate::channel::Channel;
+use crate::finding::Why;
 use crate::verdict::Verdict;
 use mseed_record::{Codes, RecordView};
 use std::alloc::{Allocator, Global};
@@ -75,31 +77,41 @@ impl<A: Allocator + Copy> Roster<A> {
         self.places.contains_key(codes)
     }
 
-    /// Adds a record to its channel, which may be new. Nothing is kept of a silent one.
+    /// Adds a record to its channel, which may be new, and answers what is found of it. Nothing is kept of a silent
+    /// one, and nothing is found of it.
     ///
     /// # Errors
     ///
     /// `Memory` where the channel is new and there was no room for it; the roster is then as it was.
-    pub(crate) fn add(&mut self, view: &RecordView, number: u64, offset: u64) -> Result<(), Memory>
+    pub(crate) fn add(
+        &mut self,
+        view: &RecordView,
+        number: u64,
+        offset: u64,
+    ) -> Result<Option<Why>, Memory>
         requires { AreBounded (2 ^ 40) self.old }
         ensures stands { (key : List ℕ) (ps : List Placed) → StandsAt (lookup (same_key key) self.old) ps
             → OnOk result (StandsAt (lookup (same_key key) self.new)
             (with_record key ps (record { view = view_of view.now; offset = offset; number = number }))) }
+        ensures found { (ps : List Placed)
+            → StandsAt (lookup (same_key (key_at (view_of view.now).bytes)) self.old) ps
+            → IfOk result (λ why. IsFoundOf ps (view_of view.now) why) }
         ensures bounded { (n : ℕ) → AreBounded n self.old → AreBounded (n + 1) self.new }
         ensures unchanged { OnErr result (self.new ≡ self.old) }
         ensures memory { (count_of (view_of view.now) ≡ 0)
             ⊎ IsSome (lookup (same_key (key_at (view_of view.now).bytes)) self.old) → IsOk result }
     {
         if view.samples() == 0 {
-            return Ok(());
+            return Ok(None);
         }
         let codes = view.codes();
         match self.find(codes) {
-            Some(index) => {
-                self.channels[index].1.add(view, number, offset);
-                Ok(())
+            Some(index) => Ok(self.channels[index].1.add(view, number, offset)),
+            None => {
+                let (channel, why) = Channel::begin(view, number, offset);
+                self.keep(codes, channel)?;
+                Ok(why)
             }
-            None => self.keep(codes, Channel::begin(view, number, offset)),
         }
     }
 

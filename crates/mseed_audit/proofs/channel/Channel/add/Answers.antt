@@ -8,6 +8,7 @@ use Rattle.mseed_audit.specs.Judging.{IsFound}
 use Rattle.mseed_audit.specs.Kept.{with_samples}
 use Rattle.mseed_audit.specs.Verdict.{IsVerdict}
 use Rattle.mseed_audit.proofs.Findings.{verdict_found, verdict_whole, tail_before}
+use Rattle.mseed_audit.proofs.Lasts.{found_last}
 use Rattle.mseed_audit.proofs.channel.Channel.add.Goals as goal
 
 pub returns-in-Sound-clause-stands : goal.returns-in-Sound-clause-stands
@@ -44,3 +45,13 @@ returns-in-Faulty-clause-stands c = λ ps stands.
       parts = refl;
       tail = c.in-Faulty.ensures.tail;
     }
+
+pub returns-in-Sound-clause-found : goal.returns-in-Sound-clause-found
+returns-in-Sound-clause-found c = λ ps stands.
+    found_last ps stands.prefix stands.last (view_of c.args.view.now) None stands.parts
+    (c.in-Sound.ensures.why (Some stands.last.view) (tail_before c.args.self.now.tail stands.last.view stands.tail))
+
+pub returns-in-Faulty-clause-found : goal.returns-in-Faulty-clause-found
+returns-in-Faulty-clause-found c = λ ps stands.
+    found_last ps stands.prefix stands.last (view_of c.args.view.now) (Some c.in-Faulty.why) stands.parts
+    (c.in-Faulty.ensures.why (Some stands.last.view) (tail_before c.args.self.now.tail stands.last.view stands.tail))

@@ -2,6 +2,8 @@ use Rattle.std.proofs.Common.{◌≡◌, ◌<◌, ◌+◌, ◌^◌, ◌∙◌, �
 use Rattle.std.proofs.Common.{subst, sym, ap, arith, inl, inr, rules}
 use Rattle.std.specs.Map.{lookup}
 use Rattle.std.proofs.lemmas.Bool.{false≢true}
+use Rattle.mseed_record.specs.Header.{key_at}
+use Rattle.mseed_record.specs.View.{View}
 use Rattle.mseed_record.specs.Viewing.{view_of}
 use Rattle.mseed_audit.specs.declared.channel.Channel.{Channel}
 use Rattle.mseed_audit.specs.Channels.{Placed, same_key, with_record}
@@ -10,6 +12,7 @@ use Rattle.mseed_audit.specs.Kept.{AreBounded, ArePlaces, IsBounded, IsPlace, pl
 use Rattle.mseed_audit.proofs.Counts.{within_more}
 use Rattle.mseed_audit.proofs.Rosters.{bounded_at, bounded_where, found_at, kept_where, none_there, place_set}
 use Rattle.mseed_audit.proofs.Rosters.{place_within, places_set, set_bounded, set_found, set_stands}
+use Rattle.mseed_audit.proofs.Lasts.{found_kept, found_new}
 use Rattle.mseed_audit.proofs.Steps.{new_stands}
 use Rattle.mseed_audit.proofs.roster.Roster.add.Goals as goal
 
@@ -94,8 +97,23 @@ keep-requires g c =
     let none : lookup (same_key code) es ≡ None = none_there (same_key code) es (sym c.in-None.ensures.place) in
     ap (λ (fs : List (List ℕ × Channel)). lookup (same_key code) fs) c.find.ensures.stays ∙ none
 
-pub returns-in-None-clause-stands : goal.returns-in-None-clause-stands
-returns-in-None-clause-stands g c = λ key ps s.
+pub returns-in-Some-clause-found : goal.returns-in-Some-clause-found
+returns-in-Some-clause-found g c = λ ps s.
+    let es : List (List ℕ × Channel) = c.self.inside.channels.items in
+    let code : List ℕ = c.codes-codes.result in
+    let v : View = view_of c.args.view.now in
+    let same : es ≡ c.args.self.now = c.self.view_is ∙ c.find.ensures.stays in
+    let place : place_of (same_key code) es ≡ Some c.in-Some.index =
+    ap (λ (fs : List (List ℕ × Channel)). place_of (same_key code) fs) same ∙ sym c.in-Some.ensures.place in
+    let found = found_at (same_key code) es c.in-Some.index c.index_mut.result.now place c.index_mut.ensures.value in
+    let there : lookup (same_key (key_at v.bytes)) c.args.self.now ≡ Some c.index_mut.result.now.1 =
+    ap (λ (key : List ℕ). lookup (same_key key) c.args.self.now) (sym c.codes-codes.ensures)
+    ∙ ap (λ (fs : List (List ℕ × Channel)). lookup (same_key code) fs) (sym same) ∙ found in
+    found_kept (lookup (same_key (key_at v.bytes)) c.args.self.now) c.index_mut.result.now.1 ps v c.add.result there s
+    (search rules) c.add.ensures.found
+
+pub returns-in_ok-keep-in-None-clause-stands : goal.returns-in_ok-keep-in-None-clause-stands
+returns-in_ok-keep-in-None-clause-stands g c = λ key ps s.
     let es : List (List ℕ × Channel) = c.find.new.self in
     let code : List ℕ = c.codes-codes.result in
     let p : Placed = record { view = view_of c.args.view.now; offset = c.args.offset; number = c.args.number } in
@@ -104,22 +122,32 @@ returns-in-None-clause-stands g c = λ key ps s.
     ∙ none_there (same_key code) c.args.self.now (sym c.in-None.ensures.place) in
     let before : StandsAt (lookup (same_key key) es) ps =
     subst (λ (fs : List (List ℕ × Channel)). StandsAt (lookup (same_key key) fs) ps) (sym c.find.ensures.stays) s in
-    new_stands es c.keep.new.self code p c.begin.result c.keep.result c.codes-codes.ensures (search rules)
-    (kept_where c.keep.result es c.keep.new.self code c.begin.result c.keep.ensures.kept none) none
-    c.begin.ensures.stands key ps before
+    new_stands es c.keep.new.self code p c.begin-channel.result.0 c.codes-codes.ensures (search rules)
+    (kept_where es c.keep.new.self code c.begin-channel.result.0 c.in_ok-keep-in-None.ensures.kept none) none
+    c.begin-channel.ensures.stands key ps before
 
-pub returns-in-None-clause-bounded : goal.returns-in-None-clause-bounded
-returns-in-None-clause-bounded g c = λ n all.
+pub returns-in_ok-keep-in-None-clause-bounded : goal.returns-in_ok-keep-in-None-clause-bounded
+returns-in_ok-keep-in-None-clause-bounded g c = λ n all.
     let es : List (List ℕ × Channel) = c.find.new.self in
     let within : AreBounded n es =
     subst (λ (fs : List (List ℕ × Channel)). AreBounded n fs) (sym c.find.ensures.stays) all in
-    let one : IsBounded (n + 1) c.begin.result.verdict =
-    within_more 1 (n + 1) _ (omega arith) c.begin.ensures.bounded in
-    bounded_where c.keep.result es c.keep.new.self c.codes-codes.result c.begin.result n c.keep.ensures.kept
-    c.keep.ensures.unchanged within one
+    let one : IsBounded (n + 1) c.begin-channel.result.0.verdict =
+    within_more 1 (n + 1) _ (omega arith) c.begin-channel.ensures.bounded in
+    bounded_where es c.keep.new.self c.codes-codes.result c.begin-channel.result.0 n c.in_ok-keep-in-None.ensures.kept
+    within one
 
-pub returns-in-None-clause-memory : goal.returns-in-None-clause-memory
-returns-in-None-clause-memory g c = elim [
+pub returns-in_ok-keep-in-None-clause-found : goal.returns-in_ok-keep-in-None-clause-found
+returns-in_ok-keep-in-None-clause-found g c = λ ps s.
+    let code : List ℕ = c.codes-codes.result in
+    let v : View = view_of c.args.view.now in
+    let none : lookup (same_key (key_at v.bytes)) c.args.self.now ≡ None =
+    ap (λ (key : List ℕ). lookup (same_key key) c.args.self.now) (sym c.codes-codes.ensures)
+    ∙ none_there (same_key code) c.args.self.now (sym c.in-None.ensures.place) in
+    found_new (lookup (same_key (key_at v.bytes)) c.args.self.now) ps v c.begin-channel.result.1 none s (search rules)
+    c.begin-channel.ensures.found
+
+pub returns-in_err-keep-in-None-clause-memory : goal.returns-in_err-keep-in-None-clause-memory
+returns-in_err-keep-in-None-clause-memory g c = elim [
   | inl none ↦ absurd (search rules)
   | inr there ↦
       let es : List (List ℕ × Channel) = c.args.self.now in

@@ -1,8 +1,10 @@
-use Rattle.std.proofs.Common.{◌+◌, refl}
+use Rattle.std.proofs.Common.{ℕ, List, ◌+◌, refl}
+use Rattle.mseed_record.specs.Header.{key_at}
 use Rattle.mseed_record.specs.Viewing.{view_of}
 use Rattle.mseed_audit.specs.Audit.{Held, IsAuditOf}
+use Rattle.mseed_audit.specs.Channels.{records_of}
 use Rattle.mseed_audit.proofs.More.{audit_more}
-use Rattle.mseed_audit.proofs.audits.Audit.add.Goals as goal
+use Rattle.mseed_audit.proofs.audits.Audit.add_judged.Goals as goal
 
 pub invariant_of-self-2 : goal.invariant_of-self-2
 invariant_of-self-2 g c = c.add.ensures.bounded c.self.inside.added c.self.invariant
@@ -13,4 +15,11 @@ returns-clause-adds g c = λ added h.
     let new : Held = record { channels = c.add.new.self; added = c.self.inside.added + 1 } in
     let is : IsAuditOf old added = rw (← c.self.view_is) at h in
     audit_more old new added (record { view = view_of c.args.view.now; offset = c.args.offset }) is refl
-    c.in_ok-add.ensures.stands
+    c.in_ok-why.ensures.stands
+
+pub returns-clause-found : goal.returns-clause-found
+returns-clause-found g c = λ added h.
+    let old : Held = record { channels = c.self.inside.roster; added = c.self.inside.added } in
+    let is : IsAuditOf old added = rw (← c.self.view_is) at h in
+    let key : List ℕ = key_at (view_of c.args.view.now).bytes in
+    c.in_ok-why.ensures.found (records_of key added) (is.each key)
