@@ -6,6 +6,7 @@ pub mod Continuity
 pub mod Counts
 pub mod Findings
 pub mod Finished
+pub mod Gathers
 pub mod Joined
 pub mod Judged
 pub mod Lines
@@ -16,6 +17,7 @@ pub mod OneMore
 pub mod OneAudit
 pub mod OneList
 pub mod OneSeries
+pub mod OneTelling
 pub mod OneVerdict
 pub mod Outcomes
 pub mod Pieces
@@ -23,6 +25,7 @@ pub mod Places
 pub mod Rosters
 pub mod Shorts
 pub mod Steps
+pub mod Telling
 pub mod Told
 pub mod Trims
 pub mod Views

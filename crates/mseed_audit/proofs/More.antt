@@ -13,7 +13,7 @@ use Rattle.mseed_audit.specs.Audit.{Held, StandsAt, IsAuditOf}
 abbrev pub placed_at : Added → ℕ → Placed
 placed_at a n = record { view = a.view; offset = a.offset; number = n }
 
-numbered_more : (n : ℕ) (added : List Added) (a : Added)
+pub numbered_more : (n : ℕ) (added : List Added) (a : Added)
     → numbered n (added ++ a ∷ []) ≡ numbered n added ++ placed_at a (n + length added) ∷ []
 numbered_more n [] a = ap (λ (k : ℕ). placed_at a k ∷ []) (omega arith)
 numbered_more n (b ∷ rest) a = ap (λ (ps : List Placed). placed_at b n ∷ ps)

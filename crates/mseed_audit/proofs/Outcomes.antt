@@ -23,8 +23,8 @@ pub record HasVerdicts (held : Held) (end : Option StreamFault) (h : BytesRead)
   pub gathered : IsGathered held end h views
   pub are_verdicts : AreVerdicts (added_from 0 views) verdicts
 
-pub with_verdicts : (held : Held) (end : Option StreamFault) (h : BytesRead) (verdicts : List (List ℕ × Verdict))
-    → (views : List View) × IsGathered held end h views
+abbrev pub with_verdicts : (held : Held) (end : Option StreamFault) (h : BytesRead)
+    (verdicts : List (List ℕ × Verdict)) → (views : List View) × IsGathered held end h views
     → ((added : List Added) → IsAuditOf held added → AreVerdicts added verdicts) → HasVerdicts held end h verdicts
 with_verdicts held end h verdicts found are =
     record { views = found.0; gathered = found.1; are_verdicts = are (added_from 0 found.0) found.1.audit }

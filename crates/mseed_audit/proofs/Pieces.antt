@@ -29,3 +29,10 @@ parts_more ps n d first old new h before one =
 -- a prefix of a prefix
 pub prefix_trans : (a b c : List ℕ) → IsPrefixOf a b → IsPrefixOf b c → IsPrefixOf a c
 prefix_trans a b c prefix whole = prefix_behind a prefix.0 b c prefix.1 whole
+
+-- the parts of the line of a record with a finding, one behind another
+pub told_joined : (text offset space name record-word number start-word start gap why end : List ℕ)
+    → ((((((text ++ (offset ++ (space ++ []))) ++ name) ++ (record-word ++ (number ++ (start-word ++ [])))) ++ start)
+    ++ (gap ++ [])) ++ why) ++ (end ++ [])
+    ≡ text ++ (offset ++ space ++ name ++ record-word ++ number ++ start-word ++ start ++ gap ++ why ++ end)
+told_joined text offset space name record-word number start-word start gap why end = simp (append_assoc, append-nil)

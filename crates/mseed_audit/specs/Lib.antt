@@ -1,6 +1,8 @@
 pub mod Audit
 pub mod Channels
+pub mod Each
 pub mod Follows
+pub mod Gathered
 pub mod Judging
 pub mod Kept
 pub mod Parts

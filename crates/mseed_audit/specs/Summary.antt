@@ -1,6 +1,5 @@
 -- What an audit of a whole input writes and answers.
-use Rattle.std.specs.Prelude.{⊤, ◌≡◌, ◌<◌, ◌≤◌, ◌+◌, ℕ, List, [], ◌∷◌, ◌++◌, length, take, Option, Result, Ok, Err}
-use Rattle.std.specs.Prelude.{is_some}
+use Rattle.std.specs.Prelude.{◌≡◌, ◌<◌, ◌+◌, ℕ, List, [], ◌∷◌, ◌++◌, length, take, Option, Result, Ok, Err, is_some}
 use Rattle.mseed_record.specs.View.{View}
 use Rattle.mseed_stream.specs.Device.{BytesRead, BytesWritten}
 use Rattle.mseed_stream.specs.declared.fault.StreamFault.{StreamFault}
@@ -9,11 +8,7 @@ use Rattle.mseed_audit.specs.declared.verdict.Verdict.TheVariants.{Continuous, B
 use Rattle.mseed_audit.specs.declared.archive.Summary.{Summary}
 use Rattle.mseed_audit.specs.declared.archive.AuditFault.{AuditFault}
 use Rattle.mseed_audit.specs.declared.archive.AuditFault.TheVariants.{Write, Memory}
-use Rattle.mseed_audit.specs.declared.archive.Step.{Step}
-use Rattle.mseed_audit.specs.declared.archive.Step.TheVariants.{Added, Ended}
-use Rattle.mseed_audit.specs.declared.audits.Memory.{Memory as NoRoom}
-use Rattle.mseed_stream.specs.Standing.{Standing}
-use Rattle.mseed_stream.specs.Walk.{AreAllViews, HasHandedOut}
+use Rattle.mseed_stream.specs.Walk.{AreAllViews}
 use Rattle.mseed_audit.specs.Channels.{added_from}
 use Rattle.mseed_audit.specs.Verdict.{AreVerdicts}
 use Rattle.mseed_audit.specs.Audit.{Held, IsAuditOf}
@@ -64,17 +59,3 @@ IsOutcome (Err Memory) h old new = new ≡ old
 pub record IsGathered (held : Held) (end : Option StreamFault) (h : BytesRead) (views : List View) : Type 0 where
   pub all : AreAllViews h views end
   pub audit : IsAuditOf held (added_from 0 views)
-
--- a record more was handed out than these, and it was added
-pub record IsOneMore (views : List View) (old new : BytesRead) (c : Standing) (held : Held) : Type 0 where
-  pub view : View
-  pub handed : HasHandedOut new c (views ++ view ∷ [])
-  pub audit : IsAuditOf held (added_from 0 (views ++ view ∷ []))
-  pub asked : old.calls < new.calls
-  pub few : held.added ≤ new.calls
-
--- What comes next of an input, behind these records that were added: one more, or its end, so that they are all.
-abbrev pub IsNext : Result Step NoRoom → List View → BytesRead → BytesRead → Standing → Held → Type 0
-IsNext (Ok Added) views old new c held = IsOneMore views old new c held
-IsNext (Ok (Ended end)) views old new c held = IsGathered held end new views
-IsNext (Err e) views old new c held = ⊤

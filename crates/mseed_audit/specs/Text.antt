@@ -3,10 +3,13 @@ use Rattle.std.specs.Prelude.{ℕ, ◌&&◌, nat_le, if◌then◌else◌, List, 
 use Rattle.std.specs.Prelude.{decimal, ℤ, Option, Some, None}
 use Rattle.std.specs.Fmt.{signed_decimal}
 use Rattle.std.specs.List.{list_all}
+use Rattle.mseed_time.specs.Btime.{first_fault}
+use Rattle.mseed_time.specs.declared.fault.TimeFault.{TimeFault}
 use Rattle.mseed_time.specs.Rate.{Ratio}
 use Rattle.mseed_time.specs.Ratios.{ratio_of}
 use Rattle.mseed_time.specs.Text.{fault_word, time_text}
-use Rattle.mseed_record.specs.Header.{is_blank}
+use Rattle.mseed_record.specs.Header.{is_blank, key_at, time_at}
+use Rattle.mseed_record.specs.View.{View, start_of}
 use Rattle.mseed_record.specs.declared.frame.FrameFault.{FrameFault}
 use Rattle.mseed_record.specs.declared.frame.FrameFault.TheVariants.{NotData, Order as NoOrder, Chain, No1000, Length}
 use Rattle.mseed_record.specs.declared.frame.FrameFault.TheVariants.{Outside, Version3}
@@ -22,6 +25,7 @@ use Rattle.mseed_audit.specs.declared.finding.Why.TheVariants.{Overlap}
 use Rattle.mseed_audit.specs.declared.finding.Finding.{Finding}
 use Rattle.mseed_audit.specs.declared.verdict.Verdict.{Verdict}
 use Rattle.mseed_audit.specs.declared.verdict.Verdict.TheVariants.{Continuous, Broken}
+use Rattle.mseed_audit.specs.Told.{Told}
 
 -- a code without its trailing spaces and NULs
 abbrev pub trimmed : List ℕ → List ℕ
@@ -105,6 +109,26 @@ fault_line (Truncated offset have) = codes "fault at " ++ decimal offset ++ code
 fault_line (Read offset) = codes "fault at " ++ decimal offset ++ codes " read\n"
 fault_line (Turns offset) = codes "fault at " ++ decimal offset ++ codes " turns\n"
 fault_line Memory = []
+
+-- a start that is refused: the first field that is out of its range
+abbrev pub start_by : Option TimeFault → ℤ → List ℕ
+start_by None start = time_text start
+start_by (Some fault) start = codes "fault " ++ fault_word fault
+
+-- a record's start
+abbrev pub start_text : View → List ℕ
+start_text v = start_by (first_fault (time_at v.order v.bytes)) (start_of v)
+
+-- the line of a record with a finding
+abbrev pub told_line : Told → List ℕ
+told_line t =
+    decimal t.finding.offset ++ codes " " ++ name_text (key_at t.view.bytes) ++ codes " record "
+    ++ decimal t.finding.number
+    ++ codes " start " ++ start_text t.view ++ codes " " ++ why_text t.finding.why ++ codes "\n"
+
+abbrev pub told_lines : List Told → List ℕ
+told_lines [] = []
+told_lines (t ∷ ts) = told_line t ++ told_lines ts
 
 -- the lines of the verdicts
 abbrev pub verdict_lines : List (List ℕ × Verdict) → List ℕ

@@ -1,11 +1,14 @@
 -- What is told of the records of an archive, one after another: each with a finding, and no other.
-use Rattle.std.specs.Prelude.{◌≡◌, ◌<◌, ℕ, List, [], ◌∷◌, Option, Some, None}
+use Rattle.std.specs.Prelude.{◌≡◌, ◌<◌, ◌++◌, ℕ, List, [], ◌∷◌, map, Option, Some, None}
 use Rattle.std.specs.List.{filter}
 use Rattle.mseed_record.specs.Header.{key_at}
 use Rattle.mseed_record.specs.View.{View}
 use Rattle.mseed_steim.specs.Reading.{count_of}
+use Rattle.mseed_audit.specs.declared.finding.Finding.{Finding}
 use Rattle.mseed_audit.specs.declared.finding.Why.{Why}
-use Rattle.mseed_audit.specs.Channels.{Placed, is_of}
+use Rattle.mseed_audit.specs.declared.verdict.Verdict.{Verdict}
+use Rattle.mseed_audit.specs.declared.verdict.Verdict.TheVariants.{Continuous, Broken}
+use Rattle.mseed_audit.specs.Channels.{Added, Placed, is_of, numbered, same_key}
 use Rattle.mseed_audit.specs.Judging.{IsFound}
 
 -- the last of these records, or, of none, the one before them
@@ -25,3 +28,38 @@ channel_in key ps = filter (λ p. is_of key p.view) ps
 -- what is found of a record behind these records of the archive
 abbrev pub IsFoundBehind : List Placed → View → Option Why → Type 0
 IsFoundBehind earlier v why = IsFoundOf (channel_in (key_at v.bytes) earlier) v why
+
+-- a record with a finding
+pub record Told : Type 0 where
+  pub view : View
+  pub finding : Finding
+
+-- what is told of a record, by what is found of it
+abbrev pub told_at : Placed → Option Why → List Told
+told_at p None = []
+told_at p (Some why) = record { view = p.view; finding = record { number = p.number; offset = p.offset; why = why } }
+    ∷ []
+
+-- what is told of the records behind others: each that has a finding, in their order
+pub data AreTold : List Placed → List Placed → List Told → Type 0 where
+  none : (earlier : List Placed) → AreTold earlier [] []
+  one : (earlier : List Placed) (p : Placed) (ps : List Placed) (why : Option Why) (told : List Told)
+      → IsFoundBehind earlier p.view why
+      → AreTold (earlier ++ p ∷ []) ps told → AreTold earlier (p ∷ ps) (told_at p why ++ told)
+
+-- what is told of all records of an archive
+abbrev pub AreToldOf : List Added → List Told → Type 0
+AreToldOf added told = AreTold [] (numbered 1 added) told
+
+-- what is told of those with this key
+abbrev pub told_with : List ℕ → List Told → List Told
+told_with key told = filter (λ t. same_key key (key_at t.view.bytes)) told
+
+abbrev pub findings_in : List Told → List Finding
+findings_in told = map (λ t. t.finding) told
+
+-- how many findings a channel has, by its verdict, if it has one
+abbrev pub finding_count : Option Verdict → ℕ
+finding_count None = 0
+finding_count (Some (Continuous start rate records samples)) = 0
+finding_count (Some (Broken first count)) = count

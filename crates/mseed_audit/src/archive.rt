@@ -1,17 +1,18 @@
 //! The audit of an archive.
-ghost use Rattle.std.specs.Prelude.{◌≡◌, ◌≤◌, ◌++◌, List, ℕ, IfOk, None, true};
+ghost use Rattle.std.specs.Prelude.{◌≡◌, ◌<◌, ◌≤◌, ◌+◌, ◌^◌, ◌∷◌, ◌++◌, [], List, ℕ, IfOk, OnOk, None, true};
 ghost use Rattle.std.specs.Io.KnownBytes.{Appends, IsAtEnd};
 ghost use Rattle.mseed_record.specs.View.{View};
+ghost use Rattle.mseed_record.specs.Viewing.{view_of};
 ghost use Rattle.mseed_stream.specs.Cutting.{IsAlong, TellsMore};
 ghost use Rattle.mseed_stream.specs.Device.{nothing_read};
 ghost use Rattle.mseed_stream.specs.Walk.{HasHandedOut};
 ghost use Rattle.mseed_audit.specs.Audit.{IsAuditOf};
-ghost use Rattle.mseed_audit.specs.Channels.{added_from};
+ghost use Rattle.mseed_audit.specs.Channels.{Added, added_from};
 
 use crate::audits::{Audit, Memory};
-use crate::text::push_audit;
+use crate::text::{push_audit, push_told};
 use crate::verdict::Verdict;
-use mseed_record::Codes;
+use mseed_record::{Codes, RecordView};
 use mseed_stream::{Cutter, Sink, Source, StreamFault, write_all_of};
 use std::alloc::Allocator;
 use thiserror::Error;
@@ -40,6 +41,15 @@ pub enum AuditFault {
     Memory,
 }
 
+/// Of what lines are written before the text of an audit.
+#[derive(Clone, Copy, Debug)]
+pub(crate) enum Lines {
+    /// None: the text has a line for each verdict, and that is all.
+    OfVerdicts,
+    /// Of each record with a finding.
+    OfRecords,
+}
+
 /// What comes next of an input.
 #[derive(Clone, Copy, Debug)]
 pub(crate) enum Step {
@@ -49,7 +59,8 @@ pub(crate) enum Step {
     Ended(Option<StreamFault>),
 }
 
-ghost use Rattle.mseed_audit.specs.Summary.{IsOutcome, IsGathered, IsNext, broken_count};
+ghost use Rattle.mseed_audit.specs.Gathered.{IsNext, IsToldMore};
+ghost use Rattle.mseed_audit.specs.Summary.{IsOutcome, IsGathered, broken_count};
 
 /// Audits the records that a source tells, and writes the text of the audit. The source is one of which
 /// nothing was read yet.
@@ -115,25 +126,36 @@ fn gather<A: Allocator + Copy, R: Source>(
 {
     let mut cutter = Cutter::new(alloc);
     let mut audit = Audit::new(alloc);
+    let mut text = Vec::new(alloc);
     'records: loop {
-        match add_next(&mut audit, &mut cutter, source)? {
+        match add_next(
+            &mut audit,
+            &mut cutter,
+            source,
+            Lines::OfVerdicts,
+            &mut text,
+        )? {
             Step::Added => {}
             Step::Ended(end) => return Ok((audit, end)),
         }
     }
 }
 
-/// Adds the next record, or answers how the input ends. A record that the source holds whole isn't copied.
-fn add_next<A: Allocator + Copy, R: Source>(
+/// Adds the next record, and its line, if it has one, or answers how the input ends. A record that the source holds
+/// whole isn't copied.
+pub(crate) fn add_next<A: Allocator + Copy, R: Source>(
     audit: &mut Audit<A>,
     cutter: &mut Cutter<A>,
     source: &mut R,
+    lines: Lines,
+    text: &mut Vec<u8, A>,
 ) -> Result<Step, Memory>
     requires along { IsAlong (R.read source.old) cutter.old }
     requires few { audit.old.added ≤ (R.read source.old).calls }
     ensures next { (views : List View) → HasHandedOut (R.read source.old) cutter.old views
         → IsAuditOf audit.old (added_from 0 views)
-        → IsNext result views (R.read source.old) (R.read source.new) cutter.new audit.new }
+        → IsNext lines result views cutter.old.offset (R.read source.old) (R.read source.new) cutter.new audit.new
+        text.old.items text.new.items }
     ensures more { TellsMore (R.read source.old) (R.read source.new) (R.remaining source.old)
         (R.remaining source.new) }
     ensures known { cutter.old.answer ≡ None → (R.read source.new).is_at_end ≡ true
@@ -142,14 +164,14 @@ fn add_next<A: Allocator + Copy, R: Source>(
 {
     let offset = cutter.offset();
     if let Some(view) = cutter.peek(source) {
-        audit.add(&view, offset)?;
+        add_told(audit, &view, offset, lines, text)?;
         let size = view.bytes().len();
         cutter.pass(source, size);
         return Ok(Step::Added);
     }
     match cutter.next(source) {
         Ok(Some(view)) => {
-            audit.add(&view, offset)?;
+            add_told(audit, &view, offset, lines, text)?;
             Ok(Step::Added)
         }
         Ok(None) => Ok(Step::Ended(None)),
@@ -158,8 +180,31 @@ fn add_next<A: Allocator + Copy, R: Source>(
     }
 }
 
+/// Adds a record, and its line, if it has one.
+fn add_told<A: Allocator + Copy>(
+    audit: &mut Audit<A>,
+    view: &RecordView,
+    offset: u64,
+    lines: Lines,
+    text: &mut Vec<u8, A>,
+) -> Result<(), Memory>
+    requires { audit.old.added < 2 ^ 40 }
+    ensures adds { (added : List Added) → IsAuditOf audit.old added
+        → OnOk result (IsAuditOf audit.new (added ++ record { view = view_of view.now; offset = offset } ∷ [])) }
+    ensures told { (added : List Added) → IsAuditOf audit.old added
+        → OnOk result (IsToldMore lines added (added ++ record { view = view_of view.now; offset = offset } ∷ [])
+        text.old.items text.new.items) }
+    ensures number { OnOk result (audit.new.added ≡ audit.old.added + 1) }
+{
+    let why = audit.add_judged(view, offset)?;
+    match lines {
+        Lines::OfVerdicts => Ok(()),
+        Lines::OfRecords => push_told(text, view, audit.added(), offset, why),
+    }
+}
+
 /// How many verdicts say that a channel is broken.
-fn count_broken(verdicts: &[(Codes, Verdict)]) -> u64
+pub(crate) fn count_broken(verdicts: &[(Codes, Verdict)]) -> u64
     ensures { result ≡ broken_count verdicts.now }
 {
     let mut broken = 0;

@@ -1,15 +1,19 @@
 //! Laws: what the definitions determine, they determine once.
-ghost use Rattle.std.specs.Prelude.{◌≡◌, ◌↔◌, List, ℕ, ℤ, Option, IsTrue};
+ghost use Rattle.std.specs.Prelude.{◌≡◌, ◌↔◌, ◌++◌, List, ℕ, ℤ, length, Option, None, IsTrue};
+ghost use Rattle.std.specs.Map.{lookup};
 ghost use Rattle.mseed_record.specs.View.{View};
 ghost use Rattle.mseed_time.specs.declared.outcome.LeapStep.{LeapStep};
 ghost use Rattle.mseed_audit.specs.declared.finding.Why.{Why};
 ghost use Rattle.mseed_audit.specs.declared.finding.Finding.{Finding};
 ghost use Rattle.mseed_audit.specs.declared.verdict.Verdict.{Verdict};
-ghost use Rattle.mseed_audit.specs.Channels.{Added, Placed, views_in};
+ghost use Rattle.mseed_audit.specs.Channels.{Added, Placed, records_of, same_key, views_in};
+ghost use Rattle.mseed_audit.specs.Each.{AuditedEach, each_text};
+ghost use Rattle.mseed_audit.specs.Text.{told_lines};
+ghost use Rattle.mseed_audit.specs.Told.{Told, AreToldOf, finding_count, findings_in, told_with};
 ghost use Rattle.mseed_audit.specs.Follows.{IsContinuous};
 ghost use Rattle.mseed_audit.specs.Judging.{IsFound};
 ghost use Rattle.mseed_audit.specs.Series.{Trace, AreJoined, IsBadStep, IsSeriesOf};
-ghost use Rattle.mseed_stream.specs.Device.{BytesRead};
+ghost use Rattle.mseed_stream.specs.Device.{BytesRead, IsPrefixOf};
 ghost use Rattle.mseed_audit.specs.declared.archive.Summary.{Summary};
 ghost use Rattle.mseed_audit.specs.Summary.{Audited, IsSummary, text_of};
 ghost use Rattle.mseed_audit.specs.Verdict.{AreFindings, AreVerdicts, IsVerdict, says_continuous};
@@ -58,6 +62,33 @@ pub fn one_audit()
 {
     one_fault();
     one_input();
+}
+
+/// What is told of an archive's records is told once, and what was read has one text that tells them.
+pub fn one_telling()
+    ensures told { (added : List Added) (a b : List Told) → AreToldOf added a → AreToldOf added b → a ≡ b }
+    ensures text { (h : BytesRead) (a b : AuditedEach h) → each_text a ≡ each_text b }
+{
+    one_fault();
+    one_input();
+}
+
+/// The findings that are told of the records of an archive are those of its channels.
+pub fn findings_told()
+    // Those with a channel's key are its findings, in their order.
+    ensures channel { (added : List Added) (told : List Told) (key : List ℕ) → AreToldOf added told
+        → AreFindings None (records_of key added) (findings_in (told_with key told)) }
+
+    // They are as many as its verdict counts.
+    ensures count { (added : List Added) (told : List Told) (verdicts : List (List ℕ × Verdict)) (key : List ℕ)
+        → AreToldOf added told → AreVerdicts added verdicts
+        → finding_count (lookup (same_key key) verdicts) ≡ length (told_with key told) }
+
+    // The lines of the first records stand in front of the lines of all.
+    ensures prefix { (added more : List Added) (told all : List Told) → AreToldOf added told
+        → AreToldOf (added ++ more) all → IsPrefixOf (told_lines told) (told_lines all) }
+{
+    one_fault();
 }
 
 /// A channel has one series at most.

@@ -6,6 +6,7 @@ mod assembly;
 mod audits;
 mod channel;
 mod channel_series;
+mod each;
 mod finding;
 mod law;
 mod line;
@@ -22,13 +23,14 @@ pub use archive::{AuditFault, Summary, audit};
 pub use assembly::{NotContinuous, is_of, series};
 pub use audits::{Audit, Memory, Verdicts};
 pub use channel_series::{BadStep, Series};
+pub use each::{EachFault, audit_each};
 pub use finding::{Finding, Why};
 pub use law::{
-    continuous_exactly, one_audit, one_bad_step, one_finding, one_list_of_verdicts, one_series,
-    one_verdict,
+    continuous_exactly, findings_told, one_audit, one_bad_step, one_finding, one_list_of_verdicts,
+    one_series, one_telling, one_verdict,
 };
 pub use line::{Line, fault_line_of, line_of, name_of};
 pub use name::push_name;
 pub use parts::{Part, push_count, push_parts};
-pub use text::push_fault_line;
+pub use text::{push_fault_line, push_start};
 pub use verdict::Verdict;

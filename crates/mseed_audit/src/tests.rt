@@ -7,5 +7,6 @@ mod cutting;
 mod devices;
 mod framing;
 mod records;
+mod telling;
 mod times;
 mod writing;

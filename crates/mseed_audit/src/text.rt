@@ -4,15 +4,18 @@ ghost use Rattle.mseed_time.specs.Ratios.{ratio_of};
 ghost use Rattle.mseed_stream.specs.Device.{IsPrefixOf};
 ghost use Rattle.mseed_audit.specs.Text.{audit_text, verdict_lines, verdict_line, continuous_words};
 ghost use Rattle.mseed_audit.specs.Text.{broken_words, total_line, why_text, read_text};
-ghost use Rattle.mseed_audit.specs.Text.{fault_line, frame_words};
+ghost use Rattle.mseed_audit.specs.Text.{fault_line, frame_words, start_text, told_line, told_lines};
+ghost use Rattle.mseed_audit.specs.Told.{told_at};
+ghost use Rattle.mseed_record.specs.Viewing.{view_of};
 ghost use Rattle.mseed_stream.specs.declared.fault.StreamFault.{StreamFault};
 
+use crate::audits::Memory;
 use crate::finding::{Finding, Why};
 use crate::name::push_name;
 use crate::parts::Part::{Count, Signed, Wide, Words};
 use crate::parts::push_parts;
 use crate::verdict::Verdict;
-use mseed_record::{Codes, FrameFault};
+use mseed_record::{Codes, FrameFault, RecordView};
 use mseed_steim::ReadFault;
 use mseed_stream::StreamFault;
 use mseed_time::{Micros, Rate, show_time};
@@ -126,6 +129,68 @@ fn push_broken<A: Allocator>(
     )?;
     push_why(text, &first.why)?;
     push_parts(text, &[Words(b"\n")])
+}
+
+/// Adds the line of a record, if something is found of it. Where memory is refused, a part of it may have been added.
+pub(crate) fn push_told<A: Allocator>(
+    text: &mut Vec<u8, A>,
+    view: &RecordView,
+    number: u64,
+    offset: u64,
+    why: Option<Why>,
+) -> Result<(), Memory>
+    ensures { OnOk result (text.new.items ≡ text.old.items ++ told_lines
+        (told_at (record { view = view_of view.now; offset = offset; number = number }) why)) }
+{
+    let Some(why) = why else {
+        return Ok(());
+    };
+    let finding = Finding {
+        number,
+        offset,
+        why,
+    };
+    match push_told_line(text, view, &finding) {
+        Ok(()) => Ok(()),
+        Err(_) => Err(Memory),
+    }
+}
+
+/// Adds the line of a record with a finding.
+fn push_told_line<A: Allocator>(
+    text: &mut Vec<u8, A>,
+    view: &RecordView,
+    finding: &Finding,
+) -> Result<(), AllocError>
+    ensures { OnOk result (text.new.items
+        ≡ text.old.items ++ told_line (record { view = view_of view.now; finding = finding.now })) }
+{
+    push_parts(text, &[Count(finding.offset), Words(b" ")])?;
+    push_name(text, &view.codes())?;
+    push_parts(
+        text,
+        &[Words(b" record "), Count(finding.number), Words(b" start ")],
+    )?;
+    push_start(text, view)?;
+    push_parts(text, &[Words(b" ")])?;
+    push_why(text, &finding.why)?;
+    push_parts(text, &[Words(b"\n")])
+}
+
+/// Adds a record's start, or `fault` and the first field of it that is out of its range.
+///
+/// # Errors
+///
+/// `AllocError` where memory is refused. What was there stays in front, and a part of the start may have been added
+/// behind it.
+pub fn push_start<A: Allocator>(text: &mut Vec<u8, A>, view: &RecordView) -> Result<(), AllocError>
+    ensures ok { OnOk result (text.new.items ≡ text.old.items ++ start_text (view_of view.now)) }
+    ensures prefix { IsPrefixOf text.old.items text.new.items }
+{
+    match view.start() {
+        Ok(start) => push_parts(text, &[Words(&show_time(start))]),
+        Err(fault) => push_parts(text, &[Words(b"fault "), Words(fault.word().as_bytes())]),
+    }
 }
 
 /// Adds the line that tells how many records there were, and of how many channels.

@@ -1,0 +1,221 @@
+-- What is told of an archive is told once, and of each channel it is the channel's findings.
+use Rattle.std.proofs.Common.{◌≡◌, ℕ, zero, suc, ◌+◌, ◌<◌, ◌&&◌, nat_lt, ◌++◌, List, [], ◌∷◌, length, Bool, true, false}
+use Rattle.std.proofs.Common.{Option, Some, None, refl, sym, ap, ◌∙◌, subst, append_assoc, append-nil, arith, rules}
+use Rattle.std.proofs.lemmas.Bool.{false≢true}
+use Rattle.std.proofs.lemmas.List.Elements.{filter-append}
+use Rattle.std.specs.Map.{lookup}
+use Rattle.mseed_record.specs.Header.{key_at}
+use Rattle.mseed_record.specs.View.{View}
+use Rattle.mseed_steim.specs.Reading.{count_of}
+use Rattle.mseed_stream.specs.Device.{BytesRead, IsPrefixOf}
+use Rattle.mseed_audit.specs.declared.finding.Finding.{Finding}
+use Rattle.mseed_audit.specs.declared.finding.Why.{Why}
+use Rattle.mseed_audit.specs.declared.verdict.Verdict.{Verdict}
+use Rattle.mseed_audit.specs.declared.verdict.Verdict.TheVariants.{Continuous, Broken}
+use Rattle.mseed_audit.specs.Channels.{Added, Placed, added_from, is_of, numbered, records_of, same_key}
+use Rattle.mseed_audit.specs.Each.{AuditedEach, each_text}
+use Rattle.mseed_audit.specs.Judging.{IsFound}
+use Rattle.mseed_audit.specs.Summary.{text_of}
+use Rattle.mseed_audit.specs.Text.{told_lines}
+use Rattle.mseed_audit.specs.Told.{Told, AreTold, AreToldOf, IsFoundOf, channel_in, finding_count, findings_in, last_of}
+use Rattle.mseed_audit.specs.Told.{told_at, told_with, none, one}
+use Rattle.mseed_audit.specs.Verdict.{AreFindings, AreVerdicts, IsVerdictAt, finding_at, none as no_finding}
+use Rattle.mseed_audit.specs.Verdict.{one as one_finding}
+use Rattle.mseed_audit.proofs.Continuity.{Excludes}
+use Rattle.mseed_audit.proofs.Lasts.{last_snoc}
+use Rattle.mseed_audit.proofs.Maps.{same_is}
+use Rattle.mseed_audit.proofs.More.{placed_at}
+use Rattle.mseed_audit.proofs.OneAudit.{HasOneInput, audited_one, text_one}
+use Rattle.mseed_audit.proofs.OneVerdict.{HasOneFault, found_one, findings_same}
+use Rattle.mseed_audit.proofs.Telling.{lines_behind}
+
+of_one : HasOneFault → Excludes → (channel : List Placed) (v : View) (a b : Option Why) → IsFoundOf channel v a
+    → IsFoundOf channel v b → a ≡ b
+of_one only excludes channel v a b h k = go (count_of v) refl
+  where
+    go : (n : ℕ) → count_of v ≡ n → a ≡ b
+    go zero e = h.silent e ∙ sym (k.silent e)
+    go (suc n) e =
+        let some : 0 < count_of v = omega (arith, e) in
+        found_one only excludes (last_of None channel) v a b (h.judged some) (k.judged some)
+
+told_one : HasOneFault → Excludes → (earlier ps : List Placed) (a b : List Told) → AreTold earlier ps a
+    → AreTold earlier ps b → a ≡ b
+told_one only excludes earlier [] a b (none _) (none _) = refl
+told_one only excludes earlier (p ∷ ps) a b (one _ _ _ why rest h later) (one _ _ _ other others k latter) =
+    let here : why ≡ other = of_one only excludes (channel_in (key_at p.view.bytes) earlier) p.view why other h k in
+    let more : rest ≡ others = told_one only excludes (earlier ++ p ∷ []) ps rest others later latter in
+    ap (λ (w : Option Why). told_at p w ++ rest) here ∙ ap (λ (ts : List Told). told_at p other ++ ts) more
+
+pub telling_one : HasOneFault → Excludes → (added : List Added) (a b : List Told) → AreToldOf added a
+    → AreToldOf added b → a ≡ b
+telling_one only excludes added a b h k = told_one only excludes [] (numbered 1 added) a b h k
+
+pub each_one : HasOneFault → Excludes → HasOneInput → (h : BytesRead) (a b : AuditedEach h) → each_text a ≡ each_text b
+each_one only excludes input h a b =
+    let same = audited_one only excludes input h a.audited b.audited in
+    let told : AreToldOf (added_from 0 b.audited.views) a.told =
+    subst (λ (vs : List View). AreToldOf (added_from 0 vs) a.told) same.views a.are_told in
+    ap (λ (ts : List Told). told_lines ts ++ text_of a.audited)
+    (telling_one only excludes (added_from 0 b.audited.views) a.told b.told told b.are_told)
+    ∙ ap (λ (xs : List ℕ). told_lines b.told ++ xs) (text_one a.audited b.audited same)
+
+-- a record with samples is of its channel alone
+of_some : (key : List ℕ) (v : View) → 0 < count_of v → is_of key v ≡ same_key key (key_at v.bytes)
+of_some key v some =
+    let yes : nat_lt 0 (count_of v) ≡ true = search rules in
+    ap (λ (b : Bool). b && same_key key (key_at v.bytes)) yes
+
+of_none : (key : List ℕ) (v : View) → count_of v ≡ 0 → is_of key v ≡ false
+of_none key v silent =
+    let no : nat_lt 0 (count_of v) ≡ false = search rules in
+    ap (λ (b : Bool). b && same_key key (key_at v.bytes)) no
+
+samples_of : (key : List ℕ) (v : View) → is_of key v ≡ true → 0 < count_of v
+samples_of key v e = go (count_of v) refl
+  where
+    go : (n : ℕ) → count_of v ≡ n → 0 < count_of v
+    go zero z = absurd (false≢true (sym (of_none key v z) ∙ e))
+    go (suc n) z = omega (arith, z)
+
+-- the record is of the channel
+channel_with : (key : List ℕ) (p : Placed) (ps : List Placed) → is_of key p.view ≡ true
+    → channel_in key (p ∷ ps) ≡ p ∷ channel_in key ps
+channel_with key p ps e = rw e refl
+
+channel_without : (key : List ℕ) (p : Placed) (ps : List Placed) → is_of key p.view ≡ false
+    → channel_in key (p ∷ ps) ≡ channel_in key ps
+channel_without key p ps e = rw e refl
+
+last_with : (key : List ℕ) (p : Placed) (earlier : List Placed) → is_of key p.view ≡ true
+    → last_of None (channel_in key (earlier ++ p ∷ [])) ≡ Some p.view
+last_with key p earlier e =
+    ap (λ (ps : List Placed). last_of None ps) (filter-append (λ q. is_of key q.view) earlier (p ∷ [])
+    ∙ ap (λ (ps : List Placed). channel_in key earlier ++ ps) (channel_with key p [] e))
+    ∙ last_snoc None (channel_in key earlier) p
+
+last_without : (key : List ℕ) (p : Placed) (earlier : List Placed) → is_of key p.view ≡ false
+    → channel_in key (earlier ++ p ∷ []) ≡ channel_in key earlier
+last_without key p earlier e =
+    filter-append (λ q. is_of key q.view) earlier (p ∷ []) ∙ ap (λ (ps : List Placed). channel_in key earlier ++ ps)
+    (channel_without key p [] e) ∙ append-nil (channel_in key earlier)
+
+told_here : (key : List ℕ) (p : Placed) (why : Option Why) (rest : List Told)
+    → same_key key (key_at p.view.bytes) ≡ true
+    → findings_in (told_with key (told_at p why ++ rest)) ≡ finding_at p why ++ findings_in (told_with key rest)
+told_here key p None rest e = refl
+told_here key p (Some why) rest e = rw e refl
+
+told_elsewhere : (key : List ℕ) (p : Placed) (why : Option Why) (rest : List Told) (channel : List Placed)
+    → is_of key p.view ≡ false → IsFoundOf channel p.view why
+    → told_with key (told_at p why ++ rest) ≡ told_with key rest
+told_elsewhere key p None rest channel e h = refl
+told_elsewhere key p (Some why) rest channel e h = go (count_of p.view) refl
+  where
+    go : (n : ℕ) → count_of p.view ≡ n → told_with key (told_at p (Some why) ++ rest) ≡ told_with key rest
+    go zero z = absurd (let no : Some why ≡ None = h.silent z in cc)
+    go (suc n) z =
+        let other : same_key key (key_at p.view.bytes) ≡ false = sym (of_some key p.view (omega (arith, z))) ∙ e in
+        rw other refl
+
+by_channel : (key : List ℕ) (earlier : List Placed) (p : Placed) (ps : List Placed) (why : Option Why)
+    (rest : List Told) (b : Bool) → is_of key p.view ≡ b
+    → IsFoundOf (channel_in (key_at p.view.bytes) earlier) p.view why
+    → AreFindings (last_of None (channel_in key (earlier ++ p ∷ []))) (channel_in key ps)
+    (findings_in (told_with key rest))
+    → AreFindings (last_of None (channel_in key earlier)) (channel_in key (p ∷ ps))
+    (findings_in (told_with key (told_at p why ++ rest)))
+by_channel key earlier p ps why rest true e h later =
+    let some : 0 < count_of p.view = samples_of key p.view e in
+    let here : same_key key (key_at p.view.bytes) ≡ true = sym (of_some key p.view some) ∙ e in
+    let same : key ≡ key_at p.view.bytes = same_is key (key_at p.view.bytes) here in
+    let found : IsFound (last_of None (channel_in key earlier)) p.view why =
+    subst (λ (k : List ℕ). IsFound (last_of None (channel_in k earlier)) p.view why) (sym same) (h.judged some) in
+    let next : AreFindings (Some p.view) (channel_in key ps) (findings_in (told_with key rest)) =
+    subst (λ (b : Option View). AreFindings b (channel_in key ps) (findings_in (told_with key rest)))
+    (last_with key p earlier e) later in
+    let all : AreFindings (last_of None (channel_in key earlier)) (p ∷ channel_in key ps)
+    (finding_at p why ++ findings_in (told_with key rest)) =
+    one_finding (last_of None (channel_in key earlier)) p (channel_in key ps) why (findings_in (told_with key rest))
+    found next in
+    let records = subst (λ (qs : List Placed). AreFindings (last_of None (channel_in key earlier)) qs
+    (finding_at p why ++ findings_in (told_with key rest))) (sym (channel_with key p ps e)) all in
+    subst (λ (fs : List Finding). AreFindings (last_of None (channel_in key earlier)) (channel_in key (p ∷ ps)) fs)
+    (sym (told_here key p why rest here)) records
+by_channel key earlier p ps why rest false e h later =
+    let next : AreFindings (last_of None (channel_in key earlier)) (channel_in key ps)
+    (findings_in (told_with key rest)) =
+    subst (λ (qs : List Placed). AreFindings (last_of None qs) (channel_in key ps) (findings_in (told_with key rest)))
+    (last_without key p earlier e) later in
+    let records = subst (λ (qs : List Placed). AreFindings (last_of None (channel_in key earlier)) qs
+    (findings_in (told_with key rest))) (sym (channel_without key p ps e)) next in
+    subst (λ (ts : List Told). AreFindings (last_of None (channel_in key earlier)) (channel_in key (p ∷ ps))
+    (findings_in ts)) (sym (told_elsewhere key p why rest (channel_in (key_at p.view.bytes) earlier) e h)) records
+
+told_findings : (key : List ℕ) (earlier ps : List Placed) (told : List Told) → AreTold earlier ps told
+    → AreFindings (last_of None (channel_in key earlier)) (channel_in key ps) (findings_in (told_with key told))
+told_findings key earlier [] told (none _) = no_finding (last_of None (channel_in key earlier))
+told_findings key earlier (p ∷ ps) told (one _ _ _ why rest h later) =
+    by_channel key earlier p ps why rest (is_of key p.view) refl h (told_findings key (earlier ++ p ∷ []) ps rest later)
+
+-- what is told of a channel's records are its findings
+pub telling_findings : (added : List Added) (told : List Told) (key : List ℕ) → AreToldOf added told
+    → AreFindings None (records_of key added) (findings_in (told_with key told))
+telling_findings added told key are = told_findings key [] (numbered 1 added) told are
+
+length_findings : (told : List Told) → length (findings_in told) ≡ length told
+length_findings [] = refl
+length_findings (t ∷ ts) = ap suc (length_findings ts)
+
+count_by : HasOneFault → Excludes → (o : Option Verdict) (ps : List Placed) (found : List Finding) → IsVerdictAt o ps
+    → AreFindings None ps found → finding_count o ≡ length found
+count_by only excludes None ps found is are =
+    let no : found ≡ [] = findings_same only excludes None [] found []
+    (subst (λ (qs : List Placed). AreFindings None qs found) is are) (no_finding None) in
+    ap (λ (fs : List Finding). length fs) (sym no)
+count_by only excludes (Some (Continuous start rate records samples)) ps found is are =
+    let run : AreFindings None ps [] =
+    subst (λ (qs : List Placed). AreFindings None qs []) (sym is.1.1.0) is.1.1.1.findings in
+    ap (λ (fs : List Finding). length fs) (findings_same only excludes None ps [] found run are)
+count_by only excludes (Some (Broken first count)) ps found is are =
+    is.1.1 ∙ ap (λ (fs : List Finding). length fs) (findings_same only excludes None ps (first ∷ is.0) found is.1.0 are)
+
+-- a channel has as many findings as are told with its key
+pub telling_count : HasOneFault → Excludes
+    → (added : List Added) (told : List Told) (verdicts : List (List ℕ × Verdict)) (key : List ℕ)
+    → AreToldOf added told → AreVerdicts added verdicts
+    → finding_count (lookup (same_key key) verdicts) ≡ length (told_with key told)
+telling_count only excludes added told verdicts key are is =
+    count_by only excludes (lookup (same_key key) verdicts) (records_of key added) (findings_in (told_with key told))
+    (is.each key) (telling_findings added told key are)
+    ∙ length_findings (told_with key told)
+
+told_prefix : (earlier ps qs : List Placed) (all : List Told) → AreTold earlier (ps ++ qs) all
+    → (prefix : List Told) × (rest : List Told) × AreTold earlier ps prefix × (all ≡ prefix ++ rest)
+told_prefix earlier [] qs all are = ([], all, none earlier, refl)
+told_prefix earlier (p ∷ ps) qs all (one _ _ _ why rest h later) =
+    let more = told_prefix (earlier ++ p ∷ []) ps qs rest later in (
+      told_at p why ++ more.0,
+      more.1,
+      one earlier p ps why more.0 h more.2,
+      ap (λ (ts : List Told). told_at p why ++ ts) more.3 ∙ sym (append_assoc (told_at p why) more.0 more.1),
+    )
+
+numbered_prefix : (n : ℕ) (xs ys : List Added) → (rest : List Placed) × (numbered n (xs ++ ys) ≡ numbered n xs ++ rest)
+numbered_prefix n [] ys = (numbered n ys, refl)
+numbered_prefix n (x ∷ xs) ys =
+    let more = numbered_prefix (n + 1) xs ys in
+    (more.0, ap (λ (ps : List Placed). placed_at x n ∷ ps) more.1)
+
+-- the lines of an archive's first records are the first of its lines
+pub telling_prefix : HasOneFault → Excludes → (added more : List Added) (told all : List Told) → AreToldOf added told
+    → AreToldOf (added ++ more) all → IsPrefixOf (told_lines told) (told_lines all)
+telling_prefix only excludes added more told all first whole =
+    let numbers = numbered_prefix 1 added more in
+    let parts = told_prefix [] (numbered 1 added) numbers.0 all
+    (subst (λ (ps : List Placed). AreTold [] ps all) numbers.1 whole) in
+    let same : parts.0 ≡ told = telling_one only excludes added parts.0 told parts.2 first in (
+      told_lines parts.1,
+      ap told_lines parts.3 ∙ lines_behind parts.0 parts.1
+          ∙ ap (λ (ts : List Told). told_lines ts ++ told_lines parts.1) same,
+    )

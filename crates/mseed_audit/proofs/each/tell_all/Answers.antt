@@ -1,0 +1,118 @@
+use Rattle.std.proofs.Common.{◌++◌, ◌∷◌, [], ◌∙◌, List, ℕ, refl, sym, subst, append-nil, rules}
+use Rattle.std.proofs.KnownBytes.{Consumes-nil}
+use Rattle.mseed_record.specs.View.{View}
+use Rattle.mseed_stream.specs.Device.{BytesRead, BytesWritten}
+use Rattle.mseed_audit.specs.declared.each.EachFault.{EachFault}
+use Rattle.mseed_audit.specs.Gathered.{AreGathered}
+use Rattle.mseed_audit.specs.Told.{Told, none}
+use Rattle.mseed_audit.proofs.Gathers.{cut_short, gathered_all, gathered_told, gathered_written, memory_short}
+use Rattle.mseed_audit.proofs.Gathers.{takes_none, takes_on, telling_err}
+use Rattle.mseed_audit.proofs.Told.{tells_on}
+use Rattle.mseed_audit.proofs.each.tell_all.Goals as goal
+
+pub records-init : goal.records-init
+records-init g c =
+    let first : BytesWritten = g.W.Sink.written c.args.sink.now in
+    let read : BytesRead = g.R.Source.read c.args.source.now in
+    let empty : AreGathered first first c.args.text.now.items [] =
+    subst (λ (xs : List ℕ). AreGathered first first xs []) (sym c.requires.text) (gathered_all first []) in
+    record {
+      along = search rules;
+      few = search rules;
+      fine = refl;
+      added = ([], (search rules, c.new-audit.ensures.of_none, ([], (none [], empty))));
+      more = ([], sym (append-nil read.bytes), Consumes-nil _);
+      takes = takes_none first _;
+      source_beside = refl;
+      sink_beside = refl;
+    }
+
+pub returns-in-Err-clause-told : goal.returns-in-Err-clause-told
+returns-in-Err-clause-told g c =
+    let views : List View = c.records.invariant.added.0 in
+    let before = c.records.invariant.added.1 in
+    let told : List Told = before.2.0 in
+    let first : BytesWritten = g.W.Sink.written c.args.sink.now in
+    let old : BytesWritten = g.W.Sink.written c.records.sink in
+    let shown = c.in-Err.ensures.next views before.0 before.1 in
+    memory_short (g.R.Source.read c.add_next.new.source) first old c.records.text.items c.records.cutter.offset views
+    told shown c.records.invariant.fine before.2.1.1 before.2.1.0
+
+pub records-preserved : goal.records-preserved
+records-preserved g c =
+    let views : List View = c.records.invariant.added.0 in
+    let before = c.records.invariant.added.1 in
+    let told : List Told = before.2.0 in
+    let next = rw c.in-Ok-Added.field-0-is at c.in-Ok-Added.ensures.next views before.0 before.1 in
+    let further : List Told = next.told.more in
+    let first : BytesWritten = g.W.Sink.written c.args.sink.now in
+    let old : BytesWritten = g.W.Sink.written c.records.sink in
+    let lines = gathered_told first old c.records.text.items c.add_next.new.text.items told further before.2.1.1
+    next.told.text_is in
+    record {
+      along = next.handed.along;
+      few = next.few;
+      fine = c.records.invariant.fine;
+      added = (
+        views ++ next.view ∷ [],
+        (next.handed, next.audit, (told ++ further, (next.told.told told before.2.1.0, lines))),
+      );
+      more = tells_on (g.R.Source.read c.args.source.now) (g.R.Source.read c.records.source)
+          (g.R.Source.read c.add_next.new.source) _ _ _ c.records.invariant.more c.in-Ok-Added.ensures.more;
+      takes = c.records.invariant.takes;
+      source_beside = c.in-Ok-Added.ensures.beside ∙ c.records.invariant.source_beside;
+      sink_beside = c.records.invariant.sink_beside;
+    }
+
+pub records-preserved-in-Continue-1 : goal.records-preserved-in-Continue-1
+records-preserved-in-Continue-1 g c =
+    let views : List View = c.records.invariant.added.0 in
+    let before = c.records.invariant.added.1 in
+    let told : List Told = before.2.0 in
+    let next = rw c.in-Ok-Added.field-0-is at c.in-Ok-Added.ensures.next views before.0 before.1 in
+    let further : List Told = next.told.more in
+    let first : BytesWritten = g.W.Sink.written c.args.sink.now in
+    let old : BytesWritten = g.W.Sink.written c.records.sink in
+    let new : BytesWritten = g.W.Sink.written c.write_out.new.sink in
+    let write = c.in_ok-write_out.ensures in
+    let lines = gathered_told first old c.records.text.items c.add_next.new.text.items told further before.2.1.1
+    next.told.text_is in
+    let written = gathered_written first old new c.add_next.new.text.items c.write_out.new.text.items _ lines write.ok
+    write.text in
+    record {
+      along = next.handed.along;
+      few = next.few;
+      fine = write.fine ∙ c.records.invariant.fine;
+      added = (
+        views ++ next.view ∷ [],
+        (next.handed, next.audit, (told ++ further, (next.told.told told before.2.1.0, written))),
+      );
+      more = tells_on (g.R.Source.read c.args.source.now) (g.R.Source.read c.records.source)
+          (g.R.Source.read c.add_next.new.source) _ _ _ c.records.invariant.more c.in-Ok-Added.ensures.more;
+      takes = takes_on first old new _ _ _ c.records.invariant.takes write.contents;
+      source_beside = c.in-Ok-Added.ensures.beside ∙ c.records.invariant.source_beside;
+      sink_beside = write.beside ∙ c.records.invariant.sink_beside;
+    }
+
+pub returns-in_err-write_out-clause-told : goal.returns-in_err-write_out-clause-told
+returns-in_err-write_out-clause-told g c =
+    let views : List View = c.records.invariant.added.0 in
+    let before = c.records.invariant.added.1 in
+    let told : List Told = before.2.0 in
+    let next = rw c.in-Ok-Added.field-0-is at c.in-Ok-Added.ensures.next views before.0 before.1 in
+    let further : List Told = next.told.more in
+    let read : BytesRead = g.R.Source.read c.add_next.new.source in
+    let first : BytesWritten = g.W.Sink.written c.args.sink.now in
+    let old : BytesWritten = g.W.Sink.written c.records.sink in
+    let new : BytesWritten = g.W.Sink.written c.write_out.new.sink in
+    let fault : EachFault = c.in_err-write_out.field-0.0 in
+    let short = cut_short fault read first old new c.records.text.items c.add_next.new.text.items
+    c.add_next.new.cutter.offset (views ++ next.view ∷ []) told further next.handed.records c.records.invariant.fine
+    before.2.1.1 (next.told.told told before.2.1.0) next.told.text_is c.in_err-write_out.ensures.err in
+    telling_err c.from_residual.result _ fault read first new c.write_out.new.text.items c.from_residual.ensures.1
+    (λ e q. q) short
+
+pub returns-in_err-write_out-clause-contents : goal.returns-in_err-write_out-clause-contents
+returns-in_err-write_out-clause-contents g c =
+    takes_on (g.W.Sink.written c.args.sink.now) (g.W.Sink.written c.records.sink)
+    (g.W.Sink.written c.write_out.new.sink) _ _ _ c.records.invariant.takes c.in_err-write_out.ensures.contents

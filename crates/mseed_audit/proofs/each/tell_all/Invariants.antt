@@ -1,0 +1,30 @@
+use Rattle.std.proofs.Common.{◌≡◌, ◌+◌, ◌-◌, ◌^◌, ◌≤◌, List}
+use Rattle.mseed_record.specs.View.{View}
+use Rattle.mseed_stream.specs.Cutting.{IsAlong, TellsMore}
+use Rattle.mseed_stream.specs.Walk.{HasHandedOut}
+use Rattle.mseed_audit.specs.Audit.{IsAuditOf}
+use Rattle.mseed_audit.specs.Channels.{added_from}
+use Rattle.mseed_audit.specs.Gathered.{AreGathered, TakesMore}
+use Rattle.mseed_audit.specs.Text.{told_lines}
+use Rattle.mseed_audit.specs.Told.{Told, AreToldOf}
+use Rattle.mseed_audit.proofs.each.tell_all.Given as goal
+
+abbrev pub invariant-records : goal.invariant-records
+invariant-records g l = record {
+  along : IsAlong (g.R.Source.read l.source) l.cutter;
+  few : l.audit.added ≤ (g.R.Source.read l.source).calls;
+  fine : (g.W.Sink.written l.sink).failures ≡ (g.W.Sink.written l.fn.sink).failures;
+  added : (views : List View) × (HasHandedOut (g.R.Source.read l.source) l.cutter views
+      × IsAuditOf l.audit (added_from 0 views)
+      × ((told : List Told) × (AreToldOf (added_from 0 views) told
+      × AreGathered (g.W.Sink.written l.fn.sink) (g.W.Sink.written l.sink) l.text.items (told_lines told))));
+  more : TellsMore (g.R.Source.read l.fn.source) (g.R.Source.read l.source) (g.R.Source.remaining l.fn.source)
+      (g.R.Source.remaining l.source);
+  takes : TakesMore (g.W.Sink.written l.fn.sink) (g.W.Sink.written l.sink) (g.W.Sink.contents l.fn.sink)
+      (g.W.Sink.contents l.sink);
+  source_beside : g.R.Source.beside l.source ≡ g.R.Source.beside l.fn.source;
+  sink_beside : g.W.Sink.beside l.sink ≡ g.W.Sink.beside l.fn.sink;
+}
+
+abbrev pub decreases-records : goal.decreases-records
+decreases-records g l = 2 ^ 40 + 1 - (g.R.Source.read l.source).calls

@@ -1,0 +1,123 @@
+//! The audit of an archive that tells each record with a finding.
+ghost use Rattle.std.specs.Prelude.{◌≡◌, ◌++◌, List, ℕ, [], IfErr, OnOk, true};
+ghost use Rattle.std.specs.Io.KnownBytes.{Appends, IsAtEnd};
+ghost use Rattle.mseed_stream.specs.Cutting.{TellsMore};
+ghost use Rattle.mseed_stream.specs.Device.{nothing_read};
+ghost use Rattle.mseed_audit.specs.Each.{IsEachOutcome};
+ghost use Rattle.mseed_audit.specs.Gathered.{IsPrefixWritten, IsTelling, TakesMore};
+
+use crate::archive::{Lines, Step, Summary, add_next, count_broken};
+use crate::audits::{Audit, Memory};
+use crate::text::push_audit;
+use mseed_stream::{Cutter, Sink, Source, StreamFault, write_all_of};
+use std::alloc::Allocator;
+use thiserror::Error;
+
+/// So many bytes of lines are gathered before they are written.
+const GATHERED: usize = 1 << 16;
+
+/// Why a text that tells each record with a finding wasn't written whole. A prefix of it was written.
+#[derive(Clone, Copy, Debug, PartialEq, Eq, Error)]
+pub enum EachFault {
+    /// The output failed.
+    #[error("the output failed")]
+    Write,
+    /// An allocation was refused.
+    #[error("no memory")]
+    Memory,
+}
+
+/// Audits as `audit` does, and writes before its text a line for each record with a finding, in the order of the
+/// input. The lines are written as records come, some at a time.
+///
+/// # Errors
+///
+/// `Write` where the output failed, `Memory` where an allocation was refused. A prefix of the text was written then.
+pub fn audit_each<A: Allocator + Copy, R: Source, W: Sink>(
+    alloc: A,
+    source: &mut R,
+    sink: &mut W,
+) -> Result<Summary, EachFault>
+    requires { R.read source.old ≡ nothing_read }
+    ensures outcome { IsEachOutcome result (R.read source.new) (W.written sink.old) (W.written sink.new) }
+
+    // What the source is known to have left is what was read of it, up to its end where the input is at its end.
+    ensures more { TellsMore (R.read source.old) (R.read source.new) (R.remaining source.old)
+        (R.remaining source.new) }
+    ensures known { (R.read source.new).is_at_end ≡ true → IsAtEnd (R.remaining source.new) }
+
+    // What the sink is known to hold grew by what it took.
+    ensures contents { (bytes : List ℕ) → (W.written sink.new).bytes ≡ (W.written sink.old).bytes ++ bytes
+        → Appends (W.contents sink.old) (W.contents sink.new) bytes }
+
+    // What the source takes, and what the sink tells, stay as they were.
+    ensures source_beside { R.beside source.new ≡ R.beside source.old }
+    ensures sink_beside { W.beside sink.new ≡ W.beside sink.old }
+{
+    let mut text = Vec::new(alloc);
+    let (audit, end) = tell_all(alloc, source, sink, &mut text)?;
+    let records = audit.added();
+    let verdicts = audit.finish();
+    match push_audit(&mut text, verdicts.as_slice(), records, &end) {
+        Ok(()) => {}
+        Err(_) => return Err(EachFault::Memory),
+    }
+    write_out(sink, &mut text)?;
+    Ok(Summary {
+        records,
+        channels: verdicts.as_slice().len() as u64,
+        broken: count_broken(verdicts.as_slice()),
+        fault: end.is_some(),
+    })
+}
+
+/// Adds the records up to the input's end, which it answers, and writes the lines of those with a finding. The last
+/// lines are left in `text`.
+fn tell_all<A: Allocator + Copy, R: Source, W: Sink>(
+    alloc: A,
+    source: &mut R,
+    sink: &mut W,
+    text: &mut Vec<u8, A>,
+) -> Result<(Audit<A>, Option<StreamFault>), EachFault>
+    requires read { R.read source.old ≡ nothing_read }
+    requires text { text.old.items ≡ [] }
+    ensures told { IsTelling result (R.read source.new) (W.written sink.old) (W.written sink.new) text.new.items }
+    ensures more { TellsMore (R.read source.old) (R.read source.new) (R.remaining source.old)
+        (R.remaining source.new) }
+    ensures known { (R.read source.new).is_at_end ≡ true → IsAtEnd (R.remaining source.new) }
+    ensures contents { TakesMore (W.written sink.old) (W.written sink.new) (W.contents sink.old) (W.contents sink.new) }
+    ensures source_beside { R.beside source.new ≡ R.beside source.old }
+    ensures sink_beside { W.beside sink.new ≡ W.beside sink.old }
+{
+    let mut cutter = Cutter::new(alloc);
+    let mut audit = Audit::new(alloc);
+    'records: loop {
+        match add_next(&mut audit, &mut cutter, source, Lines::OfRecords, text) {
+            Ok(Step::Added) => {}
+            Ok(Step::Ended(end)) => return Ok((audit, end)),
+            Err(Memory) => return Err(EachFault::Memory),
+        }
+        if text.len() >= GATHERED {
+            write_out(sink, text)?;
+        }
+    }
+}
+
+/// Writes what was gathered.
+fn write_out<A: Allocator, W: Sink>(sink: &mut W, text: &mut Vec<u8, A>) -> Result<(), EachFault>
+    ensures ok { OnOk result ((W.written sink.new).bytes ≡ (W.written sink.old).bytes ++ text.old.items) }
+    ensures text { OnOk result (text.new.items ≡ []) }
+    ensures fine { OnOk result ((W.written sink.new).failures ≡ (W.written sink.old).failures) }
+    ensures err { IfErr result (λ fault. IsPrefixWritten fault (W.written sink.old) (W.written sink.new)
+        text.old.items) }
+    ensures contents { TakesMore (W.written sink.old) (W.written sink.new) (W.contents sink.old) (W.contents sink.new) }
+    ensures beside { W.beside sink.new ≡ W.beside sink.old }
+{
+    match write_all_of(sink, text) {
+        Ok(()) => {
+            text.clear();
+            Ok(())
+        }
+        Err(_) => Err(EachFault::Write),
+    }
+}
