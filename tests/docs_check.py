@@ -4,8 +4,10 @@ commands, options and words of the programs' output.
 
     docs_check.py [DOCUMENT ..]
     docs_check.py --relink [DOCUMENT ..]
+    docs_check.py --requote [DOCUMENT ..]
 
-What is judged is each text in backticks outside of blocks, and each link, of the documents below where none is named:
+What is judged is each text in backticks outside of blocks, and each link, of the documents below and of the page for
+callers of each crate, `crates/NAME/CALLING.md`, where none is named:
 
 - `Type::call`, `call`, `Type` and `Definition` are public names of the crates. They are in the crate that begins the
   row of their table, or that stands behind them as in `call` of `crate`; and in the file that stands behind them in
@@ -17,10 +19,18 @@ What is judged is each text in backticks outside of blocks, and each link, of th
 - All else is a file, a word of make, a command, words of the programs' texts, or, outside of the columns for names,
   a private function or a clause that is spoken of without its call.
 
+Of a page for callers, further:
+
+- Each block of code is, line for line, one function of the file of `crates/examples` to which the page links, and each
+  function of that file is on the page.
+- Each public call of the crate is named, as `Type::call` where it has a type, and is called in one of the examples; a
+  law, which has no body, is only named.
+
 What isn't found is printed with its line. Before that, lines that name what isn't there have to be found wrong, and
 behind it the drawing of docs/architecture.md is compared with crates.txt. The last line is `N passed, M failed`.
 
 With --relink each link in the tables of promises that is wrong gets the one file that has its name, where there is one.
+With --requote each example gets the text of its function; a block with only the name of one gets it too.
 """
 
 import functools
@@ -35,6 +45,8 @@ DOCUMENTS = ["README.md", "docs/promises.md", "docs/developing.md", "docs/archit
              "docs/texts.md"]
 # Where the words of the programs' output and of the feed's lines stand, in backticks and blocks.
 TEXTS = ["docs/texts.md", "docs/protocol.md", "docs/format.md"]
+# The libraries that nobody calls.
+WITHOUT_CALLERS = ["examples", "mseed_tests"]
 # Words that stand nowhere else: programs, commands of SeedLink that no server knows, the last line of the tests.
 OTHERS = ["make", "rt", "mseed", "main", "BATCH", "CAT", "INFO", "TIME", "N passed, M failed",
           "logic=proved functions=", "out"]
@@ -69,8 +81,9 @@ def files_below(*path):
 class Named:
     """A public name: of a call, or of a type, a part of one or a definition, whose `clauses` are None."""
 
-    def __init__(self, name, crate, path, owners=(), clauses=None):
+    def __init__(self, name, crate, path, owners=(), clauses=None, is_law=False):
         self.name, self.crate, self.path, self.owners, self.clauses = name, crate, path, owners, clauses
+        self.is_law = is_law
 
 
 class Sources:
@@ -95,12 +108,13 @@ class Sources:
         for line in text_of(path).splitlines():
             block = re.match(r"(?:pub(?:\([a-z]+\))? )?(impl|trait)\b(?:<.*?>+)? *(.*)", line)
             declared = re.match(r"pub (?:struct|enum|trait|type) (\w+)", line)
+            constant = re.match(r"    pub const (\w+):", line)
             function = re.match(r"( *)(pub )?(?:const )?fn (\w+)", line)
             clause = re.match(r" *ensures\*? (\w+) \{", line)
             part = re.match(r"    (?:pub )?(\w+)", line)
             if declared:
                 self.add(Named(declared.group(1), crate, path))
-                is_type = not block
+                is_type, name = not block, declared.group(1)
             if block:
                 heads = block.group(2).split("{")[0].split(" for ")
                 owners = tuple(re.match(r"\w*", head.split("::")[-1]).group() for head in heads)
@@ -109,7 +123,8 @@ class Sources:
                 owners, is_type = (), False
             elif function:
                 is_public = function.group(2) or function.group(1) and is_of_trait
-                call = Named(function.group(3), crate, path, owners if function.group(1) else (), set())
+                call = Named(function.group(3), crate, path, owners if function.group(1) else (), set(),
+                             line.endswith("()"))
                 if is_public:
                     self.add(call)
                 else:
@@ -117,7 +132,9 @@ class Sources:
             elif clause and call:
                 call.clauses.add(clause.group(1))
             elif is_type and part:
-                self.add(Named(part.group(1), crate, path))
+                self.add(Named(part.group(1), crate, path, (name,)))
+            elif constant:
+                self.add(Named(constant.group(1), crate, path, owners))
 
     def read_definitions(self, crate, path):
         self.add(Named(os.path.basename(path).split(".")[0], crate, path))
@@ -129,6 +146,15 @@ class Sources:
         owner, _, name = name.rpartition("::")
         return [named for named in self.names.get(name, []) if crate in (None, named.crate)
                 and (not owner or owner in named.owners)]
+
+    def calls_of(self, crate):
+        """What callers of a library call: its functions, and those of its types and traits, as lib.rt passes them on.
+        What a type answers to a trait is called by the trait."""
+        lists = re.findall(r"^pub use ([^;]*);", text_of("crates", crate, "src", "lib.rt"), re.MULTILINE)
+        passed_on = set(re.findall(r"\w+", " ".join(lists)))
+        return [named for all_of in self.names.values() for named in all_of
+                if named.crate == crate and named.clauses is not None and "/tests" not in named.path
+                and (named.owners or (named.name,))[0] in passed_on and len(named.owners) < 2]
 
 
 @functools.cache
@@ -229,7 +255,8 @@ class Page:
         that ends with `and` has one."""
         of = re.match(r" ?of `(\w+::\w+)`", behind)
         if of:
-            group = [(of.group(1), self.sources.find(of.group(1)), False)]
+            found = [named for named in self.sources.find(of.group(1)) if named.clauses is not None]
+            group = [(of.group(1), found, False)]
         calls = group or self.section
         for name in names:
             is_there = any(name in call.clauses for _, found, _ in calls for call in found)
@@ -305,6 +332,66 @@ class Page:
             return True
         words = [word for word in text.split() if not re.fullmatch(r"<.*>|[0-9]+", word)]
         return all(re.search(rf"(?<![\w-]){re.escape(word)}(?!\w)", self.texts) for word in words)
+
+
+# ---------------------------------------------------------------- pages for callers
+
+BLOCK = re.compile(r"^```rust\n(.*?)^```$", re.MULTILINE | re.DOTALL)
+EXAMPLES = re.compile(r"\]\((\.\./examples/src/\w+\.rt)\)")
+
+
+def libraries(sources):
+    return [crate for crate in sources.crates if crate not in WITHOUT_CALLERS
+            and os.path.exists(os.path.join(ROOT, "crates", crate, "src", "lib.rt"))]
+
+
+def page_of(crate):
+    return f"crates/{crate}/CALLING.md"
+
+
+def examples_of(name, text):
+    """The functions of the files to which a page links, by their names, each with the lines above that belong to it."""
+    found = {}
+    for path in EXAMPLES.findall(text):
+        code = text_of(os.path.normpath(os.path.join(os.path.dirname(name), path)))
+        for example in re.finditer(r"^(?:(?:///|#\[).*\n)*pub fn (\w+)(?:.*\n)*?(?:\}|\{\})\n", code, re.MULTILINE):
+            found[example.group(1)] = example.group()
+    return found
+
+
+def requoted(name, text):
+    """The page, with each example as it stands in the code."""
+    examples = examples_of(name, text)
+
+    def quoted(block):
+        named = re.search(r"^(?:pub fn )?(\w+)", block.group(1), re.MULTILINE)
+        return f"```rust\n{examples.get(named and named.group(1), block.group(1))}```"
+
+    return BLOCK.sub(quoted, text)
+
+
+def judge_callers_page(sources, name, text):
+    """What of a page for callers isn't as the crate and the examples are: how much was judged, and the faults."""
+    crate = name.split("/")[1]
+    examples, blocks = examples_of(name, text), BLOCK.findall(text)
+    prose, count, faults = BLOCK.sub("", text), 0, []
+
+    def judge(is_so, fault):
+        nonlocal count
+        count += 1
+        if not is_so:
+            faults.append(f"{name}: {fault}")
+
+    for block in blocks:
+        judge(block in examples.values(), f"no example of crates/examples: {block.strip().splitlines()[0]}")
+    for example, code in examples.items():
+        judge(code in blocks, f"the example `{example}` isn't on the page")
+    for call in sources.calls_of(crate):
+        whole = "::".join(call.owners + (call.name,))
+        judge(f"`{whole}`" in prose, f"`{whole}` isn't on the page")
+        is_called = any(re.search(rf"\b{call.name}(?:::<.*?>)?\(", re.sub("fn .*", "", block)) for block in blocks)
+        judge(call.is_law or is_called, f"no example calls `{whole}`")
+    return count, faults
 
 
 def relinked(sources, name, text):
@@ -408,15 +495,18 @@ def main():
         passed += found == wanted
         if found != wanted:
             faults.append(f"{found} faults, and not {wanted}, are found in: {text}")
-    names = [name for name in sys.argv[1:] if name != "--relink"] or DOCUMENTS
+    pages = [page_of(crate) for crate in libraries(sources) if os.path.exists(os.path.join(ROOT, page_of(crate)))]
+    names = [name for name in sys.argv[1:] if not name.startswith("--")] or DOCUMENTS + pages
     for name in names:
-        if "--relink" in sys.argv:
-            text = relinked(sources, name, text_of(name))
+        text = text_of(name)
+        if "--relink" in sys.argv or "--requote" in sys.argv:
+            text = relinked(sources, name, text) if "--relink" in sys.argv else requoted(name, text)
             with open(os.path.join(ROOT, name), "w", encoding="utf-8") as file:
                 file.write(text)
-        page = Page(sources, name, text_of(name))
-        passed += page.count - len(page.faults)
-        faults += page.faults
+        page = Page(sources, name, text)
+        count, wrong = judge_callers_page(sources, name, text) if name in pages else (0, [])
+        passed += page.count - len(page.faults) + count - len(wrong)
+        faults += page.faults + wrong
     drawn, wrong = judge_drawing()
     passed, faults = passed + drawn, faults + wrong
     for fault in faults:

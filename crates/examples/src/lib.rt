@@ -1,0 +1,4 @@
+//! Examples of calls, which the pages for callers quote: `crates/NAME/CALLING.md`.
+#![tactic(auto)]
+
+pub mod time;
