@@ -26,6 +26,8 @@ Of a page for callers, further:
 - Each public call of the crate is named, as `Type::call` where it has a type, and is called in one of the examples; a
   law, which has no body, is only named.
 
+Each public field and each variant of a crate has a line of documentation.
+
 What isn't found is printed with its line. Before that, lines that name what isn't there have to be found wrong, and
 behind it the drawing of docs/architecture.md is compared with crates.txt. The last line is `N passed, M failed`.
 
@@ -394,6 +396,25 @@ def judge_callers_page(sources, name, text):
     return count, faults
 
 
+def judge_fields(sources):
+    """Each public field and each variant has a line of documentation: how many of them, and those that have none."""
+    parts = {"struct": r"    pub (?:ghost )?(\w+):", "enum": r"    ([A-Z]\w*)\b"}
+    paths = [path for crate in sources.crates for path in files_below("crates", crate, "src")]
+    count, faults = 0, []
+    for path in [path for path in paths if "/tests" not in path]:
+        kind, is_told = None, False
+        for number, line in enumerate(text_of(path).splitlines(), 1):
+            declared = re.match(r"pub (struct|enum) (\w+)", line)
+            kind = declared.group(1, 2) if declared else None if line.startswith("}") else kind
+            part = kind and re.match(parts[kind[0]], line)
+            if part and not declared:
+                count += 1
+                if not is_told:
+                    faults.append(f"{path}:{number}: {kind[1]}: {part.group(1)} has no documentation")
+            is_told = line.startswith("    ///") or is_told and line.startswith("    #[")
+    return count - len(faults), faults
+
+
 def relinked(sources, name, text):
     """The document with links that lead to the one file in which each call, definition, edit, test or script stands."""
     folder = os.path.dirname(name)
@@ -507,8 +528,8 @@ def main():
         count, wrong = judge_callers_page(sources, name, text) if name in pages else (0, [])
         passed += page.count - len(page.faults) + count - len(wrong)
         faults += page.faults + wrong
-    drawn, wrong = judge_drawing()
-    passed, faults = passed + drawn, faults + wrong
+    for count, wrong in [judge_fields(sources), judge_drawing()]:
+        passed, faults = passed + count, faults + wrong
     for fault in faults:
         print("FAILED " + fault)
     print(f"{passed} passed, {len(faults)} failed")

@@ -22,6 +22,7 @@ pub enum Request {
 pub struct Packing {
     /// They have 2 to the power of this many bytes.
     pub exponent: u8,
+    /// How their samples are encoded.
     pub encoding: Encoding,
 }
 

@@ -44,7 +44,9 @@ impl<A: Allocator> Model for Series<A> {
 /// Leap seconds that a series can't have: the index of the first bad one, and the list, which comes back.
 #[derive(Debug, Drop)]
 pub struct BadStep<A: Allocator = Global> {
+    /// The index of the first bad one, from 0.
     pub index: usize,
+    /// The list that was given: of each, the number of samples before it, and the leap second.
     pub steps: Vec<(u64, LeapStep), A>,
 }
 

@@ -28,5 +28,6 @@ pub struct Finding {
     pub number: u64,
     /// Where it begins, in bytes from the input's beginning.
     pub offset: u64,
+    /// What breaks the channel there.
     pub why: Why,
 }

@@ -59,11 +59,15 @@ pub enum BadOption {
 pub struct Options {
     /// The power of two that is a record's length: 7 to 12, for 128 to 4096 bytes.
     pub exponent: u8,
+    /// How the samples are encoded.
     pub encoding: Encoding,
     /// The sequence number of the first record: 0 to 999,999.
     pub first_sequence: u32,
+    /// A record has at least 128 bytes.
     pub ghost long: { 7 ≤ exponent },
+    /// A record has at most 4096 bytes.
     pub ghost short: { exponent ≤ 12 },
+    /// The sequence number has six digits.
     pub ghost numbered: { first_sequence < 1_000_000 },
 }
 

@@ -12,7 +12,9 @@ pub struct SeriesView<'a> {
     pub codes: Codes,
     /// The instant of the first sample.
     pub start: Micros,
+    /// The sample rate.
     pub rate: Rate,
+    /// The samples, in counts, one sample period apart.
     pub samples: &'a [i32],
     /// The leap seconds: each with the number of samples before it. Whoever makes a view may write any here; the calls
     /// that take one want these numbers to rise strictly, from 1 to at most the number of samples.

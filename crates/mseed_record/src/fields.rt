@@ -9,11 +9,15 @@ use mseed_time::{Btime, Rate};
 pub struct Fields {
     /// 0 to 999,999.
     pub sequence: u32,
+    /// The channel.
     pub codes: Codes,
+    /// The time of the first sample, to a ten-thousandth of a second.
     pub start: Btime,
     /// What the start's instant lies behind its BTIME, in microseconds.
     pub usec: i8,
+    /// The number of samples.
     pub samples: u16,
+    /// The sample rate.
     pub rate: Rate,
     /// The code of the payload's encoding, for blockette 1000.
     pub encoding: u8,
@@ -23,5 +27,6 @@ pub struct Fields {
     pub frames: u8,
     /// The activity flags.
     pub activity: u8,
+    /// The sequence number has six digits.
     pub ghost numbered: { sequence < 1_000_000 },
 }

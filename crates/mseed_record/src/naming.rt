@@ -8,9 +8,13 @@ use crate::codes::Codes;
 /// One of a channel's codes.
 #[derive(Clone, Copy, Debug, PartialEq, Eq)]
 pub enum CodeField {
+    /// The network code, 2 bytes.
     Network,
+    /// The station code, 5 bytes.
     Station,
+    /// The location code, 2 bytes.
     Location,
+    /// The channel code, 3 bytes.
     Channel,
 }
 

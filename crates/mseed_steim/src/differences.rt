@@ -22,7 +22,9 @@ use std::marker::Model;
 /// Where a bad word stands: its frame, from 0, and its word in it, from 1 to 15.
 #[derive(Clone, Copy, Debug, PartialEq, Eq)]
 pub struct BadWordAt {
+    /// The frame in the payload, from 0.
     pub frame: usize,
+    /// The word in the frame, from 1 to 15.
     pub word: usize,
 }
 

@@ -25,6 +25,8 @@ pub enum ReadFault {
 /// The first and the last sample of a record.
 #[derive(Clone, Copy, Debug, PartialEq, Eq)]
 pub struct Ends {
+    /// The first sample, in counts.
     pub first: i32,
+    /// The last sample, in counts; the first, where there is only one.
     pub last: i32,
 }

@@ -12,14 +12,18 @@ use mseed_time::Order;
 /// The bytes of an integer.
 #[derive(Clone, Copy, Debug, PartialEq, Eq)]
 pub enum Width {
+    /// 16 bits.
     Two,
+    /// 32 bits.
     Four,
 }
 
 /// How a payload holds samples: as integers, or as Steim frames.
 #[derive(Clone, Copy, Debug, PartialEq, Eq)]
 pub enum Form {
+    /// Integers of this width, one a sample.
     Integers(Width),
+    /// Frames of 64 bytes, by this scheme.
     Frames(Scheme),
 }
 

@@ -25,13 +25,16 @@ pub struct TooLarge;
 /// Where the first such difference stands.
 #[derive(Clone, Copy, Debug, PartialEq, Eq)]
 pub struct TooLargeAt {
+    /// The index of the difference, from 0.
     pub index: usize,
 }
 
 /// How many differences were packed, and into how many data words.
 #[derive(Clone, Copy, Debug, PartialEq, Eq)]
 pub struct Packed {
+    /// The number of differences that were packed, from the first on.
     pub used: usize,
+    /// The number of data words that hold them.
     pub words: usize,
 }
 

@@ -11,6 +11,7 @@ use std::marker::{Model, PhantomData};
 #[derive(Drop)]
 pub struct Exchanges {
     marker: PhantomData<u8>,
+    /// Of each link, the bytes that it told and those that it took.
     pub ghost all: { List Exchange } by { exchanges_code },
 }
 

@@ -8,8 +8,11 @@ use std::marker::{Model, PhantomData};
 #[derive(Drop)]
 pub struct Tally {
     marker: PhantomData<u8>,
+    /// The bytes that went through, in order.
     pub ghost bytes: { List ℕ },
+    /// The number of calls that were made.
     pub ghost calls: { ℕ },
+    /// The number of calls that failed.
     pub ghost failures: { ℕ },
 }
 

@@ -37,6 +37,7 @@ pub struct Btime {
     pub second: u8,
     /// Ten-thousandths of a second.
     pub fraction: u16,
+    /// Each field is in its range.
     pub ghost valid: { IsTime (record {
       year = year;
       day = day;

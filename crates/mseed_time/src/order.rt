@@ -6,7 +6,9 @@ use byteorder::{BigEndian, ByteOrder, LittleEndian};
 /// The order of the bytes of a number: the most significant first, or the least significant first.
 #[derive(Clone, Copy, Debug, PartialEq, Eq)]
 pub enum Order {
+    /// The most significant byte first.
     Big,
+    /// The least significant byte first.
     Little,
 }
 

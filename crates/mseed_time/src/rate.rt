@@ -10,9 +10,13 @@ pub struct NoRate;
 /// where these are, and the same rate by [`Rate::same_as`].
 #[derive(Clone, Copy, Debug, PartialEq, Eq)]
 pub struct Rate {
+    /// Samples a second where it is positive, seconds a sample where it is negative.
     pub factor: i16,
+    /// What the rate is multiplied by where it is positive, divided by where it is negative.
     pub multiplier: i16,
+    /// The factor is not 0.
     pub ghost factor_counts: { factor ≢ pos 0 },
+    /// The multiplier is not 0.
     pub ghost multiplier_counts: { multiplier ≢ pos 0 },
 }
 

@@ -18,6 +18,7 @@ pub type Bytes = ArrayVec<u8, 32>;
 /// A place that is asked for.
 #[derive(Clone, Copy)]
 pub struct Wanted {
+    /// The station whose records are wanted.
     pub place: Place,
     /// The number of the record that is wanted next, modulo 2^24, where one was named or came.
     pub next: Option<u32>,

@@ -17,6 +17,7 @@ pub enum Mode {
 /// What a client was granted of one place.
 #[derive(Clone, Copy, Debug, PartialEq, Eq)]
 pub struct Grant {
+    /// Whether records that come later are sent too.
     pub mode: Mode,
     /// The number of the record that it is sent next.
     pub position: u64,

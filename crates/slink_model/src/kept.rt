@@ -5,6 +5,7 @@ use std::alloc::Allocator;
 /// What was written, kept in memory. A write fails where memory was refused.
 #[derive(Drop)]
 pub struct Kept<A: Allocator> {
+    /// All bytes that were written, in order.
     pub bytes: Vec<u8, A>,
     pub(crate) calls: Tally,
 }

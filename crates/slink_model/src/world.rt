@@ -46,6 +46,7 @@ pub enum Step {
 /// A link between server and client.
 #[derive(Drop)]
 pub struct Link {
+    /// The session that serves the link.
     pub session: Session,
     /// The bytes on their way to the server.
     pub to_server: Vec<u8>,
@@ -58,14 +59,17 @@ pub struct Link {
 /// A server, a client, and at most one link between them.
 #[derive(Drop)]
 pub struct World {
+    /// The rings of the server.
     pub feed: Feed,
     /// All records that were pushed of each place.
     pub pushed: Vec<Vec<[u8; 512]>>,
+    /// The client, which outlives its links.
     pub client: Client,
     /// The records that the client took of each place.
     pub held: Vec<Vec<[u8; 512]>>,
     /// The number of the first record held of each place, where one is held.
     pub start: Vec<Option<u64>>,
+    /// The link that stands, if there is one.
     pub link: Option<Link>,
 }
 

@@ -21,7 +21,9 @@ pub enum What {
 /// How many bytes a call took, and what they tell.
 #[derive(Debug, Drop)]
 pub struct Took {
+    /// The number of bytes that were taken.
     pub used: usize,
+    /// What they tell.
     pub what: What,
 }
 
