@@ -1,4 +1,5 @@
 //! Examples of calls, which the pages for callers quote: `crates/NAME/CALLING.md`.
 #![tactic(auto)]
 
+pub mod record;
 pub mod time;
