@@ -2,4 +2,5 @@
 #![tactic(auto)]
 
 pub mod record;
+pub mod steim;
 pub mod time;

@@ -1,0 +1,103 @@
+//! Calls of `mseed_steim`.
+ghost use Rattle.std.specs.Prelude.{◌<◌, ℤ, List, length};
+ghost use Rattle.mseed_record.specs.Viewing.{view_of};
+ghost use Rattle.mseed_steim.specs.Reading.{IsWhole};
+
+use mseed_record::RecordView;
+use mseed_steim::{
+    BadWord, BadWordAt, Differences, Ends, Packed, ReadFault, Scheme, TooLarge, TooLargeAt,
+    check_samples, ends_of, fill_samples, is_surely_near, least_words, pack_word, pack_words,
+    read_samples, unpack_word, widen_bytes,
+};
+use std::alloc::Allocator;
+
+/// The last of a record's samples; nothing where it has none.
+pub fn last_sample(record: &RecordView) -> Result<Option<i32>, ReadFault> {
+    if record.samples() == 0 {
+        return Ok(None);
+    }
+    Ok(Some(check_samples(record)?.last))
+}
+
+/// The sum of a record's samples; nothing where it has none.
+pub fn sum_of_samples<A: Allocator + Drop>(
+    alloc: A,
+    record: &RecordView,
+) -> Result<i64, ReadFault> {
+    if record.samples() == 0 {
+        return Ok(0);
+    }
+    let samples = read_samples(alloc, record)?;
+    let mut sum = 0i64;
+    for sample in samples.as_slice() {
+        sum = sum.saturating_add(i64::from(*sample));
+    }
+    Ok(sum)
+}
+
+/// Fills in the samples of a record that has exactly 100.
+pub fn fill_hundred(record: &RecordView, samples: &mut [i32; 100]) -> Result<bool, ReadFault> {
+    if record.samples() != 100 {
+        return Ok(false);
+    }
+    fill_samples(record, samples)?;
+    Ok(true)
+}
+
+/// The first sample of a record that was checked.
+pub fn first_of_checked(view: &RecordView) -> i32
+    requires { (s : List ℤ) × IsWhole (view_of view.now) s }
+{
+    ends_of(view).first
+}
+
+/// Whether Steim-2 holds a record's samples, as far as that shows before they are read.
+pub fn is_surely_packed(record: &RecordView) -> bool {
+    is_surely_near(record)
+}
+
+/// The first difference of a payload's words in Steim-1, or where a bad word stands before it.
+pub fn first_difference(payload: &[u8]) -> Result<Option<i32>, BadWordAt> {
+    match Differences::over(payload, Scheme::One).next() {
+        Some(difference) => Ok(Some(difference?)),
+        None => Ok(None),
+    }
+}
+
+/// How many differences of a payload are unpacked before the first is taken: none.
+pub fn ready_at_first(payload: &[u8]) -> usize {
+    Differences::over(payload, Scheme::Two).ready().len()
+}
+
+/// How many differences a word of Steim-2 holds, by its code.
+pub fn count_in_word(code: u8, word: u32) -> Result<usize, BadWord>
+    requires { code < 4 }
+{
+    Ok(unpack_word(Scheme::Two, code, word)?.len())
+}
+
+/// How many of the differences the first word of Steim-2 takes.
+pub fn taken_by_first(differences: &[i32]) -> Result<usize, TooLarge>
+    requires { 0 < length differences.now }
+{
+    let (_code, _word, count) = pack_word(Scheme::Two, differences)?;
+    Ok(count)
+}
+
+/// Packs differences into seven frames, and says how many of them these hold.
+pub fn pack_seven_frames(differences: &[i32], frames: &mut [u8; 448]) -> Result<usize, TooLargeAt> {
+    let packed = pack_words(Scheme::Two, differences, frames)?;
+    Ok(packed.used)
+}
+
+/// The bytes of the fewest words of Steim-2 that hold the differences.
+pub fn least_bytes(differences: &[i32]) -> Result<u64, TooLargeAt> {
+    Ok(least_words(differences)?.saturating_mul(4))
+}
+
+/// Four bytes as signed numbers.
+pub fn widen_four(bytes: &[u8; 4]) -> [i32; 4] {
+    let mut numbers = [0; 4];
+    widen_bytes(bytes, &mut numbers);
+    numbers
+}
