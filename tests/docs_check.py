@@ -49,9 +49,10 @@ DOCUMENTS = ["README.md", "docs/promises.md", "docs/developing.md", "docs/archit
 TEXTS = ["docs/texts.md", "docs/protocol.md", "docs/format.md"]
 # The libraries that nobody calls.
 WITHOUT_CALLERS = ["examples", "mseed_tests"]
-# Words that stand nowhere else: programs, commands of SeedLink that no server knows, the last line of the tests.
+# Words that stand nowhere else: programs, commands of SeedLink that no server knows, the last line of the tests, types
+# of the standard library.
 OTHERS = ["make", "rt", "mseed", "main", "BATCH", "CAT", "INFO", "TIME", "N passed, M failed",
-          "logic=proved functions=", "out"]
+          "logic=proved functions=", "out", "AllocError", "Vec"]
 
 # Columns of tables in which a single word is no word of a text.
 FOR_NAMES = ["contract", "carried by", "call", "definition"]

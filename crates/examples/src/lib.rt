@@ -3,4 +3,5 @@
 
 pub mod record;
 pub mod steim;
+pub mod stream;
 pub mod time;
