@@ -1,6 +1,7 @@
 //! Examples of calls, which the pages for callers quote: `crates/NAME/CALLING.md`.
 #![tactic(auto)]
 
+pub mod audits;
 pub mod record;
 pub mod steim;
 pub mod stream;

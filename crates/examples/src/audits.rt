@@ -1,0 +1,126 @@
+//! Calls of `mseed_audit`.
+ghost use Rattle.std.specs.Prelude.{◌≡◌, ◌<◌, ◌^◌, length};
+ghost use Rattle.mseed_stream.specs.Device.{nothing_read};
+
+use mseed_audit::{
+    Audit, AuditFault, BadStep, Memory, NotContinuous, Part, Series, Summary, Verdict, audit,
+    is_of, push_count, push_fault_line, push_name, push_parts, series,
+};
+use mseed_record::{Codes, RecordView};
+use mseed_stream::{Counted, Sink, Source, StreamFault};
+use mseed_time::{LeapStep, Micros, Rate};
+use std::alloc::{AllocError, Allocator, Global};
+
+/// The text of a slice's audit.
+pub fn audit_slice(alloc: Global, bytes: &[u8]) -> Result<Vec<u8>, AuditFault> {
+    let mut source = Counted::new(bytes);
+    let mut sink = Counted::new(Vec::new(alloc));
+    audit(alloc, &mut source, &mut sink)?;
+    Ok(sink.into_inner())
+}
+
+/// Whether all channels of an archive are continuous, and nothing is wrong with the archive. The text goes to a sink.
+pub fn is_sound<R: Source, W: Sink>(
+    alloc: Global,
+    source: &mut R,
+    sink: &mut W,
+) -> Result<bool, AuditFault>
+    requires { R.read source.old ≡ nothing_read }
+{
+    let summary = audit(alloc, source, sink)?;
+    Ok(summary.broken == 0 && !summary.fault)
+}
+
+/// Audits two records that stand one behind another, and says how many channels are broken.
+pub fn broken_of_two(alloc: Global, one: &RecordView, other: &RecordView) -> Result<usize, Memory> {
+    let mut audit = Audit::new(alloc);
+    audit.add(one, 0)?;
+    audit.add(other, one.bytes().len() as u64)?;
+    let verdicts = audit.finish();
+    let broken = verdicts.as_slice().iter();
+    Ok(
+        broken
+            .filter(|(_, verdict)| !verdict.is_continuous())
+            .count(),
+    )
+}
+
+/// Whether a record would open a channel of which an audit knows nothing yet.
+pub fn is_new(audit: &Audit, record: &RecordView) -> bool {
+    audit.added() == 0 || !audit.holds(&record.codes())
+}
+
+/// The number of the record at which a channel breaks first.
+pub fn breaks_at(verdict: &Verdict) -> Option<u64> {
+    match verdict {
+        Verdict::Continuous { .. } => None,
+        Verdict::Broken { first, .. } => Some(first.number),
+    }
+}
+
+/// The samples of the channel to which the first of some records belongs.
+pub fn first_series(alloc: Global, views: &[RecordView]) -> Result<Series, NotContinuous>
+    requires { length views.now < 2 ^ 40 }
+{
+    match views.first() {
+        Some(first) => series(alloc, views, &first.codes()),
+        None => Err(NotContinuous::Absent),
+    }
+}
+
+/// How many records of a channel have samples.
+pub fn count_of(codes: &Codes, views: &[RecordView]) -> usize {
+    views.iter().filter(|view| is_of(codes, view)).count()
+}
+
+/// A series made by hand, with a leap second behind its 100th sample.
+pub fn with_leap_second(
+    alloc: Global,
+    codes: Codes,
+    start: Micros,
+    rate: Rate,
+    samples: Vec<i32>,
+) -> Result<Option<Series>, AllocError> {
+    let mut made = Series::new(alloc, codes, start, rate, samples);
+    let steps = vec![in alloc; (100, LeapStep::Plus)]?;
+    match made.set_steps(steps) {
+        Ok(()) => Ok(Some(made)),
+        Err(BadStep { .. }) => Ok(None),
+    }
+}
+
+/// The last sample of a series, where no leap second stands among its samples.
+pub fn last_of(series: &Series) -> Option<i32> {
+    if !series.steps().is_empty() {
+        return None;
+    }
+    series.samples().last().copied()
+}
+
+/// Whether a series goes on with the channel, the start and the rate of another.
+pub fn is_headed_alike(one: &Series, other: &Series) -> bool {
+    one.codes() == other.codes() && one.start() == other.start() && one.rate() == other.rate()
+}
+
+/// A line that says how many records a channel has.
+pub fn count_line(alloc: Global, codes: &Codes, records: u64) -> Result<Vec<u8>, AllocError> {
+    let mut text = Vec::new(alloc);
+    push_name(&mut text, codes)?;
+    push_parts(&mut text, &[Part::Words(b" has "), Part::Count(records)])?;
+    text.extend_from_slice(b" records\n")?;
+    Ok(text)
+}
+
+/// A number in decimal digits.
+pub fn digits_of(alloc: Global, number: u64) -> Result<Vec<u8>, AllocError> {
+    let mut text = Vec::new(alloc);
+    push_count(&mut text, number)?;
+    Ok(text)
+}
+
+/// The line by which an audit's text tells a fault of the stream.
+pub fn fault_text(alloc: Global, fault: &StreamFault) -> Result<Vec<u8>, AllocError> {
+    let mut text = Vec::new(alloc);
+    push_fault_line(&mut text, fault)?;
+    Ok(text)
+}
