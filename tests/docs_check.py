@@ -26,7 +26,7 @@ Of a page for callers, further:
 - Each public call of the crate is named, as `Type::call` where it has a type, and is called in one of the examples; a
   law, which has no body, is only named.
 
-Each public field and each variant of a crate has a line of documentation.
+Each public field and each variant of a crate, and each field of a variant, has a line of documentation.
 
 What isn't found is printed with its line. Before that, lines that name what isn't there have to be found wrong, and
 behind it the drawing of docs/architecture.md is compared with crates.txt. The last line is `N passed, M failed`.
@@ -398,8 +398,10 @@ def judge_callers_page(sources, name, text):
 
 
 def judge_fields(sources):
-    """Each public field and each variant has a line of documentation: how many of them, and those that have none."""
-    parts = {"struct": r"    pub (?:ghost )?(\w+):", "enum": r"    ([A-Z]\w*)\b"}
+    """Public fields and variants, with the fields of these: how many have a line of documentation, and which have none.
+    """
+    # Of an enum its variants, and the fields of these, each on a line of its own.
+    parts = {"struct": r"    pub (?:ghost )?(\w+):", "enum": r"    (?:    (?=[a-z]))?(\w+)(?:,|\(|:| \{)"}
     paths = [path for crate in sources.crates for path in files_below("crates", crate, "src")]
     count, faults = 0, []
     for path in [path for path in paths if "/tests" not in path]:
@@ -410,9 +412,9 @@ def judge_fields(sources):
             part = kind and re.match(parts[kind[0]], line)
             if part and not declared:
                 count += 1
-                if not is_told:
+                if not is_told or kind[0] == "enum" and line.endswith(" },"):
                     faults.append(f"{path}:{number}: {kind[1]}: {part.group(1)} has no documentation")
-            is_told = line.startswith("    ///") or is_told and line.startswith("    #[")
+            is_told = line.strip().startswith("///") or is_told and line.startswith("    #[")
     return count - len(faults), faults
 
 
@@ -507,8 +509,6 @@ RIGHT = [
     "test [`replies`](crates/slink_wire/src/tests.rt), [`readme.sh`](tests/readme.sh) |",
     "`one_packing` of `mseed_pack`, `truncated <bytes>`, `make audit FILE=..`",
 ]
-
-
 def main():
     sources = Sources()
     passed, faults = 0, []

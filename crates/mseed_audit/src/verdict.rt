@@ -15,7 +15,9 @@ pub enum Verdict {
         start: Micros,
         /// The first record's rate.
         rate: Rate,
+        /// The number of records with samples.
         records: u64,
+        /// The number of samples in all of them.
         samples: u64,
     },
     /// Something was.

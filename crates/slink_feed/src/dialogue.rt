@@ -47,7 +47,14 @@ pub enum Ending {
     /// The server refused this place.
     Refused(usize),
     /// The packet of another record than the one that is wanted next of a place.
-    Gap { place: usize, want: u32, got: u32 },
+    Gap {
+        /// The index of the place.
+        place: usize,
+        /// The number that the place wants next, modulo 2^24.
+        want: u32,
+        /// The number that came.
+        got: u32,
+    },
     /// No reply, packet or end.
     Garbage,
     /// The packet of a record of none of the places.
@@ -68,7 +75,14 @@ pub enum Event {
     /// The server refused the place at this index.
     Refused(usize),
     /// The packet of another record than the one that is wanted next of a place.
-    Gap { place: usize, want: u32, got: u32 },
+    Gap {
+        /// The index of the place.
+        place: usize,
+        /// The number that the place wants next, modulo 2^24.
+        want: u32,
+        /// The number that came.
+        got: u32,
+    },
     /// No reply, packet or end.
     Garbage,
     /// The packet of a record of none of the places.

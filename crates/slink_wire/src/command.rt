@@ -14,7 +14,12 @@ pub enum Command {
     /// The server's name is asked.
     Hello,
     /// A station is chosen, in a network or in any. The codes are filled with spaces, as in a record's header.
-    Station { sta: [u8; 5], net: Option<[u8; 2]> },
+    Station {
+        /// The station's code.
+        sta: [u8; 5],
+        /// The network's code, where one is named.
+        net: Option<[u8; 2]>,
+    },
     /// All channels are asked for.
     SelectAll,
     /// Records are asked for as they come, from the next one on or from a number.
