@@ -2,6 +2,7 @@
 #![tactic(auto)]
 
 pub mod audits;
+pub mod pack;
 pub mod record;
 pub mod steim;
 pub mod stream;

@@ -1,0 +1,71 @@
+//! Calls of `mseed_pack`.
+ghost use Rattle.mseed_pack.specs.Fitting.{Fits};
+
+use mseed_audit::Series;
+use mseed_pack::{
+    BadOption, Encoding, Options, PackFault, SeriesView, fit, fit_view, pack, pack_fitting,
+    pack_view,
+};
+use mseed_record::Codes;
+use mseed_stream::{Counted, Sink};
+use mseed_time::{Micros, Rate};
+use std::alloc::Global;
+
+/// Records of 512 bytes in Steim-2, numbered from 1.
+pub fn usual_options() -> Result<Options, BadOption> {
+    Options::new(9, 11, 1)
+}
+
+/// The same, in an encoding that is chosen.
+pub fn options_in(encoding: Encoding) -> Result<Options, BadOption> {
+    Options::new(9, encoding.code(), 1)
+}
+
+/// Whether an encoding is one that is written.
+pub fn is_written(code: u8) -> bool {
+    Encoding::of(code).is_some()
+}
+
+/// The records of a series, one behind another.
+pub fn packed(alloc: Global, series: &Series, options: &Options) -> Result<Vec<u8>, PackFault> {
+    let mut sink = Counted::new(Vec::new(alloc));
+    pack(series, options, &mut sink)?;
+    Ok(sink.into_inner())
+}
+
+/// Whether a series can be packed.
+pub fn can_be_packed(series: &Series, options: &Options) -> bool {
+    fit(series, options).is_ok()
+}
+
+/// Packs samples where they lie, and says how many records there are.
+pub fn pack_samples<W: Sink>(
+    samples: &[i32],
+    codes: Codes,
+    start: Micros,
+    rate: Rate,
+    options: &Options,
+    sink: &mut W,
+) -> Result<u64, PackFault> {
+    let view = SeriesView {
+        codes,
+        start,
+        rate,
+        samples,
+        steps: &[],
+    };
+    pack_view(&view, options, sink)
+}
+
+/// Packs two series where both fit, so that nothing is written unless all can be.
+pub fn pack_both<W: Sink>(
+    one: &Series,
+    other: &Series,
+    options: &Options,
+    sink: &mut W,
+) -> Result<bool, PackFault> {
+    let (one, other) = (SeriesView::of(one), SeriesView::of(other));
+    fit_view(&one, options)?;
+    fit_view(&other, options)?;
+    Ok(pack_fitting(&one, options, sink).is_ok() && pack_fitting(&other, options, sink).is_ok())
+}
