@@ -4,6 +4,7 @@
 pub mod audits;
 pub mod pack;
 pub mod record;
+pub mod repacks;
 pub mod steim;
 pub mod stream;
 pub mod time;
