@@ -8,3 +8,4 @@ pub mod repacks;
 pub mod steim;
 pub mod stream;
 pub mod time;
+pub mod wire;

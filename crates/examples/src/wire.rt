@@ -1,0 +1,74 @@
+//! Calls of `slink_wire`.
+ghost use Rattle.std.specs.Prelude.{◌<◌, ◌^◌, ◌≡◌};
+ghost use Rattle.slink_wire.specs.Packet.{IsPacket};
+
+use arrayvec::ArrayVec;
+use slink_wire::{BadPlace, Command, Lines, NotPacket, Packet, Place, Reply, Request, What};
+
+/// The place of a network and station, such as `NL_HGN`.
+pub fn place_of(text: &[u8]) -> Result<Place, BadPlace> {
+    Place::read(text)
+}
+
+/// Whether two places are of one network.
+pub fn are_in_one_network(one: &Place, other: &Place) -> bool {
+    one.network() == other.network() && one.station() != other.station()
+}
+
+/// Whether a record is of the station HGN in the network NL.
+pub fn is_of_hgn(record: &[u8; 512]) -> Result<bool, BadPlace> {
+    let place = Place::new(b"HGN", b"NL")?;
+    Ok(place.bears(record))
+}
+
+/// The command of a line.
+pub fn command_of(line: &[u8]) -> Command {
+    Command::read(line)
+}
+
+/// Whether a command chooses a place.
+pub fn chooses(command: &Command, place: &Place) -> bool {
+    match command {
+        Command::Station { sta, net } => place.matches(sta, *net),
+        _ => false,
+    }
+}
+
+/// The first command of a stream's first bytes, where its line has ended.
+pub fn first_command(bytes: &[u8]) -> Option<Command> {
+    let mut lines = Lines::new();
+    let took = lines.take(bytes);
+    match took.what {
+        What::Line(line) => Some(Command::read(&line)),
+        What::More | What::TooLong => None,
+    }
+}
+
+/// The bytes by which a server refuses a line.
+pub fn refusal() -> &'static [u8] {
+    Reply::Error.bytes()
+}
+
+/// The line by which a client chooses a place.
+pub fn choice_of(place: Place) -> ArrayVec<u8, 32> {
+    Request::Station(place).bytes()
+}
+
+/// The packet of a record, and its number read back.
+pub fn packet_of(number: u32, bytes: &[u8; 512]) -> [u8; 520]
+    requires { number < 2 ^ 24 }
+    ensures { IsPacket result number bytes.now }
+{
+    Packet::write(number, bytes)
+}
+
+/// The number of a packet's record.
+pub fn number_of(packet: &[u8; 520]) -> Result<u32, NotPacket> {
+    let (number, _record) = Packet::read(packet)?;
+    Ok(number)
+}
+
+/// Whether the first eight bytes of a packet say that it has the number that is wanted.
+pub fn has_number(head: &[u8; 8], wanted: u32) -> bool {
+    Packet::number(head) == Some(wanted)
+}
