@@ -2,6 +2,7 @@
 #![tactic(auto)]
 
 pub mod audits;
+pub mod feed;
 pub mod pack;
 pub mod record;
 pub mod repacks;

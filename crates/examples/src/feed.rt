@@ -1,0 +1,124 @@
+//! Calls of `slink_feed`.
+ghost use Rattle.std.specs.Prelude.{◌<◌, length};
+ghost use Rattle.slink_feed.specs.Session.{Fits};
+
+use mseed_stream::{Duplex, Sink};
+use slink_feed::{
+    Bytes, Client, Event, Feed, FeedFault, LinkFault, Mode, Ring, RingFault, Sent, Session, Turn,
+    fetch_turn, serve_turn,
+};
+use slink_wire::{Place, Reply};
+use std::alloc::Global;
+
+/// A ring of the last 1,000 records of a place, of which the first has the number 0.
+pub fn thousand_records(alloc: Global, place: Place) -> Result<Ring, RingFault> {
+    Ring::new(alloc, place, 1_000, 0)
+}
+
+/// Pushes a record where it is of the ring's place, and the ring still counts.
+pub fn push_record(ring: &mut Ring, bytes: &[u8; 512]) -> bool {
+    let is_taken = ring.place().bears(bytes) && ring.next() < 1 << 40;
+    if is_taken {
+        ring.push(bytes);
+    }
+    is_taken
+}
+
+/// The oldest record of a ring that has one.
+pub fn oldest_record(ring: &Ring) -> Option<&[u8; 512]> {
+    ring.get(ring.oldest())
+}
+
+/// The record that a client names by a number of six digits.
+pub fn record_named(ring: &Ring, number: u32) -> Option<&[u8; 512]> {
+    ring.get(ring.resolve(number)?)
+}
+
+/// A feed of one ring.
+pub fn feed_of(ring: Ring) -> Result<Feed, FeedFault> {
+    let mut feed = Feed::new();
+    feed.add(ring)?;
+    Ok(feed)
+}
+
+/// A feed of a ring that needs no test: it is the first.
+pub fn feed_of_first(ring: Ring) -> Feed {
+    let mut feed = Feed::new();
+    feed.add_other(ring);
+    feed
+}
+
+/// Gives a record to the ring of its place; whether there is one.
+pub fn push_to_feed(feed: &mut Feed, bytes: &[u8; 512]) -> bool {
+    if feed.len() == 0 {
+        return false;
+    }
+    let ring = feed.ring(0);
+    if !ring.place().bears(bytes) || ring.next() >= 1 << 40 {
+        return false;
+    }
+    feed.push(0, bytes);
+    true
+}
+
+/// What a new session answers to the first line.
+pub fn first_reply(feed: &Feed, bytes: &[u8]) -> Reply {
+    let mut session = Session::new();
+    let (_taken, reply) = session.take(feed, bytes);
+    reply
+}
+
+/// The next packet of the first place, where one is due.
+pub fn next_packet(session: &mut Session, feed: &Feed) -> Option<[u8; 520]>
+    requires some { 0 < length feed.now }
+    requires fits { Fits feed.now session.old.state }
+{
+    match session.packet(feed, 0) {
+        Sent::Packet(packet) => Some(packet),
+        Sent::Wait | Sent::Done | Sent::Overrun | Sent::Closed => None,
+    }
+}
+
+/// Whether a session was granted records of the first place.
+pub fn is_granted(session: &Session) -> bool {
+    session.position(0).is_some()
+}
+
+/// A client of one place, and the first line that it writes.
+pub fn client_of(place: Place) -> (Client, Bytes) {
+    let mut client = Client::new(&[(place, None)], Mode::Fetch);
+    let line = client.connect();
+    (client, line)
+}
+
+/// Takes bytes of a link up to the first event, and counts a record.
+pub fn count_event(client: &mut Client, bytes: &[u8], records: &mut u64) -> usize {
+    let (taken, event) = client.take(bytes);
+    match event {
+        Event::Record(_place, _number, _record) => *records = records.saturating_add(1),
+        _ => {}
+    }
+    taken
+}
+
+/// The number that a client's first place wants next.
+pub fn wanted_next(client: &Client) -> Option<u32> {
+    client.next(0)
+}
+
+/// Serves a new link for a turn; whether a further turn is to be taken.
+pub fn serve_once<S: Duplex>(feed: &Feed, link: &mut S) -> Result<bool, LinkFault> {
+    let mut session = Session::new();
+    let turn = serve_turn(&mut session, feed, link)?;
+    Ok(matches!(turn, Turn::Goes))
+}
+
+/// Fetches over a link for a turn; whether a further turn is to be taken.
+pub fn fetch_once<S: Duplex, W: Sink>(
+    client: &mut Client,
+    link: &mut S,
+    output: &mut W,
+) -> Result<bool, LinkFault> {
+    let turn = fetch_turn(client, link, output)?;
+    Ok(matches!(turn, Turn::Goes))
+}
