@@ -3,6 +3,7 @@
 
 pub mod audits;
 pub mod feed;
+pub mod links;
 pub mod pack;
 pub mod record;
 pub mod repacks;

@@ -1,0 +1,110 @@
+//! Calls of `slink_links`.
+ghost use Rattle.slink_links.specs.Out.{AreOut};
+
+use mseed_stream::{Duplex, Sink};
+use slink_feed::{Client, Feed, LinkFault};
+use slink_links::{
+    Accept, Dial, FetchEnd, FetchPlan, ServePlan, fetch, fetch_all, fetch_link, fetch_planned,
+    serve, serve_all, serve_link, serve_planned,
+};
+use std::net::Net;
+use std::time::Clock;
+
+/// Serves a feed to one connection at port 18000 of this machine. The exit status.
+pub fn serve_one<N: Net + Clock, E: Sink>(host: &N, feed: Feed, errors: &mut E) -> u8 {
+    let plan = ServePlan {
+        port: 18_000,
+        connections: 1,
+        feed,
+    };
+    serve(host, &plan, errors)
+}
+
+/// Fetches from port 18000 of this machine, over at most three connections. The exit status.
+pub fn fetch_thrice<N: Net, W: Sink, E: Sink>(
+    net: &N,
+    client: Client,
+    output: &mut W,
+    errors: &mut E,
+) -> u8 {
+    let mut plan = FetchPlan {
+        port: 18_000,
+        tries: 3,
+        client,
+    };
+    fetch(net, &mut plan, output, errors)
+}
+
+/// Serves a feed over links of the caller's, and says whether none failed.
+pub fn serve_ten<A: Accept, E: Sink>(feed: &Feed, acceptor: &mut A, errors: &mut E) -> bool
+    requires { AreOut 0 (A.calls acceptor.old) (A.failures acceptor.old) (A.given_back acceptor.old) }
+{
+    serve_all(feed, 10, acceptor, errors) == 0
+}
+
+/// Carries out a plan over links of the caller's.
+pub fn serve_plan<A: Accept, E: Sink>(plan: &ServePlan, acceptor: &mut A, errors: &mut E) -> u8
+    requires { AreOut 0 (A.calls acceptor.old) (A.failures acceptor.old) (A.given_back acceptor.old) }
+{
+    serve_planned(plan, acceptor, errors)
+}
+
+/// Fetches over at most ten links of the caller's, and says whether all came.
+pub fn fetch_ten<D: Dial, W: Sink, E: Sink>(
+    client: &mut Client,
+    dialler: &mut D,
+    output: &mut W,
+    errors: &mut E,
+) -> bool
+    requires { AreOut 0 (D.calls dialler.old) (D.failures dialler.old) (D.given_back dialler.old) }
+{
+    fetch_all(client, 10, dialler, output, errors) == 0
+}
+
+/// Carries out a plan over links of the caller's.
+pub fn fetch_plan<D: Dial, W: Sink, E: Sink>(
+    plan: &mut FetchPlan,
+    dialler: &mut D,
+    output: &mut W,
+    errors: &mut E,
+) -> u8
+    requires { AreOut 0 (D.calls dialler.old) (D.failures dialler.old) (D.given_back dialler.old) }
+{
+    fetch_planned(plan, dialler, output, errors)
+}
+
+/// Serves one link, until nothing more is to be sent.
+pub fn serve_over<S: Duplex>(feed: &Feed, link: &mut S) -> Result<(), LinkFault> {
+    serve_link(feed, link)
+}
+
+/// Fetches over one link; whether the server has sent all that was asked for.
+pub fn fetch_over<S: Duplex, W: Sink>(client: &mut Client, link: &mut S, output: &mut W) -> bool {
+    fetch_link(client, link, output) == FetchEnd::Done
+}
+
+/// Takes the next link, and closes it unserved; whether there was one.
+pub fn turn_away<A: Accept>(acceptor: &mut A) -> bool
+    requires { AreOut 0 (A.calls acceptor.old) (A.failures acceptor.old) (A.given_back acceptor.old) }
+{
+    match acceptor.accept() {
+        Some(link) => {
+            acceptor.hang_up(link, false);
+            true
+        }
+        None => false,
+    }
+}
+
+/// Asks for a link, and closes it at once; whether there was one.
+pub fn is_there<D: Dial>(dialler: &mut D) -> bool
+    requires { AreOut 0 (D.calls dialler.old) (D.failures dialler.old) (D.given_back dialler.old) }
+{
+    match dialler.dial() {
+        Some(link) => {
+            dialler.hang_up(link);
+            true
+        }
+        None => false,
+    }
+}
