@@ -4,6 +4,7 @@
 pub mod audits;
 pub mod feed;
 pub mod links;
+pub mod model;
 pub mod pack;
 pub mod record;
 pub mod repacks;
