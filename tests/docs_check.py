@@ -509,6 +509,15 @@ RIGHT = [
     "test [`replies`](crates/slink_wire/src/tests.rt), [`readme.sh`](tests/readme.sh) |",
     "`one_packing` of `mseed_pack`, `truncated <bytes>`, `make audit FILE=..`",
 ]
+# Each of these changes of the page for callers of mseed_time is found wrong.
+CHANGES = [
+    ("Btime::read(bytes, Order::Big)?;", "Btime::read(bytes, Order::Little)?;"),
+    ("```rust\n/// The text of an instant", "```text\n/// The text of an instant"),
+    ("`show_time`", "`Micros`"),
+    ("`one_name`", "`Micros`"),
+]
+
+
 def main():
     sources = Sources()
     passed, faults = 0, []
@@ -517,7 +526,13 @@ def main():
         passed += found == wanted
         if found != wanted:
             faults.append(f"{found} faults, and not {wanted}, are found in: {text}")
-    pages = [page_of(crate) for crate in libraries(sources) if os.path.exists(os.path.join(ROOT, page_of(crate)))]
+    for old, new in CHANGES:
+        page = text_of(page_of("mseed_time"))
+        is_found = old in page and judge_callers_page(sources, page_of("mseed_time"), page.replace(old, new))[1]
+        passed += bool(is_found)
+        if not is_found:
+            faults.append(f"a page for callers with `{new}` in place of `{old}` isn't found wrong")
+    pages = [page_of(crate) for crate in libraries(sources)]
     names = [name for name in sys.argv[1:] if not name.startswith("--")] or DOCUMENTS + pages
     for name in names:
         text = text_of(name)
