@@ -1,15 +1,16 @@
 //! Calls of `mseed_audit`.
-ghost use Rattle.std.specs.Prelude.{◌≡◌, ◌<◌, ◌^◌, length};
+ghost use Rattle.std.specs.Prelude.{IfOk, decimal, ◌≡◌, ◌<◌, ◌^◌, length};
 ghost use Rattle.mseed_stream.specs.Device.{nothing_read};
+ghost use Rattle.mseed_audit.specs.Text.{fault_line};
 
 use mseed_audit::{
-    Audit, AuditFault, BadStep, Memory, NotContinuous, Part, Series, Summary, Verdict, audit,
-    is_of, push_count, push_fault_line, push_name, push_parts, series,
+    Audit, AuditFault, BadStep, Memory, NotContinuous, Part, Series, Verdict, audit, is_of,
+    push_count, push_fault_line, push_name, push_parts, series,
 };
 use mseed_record::{Codes, RecordView};
 use mseed_stream::{Counted, Sink, Source, StreamFault};
 use mseed_time::{LeapStep, Micros, Rate};
-use std::alloc::{AllocError, Allocator, Global};
+use std::alloc::{AllocError, Global};
 
 /// The text of a slice's audit.
 pub fn audit_slice(alloc: Global, bytes: &[u8]) -> Result<Vec<u8>, AuditFault> {
@@ -112,14 +113,18 @@ pub fn count_line(alloc: Global, codes: &Codes, records: u64) -> Result<Vec<u8>,
 }
 
 /// A number in decimal digits.
-pub fn digits_of(alloc: Global, number: u64) -> Result<Vec<u8>, AllocError> {
+pub fn digits_of(alloc: Global, number: u64) -> Result<Vec<u8>, AllocError>
+    ensures { IfOk result (λ text. text.items ≡ decimal number) }
+{
     let mut text = Vec::new(alloc);
     push_count(&mut text, number)?;
     Ok(text)
 }
 
-/// The line by which an audit's text tells a fault of the stream.
-pub fn fault_text(alloc: Global, fault: &StreamFault) -> Result<Vec<u8>, AllocError> {
+/// The line of a stream's fault, as it ends an audit's text.
+pub fn fault_text(alloc: Global, fault: &StreamFault) -> Result<Vec<u8>, AllocError>
+    ensures { IfOk result (λ text. text.items ≡ fault_line fault.now) }
+{
     let mut text = Vec::new(alloc);
     push_fault_line(&mut text, fault)?;
     Ok(text)

@@ -1,6 +1,7 @@
 //! Calls of `slink_feed`.
-ghost use Rattle.std.specs.Prelude.{◌<◌, length};
+ghost use Rattle.std.specs.Prelude.{[], IfOk, ◌<◌, length};
 ghost use Rattle.slink_feed.specs.Session.{Fits};
+ghost use Rattle.slink_feed.specs.Window.{Shows};
 
 use mseed_stream::{Duplex, Sink};
 use slink_feed::{
@@ -11,7 +12,9 @@ use slink_wire::{Place, Reply};
 use std::alloc::Global;
 
 /// A ring of the last 1,000 records of a place, of which the first has the number 0.
-pub fn thousand_records(alloc: Global, place: Place) -> Result<Ring, RingFault> {
+pub fn thousand_records(alloc: Global, place: Place) -> Result<Ring, RingFault>
+    ensures { IfOk result (λ ring. Shows ring 0 []) }
+{
     Ring::new(alloc, place, 1_000, 0)
 }
 
@@ -48,7 +51,7 @@ pub fn feed_of_first(ring: Ring) -> Feed {
     feed
 }
 
-/// Gives a record to the ring of its place; whether there is one.
+/// Gives a record to the first ring of a feed, where it is of its place.
 pub fn push_to_feed(feed: &mut Feed, bytes: &[u8; 512]) -> bool {
     if feed.len() == 0 {
         return false;

@@ -1,5 +1,6 @@
 //! Calls of `slink_links`.
 ghost use Rattle.slink_links.specs.Out.{AreOut};
+ghost use Rattle.slink_links.specs.Served.{IsServed};
 
 use mseed_stream::{Duplex, Sink};
 use slink_feed::{Client, Feed, LinkFault};
@@ -74,7 +75,9 @@ pub fn fetch_plan<D: Dial, W: Sink, E: Sink>(
 }
 
 /// Serves one link, until nothing more is to be sent.
-pub fn serve_over<S: Duplex>(feed: &Feed, link: &mut S) -> Result<(), LinkFault> {
+pub fn serve_over<S: Duplex>(feed: &Feed, link: &mut S) -> Result<(), LinkFault>
+    ensures { IsServed feed.now result (S.read link.old) (S.read link.new) (S.written link.old) (S.written link.new) }
+{
     serve_link(feed, link)
 }
 

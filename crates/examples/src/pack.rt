@@ -1,5 +1,5 @@
 //! Calls of `mseed_pack`.
-ghost use Rattle.mseed_pack.specs.Fitting.{Fits};
+ghost use Rattle.std.specs.Prelude.{IsOk};
 
 use mseed_audit::Series;
 use mseed_pack::{
@@ -12,7 +12,9 @@ use mseed_time::{Micros, Rate};
 use std::alloc::Global;
 
 /// Records of 512 bytes in Steim-2, numbered from 1.
-pub fn usual_options() -> Result<Options, BadOption> {
+pub fn usual_options() -> Result<Options, BadOption>
+    ensures { IsOk result }
+{
     Options::new(9, 11, 1)
 }
 

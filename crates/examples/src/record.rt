@@ -1,5 +1,5 @@
 //! Calls of `mseed_record`.
-ghost use Rattle.std.specs.Prelude.{◌≤◌, length};
+ghost use Rattle.std.specs.Prelude.{◌≤◌, length, take, IfSome};
 ghost use Rattle.mseed_record.specs.Record.{IsRecord};
 
 use mseed_record::{
@@ -9,7 +9,9 @@ use mseed_record::{
 use mseed_time::{Btime, LeapStep, Micros, NoRate, Order, Rate, TimeFault};
 
 /// How many bytes the record has that begins these, if one does.
-pub fn record_length(bytes: &[u8]) -> Option<usize> {
+pub fn record_length(bytes: &[u8]) -> Option<usize>
+    ensures { IfSome result (λ k. IsRecord (take k bytes.now)) }
+{
     match scan(bytes) {
         Scan::Record(length) => Some(length),
         Scan::Need(_) | Scan::Not(_) => None,

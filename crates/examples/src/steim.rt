@@ -5,9 +5,9 @@ ghost use Rattle.mseed_steim.specs.Reading.{IsWhole};
 
 use mseed_record::RecordView;
 use mseed_steim::{
-    BadWord, BadWordAt, Differences, Ends, Packed, ReadFault, Scheme, TooLarge, TooLargeAt,
-    check_samples, ends_of, fill_samples, is_surely_near, least_words, pack_word, pack_words,
-    read_samples, unpack_word, widen_bytes,
+    BadWord, BadWordAt, Differences, ReadFault, Scheme, TooLarge, TooLargeAt, check_samples,
+    ends_of, fill_samples, is_surely_near, least_words, pack_word, pack_words, read_samples,
+    unpack_word, widen_bytes,
 };
 use std::alloc::Allocator;
 

@@ -1,5 +1,5 @@
 //! Calls of `mseed_stream`.
-ghost use Rattle.std.specs.Prelude.{◌≡◌, ◌≤◌, length, IfOk};
+ghost use Rattle.std.specs.Prelude.{◌≡◌, IfOk};
 ghost use Rattle.mseed_stream.specs.Cutting.{IsAlong};
 ghost use Rattle.mseed_stream.specs.Device.{nothing_read};
 
@@ -20,8 +20,10 @@ pub fn count_records_in<A: Allocator + Drop>(alloc: A, bytes: &[u8]) -> Result<u
     Ok(split_in(alloc, bytes)?.len())
 }
 
-/// All bytes of a slice, as a source tells them.
-pub fn copy_of(alloc: Global, bytes: &[u8]) -> Result<Vec<u8>, StreamFault> {
+/// All bytes of a slice, read as a source.
+pub fn copy_of(alloc: Global, bytes: &[u8]) -> Result<Vec<u8>, StreamFault>
+    ensures { IfOk result (λ copy. copy.items ≡ bytes.now) }
+{
     let mut source = Counted::new(bytes);
     read_all(alloc, &mut source)
 }

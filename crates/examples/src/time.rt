@@ -1,6 +1,8 @@
 //! Calls of `mseed_time`.
-ghost use Rattle.std.specs.Prelude.{◌≡◌, ◌↔◌, ℤ, IsTrue, None};
-ghost use Rattle.mseed_time.specs.Btime.{Parts};
+ghost use Rattle.std.specs.Prelude.{◌≡◌, ◌↔◌, ℤ, pos, IfOk, IsTrue, None};
+ghost use Rattle.std.specs.Result.{result_err};
+ghost use Rattle.mseed_time.specs.Btime.{Parts, first_fault, parts_at};
+ghost use Rattle.mseed_time.specs.declared.order.Order.{Order};
 ghost use Rattle.mseed_time.specs.Join.{Joins};
 ghost use Rattle.mseed_time.specs.Naming.{Names};
 ghost use Rattle.mseed_time.specs.Ratios.{ratio_of};
@@ -23,7 +25,9 @@ pub fn seconds_and_rest(instant: Micros) -> (i64, i64) {
 }
 
 /// The instant of a BTIME to which nothing is added.
-pub fn read_time(bytes: &[u8; 10]) -> Result<Micros, TimeFault> {
+pub fn read_time(bytes: &[u8; 10]) -> Result<Micros, TimeFault>
+    ensures { result_err result ≡ first_fault (parts_at Order.Big 0 bytes.now) }
+{
     let time = Btime::read(bytes, Order::Big)?;
     Ok(time.micros(0, true, 0))
 }
@@ -50,13 +54,15 @@ pub fn text_of(instant: Micros) -> [u8; 26]
 }
 
 /// Turns a number of 16 bits into the other byte order.
-pub fn swap_at_prefix(bytes: &mut [u8; 2]) {
+pub fn swap_bytes(bytes: &mut [u8; 2]) {
     let number = Order::Big.u16_at(bytes, 0);
     Order::Little.put_u16(bytes, 0, number);
 }
 
 /// One sample in so many seconds; the header writes it as a negative factor.
-pub fn every(seconds: i16) -> Result<Rate, NoRate> {
+pub fn every(seconds: i16) -> Result<Rate, NoRate>
+    ensures { IfOk result (λ r. r.multiplier ≡ pos 1) }
+{
     Rate::of(seconds.saturating_neg(), 1)
 }
 

@@ -1,12 +1,16 @@
 //! Calls of `slink_wire`.
-ghost use Rattle.std.specs.Prelude.{◌<◌, ◌^◌, ◌≡◌};
+ghost use Rattle.std.specs.Prelude.{IfOk, ◌<◌, ◌^◌};
+ghost use Rattle.slink_wire.specs.Command.{IsCommand};
 ghost use Rattle.slink_wire.specs.Packet.{IsPacket};
+ghost use Rattle.slink_wire.specs.Place.{SpellsPlace};
 
 use arrayvec::ArrayVec;
 use slink_wire::{BadPlace, Command, Lines, NotPacket, Packet, Place, Reply, Request, What};
 
 /// The place of a network and station, such as `NL_HGN`.
-pub fn place_of(text: &[u8]) -> Result<Place, BadPlace> {
+pub fn place_of(text: &[u8]) -> Result<Place, BadPlace>
+    ensures { IfOk result (SpellsPlace text.now) }
+{
     Place::read(text)
 }
 
@@ -22,7 +26,9 @@ pub fn is_of_hgn(record: &[u8; 512]) -> Result<bool, BadPlace> {
 }
 
 /// The command of a line.
-pub fn command_of(line: &[u8]) -> Command {
+pub fn command_of(line: &[u8]) -> Command
+    ensures { IsCommand line.now result }
+{
     Command::read(line)
 }
 
