@@ -4,8 +4,9 @@ ghost use Rattle.mseed_stream.specs.Device.{nothing_read};
 ghost use Rattle.mseed_audit.specs.Text.{fault_line};
 
 use mseed_audit::{
-    Audit, AuditFault, BadStep, Memory, NotContinuous, Part, Series, Verdict, audit, is_of,
-    push_count, push_fault_line, push_name, push_parts, series,
+    Audit, AuditFault, BadStep, EachFault, Line, Memory, NotContinuous, Part, Series, Verdict, Why,
+    audit, audit_each, fault_line_of, is_of, line_of, name_of, push_count, push_fault_line,
+    push_name, push_parts, push_start, series,
 };
 use mseed_record::{Codes, RecordView};
 use mseed_stream::{Counted, Sink, Source, StreamFault};
@@ -32,6 +33,14 @@ pub fn is_sound<R: Source, W: Sink>(
     Ok(summary.broken == 0 && !summary.fault)
 }
 
+/// The text of a slice's audit, behind a line for each record with a finding.
+pub fn findings_of_slice(alloc: Global, bytes: &[u8]) -> Result<Vec<u8>, EachFault> {
+    let mut source = Counted::new(bytes);
+    let mut sink = Counted::new(Vec::new(alloc));
+    audit_each(alloc, &mut source, &mut sink)?;
+    Ok(sink.into_inner())
+}
+
 /// Audits two records that stand one behind another, and says how many channels are broken.
 pub fn broken_of_two(alloc: Global, one: &RecordView, other: &RecordView) -> Result<usize, Memory> {
     let mut audit = Audit::new(alloc);
@@ -44,6 +53,14 @@ pub fn broken_of_two(alloc: Global, one: &RecordView, other: &RecordView) -> Res
             .filter(|(_, verdict)| !verdict.is_continuous())
             .count(),
     )
+}
+
+/// Adds a record, and says whether something is found of it.
+pub fn is_amiss(audit: &mut Audit, record: &RecordView, offset: u64) -> Result<bool, Memory>
+    requires { audit.old.added < 2 ^ 40 }
+{
+    let why: Option<Why> = audit.add_judged(record, offset)?;
+    Ok(why.is_some())
 }
 
 /// Whether a record would open a channel of which an audit knows nothing yet.
@@ -128,4 +145,23 @@ pub fn fault_text(alloc: Global, fault: &StreamFault) -> Result<Vec<u8>, AllocEr
     let mut text = Vec::new(alloc);
     push_fault_line(&mut text, fault)?;
     Ok(text)
+}
+
+/// The start of a record, or what of it is out of its range.
+pub fn start_text(alloc: Global, record: &RecordView) -> Result<Vec<u8>, AllocError> {
+    let mut text = Vec::new(alloc);
+    push_start(&mut text, record)?;
+    Ok(text)
+}
+
+/// A line about a channel.
+pub fn broken_line(codes: &Codes) -> Line {
+    line_of(&[Part::Words(&name_of(codes)), Part::Words(b" is broken\n")])
+}
+
+/// The line of a stream's fault, where there may be no memory.
+pub fn short_fault_text(fault: &StreamFault) -> Line
+    ensures { result.items ≡ fault_line fault.now }
+{
+    fault_line_of(fault)
 }
