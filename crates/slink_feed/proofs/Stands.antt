@@ -43,11 +43,11 @@ takes_some stream bytes zero some short whole =
     (subst (λ s. Tells whole.0 stream s) (append-nil stream) whole.1) whole.2)
 takes_some stream bytes (suc n) some short whole = omega arith
 
-pub piece_taken : (old new : Standing) (bytes : List ℕ) (used : ℕ) → 0 < length bytes → Stands old
+pub piece_taken : (old : Standing) (bytes : List ℕ) (used : ℕ) → 0 < length bytes → Stands old
     → ((stream : List ℕ) → ¬ (old.state.phase ≡ Closed) → IsHeld old.held stream
     → TakesWhole stream (stream ++ take used bytes) used (length bytes))
     → (old.state.phase ≡ Closed → used ≡ length bytes) → 0 < used
-piece_taken old new bytes used some stands whole closed = elim (closed_or old.state.phase) [
+piece_taken old bytes used some stands whole closed = elim (closed_or old.state.phase) [
   | inl shut ↦ let all : used ≡ length bytes = closed shut in omega (arith, all, some)
   | inr unshut ↦
       let s : (stream : List ℕ) × StandsFor old stream = stands unshut in

@@ -4,6 +4,7 @@
 
 mod client;
 mod connection;
+mod course;
 mod cutting;
 mod dialogue;
 mod feed;

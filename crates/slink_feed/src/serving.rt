@@ -34,7 +34,6 @@ pub fn serve_turn<A: Allocator, S: Duplex>(
     link: &mut S,
 ) -> Result<Turn, LinkFault>
     requires fits { Fits feed.now session.old.state }
-    requires stands { Stands session.old }
     ensures ok { IfOk result (λ turn. Attends feed.now (attending session.old (S.written link.old))
         (attending session.new (S.written link.new)) (S.read link.old) (S.read link.new) turn) }
     ensures fault { IfErr result (λ fault. IsServeFault feed.now (attending session.old (S.written link.old))
@@ -42,6 +41,7 @@ pub fn serve_turn<A: Allocator, S: Duplex>(
     ensures fits { Fits feed.now session.new.state }
     ensures stands { Stands session.new }
 {
+    session.has_stream();
     let written = send_all(session, feed, link)?;
     if session.is_closed() {
         return Ok(Turn::Closed);

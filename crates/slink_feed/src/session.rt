@@ -1,21 +1,18 @@
 //! The session that serves one connection.
-ghost use Rattle.std.specs.Prelude.{◌≡◌, ◌≢◌, ◌⊎◌, ◌≤◌, ◌<◌, ◌++◌, List, ℕ, [], None, IfSome, length, option_map};
-ghost use Rattle.std.specs.Prelude.{replicate, slice_get, slice_set, take};
+ghost use Rattle.std.specs.Prelude.{◌≡◌, ◌≢◌, ◌≤◌, ◌<◌, ◌++◌, List, ℕ, [], None, length, option_map, replicate};
+ghost use Rattle.std.specs.Prelude.{slice_get, take};
 ghost use Rattle.std.specs.Bool.{OnFalse, OnTrue};
 ghost use Rattle.std.specs.Option.{ForSome};
-ghost use Rattle.slink_wire.specs.Lines.{Held, IsHeld, TellsNothing};
+ghost use Rattle.slink_wire.specs.Lines.{IsHeld, TellsNothing};
 ghost use Rattle.slink_feed.specs.declared.grant.Grant.{Grant};
 ghost use Rattle.slink_feed.specs.Window.{Window};
 ghost use Rattle.slink_feed.specs.Running.{Stands};
-ghost use Rattle.slink_feed.specs.Serving.{Answers, IsAnswer, TakesWhole};
-ghost use Rattle.slink_feed.specs.Session.{AreReached, Fits, all_done, answered, asked, at, at_next, chosen, ended};
-ghost use Rattle.slink_feed.specs.Session.{grant_at, in_chosen, in_fresh, in_granted, in_streaming, is_done, sent};
-ghost use Rattle.slink_feed.specs.Session.{sent_bytes, sent_from};
+ghost use Rattle.slink_feed.specs.Serving.{Answers, TakesWhole};
+ghost use Rattle.slink_feed.specs.Session.{Fits, at, grant_at, sent, sent_bytes};
 
+use crate::course::Course;
 use crate::feed::Feed;
-use crate::grant::{Grant, Mode, first_granted};
-use crate::ring::SPAN;
-use slink_wire::{Command, Lines, Packet, Reply, Took, What};
+use slink_wire::{Lines, Reply, Took};
 use std::alloc::Allocator;
 use std::marker::Model;
 
@@ -66,18 +63,20 @@ impl Sent {
 /// The session of one connection.
 #[derive(Drop)]
 pub struct Session {
-    phase: Phase,
-    grants: [Option<Grant>; 16],
+    course: Course,
     lines: Lines,
 }
 
 impl Model for Session {
-    ghost use Rattle.slink_feed.specs.Session.{at};
+    ghost use Rattle.slink_feed.specs.Running.{Stands};
     ghost use Rattle.slink_feed.specs.Serving.{Standing};
 
     ghost Value = { Standing };
 
-    ghost view = { λ s. record { state = at s.phase s.grants; held = s.lines } };
+    ghost view = { λ s. record { state = s.course; held = s.lines } };
+
+    // Unless it is closed, it stands for the stream that its link brought, in which no line is too long.
+    ghost invariant = { λ s. Stands (record { state = s.course; held = s.lines }) };
 }
 
 impl Session {
@@ -89,8 +88,7 @@ impl Session {
         ensures stands { Stands result }
     {
         Session {
-            phase: Phase::Fresh,
-            grants: [None; 16],
+            course: Course::new(),
             lines: Lines::new(),
         }
     }
@@ -114,20 +112,17 @@ impl Session {
             → n < result.0 → TellsNothing stream (stream ++ take n bytes.now) }
         ensures closed { self.old.state.phase ≡ Phase.Closed
             → (result.0 ≡ length bytes.now) × (result.1 ≡ Reply.Nothing) × (self.new ≡ self.old) }
-        // A session that stands for its stream takes some, where there are any.
-        ensures some { Stands self.old → 0 < length bytes.now → 0 < result.0 }
+        // It takes some, where there are any.
+        ensures some { 0 < length bytes.now → 0 < result.0 }
         ensures bound { result.0 ≤ length bytes.now }
         ensures fits { Fits feed.now self.new.state }
-        // What a turn requires of a session stays true.
-        ensures stands { Stands self.old → Stands self.new }
+        ensures stands { Stands self.new }
     {
-        match self.phase {
-            Phase::Closed => (bytes.len(), Reply::Nothing),
-            _ => {
-                let Took { used, what } = self.lines.take(bytes);
-                (used, self.answer_to(feed, what))
-            }
+        if self.course.is_closed() {
+            return (bytes.len(), Reply::Nothing);
         }
+        let Took { used, what } = self.lines.take(bytes);
+        (used, self.course.answer_to(feed, what))
     }
 
     /// The next packet of the place at an index of the feed.
@@ -139,88 +134,20 @@ impl Session {
         ensures sent { sent feed.now self.old.state k ≡ (self.new.state, result) }
         ensures held { self.new.held ≡ self.old.held }
         ensures fits { Fits feed.now self.new.state }
-        ensures stands { Stands self.old → Stands self.new }
+        ensures stands { Stands self.new }
         // The ring of a packet keeps at most 1,000,000 records.
         ensures few { (bytes : List ℕ) → result ≡ Sent.Packet bytes
             → ForSome (slice_get feed.now k) (λ w. length w.records ≤ 1000000) }
     {
-        match self.phase {
-            Phase::Fresh | Phase::Chosen(_) | Phase::Granted(_) => Sent::Wait,
-            Phase::Streaming => match self.grant_of(k) {
-                Some(grant) => self.packet_from(feed, k, grant),
-                None => Sent::Wait,
-            },
-            Phase::Closed => Sent::Closed,
-        }
+        self.course.packet(feed, k)
     }
 
-    /// The packet at a grant's position.
-    fn packet_from<A: Allocator>(&mut self, feed: &Feed<A>, k: usize, grant: Grant) -> Sent
-        requires in_range { k < length feed.now }
-        requires phase { self.old.state.phase ≡ Phase.Streaming }
-        requires fits { AreReached feed.now self.old.state.grants }
-        ensures sent { ForSome (slice_get feed.now k)
-            (λ w. sent_from feed.now self.old.state k grant w ≡ (self.new.state, result)) }
-        ensures held { self.new.held ≡ self.old.held }
-        ensures fits { Fits feed.now self.new.state }
-        ensures few { (bytes : List ℕ) → result ≡ Sent.Packet bytes
-            → ForSome (slice_get feed.now k) (λ w. length w.records ≤ 1000000) }
+    /// It stands for the stream that its link brought, unless it is closed. Nothing is done.
+    pub(crate) fn has_stream(&self)
+        ensures { Stands self.now }
     {
-        let ring = feed.ring(k);
-        if grant.position == ring.next() {
-            return self.at_next(feed);
-        }
-        match ring.get(grant.position) {
-            Some(bytes) => {
-                self.grants[k] = Some(Grant {
-                    mode: grant.mode,
-                    position: grant.position + 1,
-                });
-                Sent::Packet(Packet::write((grant.position % SPAN) as u32, bytes))
-            }
-            None => {
-                self.phase = Phase::Closed;
-                Sent::Overrun
-            }
-        }
-    }
-
-    /// Closes where all that was granted is fetched.
-    fn at_next<A: Allocator>(&mut self, feed: &Feed<A>) -> Sent
-        ensures sent { at_next (all_done feed.now self.old.state.grants) self.old.state ≡ (self.new.state, result) }
-        ensures held { self.new.held ≡ self.old.held }
-        ensures grants { self.new.state.grants ≡ self.old.state.grants }
-        ensures phase { (self.new.state.phase ≡ self.old.state.phase) ⊎ (self.new.state.phase ≡ Phase.Closed) }
-        ensures none { (bytes : List ℕ) → result ≢ Sent.Packet bytes }
-    {
-        if !self.is_done(feed) {
-            return Sent::Wait;
-        }
-        self.phase = Phase::Closed;
-        Sent::Done
-    }
-
-    /// Whether all that was granted is fetched.
-    fn is_done<A: Allocator>(&self, feed: &Feed<A>) -> bool
-        ensures { result ≡ all_done feed.now self.now.state.grants }
-    {
-        for k in 0..feed.len() {
-            if !self.is_place_done(feed, k) {
-                return false;
-            }
-        }
-        true
-    }
-
-    /// Whether what was granted of a place is fetched.
-    fn is_place_done<A: Allocator>(&self, feed: &Feed<A>, k: usize) -> bool
-        requires { k < length feed.now }
-        ensures { ForSome (slice_get feed.now k) (λ w. result ≡ is_done w (grant_at self.now.state.grants k)) }
-    {
-        match self.grant_of(k) {
-            Some(grant) => grant.is_fetched(feed.ring(k).next()),
-            None => true,
-        }
+        // The prover learns here what is true of every session.
+        let _ = &self.course;
     }
 
     /// Whether nothing more is answered or sent.
@@ -228,182 +155,16 @@ impl Session {
         ensures yes { OnTrue result (self.now.state.phase ≡ Phase.Closed) }
         ensures no { OnFalse result (self.now.state.phase ≢ Phase.Closed) }
     {
-        match self.phase {
-            Phase::Closed => true,
-            Phase::Fresh | Phase::Chosen(_) | Phase::Granted(_) | Phase::Streaming => false,
-        }
+        self.course.is_closed()
     }
 
     /// The number of the record that is sent next of a place that has a grant.
     pub fn position(&self, k: usize) -> Option<u64>
         ensures { result ≡ option_map (λ (g : Grant). g.position) (grant_at self.now.state.grants k) }
     {
-        match self.grant_of(k) {
+        match self.course.grant_of(k) {
             Some(grant) => Some(grant.position),
             None => None,
         }
-    }
-
-    /// The grant of a place.
-    fn grant_of(&self, k: usize) -> Option<Grant>
-        ensures { result ≡ grant_at self.now.state.grants k }
-    {
-        match self.grants.get(k) {
-            Some(grant) => *grant,
-            None => None,
-        }
-    }
-
-    /// Answers a command.
-    fn answer<A: Allocator>(&mut self, feed: &Feed<A>, command: Command) -> Reply
-        requires { Fits feed.now self.old.state }
-        ensures answered { answered feed.now self.old.state command ≡ (self.new.state, result) }
-        ensures held { self.new.held ≡ self.old.held }
-    {
-        match self.phase {
-            Phase::Fresh => self.in_fresh(feed, command),
-            Phase::Chosen(k) => self.in_chosen(feed, k, command),
-            Phase::Granted(k) => self.in_granted(feed, k, command),
-            Phase::Streaming => self.in_streaming(command),
-            Phase::Closed => Reply::Nothing,
-        }
-    }
-
-    /// Answers what bytes of the stream told.
-    fn answer_to<A: Allocator>(&mut self, feed: &Feed<A>, what: What) -> Reply
-        requires { Fits feed.now self.old.state }
-        ensures answer { IsAnswer feed.now self.old.state what self.new.state result }
-        ensures held { self.new.held ≡ self.old.held }
-        ensures fits { Fits feed.now self.new.state }
-    {
-        match what {
-            What::More => Reply::Nothing,
-            What::Line(line) => self.answer(feed, Command::read(line.as_slice())),
-            What::TooLong => self.end(),
-        }
-    }
-
-    /// Answers a command before a place is chosen.
-    fn in_fresh<A: Allocator>(&mut self, feed: &Feed<A>, command: Command) -> Reply
-        ensures answered { in_fresh feed.now self.old.state command ≡ (self.new.state, result) }
-        ensures held { self.new.held ≡ self.old.held }
-    {
-        match command {
-            Command::Hello => Reply::Hello,
-            Command::Station { sta, net } => self.choose(feed.find(&sta, net)),
-            Command::Bye => self.close(),
-            Command::SelectAll => Reply::Error,
-            Command::Data(_) | Command::Fetch(_) | Command::End | Command::Other => Reply::Error,
-        }
-    }
-
-    /// Answers a command where a place is chosen that has no grant.
-    fn in_chosen<A: Allocator>(&mut self, feed: &Feed<A>, k: usize, command: Command) -> Reply
-        requires { k < length feed.now }
-        ensures answered { in_chosen feed.now k self.old.state command ≡ (self.new.state, result) }
-        ensures held { self.new.held ≡ self.old.held }
-    {
-        match command {
-            Command::Hello => Reply::Hello,
-            Command::Station { sta, net } => self.choose(feed.find(&sta, net)),
-            Command::SelectAll => Reply::Ok,
-            Command::Data(number) => self.ask(feed, k, Mode::Data, number),
-            Command::Fetch(number) => self.ask(feed, k, Mode::Fetch, number),
-            Command::Bye => self.close(),
-            Command::End | Command::Other => Reply::Error,
-        }
-    }
-
-    /// Answers a command where a place is chosen that has a grant.
-    fn in_granted<A: Allocator>(&mut self, feed: &Feed<A>, k: usize, command: Command) -> Reply
-        requires { k < length feed.now }
-        ensures answered { in_granted feed.now k self.old.state command ≡ (self.new.state, result) }
-        ensures held { self.new.held ≡ self.old.held }
-    {
-        match command {
-            Command::Hello => Reply::Hello,
-            Command::Station { sta, net } => self.choose(feed.find(&sta, net)),
-            Command::SelectAll => Reply::Ok,
-            Command::Data(number) => self.ask(feed, k, Mode::Data, number),
-            Command::Fetch(number) => self.ask(feed, k, Mode::Fetch, number),
-            Command::End => {
-                self.phase = Phase::Streaming;
-                Reply::Nothing
-            }
-            Command::Bye => self.close(),
-            Command::Other => Reply::Error,
-        }
-    }
-
-    /// Answers a command while records are sent.
-    fn in_streaming(&mut self, command: Command) -> Reply
-        ensures answered { in_streaming self.old.state command ≡ (self.new.state, result) }
-        ensures held { self.new.held ≡ self.old.held }
-    {
-        match command {
-            Command::Bye => self.close(),
-            _ => Reply::Nothing,
-        }
-    }
-
-    /// Chooses a place, whose grant is dropped.
-    fn choose(&mut self, k: Option<usize>) -> Reply
-        requires { IfSome k (λ k. k < 16) }
-        ensures answered { chosen k self.old.state ≡ (self.new.state, result) }
-        ensures held { self.new.held ≡ self.old.held }
-    {
-        match k {
-            Some(k) => {
-                self.grants[k] = None;
-                self.phase = Phase::Chosen(k);
-                Reply::Ok
-            }
-            None => Reply::Error,
-        }
-    }
-
-    /// Grants what is asked for of the chosen place, if it can be had.
-    fn ask<A: Allocator>(
-        &mut self,
-        feed: &Feed<A>,
-        k: usize,
-        mode: Mode,
-        number: Option<u32>,
-    ) -> Reply
-        requires { k < length feed.now }
-        ensures answered { asked feed.now k mode number self.old.state ≡ (self.new.state, result) }
-        ensures held { self.new.held ≡ self.old.held }
-    {
-        match first_granted(feed.ring(k), mode, number) {
-            Some(position) => {
-                self.grants[k] = Some(Grant { mode, position });
-                self.phase = Phase::Granted(k);
-                Reply::Ok
-            }
-            None => Reply::Error,
-        }
-    }
-
-    /// Closes, and answers nothing.
-    fn close(&mut self) -> Reply
-        ensures state { self.new.state ≡ at Phase.Closed self.old.state.grants }
-        ensures reply { result ≡ Reply.Nothing }
-        ensures held { self.new.held ≡ self.old.held }
-    {
-        self.phase = Phase::Closed;
-        Reply::Nothing
-    }
-
-    /// Closes since a line is too long.
-    fn end(&mut self) -> Reply
-        ensures answered { ended self.old.state ≡ (self.new.state, result) }
-        ensures held { self.new.held ≡ self.old.held }
-    {
-        let reply = match self.phase {
-            Phase::Fresh | Phase::Chosen(_) | Phase::Granted(_) => Reply::Error,
-            Phase::Streaming | Phase::Closed => Reply::Nothing,
-        };
-        self.phase = Phase::Closed;
-        reply
     }
 }

@@ -165,4 +165,4 @@ none_happen w (s ∷ ss) (suc i) past = none_happen w ss i (omega (arith, past))
 pub serving_on : (feed new : List Window) (link : Option LinkState) → ((s : State) → Fits feed s → Fits new s)
     → IfSome link (IsServing feed) → IfSome link (IsServing new)
 serving_on feed new None fits serving = tt
-serving_on feed new (Some l) fits serving = (fits l.session.state serving.0, serving.1)
+serving_on feed new (Some l) fits serving = fits l.session.state serving

@@ -7,7 +7,6 @@ use Rattle.slink_feed.specs.Cutting.{IsBegun}
 use Rattle.slink_feed.specs.Listening.{Listening}
 use Rattle.slink_feed.specs.Session.{Fits}
 use Rattle.slink_feed.specs.Window.{Window}
-use Rattle.slink_feed.specs.Running.{Stands}
 use Rattle.slink_model.specs.World.{LinkState, WorldState}
 
 -- What a client keeps is begun.
@@ -15,7 +14,7 @@ abbrev pub Keeps : Listening → Type 0
 Keeps c = IsBegun c.talk.stage c.kept
 
 abbrev pub IsServing : List Window → LinkState → Type 0
-IsServing feed l = Fits feed l.session.state × Stands l.session
+IsServing feed l = Fits feed l.session.state
 
 pub record IsRunning (w : WorldState) : Type 0 where
   pub client : Keeps w.client

@@ -1,7 +1,6 @@
 //! How bytes are carried from one end of a link to the other.
 ghost use Rattle.std.specs.Prelude.{◌≡◌, ◌++◌, ◌<◌, ◌≤◌, ℕ, List, [], ◌∷◌, drop, length, take, OnOk};
 ghost use Rattle.slink_feed.specs.Listening.{IsLinked, Listening};
-ghost use Rattle.slink_feed.specs.Running.{Stands};
 ghost use Rattle.slink_feed.specs.Serving.{Serves};
 ghost use Rattle.slink_feed.specs.Session.{Fits};
 ghost use Rattle.slink_model.specs.Running.{Keeps};
@@ -74,12 +73,10 @@ pub(crate) fn serve_bytes(
     bytes: &[u8],
     to_client: &mut Vec<u8>,
 ) -> Result<(), Memory>
-    requires fits { Fits feed.now session.old.state }
-    requires stands { Stands session.old }
+    requires { Fits feed.now session.old.state }
     ensures serves { OnOk result
         (Serves feed.now session.old bytes.now to_client.old.items session.new to_client.new.items) }
     ensures fits { Fits feed.now session.new.state }
-    ensures stands { Stands session.new }
 {
     let mut start = 0;
     while start < bytes.len() {

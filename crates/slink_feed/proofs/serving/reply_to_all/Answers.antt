@@ -36,10 +36,10 @@ loop-start-preserved g c =
             closed = λ shut. ((c.take-used.ensures.closed shut).1, (c.take-used.ensures.closed shut).2);
           })
           c.in_ok-written.written
-          (c.take-used.ensures.some c.loop-start.invariant.stands (omega (arith, long, c.loop-start-test.true)))
+          (c.take-used.ensures.some (omega (arith, long, c.loop-start-test.true)))
           (omega (arith, long, c.take-used.ensures.bound)) done;
       fits = c.take-used.ensures.fits;
-      stands = (c.take-used.ensures.stands c.loop-start.invariant.stands);
+      stands = c.take-used.ensures.stands;
       beside = c.say.ensures.beside ∙ c.loop-start.invariant.beside;
     }
 
@@ -67,11 +67,11 @@ returns-in_err-written-clause-fault g c =
     (err_from_is_err_and c.from_residual.result c.from_residual.ensures.1) fails
 
 pub returns-in_err-written-clause-stands : goal.returns-in_err-written-clause-stands
-returns-in_err-written-clause-stands g c = c.take-used.ensures.stands c.loop-start.invariant.stands
+returns-in_err-written-clause-stands g c = c.take-used.ensures.stands
 
 pub loop-start-smaller : goal.loop-start-smaller
 loop-start-smaller g c =
     let long : length (take (length c.args.bytes.now - c.loop-start.start) (drop c.loop-start.start c.args.bytes.now))
     ≡ length c.args.bytes.now - c.loop-start.start = piece_length c.args.bytes.now c.loop-start.start in
-    let some = c.take-used.ensures.some c.loop-start.invariant.stands (omega (arith, long, c.loop-start-test.true)) in
+    let some = c.take-used.ensures.some (omega (arith, long, c.loop-start-test.true)) in
     omega (arith, some, long, c.take-used.ensures.bound, c.loop-start-test.true)

@@ -102,7 +102,7 @@ loop-waits-preserved g c =
           (subst (λ (n : ℕ). SentSoFar c.args.feed.now old new (place_behind c.args.feed.now c.loop-waits.k) n
           c.in_ok-written.written) (sym c.count_waits-waits.ensures) so_far);
       fits = c.packet-sent.ensures.fits;
-      stands = c.packet-sent.ensures.stands c.loop-waits.invariant.stands;
+      stands = c.packet-sent.ensures.stands;
       beside = c.say.ensures.beside ∙ c.loop-waits.invariant.beside;
     }
 

@@ -6,7 +6,6 @@ use Rattle.slink_links.proofs.serving.serve_link.Goals as goal
 pub loop-turn-init : goal.loop-turn-init
 loop-turn-init g c = record {
   fits = c.new-session.ensures.fits c.args.feed.now;
-  stands = c.new-session.ensures.stands;
   serving = serving_none c.args.feed.now (g.S.Source.read c.args.link.now) (g.S.Sink.written c.args.link.now)
       c.new-session.result
       (record { state = c.new-session.ensures.state; held = c.new-session.ensures.held });
@@ -33,7 +32,6 @@ returns-after-loop-turn g c =
 pub loop-turn-preserved : goal.loop-turn-preserved
 loop-turn-preserved g c = record {
   fits = c.serve_turn.ensures.fits;
-  stands = c.serve_turn.ensures.stands;
   serving = serving_more c.args.feed.now c.loop-turn.turn (g.S.Source.read c.args.link.now)
       (g.S.Source.read c.loop-turn.link) (g.S.Source.read c.serve_turn.new.link)
       (g.S.Sink.written c.args.link.now) (g.S.Sink.written c.loop-turn.link) (g.S.Sink.written c.serve_turn.new.link)

@@ -8,7 +8,6 @@ pub loop-start-preserved : goal.loop-start-preserved
 loop-start-preserved c = record {
   within = omega (arith, c.take-used.ensures.bound, c.loop-start.invariant.within);
   fits = c.take-used.ensures.fits;
-  stands = c.take-used.ensures.stands c.loop-start.invariant.stands;
   rest = λ last all more. c.loop-start.invariant.rest last all
       (serves_more c.args.feed.now c.loop-start.session c.take-used.new.self last c.args.bytes.now c.loop-start.start
       c.take-used.result.0 c.loop-start.to_client.items c.add_bytes.new.queue.items all c.take-used.result.1

@@ -1,15 +1,15 @@
-use Rattle.std.proofs.Common.{None, refl, replicate}
-use Rattle.slink_feed.specs.declared.session.Phase.TheVariants.{Fresh}
 use Rattle.slink_feed.specs.Serving.{Standing}
-use Rattle.slink_feed.specs.Session.{at}
 use Rattle.slink_feed.proofs.Fitting.{fits_new}
 use Rattle.slink_feed.proofs.Stands.{new_stands}
 use Rattle.slink_feed.proofs.session.Session.new.Goals as goal
 
+pub invariant_of-result : goal.invariant_of-result
+invariant_of-result c =
+    let s : Standing = record { state = c.new.result; held = c.new-2.result } in
+    new_stands s c.new-2.ensures
+
 pub returns-clause-fits : goal.returns-clause-fits
-returns-clause-fits c feed = fits_new feed _ refl
+returns-clause-fits c feed = fits_new feed c.new.result c.new.ensures
 
 pub returns-clause-stands : goal.returns-clause-stands
-returns-clause-stands c =
-    let s : Standing = record { state = at Fresh (replicate 16 None); held = c.new.result } in
-    new_stands s c.new.ensures
+returns-clause-stands c = invariant_of-result c

@@ -1,19 +1,18 @@
 use Rattle.std.proofs.Common.{◌≡◌, ◌+◌, ap, subst, sym, ◌∙◌}
 use Rattle.slink_feed.specs.declared.session.Phase.TheVariants.{Streaming}
-use Rattle.slink_feed.specs.Serving.{Standing}
-use Rattle.slink_feed.specs.Session.{AreReached, IsChosenOf}
+use Rattle.slink_feed.specs.Session.{AreReached, IsChosenOf, State}
 use Rattle.slink_feed.proofs.Reached.{reached_next, reached_with}
-use Rattle.slink_feed.proofs.session.Session.packet_from.Goals as goal
+use Rattle.slink_feed.proofs.course.Course.packet_from.Goals as goal
 
 pub returns-in-Some-clause-fits : goal.returns-in-Some-clause-fits
 returns-in-Some-clause-fits g c =
-    let streams : c.self.inside.phase ≡ Streaming = ap (λ (s : Standing). s.state.phase) c.self.view_is
+    let streams : c.self.inside.phase ≡ Streaming = ap (λ (s : State). s.phase) c.self.view_is
     ∙ c.requires.phase in (
       subst (IsChosenOf c.args.feed.now) (sym streams) tt,
       reached_with c.args.feed.now c.self.inside.grants c.args.k
           (record { mode = c.args.grant.mode; position = c.args.grant.position + 1 })
           (reached_next c.args.feed.now c.args.k c.ring-ring.result.now c.args.grant.position c.ring-ring.ensures.ring
           c.in-Some.ensures.within)
-          (subst (AreReached c.args.feed.now) (sym (ap (λ (s : Standing). s.state.grants) c.self.view_is))
+          (subst (AreReached c.args.feed.now) (sym (ap (λ (s : State). s.grants) c.self.view_is))
           c.requires.fits),
     )

@@ -1,0 +1,296 @@
+//! Where a session stands: which commands it answers how, and which packets it sends.
+ghost use Rattle.std.specs.Prelude.{◌≡◌, ◌≢◌, ◌⊎◌, ◌≤◌, ◌<◌, List, ℕ, None, IfSome, length, replicate, slice_get};
+ghost use Rattle.std.specs.Bool.{OnFalse, OnTrue};
+ghost use Rattle.std.specs.Option.{ForSome};
+ghost use Rattle.slink_feed.specs.declared.grant.Grant.{Grant};
+ghost use Rattle.slink_feed.specs.declared.session.Phase.{Phase};
+ghost use Rattle.slink_feed.specs.declared.session.Sent.{Sent};
+ghost use Rattle.slink_feed.specs.Serving.{IsAnswer};
+ghost use Rattle.slink_feed.specs.Session.{AreReached, Fits, all_done, answered, asked, at, at_next, chosen, ended};
+ghost use Rattle.slink_feed.specs.Session.{grant_at, in_chosen, in_fresh, in_granted, in_streaming, is_done, sent};
+ghost use Rattle.slink_feed.specs.Session.{sent_from};
+
+use crate::feed::Feed;
+use crate::grant::{Grant, Mode, first_granted};
+use crate::ring::SPAN;
+use crate::session::{Phase, Sent};
+use slink_wire::{Command, Packet, Reply, What};
+use std::alloc::Allocator;
+use std::marker::Model;
+
+/// The phase of a session, and the grants of the places.
+#[derive(Drop)]
+pub(crate) struct Course {
+    phase: Phase,
+    grants: [Option<Grant>; 16],
+}
+
+impl Model for Course {
+    ghost use Rattle.slink_feed.specs.Session.{State, at};
+
+    ghost Value = { State };
+
+    ghost view = { λ c. at c.phase c.grants };
+}
+
+impl Course {
+    /// No place is chosen, and none has a grant.
+    pub(crate) fn new() -> Course
+        ensures { result ≡ at Phase.Fresh (replicate 16 None) }
+    {
+        Course {
+            phase: Phase::Fresh,
+            grants: [None; 16],
+        }
+    }
+
+    /// Whether nothing more is answered or sent.
+    pub(crate) fn is_closed(&self) -> bool
+        ensures yes { OnTrue result (self.now.phase ≡ Phase.Closed) }
+        ensures no { OnFalse result (self.now.phase ≢ Phase.Closed) }
+    {
+        match self.phase {
+            Phase::Closed => true,
+            Phase::Fresh | Phase::Chosen(_) | Phase::Granted(_) | Phase::Streaming => false,
+        }
+    }
+
+    /// The next packet of the place at an index of the feed.
+    pub(crate) fn packet<A: Allocator>(&mut self, feed: &Feed<A>, k: usize) -> Sent
+        requires in_range { k < length feed.now }
+        requires fits { Fits feed.now self.old }
+        ensures sent { sent feed.now self.old k ≡ (self.new, result) }
+        ensures fits { Fits feed.now self.new }
+        ensures few { (bytes : List ℕ) → result ≡ Sent.Packet bytes
+            → ForSome (slice_get feed.now k) (λ w. length w.records ≤ 1000000) }
+    {
+        match self.phase {
+            Phase::Fresh | Phase::Chosen(_) | Phase::Granted(_) => Sent::Wait,
+            Phase::Streaming => match self.grant_of(k) {
+                Some(grant) => self.packet_from(feed, k, grant),
+                None => Sent::Wait,
+            },
+            Phase::Closed => Sent::Closed,
+        }
+    }
+
+    /// The packet at a grant's position.
+    fn packet_from<A: Allocator>(&mut self, feed: &Feed<A>, k: usize, grant: Grant) -> Sent
+        requires in_range { k < length feed.now }
+        requires phase { self.old.phase ≡ Phase.Streaming }
+        requires fits { AreReached feed.now self.old.grants }
+        ensures sent { ForSome (slice_get feed.now k)
+            (λ w. sent_from feed.now self.old k grant w ≡ (self.new, result)) }
+        ensures fits { Fits feed.now self.new }
+        ensures few { (bytes : List ℕ) → result ≡ Sent.Packet bytes
+            → ForSome (slice_get feed.now k) (λ w. length w.records ≤ 1000000) }
+    {
+        let ring = feed.ring(k);
+        if grant.position == ring.next() {
+            return self.at_next(feed);
+        }
+        match ring.get(grant.position) {
+            Some(bytes) => {
+                self.grants[k] = Some(Grant {
+                    mode: grant.mode,
+                    position: grant.position + 1,
+                });
+                Sent::Packet(Packet::write((grant.position % SPAN) as u32, bytes))
+            }
+            None => {
+                self.phase = Phase::Closed;
+                Sent::Overrun
+            }
+        }
+    }
+
+    /// Closes where all that was granted is fetched.
+    fn at_next<A: Allocator>(&mut self, feed: &Feed<A>) -> Sent
+        ensures sent { at_next (all_done feed.now self.old.grants) self.old ≡ (self.new, result) }
+        ensures grants { self.new.grants ≡ self.old.grants }
+        ensures phase { (self.new.phase ≡ self.old.phase) ⊎ (self.new.phase ≡ Phase.Closed) }
+        ensures none { (bytes : List ℕ) → result ≢ Sent.Packet bytes }
+    {
+        if !self.is_done(feed) {
+            return Sent::Wait;
+        }
+        self.phase = Phase::Closed;
+        Sent::Done
+    }
+
+    /// Whether all that was granted is fetched.
+    fn is_done<A: Allocator>(&self, feed: &Feed<A>) -> bool
+        ensures { result ≡ all_done feed.now self.now.grants }
+    {
+        for k in 0..feed.len() {
+            if !self.is_place_done(feed, k) {
+                return false;
+            }
+        }
+        true
+    }
+
+    /// Whether what was granted of a place is fetched.
+    fn is_place_done<A: Allocator>(&self, feed: &Feed<A>, k: usize) -> bool
+        requires { k < length feed.now }
+        ensures { ForSome (slice_get feed.now k) (λ w. result ≡ is_done w (grant_at self.now.grants k)) }
+    {
+        match self.grant_of(k) {
+            Some(grant) => grant.is_fetched(feed.ring(k).next()),
+            None => true,
+        }
+    }
+
+    /// The grant of a place.
+    pub(crate) fn grant_of(&self, k: usize) -> Option<Grant>
+        ensures { result ≡ grant_at self.now.grants k }
+    {
+        match self.grants.get(k) {
+            Some(grant) => *grant,
+            None => None,
+        }
+    }
+
+    /// Answers a command.
+    fn answer<A: Allocator>(&mut self, feed: &Feed<A>, command: Command) -> Reply
+        requires { Fits feed.now self.old }
+        ensures answered { answered feed.now self.old command ≡ (self.new, result) }
+    {
+        match self.phase {
+            Phase::Fresh => self.in_fresh(feed, command),
+            Phase::Chosen(k) => self.in_chosen(feed, k, command),
+            Phase::Granted(k) => self.in_granted(feed, k, command),
+            Phase::Streaming => self.in_streaming(command),
+            Phase::Closed => Reply::Nothing,
+        }
+    }
+
+    /// Answers what bytes of the stream told.
+    pub(crate) fn answer_to<A: Allocator>(&mut self, feed: &Feed<A>, what: What) -> Reply
+        requires { Fits feed.now self.old }
+        ensures answer { IsAnswer feed.now self.old what self.new result }
+        ensures fits { Fits feed.now self.new }
+    {
+        match what {
+            What::More => Reply::Nothing,
+            What::Line(line) => self.answer(feed, Command::read(line.as_slice())),
+            What::TooLong => self.end(),
+        }
+    }
+
+    /// Answers a command before a place is chosen.
+    fn in_fresh<A: Allocator>(&mut self, feed: &Feed<A>, command: Command) -> Reply
+        ensures answered { in_fresh feed.now self.old command ≡ (self.new, result) }
+    {
+        match command {
+            Command::Hello => Reply::Hello,
+            Command::Station { sta, net } => self.choose(feed.find(&sta, net)),
+            Command::Bye => self.close(),
+            Command::SelectAll => Reply::Error,
+            Command::Data(_) | Command::Fetch(_) | Command::End | Command::Other => Reply::Error,
+        }
+    }
+
+    /// Answers a command where a place is chosen that has no grant.
+    fn in_chosen<A: Allocator>(&mut self, feed: &Feed<A>, k: usize, command: Command) -> Reply
+        requires { k < length feed.now }
+        ensures answered { in_chosen feed.now k self.old command ≡ (self.new, result) }
+    {
+        match command {
+            Command::Hello => Reply::Hello,
+            Command::Station { sta, net } => self.choose(feed.find(&sta, net)),
+            Command::SelectAll => Reply::Ok,
+            Command::Data(number) => self.ask(feed, k, Mode::Data, number),
+            Command::Fetch(number) => self.ask(feed, k, Mode::Fetch, number),
+            Command::Bye => self.close(),
+            Command::End | Command::Other => Reply::Error,
+        }
+    }
+
+    /// Answers a command where a place is chosen that has a grant.
+    fn in_granted<A: Allocator>(&mut self, feed: &Feed<A>, k: usize, command: Command) -> Reply
+        requires { k < length feed.now }
+        ensures answered { in_granted feed.now k self.old command ≡ (self.new, result) }
+    {
+        match command {
+            Command::Hello => Reply::Hello,
+            Command::Station { sta, net } => self.choose(feed.find(&sta, net)),
+            Command::SelectAll => Reply::Ok,
+            Command::Data(number) => self.ask(feed, k, Mode::Data, number),
+            Command::Fetch(number) => self.ask(feed, k, Mode::Fetch, number),
+            Command::End => {
+                self.phase = Phase::Streaming;
+                Reply::Nothing
+            }
+            Command::Bye => self.close(),
+            Command::Other => Reply::Error,
+        }
+    }
+
+    /// Answers a command while records are sent.
+    fn in_streaming(&mut self, command: Command) -> Reply
+        ensures answered { in_streaming self.old command ≡ (self.new, result) }
+    {
+        match command {
+            Command::Bye => self.close(),
+            _ => Reply::Nothing,
+        }
+    }
+
+    /// Chooses a place, whose grant is dropped.
+    fn choose(&mut self, k: Option<usize>) -> Reply
+        requires { IfSome k (λ k. k < 16) }
+        ensures answered { chosen k self.old ≡ (self.new, result) }
+    {
+        match k {
+            Some(k) => {
+                self.grants[k] = None;
+                self.phase = Phase::Chosen(k);
+                Reply::Ok
+            }
+            None => Reply::Error,
+        }
+    }
+
+    /// Grants what is asked for of the chosen place, if it can be had.
+    fn ask<A: Allocator>(
+        &mut self,
+        feed: &Feed<A>,
+        k: usize,
+        mode: Mode,
+        number: Option<u32>,
+    ) -> Reply
+        requires { k < length feed.now }
+        ensures answered { asked feed.now k mode number self.old ≡ (self.new, result) }
+    {
+        match first_granted(feed.ring(k), mode, number) {
+            Some(position) => {
+                self.grants[k] = Some(Grant { mode, position });
+                self.phase = Phase::Granted(k);
+                Reply::Ok
+            }
+            None => Reply::Error,
+        }
+    }
+
+    /// Closes, and answers nothing.
+    fn close(&mut self) -> Reply
+        ensures state { self.new ≡ at Phase.Closed self.old.grants }
+        ensures reply { result ≡ Reply.Nothing }
+    {
+        self.phase = Phase::Closed;
+        Reply::Nothing
+    }
+
+    /// Closes since a line is too long.
+    fn end(&mut self) -> Reply
+        ensures answered { ended self.old ≡ (self.new, result) }
+    {
+        let reply = match self.phase {
+            Phase::Fresh | Phase::Chosen(_) | Phase::Granted(_) => Reply::Error,
+            Phase::Streaming | Phase::Closed => Reply::Nothing,
+        };
+        self.phase = Phase::Closed;
+        reply
+    }
+}
