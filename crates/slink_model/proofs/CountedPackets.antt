@@ -71,7 +71,7 @@ packets_ended (Carried k n r ∷ ps) e are all =
 packets_ended (Finished ∷ ps) e are all = absurd are
 
 -- behind the replies
-behind_replies : (places delivered : ℕ) (ps : List Item) → 8 * places ≤ delivered
+pub behind_replies : (places delivered : ℕ) (ps : List Item) → 8 * places ≤ delivered
     → wholes delivered (replicate (2 * places) Accepted ++ ps) ≡ replicate (2 * places) Accepted ++ wholes
     (delivered - 8 * places) ps
 behind_replies places delivered ps le =

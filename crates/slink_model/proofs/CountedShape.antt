@@ -137,17 +137,17 @@ read_packets places (i ∷ is) t p sent borne linked =
     one_read Finished sent borne there = absurd there
 
 -- the items that are whole, and the others
-wholes_behind : (is : List Item) (d : ℕ) → is ≡ wholes d is ++ behind d is
+pub wholes_behind : (is : List Item) (d : ℕ) → is ≡ wholes d is ++ behind d is
 wholes_behind [] d = refl
 wholes_behind (i ∷ is) d =
     whole_or i is d (λ ws bs p. i ∷ is ≡ ws ++ bs)
     (λ fits. ap (λ xs. i ∷ xs) (wholes_behind is (d - length (item_bytes i)))) (λ lt. refl)
 
-sent_prefix : (xs ys : List Item) → AreSent (xs ++ ys) → AreSent xs
+pub sent_prefix : (xs ys : List Item) → AreSent (xs ++ ys) → AreSent xs
 sent_prefix [] ys h = tt
 sent_prefix (x ∷ xs) ys h = (h.0, sent_prefix xs ys h.1)
 
-borne_prefix : (places : Places) (xs ys : List Item) → AreBorne places (xs ++ ys) → AreBorne places xs
+pub borne_prefix : (places : Places) (xs ys : List Item) → AreBorne places (xs ++ ys) → AreBorne places xs
 borne_prefix places [] ys h = tt
 borne_prefix places (x ∷ xs) ys h = (h.0, borne_prefix places xs ys h.1)
 

@@ -268,7 +268,8 @@ module _ (setup : Setup) (differ : Differ setup.places.items) (codes : (k : ℕ)
       subst (IsWorld (counted_step setup (beside w q) Cut)) (sym h)
       (record { link = None; is = refl; windows = windows; counts = tt })
 
-  next_world : (w v : WorldState) (c : Counted) (step : Step) → 0 < length places → IsOf places step → Happens w step v
+  pub next_world : (w v : WorldState) (c : Counted) (step : Step) → 0 < length places → IsOf places step
+      → Happens w step v
       → Talks w → Keeps w → IsWorld c w → IsWorld (counted_step setup c step) v
   next_world w v c step some of h t keeps i =
       subst (λ (x : Counted). IsWorld (counted_step setup x step) v) (sym i.is)
@@ -293,7 +294,7 @@ module _ (setup : Setup) (differ : Differ setup.places.items) (codes : (k : ℕ)
         few = k.delivered_few;
       }
 
-  facts_of : (c : Counted) (w : WorldState) → IsWorld c w → AreFacts places c.talk c.link
+  pub facts_of : (c : Counted) (w : WorldState) → IsWorld c w → AreFacts places c.talk c.link
   facts_of c w i = subst (λ (x : Counted). AreFacts places x.talk x.link) (sym i.is)
       (facts_beside w.client i.link w.link i.counts)
 
@@ -343,7 +344,7 @@ module _ (setup : Setup) (differ : Differ setup.places.items) (codes : (k : ℕ)
   })
 
 -- before the first step
-opening_shown : (setup : Setup) (ps : Places) → map (empty_window setup) ps ≡ shown_all setup ps (map (λ p. []) ps)
+pub opening_shown : (setup : Setup) (ps : Places) → map (empty_window setup) ps ≡ shown_all setup ps (map (λ p. []) ps)
 opening_shown setup [] = refl
 opening_shown setup (p ∷ ps) =
     let one : empty_window setup p ≡ shown_of setup p [] =

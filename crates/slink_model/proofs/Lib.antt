@@ -3,6 +3,7 @@ pub mod Calling
 pub mod Commanded
 pub mod Counted
 pub mod CountedRead
+pub mod CountedHeld
 pub mod CountedPackets
 pub mod CountedSent
 pub mod CountedShape

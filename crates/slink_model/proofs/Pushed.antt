@@ -32,7 +32,7 @@ no_choice j k b ne = elim (eqb_tells j k) [
   | inr other ↦ ap (λ t. if t then b ∷ [] else []) other.0
 ]
 
-one_more : (lists : Lists) (j k : ℕ) (b : List ℕ) → j < length lists
+pub one_more : (lists : Lists) (j k : ℕ) (b : List ℕ) → j < length lists
     → get_or (with_one lists j b) k [] ≡ get_or lists k [] ++ appended_by k (Append j b)
 one_more lists j k b lt = elim (same_or_not k j) [
   | inl e ↦ subst (λ i. get_or (with_one lists j b) i [] ≡ get_or lists i [] ++ appended_by i (Append j b)) (sym e)

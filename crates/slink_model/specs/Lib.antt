@@ -7,6 +7,7 @@ pub mod Calling
 pub mod Pushed
 pub mod Going
 pub mod Counted
+pub mod Whole
 pub mod Relay
 pub mod Relaying
 pub mod Keeping

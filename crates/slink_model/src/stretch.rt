@@ -1,16 +1,19 @@
 //! The laws of a feed over every schedule.
 ghost use Rattle.std.specs.Prelude.{◌≡◌, ℕ, ◌∷◌, ◌++◌, ◌+◌, ◌-◌, ◌*◌, ◌/◌, ◌<◌, ◌≤◌, All, List, [], Some, length};
 ghost use Rattle.std.specs.Prelude.{replicate, slice_index_or, take};
+ghost use Rattle.slink_feed.specs.declared.dialogue.Stage.{Stage};
 ghost use Rattle.slink_model.specs.declared.world.Setup.{Setup};
 ghost use Rattle.slink_model.specs.declared.world.Step.{Step};
 ghost use Rattle.slink_model.specs.Calling.{AreAnswered};
-ghost use Rattle.slink_model.specs.Counted.{ArePackets, AreStreamed, IsCounted, counted_after, counted_opening, wholes};
+ghost use Rattle.slink_model.specs.Counted.{ArePackets, AreStreamed, CountedLink, IsCounted, counted_after};
+ghost use Rattle.slink_model.specs.Counted.{counted_opening, wholes};
 ghost use Rattle.slink_model.specs.Going.{GoesOn};
 ghost use Rattle.slink_feed.specs.Listening.{IsLinked};
 ghost use Rattle.slink_model.specs.Pushed.{appended};
 ghost use Rattle.slink_model.specs.Spared.{AreAskable, IsSpared};
 ghost use Rattle.slink_model.specs.Stretch.{HoldsStretches, IsCarried, IsSchedule, LackFew, Resumes};
 ghost use Rattle.slink_model.specs.Ties.{Accepted, Finished, Item};
+ghost use Rattle.slink_model.specs.Whole.{HoldsMore, HoldsWhole, KeepsLink};
 ghost use Rattle.slink_model.specs.World.{AllHappen, Happens, IsOf, LinkState, WorldState, opening};
 
 /// After any steps of a schedule, what a client holds of each place is one slice of all records that were pushed of it,
@@ -123,4 +126,25 @@ pub fn streams_behind_the_replies()
         → IsSchedule setup steps → AreAskable setup.places.items
         → AreStreamed (length setup.places.items) (counted_after setup (counted_opening setup) steps).talk
         (counted_after setup (counted_opening setup) steps).link }
+{}
+
+/// While a client takes from a link, it holds of each place what it held when it connected, and behind it the records
+/// of the packets that came whole.
+#[tactic(auto, using(crate::proofs::CountedHeld::holds_whole, crate::proofs::CountedHeld::holds_counted))]
+pub fn holds_whole_packets()
+    ensures whole { (setup : Setup) (before after : List Step) (now : WorldState)
+        → AllHappen (opening setup) (before ++ Step.Connect ∷ after) now
+        → IsSchedule setup (before ++ Step.Connect ∷ after) → AreAskable setup.places.items → All KeepsLink after
+        → (l : CountedLink)
+        → (counted_after setup (counted_opening setup) (before ++ Step.Connect ∷ after)).link ≡ Some l
+        → IsLinked (counted_after setup (counted_opening setup) (before ++ Step.Connect ∷ after)).talk.stage
+        → HoldsMore (counted_after setup (counted_opening setup) before).held (wholes l.delivered l.sent) now.held }
+    // While it awaits packets, these are as many as there are whole 520 bytes behind the replies.
+    ensures counted { (setup : Setup) (before after : List Step) (now : WorldState)
+        → AllHappen (opening setup) (before ++ Step.Connect ∷ after) now
+        → IsSchedule setup (before ++ Step.Connect ∷ after) → AreAskable setup.places.items → All KeepsLink after
+        → (l : CountedLink)
+        → (counted_after setup (counted_opening setup) (before ++ Step.Connect ∷ after)).link ≡ Some l
+        → (counted_after setup (counted_opening setup) (before ++ Step.Connect ∷ after)).talk.stage ≡ Stage.Packets
+        → HoldsWhole (length setup.places.items) (counted_after setup (counted_opening setup) before).held now.held l }
 {}
