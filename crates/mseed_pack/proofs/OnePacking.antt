@@ -1,7 +1,7 @@
 -- A series is packed into one list of records.
 use Rattle.std.proofs.Common.{◌≡◌, ℕ, ◌+◌, ◌-◌, ◌*◌, ◌/◌, ◌%◌, ◌^◌, ◌<◌, ◌≤◌, List, [], ◌∷◌, ◌++◌, length, map, take}
-use Rattle.std.proofs.Common.{drop, replicate, slice_get, refl, sym, ap, subst, ◌∙◌, arith, ℤ, Some, ⊎_elim, append-nil}
-use Rattle.std.proofs.Common.{append_assoc, length-append}
+use Rattle.std.proofs.Common.{drop, replicate, slice_get, refl, sym, ap, subst, ◌∙◌, arith, ℤ, Some, ⊎_elim, inl, inr}
+use Rattle.std.proofs.Common.{append-nil, append_assoc, length-append}
 use Rattle.std.specs.List.{AllByRecursion, flat_map, filter, range_with_len}
 use Rattle.std.proofs.Math.Nat.{mul-le-mul_left}
 use Rattle.std.proofs.lemmas.Nat.{pow-add}
@@ -23,6 +23,7 @@ use Rattle.mseed_pack.specs.declared.options.Options.{Options}
 use Rattle.mseed_pack.specs.Packing.{Piece, ArePlaced, IsHeaderOf, HoldsIntegers, HoldsFrames, HoldsSamples, IsPacked}
 use Rattle.mseed_pack.specs.Packing.{PacksUpTo, IsPacking}
 use Rattle.mseed_pack.specs.Clock.{instant_at}
+use Rattle.mseed_pack.specs.Prefixes.{ArePrefixes}
 use Rattle.mseed_pack.specs.Stretches.{left_of, flags_of, step_behind}
 use Rattle.mseed_pack.proofs.Followed.{samples_in}
 use Rattle.mseed_pack.proofs.Spellings.{bytes_of, length-all}
@@ -346,3 +347,41 @@ one_prefix one name s o prefix records left h k =
     ∙ append-nil (samples_in k.pieces) in
     let found = prefix_records one name s o 0 0 h.pieces k.pieces left joined h.placed k.placed h.each k.each in
     (found.0, sym k.bytes ∙ found.1 ∙ ap (λ (bs : List (List ℕ)). bs ++ found.0) h.bytes)
+
+-- of two parts of a packing from its first record on, one is a prefix of the other
+either_records : OneRun → OneName
+    → (s : Trace) (o : Options) (number first : ℕ) (ps qs : List Piece) (left rest : List ℤ)
+    → samples_in ps ++ left ≡ samples_in qs ++ rest → ArePlaced number first ps → ArePlaced number first qs
+    → AllByRecursion (IsPacked s o) ps → AllByRecursion (IsPacked s o) qs
+    → ArePrefixes (map (λ (p : Piece). p.bytes) ps) (map (λ (q : Piece). q.bytes) qs)
+either_records one name s o number first [] qs left rest joined a b h k = inl (map (λ (q : Piece). q.bytes) qs, refl)
+either_records one name s o number first (p ∷ ps) [] left rest joined a b h k =
+    inr (map (λ (q : Piece). q.bytes) (p ∷ ps), refl)
+either_records one name s o number first (p ∷ ps) (q ∷ qs) left rest joined a b h k =
+    let same = same_piece one name s o p q (a.0 ∙ sym b.0) (a.1 ∙ sym b.1) h.0 k.0 in
+    let n = length p.samples in
+    let whole : p.samples ++ (samples_in ps ++ left) ≡ q.samples ++ (samples_in qs ++ rest) =
+    sym (append_assoc p.samples (samples_in ps) left) ∙ joined ∙ append_assoc q.samples (samples_in qs) rest in
+    let samples : p.samples ≡ q.samples =
+    sym (take_at p.samples (samples_in ps ++ left) n refl) ∙ ap (λ (xs : List ℤ). take n xs) whole
+    ∙ take_at q.samples (samples_in qs ++ rest) n (sym same.count) in
+    let others : samples_in ps ++ left ≡ samples_in qs ++ rest =
+    sym (drop_at p.samples (samples_in ps ++ left) n refl) ∙ ap (λ (xs : List ℤ). drop n xs) whole
+    ∙ drop_at q.samples (samples_in qs ++ rest) n (sym same.count) in
+    let placed : ArePlaced (number + 1) (first + n) qs =
+    subst (λ (m : ℕ). ArePlaced (number + 1) (first + m) qs) (sym same.count) b.2 in
+    let here : p.bytes ≡ q.bytes = same.bytes samples in
+    ⊎_elim
+    (λ (f : (more : List (List ℕ)) × (map (λ (x : Piece). x.bytes) qs ≡ map (λ (x : Piece). x.bytes) ps ++ more)). inl
+    (f.0, λ i. sym here i ∷ f.1 i))
+    (λ (f : (more : List (List ℕ)) × (map (λ (x : Piece). x.bytes) ps ≡ map (λ (x : Piece). x.bytes) qs ++ more)). inr
+    (f.0, λ i. here i ∷ f.1 i))
+    (either_records one name s o (number + 1) (first + n) ps qs left rest others a.2 placed h.1 k.1)
+
+pub either_prefix : OneRun → OneName → (s : Trace) (o : Options) (records others : List (List ℕ)) (left rest : List ℤ)
+    → PacksUpTo s o records left → PacksUpTo s o others rest → ArePrefixes records others
+either_prefix one name s o records others left rest h k =
+    let found = either_records one name s o 0 0 h.pieces k.pieces left rest (h.joined ∙ sym k.joined) h.placed k.placed
+    h.each k.each in
+    subst (λ (bs : List (List ℕ)). ArePrefixes bs others) h.bytes
+    (subst (λ (bs : List (List ℕ)). ArePrefixes (map (λ (p : Piece). p.bytes) h.pieces) bs) k.bytes found)

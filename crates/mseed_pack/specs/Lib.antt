@@ -9,3 +9,4 @@ pub mod Fitting
 pub mod Outcome
 pub mod ReadBack
 pub mod FewestWords
+pub mod Prefixes

@@ -3,39 +3,74 @@ ghost use Rattle.std.specs.Prelude.{◌≡◌, ◌≢◌, ◌⊎◌, ◌++◌, �
 ghost use Rattle.std.specs.List.{AllByRecursion};
 ghost use Rattle.mseed_record.specs.Header.{key_at};
 ghost use Rattle.mseed_record.specs.View.{View};
+ghost use Rattle.mseed_stream.specs.Device.{BytesWritten};
 ghost use Rattle.mseed_audit.specs.declared.assembly.NotContinuous.{NotContinuous};
 ghost use Rattle.mseed_audit.specs.declared.verdict.Verdict.{Verdict};
 ghost use Rattle.mseed_audit.specs.Channels.{Placed, added_from, records_of, views_in};
 ghost use Rattle.mseed_audit.specs.Follows.{IsContinuous};
-ghost use Rattle.mseed_audit.specs.Series.{Trace, IsSeries, IsSeriesOf};
+ghost use Rattle.mseed_audit.specs.Series.{Trace, AreSteps, IsSeries, IsSeriesOf};
 ghost use Rattle.mseed_audit.specs.Verdict.{IsVerdict, says_continuous};
 ghost use Rattle.mseed_pack.specs.declared.fault.PackFault.{PackFault};
 ghost use Rattle.mseed_pack.specs.declared.options.Options.{Options};
 ghost use Rattle.mseed_pack.specs.declared.options.Encoding.TheVariants.{Steim2};
 ghost use Rattle.mseed_pack.specs.FewestWords.{HasFewestWords};
 ghost use Rattle.mseed_pack.specs.Fitting.{Fits, IsMisfit};
-ghost use Rattle.mseed_pack.specs.Outcome.{IsTrace};
+ghost use Rattle.mseed_pack.specs.Prefixes.{ArePrefixes, HaveTakenPrefixes};
+ghost use Rattle.mseed_pack.specs.Outcome.{IsTrace, TookPrefix};
 ghost use Rattle.mseed_pack.specs.Packing.{PacksUpTo, IsPacking};
 ghost use Rattle.mseed_pack.specs.ReadBack.{AreApart, AreViewsOf, HaveSamples, IsAssembled, IsPartOf, IsTimedFrom};
 ghost use Rattle.mseed_pack.specs.ReadBack.{Packed, ReadsAs, StandsIn, records_of_all};
+ghost use Rattle.mseed_pack.specs.Traces.{trace_of};
 
+use crate::batch::{first_place, gather};
+use crate::options::Options;
+use crate::series_view::SeriesView;
+use crate::window::Window;
 use mseed_audit::{continuous_exactly, one_series};
 use mseed_record::header_reads_back;
 use mseed_steim::{one_packing as one_run, one_reading, packed_spells};
 use mseed_stream::one_input;
 use mseed_time::one_name;
 
-/// A series is packed into one list of records, byte for byte; and records that it is packed into up to some samples
-/// that are left are a prefix of them.
+/// The bytes of the longest record.
+const LONGEST: usize = 4096;
+
+/// A series is packed into one list of records, byte for byte; records that it is packed into up to some samples that
+/// are left are a prefix of them; and of two such lists one is a prefix of the other.
 pub fn one_packing()
     ensures whole { (s : Trace) (o : Options) (records others : List (List ℕ)) → IsPacking s o records
         → IsPacking s o others → records ≡ others }
     ensures prefix { (s : Trace) (o : Options) (prefix records : List (List ℕ)) (left : List ℤ)
         → PacksUpTo s o prefix left → IsPacking s o records
         → (rest : List (List ℕ)) × (records ≡ prefix ++ rest) }
+    ensures prefixes { (s : Trace) (o : Options) (records others : List (List ℕ)) (left rest : List ℤ)
+        → PacksUpTo s o records left → PacksUpTo s o others rest → ArePrefixes records others }
 {
     one_run();
     one_name();
+}
+
+/// A series that fits its options has a packing: it is packed here, record by record, and nothing is kept.
+pub fn a_packing_exists(series: &SeriesView, options: &Options)
+    requires fits { Fits (trace_of series.now) options.now }
+    requires steps { AreSteps (length series.now.samples.now) series.now.steps.now }
+    ensures { (records : List (List ℕ)) × IsPacking (trace_of series.now) options.now records }
+{
+    let mut records = [0; LONGEST];
+    let mut window = Window::new();
+    let mut place = first_place(series);
+    while place.first < series.samples.len() {
+        place = gather(series, options, place, &mut window, &mut records).next;
+    }
+}
+
+/// Where the packing of a series failed twice, each sink took a prefix of what the other one took, or the other way
+/// round.
+pub fn one_prefix()
+    ensures { (s : Trace) (o : Options) (n m : ℕ) (old new before after : BytesWritten) → TookPrefix s o n old new
+        → TookPrefix s o m before after → HaveTakenPrefixes old new before after }
+{
+    one_packing();
 }
 
 /// A series has one reason at most why it isn't packed, and none where it fits.

@@ -21,8 +21,8 @@ mod window;
 pub use fault::PackFault;
 pub use fitting::{fit, fit_view};
 pub use law::{
-    a_stretch_keeps_time, a_stretch_reads_back, archive_reads_back, called_continuous,
-    fewest_words, one_length, one_misfit, one_packing, reads_back,
+    a_packing_exists, a_stretch_keeps_time, a_stretch_reads_back, archive_reads_back,
+    called_continuous, fewest_words, one_length, one_misfit, one_packing, one_prefix, reads_back,
 };
 pub use options::{BadOption, Encoding, Options};
 pub use packing::{pack, pack_fitting, pack_view};
