@@ -1,10 +1,14 @@
 //! Calls of `mseed_pack`.
-ghost use Rattle.std.specs.Prelude.{IsOk};
+ghost use Rattle.std.specs.Prelude.{ℕ, List, length, IsOk};
+ghost use Rattle.mseed_audit.specs.Series.{AreSteps};
+ghost use Rattle.mseed_pack.specs.Fitting.{Fits};
+ghost use Rattle.mseed_pack.specs.Packing.{IsPacking};
+ghost use Rattle.mseed_pack.specs.Traces.{trace_of};
 
 use mseed_audit::Series;
 use mseed_pack::{
-    BadOption, Encoding, Options, PackFault, SeriesView, fit, fit_view, pack, pack_fitting,
-    pack_view,
+    BadOption, Encoding, Options, PackFault, SeriesView, a_packing_exists, fit, fit_view, pack,
+    pack_fitting, pack_view,
 };
 use mseed_record::Codes;
 use mseed_stream::{Counted, Sink};
@@ -70,4 +74,13 @@ pub fn pack_both<W: Sink>(
     fit_view(&one, options)?;
     fit_view(&other, options)?;
     Ok(pack_fitting(&one, options, sink).is_ok() && pack_fitting(&other, options, sink).is_ok())
+}
+
+/// Packs a series that fits, for a proof that speaks of its packing.
+pub fn packs(series: &SeriesView, options: &Options)
+    requires fits { Fits (trace_of series.now) options.now }
+    requires steps { AreSteps (length series.now.samples.now) series.now.steps.now }
+    ensures { (records : List (List ℕ)) × IsPacking (trace_of series.now) options.now records }
+{
+    a_packing_exists(series, options);
 }
