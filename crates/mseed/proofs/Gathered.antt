@@ -96,8 +96,8 @@ lines_more bytes offset views v shown = lines_from 0 views v offset (omega (arit
 all_written : (old new : BytesWritten) (text rest : List ℕ) → AreGathered old new rest text → rest ≡ []
     → new.bytes ≡ old.bytes ++ text
 all_written old new text rest written none =
-    let all : written.taken ≡ text = sym (append-nil written.taken)
-    ∙ ap (λ (xs : List ℕ). written.taken ++ xs) (sym none) ∙ written.joined in
+    let all : written.taken ≡ text = sym (append-nil written.taken) ∙ ap (λ (xs : List ℕ). written.taken ++ xs)
+    (sym none) ∙ written.joined in
     written.bytes ∙ ap (λ (xs : List ℕ). old.bytes ++ xs) all
 
 -- all that was gathered was written, and then a line gathered
@@ -110,9 +110,10 @@ also_written old new text added line bytes fine e = record {
 
 -- what comes next, once all that was gathered was written
 pub next_written : (r : Result Step ShowFault) (views : List View) (offset : ℕ) (before after : BytesRead)
-    (c : Standing) (old new : BytesWritten) (text rest added : List ℕ) → AreGathered old new rest text → rest ≡ []
-    → new.failures ≡ old.failures
-    → IsNext r views offset before after c (λ line. added ≡ line) (λ fault. fault ≡ Memory)
+    (c : Standing)
+    (old new : BytesWritten) (text rest added : List ℕ) → AreGathered old new rest text → rest ≡ []
+    → new.failures ≡ old.failures → IsNext r views offset before after c (λ line. added ≡ line)
+    (λ fault. fault ≡ Memory)
     → IsNext r views offset before after c (λ line. IsGatheredAlso old new text added line)
     (λ fault. IsPrefixWritten fault old new text)
 next_written (Ok Listed) views offset before after c old new text rest added written none fine next = record {
@@ -135,7 +136,8 @@ next_written (Err fault) views offset before after c old new text rest added wri
 
 -- no memory for a line, before anything was written
 pub next_err : (r : Result Step ShowFault) (Q : ShowFault → Type 0) (views : List View) (offset : ℕ)
-    (before h : BytesRead) (c : Standing) (s : BytesWritten) (text added : List ℕ) → AreViews h.bytes offset views
+    (before h : BytesRead)
+    (c : Standing) (s : BytesWritten) (text added : List ℕ) → AreViews h.bytes offset views
     → IsErrAnd r Q → ((e : ShowFault) → Q e → e ≡ Memory)
     → IsNext r views offset before h c (λ line. IsGatheredAlso s s text added line)
     (λ fault. IsPrefixWritten fault s s text)
@@ -148,8 +150,8 @@ next_err (Err e) Q views offset before h c s text added shown is q =
 pub gathered_on : (first old new : BytesWritten) (text rest lines : List ℕ) → AreGathered first old text lines
     → AreGathered old new rest text → AreGathered first new rest lines
 gathered_on first old new text rest lines before written =
-    let some : AreGathered old new rest (text ++ []) =
-    subst (λ (xs : List ℕ). AreGathered old new rest xs) (sym (append-nil text)) written in
+    let some : AreGathered old new rest (text ++ []) = subst (λ (xs : List ℕ). AreGathered old new rest xs)
+    (sym (append-nil text)) written in
     gathered_more first old new text rest lines [] lines before some (sym (append-nil lines))
 
 -- none is left
@@ -159,13 +161,14 @@ none_left (c ∷ cs) few = absurd (omega (arith, few))
 
 -- a fault before which a prefix of the lines was written
 pub cut_short : (fault : ShowFault) (h : BytesRead) (first old new : BytesWritten) (text : List ℕ) (offset : ℕ)
-    (views : List View) → AreViews h.bytes offset views → old.failures ≡ first.failures
+    (views : List View)
+    → AreViews h.bytes offset views → old.failures ≡ first.failures
     → AreGathered first old text (record_lines 0 views) → IsPrefixWritten fault old new text
     → IsShown (Err fault) h first new
 cut_short Write h first old new text offset views shown same before written =
     let lines : List ℕ = record_lines 0 views in
-    let took : TookPart old new (text ++ []) =
-    subst (λ (xs : List ℕ). TookPart old new xs) (sym (append-nil text)) written.1 in (
+    let took : TookPart old new (text ++ []) = subst (λ (xs : List ℕ). TookPart old new xs) (sym (append-nil text))
+    written.1 in (
       omega (arith, same, written.0),
       (
         offset,
@@ -173,15 +176,16 @@ cut_short Write h first old new text offset views shown same before written =
           views,
           record {
             shown = shown;
-            prefix = inl (part_behind first old new text lines [] lines before (sym (append-nil lines)) took);
+            prefix = inl (part_behind first old new text lines [] lines before
+                (sym (append-nil lines)) took);
           },
         ),
       ),
     )
 cut_short Memory h first old new text offset views shown same before written =
     let lines : List ℕ = record_lines 0 views in
-    let took : TookFirst old new (text ++ []) =
-    subst (λ (xs : List ℕ). TookFirst old new xs) (sym (append-nil text)) written.1 in (
+    let took : TookFirst old new (text ++ []) = subst (λ (xs : List ℕ). TookFirst old new xs) (sym (append-nil text))
+    written.1 in (
       written.0 ∙ same,
       (
         offset,
@@ -189,7 +193,8 @@ cut_short Memory h first old new text offset views shown same before written =
           views,
           record {
             shown = shown;
-            prefix = inl (first_behind first old new text lines [] lines before (sym (append-nil lines)) took);
+            prefix = inl (first_behind first old new text lines [] lines before
+                (sym (append-nil lines)) took);
           },
         ),
       ),

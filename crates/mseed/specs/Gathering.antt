@@ -29,8 +29,8 @@ pub record IsGatheredAlso (old new : BytesWritten) (text added line : List ℕ) 
   pub fine : new.failures ≡ old.failures
 
 -- a record more was handed out than these, and its line was added
-pub record IsOneMore (views : List View) (offset : ℕ) (old new : BytesRead) (c : Standing) (Adds : List ℕ
-    → Type 0) : Type 0 where
+pub record IsOneMore (views : List View) (offset : ℕ) (old new : BytesRead) (c : Standing)
+    (Adds : List ℕ → Type 0) : Type 0 where
   pub view : View
   pub handed : HasHandedOut new c (views ++ view ∷ [])
   pub asked : old.calls < new.calls

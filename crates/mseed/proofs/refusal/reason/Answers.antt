@@ -2,8 +2,8 @@ use Rattle.std.proofs.Common.{◌≡◌, ◌+◌, ◌<◌, ◌++◌, ◌∷◌, 
 use Rattle.std.proofs.lemmas.Fmt.{decimal_digit}
 use Rattle.mseed.proofs.refusal.reason.Goals as goal
 
-spelled : (n : ℕ) → n < 10 → codes " does not fit " ++ (48 + n) ∷ [] ++ codes "\n" ≡ codes " does not fit "
-    ++ decimal n ++ codes "\n"
+spelled : (n : ℕ) → n < 10 → codes " does not fit " ++ (48 + n) ∷ [] ++ codes "\n"
+    ≡ codes " does not fit " ++ decimal n ++ codes "\n"
 spelled n few = ap (λ (digits : List ℕ). codes " does not fit " ++ digits ++ codes "\n") (sym (decimal_digit n few))
 
 pub returns-in-Empty-clause-text : goal.returns-in-Empty-clause-text

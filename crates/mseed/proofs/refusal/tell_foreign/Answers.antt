@@ -7,8 +7,8 @@ use Rattle.mseed.proofs.refusal.tell_foreign.Goals as goal
 pub line_of-line-requires : goal.line_of-line-requires
 line_of-line-requires g c =
     let n : ℕ = c.args.number in
-    let digits : length (decimal n) ≤ 20 =
-    length-decimal-le 20 n (omega arith) (omega (arith, c.ranges.number.fits)) c.ranges.number.fits in
+    let digits : length (decimal n) ≤ 20 = length-decimal-le 20 n (omega arith) (omega (arith, c.ranges.number.fits))
+    c.ranges.number.fits in
     let words = codes " is not of this feed\n" in
     omega (arith, digits, length-append (decimal n) words)
 

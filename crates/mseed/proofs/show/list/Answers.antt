@@ -19,9 +19,8 @@ returns-in_err-push_next g c =
     let fault : ShowFault = c.in_err-push_next.field-0.0 in
     let next = c.in_err-push_next.ensures views before.0 in
     let read : BytesRead = g.R.Source.read c.push_next.new.input in
-    let short : IsShown (Err fault) read first new =
-    cut_short fault read first old new c.records.text.items c.records.cutter.offset views next.1
-    c.records.invariant.2 before.1 next.0 in
+    let short : IsShown (Err fault) read first new = cut_short fault read first old new c.records.text.items
+    c.records.cutter.offset views next.1 c.records.invariant.2 before.1 next.0 in
     gathered_err c.from_residual.result _ fault read first new c.push_next.new.text.items c.from_residual.ensures.1
     (λ e q. q) short
 
@@ -86,8 +85,8 @@ returns-in_err-write_beyond g c =
     let lines : AreGathered first told c.push_next.new.text.items (record_lines 0 all) =
     gathered_more first old told c.records.text.items c.push_next.new.text.items (record_lines 0 views)
     (record_line offset more.view) (record_lines 0 all) before.1 more.line.lines one in
-    let ends : IsShown (Err fault) read first new =
-    cut_short fault read first told new c.push_next.new.text.items c.push_next.new.cutter.offset all
-    more.handed.records (more.line.fine ∙ c.records.invariant.2) lines c.in_err-write_beyond.ensures.err in
+    let ends : IsShown (Err fault) read first new = cut_short fault read first told new c.push_next.new.text.items
+    c.push_next.new.cutter.offset all more.handed.records (more.line.fine ∙ c.records.invariant.2) lines
+    c.in_err-write_beyond.ensures.err in
     gathered_err c.from_residual-in_err-write_beyond.result _ fault read first new c.write_beyond.new.text.items
     c.from_residual-in_err-write_beyond.ensures.1 (λ e q. q) ends

@@ -19,6 +19,7 @@ returns-clause-most c =
     rw c.line_of-2.ensures (omega (
       arith,
       words,
-      counted_fits c.args.offset (c.deref.result.now ++ 10 ∷ []) c.ranges.offset.fits,
+      counted_fits c.args.offset (c.deref.result.now ++ 10 ∷ [])
+          c.ranges.offset.fits,
       length-append c.deref.result.now (10 ∷ []),
     ))

@@ -2,8 +2,8 @@ use Rattle.std.proofs.Common.{◌≡◌, ◌++◌, ◌<◌, ◌^◌, ◌∙◌, 
 use Rattle.mseed_audit.proofs.Lines.{counted_fits}
 use Rattle.mseed_audit.proofs.line.fault_line_of.Goals as goal
 
-regroup : (at offset words have end : List ℕ) → at ++ offset ++ (words ++ (have ++ [])) ++ end ≡ at ++ offset ++ words
-    ++ have ++ end
+regroup : (at offset words have end : List ℕ) → at ++ offset ++ (words ++ (have ++ [])) ++ end
+    ≡ at ++ offset ++ words ++ have ++ end
 regroup at offset words have end = simp (append-nil, append_assoc)
 
 pub fault_at-requires-in-Truncated : goal.fault_at-requires-in-Truncated

@@ -11,5 +11,9 @@ line_of-requires-in-Length c =
 pub returns-in-Length-clause-most : goal.returns-in-Length-clause-most
 returns-in-Length-clause-most c =
     let few : c.from.result < 256 = omega arith in
-    rw c.line_of-in-Length.ensures
-    (omega (arith, few_digits c.from.result few, length-append (decimal c.from.result) []))
+    rw c.line_of-in-Length.ensures (omega (
+      arith,
+      few_digits c.from.result few,
+      length-append (decimal c.from.result)
+          [],
+    ))
