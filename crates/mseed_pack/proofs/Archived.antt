@@ -101,7 +101,7 @@ of_channel p vs reads are =
     (sym (reads.only vs are)) reads.channel
 
 -- none of those of others is of another channel
-others_gone : (key : List ℕ) (packed : List Packed) (vs : List View)
+pub others_gone : (key : List ℕ) (packed : List Packed) (vs : List View)
     → AllByRecursion (λ (p : Packed). ReadsAs p.series p.records) packed
     → AllByRecursion (λ (q : Packed). q.series.codes ≢ key) packed → AreViewsOf (records_of_all packed) vs
     → filter (is_of key) vs ≡ []

@@ -6,3 +6,5 @@ pub mod Trails
 pub mod ReadChannels
 pub mod Outlines
 pub mod Judged
+pub mod Written
+pub mod ReadBack

@@ -342,7 +342,7 @@ one_cant laws o views f g key a b =
 
 -- The text that is written, channel before channel.
 
-abbrev Along : Options → List View → List Channel → List ℕ → Type 0
+abbrev pub Along : Options → List View → List Channel → List ℕ → Type 0
 Along o views [] text = text ≡ []
 Along o views (c ∷ cs) text =
     (records : List (List ℕ))
@@ -365,7 +365,7 @@ along_more o views (d ∷ cs) c text records (rs, (rest, a)) is = (
   ),
 )
 
-along : (o : Options) (views : List View) (cs : List Channel) (text : List ℕ) → ArePackedInto o views cs text
+pub along : (o : Options) (views : List View) (cs : List Channel) (text : List ℕ) → ArePackedInto o views cs text
     → Along o views cs text
 along o views _ _ none = refl
 along o views _ _ (more cs c text records before is) =

@@ -4,3 +4,4 @@ pub mod Reading
 pub mod Trails
 pub mod Outline
 pub mod OneRepacking
+pub mod ReadBack

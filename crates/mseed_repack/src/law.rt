@@ -1,13 +1,14 @@
-//! A law of packing an archive anew.
-ghost use Rattle.std.specs.Prelude.{⊤, Result};
+//! Laws of packing an archive anew.
+ghost use Rattle.std.specs.Prelude.{⊤, Result, Ok};
 ghost use Rattle.mseed_pack.specs.declared.options.Options.{Options};
 ghost use Rattle.mseed_stream.specs.Device.{BytesRead, BytesWritten};
 ghost use Rattle.mseed_repack.specs.OneRepacking.{ComeToOne};
+ghost use Rattle.mseed_repack.specs.ReadBack.{IsReadBack};
 ghost use Rattle.mseed_repack.specs.Repack.{IsRepacking};
 ghost use Rattle.mseed_repack.specs.declared.fault.RepackFault.{RepackFault};
 
-use mseed_audit::{one_list_of_verdicts, one_series};
-use mseed_pack::{one_misfit, one_packing};
+use mseed_audit::{continuous_exactly, one_list_of_verdicts, one_series};
+use mseed_pack::{archive_reads_back, one_misfit, one_packing, reads_back};
 use mseed_stream::one_input;
 
 /// What was read of an input, packed anew by some options, comes to one text or to one fault, but where memory was
@@ -23,4 +24,17 @@ pub fn one_repacking()
     one_series();
     one_packing();
     one_misfit();
+}
+
+/// What was written when an archive was packed anew reads back: it is an archive, whose audit calls each channel
+/// continuous, and whose series are those of the input; and packing it anew by the same options comes to the same text.
+pub fn repacked_reads_back()
+    ensures { (options : Options) (read : BytesRead) (old new : BytesWritten)
+        → IsRepacking {U = ⊤} options (Ok tt) read old new → IsReadBack options read old new }
+{
+    reads_back();
+    archive_reads_back();
+    continuous_exactly();
+    one_series();
+    one_repacking();
 }

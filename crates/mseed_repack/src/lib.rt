@@ -9,5 +9,5 @@ mod repacking;
 mod trail;
 
 pub use fault::RepackFault;
-pub use law::one_repacking;
+pub use law::{one_repacking, repacked_reads_back};
 pub use repacking::repack;
