@@ -116,6 +116,7 @@ impl Judged {
 }
 
 /// What is found of a record, by the end of the channel's record before it, and the record's own end.
+#[inline]
 fn judge(before: Option<Tail>, view: &RecordView) -> Judged
     requires { 0 < count_of (view_of view.now) }
     ensures tail { IsTailOf (tail_in result) (view_of view.now) }
