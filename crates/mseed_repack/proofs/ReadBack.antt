@@ -1,10 +1,9 @@
 -- What was written when an archive was packed anew reads back.
 use Rattle.std.specs.Prelude.{⊤}
-use Rattle.std.proofs.Common.{◌≡◌, ◌≢◌, ◌↔◌, ◌⊎◌, inl, inr, ℕ, ◌+◌, ◌<◌, ◌≤◌, ◌^◌, List, [], ◌∷◌, ◌++◌, length, take}
-use Rattle.std.proofs.Common.{length-take, map, All, Option, Some, None, IsTrue, Result, Ok, Err, refl, sym, ap, subst}
-use Rattle.std.proofs.Common.{◌∙◌, ⊎_elim, append_assoc, append-nil, arith}
-use Rattle.std.specs.List.{AllByRecursion, concat, filter}
-use Rattle.std.specs.Map.{lookup, keys_of}
+use Rattle.std.proofs.Common.{◌≡◌, ◌↔◌, ℕ, ◌≤◌, List, [], ◌∷◌, ◌++◌, length, take, length-take, Option, IsTrue, Result}
+use Rattle.std.proofs.Common.{Ok, refl, sym, ap, subst, ◌∙◌, ⊎_elim, append_assoc, append-nil, arith}
+use Rattle.std.specs.List.{AllByRecursion, concat}
+use Rattle.std.specs.Map.{keys_of}
 use Rattle.std.specs.Ordering.{nat_cmp, is_eq}
 use Rattle.std.specs.Cmp.Lexicographic.{slice_cmp}
 use Rattle.std.specs.List.Sorted.{IsStrictlySortedBy}
@@ -19,7 +18,7 @@ use Rattle.mseed_stream.specs.Archive.{HasNoFurther, IsArchive}
 use Rattle.mseed_stream.specs.Device.{BytesRead, BytesWritten}
 use Rattle.mseed_stream.specs.Walk.{bytes_in}
 use Rattle.mseed_stream.proofs.Records.{view_record}
-use Rattle.mseed_audit.specs.Channels.{Placed, added_from, is_of, records_of, same_key, views_in}
+use Rattle.mseed_audit.specs.Channels.{Placed, added_from, records_of, same_key, views_in}
 use Rattle.mseed_audit.specs.Follows.{IsContinuous}
 use Rattle.mseed_audit.specs.Series.{Trace, IsSeriesOf}
 use Rattle.mseed_audit.specs.Verdict.{AreVerdicts, IsVerdictAt, says_continuous}
@@ -36,13 +35,13 @@ use Rattle.mseed_pack.proofs.Archived.{others_gone}
 use Rattle.mseed_pack.proofs.Parted.{views_joined}
 use Rattle.mseed_pack.proofs.Traced.{is_trace, kept_views}
 use Rattle.mseed_repack.specs.OneRepacking.{ComeToOne}
-use Rattle.mseed_repack.specs.ReadBack.{IsReadOf, IsReadBack}
+use Rattle.mseed_repack.specs.ReadBack.{IsReadBack}
 use Rattle.mseed_repack.specs.Repack.{ArePackedInto, CanBePacked, Channel, IsFitFor, IsPackedInto, IsRepacking, Wrote}
 use Rattle.mseed_repack.specs.Repack.{more, none, records_in}
 use Rattle.mseed_repack.specs.declared.fault.RepackFault.{RepackFault}
 use Rattle.mseed_repack.proofs.OneRepacking.{Along, along}
 use Rattle.mseed_repack.proofs.Written.{ExactVerdicts, HasNoOthers, IsWritten, Others, are_verdicts, codes_of}
-use Rattle.mseed_repack.proofs.Written.{each_says, either_key, entries, entry, entry_keys, not_there}
+use Rattle.mseed_repack.proofs.Written.{each_says, either_key, entries, entry, not_there}
 
 -- What a law of a lower room says, and what is said of packing anew.
 abbrev ReadBack : Type 0

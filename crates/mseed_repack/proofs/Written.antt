@@ -1,10 +1,9 @@
 -- The channels of what was written when an archive was packed anew.
-use Rattle.std.proofs.Common.{◌≡◌, ◌≢◌, ◌↔◌, ◌⊎◌, inl, inr, ℕ, ◌+◌, List, [], ◌∷◌, ◌++◌, length, map, Bool, true, false}
-use Rattle.std.proofs.Common.{Option, Some, None, IsTrue, IsSome, refl, sym, ap, subst, ◌∙◌, ⊎_elim, append_assoc}
-use Rattle.std.proofs.Common.{append-nil}
-use Rattle.std.specs.List.{AllByRecursion, concat, filter}
+use Rattle.std.proofs.Common.{◌≡◌, ◌≢◌, ◌↔◌, ◌⊎◌, inl, inr, ℕ, List, [], ◌∷◌, length, map, Bool, true, false, Option}
+use Rattle.std.proofs.Common.{Some, None, IsTrue, IsSome, refl, sym, ap, subst, ◌∙◌}
+use Rattle.std.specs.List.{AllByRecursion}
 use Rattle.std.specs.Map.{lookup, keys_of}
-use Rattle.std.specs.Ordering.{nat_cmp, is_eq}
+use Rattle.std.specs.Ordering.{nat_cmp}
 use Rattle.std.specs.Cmp.Lexicographic.{slice_cmp}
 use Rattle.std.specs.List.Sorted.{IsStrictlySortedBy}
 use Rattle.std.proofs.lemmas.Bool.{false≢true}
@@ -12,12 +11,11 @@ use Rattle.std.proofs.lemmas.Map.Entries.{lookup_head, lookup_tail}
 use Rattle.mseed_time.specs.Rate.{Ratio}
 use Rattle.mseed_record.specs.Header.{factor_at, multiplier_at}
 use Rattle.mseed_record.specs.View.{View, start_of}
-use Rattle.mseed_audit.specs.declared.finding.Finding.{Finding}
 use Rattle.mseed_audit.specs.declared.finding.Why.{Why}
 use Rattle.mseed_audit.specs.declared.verdict.Verdict.{Verdict}
 use Rattle.mseed_audit.specs.declared.verdict.Verdict.TheVariants.{Continuous}
-use Rattle.mseed_audit.specs.Channels.{Added, Placed, added_from, is_of, records_of, sample_count, same_key, views_in}
-use Rattle.mseed_audit.specs.Follows.{AllNeighbours, Follows, FollowsAt, IsContinuous, IsSound}
+use Rattle.mseed_audit.specs.Channels.{Added, Placed, added_from, records_of, sample_count, same_key, views_in}
+use Rattle.mseed_audit.specs.Follows.{AllNeighbours, Follows, IsContinuous, IsSound}
 use Rattle.mseed_audit.specs.Judging.{known_rate, why_after, why_from, IsFound, after as by_after}
 use Rattle.mseed_audit.specs.Series.{Trace, IsSeriesOf}
 use Rattle.mseed_audit.specs.Verdict.{AreFindings, AreVerdicts, IsExactAt, IsVerdict, IsVerdictAt, none, one}
