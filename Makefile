@@ -3,7 +3,8 @@
 # make show             lists the records of a sample archive, or of FILE=..
 # make repack           packs the channels of one anew, into packed.mseed or OUT=..
 # make install          the program and its manual pages, below /usr/local or PREFIX=..
-# make test             the whole gate, then every test script
+# make test             the whole gate, then all row files of the tests
+# make packages         installs what some tests want besides: tests/packages.txt, by apt-get where it can be had
 # make dist             an archive of the sources, which builds and tests without git
 # make drawing          draws docs/architecture.svg from crates.txt
 # make help             these lines
@@ -19,7 +20,7 @@ VERSION := $(shell cat VERSION)
 NAME := mseed-$(VERSION)
 MANUAL := $(DESTDIR)$(PREFIX)/share/man/man1
 
-.PHONY: audit bench build dist drawing feed-bench help install interop repack show test
+.PHONY: audit bench build dist drawing feed-bench help install interop packages repack show test
 
 audit: build
 	@$(MSEED) audit < "$(FILE)"; echo "status $$?"
@@ -67,10 +68,14 @@ drawing:
 	@python3 docs/architecture.py
 
 test:
-	@bash tests/run.sh
+	@tests/run.py --gate
+
+# Where one of them can't be had, the others are installed all the same, and what wants it is skipped.
+packages:
+	@tests/packages.py
 
 interop: build
-	@bash tests/interop.sh
+	@tests/run.py interop
 
 bench: build
 	@python3 bench/bench.py $(MSEED) --write

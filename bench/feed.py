@@ -20,7 +20,8 @@ import time
 HERE = os.path.dirname(os.path.abspath(__file__))
 sys.path.insert(0, os.path.join(os.path.dirname(HERE), "tests"))
 
-from seedlink import Place, free_port, is_heard, record_of  # noqa: E402
+from driver.links import free_port, is_listened_at  # noqa: E402
+from models.seedlink import Place, record_of  # noqa: E402
 from tables import table, write  # noqa: E402
 
 FOLDER = os.path.join(tempfile.gettempdir(), "mseed-bench-of-" + str(os.getuid()))
@@ -72,7 +73,7 @@ def run(mseed, who, archive, output):
     port = free_port()
     serve, fetch = calls(mseed, who, str(port), max(200000, os.path.getsize(archive) // 512))
     server = measured(serve, archive, "/dev/null")
-    while server.poll() is None and not is_heard(port):
+    while server.poll() is None and not is_listened_at(port):
         time.sleep(0.01)
     client = measured(fetch, "/dev/null", output)
     return figures(client), figures(server)

@@ -179,8 +179,7 @@ def main():
         return
     judged = list(faults())
     for fault, is_fault in judged:
-        if is_fault:
-            print("FAILED " + fault)
+        print(("FAILED " if is_fault else "no fault: ") + fault)
     failed = sum(is_fault for _, is_fault in judged)
     print(f"{len(judged) - failed} passed, {failed} failed")
     sys.exit(failed > 0)

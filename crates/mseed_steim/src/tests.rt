@@ -1,5 +1,5 @@
 //! Words by the manual's tables: expected values are worked by hand, and for the table of a hundred words
-//! by `tests/steim_words.py`, a plain Python program that cuts a word's 32 binary digits into fields.
+//! by `tests/models/steim_words.py`, a plain Python program that cuts a word's 32 binary digits into fields.
 
 mod ends;
 mod frames;

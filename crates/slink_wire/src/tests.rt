@@ -1,5 +1,5 @@
-//! Worked rows of packets, lines and commands, and a stream by `tests/feed_lines.py`, a plain Python program that has
-//! the grammar as regular expressions.
+//! Worked rows of packets, lines and commands, and a stream by `tests/models/command_lines.py`, a plain Python program
+//! that has the grammar as regular expressions.
 
 mod stream;
 

@@ -1,0 +1,101 @@
+"""What the documents name is there: files, public calls, their clauses, types, definitions, crates, commands, options
+and words of the programs' output (documents/page.py). Before that, lines that name what isn't there have to be found
+wrong; and the drawing of docs/architecture.md is the one that docs/architecture.py draws from crates.txt."""
+
+from __future__ import annotations
+
+import subprocess
+import sys
+from typing import Sequence
+
+from documents.page import Page
+from documents.sources import Sources, text_of
+from driver.program import ROOT
+from driver.rows import Cases, Fact
+
+DOCUMENTS = ["README.md", "docs/promises.md", "docs/developing.md", "docs/architecture.md", "docs/protocol.md",
+             "docs/texts.md"]
+
+# Each of these names one thing that isn't there; and those below, none.
+WRONG = [
+    "[a page](docs/no_page.md)",
+    "[a part](docs/format.md#no-part-of-it)",
+    "`docs/no_page.md`",
+    "`crates/NAME/nothing`",
+    "`no_edit_of_this_name.edit`",
+    "`Cutter::no_call`",
+    "`no_call_of_this_name`",
+    "`NoTypeOfThisName`",
+    "`Cutter::next`, clause `no_clause`",
+    "`Cutter::offset`, clause `archive`",
+    "`Cutter::offset` and `Cutter::next`, clause `archive`",
+    "clause `archive`",
+    "clause `archive` of `Cutter::offset`",
+    "`Cutter::next` (`device.rt`)",
+    "[`Cutter::next`](crates/mseed_stream/src/device.rt)",
+    "| `mseed_time` | is in another crate | `check_samples` |",
+    "| promise | contract |\n|---|---|\n| is a word of a text | `truncated` |",
+    "| promise | call | definition | fails |\n|---|---|---|---|\n"
+    "| a | [`no_call`](crates/mseed_time/src/rate.rt) | b | law |",
+    "| promise | call | definition | fails |\n|---|---|---|---|\n"
+    "| a | [`Rate::of`](crates/mseed_time/src/rate.rt) (`no_clause`) | b | law |",
+    "| promise | call | definition | fails |\n|---|---|---|---|\n| a | `Rate::of` | b | law |",
+    "| promise | call | definition | fails |\n|---|---|---|---|\n"
+    "| a | b | [`ratio_of`](crates/mseed_time/specs/Join.antt) | law |",
+    "| promise | call | definition | fails |\n|---|---|---|---|\n| a | | c | law |",
+    "Behind a line of text:\n\n| call |\n|---|\n| `truncated` |",
+    "| promise | call | definition | fails |\n|---|---|---|---|\n| a | b | c | nothing |",
+    "| promise | call | definition | fails |\n|---|---|---|---|\n"
+    "| a | b | c | [`another_name`](crates/mseed_time/must-fail/half_excluded.edit) |",
+    "| promise | call | definition | fails |\n|---|---|---|---|\n"
+    "| a | b | c | test [`no_test`](crates/slink_wire/src/tests.rt) |",
+    "`one_packing` of `mseed_time`",
+    "`make nothing`",
+    "`mseed nothing`",
+    "`rt nothing-at-all`",
+    "`no words of a program <number>`",
+]
+RIGHT = [
+    "`Cutter::offset`, `Cutter::next`, clause `archive`",
+    "[a part](docs/format.md#blockettes-and-framing-chapter-8)",
+    "`Cutter::next` (`cutter.rt`), clauses `archive` and `record`; `offset`",
+    "[`Cutter::next`](crates/mseed_stream/src/cutter.rt), and clause `first` of `Source::pull`",
+    "| promise | call | definition | fails |\n|---|---|---|---|\n"
+    "| a | [`Rate::of`](crates/mseed_time/src/rate.rt) (`ok`, `value`); [`Rate::num`](crates/mseed_time/src/rate.rt) "
+    "| [`ratio_of`](crates/mseed_time/specs/Ratios.antt) "
+    "| law, [`half_excluded`](crates/mseed_time/must-fail/half_excluded.edit), "
+    "test [`replies`](crates/slink_wire/src/tests.rt), [`readme.py`](tests/rows/readme.py) |",
+    "`one_packing` of `mseed_pack`, `truncated <bytes>`, `make audit FILE=..`",
+]
+
+
+def self_tests(sources: Sources) -> Cases:
+    """Each of the lines has as many faults as it must."""
+    for text in WRONG + RIGHT:
+        faults = [judged for judged in Page(sources, "README.md", text).judged if not judged.is_there]
+        yield Fact(f"the faults that are found in: {text}", int(text in WRONG), len(faults))
+
+
+def names(sources: Sources, documents: Sequence[str] = tuple(DOCUMENTS)) -> Cases:
+    """What the documents name."""
+    for document in documents:
+        for name, is_there, why in Page(sources, document, text_of(document)).judged:
+            yield Fact(name, "there", "there" if is_there else why)
+
+
+def drawing() -> Cases:
+    """The drawing is that of crates.txt."""
+    run = subprocess.run([sys.executable, str(ROOT / "docs" / "architecture.py"), "--check"], stdout=subprocess.PIPE,
+                         stderr=subprocess.STDOUT, text=True, check=False)
+    *lines, last = run.stdout.splitlines() or [""]
+    for line in lines:
+        yield Fact(f"the drawing: {line.partition(' ')[2]}", True, not line.startswith("FAILED"))
+    yield Fact("docs/architecture.py --check", (0, True), (run.returncode, bool(lines) and "passed" in last))
+
+
+def rows() -> Cases:
+    """All of them."""
+    sources = Sources()
+    yield from self_tests(sources)
+    yield from names(sources)
+    yield from drawing()

@@ -1,0 +1,49 @@
+"""The manual pages: each is without a warning of mandoc or man, each command that it shows prints what stands there,
+and the options that the pages name are those of the program's help. The help names the commands of the pages, and says
+at once how a file is read; the version is that of the file VERSION."""
+
+from __future__ import annotations
+
+import re
+import tempfile
+
+from documents.manual import EXAMPLES, PAGES, options_named, printed, warnings
+from driver.program import ROOT
+from driver.rows import Cases, Fact, Row, Skipped, holds
+
+
+def texts(named: set[str]) -> Cases:
+    """The help and the version, which the parser writes to standard error, with status 3."""
+    found = {}
+    for word in ("--help", "--version"):
+        run = Row("", b"", [word], 3).run()
+        yield Fact(f"{word} has status 3, and no output", (3, b""), (run.status, run.out))
+        found[word] = run.err.decode()
+    yield Fact("the options of the pages, and of the help", named, set(re.findall(r"--([a-z][a-z-]*)", found["--help"])))
+    first = found["--help"].splitlines()[1]
+    yield holds("the help says at once how a file is read", "mseed audit < my.mseed" in first, first)
+    for page in PAGES:
+        command = page.stem.partition("-")[2]
+        if command:
+            example = re.search(rf"^ +mseed {command} .*[<>] ", found["--help"], re.MULTILINE)
+            yield holds(f"the help has an example of {command}", example, found["--help"])
+    version = (ROOT / "VERSION").read_text(encoding="utf-8")
+    yield Fact("the version is that of VERSION", f"mseed {version}", found["--version"])
+
+
+def rows() -> Cases:
+    """All of them."""
+    named = set()
+    for page in PAGES:
+        text, found = page.read_text(encoding="utf-8"), warnings(page)
+        named |= options_named(text)
+        if found is None:
+            yield Skipped(f"the form of {page.name}", "mandoc or man")
+        else:
+            yield Fact(f"the form of {page.name}", "", found)
+        versions = text.count(".Os mseed @VERSION@\n")
+        yield Fact(f"{page.name}: its version is put in by `make install`", 1, versions)
+        with tempfile.TemporaryDirectory() as folder:
+            for number, block in enumerate(EXAMPLES.findall(text), 1):
+                yield Fact(f"{page.name}: example {number}", block, printed(block, folder))
+    yield from texts(named)

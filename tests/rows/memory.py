@@ -1,0 +1,83 @@
+"""Each of the program's allocations refused in turn, alone and with all behind it: each such run writes
+`mseed: no memory` to its standard error and ends with status 2. An audit writes nothing then, and a listing a prefix of
+its text. An audit of many records allocates as often as one of four, and no more.
+"""
+
+from __future__ import annotations
+
+from dataclasses import replace
+from typing import Generator
+
+from driver.helpers import COMPILER, library, preloaded, refused_in_turn
+from driver.program import SAMPLES
+from driver.rows import Case, Cases, Fact, Result, Row, Skipped, holds
+from driver.texts import NO_MEMORY, Expected, PrefixOf, matches
+
+TWO = (SAMPLES / "two_records.mseed").read_bytes()
+# The first of them, and the same of another channel, over and over.
+PAIR = TWO[:128] + TWO[:128].replace(b"BHZ", b"BHN")
+FOUR, MANY = PAIR * 2, PAIR * 5000
+# More memory than four records need.
+ENOUGH = 16777216
+
+
+def refuses(name: str, row: Row, refusing: str, is_listing: bool = False) -> Generator[Case, None, int]:
+    """A run with each allocation refused in turn, until there is none to refuse; then all is as without. How many runs
+    that took."""
+    whole = replace(row, env=preloaded(refusing, REFUSE=0)).run()
+    out: Expected = PrefixOf(whole.out) if is_listing else b""
+    yield Fact(f"{name} with all its memory", row.status, whole.status)
+    for number, came in refused_in_turn(row, refusing):
+        if came.status == row.status:
+            break
+        yield refused(f"{name} with allocation {number} refused", came, out)
+        came = replace(row, env=preloaded(refusing, REFUSE_FROM=number)).run()
+        yield refused(f"{name} with all allocations from {number} on refused", came, out)
+    yield Fact(f"{name} with no allocation refused at {number}", whole, came)
+    yield holds(f"{name} allocates", number > 5, number)
+    return number
+
+
+def refused(name: str, came: Result, out: Expected) -> Fact:
+    """A run that ended for want of memory, with this output."""
+    return Fact(name, (2, True, NO_MEMORY), (came.status, matches(out, came.out) or came.out, came.err))
+
+
+def least(refusing: str) -> Cases:
+    """The least memory that an audit of four records can do with, to a byte: less is refused, and it is enough for many."""
+    four, many = (Row("", archive, ["audit"], 1) for archive in (FOUR, MANY))
+    too_few, enough = 0, ENOUGH
+    while enough - too_few > 1:
+        heap = (too_few + enough) // 2
+        if replace(four, env=preloaded(refusing, HEAP=heap)).run().status == 1:
+            enough = heap
+        else:
+            too_few = heap
+    yield Row(f"four records in {too_few} bytes", FOUR, ["audit"], 2, b"", NO_MEMORY,
+              env=preloaded(refusing, HEAP=too_few))
+    for name, row in (("four", four), ("many", many)):
+        whole = replace(row, env=preloaded(refusing, REFUSE=0)).run()
+        yield Row(f"{name} records in {enough} bytes", row.input, row.words, 1, whole.out, whole.err,
+                  env=preloaded(refusing, HEAP=enough))
+
+
+def rows() -> Cases:
+    """All of them."""
+    refusing = library("refuse_memory")
+    if refusing is None:
+        yield Skipped("commands with allocations refused", COMPILER)
+        return
+    for name, archive, words, status in (
+        ("two audit", TWO, "audit", 0),
+        ("two repack", TWO, "repack", 0),
+        ("four repack", FOUR, "repack", 1),
+        ("two repack --length 500", TWO, "repack --length 500", 3),
+        ("two show", TWO, "show", 0),
+        ("two show --bogus", TWO, "show --bogus", 3),
+        ("two show show", TWO, "show show", 3),
+    ):
+        yield from refuses(name, Row(name, archive, words.split(), status), refusing, is_listing=words == "show")
+    of_four = yield from refuses("four audit", Row("", FOUR, ["audit"], 1), refusing)
+    of_many = yield from refuses("many audit", Row("", MANY, ["audit"], 1), refusing)
+    yield Fact("as many allocations for many records as for four", of_four, of_many)
+    yield from least(refusing)

@@ -1,0 +1,140 @@
+"""The words of the two commands of a feed: which of them ask for nothing that there is, which ones the parser of the
+command line refuses in its own text, and which are taken."""
+
+from __future__ import annotations
+
+from typing import Iterator
+
+from driver.rows import Cases, Row
+from driver.texts import BAD_VALUE, About, Without
+
+# An input that is no archive.
+OTHER = b"no record"
+SIXTEEN = [f"XX_P{number}" for number in range(1, 16)]
+
+
+def bad(name: str, *words: str) -> Row:
+    """Words that ask for nothing that there is."""
+    return Row(name, OTHER, words, 3, b"", BAD_VALUE)
+
+
+def refused(name: str, about: str, *words: str) -> Row:
+    """Words that are refused in the parser's own text."""
+    return Row(name, OTHER, words, 3, b"", About(about))
+
+
+def taken(name: str, *words: str) -> Row:
+    """Words that are taken. What they ask for can't be done: the input is no archive, and nobody answers at the port."""
+    return Row(name, OTHER, words, 2, b"", Without(BAD_VALUE.strip()))
+
+
+PLACES = ["", "_", "STA", "XXSTA", "XX-STA", "XX_", "_STA", "XXX_STB", "XX_ABCDEF", "XX_STB_", "XX__STB", "XX_ST B",
+          " XX_STB", "XX_STB:", "XX_STB:G", "XX_STB:0000000", "XX_STB:+1", "XX_STB: 1", "XX_STB:1:2", "XX:1_STB", ":1",
+          "XX_STÉ"]
+
+
+def of_either(command: str) -> Iterator[Row]:
+    """What `serve` and `fetch` have in common: each wants its port, station and network."""
+    feed = [command, "--port", "1", "--station", "STA", "--network", "XX"]
+    yield bad(f"{command}: nothing but the word", command)
+    yield bad(f"{command}: no port", command, "--station", "STA", "--network", "XX")
+    yield bad(f"{command}: no station", command, "--port", "1", "--network", "XX")
+    yield bad(f"{command}: no network", command, "--port", "1", "--station", "STA")
+    yield taken(f"{command}: all that is wanted", *feed)
+    yield taken(f"{command}: the options in front", "--network", "XX", "--station", "STA", "--port", "1", command)
+
+    # A station has 1 to 5 letters or digits, a network 1 or 2.
+    for station in ("", "ABCDEF", "S T", "STA ", "ST-A", "ST_A", "XX_STA", "STÄ"):
+        yield bad(f"{command}: station '{station}'", command, "--port", "1", "--network", "XX", f"--station={station}")
+    for network in ("", "XXX", "X ", "X_", "-", "É"):
+        yield bad(f"{command}: network '{network}'", command, "--port", "1", "--station", "STA", f"--network={network}")
+    yield taken(f"{command}: the shortest codes", command, "--port", "1", "--station", "s", "--network", "1")
+    yield taken(f"{command}: the longest codes", command, "--port", "1", "--station", "aB345", "--network", "zZ")
+
+    # Further places.
+    for place in PLACES:
+        yield bad(f"{command}: place '{place}'", *feed, place)
+    yield bad(f"{command}: the first place again", *feed, "XX_STA")
+    yield bad(f"{command}: a further place again", *feed, "XX_STB", "XX_STC", "XX_STB")
+    yield bad(f"{command}: a bad place behind good ones", *feed, "XX_STB", "XX_STC", "XX")
+    yield bad(f"{command}: a sixteenth further place", *feed, *SIXTEEN, "XX_P16")
+    yield taken(f"{command}: fifteen further places", *feed, *SIXTEEN)
+    yield taken(f"{command}: the same station of another network, and in small letters", *feed, "YY_STA", "xx_STA",
+                "XX_sta")
+    yield taken(f"{command}: a place before the options", command, "XX_STB", *feed[1:])
+
+    # The parser judges ports.
+    for port in ("0", "65536", "-1", "1.5", "x", "", "18446744073709551617"):
+        yield refused(f"{command}: port '{port}'", "port", command, f"--port={port}", *feed[3:])
+    yield taken(f"{command}: the last port", command, "--port", "65535", *feed[3:])
+    yield taken(f"{command}: a port with zeros and a plus", command, "--port", "+0000000000001", *feed[3:])
+
+    # Options of packing.
+    yield bad(f"{command}: a length", *feed, "--length", "512")
+    yield bad(f"{command}: an encoding", *feed, "--encoding", "steim2")
+
+
+SERVE = ["serve", "--port", "1", "--station", "STA", "--network", "XX"]
+FETCH = ["fetch", *SERVE[1:]]
+
+
+def of_the_other() -> Iterator[Row]:
+    """Options of the other command, and a number for a place that is served."""
+    yield bad("serve: a number to begin from", *SERVE, "--from", "0")
+    yield bad("serve: tries", *SERVE, "--tries", "1")
+    yield bad("serve: a place with a number", *SERVE, "XX_STB:1")
+    yield bad("fetch: a capacity", *FETCH, "--capacity", "1000")
+    yield bad("fetch: a first number", *FETCH, "--first", "0")
+    yield bad("fetch: connections", *FETCH, "--connections", "1")
+
+
+def numbers() -> Iterator[Row]:
+    """Capacities, the numbers of records, and counts."""
+    # A capacity is 1 to 1,000,000 in one to seven digits.
+    for capacity in ("", "0", "0000000", "1000001", "9999999", "00000001", "01000000", "+1", "-1", "1.0", "1k", "1e3",
+                     "0x10", " 1", "1 "):
+        yield bad(f"serve: capacity '{capacity}'", *SERVE, f"--capacity={capacity}")
+    for capacity in ("1", "0000001", "0001000", "1000000"):
+        yield taken(f"serve: capacity {capacity}", *SERVE, "--capacity", capacity)
+
+    # A number has one to six hexadecimal digits, in either case.
+    for number in ("", "0000000", "1000000", "G", "g", "0x1", "+1", "-1", " 1", "1 ", "1.0", "é"):
+        yield bad(f"serve: first '{number}'", *SERVE, f"--first={number}")
+        yield bad(f"fetch: from '{number}'", *FETCH, f"--from={number}")
+    for number in ("0", "000000", "9", "a", "F", "fFfFfF", "FFFFFF"):
+        yield taken(f"serve: first {number}", *SERVE, "--first", number)
+        yield taken(f"fetch: from {number}", *FETCH, "--from", number)
+        yield taken(f"fetch: a place from {number}", *FETCH, f"XX_STB:{number}")
+
+    # A place is there twice, whatever numbers it has.
+    yield bad("fetch: the first place again, with a number", *FETCH, "XX_STA:1")
+    yield bad("fetch: the first place again, with its number", *FETCH, "--from", "1", "XX_STA:1")
+    yield bad("fetch: a place with two numbers", *FETCH, "XX_STB:1", "XX_STB:2")
+    yield bad("fetch: a place with a number and without", *FETCH, "XX_STB:1", "XX_STB")
+    yield taken("fetch: places with a number and without", *FETCH, "XX_STB:1", "XX_STC", "XX_STD:1")
+
+    # The parser judges counts.
+    for count in ("0", "1000001", "-1", "x", ""):
+        yield refused(f"serve: connections '{count}'", "connections", *SERVE, f"--connections={count}")
+        yield refused(f"fetch: tries '{count}'", "tries", *FETCH, f"--tries={count}")
+    yield taken("serve: a million connections", *SERVE, "--connections", "1000000")
+    yield taken("fetch: two tries", *FETCH, "--tries", "2")
+
+
+def parsed() -> Iterator[Row]:
+    """An option that is given twice, or has no value; and the help, which names the commands and their options."""
+    yield refused("serve: two ports", "port", *SERVE, "--port", "1")
+    yield refused("fetch: two numbers to begin from", "from", *FETCH, "--from", "1", "--from", "1")
+    yield refused("serve: a capacity without a number", "capacity", *SERVE, "--capacity")
+    for word in ("audit", "show", "repack", "serve", "fetch", "NET_STA", "--length", "--encoding", "--station",
+                 "--network", "--capacity", "--first", "--from", "--port", "--connections", "--tries"):
+        yield refused(f"help: {word}", word, "--help")
+
+
+def rows() -> Cases:
+    """All of them."""
+    yield from of_either("serve")
+    yield from of_either("fetch")
+    yield from of_the_other()
+    yield from numbers()
+    yield from parsed()

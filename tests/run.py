@@ -1,0 +1,89 @@
+#!/usr/bin/env python3
+"""Runs the tests.
+
+    tests/run.py [--gate] [-j N] [-v] [NAME ..]
+    tests/run.py --list
+
+Runs the row files in tests/rows, N side by side (as many as there are cores, where no number is given), or those that
+are named. The program is that of the build, or the one that $MSEED names; where there is none, it is built first. With
+--gate the toolchain's own gate (`rt ci`) runs before, from nothing, and its count is added. With -v each row that passes
+is printed too. A row that fails is printed with what was expected and what came. What isn't installed is counted as
+skipped and named. The last line is `N passed, M failed`.
+"""
+
+from __future__ import annotations
+
+import argparse
+import os
+import re
+import subprocess
+import sys
+from pathlib import Path
+
+from driver.counting import Count, names
+from driver.program import BUILT, PROGRAM, ROOT
+from driver.side_by_side import run_all, run_and_report
+
+
+def gate() -> Count:
+    """Runs the toolchain's gate, shows what it prints, and counts what its last line counts. A gate that fails without
+    such a line, or that ran nothing, is a failure. It leaves the program that it proved and built."""
+    BUILT.unlink(missing_ok=True)
+    last = ""
+    with subprocess.Popen(["rt", "ci"], cwd=ROOT, stdout=subprocess.PIPE, stderr=subprocess.STDOUT, text=True,
+                          errors="replace") as run:
+        for line in run.stdout:
+            print(line, end="", flush=True)
+            last = line if re.match(r"\d+ passed, \d+ failed", line) else last
+    found = re.match(r"(\d+) passed, (\d+) failed", last)
+    count = Count(int(found[1]), int(found[2])) if found else Count()
+    if not count.passed + count.failed or run.returncode != 0 and not count.failed:
+        print(f"FAILED rt ci: status {run.returncode}, {last.strip() or 'and no count'}")
+        count.failed += 1
+    return count
+
+
+def is_built() -> bool:
+    """Whether there is a program to test; where none was built, it is built."""
+    if PROGRAM != BUILT or os.access(PROGRAM, os.X_OK):
+        return os.access(PROGRAM, os.X_OK)
+    return subprocess.run(["make", "--silent", "build"], cwd=ROOT, check=False).returncode == 0
+
+
+def arguments() -> argparse.Namespace:
+    """The words of the command line."""
+    parser = argparse.ArgumentParser(description="Runs the tests.", epilog="Without names, all row files are run.")
+    parser.add_argument("names", nargs="*", metavar="NAME", help="a row file, by its name")
+    parser.add_argument("--gate", action="store_true", help="run `rt ci` first, and count it")
+    parser.add_argument("--list", action="store_true", help="list the row files")
+    parser.add_argument("-j", "--jobs", type=int, default=os.cpu_count() or 1, help="row files side by side")
+    parser.add_argument("-v", "--verbose", action="store_true", help="print each row that passes")
+    parser.add_argument("--report", type=Path, help=argparse.SUPPRESS)
+    given = parser.parse_args()
+    unknown = [name for name in given.names if name not in names()]
+    if unknown:
+        parser.error(f"no row file {', '.join(unknown)}; there are {', '.join(names())}")
+    return given
+
+
+def main() -> int:
+    """Runs what the words ask for. The status is 1 where anything failed."""
+    given = arguments()
+    if given.list:
+        print("\n".join(names()))
+        return 0
+    if given.report:
+        run_and_report(given.names[0], given.verbose, given.report)
+        return 0
+    count = gate() if given.gate else Count()
+    if is_built():
+        count.add(run_all(given.names or names(), max(1, given.jobs), given.verbose))
+    else:
+        print(f"FAILED {PROGRAM}: no program")
+        count.failed += 1
+    print(count.lines())
+    return 1 if count.failed else 0
+
+
+if __name__ == "__main__":
+    sys.exit(main())
