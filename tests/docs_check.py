@@ -20,7 +20,7 @@ from rows.documents import DOCUMENTS, drawing, names, self_tests
 
 
 def relinked(sources: Sources, name: str, text: str) -> str:
-    """The document with links that lead to the one file in which each call, definition, edit, test or row file stands."""
+    """The document with links that lead to the one file that has each call, definition, edit, test or row file."""
     folder = os.path.dirname(name)
 
     def places_of(word: str, path: str) -> list[str]:

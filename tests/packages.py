@@ -1,6 +1,8 @@
 #!/usr/bin/env python3
-"""Installs the packages of tests/packages.txt that are missing, by apt-get where that is there and may install, and goes
-on without those that can't be had: what wants them is skipped by the tests, counted and named."""
+"""Installs the packages of tests/packages.txt that are missing, by apt-get where that is there and may install.
+
+What can't be had is left out: the tests skip what wants it, count it and name it.
+"""
 
 from __future__ import annotations
 

@@ -6,9 +6,9 @@
 
 Runs the row files in tests/rows, N side by side (as many as there are cores, where no number is given), or those that
 are named. The program is that of the build, or the one that $MSEED names; where there is none, it is built first. With
---gate the toolchain's own gate (`rt ci`) runs before, from nothing, and its count is added. With -v each row that passes
-is printed too. A row that fails is printed with what was expected and what came. What isn't installed is counted as
-skipped and named. The last line is `N passed, M failed`.
+--gate the toolchain's own gate (`rt ci`) runs before, from nothing, and its count is added. A row that fails is printed
+with what was expected and what came, with -v also each one that passes. What isn't installed is counted as skipped and
+named. The last line is `N passed, M failed`.
 """
 
 from __future__ import annotations

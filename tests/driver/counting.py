@@ -29,8 +29,10 @@ class Count:
 
     def lines(self) -> str:
         """The last lines of a run: what was skipped, if anything, and the count."""
-        missing = f"{len(self.skipped)} skipped: what they want isn't installed\n" if self.skipped else ""
-        return "".join(f"skipped {name}\n" for name in self.skipped) + missing + f"{self.passed} passed, {self.failed} failed"
+        lines = [f"skipped {name}" for name in self.skipped]
+        if self.skipped:
+            lines.append(f"{len(self.skipped)} skipped: what they want isn't installed")
+        return "\n".join([*lines, f"{self.passed} passed, {self.failed} failed"])
 
 
 def names() -> list[str]:

@@ -41,7 +41,7 @@ class Ended(NamedTuple):
 
 
 def started(words: Sequence[str], env: Env = None, closed: Sequence[int] = (), **streams) -> subprocess.Popen:
-    """The program as a process, with more in its environment, and with some descriptors closed from its first moment."""
+    """The program as a process, with more in its environment, and some descriptors closed from its first moment."""
     command = [str(PROGRAM), *words]
     if closed:
         command = ["bash", "-c", 'exec "$@"' + "".join(f" {number}>&-" for number in closed), "bash", *command]

@@ -18,7 +18,8 @@ def integers(samples: Iterable[int]) -> bytes:
     return b"".join(struct.pack(">i", sample) for sample in samples)
 
 
-def blockette_1000(next: int = 56, encoding: int = 3, word_order: int = 1, exponent: int = 7, order: str = ">") -> bytes:
+def blockette_1000(next: int = 56, encoding: int = 3, word_order: int = 1, exponent: int = 7,
+                   order: str = ">") -> bytes:
     """The blockette that says what a record holds, of 2^exponent bytes."""
     return struct.pack(order + "HHBBBB", 1000, next, encoding, word_order, exponent, 0)
 
@@ -29,10 +30,10 @@ def blockette_1001(next: int = 0, micros: int = 0, order: str = ">", frames: int
 
 
 def record(codes: bytes = b"STA    BHZXX", quality: bytes = b"D", year: int = 2024, day: int = 1, hour: int = 0,
-           minute: int = 0, second: int = 0, fraction: int = 0, samples: int = 16, factor: int = 20, multiplier: int = 1,
-           activity: int = 0, correction: int = 0, encoding: int = 3, word_order: int = 1, exponent: int = 7,
-           micros: int = 0, next: int = 0, first: int = 48, order: str = ">", frames: int = 0, sequence: int = 1,
-           blockettes: Optional[bytes] = None, data: bytes = integers(range(16))) -> bytes:
+           minute: int = 0, second: int = 0, fraction: int = 0, samples: int = 16, factor: int = 20,
+           multiplier: int = 1, activity: int = 0, correction: int = 0, encoding: int = 3, word_order: int = 1,
+           exponent: int = 7, micros: int = 0, next: int = 0, first: int = 48, order: str = ">", frames: int = 0,
+           sequence: int = 1, blockettes: Optional[bytes] = None, data: bytes = integers(range(16))) -> bytes:
     """The record but for what is named. The first blockette is said to be at `first`; the header and `blockettes` are
     at the beginning, whatever it says."""
     header = b"%06d" % sequence + quality + b" " + codes
@@ -93,4 +94,5 @@ TELLING = [0x00, 0x01, 0x02, 0x03, 0x07, 0x0A, 0x0B, 0x10, 0x20, 0x30, 0x40, 0x4
 
 def chain_of_500(last: int) -> bytes:
     """The longest chain of blockettes of which none is a 1000, each naming the next; the last one names this."""
-    return b"".join(struct.pack(">HH", 500, offset + 4) for offset in range(48, 65532, 4)) + struct.pack(">HH", 500, last)
+    following = [offset + 4 for offset in range(48, 65532, 4)] + [last]
+    return b"".join(struct.pack(">HH", 500, offset) for offset in following)

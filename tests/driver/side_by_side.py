@@ -40,7 +40,8 @@ def run_alone(name: str, is_verbose: bool) -> tuple[Count, str]:
         report, log = Path(folder) / "count", Path(folder) / "log"
         words = [sys.executable, sys.argv[0], "--report", str(report), *["--verbose"] * is_verbose, name]
         with log.open("wb") as file:
-            process = subprocess.Popen(words, stdout=file, stderr=file, stdin=subprocess.DEVNULL, start_new_session=True)
+            process = subprocess.Popen(words, stdin=subprocess.DEVNULL, stdout=file, stderr=file,
+                                       start_new_session=True)
         try:
             process.wait(MOST)
         except subprocess.TimeoutExpired:

@@ -23,37 +23,37 @@ def order_of(bytes: bytes) -> Optional[str]:
     return None
 
 
-def scan(front: bytes) -> tuple[str, Union[int, str]]:
+def scan(prefix: bytes) -> tuple[str, Union[int, str]]:
     """("need", bytes), ("record", bytes) or ("not", fault): the first framing step that applies."""
-    if front[:3] == b"MS\x03":
+    if prefix[:3] == b"MS\x03":
         return "not", "version3"
-    if len(front) < 48:
+    if len(prefix) < 48:
         return "need", 48
-    if any(b not in b"0123456789 \0" for b in front[:6]) or front[6] not in b"DRQM" or front[7] not in b" \0":
+    if any(b not in b"0123456789 \0" for b in prefix[:6]) or prefix[6] not in b"DRQM" or prefix[7] not in b" \0":
         return "not", "notdata"
-    order = order_of(front)
+    order = order_of(prefix)
     if order is None:
         return "not", "order"
-    at, last = struct.unpack_from(order + "H", front, 46)[0], None
+    at, last = struct.unpack_from(order + "H", prefix, 46)[0], None
     while True:
         if at == 0:
             return "not", "no1000"
         if at < 48 or (last is not None and at < last + 4):
             return "not", "chain"
-        if len(front) < at + 4:
+        if len(prefix) < at + 4:
             return "need", at + 4
-        kind, following = struct.unpack_from(order + "HH", front, at)
+        kind, following = struct.unpack_from(order + "HH", prefix, at)
         if kind == 1000:
             break
         at, last = following, at
-    if len(front) < at + 8:
+    if len(prefix) < at + 8:
         return "need", at + 8
-    exponent = front[at + 6]
+    exponent = prefix[at + 6]
     if not 7 <= exponent <= 20:
         return "not", f"length {exponent}"
     if at + 8 > 2**exponent:
         return "not", "outside"
-    return ("need" if len(front) < 2**exponent else "record"), 2**exponent
+    return ("need" if len(prefix) < 2**exponent else "record"), 2**exponent
 
 
 class Record:
@@ -242,7 +242,8 @@ def audit(archive: bytes) -> tuple[bytes, int]:
         first = channels[key][0][2]
         if found:
             is_broken = True
-            lines.append("{} broken findings {} first record {} offset {} {}".format(name_of(key), len(found), *found[0]))
+            number, offset, why = found[0]
+            lines.append(f"{name_of(key)} broken findings {len(found)} first record {number} offset {offset} {why}")
         else:
             samples = sum(record.count for _, _, record in channels[key])
             lines.append("{} continuous {} rate {}/{} records {} samples {}".format(

@@ -163,7 +163,8 @@ def read(archive: bytes) -> list[Series]:
             continue
         year, day, hour, minute, second, _, fraction, count, factor, multiplier, activity, _, _, _, correction \
             = struct.unpack(order + "HHBBBBHHhhBBBBi", bytes[20:44])
-        start = (datetime.datetime(year, 1, 1) - EPOCH).days * 86400 + (day - 1) * 86400 + hour * 3600 + minute * 60 + second
+        days = (datetime.datetime(year, 1, 1) - EPOCH).days + day - 1
+        start = days * 86400 + hour * 3600 + minute * 60 + second
         start = start * SECOND + fraction * 100 + struct.unpack("b", bytes[61:62])[0]
         start += 0 if activity & 2 else correction * 100
         samples, ends = samples_of(bytes, order, count)

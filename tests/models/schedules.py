@@ -19,11 +19,11 @@ APPEND, CONNECT, TO_SERVER, TO_CLIENT, SEND, CUT, END = 0, 1, 2, 3, 4, 5, 255
 
 
 class Link:
-    """A link by what was said and sent: each line and each item with the count at which it is whole."""
+    """A link by the lines and the answers on it: each with the count of bytes at which it is whole."""
 
     def __init__(self) -> None:
         self.lines: list[tuple[str, int]] = []
-        self.said, self.taken, self.answered = 0, 0, 0
+        self.written, self.taken, self.answered = 0, 0, 0
         self.items: list[tuple[Union[str, tuple[int, int]], int]] = []
         self.sent, self.delivered, self.received = 0, 0, 0
         self.grants: dict[int, int] = {}
@@ -50,7 +50,7 @@ class World:
             self.pushed[value] += 1
         elif kind == CONNECT:
             self.link = Link()
-            self.say()
+            self.send_line()
         elif kind == CUT:
             self.link = None
         elif self.link:
@@ -68,7 +68,7 @@ class World:
         """The number of the oldest record that can be had."""
         return self.end(k) - min(self.capacity, self.pushed[k])
 
-    def say(self) -> None:
+    def send_line(self) -> None:
         """The client's next line: STATION, then DATA or FETCH, of each place, and END. It is one once its CR came."""
         k, is_number = divmod(len(self.link.lines), 2)
         if k == len(self.wanted):
@@ -77,13 +77,13 @@ class World:
             text = f"STATION S{k:02} XX"
         else:
             text = ("FETCH" if self.fetches else "DATA") + ("" if self.next(k) is None else f" {self.next(k):06X}")
-        self.link.lines.append((text, self.link.said + len(text) + 1))
-        self.link.said += len(text) + 2
+        self.link.lines.append((text, self.link.written + len(text) + 1))
+        self.link.written += len(text) + 2
 
     def to_server(self, count: int) -> None:
         """Delivers so many bytes to the server, which answers the lines that are whole then."""
         link = self.link
-        link.taken = min(link.taken + count, link.said)
+        link.taken = min(link.taken + count, link.written)
         while link.answered < len(link.lines) and link.lines[link.answered][1] <= link.taken:
             k, words = link.answered // 2, link.lines[link.answered][0].split()
             link.answered += 1
@@ -129,7 +129,7 @@ class World:
             what = link.items[link.received][0]
             link.received += 1
             if what == "ok":
-                self.say()
+                self.send_line()
             elif what in ("error", "end"):
                 link.is_ended = True
             else:
@@ -147,7 +147,7 @@ class World:
             low = 0 if start is None else start - self.first
             places += f"{self.pushed[k]} {self.held[k]} {low} {or_none(start)} {or_none(self.next(k))} true;"
         link = self.link
-        return places + (f" {link.said - link.taken} {link.sent - link.delivered}\n" if link else " none\n")
+        return places + (f" {link.written - link.taken} {link.sent - link.delivered}\n" if link else " none\n")
 
 
 def schedule(source: random.Random) -> tuple[bytes, str]:

@@ -1,6 +1,5 @@
-"""Series of all kinds at random, and records that say them: of mixed lengths, byte orders and encodings, with words that
-aren't the fullest.
-"""
+"""Series of all kinds at random, and records that say them: of mixed lengths, byte orders and encodings, with words
+that aren't the fullest."""
 
 from __future__ import annotations
 
@@ -9,10 +8,11 @@ from random import Random
 from typing import Iterator, Sequence
 
 from driver.records import record
-from models.packing import ROWS, SECOND, Form, Series, btime, fits, frames_of, word_of
+from models.packing import ROWS, SECOND, WIDTHS, Form, Series, btime, fits, frames_of, word_of
 
 # Values whose differences need the most bits of each row, and those of 16 and 32 bits themselves.
-EDGES = sorted({sign * (1 << bits - 1) - low for bits in (4, 5, 6, 8, 10, 15, 16, 30) for sign in (-1, 1) for low in (0, 1)})
+EDGES = sorted({sign * (1 << bits - 1) - low
+                for bits in (4, 5, 6, 8, 10, 15, 16, 30) for sign in (-1, 1) for low in (0, 1)})
 LIMIT = {1: 15, 3: 31, 10: 31, 11: 28}
 CODES = {"int16": 1, "int32": 3, "steim1": 10, "steim2": 11}
 
@@ -28,8 +28,9 @@ def samples_for(source: Random, encoding: int, count: int) -> list[int]:
     width = source.choice([1, 3, 4, 5, 6, 8, 10, 12, 15])
     samples, last = [], source.randrange(-limit // 2, limit // 2)
     for _ in range(count):
-        step = source.choice(EDGES) if manner == 2 or source.random() < 0.02 else source.getrandbits(width) - (1 << width) // 2
-        last = last + step if -limit <= last + step < limit else last - step if -limit <= last - step < limit else last
+        is_edge = manner == 2 or source.random() < 0.02
+        step = source.choice(EDGES) if is_edge else source.getrandbits(width) - (1 << width) // 2
+        last = next((number for number in (last + step, last - step) if -limit <= number < limit), last)
         samples.append(last)
     return samples
 
@@ -37,24 +38,28 @@ def samples_for(source: Random, encoding: int, count: int) -> list[int]:
 def count_for(source: Random, exponent: int, encoding: int) -> int:
     """Near the edge of some records, or any."""
     room = 2**exponent - 64
-    full = room // {1: 2, 3: 4}[encoding] if encoding in (1, 3) else (room // 64 * 15 - 2) * source.choice(ROWS[encoding])[0]
+    if encoding in WIDTHS:
+        full = room // WIDTHS[encoding]
+    else:
+        full = (room // 64 * 15 - 2) * source.choice(ROWS[encoding])[0]
     return source.choice([1, 2, max(1, full - 1), full, full + 1, 2 * full + 1, source.randrange(1, 400)])
 
 
 def rate_for(source: Random) -> tuple[int, int]:
     """A factor and a multiplier."""
-    factor, multiplier = source.choice([(20, 1), (100, 1), (3, 1), (1, 3), (7, -3), (1, -10), (-10, 1), (-3, 7), (-2, -5), (-1, -1),
-                                        (32767, 15), (-32768, -1), (20, -1), (1, 1)])
-    return factor, multiplier
+    return source.choice([(20, 1), (100, 1), (3, 1), (1, 3), (7, -3), (1, -10), (-10, 1), (-3, 7), (-2, -5), (-1, -1),
+                          (32767, 15), (-32768, -1), (20, -1), (1, 1)])
 
 
 def series_for(source: Random, name: bytes, exponent: int, encoding: int) -> Series:
     """A series of a channel, which records of this length and encoding can hold."""
     count = count_for(source, exponent, encoding)
     factor, multiplier = rate_for(source)
-    start = source.choice([0, 1704067199999949, 1483228790123456, -2208988790000000, 951782400000051]) + source.randrange(100)
+    start = source.choice([0, 1704067199999949, 1483228790123456, -2208988790000000, 951782400000051])
+    start += source.randrange(100)
     places = sorted(source.sample(range(1, count + 1), min(count, source.choice([0, 0, 0, 1, 3]))))
-    return Series(name, start, factor, multiplier, samples_for(source, encoding, count), [(p, source.choice([1, -1])) for p in places])
+    samples = samples_for(source, encoding, count)
+    return Series(name, start, factor, multiplier, samples, [(place, source.choice([1, -1])) for place in places])
 
 
 def loose_words(source: Random, differences: Sequence[int], rows: Sequence[Form],
@@ -62,7 +67,8 @@ def loose_words(source: Random, differences: Sequence[int], rows: Sequence[Form]
     """Words that needn't be the fullest."""
     words, used = [], 0
     while used < len(differences) and len(words) < room:
-        fit = [r for r in rows if used + r[0] <= len(differences) and all(fits(d, r[1]) for d in differences[used : used + r[0]])]
+        fit = [row for row in rows if used + row[0] <= len(differences)
+               and all(fits(difference, row[1]) for difference in differences[used : used + row[0]])]
         row = source.choice(fit)
         words.append((row[2], word_of(differences[used : used + row[0]], row)))
         used += row[0]
@@ -97,9 +103,11 @@ def records_for(source: Random, series: Series) -> list[bytes]:
         activity = sum({1: 16, -1: 32}[way] for place, way in series.steps if place == at + count)
         correction, applied = source.randrange(-9, 9), source.choice([0, 2])
         start = series.instant(at) + late - (0 if applied else 100 * correction)
-        records.append(record(codes=series.codes, quality=source.choice([b"D", b"R", b"Q", b"M"]), samples=count, factor=series.factor,
-                              multiplier=series.multiplier, activity=activity | applied, correction=correction, encoding=encoding,
-                              word_order=word_order, exponent=exponent, data=data, order=source.choice("<>"), **btime(start)))
+        quality, order = source.choice([b"D", b"R", b"Q", b"M"]), source.choice("<>")
+        records.append(record(codes=series.codes, quality=quality, samples=count, factor=series.factor,
+                              multiplier=series.multiplier, activity=activity | applied, correction=correction,
+                              encoding=encoding, word_order=word_order, exponent=exponent, data=data, order=order,
+                              **btime(start)))
         at += count
     return records
 

@@ -82,7 +82,7 @@ def fetch() -> Cases:
         name = f"fetch with {closed} closed, of {len(stream)} bytes"
         yield Fact(name, wanted, ended)
         [(lines, _)] = speaker.received
-        yield holds(f"{name}, says its lines alone", lines and LINES.startswith(lines), lines)
+        yield holds(f"{name}, sends its lines alone", lines and LINES.startswith(lines), lines)
 
 
 def address() -> Cases:

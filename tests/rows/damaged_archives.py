@@ -20,7 +20,8 @@ SEED = 20260101
 COUNT = 3000
 
 # What byte damage seldom brings: leap flags, a factor of 0, little-endian Steim, another encoding, day 0 and day 366.
-SELDOM = [(36, 0x30), (36, 0x10), (36, 0x20), (33, 0), (35, 0), (53, 0), (52, 10), (52, 11), (23, 0), (22, 1), (49, 0x64)]
+SELDOM = [(36, 0x30), (36, 0x10), (36, 0x20), (33, 0), (35, 0), (53, 0), (52, 10), (52, 11), (23, 0), (22, 1),
+          (49, 0x64)]
 
 
 def sound(source: Random) -> list[bytes]:

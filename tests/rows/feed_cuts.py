@@ -127,7 +127,7 @@ def from_a_number() -> Cases:
         runs += 1
         output += came
         if status == 2:
-            yield Fact("a client that is cut off says so", b"mseed: link failed\n", errors)
+            yield Fact("a client that is cut off writes so", b"mseed: link failed\n", errors)
             yield Fact("a client that is cut off has whole records", 0, len(came) % 512)
     yield holds("started anew behind what it has: each record once", output == b"".join(records), len(output))
     yield Fact(f"it was started {runs} times", 0, status)

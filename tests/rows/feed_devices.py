@@ -76,7 +76,7 @@ def streams(failing: str) -> Cases:
     for room in [*range(0, len(ARCHIVE), 61), 511, 512, 513, len(ARCHIVE) - 1, len(ARCHIVE)]:
         server = Server(ARCHIVE, PLACES, env=preloaded(failing, READ_ROOM=room))
         line = f"mseed: fault at {room // 512 * 512} read\n".encode()
-        yield Fact(f"serve of an input that tells {room} bytes", (2, b"", line), server.end())
+        yield Fact(f"serve of an input that fails behind {room} bytes", (2, b"", line), server.end())
     port = serving([feed_of([STA], 10, 0, RECORDS[::2])] * 100)
     output = b"".join(RECORDS[::2])
     for room in [*range(0, len(output), 47), 511, 512, 513, 1023, 1024, 1025, len(output) - 1]:

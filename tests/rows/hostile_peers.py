@@ -128,11 +128,11 @@ def resets(stream: bytes) -> Callable[[socket.socket], object]:
 ALL_OF_IT = b"STATION STA XX\r\nFETCH\r\nEND\r\n"
 # How a client behaves, and how the server ends behind it, where that is certain.
 RUDE_CLIENTS: list[tuple[str, Callable[[socket.socket], object], Optional[Ended]]] = [
-    ("says nothing", sends(b""), FINE),
-    ("says half a line", sends(b"STATION ST"), FINE),
+    ("sends nothing", sends(b""), FINE),
+    ("sends half a line", sends(b"STATION ST"), FINE),
     ("goes before END", sends(b"STATION STA XX\r\n"), None),
-    ("says a line that is too long", lambda link: exchanged(link, [b"A" * 256]), FINE),
-    ("says random bytes", lambda link: exchanged(link, [random.Random(1).randbytes(100000)]), None),
+    ("sends a line that is too long", lambda link: exchanged(link, [b"A" * 256]), FINE),
+    ("sends random bytes", lambda link: exchanged(link, [random.Random(1).randbytes(100000)]), None),
     ("resets at once", resets(b""), FAILED),
     ("resets after HELLO", resets(b"HELLO\r\n"), None),
     ("reads nothing", sends(ALL_OF_IT), None),
@@ -183,8 +183,8 @@ def rude_servers() -> Cases:
         ("sends another end", [GRANTED + b"ENX"], bad, b"", 1),
         ("sends a foreign record", [GRANTED + b"SL000001" + foreign], bad, b"", 1),
         ("sends the end alone", [GRANTED + b"END"], fine, b"", 1),
-        ("says nothing", [b"", b"", b""], failed, b"", 3),
-        ("says nothing at first", [b"", b"OK\r\n", good], fine, own, 3),
+        ("sends nothing", [b"", b"", b""], failed, b"", 3),
+        ("sends nothing at first", [b"", b"OK\r\n", good], fine, own, 3),
         ("breaks off in a packet", [good[:500], good], fine, own, 2),
         ("sends more behind the end", [good + b"SL000002" + own], fine, own, 1),
     ]:

@@ -44,7 +44,7 @@ def refused(name: str, came: Result, out: Expected) -> Fact:
 
 
 def least(refusing: str) -> Cases:
-    """The least memory that an audit of four records can do with, to a byte: less is refused, and it is enough for many."""
+    """The least memory that an audit of four records can do with, to a byte: less is refused, and many need no more."""
     four, many = (Row("", archive, ["audit"], 1) for archive in (FOUR, MANY))
     too_few, enough = 0, ENOUGH
     while enough - too_few > 1:

@@ -1,5 +1,5 @@
-"""Relays of the crate slink_model, which no command calls: in a copy of the crates, sources/relay_rows.source is compiled
-as tests of the crate, and run."""
+"""Relays of the crate slink_model, which no command calls: in a copy of the crates, sources/relay_rows.source is
+compiled as tests of the crate, and run."""
 
 from __future__ import annotations
 
@@ -25,7 +25,8 @@ def rows() -> Cases:
             file.write("\n#[cfg(test)]\nmod rows;\n")
         run = rt(crate, ["try", "--test", "--seconds", "600"])
     log = (run.stdout + run.stderr).decode(errors="replace")
-    tests = re.findall(r"^#\[test\]\s+fn (\w+)", (SOURCES / "relay_rows.source").read_text(encoding="utf-8"), re.MULTILINE)
+    code = (SOURCES / "relay_rows.source").read_text(encoding="utf-8")
+    tests = re.findall(r"^#\[test\]\s+fn (\w+)", code, re.MULTILINE)
     for test in tests:
         yield holds(f"relay: {test}", re.search(rf"^test rows::{test} .*ok$", log, re.MULTILINE), log[-1500:])
     yield holds("relay has tests", tests)

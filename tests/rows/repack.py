@@ -43,7 +43,7 @@ def two_records() -> Cases:
     sample = (SAMPLES / "two_records.mseed").read_bytes()
     yield packs("the sample records", sample, TWO_AGAIN, "--length", "128", "--encoding", "int32")
     yield packs("the same", TWO_PACKED, TWO_AGAIN, *SHORT_INTEGERS)
-    yield packs("a length with zeros in front", TWO, TWO_AGAIN, "--length", "0000128", "--encoding=int32")
+    yield packs("a length with leading zeros", TWO, TWO_AGAIN, "--length", "0000128", "--encoding=int32")
 
 
 def steim_words() -> Cases:

@@ -37,7 +37,7 @@ SERVED: list[tuple[str, bytes, Sequence[str]]] = [
     ("records of two places", BOTH, ["XX_STB"]),
     ("places without records", STA, ["XX_STB", "YY_STA"]),
 ]
-# Archives that can't, by what is said of them.
+# Archives that can't be served, each with the line that is written of it.
 REFUSED: list[tuple[str, str, bytes, Sequence[str]]] = [
     ("a record of 128 bytes", "record 1 is not of this feed", of("STA", "XX", 7), []),
     ("a second record of 1024 bytes", "record 2 is not of this feed", STA + of("STA", "XX", 10), []),
@@ -68,7 +68,7 @@ def inputs_that_fail(words: Sequence[str]) -> Cases:
         yield Skipped("serve over an input that fails", COMPILER)
         return
     for size in (0, 1, 511, 512, 513, 1023, 1024):
-        yield Row(f"an input that tells {size} bytes", STA * 1200, words, 2, b"",
+        yield Row(f"an input that fails behind {size} bytes", STA * 1200, words, 2, b"",
                   f"mseed: fault at {size // 512 * 512} read\n".encode(), env=preloaded(failing, READ_ROOM=size))
 
 

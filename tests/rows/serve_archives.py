@@ -64,7 +64,7 @@ def refusal_of(archive: bytes) -> str:
 
 
 def rows_of_tables() -> Iterator[tuple[str, bytes, str]]:
-    """Archives by name, each with what is said of it."""
+    """Archives by name, each with the line that is written of it."""
     for size in range(1025):
         line = f"fault at {size // 512 * 512} truncated {size % 512}" if size % 512 else SERVED
         yield f"the first {size} bytes", (FIRST + NEXT)[:size], line

@@ -1,5 +1,5 @@
-"""How a server answers and closes a link: the transcript of a session, sent whole, in single bytes and line by line; and
-that what was sent comes through, whatever the client still sends, and that no client holds the server for ever.
+"""How a server answers and closes a link: the transcript of a session, sent whole, in single bytes and line by line;
+that what was sent comes through, whatever the client still sends; and that no client holds the server for ever.
 
 The system resets a link that is closed while a byte of it is unread, or to which one comes later, and then drops what
 the client hasn't received.
@@ -106,13 +106,13 @@ def served(*options: object) -> Server:
     return Server(b"".join(RECORDS), [STA], "--capacity", len(RECORDS), *options)
 
 
-def last_byte(asked: bytes, answer: bytes, last: bytes, wanted: bytes) -> Cases:
-    """A client that receives an answer, sends a last line, and its LF once the server has closed its side. Only then it
-    reads the rest."""
+def last_byte(lines: bytes, answer: bytes, last: bytes, wanted: bytes) -> Cases:
+    """A client that sends lines and receives an answer, sends a last line, and its LF once the server has closed its
+    side. Only then it reads the rest."""
     name = f"the LF of {last!r}"
     server = served()
     with linked(server.port) as link:
-        link.sendall(asked)
+        link.sendall(lines)
         answered = received_up_to(link, len(answer))
         link.sendall(last + b"\r")
         await_close(server, link)
@@ -130,9 +130,9 @@ def unread() -> Cases:
         link.sendall(ASKED + STATION * 3000)
         await_close(server, link)
         rest, is_reset = rest_of(link)
-    yield holds("what was sent to a client that says more", rest == FETCHED, (len(rest), len(FETCHED)))
+    yield holds("what was sent to a client that sends more", rest == FETCHED, (len(rest), len(FETCHED)))
     yield holds("the end of a link that brings more", not is_reset)
-    yield Fact("serve behind a client that says more", ENDED, server.end())
+    yield Fact("serve behind a client that sends more", ENDED, server.end())
 
 
 def held(name: str, pause: Optional[float]) -> Cases:
@@ -166,4 +166,4 @@ def rows() -> Cases:
     yield from last_byte(STATION + b"DATA 0\r\nEND\r\n", GRANTED + b"S", b"BYE", GRANTED + PACKETS)
     yield from unread()
     yield from held("doesn't close its link", None)
-    yield from held("goes on saying single bytes", 0.01)
+    yield from held("goes on sending single bytes", 0.01)

@@ -69,7 +69,7 @@ def blockettes() -> Cases:
 def faults() -> Cases:
     """Bytes that are no record."""
     yield from lists("miniSEED 3", LONGER + b"MS\x03" + b"\0" * 40, f"0 {LONGER_TEXT}", fault="256 version3")
-    yield from lists("the front of miniSEED 3 alone", b"MS\x03", fault="0 version3")
+    yield from lists("the first bytes of miniSEED 3 alone", b"MS\x03", fault="0 version3")
     yield from lists("two bytes of it", b"MS", fault="0 truncated 2")
     yield from lists("another quality", chained(STEIM, quality=b"X"), fault="0 notdata")
     yield from lists("other bytes", LONGER + b"x" * 48, f"0 {LONGER_TEXT}", fault="256 notdata")

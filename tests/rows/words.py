@@ -24,7 +24,7 @@ def refused(name: str, about: str, *words: str) -> Row:
 
 
 def taken(name: str, *words: str) -> Row:
-    """Words that are taken. What they ask for can't be done: the input is no archive, and nobody answers at the port."""
+    """Words that are taken. What they ask for can't be done: the input is no archive, and nobody answers there."""
     return Row(name, OTHER, words, 2, b"", Without(BAD_VALUE.strip()))
 
 
@@ -41,7 +41,7 @@ def of_either(command: str) -> Iterator[Row]:
     yield bad(f"{command}: no station", command, "--port", "1", "--network", "XX")
     yield bad(f"{command}: no network", command, "--port", "1", "--station", "STA")
     yield taken(f"{command}: all that is wanted", *feed)
-    yield taken(f"{command}: the options in front", "--network", "XX", "--station", "STA", "--port", "1", command)
+    yield taken(f"{command}: the options first", "--network", "XX", "--station", "STA", "--port", "1", command)
 
     # A station has 1 to 5 letters or digits, a network 1 or 2.
     for station in ("", "ABCDEF", "S T", "STA ", "ST-A", "ST_A", "XX_STA", "STÄ"):
