@@ -35,8 +35,8 @@ def gate() -> Count:
         for line in run.stdout:
             print(line, end="", flush=True)
             last = line if re.match(r"\d+ passed, \d+ failed", line) else last
-    found = re.match(r"(\d+) passed, (\d+) failed", last)
-    count = Count(int(found[1]), int(found[2])) if found else Count()
+    found = re.match(r"(\d+) passed, (\d+) failed(?:, (\d+) skipped)?", last)
+    count = Count(int(found[1]), int(found[2]), ["of the gate"] * int(found[3] or 0)) if found else Count()
     if not count.passed + count.failed or run.returncode != 0 and not count.failed:
         print(f"FAILED rt ci: status {run.returncode}, {last.strip() or 'and no count'}")
         count.failed += 1

@@ -8,7 +8,6 @@ import time
 import traceback
 from dataclasses import dataclass, field
 from pathlib import Path
-from typing import Optional
 
 from driver.rows import Case, Cases, Skipped
 

@@ -6,7 +6,7 @@ What a continuous archive is packed into is what models/packing.py makes of it b
 from __future__ import annotations
 
 import struct
-from typing import Iterator
+from typing import Iterable, Iterator
 
 from driver.program import ROOT
 from driver.records import blockette_1000, chain_of_500, frame, next_record, record
@@ -243,7 +243,7 @@ def bytes_of_255() -> Cases:
     def with_255(offset: int) -> tuple[str, bytes]:
         return f"255 at {offset}", FIRST + NEXT[:offset] + b"\xff" + NEXT[offset + 1 :]
 
-    def rows(offsets, status: int, text: str) -> Iterator[Row]:
+    def rows(offsets: Iterable[int], status: int, text: str) -> Iterator[Row]:
         for offset in offsets:
             name, archive = with_255(offset)
             yield from audits_file(name, status, archive, text)
