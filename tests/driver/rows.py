@@ -9,6 +9,7 @@ from __future__ import annotations
 
 import contextlib
 import os
+import select
 import subprocess
 import tempfile
 from dataclasses import dataclass, field, replace
@@ -161,12 +162,18 @@ def pour(input: bytes, pipe: IO[bytes]) -> None:
 
 def status_of(process: subprocess.Popen) -> int:
     """The status of a process once it has ended by itself, within the time that it has."""
-    try:
-        return process.wait(LIMIT)
-    except subprocess.TimeoutExpired:
-        process.kill()
-        process.wait()
-        return NO_END
+    if process.poll() is None:
+        # Waiting with a limit would look now and then, and sleep in between.
+        watched = os.pidfd_open(process.pid)
+        poller = select.poll()
+        poller.register(watched, select.POLLIN)
+        has_ended = poller.poll(LIMIT * 1000)
+        os.close(watched)
+        if not has_ended:
+            process.kill()
+            process.wait()
+            return NO_END
+    return process.wait()
 
 
 def contents_of(file: IO[bytes]) -> bytes:
