@@ -4,7 +4,6 @@ links between them."""
 from __future__ import annotations
 
 import atexit
-import os
 import select
 import signal
 import socket
@@ -15,8 +14,8 @@ import time
 from typing import Callable, Iterable, Mapping, NamedTuple, Optional, Protocol, Sequence
 
 from driver.links import dialled, free_port, is_listened_at, listening, port_of, reset
-from driver.program import LIMIT, PROGRAM
-from driver.rows import contents_of, status_of
+from driver.program import LIMIT
+from driver.rows import contents_of, started, status_of
 
 # The processes that were started. They are over when this one is, however it ends.
 STARTED: list[subprocess.Popen] = []
@@ -40,12 +39,8 @@ class Ended(NamedTuple):
     err: bytes
 
 
-def started(words: Sequence[str], env: Env = None, closed: Sequence[int] = (), **streams) -> subprocess.Popen:
-    """The program as a process, with more in its environment, and some descriptors closed from its first moment."""
-    command = [str(PROGRAM), *words]
-    if closed:
-        command = ["bash", "-c", 'exec "$@"' + "".join(f" {number}>&-" for number in closed), "bash", *command]
-    process = subprocess.Popen(command, env={**os.environ, **env} if env else None, **streams)
+def kept(process: subprocess.Popen) -> subprocess.Popen:
+    """A process that is over when this one is."""
     STARTED.append(process)
     return process
 
@@ -81,7 +76,7 @@ class Server:
         with tempfile.TemporaryFile() as input:
             input.write(archive)
             input.seek(0)
-            self.process = started(words, env, closed, stdin=input, stdout=self.output, stderr=self.errors)
+            self.process = kept(started(words, env, closed, stdin=input, stdout=self.output, stderr=self.errors))
         end = time.monotonic() + LIMIT * is_awaited
         while self.is_going() and not is_listened_at(self.port) and time.monotonic() < end:
             time.sleep(0.003)
@@ -105,7 +100,8 @@ class Fetching:
 
     def __init__(self, words: Sequence[str], env: Env = None, closed: Sequence[int] = ()):
         self.output, self.errors = tempfile.TemporaryFile(), tempfile.TemporaryFile()
-        self.process = started(words, env, closed, stdin=subprocess.DEVNULL, stdout=self.output, stderr=self.errors)
+        self.process = kept(started(words, env, closed, stdin=subprocess.DEVNULL, stdout=self.output,
+                                    stderr=self.errors))
 
     def halt(self) -> None:
         """Lets it stand still."""

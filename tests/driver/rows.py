@@ -69,14 +69,9 @@ class Row:
             out, err = (files.enter_context(tempfile.TemporaryFile()) for _ in range(2))
             out_to = files.enter_context(open(self.out_to, "wb")) if self.out_to else out
             err_to = files.enter_context(open(self.err_to, "wb")) if self.err_to else err
-            command: list[Word] = [str(PROGRAM), *self.words]
-            if self.closed:
-                script = 'exec "$@"' + "".join(f" {number}>&-" for number in self.closed)
-                command = ["bash", "-c", script, "bash", *command]
-            env = {**os.environ, **self.env} if self.env else None
             source = None if self.piped else files.enter_context(opened(self.input))
-            process = subprocess.Popen(command, bufsize=0, stdin=subprocess.PIPE if source is None else source,
-                                       stdout=out_to, stderr=err_to, env=env)
+            process = started(self.words, self.env, self.closed, bufsize=0, stdout=out_to, stderr=err_to,
+                              stdin=subprocess.PIPE if source is None else source)
             if source is None:
                 pour(self.input, process.stdin)
             status, left = status_of(process), None
@@ -90,9 +85,13 @@ class Row:
         is_right = came.status == self.status and matches(self.out, came.out) and matches(self.err, came.err)
         if is_right and came.left == self.left:
             return None
-        return Fault(*(f"status {run[0]}, output {shown(run[1])}, errors {shown(run[2])}"
-                       + ("" if self.left is None else f", {run[3]} bytes unread")
-                       for run in ((self.status, self.out, self.err, self.left), came)))
+        return Fault(described(self.status, self.out, self.err, self.left), described(*came))
+
+
+def described(status: int, out: Expected, err: Expected, left: Optional[int]) -> str:
+    """The end of a run, as a failure shows it."""
+    unread = "" if left is None else f", {left} bytes unread"
+    return f"status {status}, output {shown(out)}, errors {shown(err)}{unread}"
 
 
 @dataclass(frozen=True)
@@ -134,6 +133,16 @@ def both(row: Row) -> Iterator[Row]:
     yield row
     if len(row.input) <= MOST_PIPED:
         yield replace(row, name=f"{row.name}, piped", piped=True)
+
+
+def started(words: Sequence[Word], env: Optional[Mapping[str, str]] = None, closed: Sequence[int] = (),
+            **streams) -> subprocess.Popen:
+    """The program as a process, with more in its environment, and some descriptors closed from its first moment on."""
+    command: list[Word] = [str(PROGRAM), *words]
+    if closed:
+        script = 'exec "$@"' + "".join(f" {number}>&-" for number in closed)
+        command = ["bash", "-c", script, "bash", *command]
+    return subprocess.Popen(command, env={**os.environ, **env} if env else None, **streams)
 
 
 @contextlib.contextmanager

@@ -9,9 +9,9 @@ import tempfile
 from pathlib import Path
 from typing import Generator, Optional
 
-from driver.feed import Server, fetch, fetch_words, started
+from driver.feed import Server, fetch, fetch_words, kept
 from driver.helpers import COMPILER, library, preloaded
-from driver.rows import Case, Cases, Fact, Skipped, contents_of, holds, status_of
+from driver.rows import Case, Cases, Fact, Skipped, contents_of, holds, started, status_of
 from driver.texts import LINK_FAILED, NO_MEMORY, WRITE_FAILED
 from models.peers import fetch_link, serving
 from models.seedlink import Client, Place, feed_of, record_of, records_in
@@ -65,8 +65,8 @@ def ended_unread(port: int) -> tuple[int, bytes]:
     reads, writes = os.pipe()
     os.close(reads)
     with tempfile.TemporaryFile() as errors:
-        process = started(fetch_words([STA], port), stdin=subprocess.DEVNULL, stdout=writes, stderr=errors)
-        status = status_of(process)
+        words = fetch_words([STA], port)
+        status = status_of(kept(started(words, stdin=subprocess.DEVNULL, stdout=writes, stderr=errors)))
         os.close(writes)
         return status, contents_of(errors)
 
