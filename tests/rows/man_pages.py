@@ -19,7 +19,8 @@ def texts(named: set[str]) -> Cases:
         run = Row("", b"", [word], 3).run()
         yield Fact(f"{word} has status 3, and no output", (3, b""), (run.status, run.out))
         found[word] = run.err.decode()
-    yield Fact("the options of the pages, and of the help", named, set(re.findall(r"--([a-z][a-z-]*)", found["--help"])))
+    options = set(re.findall(r"--([a-z][a-z-]*)", found["--help"]))
+    yield Fact("the options of the pages, and of the help", named, options)
     first = found["--help"].splitlines()[1]
     yield holds("the help says at once how a file is read", "mseed audit < my.mseed" in first, first)
     for page in PAGES:
