@@ -3,8 +3,10 @@
 
     docs_check.py [DOCUMENT ..]
     docs_check.py --relink [DOCUMENT ..]
+    docs_check.py --requote [DOCUMENT ..]
 
 With --relink each link in the tables of promises that is wrong gets the one file that has its name, where there is one.
+With --requote each example of a page for callers gets the text of its function.
 """
 
 from __future__ import annotations
@@ -13,10 +15,11 @@ import os
 import re
 import sys
 
+from documents.callers import requoted
 from documents.sources import Sources, files_below, text_of
 from driver.counting import Count, judge
 from driver.program import ROOT
-from rows.documents import DOCUMENTS, drawing, names, self_tests
+from rows.documents import documents_of, drawing, fields, names, self_tests
 
 
 def relinked(sources: Sources, name: str, text: str) -> str:
@@ -49,13 +52,15 @@ def relinked(sources: Sources, name: str, text: str) -> str:
 
 
 def main() -> int:
-    """Mends links where that is asked for, and judges the documents."""
+    """Mends links and examples where the words want it, and judges the documents."""
     sources, count = Sources(), Count()
-    documents = [word for word in sys.argv[1:] if word != "--relink"] or DOCUMENTS
-    if "--relink" in sys.argv:
-        for name in documents:
+    documents = [word for word in sys.argv[1:] if not word.startswith("--")] or documents_of(sources)
+    for name in documents:
+        if "--relink" in sys.argv:
             (ROOT / name).write_text(relinked(sources, name, text_of(name)), encoding="utf-8")
-    for part in (self_tests(sources), names(sources, documents), drawing()):
+        if "--requote" in sys.argv:
+            (ROOT / name).write_text(requoted(name, text_of(name)), encoding="utf-8")
+    for part in (self_tests(sources), names(sources, documents), fields(sources), drawing()):
         for case in part:
             judge(case, count, False)
     print(count.lines())

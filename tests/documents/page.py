@@ -24,9 +24,10 @@ from driver.program import ROOT
 
 # Where the words of the programs' output and of the feed's lines stand, in backticks and blocks.
 TEXTS = ["docs/texts.md", "docs/protocol.md", "docs/format.md"]
-# Words that stand nowhere else: programs, commands of SeedLink that no server knows, the last line of the tests.
+# Words that stand nowhere else: programs, commands of SeedLink that no server knows, the last line of the tests, types
+# of the standard library.
 OTHERS = ["make", "rt", "mseed", "main", "BATCH", "CAT", "INFO", "TIME", "N passed, M failed",
-          "logic=proved functions=", "out"]
+          "logic=proved functions=", "out", "AllocError", "Vec"]
 
 # Columns of tables in which a single word is no word of a text.
 FOR_NAMES = ["contract", "carried by", "call", "definition"]
@@ -141,7 +142,8 @@ class Page:
         that ends with `and` has one."""
         of = re.match(r" ?of `(\w+::\w+)`", behind)
         if of:
-            group = [(of.group(1), self.sources.find(of.group(1)), False)]
+            found = [named for named in self.sources.find(of.group(1)) if named.clauses is not None]
+            group = [(of.group(1), found, False)]
         calls = group or self.section
         for name in names:
             is_there = any(name in call.clauses for _, found, _ in calls for call in found)

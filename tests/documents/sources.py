@@ -31,8 +31,9 @@ class Named:
     """A public name: of a call, or of a type, a part of one or a definition, whose `clauses` are None."""
 
     def __init__(self, name: str, crate: str, path: str, owners: Sequence[str] = (),
-                 clauses: Optional[set[str]] = None):
+                 clauses: Optional[set[str]] = None, is_law: bool = False):
         self.name, self.crate, self.path, self.owners, self.clauses = name, crate, path, owners, clauses
+        self.is_law = is_law
 
 
 class Sources:
@@ -60,12 +61,13 @@ class Sources:
         for line in text_of(path).splitlines():
             block = re.match(r"(?:pub(?:\([a-z]+\))? )?(impl|trait)\b(?:<.*?>+)? *(.*)", line)
             declared = re.match(r"pub (?:struct|enum|trait|type) (\w+)", line)
+            constant = re.match(r"    pub const (\w+):", line)
             function = re.match(r"( *)(pub )?(?:const )?fn (\w+)", line)
             clause = re.match(r" *ensures\*? (\w+) \{", line)
             part = re.match(r"    (?:pub )?(\w+)", line)
             if declared:
                 self.add(Named(declared.group(1), crate, path))
-                is_type = not block
+                is_type, name = not block, declared.group(1)
             if block:
                 heads = block.group(2).split("{")[0].split(" for ")
                 owners = tuple(re.match(r"\w*", head.split("::")[-1]).group() for head in heads)
@@ -74,7 +76,8 @@ class Sources:
                 owners, is_type = (), False
             elif function:
                 is_public = function.group(2) or function.group(1) and is_of_trait
-                call = Named(function.group(3), crate, path, owners if function.group(1) else (), set())
+                call = Named(function.group(3), crate, path, owners if function.group(1) else (), set(),
+                             line.endswith("()"))
                 if is_public:
                     self.add(call)
                 else:
@@ -82,7 +85,9 @@ class Sources:
             elif clause and call:
                 call.clauses.add(clause.group(1))
             elif is_type and part:
-                self.add(Named(part.group(1), crate, path))
+                self.add(Named(part.group(1), crate, path, (name,)))
+            elif constant:
+                self.add(Named(constant.group(1), crate, path, owners))
 
     def read_definitions(self, crate: str, path: str) -> None:
         """Keeps the names of a specification."""
@@ -95,6 +100,15 @@ class Sources:
         owner, _, name = name.rpartition("::")
         return [named for named in self.names.get(name, []) if crate in (None, named.crate)
                 and (not owner or owner in named.owners)]
+
+    def calls_of(self, crate: str) -> list[Named]:
+        """What callers of a library call: its functions, and those of its types and traits, as lib.rt passes them on.
+        What a type answers to a trait is called by the trait."""
+        lists = re.findall(r"^pub use ([^;]*);", text_of("crates", crate, "src", "lib.rt"), re.MULTILINE)
+        passed_on = set(re.findall(r"\w+", " ".join(lists)))
+        return [named for all_of in self.names.values() for named in all_of
+                if named.crate == crate and named.clauses is not None and "/tests" not in named.path
+                and (named.owners or (named.name,))[0] in passed_on and len(named.owners) < 2]
 
 
 @functools.cache

@@ -1,13 +1,15 @@
 """What the documents name is there: files, public calls, their clauses, types, definitions, crates, commands, options
-and words of the programs' output (documents/page.py). Before that, lines that name what isn't there have to be found
-wrong; and the drawing of docs/architecture.md is the one that docs/architecture.py draws from crates.txt."""
+and words of the programs' output (documents/page.py). The pages for callers show each call, and each field has its
+documentation (documents/callers.py). Before that, lines and pages that are wrong have to be found wrong; and the drawing of
+docs/architecture.md is the one that docs/architecture.py draws from crates.txt."""
 
 from __future__ import annotations
 
 import subprocess
 import sys
-from typing import Sequence
+from typing import Optional, Sequence
 
+from documents.callers import judged_fields, judged_page, libraries, page_of
 from documents.page import Page
 from documents.sources import Sources, text_of
 from driver.program import ROOT
@@ -69,18 +71,48 @@ RIGHT = [
 ]
 
 
+# Each of these changes of the page for callers of mseed_time is found wrong.
+CHANGES = [
+    ("Btime::read(bytes, Order::Big)?;", "Btime::read(bytes, Order::Little)?;"),
+    ("```rust\n/// The text of an instant", "```text\n/// The text of an instant"),
+    ("`show_time`", "`Micros`"),
+    ("`one_name`", "`Micros`"),
+]
+
+
 def self_tests(sources: Sources) -> Cases:
-    """Each of the lines has as many faults as it must."""
+    """Each of the lines has as many faults as it must, and each page that was made wrong has some."""
     for text in WRONG + RIGHT:
         faults = [judged for judged in Page(sources, "README.md", text).judged if not judged.is_there]
         yield Fact(f"the faults that are found in: {text}", int(text in WRONG), len(faults))
+    name = page_of("mseed_time")
+    page = text_of(name)
+    for old, new in CHANGES:
+        is_right = all(judged.is_there for judged in judged_page(sources, name, page.replace(old, new)))
+        yield Fact(f"a page for callers with `{new}` in place of `{old}` is wrong", (True, False),
+                   (old in page, is_right))
 
 
-def names(sources: Sources, documents: Sequence[str] = tuple(DOCUMENTS)) -> Cases:
-    """What the documents name."""
-    for document in documents:
-        for name, is_there, why in Page(sources, document, text_of(document)).judged:
+def documents_of(sources: Sources) -> list[str]:
+    """The documents, and the pages for callers."""
+    return DOCUMENTS + [page_of(crate) for crate in libraries(sources)]
+
+
+def names(sources: Sources, documents: Optional[Sequence[str]] = None) -> Cases:
+    """What the documents name and show."""
+    for document in documents or documents_of(sources):
+        text = text_of(document)
+        judged = Page(sources, document, text).judged
+        if document not in DOCUMENTS:
+            judged += judged_page(sources, document, text)
+        for name, is_there, why in judged:
             yield Fact(name, "there", "there" if is_there else why)
+
+
+def fields(sources: Sources) -> Cases:
+    """Fields and variants are documented."""
+    for name, is_so, why in judged_fields(sources):
+        yield Fact(name, "documented", "documented" if is_so else why)
 
 
 def drawing() -> Cases:
@@ -98,4 +130,5 @@ def rows() -> Cases:
     sources = Sources()
     yield from self_tests(sources)
     yield from names(sources)
+    yield from fields(sources)
     yield from drawing()
