@@ -33,8 +33,8 @@ pub fn is_sound<R: Source, W: Sink>(
     Ok(summary.broken == 0 && !summary.fault)
 }
 
-/// The text of a slice's audit, behind a line for each record with a finding.
-pub fn findings_of_slice(alloc: Global, bytes: &[u8]) -> Result<Vec<u8>, EachFault> {
+/// The text of a slice's audit, with a line for each record with a finding before it.
+pub fn audit_each_in(alloc: Global, bytes: &[u8]) -> Result<Vec<u8>, EachFault> {
     let mut source = Counted::new(bytes);
     let mut sink = Counted::new(Vec::new(alloc));
     audit_each(alloc, &mut source, &mut sink)?;
@@ -55,12 +55,10 @@ pub fn broken_of_two(alloc: Global, one: &RecordView, other: &RecordView) -> Res
     )
 }
 
-/// Adds a record, and says whether something is found of it.
-pub fn is_amiss(audit: &mut Audit, record: &RecordView, offset: u64) -> Result<bool, Memory>
-    requires { audit.old.added < 2 ^ 40 }
-{
-    let why: Option<Why> = audit.add_judged(record, offset)?;
-    Ok(why.is_some())
+/// What is found of a record that alone is audited.
+pub fn finding_of(alloc: Global, record: &RecordView) -> Result<Option<Why>, Memory> {
+    let mut audit = Audit::new(alloc);
+    audit.add_judged(record, 0)
 }
 
 /// Whether a record would open a channel of which an audit knows nothing yet.
@@ -147,21 +145,25 @@ pub fn fault_text(alloc: Global, fault: &StreamFault) -> Result<Vec<u8>, AllocEr
     Ok(text)
 }
 
-/// The start of a record, or what of it is out of its range.
-pub fn start_text(alloc: Global, record: &RecordView) -> Result<Vec<u8>, AllocError> {
+/// The line of a record's start.
+pub fn start_line(alloc: Global, record: &RecordView) -> Result<Vec<u8>, AllocError> {
     let mut text = Vec::new(alloc);
     push_start(&mut text, record)?;
+    text.push(b'\n')?;
     Ok(text)
 }
 
-/// A line about a channel.
-pub fn broken_line(codes: &Codes) -> Line {
-    line_of(&[Part::Words(&name_of(codes)), Part::Words(b" is broken\n")])
+/// Whether a channel's name is this one; no memory is asked for.
+pub fn is_named(codes: &Codes, name: &[u8]) -> bool {
+    name_of(codes).as_slice() == name
 }
 
-/// The line of a stream's fault, where there may be no memory.
-pub fn short_fault_text(fault: &StreamFault) -> Line
-    ensures { result.items ≡ fault_line fault.now }
-{
-    fault_line_of(fault)
+/// A short line, built without asking for memory.
+pub fn short_line() -> Line {
+    line_of(&[Part::Words(b"no records\n")])
+}
+
+/// How many bytes the line of a stream's fault has.
+pub fn fault_length(fault: &StreamFault) -> usize {
+    fault_line_of(fault).len()
 }
