@@ -232,11 +232,24 @@ def findings(channel: Channel) -> list[tuple[int, int, str]]:
     return found
 
 
-def audit(archive: bytes) -> tuple[bytes, int]:
-    """The text and the exit status of the audit of an archive."""
+def lines_of_findings(channels: dict[bytes, Channel]) -> list[str]:
+    """A line for each record with a finding, in the order of the archive."""
+    found = sorted((number, offset, why, key) for key in channels for number, offset, why in findings(channels[key]))
+    starts = {number: record.start() for key in channels for number, _, record in channels[key]}
+    return [f"{offset} {name_of(key)} record {number} start {start_of(starts[number])} {why}"
+            for number, offset, why, key in found]
+
+
+def start_of(start: Union[int, str]) -> str:
+    """A record's start, or the first field of it that is out of its range."""
+    return f"fault {start}" if isinstance(start, str) else time_of(start)
+
+
+def audit(archive: bytes, each: bool = False) -> tuple[bytes, int]:
+    """The text and the exit status of the audit of an archive, or of one that tells each finding."""
     records, end, fault = cut(archive)
     channels = channels_of(records)
-    lines, is_broken = [], False
+    lines, is_broken = lines_of_findings(channels) if each else [], False
     for key in channels:
         found = findings(channels[key])
         first = channels[key][0][2]

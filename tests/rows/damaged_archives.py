@@ -79,7 +79,8 @@ def damaged(source: Random) -> bytes:
 
 
 def as_in_python(kind: str, archives: Iterator[tuple[str, bytes]], each: int) -> Cases:
-    """All archives are audited, and one of so many packed anew, as in Python; and they are of all kinds."""
+    """All archives are audited, and of one of so many each finding is told and the channels are packed anew, as in Python;
+    and they are of all kinds."""
     seen = {0: 0, 1: 0, 2: 0}
     for number, (name, archive) in enumerate(archives):
         text, status = audit(archive)
@@ -88,6 +89,8 @@ def as_in_python(kind: str, archives: Iterator[tuple[str, bytes]], each: int) ->
         if number % each == 0:
             output, errors, status = repack(archive)
             yield Row(f"{name}, packed anew", archive, ["repack"], status, output, errors)
+            text, status = audit(archive, each=True)
+            yield Row(f"{name}, each finding", archive, ["audit", "--each"], status, text)
     # Each kind has to come often, or the archives are no test.
     yield holds(f"{kind} are of all kinds: continuous, broken and with a fault",
                 min(seen.values()) > sum(seen.values()) // 20, seen)

@@ -69,8 +69,9 @@ def of_either(command: str) -> Iterator[Row]:
     yield taken(f"{command}: the last port", command, "--port", "65535", *feed[3:])
     yield taken(f"{command}: a port with zeros and a plus", command, "--port", "+0000000000001", *feed[3:])
 
-    # Options of packing.
+    # Options of packing, and of the audit.
     yield bad(f"{command}: a length", *feed, "--length", "512")
+    yield bad(f"{command}: each finding", *feed, "--each")
     yield bad(f"{command}: an encoding", *feed, "--encoding", "steim2")
 
 
@@ -121,12 +122,22 @@ def numbers() -> Iterator[Row]:
     yield taken("fetch: two tries", *FETCH, "--tries", "2")
 
 
+def of_the_audit() -> Iterator[Row]:
+    """The option that goes with the audit alone."""
+    yield taken("audit: each finding", "audit", "--each")
+    yield taken("audit: each finding, the option first", "--each", "audit")
+    yield bad("show: each finding", "show", "--each")
+    yield bad("repack: each finding", "repack", "--each")
+    yield bad("each finding, and no command", "--each")
+    yield refused("audit: each finding twice", "each", "audit", "--each", "--each")
+
+
 def parsed() -> Iterator[Row]:
     """An option that is given twice, or has no value; and the help, which names the commands and their options."""
     yield refused("serve: two ports", "port", *SERVE, "--port", "1")
     yield refused("fetch: two numbers to begin from", "from", *FETCH, "--from", "1", "--from", "1")
     yield refused("serve: a capacity without a number", "capacity", *SERVE, "--capacity")
-    for word in ("audit", "show", "repack", "serve", "fetch", "NET_STA", "--length", "--encoding", "--station",
+    for word in ("audit", "show", "repack", "serve", "fetch", "NET_STA", "--each", "--length", "--encoding", "--station",
                  "--network", "--capacity", "--first", "--from", "--port", "--connections", "--tries"):
         yield refused(f"help: {word}", word, "--help")
 
@@ -137,4 +148,5 @@ def rows() -> Cases:
     yield from of_either("fetch")
     yield from of_the_other()
     yield from numbers()
+    yield from of_the_audit()
     yield from parsed()

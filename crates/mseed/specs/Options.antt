@@ -2,7 +2,7 @@
 use Rattle.std.specs.Prelude.{pos, true, List, [], ◌∷◌, Some, codes}
 use Rattle.clap.specs.Walk.{Rule, Text}
 use Rattle.clap.specs.Simple.{App, new_app, new_rule, on_top, with_rule}
-use Rattle.clap.specs.declared.builder.action.ArgAction.TheVariants.{Append}
+use Rattle.clap.specs.declared.builder.action.ArgAction.TheVariants.{Append, SetTrue}
 use Rattle.clap.specs.declared.builder.value_parser.ValueParser.{ValueParser}
 use Rattle.clap.specs.declared.builder.value_parser.ValueParser.TheVariants.{Signed}
 
@@ -13,6 +13,10 @@ option_rule name = record (new_rule name) { long = Some name }
 -- `--name NUMBER`
 abbrev pub number_rule : Text → ValueParser → Rule
 number_rule name numbers = record (option_rule name) { parser = Some numbers }
+
+-- `--name`
+abbrev pub flag_rule : Text → Rule
+flag_rule name = record (option_rule name) { action = Some SetTrue }
 
 -- the command's word
 abbrev pub word_rule : Rule
@@ -47,5 +51,5 @@ bare_command = on_top (λ s. record s { has_version = true; no_binary_name = tru
 -- with all places and options side by side
 abbrev pub the_command : App
 the_command =
-    with_rules (with_rules (with_rules (with_rule (with_rule bare_command word_rule) places_rule) packing_rules)
-    feed_rules) number_rules
+    with_rule (with_rules (with_rules (with_rules (with_rule (with_rule bare_command word_rule) places_rule)
+    packing_rules) feed_rules) number_rules) (flag_rule (codes "each"))

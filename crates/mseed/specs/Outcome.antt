@@ -5,6 +5,9 @@ use Rattle.mseed_stream.specs.Telling.{Tells}
 use Rattle.mseed_audit.specs.declared.archive.Summary.{Summary}
 use Rattle.mseed_audit.specs.declared.archive.AuditFault.{AuditFault}
 use Rattle.mseed_audit.specs.declared.archive.AuditFault.TheVariants.{Write, Memory}
+use Rattle.mseed_audit.specs.declared.each.EachFault.{EachFault}
+use Rattle.mseed_audit.specs.declared.each.EachFault.TheVariants as each
+use Rattle.mseed_audit.specs.Each.{IsEachOutcome}
 use Rattle.mseed_audit.specs.Summary.{IsOutcome}
 
 -- the exit status of an audit that was written: 2 for a fault of the input, else 1 for a broken channel, else 0
@@ -27,6 +30,23 @@ pub record IsAuditRun (outcome : Result Summary AuditFault) (status : ℕ) (read
   pub outcome_is : IsOutcome outcome read written_old written_new
   pub status_is : status ≡ status_of outcome
   pub told : TellsOfAudit outcome told_old told_new
+
+abbrev pub each_status : Result Summary EachFault → ℕ
+each_status (Ok summary) = summary_status summary
+each_status (Err fault) = 2
+
+-- the line on standard error of an audit that tells each finding
+abbrev pub TellsOfEach : Result Summary EachFault → BytesWritten → BytesWritten → Type 0
+TellsOfEach (Ok summary) old new = new ≡ old
+TellsOfEach (Err each.Write) old new = Tells (codes "mseed: write failed\n") old new
+TellsOfEach (Err each.Memory) old new = Tells (codes "mseed: no memory\n") old new
+
+-- such an audit, its status and its line
+pub record IsEachRun (outcome : Result Summary EachFault) (status : ℕ) (read : BytesRead)
+    (written_old written_new told_old told_new : BytesWritten) : Type 0 where
+  pub outcome_is : IsEachOutcome outcome read written_old written_new
+  pub status_is : status ≡ each_status outcome
+  pub told : TellsOfEach outcome told_old told_new
 
 -- words that ask for nothing that there is
 pub record IsBadRun (status : ℕ) (old new : BytesRead)

@@ -1,5 +1,5 @@
 -- What the words of the command line ask for.
-use Rattle.std.specs.Prelude.{⊤, ◌≡◌, ◌≢◌, ◌≤◌, ◌==◌, ◌^◌, ℕ, List, [], ◌∷◌, length, if◌then◌else◌}
+use Rattle.std.specs.Prelude.{⊤, ◌≡◌, ◌≢◌, ◌≤◌, ◌==◌, ◌^◌, ℕ, List, [], ◌∷◌, if◌then◌else◌, Bool, false}
 use Rattle.std.specs.Prelude.{Option, Some, None, option_and_then, option_map, codes}
 use Rattle.std.specs.Str.{bytes_eq}
 use Rattle.clap.specs.Walk.{Row, Text, first_of}
@@ -13,7 +13,7 @@ use Rattle.mseed.specs.Found.{has_only}
 use Rattle.mseed.specs.Numbers.{number_in}
 use Rattle.mseed.specs.FeedWords.{CanFetch, CanServe, fetching_of, serving_of}
 use Rattle.mseed.specs.declared.request.Request.{Request}
-use Rattle.mseed.specs.declared.request.Request.TheVariants.{Audit, Show, Repack, Serve, Fetch}
+use Rattle.mseed.specs.declared.request.Request.TheVariants.{Audit, AuditEach, Show, Repack, Serve, Fetch}
 
 -- why `clap` refuses the words, a call for help included; none where it takes them
 abbrev pub faults_in : List Text → Kinds
@@ -48,7 +48,7 @@ encoding_in (Some word) = encoding_named word
 
 -- what packing anew takes: its word, a length and an encoding
 abbrev pub packing_names : List Text
-packing_names = codes "command" ∷ codes "length" ∷ codes "encoding" ∷ []
+packing_names = codes "command" ∷ codes "each" ∷ codes "length" ∷ codes "encoding" ∷ []
 
 abbrev pub packing_with : Option ℕ → Option Encoding → Option Request
 packing_with None encoding = None
@@ -61,18 +61,39 @@ packing_of rows =
     then packing_with (exponent_in (first_of (codes "length") rows)) (encoding_in (first_of (codes "encoding") rows))
     else None
 
--- a command that takes its word alone
+-- a flag is `true` or `false`
+abbrev pub is_true : Option Text → Bool
+is_true None = false
+is_true (Some text) = bytes_eq text (codes "true")
+
+-- whether a line for each finding is asked for
+abbrev pub asks_each : List Row → Bool
+asks_each rows = is_true (first_of (codes "each") rows)
+
+abbrev pub alone_names : List Text
+alone_names = codes "command" ∷ codes "each" ∷ []
+
+-- a command that takes its word alone, but for the flag
 abbrev pub alone : Request → List Row → Option Request
-alone request rows = if length rows == 1 then Some request else None
+alone request rows = if has_only alone_names rows then Some request else None
+
+-- an audit, which alone can tell each finding
+abbrev pub auditing_by : Bool → Request
+auditing_by each = if each then AuditEach else Audit
+
+-- what a command's word asks for without it
+abbrev pub request_without : Text → List Row → Option Request
+request_without word rows =
+    if bytes_eq word (codes "show") then alone Show rows
+    else if bytes_eq word (codes "repack") then packing_of rows
+    else if bytes_eq word (codes "serve") then option_map Serve (serving_of rows)
+    else if bytes_eq word (codes "fetch") then option_map Fetch (fetching_of rows) else None
 
 -- what a command's word asks for
 abbrev pub request_named : Text → List Row → Option Request
 request_named word rows =
-    if bytes_eq word (codes "audit") then alone Audit rows
-    else if bytes_eq word (codes "show") then alone Show rows
-    else if bytes_eq word (codes "repack") then packing_of rows
-    else if bytes_eq word (codes "serve") then option_map Serve (serving_of rows)
-    else if bytes_eq word (codes "fetch") then option_map Fetch (fetching_of rows) else None
+    if bytes_eq word (codes "audit") then alone (auditing_by (asks_each rows)) rows
+    else if asks_each rows then None else request_without word rows
 
 abbrev pub request_by : Option Text → List Row → Option Request
 request_by None rows = None
@@ -84,6 +105,7 @@ request_of rows = request_by (first_of (codes "command") rows) rows
 -- records of 128 to 4096 bytes; a feed that can be
 abbrev pub CanBeAsked : Request → Type 0
 CanBeAsked Audit = ⊤
+CanBeAsked AuditEach = ⊤
 CanBeAsked Show = ⊤
 CanBeAsked (Repack packing) = (7 ≤ packing.exponent) × (packing.exponent ≤ 12)
 CanBeAsked (Serve serving) = CanServe serving

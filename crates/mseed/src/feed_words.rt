@@ -33,6 +33,7 @@ pub(crate) fn serving_of(matches: &ArgMatches<'_>) -> Option<Serving>
         matches,
         &[
             "command",
+            "each",
             "place",
             "port",
             "station",
@@ -91,7 +92,7 @@ pub(crate) fn fetching_of(matches: &ArgMatches<'_>) -> Option<Fetching>
     if !has_only(
         matches,
         &[
-            "command", "place", "port", "station", "network", "from", "tries",
+            "command", "each", "place", "port", "station", "network", "from", "tries",
         ],
     ) {
         return None;

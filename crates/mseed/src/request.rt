@@ -7,6 +7,8 @@ use mseed_pack::Encoding;
 pub enum Request {
     /// Audit the archive on standard input.
     Audit,
+    /// Audit it, and tell each finding.
+    AuditEach,
     /// List the records on standard input.
     Show,
     /// Pack the archive on standard input anew.

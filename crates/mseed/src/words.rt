@@ -7,10 +7,10 @@ ghost use Rattle.clap.specs.Simple.{app_of, with_rule};
 ghost use Rattle.clap.specs.Kinds.{HasKind};
 ghost use Rattle.clap.specs.declared.builder.value_parser.ValueParser.TheVariants.{Signed};
 ghost use Rattle.mseed.specs.Words.{faults_in, entries_in, request_of, request_named, alone, packing_of, packing_with};
-ghost use Rattle.mseed.specs.Words.{CanBeAsked};
+ghost use Rattle.mseed.specs.Words.{CanBeAsked, asks_each};
 ghost use Rattle.mseed.specs.Words.{exponent_in, exponent_by, encoding_in, encoding_named};
 ghost use Rattle.mseed.specs.Options.{bare_command, the_command, word_rule, places_rule, packing_rules, feed_rules};
-ghost use Rattle.mseed.specs.Options.{number_rules, option_rule, number_rule, with_rules};
+ghost use Rattle.mseed.specs.Options.{number_rules, flag_rule, option_rule, number_rule, with_rules};
 
 use crate::feed_words::{fetching_of, serving_of};
 use crate::found::{has_only, text_of};
@@ -56,12 +56,24 @@ fn request_named(word: &str, matches: &ArgMatches<'_>) -> Option<Request>
     ensures range { IfSome result CanBeAsked }
 {
     match word {
+        "audit" if asks_each(matches) => alone(Request::AuditEach, matches),
         "audit" => alone(Request::Audit, matches),
+        _ if asks_each(matches) => None,
         "show" => alone(Request::Show, matches),
         "repack" => packing_of(matches),
         "serve" => Some(Request::Serve(serving_of(matches)?)),
         "fetch" => Some(Request::Fetch(fetching_of(matches)?)),
         _ => None,
+    }
+}
+
+/// Whether a line for each finding is asked for.
+fn asks_each(matches: &ArgMatches<'_>) -> bool
+    ensures { result ≡ asks_each (rows_of (found_of matches.now)) }
+{
+    match text_of(matches, "each") {
+        Some(text) => text == "true",
+        None => false,
     }
 }
 
@@ -71,20 +83,11 @@ fn alone(request: Request, matches: &ArgMatches<'_>) -> Option<Request>
     ensures value { result ≡ alone request (rows_of (found_of matches.now)) }
     ensures range { IfSome result CanBeAsked }
 {
-    if has_one_entry(matches) {
+    if has_only(matches, &["command", "each"]) {
         Some(request)
     } else {
         None
     }
-}
-
-/// Whether the words gave one thing alone.
-fn has_one_entry(matches: &ArgMatches<'_>) -> bool
-    ensures { result ≡ (length (rows_of (found_of matches.now)) == 1) }
-{
-    let mut ids = matches.ids();
-    let (first, second) = (ids.next(), ids.next());
-    first.is_some() && second.is_none()
 }
 
 /// What the command that packs anew is asked for, by its options.
@@ -92,7 +95,7 @@ fn packing_of(matches: &ArgMatches<'_>) -> Option<Request>
     ensures value { result ≡ packing_of (rows_of (found_of matches.now)) }
     ensures range { IfSome result CanBeAsked }
 {
-    if !has_only(matches, &["command", "length", "encoding"]) {
+    if !has_only(matches, &["command", "each", "length", "encoding"]) {
         return None;
     }
     packing_with(
@@ -171,7 +174,8 @@ fn command<'a>(alloc: Global) -> Result<Command<'a>, AllocError>
     let command = with_places(alloc, command)?;
     let command = with_packing(alloc, command)?;
     let command = with_feed(alloc, command)?;
-    with_numbers(alloc, command)
+    let command = with_numbers(alloc, command)?;
+    with_each(alloc, command)
 }
 
 /// The command without places and options. The program's name isn't among the words.
@@ -272,6 +276,18 @@ fn with_numbers<'a>(alloc: Global, command: Command<'a>) -> Result<Command<'a>, 
         "tries",
         counts(),
         "fetch: how many times to connect in all; by default 1",
+    )
+}
+
+/// With the flag of an audit that tells each finding.
+fn with_each<'a>(alloc: Global, command: Command<'a>) -> Result<Command<'a>, AllocError>
+    ensures { IfOk result (λ c. app_of c ≡ with_rule (app_of command.entry) (flag_rule (codes "each"))) }
+{
+    command.arg(
+        Arg::new(alloc, "each")
+            .long("each")
+            .action(ArgAction::SetTrue)
+            .help("audit: before its lines, a line for each record with a finding"),
     )
 }
 
