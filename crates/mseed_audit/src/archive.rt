@@ -143,6 +143,7 @@ fn gather<A: Allocator + Copy, R: Source>(
 
 /// Adds the next record, and its line, if it has one, or answers how the input ends. A record that the source holds
 /// whole isn't copied.
+#[inline(always)]
 pub(crate) fn add_next<A: Allocator + Copy, R: Source>(
     audit: &mut Audit<A>,
     cutter: &mut Cutter<A>,
@@ -181,6 +182,7 @@ pub(crate) fn add_next<A: Allocator + Copy, R: Source>(
 }
 
 /// Adds a record, and its line, if it has one.
+#[inline(always)]
 fn add_told<A: Allocator + Copy>(
     audit: &mut Audit<A>,
     view: &RecordView,

@@ -68,6 +68,7 @@ impl Channel {
     }
 
     /// One more record of the channel. Answers what is found of it.
+    #[inline]
     pub(crate) fn add(&mut self, view: &RecordView, number: u64, offset: u64) -> Option<Why>
         requires some { 0 < count_of (view_of view.now) }
         requires bounded { IsBounded (2 ^ 40) self.old.verdict }
