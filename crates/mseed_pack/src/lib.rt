@@ -25,5 +25,5 @@ pub use law::{
     called_continuous, fewest_words, one_length, one_misfit, one_packing, one_prefix, reads_back,
 };
 pub use options::{BadOption, Encoding, Options};
-pub use packing::{pack, pack_fitting, pack_view};
+pub use packing::{Packer, pack, pack_fitting, pack_view};
 pub use series_view::SeriesView;

@@ -3,6 +3,7 @@ ghost use Rattle.std.specs.Prelude.{◌≡◌, ◌≤◌, ◌++◌, IfErr, IfOk,
 ghost use Rattle.std.specs.Io.KnownBytes.{Appends};
 ghost use Rattle.std.specs.List.{AllByRecursion};
 ghost use Rattle.mseed_audit.specs.Series.{AreSteps};
+ghost use Rattle.mseed_pack.specs.Filling.{HoldsDifferences};
 ghost use Rattle.mseed_pack.specs.Fitting.{Fits};
 ghost use Rattle.mseed_pack.specs.FewestWords.{HasFewestWords};
 ghost use Rattle.mseed_pack.specs.Outcome.{IsOutcome, IsTrace, TookAll, TookPrefix};
@@ -131,20 +132,64 @@ pub fn pack_fitting<W: Sink>(
         → Appends (W.contents sink.old) (W.contents sink.new) bytes }
     ensures beside { W.beside sink.new ≡ W.beside sink.old }
 {
-    let mut records = [0; GATHERED];
-    pack_through(series, options, sink, &mut records)
+    let mut packer = Packer::new();
+    packer.pack_fitting(series, options, sink)
 }
 
-/// The same through these bytes, in which records are gathered.
+/// The room that packing works in, for one series after another: it is cleared once.
+#[derive(Drop)]
+pub struct Packer {
+    records: [u8; GATHERED],
+    window: Window,
+}
+
+impl Packer {
+    /// Room for records and differences.
+    pub fn new() -> Packer {
+        Packer {
+            records: [0; GATHERED],
+            window: Window::new(),
+        }
+    }
+
+    /// [`pack_fitting`] in this room, whatever was packed in it before.
+    ///
+    /// # Errors
+    ///
+    /// How many bytes the sink took before it failed.
+    pub fn pack_fitting<W: Sink>(
+        &mut self,
+        series: &SeriesView,
+        options: &Options,
+        sink: &mut W,
+    ) -> Result<u64, u128>
+        requires fits { Fits (trace_of series.now) options.now }
+        requires steps { AreSteps (length series.now.samples.now) series.now.steps.now }
+        ensures ok { IfOk result (λ count.
+            TookAll (trace_of series.now) options.now count (W.written sink.old) (W.written sink.new)) }
+        ensures err { IfErr result (λ taken.
+            TookPrefix (trace_of series.now) options.now taken (W.written sink.old) (W.written sink.new)) }
+        ensures contents { (bytes : List ℕ) → (W.written sink.new).bytes ≡ (W.written sink.old).bytes ++ bytes
+            → Appends (W.contents sink.old) (W.contents sink.new) bytes }
+        ensures beside { W.beside sink.new ≡ W.beside sink.old }
+    {
+        self.window.forget();
+        pack_through(series, options, sink, &mut self.records, &mut self.window)
+    }
+}
+
+/// The same through these bytes, in which records are gathered, and through a window.
 fn pack_through<W: Sink>(
     series: &SeriesView,
     options: &Options,
     sink: &mut W,
     records: &mut [u8],
+    window: &mut Window,
 ) -> Result<u64, u128>
     requires fits { Fits (trace_of series.now) options.now }
     requires steps { AreSteps (length series.now.samples.now) series.now.steps.now }
     requires long { 4096 ≤ length records.old }
+    requires held { HoldsDifferences series.now.samples.now window.old }
     ensures ok { IfOk result (λ count.
         TookAll (trace_of series.now) options.now count (W.written sink.old) (W.written sink.new)) }
     ensures err { IfErr result (λ taken.
@@ -154,10 +199,9 @@ fn pack_through<W: Sink>(
     ensures beside { W.beside sink.new ≡ W.beside sink.old }
 {
     let length = length_of(options);
-    let mut window = Window::new();
     let mut place = first_place(series);
     while place.first < series.samples.len() {
-        let batch = gather(series, options, place, &mut window, records);
+        let batch = gather(series, options, place, window, records);
         if let Err(taken) = write_all_of(sink, &records[..batch.bytes]) {
             return Err(u128::from(place.number) * length as u128 + taken as u128);
         }

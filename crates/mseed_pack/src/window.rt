@@ -32,6 +32,14 @@ impl Window {
         }
     }
 
+    /// Lets go of all, so that it holds none of any samples.
+    pub(crate) fn forget(&mut self)
+        ensures { (samples : List ℤ) → HoldsDifferences samples self.new }
+    {
+        self.first = 0;
+        self.end = 0;
+    }
+
     /// Makes it hold the differences of so many samples from one on.
     pub(crate) fn hold(&mut self, samples: &[i32], first: usize, count: usize)
         requires held { HoldsDifferences samples.now self.old }
