@@ -27,7 +27,7 @@ use crate::outline::{is_held, outline_channel};
 use crate::reading::{count_steps, read_channel};
 use crate::trail::{Trail, Trails, indices, lay_trails};
 use mseed_audit::{Audit, Memory, Verdict, Verdicts, one_series};
-use mseed_pack::{Encoding, Options, PackFault, SeriesView, fit_view, pack_fitting};
+use mseed_pack::{Encoding, Options, PackFault, Packer, SeriesView, fit_view};
 use mseed_record::{Codes, RecordView};
 use mseed_stream::{Sink, Source, read_all_in, split_in};
 use mseed_time::LeapStep;
@@ -357,6 +357,7 @@ fn pack_all<W: Sink>(
     ensures err { IfErr result (FailsToPack options.now (map view_of views.now) channels.now
         (W.written output.old) (W.written output.new)) }
 {
+    let mut packer = Packer::new();
     for (number, channel) in channels.iter().enumerate() {
         pack_channel(
             views,
@@ -365,6 +366,7 @@ fn pack_all<W: Sink>(
             options,
             samples,
             steps,
+            &mut packer,
             output,
         )?;
     }
@@ -379,6 +381,7 @@ fn pack_channel<W: Sink>(
     options: &Options,
     samples: &mut [i32],
     steps: &mut [(u64, LeapStep)],
+    packer: &mut Packer,
     output: &mut W,
 ) -> Result<(), RepackFault>
     requires judged { IsJudged (map view_of views.now) channel.now }
@@ -396,7 +399,7 @@ fn pack_channel<W: Sink>(
     let read = read_channel(views, trail, &channel.0, samples, steps);
     let series = view_series(channel, &samples[..read.samples], &steps[..read.steps]);
     // The series is the one that was found to fit.
-    match pack_fitting(&series, options, output) {
+    match packer.pack_fitting(&series, options, output) {
         Ok(_) => Ok(()),
         Err(_) => Err(RepackFault::Write),
     }
