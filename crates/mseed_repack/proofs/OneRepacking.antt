@@ -1,9 +1,9 @@
 -- Packing an archive anew comes to one thing.
 use Rattle.std.specs.Prelude.{⊤}
 use Rattle.std.proofs.Common.{◌≡◌, ◌≢◌, ℕ, ℤ, ◌+◌, ◌≤◌, ◌<◌, ◌^◌, ◌⊎◌, inl, inr, List, [], ◌∷◌, ◌++◌, length}
-use Rattle.std.proofs.Common.{length-append, length-take, take, drop, All, Option, Some, None, Result, Ok, Err, IsTrue}
-use Rattle.std.proofs.Common.{refl, sym, ap, subst, ◌∙◌, arith, append_assoc, append-nil}
-use Rattle.std.proofs.lemmas.Bool.{false≢true}
+use Rattle.std.proofs.Common.{length-append, length-take, take, drop, All, ⊎_elim, Option, Some, None, Result, Ok, Err}
+use Rattle.std.proofs.Common.{IsTrue, refl, sym, ap, subst, ◌∙◌, arith, append_assoc, append-nil}
+use Rattle.std.proofs.lemmas.Bool.{cases_lt, false≢true}
 use Rattle.std.proofs.lemmas.List.{append_cancel_left, length-drop, length-map, take-append-drop, take_all}
 use Rattle.std.proofs.lemmas.List.Elements.{All-head, All-tail}
 use Rattle.std.proofs.Math.Seq.{take-append_seam}
@@ -14,7 +14,7 @@ use Rattle.mseed_record.specs.View.{View}
 use Rattle.mseed_record.proofs.Asked.{record_long}
 use Rattle.mseed_record.proofs.OneRecord.{one_record}
 use Rattle.mseed_stream.specs.Archive.{End, HasNoFurther, IsArchive, IsEndOf, clean, frame, truncated, is_clean}
-use Rattle.mseed_stream.specs.Device.{BytesRead, BytesWritten, nothing_read}
+use Rattle.mseed_stream.specs.Device.{BytesRead, BytesWritten, IsPrefixOf, nothing_read}
 use Rattle.mseed_stream.specs.Fault.{IsStreamFault}
 use Rattle.mseed_stream.specs.Split.{EndsBehind, GoesOnBehind, IsSplitFault}
 use Rattle.mseed_stream.specs.Walk.{AreAllViews, bytes_in}
@@ -28,9 +28,11 @@ use Rattle.mseed_audit.specs.Series.{Trace, IsSeriesOf}
 use Rattle.mseed_audit.specs.Verdict.{AreVerdicts}
 use Rattle.mseed_audit.specs.declared.verdict.Verdict.{Verdict}
 use Rattle.mseed_pack.specs.Fitting.{Fits, IsMisfit}
+use Rattle.mseed_pack.specs.Prefixes.{ArePrefixes, HaveTakenPrefixes}
 use Rattle.mseed_pack.specs.Packing.{IsPacking, PacksUpTo}
 use Rattle.mseed_pack.specs.declared.fault.PackFault.{PackFault}
 use Rattle.mseed_pack.specs.declared.options.Options.{Options}
+use Rattle.mseed_pack.proofs.Prefixes.{either_bytes}
 use Rattle.mseed_repack.specs.OneRepacking.{ComeToOne, HasWrittenPrefix, HaveWrittenOne}
 use Rattle.mseed_repack.specs.Repack.{ArePackedInto, CanBePacked, CantBePacked, Channel, IsArchiveOf, IsFirst, IsFitFor}
 use Rattle.mseed_repack.specs.Repack.{IsPackedInto, IsPartPacked, IsRepacking, IsUnread, IsWhole, Wrote, none, more}
@@ -73,6 +75,10 @@ abbrev OnePrefix : Type 0
 OnePrefix = (s : Trace) (o : Options) (prefix records : List (List ℕ)) (left : List ℤ) → PacksUpTo s o prefix left
     → IsPacking s o records → (rest : List (List ℕ)) × (records ≡ prefix ++ rest)
 
+abbrev OnePrefixes : Type 0
+OnePrefixes = (s : Trace) (o : Options) (records others : List (List ℕ)) (left rest : List ℤ)
+    → PacksUpTo s o records left → PacksUpTo s o others rest → ArePrefixes records others
+
 abbrev OneMisfit : Type 0
 OneMisfit = (s : Trace) (o : Options) (f g : PackFault) → IsMisfit s o f → IsMisfit s o g → f ≡ g
 
@@ -86,6 +92,7 @@ pub record Laws : Type 0 where
   pub series : OneSeries
   pub packing : OnePacking
   pub prefix : OnePrefix
+  pub prefixes : OnePrefixes
   pub misfit : OneMisfit
   pub none : NoMisfit
 
@@ -471,6 +478,163 @@ written_one laws o h views others cs ds old new before after a b w v =
     one_text laws o others ds w.text v.text (along o others ds w.text all) (along o others ds v.text v.text_is) in
     record { text = v.text; here = w.bytes ∙ ap (λ (xs : List ℕ). old.bytes ++ xs) text; there = v.bytes }
 
+-- Of two parts of the text one is a prefix of the other.
+
+abbrev Either : List ℕ → List ℕ → Type 0
+Either part other = IsPrefixOf part other ⊎ IsPrefixOf other part
+
+clipped : (xs : List ℕ) (n : ℕ) → (m : ℕ) × ((m ≤ length xs) × (take n xs ≡ take m xs))
+clipped xs n = ⊎_elim (λ (less : n < length xs). (n, (omega (arith, less), refl)))
+    (λ (past : length xs ≤ n). (
+      length xs,
+      (omega arith, take_all n xs past ∙ sym (take_all (length xs) xs (omega arith))),
+    ))
+    (cases_lt n (length xs))
+
+-- a part of a channel's records
+record Part (o : Options) (views : List View) (key : List ℕ) : Type 0 where
+  trace : Trace
+  series : IsSeriesOf trace (records_in views key)
+  records : List (List ℕ)
+  left : List ℤ
+  packing : PacksUpTo trace o records left
+  bytes : List ℕ
+  taken : ℕ
+  bytes_are : bytes ≡ take taken (concat records)
+
+same_parts : Laws → (o : Options) (views : List View) (key : List ℕ) (p q : Part o views key) → Either p.bytes q.bytes
+same_parts laws o views key p q =
+    let same : q.trace ≡ p.trace = laws.series q.trace p.trace (records_in views key) q.series p.series in
+    let prefixes : ArePrefixes p.records q.records =
+    laws.prefixes p.trace o p.records q.records p.left q.left p.packing
+    (subst (λ (t : Trace). PacksUpTo t o q.records q.left) same q.packing) in
+    let i = clipped (concat p.records) p.taken in
+    let j = clipped (concat q.records) q.taken in
+    subst (λ (xs : List ℕ). Either xs q.bytes) (sym (p.bytes_are ∙ i.1.1))
+    (subst (λ (xs : List ℕ). Either (take i.0 (concat p.records)) xs) (sym (q.bytes_are ∙ j.1.1))
+    (either_bytes p.records q.records i.0 j.0 i.1.0 j.1.0 prefixes))
+
+-- a part of the first channel's records is a prefix of all, and of more
+first_part : Laws → (o : Options) (views : List View) (c : Channel) (cs : List Channel) (text tail : List ℕ)
+    (p : Part o views c.0) → Along o views (c ∷ cs) text → IsPrefixOf p.bytes (text ++ tail)
+first_part laws o views c cs text tail p a =
+    let found : Behind (take p.taken (concat p.records)) text =
+    part_first laws o views text c cs p.trace p.records p.left p.taken p.series p.packing a in
+    subst (λ (xs : List ℕ). IsPrefixOf xs (text ++ tail)) (sym p.bytes_are) (
+      found.0 ++ tail,
+      ap (λ (xs : List ℕ). xs ++ tail) found.1
+          ∙ append_assoc (take p.taken (concat p.records)) found.0 tail,
+    )
+
+behind_both : (prefix xs ys : List ℕ) → Either xs ys → Either (prefix ++ xs) (prefix ++ ys)
+behind_both prefix xs ys (inl f) = inl (f.0, ap (λ (zs : List ℕ). prefix ++ zs) f.1 ∙ sym (append_assoc prefix xs f.0))
+behind_both prefix xs ys (inr f) = inr (f.0, ap (λ (zs : List ℕ). prefix ++ zs) f.1 ∙ sym (append_assoc prefix ys f.0))
+
+two_parts : Laws → (o : Options) (views : List View) (fs gs : List Channel) (x y : Channel) (xs ys : List Channel)
+    (t u : List ℕ) (p : Part o views x.0) (q : Part o views y.0) → Along o views fs t → Along o views gs u
+    → fs ++ x ∷ xs ≡ gs ++ y ∷ ys → Either (t ++ p.bytes) (u ++ q.bytes)
+two_parts laws o views [] [] x y xs ys t u p q a b e =
+    let head : x ≡ y = cc (e) in
+    let key : y.0 ≡ x.0 = ap (λ (c : Channel). c.0) (sym head) in
+    let other : Part o views x.0 = record {
+      trace = q.trace;
+      series = subst (λ (k : List ℕ). IsSeriesOf q.trace (records_in views k)) key q.series;
+      records = q.records;
+      left = q.left;
+      packing = q.packing;
+      bytes = q.bytes;
+      taken = q.taken;
+      bytes_are = q.bytes_are;
+    } in
+    subst (λ (xs : List ℕ). Either (xs ++ p.bytes) (u ++ q.bytes)) (sym a)
+    (subst (λ (xs : List ℕ). Either p.bytes (xs ++ q.bytes)) (sym b) (same_parts laws o views x.0 p other))
+two_parts laws o views [] (d ∷ gs) x y xs ys t u p q a b e =
+    let head : x ≡ d = cc (e) in
+    let key : x.0 ≡ d.0 = ap (λ (c : Channel). c.0) head in
+    let mine : Part o views d.0 = record {
+      trace = p.trace;
+      series = subst (λ (k : List ℕ). IsSeriesOf p.trace (records_in views k)) key p.series;
+      records = p.records;
+      left = p.left;
+      packing = p.packing;
+      bytes = p.bytes;
+      taken = p.taken;
+      bytes_are = p.bytes_are;
+    } in
+    subst (λ (xs : List ℕ). Either (xs ++ p.bytes) (u ++ q.bytes)) (sym a)
+    (inl (first_part laws o views d gs u q.bytes mine b))
+two_parts laws o views (c ∷ fs) [] x y xs ys t u p q a b e =
+    let head : y ≡ c = cc (e) in
+    let key : y.0 ≡ c.0 = ap (λ (d : Channel). d.0) head in
+    let other : Part o views c.0 = record {
+      trace = q.trace;
+      series = subst (λ (k : List ℕ). IsSeriesOf q.trace (records_in views k)) key q.series;
+      records = q.records;
+      left = q.left;
+      packing = q.packing;
+      bytes = q.bytes;
+      taken = q.taken;
+      bytes_are = q.bytes_are;
+    } in
+    subst (λ (xs : List ℕ). Either (t ++ p.bytes) (xs ++ q.bytes)) (sym b)
+    (inr (first_part laws o views c fs t p.bytes other a))
+two_parts laws o views (c ∷ fs) (d ∷ gs) x y xs ys t u p q (rs, (rest, a)) (qs, (left, b)) e =
+    let head : c ≡ d = cc (e) in
+    let tail : fs ++ x ∷ xs ≡ gs ++ y ∷ ys = cc (e) in
+    let records : rs ≡ qs = one_records laws o views d.0 rs qs
+    (subst (λ (x : Channel). IsPackedInto o views x.0 rs) head a.0) b.0 in
+    let later : Either (rest ++ p.bytes) (left ++ q.bytes) =
+    two_parts laws o views fs gs x y xs ys rest left p q a.2 b.2 tail in
+    let here : concat rs ++ (rest ++ p.bytes) ≡ t ++ p.bytes = sym (append_assoc (concat rs) rest p.bytes)
+    ∙ ap (λ (xs : List ℕ). xs ++ p.bytes) (sym a.1) in
+    let there : concat rs ++ (left ++ q.bytes) ≡ u ++ q.bytes =
+    ap (λ (xs : List (List ℕ)). concat xs ++ (left ++ q.bytes)) records ∙ sym (append_assoc (concat qs) left q.bytes)
+    ∙ ap (λ (xs : List ℕ). xs ++ q.bytes) (sym b.1) in
+    subst (λ (xs : List ℕ). Either xs (u ++ q.bytes)) here
+    (subst (λ (xs : List ℕ). Either (concat rs ++ (rest ++ p.bytes)) xs) there
+    (behind_both (concat rs) (rest ++ p.bytes) (left ++ q.bytes) later))
+
+part_of : (o : Options) (views : List View) (cs : List Channel) (text : List ℕ) (p : IsPartPacked o views cs text)
+    → Part o views p.next.0
+part_of o views cs text p =
+    record {
+      trace = p.trace;
+      series = p.series;
+      records = p.records;
+      left = p.left;
+      packing = p.packing;
+      bytes = take p.taken (concat p.records);
+      taken = p.taken;
+      bytes_are = refl;
+    }
+
+either_part : Laws → (o : Options) (views : List View) (cs : List Channel) (t u : List ℕ) → IsPartPacked o views cs t
+    → IsPartPacked o views cs u → Either t u
+unfolding part_of
+either_part laws o views cs t u p q =
+    let found = two_parts laws o views p.prefix q.prefix p.next q.next p.back q.back p.before q.before
+    (part_of o views cs t p) (part_of o views cs u q) (along o views p.prefix p.before p.packed)
+    (along o views q.prefix q.before q.packed) (sym p.parts ∙ q.parts) in
+    subst (λ (xs : List ℕ). Either xs u) (sym p.text_is)
+    (subst (λ (xs : List ℕ). Either (p.before ++ take p.taken (concat p.records)) xs) (sym q.text_is) found)
+
+taken_prefixes : Laws → (o : Options) (h : BytesRead) (views others : List View) (cs ds : List Channel)
+    (old new before after : BytesWritten) → IsFitFor o h views cs → IsFitFor o h others ds
+    → Wrote (IsPartPacked o views cs) 1 old new → Wrote (IsPartPacked o others ds) 1 before after
+    → HaveTakenPrefixes old new before after
+taken_prefixes laws o h views others cs ds old new before after a b w v =
+    let same : (views ≡ others) × (cs ≡ ds) = one_whole laws h views others cs ds a.archive b.archive in
+    let part : IsPartPacked o others ds w.text =
+    subst (λ (vs : List View). IsPartPacked o vs ds w.text) same.0
+    (subst (λ (xs : List Channel). IsPartPacked o views xs w.text) same.1 w.text_is) in
+    record {
+      here = w.text;
+      there = v.text;
+      bytes = w.bytes;
+      others = v.bytes;
+      prefixes = either_part laws o others ds w.text v.text part v.text_is;
+    }
+
 -- A continuous channel isn't broken, and one that can be packed isn't one that can't.
 
 abbrev Whole : List View → List ℕ → Type 0
@@ -576,6 +740,17 @@ one_fault laws o h Write (Misfit l g) old new before after p q =
     absurd (never_misfit laws o h p.0 q.0 p.1.0 q.1.0 l g p.1.1.0.archive q.1.1.0 p.1.1.0.fit q.1.1.2)
 one_fault laws o h Write Write old new before after p q = inr (inr refl)
 
+failed_both : Laws → (o : Options) (h : BytesRead) (f g : RepackFault) (old new before after : BytesWritten)
+    → IsRepacking {U = ⊤} o (Err f) h old new → IsRepacking {U = ⊤} o (Err g) h before after
+    → f ≡ Write → g ≡ Write → HaveTakenPrefixes old new before after
+failed_both laws o h f g old new before after p q d e =
+    let mine : IsRepacking {U = ⊤} o (Err Write) h old new =
+    subst (λ (x : RepackFault). IsRepacking {U = ⊤} o (Err x) h old new) d p in
+    let other : IsRepacking {U = ⊤} o (Err Write) h before after =
+    subst (λ (x : RepackFault). IsRepacking {U = ⊤} o (Err x) h before after) e q in
+    taken_prefixes laws o h mine.0 other.0 mine.1.0 other.1.0 old new before after mine.1.1.0 other.1.1.0 mine.1.1.1
+    other.1.1.1
+
 -- packing an archive anew comes to one text or to one fault, memory aside
 pub one_repacking : Laws
     → (o : Options) (h : BytesRead) (result other : Result ⊤ RepackFault) (old new before after : BytesWritten)
@@ -585,4 +760,5 @@ one_repacking laws o h (Ok u) (Ok v) old new before after p q =
     written_one laws o h p.0 q.0 p.1.0 q.1.0 old new before after p.1.1.0 q.1.1.0 p.1.1.1 q.1.1.1
 one_repacking laws o h (Ok u) (Err g) old new before after p q = beside laws o h g old new before after p q
 one_repacking laws o h (Err f) (Ok v) old new before after p q = beside laws o h f before after old new q p
-one_repacking laws o h (Err f) (Err g) old new before after p q = one_fault laws o h f g old new before after p q
+one_repacking laws o h (Err f) (Err g) old new before after p q =
+    (one_fault laws o h f g old new before after p q, failed_both laws o h f g old new before after p q)

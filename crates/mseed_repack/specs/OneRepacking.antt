@@ -1,6 +1,7 @@
 -- Packing one archive anew twice, by the same options.
 use Rattle.std.specs.Prelude.{⊤, ◌≡◌, ◌⊎◌, ℕ, List, ◌++◌, Result, Ok, Err}
 use Rattle.mseed_stream.specs.Device.{BytesWritten}
+use Rattle.mseed_pack.specs.Prefixes.{HaveTakenPrefixes}
 use Rattle.mseed_repack.specs.declared.fault.RepackFault.{RepackFault}
 use Rattle.mseed_repack.specs.declared.fault.RepackFault.TheVariants.{Stream, Broken, Misfit, Write, Memory}
 
@@ -25,10 +26,13 @@ FailsBeside (Misfit key fault) old new before after = ⊥
 FailsBeside Write old new before after = HasWrittenPrefix old new before after
 FailsBeside Memory old new before after = ⊤
 
--- Both come to one thing: to one text, of which a failed output took a prefix; or to one fault, memory aside.
+-- Both come to one thing: to one text, of which a failed output took a prefix; or to one fault, memory aside, and of
+-- what two failed outputs took, one is a prefix of the other.
 abbrev pub ComeToOne : Result ⊤ RepackFault → Result ⊤ RepackFault → BytesWritten → BytesWritten → BytesWritten
     → BytesWritten → Type 0
 ComeToOne (Ok u) (Ok v) old new before after = HaveWrittenOne old new before after
 ComeToOne (Ok u) (Err fault) old new before after = FailsBeside fault old new before after
 ComeToOne (Err fault) (Ok v) old new before after = FailsBeside fault before after old new
-ComeToOne (Err fault) (Err other) old new before after = (fault ≡ Memory) ⊎ ((other ≡ Memory) ⊎ (fault ≡ other))
+ComeToOne (Err fault) (Err other) old new before after =
+    ((fault ≡ Memory) ⊎ ((other ≡ Memory) ⊎ (fault ≡ other))) × (fault ≡ Write → other ≡ Write
+    → HaveTakenPrefixes old new before after)

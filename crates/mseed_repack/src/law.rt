@@ -12,7 +12,8 @@ use mseed_pack::{archive_reads_back, one_misfit, one_packing, reads_back};
 use mseed_stream::one_input;
 
 /// What was read of an input, packed anew by some options, comes to one text or to one fault, but where memory was
-/// refused; and an output that fails takes a prefix of that text.
+/// refused; an output that fails takes a prefix of that text; and of what two outputs took that failed, one is a prefix
+/// of the other.
 pub fn one_repacking()
     ensures { (options : Options) (read : BytesRead) (result other : Result ⊤ RepackFault)
         (old new before after : BytesWritten)

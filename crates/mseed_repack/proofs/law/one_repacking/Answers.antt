@@ -8,6 +8,7 @@ returns c = one_repacking (record {
   series = c.one_series.ensures.series;
   packing = c.one_packing.ensures.whole;
   prefix = c.one_packing.ensures.prefix;
+  prefixes = c.one_packing.ensures.prefixes;
   misfit = c.one_misfit.ensures.one;
   none = c.one_misfit.ensures.none;
 })
