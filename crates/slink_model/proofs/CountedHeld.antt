@@ -28,7 +28,7 @@ use Rattle.slink_model.specs.Spared.{AreAskable}
 use Rattle.slink_model.specs.Stretch.{IsSchedule, IsSound}
 use Rattle.slink_model.specs.Ties.{Item, Accepted, Refused, Greeted, Carried, Finished, Places, item_bytes, items_of}
 use Rattle.slink_model.specs.Ties.{way_bytes}
-use Rattle.slink_model.specs.Whole.{HoldsMore, HoldsWhole, KeepsLink, record_in, records_in}
+use Rattle.slink_model.specs.Whole.{HoldsMore, HoldsWhole, KeepsLink, held_count, packet_count, record_in, records_in}
 use Rattle.slink_model.specs.World.{AllHappen, Differ, Happens, IsOf, Lists, Numbers, WorldState, opening, with_one}
 use Rattle.slink_model.proofs.CountedRead.{unlinked_upon}
 use Rattle.slink_model.proofs.CountedPackets.{behind_replies}
@@ -106,6 +106,42 @@ in_replies : (k m : ℕ) (is : List Item) → records_in k (replicate m Accepted
 in_replies k zero is = refl
 in_replies k (suc m) is = in_replies k m is
 
+-- the packets of two lists of items
+counted_more : (xs ys : List Item) → packet_count (xs ++ ys) ≡ packet_count xs + packet_count ys
+counted_more [] ys = omega arith
+counted_more (Accepted ∷ xs) ys = counted_more xs ys
+counted_more (Refused ∷ xs) ys = counted_more xs ys
+counted_more (Greeted ∷ xs) ys = counted_more xs ys
+counted_more (Carried k n r ∷ xs) ys =
+    let more : packet_count (xs ++ ys) ≡ packet_count xs + packet_count ys = counted_more xs ys in omega (arith, more)
+counted_more (Finished ∷ xs) ys = counted_more xs ys
+
+counted_replies : (m : ℕ) (is : List Item) → packet_count (replicate m Accepted ++ is) ≡ packet_count is
+counted_replies zero is = refl
+counted_replies (suc m) is = counted_replies m is
+
+-- one record more is held
+one_counted : (lists : Lists) (j : ℕ) (b : List ℕ) → j < length lists
+    → held_count (with_one lists j b) ≡ held_count lists + 1
+one_counted [] j b lt = absurd (omega (arith, lt))
+one_counted (xs ∷ lists) zero b lt = omega (arith, length-append xs (b ∷ []))
+one_counted (xs ∷ lists) (suc j) b lt =
+    let more : held_count (with_one lists j b) ≡ held_count lists + 1 = one_counted lists j b (omega (arith, lt)) in
+    omega (arith, more)
+
+-- nothing more, and more behind more
+holds_none : (held : Lists) → HoldsMore held [] held
+holds_none held = record { each = λ k. sym (append-nil (get_or held k [])); count = omega arith }
+
+holds_both : (old mid held : Lists) (xs ys : List Item) → HoldsMore old xs mid → HoldsMore mid ys held
+    → HoldsMore old (xs ++ ys) held
+holds_both old mid held xs ys a b = record {
+  each = λ k. b.each k ∙ (ap (λ rs. rs ++ records_in k ys) (a.each k)
+      ∙ (append_assoc (get_or old k []) (records_in k xs) (records_in k ys)
+      ∙ ap (λ rs. get_or old k [] ++ rs) (sym (in_more k xs ys))));
+  count = omega (arith, a.count, b.count, counted_more xs ys);
+}
+
 -- there stays a list for each place
 wide_event : (f : Numbers) (e : Event) (g : Gained) → length (with_event f e g).held ≡ length g.held
 wide_event f (events.Say line) g = refl
@@ -139,24 +175,26 @@ module _ (places : Places) (f : Numbers) where
   held_packets : (is : List Item) (t : Talk) (g : Gained) → t.stage ≡ Packets → AreSent is → AreBorne places is
       → length g.held ≡ length places → IsLinked (talk_upon t is).stage
       → HoldsMore g.held is (with_events f (events_upon t is) g).held
-  held_packets [] t g p sent borne wide linked k = sym (append-nil (get_or g.held k []))
-  held_packets (Accepted ∷ is) t g p sent borne wide linked k = absurd sent.0
-  held_packets (Refused ∷ is) t g p sent borne wide linked k = absurd sent.0
-  held_packets (Greeted ∷ is) t g p sent borne wide linked k = absurd sent.0
-  held_packets (Carried j n r ∷ is) t g p sent borne wide linked k =
+  held_packets [] t g p sent borne wide linked = holds_none g.held
+  held_packets (Accepted ∷ is) t g p sent borne wide linked = absurd sent.0
+  held_packets (Refused ∷ is) t g p sent borne wide linked = absurd sent.0
+  held_packets (Greeted ∷ is) t g p sent borne wide linked = absurd sent.0
+  held_packets (Carried j n r ∷ is) t g p sent borne wide linked =
       let x : Talk × Event = told j (n % 2 ^ 24) r t in
       let h : on_item t.stage (Carried j n r) t ≡ x = ap (λ (s : Stage). on_item s (Carried j n r) t) p in
-      let lt : j < length places = is_within places j borne.0.0 borne.0.1 in
+      let within : j < length places = is_within places j borne.0.0 borne.0.1 in
+      let lt : j < length g.held = omega (arith, within, wide) in
       let more : Gained = with_event f x.1 g in
-      let rest : get_or (with_events f (events_upon x.0 is) more).held k []
-      ≡ get_or more.held k [] ++ records_in k is =
+      let rest : HoldsMore more.held is (with_events f (events_upon x.0 is) more).held =
       held_packets is x.0 more p sent.1 borne.1 (wide_event f x.1 g ∙ wide)
-      (subst (λ (y : Talk × Event). IsLinked (talk_upon y.0 is).stage) h linked) k in
-      subst (λ (y : Talk × Event). get_or (with_events f (events_upon y.0 is) (with_event f y.1 g)).held k []
-      ≡ get_or g.held k [] ++ records_in k (Carried j n r ∷ is)) (sym h)
-      (rest ∙ (ap (λ rs. rs ++ records_in k is) (one_more g.held j k r (omega (arith, lt, wide)))
-      ∙ append_assoc (get_or g.held k []) (record_in k (Carried j n r)) (records_in k is)))
-  held_packets (Finished ∷ is) t g p sent borne wide linked k =
+      (subst (λ (y : Talk × Event). IsLinked (talk_upon y.0 is).stage) h linked) in
+      subst (λ (y : Talk × Event). HoldsMore g.held (Carried j n r ∷ is)
+      (with_events f (events_upon y.0 is) (with_event f y.1 g)).held) (sym h) (record {
+        each = λ k. rest.each k ∙ (ap (λ rs. rs ++ records_in k is) (one_more g.held j k r lt)
+            ∙ append_assoc (get_or g.held k []) (record_in k (Carried j n r)) (records_in k is));
+        count = omega (arith, rest.count, one_counted g.held j r lt);
+      })
+  held_packets (Finished ∷ is) t g p sent borne wide linked =
       let x : Talk × Event = ended endings.End t in
       let h : on_item t.stage Finished t ≡ x = ap (λ (s : Stage). on_item s Finished t) p in
       absurd (subst (λ (u : Talk). IsLinked u.stage) (unlinked_upon x.0 is (λ l. l)).0
@@ -178,31 +216,34 @@ module _ (places : Places) (f : Numbers) (t : Talk) (g : Gained) (e : ℕ) (its 
   Result is = Brings (wholes e is)
 
   none_brought : Brings []
-  none_brought linked k = sym (append-nil (get_or g.held k []))
+  none_brought linked = holds_none g.held
 
   nothing : its ≡ [] → Result its
   nothing none = subst Result (sym none) none_brought
 
   reply : (i : Item) → its ≡ i ∷ [] → (with_event f (on_item t.stage i t).1 g).held ≡ g.held
-      → ((k : ℕ) → record_in k i ≡ []) → Result its
-  reply i one same none = subst Result (sym one) (whole_or i [] e (λ ws bs p. Brings ws)
-      (λ fits linked k. ap (λ (xs : Lists). get_or xs k []) same ∙ (sym (append-nil (get_or g.held k []))
-      ∙ ap (λ rs. get_or g.held k [] ++ (rs ++ [])) (sym (none k))))
+      → ((k : ℕ) → record_in k i ≡ []) → packet_count (i ∷ []) ≡ 0 → Result its
+  reply i one same none few = subst Result (sym one) (whole_or i [] e (λ ws bs p. Brings ws)
+      (λ fits linked. record {
+        each = λ k. ap (λ (xs : Lists). get_or xs k []) same ∙ (sym (append-nil (get_or g.held k []))
+            ∙ ap (λ rs. get_or g.held k [] ++ (rs ++ [])) (sym (none k)));
+        count = let kept = ap held_count same in omega (arith, kept, few);
+      })
       (λ lt. none_brought))
 
   pub brings : (phase : Phase) (taken way : List ℕ) → Shakes t phase taken way its → Result its
   brings phase taken way (asks_place k w stage want ready asks none) = nothing none
   brings phase taken way (has_place k stage at written one) =
       reply Accepted one
-      (ap (λ (s : Stage). (with_event f (on_item s Accepted t).1 g).held) stage) (λ j. refl)
+      (ap (λ (s : Stage). (with_event f (on_item s Accepted t).1 g).held) stage) (λ j. refl) refl
   brings phase taken way (asks_number k stage at asks none) = nothing none
   brings phase taken way (has_number k stage at written one) =
       reply Accepted one
       (ap (λ (s : Stage). (with_event f (on_item s Accepted t).1 g).held) stage
-      ∙ placed f (k + 1) (want_at t.wants (k + 1)) t g) (λ j. refl)
+      ∙ placed f (k + 1) (want_at t.wants (k + 1)) t g) (λ j. refl) refl
   brings phase taken way (has_none k stage at written one) =
       reply Refused one
-      (ap (λ (s : Stage). (with_event f (on_item s Refused t).1 g).held) stage) (λ j. refl)
+      (ap (λ (s : Stage). (with_event f (on_item s Refused t).1 g).held) stage) (λ j. refl) refl
   brings phase taken way (asks_end k stage at asks none) = nothing none
   brings phase taken way (streams stage later sends written) = λ linked.
       let split : its ≡ wholes e its ++ behind e its = wholes_behind its e in
@@ -215,17 +256,17 @@ abbrev pub Held : Lists → Talk → Lists → Option CountedLink → Type 0
 Held old talk held None = Unit {0}
 Held old talk held (Some l) = IsLinked talk.stage → HoldsMore old (wholes l.delivered l.sent) held
 
-held_on : (old : Lists) (talk : Talk) (held : Lists) (l : CountedLink) (ys : List Item)
+held_on : (old : Lists) (held : Lists) (l : CountedLink) (ys : List Item)
     → l.delivered ≤ length (way_bytes l.sent) → HoldsMore old (wholes l.delivered l.sent) held
     → HoldsMore old (wholes l.delivered (l.sent ++ ys)) held
-held_on old talk held l ys few h k =
-    h k ∙ ap (λ ws. get_or old k [] ++ records_in k ws) (sym (wholes_more l.sent ys l.delivered few))
+held_on old held l ys few h =
+    subst (λ (ws : List Item). HoldsMore old ws held) (sym (wholes_more l.sent ys l.delivered few)) h
 
 come_held : (old : Lists) (t : Bool) (feed : List Window) (talk : Talk) (held : Lists) (l : CountedLink)
     → l.delivered ≤ length (way_bytes l.sent) → HoldsMore old (wholes l.delivered l.sent) held
     → HoldsMore old (wholes (if_come t feed talk l).delivered (if_come t feed talk l).sent) held
 come_held old true feed talk held l few h =
-    held_on old talk held l (items_of (answer_at talk.stage feed talk l.session).1) few h
+    held_on old held l (items_of (answer_at talk.stage feed talk l.session).1) few h
 come_held old false feed talk held l few h = h
 
 served_held : (old : Lists) (places : Places) (feed : List Window) (talk : Talk) (held : Lists) (n : ℕ)
@@ -241,7 +282,7 @@ sent_held : (old : Lists) (places : Places) (feed : List Window) (talk : Talk) (
     → Held old talk held (option_map (sent_by feed k) q)
 sent_held old places feed talk held k None f h = tt
 sent_held old places feed talk held k (Some l) f h =
-    λ linked. held_on old talk held l (items_sent feed l.session.grants k (sent feed l.session k).1)
+    λ linked. held_on old held l (items_sent feed l.session.grants k (sent feed l.session k).1)
     (f linked).few (h linked)
 
 read_held : (old : Lists) (places : Places) (n : ℕ) (c : Counted) (q : Option CountedLink)
@@ -249,7 +290,7 @@ read_held : (old : Lists) (places : Places) (n : ℕ) (c : Counted) (q : Option 
     → Held old c.talk c.held c.link
     → Held old (read_by n c q).talk (read_by n c q).held (read_by n c q).link
 read_held old places n c None wide f h same = same
-read_held old places n c (Some l) wide f h same = λ linked k. elim (linked_or c.talk.stage) [
+read_held old places n c (Some l) wide f h same = λ linked. elim (linked_or c.talk.stage) [
   | inl there ↦
       let facts : LinkFacts places c.talk l = f there in
       let its : List Item = behind l.delivered l.sent in
@@ -258,10 +299,8 @@ read_held old places n c (Some l) wide f h same = λ linked k. elim (linked_or c
       let more : HoldsMore c.held (wholes e its) (gained_by n c l).held =
       brings places l.first_sent c.talk g e its facts.borne wide facts.phase facts.taken facts.way facts.shakes
       linked in
-      more k ∙ (ap (λ rs. rs ++ records_in k (wholes e its)) (h there k)
-      ∙ (append_assoc (get_or old k []) (records_in k (wholes l.delivered l.sent)) (records_in k (wholes e its))
-      ∙ ap (λ rs. get_or old k [] ++ rs) (sym (in_more k (wholes l.delivered l.sent) (wholes e its))
-      ∙ ap (records_in k) (sym (wholes_after l.sent l.delivered n)))))
+      subst (λ (ws : List Item). HoldsMore old ws (gained_by n c l).held) (sym (wholes_after l.sent l.delivered n))
+      (holds_both old c.held (gained_by n c l).held (wholes l.delivered l.sent) (wholes e its) (h there) more)
   | inr over ↦ absurd (over (subst (λ (t : Talk). IsLinked t.stage) (unlinked_upon c.talk (news n l) over).0 linked))
 ]
 
@@ -334,41 +373,53 @@ module _ (setup : Setup) (differ : Differ setup.places.items) (codes : (k : ℕ)
       (counted_after setup c (before ++ Connect ∷ steps)).link
   link_held [] steps w v c run of keep on =
       all_held c.held steps run.0 v (counted_step setup c Connect) run.2 of.2 keep
-      (next_on w run.0 c Connect of.0 of.1 run.1 on) (λ linked k. sym (append-nil (get_or c.held k [])))
+      (next_on w run.0 c Connect of.0 of.1 run.1 on) (λ linked. holds_none c.held)
   link_held (step ∷ before) steps w v c run of keep on =
       link_held before steps run.0 v (counted_step setup c step) run.2 of.2 keep
       (next_on w run.0 c step of.0 of.1 run.1 on)
 
--- the records of the packets that are whole
-records_whole : (k e : ℕ) (ps : List Item) → AreItems ps → e ≤ length (way_bytes ps)
-    → records_in k (wholes e ps) ≡ records_in k (take (e / 520) ps)
-records_whole k e [] are few = nothing_taken (e / 520)
-  where
-    nothing_taken : (n : ℕ) → ◌≡◌ {A = List (List ℕ)} [] (records_in k (take n []))
-    nothing_taken zero = refl
-    nothing_taken (suc n) = refl
-records_whole k e (Accepted ∷ ps) are few = absurd are
-records_whole k e (Refused ∷ ps) are few = absurd are
-records_whole k e (Greeted ∷ ps) are few = absurd are
-records_whole k e (Carried j n r ∷ ps) are few =
+-- the packets that are whole in so many bytes, and so many
+record AreWhole (e : ℕ) (ws ts : List Item) : Type 0 where
+  records : (k : ℕ) → records_in k ws ≡ records_in k ts
+  whole : packet_count ws ≡ e / 520
+  taken : packet_count ts ≡ e / 520
+
+none_whole : (e : ℕ) (ts : List Item) → e / 520 ≡ 0 → AreWhole e [] (take 0 ts)
+none_whole e ts none = record { records = λ k. refl; whole = sym none; taken = sym none }
+
+items_whole : (e : ℕ) (ps : List Item) → AreItems ps → e ≤ length (way_bytes ps)
+    → AreWhole e (wholes e ps) (take (e / 520) ps)
+items_whole e [] are few =
+    let none : e / 520 ≡ 0 = omega (arith, few) in
+    subst (λ m. AreWhole e [] (take m [])) (sym none) (none_whole e [] none)
+items_whole e (Accepted ∷ ps) are few = absurd are
+items_whole e (Refused ∷ ps) are few = absurd are
+items_whole e (Greeted ∷ ps) are few = absurd are
+items_whole e (Carried j n r ∷ ps) are few =
     let size : length (item_bytes (Carried j n r)) ≡ 520 = packet_length (n % 2 ^ 24) r are.0 in
     let all : length (way_bytes (Carried j n r ∷ ps)) ≡ length (item_bytes (Carried j n r)) + length (way_bytes ps) =
     length-append (item_bytes (Carried j n r)) (way_bytes ps) in
-    whole_or (Carried j n r) ps e (λ ws bs p. records_in k ws ≡ records_in k (take (e / 520) (Carried j n r ∷ ps)))
+    whole_or (Carried j n r) ps e (λ ws bs p. AreWhole e ws (take (e / 520) (Carried j n r ∷ ps)))
     (λ fits.
     let count : e / 520 ≡ suc ((e - 520) / 520) = omega (arith, fits, size) in
-    ap (λ rs. record_in k (Carried j n r) ++ rs) (ap (λ s. records_in k (wholes (e - s) ps)) size
-    ∙ records_whole k (e - 520) ps are.1 (omega (arith, few, all, size)))
-    ∙ ap (λ m. records_in k (take m (Carried j n r ∷ ps))) (sym count))
+    let rest : AreWhole (e - 520) (wholes (e - 520) ps) (take ((e - 520) / 520) ps) =
+    items_whole (e - 520) ps are.1 (omega (arith, few, all, size)) in
+    subst (λ s. AreWhole e (Carried j n r ∷ wholes (e - s) ps) (take (e / 520) (Carried j n r ∷ ps))) (sym size)
+    (subst (λ m. AreWhole e (Carried j n r ∷ wholes (e - 520) ps) (take m (Carried j n r ∷ ps))) (sym count) (record {
+      records = λ k. ap (λ rs. record_in k (Carried j n r) ++ rs) (rest.records k);
+      whole = omega (arith, rest.whole, count);
+      taken = omega (arith, rest.taken, count);
+    })))
     (λ lt. let none : e / 520 ≡ 0 = omega (arith, lt, size) in
-    ap (λ m. records_in k (take m (Carried j n r ∷ ps))) (sym none))
-records_whole k e (Finished ∷ ps) are few =
+    subst (λ m. AreWhole e [] (take m (Carried j n r ∷ ps))) (sym none) (none_whole e (Carried j n r ∷ ps) none))
+items_whole e (Finished ∷ ps) are few =
     let all : e ≤ 3 = subst (λ (is : List Item). e ≤ length (way_bytes (Finished ∷ is))) are few in
     let none : e / 520 ≡ 0 = omega (arith, all) in
-    whole_or Finished ps e (λ ws bs p. records_in k ws ≡ records_in k (take (e / 520) (Finished ∷ ps)))
-    (λ fits. ap (λ (is : List Item). records_in k (wholes (e - 3) is)) are
-    ∙ ap (λ m. records_in k (take m (Finished ∷ ps))) (sym none))
-    (λ lt. ap (λ m. records_in k (take m (Finished ∷ ps))) (sym none))
+    subst (λ m. AreWhole e (wholes e (Finished ∷ ps)) (take m (Finished ∷ ps))) (sym none)
+    (whole_or Finished ps e (λ ws bs p. AreWhole e ws [])
+    (λ fits. subst (λ (is : List Item). AreWhole e (Finished ∷ wholes (e - 3) is) []) (sym are)
+    (record { records = λ k. refl; whole = sym none; taken = sym none }))
+    (λ lt. none_whole e [] none))
 
 replies_length : (m : ℕ) (ps : List Item)
     → length (way_bytes (replicate m Accepted ++ ps)) ≡ 4 * m + length (way_bytes ps)
@@ -381,18 +432,25 @@ replies_length (suc m) ps =
 -- so many are whole
 whole_counted : (places : ℕ) (old held : Lists) (l : CountedLink) → l.delivered ≤ length (way_bytes l.sent)
     → HoldsMore old (wholes l.delivered l.sent) held → IsStreamed places l → HoldsWhole places old held l
-whole_counted places old held l few h s = record {
-  streamed = s;
-  holds = λ k.
-      let e : ℕ = l.delivered - 8 * places in
-      let long : length (way_bytes l.sent) ≡ 4 * (2 * places) + length (way_bytes s.packets) =
-      ap (λ (is : List Item). length (way_bytes is)) s.sent_is ∙ replies_length (2 * places) s.packets in
-      h k ∙ ap (λ rs. get_or old k [] ++ rs)
-      (ap (λ (is : List Item). records_in k (wholes l.delivered is)) s.sent_is
-      ∙ (ap (records_in k) (behind_replies places l.delivered s.packets s.replies)
-      ∙ (in_replies k (2 * places) (wholes e s.packets)
-      ∙ records_whole k e s.packets s.are (omega (arith, few, long)))));
-}
+whole_counted places old held l few h s =
+    let e : ℕ = l.delivered - 8 * places in
+    let long : length (way_bytes l.sent) ≡ 4 * (2 * places) + length (way_bytes s.packets) =
+    ap (λ (is : List Item). length (way_bytes is)) s.sent_is ∙ replies_length (2 * places) s.packets in
+    let whole : AreWhole e (wholes e s.packets) (take (e / 520) s.packets) =
+    items_whole e s.packets s.are (omega (arith, few, long)) in
+    let split : wholes l.delivered l.sent ≡ replicate (2 * places) Accepted ++ wholes e s.packets =
+    ap (wholes l.delivered) s.sent_is ∙ behind_replies places l.delivered s.packets s.replies in
+    let count : packet_count (wholes l.delivered l.sent) ≡ e / 520 =
+    ap packet_count split ∙ (counted_replies (2 * places) (wholes e s.packets) ∙ whole.whole) in
+    record {
+      streamed = s;
+      holds = record {
+        each = λ k. h.each k ∙ ap (λ rs. get_or old k [] ++ rs) (ap (records_in k) split
+            ∙ (in_replies k (2 * places) (wholes e s.packets) ∙ whole.records k));
+        count = h.count ∙ ap (λ n. held_count old + n) (count ∙ sym whole.taken);
+      };
+      count = h.count ∙ ap (λ n. held_count old + n) count;
+    }
 
 -- a link that there is
 at_link : (old : Lists) (talk : Talk) (held : Lists) (q : Option CountedLink) (l : CountedLink) → q ≡ Some l

@@ -130,7 +130,6 @@ pub fn streams_behind_the_replies()
 
 /// While a client takes from a link, it holds of each place what it held when it connected, and behind it the records
 /// of the packets that came whole.
-#[tactic(auto, using(crate::proofs::CountedHeld::holds_whole, crate::proofs::CountedHeld::holds_counted))]
 pub fn holds_whole_packets()
     ensures whole { (setup : Setup) (before after : List Step) (now : WorldState)
         → AllHappen (opening setup) (before ++ Step.Connect ∷ after) now
@@ -139,7 +138,7 @@ pub fn holds_whole_packets()
         → (counted_after setup (counted_opening setup) (before ++ Step.Connect ∷ after)).link ≡ Some l
         → IsLinked (counted_after setup (counted_opening setup) (before ++ Step.Connect ∷ after)).talk.stage
         → HoldsMore (counted_after setup (counted_opening setup) before).held (wholes l.delivered l.sent) now.held }
-    // While it awaits packets, these are as many as there are whole 520 bytes behind the replies.
+    // While it awaits packets, it holds one record more for each 520 bytes that came behind the replies.
     ensures counted { (setup : Setup) (before after : List Step) (now : WorldState)
         → AllHappen (opening setup) (before ++ Step.Connect ∷ after) now
         → IsSchedule setup (before ++ Step.Connect ∷ after) → AreAskable setup.places.items → All KeepsLink after
