@@ -15,6 +15,8 @@ mod planned;
 mod serving;
 mod status;
 mod tcp;
+#[cfg(test)]
+mod tests;
 
 pub use accept::Accept;
 pub use dial::Dial;

@@ -1,0 +1,136 @@
+//! Worked rows of fetching.
+
+use super::{ALL, Links, output, station, taken_by, two_packets, two_records};
+use crate::fetching::fetch_all;
+use crate::plan::FetchPlan;
+use crate::planned::fetch_planned;
+use slink_feed::{Client, Mode};
+use std::alloc::Global;
+use std::test::Fail;
+
+/// A client that holds record 0 and asks for those that are there.
+fn client() -> Result<Client, Fail> {
+    Ok(Client::new(&[(station()?, Some(1))], Mode::Fetch))
+}
+
+/// What the client says from record 1 on, and from record 2 on.
+const FROM_1: &[u8] = b"STATION STA XX\r\nFETCH 000001\r\nEND\r\n";
+
+const FROM_2: &[u8] = b"STATION STA XX\r\nFETCH 000002\r\nEND\r\n";
+
+/// What comes of a fetch.
+#[derive(Drop)]
+struct Fetched {
+    status: u8,
+    line: Vec<u8>,
+    records: Vec<u8>,
+    written: Vec<Vec<u8>>,
+}
+
+/// A fetch over links that tell so many of these bytes.
+fn fetch_over(
+    alloc: Global,
+    tries: u64,
+    all: &[u8],
+    counts: &[Option<usize>],
+) -> Result<Fetched, Fail> {
+    let mut told = Vec::new(alloc);
+    for count in counts {
+        told.push(count.map(|n| (all.get(..n).unwrap_or(all), ALL)))?;
+    }
+    let mut links = Links::new(alloc, told.as_slice())?;
+    let mut records = output(alloc, ALL);
+    let mut errors = output(alloc, ALL);
+    let status = fetch_all(&mut client()?, tries, &mut links, &mut records, &mut errors);
+    Ok(Fetched {
+        status,
+        line: taken_by(errors),
+        records: taken_by(records),
+        written: links.taken,
+    })
+}
+
+#[test]
+fn fetches_over_one_link_after_another(rt: HostRuntime) -> Result<(), Fail> {
+    let all = two_packets(rt.alloc())?;
+    // At most so many tries; of the links that come, how many bytes each tells; the status; how many bytes of records 1
+    // and 2 are written; and how many links took the lines of the client.
+    let rows: [(u64, &[Option<usize>], u8, usize, usize); 6] = [
+        (1, &[Some(1051)], 0, 1024, 1),
+        // Cut off in the packet of record 1, and then behind it.
+        (2, &[Some(8 + 519), Some(1051)], 0, 1024, 2),
+        (2, &[Some(8 + 519), Some(8 + 520)], 2, 512, 2),
+        (1, &[None, Some(1051)], 2, 0, 0),
+        (2, &[None, Some(1051)], 0, 1024, 1),
+        (3, &[None, Some(8 + 520), None], 2, 512, 1),
+    ];
+    let written = two_records(rt.alloc())?;
+    for (tries, counts, status, length, links) in &rows {
+        let fetched = fetch_over(rt.alloc(), *tries, all.as_slice(), counts)?;
+        assert_eq!(rt; fetched.status, *status);
+        let line: &[u8] = if *status == 0 {
+            b""
+        } else {
+            b"mseed: link failed\n"
+        };
+        assert_eq!(rt; fetched.line.as_slice(), line);
+        assert!(rt; written.as_slice().get(..*length) == Some(fetched.records.as_slice()));
+        assert_eq!(rt; fetched.written.len(), *links);
+        for written in &fetched.written {
+            assert_eq!(rt; written.as_slice(), FROM_1);
+        }
+    }
+    Ok(())
+}
+
+#[test]
+fn goes_on_behind_the_last_record(rt: HostRuntime) -> Result<(), Fail> {
+    let mut second = Vec::new(rt.alloc());
+    let all = two_packets(rt.alloc())?;
+    second.extend_from_slice(b"OK\r\nOK\r\n")?;
+    second.extend_from_slice(all.as_slice().get(8 + 520..).unwrap_or(b""))?;
+    let first = all.as_slice().get(..8 + 520 + 100).unwrap_or(b"");
+    let told = [Some((first, ALL)), Some((second.as_slice(), ALL))];
+    let mut links = Links::new(rt.alloc(), &told)?;
+    let mut plan = FetchPlan {
+        port: 0,
+        tries: 2,
+        client: client()?,
+    };
+    let mut records = output(rt.alloc(), ALL);
+    let mut errors = output(rt.alloc(), ALL);
+    assert_eq!(rt;
+        fetch_planned(&mut plan, &mut links, &mut records, &mut errors),
+        0
+    );
+    assert_eq!(rt; plan.client.next(0), Some(3));
+    assert!(rt; taken_by(records).as_slice() == two_records(rt.alloc())?.as_slice());
+    let written = [FROM_1, FROM_2];
+    for (taken, written) in links.taken.iter().zip(written) {
+        assert_eq!(rt; taken.as_slice(), written);
+    }
+    Ok(())
+}
+
+#[test]
+fn ends_at_once_where_no_try_helps(rt: HostRuntime) -> Result<(), Fail> {
+    let all = two_packets(rt.alloc())?;
+    // What the first of two links tells, the room of the output, and the line.
+    let rows: [(&[u8], usize, &[u8]); 4] = [
+        (b"ERROR\r\n", ALL, b"mseed: refused\n"),
+        (b"OK\r\nERROR\r\n", ALL, b"mseed: refused\n"),
+        (b"OKAY\r\n", ALL, b"mseed: bad feed\n"),
+        (all.as_slice(), 511, b"mseed: write failed\n"),
+    ];
+    for (told, room, line) in &rows {
+        let told = [Some((*told, ALL)), Some((all.as_slice(), ALL))];
+        let mut links = Links::new(rt.alloc(), &told)?;
+        let mut records = output(rt.alloc(), *room);
+        let mut errors = output(rt.alloc(), ALL);
+        let ended = fetch_all(&mut client()?, 2, &mut links, &mut records, &mut errors);
+        assert_eq!(rt; ended, 2);
+        assert_eq!(rt; taken_by(errors).as_slice(), *line);
+        assert_eq!(rt; links.coming.len(), 1);
+    }
+    Ok(())
+}
