@@ -7,8 +7,8 @@ ghost use Rattle.mseed_pack.specs.Traces.{trace_of};
 
 use mseed_audit::Series;
 use mseed_pack::{
-    BadOption, Encoding, Options, PackFault, SeriesView, a_packing_exists, fit, fit_view, pack,
-    pack_fitting, pack_view,
+    BadOption, Encoding, Options, PackFault, Packer, SeriesView, a_packing_exists, fit, fit_view,
+    pack, pack_fitting, pack_view,
 };
 use mseed_record::Codes;
 use mseed_stream::{Counted, Sink};
@@ -74,6 +74,21 @@ pub fn pack_both<W: Sink>(
     fit_view(&one, options)?;
     fit_view(&other, options)?;
     Ok(pack_fitting(&one, options, sink).is_ok() && pack_fitting(&other, options, sink).is_ok())
+}
+
+/// The same in one room, which is cleared once.
+pub fn pack_in_one_room<W: Sink>(
+    one: &Series,
+    other: &Series,
+    options: &Options,
+    sink: &mut W,
+) -> Result<bool, PackFault> {
+    let (one, other) = (SeriesView::of(one), SeriesView::of(other));
+    fit_view(&one, options)?;
+    fit_view(&other, options)?;
+    let mut packer = Packer::new();
+    let is_first = packer.pack_fitting(&one, options, sink).is_ok();
+    Ok(is_first && packer.pack_fitting(&other, options, sink).is_ok())
 }
 
 /// Packs a series that fits, for a proof that speaks of its packing.
