@@ -91,7 +91,7 @@ impl<A: Allocator + Copy> Audit<A> {
     /// # Errors
     ///
     /// `Memory` where the channel is new and there was no room for it; the audit is then as it was.
-    #[inline]
+    #[inline(always)]
     pub fn add(&mut self, view: &RecordView, offset: u64) -> Result<(), Memory>
         requires { self.old.added < 2 ^ 40 }
         ensures adds { (added : List Added) → IsAuditOf self.old added
@@ -110,7 +110,7 @@ impl<A: Allocator + Copy> Audit<A> {
     /// # Errors
     ///
     /// `Memory` as `add`.
-    #[inline]
+    #[inline(always)]
     pub fn add_judged(&mut self, view: &RecordView, offset: u64) -> Result<Option<Why>, Memory>
         requires { self.old.added < 2 ^ 40 }
         ensures adds { (added : List Added) → IsAuditOf self.old added

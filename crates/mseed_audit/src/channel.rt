@@ -68,7 +68,7 @@ impl Channel {
     }
 
     /// One more record of the channel. Answers what is found of it.
-    #[inline]
+    #[inline(always)]
     pub(crate) fn add(&mut self, view: &RecordView, number: u64, offset: u64) -> Option<Why>
         requires some { 0 < count_of (view_of view.now) }
         requires bounded { IsBounded (2 ^ 40) self.old.verdict }
@@ -117,7 +117,7 @@ impl Judged {
 }
 
 /// What is found of a record, by the end of the channel's record before it, and the record's own end.
-#[inline]
+#[inline(always)]
 fn judge(before: Option<Tail>, view: &RecordView) -> Judged
     requires { 0 < count_of (view_of view.now) }
     ensures tail { IsTailOf (tail_in result) (view_of view.now) }

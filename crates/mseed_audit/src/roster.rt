@@ -83,7 +83,7 @@ impl<A: Allocator + Copy> Roster<A> {
     /// # Errors
     ///
     /// `Memory` where the channel is new and there was no room for it; the roster is then as it was.
-    #[inline]
+    #[inline(always)]
     pub(crate) fn add(
         &mut self,
         view: &RecordView,
