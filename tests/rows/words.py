@@ -124,8 +124,9 @@ def numbers() -> Iterator[Row]:
 
 def of_the_audit() -> Iterator[Row]:
     """The option that goes with the audit alone."""
-    yield taken("audit: each finding", "audit", "--each")
-    yield taken("audit: each finding, the option first", "--each", "audit")
+    audited = b"records 0 channels 0\nfault at 0 truncated 9\n"
+    yield Row("audit: each finding", OTHER, ["audit", "--each"], 2, audited)
+    yield Row("audit: each finding, the option first", OTHER, ["--each", "audit"], 2, audited)
     yield bad("show: each finding", "show", "--each")
     yield bad("repack: each finding", "repack", "--each")
     yield bad("each finding, and no command", "--each")
