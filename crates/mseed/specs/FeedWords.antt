@@ -95,13 +95,15 @@ fetching_with _ _ _ = None
 
 -- what `serve` takes besides its word
 abbrev pub serve_names : List Text
-serve_names = codes "command" ∷ codes "each" ∷ codes "place" ∷ codes "port" ∷ codes "station" ∷ codes "network" ∷ codes "capacity"
+serve_names = codes "command" ∷ codes "each" ∷ codes "place" ∷ codes "port" ∷ codes "station" ∷ codes "network"
+    ∷ codes "capacity"
     ∷ codes "first"
     ∷ codes "connections" ∷ []
 
 -- and `fetch`
 abbrev pub fetch_names : List Text
-fetch_names = codes "command" ∷ codes "each" ∷ codes "place" ∷ codes "port" ∷ codes "station" ∷ codes "network" ∷ codes "from"
+fetch_names = codes "command" ∷ codes "each" ∷ codes "place" ∷ codes "port" ∷ codes "station" ∷ codes "network"
+    ∷ codes "from"
     ∷ codes "tries" ∷ []
 
 -- a feed to be served: its places have no numbers of their own

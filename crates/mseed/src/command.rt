@@ -36,13 +36,14 @@ use std::alloc::{Allocator, Global};
 ///
 /// `audit` writes the audit of the records of `input` to `output`: status 0 where every channel is
 /// continuous, 1 where one is broken, and 2 where the input ended with a fault, which the text names, or
-/// where the text couldn't be written whole; with `--each` a line for each record with a finding comes first. `show` lists the records: status 0, or 2 where the input ended
-/// with a fault, which the listing names, or where it couldn't be written whole. `repack` packs the archive
-/// anew: status 0, 1 where a channel is broken, and 2 where the input is no whole archive, where a channel can't
-/// be packed, or where the output failed; `errors` takes a line that says so. `serve` fills a feed with the records
-/// of `input` and answers how it is to be served, or status 2 with a line where they aren't all the feed's or don't
-/// end where a record ends. `fetch` answers what is to be fetched. Other words are a bad command line: status 3.
-/// Where there was no memory for the words, status 2. The input is one of which nothing was read yet.
+/// where the text couldn't be written whole; with `--each` a line for each record with a finding comes first. `show`
+/// lists the records: status 0, or 2 where the input ended with a fault, which the listing names, or where it couldn't
+/// be written whole. `repack` packs the archive anew: status 0, 1 where a channel is broken, and 2 where the input is
+/// no whole archive, where a channel can't be packed, or where the output failed; `errors` takes a line that says so.
+/// `serve` fills a feed with the records of `input` and answers how it is to be served, or status 2 with a line where
+/// they aren't all the feed's or don't end where a record ends. `fetch` answers what is to be fetched. Other words are
+/// a bad command line: status 3. Where there was no memory for the words, status 2. The input is one of which nothing
+/// was read yet.
 pub fn run<R: Source, W: Sink, E: Sink>(
     alloc: Global,
     words: &[&str],
