@@ -1,7 +1,8 @@
 """What the documents name is there: files, public calls, their clauses, types, definitions, crates, commands, options
 and words of the programs' output (documents/page.py). The pages for callers show each call, and each field has its
-documentation (documents/callers.py). Before that, lines and pages that are wrong have to be found wrong; and the drawing of
-docs/architecture.md is the one that docs/architecture.py draws from crates.txt."""
+documentation (documents/callers.py); and no line of a crate is too long. Before that, lines and pages that are wrong
+have to be found wrong. The drawing of docs/architecture.md is the one that docs/architecture.py draws from crates.txt.
+"""
 
 from __future__ import annotations
 
@@ -17,6 +18,8 @@ from driver.rows import Cases, Fact
 
 DOCUMENTS = ["README.md", "docs/promises.md", "docs/developing.md", "docs/architecture.md", "docs/protocol.md",
              "docs/texts.md"]
+
+COLUMNS = 120
 
 # Each of these names one thing that isn't there; and those below, none.
 WRONG = [
@@ -115,6 +118,17 @@ def fields(sources: Sources) -> Cases:
         yield Fact(name, "documented", "documented" if is_so else why)
 
 
+def lengths(sources: Sources) -> Cases:
+    """Lines of code, definitions and proofs have at most 120 columns, but for attributes, which are one line each."""
+    for crate in sources.crates:
+        long = [f"{path.relative_to(ROOT)}:{number}"
+                for path in sorted((ROOT / "crates" / crate).rglob("*.*"))
+                if path.suffix in (".rt", ".antt") and "out" not in path.parts
+                for number, line in enumerate(path.read_text(encoding="utf-8").splitlines(), 1)
+                if len(line) > COLUMNS and not line.lstrip().startswith("#[")]
+        yield Fact(f"the lines of {crate} have at most {COLUMNS} columns", [], long)
+
+
 def drawing() -> Cases:
     """The drawing is that of crates.txt."""
     run = subprocess.run([sys.executable, str(ROOT / "docs" / "architecture.py"), "--check"], stdout=subprocess.PIPE,
@@ -131,4 +145,5 @@ def rows() -> Cases:
     yield from self_tests(sources)
     yield from names(sources)
     yield from fields(sources)
+    yield from lengths(sources)
     yield from drawing()
