@@ -15,7 +15,7 @@ use Rattle.std.specs.Result.{IsErrAnd}
 use Rattle.mseed_stream.specs.Standing.{Standing}
 use Rattle.mseed.specs.declared.show.Step.{Step}
 use Rattle.mseed.specs.declared.show.Step.TheVariants.{Listed, Ended}
-use Rattle.mseed.specs.Gathering.{AreGathered, IsPrefixWritten, IsGatheredAlso, IsListing, IsNext, HasLines}
+use Rattle.mseed.specs.private.Gathering.{AreGathered, IsPrefixWritten, IsGatheredAlso, IsListing, IsNext, HasLines}
 use Rattle.mseed.specs.declared.ending.ShowFault.{ShowFault}
 use Rattle.mseed.specs.declared.ending.ShowFault.TheVariants.{Write, Memory}
 

@@ -8,8 +8,8 @@ pub mod FeedWords
 pub mod Words
 pub mod Listing
 pub mod Show
-pub mod Gathering
 pub mod Done
 pub mod Repacked
 pub mod Filling
 pub mod Plans
+pub mod private

@@ -7,7 +7,7 @@ ghost use Rattle.mseed_stream.specs.Walk.{HasHandedOut};
 ghost use Rattle.mseed.specs.Listing.{count_line};
 ghost use Rattle.mseed_audit.specs.Text.{end_line};
 ghost use Rattle.mseed.specs.Show.{IsShown};
-ghost use Rattle.mseed.specs.Gathering.{AreGathered, IsPrefixWritten, IsGatheredAlso, IsListing, IsNext};
+ghost use Rattle.mseed.specs.private.Gathering.{AreGathered, IsPrefixWritten, IsGatheredAlso, IsListing, IsNext};
 
 use crate::ending::ShowFault;
 use crate::listing::{push_count_line, push_record_line};

@@ -5,7 +5,7 @@ use Rattle.std.specs.Map.{values_of}
 use Rattle.mseed_audit.specs.declared.channel.Channel.{Channel}
 use Rattle.mseed_audit.specs.declared.verdict.Verdict.{Verdict}
 use Rattle.mseed_audit.specs.declared.verdict.Verdict.TheVariants.{Continuous, Broken}
-use Rattle.mseed_audit.specs.Kept.{IsBounded, AreBounded}
+use Rattle.mseed_audit.specs.private.Kept.{IsBounded, AreBounded}
 
 pub within_more : (m n : ℕ) (v : Verdict) → m ≤ n → IsBounded m v → IsBounded n v
 within_more m n (Continuous start rate records samples) le h = (omega (arith, h.0, le), h.1)

@@ -12,7 +12,7 @@ use Rattle.mseed_audit.specs.declared.verdict.Verdict.TheVariants.{Continuous, B
 use Rattle.mseed_audit.specs.Channels.{Placed, sample_count}
 use Rattle.mseed_audit.specs.Judging.{IsFound}
 use Rattle.mseed_audit.specs.Audit.{IsTailOf}
-use Rattle.mseed_audit.specs.Kept.{IsTailBefore, with_finding, with_samples}
+use Rattle.mseed_audit.specs.private.Kept.{IsTailBefore, with_finding, with_samples}
 use Rattle.mseed_audit.specs.Verdict.{finding_at, AreFindings, none, one, IsRun, IsVerdict}
 
 -- of one record

@@ -10,7 +10,7 @@ use Rattle.mseed_audit.specs.Channels.{Added, Placed, same_key, records_of, view
 use Rattle.mseed_audit.specs.Follows.{IsContinuous}
 use Rattle.mseed_audit.specs.Verdict.{IsVerdict, IsVerdictAt, IsExactAt, says_continuous, AreVerdicts}
 use Rattle.mseed_audit.specs.Audit.{Held, StandsAt, IsAuditOf}
-use Rattle.mseed_audit.specs.Kept.{verdict_in}
+use Rattle.mseed_audit.specs.private.Kept.{verdict_in}
 
 stands_verdict : (o : Option Channel) (ps : List Placed) → StandsAt o ps → IsVerdictAt (verdict_in o) ps
 stands_verdict None ps s = s

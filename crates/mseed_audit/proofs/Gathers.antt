@@ -16,7 +16,7 @@ use Rattle.mseed_audit.specs.declared.verdict.Verdict.{Verdict}
 use Rattle.mseed_audit.specs.Audit.{Held}
 use Rattle.mseed_audit.specs.Channels.{added_from}
 use Rattle.mseed_audit.specs.Each.{AuditedEach, IsEachOutcome, IsEachWritten, TookFirst, TookPart}
-use Rattle.mseed_audit.specs.Gathered.{AreGathered, IsPrefixWritten, IsTelling, TakesMore}
+use Rattle.mseed_audit.specs.private.Gathered.{AreGathered, IsPrefixWritten, IsTelling, TakesMore}
 use Rattle.mseed_audit.specs.Summary.{IsSummary, text_of}
 use Rattle.mseed_audit.specs.Text.{audit_text, told_lines}
 use Rattle.mseed_audit.specs.Told.{Told, AreToldOf}

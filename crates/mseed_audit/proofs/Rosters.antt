@@ -17,7 +17,7 @@ use Rattle.mseed_audit.specs.Audit.{Stands, StandsAt}
 use Rattle.mseed_audit.specs.Channels.{Placed, same_key, with_record}
 use Rattle.mseed_audit.specs.declared.verdict.Verdict.{Verdict}
 use Rattle.mseed_audit.specs.declared.roster.Place.{Place}
-use Rattle.mseed_audit.specs.Kept.{ArePlaces, AreBounded, IsBounded, IsPlace, place_of, verdict_in}
+use Rattle.mseed_audit.specs.private.Kept.{ArePlaces, AreBounded, IsBounded, IsPlace, place_of, verdict_in}
 use Rattle.mseed_audit.proofs.Counts.{all_within_more}
 use Rattle.mseed_audit.proofs.Maps.{keys_alike, same_back, same_is}
 use Rattle.mseed_audit.proofs.Steps.{stands_more, some_is}

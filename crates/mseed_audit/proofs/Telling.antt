@@ -5,7 +5,7 @@ use Rattle.mseed_audit.specs.declared.finding.Why.{Why}
 use Rattle.mseed_audit.specs.declared.archive.Lines.{Lines}
 use Rattle.mseed_audit.specs.declared.archive.Lines.TheVariants.{OfVerdicts, OfRecords}
 use Rattle.mseed_audit.specs.Channels.{Added, Placed, numbered}
-use Rattle.mseed_audit.specs.Gathered.{IsToldMore, lines_by}
+use Rattle.mseed_audit.specs.private.Gathered.{IsToldMore, lines_by}
 use Rattle.mseed_audit.specs.Text.{told_line, told_lines}
 use Rattle.mseed_audit.specs.Told.{Told, AreTold, AreToldOf, IsFoundBehind, none, one, told_at}
 use Rattle.mseed_audit.proofs.More.{numbered_more, placed_at}

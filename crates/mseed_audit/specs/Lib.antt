@@ -2,12 +2,11 @@ pub mod Audit
 pub mod Channels
 pub mod Each
 pub mod Follows
-pub mod Gathered
 pub mod Judging
-pub mod Kept
 pub mod Parts
 pub mod Series
 pub mod Summary
 pub mod Text
 pub mod Told
 pub mod Verdict
+pub mod private

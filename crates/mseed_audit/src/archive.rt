@@ -59,7 +59,7 @@ pub(crate) enum Step {
     Ended(Option<StreamFault>),
 }
 
-ghost use Rattle.mseed_audit.specs.Gathered.{IsNext, IsToldMore};
+ghost use Rattle.mseed_audit.specs.private.Gathered.{IsNext, IsToldMore};
 ghost use Rattle.mseed_audit.specs.Summary.{IsOutcome, IsGathered, broken_count};
 
 /// Audits the records that a source tells, and writes the text of the audit. The source is one of which

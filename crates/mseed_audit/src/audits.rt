@@ -32,7 +32,7 @@ pub struct Audit<A: Allocator = Global> {
 
 impl<A: Allocator> Model for Audit<A> {
     ghost use Rattle.mseed_audit.specs.Audit.{Held};
-    ghost use Rattle.mseed_audit.specs.Kept.{AreBounded};
+    ghost use Rattle.mseed_audit.specs.private.Kept.{AreBounded};
 
     ghost Value = { Held };
 

@@ -5,7 +5,7 @@ ghost use Rattle.mseed_record.specs.Viewing.{view_of};
 ghost use Rattle.mseed_steim.specs.Reading.{count_of};
 ghost use Rattle.mseed_audit.specs.Judging.{IsFound};
 ghost use Rattle.mseed_audit.specs.Audit.{IsTailOf};
-ghost use Rattle.mseed_audit.specs.Kept.{IsTailBefore, why_in, tail_in};
+ghost use Rattle.mseed_audit.specs.private.Kept.{IsTailBefore, why_in, tail_in};
 ghost use Rattle.mseed_audit.specs.Told.{last_of};
 
 use crate::finding::{Finding, Why};
@@ -35,7 +35,7 @@ enum Judged {
 impl Channel {
     ghost use Rattle.mseed_audit.specs.Channels.{Placed};
     ghost use Rattle.mseed_audit.specs.Audit.{Stands};
-    ghost use Rattle.mseed_audit.specs.Kept.{IsBounded};
+    ghost use Rattle.mseed_audit.specs.private.Kept.{IsBounded};
 
     /// A channel of one record, and what is found of it.
     pub(crate) fn begin(view: &RecordView, number: u64, offset: u64) -> (Channel, Option<Why>)

@@ -4,7 +4,7 @@ ghost use Rattle.std.specs.Io.KnownBytes.{Appends, IsAtEnd};
 ghost use Rattle.mseed_stream.specs.Cutting.{TellsMore};
 ghost use Rattle.mseed_stream.specs.Device.{nothing_read};
 ghost use Rattle.mseed_audit.specs.Each.{IsEachOutcome};
-ghost use Rattle.mseed_audit.specs.Gathered.{IsPrefixWritten, IsTelling, TakesMore};
+ghost use Rattle.mseed_audit.specs.private.Gathered.{IsPrefixWritten, IsTelling, TakesMore};
 
 use crate::archive::{Lines, Step, Summary, add_next, count_broken};
 use crate::audits::{Audit, Memory};

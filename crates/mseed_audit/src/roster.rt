@@ -10,7 +10,7 @@ ghost use Rattle.std.specs.Cmp.Lexicographic.{slice_cmp};
 ghost use Rattle.std.specs.List.Sorted.{IsStrictlySortedBy};
 ghost use Rattle.mseed_audit.specs.Channels.{Placed, same_key, with_record};
 ghost use Rattle.mseed_audit.specs.Audit.{StandsAt};
-ghost use Rattle.mseed_audit.specs.Kept.{AreBounded, place_of, verdict_in};
+ghost use Rattle.mseed_audit.specs.private.Kept.{AreBounded, place_of, verdict_in};
 ghost use Rattle.mseed_audit.specs.Told.{IsFoundOf};
 
 use crate::audits::Memory;
@@ -47,7 +47,7 @@ pub(crate) struct Roster<A: Allocator = Global> {
 impl<A: Allocator> Model for Roster<A> {
     ghost use Rattle.std.specs.Prelude.{List, ℕ};
     ghost use Rattle.mseed_audit.specs.declared.channel.Channel.{Channel};
-    ghost use Rattle.mseed_audit.specs.Kept.{ArePlaces, HasRoom, IsPlace};
+    ghost use Rattle.mseed_audit.specs.private.Kept.{ArePlaces, HasRoom, IsPlace};
 
     ghost Value = { List (List ℕ × Channel) };
 

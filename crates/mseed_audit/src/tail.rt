@@ -6,7 +6,7 @@ ghost use Rattle.mseed_record.specs.Viewing.{view_of};
 ghost use Rattle.mseed_steim.specs.Reading.{count_of};
 ghost use Rattle.mseed_audit.specs.Judging.{known_rate, IsFound, why_between};
 ghost use Rattle.mseed_audit.specs.Audit.{IsTail};
-ghost use Rattle.mseed_audit.specs.Kept.{IsBounded};
+ghost use Rattle.mseed_audit.specs.private.Kept.{IsBounded};
 ghost use Rattle.mseed_audit.specs.Verdict.{IsVerdict};
 
 use crate::finding::Why;

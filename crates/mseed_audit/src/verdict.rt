@@ -1,6 +1,6 @@
 //! What an audit says of a channel.
 ghost use Rattle.std.specs.Prelude.{◌≡◌, ◌^◌};
-ghost use Rattle.mseed_audit.specs.Kept.{IsBounded, with_finding, with_samples};
+ghost use Rattle.mseed_audit.specs.private.Kept.{IsBounded, with_finding, with_samples};
 ghost use Rattle.mseed_audit.specs.Verdict.{says_continuous};
 
 use crate::finding::Finding;

@@ -7,7 +7,7 @@ use Rattle.std.proofs.lemmas.Bool.Decides.{nat_tests}
 use Rattle.std.proofs.lemmas.Int.{ints}
 use Rattle.byteorder.specs.Endian.{twos_complement}
 use Rattle.mseed_steim.specs.Frames.{data_word, words_from, word_at, code_at, word_count}
-use Rattle.mseed_pack.specs.Filling.{AreSet}
+use Rattle.mseed_pack.specs.private.Filling.{AreSet}
 
 -- the data words are as before where their bits and codes are
 words_skip : (p : List ℕ) (k n : ℕ) → k % 16 ≡ 0 → words_from p k (suc n) ≡ words_from p (k + 1) n

@@ -13,7 +13,7 @@ use Rattle.mseed_steim.specs.Spelling.{IsWithin}
 use Rattle.mseed_steim.specs.Frames.{DataWord, data_word, data_words, words_from, word_count, code_at}
 use Rattle.mseed_steim.specs.Packing.{IsEmptyWord, PacksRun}
 use Rattle.mseed_pack.specs.declared.window.Window.{Window}
-use Rattle.mseed_pack.specs.Filling.{AreSet, HoldsDifferences, width_of}
+use Rattle.mseed_pack.specs.private.Filling.{AreSet, HoldsDifferences, width_of}
 use Rattle.mseed_pack.specs.Packing.{HoldsFrames}
 use Rattle.mseed_pack.specs.Stretches.{differences}
 use Rattle.mseed_pack.proofs.Constants.{words_step}

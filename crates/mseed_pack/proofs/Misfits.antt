@@ -8,7 +8,7 @@ use Rattle.std.proofs.lemmas.List.{nil_from_length, length-take-le, take-take, g
 use Rattle.std.proofs.lemmas.List.Elements.{All-from_get_or, All-get_or, All-more, All-take}
 use native.Mathlib.Numerals.{unary_clauses}
 use Rattle.mseed_steim.specs.Spelling.{IsWithin}
-use Rattle.mseed_pack.specs.Filling.{IsUnder}
+use Rattle.mseed_pack.specs.private.Filling.{IsUnder}
 use Rattle.mseed_pack.specs.Fitting.{IsDifferenceOf}
 use Rattle.mseed_pack.specs.Stretches.{differences}
 use Rattle.mseed_pack.specs.declared.options.Encoding.{Encoding}

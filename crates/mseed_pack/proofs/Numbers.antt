@@ -9,7 +9,7 @@ use Rattle.std.proofs.lemmas.List.{length-drop, take_at, drop_at, drop_all, appe
 use Rattle.std.proofs.lemmas.List.{drop-drop}
 use Rattle.mseed_steim.specs.Spelling.{residue, IsWithin}
 use Rattle.byteorder.specs.Numbers.{length-bytes_high_first}
-use Rattle.mseed_pack.specs.Filling.{integer_bytes}
+use Rattle.mseed_pack.specs.private.Filling.{integer_bytes}
 
 pub residue_16 : (z : ℤ) → IsWithin 16 z → of_z w16 z ≡ residue (2 ^ 16) z
 residue_16 (pos n) h = let high = h.1 in omega (arith, ints, high)

@@ -15,7 +15,7 @@ use Rattle.mseed_audit.specs.Series.{Trace, AreStepsFrom}
 use Rattle.mseed_pack.specs.declared.stretch.Stretch.{Stretch}
 use Rattle.mseed_pack.specs.Clock.{added_before}
 use Rattle.mseed_pack.specs.Stretches.{stretch_end, step_behind}
-use Rattle.mseed_pack.specs.Standing.{end_by, IsStretch}
+use Rattle.mseed_pack.specs.private.Standing.{end_by, IsStretch}
 
 le_true : (a b : ℕ) → a ≤ b → leb a b ≡ true
 le_true a b h = grind (arith, nat_tests)

@@ -1,12 +1,11 @@
 pub mod Options
 pub mod Clock
 pub mod Stretches
-pub mod Standing
 pub mod Traces
-pub mod Filling
 pub mod Packing
 pub mod Fitting
 pub mod Outcome
 pub mod ReadBack
 pub mod FewestWords
 pub mod Prefixes
+pub mod private

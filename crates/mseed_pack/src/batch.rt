@@ -1,10 +1,10 @@
 //! Records that are gathered, to be written at once.
 ghost use Rattle.std.specs.Prelude.{◌≡◌, ◌^◌, ◌%◌, ◌<◌, ◌≤◌, length, take};
 ghost use Rattle.mseed_audit.specs.Series.{AreSteps};
-ghost use Rattle.mseed_pack.specs.Filling.{HoldsDifferences};
+ghost use Rattle.mseed_pack.specs.private.Filling.{HoldsDifferences};
 ghost use Rattle.mseed_pack.specs.Fitting.{Fits};
 ghost use Rattle.mseed_pack.specs.Outcome.{PacksOn};
-ghost use Rattle.mseed_pack.specs.Standing.{StandsAt, IsStretch};
+ghost use Rattle.mseed_pack.specs.private.Standing.{StandsAt, IsStretch};
 ghost use Rattle.mseed_pack.specs.Traces.{trace_of};
 
 use crate::options::Options;

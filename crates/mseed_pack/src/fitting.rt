@@ -8,7 +8,7 @@ ghost use Rattle.mseed_time.specs.Ratios.{ratio_of};
 ghost use Rattle.mseed_audit.specs.Series.{AreSteps};
 ghost use Rattle.mseed_pack.specs.Clock.{periods, reading_at};
 ghost use Rattle.mseed_pack.specs.Stretches.{differences};
-ghost use Rattle.mseed_pack.specs.Filling.{IsUnder};
+ghost use Rattle.mseed_pack.specs.private.Filling.{IsUnder};
 ghost use Rattle.mseed_pack.specs.Fitting.{Fits, IsDifferenceOf, IsFirstNot, IsMisfit, IsSampleOf};
 ghost use Rattle.mseed_pack.specs.Outcome.{IsTrace};
 ghost use Rattle.mseed_pack.specs.Traces.{trace_of};

@@ -3,7 +3,7 @@ ghost use Rattle.std.specs.Prelude.{◌≡◌, ℕ, ◌+◌, ◌-◌, ◌*◌, �
 ghost use Rattle.std.specs.Prelude.{pos, slice_index_or, slice_range};
 ghost use Rattle.mseed_steim.specs.Frames.{word_at};
 ghost use Rattle.mseed_steim.specs.Spelling.{IsWithin};
-ghost use Rattle.mseed_pack.specs.Filling.{AreSet, HoldsDifferences, width_of};
+ghost use Rattle.mseed_pack.specs.private.Filling.{AreSet, HoldsDifferences, width_of};
 ghost use Rattle.mseed_pack.specs.Packing.{HoldsFrames};
 ghost use Rattle.mseed_pack.specs.Stretches.{differences};
 

@@ -2,7 +2,7 @@
 ghost use Rattle.std.specs.Prelude.{◌≡◌, ◌+◌, ◌-◌, ◌*◌, ◌^◌, ◌<◌, ◌≤◌, ◌++◌, length, All, pos, slice_index_or};
 ghost use Rattle.std.specs.Prelude.{slice_range, drop};
 ghost use Rattle.mseed_steim.specs.Spelling.{IsWithin};
-ghost use Rattle.mseed_pack.specs.Filling.{bytes_in, integer_bytes};
+ghost use Rattle.mseed_pack.specs.private.Filling.{bytes_in, integer_bytes};
 ghost use Rattle.mseed_pack.specs.Packing.{HoldsIntegers};
 
 use crate::payload::Filled;

@@ -2,11 +2,11 @@
 ghost use Rattle.std.specs.Prelude.{◌≡◌, ◌+◌, ◌-◌, ◌^◌, ◌%◌, ◌<◌, ◌≤◌, length, slice_range, All, List, ℕ, ℤ, IsSome};
 ghost use Rattle.std.specs.Prelude.{IfSome};
 ghost use Rattle.mseed_record.specs.Fields.{header_of};
-ghost use Rattle.mseed_pack.specs.Filling.{HoldsDifferences};
+ghost use Rattle.mseed_pack.specs.private.Filling.{HoldsDifferences};
 ghost use Rattle.mseed_pack.specs.Fitting.{Fits, HasTimeOutside, IsDifferenceOf, IsSampleOf};
 ghost use Rattle.mseed_pack.specs.Packing.{HoldsSamples, IsHeaderOf, IsPacked};
 ghost use Rattle.mseed_pack.specs.Traces.{trace_of};
-ghost use Rattle.mseed_pack.specs.Standing.{IsStretch};
+ghost use Rattle.mseed_pack.specs.private.Standing.{IsStretch};
 ghost use Rattle.mseed_pack.specs.Stretches.{differences, flags_of, step_behind};
 
 use crate::clock::time_at;

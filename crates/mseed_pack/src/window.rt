@@ -1,7 +1,7 @@
 //! A window over the differences of a series.
 ghost use Rattle.std.specs.Prelude.{◌≡◌, ℤ, ◌+◌, ◌≤◌, List, length, min, All};
 ghost use Rattle.mseed_steim.specs.Spelling.{IsWithin};
-ghost use Rattle.mseed_pack.specs.Filling.{HoldsDifferences};
+ghost use Rattle.mseed_pack.specs.private.Filling.{HoldsDifferences};
 ghost use Rattle.mseed_pack.specs.Stretches.{differences};
 
 use crate::frames::put_differences;

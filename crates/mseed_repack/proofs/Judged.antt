@@ -20,10 +20,11 @@ use Rattle.mseed_audit.proofs.Behind.{views_are}
 use Rattle.mseed_pack.specs.Fitting.{Fits, IsMisfit}
 use Rattle.mseed_pack.specs.declared.fault.PackFault.{PackFault}
 use Rattle.mseed_pack.specs.declared.options.Options.{Options}
-use Rattle.mseed_repack.specs.Reading.{AreOf, channel_in, samples_of, samples_written}
+use Rattle.mseed_repack.specs.private.Reading.{AreOf, channel_in, samples_of, samples_written}
 use Rattle.mseed_repack.specs.Repack.{ArePackedInto, AreContinuous, CanBePacked, CantBePacked, Channel, Wrote}
 use Rattle.mseed_repack.specs.Repack.{records_in}
-use Rattle.mseed_repack.specs.Repacking.{AreJudged, FailsToFit, FailsToPack, FailsToPackAnew, IsJudged, IsPackedAnew}
+use Rattle.mseed_repack.specs.private.Repacking.{AreJudged, FailsToFit, FailsToPack, FailsToPackAnew, IsJudged}
+use Rattle.mseed_repack.specs.private.Repacking.{IsPackedAnew}
 use Rattle.mseed_repack.specs.declared.fault.RepackFault.{RepackFault}
 use Rattle.mseed_repack.specs.declared.fault.RepackFault.TheVariants.{Stream, Broken as BrokenChannel, Misfit, Write}
 use Rattle.mseed_repack.specs.declared.fault.RepackFault.TheVariants.{Memory}

@@ -17,7 +17,7 @@ use Rattle.mseed_steim.specs.Samples.{AreEnds, BeginsWith, IsPayloadReading, byt
 use Rattle.mseed_steim.specs.Spelling.{IsWithin}
 use Rattle.mseed_steim.proofs.Rows.{within_wider}
 use Rattle.mseed_pack.specs.Stretches.{differences_from}
-use Rattle.mseed_repack.specs.Outline.{AreNear, IsKnown, last_behind}
+use Rattle.mseed_repack.specs.private.Outline.{AreNear, IsKnown, last_behind}
 use Rattle.mseed_repack.specs.declared.outline.Nearness.TheVariants.{Near}
 
 zero_near : IsWithin 30 (pos 0)

@@ -12,8 +12,8 @@ use Rattle.mseed_audit.specs.Series.{Trace, step_at}
 use Rattle.mseed_audit.proofs.Joined.{count_is}
 use Rattle.mseed_pack.specs.Fitting.{Fits}
 use Rattle.mseed_pack.specs.declared.options.Options.{Options}
-use Rattle.mseed_repack.specs.Outline.{AreHeld, IsKnown, IsOutline, with_samples}
-use Rattle.mseed_repack.specs.Reading.{AreOf, step_count}
+use Rattle.mseed_repack.specs.private.Outline.{AreHeld, IsKnown, IsOutline, with_samples}
+use Rattle.mseed_repack.specs.private.Reading.{AreOf, step_count}
 use Rattle.mseed_repack.specs.declared.outline.Nearness.{Nearness}
 use Rattle.mseed_repack.specs.declared.outline.Nearness.TheVariants.{Empty}
 use Rattle.mseed_repack.proofs.Near.{whole_within}

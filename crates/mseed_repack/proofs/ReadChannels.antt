@@ -13,7 +13,7 @@ use Rattle.mseed_audit.specs.Judging.{step_in}
 use Rattle.mseed_audit.specs.Series.{AreSteps, step_at}
 use Rattle.mseed_audit.proofs.Joined.{count_is, holds_more, holds_none}
 use Rattle.mseed_audit.proofs.Places.{steps_behind, steps_kept}
-use Rattle.mseed_repack.specs.Reading.{AreOf, channel_in, samples_of, step_count, steps_of}
+use Rattle.mseed_repack.specs.private.Reading.{AreOf, channel_in, samples_of, step_count, steps_of}
 
 -- what of the lists was read of these records
 pub record IsRead (key : List ℕ) (vs : List View) (m k : ℕ) (samples : List ℤ) (steps : List (ℕ × LeapStep)) : Type

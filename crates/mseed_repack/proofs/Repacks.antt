@@ -32,7 +32,7 @@ use Rattle.mseed_pack.specs.declared.fault.PackFault.{PackFault}
 use Rattle.mseed_pack.specs.declared.options.Options.{Options}
 use Rattle.mseed_repack.specs.Repack.{Channel, AreContinuous, ArePackedInto, CanBePacked, CantBePacked, IsFirst}
 use Rattle.mseed_repack.specs.Repack.{IsPartPacked, Wrote, more, none, records_in}
-use Rattle.mseed_repack.specs.Repacking.{FailsToPack, FailsToPackOne, IsPackedInPart, IsPackedWhole}
+use Rattle.mseed_repack.specs.private.Repacking.{FailsToPack, FailsToPackOne, IsPackedInPart, IsPackedWhole}
 use Rattle.mseed_repack.specs.declared.fault.RepackFault.{RepackFault}
 use Rattle.mseed_repack.specs.declared.fault.RepackFault.TheVariants.{Stream, Broken, Misfit, Write, Memory}
 

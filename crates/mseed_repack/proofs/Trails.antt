@@ -19,7 +19,7 @@ use Rattle.mseed_audit.specs.Channels.{is_of, same_key}
 use Rattle.mseed_audit.proofs.Behind.{kept_next}
 use Rattle.mseed_audit.proofs.Maps.{same_back, same_is}
 use Rattle.mseed_repack.specs.Repack.{Channel}
-use Rattle.mseed_repack.specs.Trails.{AreTrails, AreTrailsFrom, IsTrail, IsTrailFrom, Skips}
+use Rattle.mseed_repack.specs.private.Trails.{AreTrails, AreTrailsFrom, IsTrail, IsTrailFrom, Skips}
 
 -- the channel at an index is below each behind it
 less_at : (key : List ℕ) (cs : List Channel) → AllByRecursion (λ k. slice_cmp nat_cmp key k ≡ Less) (keys_of cs)

@@ -15,7 +15,7 @@ use Rattle.mseed_audit.specs.Channels.{added_from}
 use Rattle.mseed_audit.specs.Verdict.{AreVerdicts}
 use Rattle.mseed_pack.specs.declared.options.Options.{Options}
 use Rattle.mseed_repack.specs.Repack.{AreContinuous, Channel, IsArchiveOf, IsRepacking}
-use Rattle.mseed_repack.specs.Repacking.{FailsToPackAnew, IsFirstBroken, IsPackedAnew}
+use Rattle.mseed_repack.specs.private.Repacking.{FailsToPackAnew, IsFirstBroken, IsPackedAnew}
 use Rattle.mseed_repack.specs.declared.fault.RepackFault.{RepackFault}
 use Rattle.mseed_repack.specs.declared.fault.RepackFault.TheVariants.{Stream, Broken, Misfit, Write, Memory}
 

@@ -11,9 +11,9 @@ ghost use Rattle.mseed_steim.specs.Spelling.{IsWithin};
 ghost use Rattle.mseed_audit.specs.Follows.{IsSound};
 ghost use Rattle.mseed_audit.specs.Judging.{step_in};
 ghost use Rattle.mseed_audit.specs.Series.{step_at};
-ghost use Rattle.mseed_repack.specs.Outline.{AreHeld, AreNear, IsKnown, IsOutline, is_held};
-ghost use Rattle.mseed_repack.specs.Reading.{channel_in, samples_of, step_count, steps_of};
-ghost use Rattle.mseed_repack.specs.Trails.{IsTrail};
+ghost use Rattle.mseed_repack.specs.private.Outline.{AreHeld, AreNear, IsKnown, IsOutline, is_held};
+ghost use Rattle.mseed_repack.specs.private.Reading.{channel_in, samples_of, step_count, steps_of};
+ghost use Rattle.mseed_repack.specs.private.Trails.{IsTrail};
 
 use crate::reading::put_step;
 use crate::trail::Trail;

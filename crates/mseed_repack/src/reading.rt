@@ -7,8 +7,8 @@ ghost use Rattle.mseed_steim.specs.Reading.{count_of, IsWhole};
 ghost use Rattle.mseed_audit.specs.Follows.{IsSound};
 ghost use Rattle.mseed_audit.specs.Judging.{step_in};
 ghost use Rattle.mseed_audit.specs.Series.{AreSteps, step_at};
-ghost use Rattle.mseed_repack.specs.Reading.{AreOf, channel_in, samples_of, step_count, steps_of};
-ghost use Rattle.mseed_repack.specs.Trails.{IsTrail};
+ghost use Rattle.mseed_repack.specs.private.Reading.{AreOf, channel_in, samples_of, step_count, steps_of};
+ghost use Rattle.mseed_repack.specs.private.Trails.{IsTrail};
 
 use crate::trail::Trail;
 use mseed_audit::is_of;

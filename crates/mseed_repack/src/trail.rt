@@ -9,7 +9,7 @@ ghost use Rattle.mseed_record.specs.Viewing.{view_of};
 ghost use Rattle.mseed_record.specs.declared.view.RecordView.{RecordView};
 ghost use Rattle.mseed_audit.specs.Channels.{same_key};
 ghost use Rattle.mseed_repack.specs.Repack.{Channel};
-ghost use Rattle.mseed_repack.specs.Trails.{AreTrails, AreTrailsFrom};
+ghost use Rattle.mseed_repack.specs.private.Trails.{AreTrails, AreTrailsFrom};
 
 use mseed_audit::Verdict;
 use mseed_record::{Codes, RecordView};

@@ -10,7 +10,7 @@ use Rattle.slink_feed.specs.declared.turn.LinkFault.TheVariants as faults
 use Rattle.slink_feed.specs.declared.turn.Turn.TheVariants as turns
 use Rattle.slink_feed.specs.Attending.{Attends, GoesOn, IsServeFault, RepliesToAll, at_read, at_reply, at_send}
 use Rattle.slink_feed.specs.Attending.{attending, is_at_end, is_closed, replies}
-use Rattle.slink_feed.specs.Replying.{HasSent, IsReplyFault, IsSendFault}
+use Rattle.slink_feed.specs.private.Replying.{HasSent, IsReplyFault, IsSendFault}
 use Rattle.slink_feed.specs.Rounds.{Attending}
 use Rattle.slink_feed.specs.Serving.{Standing}
 use Rattle.slink_feed.specs.Turns.{failed_once, is_empty, told_once}

@@ -10,7 +10,7 @@ use Rattle.slink_feed.specs.declared.fetching.Counts.{Counts}
 use Rattle.slink_feed.specs.declared.turn.LinkFault.{LinkFault}
 use Rattle.slink_feed.specs.declared.turn.LinkFault.TheVariants as faults
 use Rattle.slink_feed.specs.declared.turn.Turn.TheVariants as turns
-use Rattle.slink_feed.specs.Delivery.{IsDelivered, IsUndelivered, IsUnwritten, FailsToOutput}
+use Rattle.slink_feed.specs.private.Delivery.{IsDelivered, IsUndelivered, IsUnwritten, FailsToOutput}
 use Rattle.slink_feed.specs.Fetching.{Delivers, FailsAt, Fetches, Fetching, ReadsOn, Takes, bytes_told, joined_by}
 use Rattle.slink_feed.specs.Fetching.{line_written, lines_written, record_told}
 use Rattle.slink_feed.specs.Listening.{Brings, IsLinked, Listening, Reads, telling}

@@ -7,7 +7,7 @@ use Rattle.slink_wire.specs.Hexadecimal.{SaysNumber}
 use Rattle.slink_wire.specs.Packet.{HasHead}
 use Rattle.slink_feed.specs.Cutting.{Begins, IsNoPacket, IsPacketBegun, no_head, nothing, end_begun, head_begun}
 use Rattle.slink_feed.specs.Cutting.{record_begun}
-use Rattle.slink_feed.specs.Parts.{IsDue}
+use Rattle.slink_feed.specs.private.Parts.{IsDue}
 use Rattle.slink_feed.proofs.Prefixes.{get_left}
 
 -- bytes behind the first eight change nothing of them

@@ -11,7 +11,7 @@ use Rattle.slink_feed.specs.declared.dialogue.Event.TheVariants as events
 use Rattle.slink_feed.specs.declared.dialogue.Stage.{Stage}
 use Rattle.slink_feed.specs.declared.dialogue.Stage.TheVariants.{Unlinked, Station, Number, Packets, Ended}
 use Rattle.slink_feed.specs.Cutting.{IsBegun, IsReply, IsWhole, IsWholePacket, IsWholeReply, nothing}
-use Rattle.slink_feed.specs.Parts.{IsPacketPart, IsReplyPart}
+use Rattle.slink_feed.specs.private.Parts.{IsPacketPart, IsReplyPart}
 use Rattle.slink_feed.specs.Dialogue.{Talk, Whole, Reply, Packet, End, Garbage, at_packet, bearer, ended, read}
 use Rattle.slink_feed.specs.Dialogue.{read_at}
 use Rattle.slink_feed.specs.Listening.{AreBrought, AwaitsReply, Brings, Brought, Listening, Reads, begun, bytes_of}

@@ -7,7 +7,7 @@ use Rattle.std.proofs.lemmas.Bool.Decides.{eqb_tells}
 use Rattle.std.proofs.lemmas.List.{nil_from_length}
 use Rattle.std.proofs.lemmas.Option.{slice_get_past}
 use Rattle.slink_feed.specs.Cutting.{IsReply, IsReplyBegun, LacksEnd}
-use Rattle.slink_feed.specs.Parts.{ends_behind, ends_reply}
+use Rattle.slink_feed.specs.private.Parts.{ends_behind, ends_reply}
 use Rattle.slink_feed.proofs.Prefixes.{get_left, get_here}
 
 same_byte : (a b : ℕ) → (a == b) ≡ true → a ≡ b

@@ -12,8 +12,9 @@ use Rattle.slink_feed.specs.declared.session.Sent.TheVariants as sents
 use Rattle.slink_feed.specs.declared.turn.LinkFault.{LinkFault}
 use Rattle.slink_feed.specs.declared.turn.LinkFault.TheVariants as faults
 use Rattle.slink_feed.specs.Attending.{RepliesToAll}
-use Rattle.slink_feed.specs.Replying.{HasFailed, HasSent, IsReplyFault, IsWritten, IsSayFault, IsSendFault, IsUnwritten}
-use Rattle.slink_feed.specs.Replying.{waits_after}
+use Rattle.slink_feed.specs.private.Replying.{HasFailed, HasSent, IsReplyFault, IsWritten, IsSayFault, IsSendFault}
+use Rattle.slink_feed.specs.private.Replying.{IsUnwritten}
+use Rattle.slink_feed.specs.private.Replying.{waits_after}
 use Rattle.slink_feed.specs.Rounds.{Attending, FailsToSend, Gives, HasWaited, all_sent, place_behind}
 use Rattle.slink_feed.specs.Serving.{Serves, Standing, Takes, none_served, piece_served}
 use Rattle.slink_feed.specs.Session.{State, sent, sent_bytes}

@@ -6,7 +6,6 @@ pub mod Session
 pub mod Serving
 pub mod Dialogue
 pub mod Cutting
-pub mod Parts
 pub mod Listening
 pub mod Delivered
 pub mod Holding
@@ -15,8 +14,7 @@ pub mod Sending
 pub mod Running
 pub mod Turns
 pub mod Fetching
-pub mod Delivery
 pub mod Rounds
 pub mod Attending
-pub mod Replying
 pub mod Connection
+pub mod private

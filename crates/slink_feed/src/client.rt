@@ -3,7 +3,7 @@ ghost use Rattle.std.specs.Prelude.{◌≡◌, ◌≢◌, ◌++◌, ◌≤◌, �
 ghost use Rattle.std.specs.Bool.{OnFalse, OnTrue};
 ghost use Rattle.slink_wire.specs.Packet.{HasHead, IsPacket};
 ghost use Rattle.slink_feed.specs.Cutting.{IsReply};
-ghost use Rattle.slink_feed.specs.Parts.{IsPacketPart, IsReplyPart};
+ghost use Rattle.slink_feed.specs.private.Parts.{IsPacketPart, IsReplyPart};
 ghost use Rattle.slink_feed.specs.declared.dialogue.Ending.{Ending};
 ghost use Rattle.slink_feed.specs.declared.dialogue.Event.{Event};
 ghost use Rattle.slink_feed.specs.Dialogue.{AreNumbers, Talk, at_packet, bearer, event_of, next_at, says_place};

@@ -2,7 +2,7 @@
 ghost use Rattle.std.specs.Prelude.{◌≡◌, ℕ, ◌+◌, ◌<◌, ◌≤◌, List, [], ◌∷◌, ◌++◌, IfOk, length, take};
 ghost use Rattle.slink_wire.specs.Packet.{HasHead};
 ghost use Rattle.slink_feed.specs.Cutting.{Begins, IsPacketBegun, IsReplyBegun};
-ghost use Rattle.slink_feed.specs.Parts.{IsDue, IsPacketPart, IsReplyPart, ends_reply};
+ghost use Rattle.slink_feed.specs.private.Parts.{IsDue, IsPacketPart, IsReplyPart, ends_reply};
 
 use arrayvec::ArrayVec;
 use slink_wire::Packet;

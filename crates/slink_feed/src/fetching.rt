@@ -2,7 +2,7 @@
 ghost use Rattle.std.specs.Prelude.{◌≡◌, ◌≤◌, ◌^◌, [], IfErr, IfOk, OnOk, length};
 ghost use Rattle.std.specs.Bool.{OnFalse, OnTrue};
 ghost use Rattle.slink_feed.specs.Fetching.{Delivers, FailsAt, Fetches, IsFetchFault, fetching};
-ghost use Rattle.slink_feed.specs.Delivery.{IsDelivered, IsUndelivered};
+ghost use Rattle.slink_feed.specs.private.Delivery.{IsDelivered, IsUndelivered};
 ghost use Rattle.slink_feed.specs.Listening.{Reads};
 
 use crate::client::Client;

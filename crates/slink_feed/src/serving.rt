@@ -1,7 +1,8 @@
 //! One turn of a session with its link.
 ghost use Rattle.std.specs.Prelude.{◌≡◌, ◌≤◌, ◌<◌, IfErr, IfOk, OnOk, length};
 ghost use Rattle.slink_feed.specs.Attending.{Attends, IsServeFault, RepliesToAll, attending};
-ghost use Rattle.slink_feed.specs.Replying.{HasSent, IsReplyFault, IsWritten, IsSayFault, IsSendFault, waits_after};
+ghost use Rattle.slink_feed.specs.private.Replying.{HasSent, IsReplyFault, IsWritten, IsSayFault, IsSendFault};
+ghost use Rattle.slink_feed.specs.private.Replying.{waits_after};
 ghost use Rattle.slink_feed.specs.Rounds.{place_behind};
 ghost use Rattle.slink_feed.specs.Running.{Stands};
 ghost use Rattle.slink_feed.specs.Session.{Fits};

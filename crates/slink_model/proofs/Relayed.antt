@@ -32,7 +32,7 @@ use Rattle.mseed_pack.specs.Fitting.{Fits}
 use Rattle.mseed_pack.specs.Packing.{IsPacking}
 use Rattle.slink_model.specs.declared.relaying.RelayFault.{RelayFault}
 use Rattle.slink_model.specs.declared.relaying.RelayFault.TheVariants as faults
-use Rattle.slink_model.specs.Relaying.{IsAmong, IsOfRecords, IsPackedAs}
+use Rattle.slink_model.specs.private.Relaying.{IsAmong, IsOfRecords, IsPackedAs}
 
 -- by index, and one after another
 module _ {X : Type 0} (P : X → Type 0) where

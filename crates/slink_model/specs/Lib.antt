@@ -9,5 +9,4 @@ pub mod Going
 pub mod Counted
 pub mod Whole
 pub mod Relay
-pub mod Relaying
-pub mod Keeping
+pub mod private

@@ -11,7 +11,7 @@ pub struct Kept<A: Allocator> {
 }
 
 impl<A: Allocator> Kept<A> {
-    ghost use Rattle.slink_model.specs.Keeping.{written_by};
+    ghost use Rattle.slink_model.specs.private.Keeping.{written_by};
     ghost use Rattle.mseed_stream.specs.Device.{nothing_written};
     ghost use Rattle.std.specs.Prelude.{◌≡◌};
 
@@ -27,7 +27,7 @@ impl<A: Allocator> Kept<A> {
 }
 
 impl<A: Allocator> Sink for Kept<A> {
-    ghost use Rattle.slink_model.specs.Keeping.{written_by};
+    ghost use Rattle.slink_model.specs.private.Keeping.{written_by};
 
     ghost written = { written_by };
 

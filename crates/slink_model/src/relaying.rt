@@ -8,7 +8,7 @@ ghost use Rattle.slink_feed.specs.Dialogue.{AreNumbers};
 ghost use Rattle.slink_feed.specs.Fault.{IsCapacity};
 ghost use Rattle.slink_model.specs.World.{lists_of};
 ghost use Rattle.slink_model.specs.Relay.{ComesThrough, IsHeldAs, IsOfChannel, IsOfOne, IsRelay, fed};
-ghost use Rattle.slink_model.specs.Relaying.{FailsToPackAll, IsAmong, IsOfRecords, IsPackedAs};
+ghost use Rattle.slink_model.specs.private.Relaying.{FailsToPackAll, IsAmong, IsOfRecords, IsPackedAs};
 ghost use Rattle.slink_model.specs.declared.world.Step.{Step};
 ghost use Rattle.slink_model.specs.declared.relaying.RelayFault.{RelayFault};
 

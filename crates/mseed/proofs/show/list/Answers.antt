@@ -2,7 +2,7 @@ use Rattle.std.proofs.Common.{◌≡◌, ◌++◌, ◌∷◌, [], ◌∙◌, ℕ
 use Rattle.std.proofs.lemmas.List.{append-nil, length-append}
 use Rattle.mseed_record.specs.View.{View}
 use Rattle.mseed_stream.specs.Device.{BytesRead, BytesWritten}
-use Rattle.mseed.specs.Gathering.{AreGathered}
+use Rattle.mseed.specs.private.Gathering.{AreGathered}
 use Rattle.mseed.specs.Listing.{record_line, record_lines}
 use Rattle.mseed.specs.Show.{IsShown}
 use Rattle.mseed.specs.declared.ending.ShowFault.{ShowFault}

@@ -2,7 +2,7 @@ use Rattle.std.proofs.Common.{◌≡◌, ◌+◌, ◌-◌, ◌^◌, ◌≤◌, L
 use Rattle.mseed_record.specs.View.{View}
 use Rattle.mseed_stream.specs.Cutting.{IsAlong}
 use Rattle.mseed_stream.specs.Walk.{HasHandedOut}
-use Rattle.mseed.specs.Gathering.{AreGathered}
+use Rattle.mseed.specs.private.Gathering.{AreGathered}
 use Rattle.mseed.specs.Listing.{record_lines}
 use Rattle.mseed.proofs.show.list.Given as goal
 

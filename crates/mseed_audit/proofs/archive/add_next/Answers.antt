@@ -5,7 +5,7 @@ use Rattle.mseed_stream.specs.Device.{BytesRead}
 use Rattle.mseed_stream.specs.Walk.{HasHandedOut}
 use Rattle.mseed_audit.specs.Channels.{Added, added_from}
 use Rattle.mseed_audit.specs.Audit.{IsAuditOf}
-use Rattle.mseed_audit.specs.Gathered.{IsToldMore}
+use Rattle.mseed_audit.specs.private.Gathered.{IsToldMore}
 use Rattle.mseed_audit.proofs.Views.{added_more}
 use Rattle.mseed_audit.proofs.archive.add_next.Goals as goal
 

@@ -8,7 +8,7 @@ use Rattle.mseed_audit.specs.declared.tail.Tail.{Tail}
 use Rattle.mseed_audit.specs.declared.finding.Why.{Why}
 use Rattle.mseed_audit.specs.Judging.{known_rate, IsFound, read}
 use Rattle.mseed_audit.specs.Audit.{IsTailOf}
-use Rattle.mseed_audit.specs.Kept.{IsTailBefore}
+use Rattle.mseed_audit.specs.private.Kept.{IsTailBefore}
 use Rattle.mseed_audit.proofs.Judged.{after_none, after_some, found_whole}
 use Rattle.mseed_audit.proofs.channel.judge.Goals as goal
 use Rattle.mseed_audit.proofs.channel.judge.Goals.{in-Ok-check_samples+in-Some, in-Ok-check_samples+in-None}

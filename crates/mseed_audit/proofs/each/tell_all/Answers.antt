@@ -3,7 +3,7 @@ use Rattle.std.proofs.KnownBytes.{Consumes-nil}
 use Rattle.mseed_record.specs.View.{View}
 use Rattle.mseed_stream.specs.Device.{BytesRead, BytesWritten}
 use Rattle.mseed_audit.specs.declared.each.EachFault.{EachFault}
-use Rattle.mseed_audit.specs.Gathered.{AreGathered}
+use Rattle.mseed_audit.specs.private.Gathered.{AreGathered}
 use Rattle.mseed_audit.specs.Told.{Told, none}
 use Rattle.mseed_audit.proofs.Gathers.{cut_short, gathered_all, gathered_told, gathered_written, memory_short}
 use Rattle.mseed_audit.proofs.Gathers.{takes_none, takes_on, telling_err}

@@ -4,7 +4,7 @@ use Rattle.mseed_stream.specs.Cutting.{IsAlong, TellsMore}
 use Rattle.mseed_stream.specs.Walk.{HasHandedOut}
 use Rattle.mseed_audit.specs.Audit.{IsAuditOf}
 use Rattle.mseed_audit.specs.Channels.{added_from}
-use Rattle.mseed_audit.specs.Gathered.{AreGathered, TakesMore}
+use Rattle.mseed_audit.specs.private.Gathered.{AreGathered, TakesMore}
 use Rattle.mseed_audit.specs.Text.{told_lines}
 use Rattle.mseed_audit.specs.Told.{Told, AreToldOf}
 use Rattle.mseed_audit.proofs.each.tell_all.Given as goal

@@ -1,7 +1,7 @@
 use Rattle.std.proofs.Common.{◌≤◌, ◌*◌, ◌-◌, length, take}
-use Rattle.mseed_pack.specs.Filling.{HoldsDifferences}
+use Rattle.mseed_pack.specs.private.Filling.{HoldsDifferences}
 use Rattle.mseed_pack.specs.Outcome.{PacksOn}
-use Rattle.mseed_pack.specs.Standing.{StandsAt}
+use Rattle.mseed_pack.specs.private.Standing.{StandsAt}
 use Rattle.mseed_pack.specs.Traces.{trace_of}
 use Rattle.mseed_pack.proofs.batch.gather.Given as goal
 

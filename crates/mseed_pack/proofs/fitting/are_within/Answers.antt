@@ -4,7 +4,7 @@ use Rattle.std.specs.Prelude.{◌↔◌, IsTrue}
 use Rattle.std.proofs.lemmas.Bool.{false≢true}
 use Rattle.std.proofs.lemmas.Int.{to_z-of_z}
 use Rattle.std.proofs.lemmas.List.{take_all}
-use Rattle.mseed_pack.specs.Filling.{IsUnder}
+use Rattle.mseed_pack.specs.private.Filling.{IsUnder}
 use Rattle.mseed_pack.proofs.Misfits.{near_more, near_not}
 use Rattle.mseed_pack.proofs.fitting.are_within.Goals.{then-not-is_within, else-not-is_within}
 use Rattle.mseed_pack.proofs.fitting.are_within.Goals as goal

@@ -1,6 +1,6 @@
 use Rattle.std.proofs.Common.{◌≡◌, ◌-◌, ◌+◌, ℤ, pos, get_or, subst, rules, to_z, of_z, w32}
 use Rattle.std.proofs.lemmas.Int.{to_z-of_z}
-use Rattle.mseed_pack.specs.Filling.{AreSet}
+use Rattle.mseed_pack.specs.private.Filling.{AreSet}
 use Rattle.mseed_pack.proofs.frames.finish.Goals as goal
 
 pub returns-clause-set : goal.returns-clause-set

@@ -5,7 +5,7 @@ use Rattle.std.specs.Prelude.{slice_range}
 use Rattle.std.proofs.Math.Nat.{mul-div-le, mul-le-mul_left}
 use Rattle.std.proofs.lemmas.List.{take_rest}
 use borrow.Rule.Slice.PartMut.{put_mid}
-use Rattle.mseed_pack.specs.Filling.{bytes_in, integer_bytes}
+use Rattle.mseed_pack.specs.private.Filling.{bytes_in, integer_bytes}
 use Rattle.mseed_pack.proofs.Filled.{length_part}
 use Rattle.mseed_pack.proofs.Numbers.{one_more, flat_more, length_flat}
 use Rattle.mseed_pack.proofs.integers.fill_integers.Goals as goal

@@ -1,7 +1,7 @@
 use Rattle.std.proofs.Common.{◌≡◌, ◌+◌, ◌*◌, ◌++◌, ℤ, drop}
 use Rattle.std.specs.List.{flat_map}
 use Rattle.std.specs.Prelude.{slice_range}
-use Rattle.mseed_pack.specs.Filling.{bytes_in, integer_bytes}
+use Rattle.mseed_pack.specs.private.Filling.{bytes_in, integer_bytes}
 use Rattle.mseed_pack.proofs.integers.fill_integers.Given as goal
 
 abbrev pub invariant-loop-index : goal.invariant-loop-index

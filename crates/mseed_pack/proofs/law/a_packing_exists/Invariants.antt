@@ -1,7 +1,7 @@
 use Rattle.std.proofs.Common.{◌≡◌, ◌-◌, length, drop, List, ℕ}
-use Rattle.mseed_pack.specs.Filling.{HoldsDifferences}
+use Rattle.mseed_pack.specs.private.Filling.{HoldsDifferences}
 use Rattle.mseed_pack.specs.Packing.{PacksUpTo}
-use Rattle.mseed_pack.specs.Standing.{StandsAt}
+use Rattle.mseed_pack.specs.private.Standing.{StandsAt}
 use Rattle.mseed_pack.specs.Traces.{trace_of}
 use Rattle.mseed_pack.proofs.law.a_packing_exists.Given as goal
 

@@ -1,7 +1,7 @@
 use Rattle.std.proofs.Common.{◌≡◌, ◌-◌, length}
-use Rattle.mseed_pack.specs.Filling.{HoldsDifferences}
+use Rattle.mseed_pack.specs.private.Filling.{HoldsDifferences}
 use Rattle.mseed_pack.specs.Outcome.{TookSo}
-use Rattle.mseed_pack.specs.Standing.{StandsAt}
+use Rattle.mseed_pack.specs.private.Standing.{StandsAt}
 use Rattle.mseed_pack.specs.Traces.{trace_of}
 use Rattle.mseed_pack.proofs.Taken.{TakesMore}
 use Rattle.mseed_pack.proofs.packing.pack_through.Given as goal

@@ -1,7 +1,7 @@
 use Rattle.std.proofs.Common.{◌≡◌, ◌++◌, ℤ, ◌-ℤ◌, refl, sym, subst, rules, to_z, of_z, w32}
 use Rattle.std.proofs.lemmas.Int.{to_z-of_z}
 use Rattle.mseed_steim.specs.Spelling.{IsWithin}
-use Rattle.mseed_repack.specs.Outline.{IsKnown}
+use Rattle.mseed_repack.specs.private.Outline.{IsKnown}
 use Rattle.mseed_repack.specs.declared.outline.Nearness.{Nearness}
 use Rattle.mseed_repack.specs.declared.outline.Nearness.TheVariants.{Near}
 use Rattle.mseed_repack.proofs.Near.{known_first, known_more}

@@ -4,7 +4,7 @@ use Rattle.mseed_record.specs.View.{View}
 use Rattle.mseed_record.specs.Viewing.{view_of}
 use Rattle.mseed_record.specs.declared.view.RecordView.{RecordView}
 use Rattle.mseed_audit.proofs.Behind.{kept_next, sound_at}
-use Rattle.mseed_repack.specs.Reading.{channel_in, samples_of, steps_of}
+use Rattle.mseed_repack.specs.private.Reading.{channel_in, samples_of, steps_of}
 use Rattle.mseed_repack.proofs.ReadChannels.{samples_append, samples_prefix, steps_append, steps_prefix}
 use Rattle.mseed_repack.proofs.Outlines.{IsOutlined, outline_is, outlined_more, outlined_none}
 use Rattle.mseed_repack.specs.declared.outline.Nearness.TheVariants.{Empty}

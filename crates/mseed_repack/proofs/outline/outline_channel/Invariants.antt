@@ -1,6 +1,6 @@
 use Rattle.std.proofs.Common.{◌-◌, length, map, take}
 use Rattle.mseed_record.specs.Viewing.{view_of}
-use Rattle.mseed_repack.specs.Reading.{channel_in}
+use Rattle.mseed_repack.specs.private.Reading.{channel_in}
 use Rattle.mseed_repack.proofs.Outlines.{IsOutlined}
 use Rattle.mseed_repack.proofs.outline.outline_channel.Given as goal
 

@@ -4,7 +4,7 @@ use Rattle.mseed_record.specs.View.{View}
 use Rattle.mseed_record.specs.Viewing.{view_of}
 use Rattle.mseed_record.specs.declared.view.RecordView.{RecordView}
 use Rattle.mseed_audit.proofs.Behind.{kept_next, sound_at}
-use Rattle.mseed_repack.specs.Reading.{AreOf, channel_in, samples_of, steps_of}
+use Rattle.mseed_repack.specs.private.Reading.{AreOf, channel_in, samples_of, steps_of}
 use Rattle.mseed_repack.proofs.ReadChannels.{IsRead, read_none, read_more, samples_append, samples_prefix, steps_append}
 use Rattle.mseed_repack.proofs.ReadChannels.{steps_prefix}
 use Rattle.mseed_repack.proofs.reading.read_channel.Goals as goal

@@ -1,8 +1,8 @@
 use Rattle.std.proofs.Common.{◌≤◌, arith, length, map}
 use Rattle.mseed_record.specs.Viewing.{view_of}
-use Rattle.mseed_repack.specs.Reading.{samples_written}
+use Rattle.mseed_repack.specs.private.Reading.{samples_written}
 use Rattle.mseed_repack.specs.Repack.{Channel, CanBePacked}
-use Rattle.mseed_repack.specs.Repacking.{IsJudged}
+use Rattle.mseed_repack.specs.private.Repacking.{IsJudged}
 use Rattle.mseed_repack.proofs.Judged.{at_each}
 use Rattle.mseed_repack.proofs.Repacks.{all_passed, fit_next, misfit_at}
 use Rattle.mseed_repack.proofs.Trails.{trail_of}

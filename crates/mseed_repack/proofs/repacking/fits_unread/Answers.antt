@@ -4,7 +4,7 @@ use Rattle.mseed_record.specs.Viewing.{view_of}
 use Rattle.mseed_audit.specs.Series.{Trace}
 use Rattle.mseed_audit.proofs.Assembled.{all_sound}
 use Rattle.mseed_pack.specs.Traces.{trace_of}
-use Rattle.mseed_repack.specs.Outline.{with_samples}
+use Rattle.mseed_repack.specs.private.Outline.{with_samples}
 use Rattle.mseed_repack.proofs.Judged.{prefix_places, written_is}
 use Rattle.mseed_repack.proofs.Outlines.{fits_with}
 use Rattle.mseed_repack.proofs.repacking.fits_unread.Goals as goal

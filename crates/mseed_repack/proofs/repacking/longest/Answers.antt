@@ -1,6 +1,6 @@
 use Rattle.std.proofs.Common.{◌≤◌, arith}
 use Rattle.mseed_steim.proofs.Fullest.{max_is}
-use Rattle.mseed_repack.specs.Reading.{samples_written}
+use Rattle.mseed_repack.specs.private.Reading.{samples_written}
 use Rattle.mseed_repack.specs.Repack.{Channel}
 use Rattle.mseed_repack.proofs.Judged.{room_more}
 use Rattle.mseed_repack.proofs.Repacks.{all_passed}

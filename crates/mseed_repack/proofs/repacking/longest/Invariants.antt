@@ -1,5 +1,5 @@
 use Rattle.std.proofs.Common.{◌≤◌, take, All}
-use Rattle.mseed_repack.specs.Reading.{samples_written}
+use Rattle.mseed_repack.specs.private.Reading.{samples_written}
 use Rattle.mseed_repack.specs.Repack.{Channel}
 use Rattle.mseed_repack.proofs.repacking.longest.Given as goal
 

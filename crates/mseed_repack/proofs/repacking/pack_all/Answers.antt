@@ -2,9 +2,9 @@ use Rattle.std.proofs.Common.{◌≤◌, List, arith, length, map, sym, subst}
 use Rattle.mseed_record.specs.View.{View}
 use Rattle.mseed_record.specs.Viewing.{view_of}
 use Rattle.mseed_stream.specs.Device.{BytesWritten}
-use Rattle.mseed_repack.specs.Reading.{samples_written}
+use Rattle.mseed_repack.specs.private.Reading.{samples_written}
 use Rattle.mseed_repack.specs.Repack.{CanBePacked, Channel}
-use Rattle.mseed_repack.specs.Repacking.{FailsToPack, IsJudged}
+use Rattle.mseed_repack.specs.private.Repacking.{FailsToPack, IsJudged}
 use Rattle.mseed_repack.specs.declared.fault.RepackFault.{RepackFault}
 use Rattle.mseed_repack.proofs.Judged.{at_each}
 use Rattle.mseed_repack.proofs.Repacks.{fails_next, of_each, wrote_next, wrote_none}

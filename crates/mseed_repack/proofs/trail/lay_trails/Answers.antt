@@ -1,5 +1,5 @@
 use Rattle.std.proofs.Common.{◌≡◌, ℕ, ◌+◌, ◌-◌, ◌<◌, length, subst, arith}
-use Rattle.mseed_repack.specs.Trails.{AreTrailsFrom}
+use Rattle.mseed_repack.specs.private.Trails.{AreTrailsFrom}
 use Rattle.mseed_repack.proofs.Trails.{trails_none}
 use Rattle.mseed_repack.proofs.trail.lay_trails.Goals as goal
 

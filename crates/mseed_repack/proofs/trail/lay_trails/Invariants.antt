@@ -1,5 +1,5 @@
 use Rattle.std.proofs.Common.{◌≡◌, ◌-◌, length}
-use Rattle.mseed_repack.specs.Trails.{AreTrailsFrom}
+use Rattle.mseed_repack.specs.private.Trails.{AreTrailsFrom}
 use Rattle.mseed_repack.proofs.trail.lay_trails.Given as goal
 
 abbrev pub invariant-loop-turn : goal.invariant-loop-turn

@@ -1,6 +1,6 @@
 use Rattle.std.proofs.Common.{◌-◌, ◌<◌, subst, arith, take, drop, length}
 use Rattle.std.proofs.lemmas.List.{length-drop, length-take}
-use Rattle.slink_feed.specs.Parts.{IsPacketPart}
+use Rattle.slink_feed.specs.private.Parts.{IsPacketPart}
 use Rattle.slink_feed.specs.declared.cutting.Part.{Part}
 use Rattle.slink_feed.proofs.Prefixes.{took_more}
 use Rattle.slink_feed.proofs.cutting.take_packet.Goals as goal

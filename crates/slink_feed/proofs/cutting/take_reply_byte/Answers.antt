@@ -1,6 +1,6 @@
 use Rattle.std.proofs.Common.{ℕ, ap, sym, subst, ◌∙◌, arith, List}
 use Rattle.slink_feed.specs.Cutting.{IsReply, LacksEnd}
-use Rattle.slink_feed.specs.Parts.{ends_reply}
+use Rattle.slink_feed.specs.private.Parts.{ends_reply}
 use Rattle.slink_feed.proofs.Replies.{lacks_more, whole_reply}
 use Rattle.slink_feed.proofs.cutting.take_reply_byte.Goals as goal
 

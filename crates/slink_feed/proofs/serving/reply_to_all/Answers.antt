@@ -2,7 +2,7 @@ use Rattle.std.proofs.Common.{◌≡◌, ◌-◌, ◌∙◌, arith, refl, subst,
 use Rattle.std.proofs.lemmas.Result.{err_from_is_err_and}
 use Rattle.slink_wire.specs.Reply.{reply_bytes}
 use Rattle.slink_feed.specs.Attending.{attending}
-use Rattle.slink_feed.specs.Replying.{IsReplyFault, IsWritten, IsSayFault}
+use Rattle.slink_feed.specs.private.Replying.{IsReplyFault, IsWritten, IsSayFault}
 use Rattle.slink_feed.specs.Rounds.{Attending}
 use Rattle.slink_feed.proofs.Deliveries.{piece_length}
 use Rattle.slink_feed.proofs.Sendoffs.{not_replied, nothing_replied, one_replied, passed_on}

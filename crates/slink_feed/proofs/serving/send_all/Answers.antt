@@ -4,7 +4,7 @@ use Rattle.std.proofs.lemmas.Result.{err_from_is_err_and}
 use Rattle.slink_feed.specs.declared.session.Sent.{Sent}
 use Rattle.slink_feed.specs.declared.session.Sent.TheVariants as sents
 use Rattle.slink_feed.specs.Attending.{attending}
-use Rattle.slink_feed.specs.Replying.{IsWritten, IsSayFault, IsSendFault, waits_after}
+use Rattle.slink_feed.specs.private.Replying.{IsWritten, IsSayFault, IsSendFault, waits_after}
 use Rattle.slink_feed.specs.Rounds.{Attending, place_behind}
 use Rattle.slink_feed.specs.Session.{State, sent, sent_bytes}
 use Rattle.slink_feed.specs.Window.{Window}

@@ -1,5 +1,5 @@
 use Rattle.std.proofs.Common.{ℕ, List, Ok, subst}
-use Rattle.slink_model.specs.Relaying.{IsOfRecords}
+use Rattle.slink_model.specs.private.Relaying.{IsOfRecords}
 use Rattle.slink_model.proofs.Relayed.{empty_is, part_held, records_among, some_are}
 use Rattle.slink_model.proofs.relaying.put_together.Goals as goal
 

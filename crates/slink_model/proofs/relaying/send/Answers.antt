@@ -1,7 +1,7 @@
 use Rattle.std.proofs.Common.{◌≡◌, ◌∙◌, ◌^◌, ℕ, List, arith}
 use Rattle.slink_model.specs.World.{seen}
 use Rattle.slink_model.specs.Relay.{ComesThrough, IsHeldAs, fed}
-use Rattle.slink_model.specs.Relaying.{IsAmong}
+use Rattle.slink_model.specs.private.Relaying.{IsAmong}
 use Rattle.slink_model.proofs.Relayed.{came, fed_are_of, fed_few, held_among, held_are_few, if_ok}
 use Rattle.slink_model.proofs.relaying.send.Goals as goal
 

@@ -5,7 +5,7 @@ use Rattle.mseed_steim.specs.Reading.{count_of}
 use Rattle.mseed_audit.specs.declared.verdict.Verdict.{Verdict}
 use Rattle.mseed_audit.specs.Channels.{Placed}
 use Rattle.mseed_audit.specs.Judging.{IsFound}
-use Rattle.mseed_audit.specs.Kept.{with_samples}
+use Rattle.mseed_audit.specs.private.Kept.{with_samples}
 use Rattle.mseed_audit.specs.Verdict.{IsVerdict}
 use Rattle.mseed_audit.proofs.Findings.{verdict_found, verdict_whole, tail_before}
 use Rattle.mseed_audit.proofs.Lasts.{found_last}

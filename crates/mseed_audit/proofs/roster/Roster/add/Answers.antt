@@ -8,7 +8,7 @@ use Rattle.mseed_record.specs.Viewing.{view_of}
 use Rattle.mseed_audit.specs.declared.channel.Channel.{Channel}
 use Rattle.mseed_audit.specs.Channels.{Placed, same_key, with_record}
 use Rattle.mseed_audit.specs.Audit.{StandsAt}
-use Rattle.mseed_audit.specs.Kept.{AreBounded, ArePlaces, IsBounded, IsPlace, place_of}
+use Rattle.mseed_audit.specs.private.Kept.{AreBounded, ArePlaces, IsBounded, IsPlace, place_of}
 use Rattle.mseed_audit.proofs.Counts.{within_more}
 use Rattle.mseed_audit.proofs.Rosters.{bounded_at, bounded_where, found_at, kept_where, none_there, place_set}
 use Rattle.mseed_audit.proofs.Rosters.{place_within, places_set, set_bounded, set_found, set_stands}

@@ -7,7 +7,7 @@ use Rattle.std.specs.Cmp.Lexicographic.{slice_cmp}
 use Rattle.mseed_audit.specs.declared.channel.Channel.{Channel}
 use Rattle.mseed_audit.specs.declared.verdict.Verdict.{Verdict}
 use Rattle.mseed_audit.specs.Channels.{same_key}
-use Rattle.mseed_audit.specs.Kept.{verdict_in}
+use Rattle.mseed_audit.specs.private.Kept.{verdict_in}
 use Rattle.mseed_audit.proofs.Rosters.{verdict_each, verdict_keys, verdicts_at, verdicts_next}
 use Rattle.mseed_audit.proofs.roster.Roster.into_verdicts.Goals as goal
 

@@ -3,7 +3,7 @@ use Rattle.std.specs.Prelude.{◌≡◌, ℕ, ◌+◌, ◌<◌, ◌≤◌, List,
 use Rattle.mseed_record.specs.Viewing.{view_of}
 use Rattle.mseed_record.specs.declared.view.RecordView.{RecordView}
 use Rattle.mseed_audit.specs.Channels.{is_of}
-use Rattle.mseed_repack.specs.Reading.{channel_in}
+use Rattle.mseed_repack.specs.private.Reading.{channel_in}
 use Rattle.mseed_repack.specs.Repack.{Channel}
 
 -- of the records from one index up to another none is of the channel with this key

@@ -9,7 +9,7 @@ use Rattle.mseed_pack.specs.Fitting.{IsDifferenceOf, IsSampleOf}
 use Rattle.mseed_pack.specs.Stretches.{differences}
 use Rattle.mseed_pack.specs.declared.options.Encoding.{Encoding}
 use Rattle.mseed_pack.specs.declared.options.Encoding.TheVariants.{Int16, Int32, Steim1, Steim2}
-use Rattle.mseed_repack.specs.Reading.{AreOf}
+use Rattle.mseed_repack.specs.private.Reading.{AreOf}
 use Rattle.mseed_repack.specs.declared.outline.Nearness.{Nearness}
 use Rattle.mseed_repack.specs.declared.outline.Nearness.TheVariants.{Empty, Near, Unknown}
 
