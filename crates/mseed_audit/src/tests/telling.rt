@@ -153,7 +153,8 @@ fn tells_as_records_come(rt: HostRuntime) -> Result<(), Fail> {
         let answer = audit_each(rt.alloc(), &mut Counted::new(bytes.as_slice()), &mut sink);
         let told = sink.get_ref();
         assert_eq!(rt; answer.is_ok(), room == text.len(), "{room}");
-        assert_eq!(rt; told.taken.as_slice(), &text[..room], "{room}");
+        assert_eq!(rt; told.taken.len(), room, "{room}");
+        assert!(rt; text.starts_with(told.taken.as_slice()), "{room}");
         assert!(rt; room == 1000 || told.writes > 1, "{room}");
     }
     Ok(())
