@@ -1,10 +1,17 @@
 -- The sample rate of a record (SEED manual, chapter 8, fields 10 and 11 of the fixed section).
-use Rattle.std.specs.Prelude.{◌≡◌, ℕ, zero, suc, ◌*◌, ℤ, pos, negsuc, Option, Some, None}
+use Rattle.std.specs.Prelude.{◌≡◌, ◌<◌, ◌≤◌, ◌^◌, ℕ, zero, suc, ◌*◌, ℤ, pos, negsuc, Option, Some, None}
 
 -- num samples in den seconds
 pub record Ratio : Type 0 where
   pub num : ℕ
   pub den : ℕ
+
+-- the range of both: that of what two fields of 16 bits give
+pub record IsRatio (r : Ratio) : Type 0 where
+  pub num_counts : 0 < r.num
+  pub num_bound : r.num ≤ 2 ^ 30
+  pub den_counts : 0 < r.den
+  pub den_bound : r.den ≤ 2 ^ 30
 
 -- The rate of a factor and a multiplier: what is positive multiplies, what is negative divides; with a
 -- zero in either there is none.

@@ -1,11 +1,10 @@
 //! Whether a record begins where the one before it ends.
 ghost use Rattle.std.specs.Prelude.{◌≡◌, ◌↔◌, ◌≤◌, ◌*◌, ◌^◌, pos, neg_ℤ, ◌+ℤ◌, ◌-ℤ◌, ◌*ℤ◌, ◌≤ℤ◌};
 ghost use Rattle.mseed_time.specs.Join.{Joins, join_of, step_of, miss_of};
-ghost use Rattle.mseed_time.specs.Ratios.{ratio_of};
 
 use crate::micros::Micros;
 use crate::outcome::{Join, LeapStep};
-use crate::rate::Rate;
+use crate::ratio::Ratio;
 
 /// Microseconds in a second.
 const SECOND: i64 = 1_000_000;
@@ -15,9 +14,9 @@ const SECOND: i64 = 1_000_000;
 /// is late or early by the whole microseconds between the two. A leap second during the record before
 /// counts at that record's end: the clock shows `next` a second too early after `Plus`, and a second too
 /// late after `Minus`.
-pub fn join(start: Micros, count: u32, rate: Rate, step: Option<LeapStep>, next: Micros) -> Join
-    ensures value { result ≡ join_of start count (ratio_of rate) step next }
-    ensures meets { (result ≡ Join.Meets) ↔ Joins start count (ratio_of rate) step next }
+pub fn join(start: Micros, count: u32, rate: Ratio, step: Option<LeapStep>, next: Micros) -> Join
+    ensures value { result ≡ join_of start count rate step next }
+    ensures meets { (result ≡ Join.Meets) ↔ Joins start count rate step next }
 {
     let miss = miss(start, count, rate, step, next);
     let distance = miss.unsigned_abs();
@@ -32,8 +31,8 @@ pub fn join(start: Micros, count: u32, rate: Rate, step: Option<LeapStep>, next:
 
 /// By how much `next` misses the end of the record, in microseconds times the rate's `num`: positive
 /// where it is late.
-fn miss(start: Micros, count: u32, rate: Rate, step: Option<LeapStep>, next: Micros) -> i128
-    ensures value { result ≡ miss_of start count (ratio_of rate) step next }
+fn miss(start: Micros, count: u32, rate: Ratio, step: Option<LeapStep>, next: Micros) -> i128
+    ensures value { result ≡ miss_of start count rate step next }
     ensures low { neg_ℤ (pos (2 ^ 100)) ≤ℤ result }
     ensures high { result ≤ℤ pos (2 ^ 100) }
 {

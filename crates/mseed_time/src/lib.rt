@@ -10,6 +10,7 @@ mod micros;
 mod order;
 mod outcome;
 mod rate;
+mod ratio;
 mod show;
 
 pub use btime::Btime;
@@ -20,4 +21,5 @@ pub use micros::Micros;
 pub use order::Order;
 pub use outcome::{Join, LeapStep};
 pub use rate::{NoRate, Rate};
+pub use ratio::Ratio;
 pub use show::show_time;

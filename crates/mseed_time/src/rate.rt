@@ -2,6 +2,8 @@
 ghost use Rattle.std.specs.Prelude.{◌≡◌, ◌≢◌, ◌↔◌, ◌≤◌, ◌<◌, ◌^◌, pos, IsTrue, IsOk, IfOk, IsSome, Some};
 ghost use Rattle.mseed_time.specs.Rate.{rate_of, SameRate, positive_part_of, negative_part_of};
 
+use crate::ratio::Ratio;
+
 /// A factor or a multiplier of zero gives no rate.
 #[derive(Clone, Copy, Debug, PartialEq, Eq)]
 pub struct NoRate;
@@ -47,6 +49,16 @@ impl Rate {
         ensures multiplier { result.1 ≡ self.multiplier }
     {
         (self.factor, self.multiplier)
+    }
+
+    /// The rate as a ratio.
+    pub fn ratio(self) -> Ratio
+        ensures { result ≡ ratio_of self }
+    {
+        match Ratio::new(self.num(), self.den()) {
+            Some(ratio) => ratio,
+            None => unreachable!(),
+        }
     }
 
     /// How many samples there are in [`Rate::den`] seconds. The two aren't reduced.
