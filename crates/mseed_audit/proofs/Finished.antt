@@ -1,6 +1,7 @@
 -- What is kept of the channels, as their verdicts.
-use Rattle.std.proofs.Common.{◌≡◌, ◌↔◌, ℕ, List, IsTrue, Option, Some, None, sym, subst}
+use Rattle.std.proofs.Common.{◌≡◌, ◌↔◌, ℕ, List, IsTrue, Option, Some, None, length, map, refl, sym, subst}
 use Rattle.std.specs.Map.{lookup, keys_of}
+use Rattle.std.specs.Option.{option_map}
 use Rattle.std.specs.Ordering.{nat_cmp}
 use Rattle.std.specs.Cmp.Lexicographic.{slice_cmp}
 use Rattle.std.specs.List.Sorted.{IsStrictlySortedBy}
@@ -9,12 +10,13 @@ use Rattle.mseed_audit.specs.declared.verdict.Verdict.{Verdict}
 use Rattle.mseed_audit.specs.Channels.{Added, Placed, same_key, records_of, views_in}
 use Rattle.mseed_audit.specs.Follows.{IsContinuous}
 use Rattle.mseed_audit.specs.Verdict.{IsVerdict, IsVerdictAt, IsExactAt, says_continuous, AreVerdicts}
-use Rattle.mseed_audit.specs.Audit.{Held, StandsAt, IsAuditOf}
-use Rattle.mseed_audit.specs.private.Kept.{verdict_in}
+use Rattle.std.proofs.lemmas.Map.Made.{keys_of-map_values, lookup-map_values}
+use Rattle.mseed_audit.specs.Audit.{AreChannels, Held, StandsAt, IsAuditOf, verdict_of}
+use Rattle.mseed_audit.proofs.Kept.{stands_verdict}
 
-stands_verdict : (o : Option Channel) (ps : List Placed) → StandsAt o ps → IsVerdictAt (verdict_in o) ps
-stands_verdict None ps s = s
-stands_verdict (Some c) ps s = s.verdict
+verdict_at : (o : Option Channel) (ps : List Placed) → StandsAt o ps → IsVerdictAt (option_map verdict_of o) ps
+verdict_at None ps s = s
+verdict_at (Some c) ps s = stands_verdict c ps s
 
 -- each verdict says that its channel is continuous exactly where it is
 abbrev pub AreExact : Type 0
@@ -27,13 +29,23 @@ exact_at exact (Some verdict) ps is = exact verdict ps is
 
 pub finished : AreExact → (h : Held) (added : List Added) (verdicts : List (List ℕ × Verdict))
     → IsStrictlySortedBy (slice_cmp nat_cmp) (keys_of verdicts)
-    → ((key : List ℕ) → lookup (same_key key) verdicts ≡ verdict_in (lookup (same_key key) h.channels))
+    → ((key : List ℕ) → lookup (same_key key) verdicts ≡ option_map verdict_of (lookup (same_key key) h.channels))
     → IsAuditOf h added → AreVerdicts added verdicts
 finished exact h added verdicts sorted found is =
     let each : (key : List ℕ) → IsVerdictAt (lookup (same_key key) verdicts) (records_of key added) =
     λ key. subst (λ (o : Option Verdict). IsVerdictAt o (records_of key added)) (sym (found key))
-    (stands_verdict (lookup (same_key key) h.channels) (records_of key added) (is.each key)) in record {
+    (verdict_at (lookup (same_key key) h.channels) (records_of key added) (is.each key)) in record {
       ascending = sorted;
       each = each;
       exact = λ key. exact_at exact (lookup (same_key key) verdicts) (records_of key added) (each key);
     }
+
+-- channels in their order are enough for it
+pub channels_finished : AreExact → (added : List Added) (channels : List (List ℕ × Channel))
+    → AreChannels added channels → AreVerdicts added (map (λ e. (e.0, verdict_of e.1)) channels)
+channels_finished exact added channels is =
+    finished exact (record { channels = channels; added = length added }) added
+    (map (λ e. (e.0, verdict_of e.1)) channels)
+    (subst (λ (keys : List (List ℕ)). IsStrictlySortedBy (slice_cmp nat_cmp) keys)
+    (sym (keys_of-map_values verdict_of channels)) is.ascending)
+    (λ key. lookup-map_values verdict_of (same_key key) channels) (record { number = refl; each = is.each })

@@ -15,8 +15,9 @@ use Rattle.mseed_audit.specs.declared.each.EachFault.TheVariants.{Write, Memory}
 use Rattle.mseed_audit.specs.declared.verdict.Verdict.{Verdict}
 use Rattle.mseed_audit.specs.Audit.{Held}
 use Rattle.mseed_audit.specs.Channels.{added_from}
-use Rattle.mseed_audit.specs.Each.{AuditedEach, IsEachOutcome, IsEachWritten, TookFirst, TookPart}
-use Rattle.mseed_audit.specs.private.Gathered.{AreGathered, IsPrefixWritten, IsTelling, TakesMore}
+use Rattle.mseed_audit.specs.Each.{AreGathered, AuditedEach, IsEachOutcome, IsEachWritten, IsLinesFault, IsTelling}
+use Rattle.mseed_audit.specs.Each.{TakesMore, TookFirst, TookPart}
+use Rattle.mseed_audit.specs.private.Gathered.{IsPrefixWritten}
 use Rattle.mseed_audit.specs.Summary.{IsSummary, text_of}
 use Rattle.mseed_audit.specs.Text.{audit_text, told_lines}
 use Rattle.mseed_audit.specs.Told.{Told, AreToldOf}
@@ -62,7 +63,7 @@ gathered_written first old new text rest lines before written none = record {
 }
 
 -- the whole, behind what was taken before
-behind : (first old : BytesWritten) (text lines tail : List ℕ) (before : AreGathered first old text lines)
+pub behind : (first old : BytesWritten) (text lines tail : List ℕ) (before : AreGathered first old text lines)
     → before.taken ++ (text ++ tail) ≡ lines ++ tail
 behind first old text lines tail before = sym (append_assoc before.taken text tail)
     ∙ ap (λ (xs : List ℕ). xs ++ tail) before.joined
@@ -82,7 +83,7 @@ first_behind : (first old new : BytesWritten) (text lines tail : List ℕ) → A
 first_behind first old new text lines tail before took =
     (length before.taken + took.0, taken_behind first old new text lines tail took.0 before took.1)
 
-part_behind : (first old new : BytesWritten) (text lines tail : List ℕ) → AreGathered first old text lines
+pub part_behind : (first old new : BytesWritten) (text lines tail : List ℕ) → AreGathered first old text lines
     → TookPart old new (text ++ tail) → TookPart first new (lines ++ tail)
 part_behind first old new text lines tail before took =
     let size : length before.taken + length (text ++ tail) ≡ length (lines ++ tail) =
@@ -96,14 +97,14 @@ part_behind first old new text lines tail before took =
 pub cut_short : (fault : EachFault) (h : BytesRead) (first old new : BytesWritten) (text next : List ℕ) (offset : ℕ)
     (views : List View) (told more : List Told) → AreViews h.bytes offset views → old.failures ≡ first.failures
     → AreGathered first old text (told_lines told) → AreToldOf (added_from 0 views) (told ++ more)
-    → next ≡ text ++ told_lines more → IsPrefixWritten fault old new next → IsEachOutcome (Err fault) h first new
+    → next ≡ text ++ told_lines more → IsPrefixWritten fault old new next → IsLinesFault fault h first new
 cut_short fault h first old new text next offset views told more shown same before are e written =
     go fault (subst (λ (xs : List ℕ). IsPrefixWritten fault old new xs) e written)
   where
     lines : told_lines told ++ told_lines more ≡ told_lines (told ++ more)
     lines = sym (lines_behind told more)
 
-    go : (f : EachFault) → IsPrefixWritten f old new (text ++ told_lines more) → IsEachOutcome (Err f) h first new
+    go : (f : EachFault) → IsPrefixWritten f old new (text ++ told_lines more) → IsLinesFault f h first new
     go Write w = (
       omega (arith, same, w.0),
       (
@@ -115,8 +116,8 @@ cut_short fault h first old new text next offset views told more shown same befo
             record {
               shown = shown;
               are_told = are;
-              prefix = inl (subst (λ (xs : List ℕ). TookPart first new xs) lines
-                  (part_behind first old new text (told_lines told) (told_lines more) before w.1));
+              prefix = subst (λ (xs : List ℕ). TookPart first new xs) lines
+                  (part_behind first old new text (told_lines told) (told_lines more) before w.1);
             },
           ),
         ),
@@ -133,8 +134,8 @@ cut_short fault h first old new text next offset views told more shown same befo
             record {
               shown = shown;
               are_told = are;
-              prefix = inl (subst (λ (xs : List ℕ). TookFirst first new xs) lines
-                  (first_behind first old new text (told_lines told) (told_lines more) before w.1));
+              prefix = subst (λ (xs : List ℕ). TookFirst first new xs) lines
+                  (first_behind first old new text (told_lines told) (told_lines more) before w.1);
             },
           ),
         ),
@@ -145,7 +146,7 @@ cut_short fault h first old new text next offset views told more shown same befo
 pub memory_short : (h : BytesRead) (first new : BytesWritten) (text : List ℕ) (offset : ℕ) (views : List View)
     (told : List Told) → AreViews h.bytes offset views → new.failures ≡ first.failures
     → AreGathered first new text (told_lines told) → AreToldOf (added_from 0 views) told
-    → IsEachOutcome (Err Memory) h first new
+    → IsLinesFault Memory h first new
 memory_short h first new text offset views told shown same before are = (
   same,
   (
@@ -157,8 +158,38 @@ memory_short h first new text offset views told shown same before are = (
         record {
           shown = shown;
           are_told = are;
-          prefix = inl (gathered_first first new text (told_lines told) before);
+          prefix = gathered_first first new text (told_lines told) before;
         },
+      ),
+    ),
+  ),
+)
+
+-- the lines that were written are those before a text
+pub lines_outcome : (fault : EachFault) (h : BytesRead) (old new : BytesWritten) → IsLinesFault fault h old new
+    → IsEachOutcome (Err fault) h old new
+lines_outcome Write h old new f = (
+  f.0,
+  (
+    f.1.0,
+    (
+      f.1.1.0,
+      (
+        f.1.1.1.0,
+        record { shown = f.1.1.1.1.shown; are_told = f.1.1.1.1.are_told; prefix = inl f.1.1.1.1.prefix },
+      ),
+    ),
+  ),
+)
+lines_outcome Memory h old new f = (
+  f.0,
+  (
+    f.1.0,
+    (
+      f.1.1.0,
+      (
+        f.1.1.1.0,
+        record { shown = f.1.1.1.1.shown; are_told = f.1.1.1.1.are_told; prefix = inl f.1.1.1.1.prefix },
       ),
     ),
   ),
@@ -240,12 +271,12 @@ end_short {h} fault a first old new text whole before e same written =
       ),
     )
 
-pub telling_err : (r : Result (Held × Option StreamFault) EachFault) (Q : EachFault → Type 0) (fault : EachFault)
+pub telling_err : (r : Result (Held × Option StreamFault × ℕ) EachFault) (Q : EachFault → Type 0) (fault : EachFault)
     (h : BytesRead) (old new : BytesWritten) (text : List ℕ) → IsErrAnd r Q → ((e : EachFault) → Q e → e ≡ fault)
-    → IsEachOutcome (Err fault) h old new → IsTelling r h old new text
+    → IsLinesFault fault h old new → IsTelling r h old new text
 telling_err (Ok x) Q fault h old new text is q short = absurd is
 telling_err (Err e) Q fault h old new text is q short =
-    subst (λ (x : EachFault). IsEachOutcome (Err x) h old new) (sym (q e is)) short
+    subst (λ (x : EachFault). IsLinesFault x h old new) (sym (q e is)) short
 
 pub each_err : (r : Result Summary EachFault) (Q : EachFault → Type 0) (fault : EachFault) (h : BytesRead)
     (old new : BytesWritten) → IsErrAnd r Q → ((e : EachFault) → Q e → e ≡ fault)

@@ -1,18 +1,19 @@
 -- What is found of a record, by what's kept of the one before it.
-use Rattle.std.proofs.Common.{◌≡◌, if◌then◌else◌, ◌==◌, Option, Some, None, IsSome, ℕ, List, ℤ, subst, refl, ap, sym}
+use Rattle.std.proofs.Common.{◌≡◌, ◌*◌, if◌then◌else◌, ◌==◌, Option, Some, None, IsSome, ℕ, List, ℤ, subst, refl, ap}
+use Rattle.std.proofs.Common.{sym}
 use Rattle.std.proofs.Common.{◌∙◌}
 use Rattle.std.proofs.lemmas.Bool.{ne_eqb}
 use Rattle.mseed_time.specs.declared.fault.TimeFault.{TimeFault}
+use Rattle.mseed_time.specs.Join.{join_of}
 use Rattle.mseed_time.specs.Rate.{Ratio}
-use Rattle.mseed_time.specs.Ratios.{ratio_of}
 use Rattle.mseed_record.specs.View.{View}
 use Rattle.mseed_steim.specs.Reading.{IsReading, EndsOnConstants}
 use Rattle.mseed_audit.specs.declared.tail.Tail.{Tail}
 use Rattle.mseed_audit.specs.declared.finding.Why.{Why}
 use Rattle.mseed_audit.specs.declared.finding.Why.TheVariants.{RateChange}
 use Rattle.mseed_audit.specs.Judging.{time_fault_of, rate_in, rate_unless, known_rate, why_between, why_from, why_after}
-use Rattle.mseed_audit.specs.Judging.{IsFound, after}
-use Rattle.mseed_audit.specs.Audit.{IsTail}
+use Rattle.mseed_audit.specs.Judging.{IsFound, after, step_in, why_by}
+use Rattle.mseed_audit.specs.Audit.{IsTail, break_by}
 use Rattle.mseed_audit.specs.private.Kept.{IsTailBefore}
 
 pub none_unless : {X : Type 0} (x : Option X) → ¬ (IsSome x) → x ≡ None
@@ -37,12 +38,20 @@ pub after_none : (before : Option View) (v : View) (next : Ratio) → IsTailBefo
 after_none None v next h = refl
 after_none (Some b) v next h = ap (λ (rate : Option Ratio). why_from b rate v next) h
 
+-- what is kept of two records says what lies between them
+between : (t next : Tail) (b v : View) → IsTail t b → IsTail next v
+    → break_by t next.start next.rate ≡ why_between b t.rate v next.rate
+between t next b v h k = λ i.
+    if t.rate.num * next.rate.den == next.rate.num * t.rate.den
+    then why_by (h.leap i) (join_of (h.start i) (h.samples i) t.rate (step_in (h.leap i)) (k.start i))
+    else Some RateChange
+
 -- the one before has a rate
-pub after_some : (t : Tail) (before : Option View) (v : View) (next : Ratio) (why : Option Why)
-    → IsTailBefore (Some t) before
-    → ((b : View) → IsTail t b → why ≡ why_between b (ratio_of t.rate) v next) → why_after before v next ≡ why
-after_some t None v next why h k = absurd h
-after_some t (Some b) v next why h k = ap (λ (rate : Option Ratio). why_from b rate v next) h.rate ∙ sym (k b h)
+pub after_some : (t next : Tail) (before : Option View) (v : View) → IsTailBefore (Some t) before → IsTail next v
+    → why_after before v next.rate ≡ break_by t next.start next.rate
+after_some t next None v h k = absurd h
+after_some t next (Some b) v h k =
+    ap (λ (rate : Option Ratio). why_from b rate v next.rate) h.rate ∙ sym (between t next b v h k)
 
 -- its samples are whole
 pub found_whole : (before : Option View) (v : View) (next : Ratio) (s : List ℤ) (why : Option Why)

@@ -4,7 +4,7 @@ pub mod Behind
 pub mod Between
 pub mod Continuity
 pub mod Counts
-pub mod Findings
+pub mod Kept
 pub mod Finished
 pub mod Gathers
 pub mod Joined
@@ -20,7 +20,7 @@ pub mod OneSeries
 pub mod OneTelling
 pub mod OneVerdict
 pub mod Outcomes
-pub mod Pieces
+pub mod Prefixes
 pub mod Places
 pub mod Rosters
 pub mod Shorts

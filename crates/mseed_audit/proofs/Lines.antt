@@ -1,32 +1,32 @@
--- Lines that are built without the heap: how long their parts are.
+-- Lines that are built without the heap: how long their pieces are.
 use Rattle.std.proofs.Common.{◌≡◌, ℕ, zero, suc, Bool, true, false, if◌then◌else◌, ◌+◌, ◌<◌, ◌≤◌, ◌^◌, ◌++◌, List, []}
 use Rattle.std.proofs.Common.{◌∷◌, length, map, ◌-◌, take, drop, get_or, ap, arith, decimal}
 use Rattle.std.proofs.lemmas.List.{length-append, length-map, length-take}
 use Rattle.std.proofs.lemmas.Fmt.{length-decimal-le}
 use Rattle.std.specs.List.{list_all, slice_range}
 use Rattle.mseed_record.specs.Header.{is_blank}
-use Rattle.mseed_audit.specs.declared.parts.Part.{Part}
-use Rattle.mseed_audit.specs.Parts.{part_text, parts_text}
+use Rattle.mseed_audit.specs.declared.pieces.Piece.{Piece}
+use Rattle.mseed_audit.specs.Pieces.{piece_text, pieces_text}
 use Rattle.mseed_audit.specs.Text.{printed, trimmed}
 
--- a part stands within the text of all
-pub part_fits : (ps : List Part) (n : ℕ) (d : Part) → n < length ps
-    → length (parts_text (take n ps)) + length (part_text (get_or ps n d)) ≤ length (parts_text ps)
-part_fits [] n d h = absurd (omega (arith, h))
-part_fits (p ∷ ps) zero d h = omega (arith, length-append (part_text p) (parts_text ps))
-part_fits (p ∷ ps) (suc n) d h =
+-- a piece stands within the text of all
+pub piece_fits : (ps : List Piece) (n : ℕ) (d : Piece) → n < length ps
+    → length (pieces_text (take n ps)) + length (piece_text (get_or ps n d)) ≤ length (pieces_text ps)
+piece_fits [] n d h = absurd (omega (arith, h))
+piece_fits (p ∷ ps) zero d h = omega (arith, length-append (piece_text p) (pieces_text ps))
+piece_fits (p ∷ ps) (suc n) d h =
     omega (
       arith,
-      length-append (part_text p) (parts_text ps),
-      length-append (part_text p) (parts_text (take n ps)),
-      part_fits ps n d (omega (arith, h)),
+      length-append (piece_text p) (pieces_text ps),
+      length-append (piece_text p) (pieces_text (take n ps)),
+      piece_fits ps n d (omega (arith, h)),
     )
 
 -- there is room for it behind those before it
-pub part_room : (ps : List Part) (n : ℕ) (d : Part) (line : List ℕ) → n < length ps → line ≡ parts_text (take n ps)
-    → length (parts_text ps) ≤ 128
-    → length line + length (part_text (get_or ps n d)) ≤ 128
-part_room ps n d line h e room = rw e (omega (arith, part_fits ps n d h, room))
+pub piece_room : (ps : List Piece) (n : ℕ) (d : Piece) (line : List ℕ) → n < length ps → line ≡ pieces_text (take n ps)
+    → length (pieces_text ps) ≤ 128
+    → length line + length (piece_text (get_or ps n d)) ≤ 128
+piece_room ps n d line h e room = rw e (omega (arith, piece_fits ps n d h, room))
 
 -- the digits of a number of 64 bits
 pub digits_fit : (n : ℕ) → n < 2 ^ 64 → length (decimal n) ≤ 20
@@ -63,8 +63,8 @@ printed_fits old code line n e =
     )
 
 -- a piece of a key
-pub piece_fits : (key piece : List ℕ) (a b : ℕ) → piece ≡ slice_range key a b → length piece ≤ b - a
-piece_fits key piece a b e = omega (arith, ap length e, length-take (b - a) (drop a key))
+pub code_fits : (key piece : List ℕ) (a b : ℕ) → piece ≡ slice_range key a b → length piece ≤ b - a
+code_fits key piece a b e = omega (arith, ap length e, length-take (b - a) (drop a key))
 
 -- a line with one more byte
 pub one_longer : (old line : List ℕ) (byte : ℕ) → line ≡ old ++ byte ∷ [] → length line ≡ length old + 1

@@ -3,7 +3,6 @@ use Rattle.std.proofs.Common.{◌≡◌, ◌≢◌, ◌∙◌, ℤ, pos, ℕ, Li
 use Rattle.std.proofs.Common.{subst}
 use Rattle.mseed_time.specs.declared.rate.Rate.{Rate}
 use Rattle.mseed_time.specs.Rate.{Ratio}
-use Rattle.mseed_record.specs.Header.{factor_at, multiplier_at}
 use Rattle.mseed_record.specs.View.{View, start_of}
 use Rattle.mseed_steim.specs.declared.fault.ReadFault.{ReadFault}
 use Rattle.mseed_steim.specs.Reading.{IsFault}
@@ -13,7 +12,7 @@ use Rattle.mseed_audit.specs.declared.finding.Finding.{Finding}
 use Rattle.mseed_audit.specs.declared.verdict.Verdict.{Verdict}
 use Rattle.mseed_audit.specs.declared.verdict.Verdict.TheVariants.{Continuous, Broken}
 use Rattle.mseed_audit.specs.Channels.{Placed, sample_count}
-use Rattle.mseed_audit.specs.Judging.{why_after, IsFound, time as by_time, rate as by_rate, read as by_read}
+use Rattle.mseed_audit.specs.Judging.{known_rate, why_after, IsFound, time as by_time, rate as by_rate, read as by_read}
 use Rattle.mseed_audit.specs.Judging.{after as by_after}
 use Rattle.mseed_audit.specs.Verdict.{finding_at, AreFindings, none, one, IsRun, IsVerdict}
 use Rattle.mseed_audit.proofs.Judged.{unknown_timed, known_timed}
@@ -78,16 +77,16 @@ pub same_rate : (a b : Rate) → a.factor ≡ b.factor → a.multiplier ≡ b.mu
 same_rate a b e h = same_numbers a.factor b.factor a.multiplier b.multiplier a.factor_counts a.multiplier_counts
     b.factor_counts b.multiplier_counts e h
 
-run_one : (p q : Placed) (ps qs : List Placed) (s t : ℤ) (f g m n : ℤ) (k l i j : ℕ) → p ∷ ps ≡ q ∷ qs
-    → IsRun p ps s f m k i → IsRun q qs t g n l j
-    → (s ≡ t) × (f ≡ g) × (m ≡ n) × (k ≡ l) × (i ≡ j)
-run_one p q ps qs s t f g m n k l i j e a b =
-    let same : p ≡ q = cc (e) in (
-      a.start_is ∙ ap (λ (x : Placed). start_of x.view) same ∙ sym b.start_is,
-      a.factor_is ∙ ap (λ (x : Placed). factor_at x.view.order x.view.bytes) same ∙ sym b.factor_is,
-      a.multiplier_is ∙ ap (λ (x : Placed). multiplier_at x.view.order x.view.bytes) same ∙ sym b.multiplier_is,
-      a.records_is ∙ ap (λ (xs : List Placed). length xs) e ∙ sym b.records_is,
-      a.samples_is ∙ ap (λ (xs : List Placed). sample_count xs) e ∙ sym b.samples_is,
+run_one : (p q : Placed) (ps qs : List Placed) (s t : ℤ) (a b : Ratio) (k l i j : ℕ) → p ∷ ps ≡ q ∷ qs
+    → IsRun p ps s a k i → IsRun q qs t b l j
+    → (s ≡ t) × (a ≡ b) × (k ≡ l) × (i ≡ j)
+run_one p q ps qs s t a b k l i j e h g =
+    let same : p ≡ q = cc (e) in
+    let rates : Some a ≡ Some b = sym h.rate_is ∙ ap (λ (x : Placed). known_rate x.view) same ∙ g.rate_is in (
+      h.start_is ∙ ap (λ (x : Placed). start_of x.view) same ∙ sym g.start_is,
+      cc (rates),
+      h.records_is ∙ ap (λ (xs : List Placed). length xs) e ∙ sym g.records_is,
+      h.samples_is ∙ ap (λ (xs : List Placed). sample_count xs) e ∙ sym g.samples_is,
     )
 
 -- the verdict on records of which nothing is found finds nothing
@@ -97,10 +96,8 @@ run_none ps p qs e h = subst (λ (xs : List Placed). AreFindings None xs []) (sy
 
 pub verdict_one : HasOneFault → Excludes → (v w : Verdict) (ps : List Placed) → IsVerdict v ps → IsVerdict w ps → v ≡ w
 verdict_one only excludes (Continuous s a k i) (Continuous t b l j) ps h g =
-    let same = run_one h.0 g.0 h.1.0 g.1.0 s t a.factor b.factor a.multiplier b.multiplier k l i j (sym h.1.1.0
-    ∙ g.1.1.0) h.1.1.1 g.1.1.1 in
-    let rate : a ≡ b = same_rate a b same.1 same.2 in
-    cc (same.0, rate, same.3, same.4)
+    let same = run_one h.0 g.0 h.1.0 g.1.0 s t a b k l i j (sym h.1.1.0 ∙ g.1.1.0) h.1.1.1 g.1.1.1 in
+    cc (same.0, same.1, same.2, same.3)
 verdict_one only excludes (Continuous s a k i) (Broken first count) ps h g =
     let no : [] ≡ first ∷ g.0 =
     findings_same only excludes None ps [] (first ∷ g.0) (run_none ps h.0 h.1.0 h.1.1.0 h.1.1.1.findings) g.1.0 in

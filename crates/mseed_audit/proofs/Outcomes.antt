@@ -3,6 +3,7 @@ use Rattle.std.proofs.Common.{◌≡◌, ℕ, suc, ◌+◌, ◌<◌, ◌++◌, L
 use Rattle.std.proofs.Common.{is_some}
 use Rattle.mseed_record.specs.View.{View}
 use Rattle.mseed_stream.specs.Device.{BytesRead, BytesWritten}
+use Rattle.mseed_stream.specs.Walk.{AreAllViews}
 use Rattle.mseed_stream.specs.declared.fault.StreamFault.{StreamFault}
 use Rattle.mseed_audit.specs.declared.verdict.Verdict.{Verdict}
 use Rattle.mseed_audit.specs.declared.archive.Summary.{Summary}
@@ -12,7 +13,7 @@ use Rattle.mseed_audit.specs.Audit.{Held, IsAuditOf}
 use Rattle.mseed_audit.specs.Text.{audit_text}
 use Rattle.mseed_audit.specs.Summary.{Audited, text_of, broken_count, IsSummary, IsWritten, IsCutOff, IsGathered}
 
-added_length : (offset : ℕ) (views : List View) → length (added_from offset views) ≡ length views
+pub added_length : (offset : ℕ) (views : List View) → length (added_from offset views) ≡ length views
 added_length offset [] = refl
 added_length offset (v ∷ views) = ap suc (added_length (offset + length v.bytes) views)
 
@@ -20,14 +21,19 @@ added_length offset (v ∷ views) = ap suc (added_length (offset + length v.byte
 pub record HasVerdicts (held : Held) (end : Option StreamFault) (h : BytesRead)
     (verdicts : List (List ℕ × Verdict)) : Type 0 where
   pub views : List View
-  pub gathered : IsGathered held end h views
+  pub all : AreAllViews h views end
+  pub audit : IsAuditOf held (added_from 0 views)
   pub are_verdicts : AreVerdicts (added_from 0 views) verdicts
 
 abbrev pub with_verdicts : (held : Held) (end : Option StreamFault) (h : BytesRead)
-    (verdicts : List (List ℕ × Verdict)) → (views : List View) × IsGathered held end h views
+    (verdicts : List (List ℕ × Verdict)) (bytes : ℕ) → (views : List View) × IsGathered held end bytes h views
     → ((added : List Added) → IsAuditOf held added → AreVerdicts added verdicts) → HasVerdicts held end h verdicts
-with_verdicts held end h verdicts found are =
-    record { views = found.0; gathered = found.1; are_verdicts = are (added_from 0 found.0) found.1.audit }
+with_verdicts held end h verdicts bytes found are = record {
+  views = found.0;
+  all = found.1.all;
+  audit = found.1.audit;
+  are_verdicts = are (added_from 0 found.0) found.1.audit;
+}
 
 abbrev pub audited : (held : Held) (end : Option StreamFault) (h : BytesRead) (verdicts : List (List ℕ × Verdict))
     → HasVerdicts held end h verdicts → Audited h
@@ -35,13 +41,13 @@ audited held end h verdicts f = record {
   views = f.views;
   end = end;
   verdicts = verdicts;
-  all = f.gathered.all;
+  all = f.all;
   are_verdicts = f.are_verdicts;
 }
 
 count_is : (held : Held) (end : Option StreamFault) (h : BytesRead) (verdicts : List (List ℕ × Verdict))
     (f : HasVerdicts held end h verdicts) → held.added ≡ length f.views
-count_is held end h verdicts f = f.gathered.audit.number ∙ added_length 0 f.views
+count_is held end h verdicts f = f.audit.number ∙ added_length 0 f.views
 
 -- the text that was made is the audit's
 pub text_is : (held : Held) (end : Option StreamFault) (h : BytesRead) (verdicts slice : List (List ℕ × Verdict))

@@ -15,9 +15,8 @@ use Rattle.mseed_steim.specs.Reading.{count_of}
 use Rattle.mseed_audit.specs.declared.channel.Channel.{Channel}
 use Rattle.mseed_audit.specs.Audit.{Stands, StandsAt}
 use Rattle.mseed_audit.specs.Channels.{Placed, same_key, with_record}
-use Rattle.mseed_audit.specs.declared.verdict.Verdict.{Verdict}
 use Rattle.mseed_audit.specs.declared.roster.Place.{Place}
-use Rattle.mseed_audit.specs.private.Kept.{ArePlaces, AreBounded, IsBounded, IsPlace, place_of, verdict_in}
+use Rattle.mseed_audit.specs.private.Kept.{ArePlaces, AreBounded, IsBounded, IsPlace, place_of}
 use Rattle.mseed_audit.proofs.Counts.{all_within_more}
 use Rattle.mseed_audit.proofs.Maps.{keys_alike, same_back, same_is}
 use Rattle.mseed_audit.proofs.Steps.{stands_more, some_is}
@@ -210,15 +209,15 @@ set_stands old code p before after found at some step =
 
 -- the counts of a channel that is there
 pub bounded_at : (n : ℕ) (es : List (List ℕ × Channel)) (code : List ℕ) (c : Channel)
-    → lookup (same_key code) es ≡ Some c → AreBounded n es → IsBounded n c.verdict
+    → lookup (same_key code) es ≡ Some c → AreBounded n es → IsBounded n c
 bounded_at n es code c found all =
-    rw found at (IfSome-lookup_from_All (λ (d : Channel). IsBounded n d.verdict) (same_key code) es all)
+    rw found at (IfSome-lookup_from_All (λ (d : Channel). IsBounded n d) (same_key code) es all)
 
 -- and with one more
 pub set_bounded : (n : ℕ) (es : List (List ℕ × Channel)) (code : List ℕ) (c : Channel) → AreBounded n es
-    → IsBounded (n + 1) c.verdict → AreBounded (n + 1) (set_value (same_key code) es c)
+    → IsBounded (n + 1) c → AreBounded (n + 1) (set_value (same_key code) es c)
 set_bounded n es code c all one =
-    All-values-set_value (same_key code) (λ (d : Channel). IsBounded (n + 1) d.verdict) es c
+    All-values-set_value (same_key code) (λ (d : Channel). IsBounded (n + 1) d) es c
     (all_within_more n (n + 1) es (omega arith) all) one
 
 -- what is kept, where there was room for a new channel
@@ -231,83 +230,87 @@ kept_where old new code c is none key = ap (λ (es : List (List ℕ × Channel))
 -- and the counts
 pub bounded_where : (old new : List (List ℕ × Channel)) (code : List ℕ) (c : Channel) (n : ℕ)
     → new ≡ old ++ (code, c) ∷ []
-    → AreBounded n old → IsBounded (n + 1) c.verdict → AreBounded (n + 1) new
+    → AreBounded n old → IsBounded (n + 1) c → AreBounded (n + 1) new
 bounded_where old new code c n is all one =
     let before : AreBounded (n + 1) old = all_within_more n (n + 1) old (omega arith) all in
     let values : values_of (old ++ (code, c) ∷ []) ≡ values_of old ++ c ∷ [] =
     map-append (λ (e : List ℕ × Channel). e.1) old ((code, c) ∷ []) in
-    let more = All-push (λ (d : Channel). IsBounded (n + 1) d.verdict) (values_of old) c before one in
+    let more = All-push (λ (d : Channel). IsBounded (n + 1) d) (values_of old) c before one in
     subst (λ (es : List (List ℕ × Channel)). AreBounded (n + 1) es) (sym is)
-    (subst (λ (cs : List Channel). All (λ d. IsBounded (n + 1) d.verdict) cs) (sym values) more)
+    (subst (λ (cs : List Channel). All (λ d. IsBounded (n + 1) d) cs) (sym values) more)
 
--- the verdicts on the channels at these places
-abbrev read_through : List ℕ → Option (List ℕ × Channel) → List (List ℕ × Verdict)
-read_through key None = []
-read_through key (Some e) = (key, e.1.verdict) ∷ []
+-- what a function makes of the channels at these places
+abbrev read_through : {X : Type 0} → (Channel → X) → List ℕ → Option (List ℕ × Channel) → List (List ℕ × X)
+read_through f key None = []
+read_through f key (Some e) = (key, f e.1) ∷ []
 
-abbrev pub verdicts_at : List (List ℕ × Channel) → List (List ℕ × ℕ) → List (List ℕ × Verdict)
-verdicts_at es [] = []
-verdicts_at es (p ∷ ps) = read_through p.0 (slice_get es p.1) ++ verdicts_at es ps
+abbrev pub made_at : {X : Type 0} → (Channel → X) → List (List ℕ × Channel) → List (List ℕ × ℕ) → List (List ℕ × X)
+made_at f es [] = []
+made_at f es (p ∷ ps) = read_through f p.0 (slice_get es p.1) ++ made_at f es ps
 
-pub verdicts_next : (es : List (List ℕ × Channel)) (key : List ℕ) (i : ℕ) (ps : List (List ℕ × ℕ))
-    (e : List ℕ × Channel) → i < length es → e ≡ get_or es i e
-    → verdicts_at es ((key, i) ∷ ps) ≡ (key, e.1.verdict) ∷ verdicts_at es ps
-verdicts_next es key i ps e l is =
+pub made_next : {X : Type 0} (f : Channel → X) (es : List (List ℕ × Channel)) (key : List ℕ) (i : ℕ)
+    (ps : List (List ℕ × ℕ)) (e : List ℕ × Channel) → i < length es → e ≡ get_or es i e
+    → made_at f es ((key, i) ∷ ps) ≡ (key, f e.1) ∷ made_at f es ps
+made_next f es key i ps e l is =
     let found : slice_get es i ≡ Some e = slice_get_read es (length es) i e refl l is in
-    ap (λ (o : Option (List ℕ × Channel)). read_through key o ++ verdicts_at es ps) found
+    ap (λ (o : Option (List ℕ × Channel)). read_through f key o ++ made_at f es ps) found
 
-keys_by : (es : List (List ℕ × Channel)) (p : List ℕ × ℕ) (ps : List (List ℕ × ℕ)) → p.1 < length es
-    → keys_of (verdicts_at es ps) ≡ keys_of ps → keys_of (verdicts_at es (p ∷ ps)) ≡ keys_of (p ∷ ps)
-keys_by es p ps l same = go (slice_get es p.1) refl
+keys_by : {X : Type 0} (f : Channel → X) (es : List (List ℕ × Channel)) (p : List ℕ × ℕ) (ps : List (List ℕ × ℕ))
+    → p.1 < length es → keys_of (made_at f es ps) ≡ keys_of ps → keys_of (made_at f es (p ∷ ps)) ≡ keys_of (p ∷ ps)
+keys_by f es p ps l same = go (slice_get es p.1) refl
   where
     go : (o : Option (List ℕ × Channel)) → slice_get es p.1 ≡ o
-        → keys_of (read_through p.0 (slice_get es p.1) ++ verdicts_at es ps) ≡ p.0 ∷ keys_of ps
+        → keys_of (read_through f p.0 (slice_get es p.1) ++ made_at f es ps) ≡ p.0 ∷ keys_of ps
     go None e = absurd (false≢true (sym (ap (λ (o : Option (List ℕ × Channel)). is_some o) e)
         ∙ slice_get_some es p.1 l))
-    go (Some x) e = ap (λ (o : Option (List ℕ × Channel)). keys_of (read_through p.0 o ++ verdicts_at es ps)) e
+    go (Some x) e = ap (λ (o : Option (List ℕ × Channel)). keys_of (read_through f p.0 o ++ made_at f es ps)) e
         ∙ ap (λ (ks : List (List ℕ)). p.0 ∷ ks) same
 
 -- they have the same keys
-pub verdict_keys : (es : List (List ℕ × Channel)) (ps : List (List ℕ × ℕ)) → All (λ i. i < length es) (values_of ps)
-    → keys_of (verdicts_at es ps) ≡ keys_of ps
-verdict_keys es [] all = refl
-verdict_keys es (p ∷ ps) all =
-    keys_by es p ps (all 0 0 (omega arith)) (verdict_keys es ps (λ k d l. all (suc k) d (omega (arith, l))))
+pub made_keys : {X : Type 0} (f : Channel → X) (es : List (List ℕ × Channel)) (ps : List (List ℕ × ℕ))
+    → All (λ i. i < length es) (values_of ps) → keys_of (made_at f es ps) ≡ keys_of ps
+made_keys f es [] all = refl
+made_keys f es (p ∷ ps) all =
+    keys_by f es p ps (all 0 0 (omega arith)) (made_keys f es ps (λ k d l. all (suc k) d (omega (arith, l))))
 
-abbrev told_at : List (List ℕ × Channel) → Option ℕ → Option Verdict
-told_at es None = None
-told_at es (Some i) = verdict_in (option_map (λ (e : List ℕ × Channel). e.1) (slice_get es i))
+abbrev there_at : {X : Type 0} → (Channel → X) → List (List ℕ × Channel) → Option ℕ → Option X
+there_at f es None = None
+there_at f es (Some i) = option_map f (option_map (λ (e : List ℕ × Channel). e.1) (slice_get es i))
 
-told_one : (es : List (List ℕ × Channel)) (b : Bool) (i : ℕ) (rest : Option ℕ) (o : Option (List ℕ × Channel))
-    → slice_get es i ≡ o → is_some o ≡ true → (key : List ℕ) (test : List ℕ → Bool) (found : List (List ℕ × Verdict))
+made_one : {X : Type 0} (f : Channel → X) (es : List (List ℕ × Channel)) (b : Bool) (i : ℕ) (rest : Option ℕ)
+    (o : Option (List ℕ × Channel))
+    → slice_get es i ≡ o → is_some o ≡ true → (key : List ℕ) (test : List ℕ → Bool) (found : List (List ℕ × X))
     → test key ≡ b
-    → lookup test found ≡ told_at es rest
-    → lookup test (read_through key o ++ found) ≡ told_at es (cond b (Some i) rest)
-told_one es b i rest None at some key test found hit later = absurd (false≢true some)
-told_one es true i rest (Some e) at some key test found hit later =
-    ap (λ (b : Bool). cond b (Some e.1.verdict) (lookup test found)) hit
-    ∙ ap (λ (o : Option (List ℕ × Channel)). verdict_in (option_map (λ (e : List ℕ × Channel). e.1) o)) (sym at)
-told_one es false i rest (Some e) at some key test found hit later =
-    ap (λ (b : Bool). cond b (Some e.1.verdict) (lookup test found)) hit ∙ later
+    → lookup test found ≡ there_at f es rest
+    → lookup test (read_through f key o ++ found) ≡ there_at f es (cond b (Some i) rest)
+made_one f es b i rest None at some key test found hit later = absurd (false≢true some)
+made_one f es true i rest (Some e) at some key test found hit later =
+    ap (λ (b : Bool). cond b (Some (f e.1)) (lookup test found)) hit
+    ∙ ap (λ (o : Option (List ℕ × Channel)). option_map f (option_map (λ (e : List ℕ × Channel). e.1) o)) (sym at)
+made_one f es false i rest (Some e) at some key test found hit later =
+    ap (λ (b : Bool). cond b (Some (f e.1)) (lookup test found)) hit ∙ later
 
--- what they say at a key
-verdict_found : (es : List (List ℕ × Channel)) (ps : List (List ℕ × ℕ)) (test : List ℕ → Bool)
-    → All (λ i. i < length es) (values_of ps) → lookup test (verdicts_at es ps) ≡ told_at es (lookup test ps)
-verdict_found es [] test all = refl
-verdict_found es (p ∷ ps) test all =
-    told_one es (test p.0) p.1 (lookup test ps) (slice_get es p.1) refl (slice_get_some es p.1 (all 0 0 (omega arith)))
-    p.0 test (verdicts_at es ps) refl (verdict_found es ps test (λ k d l. all (suc k) d (omega (arith, l))))
+-- what is made at a key
+made_found : {X : Type 0} (f : Channel → X) (es : List (List ℕ × Channel)) (ps : List (List ℕ × ℕ))
+    (test : List ℕ → Bool) → All (λ i. i < length es) (values_of ps)
+    → lookup test (made_at f es ps) ≡ there_at f es (lookup test ps)
+made_found f es [] test all = refl
+made_found f es (p ∷ ps) test all =
+    made_one f es (test p.0) p.1 (lookup test ps) (slice_get es p.1) refl
+    (slice_get_some es p.1 (all 0 0 (omega arith)))
+    p.0 test (made_at f es ps) refl (made_found f es ps test (λ k d l. all (suc k) d (omega (arith, l))))
 
-told_place : (test : List ℕ → Bool) (es : List (List ℕ × Channel)) (o : Option ℕ) → place_of test es ≡ o
-    → told_at es o ≡ verdict_in (lookup test es)
-told_place test es None e = ap verdict_in (sym (none_there test es e))
-told_place test es (Some i) e = ap verdict_in (sym (kept_at test es i e))
+there_place : {X : Type 0} (f : Channel → X) (test : List ℕ → Bool) (es : List (List ℕ × Channel)) (o : Option ℕ)
+    → place_of test es ≡ o → there_at f es o ≡ option_map f (lookup test es)
+there_place f test es None e = ap (λ (o : Option Channel). option_map f o) (sym (none_there test es e))
+there_place f test es (Some i) e = ap (λ (o : Option Channel). option_map f o) (sym (kept_at test es i e))
 
-pub verdict_each : (es : List (List ℕ × Channel)) (ps : List (List ℕ × ℕ)) → ArePlaces ps es → (key : List ℕ)
-    → lookup (same_key key) (verdicts_at es ps) ≡ verdict_in (lookup (same_key key) es)
-verdict_each es ps are key = verdict_found es ps (same_key key) are.within
-    ∙ ap (λ (o : Option ℕ). told_at es o) (are.each key)
-    ∙ told_place (same_key key) es (place_of (same_key key) es) refl
+pub made_each : {X : Type 0} (f : Channel → X) (es : List (List ℕ × Channel)) (ps : List (List ℕ × ℕ))
+    → ArePlaces ps es → (key : List ℕ)
+    → lookup (same_key key) (made_at f es ps) ≡ option_map f (lookup (same_key key) es)
+made_each {X = X} f es ps are key = made_found f es ps (same_key key) are.within
+    ∙ ap (λ (o : Option ℕ). there_at f es o) (are.each key)
+    ∙ there_place f (same_key key) es (place_of (same_key key) es) refl
 
 -- what is found at a place
 pub found_at : (test : List ℕ → Bool) (es : List (List ℕ × Channel)) (i : ℕ) (e : List ℕ × Channel)

@@ -78,4 +78,4 @@ snoc_some ps prefix last e none =
 pub kept_some : (o : Option Channel) (ps : List Placed) → StandsAt o ps
     → (is_some o ≡ true → ps ≢ []) × (ps ≢ [] → is_some o ≡ true)
 kept_some None ps none = (λ e. absurd (false≢true e), λ no. absurd (no none))
-kept_some (Some c) ps s = (λ e. snoc_some ps s.prefix s.last s.parts, λ no. refl)
+kept_some (Some c) ps s = (λ e. snoc_some ps s.prefix s.last s.ends, λ no. refl)

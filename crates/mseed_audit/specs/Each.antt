@@ -1,13 +1,16 @@
 -- What an audit writes that tells each record with a finding, and what it answers.
-use Rattle.std.specs.Prelude.{◌≡◌, ◌⊎◌, ℕ, ◌+◌, ◌<◌, List, ◌++◌, length, take, Result, Ok, Err}
+use Rattle.std.specs.Prelude.{◌≡◌, ◌⊎◌, ℕ, ◌+◌, ◌<◌, List, ◌++◌, length, take, Option, Result, Ok, Err}
+use Rattle.std.specs.Io.KnownBytes.{Appends}
 use Rattle.mseed_record.specs.View.{View}
 use Rattle.mseed_stream.specs.Device.{BytesRead, BytesWritten}
 use Rattle.mseed_stream.specs.Walk.{AreViews}
+use Rattle.mseed_stream.specs.declared.fault.StreamFault.{StreamFault}
 use Rattle.mseed_audit.specs.declared.archive.Summary.{Summary}
 use Rattle.mseed_audit.specs.declared.each.EachFault.{EachFault}
 use Rattle.mseed_audit.specs.declared.each.EachFault.TheVariants.{Write, Memory}
+use Rattle.mseed_audit.specs.Audit.{Held}
 use Rattle.mseed_audit.specs.Channels.{added_from}
-use Rattle.mseed_audit.specs.Summary.{Audited, IsSummary, text_of}
+use Rattle.mseed_audit.specs.Summary.{Audited, IsGathered, IsSummary, text_of}
 use Rattle.mseed_audit.specs.Text.{told_lines}
 use Rattle.mseed_audit.specs.Told.{Told, AreToldOf}
 
@@ -50,3 +53,45 @@ abbrev pub IsEachOutcome : Result Summary EachFault → BytesRead → BytesWritt
 IsEachOutcome (Ok summary) h old new = (a : AuditedEach h) × IsEachWritten summary a old new
 IsEachOutcome (Err Write) h old new = (new.failures ≡ old.failures + 1) × EndsShort (TookPart old new) h
 IsEachOutcome (Err Memory) h old new = (new.failures ≡ old.failures) × EndsShort (TookFirst old new) h
+
+-- ---- the lines, as records are added
+-- the output took some bytes, and with those that are gathered they are a text
+pub record AreGathered (old new : BytesWritten) (gathered text : List ℕ) : Type 0 where
+  pub taken : List ℕ
+  pub bytes : new.bytes ≡ old.bytes ++ taken
+  pub joined : taken ++ gathered ≡ text
+
+-- what a sink took, and what it's known to hold
+abbrev pub TakesMore : BytesWritten → BytesWritten → Option (List ℕ) → Option (List ℕ) → Type 0
+TakesMore old new held holds = (more : List ℕ) × (new.bytes ≡ old.bytes ++ more) × Appends held holds more
+
+-- all records up to the end were added, and the lines of those with a finding were written or are gathered
+pub record HasLines (held : Held) (end : Option StreamFault) (bytes : ℕ) (h : BytesRead) (old new : BytesWritten)
+    (text : List ℕ) (views : List View) (told : List Told) : Type 0 where
+  pub all : IsGathered held end bytes h views
+  pub are_told : AreToldOf (added_from 0 views) told
+  pub lines : AreGathered old new text (told_lines told)
+  pub fine : new.failures ≡ old.failures
+
+-- what was written is so of the lines of the first records
+pub record HasLinesShort (Took : List ℕ → Type 0) (h : BytesRead) (offset : ℕ) (views : List View)
+    (told : List Told) : Type 0 where
+  pub shown : AreViews h.bytes offset views
+  pub are_told : AreToldOf (added_from 0 views) told
+  pub prefix : Took (told_lines told)
+
+abbrev pub EndsInLines : (List ℕ → Type 0) → BytesRead → Type 0
+EndsInLines Took h =
+    (offset : ℕ) × ((views : List View) × ((told : List Told) × HasLinesShort Took h offset views told))
+
+-- By the fault: an output that failed isn't asked again.
+abbrev pub IsLinesFault : EachFault → BytesRead → BytesWritten → BytesWritten → Type 0
+IsLinesFault Write h old new = (new.failures ≡ old.failures + 1) × EndsInLines (TookPart old new) h
+IsLinesFault Memory h old new = (new.failures ≡ old.failures) × EndsInLines (TookFirst old new) h
+
+-- by the outcome: the audit, how the input ends, and how many bytes the records have; the last lines are left in a text
+abbrev pub IsTelling : Result (Held × Option StreamFault × ℕ) EachFault → BytesRead → BytesWritten → BytesWritten
+    → List ℕ → Type 0
+IsTelling (Ok found) h old new text =
+    (views : List View) × ((told : List Told) × HasLines found.0 found.1 found.2 h old new text views told)
+IsTelling (Err fault) h old new text = IsLinesFault fault h old new

@@ -3,7 +3,7 @@ pub mod Channels
 pub mod Each
 pub mod Follows
 pub mod Judging
-pub mod Parts
+pub mod Pieces
 pub mod Series
 pub mod Summary
 pub mod Text

@@ -1,5 +1,6 @@
 -- What an audit of a whole input writes and answers.
 use Rattle.std.specs.Prelude.{◌≡◌, ◌<◌, ◌+◌, ℕ, List, [], ◌∷◌, ◌++◌, length, take, Option, Result, Ok, Err, is_some}
+use Rattle.std.specs.List.{concat}
 use Rattle.mseed_record.specs.View.{View}
 use Rattle.mseed_stream.specs.Device.{BytesRead, BytesWritten}
 use Rattle.mseed_stream.specs.declared.fault.StreamFault.{StreamFault}
@@ -8,7 +9,7 @@ use Rattle.mseed_audit.specs.declared.verdict.Verdict.TheVariants.{Continuous, B
 use Rattle.mseed_audit.specs.declared.archive.Summary.{Summary}
 use Rattle.mseed_audit.specs.declared.archive.AuditFault.{AuditFault}
 use Rattle.mseed_audit.specs.declared.archive.AuditFault.TheVariants.{Write, Memory}
-use Rattle.mseed_stream.specs.Walk.{AreAllViews}
+use Rattle.mseed_stream.specs.Walk.{AreAllViews, bytes_in}
 use Rattle.mseed_audit.specs.Channels.{added_from}
 use Rattle.mseed_audit.specs.Verdict.{AreVerdicts}
 use Rattle.mseed_audit.specs.Audit.{Held, IsAuditOf}
@@ -55,7 +56,9 @@ IsOutcome (Ok summary) h old new = (a : Audited h) × IsWritten summary a old ne
 IsOutcome (Err (Write taken)) h old new = (a : Audited h) × IsCutOff taken a old new
 IsOutcome (Err Memory) h old new = new ≡ old
 
--- all records up to the end were added
-pub record IsGathered (held : Held) (end : Option StreamFault) (h : BytesRead) (views : List View) : Type 0 where
+-- all records up to the end were added, and they have so many bytes
+pub record IsGathered (held : Held) (end : Option StreamFault) (bytes : ℕ) (h : BytesRead) (views : List View)
+    : Type 0 where
   pub all : AreAllViews h views end
   pub audit : IsAuditOf held (added_from 0 views)
+  pub size : length (concat (bytes_in views)) ≡ bytes

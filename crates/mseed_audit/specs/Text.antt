@@ -6,7 +6,6 @@ use Rattle.std.specs.List.{list_all}
 use Rattle.mseed_time.specs.Btime.{first_fault}
 use Rattle.mseed_time.specs.declared.fault.TimeFault.{TimeFault}
 use Rattle.mseed_time.specs.Rate.{Ratio}
-use Rattle.mseed_time.specs.Ratios.{ratio_of}
 use Rattle.mseed_time.specs.Text.{fault_word, time_text}
 use Rattle.mseed_record.specs.Header.{is_blank, key_at, time_at}
 use Rattle.mseed_record.specs.View.{View, start_of}
@@ -83,7 +82,7 @@ broken_words first count =
 -- a channel's line, by its verdict
 abbrev pub verdict_line : List ℕ → Verdict → List ℕ
 verdict_line key (Continuous start rate records samples) =
-    name_text key ++ continuous_words start (ratio_of rate) records samples
+    name_text key ++ continuous_words start rate records samples
 verdict_line key (Broken first count) = name_text key ++ broken_words first count
 
 -- how many records and channels there are

@@ -5,7 +5,7 @@ use Rattle.std.specs.Ordering.{nat_cmp}
 use Rattle.std.specs.Cmp.Lexicographic.{slice_cmp}
 use Rattle.std.specs.List.Sorted.{IsStrictlySortedBy}
 use Rattle.std.specs.Map.{keys_of, lookup}
-use Rattle.mseed_record.specs.Header.{factor_at, multiplier_at}
+use Rattle.mseed_time.specs.Rate.{Ratio}
 use Rattle.mseed_record.specs.View.{View, start_of}
 use Rattle.mseed_audit.specs.declared.finding.Why.{Why}
 use Rattle.mseed_audit.specs.declared.finding.Finding.{Finding}
@@ -13,7 +13,7 @@ use Rattle.mseed_audit.specs.declared.verdict.Verdict.{Verdict}
 use Rattle.mseed_audit.specs.declared.verdict.Verdict.TheVariants.{Continuous, Broken}
 use Rattle.mseed_audit.specs.Channels.{Added, Placed, same_key, records_of, sample_count, views_in}
 use Rattle.mseed_audit.specs.Follows.{IsContinuous}
-use Rattle.mseed_audit.specs.Judging.{IsFound}
+use Rattle.mseed_audit.specs.Judging.{IsFound, known_rate}
 
 -- a record's finding, if it has one, with the record's number and offset
 abbrev pub finding_at : Placed → Option Why → List Finding
@@ -28,12 +28,10 @@ pub data AreFindings : Option View → List Placed → List Finding → Type 0 w
       → AreFindings (Some p.view) ps found → AreFindings before (p ∷ ps) (finding_at p why ++ found)
 
 -- a channel without a finding: its first record's start and rate, and its counts
-pub record IsRun (first : Placed) (rest : List Placed) (start : ℤ) (factor multiplier : ℤ) (records samples : ℕ) : Type
-    0 where
+pub record IsRun (first : Placed) (rest : List Placed) (start : ℤ) (rate : Ratio) (records samples : ℕ) : Type 0 where
   pub findings : AreFindings None (first ∷ rest) []
   pub start_is : start ≡ start_of first.view
-  pub factor_is : factor ≡ factor_at first.view.order first.view.bytes
-  pub multiplier_is : multiplier ≡ multiplier_at first.view.order first.view.bytes
+  pub rate_is : known_rate first.view ≡ Some rate
   pub records_is : records ≡ length (first ∷ rest)
   pub samples_is : samples ≡ sample_count (first ∷ rest)
 
@@ -42,7 +40,7 @@ pub record IsRun (first : Placed) (rest : List Placed) (start : ℤ) (factor mul
 abbrev pub IsVerdict : Verdict → List Placed → Type 0
 IsVerdict (Continuous start rate records samples) ps =
     (first : Placed) × ((rest : List Placed)
-    × ((ps ≡ first ∷ rest) × IsRun first rest start rate.factor rate.multiplier records samples))
+    × ((ps ≡ first ∷ rest) × IsRun first rest start rate records samples))
 IsVerdict (Broken first count) ps =
     (rest : List Finding) × (AreFindings None ps (first ∷ rest) × (count ≡ length (first ∷ rest)))
 

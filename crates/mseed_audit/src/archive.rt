@@ -89,7 +89,7 @@ pub fn audit<A: Allocator + Copy, R: Source, W: Sink>(
     ensures source_beside { R.beside source.new ≡ R.beside source.old }
     ensures sink_beside { W.beside sink.new ≡ W.beside sink.old }
 {
-    let (audit, end) = match gather(alloc, source) {
+    let (audit, end, _) = match gather(alloc, source) {
         Ok(gathered) => gathered,
         Err(Memory) => return Err(AuditFault::Memory),
     };
@@ -111,23 +111,33 @@ pub fn audit<A: Allocator + Copy, R: Source, W: Sink>(
     }
 }
 
-/// Adds the records up to the input's end, and answers how it ends.
-fn gather<A: Allocator + Copy, R: Source>(
+/// Audits the records that a source tells, and answers the audit, the fault with which the input ends, if with one, and
+/// how many bytes the records have. The source is one of which nothing was read yet.
+///
+/// # Errors
+///
+/// `Memory` where an allocation was refused.
+pub fn gather<A: Allocator + Copy, R: Source>(
     alloc: A,
     source: &mut R,
-) -> Result<(Audit<A>, Option<StreamFault>), Memory>
+) -> Result<(Audit<A>, Option<StreamFault>, u64), Memory>
     requires { R.read source.old ≡ nothing_read }
     ensures gathered { IfOk result (λ found. (views : List View)
-        × IsGathered found.0 found.1 (R.read source.new) views) }
+        × IsGathered found.0 found.1 found.2 (R.read source.new) views) }
+
+    // What the source is known to have left is what was read of it, up to its end where the input is at its end.
     ensures more { TellsMore (R.read source.old) (R.read source.new) (R.remaining source.old)
         (R.remaining source.new) }
     ensures known { (R.read source.new).is_at_end ≡ true → IsAtEnd (R.remaining source.new) }
+
+    // What the source takes stays as it was.
     ensures beside { R.beside source.new ≡ R.beside source.old }
 {
     let mut cutter = Cutter::new(alloc);
     let mut audit = Audit::new(alloc);
     let mut text = Vec::new(alloc);
     'records: loop {
+        let bytes = cutter.offset();
         match add_next(
             &mut audit,
             &mut cutter,
@@ -136,7 +146,7 @@ fn gather<A: Allocator + Copy, R: Source>(
             &mut text,
         )? {
             Step::Added => {}
-            Step::Ended(end) => return Ok((audit, end)),
+            Step::Ended(end) => return Ok((audit, end, bytes)),
         }
     }
 }

@@ -8,7 +8,7 @@ ghost use Rattle.mseed_record.specs.Viewing.{view_of};
 ghost use Rattle.mseed_audit.specs.declared.assembly.NotContinuous.TheVariants.{Memory};
 ghost use Rattle.mseed_audit.specs.Channels.{Placed, added_from, is_of, records_of, with_record};
 ghost use Rattle.mseed_audit.specs.Audit.{StandsAt};
-ghost use Rattle.mseed_audit.specs.private.Kept.{IsBounded};
+ghost use Rattle.mseed_audit.specs.private.Kept.{IsBounded, IsFirstRate};
 ghost use Rattle.mseed_audit.specs.Series.{HoldsAll, IsSeries};
 ghost use Rattle.mseed_audit.specs.Follows.{IsSound};
 
@@ -53,14 +53,27 @@ pub fn series<A: Allocator + Copy>(
         None => return Err(NotContinuous::Absent),
     };
     match channel.verdict() {
-        Verdict::Continuous {
-            start,
-            rate,
-            samples,
-            ..
-        } => assemble(alloc, views, codes, start, rate, samples),
+        Verdict::Continuous { start, samples, .. } => match first_rate(views, codes) {
+            Some(rate) => assemble(alloc, views, codes, start, rate, samples),
+            None => unreachable!(),
+        },
         Verdict::Broken { first, .. } => Err(NotContinuous::Broken(first)),
     }
+}
+
+/// The sample rate of a channel's first record as its header has it; none where there is none.
+fn first_rate(views: &[RecordView], codes: &Codes) -> Option<Rate>
+    ensures { IsFirstRate (filter (is_of codes.now) (map view_of views.now)) result }
+{
+    for view in views {
+        if is_of(codes, view) {
+            return match view.rate() {
+                Ok(rate) => Some(rate),
+                Err(_) => None,
+            };
+        }
+    }
+    None
 }
 
 /// What is kept of a channel once all records came; nothing where none of them has samples of it.
@@ -85,12 +98,12 @@ fn channel_with(
     number: u64,
     offset: u64,
 ) -> Option<Channel>
-    requires { IfSome channel (λ c. IsBounded (2 ^ 40) c.verdict) }
+    requires { IfSome channel (λ c. IsBounded (2 ^ 40) c) }
     ensures stands { (ps : List Placed) → StandsAt channel ps
         → StandsAt result (with_record codes.now ps
         (record { view = view_of view.now; offset = offset; number = number })) }
-    ensures bounded { (n : ℕ) → IfSome channel (λ c. IsBounded n c.verdict)
-        → IfSome result (λ c. IsBounded (n + 1) c.verdict) }
+    ensures bounded { (n : ℕ) → IfSome channel (λ c. IsBounded n c)
+        → IfSome result (λ c. IsBounded (n + 1) c) }
 {
     if !is_of(codes, view) {
         return channel;

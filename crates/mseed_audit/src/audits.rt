@@ -4,10 +4,12 @@ ghost use Rattle.std.specs.Prelude.{IsTrue};
 ghost use Rattle.mseed_record.specs.Header.{key_at};
 ghost use Rattle.mseed_record.specs.Viewing.{view_of};
 ghost use Rattle.mseed_steim.specs.Reading.{count_of};
+ghost use Rattle.mseed_audit.specs.Audit.{AreChannels};
 ghost use Rattle.mseed_audit.specs.Channels.{Added, numbered, records_of};
 ghost use Rattle.mseed_audit.specs.Told.{IsFoundBehind};
 ghost use Rattle.mseed_audit.specs.Verdict.{AreVerdicts};
 
+use crate::channel::Channel;
 use crate::finding::Why;
 use crate::law::continuous_exactly;
 use crate::roster::Roster;
@@ -54,6 +56,21 @@ impl<A: Allocator> Model for Verdicts<A> {
     ghost Value = { List (List ℕ × Verdict) };
 
     ghost view = { λ v. v.verdicts.items };
+}
+
+/// What an audit keeps of each channel with samples, ascending by the 12 bytes of their keys.
+#[derive(Drop)]
+pub struct Channels<A: Allocator = Global> {
+    channels: Vec<(Codes, Channel), A>,
+}
+
+impl<A: Allocator> Model for Channels<A> {
+    ghost use Rattle.std.specs.Prelude.{List, ℕ};
+    ghost use Rattle.mseed_audit.specs.declared.channel.Channel.{Channel};
+
+    ghost Value = { List (List ℕ × Channel) };
+
+    ghost view = { λ c. c.channels.items };
 }
 
 impl<A: Allocator + Copy> Audit<A> {
@@ -137,6 +154,28 @@ impl<A: Allocator + Copy> Audit<A> {
         Verdicts {
             verdicts: self.roster.into_verdicts(),
         }
+    }
+
+    /// What the audit keeps of the records that were added, by channel.
+    ///
+    /// # Errors
+    ///
+    /// `Memory` where an allocation was refused.
+    pub fn into_channels(self, alloc: A) -> Result<Channels<A>, Memory>
+        ensures { (added : List Added) → IsAuditOf self added → IfOk result (λ channels. AreChannels added channels) }
+    {
+        Ok(Channels {
+            channels: self.roster.into_channels(alloc)?,
+        })
+    }
+}
+
+impl<A: Allocator> Channels<A> {
+    /// What is kept of them, by channel.
+    pub fn as_slice(&self) -> &[(Codes, Channel)]
+        ensures { result.now ≡ self.now }
+    {
+        &self.channels
     }
 }
 

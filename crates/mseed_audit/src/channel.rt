@@ -1,11 +1,11 @@
 //! What is kept of a channel while its records come.
-ghost use Rattle.std.specs.Prelude.{◌≡◌, ◌<◌, ◌+◌, ◌^◌, ℕ, List, [], ◌∷◌, ◌++◌, Option, Some};
+ghost use Rattle.std.specs.Prelude.{◌≡◌, ◌<◌, ◌≤◌, ◌+◌, ◌^◌, ℕ, List, [], ◌∷◌, ◌++◌, Option, Some};
 ghost use Rattle.mseed_record.specs.View.{View};
 ghost use Rattle.mseed_record.specs.Viewing.{view_of};
 ghost use Rattle.mseed_steim.specs.Reading.{count_of};
 ghost use Rattle.mseed_audit.specs.Judging.{IsFound};
-ghost use Rattle.mseed_audit.specs.Audit.{IsTailOf};
-ghost use Rattle.mseed_audit.specs.private.Kept.{IsTailBefore, why_in, tail_in};
+ghost use Rattle.mseed_audit.specs.Audit.{IsTailOf, count_in, head_in, tail_in, verdict_of};
+ghost use Rattle.mseed_audit.specs.private.Kept.{IsTailBefore, end_in, why_in, with_end, with_finding};
 ghost use Rattle.mseed_audit.specs.Told.{last_of};
 
 use crate::finding::{Finding, Why};
@@ -13,14 +13,53 @@ use crate::tail::Tail;
 use crate::verdict::Verdict;
 use mseed_record::RecordView;
 use mseed_steim::check_samples;
+use mseed_time::{Micros, Ratio};
 
-/// What is kept of a channel: the verdict on its records so far, and the end of the last of them. It has a
-/// fixed size, however many records came.
-#[derive(Clone, Copy, Debug)]
-pub(crate) struct Channel {
-    verdict: Verdict,
-    /// None where the last record's time or rate isn't known.
-    tail: Option<Tail>,
+/// How a channel begins whose first record has no finding of its own.
+#[derive(Clone, Copy, Debug, PartialEq, Eq)]
+pub struct Head {
+    /// The first record's number among all that were added, from 1.
+    pub number: u64,
+    /// Where it begins, in bytes from the input's beginning.
+    pub offset: u64,
+    /// Its first sample's instant.
+    pub start: Micros,
+    /// Its sample rate.
+    pub rate: Ratio,
+}
+
+/// What was found of a channel's records, how the first begins and how the last ends.
+#[derive(Clone, Copy, Debug, PartialEq, Eq)]
+pub enum Findings {
+    /// Nothing was found of any.
+    Nothing {
+        /// How the first begins.
+        head: Head,
+        /// How the last ends.
+        tail: Tail,
+    },
+    /// Something was.
+    Counted {
+        /// The number of records with a finding.
+        count: u64,
+        /// The first finding.
+        first: Finding,
+        /// How the first record begins; none where it has a finding of its own, which asks for no record before.
+        head: Option<Head>,
+        /// How the last ends; none where its time or rate isn't known.
+        tail: Option<Tail>,
+    },
+}
+
+/// What is kept of a channel. It has a fixed size, however many records came.
+#[derive(Clone, Copy, Debug, PartialEq, Eq)]
+pub struct Channel {
+    /// The number of records with samples.
+    pub records: u64,
+    /// The number of samples in all of them.
+    pub samples: u64,
+    /// What was found of them, how the first begins and how the last ends.
+    pub findings: Findings,
 }
 
 /// What is found of a record, and its end.
@@ -41,16 +80,18 @@ impl Channel {
     pub(crate) fn begin(view: &RecordView, number: u64, offset: u64) -> (Channel, Option<Why>)
         requires { 0 < count_of (view_of view.now) }
         ensures stands { Stands result.0 (record { view = view_of view.now; offset = offset; number = number } ∷ []) }
-        ensures bounded { IsBounded 1 result.0.verdict }
+        ensures bounded { IsBounded 1 result.0 }
         ensures found { IsFound None (view_of view.now) result.1 }
     {
-        match judge(None, view) {
+        let (findings, why) = match judge(None, view) {
             Judged::Sound(tail) => {
-                let channel = Channel {
-                    verdict: tail.verdict_alone(),
-                    tail: Some(tail),
+                let head = Head {
+                    number,
+                    offset,
+                    start: tail.start,
+                    rate: tail.rate,
                 };
-                (channel, None)
+                (Findings::Nothing { head, tail }, None)
             }
             Judged::Faulty(why, tail) => {
                 let first = Finding {
@@ -58,48 +99,125 @@ impl Channel {
                     offset,
                     why,
                 };
-                let channel = Channel {
-                    verdict: Verdict::Broken { first, count: 1 },
+                let findings = Findings::Counted {
+                    count: 1,
+                    first,
+                    head: None,
                     tail,
                 };
-                (channel, Some(why))
+                (findings, Some(why))
             }
-        }
+        };
+        let channel = Channel {
+            records: 1,
+            samples: u64::from(view.samples()),
+            findings,
+        };
+        (channel, why)
     }
 
     /// One more record of the channel. Answers what is found of it.
     #[inline(always)]
     pub(crate) fn add(&mut self, view: &RecordView, number: u64, offset: u64) -> Option<Why>
         requires some { 0 < count_of (view_of view.now) }
-        requires bounded { IsBounded (2 ^ 40) self.old.verdict }
+        requires bounded { IsBounded (2 ^ 40) self.old }
         ensures stands { (ps : List Placed) → Stands self.old ps
             → Stands self.new (ps ++ record { view = view_of view.now; offset = offset; number = number } ∷ []) }
-        ensures bounded { (n : ℕ) → IsBounded n self.old.verdict → IsBounded (n + 1) self.new.verdict }
+        ensures bounded { (n : ℕ) → IsBounded n self.old → IsBounded (n + 1) self.new }
         ensures found { (ps : List Placed) → Stands self.old ps → IsFound (last_of None ps) (view_of view.now) result }
     {
-        match judge(self.tail, view) {
+        let judged = judge(self.findings.tail(), view);
+        self.records += 1;
+        self.samples += u64::from(view.samples());
+        match judged {
             Judged::Sound(tail) => {
-                self.verdict = self.verdict.with_samples(tail.samples());
-                self.tail = Some(tail);
+                self.findings.end_with(tail);
                 None
             }
             Judged::Faulty(why, tail) => {
-                self.verdict = self.verdict.with_finding(Finding {
+                let finding = Finding {
                     number,
                     offset,
                     why,
-                });
-                self.tail = tail;
+                };
+                self.findings = self.findings.with_finding(finding, tail);
                 Some(why)
             }
         }
     }
 
     /// The verdict on the records so far.
-    pub(crate) fn verdict(&self) -> Verdict
-        ensures { result ≡ self.now.verdict }
+    pub fn verdict(&self) -> Verdict
+        ensures { result ≡ verdict_of self.now }
     {
-        self.verdict
+        match self.findings {
+            Findings::Nothing { head, .. } => Verdict::Continuous {
+                start: head.start,
+                rate: head.rate,
+                records: self.records,
+                samples: self.samples,
+            },
+            Findings::Counted { count, first, .. } => Verdict::Broken { first, count },
+        }
+    }
+}
+
+impl Findings {
+    /// How the first record begins, where it has no finding of its own.
+    pub fn head(&self) -> Option<Head>
+        ensures { result ≡ head_in self.now }
+    {
+        match self {
+            Findings::Nothing { head, .. } => Some(*head),
+            Findings::Counted { head, .. } => *head,
+        }
+    }
+
+    /// How the last record ends, where its time and rate are known.
+    pub fn tail(&self) -> Option<Tail>
+        ensures { result ≡ tail_in self.now }
+    {
+        match self {
+            Findings::Nothing { tail, .. } => Some(*tail),
+            Findings::Counted { tail, .. } => *tail,
+        }
+    }
+
+    /// Takes the end of a further record, which has no finding.
+    #[inline(always)]
+    fn end_with(&mut self, end: Tail)
+        ensures { self.new ≡ with_end self.old end }
+    {
+        match self {
+            Findings::Nothing { tail, .. } => *tail = end,
+            Findings::Counted { tail, .. } => *tail = Some(end),
+        }
+    }
+
+    /// With a further record, which has a finding and ends so.
+    fn with_finding(self, finding: Finding, end: Option<Tail>) -> Findings
+        requires { count_in self ≤ 2 ^ 40 }
+        ensures { result ≡ with_finding self finding end }
+    {
+        match self {
+            Findings::Nothing { head, .. } => Findings::Counted {
+                count: 1,
+                first: finding,
+                head: Some(head),
+                tail: end,
+            },
+            Findings::Counted {
+                count,
+                first,
+                head,
+                ..
+            } => Findings::Counted {
+                count: count + 1,
+                first,
+                head,
+                tail: end,
+            },
+        }
     }
 }
 
@@ -107,7 +225,7 @@ impl Judged {
     /// What is found of a record whose end is known.
     fn with_end(why: Option<Why>, tail: Tail) -> Judged
         ensures why { why_in result ≡ why }
-        ensures tail { tail_in result ≡ Some tail }
+        ensures tail { end_in result ≡ Some tail }
     {
         match why {
             None => Judged::Sound(tail),
@@ -120,16 +238,17 @@ impl Judged {
 #[inline(always)]
 fn judge(before: Option<Tail>, view: &RecordView) -> Judged
     requires { 0 < count_of (view_of view.now) }
-    ensures tail { IsTailOf (tail_in result) (view_of view.now) }
+    ensures tail { IsTailOf (end_in result) (view_of view.now) }
     ensures why { (b : Option View) → IsTailBefore before b → IsFound b (view_of view.now) (why_in result) }
 {
     let tail = match Tail::of(view) {
         Ok(tail) => tail,
         Err(why) => return Judged::Faulty(why, None),
     };
+    let (start, rate) = (tail.start, tail.rate);
     let why = match check_samples(view) {
         Ok(_) => match before {
-            Some(before) => before.break_to(&tail),
+            Some(before) => before.break_to(start, rate),
             None => None,
         },
         Err(fault) => Some(Why::Read(fault)),

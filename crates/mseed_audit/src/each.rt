@@ -3,8 +3,8 @@ ghost use Rattle.std.specs.Prelude.{◌≡◌, ◌++◌, List, ℕ, [], IfErr, O
 ghost use Rattle.std.specs.Io.KnownBytes.{Appends, IsAtEnd};
 ghost use Rattle.mseed_stream.specs.Cutting.{TellsMore};
 ghost use Rattle.mseed_stream.specs.Device.{nothing_read};
-ghost use Rattle.mseed_audit.specs.Each.{IsEachOutcome};
-ghost use Rattle.mseed_audit.specs.private.Gathered.{IsPrefixWritten, IsTelling, TakesMore};
+ghost use Rattle.mseed_audit.specs.Each.{IsEachOutcome, IsTelling, TakesMore};
+ghost use Rattle.mseed_audit.specs.private.Gathered.{IsPrefixWritten};
 
 use crate::archive::{Lines, Step, Summary, add_next, count_broken};
 use crate::audits::{Audit, Memory};
@@ -55,7 +55,7 @@ pub fn audit_each<A: Allocator + Copy, R: Source, W: Sink>(
     ensures sink_beside { W.beside sink.new ≡ W.beside sink.old }
 {
     let mut text = Vec::new(alloc);
-    let (audit, end) = tell_all(alloc, source, sink, &mut text)?;
+    let (audit, end, _) = gather_each(alloc, source, sink, &mut text)?;
     let records = audit.added();
     let verdicts = audit.finish();
     match push_audit(&mut text, verdicts.as_slice(), records, &end) {
@@ -71,30 +71,42 @@ pub fn audit_each<A: Allocator + Copy, R: Source, W: Sink>(
     })
 }
 
-/// Adds the records up to the input's end, which it answers, and writes the lines of those with a finding. The last
-/// lines are left in `text`.
-fn tell_all<A: Allocator + Copy, R: Source, W: Sink>(
+/// Audits the records that a source tells as `gather` does, and writes a line for each record with a finding, in the
+/// order of the input. The lines are written as records come, some at a time; the last are left in `text`, which is
+/// empty at first.
+///
+/// # Errors
+///
+/// `Write` where the output failed, `Memory` where an allocation was refused. A prefix of the lines was written then.
+pub fn gather_each<A: Allocator + Copy, R: Source, W: Sink>(
     alloc: A,
     source: &mut R,
     sink: &mut W,
     text: &mut Vec<u8, A>,
-) -> Result<(Audit<A>, Option<StreamFault>), EachFault>
+) -> Result<(Audit<A>, Option<StreamFault>, u64), EachFault>
     requires read { R.read source.old ≡ nothing_read }
     requires text { text.old.items ≡ [] }
     ensures told { IsTelling result (R.read source.new) (W.written sink.old) (W.written sink.new) text.new.items }
+
+    // What the source is known to have left is what was read of it, up to its end where the input is at its end.
     ensures more { TellsMore (R.read source.old) (R.read source.new) (R.remaining source.old)
         (R.remaining source.new) }
     ensures known { (R.read source.new).is_at_end ≡ true → IsAtEnd (R.remaining source.new) }
+
+    // What the sink is known to hold grew by what it took.
     ensures contents { TakesMore (W.written sink.old) (W.written sink.new) (W.contents sink.old) (W.contents sink.new) }
+
+    // What the source takes, and what the sink tells, stay as they were.
     ensures source_beside { R.beside source.new ≡ R.beside source.old }
     ensures sink_beside { W.beside sink.new ≡ W.beside sink.old }
 {
     let mut cutter = Cutter::new(alloc);
     let mut audit = Audit::new(alloc);
     'records: loop {
+        let bytes = cutter.offset();
         match add_next(&mut audit, &mut cutter, source, Lines::OfRecords, text) {
             Ok(Step::Added) => {}
-            Ok(Step::Ended(end)) => return Ok((audit, end)),
+            Ok(Step::Ended(end)) => return Ok((audit, end, bytes)),
             Err(Memory) => return Err(EachFault::Memory),
         }
         if text.len() >= GATHERED {

@@ -1,11 +1,13 @@
 //! Laws: what the definitions determine, they determine once.
-ghost use Rattle.std.specs.Prelude.{◌≡◌, ◌↔◌, ◌++◌, List, ℕ, ℤ, length, Option, None, IsTrue};
+ghost use Rattle.std.specs.Prelude.{◌≡◌, ◌↔◌, ◌++◌, List, ℕ, ℤ, length, map, Option, None, IsTrue};
 ghost use Rattle.std.specs.Map.{lookup};
 ghost use Rattle.mseed_record.specs.View.{View};
 ghost use Rattle.mseed_time.specs.declared.outcome.LeapStep.{LeapStep};
+ghost use Rattle.mseed_audit.specs.declared.channel.Channel.{Channel};
 ghost use Rattle.mseed_audit.specs.declared.finding.Why.{Why};
 ghost use Rattle.mseed_audit.specs.declared.finding.Finding.{Finding};
 ghost use Rattle.mseed_audit.specs.declared.verdict.Verdict.{Verdict};
+ghost use Rattle.mseed_audit.specs.Audit.{AreChannels, verdict_of};
 ghost use Rattle.mseed_audit.specs.Channels.{Added, Placed, records_of, same_key, views_in};
 ghost use Rattle.mseed_audit.specs.Each.{AuditedEach, each_text};
 ghost use Rattle.mseed_audit.specs.Text.{told_lines};
@@ -53,6 +55,14 @@ pub fn one_list_of_verdicts()
         → AreVerdicts added ws → vs ≡ ws }
 {
     one_fault();
+}
+
+/// What is kept of channels tells the verdicts on them.
+pub fn channels_have_verdicts()
+    ensures { (added : List Added) (channels : List (List ℕ × Channel)) → AreChannels added channels
+        → AreVerdicts added (map (λ e. (e.0, verdict_of e.1)) channels) }
+{
+    continuous_exactly();
 }
 
 /// What was read has one audit: one text and one summary.

@@ -11,7 +11,7 @@ mod finding;
 mod law;
 mod line;
 mod name;
-mod parts;
+mod pieces;
 mod roster;
 mod tail;
 #[cfg(test)]
@@ -19,18 +19,20 @@ mod tests;
 mod text;
 mod verdict;
 
-pub use archive::{AuditFault, Summary, audit};
+pub use archive::{AuditFault, Summary, audit, gather};
 pub use assembly::{NotContinuous, is_of, series};
-pub use audits::{Audit, Memory, Verdicts};
+pub use audits::{Audit, Channels, Memory, Verdicts};
+pub use channel::{Channel, Findings, Head};
 pub use channel_series::{BadStep, Series};
-pub use each::{EachFault, audit_each};
+pub use each::{EachFault, audit_each, gather_each};
 pub use finding::{Finding, Why};
 pub use law::{
-    continuous_exactly, findings_told, one_audit, one_bad_step, one_finding, one_list_of_verdicts,
-    one_series, one_telling, one_verdict,
+    channels_have_verdicts, continuous_exactly, findings_told, one_audit, one_bad_step,
+    one_finding, one_list_of_verdicts, one_series, one_telling, one_verdict,
 };
 pub use line::{Line, fault_line_of, line_of, name_of};
 pub use name::push_name;
-pub use parts::{Part, push_count, push_parts};
-pub use text::{push_fault_line, push_start};
+pub use pieces::{Piece, push_count, push_pieces};
+pub use tail::Tail;
+pub use text::{push_fault_line, push_start, push_why};
 pub use verdict::Verdict;

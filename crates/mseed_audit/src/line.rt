@@ -1,10 +1,10 @@
 //! A line that is built without the heap.
 ghost use Rattle.std.specs.Prelude.{◌≡◌, ◌≤◌, ◌+◌, ◌++◌, length, codes, decimal};
-ghost use Rattle.mseed_audit.specs.Parts.{part_text, parts_text};
+ghost use Rattle.mseed_audit.specs.Pieces.{piece_text, pieces_text};
 ghost use Rattle.mseed_audit.specs.Text.{code_text, name_text, fault_line, frame_words};
 
 use crate::name::{printed, trimmed};
-use crate::parts::Part::{self, Count, Words};
+use crate::pieces::Piece::{self, Count, Words};
 use arrayvec::ArrayVec;
 use itoa::Buffer;
 use mseed_record::{Codes, FrameFault};
@@ -13,28 +13,28 @@ use mseed_stream::StreamFault;
 /// A line, or a piece of one.
 pub type Line = ArrayVec<u8, 128>;
 
-/// The parts, one behind another.
-pub fn line_of(parts: &[Part<'_>]) -> Line
-    requires { length (parts_text parts.now) ≤ 128 }
-    ensures { result.items ≡ parts_text parts.now }
+/// The pieces, one behind another.
+pub fn line_of(pieces: &[Piece<'_>]) -> Line
+    requires { length (pieces_text pieces.now) ≤ 128 }
+    ensures { result.items ≡ pieces_text pieces.now }
 {
     let mut line = ArrayVec::new();
-    for part in parts {
-        put_part(&mut line, *part);
+    for piece in pieces {
+        put_piece(&mut line, *piece);
     }
     line
 }
 
-/// Puts a part behind a line.
-fn put_part(line: &mut Line, part: Part<'_>)
-    requires { length line.old.items + length (part_text part) ≤ 128 }
-    ensures { line.new.items ≡ line.old.items ++ part_text part.entry }
+/// Puts a piece behind a line.
+fn put_piece(line: &mut Line, piece: Piece<'_>)
+    requires { length line.old.items + length (piece_text piece) ≤ 128 }
+    ensures { line.new.items ≡ line.old.items ++ piece_text piece.entry }
 {
-    match part {
-        Part::Words(words) => put(line, words),
-        Part::Count(count) => put(line, Buffer::new().format(count).as_bytes()),
-        Part::Wide(count) => put(line, Buffer::new().format(count).as_bytes()),
-        Part::Signed(number) => put(line, Buffer::new().format(number).as_bytes()),
+    match piece {
+        Piece::Words(words) => put(line, words),
+        Piece::Count(count) => put(line, Buffer::new().format(count).as_bytes()),
+        Piece::Wide(count) => put(line, Buffer::new().format(count).as_bytes()),
+        Piece::Signed(number) => put(line, Buffer::new().format(number).as_bytes()),
     }
 }
 
@@ -95,9 +95,9 @@ pub fn fault_line_of(fault: &StreamFault) -> Line
 }
 
 /// The line of a fault at an offset, by what follows the offset.
-fn fault_at(offset: u64, words: &[Part<'_>]) -> Line
-    requires { length (parts_text words.now) ≤ 31 }
-    ensures text { result.items ≡ codes "fault at " ++ decimal offset ++ parts_text words.now ++ codes "\n" }
+fn fault_at(offset: u64, words: &[Piece<'_>]) -> Line
+    requires { length (pieces_text words.now) ≤ 31 }
+    ensures text { result.items ≡ codes "fault at " ++ decimal offset ++ pieces_text words.now ++ codes "\n" }
     ensures most { length result.items ≤ 61 }
 {
     line_of(&[

@@ -3,8 +3,8 @@ ghost use Rattle.std.specs.Prelude.{◌≡◌, ◌++◌, OnOk};
 ghost use Rattle.mseed_stream.specs.Device.{IsPrefixOf};
 ghost use Rattle.mseed_audit.specs.Text.{name_text, code_text, printed, trimmed};
 
-use crate::parts::Part::Words;
-use crate::parts::push_parts;
+use crate::pieces::Piece::Words;
+use crate::pieces::push_pieces;
 use mseed_record::{Codes, is_blank};
 use std::alloc::{AllocError, Allocator};
 
@@ -20,11 +20,11 @@ pub fn push_name<A: Allocator>(text: &mut Vec<u8, A>, codes: &Codes) -> Result<(
     ensures prefix { IsPrefixOf text.old.items text.new.items }
 {
     push_code(text, codes.network())?;
-    push_parts(text, &[Words(b"_")])?;
+    push_pieces(text, &[Words(b"_")])?;
     push_code(text, codes.station())?;
-    push_parts(text, &[Words(b"_")])?;
+    push_pieces(text, &[Words(b"_")])?;
     push_code(text, codes.location())?;
-    push_parts(text, &[Words(b"_")])?;
+    push_pieces(text, &[Words(b"_")])?;
     push_code(text, codes.channel())
 }
 

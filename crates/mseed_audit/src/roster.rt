@@ -5,12 +5,13 @@ ghost use Rattle.mseed_record.specs.Header.{key_at};
 ghost use Rattle.mseed_record.specs.Viewing.{view_of};
 ghost use Rattle.mseed_steim.specs.Reading.{count_of};
 ghost use Rattle.std.specs.Map.{keys_of, lookup};
+ghost use Rattle.std.specs.Option.{option_map};
 ghost use Rattle.std.specs.Ordering.{nat_cmp};
 ghost use Rattle.std.specs.Cmp.Lexicographic.{slice_cmp};
 ghost use Rattle.std.specs.List.Sorted.{IsStrictlySortedBy};
 ghost use Rattle.mseed_audit.specs.Channels.{Placed, same_key, with_record};
-ghost use Rattle.mseed_audit.specs.Audit.{StandsAt};
-ghost use Rattle.mseed_audit.specs.private.Kept.{AreBounded, place_of, verdict_in};
+ghost use Rattle.mseed_audit.specs.Audit.{StandsAt, verdict_of};
+ghost use Rattle.mseed_audit.specs.private.Kept.{AreBounded, place_of};
 ghost use Rattle.mseed_audit.specs.Told.{IsFoundOf};
 
 use crate::audits::Memory;
@@ -164,7 +165,8 @@ impl<A: Allocator + Copy> Roster<A> {
     /// The verdict on each channel, ascending by the 12 bytes of their keys. It takes no memory.
     pub(crate) fn into_verdicts(self) -> Vec<(Codes, Verdict), A>
         ensures ascending { IsStrictlySortedBy (slice_cmp nat_cmp) (keys_of result.items) }
-        ensures each { (key : List ℕ) → lookup (same_key key) result.items ≡ verdict_in (lookup (same_key key) self) }
+        ensures each { (key : List ℕ) → lookup (same_key key) result.items
+            ≡ option_map verdict_of (lookup (same_key key) self) }
     {
         let Roster {
             channels,
@@ -179,5 +181,29 @@ impl<A: Allocator + Copy> Roster<A> {
             }
         }
         verdicts
+    }
+
+    /// What is kept of each channel, ascending by the 12 bytes of their keys.
+    pub(crate) fn into_channels(self, alloc: A) -> Result<Vec<(Codes, Channel), A>, Memory>
+        ensures ascending { IfOk result (λ sorted. IsStrictlySortedBy (slice_cmp nat_cmp) (keys_of sorted.items)) }
+        ensures each { IfOk result (λ sorted. (key : List ℕ)
+            → lookup (same_key key) sorted.items ≡ lookup (same_key key) self) }
+    {
+        let Roster {
+            channels,
+            places,
+            ..
+        } = self;
+        let mut sorted = match Vec::with_capacity(alloc, places.len()) {
+            Ok(sorted) => sorted,
+            Err(_) => return Err(Memory),
+        };
+        for (codes, index) in places {
+            match sorted.push((codes, channels[index].1)) {
+                Ok(()) => {}
+                Err(_) => unreachable!(),
+            }
+        }
+        Ok(sorted)
     }
 }

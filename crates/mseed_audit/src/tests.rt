@@ -6,6 +6,7 @@ mod auditing;
 mod cutting;
 mod devices;
 mod framing;
+mod keeping;
 mod records;
 mod telling;
 mod times;

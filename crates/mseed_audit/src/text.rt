@@ -1,6 +1,5 @@
 //! The lines of an audit's text.
 ghost use Rattle.std.specs.Prelude.{◌≡◌, ◌++◌, OnOk};
-ghost use Rattle.mseed_time.specs.Ratios.{ratio_of};
 ghost use Rattle.mseed_stream.specs.Device.{IsPrefixOf};
 ghost use Rattle.mseed_audit.specs.Text.{audit_text, verdict_lines, verdict_line, continuous_words};
 ghost use Rattle.mseed_audit.specs.Text.{broken_words, total_line, why_text, read_text};
@@ -12,13 +11,13 @@ ghost use Rattle.mseed_stream.specs.declared.fault.StreamFault.{StreamFault};
 use crate::audits::Memory;
 use crate::finding::{Finding, Why};
 use crate::name::push_name;
-use crate::parts::Part::{Count, Signed, Wide, Words};
-use crate::parts::push_parts;
+use crate::pieces::Piece::{Count, Signed, Wide, Words};
+use crate::pieces::push_pieces;
 use crate::verdict::Verdict;
 use mseed_record::{Codes, FrameFault, RecordView};
 use mseed_steim::ReadFault;
 use mseed_stream::StreamFault;
-use mseed_time::{Micros, Rate, show_time};
+use mseed_time::{Micros, Ratio, show_time};
 use std::alloc::{AllocError, Allocator};
 
 /// Adds the text of an audit: a line for each verdict, the numbers of records and of channels, and the line of
@@ -80,15 +79,15 @@ fn push_channel_line<A: Allocator>(
 fn push_continuous<A: Allocator>(
     text: &mut Vec<u8, A>,
     start: Micros,
-    rate: Rate,
+    rate: Ratio,
     records: u64,
     samples: u64,
 ) -> Result<(), AllocError>
     ensures ok { OnOk result (text.new.items
-        ≡ text.old.items ++ continuous_words start (ratio_of rate) records samples) }
+        ≡ text.old.items ++ continuous_words start rate records samples) }
     ensures prefix { IsPrefixOf text.old.items text.new.items }
 {
-    push_parts(
+    push_pieces(
         text,
         &[
             Words(b" continuous "),
@@ -115,7 +114,7 @@ fn push_broken<A: Allocator>(
     ensures ok { OnOk result (text.new.items ≡ text.old.items ++ broken_words first.now count) }
     ensures prefix { IsPrefixOf text.old.items text.new.items }
 {
-    push_parts(
+    push_pieces(
         text,
         &[
             Words(b" broken findings "),
@@ -128,7 +127,7 @@ fn push_broken<A: Allocator>(
         ],
     )?;
     push_why(text, &first.why)?;
-    push_parts(text, &[Words(b"\n")])
+    push_pieces(text, &[Words(b"\n")])
 }
 
 /// Adds the line of a record, if something is found of it. Where memory is refused, a part of it may have been added.
@@ -165,16 +164,16 @@ fn push_told_line<A: Allocator>(
     ensures { OnOk result (text.new.items
         ≡ text.old.items ++ told_line (record { view = view_of view.now; finding = finding.now })) }
 {
-    push_parts(text, &[Count(finding.offset), Words(b" ")])?;
+    push_pieces(text, &[Count(finding.offset), Words(b" ")])?;
     push_name(text, &view.codes())?;
-    push_parts(
+    push_pieces(
         text,
         &[Words(b" record "), Count(finding.number), Words(b" start ")],
     )?;
     push_start(text, view)?;
-    push_parts(text, &[Words(b" ")])?;
+    push_pieces(text, &[Words(b" ")])?;
     push_why(text, &finding.why)?;
-    push_parts(text, &[Words(b"\n")])
+    push_pieces(text, &[Words(b"\n")])
 }
 
 /// Adds a record's start, or `fault` and the first field of it that is out of its range.
@@ -188,8 +187,8 @@ pub fn push_start<A: Allocator>(text: &mut Vec<u8, A>, view: &RecordView) -> Res
     ensures prefix { IsPrefixOf text.old.items text.new.items }
 {
     match view.start() {
-        Ok(start) => push_parts(text, &[Words(&show_time(start))]),
-        Err(fault) => push_parts(text, &[Words(b"fault "), Words(fault.word().as_bytes())]),
+        Ok(start) => push_pieces(text, &[Words(&show_time(start))]),
+        Err(fault) => push_pieces(text, &[Words(b"fault "), Words(fault.word().as_bytes())]),
     }
 }
 
@@ -202,7 +201,7 @@ fn push_total_line<A: Allocator>(
     ensures ok { OnOk result (text.new.items ≡ text.old.items ++ total_line records channels) }
     ensures prefix { IsPrefixOf text.old.items text.new.items }
 {
-    push_parts(
+    push_pieces(
         text,
         &[
             Words(b"records "),
@@ -229,7 +228,7 @@ pub fn push_fault_line<A: Allocator>(
 {
     match fault {
         StreamFault::Frame(offset, fault) => push_frame_line(text, *offset, fault),
-        StreamFault::Truncated(offset, have) => push_parts(
+        StreamFault::Truncated(offset, have) => push_pieces(
             text,
             &[
                 Words(b"fault at "),
@@ -240,13 +239,13 @@ pub fn push_fault_line<A: Allocator>(
             ],
         ),
         StreamFault::Read(offset) => {
-            push_parts(
+            push_pieces(
                 text,
                 &[Words(b"fault at "), Count(*offset), Words(b" read\n")],
             )
         }
         StreamFault::Turns(offset) => {
-            push_parts(
+            push_pieces(
                 text,
                 &[Words(b"fault at "), Count(*offset), Words(b" turns\n")],
             )
@@ -264,9 +263,9 @@ fn push_frame_line<A: Allocator>(
     ensures ok { OnOk result (text.new.items ≡ text.old.items ++ fault_line (StreamFault.Frame offset fault.now)) }
     ensures prefix { IsPrefixOf text.old.items text.new.items }
 {
-    push_parts(text, &[Words(b"fault at "), Count(offset), Words(b" ")])?;
+    push_pieces(text, &[Words(b"fault at "), Count(offset), Words(b" ")])?;
     push_frame_words(text, fault)?;
-    push_parts(text, &[Words(b"\n")])
+    push_pieces(text, &[Words(b"\n")])
 }
 
 /// Adds why bytes begin no record.
@@ -278,31 +277,38 @@ fn push_frame_words<A: Allocator>(
     ensures prefix { IsPrefixOf text.old.items text.new.items }
 {
     match fault {
-        FrameFault::NotData => push_parts(text, &[Words(b"notdata")]),
-        FrameFault::Order => push_parts(text, &[Words(b"order")]),
-        FrameFault::Chain => push_parts(text, &[Words(b"chain")]),
-        FrameFault::No1000 => push_parts(text, &[Words(b"no1000")]),
+        FrameFault::NotData => push_pieces(text, &[Words(b"notdata")]),
+        FrameFault::Order => push_pieces(text, &[Words(b"order")]),
+        FrameFault::Chain => push_pieces(text, &[Words(b"chain")]),
+        FrameFault::No1000 => push_pieces(text, &[Words(b"no1000")]),
         FrameFault::Length(exponent) => {
-            push_parts(text, &[Words(b"length "), Count(u64::from(*exponent))])
+            push_pieces(text, &[Words(b"length "), Count(u64::from(*exponent))])
         }
-        FrameFault::Outside => push_parts(text, &[Words(b"outside")]),
-        FrameFault::Version3 => push_parts(text, &[Words(b"version3")]),
+        FrameFault::Outside => push_pieces(text, &[Words(b"outside")]),
+        FrameFault::Version3 => push_pieces(text, &[Words(b"version3")]),
     }
 }
 
 /// Adds the words of a finding.
-fn push_why<A: Allocator>(text: &mut Vec<u8, A>, why: &Why) -> Result<(), AllocError>
+///
+/// # Errors
+///
+/// `AllocError` where memory is refused. What was there stays in front, and a part of the words may have been added
+/// behind it.
+pub fn push_why<A: Allocator>(text: &mut Vec<u8, A>, why: &Why) -> Result<(), AllocError>
     ensures ok { OnOk result (text.new.items ≡ text.old.items ++ why_text why.now) }
     ensures prefix { IsPrefixOf text.old.items text.new.items }
 {
     match why {
-        Why::Time(fault) => { push_parts(text, &[Words(b"time "), Words(fault.word().as_bytes())]) }
-        Why::Rate => push_parts(text, &[Words(b"norate")]),
+        Why::Time(fault) => {
+            push_pieces(text, &[Words(b"time "), Words(fault.word().as_bytes())])
+        }
+        Why::Rate => push_pieces(text, &[Words(b"norate")]),
         Why::Read(fault) => push_read_fault(text, fault),
-        Why::RateChange => push_parts(text, &[Words(b"ratechange")]),
-        Why::Leap => push_parts(text, &[Words(b"leap")]),
-        Why::Gap(micros) => push_parts(text, &[Words(b"gap "), Wide(*micros)]),
-        Why::Overlap(micros) => push_parts(text, &[Words(b"overlap "), Wide(*micros)]),
+        Why::RateChange => push_pieces(text, &[Words(b"ratechange")]),
+        Why::Leap => push_pieces(text, &[Words(b"leap")]),
+        Why::Gap(micros) => push_pieces(text, &[Words(b"gap "), Wide(*micros)]),
+        Why::Overlap(micros) => push_pieces(text, &[Words(b"overlap "), Wide(*micros)]),
     }
 }
 
@@ -312,14 +318,14 @@ fn push_read_fault<A: Allocator>(text: &mut Vec<u8, A>, fault: &ReadFault) -> Re
     ensures prefix { IsPrefixOf text.old.items text.new.items }
 {
     match fault {
-        ReadFault::Blockette100 => push_parts(text, &[Words(b"blockette100")]),
+        ReadFault::Blockette100 => push_pieces(text, &[Words(b"blockette100")]),
         ReadFault::Encoding(code) => {
-            push_parts(text, &[Words(b"encoding "), Count(u64::from(*code))])
+            push_pieces(text, &[Words(b"encoding "), Count(u64::from(*code))])
         }
-        ReadFault::LittleSteim => push_parts(text, &[Words(b"littlesteim")]),
-        ReadFault::DataOffset => push_parts(text, &[Words(b"dataoffset")]),
-        ReadFault::Short(found) => push_parts(text, &[Words(b"short "), Count(*found as u64)]),
-        ReadFault::BadWord(frame, word) => push_parts(
+        ReadFault::LittleSteim => push_pieces(text, &[Words(b"littlesteim")]),
+        ReadFault::DataOffset => push_pieces(text, &[Words(b"dataoffset")]),
+        ReadFault::Short(found) => push_pieces(text, &[Words(b"short "), Count(*found as u64)]),
+        ReadFault::BadWord(frame, word) => push_pieces(
             text,
             &[
                 Words(b"badword "),
@@ -329,9 +335,9 @@ fn push_read_fault<A: Allocator>(text: &mut Vec<u8, A>, fault: &ReadFault) -> Re
             ],
         ),
         ReadFault::Overflow(index) => {
-            push_parts(text, &[Words(b"overflow "), Count(*index as u64)])
+            push_pieces(text, &[Words(b"overflow "), Count(*index as u64)])
         }
-        ReadFault::LastDiffers(found, constant) => push_parts(
+        ReadFault::LastDiffers(found, constant) => push_pieces(
             text,
             &[
                 Words(b"lastdiffers "),

@@ -23,7 +23,7 @@ impl Model for Codes {
 
 impl Codes {
     /// The codes with this key.
-    pub(crate) fn of_key(key: [u8; 12]) -> Codes
+    pub fn of_key(key: [u8; 12]) -> Codes
         ensures { result ≡ key }
     {
         Codes { key }

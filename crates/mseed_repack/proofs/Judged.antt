@@ -1,30 +1,38 @@
 -- Channels that are judged, and what is found of their series.
 use Rattle.std.proofs.Common.{◌≡◌, ℕ, ℤ, ◌+◌, ◌≤◌, ◌<◌, List, [], ◌∷◌, length, take, get_or, refl, sym, ap, subst, ◌∙◌}
-use Rattle.std.proofs.Common.{arith, IsTrue, Option, Some, Result, Ok, Err, OnOk, IfErr, All}
+use Rattle.std.proofs.Common.{arith, IsTrue, IsSome, Option, Some, None, Result, Ok, Err, OnOk, IfErr, All, map, ⊎_elim}
 use Rattle.std.specs.Map.{lookup}
-use Rattle.std.proofs.lemmas.Bool.{false≢true}
-use Rattle.std.proofs.lemmas.List.{length-take-le}
+use Rattle.std.proofs.lemmas.Bool.{cases_lt, false≢true}
+use Rattle.std.proofs.lemmas.List.{length-take-le, take_all}
 use Rattle.std.proofs.lemmas.List.Elements.{All-from_recursion, All-more, All-weaker}
+use Rattle.mseed_time.specs.declared.fault.TimeFault.{TimeFault}
 use Rattle.mseed_time.specs.declared.outcome.LeapStep.{LeapStep}
 use Rattle.mseed_time.specs.declared.rate.Rate.{Rate}
+use Rattle.mseed_time.specs.Rate.{Ratio}
 use Rattle.mseed_record.specs.View.{View}
+use Rattle.mseed_record.specs.Viewing.{view_of}
+use Rattle.mseed_record.specs.declared.view.RecordView.{RecordView}
 use Rattle.mseed_stream.specs.Device.{BytesWritten}
 use Rattle.mseed_steim.specs.Reading.{count_of}
 use Rattle.mseed_audit.specs.Channels.{Added, Placed, added_from, records_of, sample_count, same_key, views_in}
+use Rattle.mseed_audit.specs.Follows.{IsContinuous}
+use Rattle.mseed_audit.specs.Judging.{rate_in, rate_unless, time_fault_of}
 use Rattle.mseed_audit.specs.Series.{Trace, AreSteps, IsSeriesOf}
 use Rattle.mseed_audit.specs.Verdict.{AreVerdicts, IsVerdict, IsVerdictAt, says_continuous}
 use Rattle.mseed_audit.specs.declared.verdict.Verdict.{Verdict}
 use Rattle.mseed_audit.specs.declared.verdict.Verdict.TheVariants.{Continuous, Broken}
-use Rattle.mseed_audit.proofs.Assembled.{series_of}
-use Rattle.mseed_audit.proofs.Behind.{views_are}
+use Rattle.mseed_audit.specs.private.Kept.{IsFirstRate as IsFirstRateIfAny}
+use Rattle.mseed_audit.proofs.Assembled.{all_sound, first_there, series_of}
+use Rattle.mseed_audit.proofs.Behind.{sound_at, views_are}
 use Rattle.mseed_pack.specs.Fitting.{Fits, IsMisfit}
 use Rattle.mseed_pack.specs.declared.fault.PackFault.{PackFault}
 use Rattle.mseed_pack.specs.declared.options.Options.{Options}
-use Rattle.mseed_repack.specs.private.Reading.{AreOf, channel_in, samples_of, samples_written}
+use Rattle.mseed_repack.specs.private.Reading.{AreOf, IsFirstRate, channel_in, samples_of, samples_written}
 use Rattle.mseed_repack.specs.Repack.{ArePackedInto, AreContinuous, CanBePacked, CantBePacked, Channel, Wrote}
 use Rattle.mseed_repack.specs.Repack.{records_in}
 use Rattle.mseed_repack.specs.private.Repacking.{AreJudged, FailsToFit, FailsToPack, FailsToPackAnew, IsJudged}
 use Rattle.mseed_repack.specs.private.Repacking.{IsPackedAnew}
+use Rattle.mseed_repack.specs.private.Trails.{IsTrail}
 use Rattle.mseed_repack.specs.declared.fault.RepackFault.{RepackFault}
 use Rattle.mseed_repack.specs.declared.fault.RepackFault.TheVariants.{Stream, Broken as BrokenChannel, Misfit, Write}
 use Rattle.mseed_repack.specs.declared.fault.RepackFault.TheVariants.{Memory}
@@ -71,20 +79,67 @@ pub written_is : (views : List View) (c : Channel) → IsJudged views c
 written_is views c judged = ap samples_of (sym (views_are c.0 views))
     ∙ written_by c.1 (records_of c.0 (added_from 0 views)) judged.verdict judged.says
 
--- the series of a channel, with the verdict's start and rate
-pub series_by : (views : List View) (key : List ℕ) (v : Verdict) (start : ℤ) (rate : Rate) (records samples : ℕ)
-    (xs : List ℤ) (ss : List (ℕ × LeapStep)) → v ≡ Continuous start rate records samples
-    → IsVerdict v (records_of key (added_from 0 views)) → AreOf key (channel_in key views) xs ss
+-- the first record's rate, by the audit's word, which is also of no records
+first_by : (vs : List View) (rate : Rate) → IsFirstRate vs rate → IsFirstRateIfAny vs (Some rate)
+first_by [] rate h = absurd h
+first_by (v ∷ vs) rate h = h
+
+first_of : (vs : List View) (rate : Rate) → IsFirstRateIfAny vs (Some rate) → IsFirstRate vs rate
+first_of [] rate h = cc (h)
+first_of (v ∷ vs) rate h = h
+
+-- the series of a channel, with the verdict's start and the first record's rate
+pub series_by : (views : List View) (key : List ℕ) (v : Verdict) (start : ℤ) (ratio : Ratio) (records samples : ℕ)
+    (rate : Rate) (xs : List ℤ) (ss : List (ℕ × LeapStep)) → v ≡ Continuous start ratio records samples
+    → IsVerdict v (records_of key (added_from 0 views)) → IsFirstRate (channel_in key views) rate
+    → AreOf key (channel_in key views) xs ss
     → IsSeriesOf (record { codes = key; start = start; rate = rate; samples = xs; steps = ss }) (records_in views key)
-series_by views key v start rate records samples xs ss is verdict are =
-    series_of key views start rate records samples (record {
+series_by views key v start ratio records samples rate xs ss is verdict first are =
+    series_of key views start ratio rate records samples (record {
       codes = key;
       start = start;
       rate = rate;
       samples = xs;
       steps = ss;
     })
-    (subst (λ (w : Verdict). IsVerdict w (records_of key (added_from 0 views))) is verdict) (are start rate)
+    (subst (λ (w : Verdict). IsVerdict w (records_of key (added_from 0 views))) is verdict)
+    (first_by (channel_in key views) rate first) (are start rate)
+
+-- there is a record where a continuous channel's trail begins
+pub first_inside : (key : List ℕ) (rs : List RecordView) (first : ℕ) (nexts : List ℕ)
+    → IsContinuous (records_in (map view_of rs) key) → IsTrail key rs first nexts → first < length rs
+first_inside key rs first nexts continuous trail = ⊎_elim
+    (λ (inside : first < length rs). inside)
+    (λ (outside : length rs ≤ first).
+    let none : channel_in key (map view_of rs) ≡ [] =
+    ap (λ (qs : List RecordView). channel_in key (map view_of qs)) (sym (take_all first rs outside))
+    ∙ trail.first_is.none in
+    absurd (continuous.some (views_are key (map view_of rs) ∙ none)))
+    (cases_lt first (length rs))
+
+-- the record there has a rate
+pub first_rated : (key : List ℕ) (rs : List RecordView) (first : ℕ) (nexts : List ℕ) (r : RecordView)
+    → IsContinuous (records_in (map view_of rs) key) → IsTrail key rs first nexts → r ≡ get_or rs first r
+    → IsSome (rate_in (view_of r))
+first_rated key rs first nexts r continuous trail is =
+    let inside = first_inside key rs first nexts continuous trail in
+    let sound = sound_at key rs first r inside is (sym (trail.first_of r inside is))
+    (all_sound key (map view_of rs) continuous) in
+    rated_by (time_fault_of (view_of r)) (rate_in (view_of r)) sound.timed
+  where
+    rated_by : (fault : Option TimeFault) (rate : Option Ratio) → IsSome (rate_unless fault rate) → IsSome rate
+    rated_by None rate some = some
+    rated_by (Some fault) rate some = absurd (false≢true some)
+
+-- which is the channel's
+pub first_rate_is : (key : List ℕ) (rs : List RecordView) (first : ℕ) (nexts : List ℕ) (r : RecordView) (rate : Rate)
+    → IsContinuous (records_in (map view_of rs) key) → IsTrail key rs first nexts → r ≡ get_or rs first r
+    → IsFirstRate (view_of r ∷ []) rate → IsFirstRate (channel_in key (map view_of rs)) rate
+first_rate_is key rs first nexts r rate continuous trail is h =
+    let inside = first_inside key rs first nexts continuous trail in
+    first_of (channel_in key (map view_of rs)) rate
+    (first_there key rs first r (Some rate) inside is (sym (trail.first_of r inside is)) trail.first_is.none
+    (first_by (view_of r ∷ []) rate h))
 
 -- the leap seconds of the samples in front
 pub prefix_places : (m : ℕ) (xs ys : List ℤ) (ss ts : List (ℕ × LeapStep)) → m ≤ length xs → ys ≡ take m xs → ts ≡ ss

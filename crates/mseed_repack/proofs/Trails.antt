@@ -8,7 +8,7 @@ use Rattle.std.specs.Cmp.Lexicographic.{slice_cmp}
 use Rattle.std.specs.List.Sorted.{IsStrictlySortedBy, IsNonDecreasingBy, IsBinarySearchResult}
 use Rattle.std.specs.declared.cmp.Ordering.{Ordering}
 use Rattle.std.specs.declared.cmp.Ordering.TheVariants.{Less, Equal, Greater}
-use Rattle.std.proofs.lemmas.Bool.{cases_lt, false≢true}
+use Rattle.std.proofs.lemmas.Bool.{cases_lt, false≢true, lt-ltb}
 use Rattle.std.proofs.lemmas.Cmp.{nat_list_cmp_total}
 use Rattle.std.proofs.lemmas.List.{get_or_default, get_or-set_same, get_or-set_other}
 use Rattle.mseed_record.specs.Header.{key_at}
@@ -110,6 +110,7 @@ pub trail_past : (key : List ℕ) (rs : List RecordView) (n first : ℕ) (nexts 
     → IsTrailFrom n key rs first new
 trail_past key rs n first nexts new r lt is of kept h = record {
   first_is = skips_more key rs n first r lt is of h.first_is;
+  first_of = h.first_of;
   nexts_are = λ i q from less at there. ⊎_elim
       (λ (behind : n < i). subst (λ (m : ℕ). Skips key rs (i + 1) m) (sym (kept i behind))
       (h.nexts_are i q (omega (arith, behind)) less at there))
@@ -122,12 +123,13 @@ trail_past key rs n first nexts new r lt is of kept h = record {
 }
 
 -- the record's own channel is led to it, and from it to where it was led before
-pub trail_here : (key : List ℕ) (rs : List RecordView) (n first : ℕ) (nexts new : List ℕ) → n < length rs
-    → get_or new n 0 ≡ first → ((i : ℕ) → n < i → get_or new i 0 ≡ get_or nexts i 0)
-    → IsTrailFrom (n + 1) key rs first nexts
+pub trail_here : (key : List ℕ) (rs : List RecordView) (n first : ℕ) (nexts new : List ℕ) (r : RecordView)
+    → n < length rs → r ≡ get_or rs n r → is_of key (view_of r) ≡ true → get_or new n 0 ≡ first
+    → ((i : ℕ) → n < i → get_or new i 0 ≡ get_or nexts i 0) → IsTrailFrom (n + 1) key rs first nexts
     → IsTrailFrom n key rs n new
-trail_here key rs n first nexts new lt put kept h = record {
+trail_here key rs n first nexts new r lt is of put kept h = record {
   first_is = skips_none key rs n;
+  first_of = λ q _ at. ap (λ (x : RecordView). is_of key (view_of x)) (one_record rs n q r lt at is) ∙ of;
   nexts_are = λ i q from less at there. ⊎_elim
       (λ (behind : n < i). subst (λ (m : ℕ). Skips key rs (i + 1) m) (sym (kept i behind))
       (h.nexts_are i q (omega (arith, behind)) less at there))
@@ -148,6 +150,10 @@ foreign key r other = by (nat_lt 0 (count_of (view_of r))) (same_key key (key_at
     by true b e = e
     by false b e = refl
 
+own_record : (key : List ℕ) (r : RecordView) → 0 < count_of (view_of r)
+    → same_key key (key_at (view_of r).bytes) ≡ true → is_of key (view_of r) ≡ true
+own_record key r some same = rw (same, lt-ltb 0 (count_of (view_of r)) some) refl
+
 -- a record without samples
 pub trails_silent : (rs : List RecordView) (cs : List Channel) (n : ℕ) (firsts nexts : List ℕ) (r : RecordView)
     → count_of (view_of r) ≡ 0 → n < length rs → r ≡ get_or rs n r → AreTrailsFrom (n + 1) rs cs firsts nexts
@@ -167,11 +173,11 @@ trails_foreign rs cs n firsts nexts r none lt is h = λ k c less.
 -- or of the channel with this number
 pub trails_more : (rs : List RecordView) (cs : List Channel) (n number : ℕ) (firsts nexts : List ℕ) (r : RecordView)
     → IsStrictlySortedBy (slice_cmp nat_cmp) (keys_of cs) → number < length cs → length firsts ≡ length cs
-    → n < length nexts
+    → n < length nexts → 0 < count_of (view_of r)
     → ((c : Channel) → same_key (get_or cs number c).0 (key_at (view_of r).bytes) ≡ true) → n < length rs
     → r ≡ get_or rs n r → AreTrailsFrom (n + 1) rs cs firsts nexts
     → AreTrailsFrom n rs cs (set firsts number n) (set nexts n (get_or firsts number 0))
-trails_more rs cs n number firsts nexts r sorted inside long room found lt is h = λ k c less. ⊎_elim
+trails_more rs cs n number firsts nexts r sorted inside long room some found lt is h = λ k c less. ⊎_elim
     (λ (below : k < number). other k c less (λ e. omega (arith, below, e)))
     (λ (not_below : number ≤ k). ⊎_elim
     (λ (above : number < k). other k c less (λ e. omega (arith, above, e)))
@@ -188,10 +194,12 @@ trails_more rs cs n number firsts nexts r sorted inside long room found lt is h 
     own : (k : ℕ) (c : Channel) → k < length cs → k ≡ number
         → IsTrailFrom n (get_or cs k c).0 rs (get_or (set firsts number n) k 0) new
     own k c less e =
+        let of : is_of (get_or cs k c).0 (view_of r) ≡ true = own_record (get_or cs k c).0 r some
+        (ap (λ (m : ℕ). same_key (get_or cs m c).0 (key_at (view_of r).bytes)) e ∙ found c) in
         let put : get_or (set firsts number n) k 0 ≡ n = ap (λ (m : ℕ). get_or (set firsts number n) m 0) e
         ∙ get_or-set_same firsts number n 0 (omega (arith, inside, long)) in
         subst (λ (m : ℕ). IsTrailFrom n (get_or cs k c).0 rs m new) (sym put)
-        (trail_here (get_or cs k c).0 rs n (get_or firsts k 0) nexts new lt
+        (trail_here (get_or cs k c).0 rs n (get_or firsts k 0) nexts new r lt is of
         (get_or-set_same nexts n (get_or firsts number 0) 0 room ∙ ap (λ (m : ℕ). get_or firsts m 0) (sym e)) kept
         (h k c less))
 
@@ -213,6 +221,9 @@ trails_none rs cs firsts nexts from end long each = λ k c less. record {
   first_is =
       let at : get_or firsts k 0 ≡ from = each k 0 (omega (arith, less, long)) ∙ sym end in
       subst (λ (m : ℕ). Skips (get_or cs k c).0 rs from m) (sym at) (skips_none (get_or cs k c).0 rs from);
+  first_of = λ r inside _.
+      let at = each k 0 (omega (arith, less, long)) in
+      absurd (omega (arith, at, inside));
   nexts_are = λ i q low high at there. absurd (omega (arith, low, high, end));
 }
 

@@ -1,6 +1,6 @@
 -- The channels of what was written when an archive was packed anew.
 use Rattle.std.proofs.Common.{◌≡◌, ◌≢◌, ◌↔◌, ◌⊎◌, inl, inr, ℕ, List, [], ◌∷◌, length, map, Bool, true, false, Option}
-use Rattle.std.proofs.Common.{Some, None, IsTrue, IsSome, refl, sym, ap, subst, ◌∙◌}
+use Rattle.std.proofs.Common.{ℤ, Some, None, IsTrue, IsSome, unwrap_or, refl, sym, ap, subst, ◌∙◌}
 use Rattle.std.specs.List.{AllByRecursion}
 use Rattle.std.specs.Map.{lookup, keys_of}
 use Rattle.std.specs.Ordering.{nat_cmp}
@@ -8,7 +8,10 @@ use Rattle.std.specs.Cmp.Lexicographic.{slice_cmp}
 use Rattle.std.specs.List.Sorted.{IsStrictlySortedBy}
 use Rattle.std.proofs.lemmas.Bool.{false≢true}
 use Rattle.std.proofs.lemmas.Map.Entries.{lookup_head, lookup_tail}
-use Rattle.mseed_time.specs.Rate.{Ratio}
+use Rattle.mseed_time.specs.declared.fault.TimeFault.{TimeFault}
+use Rattle.mseed_time.specs.declared.rate.Rate.{Rate}
+use Rattle.mseed_time.specs.Rate.{Ratio, rate_of}
+use Rattle.mseed_time.specs.Ratios.{ratio_of}
 use Rattle.mseed_record.specs.Header.{factor_at, multiplier_at}
 use Rattle.mseed_record.specs.View.{View, start_of}
 use Rattle.mseed_audit.specs.declared.finding.Why.{Why}
@@ -16,7 +19,8 @@ use Rattle.mseed_audit.specs.declared.verdict.Verdict.{Verdict}
 use Rattle.mseed_audit.specs.declared.verdict.Verdict.TheVariants.{Continuous}
 use Rattle.mseed_audit.specs.Channels.{Added, Placed, added_from, records_of, sample_count, same_key, views_in}
 use Rattle.mseed_audit.specs.Follows.{AllNeighbours, Follows, IsContinuous, IsSound}
-use Rattle.mseed_audit.specs.Judging.{known_rate, why_after, why_from, IsFound, after as by_after}
+use Rattle.mseed_audit.specs.Judging.{known_rate, rate_in, rate_unless, time_fault_of, why_after, why_from, IsFound}
+use Rattle.mseed_audit.specs.Judging.{after as by_after}
 use Rattle.mseed_audit.specs.Series.{Trace, IsSeriesOf}
 use Rattle.mseed_audit.specs.Verdict.{AreFindings, AreVerdicts, IsExactAt, IsVerdict, IsVerdictAt, none, one}
 use Rattle.mseed_audit.specs.Verdict.{says_continuous}
@@ -50,9 +54,25 @@ none_behind b [] each follow = none (Some b)
 none_behind b (p ∷ ps) each follow =
     one (Some b) p ps None [] (found_behind b p.view each.0 follow.0) (none_behind p.view ps each.1 follow.1)
 
+-- a rate that is known is the one that the factor and the multiplier give
+known_as : (fault : Option TimeFault) (rate : Option Ratio) (other : Ratio) → IsSome (rate_unless fault rate)
+    → rate_unless fault rate ≡ Some (unwrap_or rate other)
+known_as None None other some = absurd (false≢true some)
+known_as None (Some rate) other some = refl
+known_as (Some fault) rate other some = absurd (false≢true some)
+
+rate_as : (v : View) (rate : Rate) → IsSound v → rate.factor ≡ factor_at v.order v.bytes
+    → rate.multiplier ≡ multiplier_at v.order v.bytes → known_rate v ≡ Some (ratio_of rate)
+rate_as v rate sound factor multiplier =
+    let other : Ratio = record { num = 0; den = 0 } in
+    known_as (time_fault_of v) (rate_in v) other sound.timed
+    ∙ ap (λ (o : Option Ratio). Some (unwrap_or o other))
+    (ap (λ (f : ℤ). rate_of f (multiplier_at v.order v.bytes)) (sym factor)
+    ∙ ap (λ (m : ℤ). rate_of rate.factor m) (sym multiplier))
+
 -- the verdict on a continuous channel, by its series
 verdict_of : (s : Trace) (ps : List Placed) → IsContinuous (views_in ps) → IsSeriesOf s (views_in ps)
-    → IsVerdict (Continuous s.start s.rate (length ps) (sample_count ps)) ps
+    → IsVerdict (Continuous s.start (ratio_of s.rate) (length ps) (sample_count ps)) ps
 verdict_of s [] continuous series = absurd (continuous.some refl)
 verdict_of s (p ∷ ps) continuous series =
     let same : p.view ≡ series.first = cc (series.parts) in (
@@ -65,8 +85,9 @@ verdict_of s (p ∷ ps) continuous series =
             findings = one None p ps None [] (found_first p.view continuous.each.0)
                 (none_behind p.view ps continuous.each.1 continuous.follow);
             start_is = series.start ∙ ap start_of (sym same);
-            factor_is = series.factor ∙ ap (λ (v : View). factor_at v.order v.bytes) (sym same);
-            multiplier_is = series.multiplier ∙ ap (λ (v : View). multiplier_at v.order v.bytes) (sym same);
+            rate_is = rate_as p.view s.rate continuous.each.0
+                (series.factor ∙ ap (λ (v : View). factor_at v.order v.bytes) (sym same))
+                (series.multiplier ∙ ap (λ (v : View). multiplier_at v.order v.bytes) (sym same));
             records_is = refl;
             samples_is = refl;
           },
@@ -83,7 +104,7 @@ pub record IsWritten (written : List View) (p : Packed) : Type 0 where
 abbrev pub entry : List View → Packed → Channel
 entry written p = (
   p.series.codes,
-  Continuous p.series.start p.series.rate (length (records_of p.series.codes (added_from 0 written)))
+  Continuous p.series.start (ratio_of p.series.rate) (length (records_of p.series.codes (added_from 0 written)))
       (sample_count (records_of p.series.codes (added_from 0 written))),
 )
 

@@ -1,19 +1,18 @@
 //! Packing an archive anew.
-ghost use Rattle.std.specs.Prelude.{◌≡◌, ◌≤◌, ◌<◌, ◌^◌, ℤ, List, length, map, All, IfErr, IfOk, IsTrue, OnOk};
+ghost use Rattle.std.specs.Prelude.{◌≡◌, ◌≤◌, ◌<◌, ◌^◌, ℤ, List, length, map, All, IfErr, IfOk, OnOk};
 ghost use Rattle.std.specs.Bool.{OnTrue};
 ghost use Rattle.std.specs.Cmp.Lexicographic.{slice_cmp};
 ghost use Rattle.std.specs.List.Sorted.{IsStrictlySortedBy};
 ghost use Rattle.std.specs.Map.{keys_of};
 ghost use Rattle.std.specs.Ordering.{nat_cmp};
-ghost use Rattle.mseed_record.specs.View.{View};
 ghost use Rattle.mseed_record.specs.Viewing.{view_of};
 ghost use Rattle.mseed_stream.specs.Device.{nothing_read};
 ghost use Rattle.mseed_audit.specs.Channels.{added_from};
 ghost use Rattle.mseed_audit.specs.Series.{IsSeriesOf};
-ghost use Rattle.mseed_audit.specs.Verdict.{AreVerdicts, says_continuous};
+ghost use Rattle.mseed_audit.specs.Verdict.{AreVerdicts};
 ghost use Rattle.mseed_pack.specs.Traces.{trace_of};
 ghost use Rattle.mseed_repack.specs.private.Outline.{with_samples};
-ghost use Rattle.mseed_repack.specs.private.Reading.{AreOf, channel_in, samples_written, steps_of};
+ghost use Rattle.mseed_repack.specs.private.Reading.{AreOf, IsFirstRate, channel_in, samples_written, steps_of};
 ghost use Rattle.mseed_repack.specs.Repack.{AreContinuous, ArePackedInto, CanBePacked, CantBePacked, IsRepacking};
 ghost use Rattle.mseed_repack.specs.Repack.{Wrote};
 ghost use Rattle.mseed_repack.specs.Repack.{records_in};
@@ -31,7 +30,7 @@ use mseed_audit::{Audit, Memory, Verdict, Verdicts, one_series};
 use mseed_pack::{Encoding, Options, PackFault, Packer, SeriesView, fit_view};
 use mseed_record::{Codes, RecordView};
 use mseed_stream::{Sink, Source, read_all_in, split_in};
-use mseed_time::LeapStep;
+use mseed_time::{LeapStep, Rate};
 use std::alloc::{AllocError, Allocator};
 
 /// Packs the archive that the input tells anew: the series of its channels, in the order of their keys. All
@@ -303,7 +302,13 @@ fn fits_unread(
     if !is_held(outline.nearness, options.encoding) {
         return false;
     }
-    let series = view_series(channel, &others[..count], &steps[..outline.steps]);
+    let series = view_series(
+        views,
+        trail,
+        channel,
+        &others[..count],
+        &steps[..outline.steps],
+    );
     let integers = Options {
         exponent: options.exponent,
         encoding: Encoding::Int32,
@@ -334,7 +339,13 @@ fn fit_read(
         CantBePacked options.now (map view_of views.now) fault channel.now.0) }
 {
     let read = read_channel(views, trail, &channel.0, samples, steps);
-    let series = view_series(channel, &samples[..read.samples], &steps[..read.steps]);
+    let series = view_series(
+        views,
+        trail,
+        channel,
+        &samples[..read.samples],
+        &steps[..read.steps],
+    );
     fit_view(&series, options)
 }
 
@@ -398,7 +409,13 @@ fn pack_channel<W: Sink>(
 {
     one_series();
     let read = read_channel(views, trail, &channel.0, samples, steps);
-    let series = view_series(channel, &samples[..read.samples], &steps[..read.steps]);
+    let series = view_series(
+        views,
+        trail,
+        channel,
+        &samples[..read.samples],
+        &steps[..read.steps],
+    );
     // The series is the one that was found to fit.
     match packer.pack_fitting(&series, options, output) {
         Ok(_) => Ok(()),
@@ -408,29 +425,44 @@ fn pack_channel<W: Sink>(
 
 /// The series of a channel that is continuous, of these samples and leap seconds.
 fn view_series<'a>(
+    views: &[RecordView],
+    trail: Trail,
     channel: &(Codes, Verdict),
     samples: &'a [i32],
     steps: &'a [(u64, LeapStep)],
 ) -> SeriesView<'a>
-    requires { IsTrue (says_continuous channel.now.1) }
-    ensures series { (views : List View) → IsJudged views channel.now
-        → AreOf channel.now.0 (channel_in channel.now.0 views) samples.now steps.now
-        → IsSeriesOf (trace_of result) (records_in views channel.now.0) }
+    requires judged { IsJudged (map view_of views.now) channel.now }
+    requires trail { IsTrail channel.now.0 views.now trail.first trail.nexts.now }
+    ensures series { AreOf channel.now.0 (channel_in channel.now.0 (map view_of views.now)) samples.now steps.now
+        → IsSeriesOf (trace_of result) (records_in (map view_of views.now) channel.now.0) }
     // Where other samples are the channel's, the series with those.
-    ensures others { (views : List View) (xs : List ℤ) → IsJudged views channel.now
-        → AreOf channel.now.0 (channel_in channel.now.0 views) xs steps.now
-        → IsSeriesOf (with_samples xs (trace_of result)) (records_in views channel.now.0) }
+    ensures others { (xs : List ℤ)
+        → AreOf channel.now.0 (channel_in channel.now.0 (map view_of views.now)) xs steps.now
+        → IsSeriesOf (with_samples xs (trace_of result)) (records_in (map view_of views.now) channel.now.0) }
     ensures samples { result.samples.now ≡ samples.now }
     ensures steps { result.steps.now ≡ steps.now }
 {
     match channel.1 {
-        Verdict::Continuous { start, rate, .. } => SeriesView {
+        Verdict::Continuous { start, .. } => SeriesView {
             codes: channel.0,
             start,
-            rate,
+            rate: first_rate(views, trail, channel),
             samples,
             steps,
         },
         Verdict::Broken { .. } => unreachable!(),
+    }
+}
+
+/// The sample rate of the first record of a channel that is continuous, as its header has it.
+fn first_rate(views: &[RecordView], trail: Trail, channel: &(Codes, Verdict)) -> Rate
+    requires judged { IsJudged (map view_of views.now) channel.now }
+    requires trail { IsTrail channel.now.0 views.now trail.first trail.nexts.now }
+    ensures { IsFirstRate (channel_in channel.now.0 (map view_of views.now)) result }
+{
+    // A sound record has a rate.
+    match views[trail.first].rate() {
+        Ok(rate) => rate,
+        Err(_) => unreachable!(),
     }
 }

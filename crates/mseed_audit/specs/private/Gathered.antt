@@ -1,9 +1,7 @@
 -- Words of the lines that are gathered before they are written: no public contract is stated by them.
-use Rattle.std.specs.Prelude.{◌≡◌, ℕ, ◌+◌, ◌<◌, ◌≤◌, List, [], ◌∷◌, ◌++◌, Option, Result, Ok, Err}
-use Rattle.std.specs.Io.KnownBytes.{Appends}
+use Rattle.std.specs.Prelude.{◌≡◌, ℕ, ◌+◌, ◌<◌, ◌≤◌, List, [], ◌∷◌, ◌++◌, Result, Ok, Err}
 use Rattle.mseed_record.specs.View.{View}
 use Rattle.mseed_stream.specs.Device.{BytesRead, BytesWritten}
-use Rattle.mseed_stream.specs.declared.fault.StreamFault.{StreamFault}
 use Rattle.mseed_stream.specs.Standing.{Standing}
 use Rattle.mseed_stream.specs.Walk.{AreViews, HasHandedOut}
 use Rattle.mseed_audit.specs.declared.archive.Step.{Step}
@@ -15,7 +13,7 @@ use Rattle.mseed_audit.specs.declared.each.EachFault.{EachFault}
 use Rattle.mseed_audit.specs.declared.each.EachFault.TheVariants.{Write, Memory}
 use Rattle.mseed_audit.specs.Audit.{Held, IsAuditOf}
 use Rattle.mseed_audit.specs.Channels.{Added, added_from}
-use Rattle.mseed_audit.specs.Each.{IsEachOutcome, TookFirst, TookPart}
+use Rattle.mseed_audit.specs.Each.{TookFirst, TookPart}
 use Rattle.mseed_audit.specs.Summary.{IsGathered}
 use Rattle.mseed_audit.specs.Text.{told_lines}
 use Rattle.mseed_audit.specs.Told.{Told, AreToldOf}
@@ -46,34 +44,11 @@ pub record IsOneMore (lines : Lines) (views : List View) (old new : BytesRead) (
 abbrev pub IsNext : Lines → Result Step NoRoom → List View → ℕ → BytesRead → BytesRead → Standing → Held → List ℕ
     → List ℕ → Type 0
 IsNext lines (Ok OneMore) views offset old new c held text next = IsOneMore lines views old new c held text next
-IsNext lines (Ok (Ended end)) views offset old new c held text next = IsGathered held end new views × (next ≡ text)
+IsNext lines (Ok (Ended end)) views offset old new c held text next =
+    IsGathered held end offset new views × (next ≡ text)
 IsNext lines (Err e) views offset old new c held text next = AreViews new.bytes offset views
 
 -- a prefix of some text was written before the fault, which is the output's where the output failed
 abbrev pub IsPrefixWritten : EachFault → BytesWritten → BytesWritten → List ℕ → Type 0
 IsPrefixWritten Write old new text = (new.failures ≡ old.failures + 1) × TookPart old new text
 IsPrefixWritten Memory old new text = (new.failures ≡ old.failures) × TookFirst old new text
-
--- the output took some bytes, and with those that are gathered they are a text
-pub record AreGathered (old new : BytesWritten) (gathered text : List ℕ) : Type 0 where
-  pub taken : List ℕ
-  pub bytes : new.bytes ≡ old.bytes ++ taken
-  pub joined : taken ++ gathered ≡ text
-
--- what a sink took, and what it's known to hold
-abbrev pub TakesMore : BytesWritten → BytesWritten → Option (List ℕ) → Option (List ℕ) → Type 0
-TakesMore old new held holds = (more : List ℕ) × (new.bytes ≡ old.bytes ++ more) × Appends held holds more
-
--- all records up to the end were added, and the lines of those with a finding were written or are gathered
-pub record HasLines (held : Held) (end : Option StreamFault) (h : BytesRead) (old new : BytesWritten) (text : List ℕ)
-    (views : List View) (told : List Told) : Type 0 where
-  pub all : IsGathered held end h views
-  pub are_told : AreToldOf (added_from 0 views) told
-  pub lines : AreGathered old new text (told_lines told)
-  pub fine : new.failures ≡ old.failures
-
-abbrev pub IsTelling : Result (Held × Option StreamFault) EachFault → BytesRead → BytesWritten → BytesWritten → List ℕ
-    → Type 0
-IsTelling (Ok found) h old new text =
-    (views : List View) × ((told : List Told) × HasLines found.0 found.1 h old new text views told)
-IsTelling (Err fault) h old new text = IsEachOutcome (Err fault) h old new

@@ -5,8 +5,12 @@ use Rattle.std.specs.Map.{lookup, values_of}
 use Rattle.std.specs.Option.{option_map}
 use Rattle.std.specs.Vec.{vec_capacity}
 use Rattle.std.specs.declared.vec.Vec.{Vec}
+use Rattle.mseed_time.specs.declared.rate.Rate.{Rate}
+use Rattle.mseed_record.specs.Header.{factor_at, multiplier_at}
 use Rattle.mseed_record.specs.View.{View}
 use Rattle.mseed_audit.specs.declared.channel.Channel.{Channel}
+use Rattle.mseed_audit.specs.declared.channel.Findings.{Findings}
+use Rattle.mseed_audit.specs.declared.channel.Findings.TheVariants.{Nothing, Counted}
 use Rattle.mseed_audit.specs.declared.channel.Judged.{Judged}
 use Rattle.mseed_audit.specs.declared.channel.Judged.TheVariants.{Sound, Faulty}
 use Rattle.mseed_audit.specs.declared.finding.Finding.{Finding}
@@ -14,10 +18,9 @@ use Rattle.mseed_audit.specs.declared.finding.Why.{Why}
 use Rattle.mseed_audit.specs.declared.roster.Place.{Place}
 use Rattle.mseed_audit.specs.declared.tail.Tail.{Tail}
 use Rattle.mseed_audit.specs.declared.verdict.Verdict.{Verdict}
-use Rattle.mseed_audit.specs.declared.verdict.Verdict.TheVariants.{Continuous, Broken}
-use Rattle.mseed_audit.specs.Audit.{IsTail}
+use Rattle.mseed_audit.specs.Audit.{IsTail, count_in}
 use Rattle.mseed_audit.specs.Channels.{same_key}
-use Rattle.mseed_audit.specs.Judging.{known_rate}
+use Rattle.mseed_audit.specs.Judging.{known_rate, rate_in}
 
 -- what is found of a record that was judged
 abbrev pub why_in : Judged → Option Why
@@ -25,9 +28,9 @@ why_in (Sound tail) = None
 why_in (Faulty why tail) = Some why
 
 -- and its end, where it is known
-abbrev pub tail_in : Judged → Option Tail
-tail_in (Sound tail) = Some tail
-tail_in (Faulty why tail) = tail
+abbrev pub end_in : Judged → Option Tail
+end_in (Sound tail) = Some tail
+end_in (Faulty why tail) = tail
 
 -- what is kept of the channel's record before another, where there is one whose time and rate are known
 abbrev pub IsTailBefore : Option Tail → Option View → Type 0
@@ -36,23 +39,24 @@ IsTailBefore None (Some b) = known_rate b ≡ None
 IsTailBefore (Some t) None = ⊥
 IsTailBefore (Some t) (Some b) = IsTail t b
 
--- the verdict, once a further finding is made
-abbrev pub with_finding : Verdict → Finding → Verdict
-with_finding (Continuous start rate records samples) found = Broken found 1
-with_finding (Broken first count) found = Broken first (count + 1)
+-- with a further record that has no finding and ends so
+abbrev pub with_end : Findings → Tail → Findings
+with_end (Nothing head tail) end = Nothing head end
+with_end (Counted count first head tail) end = Counted count first head (Some end)
 
--- the verdict, once a further record of so many samples has no finding
-abbrev pub with_samples : Verdict → ℕ → Verdict
-with_samples (Continuous start rate records samples) n = Continuous start rate (records + 1) (samples + n)
-with_samples (Broken first count) n = Broken first count
+-- with a further record that has a finding and ends so
+abbrev pub with_finding : Findings → Finding → Option Tail → Findings
+with_finding (Nothing head tail) finding end = Counted 1 finding (Some head) end
+with_finding (Counted count first head tail) finding end = Counted (count + 1) first head end
 
--- the counts of a verdict on at most so many records
-abbrev pub IsBounded : ℕ → Verdict → Type 0
-IsBounded n (Continuous start rate records samples) = (records ≤ n) × (samples ≤ 65535 * records)
-IsBounded n (Broken first count) = count ≤ n
+-- the counts of a channel of at most so many records
+pub record IsBounded (n : ℕ) (c : Channel) : Type 0 where
+  pub records : c.records ≤ n
+  pub samples : c.samples ≤ 65535 * c.records
+  pub found : count_in c.findings ≤ c.records
 
 abbrev pub AreBounded : ℕ → List (List ℕ × Channel) → Type 0
-AreBounded n channels = All (λ c. IsBounded n c.verdict) (values_of channels)
+AreBounded n channels = All (λ c. IsBounded n c) (values_of channels)
 
 -- where the first channel stands whose key passes
 abbrev pub place_of : (List ℕ → Bool) → List (List ℕ × Channel) → Option ℕ
@@ -73,7 +77,8 @@ IsPlace (Some p) channels = place_of (same_key p.codes) channels ≡ Some p.inde
 abbrev pub HasRoom : {Y Z : Type 0} → List Y → Vec (List ℕ × Verdict) Z → Type 0
 HasRoom channels verdicts = (verdicts.items ≡ []) × (length channels ≤ vec_capacity verdicts)
 
--- the verdict on what is kept of a channel, where something is
-abbrev pub verdict_in : Option Channel → Option Verdict
-verdict_in None = None
-verdict_in (Some c) = Some c.verdict
+-- the factor and multiplier of the first record's rate, where there is a first and it has a rate
+abbrev pub IsFirstRate : List View → Option Rate → Type 0
+IsFirstRate [] rate = rate ≡ None
+IsFirstRate (v ∷ vs) None = rate_in v ≡ None
+IsFirstRate (v ∷ vs) (Some r) = (r.factor ≡ factor_at v.order v.bytes) × (r.multiplier ≡ multiplier_at v.order v.bytes)

@@ -1,7 +1,8 @@
 //! Times, rates and joins.
 
 use mseed_time::{
-    Btime, Join, LeapStep, Micros, NoRate, Order, OutOfRange, Rate, TimeFault, join, show_time,
+    Btime, Join, LeapStep, Micros, NoRate, Order, OutOfRange, Rate, Ratio, TimeFault, join,
+    show_time,
 };
 
 const SECOND: i64 = 1_000_000;
@@ -245,6 +246,27 @@ fn has_rates(rt: HostRuntime) {
     assert_eq!(rt; Rate::of(1, 0), Err(NoRate));
 }
 
+#[test]
+fn has_ratios(rt: HostRuntime) {
+    let tenth = Ratio::new(1, 10).expect(&rt, "a ratio");
+    assert_eq!(rt; Rate::of(-2, -5).expect(&rt, "a rate").ratio(), tenth);
+    let unreduced = Rate::of(2, -20).expect(&rt, "a rate").ratio();
+    assert_eq!(rt; (unreduced.num(), unreduced.den()), (2, 20));
+    assert!(rt; unreduced.same_as(tenth));
+    assert!(rt; unreduced != tenth);
+    let cases: [(u32, u32, bool); 6] = [
+        (1 << 30, 1 << 30, true),
+        ((1 << 30) + 1, 1, false),
+        (1, (1 << 30) + 1, false),
+        (0, 1, false),
+        (1, 0, false),
+        (1, 1, true),
+    ];
+    for (num, den, is_ratio) in cases {
+        assert_eq!(rt; Ratio::new(num, den).is_some(), is_ratio, "{num}/{den}");
+    }
+}
+
 /// How a record follows one that began ten seconds before 2017, by the microseconds from that start.
 fn follow(
     count: u32,
@@ -254,7 +276,13 @@ fn follow(
 ) -> Option<Join> {
     let start = Micros::new(AFTER_LEAP - 10 * SECOND)?;
     let next = Micros::new(AFTER_LEAP - 10 * SECOND + i64::from(after))?;
-    Some(join(start, count, Rate::of(factor, multiplier).ok()?, step, next))
+    Some(join(
+        start,
+        count,
+        Rate::of(factor, multiplier).ok()?.ratio(),
+        step,
+        next,
+    ))
 }
 
 #[test]
@@ -288,8 +316,8 @@ fn joins_records(rt: HostRuntime) {
 fn joins_at_the_limits(rt: HostRuntime) {
     let first = Micros::new(Micros::MIN).expect(&rt, "an instant");
     let last = Micros::new(Micros::MAX).expect(&rt, "an instant");
-    let slow = Rate::of(-32768, -32768).expect(&rt, "a rate");
-    let fast = Rate::of(32767, 32767).expect(&rt, "a rate");
+    let slow = Rate::of(-32768, -32768).expect(&rt, "a rate").ratio();
+    let fast = Rate::of(32767, 32767).expect(&rt, "a rate").ratio();
     assert_eq!(rt;
         join(first, 65_535, slow, None, last),
         Join::Early(70_355_047_655_040_000_001)

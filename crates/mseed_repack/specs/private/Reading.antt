@@ -1,8 +1,9 @@
 -- A channel that is read into lists that are there.
-use Rattle.std.specs.Prelude.{ℕ, ◌+◌, ℤ, List, [], ◌∷◌, length}
+use Rattle.std.specs.Prelude.{◌≡◌, ℕ, ◌+◌, ℤ, List, [], ◌∷◌, length}
 use Rattle.std.specs.List.{filter}
 use Rattle.mseed_time.specs.declared.outcome.LeapStep.{LeapStep}
 use Rattle.mseed_time.specs.declared.rate.Rate.{Rate}
+use Rattle.mseed_record.specs.Header.{factor_at, multiplier_at}
 use Rattle.mseed_record.specs.View.{View, leap_of}
 use Rattle.mseed_steim.specs.Reading.{count_of}
 use Rattle.mseed_audit.specs.Channels.{is_of}
@@ -28,6 +29,12 @@ steps_of (v ∷ vs) = step_count v + steps_of vs
 -- the records of the channel with this key
 abbrev pub channel_in : List ℕ → List View → List View
 channel_in key views = filter (is_of key) views
+
+-- the factor and multiplier of the rate are those of the first of these records
+abbrev pub IsFirstRate : List View → Rate → Type 0
+IsFirstRate [] rate = ⊥
+IsFirstRate (v ∷ vs) rate =
+    (rate.factor ≡ factor_at v.order v.bytes) × (rate.multiplier ≡ multiplier_at v.order v.bytes)
 
 -- the samples and leap seconds are those of the records, whatever the start and the rate are
 abbrev pub AreOf : List ℕ → List View → List ℤ → List (ℕ × LeapStep) → Type 0

@@ -17,9 +17,14 @@ AreNexts key rs from nexts =
     (i : ℕ) (r : RecordView) → from ≤ i → i < length rs → r ≡ slice_index_or rs i r → is_of key (view_of r) ≡ true
     → Skips key rs (i + 1) (slice_index_or nexts i 0)
 
+-- the record at an index, where there is one, is of the channel with this key
+abbrev pub IsOfAt : List ℕ → List RecordView → ℕ → Type 0
+IsOfAt key rs at = (r : RecordView) → at < length rs → r ≡ slice_index_or rs at r → is_of key (view_of r) ≡ true
+
 -- of the channel's records from an index on, where the first one stands, and behind each the next one
 pub record IsTrailFrom (from : ℕ) (key : List ℕ) (rs : List RecordView) (first : ℕ) (nexts : List ℕ) : Type 0 where
   pub first_is : Skips key rs from first
+  pub first_of : IsOfAt key rs first
   pub nexts_are : AreNexts key rs from nexts
 
 abbrev pub IsTrail : List ℕ → List RecordView → ℕ → List ℕ → Type 0

@@ -13,7 +13,8 @@ returns-in-Ok-write_all_of-clause-outcome g c =
     let old : BytesWritten = g.W.Sink.written c.args.sink.now in
     let new : BytesWritten = g.W.Sink.written c.write_all_of.new.sink in
     let verdicts = c.finish-verdicts.result in
-    let f = with_verdicts held end read verdicts c.in-Ok.ensures.gathered c.finish-verdicts.ensures in
+    let f = with_verdicts held end read verdicts c.in-Ok.gathered.2 c.in-Ok.ensures.gathered
+    c.finish-verdicts.ensures in
     let write = c.in-Ok-write_all_of.ensures in
     let text = text_is held end read verdicts c.as_slice.result.now c.added-records.result c.new-text.result.items
     c.push_audit.new.text.items c.deref.result.now f c.new-text.ensures.items c.in-Ok-push_audit.ensures.ok
@@ -34,7 +35,8 @@ returns-clause-outcome g c =
     let old : BytesWritten = g.W.Sink.written c.args.sink.now in
     let new : BytesWritten = g.W.Sink.written c.write_all_of.new.sink in
     let verdicts = c.finish-verdicts.result in
-    let f = with_verdicts held end read verdicts c.in-Ok.ensures.gathered c.finish-verdicts.ensures in
+    let f = with_verdicts held end read verdicts c.in-Ok.gathered.2 c.in-Ok.ensures.gathered
+    c.finish-verdicts.ensures in
     let write = c.in-Err-write_all_of.ensures in
     let text = text_is held end read verdicts c.as_slice.result.now c.added-records.result c.new-text.result.items
     c.push_audit.new.text.items c.deref.result.now f c.new-text.ensures.items c.in-Ok-push_audit.ensures.ok

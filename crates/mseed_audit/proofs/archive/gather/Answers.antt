@@ -27,7 +27,7 @@ returns-in-Ended-clause-gathered g c =
     let views : List View = c.records.invariant.added.0 in
     let before = c.records.invariant.added.1 in
     let next = rw c.in-Ended.is at c.in_ok-add_next.ensures.next views before.0 before.1 in
-    (views, next.0)
+    (views, rw (← c.offset-bytes.ensures) at next.0)
 
 pub returns-in-Ended-clause-more : goal.returns-in-Ended-clause-more
 returns-in-Ended-clause-more g c = tells_on (g.R.Source.read c.args.source.now) (g.R.Source.read c.records.source)

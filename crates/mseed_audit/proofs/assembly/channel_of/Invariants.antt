@@ -9,6 +9,6 @@ use Rattle.mseed_audit.proofs.assembly.channel_of.Given as goal
 abbrev pub invariant-loop-index : goal.invariant-loop-index
 invariant-loop-index l =
     StandsAt l.channel (records_of l.codes (added_from 0 (map view_of (take l.index l.views))))
-    × IfSome l.channel (λ c. IsBounded l.index c.verdict)
+    × IfSome l.channel (λ c. IsBounded l.index c)
     × (l.offset ≡ end_of 0 (map view_of (take l.index l.views)))
     × (l.offset ≤ 2 ^ 20 * l.index)

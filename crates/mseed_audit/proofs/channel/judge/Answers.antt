@@ -1,6 +1,5 @@
 use Rattle.std.proofs.Common.{◌≡◌, Option, Some, None, refl, subst, sym, ◌∙◌}
 use Rattle.mseed_time.specs.Rate.{Ratio}
-use Rattle.mseed_time.specs.Ratios.{ratio_of}
 use Rattle.mseed_record.specs.View.{View}
 use Rattle.mseed_record.specs.Viewing.{view_of}
 use Rattle.mseed_steim.specs.Reading.{IsFault}
@@ -17,7 +16,7 @@ use Rattle.mseed_audit.proofs.channel.judge.Goals.{in-Err-check_samples}
 pub returns-clause-why : goal.returns-clause-why
 returns-clause-why c = λ b before.
     let v : View = view_of c.args.view.now in
-    let next : Ratio = ratio_of c.in-Ok.tail.rate in
+    let next : Ratio = c.in-Ok.tail.rate in
     let known : known_rate v ≡ Some next = c.in-Ok.ensures.ok.rate in
     subst (λ (why : Option Why). IsFound b v why) (sym c.with_end.ensures.why) (elim c.match-check_samples.branch [
       | in-Ok-check_samples+in-Some w ↦
@@ -25,8 +24,7 @@ returns-clause-why c = λ b before.
           subst (λ (t : Option Tail). IsTailBefore t b) w.in-Some.is before in
           let whole = w.in-Ok-check_samples.ensures.ends in
           found_whole b v next whole.0 c.match-check_samples.why known whole.1.0 whole.1.1
-          (after_some w.in-Some.before b v next w.break_to.result kept
-          (λ before-view tail. w.break_to.ensures before-view v tail c.in-Ok.ensures.ok) ∙ sym w.why-is)
+          (after_some w.in-Some.before c.in-Ok.tail b v kept c.in-Ok.ensures.ok ∙ sym w.break_to.ensures ∙ sym w.why-is)
       | in-Ok-check_samples+in-None w ↦
           let kept : IsTailBefore None b = subst (λ (t : Option Tail). IsTailBefore t b) w.in-None.is before in
           let whole = w.in-Ok-check_samples.ensures.ends in

@@ -1,9 +1,11 @@
 use Rattle.std.proofs.Common.{◌∙◌, List, ap, length}
 use Rattle.mseed_stream.specs.Device.{BytesRead, BytesWritten}
 use Rattle.mseed_audit.specs.declared.each.EachFault.{EachFault}
+use Rattle.mseed_audit.specs.declared.each.EachFault.TheVariants.{Memory}
 use Rattle.mseed_audit.specs.Summary.{broken_count}
 use Rattle.mseed_audit.specs.Told.{Told}
-use Rattle.mseed_audit.proofs.Gathers.{audited_each, each_err, each_written, end_short, memory_short, rest_is, takes_on}
+use Rattle.mseed_audit.proofs.Gathers.{audited_each, each_err, each_written, end_short, lines_outcome, memory_short}
+use Rattle.mseed_audit.proofs.Gathers.{rest_is, takes_on}
 use Rattle.mseed_audit.proofs.Outcomes.{with_verdicts, summary_is}
 use Rattle.mseed_audit.proofs.Told.{grew}
 use Rattle.mseed_audit.proofs.each.audit_each.Goals as goal
@@ -15,20 +17,20 @@ returns-clause-outcome g c =
     let found = c.in_ok-audit.ensures.told in
     let told : List Told = found.1.0 in
     let lines = found.1.1 in
-    let read : BytesRead = g.R.Source.read c.tell_all.new.source in
+    let read : BytesRead = g.R.Source.read c.gather_each.new.source in
     let first : BytesWritten = g.W.Sink.written c.args.sink.now in
-    let old : BytesWritten = g.W.Sink.written c.tell_all.new.sink in
+    let old : BytesWritten = g.W.Sink.written c.gather_each.new.sink in
     let new : BytesWritten = g.W.Sink.written c.write_out.new.sink in
     let verdicts = c.finish-verdicts.result in
-    let f = with_verdicts held end read verdicts (found.0, lines.all) c.finish-verdicts.ensures in
+    let f = with_verdicts held end read verdicts _ (found.0, lines.all) c.finish-verdicts.ensures in
     let a = audited_each held end read verdicts told f lines.are_told in
-    let rest = rest_is held end read verdicts c.as_slice.result.now c.added-records.result c.tell_all.new.text.items
+    let rest = rest_is held end read verdicts c.as_slice.result.now c.added-records.result c.gather_each.new.text.items
     c.push_audit.new.text.items f c.in-Ok.ensures.ok c.as_slice.ensures c.added-records.ensures in
     let summary = summary_is _ held end read verdicts f c.added-records.ensures (ap length c.as_slice-2.ensures)
     (c.count_broken.ensures ∙ ap broken_count c.as_slice-3.ensures) c.is_some.ensures in
     let write = c.in_ok-write_out.ensures in (
       a,
-      each_written _ a first old new c.tell_all.new.text.items c.push_audit.new.text.items lines.lines rest summary
+      each_written _ a first old new c.gather_each.new.text.items c.push_audit.new.text.items lines.lines rest summary
           write.ok lines.fine write.fine,
     )
 
@@ -39,18 +41,18 @@ returns-in_err-write_out-clause-outcome g c =
     let found = c.in_ok-audit.ensures.told in
     let told : List Told = found.1.0 in
     let lines = found.1.1 in
-    let read : BytesRead = g.R.Source.read c.tell_all.new.source in
+    let read : BytesRead = g.R.Source.read c.gather_each.new.source in
     let first : BytesWritten = g.W.Sink.written c.args.sink.now in
-    let old : BytesWritten = g.W.Sink.written c.tell_all.new.sink in
+    let old : BytesWritten = g.W.Sink.written c.gather_each.new.sink in
     let new : BytesWritten = g.W.Sink.written c.write_out.new.sink in
     let verdicts = c.finish-verdicts.result in
     let fault : EachFault = c.in_err-write_out.field-0.0 in
-    let f = with_verdicts held end read verdicts (found.0, lines.all) c.finish-verdicts.ensures in
+    let f = with_verdicts held end read verdicts _ (found.0, lines.all) c.finish-verdicts.ensures in
     let a = audited_each held end read verdicts told f lines.are_told in
-    let rest = rest_is held end read verdicts c.as_slice.result.now c.added-records.result c.tell_all.new.text.items
+    let rest = rest_is held end read verdicts c.as_slice.result.now c.added-records.result c.gather_each.new.text.items
     c.push_audit.new.text.items f c.in-Ok.ensures.ok c.as_slice.ensures c.added-records.ensures in
-    let short = end_short fault a first old new c.tell_all.new.text.items c.push_audit.new.text.items lines.lines rest
-    lines.fine c.in_err-write_out.ensures.err in
+    let short = end_short fault a first old new c.gather_each.new.text.items c.push_audit.new.text.items
+    lines.lines rest lines.fine c.in_err-write_out.ensures.err in
     each_err c.from_residual-in_err-write_out.result _ fault read first new c.from_residual-in_err-write_out.ensures.1
     (λ e q. q) short
 
@@ -58,32 +60,44 @@ pub returns-in-Err-clause-outcome : goal.returns-in-Err-clause-outcome
 returns-in-Err-clause-outcome g c =
     let found = c.in_ok-audit.ensures.told in
     let lines = found.1.1 in
-    memory_short (g.R.Source.read c.tell_all.new.source) (g.W.Sink.written c.args.sink.now)
-    (g.W.Sink.written c.tell_all.new.sink) c.tell_all.new.text.items lines.all.all.offset found.0 found.1.0
-    lines.all.all.records lines.fine lines.lines lines.are_told
+    let read : BytesRead = g.R.Source.read c.gather_each.new.source in
+    let first : BytesWritten = g.W.Sink.written c.args.sink.now in
+    let old : BytesWritten = g.W.Sink.written c.gather_each.new.sink in
+    lines_outcome Memory read first old
+    (memory_short read first old c.gather_each.new.text.items lines.all.all.offset found.0 found.1.0
+    lines.all.all.records lines.fine lines.lines lines.are_told)
+
+pub returns-in_err-audit-clause-outcome : goal.returns-in_err-audit-clause-outcome
+returns-in_err-audit-clause-outcome g c =
+    let fault : EachFault = c.in_err-audit.field-0.0 in
+    let read : BytesRead = g.R.Source.read c.gather_each.new.source in
+    let first : BytesWritten = g.W.Sink.written c.args.sink.now in
+    let old : BytesWritten = g.W.Sink.written c.gather_each.new.sink in
+    each_err c.from_residual.result _ fault read first old c.from_residual.ensures.1 (λ e q. q)
+    (lines_outcome fault read first old c.in_err-audit.ensures.told)
 
 pub returns-in_err-audit-clause-contents : goal.returns-in_err-audit-clause-contents
 returns-in_err-audit-clause-contents g c = λ bytes same.
     let takes = c.in_err-audit.ensures.contents in
-    grew (g.W.Sink.written c.args.sink.now) (g.W.Sink.written c.tell_all.new.sink) _ _ takes.0 bytes takes.1 takes.2
+    grew (g.W.Sink.written c.args.sink.now) (g.W.Sink.written c.gather_each.new.sink) _ _ takes.0 bytes takes.1 takes.2
     same
 
 pub returns-in-Err-clause-contents : goal.returns-in-Err-clause-contents
 returns-in-Err-clause-contents g c = λ bytes same.
     let takes = c.in_ok-audit.ensures.contents in
-    grew (g.W.Sink.written c.args.sink.now) (g.W.Sink.written c.tell_all.new.sink) _ _ takes.0 bytes takes.1 takes.2
+    grew (g.W.Sink.written c.args.sink.now) (g.W.Sink.written c.gather_each.new.sink) _ _ takes.0 bytes takes.1 takes.2
     same
 
 pub returns-in_err-write_out-clause-contents : goal.returns-in_err-write_out-clause-contents
 returns-in_err-write_out-clause-contents g c = λ bytes same.
     let first : BytesWritten = g.W.Sink.written c.args.sink.now in
-    let takes = takes_on first (g.W.Sink.written c.tell_all.new.sink) (g.W.Sink.written c.write_out.new.sink) _ _ _
+    let takes = takes_on first (g.W.Sink.written c.gather_each.new.sink) (g.W.Sink.written c.write_out.new.sink) _ _ _
     c.in_ok-audit.ensures.contents c.in_err-write_out.ensures.contents in
     grew first (g.W.Sink.written c.write_out.new.sink) _ _ takes.0 bytes takes.1 takes.2 same
 
 pub returns-clause-contents : goal.returns-clause-contents
 returns-clause-contents g c = λ bytes same.
     let first : BytesWritten = g.W.Sink.written c.args.sink.now in
-    let takes = takes_on first (g.W.Sink.written c.tell_all.new.sink) (g.W.Sink.written c.write_out.new.sink) _ _ _
+    let takes = takes_on first (g.W.Sink.written c.gather_each.new.sink) (g.W.Sink.written c.write_out.new.sink) _ _ _
     c.in_ok-audit.ensures.contents c.in_ok-write_out.ensures.contents in
     grew first (g.W.Sink.written c.write_out.new.sink) _ _ takes.0 bytes takes.1 takes.2 same

@@ -1,5 +1,5 @@
 use Rattle.std.proofs.Common.{length, ap, arith}
-use Rattle.mseed_audit.proofs.Lines.{one_longer, piece_fits}
+use Rattle.mseed_audit.proofs.Lines.{one_longer, code_fits}
 use Rattle.mseed_audit.proofs.line.name_of.Goals as goal
 
 pub put_code-requires-3 : goal.put_code-requires-3
@@ -8,9 +8,9 @@ put_code-requires-3 c =
     omega (
       arith,
       ap length c.new-name.ensures,
-      piece_fits key _ 0 2 c.network.ensures,
-      piece_fits key _ 2 7 c.station.ensures,
-      piece_fits key _ 7 9 c.location.ensures,
+      code_fits key _ 0 2 c.network.ensures,
+      code_fits key _ 2 7 c.station.ensures,
+      code_fits key _ 7 9 c.location.ensures,
       one_longer _ _ 95 c.put.ensures,
       one_longer _ _ 95 c.put-2.ensures,
     )
@@ -21,9 +21,9 @@ put-requires-3 c =
     omega (
       arith,
       ap length c.new-name.ensures,
-      piece_fits key _ 0 2 c.network.ensures,
-      piece_fits key _ 2 7 c.station.ensures,
-      piece_fits key _ 7 9 c.location.ensures,
+      code_fits key _ 0 2 c.network.ensures,
+      code_fits key _ 2 7 c.station.ensures,
+      code_fits key _ 7 9 c.location.ensures,
       one_longer _ _ 95 c.put.ensures,
       one_longer _ _ 95 c.put-2.ensures,
     )
@@ -34,10 +34,10 @@ put_code-requires-4 c =
     omega (
       arith,
       ap length c.new-name.ensures,
-      piece_fits key _ 0 2 c.network.ensures,
-      piece_fits key _ 2 7 c.station.ensures,
-      piece_fits key _ 7 9 c.location.ensures,
-      piece_fits key _ 9 12 c.channel.ensures,
+      code_fits key _ 0 2 c.network.ensures,
+      code_fits key _ 2 7 c.station.ensures,
+      code_fits key _ 7 9 c.location.ensures,
+      code_fits key _ 9 12 c.channel.ensures,
       one_longer _ _ 95 c.put.ensures,
       one_longer _ _ 95 c.put-2.ensures,
       one_longer _ _ 95 c.put-3.ensures,
@@ -49,10 +49,10 @@ returns-clause-most c =
     omega (
       arith,
       ap length c.new-name.ensures,
-      piece_fits key _ 0 2 c.network.ensures,
-      piece_fits key _ 2 7 c.station.ensures,
-      piece_fits key _ 7 9 c.location.ensures,
-      piece_fits key _ 9 12 c.channel.ensures,
+      code_fits key _ 0 2 c.network.ensures,
+      code_fits key _ 2 7 c.station.ensures,
+      code_fits key _ 7 9 c.location.ensures,
+      code_fits key _ 9 12 c.channel.ensures,
       one_longer _ _ 95 c.put.ensures,
       one_longer _ _ 95 c.put-2.ensures,
       one_longer _ _ 95 c.put-3.ensures,

@@ -18,12 +18,10 @@ pub returns-clause-ok : goal.returns-clause-ok
 returns-clause-ok c =
     fits_as c.fit_view.result c.args.options.now (map view_of c.args.views.now) c.args.channel.now.0
     (trace_of c.view_series-series.result)
-    (c.view_series-series.ensures.series (map view_of c.args.views.now) c.requires.judged
-    c.read_channel-read.ensures.read) c.fit_view.ensures.fits
+    (c.view_series-series.ensures.series c.read_channel-read.ensures.read) c.fit_view.ensures.fits
 
 pub returns-clause-err : goal.returns-clause-err
 returns-clause-err c =
     misfits_as c.fit_view.result c.args.options.now (map view_of c.args.views.now) c.args.channel.now.0
     (trace_of c.view_series-series.result)
-    (c.view_series-series.ensures.series (map view_of c.args.views.now) c.requires.judged
-    c.read_channel-read.ensures.read) c.fit_view.ensures.fault
+    (c.view_series-series.ensures.series c.read_channel-read.ensures.read) c.fit_view.ensures.fault

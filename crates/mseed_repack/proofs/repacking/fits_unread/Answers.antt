@@ -49,8 +49,7 @@ returns-in-Ok c =
     let size : length found.samples ≡ length s.samples = sym found.count_is ∙ sym long ∙ sym taken in
     record {
       trace = with_samples found.samples s;
-      series = c.view_series-series.ensures.others (map view_of c.args.views.now) found.samples c.requires.judged
-          found.are;
+      series = c.view_series-series.ensures.others found.samples found.are;
       fits = fits_with s found.samples c.args.options.now _ size c.in-Ok.ensures.fits
           (c.if-not-is_held.ensures.held found.samples found.within found.known);
     }

@@ -20,8 +20,7 @@ read_channel-read-requires-clause-samples_fit g c =
 pub pack_fitting-requires-clause-fits : goal.pack_fitting-requires-clause-fits
 pack_fitting-requires-clause-fits g c =
     let can = c.requires.fit in
-    let series = c.view_series-series.ensures.series (map view_of c.args.views.now) c.requires.judged
-    c.read_channel-read.ensures.read in
+    let series = c.view_series-series.ensures.series c.read_channel-read.ensures.read in
     subst (λ (t : Trace). Fits t c.args.options.now)
     (c.one_series.ensures.series can.trace (trace_of c.view_series-series.result) _ can.series series) can.fits
 
@@ -30,13 +29,11 @@ returns-in-Ok-clause-ok g c =
     took_all c.args.options.now (map view_of c.args.views.now) c.args.channel.now.0
     (trace_of c.view_series-series.result) c.in-Ok.field-0 (g.W.Sink.written c.args.output.now)
     (g.W.Sink.written c.pack_fitting.new.sink)
-    (c.view_series-series.ensures.series (map view_of c.args.views.now) c.requires.judged
-    c.read_channel-read.ensures.read) c.in-Ok.ensures.ok
+    (c.view_series-series.ensures.series c.read_channel-read.ensures.read) c.in-Ok.ensures.ok
 
 pub returns-in-Err-clause-err : goal.returns-in-Err-clause-err
 returns-in-Err-clause-err g c =
     took_prefix c.args.options.now (map view_of c.args.views.now) c.args.channel.now.0
     (trace_of c.view_series-series.result) c.in-Err.field-0 (g.W.Sink.written c.args.output.now)
     (g.W.Sink.written c.pack_fitting.new.sink)
-    (c.view_series-series.ensures.series (map view_of c.args.views.now) c.requires.judged
-    c.read_channel-read.ensures.read) c.in-Err.ensures.err
+    (c.view_series-series.ensures.series c.read_channel-read.ensures.read) c.in-Err.ensures.err

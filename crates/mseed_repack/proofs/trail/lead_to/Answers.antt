@@ -1,4 +1,4 @@
-use Rattle.std.proofs.Common.{◌≡◌, List, ℕ, All, subst, arith, false, true, get_or}
+use Rattle.std.proofs.Common.{◌≡◌, ◌<◌, List, ℕ, All, subst, arith, false, true, get_or}
 use Rattle.mseed_record.specs.Header.{key_at}
 use Rattle.mseed_record.specs.Viewing.{view_of}
 use Rattle.mseed_steim.specs.Reading.{count_of}
@@ -22,11 +22,13 @@ returns-in-Some c =
     λ d.
     subst (λ (key : List ℕ). same_key (get_or c.args.channels.now c.in-Some.number d).0 key ≡ true) c.codes.ensures
     (c.in-Some.ensures.some d) in
+    let some : 0 < count_of (view_of c.args.view.now) =
+    omega (arith, c.samples.ensures, c.if-samples-eq0.false) in
     record {
       trails = λ rs lt is h.
           trails_more rs c.args.channels.now c.args.index c.in-Some.number c.args.firsts.now c.args.nexts.now
-          c.args.view.now c.requires.ascending c.in-Some.ensures.inside c.requires.firsts c.requires.inside found
-          lt is h;
+          c.args.view.now c.requires.ascending c.in-Some.ensures.inside c.requires.firsts c.requires.inside some
+          found lt is h;
     }
 
 pub returns-in-None : goal.returns-in-None

@@ -1,29 +1,35 @@
-use Rattle.std.proofs.Common.{[], None, Some, refl}
+use Rattle.std.proofs.Common.{◌≡◌, ◌∷◌, [], Option, None, Some, refl, subst, sym, ◌∙◌}
 use Rattle.mseed_record.specs.View.{View}
 use Rattle.mseed_record.specs.Viewing.{view_of}
+use Rattle.mseed_steim.specs.Reading.{count_of}
+use Rattle.mseed_audit.specs.declared.channel.Findings.{Findings}
+use Rattle.mseed_audit.specs.declared.finding.Why.{Why}
+use Rattle.mseed_audit.specs.Audit.{Stands}
 use Rattle.mseed_audit.specs.Channels.{Placed}
-use Rattle.mseed_audit.proofs.Findings.{findings_one}
+use Rattle.mseed_audit.proofs.Kept.{one_stands}
 use Rattle.mseed_audit.proofs.channel.Channel.begin.Goals as goal
+use Rattle.mseed_audit.proofs.channel.Channel.begin.Goals.{in-Sound, in-Faulty}
 
-pub returns-in-Sound-clause-stands : goal.returns-in-Sound-clause-stands
-returns-in-Sound-clause-stands c =
+pub returns-clause-stands : goal.returns-clause-stands
+returns-clause-stands c =
     let v : View = view_of c.args.view.now in
-    let p : Placed = record { view = v; offset = c.args.offset; number = c.args.number } in record {
-      verdict = c.verdict_alone.ensures.is v c.args.number c.args.offset c.in-Sound.ensures.tail
-          (c.in-Sound.ensures.why None tt);
-      prefix = [];
-      last = p;
-      parts = refl;
-      tail = c.in-Sound.ensures.tail;
-    }
-
-pub returns-in-Faulty-clause-stands : goal.returns-in-Faulty-clause-stands
-returns-in-Faulty-clause-stands c =
-    let v : View = view_of c.args.view.now in
-    let p : Placed = record { view = v; offset = c.args.offset; number = c.args.number } in record {
-      verdict = ([], (findings_one p (Some c.in-Faulty.why) (c.in-Faulty.ensures.why None tt), refl));
-      prefix = [];
-      last = p;
-      parts = refl;
-      tail = c.in-Faulty.ensures.tail;
-    }
+    let p : Placed = record { view = v; offset = c.args.offset; number = c.args.number } in
+    let samples : c.from.result ≡ count_of v = c.from.ensures ∙ c.samples.ensures in
+    elim c.match-judge.branch [
+      | in-Sound w ↦
+          subst (λ (f : Findings × Option Why). Stands (record { records = 1; samples = c.from.result; findings = f.0 })
+          (p ∷ [])) (sym w.why-is)
+          (one_stands _ p None (w.in-Sound.ensures.why None tt) refl samples
+          (record {
+            sound = w.in-Sound.ensures.why None tt;
+            number = refl;
+            offset = refl;
+            start = w.in-Sound.ensures.tail.start;
+            rate = w.in-Sound.ensures.tail.rate;
+          }) w.in-Sound.ensures.tail refl)
+      | in-Faulty w ↦
+          subst (λ (f : Findings × Option Why). Stands (record { records = 1; samples = c.from.result; findings = f.0 })
+          (p ∷ [])) (sym w.why-is)
+          (one_stands _ p (Some w.in-Faulty.why) (w.in-Faulty.ensures.why None tt) refl samples
+          (w.in-Faulty.why, w.in-Faulty.ensures.why None tt) w.in-Faulty.ensures.tail ([], (refl, refl)))
+    ]

@@ -131,7 +131,7 @@ returns-in_ok-keep-in-None-clause-bounded g c = λ n all.
     let es : List (List ℕ × Channel) = c.find.new.self in
     let within : AreBounded n es =
     subst (λ (fs : List (List ℕ × Channel)). AreBounded n fs) (sym c.find.ensures.stays) all in
-    let one : IsBounded (n + 1) c.begin-channel.result.0.verdict =
+    let one : IsBounded (n + 1) c.begin-channel.result.0 =
     within_more 1 (n + 1) _ (omega arith) c.begin-channel.ensures.bounded in
     bounded_where es c.keep.new.self c.codes-codes.result c.begin-channel.result.0 n c.in_ok-keep-in-None.ensures.kept
     within one

@@ -2,13 +2,14 @@ use Rattle.std.proofs.Common.{◌≡◌, ◌<◌, ◌++◌, ◌∷◌, [], ◌�
 use Rattle.std.proofs.Common.{ap, arith, rules}
 use Rattle.std.specs.List.Sorted.{IsStrictlySortedBy}
 use Rattle.std.specs.Map.{keys_of, lookup}
+use Rattle.std.specs.Option.{option_map}
 use Rattle.std.specs.Ordering.{nat_cmp}
 use Rattle.std.specs.Cmp.Lexicographic.{slice_cmp}
 use Rattle.mseed_audit.specs.declared.channel.Channel.{Channel}
 use Rattle.mseed_audit.specs.declared.verdict.Verdict.{Verdict}
+use Rattle.mseed_audit.specs.Audit.{verdict_of}
 use Rattle.mseed_audit.specs.Channels.{same_key}
-use Rattle.mseed_audit.specs.private.Kept.{verdict_in}
-use Rattle.mseed_audit.proofs.Rosters.{verdict_each, verdict_keys, verdicts_at, verdicts_next}
+use Rattle.mseed_audit.proofs.Rosters.{made_at, made_each, made_keys, made_next}
 use Rattle.mseed_audit.proofs.roster.Roster.into_verdicts.Goals as goal
 
 pub loop-codes-preserved : goal.loop-codes-preserved
@@ -19,12 +20,12 @@ loop-codes-preserved g c =
     let written : List ℕ × Verdict = (c.in-Some.codes, c.verdict.result) in
     let is = rw c.in-Some.ensures.steps at c.loop-codes.invariant in
     let within : c.in-Some.index < length es = is.2 0 0 (omega arith) in
-    let next = verdicts_next es c.in-Some.codes c.in-Some.index rest c.index.result.now within c.index.ensures in
-    let one : written ∷ verdicts_at es rest ≡ verdicts_at es ((c.in-Some.codes, c.in-Some.index) ∷ rest) =
-    ap (λ (v : Verdict). (c.in-Some.codes, v) ∷ verdicts_at es rest) c.verdict.ensures ∙ sym next in
+    let next = made_next verdict_of es c.in-Some.codes c.in-Some.index rest c.index.result.now within c.index.ensures in
+    let one : written ∷ made_at verdict_of es rest ≡ made_at verdict_of es ((c.in-Some.codes, c.in-Some.index) ∷ rest) =
+    ap (λ (v : Verdict). (c.in-Some.codes, v) ∷ made_at verdict_of es rest) c.verdict.ensures ∙ sym next in
     let pushed : c.push.new.self.items ≡ before ++ written ∷ [] = search rules in (
-      ap (λ (vs : List (List ℕ × Verdict)). vs ++ verdicts_at es rest) pushed
-          ∙ append_assoc before (written ∷ []) (verdicts_at es rest)
+      ap (λ (vs : List (List ℕ × Verdict)). vs ++ made_at verdict_of es rest) pushed
+          ∙ append_assoc before (written ∷ []) (made_at verdict_of es rest)
           ∙ ap (λ (vs : List (List ℕ × Verdict)). before ++ vs) one ∙ is.0,
       search rules,
       λ k d l. is.2 (suc k) d (omega (arith, l)),
@@ -36,10 +37,12 @@ returns-clause-ascending g c =
     let es : List (List ℕ × Channel) = c.self.inside.channels.items in
     let places : List (List ℕ × ℕ) = c.self.inside.places.entries in
     let all = rw c.in-None.ensures.steps.0 at c.loop-codes.invariant.0 in
-    let there : c.loop-codes.verdicts.items ≡ verdicts_at es places = sym (append-nil c.loop-codes.verdicts.items)
-    ∙ all ∙ ap (λ (ps : List (List ℕ × ℕ)). verdicts_at es ps) made.0 in
+    let there : c.loop-codes.verdicts.items ≡ made_at verdict_of es places = sym (append-nil
+    c.loop-codes.verdicts.items)
+    ∙ all ∙ ap (λ (ps : List (List ℕ × ℕ)). made_at verdict_of es ps) made.0 in
     let keys : keys_of c.loop-codes.verdicts.items ≡ keys_of places =
-    ap (λ (vs : List (List ℕ × Verdict)). keys_of vs) there ∙ verdict_keys es places c.self.invariant.0.within in
+    ap (λ (vs : List (List ℕ × Verdict)). keys_of vs) there ∙ made_keys verdict_of es places
+    c.self.invariant.0.within in
     subst (λ (ks : List (List ℕ)). IsStrictlySortedBy (slice_cmp nat_cmp) ks) (sym keys) made.5
 
 pub returns-clause-each : goal.returns-clause-each
@@ -48,8 +51,9 @@ returns-clause-each g c = λ key.
     let es : List (List ℕ × Channel) = c.self.inside.channels.items in
     let places : List (List ℕ × ℕ) = c.self.inside.places.entries in
     let all = rw c.in-None.ensures.steps.0 at c.loop-codes.invariant.0 in
-    let there : c.loop-codes.verdicts.items ≡ verdicts_at es places = sym (append-nil c.loop-codes.verdicts.items)
-    ∙ all ∙ ap (λ (ps : List (List ℕ × ℕ)). verdicts_at es ps) made.0 in
+    let there : c.loop-codes.verdicts.items ≡ made_at verdict_of es places = sym (append-nil
+    c.loop-codes.verdicts.items)
+    ∙ all ∙ ap (λ (ps : List (List ℕ × ℕ)). made_at verdict_of es ps) made.0 in
     ap (λ (vs : List (List ℕ × Verdict)). lookup (same_key key) vs) there
-    ∙ verdict_each es places c.self.invariant.0 key
-    ∙ ap (λ (fs : List (List ℕ × Channel)). verdict_in (lookup (same_key key) fs)) c.self.view_is
+    ∙ made_each verdict_of es places c.self.invariant.0 key
+    ∙ ap (λ (fs : List (List ℕ × Channel)). option_map verdict_of (lookup (same_key key) fs)) c.self.view_is

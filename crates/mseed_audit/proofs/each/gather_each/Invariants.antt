@@ -4,10 +4,10 @@ use Rattle.mseed_stream.specs.Cutting.{IsAlong, TellsMore}
 use Rattle.mseed_stream.specs.Walk.{HasHandedOut}
 use Rattle.mseed_audit.specs.Audit.{IsAuditOf}
 use Rattle.mseed_audit.specs.Channels.{added_from}
-use Rattle.mseed_audit.specs.private.Gathered.{AreGathered, TakesMore}
+use Rattle.mseed_audit.specs.Each.{AreGathered, TakesMore}
 use Rattle.mseed_audit.specs.Text.{told_lines}
 use Rattle.mseed_audit.specs.Told.{Told, AreToldOf}
-use Rattle.mseed_audit.proofs.each.tell_all.Given as goal
+use Rattle.mseed_audit.proofs.each.gather_each.Given as goal
 
 abbrev pub invariant-records : goal.invariant-records
 invariant-records g l = record {

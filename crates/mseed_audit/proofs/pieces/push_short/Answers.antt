@@ -1,6 +1,6 @@
 use Rattle.std.proofs.Common.{ℕ, ◌∷◌, [], ap, ◌∙◌, rules}
 use Rattle.mseed_audit.proofs.Shorts.{added_text, four_digits, one_digit, three_digits, two_digits}
-use Rattle.mseed_audit.proofs.parts.push_short.Goals as goal
+use Rattle.mseed_audit.proofs.pieces.push_short.Goals as goal
 
 pub returns-then-count-lt10-clause-ok : goal.returns-then-count-lt10-clause-ok
 returns-then-count-lt10-clause-ok g c =

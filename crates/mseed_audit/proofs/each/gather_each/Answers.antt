@@ -3,12 +3,12 @@ use Rattle.std.proofs.KnownBytes.{Consumes-nil}
 use Rattle.mseed_record.specs.View.{View}
 use Rattle.mseed_stream.specs.Device.{BytesRead, BytesWritten}
 use Rattle.mseed_audit.specs.declared.each.EachFault.{EachFault}
-use Rattle.mseed_audit.specs.private.Gathered.{AreGathered}
+use Rattle.mseed_audit.specs.Each.{AreGathered}
 use Rattle.mseed_audit.specs.Told.{Told, none}
 use Rattle.mseed_audit.proofs.Gathers.{cut_short, gathered_all, gathered_told, gathered_written, memory_short}
 use Rattle.mseed_audit.proofs.Gathers.{takes_none, takes_on, telling_err}
 use Rattle.mseed_audit.proofs.Told.{tells_on}
-use Rattle.mseed_audit.proofs.each.tell_all.Goals as goal
+use Rattle.mseed_audit.proofs.each.gather_each.Goals as goal
 
 pub records-init : goal.records-init
 records-init g c =

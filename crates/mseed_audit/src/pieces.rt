@@ -1,14 +1,14 @@
-//! A text in parts: words and numbers, one behind another.
+//! A text in pieces: words and numbers, one behind another.
 ghost use Rattle.std.specs.Prelude.{◌≡◌, ◌<◌, ◌+◌, ◌++◌, OnErr, OnOk, decimal};
 ghost use Rattle.mseed_stream.specs.Device.{IsPrefixOf};
-ghost use Rattle.mseed_audit.specs.Parts.{part_text, parts_text};
+ghost use Rattle.mseed_audit.specs.Pieces.{piece_text, pieces_text};
 
 use itoa::Buffer;
 use std::alloc::{AllocError, Allocator};
 
-/// A part of a text.
+/// A piece of a text.
 #[derive(Clone, Copy, Debug)]
-pub enum Part<'a> {
+pub enum Piece<'a> {
     /// Bytes as they are.
     Words(&'a [u8]),
     /// The decimal digits of a number.
@@ -19,34 +19,37 @@ pub enum Part<'a> {
     Signed(i32),
 }
 
-/// Adds the parts.
+/// Adds the pieces.
 ///
 /// # Errors
 ///
-/// `AllocError` where memory is refused. What was there stays in front, and some of the parts may have been added
+/// `AllocError` where memory is refused. What was there stays in front, and some of the pieces may have been added
 /// behind it.
 #[inline(always)]
-pub fn push_parts<A: Allocator>(text: &mut Vec<u8, A>, parts: &[Part<'_>]) -> Result<(), AllocError>
-    ensures ok { OnOk result (text.new.items ≡ text.old.items ++ parts_text parts.now) }
+pub fn push_pieces<A: Allocator>(
+    text: &mut Vec<u8, A>,
+    pieces: &[Piece<'_>],
+) -> Result<(), AllocError>
+    ensures ok { OnOk result (text.new.items ≡ text.old.items ++ pieces_text pieces.now) }
     ensures prefix { IsPrefixOf text.old.items text.new.items }
 {
-    for part in parts {
-        push_part(text, *part)?;
+    for piece in pieces {
+        push_piece(text, *piece)?;
     }
     Ok(())
 }
 
-/// Adds a part.
+/// Adds a piece.
 #[inline(always)]
-fn push_part<A: Allocator>(text: &mut Vec<u8, A>, part: Part<'_>) -> Result<(), AllocError>
-    ensures ok { OnOk result (text.new.items ≡ text.old.items ++ part_text part.entry) }
+fn push_piece<A: Allocator>(text: &mut Vec<u8, A>, piece: Piece<'_>) -> Result<(), AllocError>
+    ensures ok { OnOk result (text.new.items ≡ text.old.items ++ piece_text piece.entry) }
     ensures prefix { IsPrefixOf text.old.items text.new.items }
 {
-    match part {
-        Part::Words(words) => text.extend_from_slice(words),
-        Part::Count(count) => push_count(text, count),
-        Part::Wide(count) => text.extend_from_slice(Buffer::new().format(count).as_bytes()),
-        Part::Signed(number) => text.extend_from_slice(Buffer::new().format(number).as_bytes()),
+    match piece {
+        Piece::Words(words) => text.extend_from_slice(words),
+        Piece::Count(count) => push_count(text, count),
+        Piece::Wide(count) => text.extend_from_slice(Buffer::new().format(count).as_bytes()),
+        Piece::Signed(number) => text.extend_from_slice(Buffer::new().format(number).as_bytes()),
     }
 }
 

@@ -1,0 +1,5 @@
+use Rattle.mseed_audit.proofs.Finished.{channels_finished}
+use Rattle.mseed_audit.proofs.law.channels_have_verdicts.Goals as goal
+
+pub returns : goal.returns
+returns c = channels_finished c.continuous_exactly.ensures
