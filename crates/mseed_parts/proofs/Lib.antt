@@ -1,0 +1,9 @@
+pub mod Adding
+pub mod Associative
+pub mod Behind
+pub mod Extended
+pub mod Joined
+pub mod Moving
+pub mod Placing
+pub mod Turns
+pub mod Within

@@ -1,0 +1,84 @@
+-- Records one behind another, and behind more records.
+use Rattle.std.proofs.Common.{◌≡◌, ℕ, suc, ◌+◌, List, [], ◌∷◌, ◌++◌, Bool, true, false, cond, map, length, refl, ap}
+use Rattle.std.proofs.Common.{◌∙◌, arith}
+use Rattle.std.specs.List.{filter}
+use Rattle.mseed_record.specs.View.{View}
+use Rattle.mseed_audit.specs.Channels.{Placed, numbered, is_of, records_of, added_from}
+use Rattle.mseed_parts.specs.Parts.{bytes_in}
+
+-- a record behind so many more records and bytes
+abbrev pub moved : ℕ → ℕ → Placed → Placed
+moved d e p = record { view = p.view; offset = e + p.offset; number = d + p.number }
+
+abbrev placed : ℕ → ℕ → List View → List Placed
+placed n o views = numbered n (added_from o views)
+
+placed_at : (n m o p : ℕ) (vs : List View) → n ≡ m → o ≡ p → placed n o vs ≡ placed m p vs
+placed_at n m o p vs e f = λ i. placed (e i) (f i) vs
+
+pub bytes_append : (xs ys : List View) → bytes_in (xs ++ ys) ≡ bytes_in xs + bytes_in ys
+bytes_append [] ys = omega arith
+bytes_append (x ∷ xs) ys = let later : bytes_in (xs ++ ys) ≡ bytes_in xs + bytes_in ys = bytes_append xs ys in
+    omega (arith, later)
+
+-- the records of the second list stand behind those of the first
+placed_append : (n o : ℕ) (xs ys : List View)
+    → placed n o (xs ++ ys) ≡ placed n o xs ++ placed (n + length xs) (o + bytes_in xs) ys
+placed_append n o [] ys = placed_at n (n + 0) o (o + 0) ys (omega arith) (omega arith)
+placed_append n o (x ∷ xs) ys =
+    let size : ℕ = length x.bytes in
+    ap (λ (ps : List Placed). record { view = x; offset = o; number = n } ∷ ps)
+    (placed_append (n + 1) (o + size) xs ys
+    ∙ ap (λ (ps : List Placed). placed (n + 1) (o + size) xs ++ ps)
+    (placed_at (n + 1 + length xs) (n + suc (length xs)) (o + size + bytes_in xs) (o + (size + bytes_in xs)) ys
+    (omega arith) (omega arith)))
+
+-- and behind so many more records and bytes each has its number and offset gone up
+placed_moved : (d e n o : ℕ) (vs : List View) → placed (d + n) (e + o) vs ≡ map (moved d e) (placed n o vs)
+placed_moved d e n o [] = refl
+placed_moved d e n o (v ∷ vs) =
+    ap (λ (ps : List Placed). record { view = v; offset = e + o; number = d + n } ∷ ps)
+    (placed_at (d + n + 1) (d + (n + 1)) (e + o + length v.bytes) (e + (o + length v.bytes)) vs (omega arith)
+    (omega arith)
+    ∙ placed_moved d e (n + 1) (o + length v.bytes) vs)
+
+placed_behind : (xs ys : List View)
+    → placed 1 0 (xs ++ ys) ≡ placed 1 0 xs ++ map (moved (length xs) (bytes_in xs)) (placed 1 0 ys)
+placed_behind xs ys =
+    placed_append 1 0 xs ys
+    ∙ ap (λ (ps : List Placed). placed 1 0 xs ++ ps)
+    (placed_at (1 + length xs) (length xs + 1) (0 + bytes_in xs) (bytes_in xs + 0) ys (omega arith) (omega arith)
+    ∙ placed_moved (length xs) (bytes_in xs) 1 0 ys)
+
+module _ (key : List ℕ) where
+  abbrev test : Placed → Bool
+  test p = is_of key p.view
+
+  kept_append : (ps qs : List Placed) → filter test (ps ++ qs) ≡ filter test ps ++ filter test qs
+  kept_append [] qs = refl
+  kept_append (p ∷ ps) qs = by (test p) (kept_append ps qs)
+    where
+      by : (b : Bool) → filter test (ps ++ qs) ≡ filter test ps ++ filter test qs
+          → cond b (p ∷ filter test (ps ++ qs)) (filter test (ps ++ qs))
+          ≡ cond b (p ∷ filter test ps) (filter test ps) ++ filter test qs
+      by true e = ap (λ (rs : List Placed). p ∷ rs) e
+      by false e = e
+
+  kept_moved : (d e : ℕ) (ps : List Placed) → filter test (map (moved d e) ps) ≡ map (moved d e) (filter test ps)
+  kept_moved d e [] = refl
+  kept_moved d e (p ∷ ps) = by (test p) (kept_moved d e ps)
+    where
+      by : (b : Bool) → filter test (map (moved d e) ps) ≡ map (moved d e) (filter test ps)
+          → cond b (moved d e p ∷ filter test (map (moved d e) ps)) (filter test (map (moved d e) ps))
+          ≡ map (moved d e) (cond b (p ∷ filter test ps) (filter test ps))
+      by true k = ap (λ (rs : List Placed). moved d e p ∷ rs) k
+      by false k = k
+
+  -- the records of a channel in two archives one behind another
+  pub records_append : (xs ys : List View) → records_of key (added_from 0 (xs ++ ys))
+      ≡ records_of key (added_from 0 xs) ++ map (moved (length xs) (bytes_in xs)) (records_of key (added_from 0 ys))
+  records_append xs ys =
+      ap (λ (ps : List Placed). filter test ps) (placed_behind xs ys)
+      ∙ kept_append (placed 1 0 xs) (map (moved (length xs) (bytes_in xs)) (placed 1 0 ys))
+      ∙ ap (λ (ps : List Placed). filter test (placed 1 0 xs) ++ ps)
+      (kept_moved (length xs) (bytes_in xs) (placed 1 0 ys))

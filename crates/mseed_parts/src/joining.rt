@@ -1,0 +1,196 @@
+//! How what is kept of a channel is joined with what is kept of its further records.
+ghost use Rattle.std.specs.Prelude.{◌≡◌, ◌↔◌, ◌<◌, ◌+◌, ◌^◌, length, IsOk, IfOk, IsTrue};
+ghost use Rattle.std.specs.Option.{option_map, option_to_list};
+ghost use Rattle.mseed_audit.specs.declared.channel.Findings.TheVariants.{Nothing};
+ghost use Rattle.mseed_parts.specs.Joining.{moved_head, moved_finding, moved_findings, moved_channel};
+ghost use Rattle.mseed_parts.specs.Joining.{border_of, findings_with, channel_behind};
+ghost use Rattle.mseed_audit.specs.Audit.{head_in, tail_in};
+ghost use Rattle.mseed_audit.specs.declared.tail.Tail.{Tail};
+ghost use Rattle.mseed_parts.specs.Parts.{HeadFits, FirstFits, Moves, CountFits, CountsFit};
+
+use crate::border::border_of;
+use mseed_audit::{Channel, Finding, Findings, Head};
+
+/// No count, number or offset is larger.
+const LARGEST: u64 = 0x7fff_ffff_ffff_ffff;
+
+/// A number would pass the limit.
+#[derive(Clone, Copy, Debug)]
+pub(crate) struct TooLarge;
+
+/// A sum that doesn't pass the limit.
+pub(crate) fn sum(a: u64, b: u64) -> Result<u64, TooLarge>
+    ensures value { IfOk result (λ n. n ≡ a + b) }
+    ensures fits { IsOk result ↔ a + b < 2 ^ 63 }
+{
+    match a.checked_add(b) {
+        Some(n) => { if n <= LARGEST { Ok(n) } else { Err(TooLarge) } }
+        None => Err(TooLarge),
+    }
+}
+
+fn moved_head(head: &Head, records: u64, bytes: u64) -> Result<Head, TooLarge>
+    ensures value { IfOk result (λ h. h ≡ moved_head records bytes head.now) }
+    ensures fits { IsOk result ↔ (records + head.now.number < 2 ^ 63) × (bytes + head.now.offset < 2 ^ 63) }
+{
+    Ok(Head {
+        number: sum(records, head.number)?,
+        offset: sum(bytes, head.offset)?,
+        start: head.start,
+        rate: head.rate,
+    })
+}
+
+fn moved_some(head: Option<Head>, records: u64, bytes: u64) -> Result<Option<Head>, TooLarge>
+    ensures value { IfOk result (λ h. h ≡ option_map (moved_head records bytes) head) }
+    ensures fits { IsOk result ↔ HeadFits records bytes head }
+{
+    match head {
+        Some(head) => Ok(Some(moved_head(&head, records, bytes)?)),
+        None => Ok(None),
+    }
+}
+
+fn moved_finding(finding: &Finding, records: u64, bytes: u64) -> Result<Finding, TooLarge>
+    ensures value { IfOk result (λ f. f ≡ moved_finding records bytes finding.now) }
+    ensures fits { IsOk result ↔ (records + finding.now.number < 2 ^ 63) × (bytes + finding.now.offset < 2 ^ 63) }
+{
+    Ok(Finding {
+        number: sum(records, finding.number)?,
+        offset: sum(bytes, finding.offset)?,
+        why: finding.why,
+    })
+}
+
+fn moved_findings(findings: &Findings, records: u64, bytes: u64) -> Result<Findings, TooLarge>
+    ensures value { IfOk result (λ f. f ≡ moved_findings records bytes findings.now) }
+    ensures fits { IsOk result
+        ↔ (HeadFits records bytes (head_in findings.now) × FirstFits records bytes findings.now) }
+{
+    match *findings {
+        Findings::Nothing { head, tail } => Ok(Findings::Nothing {
+            head: moved_head(&head, records, bytes)?,
+            tail,
+        }),
+        Findings::Counted {
+            count,
+            first,
+            head,
+            tail,
+        } => Ok(Findings::Counted {
+            count,
+            first: moved_finding(&first, records, bytes)?,
+            head: moved_some(head, records, bytes)?,
+            tail,
+        }),
+    }
+}
+
+/// The same channel, behind so many more records and bytes.
+pub(crate) fn moved(channel: &Channel, records: u64, bytes: u64) -> Result<Channel, TooLarge>
+    ensures value { IfOk result (λ c. c ≡ moved_channel records bytes channel.now) }
+    ensures fits { IsOk result ↔ Moves records bytes channel.now }
+{
+    Ok(Channel {
+        records: channel.records,
+        samples: channel.samples,
+        findings: moved_findings(&channel.findings, records, bytes)?,
+    })
+}
+
+/// The findings of further records, with what is found before them, of a channel of which nothing was found.
+fn with_first(head: Head, further: &Findings, border: Option<Finding>) -> Result<Findings, TooLarge>
+    ensures value { (t : Tail) → IfOk result (λ f. f ≡ findings_with (Nothing head t) further.now border) }
+    ensures fits { (t : Tail) → (IsOk result ↔ CountFits (findings_with (Nothing head t) further.now border)) }
+{
+    match (*further, border) {
+        (Findings::Nothing { tail, .. }, None) => Ok(Findings::Nothing { head, tail }),
+        (Findings::Nothing { tail, .. }, Some(first)) => Ok(Findings::Counted {
+            count: 1,
+            first,
+            head: Some(head),
+            tail: Some(tail),
+        }),
+        (
+            Findings::Counted {
+                count,
+                first,
+                tail,
+                ..
+            },
+            border,
+        ) => Ok(Findings::Counted {
+            count: sum(size_of(border), count)?,
+            first: border.unwrap_or(first),
+            head: Some(head),
+            tail,
+        }),
+    }
+}
+
+/// The findings of both, with what is found between them.
+fn with(
+    findings: &Findings,
+    further: &Findings,
+    border: Option<Finding>,
+) -> Result<Findings, TooLarge>
+    ensures value { IfOk result (λ f. f ≡ findings_with findings.now further.now border) }
+    ensures fits { IsOk result ↔ CountFits (findings_with findings.now further.now border) }
+{
+    match *findings {
+        Findings::Nothing { head, .. } => with_first(head, further, border),
+        Findings::Counted {
+            count,
+            first,
+            head,
+            ..
+        } => {
+            let more = match *further {
+                Findings::Nothing { .. } => 0,
+                Findings::Counted { count, .. } => count,
+            };
+            Ok(Findings::Counted {
+                count: sum(count, sum(size_of(border), more)?)?,
+                first,
+                head,
+                tail: further.tail(),
+            })
+        }
+    }
+}
+
+/// How many findings there are between two records.
+fn size_of(border: Option<Finding>) -> u64
+    ensures { result ≡ length (option_to_list border) }
+{
+    if border.is_some() { 1 } else { 0 }
+}
+
+/// The channel with its further records behind, and what is found between them.
+pub(crate) fn behind(
+    channel: &Channel,
+    further: &Channel,
+) -> Result<(Channel, Option<Finding>), TooLarge>
+    ensures value { IfOk result (λ x. x.0 ≡ channel_behind channel.now further.now) }
+    ensures border { IfOk result (λ x. x.1 ≡ border_of (tail_in channel.now.findings) (head_in further.now.findings)) }
+    ensures fits { IsOk result ↔ CountsFit (channel_behind channel.now further.now) }
+{
+    let border = border_of(channel.findings.tail(), further.findings.head());
+    let joined = Channel {
+        records: sum(channel.records, further.records)?,
+        samples: sum(channel.samples, further.samples)?,
+        findings: with(&channel.findings, &further.findings, border)?,
+    };
+    Ok((joined, border))
+}
+
+/// Whether no count of a channel passes the limit.
+pub(crate) fn counts_fit(channel: &Channel) -> bool
+    ensures { IsTrue result ↔ CountsFit channel.now }
+{
+    let found = match channel.findings {
+        Findings::Nothing { .. } => 0,
+        Findings::Counted { count, .. } => count,
+    };
+    channel.records <= LARGEST && channel.samples <= LARGEST && found <= LARGEST
+}

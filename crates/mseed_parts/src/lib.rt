@@ -1,0 +1,12 @@
+//! The part of an archive: what an audit keeps of it, so that parts add up.
+#![tactic(auto)]
+
+mod border;
+mod joining;
+mod law;
+mod part;
+#[cfg(test)]
+mod tests;
+
+pub use law::{joined_in_turn, joining_laws, one_part, parts_add_up};
+pub use part::{JoinFault, Part};

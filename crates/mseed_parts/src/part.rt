@@ -1,0 +1,180 @@
+//! The part of an archive.
+ghost use Rattle.std.specs.Prelude.{◌≡◌, ◌++◌, [], List, Some, None, IfOk, IfErr, OnOk, OnErr, IsOk};
+ghost use Rattle.std.specs.Prelude.{◌↔◌, IsErrOf};
+ghost use Rattle.mseed_record.specs.View.{View};
+ghost use Rattle.mseed_parts.specs.Joining.{border_between, border_of, channel_behind, moved_channel};
+ghost use Rattle.mseed_audit.specs.Audit.{head_in, tail_in};
+ghost use Rattle.mseed_parts.specs.Parts.{IsPartOf, IsJoint, Fits, FitsAt, CountsFit, kept_of, one_channel};
+ghost use Rattle.mseed_parts.specs.Parts.{counts_alone, HasNewChannel, IsAscending, IsSmall};
+
+use crate::joining::{behind, counts_fit, moved, sum};
+use mseed_audit::{Channel, Finding, one_finding};
+use mseed_record::Codes;
+use std::alloc::{Allocator, Global};
+use std::collections::BTreeMap;
+use std::marker::Model;
+
+/// Why parts weren't joined.
+#[derive(Clone, Copy, Debug, PartialEq, Eq)]
+pub enum JoinFault {
+    /// An allocation was refused.
+    Memory,
+    /// A number would pass 2^63 - 1.
+    Limit,
+}
+
+/// The part of an archive: what an audit keeps of each channel, and how many records and bytes there are. It keeps one
+/// value of a fixed size for each channel with samples, and no record.
+///
+/// Contracts see a part as what is `Held`, and say by `IsPartOf` of which records it is the part.
+#[derive(Drop)]
+pub struct Part<A: Allocator = Global> {
+    pub(crate) channels: BTreeMap<Codes, Channel, A>,
+    records: u64,
+    bytes: u64,
+}
+
+impl<A: Allocator> Model for Part<A> {
+    ghost use Rattle.mseed_parts.specs.Parts.{Held, IsAscending, IsSmall};
+
+    ghost Value = { Held };
+
+    ghost view = { λ p. record { channels = p.channels.entries; records = p.records; bytes = p.bytes } };
+
+    ghost invariant = { λ p. IsAscending p.channels.entries
+        × IsSmall (record { channels = p.channels.entries; records = p.records; bytes = p.bytes }) };
+}
+
+impl<A: Allocator + Copy> Part<A> {
+    /// The part of no record. It takes no memory.
+    pub fn new(alloc: A) -> Part<A>
+        ensures of_none { IsPartOf result [] }
+    {
+        Part {
+            channels: BTreeMap::new(alloc),
+            records: 0,
+            bytes: 0,
+        }
+    }
+
+    /// How many records there are, silent ones too.
+    pub fn records(&self) -> u64
+        ensures value { result ≡ self.now.records }
+        // The channels ascend by their keys, and no number passes the limit.
+        ensures ascending { IsAscending self.now.channels }
+        ensures small { IsSmall self.now }
+    {
+        self.records
+    }
+
+    /// How many bytes they have.
+    pub fn bytes(&self) -> u64
+        ensures { result ≡ self.now.bytes }
+    {
+        self.bytes
+    }
+
+    /// Joins one channel of a further part: its numbers and offsets go up by the records and bytes that there are. Of
+    /// a channel that is there it is what follows; answers what is found between the two.
+    ///
+    /// # Errors
+    ///
+    /// `Limit` where a number would pass 2^63 - 1, `Memory` where the channel is new and there was no room for it. The
+    /// part is then as it was.
+    pub fn add_channel(
+        &mut self,
+        codes: Codes,
+        channel: &Channel,
+    ) -> Result<Option<Finding>, JoinFault>
+        ensures joined { OnOk result (IsJoint self.old (one_channel codes channel.now) self.new) }
+        ensures border { IfOk result (λ found. found ≡ border_between (kept_of codes self.old.channels)
+            (moved_channel self.old.records self.old.bytes channel.now)) }
+        ensures fits { OnOk result
+            (FitsAt self.old.records self.old.bytes (kept_of codes self.old.channels) (Some channel.now)) }
+        ensures limit { IsErrOf result JoinFault.Limit
+            → FitsAt self.old.records self.old.bytes (kept_of codes self.old.channels) (Some channel.now) → ⊥ }
+        ensures memory { IsErrOf result JoinFault.Memory → kept_of codes self.old.channels ≡ None }
+        ensures unchanged { OnErr result (self.new ≡ self.old) }
+    {
+        let further = match moved(channel, self.records, self.bytes) {
+            Ok(further) => further,
+            Err(_) => return Err(JoinFault::Limit),
+        };
+        if let Some(kept) = self.channels.get_mut(&codes) {
+            return put_behind(kept, &further);
+        }
+        if !counts_fit(&further) {
+            return Err(JoinFault::Limit);
+        }
+        match self.channels.insert(codes, further) {
+            Ok(_) => {}
+            Err(_) => return Err(JoinFault::Memory),
+        }
+        Ok(None)
+    }
+
+    /// Adds so many records and bytes to the counts.
+    ///
+    /// # Errors
+    ///
+    /// `Limit` where a count would pass 2^63 - 1. The part is then as it was.
+    pub fn add_counts(&mut self, records: u64, bytes: u64) -> Result<(), JoinFault>
+        ensures joined { OnOk result (IsJoint self.old (counts_alone records bytes) self.new) }
+        ensures fits { OnOk result (Fits self.old (counts_alone records bytes)) }
+        ensures limit { OnErr result (Fits self.old (counts_alone records bytes) → ⊥) }
+        ensures fault { IsErrOf result JoinFault.Memory → ⊥ }
+        ensures unchanged { OnErr result (self.new ≡ self.old) }
+    {
+        let records = match sum(self.records, records) {
+            Ok(records) => records,
+            Err(_) => return Err(JoinFault::Limit),
+        };
+        let bytes = match sum(self.bytes, bytes) {
+            Ok(bytes) => bytes,
+            Err(_) => return Err(JoinFault::Limit),
+        };
+        self.records = records;
+        self.bytes = bytes;
+        Ok(())
+    }
+
+    /// Joins the part of further records behind.
+    ///
+    /// # Errors
+    ///
+    /// `Limit` where a number would pass 2^63 - 1, `Memory` where there was no room for a channel that is new.
+    pub fn join(self, other: &Part<A>) -> Result<Part<A>, JoinFault>
+        ensures joint { IfOk result (λ p. IsJoint self other.now p) }
+        ensures adds_up { (xs ys : List View) → IsPartOf self xs → IsPartOf other.now ys
+            → IfOk result (λ p. IsPartOf p (xs ++ ys)) }
+        ensures fits { OnOk result (Fits self other.now) }
+        ensures limit { IsErrOf result JoinFault.Limit → Fits self other.now → ⊥ }
+        ensures memory { IsErrOf result JoinFault.Memory → HasNewChannel self other.now }
+    {
+        one_finding();
+        let mut joint = self;
+        for (codes, channel) in other.channels.iter() {
+            joint.add_channel(*codes, channel)?;
+        }
+        joint.add_counts(other.records, other.bytes)?;
+        Ok(joint)
+    }
+}
+
+/// Puts further records behind a channel, and answers what is found between the two.
+fn put_behind(kept: &mut Channel, further: &Channel) -> Result<Option<Finding>, JoinFault>
+    ensures value { OnOk result (kept.new ≡ channel_behind kept.old further.now) }
+    ensures border { IfOk result
+        (λ found. found ≡ border_of (tail_in kept.old.findings) (head_in further.now.findings)) }
+    ensures fits { IsOk result ↔ CountsFit (channel_behind kept.old further.now) }
+    ensures fault { IfErr result (λ fault. fault ≡ JoinFault.Limit) }
+    ensures unchanged { OnErr result (kept.new ≡ kept.old) }
+{
+    match behind(kept, further) {
+        Ok((joined, border)) => {
+            *kept = joined;
+            Ok(border)
+        }
+        Err(_) => Err(JoinFault::Limit),
+    }
+}
