@@ -1,0 +1,10 @@
+pub mod Backwards
+pub mod Channels
+pub mod Digits
+pub mod Fronts
+pub mod Keys
+pub mod Lined
+pub mod OneLine
+pub mod Parting
+pub mod Shorts
+pub mod Spelled

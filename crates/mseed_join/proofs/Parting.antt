@@ -1,0 +1,183 @@
+-- The part of what was read, by what is kept of its channels, and what is written of it.
+use Rattle.std.proofs.Common.{◌≡◌, ℕ, ◌+◌, ◌<◌, ◌++◌, List, [], ◌∷◌, length, map, take, Option, refl, sym, ap, ◌∙◌}
+use Rattle.std.proofs.Common.{subst, append_assoc, arith, inr, is_some, Err}
+use Rattle.std.proofs.lemmas.List.{length-append, length-map}
+use Rattle.std.specs.List.{concat}
+use Rattle.mseed_record.specs.View.{View}
+use Rattle.mseed_stream.specs.Device.{BytesRead, BytesWritten}
+use Rattle.mseed_stream.specs.declared.fault.StreamFault.{StreamFault}
+use Rattle.mseed_audit.specs.declared.archive.Summary.{Summary}
+use Rattle.mseed_audit.specs.declared.channel.Channel.{Channel}
+use Rattle.mseed_audit.specs.declared.each.EachFault.{EachFault}
+use Rattle.mseed_audit.specs.declared.each.EachFault.TheVariants.{Write}
+use Rattle.mseed_audit.specs.Audit.{AreChannels, Held}
+use Rattle.mseed_audit.specs.Channels.{added_from}
+use Rattle.mseed_audit.specs.Each.{AreGathered}
+use Rattle.mseed_audit.specs.Summary.{IsGathered, broken_count}
+use Rattle.mseed_audit.specs.Text.{told_lines}
+use Rattle.mseed_audit.specs.Told.{Told, AreToldOf}
+use Rattle.mseed_audit.specs.Verdict.{AreVerdicts}
+use Rattle.mseed_audit.proofs.Gathers.{behind, part_behind}
+use Rattle.mseed_audit.proofs.Outcomes.{added_length}
+use Rattle.mseed_audit.proofs.OneAudit.{HasOneInput}
+use Rattle.mseed_parts.specs.Parts.{Held as Part, IsPartOf, bytes_in}
+use Rattle.mseed_join.specs.AuditPart.{AuditedPart, IsPartCutOff, IsPartEachOutcome, IsPartWritten, IsToldWritten}
+use Rattle.mseed_join.specs.AuditPart.{ToldPart, told_text}
+use Rattle.mseed_join.specs.Joined.{verdict_at}
+use Rattle.mseed_join.specs.Written.{Written, part_text}
+use Rattle.mseed_join.specs.private.Parted.{IsPushed}
+
+-- the sum of their lengths
+pub sizes : (views : List View) → length (concat (map (λ v. v.bytes) views)) ≡ bytes_in views
+sizes [] = refl
+sizes (v ∷ views) = length-append v.bytes (concat (map (λ v. v.bytes) views))
+    ∙ ap (λ (n : ℕ). length v.bytes + n) (sizes views)
+
+-- the part, and the audit with the verdicts that its channels tell
+abbrev pub parted_of : (held : Held) (end : Option StreamFault) (bytes : ℕ) (h : BytesRead) (views : List View)
+    (channels : List (List ℕ × Channel)) → IsGathered held end bytes h views
+    → AreChannels (added_from 0 views) channels → AreVerdicts (added_from 0 views) (map verdict_at channels)
+    → AuditedPart h
+parted_of held end bytes h views channels found are verdicts = record {
+  audited = record {
+    views = views;
+    end = end;
+    verdicts = map verdict_at channels;
+    all = found.all;
+    are_verdicts = verdicts;
+  };
+  written = record {
+    part = record { channels = channels; records = held.added; bytes = bytes };
+    faults = 0;
+    end = end;
+  };
+  part = record {
+    records = found.audit.number ∙ added_length 0 views;
+    bytes = sym found.size ∙ sizes views;
+    ascending = are.ascending;
+    each = are.each;
+  };
+  faults = refl;
+  end = refl;
+}
+
+-- its text was added
+pub pushed : (s : Summary) (held : Held) (end : Option StreamFault) (bytes : ℕ) (h : BytesRead) (views : List View)
+    (channels slice : List (List ℕ × Channel)) (records : ℕ) (text next : List ℕ) → IsGathered held end bytes h views
+    → AreChannels (added_from 0 views) channels → AreVerdicts (added_from 0 views) (map verdict_at channels)
+    → slice ≡ channels → records ≡ held.added
+    → next ≡ text ++ part_text (record {
+      part = record { channels = slice; records = records; bytes = bytes };
+      faults = 0;
+      end = end;
+    }) → s.records ≡ held.added → s.channels ≡ length channels → s.broken ≡ broken_count (map verdict_at channels)
+    → s.fault ≡ is_some end → IsPushed s h views text next
+pushed s held end bytes h views channels slice records text next found are verdicts same number is counted size broken
+    fault = record {
+      parted = parted_of held end bytes h views channels found are verdicts;
+      views_are = refl;
+      summary = record {
+        records = counted ∙ (found.audit.number ∙ added_length 0 views);
+        channels = size ∙ sym (length-map channels verdict_at);
+        broken = broken;
+        fault = fault;
+      };
+      text_is = is ∙ (λ i. text ++ part_text (record {
+        part = record { channels = same i; records = number i; bytes = bytes };
+        faults = 0;
+        end = end;
+      }));
+    }
+
+-- it was written
+pub part_written : {h : BytesRead} (s : Summary) (views : List View) (start next text : List ℕ)
+    (old new : BytesWritten) → IsPushed s h views start next → start ≡ [] → text ≡ next
+    → new.bytes ≡ old.bytes ++ text → new.failures ≡ old.failures → (a : AuditedPart h) × IsPartWritten s a old new
+part_written s views start next text old new p empty same bytes fine = (
+  p.parted,
+  record {
+    summary = p.summary;
+    text = bytes ∙ ap (λ (xs : List ℕ). old.bytes ++ xs) (same ∙ p.text_is
+        ∙ ap (λ (xs : List ℕ). xs ++ part_text p.parted.written) empty);
+    fine = fine;
+  },
+)
+
+-- or a prefix of it
+pub part_cut_off : {h : BytesRead} (s : Summary) (taken : ℕ) (views : List View) (start next text : List ℕ)
+    (old new : BytesWritten) → IsPushed s h views start next → start ≡ [] → text ≡ next
+    → new.bytes ≡ old.bytes ++ take taken text → taken < length text → new.failures ≡ old.failures + 1
+    → (a : AuditedPart h) × IsPartCutOff taken a old new
+part_cut_off s taken views start next text old new p empty same bytes part failed =
+    let is : text ≡ part_text p.parted.written = same ∙ p.text_is
+    ∙ ap (λ (xs : List ℕ). xs ++ part_text p.parted.written) empty in (
+      p.parted,
+      record {
+        text = bytes ∙ ap (λ (xs : List ℕ). old.bytes ++ take taken xs) is;
+        part = subst (λ (xs : List ℕ). taken < length xs) is part;
+        failed = failed;
+      },
+    )
+
+-- ---- with lines before it
+abbrev pub told_part : {h : BytesRead} (s : Summary) (views : List View) (text next : List ℕ) (told : List Told)
+    → IsPushed s h views text next → AreToldOf (added_from 0 views) told → ToldPart h
+told_part s views text next told p are = record {
+  parted = p.parted;
+  told = told;
+  are_told = subst (λ (vs : List View). AreToldOf (added_from 0 vs) told) (sym p.views_are) are;
+}
+
+pub told_written : {h : BytesRead} (s : Summary) (views : List View) (text next taken : List ℕ) (told : List Told)
+    (first old new : BytesWritten) → IsPushed s h views text next → AreToldOf (added_from 0 views) told
+    → AreGathered first old text (told_lines told) → taken ≡ next → new.bytes ≡ old.bytes ++ taken
+    → old.failures ≡ first.failures → new.failures ≡ old.failures
+    → (a : ToldPart h) × IsToldWritten s a first new
+told_written s views text next taken told first old new p are before same bytes same_failures fine =
+    let tail : List ℕ = part_text p.parted.written in (
+      told_part s views text next told p are,
+      record {
+        summary = p.summary;
+        text = bytes ∙ ap (λ (xs : List ℕ). old.bytes ++ xs) (same ∙ p.text_is)
+            ∙ ap (λ (xs : List ℕ). xs ++ (text ++ tail)) before.bytes
+            ∙ append_assoc first.bytes before.taken (text ++ tail)
+            ∙ ap (λ (xs : List ℕ). first.bytes ++ xs) (behind first old text (told_lines told) tail before);
+        fine = fine ∙ same_failures;
+      },
+    )
+
+-- or a prefix of both
+pub told_cut_off : {h : BytesRead} (s : Summary) (count : ℕ) (views : List View) (text next taken : List ℕ)
+    (told : List Told) (first old new : BytesWritten) → IsPushed s h views text next
+    → AreToldOf (added_from 0 views) told → AreGathered first old text (told_lines told) → taken ≡ next
+    → new.bytes ≡ old.bytes ++ take count taken → count < length taken → old.failures ≡ first.failures
+    → new.failures ≡ old.failures + 1 → IsPartEachOutcome (Err Write) h first new
+told_cut_off s count views text next taken told first old new p are before same bytes part same_failures failed =
+    let tail : List ℕ = part_text p.parted.written in
+    let is : taken ≡ text ++ tail = same ∙ p.text_is in (
+      omega (arith, same_failures, failed),
+      inr (
+        told_part s views text next told p are,
+        part_behind first old new text (told_lines told) tail before (
+          count,
+          (
+            subst (λ (xs : List ℕ). count < length xs) is part,
+            bytes ∙ ap (λ (xs : List ℕ). old.bytes ++ take count xs) is,
+          ),
+        ),
+      ),
+    )
+
+-- ---- the part of what was read is one
+written_one : (a b : Written) → a.part ≡ b.part → a.faults ≡ b.faults → a.end ≡ b.end → a ≡ b
+written_one a b part faults end = λ i. record { part = part i; faults = faults i; end = end i }
+
+pub one_of_input : HasOneInput
+    → ((a b : Part) (views : List View) → IsPartOf a views → IsPartOf b views → a ≡ b)
+    → (h : BytesRead) (a b : AuditedPart h) → a.written ≡ b.written
+one_of_input input only h a b =
+    let both = input h a.audited.views b.audited.views a.audited.end b.audited.end a.audited.all b.audited.all in
+    let part : IsPartOf a.written.part b.audited.views =
+    subst (λ (vs : List View). IsPartOf a.written.part vs) both.0 a.part in
+    written_one a.written b.written (only a.written.part b.written.part b.audited.views part b.part)
+    (a.faults ∙ sym b.faults) (a.end ∙ both.1 ∙ sym b.end)

@@ -1,0 +1,68 @@
+-- What an audit writes that writes the part of what was read, and what it answers.
+use Rattle.std.specs.Prelude.{◌≡◌, ◌⊎◌, ◌<◌, ◌+◌, ℕ, List, ◌++◌, length, take, Result, Ok, Err}
+use Rattle.mseed_stream.specs.Device.{BytesRead, BytesWritten}
+use Rattle.mseed_audit.specs.declared.archive.Summary.{Summary}
+use Rattle.mseed_audit.specs.declared.archive.AuditFault.{AuditFault}
+use Rattle.mseed_audit.specs.declared.archive.AuditFault.TheVariants.{Write, Memory}
+use Rattle.mseed_audit.specs.declared.each.EachFault.{EachFault}
+use Rattle.mseed_audit.specs.declared.each.EachFault.TheVariants.{Write as NotWritten, Memory as NoMemory}
+use Rattle.mseed_audit.specs.Channels.{added_from}
+use Rattle.mseed_audit.specs.Each.{EndsInLines, TookFirst, TookPart}
+use Rattle.mseed_audit.specs.Summary.{Audited, IsSummary}
+use Rattle.mseed_audit.specs.Text.{told_lines}
+use Rattle.mseed_audit.specs.Told.{Told, AreToldOf}
+use Rattle.mseed_parts.specs.Parts.{IsPartOf}
+use Rattle.mseed_join.specs.Written.{Written, part_text}
+
+-- what was read is audited so, and this is the part of its records, with the fault at their end, if there is one
+pub record AuditedPart (h : BytesRead) : Type 0 where
+  pub audited : Audited h
+  pub written : Written
+  pub part : IsPartOf written.part audited.views
+  pub faults : written.faults ≡ 0
+  pub end : written.end ≡ audited.end
+
+-- the part's text was written, and the answer is that of the audit
+pub record IsPartWritten {h : BytesRead} (s : Summary) (a : AuditedPart h) (old new : BytesWritten) : Type 0 where
+  pub summary : IsSummary s a.audited
+  pub text : new.bytes ≡ old.bytes ++ part_text a.written
+  pub fine : new.failures ≡ old.failures
+
+-- a prefix of it of so many bytes was written, and then the output failed
+pub record IsPartCutOff {h : BytesRead} (taken : ℕ) (a : AuditedPart h) (old new : BytesWritten) : Type 0 where
+  pub text : new.bytes ≡ old.bytes ++ take taken (part_text a.written)
+  pub part : taken < length (part_text a.written)
+  pub failed : new.failures ≡ old.failures + 1
+
+-- by the outcome
+abbrev pub IsPartOutcome : Result Summary AuditFault → BytesRead → BytesWritten → BytesWritten → Type 0
+IsPartOutcome (Ok summary) h old new = (a : AuditedPart h) × IsPartWritten summary a old new
+IsPartOutcome (Err (Write taken)) h old new = (a : AuditedPart h) × IsPartCutOff taken a old new
+IsPartOutcome (Err Memory) h old new = new ≡ old
+
+-- ---- with a line for each record with a finding
+-- and this is told of its records
+pub record ToldPart (h : BytesRead) : Type 0 where
+  pub parted : AuditedPart h
+  pub told : List Told
+  pub are_told : AreToldOf (added_from 0 parted.audited.views) told
+
+-- the lines of the records with a finding, and then the text of the part
+abbrev pub told_text : {h : BytesRead} → ToldPart h → List ℕ
+told_text a = told_lines a.told ++ part_text a.parted.written
+
+-- the whole text was written
+pub record IsToldWritten {h : BytesRead} (s : Summary) (a : ToldPart h) (old new : BytesWritten) : Type 0 where
+  pub summary : IsSummary s a.parted.audited
+  pub text : new.bytes ≡ old.bytes ++ told_text a
+  pub fine : new.failures ≡ old.failures
+
+-- what was written is so of a text: the lines of the first records, or the whole
+abbrev pub EndsInPart : (List ℕ → Type 0) → BytesRead → Type 0
+EndsInPart Took h = EndsInLines Took h ⊎ ((a : ToldPart h) × Took (told_text a))
+
+-- By the outcome. An output that failed isn't asked again.
+abbrev pub IsPartEachOutcome : Result Summary EachFault → BytesRead → BytesWritten → BytesWritten → Type 0
+IsPartEachOutcome (Ok summary) h old new = (a : ToldPart h) × IsToldWritten summary a old new
+IsPartEachOutcome (Err NotWritten) h old new = (new.failures ≡ old.failures + 1) × EndsInPart (TookPart old new) h
+IsPartEachOutcome (Err NoMemory) h old new = (new.failures ≡ old.failures) × EndsInLines (TookFirst old new) h

@@ -1,0 +1,107 @@
+-- Parts that are joined, and what is written of them.
+use Rattle.std.specs.Prelude.{⊤, ◌≡◌, ◌≢◌, ◌<◌, ◌^◌, ℕ, ◌+◌, ℤ, List, [], ◌∷◌, ◌++◌, length, map, codes, decimal, Bool}
+use Rattle.std.specs.Prelude.{true, false, Option, Some, None}
+use Rattle.mseed_time.specs.Text.{time_text}
+use Rattle.mseed_stream.specs.declared.fault.StreamFault.{StreamFault}
+use Rattle.mseed_audit.specs.declared.channel.Channel.{Channel}
+use Rattle.mseed_audit.specs.declared.channel.Head.{Head}
+use Rattle.mseed_audit.specs.declared.finding.Finding.{Finding}
+use Rattle.mseed_audit.specs.declared.verdict.Verdict.{Verdict}
+use Rattle.mseed_audit.specs.Audit.{head_in, verdict_of}
+use Rattle.mseed_audit.specs.Text.{end_line, name_text, total_line, verdict_lines, why_text}
+use Rattle.mseed_parts.specs.Joining.{border_between, moved_channel}
+use Rattle.mseed_parts.specs.Parts.{Held, Fits, IsJoint, kept_of}
+use Rattle.mseed_join.specs.Lines.{faults_line}
+use Rattle.mseed_join.specs.Written.{Written, Spells}
+
+-- ---- which parts count
+abbrev pub counted_by : Bool → Written → Option StreamFault → List Written → List Written
+counted_by past w None rest = w ∷ rest
+counted_by true w (Some fault) rest = record { part = w.part; faults = w.faults + 1; end = None } ∷ rest
+counted_by false w (Some fault) rest = w ∷ []
+
+-- those up to the first that ends with a fault; where faults are passed all, and each fault is one more behind
+abbrev pub counted : Bool → List Written → List Written
+counted past [] = []
+counted past (w ∷ ws) = counted_by past w w.end (counted past ws)
+
+-- ---- parts one behind another, joined
+-- the part of nothing
+abbrev pub nothing : Written
+nothing = record { part = record { channels = []; records = 0; bytes = 0 }; faults = 0; end = None }
+
+-- the joint part of two, where no number passes 2^63 - 1
+pub record IsNext (a w b : Written) : Type 0 where
+  pub part : IsJoint a.part w.part b.part
+  pub fits : Fits a.part w.part
+  pub faults : b.faults ≡ a.faults + w.faults
+  pub faults_fit : b.faults < 2 ^ 63
+  pub end : b.end ≡ w.end
+
+pub data AreJoined : Written → List Written → Written → Type 0 where
+  none : (a : Written) → AreJoined a [] a
+  one : (a w b h : Written) (ws : List Written) → IsNext a w b → AreJoined b ws h → AreJoined a (w ∷ ws) h
+
+-- the joint part of all that count
+abbrev pub IsJointOf : Bool → List Written → Written → Type 0
+IsJointOf past ws h = AreJoined nothing (counted past ws) h
+
+-- ---- what is written
+abbrev pub verdict_at : (List ℕ × Channel) → List ℕ × Verdict
+verdict_at e = (e.0, verdict_of e.1)
+
+-- the text of the audit that a part is the part of, with the faults that lie behind
+abbrev pub join_text : Written → List ℕ
+join_text w =
+    verdict_lines (map verdict_at w.part.channels) ++ total_line w.part.records (length w.part.channels)
+    ++ faults_line w.faults ++ end_line w.end
+
+-- the line of a border with a finding
+abbrev pub border_line : List ℕ → Option Head → Option Finding → List ℕ
+border_line key None found = []
+border_line key (Some h) None = []
+border_line key (Some h) (Some f) =
+    decimal f.offset ++ codes " " ++ name_text key ++ codes " record " ++ decimal f.number ++ codes " start "
+    ++ time_text h.start ++ codes " " ++ why_text f.why ++ codes "\n"
+
+-- the lines of the borders between a part and channels of the next
+abbrev pub border_lines : Held → List (List ℕ × Channel) → List ℕ
+border_lines a [] = []
+border_lines a (e ∷ es) =
+    border_line e.0 (head_in e.1.findings)
+    (border_between (kept_of e.0 a.channels) (moved_channel a.records a.bytes e.1)) ++ border_lines a es
+
+-- ---- which bytes begin no text
+-- with something behind them, these bytes are the texts of parts that can be joined
+pub record Begins (past : Bool) (bytes : List ℕ) : Type 0 where
+  pub rest : List ℕ
+  pub parts : List Written
+  pub spells : Spells (bytes ++ rest) parts
+  pub joint : Written
+  pub is_joint : IsJointOf past parts joint
+
+-- no LF is among them
+abbrev pub HasNoEnd : List ℕ → Type 0
+HasNoEnd [] = ⊤
+HasNoEnd (b ∷ bs) = (b ≢ 10) × HasNoEnd bs
+
+-- whole lines, and their number
+pub data AreLines : List ℕ → ℕ → Type 0 where
+  none : AreLines [] 0
+  one : (line rest : List ℕ) (count : ℕ) → HasNoEnd line → AreLines rest count
+      → AreLines (line ++ 10 ∷ rest) (count + 1)
+
+-- a line, or the first bytes of one
+pub data IsOfOneLine : List ℕ → Type 0 where
+  begun : (bytes : List ℕ) → HasNoEnd bytes → IsOfOneLine bytes
+  whole : (line : List ℕ) → HasNoEnd line → IsOfOneLine (line ++ 10 ∷ [])
+
+-- The first bad line of what was read, by its number: no text of parts that can be joined goes on so. At the input's
+-- end a last line without its LF is bad, and so is the lack of the next line.
+pub data IsBadLine (past : Bool) (bytes : List ℕ) (at_end : Bool) : ℕ → Type 0 where
+  wrong : (lines line rest : List ℕ) (count : ℕ) → bytes ≡ lines ++ line ++ rest → AreLines lines count
+      → Begins past lines → IsOfOneLine line → ¬ (Begins past (lines ++ line)) → IsBadLine past bytes at_end (count + 1)
+  unended : (lines line : List ℕ) (count : ℕ) → at_end ≡ true → bytes ≡ lines ++ line → AreLines lines count
+      → Begins past lines → line ≢ [] → HasNoEnd line → IsBadLine past bytes at_end (count + 1)
+  lacks : (count : ℕ) → at_end ≡ true → AreLines bytes count → Begins past bytes
+      → ((ws : List Written) → Spells bytes ws → ⊥) → IsBadLine past bytes at_end (count + 1)

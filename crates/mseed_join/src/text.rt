@@ -1,0 +1,68 @@
+//! The text of a part, written.
+ghost use Rattle.std.specs.Prelude.{◌≡◌, ◌++◌, OnOk};
+ghost use Rattle.mseed_stream.specs.Device.{IsPrefixOf};
+ghost use Rattle.mseed_audit.specs.Text.{end_line};
+ghost use Rattle.mseed_join.specs.Lines.{counts_line, faults_line};
+ghost use Rattle.mseed_join.specs.Written.{channel_lines, part_text};
+
+use crate::writing::{HEADER, push_channel_line, push_counts_line, push_faults_line};
+use mseed_audit::{Channel, push_fault_line};
+use mseed_record::Codes;
+use mseed_stream::StreamFault;
+use std::alloc::{AllocError, Allocator};
+
+/// Adds the text of a part of these channels, with so many faults behind, which ends with this fault, if with one.
+/// Where memory is refused, the first bytes of it may have been added.
+pub(crate) fn push_part<A: Allocator>(
+    text: &mut Vec<u8, A>,
+    channels: &[(Codes, Channel)],
+    records: u64,
+    bytes: u64,
+    faults: u64,
+    end: &Option<StreamFault>,
+) -> Result<(), AllocError>
+    ensures ok { OnOk result (text.new.items ≡ text.old.items ++ part_text (record {
+      part = record { channels = channels.now; records = records; bytes = bytes };
+      faults = faults;
+      end = end.now;
+    })) }
+    ensures prefix { IsPrefixOf text.old.items text.new.items }
+{
+    text.extend_from_slice(HEADER)?;
+    push_channels(text, channels)?;
+    push_ending(text, records, bytes, faults, end)
+}
+
+/// Adds a line for each channel.
+fn push_channels<A: Allocator>(
+    text: &mut Vec<u8, A>,
+    channels: &[(Codes, Channel)],
+) -> Result<(), AllocError>
+    ensures ok { OnOk result (text.new.items ≡ text.old.items ++ channel_lines channels.now) }
+    ensures prefix { IsPrefixOf text.old.items text.new.items }
+{
+    for (codes, channel) in channels {
+        push_channel_line(text, codes, channel)?;
+    }
+    Ok(())
+}
+
+/// Adds the lines behind those of the channels.
+pub(crate) fn push_ending<A: Allocator>(
+    text: &mut Vec<u8, A>,
+    records: u64,
+    bytes: u64,
+    faults: u64,
+    end: &Option<StreamFault>,
+) -> Result<(), AllocError>
+    ensures ok { OnOk result (text.new.items
+        ≡ text.old.items ++ (counts_line records bytes ++ faults_line faults ++ end_line end.now)) }
+    ensures prefix { IsPrefixOf text.old.items text.new.items }
+{
+    push_counts_line(text, records, bytes)?;
+    push_faults_line(text, faults)?;
+    match end {
+        Some(fault) => push_fault_line(text, fault),
+        None => Ok(()),
+    }
+}

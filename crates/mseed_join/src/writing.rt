@@ -1,0 +1,256 @@
+//! The lines of a part, written.
+ghost use Rattle.std.specs.Prelude.{◌≡◌, ◌++◌, OnOk, codes, decimal};
+ghost use Rattle.std.specs.Fmt.{signed_decimal};
+ghost use Rattle.mseed_stream.specs.Device.{IsPrefixOf};
+ghost use Rattle.mseed_audit.specs.declared.channel.Findings.{Findings};
+ghost use Rattle.mseed_join.specs.Lines.{key_text, ratio_text, leap_text, head_text, tail_text, text_or_none};
+ghost use Rattle.mseed_join.specs.Lines.{first_text, findings_text, channel_line, counts_line, faults_line};
+
+use crate::hex::hex_digit;
+use itoa::Buffer;
+use mseed_audit::Piece::{Count, Words};
+use mseed_audit::{Channel, Finding, Findings, Head, Tail, push_pieces, push_why};
+use mseed_record::{Codes, Leap};
+use mseed_time::{Micros, Ratio};
+use std::alloc::{AllocError, Allocator};
+
+/// The line before all others, with its LF.
+pub const HEADER: &[u8] = b"mseed part 1\n";
+
+/// Adds a channel's line.
+///
+/// # Errors
+///
+/// `AllocError` where memory is refused. What was there stays in front, and a part of the line may have been added
+/// behind it.
+pub fn push_channel_line<A: Allocator>(
+    text: &mut Vec<u8, A>,
+    codes: &Codes,
+    channel: &Channel,
+) -> Result<(), AllocError>
+    ensures ok { OnOk result (text.new.items ≡ text.old.items ++ channel_line codes.now channel.now) }
+    ensures prefix { IsPrefixOf text.old.items text.new.items }
+{
+    push_key(text, codes.key())?;
+    push_pieces(
+        text,
+        &[
+            Words(b" records "),
+            Count(channel.records),
+            Words(b" samples "),
+            Count(channel.samples),
+        ],
+    )?;
+    push_findings(text, &channel.findings)?;
+    push_pieces(text, &[Words(b"\n")])
+}
+
+/// Adds the line that tells how many records and bytes there are.
+///
+/// # Errors
+///
+/// `AllocError` where memory is refused. What was there stays in front, and a part of the line may have been added
+/// behind it.
+pub fn push_counts_line<A: Allocator>(
+    text: &mut Vec<u8, A>,
+    records: u64,
+    bytes: u64,
+) -> Result<(), AllocError>
+    ensures ok { OnOk result (text.new.items ≡ text.old.items ++ counts_line records bytes) }
+    ensures prefix { IsPrefixOf text.old.items text.new.items }
+{
+    push_pieces(
+        text,
+        &[
+            Words(b"records "),
+            Count(records),
+            Words(b" bytes "),
+            Count(bytes),
+            Words(b"\n"),
+        ],
+    )
+}
+
+/// Adds the line that tells how many faults lie behind; none where none does.
+///
+/// # Errors
+///
+/// `AllocError` where memory is refused. What was there stays in front, and a part of the line may have been added
+/// behind it.
+pub fn push_faults_line<A: Allocator>(text: &mut Vec<u8, A>, faults: u64) -> Result<(), AllocError>
+    ensures ok { OnOk result (text.new.items ≡ text.old.items ++ faults_line faults) }
+    ensures prefix { IsPrefixOf text.old.items text.new.items }
+{
+    if faults == 0 {
+        return Ok(());
+    }
+    push_pieces(text, &[Words(b"faults "), Count(faults), Words(b"\n")])
+}
+
+/// Adds the digits of a key.
+fn push_key<A: Allocator>(text: &mut Vec<u8, A>, key: &[u8; 12]) -> Result<(), AllocError>
+    ensures ok { OnOk result (text.new.items ≡ text.old.items ++ key_text key.now) }
+    ensures prefix { IsPrefixOf text.old.items text.new.items }
+{
+    for byte in key {
+        text.extend_from_slice(&[hex_digit(*byte / 16), hex_digit(*byte % 16)])?;
+    }
+    Ok(())
+}
+
+/// Adds how a channel begins and ends, and what is found of it.
+fn push_findings<A: Allocator>(text: &mut Vec<u8, A>, findings: &Findings) -> Result<(), AllocError>
+    ensures ok { OnOk result (text.new.items ≡ text.old.items ++ findings_text findings.now) }
+    ensures prefix { IsPrefixOf text.old.items text.new.items }
+{
+    match findings {
+        Findings::Nothing { head, tail } => push_nothing(text, head, tail),
+        Findings::Counted {
+            count,
+            first,
+            head,
+            tail,
+        } => {
+            push_head_or_none(text, head)?;
+            push_tail_or_none(text, tail)?;
+            push_first(text, *count, first)
+        }
+    }
+}
+
+/// Adds how a channel begins and ends of which nothing is found.
+fn push_nothing<A: Allocator>(
+    text: &mut Vec<u8, A>,
+    head: &Head,
+    tail: &Tail,
+) -> Result<(), AllocError>
+    ensures ok { OnOk result (text.new.items ≡ text.old.items ++ findings_text (Findings.Nothing head.now tail.now)) }
+    ensures prefix { IsPrefixOf text.old.items text.new.items }
+{
+    push_pieces(text, &[Words(b" head ")])?;
+    push_head(text, head)?;
+    push_pieces(text, &[Words(b" tail ")])?;
+    push_tail(text, tail)?;
+    push_pieces(text, &[Words(b" findings 0")])
+}
+
+/// Adds how a channel begins, or `none`.
+fn push_head_or_none<A: Allocator>(
+    text: &mut Vec<u8, A>,
+    head: &Option<Head>,
+) -> Result<(), AllocError>
+    ensures ok { OnOk result (text.new.items
+        ≡ text.old.items ++ (codes " head " ++ text_or_none head_text head.now)) }
+    ensures prefix { IsPrefixOf text.old.items text.new.items }
+{
+    push_pieces(text, &[Words(b" head ")])?;
+    match head {
+        Some(head) => push_head(text, head),
+        None => push_pieces(text, &[Words(b"none")]),
+    }
+}
+
+/// Adds how a channel ends, or `none`.
+fn push_tail_or_none<A: Allocator>(
+    text: &mut Vec<u8, A>,
+    tail: &Option<Tail>,
+) -> Result<(), AllocError>
+    ensures ok { OnOk result (text.new.items
+        ≡ text.old.items ++ (codes " tail " ++ text_or_none tail_text tail.now)) }
+    ensures prefix { IsPrefixOf text.old.items text.new.items }
+{
+    push_pieces(text, &[Words(b" tail ")])?;
+    match tail {
+        Some(tail) => push_tail(text, tail),
+        None => push_pieces(text, &[Words(b"none")]),
+    }
+}
+
+/// Adds how many findings there are, and the first.
+fn push_first<A: Allocator>(
+    text: &mut Vec<u8, A>,
+    count: u64,
+    first: &Finding,
+) -> Result<(), AllocError>
+    ensures ok { OnOk result (text.new.items
+        ≡ text.old.items ++ (codes " findings " ++ decimal count ++ codes " " ++ first_text first.now)) }
+    ensures prefix { IsPrefixOf text.old.items text.new.items }
+{
+    push_pieces(
+        text,
+        &[
+            Words(b" findings "),
+            Count(count),
+            Words(b" first "),
+            Count(first.number),
+            Words(b" "),
+            Count(first.offset),
+            Words(b" "),
+        ],
+    )?;
+    push_why(text, &first.why)
+}
+
+/// Adds how a channel begins.
+fn push_head<A: Allocator>(text: &mut Vec<u8, A>, head: &Head) -> Result<(), AllocError>
+    ensures ok { OnOk result (text.new.items ≡ text.old.items ++ head_text head.now) }
+    ensures prefix { IsPrefixOf text.old.items text.new.items }
+{
+    push_pieces(
+        text,
+        &[
+            Count(head.number),
+            Words(b" "),
+            Count(head.offset),
+            Words(b" "),
+        ],
+    )?;
+    push_start(text, head.start)?;
+    push_pieces(text, &[Words(b" ")])?;
+    push_ratio(text, head.rate)
+}
+
+/// Adds how a channel ends.
+fn push_tail<A: Allocator>(text: &mut Vec<u8, A>, tail: &Tail) -> Result<(), AllocError>
+    ensures ok { OnOk result (text.new.items ≡ text.old.items ++ tail_text tail.now) }
+    ensures prefix { IsPrefixOf text.old.items text.new.items }
+{
+    push_start(text, tail.start)?;
+    push_pieces(
+        text,
+        &[Words(b" "), Count(u64::from(tail.samples)), Words(b" ")],
+    )?;
+    push_ratio(text, tail.rate)?;
+    push_pieces(text, &[Words(b" "), Words(leap_word(tail.leap))])
+}
+
+/// Adds an instant, in microseconds.
+fn push_start<A: Allocator>(text: &mut Vec<u8, A>, start: Micros) -> Result<(), AllocError>
+    ensures ok { OnOk result (text.new.items ≡ text.old.items ++ signed_decimal start) }
+    ensures prefix { IsPrefixOf text.old.items text.new.items }
+{
+    let micros = start.get();
+    text.extend_from_slice(Buffer::new().format(micros).as_bytes())
+}
+
+/// Adds a rate.
+fn push_ratio<A: Allocator>(text: &mut Vec<u8, A>, rate: Ratio) -> Result<(), AllocError>
+    ensures ok { OnOk result (text.new.items ≡ text.old.items ++ ratio_text rate) }
+    ensures prefix { IsPrefixOf text.old.items text.new.items }
+{
+    let num = u64::from(rate.num());
+    let den = u64::from(rate.den());
+    push_pieces(text, &[Count(num), Words(b"/"), Count(den)])
+}
+
+/// The word for the leap seconds that a record bears.
+fn leap_word(leap: Leap) -> &'static [u8]
+    ensures { result.now ≡ leap_text leap }
+{
+    match leap {
+        Leap::None => b"none",
+        Leap::Positive => b"positive",
+        Leap::Negative => b"negative",
+        Leap::Both => b"both",
+    }
+}
