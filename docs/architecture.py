@@ -23,6 +23,8 @@ CRATES = {
     "mseed_steim": (0, "words, frames, samples"),
     "mseed_stream": (1, "devices, the cutter"),
     "mseed_audit": (0.5, "findings, verdicts, text"),
+    "mseed_parts": (2, "parts of audits, joined"),
+    "mseed_join": (2, "the text of parts"),
     "mseed_pack": (0.5, "packing a series"),
     "mseed_repack": (0.5, "packing an archive anew"),
     "slink_wire": (2, "packets, lines, commands"),

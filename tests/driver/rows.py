@@ -11,7 +11,6 @@ import contextlib
 import os
 import select
 import subprocess
-import tempfile
 from dataclasses import dataclass, field, replace
 from pathlib import Path
 from typing import IO, Iterator, Mapping, NamedTuple, Optional, Sequence, Union
@@ -66,7 +65,7 @@ class Row:
     def run(self) -> Result:
         """Runs the program once."""
         with contextlib.ExitStack() as files:
-            out, err = (files.enter_context(tempfile.TemporaryFile()) for _ in range(2))
+            out, err = (files.enter_context(in_memory()) for _ in range(2))
             out_to = files.enter_context(open(self.out_to, "wb")) if self.out_to else out
             err_to = files.enter_context(open(self.err_to, "wb")) if self.err_to else err
             source = None if self.piped else files.enter_context(opened(self.input))
@@ -145,6 +144,11 @@ def started(words: Sequence[Word], env: Optional[Mapping[str, str]] = None, clos
     return subprocess.Popen(command, env={**os.environ, **env} if env else None, **streams)
 
 
+def in_memory() -> IO[bytes]:
+    """A file without a name or a place on a disk."""
+    return os.fdopen(os.memfd_create("row"), "w+b", buffering=0)
+
+
 @contextlib.contextmanager
 def opened(input: Union[bytes, Path]) -> Iterator[int]:
     """The descriptor of an input that is read from its beginning. A folder has one too, which can't be read."""
@@ -155,7 +159,7 @@ def opened(input: Union[bytes, Path]) -> Iterator[int]:
         finally:
             os.close(descriptor)
         return
-    with tempfile.TemporaryFile() as file:
+    with in_memory() as file:
         file.write(input)
         file.seek(0)
         yield file.fileno()

@@ -3,8 +3,9 @@
 from __future__ import annotations
 
 import datetime
+import functools
 import struct
-from typing import Optional, Union
+from typing import NamedTuple, Optional, Union
 
 from models.packing import EPOCH, SECOND, Series, btime, fits, packed
 
@@ -109,6 +110,11 @@ class Record:
 
     def read(self) -> Union[list[int], str]:
         """The samples, or why there are none, or none that end on their constant."""
+        return self.reading
+
+    @functools.cached_property
+    def reading(self) -> Union[list[int], str]:
+        """What is read, the first time."""
         if self.has_rate:
             return "blockette100"
         if self.encoding not in (1, 3, 10, 11):
@@ -153,21 +159,45 @@ class Record:
         return samples if samples[-1] == last else f"lastdiffers {samples[-1]} {last}"
 
 
-def join_fault(before: Record, record: Record) -> Optional[str]:
-    """What is wrong between a record and the one before it; nothing where that has no time or no rate."""
-    start, rate, here, now = before.start(), before.rate(), record.rate(), record.start()
-    if isinstance(start, str) or rate is None:
-        return None
+@functools.lru_cache(maxsize=256)
+def record_of(bytes: bytes) -> Record:
+    """The record with these bytes. Those of an archive are asked for more than once."""
+    return Record(bytes)
+
+
+class Tail(NamedTuple):
+    """What counts of a record for the one behind it: its start, samples and rate, and its leap flags as a number."""
+
+    start: int
+    samples: int
+    rate: tuple[int, int]
+    flags: int
+
+
+def tail_of(record: Record) -> Optional[Tail]:
+    """That of a record; nothing where it has no time or no rate."""
+    start, rate = record.start(), record.rate()
+    return None if isinstance(start, str) or rate is None else Tail(start, record.count, rate, record.activity >> 4 & 3)
+
+
+def border_fault(tail: Tail, now: int, here: tuple[int, int]) -> Optional[str]:
+    """What is wrong with a record of this start and rate behind one with this tail."""
+    rate = tail.rate
     if rate[0] * here[1] != here[0] * rate[1]:
         return "ratechange"
-    flags = before.activity >> 4 & 3
-    if flags == 3:
+    if tail.flags == 3:
         return "leap"
-    past = now - start + {0: 0, 1: SECOND, 2: -SECOND}[flags]
-    off = past * rate[0] - before.count * rate[1] * SECOND
+    past = now - tail.start + {0: 0, 1: SECOND, 2: -SECOND}[tail.flags]
+    off = past * rate[0] - tail.samples * rate[1] * SECOND
     if 2 * abs(off) <= rate[1] * SECOND:
         return None
     return ("gap" if off > 0 else "overlap") + f" {abs(off) // rate[0]}"
+
+
+def join_fault(before: Record, record: Record) -> Optional[str]:
+    """What is wrong between a record and the one before it; nothing where that has no time or no rate."""
+    tail = tail_of(before)
+    return border_fault(tail, record.start(), record.rate()) if tail else None
 
 
 def finding(before: Optional[Record], record: Record) -> Optional[str]:
@@ -208,7 +238,7 @@ def cut(archive: bytes) -> tuple[list[tuple[int, Record]], int, Optional[str]]:
             return records, offset, value
         if answer == "need":
             return records, offset, f"truncated {len(archive) - offset}"
-        records.append((offset, Record(archive[offset : offset + value])))
+        records.append((offset, record_of(archive[offset : offset + value])))
         offset += value
     return records, offset, None
 

@@ -1,12 +1,12 @@
 //! Calls of `mseed_audit`.
 ghost use Rattle.std.specs.Prelude.{IfOk, decimal, ◌≡◌, ◌<◌, ◌^◌, length};
 ghost use Rattle.mseed_stream.specs.Device.{nothing_read};
-ghost use Rattle.mseed_audit.specs.Text.{fault_line};
+ghost use Rattle.mseed_audit.specs.Text.{fault_line, why_text};
 
 use mseed_audit::{
-    Audit, AuditFault, BadStep, EachFault, Line, Memory, NotContinuous, Part, Series, Verdict, Why,
-    audit, audit_each, fault_line_of, is_of, line_of, name_of, push_count, push_fault_line,
-    push_name, push_parts, push_start, series,
+    Audit, AuditFault, BadStep, Channel, EachFault, Line, Memory, NotContinuous, Piece, Series,
+    Verdict, Why, audit, audit_each, fault_line_of, gather, gather_each, is_of, line_of, name_of,
+    push_count, push_fault_line, push_name, push_pieces, push_start, push_why, series,
 };
 use mseed_record::{Codes, RecordView};
 use mseed_stream::{Counted, Sink, Source, StreamFault};
@@ -105,6 +105,51 @@ pub fn with_leap_second(
     }
 }
 
+/// How many records a slice holds, and how many bytes they have.
+pub fn count_records(alloc: Global, bytes: &[u8]) -> Result<(u64, u64), Memory> {
+    let (audit, _, size) = gather(alloc, &mut Counted::new(bytes))?;
+    Ok((audit.added(), size))
+}
+
+/// The lines of a slice's records with a finding.
+pub fn lines_of_findings(alloc: Global, bytes: &[u8]) -> Result<Vec<u8>, EachFault> {
+    let mut source = Counted::new(bytes);
+    let mut sink = Counted::new(Vec::new(alloc));
+    let mut last = Vec::new(alloc);
+    gather_each(alloc, &mut source, &mut sink, &mut last)?;
+    let mut lines = sink.into_inner();
+    match lines.extend_from_slice(&last) {
+        Ok(()) => Ok(lines),
+        Err(_) => Err(EachFault::Memory),
+    }
+}
+
+/// The verdict on the first channel of an audit, which goes on as what it kept.
+pub fn first_verdict(alloc: Global, audit: Audit) -> Result<Option<Verdict>, Memory> {
+    let channels = audit.into_channels(alloc)?;
+    match channels.as_slice() {
+        [(_, channel), ..] => Ok(Some(channel.verdict())),
+        [] => Ok(None),
+    }
+}
+
+/// Why a channel doesn't go on where another one begins, if both ends are known and it doesn't.
+pub fn break_between(one: &Channel, next: &Channel) -> Option<Why> {
+    match (one.findings.tail(), next.findings.head()) {
+        (Some(tail), Some(head)) => tail.break_to(head.start, head.rate),
+        _ => None,
+    }
+}
+
+/// The words of a finding.
+pub fn reason_text(alloc: Global, why: &Why) -> Result<Vec<u8>, AllocError>
+    ensures { IfOk result (λ text. text.items ≡ why_text why.now) }
+{
+    let mut text = Vec::new(alloc);
+    push_why(&mut text, why)?;
+    Ok(text)
+}
+
 /// The last sample of a series, where no leap second stands among its samples.
 pub fn last_of(series: &Series) -> Option<i32> {
     if !series.steps().is_empty() {
@@ -122,7 +167,7 @@ pub fn is_headed_alike(one: &Series, other: &Series) -> bool {
 pub fn count_line(alloc: Global, codes: &Codes, records: u64) -> Result<Vec<u8>, AllocError> {
     let mut text = Vec::new(alloc);
     push_name(&mut text, codes)?;
-    push_parts(&mut text, &[Part::Words(b" has "), Part::Count(records)])?;
+    push_pieces(&mut text, &[Piece::Words(b" has "), Piece::Count(records)])?;
     text.extend_from_slice(b" records\n")?;
     Ok(text)
 }
@@ -160,7 +205,7 @@ pub fn is_named(codes: &Codes, name: &[u8]) -> bool {
 
 /// A short line, built without asking for memory.
 pub fn short_line() -> Line {
-    line_of(&[Part::Words(b"no records\n")])
+    line_of(&[Piece::Words(b"no records\n")])
 }
 
 /// How many bytes the line of a stream's fault has.

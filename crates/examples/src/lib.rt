@@ -3,9 +3,11 @@
 
 pub mod audits;
 pub mod feed;
+pub mod join;
 pub mod links;
 pub mod model;
 pub mod pack;
+pub mod parts;
 pub mod record;
 pub mod repacks;
 pub mod steim;

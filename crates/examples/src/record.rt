@@ -1,5 +1,5 @@
 //! Calls of `mseed_record`.
-ghost use Rattle.std.specs.Prelude.{◌≤◌, length, take, IfSome};
+ghost use Rattle.std.specs.Prelude.{◌≡◌, ◌≤◌, length, take, IfSome};
 ghost use Rattle.mseed_record.specs.Record.{IsRecord};
 
 use mseed_record::{
@@ -134,4 +134,11 @@ pub fn write_header_of(
         activity: 0,
     };
     write_header(record, &fields)
+}
+
+/// The codes of a channel, as their 12 bytes stand in a header.
+pub fn codes_of(key: [u8; 12]) -> Codes
+    ensures { result ≡ key }
+{
+    Codes::of_key(key)
 }

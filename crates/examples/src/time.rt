@@ -9,8 +9,8 @@ ghost use Rattle.mseed_time.specs.Ratios.{ratio_of};
 ghost use Rattle.mseed_time.specs.Text.{time_text};
 
 use mseed_time::{
-    Btime, Join, LeapStep, Micros, NoRate, Order, OutOfRange, Rate, TimeFault, join, one_name,
-    show_time,
+    Btime, Join, LeapStep, Micros, NoRate, Order, OutOfRange, Rate, Ratio, TimeFault, join,
+    one_name, show_time,
 };
 
 /// The instant that is so many milliseconds from 1970-01-01T00:00:00.
@@ -76,16 +76,29 @@ pub fn are_written_alike(one: Rate, other: Rate) -> bool {
     one.same_as(other) && one.pair() == other.pair()
 }
 
+/// Whether a rate is that of so many samples in so many seconds.
+pub fn is_rate_of(rate: Rate, num: u32, den: u32) -> bool {
+    match Ratio::new(num, den) {
+        Some(ratio) => rate.ratio().same_as(ratio),
+        None => false,
+    }
+}
+
+/// The samples of a day, the last part of one left out.
+pub fn samples_in_a_day(ratio: Ratio) -> u64 {
+    86_400 * u64::from(ratio.num()) / u64::from(ratio.den())
+}
+
 /// Whether a record of 100 samples ends where the next one begins; no leap second happened during it.
 pub fn is_followed(start: Micros, rate: Rate, next: Micros) -> bool
     ensures { IsTrue result ↔ Joins start 100 (ratio_of rate) None next }
 {
-    join(start, 100, rate, None, next) == Join::Meets
+    join(start, 100, rate.ratio(), None, next) == Join::Meets
 }
 
 /// The microseconds that are missing behind a record at whose end a leap second was inserted.
 pub fn missing_after(start: Micros, count: u32, rate: Rate, next: Micros) -> u128 {
-    match join(start, count, rate, Some(LeapStep::Plus), next) {
+    match join(start, count, rate.ratio(), Some(LeapStep::Plus), next) {
         Join::Late(micros) => micros,
         Join::Meets | Join::Early(_) => 0,
     }

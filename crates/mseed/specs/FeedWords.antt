@@ -95,14 +95,16 @@ fetching_with _ _ _ = None
 
 -- what `serve` takes besides its word
 abbrev pub serve_names : List Text
-serve_names = codes "command" ∷ codes "each" ∷ codes "place" ∷ codes "port" ∷ codes "station" ∷ codes "network"
+serve_names = codes "command" ∷ codes "each" ∷ codes "part" ∷ codes "place" ∷ codes "port"
+    ∷ codes "station" ∷ codes "network"
     ∷ codes "capacity"
     ∷ codes "first"
     ∷ codes "connections" ∷ []
 
 -- and `fetch`
 abbrev pub fetch_names : List Text
-fetch_names = codes "command" ∷ codes "each" ∷ codes "place" ∷ codes "port" ∷ codes "station" ∷ codes "network"
+fetch_names = codes "command" ∷ codes "each" ∷ codes "part" ∷ codes "place" ∷ codes "port"
+    ∷ codes "station" ∷ codes "network"
     ∷ codes "from"
     ∷ codes "tries" ∷ []
 

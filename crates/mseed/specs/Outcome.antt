@@ -9,6 +9,7 @@ use Rattle.mseed_audit.specs.declared.each.EachFault.{EachFault}
 use Rattle.mseed_audit.specs.declared.each.EachFault.TheVariants as each
 use Rattle.mseed_audit.specs.Each.{IsEachOutcome}
 use Rattle.mseed_audit.specs.Summary.{IsOutcome}
+use Rattle.mseed_join.specs.AuditPart.{IsPartOutcome, IsPartEachOutcome}
 
 -- the exit status of an audit that was written: 2 for a fault of the input, else 1 for a broken channel, else 0
 abbrev pub summary_status : Summary → ℕ
@@ -45,6 +46,20 @@ TellsOfEach (Err each.Memory) old new = Tells (codes "mseed: no memory\n") old n
 pub record IsEachRun (outcome : Result Summary EachFault) (status : ℕ) (read : BytesRead)
     (written_old written_new told_old told_new : BytesWritten) : Type 0 where
   pub outcome_is : IsEachOutcome outcome read written_old written_new
+  pub status_is : status ≡ each_status outcome
+  pub told : TellsOfEach outcome told_old told_new
+
+-- an audit that writes a part, its status and its line: those of an audit
+pub record IsPartRun (outcome : Result Summary AuditFault) (status : ℕ) (read : BytesRead)
+    (written_old written_new told_old told_new : BytesWritten) : Type 0 where
+  pub outcome_is : IsPartOutcome outcome read written_old written_new
+  pub status_is : status ≡ status_of outcome
+  pub told : TellsOfAudit outcome told_old told_new
+
+-- and one that tells each finding before it
+pub record IsPartEachRun (outcome : Result Summary EachFault) (status : ℕ) (read : BytesRead)
+    (written_old written_new told_old told_new : BytesWritten) : Type 0 where
+  pub outcome_is : IsPartEachOutcome outcome read written_old written_new
   pub status_is : status ≡ each_status outcome
   pub told : TellsOfEach outcome told_old told_new
 

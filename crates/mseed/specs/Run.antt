@@ -6,14 +6,15 @@ use Rattle.mseed_audit.specs.declared.each.EachFault.{EachFault}
 use Rattle.mseed_stream.specs.Device.{BytesRead, BytesWritten}
 use Rattle.mseed_stream.specs.declared.fault.StreamFault.{StreamFault}
 use Rattle.mseed.specs.Done.{IsMemoryRun, IsRefusedRun, IsShowRun}
-use Rattle.mseed.specs.Outcome.{IsAuditRun, IsBadRun, IsEachRun}
+use Rattle.mseed.specs.Outcome.{IsAuditRun, IsBadRun, IsEachRun, IsPartRun, IsPartEachRun}
 use Rattle.mseed.specs.Plans.{IsFetchRun, IsServeRun}
 use Rattle.mseed.specs.Repacked.{IsRepackRun}
 use Rattle.mseed.specs.declared.ending.ShowFault.{ShowFault}
 use Rattle.mseed.specs.declared.outcome.Run.{Run}
 use Rattle.mseed.specs.declared.outcome.Run.TheVariants as runs
 use Rattle.mseed.specs.declared.request.Request.{Request}
-use Rattle.mseed.specs.declared.request.Request.TheVariants.{Audit, AuditEach, Show, Repack, Serve, Fetch}
+use Rattle.mseed.specs.declared.request.Request.TheVariants.{Audit, AuditEach, AuditPart, AuditPartEach}
+use Rattle.mseed.specs.declared.request.Request.TheVariants.{Show, Repack, Serve, Fetch}
 
 -- what was read of the input, and what the output and the errors took
 pub record Streams : Type 0 where
@@ -36,6 +37,10 @@ HasCarriedOut Audit run old new = (outcome : Result Summary AuditFault)
     × IsStatusAnd run (λ status. IsAuditRun outcome status new.input old.output new.output old.errors new.errors)
 HasCarriedOut AuditEach run old new = (outcome : Result Summary EachFault)
     × IsStatusAnd run (λ status. IsEachRun outcome status new.input old.output new.output old.errors new.errors)
+HasCarriedOut AuditPart run old new = (outcome : Result Summary AuditFault)
+    × IsStatusAnd run (λ status. IsPartRun outcome status new.input old.output new.output old.errors new.errors)
+HasCarriedOut AuditPartEach run old new = (outcome : Result Summary EachFault)
+    × IsStatusAnd run (λ status. IsPartEachRun outcome status new.input old.output new.output old.errors new.errors)
 HasCarriedOut Show run old new = (outcome : Result (Option StreamFault) ShowFault)
     × IsStatusAnd run (λ status. IsShowRun outcome status new.input old.output new.output old.errors new.errors)
 HasCarriedOut (Repack packing) run old new =

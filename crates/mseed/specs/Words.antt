@@ -1,5 +1,6 @@
 -- What the words of the command line ask for.
-use Rattle.std.specs.Prelude.{⊤, ◌≡◌, ◌≢◌, ◌≤◌, ◌==◌, ◌^◌, ℕ, List, [], ◌∷◌, if◌then◌else◌, Bool, false}
+use Rattle.std.specs.Prelude.{⊤, ◌≡◌, ◌≢◌, ◌≤◌, ◌==◌, ◌^◌, ℕ, List, [], ◌∷◌, if◌then◌else◌, Bool, true, false}
+use Rattle.std.specs.Prelude.{◌||◌}
 use Rattle.std.specs.Prelude.{Option, Some, None, option_and_then, option_map, codes}
 use Rattle.std.specs.Str.{bytes_eq}
 use Rattle.clap.specs.Walk.{Row, Text, first_of}
@@ -13,7 +14,8 @@ use Rattle.mseed.specs.Found.{has_only}
 use Rattle.mseed.specs.Numbers.{number_in}
 use Rattle.mseed.specs.FeedWords.{CanFetch, CanServe, fetching_of, serving_of}
 use Rattle.mseed.specs.declared.request.Request.{Request}
-use Rattle.mseed.specs.declared.request.Request.TheVariants.{Audit, AuditEach, Show, Repack, Serve, Fetch}
+use Rattle.mseed.specs.declared.request.Request.TheVariants.{Audit, AuditEach, AuditPart, AuditPartEach}
+use Rattle.mseed.specs.declared.request.Request.TheVariants.{Show, Repack, Serve, Fetch}
 
 -- why `clap` refuses the words, a call for help included; none where it takes them
 abbrev pub faults_in : List Text → Kinds
@@ -48,7 +50,7 @@ encoding_in (Some word) = encoding_named word
 
 -- what packing anew takes: its word, a length and an encoding
 abbrev pub packing_names : List Text
-packing_names = codes "command" ∷ codes "each" ∷ codes "length" ∷ codes "encoding" ∷ []
+packing_names = codes "command" ∷ codes "each" ∷ codes "part" ∷ codes "length" ∷ codes "encoding" ∷ []
 
 abbrev pub packing_with : Option ℕ → Option Encoding → Option Request
 packing_with None encoding = None
@@ -66,22 +68,25 @@ abbrev pub is_true : Option Text → Bool
 is_true None = false
 is_true (Some text) = bytes_eq text (codes "true")
 
--- whether a line for each finding is asked for
-abbrev pub asks_each : List Row → Bool
-asks_each rows = is_true (first_of (codes "each") rows)
+-- whether a flag is set
+abbrev pub asks : Text → List Row → Bool
+asks name rows = is_true (first_of name rows)
 
 abbrev pub alone_names : List Text
-alone_names = codes "command" ∷ codes "each" ∷ []
+alone_names = codes "command" ∷ codes "each" ∷ codes "part" ∷ []
 
--- a command that takes its word alone, but for the flag
+-- a command that takes its word alone, but for flags
 abbrev pub alone : Request → List Row → Option Request
 alone request rows = if has_only alone_names rows then Some request else None
 
--- an audit, which alone can tell each finding
-abbrev pub auditing_by : Bool → Request
-auditing_by each = if each then AuditEach else Audit
+-- what an audit writes: with a line for each finding or without, the text of the audit or its part
+abbrev pub auditing_by : Bool → Bool → Request
+auditing_by false false = Audit
+auditing_by true false = AuditEach
+auditing_by false true = AuditPart
+auditing_by true true = AuditPartEach
 
--- what a command's word asks for without it
+-- what a command's word asks for without flags
 abbrev pub request_without : Text → List Row → Option Request
 request_without word rows =
     if bytes_eq word (codes "show") then alone Show rows
@@ -92,8 +97,8 @@ request_without word rows =
 -- what a command's word asks for
 abbrev pub request_named : Text → List Row → Option Request
 request_named word rows =
-    if bytes_eq word (codes "audit") then alone (auditing_by (asks_each rows)) rows
-    else if asks_each rows then None else request_without word rows
+    if bytes_eq word (codes "audit") then alone (auditing_by (asks (codes "each") rows) (asks (codes "part") rows)) rows
+    else if asks (codes "each") rows || asks (codes "part") rows then None else request_without word rows
 
 abbrev pub request_by : Option Text → List Row → Option Request
 request_by None rows = None
@@ -106,6 +111,8 @@ request_of rows = request_by (first_of (codes "command") rows) rows
 abbrev pub CanBeAsked : Request → Type 0
 CanBeAsked Audit = ⊤
 CanBeAsked AuditEach = ⊤
+CanBeAsked AuditPart = ⊤
+CanBeAsked AuditPartEach = ⊤
 CanBeAsked Show = ⊤
 CanBeAsked (Repack packing) = (7 ≤ packing.exponent) × (packing.exponent ≤ 12)
 CanBeAsked (Serve serving) = CanServe serving

@@ -5,7 +5,7 @@ ghost use Rattle.mseed_audit.specs.declared.archive.AuditFault.{AuditFault};
 ghost use Rattle.mseed_audit.specs.declared.archive.Summary.{Summary};
 ghost use Rattle.mseed_audit.specs.declared.each.EachFault.{EachFault};
 ghost use Rattle.mseed_stream.specs.Telling.{Tells};
-ghost use Rattle.mseed.specs.Outcome.{IsAuditRun, IsEachRun, summary_status};
+ghost use Rattle.mseed.specs.Outcome.{IsAuditRun, IsEachRun, IsPartRun, IsPartEachRun, summary_status};
 ghost use Rattle.mseed.specs.Run.{HasCarriedOut, HasRefusedRequest, HasRefusedWords, UnlessMemoryLacks, streams};
 ghost use Rattle.mseed.specs.Words.{AsksFor, AsksForNothing, AreRefused, CanBeAsked};
 ghost use Rattle.mseed.specs.Done.{IsShowRun};
@@ -27,6 +27,7 @@ use crate::words;
 use clap::Error;
 use clap::error::ErrorKind;
 use mseed_audit::{AuditFault, EachFault, Summary, audit, audit_each};
+use mseed_join::{audit_part, audit_part_each};
 use mseed_pack::Options;
 use mseed_repack::repack;
 use mseed_stream::{Sink, Source, tell};
@@ -36,7 +37,8 @@ use std::alloc::{Allocator, Global};
 ///
 /// `audit` writes the audit of the records of `input` to `output`: status 0 where every channel is
 /// continuous, 1 where one is broken, and 2 where the input ended with a fault, which the text names, or
-/// where the text couldn't be written whole; with `--each` a line for each record with a finding comes first. `show`
+/// where the text couldn't be written whole; with `--each` a line for each record with a finding comes first, and with
+/// `--part` the part of the archive is written instead of the text. `show`
 /// lists the records: status 0, or 2 where the input ended with a fault, which the listing names, or where it couldn't
 /// be written whole. `repack` packs the archive anew: status 0, 1 where a channel is broken, and 2 where the input is
 /// no whole archive, where a channel can't be packed, or where the output failed; `errors` takes a line that says so.
@@ -89,6 +91,8 @@ pub fn carry_out<A: Allocator + Copy, R: Source, W: Sink, E: Sink>(
     match request {
         Request::Audit => Run::Status(run_audit(alloc, input, output, errors)),
         Request::AuditEach => Run::Status(run_audit_each(alloc, input, output, errors)),
+        Request::AuditPart => Run::Status(run_audit_part(alloc, input, output, errors)),
+        Request::AuditPartEach => { Run::Status(run_audit_part_each(alloc, input, output, errors)) }
         Request::Show => Run::Status(run_show(alloc, input, output, errors)),
         Request::Repack(packing) => Run::Status(run_repack(alloc, packing, input, output, errors)),
         Request::Serve(serving) => plan_serve(alloc, &serving, input, errors),
@@ -126,6 +130,42 @@ fn run_audit_each<A: Allocator + Copy, R: Source, W: Sink, E: Sink>(
         (W.written output.old) (W.written output.new) (E.written errors.old) (E.written errors.new) }
 {
     match audit_each(alloc, input, output) {
+        Ok(summary) => summary_status(summary),
+        Err(EachFault::Write) => write_failed(errors),
+        Err(EachFault::Memory) => refuse_memory(errors),
+    }
+}
+
+/// Audits, writes the part instead of the text, and says on `errors` why not all was written.
+fn run_audit_part<A: Allocator + Copy, R: Source, W: Sink, E: Sink>(
+    alloc: A,
+    input: &mut R,
+    output: &mut W,
+    errors: &mut E,
+) -> u8
+    requires { R.read input.old ≡ nothing_read }
+    ensures { (outcome : Result Summary AuditFault) × IsPartRun outcome result (R.read input.new)
+        (W.written output.old) (W.written output.new) (E.written errors.old) (E.written errors.new) }
+{
+    match audit_part(alloc, input, output) {
+        Ok(summary) => summary_status(summary),
+        Err(AuditFault::Write(_)) => write_failed(errors),
+        Err(AuditFault::Memory) => refuse_memory(errors),
+    }
+}
+
+/// The same, with a line for each record with a finding before it.
+fn run_audit_part_each<A: Allocator + Copy, R: Source, W: Sink, E: Sink>(
+    alloc: A,
+    input: &mut R,
+    output: &mut W,
+    errors: &mut E,
+) -> u8
+    requires { R.read input.old ≡ nothing_read }
+    ensures { (outcome : Result Summary EachFault) × IsPartEachRun outcome result (R.read input.new)
+        (W.written output.old) (W.written output.new) (E.written errors.old) (E.written errors.new) }
+{
+    match audit_part_each(alloc, input, output) {
         Ok(summary) => summary_status(summary),
         Err(EachFault::Write) => write_failed(errors),
         Err(EachFault::Memory) => refuse_memory(errors),

@@ -34,6 +34,7 @@ pub(crate) fn serving_of(matches: &ArgMatches<'_>) -> Option<Serving>
         &[
             "command",
             "each",
+            "part",
             "place",
             "port",
             "station",
@@ -92,7 +93,7 @@ pub(crate) fn fetching_of(matches: &ArgMatches<'_>) -> Option<Fetching>
     if !has_only(
         matches,
         &[
-            "command", "each", "place", "port", "station", "network", "from", "tries",
+            "command", "each", "part", "place", "port", "station", "network", "from", "tries",
         ],
     ) {
         return None;

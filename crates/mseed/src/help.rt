@@ -11,7 +11,8 @@ A file is read from standard input: mseed audit < my.mseed";
 pub const COMMANDS: &str = "Commands:
   audit   says which channels are continuous, and where the others break
           reads an archive, writes a line for each channel; status 1: a channel is broken
-          options: --each, first a line for each record with a finding
+          options: --each, first a line for each record with a finding;
+          --part, in place of the lines what audits of further archives can be joined with
             mseed audit < my.mseed
   show    lists the records
           reads an archive, writes a line for each record

@@ -10,7 +10,7 @@ ghost use Rattle.mseed.specs.Repacked.{refusal_status, refusal_text, reason_text
 use crate::command::{refuse_memory, write_failed};
 use crate::fill_fault::FillFault;
 use crate::outcome::{BROKEN, FAULT};
-use mseed_audit::Part::{Count, Words};
+use mseed_audit::Piece::{Count, Words};
 use mseed_audit::{fault_line_of, line_of, name_of};
 use mseed_pack::PackFault;
 use mseed_record::Codes;

@@ -9,6 +9,10 @@ pub enum Request {
     Audit,
     /// Audit it, and tell each finding.
     AuditEach,
+    /// Audit it, and write its part.
+    AuditPart,
+    /// Audit it, tell each finding, and write its part.
+    AuditPartEach,
     /// List the records on standard input.
     Show,
     /// Pack the archive on standard input anew.

@@ -7,10 +7,10 @@ ghost use Rattle.clap.specs.Simple.{app_of, with_rule};
 ghost use Rattle.clap.specs.Kinds.{HasKind};
 ghost use Rattle.clap.specs.declared.builder.value_parser.ValueParser.TheVariants.{Signed};
 ghost use Rattle.mseed.specs.Words.{faults_in, entries_in, request_of, request_named, alone, packing_of, packing_with};
-ghost use Rattle.mseed.specs.Words.{CanBeAsked, asks_each};
+ghost use Rattle.mseed.specs.Words.{CanBeAsked, asks, auditing_by};
 ghost use Rattle.mseed.specs.Words.{exponent_in, exponent_by, encoding_in, encoding_named};
 ghost use Rattle.mseed.specs.Options.{bare_command, the_command, word_rule, places_rule, packing_rules, feed_rules};
-ghost use Rattle.mseed.specs.Options.{number_rules, flag_rule, option_rule, number_rule, with_rules};
+ghost use Rattle.mseed.specs.Options.{number_rules, flag_rule, flag_rules, option_rule, number_rule, with_rules};
 
 use crate::feed_words::{fetching_of, serving_of};
 use crate::found::{has_only, text_of};
@@ -56,9 +56,11 @@ fn request_named(word: &str, matches: &ArgMatches<'_>) -> Option<Request>
     ensures range { IfSome result CanBeAsked }
 {
     match word {
-        "audit" if asks_each(matches) => alone(Request::AuditEach, matches),
-        "audit" => alone(Request::Audit, matches),
-        _ if asks_each(matches) => None,
+        "audit" => alone(
+            auditing_by(asks(matches, "each"), asks(matches, "part")),
+            matches,
+        ),
+        _ if asks(matches, "each") || asks(matches, "part") => None,
         "show" => alone(Request::Show, matches),
         "repack" => packing_of(matches),
         "serve" => Some(Request::Serve(serving_of(matches)?)),
@@ -67,13 +69,26 @@ fn request_named(word: &str, matches: &ArgMatches<'_>) -> Option<Request>
     }
 }
 
-/// Whether a line for each finding is asked for.
-fn asks_each(matches: &ArgMatches<'_>) -> bool
-    ensures { result ≡ asks_each (rows_of (found_of matches.now)) }
+/// Whether a flag is set.
+fn asks(matches: &ArgMatches<'_>, name: &str) -> bool
+    ensures { result ≡ asks name.now (rows_of (found_of matches.now)) }
 {
-    match text_of(matches, "each") {
+    match text_of(matches, name) {
         Some(text) => text == "true",
         None => false,
+    }
+}
+
+/// What an audit writes: with a line for each finding or without, the text of the audit or its part.
+fn auditing_by(each: bool, part: bool) -> Request
+    ensures value { result ≡ auditing_by each part }
+    ensures range { CanBeAsked result }
+{
+    match (each, part) {
+        (false, false) => Request::Audit,
+        (true, false) => Request::AuditEach,
+        (false, true) => Request::AuditPart,
+        (true, true) => Request::AuditPartEach,
     }
 }
 
@@ -83,7 +98,7 @@ fn alone(request: Request, matches: &ArgMatches<'_>) -> Option<Request>
     ensures value { result ≡ alone request (rows_of (found_of matches.now)) }
     ensures range { IfSome result CanBeAsked }
 {
-    if has_only(matches, &["command", "each"]) {
+    if has_only(matches, &["command", "each", "part"]) {
         Some(request)
     } else {
         None
@@ -95,7 +110,7 @@ fn packing_of(matches: &ArgMatches<'_>) -> Option<Request>
     ensures value { result ≡ packing_of (rows_of (found_of matches.now)) }
     ensures range { IfSome result CanBeAsked }
 {
-    if !has_only(matches, &["command", "each", "length", "encoding"]) {
+    if !has_only(matches, &["command", "each", "part", "length", "encoding"]) {
         return None;
     }
     packing_with(
@@ -175,7 +190,7 @@ fn command<'a>(alloc: Global) -> Result<Command<'a>, AllocError>
     let command = with_packing(alloc, command)?;
     let command = with_feed(alloc, command)?;
     let command = with_numbers(alloc, command)?;
-    with_each(alloc, command)
+    with_flags(alloc, command)
 }
 
 /// The command without places and options. The program's name isn't among the words.
@@ -279,15 +294,38 @@ fn with_numbers<'a>(alloc: Global, command: Command<'a>) -> Result<Command<'a>, 
     )
 }
 
-/// With the flag of an audit that tells each finding.
-fn with_each<'a>(alloc: Global, command: Command<'a>) -> Result<Command<'a>, AllocError>
-    ensures { IfOk result (λ c. app_of c ≡ with_rule (app_of command.entry) (flag_rule (codes "each"))) }
+/// With the flags.
+fn with_flags<'a>(alloc: Global, command: Command<'a>) -> Result<Command<'a>, AllocError>
+    ensures { IfOk result (λ c. app_of c ≡ with_rules (app_of command.entry) flag_rules) }
+{
+    let command = with_flag(
+        alloc,
+        command,
+        "each",
+        "audit: before its lines, a line for each record with a finding",
+    )?;
+    with_flag(
+        alloc,
+        command,
+        "part",
+        "audit: write its part instead of its lines",
+    )
+}
+
+/// With a flag.
+fn with_flag<'a>(
+    alloc: Global,
+    command: Command<'a>,
+    name: &'a str,
+    help: &'a str,
+) -> Result<Command<'a>, AllocError>
+    ensures { IfOk result (λ c. app_of c ≡ with_rule (app_of command.entry) (flag_rule name.entry.now)) }
 {
     command.arg(
-        Arg::new(alloc, "each")
-            .long("each")
+        Arg::new(alloc, name)
+            .long(name)
             .action(ArgAction::SetTrue)
-            .help("audit: before its lines, a line for each record with a finding"),
+            .help(help),
     )
 }
 

@@ -1,0 +1,34 @@
+//! Calls of `mseed_parts`.
+use mseed_audit::{Channel, Finding};
+use mseed_parts::{JoinFault, Part};
+use mseed_record::Codes;
+use std::alloc::Global;
+
+/// The part of an archive of one channel, of so many records and bytes.
+pub fn part_of_one(
+    alloc: Global,
+    codes: Codes,
+    channel: &Channel,
+    records: u64,
+    bytes: u64,
+) -> Result<Part, JoinFault> {
+    let mut part = Part::new(alloc);
+    part.add_channel(codes, channel)?;
+    part.add_counts(records, bytes)?;
+    Ok(part)
+}
+
+/// What is found where a channel goes on in a further part.
+pub fn border_of(
+    part: &mut Part,
+    codes: Codes,
+    channel: &Channel,
+) -> Result<Option<Finding>, JoinFault> {
+    part.add_channel(codes, channel)
+}
+
+/// How many records and bytes two archives have, one behind another.
+pub fn joint_counts(one: Part, other: &Part) -> Result<(u64, u64), JoinFault> {
+    let joint = one.join(other)?;
+    Ok((joint.records(), joint.bytes()))
+}

@@ -1,0 +1,292 @@
+"""Parts of archives and how they are joined, from docs/texts.md alone: a grammar as regular expressions, and the audit
+of models/auditing.py."""
+
+from __future__ import annotations
+
+import re
+from typing import Iterable, NamedTuple, Optional
+
+from models.auditing import (Channel, Tail, border_fault, channels_of, cut, finding, findings,
+                             lines_of_findings, name_of, tail_of, time_of)
+
+# The largest number of a part, the largest number of a rate, and the instants that there are.
+LARGEST, RATIO = 2**63 - 1, 2**30
+FIRST_INSTANT, LAST_INSTANT = -5364662400000000, 7258118399999999
+LEAPS = ["none", "positive", "negative", "both"]
+
+# 2^128 - 1 has 39 digits.
+N = r"(?:0|[1-9][0-9]{0,38})"
+SIGNED = r"(?:0|-?[1-9][0-9]{0,38})"
+WHY = (rf"time (?:year|day|hour|minute|second|fraction)|norate|blockette100|encoding {N}|littlesteim|dataoffset"
+       rf"|short {N}|badword {N} {N}|overflow {N}|lastdiffers {SIGNED} {SIGNED}|ratechange|leap|gap {N}|overlap {N}")
+CHANNEL = re.compile(
+    rf"([0-9A-F]{{24}}) records ({N}) samples ({N}) head (?:none|({N}) ({N}) ({SIGNED}) ({N})/({N})) "
+    rf"tail (?:none|({SIGNED}) ({N}) ({N})/({N}) ({'|'.join(LEAPS)})) findings ({N})(?: first ({N}) ({N}) ({WHY}))?")
+COUNTS = re.compile(rf"records ({N}) bytes ({N})")
+FAULTS = re.compile(rf"faults ({N})")
+FAULT = re.compile(rf"fault at ({N}) (notdata|order|chain|no1000|length {N}|outside|version3|truncated {N}|read|turns)")
+BEGIN = "mseed part 1"
+
+
+class Head(NamedTuple):
+    """A channel's first record."""
+
+    number: int
+    offset: int
+    start: int
+    rate: tuple[int, int]
+
+
+class First(NamedTuple):
+    """A channel's first finding."""
+
+    number: int
+    offset: int
+    why: str
+
+
+class Kept(NamedTuple):
+    """What a part keeps of a channel."""
+
+    records: int
+    samples: int
+    head: Optional[Head]
+    tail: Optional[Tail]
+    findings: int
+    first: Optional[First]
+
+    def numbers(self) -> list[int]:
+        """Those that are joined."""
+        return [self.records, self.samples, self.findings, *(self.head or ())[:2], *(self.first or ())[:2]]
+
+    def line(self, key: bytes) -> str:
+        """Its line."""
+        head = tail = "none"
+        if self.head:
+            head = "{} {} {} {}/{}".format(*self.head[:3], *self.head.rate)
+        if self.tail:
+            tail = "{} {} {}/{} {}".format(*self.tail[:2], *self.tail.rate, LEAPS[self.tail.flags])
+        first = " first {} {} {}".format(*self.first) if self.first else ""
+        return (f"{key.hex().upper()} records {self.records} samples {self.samples} head {head} tail {tail} "
+                f"findings {self.findings}{first}")
+
+
+class Part:
+    """What is kept of an archive."""
+
+    def __init__(self) -> None:
+        self.channels: dict[bytes, Kept] = {}
+        self.records = self.bytes = self.faults = 0
+        self.fault: Optional[str] = None
+
+    def part_text(self) -> bytes:
+        """The part itself."""
+        lines = [BEGIN, *(kept.line(key) for key, kept in sorted(self.channels.items()))]
+        lines.append(f"records {self.records} bytes {self.bytes}")
+        lines += [f"faults {self.faults}"] if self.faults else []
+        return text_of(lines + self.fault_lines())
+
+    def audit_text(self) -> bytes:
+        """The text of the audit."""
+        lines = []
+        for key, kept in sorted(self.channels.items()):
+            if kept.first:
+                what = "broken findings {} first record {} offset {} {}".format(kept.findings, *kept.first)
+            else:
+                what = "continuous {} rate {}/{} records {} samples {}".format(
+                    time_of(kept.head.start), *kept.head.rate, kept.records, kept.samples)
+            lines.append(f"{name_of(key)} {what}")
+        lines.append(f"records {self.records} channels {len(self.channels)}")
+        lines += [f"faults {self.faults}"] if self.faults else []
+        return text_of(lines + self.fault_lines())
+
+    def fault_lines(self) -> list[str]:
+        """The line of the fault, if there is one."""
+        return [f"fault at {self.bytes} {self.fault}"] if self.fault else []
+
+    def status(self) -> int:
+        """The status of the audit."""
+        return 2 if self.fault or self.faults else int(any(kept.findings for kept in self.channels.values()))
+
+
+def text_of(lines: Iterable[str]) -> bytes:
+    """Lines as bytes."""
+    return "".join(line + "\n" for line in lines).encode("latin-1")
+
+
+def kept_of(channel: Channel) -> Kept:
+    """What a part keeps of a channel with these records."""
+    number, offset, record = channel[0]
+    head = None if finding(None, record) else Head(number, offset, record.start(), record.rate())
+    found = findings(channel)
+    return Kept(len(channel), sum(record.count for _, _, record in channel), head, tail_of(channel[-1][2]), len(found),
+                First(*found[0]) if found else None)
+
+
+def part_of(archive: bytes) -> Part:
+    """The part of an archive."""
+    made = Part()
+    records, made.bytes, made.fault = cut(archive)
+    made.records = len(records)
+    made.channels = {key: kept_of(channel) for key, channel in channels_of(records).items()}
+    return made
+
+
+def audit_part(archive: bytes, each: bool = False) -> tuple[bytes, int]:
+    """What `audit --part` writes, with `--each` or without, and its status."""
+    lines = lines_of_findings(channels_of(cut(archive)[0])) if each else []
+    made = part_of(archive)
+    return text_of(lines) + made.part_text(), made.status()
+
+
+def part(archive: bytes) -> bytes:
+    """Its text."""
+    return audit_part(archive)[0]
+
+
+class Bad(Exception):
+    """A line that no part has at this place."""
+
+
+def need(is_so: object) -> None:
+    """Refuses the line where this isn't so."""
+    if not is_so:
+        raise Bad
+
+
+def added(*numbers: int) -> int:
+    """A sum that a part can hold."""
+    need(sum(numbers) <= LARGEST)
+    return sum(numbers)
+
+
+def has_bounds(why: str) -> bool:
+    """Whether the numbers of a finding or a fault are within theirs."""
+    word, *numbers = why.split()
+    if word == "lastdiffers":
+        return all(-(2**31) <= int(number) < 2**31 for number in numbers)
+    largest = {"encoding": 255, "length": 255, "gap": 2**128 - 1, "overlap": 2**128 - 1}.get(word, LARGEST)
+    return word == "time" or all(int(number) <= largest for number in numbers)
+
+
+def is_rate(rate: tuple[int, int]) -> bool:
+    """Whether a part may have this rate."""
+    return all(1 <= number <= RATIO for number in rate)
+
+
+def kept_in(line: str) -> tuple[bytes, Kept]:
+    """The key and the channel of a line, which has to be one of a channel."""
+    found = CHANNEL.fullmatch(line)
+    need(found)
+    key, records, samples, *middle, findings_, number, offset, why = found.groups()
+    h, t = middle[:5], middle[5:]
+    head = Head(*map(int, h[:3]), (int(h[3]), int(h[4]))) if h[0] else None
+    tail = Tail(int(t[0]), int(t[1]), (int(t[2]), int(t[3])), LEAPS.index(t[4])) if t[0] else None
+    first = First(int(number), int(offset), why) if why else None
+    kept = Kept(int(records), int(samples), head, tail, int(findings_), first)
+    need(all(number <= LARGEST for number in kept.numbers()))
+    need(all(FIRST_INSTANT <= end.start <= LAST_INSTANT and is_rate(end.rate) for end in (head, tail) if end))
+    need(not tail or 1 <= tail.samples <= 65535)
+    need((kept.findings > 0) == (first is not None) and (first or head and tail))
+    need(not first or has_bounds(first.why))
+    return bytes.fromhex(key), kept
+
+
+class Joiner:
+    """Reads the lines of parts, one behind another."""
+
+    def __init__(self, past_faults: bool):
+        self.past_faults = past_faults
+        self.joint = Part()
+        self.borders: list[str] = []
+        self.told: list[str] = []
+        self.parts = 0
+        self.state, self.key, self.own_bytes, self.is_counted = "behind", b"", 0, True
+
+    def read(self, line: str) -> None:
+        """Takes the next line. Raises Bad where it isn't by the grammar or a sum is too large."""
+        if self.state == "within":
+            self.read_within(line)
+        elif self.state == "counts" and line.startswith("faults "):
+            self.read_faults(line)
+        elif self.state in ("counts", "faults") and line.startswith("fault at "):
+            self.read_fault(line)
+        else:
+            need(line == BEGIN)
+            self.parts += 1
+            self.state, self.key, self.is_counted = "within", b"", self.joint.fault is None
+
+    def read_within(self, line: str) -> None:
+        """A channel's line, or that of the counts."""
+        counts, joint = COUNTS.fullmatch(line), self.joint
+        if not counts:
+            key, kept = kept_in(line)
+            need(key > self.key)
+            self.key = key
+            if self.is_counted:
+                self.join(key, kept)
+            return
+        records, self.own_bytes = map(int, counts.groups())
+        need(max(records, self.own_bytes) <= LARGEST)
+        if self.is_counted:
+            joint.records, joint.bytes = added(joint.records, records), added(joint.bytes, self.own_bytes)
+        self.state = "counts"
+
+    def join(self, key: bytes, kept: Kept) -> None:
+        """Joins a channel behind what there is of it."""
+        joint, head, first = self.joint, kept.head, kept.first
+        head = head and Head(added(joint.records, head.number), added(joint.bytes, head.offset), *head[2:])
+        first = first and First(added(joint.records, first.number), added(joint.bytes, first.offset), first.why)
+        before = joint.channels.get(key)
+        if before is None:
+            joint.channels[key] = kept._replace(head=head, first=first)
+            return
+        why = border_fault(before.tail, head.start, head.rate) if before.tail and head else None
+        border = First(head.number, head.offset, why) if why else None
+        joint.channels[key] = Kept(added(before.records, kept.records), added(before.samples, kept.samples),
+                                   before.head, kept.tail,
+                                   added(before.findings, int(border is not None), kept.findings),
+                                   before.first or border or first)
+        if border:
+            self.borders.append(f"{border.offset} {name_of(key)} record {border.number} start {time_of(head.start)} "
+                                f"{border.why}")
+
+    def read_faults(self, line: str) -> None:
+        """How many faults lie behind."""
+        found = FAULTS.fullmatch(line)
+        need(found and 0 < int(found[1]) <= LARGEST)
+        if self.is_counted:
+            self.joint.faults = added(self.joint.faults, int(found[1]))
+        self.state = "faults"
+
+    def read_fault(self, line: str) -> None:
+        """The fault by which the part ends."""
+        found = FAULT.fullmatch(line)
+        need(found and int(found[1]) == self.own_bytes and has_bounds(found[2]))
+        self.state = "behind"
+        if self.past_faults:
+            self.joint.faults = added(self.joint.faults, 1)
+            self.told.append(f"mseed: part {self.parts} {line}")
+        elif self.is_counted:
+            self.joint.fault = found[2]
+
+
+def join(text: bytes, part: bool = False, each: bool = False, past_faults: bool = False) -> tuple[bytes, bytes, int]:
+    """What `join` writes over parts, one behind another: the output, the standard error and the status."""
+    joiner = Joiner(past_faults)
+    *lines, rest = text.decode("latin-1").split("\n")
+    bad = None
+    for number, line in enumerate(lines, 1):
+        try:
+            joiner.read(line)
+        except Bad:
+            bad = number
+            break
+    if bad is None and (rest or joiner.state == "within"):
+        bad = len(lines) + 1
+    borders = text_of(joiner.borders) if each else b""
+    if bad is not None:
+        return borders, text_of([*joiner.told, f"mseed: bad part at line {bad}"]), 2
+    joint = joiner.joint
+    out = joint.part_text() if part else borders + joint.audit_text()
+    return out, text_of(joiner.told), joint.status()
