@@ -12,6 +12,7 @@ pub mod Goings
 pub mod Heads
 pub mod Received
 pub mod Items
+pub mod Noting
 pub mod Numbers
 pub mod OneReading
 pub mod OneReply

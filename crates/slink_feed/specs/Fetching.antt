@@ -1,5 +1,5 @@
 -- A turn of a client with its link: one read, and what comes of the bytes that it told.
-use Rattle.std.specs.Prelude.{◌≡◌, ◌≢◌, ℕ, ◌≤◌, List, [], ◌∷◌, ◌++◌, length}
+use Rattle.std.specs.Prelude.{◌≡◌, ◌≢◌, ◌⊎◌, ℕ, ◌≤◌, ◌<◌, Bool, true, false, List, [], ◌∷◌, ◌++◌, length}
 use Rattle.mseed_stream.specs.Device.{BytesRead, IsPrefixOf, BytesWritten}
 use Rattle.slink_feed.specs.declared.dialogue.Ending.{Ending}
 use Rattle.slink_feed.specs.declared.dialogue.Ending.TheVariants as endings
@@ -148,3 +148,11 @@ IsFetchFault (faults.Output count) old new before after = IsCutShort old new bef
 -- a client with what the two devices took so far
 abbrev pub fetching : Listening → BytesWritten → BytesWritten → Fetching
 fetching client written output = record { client = client; written = written; output = output }
+
+-- What notes that the output took records: it is set where it was set before, or where the output took some, unless the
+-- output failed.
+pub record Notes (was is : Bool) (old new : BytesWritten) : Type 0 where
+  pub yes : is ≡ true → (was ≡ true) ⊎ (length old.bytes < length new.bytes)
+  pub no : is ≡ false → was ≡ false
+  pub none : is ≡ false → new.failures ≡ old.failures → new.bytes ≡ old.bytes
+  pub grows : length old.bytes ≤ length new.bytes

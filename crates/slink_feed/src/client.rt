@@ -128,6 +128,17 @@ impl Client {
         }
     }
 
+    /// Whether packets are awaited: the client has said all that it has to say.
+    pub fn is_streaming(&self) -> bool
+        ensures yes { OnTrue result (self.now.talk.stage ≡ Stage.Packets) }
+        ensures no { OnFalse result (self.now.talk.stage ≢ Stage.Packets) }
+    {
+        match self.dialogue.stage() {
+            Stage::Packets => true,
+            Stage::Unlinked | Stage::Station(_) | Stage::Number(_) | Stage::Ended(_) => false,
+        }
+    }
+
     /// What a turn comes to in which the link told bytes.
     pub(crate) fn turn(&self) -> Turn
         ensures { result ≡ turn_at self.now.talk.stage }

@@ -55,6 +55,17 @@ impl Course {
         }
     }
 
+    /// Whether records are sent.
+    pub(crate) fn is_streaming(&self) -> bool
+        ensures yes { OnTrue result (self.now.phase ≡ Phase.Streaming) }
+        ensures no { OnFalse result (self.now.phase ≢ Phase.Streaming) }
+    {
+        match self.phase {
+            Phase::Streaming => true,
+            Phase::Fresh | Phase::Chosen(_) | Phase::Granted(_) | Phase::Closed => false,
+        }
+    }
+
     /// The next packet of the place at an index of the feed.
     pub(crate) fn packet<A: Allocator>(&mut self, feed: &Feed<A>, k: usize) -> Sent
         requires in_range { k < length feed.now }

@@ -1,7 +1,7 @@
 //! One turn of a client with its link.
 ghost use Rattle.std.specs.Prelude.{◌≡◌, ◌≤◌, ◌^◌, [], IfErr, IfOk, OnOk, length};
 ghost use Rattle.std.specs.Bool.{OnFalse, OnTrue};
-ghost use Rattle.slink_feed.specs.Fetching.{Delivers, FailsAt, Fetches, IsFetchFault, fetching};
+ghost use Rattle.slink_feed.specs.Fetching.{Delivers, FailsAt, Fetches, IsFetchFault, Notes, fetching};
 ghost use Rattle.slink_feed.specs.private.Delivery.{IsDelivered, IsUndelivered};
 ghost use Rattle.slink_feed.specs.Listening.{Reads};
 
@@ -44,6 +44,29 @@ pub fn fetch_turn<S: Duplex, W: Sink>(
     // The bytes that the client kept read as what is begun: so the turn tells what they read as with those of the link.
     ensures reading { Reads client.old.talk client.old.kept [] client.old }
 {
+    let mut received = false;
+    fetch_turn_noting(client, link, output, &mut received)
+}
+
+/// Takes a turn with a client's link as [`fetch_turn`], and notes in `received` that a record went to the output.
+///
+/// # Errors
+///
+/// Those of [`fetch_turn`].
+pub fn fetch_turn_noting<S: Duplex, W: Sink>(
+    client: &mut Client,
+    link: &mut S,
+    output: &mut W,
+    received: &mut bool,
+) -> Result<Turn, LinkFault>
+    ensures ok { IfOk result (λ turn. Fetches (fetching client.old (S.written link.old) (W.written output.old))
+        (fetching client.new (S.written link.new) (W.written output.new)) (S.read link.old) (S.read link.new) turn) }
+    ensures fault { IfErr result (λ fault. IsFetchFault fault
+        (fetching client.old (S.written link.old) (W.written output.old))
+        (fetching client.new (S.written link.new) (W.written output.new)) (S.read link.old) (S.read link.new)) }
+    ensures reading { Reads client.old.talk client.old.kept [] client.old }
+    ensures received { Notes received.old received.new (W.written output.old) (W.written output.new) }
+{
     client.has_reading();
     let mut room = [0; ROOM];
     let count = match link.pull(&mut room) {
@@ -53,7 +76,7 @@ pub fn fetch_turn<S: Duplex, W: Sink>(
     if count == 0 {
         return Ok(Turn::Closed);
     }
-    read(client, &room[..count], link, output)?;
+    read(client, &room[..count], link, output, received)?;
     Ok(client.turn())
 }
 
@@ -63,6 +86,7 @@ fn read<L: Sink, W: Sink>(
     bytes: &[u8],
     link: &mut L,
     output: &mut W,
+    received: &mut bool,
 ) -> Result<(), LinkFault>
     requires { length bytes.now ≤ 1024 }
     ensures ok { OnOk result (Delivers (fetching client.old (L.written link.old) (W.written output.old))
@@ -70,6 +94,7 @@ fn read<L: Sink, W: Sink>(
     ensures fault { IfErr result
         (λ fault. FailsAt fault (fetching client.old (L.written link.old) (W.written output.old))
         (fetching client.new (L.written link.new) (W.written output.new)) bytes.now) }
+    ensures received { Notes received.old received.new (W.written output.old) (W.written output.new) }
     ensures beside { L.beside link.new ≡ L.beside link.old }
 {
     let mut offset = 0;
@@ -82,7 +107,7 @@ fn read<L: Sink, W: Sink>(
             break;
         }
         let (used, event) = client.take(&bytes[offset..]);
-        counts = deliver(&event, link, output, counts)?;
+        counts = deliver(&event, link, output, counts, received)?;
         offset += used;
     }
     Ok(())
@@ -94,6 +119,7 @@ fn deliver<L: Sink, W: Sink>(
     link: &mut L,
     output: &mut W,
     counts: Counts,
+    received: &mut bool,
 ) -> Result<Counts, LinkFault>
     requires written { counts.written ≤ 2 ^ 32 }
     requires output { counts.output ≤ 2 ^ 32 }
@@ -102,6 +128,7 @@ fn deliver<L: Sink, W: Sink>(
     ensures fault { IfErr result (λ fault. IsUndelivered fault event.now counts (L.written link.old)
         (L.written link.new)
         (W.written output.old) (W.written output.new)) }
+    ensures received { Notes received.old received.new (W.written output.old) (W.written output.new) }
     ensures beside { L.beside link.new ≡ L.beside link.old }
 {
     match event {
@@ -113,10 +140,13 @@ fn deliver<L: Sink, W: Sink>(
             Err(count) => Err(LinkFault::Write(counts.written + count)),
         },
         Event::Record(_, _, record) => match write_all_of(output, record) {
-            Ok(()) => Ok(Counts {
-                written: counts.written,
-                output: counts.output + record.len(),
-            }),
+            Ok(()) => {
+                *received = true;
+                Ok(Counts {
+                    written: counts.written,
+                    output: counts.output + record.len(),
+                })
+            }
             Err(count) => Err(LinkFault::Output(counts.output + count)),
         },
         Event::None | Event::End | Event::Refused(_) | Event::Gap { .. } => Ok(counts),

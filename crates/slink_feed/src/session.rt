@@ -158,6 +158,14 @@ impl Session {
         self.course.is_closed()
     }
 
+    /// Whether records are sent: the link has said all that it has to say.
+    pub fn is_streaming(&self) -> bool
+        ensures yes { OnTrue result (self.now.state.phase ≡ Phase.Streaming) }
+        ensures no { OnFalse result (self.now.state.phase ≢ Phase.Streaming) }
+    {
+        self.course.is_streaming()
+    }
+
     /// The number of the record that is sent next of a place that has a grant.
     pub fn position(&self, k: usize) -> Option<u64>
         ensures { result ≡ option_map (λ (g : Grant). g.position) (grant_at self.now.state.grants k) }

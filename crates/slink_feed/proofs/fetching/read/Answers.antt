@@ -2,10 +2,15 @@ use Rattle.std.proofs.Common.{◌≡◌, ◌∙◌, ◌-◌, arith, drop, length
 use Rattle.slink_feed.specs.Fetching.{Fetching, FailsAt, fetching}
 use Rattle.slink_feed.specs.Listening.{IsLinked}
 use Rattle.slink_feed.proofs.Deliveries.{IsPiece, all_delivered, fails_here, nothing_so_far, one_more, piece_length}
+use Rattle.slink_feed.proofs.Noting.{nothing_noted, notes_both}
 use Rattle.slink_feed.proofs.fetching.read.Goals as goal
 
 pub loop-offset-init : goal.loop-offset-init
-loop-offset-init g c = record { so_far = nothing_so_far _ c.args.bytes.now; beside = refl }
+loop-offset-init g c = record {
+  so_far = nothing_so_far _ c.args.bytes.now;
+  received = nothing_noted c.args.received.now (g.W.Sink.written c.args.output.now);
+  beside = refl;
+}
 
 pub returns-in_err-counts-clause-fault : goal.returns-in_err-counts-clause-fault
 returns-in_err-counts-clause-fault g c =
@@ -33,6 +38,13 @@ returns-in_err-counts-clause-fault g c =
     c.in_err-counts.ensures.fault in
     search (rules, fails)
 
+pub returns-in_err-counts-clause-received : goal.returns-in_err-counts-clause-received
+returns-in_err-counts-clause-received g c =
+    notes_both c.args.received.now c.loop-offset.received c.deliver.new.received
+    (g.W.Sink.written c.args.output.now) (g.W.Sink.written c.loop-offset.output)
+    (g.W.Sink.written c.deliver.new.output) c.loop-offset.invariant.so_far.output.failures
+    c.loop-offset.invariant.received c.deliver.ensures.received
+
 pub loop-offset-preserved : goal.loop-offset-preserved
 loop-offset-preserved g c =
     let old : Fetching = fetching c.args.client.now (g.L.Sink.written c.args.link.now)
@@ -56,6 +68,10 @@ loop-offset-preserved g c =
     record {
       so_far = one_more old now new c.args.bytes.now c.loop-offset.offset c.take-used.result.0 c.take-used.result.1
           c.loop-offset.counts c.loop-offset.invariant.so_far piece c.in_ok-counts.counts c.in_ok-counts.ensures.ok;
+      received = notes_both c.args.received.now c.loop-offset.received c.deliver.new.received
+          (g.W.Sink.written c.args.output.now) (g.W.Sink.written c.loop-offset.output)
+          (g.W.Sink.written c.deliver.new.output) c.loop-offset.invariant.so_far.output.failures
+          c.loop-offset.invariant.received c.deliver.ensures.received;
       beside = c.deliver.ensures.beside ∙ c.loop-offset.invariant.beside;
     }
 

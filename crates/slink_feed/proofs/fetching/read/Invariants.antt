@@ -1,5 +1,5 @@
 use Rattle.std.proofs.Common.{◌-◌, ◌≡◌, length}
-use Rattle.slink_feed.specs.Fetching.{fetching}
+use Rattle.slink_feed.specs.Fetching.{Notes, fetching}
 use Rattle.slink_feed.proofs.Deliveries.{SoFar}
 use Rattle.slink_feed.proofs.fetching.read.Given as goal
 
@@ -8,6 +8,7 @@ invariant-loop-offset g l = record {
   so_far : SoFar (fetching l.fn.client (g.L.Sink.written l.fn.link) (g.W.Sink.written l.fn.output))
       (fetching l.client (g.L.Sink.written l.link) (g.W.Sink.written l.output)) l.bytes l.offset l.counts.written
       l.counts.output;
+  received : Notes l.fn.received l.received (g.W.Sink.written l.fn.output) (g.W.Sink.written l.output);
   beside : g.L.Sink.beside l.link ≡ g.L.Sink.beside l.fn.link;
 }
 

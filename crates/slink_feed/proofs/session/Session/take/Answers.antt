@@ -1,4 +1,4 @@
-use Rattle.std.proofs.Common.{◌≡◌, ◌∙◌, ◌++◌, ap, subst, sym, take}
+use Rattle.std.proofs.Common.{◌∙◌, ◌++◌, ap, subst, sym, take}
 use Rattle.slink_wire.specs.Lines.{IsHeld}
 use Rattle.slink_feed.specs.Running.{Stands}
 use Rattle.slink_feed.specs.Serving.{Standing}

@@ -3,7 +3,7 @@ use Rattle.mseed_stream.specs.Device.{BytesWritten}
 use Rattle.slink_feed.specs.Fetching.{fetching}
 use Rattle.slink_feed.specs.Turns.{told_once}
 use Rattle.slink_feed.proofs.Deliveries.{closed_turn}
-use Rattle.slink_feed.proofs.fetching.fetch_turn.Goals as goal
+use Rattle.slink_feed.proofs.fetching.fetch_turn_noting.Goals as goal
 
 pub returns-then-count-eq0-clause-ok : goal.returns-then-count-eq0-clause-ok
 returns-then-count-eq0-clause-ok g c =
