@@ -28,6 +28,7 @@ use Rattle.slink_feed.proofs.Telling.{wants_written}
 use Rattle.slink_links.specs.declared.fetching.FetchEnd.{FetchEnd}
 use Rattle.slink_links.specs.declared.fetching.FetchEnd.TheVariants.{Done, Refused, BadFeed, WriteFailed, LinkFailed}
 use Rattle.slink_links.specs.Fetched.{AreTaken, HasFetched, HasReadEach, HasReadLink, HasReadLinks, HasTurned}
+use Rattle.slink_links.specs.Fetched.{WasFetchedOver}
 use Rattle.slink_links.specs.Fetched.{HaveMoved, IsFetchedOver, IsReading, IsUnended, StandsAt, StandsBy, TakesRecords}
 use Rattle.slink_links.specs.Fetched.{all, but_last, end_by, failures_by, over_none, over_one_more, over_the_last}
 
@@ -77,7 +78,7 @@ takes_both a b c some more p q = elim q [
 ]
 
 -- Where the output didn't fail, it took all.
-all_taken : (rs : List Numbered) (a b : BytesWritten) → TakesRecords rs a b → b.failures ≡ a.failures
+pub all_taken : (rs : List Numbered) (a b : BytesWritten) → TakesRecords rs a b → b.failures ≡ a.failures
     → Took a b (bytes_in rs)
 all_taken rs a b takes fine =
     elim takes [ all took ↦ took | but_last prefix last n is behind took ↦ absurd (omega (arith, took.failures, fine)) ]
@@ -527,19 +528,22 @@ reads_both end a b c before now after s t u p q = record {
 }
 
 -- a new link that was fetched over
-pub reads_one : (a b : Listening) (before after : List Exchange) (h h' : BytesRead)
-    (written written' s t : BytesWritten) (end : FetchEnd)
+pub was_over : (a b : Listening) (h h' : BytesRead) (written written' s t : BytesWritten) (end : FetchEnd)
     → h ≡ nothing_read → written ≡ nothing_written → HasReadLink a b h h' s t
     → IsFetchedOver (fetching a written s) h end (fetching b written' t) h'
-    → after ≡ before ++ exchange h' written' ∷ []
+    → WasFetchedOver end a b (exchange h' written') s t
+was_over a b h h' written written' s t end unread unwritten is over = record {
+  read = subst (λ (x : BytesRead). HasReadLink a b x h' s t) unread is;
+  turns = subst (λ (x : BytesRead). IsFetchedOver (fetching a nothing_written s) x end (fetching b written' t) h')
+      unread
+      (subst (λ (x : BytesWritten). IsFetchedOver (fetching a x s) h end (fetching b written' t) h') unwritten over);
+}
+
+pub reads_one : (a b : Listening) (before after : List Exchange) (s t : BytesWritten) (end : FetchEnd)
+    (link : Exchange) → WasFetchedOver end a b link s t → after ≡ before ++ link ∷ []
     → HasReadEach end a b before after s t
-reads_one a b before after h h' written written' s t end unread unwritten is over given = record {
-  links = exchange h' written' ∷ [];
+reads_one a b before after s t end link over given = record {
+  links = link ∷ [];
   given_back = given;
-  read = over_the_last end a b (exchange h' written') s t (record {
-    read = subst (λ (x : BytesRead). HasReadLink a b x h' s t) unread is;
-    turns = subst (λ (x : BytesRead). IsFetchedOver (fetching a nothing_written s) x end (fetching b written' t) h')
-        unread
-        (subst (λ (x : BytesWritten). IsFetchedOver (fetching a x s) h end (fetching b written' t) h') unwritten over);
-  });
+  read = over_the_last end a b link s t over;
 }

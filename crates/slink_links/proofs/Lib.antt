@@ -1,2 +1,3 @@
 pub mod Serves
 pub mod Fetches
+pub mod Tries

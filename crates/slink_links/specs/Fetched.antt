@@ -1,5 +1,6 @@
 -- How fetching over one link after another ends, and what the output took by then.
-use Rattle.std.specs.Prelude.{◌≡◌, ◌⊎◌, ℕ, ◌+◌, ◌%◌, ◌^◌, ◌<◌, ◌≤◌, List, ◌∷◌, ◌++◌, [], length, Option, Some, None}
+use Rattle.std.specs.Prelude.{◌≡◌, ◌⊎◌, ℕ, ◌+◌, ◌%◌, ◌^◌, ◌<◌, ◌≤◌, Bool, true, false, List, ◌∷◌, ◌++◌, [], length}
+use Rattle.std.specs.Prelude.{Option, Some, None}
 use Rattle.std.specs.Prelude.{Result, Ok, Err, IfOk, IfErr, codes}
 use Rattle.mseed_stream.specs.Device.{BytesRead, IsPrefixOf, BytesWritten, nothing_read, nothing_written}
 use Rattle.mseed_stream.specs.Exchanges.{Exchange}
@@ -22,6 +23,7 @@ use Rattle.slink_feed.specs.Turns.{Took, TookPrefix}
 use Rattle.slink_links.specs.declared.fetching.FetchEnd.{FetchEnd}
 use Rattle.slink_links.specs.declared.fetching.FetchEnd.TheVariants.{Done, Refused, BadFeed, WriteFailed, LinkFailed}
 use Rattle.mseed_stream.specs.Telling.{Tells}
+use Rattle.slink_links.specs.Pauses.{pauses_from}
 
 -- The output took these records: all of them; or, where it failed, those before the last one, and a prefix of that.
 pub data TakesRecords (records : List Numbered) (old new : BytesWritten) : Type 0 where
@@ -228,3 +230,51 @@ pub record HasReadEach (end : FetchEnd) (old new : Listening) (before after : Li
   pub links : List Exchange
   pub given_back : after ≡ before ++ links
   pub read : HasReadLinks end old new links written_old written_new
+
+-- whether a try brought a record
+abbrev pub HasBrought : Bool → List Numbered → Type 0
+HasBrought received [] = received ≡ false
+HasBrought received (r ∷ rs) = received ≡ true
+
+-- One try: its dial failed; or a link was had and fetched over, which brought a record or didn't. Where the fetch ends
+-- by it, that isn't asked.
+pub data IsTry (end : FetchEnd) (received : Bool) (old new : Listening) (a b : BytesWritten) : List Exchange → Type 0
+  where
+    undialled : end ≡ LinkFailed → received ≡ false → new ≡ old → b ≡ a → IsTry end received old new a b []
+    dialled : (link : Exchange) (over : WasFetchedOver end old new link a b)
+        → (end ≡ LinkFailed → HasBrought received (records_told over.read.told))
+        → IsTry end received old new a b (link ∷ [])
+
+-- A try, whose link was given back behind those before.
+pub record HasTried (end : FetchEnd) (received : Bool) (old new : Listening) (before after : List Exchange)
+    (a b : BytesWritten) : Type 0 where
+  pub links : List Exchange
+  pub given_back : after ≡ before ++ links
+  pub tried : IsTry end received old new a b links
+
+-- Tries that failed, one behind another: of each, whether it brought a record, and the links that were had.
+pub data HaveFailed : List Bool → Listening → Listening → List Exchange → BytesWritten → BytesWritten → Type 0 where
+  none : (now : Listening) (written : BytesWritten) → HaveFailed [] now now [] written written
+  one_more : (tries : List Bool) (received : Bool) (old now new : Listening) (links others : List Exchange)
+      (a b c : BytesWritten) → HaveFailed tries old now links a b → IsTry LinkFailed received now new b c others
+      → HaveFailed (tries ++ received ∷ []) old new (links ++ others) a c
+
+-- what was called of the devices of a fetch: how often was dialled, which links were given back, and which pauses were
+-- made
+pub record Calls : Type 0 where
+  pub dials : ℕ
+  pub given_back : List Exchange
+  pub asked : List ℕ
+
+abbrev pub calls_of : ℕ → List Exchange → List ℕ → Calls
+calls_of dials given_back asked = record { dials = dials; given_back = given_back; asked = asked }
+
+-- No try was made; or tries that failed, behind each of which was paused, and a last one.
+pub data HasPaused (end : FetchEnd) (old new : Listening) (a b : BytesWritten) (before after : Calls) : Type 0 where
+  untried : end ≡ LinkFailed → after ≡ before → HasPaused end old new a b before after
+  tried : (tries : List Bool) (received : Bool) (now : Listening) (written : BytesWritten)
+      (links others : List Exchange)
+      → HaveFailed tries old now links a written → IsTry end received now new written b others
+      → after.dials ≡ before.dials + length tries + 1
+      → after.given_back ≡ before.given_back ++ (links ++ others)
+      → after.asked ≡ before.asked ++ pauses_from 0 tries → HasPaused end old new a b before after

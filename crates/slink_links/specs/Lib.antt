@@ -1,3 +1,5 @@
 pub mod Out
 pub mod Served
+pub mod Hosts
+pub mod Pauses
 pub mod Fetched

@@ -4,11 +4,11 @@ ghost use Rattle.mseed_stream.specs.Device.{nothing_read, nothing_written};
 ghost use Rattle.mseed_stream.specs.Exchanges.{Exchange, exchange};
 ghost use Rattle.slink_links.specs.Out.{AreOut};
 
-use mseed_stream::Duplex;
+use crate::settle::Settle;
 
 /// Where links are asked for, one after another: each is given back before the next one is asked for.
 pub trait Dial {
-    type Link: Duplex + Drop;
+    type Link: Settle + Drop;
 
     // How many calls were made so far.
     ghost calls: { Self → ℕ };

@@ -1,19 +1,22 @@
 //! Fetching records over one link after another.
-ghost use Rattle.std.specs.Prelude.{◌≡◌, ◌+◌, ◌≤◌, length};
+ghost use Rattle.std.specs.Prelude.{◌≡◌, ◌+◌, ◌≤◌, false, length};
 ghost use Rattle.slink_feed.specs.declared.dialogue.Ending.{Ending};
 ghost use Rattle.slink_feed.specs.declared.dialogue.Stage.{Stage};
-ghost use Rattle.slink_feed.specs.Fetching.{fetching};
+ghost use Rattle.slink_feed.specs.Fetching.{Notes, fetching};
 ghost use Rattle.slink_feed.specs.Listening.{IsLinked};
 ghost use Rattle.slink_links.specs.Fetched.{HasDialled, HasFetched, HasReadEach, HasReadLink, HasTakenAll, HasTurned};
 ghost use Rattle.slink_links.specs.Out.{AreOut};
-ghost use Rattle.slink_links.specs.Fetched.{IsFetchedOver, IsReading, IsTurnBy, TellsOfFetch};
+ghost use Rattle.slink_links.specs.Fetched.{HasPaused, IsFetchedOver, IsReading, IsTurnBy, TellsOfFetch, calls_of};
+ghost use Rattle.slink_links.specs.Fetched.{HasTried};
 ghost use Rattle.slink_links.specs.Fetched.{end_by, fetch_status, stopped_by};
 
 use crate::dial::Dial;
+use crate::pause::{Pause, wait_behind};
 use crate::serving::TURNS;
+use crate::settle::Settle;
 use crate::status::{DONE, FAULT};
-use mseed_stream::{Duplex, Sink, tell, write_all_of};
-use slink_feed::{Client, Event, LinkFault, Turn, fetch_turn};
+use mseed_stream::{Sink, tell, write_all_of};
+use slink_feed::{Client, Event, LinkFault, Turn, fetch_turn_noting};
 
 /// How a fetch ended.
 #[derive(Clone, Copy, Debug, PartialEq, Eq)]
@@ -32,12 +35,15 @@ pub enum FetchEnd {
 
 /// Fetches over one link after another, at most so many, until the server says that it has sent all that was asked for,
 /// and gives each back. A `dial` that fails uses up a try. Each record goes to the output as soon as it is told of.
+/// Behind each try but the last it waits by `waits`: a tenth of a second, and then twice as long each time, up to five
+/// seconds; a received record begins anew.
 ///
 /// The exit status is answered: 0, or 2 with a line on `errors` that says why not all came.
-pub fn fetch_all<D: Dial, W: Sink, E: Sink>(
+pub fn fetch_all<D: Dial, P: Pause, W: Sink, E: Sink>(
     client: &mut Client,
     tries: u64,
     dialler: &mut D,
+    waits: &mut P,
     output: &mut W,
     errors: &mut E,
 ) -> u8
@@ -45,16 +51,20 @@ pub fn fetch_all<D: Dial, W: Sink, E: Sink>(
     ensures dials { D.calls dialler.new ≤ D.calls dialler.old + tries }
     ensures done { result ≡ 0 → client.new.talk.stage ≡ Stage.Ended Ending.End }
     // What the client told of went to the output, and the status and the line are by how it ended. Each link was
-    // fetched over before it was given back, one behind another, and all but the last one failed.
+    // fetched over before it was given back, one behind another, and all but the last one failed. Between the tries it
+    // paused, by which of them brought a record.
     ensures end { (end : FetchEnd) × HasFetched end client.old client.new (W.written output.old) (W.written output.new)
         × HasDialled end tries (D.calls dialler.old) (D.calls dialler.new)
         × HasReadEach end client.old client.new (D.given_back dialler.old) (D.given_back dialler.new)
         (W.written output.old) (W.written output.new)
-        × (result ≡ fetch_status end) × TellsOfFetch end (E.written errors.old) (E.written errors.new) }
+        × (result ≡ fetch_status end) × TellsOfFetch end (E.written errors.old) (E.written errors.new)
+        × HasPaused end client.old client.new (W.written output.old) (W.written output.new)
+        (calls_of (D.calls dialler.old) (D.given_back dialler.old) (P.asked waits.old))
+        (calls_of (D.calls dialler.new) (D.given_back dialler.new) (P.asked waits.new)) }
     // Each link was given back before the next one was dialled.
     ensures out { AreOut 0 (D.calls dialler.new) (D.failures dialler.new) (D.given_back dialler.new) }
 {
-    let end = fetch_links(client, tries, dialler, output);
+    let end = fetch_links(client, tries, dialler, waits, output);
     match end {
         FetchEnd::Done => return DONE,
         FetchEnd::Refused => tell(errors, b"mseed: refused\n"),
@@ -65,11 +75,12 @@ pub fn fetch_all<D: Dial, W: Sink, E: Sink>(
     FAULT
 }
 
-/// Fetches over one link after another, and answers how it ended.
-fn fetch_links<D: Dial, W: Sink>(
+/// Fetches over one link after another, waits between them, and answers how it ended.
+fn fetch_links<D: Dial, P: Pause, W: Sink>(
     client: &mut Client,
     tries: u64,
     dialler: &mut D,
+    waits: &mut P,
     output: &mut W,
 ) -> FetchEnd
     requires { AreOut 0 (D.calls dialler.old) (D.failures dialler.old) (D.given_back dialler.old) }
@@ -78,37 +89,53 @@ fn fetch_links<D: Dial, W: Sink>(
     ensures out { AreOut 0 (D.calls dialler.new) (D.failures dialler.new) (D.given_back dialler.new) }
     ensures read { HasReadEach result client.old client.new (D.given_back dialler.old) (D.given_back dialler.new)
         (W.written output.old) (W.written output.new) }
+    ensures paused { HasPaused result client.old client.new (W.written output.old) (W.written output.new)
+        (calls_of (D.calls dialler.old) (D.given_back dialler.old) (P.asked waits.old))
+        (calls_of (D.calls dialler.new) (D.given_back dialler.new) (P.asked waits.new)) }
 {
-    for dialled in 0..tries {
-        let end = try_link(client, dialler, output);
+    if tries == 0 {
+        return FetchEnd::LinkFailed;
+    }
+    let mut count = 0;
+    for dialled in 1..tries {
+        let (end, received) = try_link(client, dialler, output);
         if end != FetchEnd::LinkFailed {
             return end;
         }
+        count = wait_behind(received, count, waits);
     }
-    FetchEnd::LinkFailed
+    let (end, received) = try_link(client, dialler, output);
+    end
 }
 
-/// Dials once and fetches over that link, and answers how it ended.
-fn try_link<D: Dial, W: Sink>(client: &mut Client, dialler: &mut D, output: &mut W) -> FetchEnd
+/// Dials once and fetches over that link, and answers how it ended, and whether it brought a record.
+fn try_link<D: Dial, W: Sink>(
+    client: &mut Client,
+    dialler: &mut D,
+    output: &mut W,
+) -> (FetchEnd, bool)
     requires { AreOut 0 (D.calls dialler.old) (D.failures dialler.old) (D.given_back dialler.old) }
-    ensures fetched { HasFetched result client.old client.new (W.written output.old) (W.written output.new) }
+    ensures fetched { HasFetched result.0 client.old client.new (W.written output.old) (W.written output.new) }
     ensures dialled { D.calls dialler.new ≡ D.calls dialler.old + 1 }
     ensures out { AreOut 0 (D.calls dialler.new) (D.failures dialler.new) (D.given_back dialler.new) }
-    ensures read { HasReadEach result client.old client.new (D.given_back dialler.old) (D.given_back dialler.new)
+    ensures read { HasReadEach result.0 client.old client.new (D.given_back dialler.old) (D.given_back dialler.new)
         (W.written output.old) (W.written output.new) }
+    ensures tried { HasTried result.0 result.1 client.old client.new (D.given_back dialler.old)
+        (D.given_back dialler.new) (W.written output.old) (W.written output.new) }
 {
     match dialler.dial() {
         Some(mut link) => {
-            let end = fetch_link(client, &mut link, output);
+            let mut received = false;
+            let end = fetch_link_noting(client, &mut link, output, &mut received);
             dialler.hang_up(link);
-            end
+            (end, received)
         }
-        None => FetchEnd::LinkFailed,
+        None => (FetchEnd::LinkFailed, false),
     }
 }
 
 /// Fetches over one link, and answers how it ended. The output takes the records that the link brought, and no others.
-pub fn fetch_link<S: Duplex, W: Sink>(client: &mut Client, link: &mut S, output: &mut W) -> FetchEnd
+pub fn fetch_link<S: Settle, W: Sink>(client: &mut Client, link: &mut S, output: &mut W) -> FetchEnd
     ensures fetched { HasFetched result client.old client.new (W.written output.old) (W.written output.new) }
     ensures read { HasReadLink client.old client.new (S.read link.old) (S.read link.new) (W.written output.old)
         (W.written output.new) }
@@ -117,15 +144,39 @@ pub fn fetch_link<S: Duplex, W: Sink>(client: &mut Client, link: &mut S, output:
         result
         (fetching client.new (S.written link.new) (W.written output.new)) (S.read link.new) }
 {
+    let mut received = false;
+    fetch_link_noting(client, link, output, &mut received)
+}
+
+/// Fetches over one link as [`fetch_link`], and notes that the output took a record.
+fn fetch_link_noting<S: Settle, W: Sink>(
+    client: &mut Client,
+    link: &mut S,
+    output: &mut W,
+    received: &mut bool,
+) -> FetchEnd
+    ensures fetched { HasFetched result client.old client.new (W.written output.old) (W.written output.new) }
+    ensures read { HasReadLink client.old client.new (S.read link.old) (S.read link.new) (W.written output.old)
+        (W.written output.new) }
+    ensures turns { IsFetchedOver (fetching client.old (S.written link.old) (W.written output.old)) (S.read link.old)
+        result
+        (fetching client.new (S.written link.new) (W.written output.new)) (S.read link.new) }
+    ensures received { Notes received.old received.new (W.written output.old) (W.written output.new) }
+{
     let line = client.connect();
     match write_all_of(link, line.as_slice()) {
-        Ok(()) => take_turns(client, link, output),
+        Ok(()) => take_turns(client, link, output, received),
         Err(_) => FetchEnd::LinkFailed,
     }
 }
 
 /// Takes turns with a link until it ends, or until many were taken.
-fn take_turns<S: Duplex, W: Sink>(client: &mut Client, link: &mut S, output: &mut W) -> FetchEnd
+fn take_turns<S: Settle, W: Sink>(
+    client: &mut Client,
+    link: &mut S,
+    output: &mut W,
+    received: &mut bool,
+) -> FetchEnd
     requires reading { IsReading client.old }
     requires linked { IsLinked client.old.talk.stage }
     ensures turned { HasTurned (Some result) client.old client.new (S.read link.old) (S.read link.new)
@@ -133,9 +184,10 @@ fn take_turns<S: Duplex, W: Sink>(client: &mut Client, link: &mut S, output: &mu
     ensures taken { HasTakenAll (fetching client.old (S.written link.old) (W.written output.old)) (S.read link.old)
         result
         (fetching client.new (S.written link.new) (W.written output.new)) (S.read link.new) }
+    ensures received { Notes received.old received.new (W.written output.old) (W.written output.new) }
 {
     for turn in 0..TURNS {
-        if let Some(end) = take_turn(client, link, output) {
+        if let Some(end) = take_turn(client, link, output, received) {
             return end;
         }
     }
@@ -143,10 +195,11 @@ fn take_turns<S: Duplex, W: Sink>(client: &mut Client, link: &mut S, output: &mu
 }
 
 /// Takes a turn with a link, and answers how the fetch ends by it, if it does.
-fn take_turn<S: Duplex, W: Sink>(
+fn take_turn<S: Settle, W: Sink>(
     client: &mut Client,
     link: &mut S,
     output: &mut W,
+    received: &mut bool,
 ) -> Option<FetchEnd>
     requires reading { IsReading client.old }
     requires linked { IsLinked client.old.talk.stage }
@@ -154,9 +207,18 @@ fn take_turn<S: Duplex, W: Sink>(
         (W.written output.new) }
     ensures by { IsTurnBy result (fetching client.old (S.written link.old) (W.written output.old))
         (fetching client.new (S.written link.new) (W.written output.new)) (S.read link.old) (S.read link.new) }
+    ensures received { Notes received.old received.new (W.written output.old) (W.written output.new) }
 {
-    let turn = fetch_turn(client, link, output);
+    let turn = fetch_turn_noting(client, link, output, received);
+    settle(client, link);
     end_by(&turn)
+}
+
+/// Tells the link where the handshake is over.
+fn settle<S: Settle>(client: &Client, link: &S) {
+    if client.is_streaming() {
+        link.settle();
+    }
 }
 
 /// How a fetch ends by what a turn comes to, if it ends.

@@ -1,8 +1,10 @@
 //! The feed of SeedLink 3 over one link after another: serving it to as many connections as are asked for, fetching
-//! over as many tries, and TCP on this machine.
+//! over as many tries, and TCP.
 //!
 //! [`serve_all`] takes its links from an [`Accept`], and [`fetch_all`] from a [`Dial`]; each gives every link back, and
 //! what went over it stands in a list for proofs, so that a contract can say of each link what was done with it.
+//! Between its tries [`fetch_all`] waits by a [`Pause`]. A link that is silent for too long fails as by any other
+//! cause.
 //! [`serve_planned`] and [`fetch_planned`] carry out a plan over such devices, and [`serve`] and [`fetch`] over TCP.
 #![tactic(auto)]
 
@@ -10,9 +12,13 @@ mod accept;
 mod closing;
 mod dial;
 mod fetching;
+mod host;
+mod patient;
+mod pause;
 mod plan;
 mod planned;
 mod serving;
+mod settle;
 mod status;
 mod tcp;
 #[cfg(test)]
@@ -21,7 +27,10 @@ mod tests;
 pub use accept::Accept;
 pub use dial::Dial;
 pub use fetching::{FetchEnd, fetch_all, fetch_link};
+pub use host::{Address, Host, Name, Timeout};
+pub use pause::Pause;
 pub use plan::{FetchPlan, ServePlan};
 pub use planned::{fetch_planned, serve_planned};
 pub use serving::{serve_all, serve_link};
+pub use settle::Settle;
 pub use tcp::{fetch, serve};

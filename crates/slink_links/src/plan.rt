@@ -1,14 +1,19 @@
 //! What the two commands of a feed leave to do: all but the sockets.
+use crate::host::{Address, Host, Timeout};
 use slink_feed::{Client, Feed};
 use std::alloc::{Allocator, Global};
 
 /// How records are to be served.
 #[derive(Drop)]
 pub struct ServePlan<A: Allocator = Global> {
-    /// The port on this machine.
+    /// The address of this machine at which connections are taken.
+    pub address: Address,
+    /// The port there.
     pub port: u16,
     /// So many connections, one after another.
     pub connections: u32,
+    /// How long a client may be silent that has something to say.
+    pub timeout: Timeout,
     /// The records, each in the ring of its place.
     pub feed: Feed<A>,
 }
@@ -16,10 +21,14 @@ pub struct ServePlan<A: Allocator = Global> {
 /// How records are to be fetched.
 #[derive(Drop)]
 pub struct FetchPlan {
-    /// The port on this machine.
+    /// Whom to ask.
+    pub host: Host,
+    /// The port there.
     pub port: u16,
     /// At most so many connections.
     pub tries: u32,
+    /// How long the server may be silent.
+    pub timeout: Timeout,
     /// A new client, for the places that were asked for.
     pub client: Client,
 }

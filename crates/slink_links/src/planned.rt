@@ -2,13 +2,15 @@
 ghost use Rattle.std.specs.Prelude.{◌≡◌, ◌+◌, ◌≤◌, ◌↔◌};
 ghost use Rattle.slink_feed.specs.declared.dialogue.Ending.{Ending};
 ghost use Rattle.slink_feed.specs.declared.dialogue.Stage.{Stage};
-ghost use Rattle.slink_links.specs.Fetched.{HasDialled, HasFetched, HasReadEach, TellsOfFetch, fetch_status};
+ghost use Rattle.slink_links.specs.Fetched.{HasDialled, HasFetched, HasPaused, HasReadEach, TellsOfFetch, calls_of};
+ghost use Rattle.slink_links.specs.Fetched.{fetch_status};
 ghost use Rattle.slink_links.specs.Out.{AreOut};
 ghost use Rattle.slink_links.specs.Served.{HasServed, HasServedEach};
 
 use crate::accept::Accept;
 use crate::dial::Dial;
 use crate::fetching::{FetchEnd, fetch_all};
+use crate::pause::Pause;
 use crate::plan::{FetchPlan, ServePlan};
 use crate::serving::serve_all;
 use mseed_stream::Sink;
@@ -32,9 +34,10 @@ pub fn serve_planned<B: Allocator, A: Accept, E: Sink>(
 }
 
 /// Fetches what a plan says by at most as many tries as it says, by [`fetch_all`].
-pub fn fetch_planned<D: Dial, W: Sink, E: Sink>(
+pub fn fetch_planned<D: Dial, P: Pause, W: Sink, E: Sink>(
     plan: &mut FetchPlan,
     dialler: &mut D,
+    waits: &mut P,
     output: &mut W,
     errors: &mut E,
 ) -> u8
@@ -46,9 +49,12 @@ pub fn fetch_planned<D: Dial, W: Sink, E: Sink>(
         × HasDialled end plan.old.tries (D.calls dialler.old) (D.calls dialler.new)
         × HasReadEach end plan.old.client plan.new.client (D.given_back dialler.old) (D.given_back dialler.new)
         (W.written output.old) (W.written output.new)
-        × (result ≡ fetch_status end) × TellsOfFetch end (E.written errors.old) (E.written errors.new) }
+        × (result ≡ fetch_status end) × TellsOfFetch end (E.written errors.old) (E.written errors.new)
+        × HasPaused end plan.old.client plan.new.client (W.written output.old) (W.written output.new)
+        (calls_of (D.calls dialler.old) (D.given_back dialler.old) (P.asked waits.old))
+        (calls_of (D.calls dialler.new) (D.given_back dialler.new) (P.asked waits.new)) }
     ensures out { AreOut 0 (D.calls dialler.new) (D.failures dialler.new) (D.given_back dialler.new) }
 {
     let tries = u64::from(plan.tries);
-    fetch_all(&mut plan.client, tries, dialler, output, errors)
+    fetch_all(&mut plan.client, tries, dialler, waits, output, errors)
 }

@@ -1,4 +1,4 @@
-//! Links over TCP on this host.
+//! Links over TCP.
 ghost use Rattle.std.specs.Prelude.{◌≡◌, IfOk};
 ghost use Rattle.mseed_stream.specs.Counted.{read_by, written_by};
 ghost use Rattle.mseed_stream.specs.Device.{nothing_read, nothing_written};
@@ -10,15 +10,20 @@ use crate::accept::Accept;
 use crate::closing::close;
 use crate::dial::Dial;
 use crate::fetching::FetchEnd;
+use crate::host::{Address, Host, Name, Timeout};
+use crate::patient::{Limits, Patient};
+use crate::pause::Sleeper;
 use crate::plan::{FetchPlan, ServePlan};
 use crate::planned::{fetch_planned, serve_planned};
+use crate::settle::Settle;
 use crate::status::FAULT;
 use mseed_stream::{Counted, Exchanges, Sink, Tally, tell};
 use std::alloc::Allocator;
 use std::io;
+use std::io::{ErrorKind, Read, Write};
 use std::net::{Ipv4Addr, Net, OpenListener, OpenStream, SocketAddr, TcpListener, TcpStream};
 use std::os::fd::{AsRawFd, RawFd};
-use std::time::Clock;
+use std::time::{Clock, Duration, Instant};
 
 #[cfg(test)]
 mod tests;
@@ -26,18 +31,31 @@ mod tests;
 /// The descriptors below this one are those of the standard streams.
 const FIRST_FREE: RawFd = 3;
 
-/// A port of this host.
-fn address_of(port: u16) -> SocketAddr {
-    SocketAddr::from((Ipv4Addr::LOCALHOST, port))
+/// A port at an address.
+fn socket_of(address: Address, port: u16) -> SocketAddr {
+    SocketAddr::from((Ipv4Addr::from(address.octets), port))
 }
 
 /// The link over a new stream. Its bytes go out at once, where the stream can be told so.
-fn link_over<S: OpenStream>(stream: S) -> Counted<S>
-    ensures read { read_by result ≡ nothing_read }
-    ensures written { written_by result ≡ nothing_written }
+///
+/// # Errors
+///
+/// Where the clock can't be read.
+fn link_over<'a, C: Clock, S: OpenStream + Drop>(
+    clock: &'a C,
+    stream: S,
+    limits: Limits,
+) -> io::Result<Counted<Patient<'a, C, S>>>
+    ensures { IfOk result (λ link. (read_by link ≡ nothing_read) × (written_by link ≡ nothing_written)) }
 {
     let _ = stream.set_nodelay(true);
-    Counted::new(stream)
+    Ok(Counted::new(Patient::new(clock, stream, limits)?))
+}
+
+impl<C: Clock, S: Read + Write + OpenStream + Drop> Settle for Counted<Patient<'_, C, S>> {
+    fn settle(&self) {
+        self.get_ref().settle();
+    }
 }
 
 /// The socket at a descriptor of its own. Where a standard stream is closed, the next socket takes its place, and what
@@ -58,9 +76,9 @@ fn off_streams<S: OpenStream + AsRawFd + Drop>(stream: S) -> io::Result<S> {
 ///
 /// # Errors
 ///
-/// Where the port can't be had, as one that is taken.
-fn listener_at<N: Net>(net: &N, port: u16) -> io::Result<N::Listener> {
-    let listener = TcpListener::bind(net, address_of(port))?;
+/// Where the port can't be had, as one that is taken, or at an address that isn't of this host.
+fn listener_at<N: Net>(net: &N, socket: SocketAddr) -> io::Result<N::Listener> {
+    let listener = TcpListener::bind(net, socket)?;
     if listener.as_raw_fd() < FIRST_FREE {
         listener.try_clone()
     } else {
@@ -81,13 +99,58 @@ where
     off_streams(stream)
 }
 
-/// A connection to a port of this host.
+/// A connection to a port, within a time if there is one.
 ///
 /// # Errors
 ///
 /// Where there is none.
-fn stream_to<N: Net>(net: &N, port: u16) -> io::Result<N::Stream> {
-    off_streams(TcpStream::connect(net, address_of(port))?)
+fn stream_to<N: Net>(
+    net: &N,
+    socket: SocketAddr,
+    limit: Option<Duration>,
+) -> io::Result<N::Stream> {
+    let stream = match limit {
+        Some(limit) => TcpStream::connect_timeout(net, &socket, limit)?,
+        None => TcpStream::connect(net, socket)?,
+    };
+    off_streams(stream)
+}
+
+/// So many addresses of a name are tried at most.
+const ADDRESSES: usize = 32;
+
+/// A connection to a port of the first IPv4 address of a name that answers, within a time for all of them.
+///
+/// # Errors
+///
+/// Where none answers, or where there are none.
+fn stream_to_name<N: Net + Clock>(
+    host: &N,
+    name: &Name,
+    port: u16,
+    limit: Option<Duration>,
+) -> io::Result<N::Stream> {
+    let mut found = [SocketAddr::from((Ipv4Addr::UNSPECIFIED, port)); ADDRESSES];
+    let count = host.lookup_host(name.text(), port, &mut found)?;
+    let start = Instant::now(host)?;
+    let mut last = ErrorKind::NotFound.into();
+    for socket in &found[..count] {
+        if socket.is_ipv4() {
+            match stream_to(host, *socket, left_of(limit, start.elapsed(host)?)) {
+                Ok(stream) => return Ok(stream),
+                Err(error) => last = error,
+            }
+        }
+    }
+    Err(last)
+}
+
+/// What is left of a time.
+fn left_of(limit: Option<Duration>, elapsed: Duration) -> Option<Duration> {
+    match limit {
+        Some(limit) => Some(limit.saturating_sub(elapsed)),
+        None => None,
+    }
 }
 
 /// A port that takes connections, with its calls counted.
@@ -95,6 +158,7 @@ fn stream_to<N: Net>(net: &N, port: u16) -> io::Result<N::Stream> {
 pub(crate) struct Listening<'a, N: Net + Clock> {
     host: &'a N,
     listener: N::Listener,
+    timeout: Timeout,
     tally: Tally,
     lost: Tally,
     given_back: Exchanges,
@@ -106,21 +170,43 @@ impl<'a, N: Net + Clock> Listening<'a, N> {
     /// # Errors
     ///
     /// Where the port can't be had, as one that is taken.
-    pub(crate) fn bind(host: &'a N, port: u16) -> io::Result<Listening<'a, N>>
+    pub(crate) fn bind(
+        host: &'a N,
+        address: Address,
+        port: u16,
+        timeout: Timeout,
+    ) -> io::Result<Listening<'a, N>>
         ensures { IfOk result (λ l. AreOut 0 l.tally.calls l.tally.failures l.given_back.all) }
     {
         Ok(Listening {
             host,
-            listener: listener_at(host, port)?,
+            listener: listener_at(host, socket_of(address, port))?,
+            timeout,
             tally: Tally::new(),
             lost: Tally::new(),
             given_back: Exchanges::new(),
         })
     }
+
+    /// The link over the next connection.
+    ///
+    /// # Errors
+    ///
+    /// Where there is none.
+    fn next_link(&self) -> io::Result<Counted<Patient<'a, N, N::Stream>>>
+        ensures { IfOk result (λ link. (read_by link ≡ nothing_read) × (written_by link ≡ nothing_written)) }
+    {
+        // A client that has said all may be silent for as long as it likes.
+        let limits = Limits {
+            all: self.timeout.limit(),
+            reads: None,
+        };
+        link_over(self.host, next_stream(&self.listener)?, limits)
+    }
 }
 
-impl<N: Net + Clock> Accept for Listening<'_, N> {
-    type Link = Counted<N::Stream>;
+impl<'a, N: Net + Clock> Accept for Listening<'a, N> {
+    type Link = Counted<Patient<'a, N, N::Stream>>;
 
     ghost calls = { λ l. l.tally.calls };
 
@@ -130,11 +216,11 @@ impl<N: Net + Clock> Accept for Listening<'_, N> {
 
     ghost given_back = { λ l. l.given_back.all };
 
-    fn accept(&mut self) -> Option<Counted<N::Stream>> {
-        match next_stream(&self.listener) {
-            Ok(stream) => {
+    fn accept(&mut self) -> Option<Counted<Patient<'a, N, N::Stream>>> {
+        match self.next_link() {
+            Ok(link) => {
                 self.tally.record(&[], false);
-                Some(link_over(stream))
+                Some(link)
             }
             Err(_) => {
                 self.tally.record(&[], true);
@@ -143,38 +229,62 @@ impl<N: Net + Clock> Accept for Listening<'_, N> {
         }
     }
 
-    fn hang_up(&mut self, link: Counted<N::Stream>, failed: bool) {
+    fn hang_up(&mut self, link: Counted<Patient<'a, N, N::Stream>>, failed: bool) {
         self.given_back.record(&link);
         self.lost.record(&[], failed);
-        close(self.host, link.into_inner());
+        close(self.host, link.into_inner().into_stream());
     }
 }
 
 /// A port that is dialled, with the calls counted.
 #[derive(Drop)]
-pub(crate) struct Dialler<'a, N: Net> {
+pub(crate) struct Dialler<'a, N: Net + Clock> {
     net: &'a N,
+    host: Host,
     port: u16,
+    timeout: Timeout,
     tally: Tally,
     given_back: Exchanges,
 }
 
-impl<'a, N: Net> Dialler<'a, N> {
+impl<'a, N: Net + Clock> Dialler<'a, N> {
     /// No call yet.
-    pub(crate) fn new(net: &'a N, port: u16) -> Dialler<'a, N>
+    pub(crate) fn new(net: &'a N, host: Host, port: u16, timeout: Timeout) -> Dialler<'a, N>
         ensures { AreOut 0 result.tally.calls result.tally.failures result.given_back.all }
     {
         Dialler {
             net,
+            host,
             port,
+            timeout,
             tally: Tally::new(),
             given_back: Exchanges::new(),
         }
     }
+
+    /// The link over a new connection.
+    ///
+    /// # Errors
+    ///
+    /// Where there is none.
+    fn next_link(&self) -> io::Result<Counted<Patient<'a, N, N::Stream>>>
+        ensures { IfOk result (λ link. (read_by link ≡ nothing_read) × (written_by link ≡ nothing_written)) }
+    {
+        let limit = self.timeout.limit();
+        let limits = Limits {
+            all: limit,
+            reads: limit,
+        };
+        let stream = match &self.host {
+            Host::Address(address) => stream_to(self.net, socket_of(*address, self.port), limit)?,
+            Host::Name(name) => stream_to_name(self.net, name, self.port, limit)?,
+        };
+        link_over(self.net, stream, limits)
+    }
 }
 
-impl<N: Net> Dial for Dialler<'_, N> {
-    type Link = Counted<N::Stream>;
+impl<'a, N: Net + Clock> Dial for Dialler<'a, N> {
+    type Link = Counted<Patient<'a, N, N::Stream>>;
 
     ghost calls = { λ d. d.tally.calls };
 
@@ -182,11 +292,11 @@ impl<N: Net> Dial for Dialler<'_, N> {
 
     ghost given_back = { λ d. d.given_back.all };
 
-    fn dial(&mut self) -> Option<Counted<N::Stream>> {
-        match stream_to(self.net, self.port) {
-            Ok(stream) => {
+    fn dial(&mut self) -> Option<Counted<Patient<'a, N, N::Stream>>> {
+        match self.next_link() {
+            Ok(link) => {
                 self.tally.record(&[], false);
-                Some(link_over(stream))
+                Some(link)
             }
             Err(_) => {
                 self.tally.record(&[], true);
@@ -195,13 +305,13 @@ impl<N: Net> Dial for Dialler<'_, N> {
         }
     }
 
-    fn hang_up(&mut self, link: Counted<N::Stream>) {
+    fn hang_up(&mut self, link: Counted<Patient<'a, N, N::Stream>>) {
         self.given_back.record(&link);
     }
 }
 
-/// Serves a feed at a port of this host, and answers the exit status. A port that can't be had is as a link that
-/// failed.
+/// Serves a feed at an address and port of this host, and answers the exit status. A port that can't be had is as a
+/// link that failed.
 pub fn serve<N: Net + Clock, A: Allocator, E: Sink>(
     host: &N,
     plan: &ServePlan<A>,
@@ -209,7 +319,7 @@ pub fn serve<N: Net + Clock, A: Allocator, E: Sink>(
 ) -> u8
     ensures { HasServed result (E.written errors.old) (E.written errors.new) }
 {
-    match Listening::bind(host, plan.port) {
+    match Listening::bind(host, plan.address, plan.port, plan.timeout) {
         Ok(mut listening) => serve_planned(plan, &mut listening, errors),
         Err(_) => {
             tell(errors, b"mseed: link failed\n");
@@ -218,8 +328,8 @@ pub fn serve<N: Net + Clock, A: Allocator, E: Sink>(
     }
 }
 
-/// Fetches from a port of this host, and answers the exit status.
-pub fn fetch<N: Net, W: Sink, E: Sink>(
+/// Fetches from a port of a host, and answers the exit status.
+pub fn fetch<N: Net + Clock, W: Sink, E: Sink>(
     net: &N,
     plan: &mut FetchPlan,
     output: &mut W,
@@ -229,5 +339,7 @@ pub fn fetch<N: Net, W: Sink, E: Sink>(
         (W.written output.new)
         × (result ≡ fetch_status end) × TellsOfFetch end (E.written errors.old) (E.written errors.new) }
 {
-    fetch_planned(plan, &mut Dialler::new(net, plan.port), output, errors)
+    let mut dialler = Dialler::new(net, plan.host, plan.port, plan.timeout);
+    let mut sleeper = Sleeper::new(net);
+    fetch_planned(plan, &mut dialler, &mut sleeper, output, errors)
 }

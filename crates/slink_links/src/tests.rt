@@ -7,6 +7,8 @@ mod serving;
 
 use crate::accept::Accept;
 use crate::dial::Dial;
+use crate::pause::Pause;
+use crate::settle::Settle;
 use mseed_stream::{Counted, Exchanges, Tally};
 use slink_feed::{Feed, Ring};
 use slink_wire::{Packet, Place};
@@ -58,6 +60,33 @@ impl Write for Pipe<'_> {
 
     fn flush(&mut self) -> io::Result<()> {
         Ok(())
+    }
+}
+
+impl Settle for Counted<Pipe<'_>> {}
+
+/// What is asked to wait, and doesn't.
+#[derive(Drop)]
+pub(crate) struct Clockless {
+    asked: Tally,
+    pub(crate) tenths: Vec<u8>,
+}
+
+impl Clockless {
+    pub(crate) fn new(alloc: Global) -> Clockless {
+        Clockless {
+            asked: Tally::new(),
+            tenths: Vec::new(alloc),
+        }
+    }
+}
+
+impl Pause for Clockless {
+    ghost asked = { λ c. c.asked.bytes };
+
+    fn pause(&mut self, tenths: u8) {
+        self.asked.record(&[tenths], false);
+        let _ = self.tenths.push(tenths);
     }
 }
 

@@ -1,8 +1,10 @@
 //! A session over TCP: its transcript, and a client that takes turns with it.
 ghost use Rattle.slink_feed.specs.Session.{Fits};
 
-use super::{Listening, address_of, link_over};
+use super::{Listening, link_over, socket_of};
 use crate::accept::Accept;
+use crate::host::{Address, Timeout};
+use crate::patient::Limits;
 use crate::serving::serve_all;
 use crate::tests::{ALL, output, station, taken_by, three_pushed, two_packets, two_records};
 use mseed_stream::write_all_of;
@@ -24,9 +26,9 @@ ERROR\r\nOK\r\nOK\r\nERROR\r\n";
 #[test]
 fn serves_a_transcript(rt: HostRuntime) -> Result<(), Fail> {
     let feed = three_pushed(rt.alloc())?;
-    let mut listening = Listening::bind(&rt, 0)?;
+    let mut listening = Listening::bind(&rt, Address::local(), 0, Timeout { seconds: 0 })?;
     let port = listening.listener.local_addr()?.port();
-    let mut stream = TcpStream::connect(&rt, address_of(port))?;
+    let mut stream = TcpStream::connect(&rt, socket_of(Address::local(), port))?;
     stream.write_all(LINES)?;
     stream.shutdown(Shutdown::Write)?;
     let mut errors = output(rt.alloc(), ALL);
@@ -51,9 +53,14 @@ fn session_of(_feed: &Feed) -> Session
 #[test]
 fn takes_turns(rt: HostRuntime) -> Result<(), Fail> {
     let feed = three_pushed(rt.alloc())?;
-    let mut listening = Listening::bind(&rt, 0)?;
+    let mut listening = Listening::bind(&rt, Address::local(), 0, Timeout { seconds: 0 })?;
     let port = listening.listener.local_addr()?.port();
-    let mut client_link = link_over(TcpStream::connect(&rt, address_of(port))?);
+    let limits = Limits {
+        all: None,
+        reads: None,
+    };
+    let stream = TcpStream::connect(&rt, socket_of(Address::local(), port))?;
+    let mut client_link = link_over(&rt, stream, limits)?;
     let mut server_link = listening.accept().ok_or("no link")?;
     let mut client = Client::new(&[(station()?, Some(1))], Mode::Fetch);
     let mut session = session_of(&feed);

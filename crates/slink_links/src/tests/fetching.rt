@@ -1,7 +1,8 @@
 //! Worked rows of fetching.
 
-use super::{ALL, Links, output, station, taken_by, two_packets, two_records};
+use super::{ALL, Clockless, Links, output, station, taken_by, two_packets, two_records};
 use crate::fetching::fetch_all;
+use crate::host::{Address, Host, Timeout};
 use crate::plan::FetchPlan;
 use crate::planned::fetch_planned;
 use slink_feed::{Client, Mode};
@@ -25,6 +26,7 @@ struct Fetched {
     line: Vec<u8>,
     records: Vec<u8>,
     written: Vec<Vec<u8>>,
+    pauses: Vec<u8>,
 }
 
 /// A fetch over links that tell so many of these bytes.
@@ -41,12 +43,21 @@ fn fetch_over(
     let mut links = Links::new(alloc, told.as_slice())?;
     let mut records = output(alloc, ALL);
     let mut errors = output(alloc, ALL);
-    let status = fetch_all(&mut client()?, tries, &mut links, &mut records, &mut errors);
+    let mut waits = Clockless::new(alloc);
+    let status = fetch_all(
+        &mut client()?,
+        tries,
+        &mut links,
+        &mut waits,
+        &mut records,
+        &mut errors,
+    );
     Ok(Fetched {
         status,
         line: taken_by(errors),
         records: taken_by(records),
         written: links.taken,
+        pauses: waits.tenths,
     })
 }
 
@@ -93,14 +104,17 @@ fn goes_on_behind_the_last_record(rt: HostRuntime) -> Result<(), Fail> {
     let told = [Some((first, ALL)), Some((second.as_slice(), ALL))];
     let mut links = Links::new(rt.alloc(), &told)?;
     let mut plan = FetchPlan {
+        host: Host::Address(Address::local()),
         port: 0,
         tries: 2,
+        timeout: Timeout { seconds: 600 },
         client: client()?,
     };
+    let mut waits = Clockless::new(rt.alloc());
     let mut records = output(rt.alloc(), ALL);
     let mut errors = output(rt.alloc(), ALL);
     assert_eq!(rt;
-        fetch_planned(&mut plan, &mut links, &mut records, &mut errors),
+        fetch_planned(&mut plan, &mut links, &mut waits, &mut records, &mut errors),
         0
     );
     assert_eq!(rt; plan.client.next(0), Some(3));
@@ -127,10 +141,40 @@ fn ends_at_once_where_no_try_helps(rt: HostRuntime) -> Result<(), Fail> {
         let mut links = Links::new(rt.alloc(), &told)?;
         let mut records = output(rt.alloc(), *room);
         let mut errors = output(rt.alloc(), ALL);
-        let ended = fetch_all(&mut client()?, 2, &mut links, &mut records, &mut errors);
+        let mut waits = Clockless::new(rt.alloc());
+        let ended = fetch_all(
+            &mut client()?,
+            2,
+            &mut links,
+            &mut waits,
+            &mut records,
+            &mut errors,
+        );
         assert_eq!(rt; ended, 2);
         assert_eq!(rt; taken_by(errors).as_slice(), *line);
         assert_eq!(rt; links.coming.len(), 1);
+        assert!(rt; waits.tenths.is_empty());
+    }
+    Ok(())
+}
+
+#[test]
+fn waits_between_tries(rt: HostRuntime) -> Result<(), Fail> {
+    let all = two_packets(rt.alloc())?;
+    // How many bytes each link tells, and the pauses in tenths of a second. Behind 528 bytes a record is whole.
+    let rows: [(&[Option<usize>], &[u8]); 5] = [
+        (&[], b""),
+        (&[None], b""),
+        (
+            &[None, Some(8), Some(527), None, None, None, None, None, None],
+            &[1, 2, 4, 8, 16, 32, 50, 50],
+        ),
+        (&[None, None, Some(528), None, None], &[1, 2, 1, 2]),
+        (&[Some(528), Some(1051), None], &[1]),
+    ];
+    for (counts, pauses) in &rows {
+        let fetched = fetch_over(rt.alloc(), counts.len() as u64, all.as_slice(), counts)?;
+        assert_eq!(rt; fetched.pauses.as_slice(), *pauses);
     }
     Ok(())
 }

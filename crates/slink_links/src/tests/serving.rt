@@ -1,6 +1,7 @@
 //! Worked rows of serving.
 
 use super::{ALL, Links, output, taken_by, three_pushed, two_packets};
+use crate::host::{Address, Timeout};
 use crate::plan::ServePlan;
 use crate::planned::serve_planned;
 use crate::serving::serve_all;
@@ -56,8 +57,10 @@ fn serves_each_connection(rt: HostRuntime) -> Result<(), Fail> {
 fn serves_as_planned(rt: HostRuntime) -> Result<(), Fail> {
     for connections in [1, 2] {
         let plan = ServePlan {
+            address: Address::local(),
             port: 0,
             connections,
+            timeout: Timeout { seconds: 600 },
             feed: three_pushed(rt.alloc())?,
         };
         let mut links = Links::new(rt.alloc(), &[asking(ALL), asking(ALL), asking(ALL)])?;

@@ -1,49 +1,134 @@
-use Rattle.std.proofs.Common.{◌≡◌, arith, rules, subst}
+use Rattle.std.proofs.Common.{◌≡◌, arith, refl, rules, subst}
 use Rattle.slink_links.specs.declared.fetching.FetchEnd.TheVariants.{LinkFailed}
-use Rattle.slink_links.specs.Fetched.{HasFetched, HasReadEach}
+use Rattle.slink_links.specs.Fetched.{Calls, HasFetched, HasReadEach, HasTried, calls_of}
 use Rattle.slink_links.proofs.Fetches.{fetched_both, fetched_none, reads_both, reads_none}
+use Rattle.slink_links.proofs.Tries.{few_counted, nothing_tried, tried_last, tried_more}
 use Rattle.slink_links.proofs.fetching.fetch_links.Goals as goal
 
+pub returns-then-tries-eq0-clause-fetched : goal.returns-then-tries-eq0-clause-fetched
+returns-then-tries-eq0-clause-fetched g c =
+    fetched_none c.args.client.now (g.W.Sink.written c.args.output.now)
+
+pub returns-then-tries-eq0-clause-read : goal.returns-then-tries-eq0-clause-read
+returns-then-tries-eq0-clause-read g c =
+    reads_none c.args.client.now (g.D.Dial.given_back c.args.dialler.now) (g.W.Sink.written c.args.output.now)
+
 pub loop-dialled-init : goal.loop-dialled-init
-loop-dialled-init g c = record {
-  fetched = fetched_none c.args.client.now (g.W.Sink.written c.args.output.now);
-  dialled = omega arith;
-  out = c.requires;
-  read = reads_none c.args.client.now (g.D.Dial.given_back c.args.dialler.now) (g.W.Sink.written c.args.output.now);
-}
+loop-dialled-init g c =
+    let before : Calls = calls_of (g.D.Dial.calls c.args.dialler.now) (g.D.Dial.given_back c.args.dialler.now)
+    (g.P.Pause.asked c.args.waits.now) in
+    record {
+      fetched = fetched_none c.args.client.now (g.W.Sink.written c.args.output.now);
+      dialled = refl;
+      out = c.requires;
+      read = reads_none c.args.client.now (g.D.Dial.given_back c.args.dialler.now) (g.W.Sink.written c.args.output.now);
+      tried = nothing_tried c.args.client.now (g.W.Sink.written c.args.output.now) before;
+    }
 
 pub returns-then-ne-clause-fetched : goal.returns-then-ne-clause-fetched
 returns-then-ne-clause-fetched g c =
-    fetched_both c.try_link-end.result c.args.client.now c.loop-dialled.client c.try_link-end.new.client
+    fetched_both c.try_link-end.result.0 c.args.client.now c.loop-dialled.client c.try_link-end.new.client
     (g.W.Sink.written c.args.output.now) (g.W.Sink.written c.loop-dialled.output)
     (g.W.Sink.written c.try_link-end.new.output) c.loop-dialled.invariant.fetched c.try_link-end.ensures.fetched
 
 pub returns-then-ne-clause-read : goal.returns-then-ne-clause-read
 returns-then-ne-clause-read g c =
-    reads_both c.try_link-end.result c.args.client.now c.loop-dialled.client c.try_link-end.new.client
+    reads_both c.try_link-end.result.0 c.args.client.now c.loop-dialled.client c.try_link-end.new.client
     (g.D.Dial.given_back c.args.dialler.now) (g.D.Dial.given_back c.loop-dialled.dialler)
     (g.D.Dial.given_back c.try_link-end.new.dialler) (g.W.Sink.written c.args.output.now)
     (g.W.Sink.written c.loop-dialled.output) (g.W.Sink.written c.try_link-end.new.output)
     c.loop-dialled.invariant.read c.try_link-end.ensures.read
 
+pub returns-then-ne-clause-paused : goal.returns-then-ne-clause-paused
+returns-then-ne-clause-paused g c =
+    let before : Calls = calls_of (g.D.Dial.calls c.args.dialler.now) (g.D.Dial.given_back c.args.dialler.now)
+    (g.P.Pause.asked c.args.waits.now) in
+    let mid : Calls = calls_of (g.D.Dial.calls c.loop-dialled.dialler) (g.D.Dial.given_back c.loop-dialled.dialler)
+    (g.P.Pause.asked c.loop-dialled.waits) in
+    let after : Calls = calls_of (g.D.Dial.calls c.try_link-end.new.dialler)
+    (g.D.Dial.given_back c.try_link-end.new.dialler)
+    (g.P.Pause.asked c.loop-dialled.waits) in
+    tried_last c.try_link-end.result.0 c.try_link-end.result.1 c.args.client.now c.loop-dialled.client
+    c.try_link-end.new.client (g.W.Sink.written c.args.output.now) (g.W.Sink.written c.loop-dialled.output)
+    (g.W.Sink.written c.try_link-end.new.output)
+    before mid after c.loop-dialled.count c.loop-dialled.invariant.tried c.try_link-end.ensures.tried
+    c.try_link-end.ensures.dialled refl
+
+pub wait_behind-count-requires : goal.wait_behind-count-requires
+wait_behind-count-requires g c =
+    let before : Calls = calls_of (g.D.Dial.calls c.args.dialler.now) (g.D.Dial.given_back c.args.dialler.now)
+    (g.P.Pause.asked c.args.waits.now) in
+    let mid : Calls = calls_of (g.D.Dial.calls c.loop-dialled.dialler) (g.D.Dial.given_back c.loop-dialled.dialler)
+    (g.P.Pause.asked c.loop-dialled.waits) in
+    omega (
+      arith,
+      few_counted c.args.client.now c.loop-dialled.client (g.W.Sink.written c.args.output.now)
+          (g.W.Sink.written c.loop-dialled.output) before mid c.loop-dialled.count c.loop-dialled.invariant.tried,
+      c.loop-dialled.invariant.dialled,
+      c.loop-dialled-test.true,
+      c.ranges.tries.fits,
+    )
+
 pub loop-dialled-preserved : goal.loop-dialled-preserved
 loop-dialled-preserved g c =
-    let same : c.try_link-end.result ≡ LinkFailed = search rules in
+    let same : c.try_link-end.result.0 ≡ LinkFailed = search rules in
     let now = c.loop-dialled.client in
     let new = c.try_link-end.new.client in
+    let first = g.W.Sink.written c.args.output.now in
     let written_now = g.W.Sink.written c.loop-dialled.output in
     let written_new = g.W.Sink.written c.try_link-end.new.output in
     let links_now = g.D.Dial.given_back c.loop-dialled.dialler in
-    let links_new = g.D.Dial.given_back c.try_link-end.new.dialler in record {
-      fetched = fetched_both LinkFailed c.args.client.now now new (g.W.Sink.written c.args.output.now) written_now
-          written_new
+    let links_new = g.D.Dial.given_back c.try_link-end.new.dialler in
+    let before : Calls = calls_of (g.D.Dial.calls c.args.dialler.now) (g.D.Dial.given_back c.args.dialler.now)
+    (g.P.Pause.asked c.args.waits.now) in
+    let mid : Calls = calls_of (g.D.Dial.calls c.loop-dialled.dialler) (g.D.Dial.given_back c.loop-dialled.dialler)
+    (g.P.Pause.asked c.loop-dialled.waits) in
+    let after : Calls = calls_of (g.D.Dial.calls c.try_link-end.new.dialler)
+    (g.D.Dial.given_back c.try_link-end.new.dialler)
+    (g.P.Pause.asked c.wait_behind-count.new.waits) in
+    record {
+      fetched = fetched_both LinkFailed c.args.client.now now new first written_now written_new
           c.loop-dialled.invariant.fetched
           (subst (λ end. HasFetched end now new written_now written_new) same c.try_link-end.ensures.fetched);
       dialled = omega (arith, c.try_link-end.ensures.dialled, c.loop-dialled.invariant.dialled);
       out = c.try_link-end.ensures.out;
       read = reads_both LinkFailed c.args.client.now now new (g.D.Dial.given_back c.args.dialler.now) links_now
-          links_new (g.W.Sink.written c.args.output.now) written_now written_new
+          links_new first written_now written_new
           c.loop-dialled.invariant.read
           (subst (λ end. HasReadEach end now new links_now links_new written_now written_new)
           same c.try_link-end.ensures.read);
+      tried = tried_more c.try_link-end.result.1 c.args.client.now now new first written_now written_new before mid
+          after c.loop-dialled.count c.wait_behind-count.result c.loop-dialled.invariant.tried
+          (subst (λ end. HasTried end c.try_link-end.result.1 now new links_now links_new written_now written_new)
+          same c.try_link-end.ensures.tried) c.try_link-end.ensures.dialled c.wait_behind-count.ensures.asked
+          c.wait_behind-count.ensures.next;
     }
+
+pub returns-clause-fetched : goal.returns-clause-fetched
+returns-clause-fetched g c =
+    fetched_both c.try_link-end-2.result.0 c.args.client.now c.loop-dialled.client c.try_link-end-2.new.client
+    (g.W.Sink.written c.args.output.now) (g.W.Sink.written c.loop-dialled.output)
+    (g.W.Sink.written c.try_link-end-2.new.output) c.loop-dialled.invariant.fetched c.try_link-end-2.ensures.fetched
+
+pub returns-clause-read : goal.returns-clause-read
+returns-clause-read g c =
+    reads_both c.try_link-end-2.result.0 c.args.client.now c.loop-dialled.client c.try_link-end-2.new.client
+    (g.D.Dial.given_back c.args.dialler.now) (g.D.Dial.given_back c.loop-dialled.dialler)
+    (g.D.Dial.given_back c.try_link-end-2.new.dialler) (g.W.Sink.written c.args.output.now)
+    (g.W.Sink.written c.loop-dialled.output) (g.W.Sink.written c.try_link-end-2.new.output)
+    c.loop-dialled.invariant.read c.try_link-end-2.ensures.read
+
+pub returns-clause-paused : goal.returns-clause-paused
+returns-clause-paused g c =
+    let before : Calls = calls_of (g.D.Dial.calls c.args.dialler.now) (g.D.Dial.given_back c.args.dialler.now)
+    (g.P.Pause.asked c.args.waits.now) in
+    let mid : Calls = calls_of (g.D.Dial.calls c.loop-dialled.dialler) (g.D.Dial.given_back c.loop-dialled.dialler)
+    (g.P.Pause.asked c.loop-dialled.waits) in
+    let after : Calls = calls_of (g.D.Dial.calls c.try_link-end-2.new.dialler)
+    (g.D.Dial.given_back c.try_link-end-2.new.dialler)
+    (g.P.Pause.asked c.loop-dialled.waits) in
+    tried_last c.try_link-end-2.result.0 c.try_link-end-2.result.1 c.args.client.now c.loop-dialled.client
+    c.try_link-end-2.new.client (g.W.Sink.written c.args.output.now) (g.W.Sink.written c.loop-dialled.output)
+    (g.W.Sink.written c.try_link-end-2.new.output)
+    before mid after c.loop-dialled.count c.loop-dialled.invariant.tried c.try_link-end-2.ensures.tried
+    c.try_link-end-2.ensures.dialled refl

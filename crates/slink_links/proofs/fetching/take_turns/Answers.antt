@@ -1,7 +1,8 @@
-use Rattle.std.proofs.Common.{ℕ, None, Some, arith, subst}
+use Rattle.std.proofs.Common.{◌≡◌, ◌+◌, ℕ, None, Some, arith, subst}
 use Rattle.slink_feed.specs.Fetching.{Fetching, fetching}
 use Rattle.slink_links.specs.Fetched.{HasTakenTurns, HasTurned, IsTurnBy, for_long, more, none, to_the_end}
 use Rattle.slink_links.proofs.Fetches.{turned_both, turned_none, turned_out, turned_reading}
+use Rattle.slink_feed.proofs.Noting.{nothing_noted, notes_both}
 use Rattle.slink_links.proofs.fetching.take_turns.Goals as goal
 
 pub loop-turn-init : goal.loop-turn-init
@@ -9,6 +10,7 @@ loop-turn-init g c = record {
   turned = turned_none c.args.client.now (g.S.Source.read c.args.link.now) (g.W.Sink.written c.args.output.now)
       c.requires.linked;
   taken = none;
+  received = nothing_noted c.args.received.now (g.W.Sink.written c.args.output.now);
 }
 
 pub take_turn-requires-clause-reading : goal.take_turn-requires-clause-reading
@@ -39,6 +41,16 @@ returns-in-Some-clause-taken g c =
     c.loop-turn.invariant.taken
     (subst (λ end. IsTurnBy end now last mid after) c.in-Some.is c.take_turn.ensures.by)
 
+fine : {m n : ℕ} → m ≡ n + 0 → m ≡ n
+fine e = omega (arith, e)
+
+pub returns-in-Some-clause-received : goal.returns-in-Some-clause-received
+returns-in-Some-clause-received g c =
+    notes_both c.args.received.now c.loop-turn.received c.take_turn.new.received
+    (g.W.Sink.written c.args.output.now) (g.W.Sink.written c.loop-turn.output)
+    (g.W.Sink.written c.take_turn.new.output) (fine c.loop-turn.invariant.turned.failures)
+    c.loop-turn.invariant.received c.take_turn.ensures.received
+
 pub loop-turn-preserved : goal.loop-turn-preserved
 loop-turn-preserved g c =
     let now : Fetching = fetching c.loop-turn.client (g.S.Sink.written c.loop-turn.link)
@@ -55,6 +67,10 @@ loop-turn-preserved g c =
           c.in_default.is c.take_turn.ensures.turned);
       taken = more c.loop-turn.turn now new mid after c.loop-turn.invariant.taken
           (subst (λ end. IsTurnBy end now new mid after) c.in_default.is c.take_turn.ensures.by);
+      received = notes_both c.args.received.now c.loop-turn.received c.take_turn.new.received
+          (g.W.Sink.written c.args.output.now) (g.W.Sink.written c.loop-turn.output)
+          (g.W.Sink.written c.take_turn.new.output) (fine c.loop-turn.invariant.turned.failures)
+          c.loop-turn.invariant.received c.take_turn.ensures.received;
     }
 
 pub returns-clause-turned : goal.returns-clause-turned

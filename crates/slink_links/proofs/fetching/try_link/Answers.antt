@@ -1,21 +1,40 @@
 use Rattle.std.proofs.Common.{[], ◌∷◌, ◌++◌, ◌∙◌, ap, subst, sym}
-use Rattle.mseed_stream.specs.Exchanges.{exchange}
+use Rattle.mseed_stream.specs.Exchanges.{Exchange, exchange}
 use Rattle.slink_links.specs.declared.fetching.FetchEnd.TheVariants.{LinkFailed}
 use Rattle.slink_links.specs.Fetched.{HasReadEach}
-use Rattle.slink_links.proofs.Fetches.{fetched_none, reads_none, reads_one}
+use Rattle.slink_links.proofs.Fetches.{fetched_none, reads_none, reads_one, was_over}
+use Rattle.slink_links.proofs.Tries.{tried_none, tried_over}
 use Rattle.slink_links.proofs.fetching.try_link.Goals as goal
 
 pub returns-in-Some-clause-read : goal.returns-in-Some-clause-read
 returns-in-Some-clause-read g c =
-    reads_one c.args.client.now c.fetch_link-end.new.client (g.D.Dial.given_back c.args.dialler.now)
-    (g.D.Dial.given_back c.hang_up.new.self) (g.D.Link.Source.read c.in-Some.link)
-    (g.D.Link.Source.read c.fetch_link-end.new.link) (g.D.Link.Sink.written c.in-Some.link)
-    (g.D.Link.Sink.written c.fetch_link-end.new.link) (g.W.Sink.written c.args.output.now)
-    (g.W.Sink.written c.fetch_link-end.new.output) c.fetch_link-end.result c.in-Some.ensures.unread
-    c.in-Some.ensures.unwritten c.fetch_link-end.ensures.read c.fetch_link-end.ensures.turns
-    (c.hang_up.ensures.given_back
-    ∙ ap (λ links. links ++ exchange (g.D.Link.Source.read c.fetch_link-end.new.link)
-    (g.D.Link.Sink.written c.fetch_link-end.new.link) ∷ []) c.in-Some.ensures.given_back)
+    let link : Exchange = exchange (g.D.Link.Source.read c.fetch_link_noting-end.new.link)
+    (g.D.Link.Sink.written c.fetch_link_noting-end.new.link) in
+    reads_one c.args.client.now c.fetch_link_noting-end.new.client (g.D.Dial.given_back c.args.dialler.now)
+    (g.D.Dial.given_back c.hang_up.new.self) (g.W.Sink.written c.args.output.now)
+    (g.W.Sink.written c.fetch_link_noting-end.new.output) c.fetch_link_noting-end.result link
+    (was_over c.args.client.now c.fetch_link_noting-end.new.client (g.D.Link.Source.read c.in-Some.link)
+    (g.D.Link.Source.read c.fetch_link_noting-end.new.link) (g.D.Link.Sink.written c.in-Some.link)
+    (g.D.Link.Sink.written c.fetch_link_noting-end.new.link) (g.W.Sink.written c.args.output.now)
+    (g.W.Sink.written c.fetch_link_noting-end.new.output) c.fetch_link_noting-end.result c.in-Some.ensures.unread
+    c.in-Some.ensures.unwritten c.fetch_link_noting-end.ensures.read c.fetch_link_noting-end.ensures.turns)
+    (c.hang_up.ensures.given_back ∙ ap (λ links. links ++ link ∷ []) c.in-Some.ensures.given_back)
+
+pub returns-in-Some-clause-tried : goal.returns-in-Some-clause-tried
+returns-in-Some-clause-tried g c =
+    let link : Exchange = exchange (g.D.Link.Source.read c.fetch_link_noting-end.new.link)
+    (g.D.Link.Sink.written c.fetch_link_noting-end.new.link) in
+    tried_over c.fetch_link_noting-end.result c.fetch_link_noting-end.new.received c.args.client.now
+    c.fetch_link_noting-end.new.client link (g.D.Dial.given_back c.args.dialler.now)
+    (g.D.Dial.given_back c.hang_up.new.self) (g.W.Sink.written c.args.output.now)
+    (g.W.Sink.written c.fetch_link_noting-end.new.output)
+    (was_over c.args.client.now c.fetch_link_noting-end.new.client (g.D.Link.Source.read c.in-Some.link)
+    (g.D.Link.Source.read c.fetch_link_noting-end.new.link) (g.D.Link.Sink.written c.in-Some.link)
+    (g.D.Link.Sink.written c.fetch_link_noting-end.new.link) (g.W.Sink.written c.args.output.now)
+    (g.W.Sink.written c.fetch_link_noting-end.new.output) c.fetch_link_noting-end.result c.in-Some.ensures.unread
+    c.in-Some.ensures.unwritten c.fetch_link_noting-end.ensures.read c.fetch_link_noting-end.ensures.turns)
+    c.fetch_link_noting-end.ensures.fetched c.fetch_link_noting-end.ensures.received
+    (c.hang_up.ensures.given_back ∙ ap (λ links. links ++ link ∷ []) c.in-Some.ensures.given_back)
 
 pub returns-in-None-clause-fetched : goal.returns-in-None-clause-fetched
 returns-in-None-clause-fetched g c = fetched_none c.args.client.now (g.W.Sink.written c.args.output.now)
@@ -26,3 +45,8 @@ returns-in-None-clause-read g c =
     links (g.W.Sink.written c.args.output.now) (g.W.Sink.written c.args.output.now))
     (sym c.in-None.ensures.given_back) (reads_none c.args.client.now (g.D.Dial.given_back c.args.dialler.now)
     (g.W.Sink.written c.args.output.now))
+
+pub returns-in-None-clause-tried : goal.returns-in-None-clause-tried
+returns-in-None-clause-tried g c =
+    tried_none c.args.client.now (g.D.Dial.given_back c.args.dialler.now) (g.D.Dial.given_back c.dial.new.self)
+    (g.W.Sink.written c.args.output.now) c.in-None.ensures.given_back

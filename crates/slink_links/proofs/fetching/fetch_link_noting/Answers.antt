@@ -6,7 +6,7 @@ use Rattle.slink_links.specs.declared.fetching.FetchEnd.TheVariants.{LinkFailed}
 use Rattle.slink_links.specs.Fetched.{HasReadLink, HasTakenAll, IsFetchedOver, by_turns, unwritten}
 use Rattle.slink_links.proofs.Fetches.{connected_linked, fetched_link, read_link, took_as, took_prefix_as, turned_none}
 use Rattle.slink_links.proofs.Fetches.{turned_out}
-use Rattle.slink_links.proofs.fetching.fetch_link.Goals as goal
+use Rattle.slink_links.proofs.fetching.fetch_link_noting.Goals as goal
 
 pub take_turns-requires-clause-linked : goal.take_turns-requires-clause-linked
 take_turns-requires-clause-linked g c =

@@ -1,0 +1,149 @@
+-- Tries, one behind another, and the pauses between them.
+use Rattle.std.proofs.Common.{◌≡◌, ℕ, ◌+◌, ◌≤◌, inl, inr, refl, sym, ap, ◌∙◌, arith, Bool, true, false, List}
+use Rattle.std.proofs.Common.{[], ◌∷◌, ◌++◌, append_assoc, append-nil, length, length-append}
+use Rattle.mseed_stream.specs.Device.{BytesWritten}
+use Rattle.mseed_stream.specs.Exchanges.{Exchange}
+use Rattle.slink_feed.specs.Delivered.{Numbered}
+use Rattle.slink_feed.specs.Dialogue.{Wants}
+use Rattle.slink_feed.specs.Fetching.{Notes}
+use Rattle.slink_feed.specs.Listening.{Listening}
+use Rattle.slink_feed.specs.Told.{AreOf, bytes_in, records_told}
+use Rattle.slink_feed.specs.Turns.{Took}
+use Rattle.slink_feed.proofs.Telling.{told_link}
+use Rattle.slink_links.specs.declared.fetching.FetchEnd.{FetchEnd}
+use Rattle.slink_links.specs.declared.fetching.FetchEnd.TheVariants.{LinkFailed}
+use Rattle.slink_links.specs.Fetched.{Calls, HasBrought, HasFetched, HasPaused, HasTried, HaveFailed, WasFetchedOver}
+use Rattle.slink_links.specs.Fetched.{dialled, none, one_more, output_failures, tried, undialled}
+use Rattle.slink_links.specs.Pauses.{pause_behind, pauses_from, pauses_since}
+use Rattle.slink_links.proofs.Fetches.{all_taken}
+
+-- behind how many pauses the next one comes
+abbrev pub behind_after : ℕ → List Bool → ℕ
+behind_after n [] = n
+behind_after n (received ∷ tries) = behind_after (pauses_since received n + 1) tries
+
+pauses_more : (n : ℕ) (tries : List Bool) (received : Bool) → pauses_from n (tries ++ received ∷ [])
+    ≡ pauses_from n tries ++ pause_behind (pauses_since received (behind_after n tries)) ∷ []
+pauses_more n [] received = refl
+pauses_more n (t ∷ ts) received =
+    ap (λ ps. pause_behind (pauses_since t n) ∷ ps) (pauses_more (pauses_since t n + 1) ts received)
+
+behind_more : (n : ℕ) (tries : List Bool) (received : Bool) → behind_after n (tries ++ received ∷ [])
+    ≡ pauses_since received (behind_after n tries) + 1
+behind_more n [] received = refl
+behind_more n (t ∷ ts) received = behind_more (pauses_since t n + 1) ts received
+
+since_most : (received : Bool) (n : ℕ) → pauses_since received n ≤ n
+since_most true n = omega arith
+since_most false n = omega arith
+
+behind_most : (n : ℕ) (tries : List Bool) → behind_after n tries ≤ n + length tries
+behind_most n [] = omega arith
+behind_most n (t ∷ ts) = omega (arith, since_most t n, behind_most (pauses_since t n + 1) ts)
+
+-- Whether a link brought a record shows in what the output took.
+false_true : false ≡ true → ⊥
+false_true e = cc
+
+brought_of : (received : Bool) (rs : List Numbered) (wants : Wants) (a b : BytesWritten) → Took a b (bytes_in rs)
+    → Notes false received a b → b.failures ≡ a.failures → AreOf wants rs → HasBrought received rs
+brought_of false [] wants a b took notes fine of = refl
+brought_of true [] wants a b took notes fine of = absurd (elim (notes.yes refl) [
+  | inl was ↦ false_true was
+  | inr grown ↦ omega (arith, grown, ap length took.bytes, length-append a.bytes [])
+])
+brought_of true (r ∷ rs) wants a b took notes fine of = refl
+brought_of false (r ∷ rs) wants a b took notes fine of =
+    absurd (omega (
+      arith,
+      ap length (notes.none refl fine),
+      ap length took.bytes,
+      length-append a.bytes (r.bytes ++ bytes_in rs),
+      length-append r.bytes (bytes_in rs),
+      of.0,
+    ))
+
+brought_by : (end : FetchEnd) (received : Bool) (old new : Listening) (link : Exchange) (a b : BytesWritten)
+    (over : WasFetchedOver end old new link a b) → b.failures ≡ a.failures → Notes false received a b
+    → HasBrought received (records_told over.read.told)
+brought_by end received old new link a b over fine notes =
+    brought_of received (records_told over.read.told) over.read.begun.talk.wants a b
+    (all_taken (records_told over.read.told) a b over.read.took fine) notes fine
+    (told_link over.read.begun.talk over.read.bytes over.read.told new over.read.reads).are_of
+
+-- a try over a link that was had
+pub tried_over : (end : FetchEnd) (received : Bool) (old new : Listening) (link : Exchange)
+    (before after : List Exchange) (a b : BytesWritten) → WasFetchedOver end old new link a b
+    → HasFetched end old new a b
+    → Notes false received a b → after ≡ before ++ link ∷ [] → HasTried end received old new before after a b
+tried_over end received old new link before after a b over fetched notes given = record {
+  links = link ∷ [];
+  given_back = given;
+  tried = dialled link over (λ is. brought_by end received old new link a b over
+      (fetched.failures ∙ (ap (λ e. a.failures + output_failures e) is ∙ omega arith)) notes);
+}
+
+-- a try without a link
+pub tried_none : (now : Listening) (before after : List Exchange) (written : BytesWritten) → after ≡ before
+    → HasTried LinkFailed false now now before after written written
+tried_none now before after written same = record {
+  links = [];
+  given_back = same ∙ sym (append-nil before);
+  tried = undialled refl refl refl refl;
+}
+
+-- the tries so far, behind each of which was paused
+pub record AreTried (old now : Listening) (a b : BytesWritten) (before after : Calls) (count : ℕ) : Type 0 where
+  pub tries : List Bool
+  pub links : List Exchange
+  pub failed : HaveFailed tries old now links a b
+  pub dials : after.dials ≡ before.dials + length tries
+  pub given_back : after.given_back ≡ before.given_back ++ links
+  pub asked : after.asked ≡ before.asked ++ pauses_from 0 tries
+  pub counted : count ≡ behind_after 0 tries
+
+pub nothing_tried : (now : Listening) (written : BytesWritten) (calls : Calls)
+    → AreTried now now written written calls calls 0
+nothing_tried now written calls = record {
+  tries = [];
+  links = [];
+  failed = none now written;
+  dials = omega arith;
+  given_back = sym (append-nil calls.given_back);
+  asked = sym (append-nil calls.asked);
+  counted = refl;
+}
+
+pub few_counted : (old now : Listening) (a b : BytesWritten) (before after : Calls) (count : ℕ)
+    → AreTried old now a b before after count → before.dials + count ≤ after.dials
+few_counted old now a b before after count p = omega (arith, p.counted, p.dials, behind_most 0 p.tries)
+
+pub tried_more : (received : Bool) (old now new : Listening) (a b c : BytesWritten) (before mid after : Calls)
+    (count next : ℕ) → AreTried old now a b before mid count
+    → HasTried LinkFailed received now new mid.given_back after.given_back b c → after.dials ≡ mid.dials + 1
+    → after.asked ≡ mid.asked ++ pause_behind (pauses_since received count) ∷ []
+    → next ≡ pauses_since received count + 1 → AreTried old new a c before after next
+tried_more received old now new a b c before mid after count next p q dials asked is = record {
+  tries = p.tries ++ received ∷ [];
+  links = p.links ++ q.links;
+  failed = one_more p.tries received old now new p.links q.links a b c p.failed q.tried;
+  dials = omega (arith, dials, p.dials, length-append p.tries (received ∷ []));
+  given_back = q.given_back ∙ (ap (λ xs. xs ++ q.links) p.given_back
+      ∙ append_assoc before.given_back p.links q.links);
+  asked = asked ∙ (ap (λ xs. xs ++ pause_behind (pauses_since received count) ∷ []) p.asked
+      ∙ (append_assoc before.asked (pauses_from 0 p.tries) (pause_behind (pauses_since received count) ∷ [])
+      ∙ ap (λ xs. before.asked ++ xs)
+      (ap (λ n. pauses_from 0 p.tries ++ pause_behind (pauses_since received n) ∷ []) p.counted
+      ∙ sym (pauses_more 0 p.tries received))));
+  counted = is ∙ (ap (λ n. pauses_since received n + 1) p.counted ∙ sym (behind_more 0 p.tries received));
+}
+
+pub tried_last : (end : FetchEnd) (received : Bool) (old now new : Listening) (a b c : BytesWritten)
+    (before mid after : Calls) (count : ℕ) → AreTried old now a b before mid count
+    → HasTried end received now new mid.given_back after.given_back b c → after.dials ≡ mid.dials + 1
+    → after.asked ≡ mid.asked → HasPaused end old new a c before after
+tried_last end received old now new a b c before mid after count p q dials asked =
+    tried p.tries received now b p.links q.links p.failed q.tried
+    (omega (arith, dials, p.dials))
+    (q.given_back ∙ (ap (λ xs. xs ++ q.links) p.given_back ∙ append_assoc before.given_back p.links q.links))
+    (asked ∙ p.asked)

@@ -1,0 +1,95 @@
+//! A stream whose calls wait no longer than a time, and whose handshake is over by then.
+
+use std::cell::Cell;
+use std::io;
+use std::io::{ErrorKind, Read, Write};
+use std::net::OpenStream;
+use std::time::{Clock, Duration, Instant};
+
+/// What a call that waits may take, if there is a bound.
+#[derive(Clone, Copy)]
+pub(crate) struct Limits {
+    /// The handshake as a whole, and behind it a write.
+    pub(crate) all: Option<Duration>,
+    /// A read behind the handshake.
+    pub(crate) reads: Option<Duration>,
+}
+
+/// A stream whose reads and writes fail where they wait for longer than they may. In the handshake each may take what
+/// is left of its time.
+#[derive(Drop)]
+pub(crate) struct Patient<'a, C: Clock, S: OpenStream> {
+    clock: &'a C,
+    stream: S,
+    limits: Limits,
+    start: Instant,
+    is_settled: Cell<bool>,
+}
+
+impl<'a, C: Clock, S: OpenStream + Drop> Patient<'a, C, S> {
+    /// A new stream, whose handshake begins now.
+    ///
+    /// # Errors
+    ///
+    /// Where the clock can't be read.
+    pub(crate) fn new(clock: &'a C, stream: S, limits: Limits) -> io::Result<Patient<'a, C, S>> {
+        Ok(Patient {
+            clock,
+            stream,
+            limits,
+            start: Instant::now(clock)?,
+            is_settled: Cell::new(false),
+        })
+    }
+
+    /// The stream.
+    pub(crate) fn into_stream(self) -> S {
+        self.stream
+    }
+
+    /// The handshake is over: from here on each call has a time of its own.
+    pub(crate) fn settle(&self) {
+        if !self.is_settled.replace(true) && self.limits.all.is_some() {
+            let _ = self.stream.set_read_timeout(self.limits.reads);
+            let _ = self.stream.set_write_timeout(self.limits.all);
+        }
+    }
+
+    /// Grants the next call what is left of the time of the handshake, while that isn't over.
+    ///
+    /// # Errors
+    ///
+    /// Where nothing is left, or where the clock or the stream fails.
+    fn grant(&self) -> io::Result<()> {
+        let Some(limit) = self.limits.all else {
+            return Ok(());
+        };
+        if self.is_settled.get() {
+            return Ok(());
+        }
+        let left = limit.saturating_sub(self.start.elapsed(self.clock)?);
+        if left.is_zero() {
+            return Err(ErrorKind::TimedOut.into());
+        }
+        self.stream.set_read_timeout(Some(left))?;
+        self.stream.set_write_timeout(Some(left))
+    }
+}
+
+impl<C: Clock, S: Read + OpenStream + Drop> Read for Patient<'_, C, S> {
+    fn read(&mut self, buf: &mut [u8]) -> io::Result<usize> {
+        self.grant()?;
+        self.stream.read(buf)
+    }
+}
+
+impl<C: Clock, S: Write + OpenStream + Drop> Write for Patient<'_, C, S> {
+    fn write(&mut self, bytes: &[u8]) -> io::Result<usize> {
+        self.grant()?;
+        self.stream.write(bytes)
+    }
+
+    fn flush(&mut self) -> io::Result<()> {
+        self.stream.flush()
+    }
+}

@@ -1,0 +1,71 @@
+//! What waits between the tries of a fetch.
+ghost use Rattle.std.specs.Prelude.{◌≡◌, ◌+◌, ◌<◌, ◌^◌, ◌∷◌, ◌++◌, ℕ, List, []};
+ghost use Rattle.slink_links.specs.Pauses.{pause_behind, pauses_since};
+
+use mseed_stream::Tally;
+use std::thread;
+use std::time::{Clock, Duration};
+
+/// What waits.
+pub trait Pause {
+    // How long it was asked to wait so far, in tenths of a second, in order.
+    ghost asked: { Self → List ℕ };
+
+    /// Waits for so many tenths of a second.
+    fn pause(&mut self, tenths: u8)
+        ensures { asked self.new ≡ asked self.old ++ tenths ∷ [] };
+}
+
+/// Waits by a clock.
+#[derive(Drop)]
+pub(crate) struct Sleeper<'a, C: Clock> {
+    clock: &'a C,
+    asked: Tally,
+}
+
+impl<'a, C: Clock> Sleeper<'a, C> {
+    /// It was asked for nothing yet.
+    pub(crate) fn new(clock: &'a C) -> Sleeper<'a, C> {
+        Sleeper {
+            clock,
+            asked: Tally::new(),
+        }
+    }
+}
+
+impl<C: Clock> Pause for Sleeper<'_, C> {
+    ghost asked = { λ s. s.asked.bytes };
+
+    fn pause(&mut self, tenths: u8) {
+        thread::sleep(self.clock, Duration::from_millis(u64::from(tenths) * 100));
+        self.asked.record(&[tenths], false);
+    }
+}
+
+/// The first pauses, in tenths of a second.
+const FIRST: [u8; 6] = [1, 2, 4, 8, 16, 32];
+
+/// The longest pause.
+const LONGEST: u8 = 50;
+
+/// How long a pause is behind so many.
+fn pause_behind(count: usize) -> u8
+    ensures { result ≡ pause_behind count }
+{
+    match FIRST.get(count) {
+        Some(tenths) => *tenths,
+        None => LONGEST,
+    }
+}
+
+/// Waits behind a try that brought a record or didn't, and behind so many pauses. The answer is behind how many the
+/// next one comes.
+pub(crate) fn wait_behind<P: Pause>(received: bool, count: usize, waits: &mut P) -> usize
+    requires { count + 1 < 2 ^ 64 }
+    ensures asked { P.asked waits.new ≡ P.asked waits.old ++ pause_behind (pauses_since received count) ∷ [] }
+    ensures next { result ≡ pauses_since received count + 1 }
+{
+    let count = if received { 0 } else { count };
+    waits.pause(pause_behind(count));
+    count + 1
+}
