@@ -34,5 +34,5 @@ pub use line::{Line, fault_line_of, line_of, name_of};
 pub use name::push_name;
 pub use pieces::{Piece, push_count, push_pieces};
 pub use tail::Tail;
-pub use text::{push_fault_line, push_start, push_why};
+pub use text::{push_fault_line, push_start, push_total_line, push_verdict_line, push_why};
 pub use verdict::Verdict;

@@ -49,13 +49,18 @@ fn push_verdicts<A: Allocator>(
     ensures prefix { IsPrefixOf text.old.items text.new.items }
 {
     for (codes, verdict) in verdicts {
-        push_channel_line(text, codes, verdict)?;
+        push_verdict_line(text, codes, verdict)?;
     }
     Ok(())
 }
 
-/// Adds the line of a channel.
-fn push_channel_line<A: Allocator>(
+/// Adds the line of a channel, by its verdict.
+///
+/// # Errors
+///
+/// `AllocError` where memory is refused. What was there stays in front, and a part of the line may have been added
+/// behind it.
+pub fn push_verdict_line<A: Allocator>(
     text: &mut Vec<u8, A>,
     codes: &Codes,
     verdict: &Verdict,
@@ -193,7 +198,12 @@ pub fn push_start<A: Allocator>(text: &mut Vec<u8, A>, view: &RecordView) -> Res
 }
 
 /// Adds the line that tells how many records there were, and of how many channels.
-fn push_total_line<A: Allocator>(
+///
+/// # Errors
+///
+/// `AllocError` where memory is refused. What was there stays in front, and a part of the line may have been added
+/// behind it.
+pub fn push_total_line<A: Allocator>(
     text: &mut Vec<u8, A>,
     records: u64,
     channels: u64,

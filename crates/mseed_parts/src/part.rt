@@ -8,7 +8,7 @@ ghost use Rattle.mseed_parts.specs.Parts.{IsPartOf, IsJoint, Fits, FitsAt, Count
 ghost use Rattle.mseed_parts.specs.Parts.{counts_alone, HasNewChannel, IsAscending, IsSmall};
 
 use crate::joining::{behind, counts_fit, moved, sum};
-use mseed_audit::{Channel, Finding, one_finding};
+use mseed_audit::{Channel, Finding, Memory, one_finding};
 use mseed_record::Codes;
 use std::alloc::{Allocator, Global};
 use std::collections::BTreeMap;
@@ -158,6 +158,28 @@ impl<A: Allocator + Copy> Part<A> {
         }
         joint.add_counts(other.records, other.bytes)?;
         Ok(joint)
+    }
+
+    /// What is kept of each channel, ascending by the 12 bytes of their keys.
+    ///
+    /// # Errors
+    ///
+    /// `Memory` where an allocation was refused.
+    pub fn into_channels(self, alloc: A) -> Result<Vec<(Codes, Channel), A>, Memory>
+        ensures { IfOk result (λ channels. channels.items ≡ self.channels) }
+    {
+        let Part { channels: kept, .. } = self;
+        let mut channels = match Vec::with_capacity(alloc, kept.len()) {
+            Ok(channels) => channels,
+            Err(_) => return Err(Memory),
+        };
+        for (codes, channel) in kept {
+            match channels.push((codes, channel)) {
+                Ok(()) => {}
+                Err(_) => unreachable!(),
+            }
+        }
+        Ok(channels)
     }
 }
 

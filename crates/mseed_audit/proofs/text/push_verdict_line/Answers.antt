@@ -1,7 +1,7 @@
 use Rattle.std.proofs.Common.{append_assoc}
 use Rattle.std.proofs.lemmas.Result.{IfOk-equal}
 use Rattle.mseed_audit.specs.Text.{name_text, broken_words, continuous_words}
-use Rattle.mseed_audit.proofs.text.push_channel_line.Goals as goal
+use Rattle.mseed_audit.proofs.text.push_verdict_line.Goals as goal
 
 pub returns-in-Broken-clause-ok : goal.returns-in-Broken-clause-ok
 returns-in-Broken-clause-ok g c =
