@@ -1,8 +1,10 @@
 -- Parts that are joined, and what is written of them.
 use Rattle.std.specs.Prelude.{⊤, ◌≡◌, ◌≢◌, ◌<◌, ◌^◌, ℕ, ◌+◌, ℤ, List, [], ◌∷◌, ◌++◌, length, map, codes, decimal, Bool}
 use Rattle.std.specs.Prelude.{true, false, Option, Some, None}
+use Rattle.std.specs.Option.{option_map}
 use Rattle.mseed_time.specs.Text.{time_text}
 use Rattle.mseed_stream.specs.declared.fault.StreamFault.{StreamFault}
+use Rattle.mseed_stream.specs.declared.fault.StreamFault.TheVariants.{Frame, Truncated, Read, Turns, Memory}
 use Rattle.mseed_audit.specs.declared.channel.Channel.{Channel}
 use Rattle.mseed_audit.specs.declared.channel.Head.{Head}
 use Rattle.mseed_audit.specs.declared.finding.Finding.{Finding}
@@ -30,13 +32,21 @@ counted past (w ∷ ws) = counted_by past w w.end (counted past ws)
 abbrev pub nothing : Written
 nothing = record { part = record { channels = []; records = 0; bytes = 0 }; faults = 0; end = None }
 
+-- a fault behind so many more bytes
+abbrev pub moved_fault : ℕ → StreamFault → StreamFault
+moved_fault e (Frame offset f) = Frame (e + offset) f
+moved_fault e (Truncated offset have) = Truncated (e + offset) have
+moved_fault e (Read offset) = Read (e + offset)
+moved_fault e (Turns offset) = Turns (e + offset)
+moved_fault e Memory = Memory
+
 -- the joint part of two, where no number passes 2^63 - 1
 pub record IsNext (a w b : Written) : Type 0 where
   pub part : IsJoint a.part w.part b.part
   pub fits : Fits a.part w.part
   pub faults : b.faults ≡ a.faults + w.faults
   pub faults_fit : b.faults < 2 ^ 63
-  pub end : b.end ≡ w.end
+  pub end : b.end ≡ option_map (moved_fault a.part.bytes) w.end
 
 pub data AreJoined : Written → List Written → Written → Type 0 where
   none : (a : Written) → AreJoined a [] a
@@ -56,13 +66,17 @@ join_text w =
     verdict_lines (map verdict_at w.part.channels) ++ total_line w.part.records (length w.part.channels)
     ++ faults_line w.faults ++ end_line w.end
 
+-- the line of what is found of a record that begins so
+abbrev pub found_line : List ℕ → ℤ → Finding → List ℕ
+found_line key start f =
+    decimal f.offset ++ codes " " ++ name_text key ++ codes " record " ++ decimal f.number ++ codes " start "
+    ++ time_text start ++ codes " " ++ why_text f.why ++ codes "\n"
+
 -- the line of a border with a finding
 abbrev pub border_line : List ℕ → Option Head → Option Finding → List ℕ
 border_line key None found = []
 border_line key (Some h) None = []
-border_line key (Some h) (Some f) =
-    decimal f.offset ++ codes " " ++ name_text key ++ codes " record " ++ decimal f.number ++ codes " start "
-    ++ time_text h.start ++ codes " " ++ why_text f.why ++ codes "\n"
+border_line key (Some h) (Some f) = found_line key h.start f
 
 -- the lines of the borders between a part and channels of the next
 abbrev pub border_lines : Held → List (List ℕ × Channel) → List ℕ

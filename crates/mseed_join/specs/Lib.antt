@@ -1,5 +1,9 @@
 pub mod Lines
 pub mod Written
 pub mod Joined
+pub mod Reached
+pub mod ReadParts
 pub mod AuditPart
+pub mod Joins
+pub mod Headline
 pub mod private

@@ -1,3 +1,8 @@
 -- Words of private functions and of proofs alone, which change as the code does: no public contract is stated by them.
+pub mod Along
 pub mod Reading
+pub mod LineReading
 pub mod Parted
+pub mod Refused
+pub mod Steps
+pub mod Taking

@@ -125,7 +125,7 @@ fn push_audited<A: Allocator + Copy>(
 }
 
 /// How many channels are broken.
-fn count_broken(channels: &[(Codes, Channel)]) -> u64
+pub(crate) fn count_broken(channels: &[(Codes, Channel)]) -> u64
     ensures { result ≡ broken_count (map verdict_at channels.now) }
 {
     let mut broken = 0;

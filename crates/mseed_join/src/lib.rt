@@ -2,11 +2,17 @@
 #![tactic(auto)]
 
 mod auditing;
+mod composed;
 mod fields;
 mod hex;
+mod joining;
+mod joint;
 mod law;
+mod line_reader;
 mod lines;
 mod numbers;
+mod parts;
+mod reader;
 mod reading;
 mod reasons;
 #[cfg(test)]
@@ -15,6 +21,14 @@ mod text;
 mod writing;
 
 pub use auditing::{audit_part, audit_part_each};
+pub use composed::{
+    cut_part, joined_audit, joined_texts, no_bad_line, one_text, part_reads_back,
+    parts_can_be_joined,
+};
+pub use joining::{Form, Joined, JoinsFault, join};
+pub use joint::{JointPart, Told};
 pub use law::{lines_are_short, one_channel, one_line, one_part_of_input};
 pub use lines::{read_channel_line, read_counts_line, read_fault_line, read_faults_line};
+pub use parts::read_parts;
+pub use reader::PartsFault;
 pub use writing::{HEADER, push_channel_line, push_counts_line, push_faults_line};

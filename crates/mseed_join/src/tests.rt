@@ -1,6 +1,8 @@
 //! Lines of a part: rows that are read and written back, and texts that are no lines.
 
 mod auditing;
+mod joining;
+mod line_reader;
 
 use crate::{
     HEADER, push_channel_line, push_counts_line, push_faults_line, read_channel_line,

@@ -1,12 +1,13 @@
-//! The text of a part, written.
-ghost use Rattle.std.specs.Prelude.{◌≡◌, ◌++◌, OnOk};
+//! The text of a part, and of the audit that it is the part of, written.
+ghost use Rattle.std.specs.Prelude.{◌≡◌, ◌++◌, ℕ, OnOk, map};
 ghost use Rattle.mseed_stream.specs.Device.{IsPrefixOf};
-ghost use Rattle.mseed_audit.specs.Text.{end_line};
+ghost use Rattle.mseed_audit.specs.Text.{end_line, total_line, verdict_lines};
+ghost use Rattle.mseed_join.specs.Joined.{join_text, verdict_at};
 ghost use Rattle.mseed_join.specs.Lines.{counts_line, faults_line};
 ghost use Rattle.mseed_join.specs.Written.{channel_lines, part_text};
 
 use crate::writing::{HEADER, push_channel_line, push_counts_line, push_faults_line};
-use mseed_audit::{Channel, push_fault_line};
+use mseed_audit::{Channel, push_fault_line, push_total_line, push_verdict_line};
 use mseed_record::Codes;
 use mseed_stream::StreamFault;
 use std::alloc::{AllocError, Allocator};
@@ -61,8 +62,70 @@ pub(crate) fn push_ending<A: Allocator>(
 {
     push_counts_line(text, records, bytes)?;
     push_faults_line(text, faults)?;
+    push_end_line(text, end)
+}
+
+/// Adds the line of the fault at the end, if there is one.
+fn push_end_line<A: Allocator>(
+    text: &mut Vec<u8, A>,
+    end: &Option<StreamFault>,
+) -> Result<(), AllocError>
+    ensures ok { OnOk result (text.new.items ≡ text.old.items ++ end_line end.now) }
+    ensures prefix { IsPrefixOf text.old.items text.new.items }
+{
     match end {
         Some(fault) => push_fault_line(text, fault),
         None => Ok(()),
     }
+}
+
+/// Adds the text of the audit of which these channels are kept, with so many faults behind, which ends with this fault,
+/// if with one. Where memory is refused, the first bytes of it may have been added.
+pub(crate) fn push_join<A: Allocator>(
+    text: &mut Vec<u8, A>,
+    channels: &[(Codes, Channel)],
+    records: u64,
+    faults: u64,
+    end: &Option<StreamFault>,
+) -> Result<(), AllocError>
+    ensures ok { (bytes : ℕ) → OnOk result (text.new.items ≡ text.old.items ++ join_text (record {
+      part = record { channels = channels.now; records = records; bytes = bytes };
+      faults = faults;
+      end = end.now;
+    })) }
+    ensures prefix { IsPrefixOf text.old.items text.new.items }
+{
+    push_verdicts(text, channels)?;
+    push_totals(text, records, channels.len() as u64, faults, end)
+}
+
+/// Adds a line for the verdict on each channel.
+fn push_verdicts<A: Allocator>(
+    text: &mut Vec<u8, A>,
+    channels: &[(Codes, Channel)],
+) -> Result<(), AllocError>
+    ensures ok { OnOk result (text.new.items ≡ text.old.items ++ verdict_lines (map verdict_at channels.now)) }
+    ensures prefix { IsPrefixOf text.old.items text.new.items }
+{
+    for (codes, channel) in channels {
+        push_verdict_line(text, codes, &channel.verdict())?;
+    }
+    Ok(())
+}
+
+/// Adds the lines behind those of the verdicts.
+fn push_totals<A: Allocator>(
+    text: &mut Vec<u8, A>,
+    records: u64,
+    channels: u64,
+    faults: u64,
+    end: &Option<StreamFault>,
+) -> Result<(), AllocError>
+    ensures ok { OnOk result (text.new.items
+        ≡ text.old.items ++ (total_line records channels ++ faults_line faults ++ end_line end.now)) }
+    ensures prefix { IsPrefixOf text.old.items text.new.items }
+{
+    push_total_line(text, records, channels)?;
+    push_faults_line(text, faults)?;
+    push_end_line(text, end)
 }

@@ -19,13 +19,13 @@ const FIRST: [u8; 128] = [
 ];
 
 /// The part of the first record.
-const OF_FIRST: &str = "mseed part 1\n\
+pub(super) const OF_FIRST: &str = "mseed part 1\n\
     58585354412020202042485A records 1 samples 16 head 1 0 1704067200000000 20/1 \
         tail 1704067200000000 16 20/1 none findings 0\n\
     records 1 bytes 128\n";
 
 /// The part of the record that begins 25,001 microseconds late behind it.
-const OF_LATE: &str = "mseed part 1\n\
+pub(super) const OF_LATE: &str = "mseed part 1\n\
     58585354412020202042485A records 1 samples 16 head 1 0 1704067200825001 20/1 \
         tail 1704067200825001 16 20/1 none findings 0\n\
     records 1 bytes 128\n";

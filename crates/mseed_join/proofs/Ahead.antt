@@ -1,0 +1,247 @@
+-- What goes on: the next line of parts, and what their joint part says of it.
+use Rattle.std.proofs.Common.{◌≡◌, ℕ, ◌+◌, ◌≤◌, ◌<◌, ◌^◌, List, [], ◌∷◌, ◌++◌, Bool, true, false, Option, Some, None}
+use Rattle.std.proofs.Common.{length, refl, sym, ap, ◌∙◌, subst, arith, append_assoc, inl, inr, ◌⊎◌}
+use Rattle.std.specs.Prelude.{codes}
+use Rattle.std.specs.Option.{option_map}
+use Rattle.std.proofs.lemmas.List.{length-append}
+use Rattle.mseed_stream.specs.declared.fault.StreamFault.{StreamFault}
+use Rattle.mseed_audit.specs.declared.channel.Channel.{Channel}
+use Rattle.mseed_parts.specs.Joining.{moved_channel, channel_joined}
+use Rattle.mseed_parts.specs.Parts.{IsAscending, Fits, FitsAt, kept_of, counts_alone}
+use Rattle.mseed_join.specs.Lines.{Line, text_of_line, IsLine}
+use Rattle.mseed_join.specs.Written.{Written, texts}
+use Rattle.mseed_join.specs.Joined.{AreJoined, Begins, HasNoEnd, IsJointOf, counted, counted_by, nothing}
+use Rattle.mseed_join.specs.Reached.{Stage, begun_part, part_behind, parts_at, IsStage, start}
+use Rattle.mseed_join.specs.private.Steps.{May, to, counted_part, with_faults, with_end}
+use Rattle.mseed_join.proofs.Ended.{IsEnded, ended, plain_from, same_line, within_line}
+use Rattle.mseed_join.proofs.Machine.{AreAll, Entries, LeavesLines, Runs, all_append, all_rows, behind_all}
+use Rattle.mseed_join.proofs.Machine.{behind_text_is, leaves, lines_text, rows_behind, runs_rest, text_append}
+use Rattle.mseed_join.proofs.Machine.{texts_all, texts_are}
+use Rattle.mseed_join.proofs.Running.{Extends, GoesOn, HaveTexts, all_run, extends, stage_runs, texts_before}
+use Rattle.mseed_join.proofs.Running.{texts_behind}
+use Rattle.mseed_join.proofs.Shorts.{short}
+use Rattle.mseed_join.proofs.Stepping.{joined_none, kept_none, kept_there}
+use Rattle.mseed_join.proofs.Sums.{HaveOneJoint, IsFirst, IsSplit, first_of, joined_one, split}
+use Rattle.mseed_join.proofs.Taken.{IsLast, last_is}
+use Rattle.mseed_audit.proofs.Maps.{same_itself}
+use Rattle.mseed_audit.specs.Channels.{same_key}
+
+-- ---- the lines up to a stage
+stage_rows : Stage → List Line
+stage_rows s = all_rows s.over ++ rows_behind s.behind
+
+stage_all : (s : Stage) (lines : List ℕ) → IsStage lines s → AreAll (all_rows s.over ++ rows_behind s.behind)
+stage_all s lines i =
+    all_append IsLine (all_rows s.over) (rows_behind s.behind)
+    (texts_all s.over (texts_before s.over (part_behind s.behind) i.each))
+    (behind_all s.behind (texts_behind s.over (part_behind s.behind) i.each))
+
+stage_text : (s : Stage) (lines : List ℕ) → IsStage lines s
+    → lines_text (all_rows s.over ++ rows_behind s.behind) ≡ lines
+stage_text s lines i =
+    text_append (all_rows s.over) (rows_behind s.behind)
+    ∙ (λ j. texts_are s.over j ++ behind_text_is s.behind j) ∙ sym i.text
+
+-- parts that go on behind a stage: their further lines
+pub record IsAhead (s : Stage) (parts : List Written) (rest : List ℕ) : Type 0 where
+  pub others : List Line
+  pub text : rest ≡ lines_text others
+  pub are : AreAll others
+  pub at : Stage
+  pub runs : Runs s others at
+  pub parts_are : parts_at at ≡ parts
+
+pub ahead : (s : Stage) (lines : List ℕ) (parts : List Written) (rest : List ℕ) → IsStage lines s
+    → lines ++ rest ≡ texts parts → HaveTexts parts → IsAhead s parts rest
+ahead s lines parts rest i e h =
+    let xs : List Line = all_rows s.over ++ rows_behind s.behind in
+    let same : lines_text xs ++ rest ≡ lines_text (all_rows parts) =
+    ap (λ (t : List ℕ). t ++ rest) (stage_text s lines i) ∙ e ∙ sym (texts_are parts) in
+    let left : LeavesLines (all_rows parts) xs rest =
+    leaves xs (all_rows parts) rest (stage_all s lines i) (texts_all parts h) same in
+    let run = all_run parts h in
+    let all : Runs start (xs ++ left.others) run.0 =
+    subst (λ (ys : List Line). Runs start ys run.0) left.lines run.1.0 in record {
+      others = left.others;
+      text = left.text;
+      are = left.are;
+      at = run.0;
+      runs = runs_rest start s run.0 xs left.others (stage_runs s.over s.behind i.each i.is_where) all;
+      parts_are = run.1.1;
+    }
+
+-- the next line, which can stand there, and the parts that go on behind it
+pub record IsNextLine (past : Bool) (s : Stage) (line : List ℕ) : Type 0 where
+  pub x : Line
+  pub is_line : IsLine x
+  pub text : text_of_line x ≡ line
+  pub may : May s.behind x
+  pub parts : List Written
+  pub texts_fit : HaveTexts parts
+  pub extends_to : Extends (to s x).over (to s x).behind parts
+  pub joint : Written
+  pub is_joint : IsJointOf past parts joint
+
+pub next_line : (past : Bool) (s : Stage) (lines body line : List ℕ) → IsStage lines s → HasNoEnd body
+    → line ≡ body ++ codes "\n" → Begins past (lines ++ line) → IsNextLine past s line
+next_line past s lines body line i none_there is b =
+    by a.others a.text a.are a.runs
+  where
+    a : IsAhead s b.parts (line ++ b.rest)
+    a = ahead s lines b.parts (line ++ b.rest) i (sym (append_assoc lines line b.rest) ∙ b.spells.text) b.spells.each
+
+    by : (xs : List Line) → line ++ b.rest ≡ lines_text xs → AreAll xs → Runs s xs a.at → IsNextLine past s line
+    by [] e l r = absurd (omega (
+      arith,
+      ap length is,
+      length-append body (codes "\n"),
+      length-append line b.rest,
+      ap length e,
+    ))
+    by (x ∷ xs) e l r =
+        let t : IsEnded (text_of_line x) = ended x l.0 in
+        let same : body ++ 10 ∷ b.rest ≡ t.body ++ 10 ∷ lines_text xs =
+        sym (append_assoc body (10 ∷ []) b.rest) ∙ ap (λ (z : List ℕ). z ++ b.rest) (sym is) ∙ e
+        ∙ ap (λ (z : List ℕ). z ++ lines_text xs) t.is ∙ append_assoc t.body (10 ∷ []) (lines_text xs) in
+        let both = same_line body t.body b.rest (lines_text xs) (plain_from body none_there) t.is_plain same in record {
+          x = x;
+          is_line = l.0;
+          text = t.is ∙ ap (λ (z : List ℕ). z ++ 10 ∷ []) (sym both.0) ∙ sym is;
+          may = r.0;
+          parts = b.parts;
+          texts_fit = b.spells.each;
+          extends_to =
+              subst (λ (ws : List Written). Extends (to s x).over (to s x).behind ws) a.parts_are
+              (extends (to s x) a.at xs r.1);
+          joint = b.joint;
+          is_joint = b.is_joint;
+        }
+
+-- ---- a line that is too long
+pub too_long : (past : Bool) (s : Stage) (lines bytes : List ℕ) → IsStage lines s → HasNoEnd bytes
+    → 512 ≤ length bytes → Begins past (lines ++ bytes) → ⊥
+too_long past s lines bytes i none_there long b = by a.others a.text a.are
+  where
+    a : IsAhead s b.parts (bytes ++ b.rest)
+    a = ahead s lines b.parts (bytes ++ b.rest) i (sym (append_assoc lines bytes b.rest) ∙ b.spells.text) b.spells.each
+
+    by : (xs : List Line) → bytes ++ b.rest ≡ lines_text xs → AreAll xs → ⊥
+    by [] e l = absurd (omega (arith, length-append bytes b.rest, ap length e, long))
+    by (x ∷ xs) e l =
+        let t : IsEnded (text_of_line x) = ended x l.0 in
+        let same : bytes ++ b.rest ≡ t.body ++ 10 ∷ lines_text xs =
+        e ∙ ap (λ (z : List ℕ). z ++ lines_text xs) t.is ∙ append_assoc t.body (10 ∷ []) (lines_text xs) in
+        absurd (omega (
+          arith,
+          long,
+          within_line bytes t.body b.rest (lines_text xs) (plain_from bytes none_there) same,
+          ap length t.is,
+          length-append t.body (10 ∷ []),
+          short x l.0,
+        ))
+
+-- ---- what a further part fits into
+pub record IsFitting (past : Bool) (a v : Written) : Type 0 where
+  pub fits : Fits a.part v.part
+  pub faults_fit : a.faults + v.faults < 2 ^ 63
+  pub passed_fit : (f : StreamFault) → past ≡ true → v.end ≡ Some f → a.faults + (v.faults + 1) < 2 ^ 63
+
+some_none : (f : StreamFault) → Some f ≡ None → ⊥
+some_none f k = cc
+
+fitting_by : (past : Bool) (a v k : Written) (vs : List Written) (end : Option StreamFault) → v.end ≡ end
+    → AreJoined a (counted_by past v end (counted past vs)) k → IsFitting past a v
+fitting_by past a v k vs None e j =
+    let f : IsFirst a v (counted past vs) k = first_of a v k (counted past vs) j in record {
+      fits = f.next.fits;
+      faults_fit = omega (arith, f.next.faults, f.next.faults_fit);
+      passed_fit = λ g p q. absurd (some_none g (sym q ∙ e));
+    }
+fitting_by true a v k vs (Some x) e j =
+    let w : Written = record { part = v.part; faults = v.faults + 1; end = None } in
+    let f : IsFirst a w (counted true vs) k = first_of a w k (counted true vs) j in record {
+      fits = f.next.fits;
+      faults_fit = omega (arith, f.next.faults, f.next.faults_fit);
+      passed_fit = λ g p q. omega (arith, f.next.faults, f.next.faults_fit);
+    }
+fitting_by false a v k vs (Some x) e j =
+    let f : IsFirst a v [] k = first_of a v k [] j in record {
+      fits = f.next.fits;
+      faults_fit = omega (arith, f.next.faults, f.next.faults_fit);
+      passed_fit = λ g p q. cc (p);
+    }
+
+fitting : HaveOneJoint → (past : Bool) (over : List Written) (v : Written) (vs : List Written) (a k : Written)
+    → IsJointOf past over a → a.end ≡ None → IsJointOf past (over ++ v ∷ vs) k → IsFitting past a v
+fitting only past over v vs a k j n all = by (split past over (v ∷ vs) k all)
+  where
+    by : IsSplit past nothing over (v ∷ vs) k → IsFitting past a v
+    by s = cases s.behind
+      where
+        same : s.before ≡ a
+        same = joined_one only nothing (counted past over) s.before a s.joined j
+
+        cases : ((s.before.end ≡ None) × AreJoined s.before (counted past (v ∷ vs)) k)
+            ⊎ ((f : StreamFault) × (s.before.end ≡ Some f) × (s.before ≡ k)) → IsFitting past a v
+        cases (inl c) =
+            fitting_by past a v k vs v.end refl
+            (subst (λ (b : Written). AreJoined b (counted past (v ∷ vs)) k) same c.1)
+        cases (inr c) = absurd (some_none c.0 (sym c.1 ∙ ap (λ (b : Written). b.end) same ∙ n))
+
+-- ---- what is refused for its sum
+module _ (only : HaveOneJoint) (past : Bool) (over : List Written) (h : Written) (free : h.end ≡ None)
+    (parts : List Written) (k : Written) (all : IsJointOf past parts k) where
+  -- of a part that has begun, and the parts that go on from it
+  grown : (w v : Written) → w.end ≡ None → IsJointOf past (over ++ w ∷ []) h → (g : GoesOn over v parts)
+      → (l : IsLast past over w h) × IsFitting past l.before g.part
+  grown w v e j g =
+      let l : IsLast past over w h = last_is past over w h e free j in (
+        l,
+        fitting only past over g.part g.others l.before k l.joined l.goes_on
+            (subst (λ (ws : List Written). IsJointOf past ws k) g.are all),
+      )
+
+  pub channel_fits : (cs : Entries) (key : List ℕ) (c : Channel) → IsJointOf past (over ++ begun_part cs ∷ []) h
+      → IsAscending (cs ++ (key, c) ∷ []) → GoesOn over (begun_part (cs ++ (key, c) ∷ [])) parts
+      → FitsAt h.part.records h.part.bytes (kept_of key h.part.channels) (Some c)
+  channel_fits cs key c j sorted g =
+      let both = grown (begun_part cs) (begun_part (cs ++ (key, c) ∷ [])) refl j g in
+      let l : IsLast past over (begun_part cs) h = both.0 in
+      let absent : kept_of key cs ≡ None = kept_none cs key c sorted in
+      let records : h.part.records ≡ l.before.part.records = omega (arith, l.next.part.records) in
+      let bytes : h.part.bytes ≡ l.before.part.bytes = omega (arith, l.next.part.bytes) in
+      let kept : kept_of key h.part.channels ≡ kept_of key l.before.part.channels =
+      l.next.part.each key
+      ∙ ap (λ (o : Option Channel). channel_joined (kept_of key l.before.part.channels)
+      (option_map (moved_channel l.before.part.records l.before.part.bytes) o)) absent
+      ∙ joined_none (kept_of key l.before.part.channels) in
+      let there : kept_of key g.part.part.channels ≡ Some c =
+      ap (kept_of key) (g.grows.channels ∙ append_assoc cs ((key, c) ∷ []) g.grows.others)
+      ∙ kept_there (same_key key) cs (key, c) g.grows.others absent (same_itself key) in
+      subst (λ (T : Type 0). T)
+      (λ i. FitsAt (sym records i) (sym bytes i) (sym kept i) (there i)) (both.1.fits.each key)
+
+  pub counts_fit : (cs : Entries) (n b : ℕ) → IsJointOf past (over ++ begun_part cs ∷ []) h
+      → GoesOn over (counted_part cs n b) parts → Fits h.part (counts_alone n b)
+  counts_fit cs n b j g =
+      let both = grown (begun_part cs) (counted_part cs n b) refl j g in
+      let l : IsLast past over (begun_part cs) h = both.0 in record {
+        records = omega (arith, both.1.fits.records, g.grows.records, l.next.part.records);
+        bytes = omega (arith, both.1.fits.bytes, g.grows.bytes, l.next.part.bytes);
+        each = λ key. tt;
+      }
+
+  pub faults_fit : (w : Written) (n : ℕ) → w.end ≡ None → w.faults ≡ 0 → IsJointOf past (over ++ w ∷ []) h
+      → GoesOn over (with_faults w n) parts → h.faults + n < 2 ^ 63
+  faults_fit w n e z j g =
+      let both = grown w (with_faults w n) e j g in
+      omega (arith, both.1.faults_fit, g.grows.faults, both.0.next.faults, z)
+
+  pub passed_fit : (w : Written) (f : StreamFault) (vs : List Written) → past ≡ true → w.end ≡ None
+      → IsJointOf past (over ++ w ∷ []) h → parts ≡ (over ++ with_end w f ∷ []) ++ vs → h.faults + 1 < 2 ^ 63
+  passed_fit w f vs p e j is =
+      let l : IsLast past over w h = last_is past over w h e free j in
+      let fit : IsFitting past l.before (with_end w f) =
+      fitting only past over (with_end w f) vs l.before k l.joined l.goes_on
+      (subst (λ (ws : List Written). IsJointOf past ws k) (is ∙ append_assoc over (with_end w f ∷ []) vs) all) in
+      omega (arith, fit.passed_fit f p refl, l.next.faults)

@@ -1,0 +1,367 @@
+-- Parts that are read along lines: what was passed, and what lies ahead.
+use Rattle.std.proofs.Common.{◌≡◌, ◌≢◌, ℕ, ◌+◌, ◌*◌, ◌≤◌, ◌<◌, ◌^◌, List, [], ◌∷◌, ◌++◌, length, take, drop, Bool}
+use Rattle.std.proofs.Common.{true, false, Option, Result, Ok, Err, Some, None, refl, sym, ap, ◌∙◌, subst, arith}
+use Rattle.std.proofs.Common.{append_assoc, append-nil, length-append}
+use Rattle.std.proofs.Common.{take-append-drop, length-take}
+use Rattle.std.proofs.lemmas.List.{append_cancel_left, append_cancel_right}
+use Rattle.mseed_stream.specs.Device.{BytesRead, BytesWritten}
+use Rattle.mseed_audit.specs.declared.channel.Channel.{Channel}
+use Rattle.mseed_join.specs.declared.joint.Joint.{Joint}
+use Rattle.mseed_join.specs.declared.joint.Place.{Place}
+use Rattle.mseed_join.specs.declared.joint.Place.TheVariants.{Start, Channels, Whole}
+use Rattle.mseed_join.specs.declared.joint.Told.{Told}
+use Rattle.mseed_join.specs.declared.reader.Reader.{Reader}
+use Rattle.mseed_join.specs.Joined.{AreLines, Begins, HasNoEnd, IsBadLine, IsJointOf, IsOfOneLine}
+use Rattle.mseed_join.specs.Lines.{Line, IsLine, counts_line, header_line, text_of_line}
+use Rattle.mseed_join.specs.Reached.{AreLinesRead, Behind, Stage, IsStage, none, begun, whole, begun_part, part_behind}
+use Rattle.mseed_join.specs.Reached.{AreTold, parts_at, passed_lines, start, text_behind}
+use Rattle.mseed_join.specs.ReadParts.{IsReadOutcome, written_of}
+use Rattle.mseed_join.specs.declared.reader.PartsFault.{PartsFault}
+use Rattle.mseed_join.specs.declared.reader.PartsFault.TheVariants.{Line as BadLine, Stream, Memory}
+use Rattle.mseed_join.specs.Written.{Written, Spells, channel_lines, part_text, texts}
+use Rattle.mseed_join.specs.private.Along.{HasEnded, IsAlong, IsBadBehind, IsNextStep, can_end}
+use Rattle.mseed_join.specs.private.LineReading.{GoesOn, Grows, IsLineAhead, IsReadBy, IsWholeLine, LinesRead}
+use Rattle.mseed_join.specs.private.Taking.{IsPlace, IsReadTo, IsTaken, IsToldMore}
+use Rattle.mseed_join.proofs.Ahead.{IsAhead, ahead, too_long}
+use Rattle.mseed_join.proofs.Machine.{AreAll, Runs, lines_text, nothing_first}
+use Rattle.mseed_join.proofs.Running.{HaveTexts}
+
+-- ---- how few lines and parts there are
+pub lines_few : (bytes : List ℕ) (n : ℕ) → AreLines bytes n → n ≤ length bytes
+lines_few bytes n AreLines.none = omega arith
+lines_few bytes n (AreLines.one line rest count ends more) =
+    omega (arith, lines_few rest count more, length-append line (10 ∷ rest))
+
+part_some : (w : Written) → 1 ≤ length (part_text w)
+part_some w = omega arith
+
+texts_few : (ws : List Written) → length ws ≤ length (texts ws)
+texts_few [] = omega arith
+texts_few (w ∷ ws) = omega (arith, texts_few ws, part_some w, length-append (part_text w) (texts ws))
+
+behind_few : (b : Behind) → length (part_behind b) ≤ length (text_behind b)
+behind_few none = omega arith
+behind_few (begun channels) = omega (arith, length-append header_line (channel_lines channels))
+behind_few (whole w) = part_some w
+
+pub parts_few : (lines : List ℕ) (s : Stage) → IsStage lines s → length (parts_at s) ≤ length lines
+parts_few lines s i = omega (
+  arith,
+  ap length i.text,
+  length-append (texts s.over) (text_behind s.behind),
+  length-append s.over (part_behind s.behind),
+  texts_few s.over,
+  behind_few s.behind,
+)
+
+-- ---- what was passed begins a text
+texts_append : (ws vs : List Written) → texts (ws ++ vs) ≡ texts ws ++ texts vs
+texts_append [] vs = refl
+texts_append (w ∷ ws) vs =
+    ap (λ (t : List ℕ). part_text w ++ t) (texts_append ws vs)
+    ∙ sym (append_assoc (part_text w) (texts ws) (texts vs))
+
+-- with which the last part would be over
+abbrev rest_of : Behind → List ℕ
+rest_of none = []
+rest_of (begun channels) = counts_line 0 0
+rest_of (whole w) = []
+
+behind_whole : (b : Behind) → text_behind b ++ rest_of b ≡ texts (part_behind b)
+behind_whole none = refl
+behind_whole (begun channels) =
+    let text : List ℕ = header_line ++ channel_lines channels ++ counts_line 0 0 in
+    sym (append-nil text) ∙ sym (append-nil (text ++ [])) ∙ sym (append-nil (text ++ [] ++ []))
+behind_whole (whole w) = refl
+
+completes : (lines : List ℕ) (s : Stage) → IsStage lines s → lines ++ rest_of s.behind ≡ texts (parts_at s)
+completes lines s i =
+    ap (λ (t : List ℕ). t ++ rest_of s.behind) i.text
+    ∙ append_assoc (texts s.over) (text_behind s.behind) (rest_of s.behind)
+    ∙ ap (λ (t : List ℕ). texts s.over ++ t) (behind_whole s.behind)
+    ∙ sym (texts_append s.over (part_behind s.behind))
+
+pub begins : {A : Type 0} → (lines : List ℕ) (s : Stage) (j : Joint A) → IsReadTo lines s j → Begins j.past lines
+begins lines s j r = record {
+  rest = rest_of s.behind;
+  parts = parts_at s;
+  spells = record { text = completes lines s r.stage; each = r.stage.each };
+  joint = written_of j.so_far;
+  is_joint = r.joint;
+}
+
+-- ---- at the input's end
+over_rest : (place : Place) (b : Behind) → IsPlace place b → can_end place ≡ true → rest_of b ≡ []
+over_rest Start none p e = refl
+over_rest Start (begun channels) p e = absurd p
+over_rest Start (whole w) p e = absurd p
+over_rest (Channels last) b p e = absurd (let no : false ≡ true = e in cc no)
+over_rest (Whole bytes has) none p e = absurd p
+over_rest (Whole bytes has) (begun channels) p e = absurd p
+over_rest (Whole bytes has) (whole w) p e = refl
+
+open_rest : (place : Place) (b : Behind) → IsPlace place b → can_end place ≡ false → 0 < length (rest_of b)
+open_rest Start b p e = absurd (let no : true ≡ false = e in cc no)
+open_rest (Channels last) none p e = absurd p
+open_rest (Channels last) (begun channels) p e = omega arith
+open_rest (Channels last) (whole w) p e = absurd p
+open_rest (Whole bytes has) b p e = absurd (let no : true ≡ false = e in cc no)
+
+pub ended : {A : Type 0} → (lines : List ℕ) (s : Stage) (j : Joint A) → IsReadTo lines s j → can_end j.place ≡ true
+    → Spells lines (parts_at s)
+ended lines s j r e = record {
+  text = sym (append-nil lines)
+      ∙ ap (λ (t : List ℕ). lines ++ t) (sym (over_rest j.place s.behind r.place e))
+      ∙ completes lines s r.stage;
+  each = r.stage.each;
+}
+
+pub lacks : {A : Type 0} → (lines : List ℕ) (s : Stage) (j : Joint A) → IsReadTo lines s j → can_end j.place ≡ false
+    → (ws : List Written) → Spells lines ws → ⊥
+lacks lines s j r e ws sp = by a.others a.text a.are a.runs
+  where
+    a : IsAhead s ws []
+    a = ahead s lines ws [] r.stage (append-nil lines ∙ sp.text) sp.each
+
+    by : (xs : List Line) → [] ≡ lines_text xs → AreAll xs → Runs s xs a.at → ⊥
+    by [] t l runs =
+        let same : parts_at s ≡ ws = ap parts_at runs ∙ a.parts_are in
+        let whole_text : lines ++ rest_of s.behind ≡ lines =
+        completes lines s r.stage ∙ ap texts same ∙ sym sp.text in
+        absurd (omega (
+          arith,
+          ap length whole_text,
+          length-append lines (rest_of s.behind),
+          open_rest j.place s.behind r.place e,
+        ))
+    by (x ∷ xs) t l runs = nothing_first x (lines_text xs) l.0 (sym t)
+
+-- ---- after a look
+pub same_passed : (h old new : BytesRead) (left rest : Option (List ℕ)) (before after : LinesRead)
+    → (b : IsReadBy h old before) → Grows old new left rest before after → (c : IsReadBy h new after)
+    → c.passed ≡ b.passed
+same_passed h old new left rest before after b g c =
+    let all : h.bytes ++ c.passed ++ after.held ≡ h.bytes ++ b.passed ++ after.held =
+    sym c.told ∙ g.told ∙ ap (λ (t : List ℕ). t ++ g.more) b.told
+    ∙ append_assoc (h.bytes ++ b.passed) before.held g.more
+    ∙ ap (λ (t : List ℕ). h.bytes ++ b.passed ++ t) (sym g.held) in
+    append_cancel_left h.bytes c.passed b.passed
+    (append_cancel_right (h.bytes ++ c.passed) (h.bytes ++ b.passed) after.held all)
+
+-- and after a line
+pub passed_line_too : (h now : BytesRead) (line : List ℕ) (before after : LinesRead) → (b : IsReadBy h now before)
+    → before.held ≡ line ++ after.held → (c : IsReadBy h now after) → c.passed ≡ b.passed ++ line
+passed_line_too h now line before after b held c =
+    let all : h.bytes ++ c.passed ++ after.held ≡ h.bytes ++ b.passed ++ line ++ after.held =
+    sym c.told ∙ b.told ∙ ap (λ (t : List ℕ). h.bytes ++ b.passed ++ t) held
+    ∙ sym (append_assoc (h.bytes ++ b.passed) line after.held) in
+    append_cancel_left h.bytes c.passed (b.passed ++ line)
+    (append_cancel_right (h.bytes ++ c.passed) (h.bytes ++ b.passed ++ line) after.held all
+    ∙ append_assoc h.bytes b.passed line)
+
+-- ---- what a look found, with what was passed before it
+pub record IsLooked {A : Type 0} (past : Bool) (h now : BytesRead) (s : Stage) (lines : LinesRead) (j : Joint A)
+    : Type 0 where
+  pub by : IsReadBy h now lines
+  pub read : IsReadTo by.passed s j
+  pub past_is : j.past ≡ past
+
+pub looked : {A : Type 0} → (past : Bool) (h old new : BytesRead) (left rest : Option (List ℕ)) (s : Stage)
+    (r : Reader A) (after : LinesRead) → IsAlong past h old s r → Grows old new left rest r.lines after
+    → IsReadBy h new after → IsLooked past h new s after r.joint
+looked past h old new left rest s r after a g c = record {
+  by = c;
+  read = subst (λ (t : List ℕ). IsReadTo t s r.joint) (sym (same_passed h old new left rest r.lines after a.by g c))
+      a.read;
+  past_is = a.past_is;
+}
+
+pub looked_few : {A : Type 0} → (past : Bool) (h now : BytesRead) (s : Stage) (lines : LinesRead) (j : Joint A)
+    → IsLooked past h now s lines j → lines.bytes ≤ 2 ^ 56 → (j.parts ≤ 2 ^ 56) × (lines.lines ≤ 2 ^ 56)
+looked_few past h now s lines j l few = (
+  omega (arith, few, l.by.bytes, l.read.number, parts_few l.by.passed s l.read.stage),
+  omega (arith, few, l.by.bytes, lines_few l.by.passed lines.lines l.by.lines),
+)
+
+before : {A : Type 0} → (past : Bool) (h now : BytesRead) (s : Stage) (lines : LinesRead) (j : Joint A)
+    → (l : IsLooked past h now s lines j) → AreLinesRead (l.by.passed ++ lines.held) lines.lines s
+before past h now s lines j l = record {
+  lines = l.by.passed;
+  rest = lines.held;
+  bytes_are = refl;
+  number = l.by.lines;
+  stage = l.read.stage;
+}
+
+begun_so : {A : Type 0} → (past : Bool) (h now : BytesRead) (s : Stage) (lines : LinesRead) (j : Joint A)
+    → (l : IsLooked past h now s lines j) → Begins past l.by.passed
+begun_so past h now s lines j l =
+    subst (λ (p : Bool). Begins p l.by.passed) l.past_is (begins l.by.passed s j l.read)
+
+-- the first bytes that are held are wrong
+pub wrong_line : {A : Type 0} → (past : Bool) (h now : BytesRead) (s : Stage) (lines : LinesRead) (j : Joint A)
+    (n : ℕ) → (l : IsLooked past h now s lines j) → IsOfOneLine (take n lines.held)
+    → (Begins past (l.by.passed ++ take n lines.held) → ⊥) → IsBadBehind past h now s (lines.lines + 1)
+wrong_line past h now s lines j n l one refused = record {
+  bytes = l.by.passed ++ lines.held;
+  told = l.by.told ∙ append_assoc h.bytes l.by.passed lines.held;
+  bad = IsBadLine.wrong l.by.passed (take n lines.held) (drop n lines.held) lines.lines
+      (ap (λ (t : List ℕ). l.by.passed ++ t) (sym (take-append-drop n lines.held))
+      ∙ sym (append_assoc l.by.passed (take n lines.held) (drop n lines.held))) l.by.lines
+      (begun_so past h now s lines j l) one refused;
+  count = lines.lines;
+  behind = refl;
+  before = before past h now s lines j l;
+}
+
+pub long_line : {A : Type 0} → (past : Bool) (h now : BytesRead) (s : Stage) (lines : LinesRead) (j : Joint A)
+    → IsLooked past h now s lines j → HasNoEnd (take 512 lines.held) → 512 ≤ length lines.held
+    → IsBadBehind past h now s (lines.lines + 1)
+long_line past h now s lines j l no_end long =
+    wrong_line past h now s lines j 512 l (IsOfOneLine.begun (take 512 lines.held) no_end)
+    (too_long past s l.by.passed (take 512 lines.held) l.read.stage no_end
+    (omega (arith, long, length-take 512 lines.held)))
+
+pub unended_line : {A : Type 0} → (past : Bool) (h now : BytesRead) (s : Stage) (lines : LinesRead) (j : Joint A)
+    → IsLooked past h now s lines j → now.is_at_end ≡ true → HasNoEnd lines.held → lines.held ≢ []
+    → IsBadBehind past h now s (lines.lines + 1)
+unended_line past h now s lines j l at_end no_end some = record {
+  bytes = l.by.passed ++ lines.held;
+  told = l.by.told ∙ append_assoc h.bytes l.by.passed lines.held;
+  bad = IsBadLine.unended l.by.passed lines.held lines.lines at_end refl l.by.lines
+      (begun_so past h now s lines j l) some no_end;
+  count = lines.lines;
+  behind = refl;
+  before = before past h now s lines j l;
+}
+
+-- nothing is held
+all_passed : {A : Type 0} → (past : Bool) (h now : BytesRead) (s : Stage) (lines : LinesRead) (j : Joint A)
+    → (l : IsLooked past h now s lines j) → lines.held ≡ [] → now.bytes ≡ h.bytes ++ l.by.passed
+all_passed past h now s lines j l held =
+    l.by.told ∙ ap (λ (t : List ℕ). h.bytes ++ l.by.passed ++ t) held ∙ append-nil (h.bytes ++ l.by.passed)
+
+pub lacking : {A : Type 0} → (past : Bool) (h now : BytesRead) (s : Stage) (lines : LinesRead) (j : Joint A)
+    → IsLooked past h now s lines j → now.is_at_end ≡ true → lines.held ≡ [] → can_end j.place ≡ false
+    → IsBadBehind past h now s (lines.lines + 1)
+lacking past h now s lines j l at_end held e = record {
+  bytes = l.by.passed;
+  told = all_passed past h now s lines j l held;
+  bad = IsBadLine.lacks lines.lines at_end l.by.lines (begun_so past h now s lines j l)
+      (lacks l.by.passed s j l.read e);
+  count = lines.lines;
+  behind = refl;
+  before = record {
+    lines = l.by.passed;
+    rest = [];
+    bytes_are = sym (append-nil l.by.passed);
+    number = l.by.lines;
+    stage = l.read.stage;
+  };
+}
+
+pub has_ended : {A : Type 0} → (past : Bool) (h now : BytesRead) (s : Stage) (r : Reader A)
+    → IsLooked past h now s r.lines r.joint → now.is_at_end ≡ true → r.lines.held ≡ [] → can_end r.joint.place ≡ true
+    → HasEnded past h now s r
+has_ended past h now s r l at_end held e = record {
+  bytes = l.by.passed;
+  told = all_passed past h now s r.lines r.joint l held;
+  at_end = at_end;
+  spells = ended l.by.passed s r.joint l.read e;
+  joint = subst (λ (p : Bool). IsJointOf p (parts_at s) (written_of r.joint.so_far)) l.past_is l.read.joint;
+}
+
+-- ---- a line that was taken
+pub line_taken : {A : Type 0} → (past : Bool) (h now : BytesRead) (s t : Stage) (line : List ℕ)
+    (lines after : LinesRead)
+    (j : Joint A) (r : Reader A) (tells : Told) → (l : IsLooked past h now s lines j) → r.lines ≡ after
+    → lines.held ≡ line ++ after.held → IsReadBy h now after → GoesOn h now after
+    → IsTaken l.by.passed line s t tells j r.joint → IsAlong past h now t r
+line_taken past h now s t line lines after j r tells l same held c goes taken =
+    let by_r : IsReadBy h now r.lines = subst (λ (x : LinesRead). IsReadBy h now x) (sym same) c in
+    let held_r : lines.held ≡ line ++ r.lines.held = held ∙ ap (λ (x : LinesRead). line ++ x.held) (sym same) in
+    record {
+      by = by_r;
+      read = subst (λ (b : List ℕ). IsReadTo b t r.joint)
+          (sym (passed_line_too h now line lines r.lines l.by held_r by_r)) taken.read;
+      past_is = taken.past ∙ l.past_is;
+      goes_on = subst (λ (x : LinesRead). GoesOn h now x) (sym same) goes;
+    }
+
+-- a whole line that is refused
+pub whole_line : {A : Type 0} → (past : Bool) (h now : BytesRead) (s : Stage) (lines : LinesRead) (j : Joint A)
+    (line : List ℕ) → (l : IsLooked past h now s lines j) → IsLineAhead lines.size lines.held
+    → line ≡ take lines.size lines.held → (Begins j.past (l.by.passed ++ line) → ⊥)
+    → IsBadBehind past h now s (lines.lines + 1)
+whole_line past h now s lines j line l a same refused =
+    let whole_one : IsOfOneLine (take lines.size lines.held) =
+    subst IsOfOneLine (sym a.line.2) (IsOfOneLine.whole a.line.0 a.line.1) in
+    wrong_line past h now s lines j lines.size l whole_one
+    (λ b. refused (subst (λ (t : List ℕ). Begins j.past (l.by.passed ++ t)) (sym same)
+    (subst (λ (p : Bool). Begins p (l.by.passed ++ take lines.size lines.held)) (sym l.past_is) b)))
+
+-- a line isn't empty, so there was a read
+pub some_read : (h now : BytesRead) (lines : LinesRead) → IsReadBy h now lines → IsLineAhead lines.size lines.held
+    → lines.bytes ≤ 2 ^ 16 * lines.reads → 0 < lines.reads
+some_read h now lines by a few = omega (
+  arith,
+  few,
+  by.bytes,
+  ap length a.line.2,
+  length-append a.line.0 (10 ∷ []),
+  length-take lines.size lines.held,
+)
+
+-- ---- what is told
+pub told_none : (past : Bool) → passed_lines past (parts_at start) ≡ []
+told_none true = refl
+told_none false = refl
+
+pub told_also : (xs ys : List (List ℕ)) (a b c : BytesWritten) → AreTold xs a b → AreTold ys b c
+    → AreTold (xs ++ ys) a c
+told_also xs ys a b c (AreTold.none s) q = q
+told_also xs ys a b c (AreTold.one line lines old now new t more) q =
+    AreTold.one line (lines ++ ys) old now c t (told_also lines ys now new c more q)
+
+-- ---- the outcome
+pub failed : {A : Type 0} → (past : Bool) (h now : BytesRead) (s : Stage) (r : Reader A) (fault : PartsFault)
+    (told at : BytesWritten) → IsNextStep {A = A} past h s (Err fault) now r
+    → AreTold (passed_lines past (parts_at s)) told at
+    → IsReadOutcome {A = A} (Err fault) past h now told at
+failed past h now s r (BadLine k) told at step are = (
+  step.bytes,
+  (
+    step.told,
+    record {
+      bad = step.bad;
+      count = step.count;
+      behind = step.behind;
+      stage = s;
+      before = step.before;
+      told = are;
+    },
+  ),
+)
+failed past h now s r (Stream fault) told at step are = step
+failed past h now s r Memory told at step are = tt
+
+pub all_read : {A : Type 0} → (past : Bool) (h now : BytesRead) (s : Stage) (r : Reader A) (told at : BytesWritten)
+    → HasEnded past h now s r → AreTold (passed_lines past (parts_at s)) told at
+    → IsReadOutcome (Ok r.joint.so_far) past h now told at
+all_read past h now s r told at e are = (
+  e.bytes,
+  (e.told, e.at_end, record { parts = parts_at s; spells = e.spells; is_joint = e.joint; told = are }),
+)
+
+-- ---- at the beginning
+empty : (xs : List ℕ) → length xs ≡ 0 → xs ≡ []
+empty [] e = refl
+empty (x ∷ xs) e = absurd (omega (arith, e))
+
+pub nothing_passed : (h : BytesRead) (r : LinesRead) → (b : IsReadBy h h r) → b.passed ≡ []
+nothing_passed h r b = empty b.passed (omega (
+  arith,
+  ap length b.told,
+  length-append (h.bytes ++ b.passed) r.held,
+  length-append h.bytes b.passed,
+))

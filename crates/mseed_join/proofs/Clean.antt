@@ -1,0 +1,87 @@
+-- No line of the texts of parts is bad.
+use Rattle.std.proofs.Common.{◌≡◌, ◌≢◌, ◌⊎◌, ℕ, ◌++◌, List, [], ◌∷◌, Bool, true, inl, inr, refl, sym, ap, ◌∙◌, subst}
+use Rattle.std.proofs.Common.{append_assoc, append-nil, ⊎_elim}
+use Rattle.mseed_stream.specs.Device.{BytesRead}
+use Rattle.mseed_join.specs.Headline.{IsReadOf}
+use Rattle.mseed_join.specs.Joined.{Begins, HasNoEnd, IsBadLine, IsJointOf, lacks, unended, wrong}
+use Rattle.mseed_join.specs.Lines.{Line, IsLine, text_of_line}
+use Rattle.mseed_join.specs.Written.{Spells, Written}
+use Rattle.mseed_join.proofs.Ended.{IsEnded, ended}
+use Rattle.mseed_join.proofs.Listed.{AreAll, all_rows, lines_text, texts_all, texts_are}
+
+-- nothing, or bytes up to an LF
+abbrev IsClosed : List ℕ → Type 0
+IsClosed bytes = (bytes ≡ []) ⊎ ((first : List ℕ) × (bytes ≡ first ++ 10 ∷ []))
+
+closed_more : (x : Line) (rest : List ℕ) → IsLine x → IsClosed rest → IsClosed (text_of_line x ++ rest)
+closed_more x rest l closed =
+    let it : IsEnded (text_of_line x) = ended x l in
+    ⊎_elim
+    (λ (e : rest ≡ []). inr (
+      it.body,
+      ap (λ (xs : List ℕ). text_of_line x ++ xs) e ∙ append-nil (text_of_line x) ∙ it.is,
+    ))
+    (λ (e : (first : List ℕ) × (rest ≡ first ++ 10 ∷ [])). inr (
+      text_of_line x ++ e.0,
+      ap (λ (xs : List ℕ). text_of_line x ++ xs) e.1 ∙ sym (append_assoc (text_of_line x) e.0 (10 ∷ [])),
+    ))
+    closed
+
+lines_closed : (xs : List Line) → AreAll xs → IsClosed (lines_text xs)
+lines_closed [] h = inl refl
+lines_closed (x ∷ xs) h = closed_more x (lines_text xs) h.0 (lines_closed xs h.1)
+
+texts_closed : (bytes : List ℕ) (ws : List Written) → Spells bytes ws → IsClosed bytes
+texts_closed bytes ws spells =
+    subst IsClosed (texts_are ws ∙ sym spells.text) (lines_closed (all_rows ws) (texts_all ws spells.each))
+
+ends_there : (first : List ℕ) → HasNoEnd (first ++ 10 ∷ []) → ⊥
+ends_there [] h = h.0 refl
+ends_there (b ∷ first) h = ends_there first h.1
+
+none_behind : (first rest : List ℕ) → first ++ rest ≡ [] → rest ≡ []
+none_behind [] rest e = e
+none_behind (b ∷ first) rest e = cc e
+
+-- what is closed doesn't end within a line
+no_rest : (lines line first : List ℕ) → line ≢ [] → HasNoEnd line → lines ++ line ≡ first ++ 10 ∷ [] → ⊥
+no_rest [] line first some plain e = ends_there first (subst HasNoEnd e plain)
+no_rest (b ∷ lines) line [] some plain e =
+    let rest : lines ++ line ≡ [] = cc e in
+    some (none_behind lines line rest)
+no_rest (b ∷ lines) line (c ∷ first) some plain e =
+    let rest : lines ++ line ≡ first ++ 10 ∷ [] = cc e in
+    no_rest lines line first some plain rest
+
+not_unended : (bytes lines line : List ℕ) → IsClosed bytes → bytes ≡ lines ++ line → line ≢ [] → HasNoEnd line → ⊥
+not_unended bytes lines line closed is some plain = ⊎_elim
+    (λ (e : bytes ≡ []). some (none_behind lines line (sym is ∙ e)))
+    (λ (e : (first : List ℕ) × (bytes ≡ first ++ 10 ∷ [])). no_rest lines line e.0 some plain (sym is ∙ e.1))
+    closed
+
+-- what was read goes on to the texts
+begun : (past : Bool) (text bytes rest first : List ℕ) (left : List ℕ) (ws : List Written) (joint : Written)
+    → Spells text ws → IsJointOf past ws joint → text ≡ bytes ++ left → bytes ≡ first ++ rest → Begins past first
+begun past text bytes rest first left ws joint spells joined read is = record {
+  rest = rest ++ left;
+  parts = ws;
+  spells = subst (λ (xs : List ℕ). Spells xs ws)
+      (read ∙ ap (λ (xs : List ℕ). xs ++ left) is ∙ append_assoc first rest left) spells;
+  joint = joint;
+  is_joint = joined;
+}
+
+pub all_read : (text : List ℕ) (input : BytesRead) → IsReadOf text input → input.is_at_end ≡ true → text ≡ input.bytes
+all_read text input read done =
+    read.bytes ∙ ap (λ (xs : List ℕ). input.bytes ++ xs) (read.all done) ∙ append-nil input.bytes
+
+pub none_bad : (past : Bool) (text : List ℕ) (input : BytesRead) (line : ℕ) (ws : List Written) (joint : Written)
+    → Spells text ws → IsJointOf past ws joint → IsReadOf text input → IsBadLine past input.bytes input.is_at_end line
+    → ⊥
+none_bad past text input _ ws joint spells joined read (wrong lines line rest count is are begins one not) =
+    not (begun past text input.bytes rest (lines ++ line) read.rest ws joint spells joined read.bytes is)
+none_bad past text input _ ws joint spells joined read (unended lines line count done is are begins some plain) =
+    not_unended input.bytes lines line
+    (subst IsClosed (all_read text input read done) (texts_closed text ws spells)) is some plain
+none_bad past text input _ ws joint spells joined read (lacks count done are begins none) =
+    none ws (subst (λ (xs : List ℕ). Spells xs ws) (all_read text input read done) spells)

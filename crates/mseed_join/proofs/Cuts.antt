@@ -1,0 +1,228 @@
+-- Bytes that are records and what is left behind them.
+use Rattle.std.proofs.Common.{◌≡◌, ℕ, ◌+◌, ◌++◌, List, [], ◌∷◌, drop, Option, Some, None, Bool, true, false, refl, sym}
+use Rattle.std.proofs.Common.{ap, ◌∙◌, subst, append_assoc, append-nil}
+use Rattle.std.proofs.lemmas.Bool.{false≢true}
+use Rattle.std.proofs.lemmas.List.{take-append-drop}
+use Rattle.std.specs.List.{concat, AllByRecursion}
+use Rattle.std.specs.Option.{option_map}
+use Rattle.mseed_record.specs.declared.frame.FrameFault.{FrameFault}
+use Rattle.mseed_record.specs.declared.frame.Scan.TheVariants.{Not}
+use Rattle.mseed_record.specs.Record.{IsRecord}
+use Rattle.mseed_record.specs.Scan.{Decides}
+use Rattle.mseed_record.specs.View.{View, IsView}
+use Rattle.mseed_record.proofs.Viewed.{view_once}
+use Rattle.mseed_stream.specs.Archive.{End, IsArchive, IsEndOf, clean, frame, truncated, is_clean, is_frame}
+use Rattle.mseed_stream.specs.Cutting.{read_from}
+use Rattle.mseed_stream.specs.Device.{BytesRead}
+use Rattle.mseed_stream.specs.Walk.{AreAllViews, IsEnd, bytes_in}
+use Rattle.mseed_stream.specs.declared.fault.StreamFault.{StreamFault}
+use Rattle.mseed_stream.specs.declared.fault.StreamFault.TheVariants.{Frame, Truncated, Read, Turns, Memory}
+use Rattle.mseed_stream.proofs.Ends.{one_end}
+use Rattle.mseed_stream.proofs.Handed.{no_further}
+use Rattle.mseed_stream.proofs.Records.{one_archive, view_record}
+use Rattle.mseed_parts.specs.Parts.{bytes_in as size_of}
+use Rattle.mseed_parts.proofs.Placing.{bytes_append}
+use Rattle.mseed_join.specs.Headline.{EndsByBytes, IsReadOf}
+use Rattle.mseed_join.specs.Joined.{moved_fault}
+use Rattle.mseed_join.proofs.Longer.{refused_more}
+use Rattle.mseed_join.proofs.Parting.{sizes}
+
+-- ---- how bytes end
+-- the fault behind so many bytes, by what is left there
+abbrev pub ended : ℕ → End → Option StreamFault
+ended offset clean = None
+ended offset (frame f) = Some (Frame offset f)
+ended offset (truncated have) = Some (Truncated offset have)
+
+pub frame_in : (rest : List ℕ) (f : FrameFault) → IsEndOf rest (frame f) → Decides rest (Not f)
+frame_in rest f (is_frame _ d) = d
+
+pub record EndsSo (offset : ℕ) (rest : List ℕ) (end : Option StreamFault) : Type 0 where
+  pub at : End
+  pub is : IsEndOf rest at
+  pub end_is : end ≡ ended offset at
+
+-- what is left of an archive ends so, by what was read of it: no bytes more change why none begin a record
+ends_so : (end : Option StreamFault) (offset : ℕ) (h : BytesRead) (rest : List ℕ) → EndsByBytes end
+    → IsEnd end offset h → (h.is_at_end ≡ true → rest ≡ []) → EndsSo offset (read_from offset h ++ rest) end
+ends_so None offset h rest by is all = record {
+  at = clean;
+  is = subst (λ (xs : List ℕ). IsEndOf xs clean)
+      (sym (append-nil (read_from offset h)) ∙ ap (λ (xs : List ℕ). read_from offset h ++ xs) (sym (all is.0.1)))
+      is.0.0;
+  end_is = refl;
+}
+ends_so (Some (Frame n f)) offset h rest by is all = record {
+  at = frame f;
+  is = is_frame f (refused_more (read_from offset h) rest f (frame_in (read_from offset h) f is.0.1));
+  end_is = ap (λ (k : ℕ). Some (Frame k f)) is.0.0;
+}
+ends_so (Some (Truncated n have)) offset h rest by is all = record {
+  at = truncated have;
+  is = subst (λ (xs : List ℕ). IsEndOf xs (truncated have))
+      (sym (append-nil (read_from offset h)) ∙ ap (λ (xs : List ℕ). read_from offset h ++ xs) (sym (all is.0.2)))
+      is.0.1;
+  end_is = ap (λ (k : ℕ). Some (Truncated k have)) is.0.0;
+}
+ends_so (Some (Read n)) offset h rest by is all = absurd by
+ends_so (Some (Turns n)) offset h rest by is all = absurd by
+ends_so (Some Memory) offset h rest by is all = absurd by
+
+not_both : (b : Bool) → b ≡ true → b ≡ false → ⊥
+not_both b t f = false≢true (sym f ∙ t)
+
+-- and so it does once it was read to its end
+pub at_end_by : (end : Option StreamFault) (offset : ℕ) (h : BytesRead) → h.is_at_end ≡ true → IsEnd end offset h
+    → EndsByBytes end
+at_end_by None offset h done is = tt
+at_end_by (Some (Frame n f)) offset h done is = tt
+at_end_by (Some (Truncated n have)) offset h done is = tt
+at_end_by (Some (Read n)) offset h done is = not_both h.is_at_end done is.0.2
+at_end_by (Some (Turns n)) offset h done is = not_both h.is_at_end done is.0.2
+at_end_by (Some Memory) offset h done is = is.1 refl
+
+moved_ended : (e offset : ℕ) (at : End) → option_map (moved_fault e) (ended offset at) ≡ ended (e + offset) at
+moved_ended e offset clean = refl
+moved_ended e offset (frame f) = refl
+moved_ended e offset (truncated have) = refl
+
+-- behind so many more bytes
+ends_moved : (e offset : ℕ) (rest : List ℕ) (end : Option StreamFault) → EndsSo offset rest end
+    → EndsSo (e + offset) rest (option_map (moved_fault e) end)
+ends_moved e offset rest end so = record {
+  at = so.at;
+  is = so.is;
+  end_is = ap (λ (o : Option StreamFault). option_map (moved_fault e) o) so.end_is ∙ moved_ended e offset so.at;
+}
+
+nothing_left : (offset : ℕ) (rest : List ℕ) (at : End) → IsEndOf rest at → None ≡ ended offset at → rest ≡ []
+nothing_left offset rest clean (is_clean e) same = e
+nothing_left offset rest (frame f) is same = cc same
+nothing_left offset rest (truncated have) is same = cc same
+
+-- where there is no fault, nothing is left
+none_left : (offset : ℕ) (rest : List ℕ) (end : Option StreamFault) → EndsSo offset rest end → end ≡ None
+    → rest ≡ []
+none_left offset rest end so none = nothing_left offset rest so.at so.is (sym none ∙ so.end_is)
+
+-- ---- records and what is left
+pub record IsCut (bytes : List ℕ) (views : List View) (rest : List ℕ) : Type 0 where
+  pub views_are : AllByRecursion IsView views
+  pub joined : bytes ≡ concat (bytes_in views) ++ rest
+
+-- what was read is the records, and what is left behind them
+pub read_joined : (h : BytesRead) (views : List View) (end : Option StreamFault) (all : AreAllViews h views end)
+    → h.bytes ≡ concat (bytes_in views) ++ read_from all.offset h
+read_joined h views end all = sym (take-append-drop all.offset h.bytes)
+    ∙ ap (λ (xs : List ℕ). xs ++ drop all.offset h.bytes) all.records.records.joined
+
+-- the records have so many bytes
+pub read_size : (h : BytesRead) (views : List View) (end : Option StreamFault) (all : AreAllViews h views end)
+    → all.offset ≡ size_of views
+read_size h views end all = sym all.records.offset_is ∙ sizes views
+
+pub all_append : (xs ys : List View) → AllByRecursion IsView xs → AllByRecursion IsView ys
+    → AllByRecursion IsView (xs ++ ys)
+all_append [] ys h k = k
+all_append (x ∷ xs) ys h k = (h.0, all_append xs ys h.1 k)
+
+joined_append : (xs ys : List View) → concat (bytes_in (xs ++ ys)) ≡ concat (bytes_in xs) ++ concat (bytes_in ys)
+joined_append [] ys = refl
+joined_append (x ∷ xs) ys = ap (λ (zs : List ℕ). x.bytes ++ zs) (joined_append xs ys)
+    ∙ sym (append_assoc x.bytes (concat (bytes_in xs)) (concat (bytes_in ys)))
+
+-- records behind records
+cut_behind : (first second : List ℕ) (xs ys : List View) (rest : List ℕ) → IsCut first xs [] → IsCut second ys rest
+    → IsCut (first ++ second) (xs ++ ys) rest
+cut_behind first second xs ys rest a b = record {
+  views_are = all_append xs ys a.views_are b.views_are;
+  joined = (λ i. (a.joined ∙ append-nil (concat (bytes_in xs))) i ++ b.joined i)
+      ∙ sym (append_assoc (concat (bytes_in xs)) (concat (bytes_in ys)) rest)
+      ∙ ap (λ (zs : List ℕ). zs ++ rest) (sym (joined_append xs ys));
+}
+
+-- ---- there is one such list
+records_in : (views : List View) → AllByRecursion IsView views → AllByRecursion IsRecord (bytes_in views)
+records_in [] h = tt
+records_in (v ∷ views) h = (view_record v h.0, records_in views h.1)
+
+archive_of : (bytes : List ℕ) (views : List View) (rest : List ℕ) (at : End) → IsCut bytes views rest → IsEndOf rest at
+    → IsArchive bytes (bytes_in views) rest
+archive_of bytes views rest at cut is = record {
+  joined = cut.joined;
+  each = records_in views cut.views_are;
+  no_further = no_further rest at is;
+}
+
+same_views : (vs ws : List View) → AllByRecursion IsView vs → AllByRecursion IsView ws → bytes_in vs ≡ bytes_in ws
+    → vs ≡ ws
+same_views [] [] h k e = refl
+same_views [] (w ∷ ws) h k e = cc
+same_views (v ∷ vs) [] h k e = cc
+same_views (v ∷ vs) (w ∷ ws) h k e =
+    let bytes : v.bytes ≡ w.bytes = cc in
+    let more : bytes_in vs ≡ bytes_in ws = cc in
+    let here : v ≡ w = view_once w v k.0 h.0 bytes in
+    let others : vs ≡ ws = same_views vs ws h.1 k.1 more in
+    λ i. here i ∷ others i
+
+-- bytes are records and a rest in one way, and end in one way
+one_cut : (bytes : List ℕ) (vs ws : List View) (rest left : List ℕ) (a b : Option StreamFault)
+    → IsCut bytes vs rest → IsCut bytes ws left → EndsSo (size_of vs) rest a → EndsSo (size_of ws) left b
+    → (vs ≡ ws) × (a ≡ b)
+one_cut bytes vs ws rest left a b c d so to =
+    let both = one_archive bytes (bytes_in vs) (bytes_in ws) rest left (archive_of bytes vs rest so.at c so.is)
+    (archive_of bytes ws left to.at d to.is) in
+    let views : vs ≡ ws = same_views vs ws c.views_are d.views_are both.0 in
+    let at : so.at ≡ to.at =
+    one_end left so.at to.at (subst (λ (xs : List ℕ). IsEndOf xs so.at) both.1 so.is) to.is in
+    (views, so.end_is ∙ (λ i. ended (size_of (views i)) (at i)) ∙ sym to.end_is)
+
+-- ---- archives
+-- an archive is these records, and ends so behind them
+pub record IsKnown (archive : List ℕ) (views : List View) (end : Option StreamFault) : Type 0 where
+  pub rest : List ℕ
+  pub cut : IsCut archive views rest
+  pub ends : EndsSo (size_of views) rest end
+
+pub known : (archive : List ℕ) (h : BytesRead) (views : List View) (end : Option StreamFault) → IsReadOf archive h
+    → AreAllViews h views end → EndsByBytes end → IsKnown archive views end
+known archive h views end read all by =
+    let left : List ℕ = read_from all.offset h in
+    record {
+      rest = left ++ read.rest;
+      cut = record {
+        views_are = all.records.each;
+        joined = read.bytes ∙ ap (λ (xs : List ℕ). xs ++ read.rest) (read_joined h views end all)
+            ∙ append_assoc (concat (bytes_in views)) left read.rest;
+      };
+      ends = subst (λ (n : ℕ). EndsSo n (left ++ read.rest) end) (read_size h views end all)
+          (ends_so end all.offset h read.rest by all.ends read.all);
+    }
+
+-- nothing
+pub known_none : IsKnown [] [] None
+known_none = record {
+  rest = [];
+  cut = record { views_are = tt; joined = refl };
+  ends = record { at = clean; is = is_clean refl; end_is = refl };
+}
+
+-- an archive behind another, which ends without a fault
+pub known_behind : (first second : List ℕ) (xs ys : List View) (before end : Option StreamFault) → before ≡ None
+    → IsKnown first xs before → IsKnown second ys end
+    → IsKnown (first ++ second) (xs ++ ys) (option_map (moved_fault (size_of xs)) end)
+known_behind first second xs ys before end none a b =
+    let whole : IsCut first xs [] =
+    subst (λ (rest : List ℕ). IsCut first xs rest) (none_left (size_of xs) a.rest before a.ends none) a.cut in
+    record {
+      rest = b.rest;
+      cut = cut_behind first second xs ys b.rest whole b.cut;
+      ends = subst (λ (n : ℕ). EndsSo n b.rest (option_map (moved_fault (size_of xs)) end)) (sym (bytes_append xs ys))
+          (ends_moved (size_of xs) (size_of ys) b.rest end b.ends);
+    }
+
+-- an archive is one list of records, and ends in one way
+pub one_known : (archive : List ℕ) (vs ws : List View) (a b : Option StreamFault) → IsKnown archive vs a
+    → IsKnown archive ws b → (vs ≡ ws) × (a ≡ b)
+one_known archive vs ws a b p q = one_cut archive vs ws p.rest q.rest a b p.cut q.cut p.ends q.ends

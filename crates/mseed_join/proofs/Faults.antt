@@ -1,0 +1,145 @@
+-- The ranges of what is found of a record.
+use Rattle.std.proofs.Common.{◌≡◌, ℕ, zero, suc, ℤ, pos, negsuc, ◌+◌, ◌-◌, ◌^◌, ◌<◌, ◌≤◌, List, [], ◌∷◌, ◌++◌, length}
+use Rattle.std.proofs.Common.{map, Bool, true, false, cond, Option, Some, None, refl, sym, subst, arith, IfSome}
+use Rattle.std.proofs.Common.{length-append}
+use Rattle.std.specs.List.{AllByRecursion, filter, range_with_len}
+use Rattle.std.proofs.Math.Nat.{div-le_self}
+use Rattle.std.proofs.lemmas.Int.{ints}
+use Rattle.std.proofs.lemmas.List.{get_or-drop, length-drop}
+use Rattle.std.proofs.lemmas.List.Elements.{recursion_from_All}
+use Rattle.mseed_time.specs.Join.{join_of}
+use Rattle.mseed_time.specs.Rate.{Ratio}
+use Rattle.mseed_time.specs.declared.outcome.Join.{Join}
+use Rattle.mseed_time.specs.declared.outcome.Join.TheVariants.{Meets, Late, Early}
+use Rattle.mseed_record.specs.Header.{data_at}
+use Rattle.mseed_record.specs.View.{View, IsView, leap_of, payload_of, start_of}
+use Rattle.mseed_record.specs.declared.frame.Leap.{Leap}
+use Rattle.mseed_record.specs.declared.frame.Leap.TheVariants.{None as NoLeap, Positive, Negative, Both}
+use Rattle.mseed_steim.specs.Frames.{DataWord, data_word, data_words, is_data, word_count, words_from}
+use Rattle.mseed_steim.specs.Reading.{IsFault, blockette_100, encoding, little_steim, data_offset, in_payload, count_of}
+use Rattle.mseed_steim.specs.Samples.{IsSample, IsFrameFault, IsPayloadFault, short, bad_word, overflow, last_differs}
+use Rattle.mseed_steim.specs.declared.scheme.Scheme.{Scheme}
+use Rattle.mseed_steim.specs.declared.form.Form.{Form}
+use Rattle.mseed_steim.specs.declared.form.Form.TheVariants.{Integers, Frames}
+use Rattle.mseed_steim.specs.declared.fault.ReadFault.{ReadFault}
+use Rattle.mseed_steim.proofs.Framed.{constant_fits}
+use Rattle.mseed_stream.proofs.Ahead.{record_few}
+use Rattle.mseed_stream.proofs.Records.{view_record}
+use Rattle.mseed_audit.specs.declared.finding.Why.{Why}
+use Rattle.mseed_audit.specs.declared.finding.Why.TheVariants.{RateChange}
+use Rattle.mseed_audit.specs.Judging.{IsFound, time, rate, read, after, known_rate, step_in, why_after, why_by}
+use Rattle.mseed_audit.specs.Judging.{why_from, why_of}
+use Rattle.mseed_join.specs.Lines.{HasReadFault, HasWhy, IsWord}
+use Rattle.mseed_join.proofs.Ranges.{AreOctets, JoinFits, count_small, join_fits, octets_of, rate_within, start_within}
+
+-- what holds of all of a list holds of one within it
+pub middle : {X : Type 0} (P : X → Type 0) (first : List X) (x : X) (rest : List X)
+    → AllByRecursion P (first ++ x ∷ rest) → P x
+middle P [] x rest h = h.0
+middle P (y ∷ first) x rest h = middle P first x rest h.1
+
+-- ---- the payload
+sample_word : (z : ℤ) → IsSample z → IsWord z
+sample_word (pos n) h = omega (arith, ints, h.0, h.1)
+sample_word (negsuc n) h = omega (arith, ints, h.0, h.1)
+
+below : (k n m : ℕ) → k + n ≤ m → AllByRecursion (λ i. i < m) (range_with_len k n)
+below k zero m h = tt
+below k (suc n) m h = (omega (arith, h), below (k + 1) n m (omega (arith, h)))
+
+kept_below : (m : ℕ) (ks : List ℕ) → AllByRecursion (λ i. i < m) ks → AllByRecursion (λ i. i < m) (filter is_data ks)
+kept_below m [] h = tt
+kept_below m (k ∷ ks) h = by (is_data k) (kept_below m ks h.1)
+  where
+    by : (b : Bool) → AllByRecursion (λ i. i < m) (filter is_data ks)
+        → AllByRecursion (λ i. i < m) (cond b (k ∷ filter is_data ks) (filter is_data ks))
+    by true rest = (h.0, rest)
+    by false rest = rest
+
+abbrev IsAt : ℕ → DataWord → Type 0
+IsAt m w = (w.frame < m) × (w.place < 16)
+
+words_at : (p : List ℕ) (m : ℕ) (ks : List ℕ) → AllByRecursion (λ i. i < m) ks
+    → AllByRecursion (IsAt m) (map (data_word p) ks)
+words_at p m [] h = tt
+words_at p m (k ∷ ks) h = ((omega (arith, div-le_self k 16, h.0), omega arith), words_at p m ks h.1)
+
+data_words_at : (p : List ℕ) (m : ℕ) → word_count p + 3 ≤ m → AllByRecursion (IsAt m) (data_words p)
+unfolding words_from
+data_words_at p m h =
+    let n : ℕ = word_count p - 3 in
+    words_at p m (filter is_data (range_with_len 3 n)) (kept_below m (range_with_len 3 n)
+    (below 3 n m (omega (arith, h))))
+
+frame_fault : (scheme : Scheme) (p : List ℕ) (n : ℕ) (f : ReadFault) → AreOctets p → length p ≤ 2 ^ 20 → n < 2 ^ 16
+    → IsFrameFault scheme p n f → HasReadFault f
+frame_fault scheme p n _ octets small few (short ds run l) = omega (arith, l, few)
+frame_fault scheme p n _ octets small few (bad_word before bad behind ds cut run l none) =
+    let all : AllByRecursion (IsAt (2 ^ 30)) (before ++ bad ∷ behind) =
+    subst (λ (ws : List DataWord). AllByRecursion (IsAt (2 ^ 30)) ws) cut
+    (data_words_at p (2 ^ 30) (omega (arith, small, div-le_self (length p) 64))) in
+    let it = middle (IsAt (2 ^ 30)) before bad behind all in
+    (omega (arith, it.0), omega (arith, it.1))
+frame_fault scheme p n _ octets small few (overflow prefix sum rest sums fit not_fit) =
+    omega (arith, sums.count, length-append prefix (sum ∷ rest), few)
+frame_fault scheme p n _ octets small few (last_differs prefix last sums fit differs) =
+    let all : AllByRecursion IsSample (prefix ++ last ∷ []) =
+    recursion_from_All IsSample (prefix ++ last ∷ []) fit in
+    (sample_word last (middle IsSample prefix last [] all), sample_word _ (constant_fits p octets 2))
+
+payload_fault : (form : Form) (p : List ℕ) (n : ℕ) (f : ReadFault) → AreOctets p → length p ≤ 2 ^ 20 → n < 2 ^ 16
+    → IsPayloadFault form p n f → HasReadFault f
+payload_fault (Integers width) p n f octets small few is =
+    subst HasReadFault (sym is.1) (omega (arith, is.0, few))
+payload_fault (Frames scheme) p n f octets small few is = frame_fault scheme p n f octets small few is
+
+-- why samples aren't read
+read_fault : (v : View) (f : ReadFault) → IsView v → IsFault v f → HasReadFault f
+read_fault v _ is (blockette_100 e) = tt
+read_fault v _ is (encoding e none) =
+    omega (arith, is.1.1.1.encoding_is, octets_of v is (is.1.0 + 4))
+read_fault v _ is (little_steim e scheme some order) = tt
+read_fault v _ is (data_offset e form some readable none) = tt
+read_fault v f is (in_payload e form some readable has _ why) =
+    let at : ℕ = data_at v.order v.bytes in
+    let small : length (payload_of v) ≤ 2 ^ 20 =
+    omega (arith, length-drop at v.bytes, record_few v.bytes (view_record v is)) in
+    payload_fault form (payload_of v) (count_of v) f
+    (λ i. subst (λ (n : ℕ). n < 256) (sym (get_or-drop at v.bytes i 0)) (octets_of v is (at + i))) small
+    (count_small v is) why
+
+-- ---- what is found behind a record
+of_join : (j : Join) → JoinFits j → IfSome (why_of j) HasWhy
+of_join Meets h = tt
+of_join (Late us) h = h
+of_join (Early us) h = h
+
+by_leap : (leap : Leap) (j : Join) → JoinFits j → IfSome (why_by leap j) HasWhy
+by_leap NoLeap j h = of_join j h
+by_leap Positive j h = of_join j h
+by_leap Negative j h = of_join j h
+by_leap Both j h = tt
+
+by_rates : (b : Bool) (leap : Leap) (j : Join) → JoinFits j → IfSome (cond b (why_by leap j) (Some RateChange)) HasWhy
+by_rates true leap j h = by_leap leap j h
+by_rates false leap j h = tt
+
+from_one : (b v : View) (o : Option Ratio) (next : Ratio) → IsView b → IsView v → known_rate b ≡ o
+    → known_rate v ≡ Some next → IfSome (why_from b o v next) HasWhy
+from_one b v None next is at e k = tt
+from_one b v (Some r) next is at e k =
+    by_rates _ (leap_of b.bytes) (join_of (start_of b) (count_of b) r (step_in (leap_of b.bytes)) (start_of v))
+    (join_fits (start_of b) (count_of b) r (step_in (leap_of b.bytes)) (start_of v) (start_within b r is e)
+    (count_small b is) (rate_within b r is e) (start_within v next at k))
+
+behind_one : (before : Option View) (v : View) (next : Ratio) → IfSome before IsView → IsView v
+    → known_rate v ≡ Some next → IfSome (why_after before v next) HasWhy
+behind_one None v next is at e = tt
+behind_one (Some b) v next is at e = from_one b v (known_rate b) next is at refl e
+
+pub found_has : (before : Option View) (v : View) (o : Option Why) → IfSome before IsView → IsView v
+    → IsFound before v o → IfSome o HasWhy
+found_has before v _ is at (time fault e) = tt
+found_has before v _ is at (rate e none) = tt
+found_has before v _ is at (read next e fault why) = read_fault v fault at why
+found_has before v _ is at (after next e samples whole) = behind_one before v next is at e

@@ -1,0 +1,218 @@
+-- What a reader of lines holds, as it reads more and passes lines.
+use Rattle.std.proofs.Common.{◌≡◌, ℕ, ◌+◌, ◌-◌, ◌^◌, ◌<◌, ◌≤◌, List, [], ◌∷◌, ◌++◌, length, take, drop, Bool, true}
+use Rattle.std.proofs.Common.{false}
+use Rattle.std.proofs.Common.{Option, Result, Ok, Err, refl, sym, ap, subst, ◌∙◌, arith, append_assoc, length-append}
+use Rattle.std.proofs.Common.{slice_range, take-append-drop, ⊎_elim, inl, inr, not, ◌&&◌, ◌||◌, ◌==◌}
+use Rattle.std.proofs.lemmas.Bool.{cases_lt}
+use Rattle.std.proofs.lemmas.Bool.Decides.{eqb_tells}
+use Rattle.std.proofs.lemmas.List.{append-nil, drop-append-le, drop-drop, length-take-le}
+use Rattle.std.proofs.lemmas.Slice.{between_is}
+use Rattle.std.proofs.Math.Seq.{take-add}
+use Rattle.std.specs.Io.KnownBytes.{IsAtEnd}
+use Rattle.std.proofs.KnownBytes.{Consumes-nil, Consumes-trans}
+use Rattle.mseed_stream.specs.Device.{BytesRead}
+use Rattle.mseed_stream.specs.Fault.{IsStreamFault}
+use Rattle.mseed_stream.specs.declared.fault.StreamFault.{StreamFault}
+use Rattle.mseed_stream.specs.declared.fault.StreamFault.TheVariants.{Frame, Truncated, Read, Turns, Memory}
+use Rattle.mseed_join.specs.declared.line_reader.Ahead.{Ahead}
+use Rattle.mseed_join.specs.declared.line_reader.Ahead.TheVariants.{Line, TooLong, Unended, Nothing}
+use Rattle.mseed_join.specs.Joined.{AreLines}
+use Rattle.mseed_join.specs.private.LineReading.{LinesRead, Grows, IsReadBy, GoesOn, IfGoesOn, IsLineAhead, LiesAhead}
+use Rattle.mseed_join.specs.private.LineReading.{IsReadFault}
+use Rattle.mseed_join.proofs.LineEnds.{lines_more}
+
+-- n bytes more behind those that are held
+pub held_more : (items now : List ℕ) (begin end n : ℕ) → take end now ≡ take end items → begin ≤ end
+    → end ≤ length now → slice_range now begin (end + n) ≡ slice_range items begin end ++ take n (drop end now)
+held_more items now begin end n same low high =
+    let size : length (take end now) ≡ end = length-take-le end now high in
+    between_is now begin (end + n)
+    ∙ (ap (λ (xs : List ℕ). drop begin xs) (take-add end n now)
+    ∙ (drop-append-le begin (take end now) (take n (drop end now)) (omega (arith, size))
+    ∙ ap (λ (xs : List ℕ). xs ++ take n (drop end now)) (ap (λ (xs : List ℕ). drop begin xs) same
+    ∙ sym (between_is items begin end))))
+
+-- the first of the bytes that are held, and the rest
+pub held_parts : (items : List ℕ) (begin size end : ℕ) → slice_range items begin end
+    ≡ take size (slice_range items begin end) ++ slice_range items (begin + size) end
+held_parts items begin size end =
+    let held : List ℕ = slice_range items begin end in
+    let rest : drop size held ≡ slice_range items (begin + size) end =
+    ap (λ (xs : List ℕ). drop size xs) (between_is items begin end)
+    ∙ (drop-drop size begin (take end items) ∙ sym (between_is items (begin + size) end)) in
+    sym (take-append-drop size held) ∙ ap (λ (xs : List ℕ). take size held ++ xs) rest
+
+pub grows_not : (h : BytesRead) (left : Option (List ℕ)) (r : LinesRead) → Grows h h left left r r
+grows_not h left r = record {
+  more = [];
+  asked = 0;
+  told = sym (append-nil h.bytes);
+  known = Consumes-nil left;
+  held = sym (append-nil r.held);
+  lines = refl;
+  bytes = omega arith;
+  calls = omega arith;
+  reads = omega arith;
+}
+
+pub grows_on : (a b c : BytesRead) (x y z : Option (List ℕ)) (r s t : LinesRead) → Grows a b x y r s
+    → Grows b c y z s t → Grows a c x z r t
+grows_on a b c x y z r s t first then = record {
+  more = first.more ++ then.more;
+  asked = first.asked + then.asked;
+  told = then.told ∙ (ap (λ (xs : List ℕ). xs ++ then.more) first.told ∙ append_assoc a.bytes first.more then.more);
+  known = Consumes-trans x y z first.more then.more first.known then.known;
+  held = then.held ∙ (ap (λ (xs : List ℕ). xs ++ then.more) first.held ∙ append_assoc r.held first.more then.more);
+  lines = then.lines ∙ first.lines;
+  bytes = omega (arith, then.bytes, first.bytes, length-append first.more then.more);
+  calls = omega (arith, then.calls, first.calls);
+  reads = omega (arith, then.reads, first.reads);
+}
+
+-- another line is found
+pub grows_seen : (a b : BytesRead) (x y : Option (List ℕ)) (r s t : LinesRead) (n : ℕ) → t ≡ record s { size = n }
+    → Grows a b x y r s → Grows a b x y r t
+grows_seen a b x y r s t n same grows =
+    let seen : LinesRead = record s { size = n } in
+    let it : Grows a b x y r seen = record {
+      more = grows.more;
+      asked = grows.asked;
+      told = grows.told;
+      known = grows.known;
+      held = grows.held;
+      lines = grows.lines;
+      bytes = grows.bytes;
+      calls = grows.calls;
+      reads = grows.reads;
+    } in
+    subst (λ (u : LinesRead). Grows a b x y r u) (sym same) it
+
+pub read_by_more : (start old new : BytesRead) (left rest : Option (List ℕ)) (r after : LinesRead)
+    → Grows old new left rest r after → IsReadBy start old r → IsReadBy start new after
+read_by_more start old new left rest r after grows is = record {
+  passed = is.passed;
+  told = grows.told ∙ (ap (λ (xs : List ℕ). xs ++ grows.more) is.told
+      ∙ (append_assoc (start.bytes ++ is.passed) r.held grows.more
+      ∙ ap (λ (xs : List ℕ). start.bytes ++ is.passed ++ xs) (sym grows.held)));
+  lines = subst (λ (n : ℕ). AreLines is.passed n) (sym grows.lines) is.lines;
+  bytes = omega (
+    arith,
+    grows.bytes,
+    is.bytes,
+    ap (λ (xs : List ℕ). length xs) grows.held,
+    length-append r.held grows.more,
+  );
+  calls = omega (arith, grows.calls, grows.reads, is.calls);
+}
+
+pub read_by_passed : (start now : BytesRead) (r after : LinesRead) → IsLineAhead r.size r.held
+    → r.held ≡ take r.size r.held ++ after.held → after.lines ≡ r.lines + 1 → after.bytes ≡ r.bytes
+    → after.reads ≡ r.reads → IsReadBy start now r → IsReadBy start now after
+read_by_passed start now r after ahead held lines bytes reads is =
+    let line : List ℕ = take r.size r.held in
+    let body : List ℕ = ahead.line.0 in
+    let more : AreLines (is.passed ++ line) (r.lines + 1) =
+    subst (λ (xs : List ℕ). AreLines (is.passed ++ xs) (r.lines + 1)) (sym ahead.line.2)
+    (lines_more body ahead.line.1 is.passed r.lines is.lines) in
+    record {
+      passed = is.passed ++ line;
+      told = is.told ∙ (ap (λ (xs : List ℕ). start.bytes ++ is.passed ++ xs) held
+          ∙ (sym (append_assoc (start.bytes ++ is.passed) line after.held)
+          ∙ ap (λ (xs : List ℕ). xs ++ after.held) (append_assoc start.bytes is.passed line)));
+      lines = subst (λ (n : ℕ). AreLines (is.passed ++ line) n) (sym lines) more;
+      bytes = omega (
+        arith,
+        bytes,
+        is.bytes,
+        ap (λ (xs : List ℕ). length xs) held,
+        length-append line after.held,
+        length-append is.passed line,
+      );
+      calls = omega (arith, is.calls, reads);
+    }
+
+or_true : (b : Bool) → (b || true) ≡ true
+or_true true = refl
+or_true false = refl
+
+-- nothing told, where there was room, is the end
+pub told_end : (b : Bool) (n : ℕ) (bytes : List ℕ) → n ≡ 0 → 0 < length bytes
+    → (b || ((n == 0) && not (length bytes == 0))) ≡ true
+told_end b n bytes zero some = elim (eqb_tells (length bytes) 0) [
+  | inl same ↦ absurd (omega (arith, same.1, some))
+  | inr other ↦ subst (λ (k : ℕ). (b || ((k == 0) && not (length bytes == 0))) ≡ true) (sym zero)
+      (subst (λ (t : Bool). (b || (true && not t)) ≡ true) (sym other.0) (or_true b))
+]
+
+-- what holds of a source that wasn't asked holds still, and one that was asked told no end
+pub not_at_end : (old new : BytesRead) (r after : LinesRead) (left rest : Option (List ℕ))
+    → Grows old new left rest r after → (after.reads ≡ r.reads → new ≡ old)
+    → (r.reads < after.reads → new.is_at_end ≡ false) → (0 < r.reads → old.is_at_end ≡ false)
+    → 0 < after.reads → new.is_at_end ≡ false
+not_at_end old new r after left rest grows still going before some =
+    ⊎_elim (λ (asked : r.reads < after.reads). going asked)
+    (λ (none : after.reads ≤ r.reads).
+    let same : after.reads ≡ r.reads = omega (arith, none, grows.reads) in
+    ap (λ (h : BytesRead). h.is_at_end) (still same) ∙ before (omega (arith, same, some)))
+    (cases_lt r.reads after.reads)
+
+pub no_end_yet : (old new : BytesRead) (r after : LinesRead) (left rest : Option (List ℕ))
+    → Grows old new left rest r after → (after.reads ≡ r.reads → new ≡ old)
+    → (r.reads < after.reads → new.is_at_end ≡ false) → old.is_at_end ≡ false → new.is_at_end ≡ false
+no_end_yet old new r after left rest grows still going before =
+    ⊎_elim (λ (asked : r.reads < after.reads). going asked)
+    (λ (none : after.reads ≤ r.reads).
+    let same : after.reads ≡ r.reads = omega (arith, none, grows.reads) in
+    ap (λ (h : BytesRead). h.is_at_end) (still same) ∙ before)
+    (cases_lt r.reads after.reads)
+
+pub goes_on_more : (start old new : BytesRead) (r after : LinesRead) (left rest : Option (List ℕ))
+    → Grows old new left rest r after → (after.reads ≡ r.reads → new ≡ old)
+    → (r.reads < after.reads → new.is_at_end ≡ false) → new.failures ≡ old.failures → GoesOn start old r
+    → GoesOn start new after
+goes_on_more start old new r after left rest grows still going fine goes = record {
+  failures = fine ∙ goes.failures;
+  is_at_end = not_at_end old new r after left rest grows still going goes.is_at_end;
+}
+
+-- what was seen lies ahead, wherever the input ends
+pub seen_ahead : (a : Ahead) (r : LinesRead) (at_end : Bool) → LiesAhead a r false → LiesAhead a r at_end
+seen_ahead Line r at_end is = is
+seen_ahead TooLong r at_end is = is
+seen_ahead Unended r at_end is = absurd (let e : false ≡ true = is.0 in cc e)
+seen_ahead Nothing r at_end is = absurd (let e : false ≡ true = is.0 in cc e)
+
+pub if_it_does : (a : Ahead) (X : Type 0) → X → IfGoesOn (Ok a) X
+if_it_does Line X x = x
+if_it_does TooLong X x = x
+if_it_does Unended X x = tt
+if_it_does Nothing X x = tt
+
+pub if_it_ends : (a : Ahead) (X : Type 0) → IfGoesOn (Ok a) ⊥ → IfGoesOn (Ok a) X
+if_it_ends Line X never = absurd never
+if_it_ends TooLong X never = absurd never
+if_it_ends Unended X never = tt
+if_it_ends Nothing X never = tt
+
+-- the fault of one read is that of all
+pub fault_since : (e : StreamFault) (start old new : BytesRead) (r after : LinesRead) → IsReadFault e after old new
+    → IsReadBy start new after → old.failures ≡ start.failures → (0 < r.reads → old.is_at_end ≡ false)
+    → (new ≡ old → after.reads ≡ r.reads) → IsStreamFault e start new
+fault_since (Frame n f) start old new r after fault is fine going same = fault
+fault_since (Truncated n have) start old new r after fault is fine going same = fault
+fault_since (Read n) start old new r after fault is fine going same =
+    let told : length new.bytes ≡ length (start.bytes ++ is.passed) + length after.held =
+    ap (λ (xs : List ℕ). length xs) is.told ∙ length-append (start.bytes ++ is.passed) after.held in (
+      omega (arith, told, length-append start.bytes is.passed, is.bytes, fault.0),
+      omega (arith, fault.1, fine),
+      fault.2,
+    )
+fault_since (Turns n) start old new r after fault is fine going same =
+    let told : length new.bytes ≡ length (start.bytes ++ is.passed) + length after.held =
+    ap (λ (xs : List ℕ). length xs) is.told ∙ length-append (start.bytes ++ is.passed) after.held in (
+      omega (arith, told, length-append start.bytes is.passed, is.bytes, fault.0),
+      ap (λ (h : BytesRead). h.failures) fault.2 ∙ fine,
+      omega (arith, is.calls, fault.1),
+      ap (λ (h : BytesRead). h.is_at_end) fault.2 ∙ going (omega (arith, same fault.2, fault.1)),
+    )
+fault_since Memory start old new r after fault is fine going same = absurd fault

@@ -1,0 +1,149 @@
+-- Bytes that begin no record begin none whatever comes behind them, for the same reason.
+use Rattle.std.proofs.Common.{◌≡◌, ℕ, zero, suc, ◌+◌, ◌^◌, ◌<◌, ◌≤◌, ◌&&◌, ◌++◌, List, [], ◌∷◌, length, get_or, ltb}
+use Rattle.std.proofs.Common.{Bool, true, false, cond, Some, None, refl, sym, ap, subst, ◌∙◌, arith, length-append}
+use Rattle.std.specs.Prelude.{nat_eq, nat_le, not}
+use Rattle.std.proofs.Math.Seq.{take-append_seam}
+use Rattle.std.proofs.lemmas.Bool.{and_parts, false≢true, le-ltb, ltb-false}
+use Rattle.mseed_time.specs.declared.order.Order.{Order}
+use Rattle.mseed_record.specs.Chain.{next_at, type_at}
+use Rattle.mseed_record.specs.Header.{blockette_at, has_fixed_bytes}
+use Rattle.mseed_record.specs.Order.{order_of}
+use Rattle.mseed_record.specs.Record.{exponent_at}
+use Rattle.mseed_record.specs.Scan.{Decides, DecidesFrom, at_1000, at_offset, by_chain, is_version3, no_data, no_order}
+use Rattle.mseed_record.specs.Scan.{version3}
+use Rattle.mseed_record.specs.declared.frame.FrameFault.{FrameFault}
+use Rattle.mseed_record.specs.declared.frame.FrameFault.TheVariants.{Chain, Length, No1000, Outside}
+use Rattle.mseed_record.specs.declared.frame.Scan.{Scan}
+use Rattle.mseed_record.specs.declared.frame.Scan.TheVariants.{Need, Record, Not}
+use Rattle.mseed_record.proofs.Answered.{none_at}
+use Rattle.mseed_record.proofs.Framed.{fixed_prefix, order_prefix, other_at}
+use Rattle.mseed_record.proofs.Needed.{number_more}
+use Rattle.mseed_record.proofs.Passing.{none_within}
+use Rattle.mseed_join.proofs.Digits.{some_is}
+
+-- ---- the header
+version3_long : (b : List ℕ) → is_version3 b ≡ true → 3 ≤ length b
+version3_long [] e = absurd (false≢true e)
+version3_long (x ∷ []) e = absurd (false≢true (and_parts (nat_eq 77 x) false e).1)
+version3_long (x ∷ y ∷ []) e =
+    let rest = (and_parts (nat_eq 77 x) (nat_eq 83 y && false) e).1 in
+    absurd (false≢true (and_parts (nat_eq 83 y) false rest).1)
+version3_long (x ∷ y ∷ z ∷ rest) e = omega arith
+
+version3_more : (prefix more : List ℕ) → 3 ≤ length prefix → is_version3 (prefix ++ more) ≡ is_version3 prefix
+version3_more [] more h = absurd (omega arith)
+version3_more (x ∷ []) more h = absurd (omega arith)
+version3_more (x ∷ y ∷ []) more h = absurd (omega arith)
+version3_more (x ∷ y ∷ z ∷ rest) more h = refl
+
+fixed_more : (prefix more : List ℕ) → 48 ≤ length prefix → has_fixed_bytes (prefix ++ more) ≡ has_fixed_bytes prefix
+fixed_more prefix more h =
+    sym (fixed_prefix (prefix ++ more) (length prefix) h)
+    ∙ ap (λ (b : List ℕ). has_fixed_bytes b) (take-append_seam prefix more)
+
+order_more : (prefix more : List ℕ) → 48 ≤ length prefix → order_of (prefix ++ more) ≡ order_of prefix
+order_more prefix more h =
+    sym (order_prefix (prefix ++ more) (length prefix) h)
+    ∙ ap (λ (b : List ℕ). order_of b) (take-append_seam prefix more)
+
+-- ---- a blockette
+byte_more : (prefix more : List ℕ) (i : ℕ) → i < length prefix → get_or (prefix ++ more) i 0 ≡ get_or prefix i 0
+byte_more [] more i h = absurd (omega (arith, h))
+byte_more (x ∷ prefix) more zero h = refl
+byte_more (x ∷ prefix) more (suc i) h = byte_more prefix more i (omega (arith, h))
+
+none_more : (order : Order) (prefix more : List ℕ) (low o : ℕ) → 0 < low → at_offset order prefix low o ≡ None
+    → at_offset order (prefix ++ more) low o ≡ None
+none_more order prefix more low o some e =
+    let within = none_within order prefix low o e in
+    let wide : o + 4 ≤ length (prefix ++ more) = omega (arith, within.1, length-append prefix more) in
+    let type : type_at order (prefix ++ more) o ≡ type_at order prefix o =
+    number_more order prefix more o (omega (arith, within.1)) in
+    none_at order (prefix ++ more) low o within.0 some wide (λ t. other_at order prefix low o e (sym type ∙ t))
+
+-- the first 1000, by its exponent
+by_exponent : (low short long wide : Bool) (e k : ℕ) (f : FrameFault)
+    → cond low (Not (Length e)) (cond short (Not Outside) (cond long (Need k) (Record k))) ≡ Not f
+    → cond low (Not (Length e)) (cond short (Not Outside) (cond wide (Need k) (Record k))) ≡ Not f
+by_exponent true short long wide e k f h = h
+by_exponent false true long wide e k f h = h
+by_exponent false false true wide e k f h = cc h
+by_exponent false false false wide e k f h = cc h
+
+at_1000_more : (prefix more : List ℕ) (o : ℕ) (f : FrameFault) → o + 8 ≤ length prefix → at_1000 prefix o ≡ Not f
+    → at_1000 (prefix ++ more) o ≡ Not f
+at_1000_more prefix more o f h d =
+    let all : List ℕ = prefix ++ more in
+    let e : ℕ = exponent_at prefix o in
+    let same : exponent_at all o ≡ exponent_at prefix o =
+    byte_more prefix more (o + 6) (omega (arith, h)) in
+    let moved : cond (not (nat_le 7 e && nat_le e 20)) (Not (Length e)) (cond (ltb (2 ^ e) (o + 8)) (Not Outside)
+    (cond (ltb (length all) (2 ^ e)) (Need (2 ^ e)) (Record (2 ^ e)))) ≡ Not f =
+    by_exponent (not (nat_le 7 e && nat_le e 20)) (ltb (2 ^ e) (o + 8)) (ltb (length prefix) (2 ^ e))
+    (ltb (length all) (2 ^ e)) e (2 ^ e) f d in
+    subst (λ (n : ℕ). cond (not (nat_le 7 n && nat_le n 20)) (Not (Length n)) (cond (ltb (2 ^ n) (o + 8)) (Not Outside)
+    (cond (ltb (length all) (2 ^ n)) (Need (2 ^ n)) (Record (2 ^ n)))) ≡ Not f) (sym same) moved
+
+-- where the steps stand: nothing that is missing is asked for
+by_offset : (none back four other eight far off wide : Bool) (k n : ℕ) (x y : Scan) (f : FrameFault)
+    → (four ≡ false → far ≡ false) → (four ≡ false → off ≡ other) → (eight ≡ false → wide ≡ false)
+    → (eight ≡ false → x ≡ Not f → y ≡ Not f)
+    → cond none (Some (Not No1000)) (cond back (Some (Not Chain)) (cond four (Some (Need k)) (cond other None
+    (cond eight (Some (Need n)) (Some x))))) ≡ Some (Not f)
+    → cond none (Some (Not No1000)) (cond back (Some (Not Chain)) (cond far (Some (Need k)) (cond off None
+    (cond wide (Some (Need n)) (Some y))))) ≡ Some (Not f)
+by_offset true back four other eight far off wide k n x y f p q r s h = h
+by_offset false true four other eight far off wide k n x y f p q r s h = h
+by_offset false false true other eight far off wide k n x y f p q r s h = cc h
+by_offset false false false true eight far off wide k n x y f p q r s h = cc h
+by_offset false false false false true far off wide k n x y f p q r s h = cc h
+by_offset false false false false false far off wide k n x y f p q r s h =
+    (λ i. cond (p refl i) (Some (Need k)) (cond (q refl i) None (cond (r refl i) (Some (Need n)) (Some y))))
+    ∙ ap (λ (z : Scan). Some z) (s refl (some_is x (Not f) h))
+
+-- what has so many bytes has them with more behind
+still : (n m k : ℕ) → n ≤ m → ltb n k ≡ false → ltb m k ≡ false
+still n m k l e = le-ltb m k (omega (arith, ltb-false n k e, l))
+
+at_offset_more : (order : Order) (prefix more : List ℕ) (low o : ℕ) (f : FrameFault)
+    → at_offset order prefix low o ≡ Some (Not f) → at_offset order (prefix ++ more) low o ≡ Some (Not f)
+at_offset_more order prefix more low o f h =
+    let all : List ℕ = prefix ++ more in
+    let wide : length prefix ≤ length all = omega (arith, length-append prefix more) in
+    by_offset (nat_eq o 0) (ltb o low) (ltb (length prefix) (o + 4)) (not (nat_eq (type_at order prefix o) 1000))
+    (ltb (length prefix) (o + 8)) (ltb (length all) (o + 4)) (not (nat_eq (type_at order all o) 1000))
+    (ltb (length all) (o + 8)) (o + 4) (o + 8) (at_1000 prefix o) (at_1000 all o) f
+    (still (length prefix) (length all) (o + 4) wide)
+    (λ e. ap (λ (n : ℕ). not (nat_eq n 1000))
+    (number_more order prefix more o (omega (arith, ltb-false (length prefix) (o + 4) e))))
+    (still (length prefix) (length all) (o + 8) wide)
+    (λ e. at_1000_more prefix more o f (ltb-false (length prefix) (o + 8) e)) h
+
+from_more : (order : Order) (prefix more : List ℕ) (low o : ℕ) (os : List ℕ) (f : FrameFault) → 0 < low
+    → DecidesFrom order prefix low o os (Not f) → DecidesFrom order (prefix ++ more) low o os (Not f)
+from_more order prefix more low o [] f some d = at_offset_more order prefix more low o f d
+from_more order prefix more low o (p ∷ os) f some d =
+    let within = none_within order prefix low o d.1 in
+    let next : next_at order (prefix ++ more) o ≡ next_at order prefix o =
+    number_more order prefix more (o + 2) (omega (arith, within.1)) in
+    let later = from_more order prefix more (o + 4) (next_at order prefix o) os f (omega arith) d.2 in (
+      d.0,
+      none_more order prefix more low o some d.1,
+      subst (λ (n : ℕ). DecidesFrom order (prefix ++ more) (o + 4) n os (Not f)) (sym next) later,
+    )
+
+pub refused_more : (prefix more : List ℕ) (f : FrameFault) → Decides prefix (Not f) → Decides (prefix ++ more) (Not f)
+refused_more prefix more _ (version3 e) = version3 (version3_more prefix more (version3_long prefix e) ∙ e)
+refused_more prefix more _ (no_data e l k) =
+    no_data (version3_more prefix more (omega (arith, l)) ∙ e) (omega (arith, l, length-append prefix more))
+    (fixed_more prefix more l ∙ k)
+refused_more prefix more _ (no_order e l k m) =
+    no_order (version3_more prefix more (omega (arith, l)) ∙ e) (omega (arith, l, length-append prefix more))
+    (fixed_more prefix more l ∙ k) (order_more prefix more l ∙ m)
+refused_more prefix more f (by_chain order os _ e l k m d) =
+    let begins : blockette_at order (prefix ++ more) ≡ blockette_at order prefix =
+    number_more order prefix more 46 (omega (arith, l)) in
+    by_chain order os (Not f) (version3_more prefix more (omega (arith, l)) ∙ e)
+    (omega (arith, l, length-append prefix more)) (fixed_more prefix more l ∙ k) (order_more prefix more l ∙ m)
+    (subst (λ (n : ℕ). DecidesFrom order (prefix ++ more) 48 n os (Not f)) (sym begins)
+    (from_more order prefix more 48 (blockette_at order prefix) os f (omega arith) d))

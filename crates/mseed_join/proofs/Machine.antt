@@ -1,0 +1,190 @@
+-- Parts as lists of lines, and how reading goes along them.
+use Rattle.std.proofs.Common.{◌≡◌, ℕ, zero, suc, ◌+◌, ◌<◌, ◌^◌, List, [], ◌∷◌, ◌++◌, length, Option, Some, None}
+use Rattle.std.proofs.Common.{refl, sym, ap, ◌∙◌, subst, arith, append_assoc, append-nil, IfSome}
+use Rattle.std.specs.List.{AllByRecursion}
+use Rattle.std.proofs.lemmas.List.{length-append}
+use Rattle.mseed_stream.specs.declared.fault.StreamFault.{StreamFault}
+use Rattle.mseed_audit.specs.declared.channel.Channel.{Channel}
+use Rattle.mseed_audit.specs.Text.{end_line, fault_line}
+use Rattle.mseed_join.specs.Lines.{Line, header, channel, counts, faults, fault, text_of_line, IsLine, header_line}
+use Rattle.mseed_join.specs.Lines.{counts_line, faults_line, HasChannelLine, HasFaultLine}
+use Rattle.mseed_join.specs.Written.{Written, HasText, channel_lines, part_text, texts}
+use Rattle.mseed_join.specs.Reached.{Behind, none, begun, whole, Stage, part_behind, text_behind}
+use Rattle.mseed_join.specs.private.Steps.{May, to}
+use Rattle.mseed_join.proofs.Ended.{IsEnded, ended, same_line}
+use Rattle.mseed_join.proofs.OneLine.{line_one}
+
+abbrev pub Entries : Type 0
+Entries = List (List ℕ × Channel)
+
+-- ---- the lines of parts
+abbrev pub lines_text : List Line → List ℕ
+lines_text [] = []
+lines_text (x ∷ xs) = text_of_line x ++ lines_text xs
+
+abbrev pub AreAll : List Line → Type 0
+AreAll xs = AllByRecursion IsLine xs
+
+abbrev pub rows : Entries → List Line
+rows [] = []
+rows (e ∷ es) = channel e.0 e.1 ∷ rows es
+
+abbrev pub faults_row : ℕ → List Line
+faults_row zero = []
+faults_row (suc n) = faults (suc n) ∷ []
+
+abbrev pub end_row : ℕ → Option StreamFault → List Line
+end_row bytes None = []
+end_row bytes (Some f) = fault bytes f ∷ []
+
+abbrev pub part_rows : Written → List Line
+part_rows w =
+    header ∷ (rows w.part.channels ++ counts w.part.records w.part.bytes ∷ (faults_row w.faults
+    ++ end_row w.part.bytes w.end))
+
+abbrev pub all_rows : List Written → List Line
+all_rows [] = []
+all_rows (w ∷ ws) = part_rows w ++ all_rows ws
+
+abbrev pub rows_behind : Behind → List Line
+rows_behind none = []
+rows_behind (begun channels) = header ∷ rows channels
+rows_behind (whole w) = part_rows w
+
+-- ---- their texts
+pub text_append : (xs ys : List Line) → lines_text (xs ++ ys) ≡ lines_text xs ++ lines_text ys
+text_append [] ys = refl
+text_append (x ∷ xs) ys =
+    ap (λ (t : List ℕ). text_of_line x ++ t) (text_append xs ys)
+    ∙ sym (append_assoc (text_of_line x) (lines_text xs) (lines_text ys))
+
+rows_text : (es : Entries) → lines_text (rows es) ≡ channel_lines es
+rows_text [] = refl
+rows_text (e ∷ es) = ap (λ (t : List ℕ). text_of_line (channel e.0 e.1) ++ t) (rows_text es)
+
+faults_text : (n : ℕ) → lines_text (faults_row n) ≡ faults_line n
+faults_text zero = refl
+faults_text (suc n) = append-nil (faults_line (suc n))
+
+end_text : (bytes : ℕ) (end : Option StreamFault) → lines_text (end_row bytes end) ≡ end_line end
+end_text bytes None = refl
+end_text bytes (Some f) = append-nil (fault_line f)
+
+pub part_text_is : (w : Written) → lines_text (part_rows w) ≡ part_text w
+part_text_is w =
+    let a : List ℕ = channel_lines w.part.channels in
+    let b : List ℕ = counts_line w.part.records w.part.bytes in
+    let tail : lines_text (faults_row w.faults ++ end_row w.part.bytes w.end) ≡ faults_line w.faults ++ end_line w.end =
+    text_append (faults_row w.faults) (end_row w.part.bytes w.end)
+    ∙ (λ i. faults_text w.faults i ++ end_text w.part.bytes w.end i) in
+    ap (λ (t : List ℕ). header_line ++ t)
+    (text_append (rows w.part.channels) (counts w.part.records w.part.bytes ∷ (faults_row w.faults
+    ++ end_row w.part.bytes w.end))
+    ∙ (λ i. rows_text w.part.channels i ++ (b ++ tail i)))
+    ∙ joined header_line a b (faults_line w.faults) (end_line w.end)
+  where
+    joined : (h a b f e : List ℕ) → h ++ (a ++ (b ++ (f ++ e))) ≡ h ++ a ++ b ++ f ++ e
+    joined h a b f e = sym (simp append_assoc)
+
+pub texts_are : (ws : List Written) → lines_text (all_rows ws) ≡ texts ws
+texts_are [] = refl
+texts_are (w ∷ ws) = text_append (part_rows w) (all_rows ws) ∙ (λ i. part_text_is w i ++ texts_are ws i)
+
+pub behind_text_is : (b : Behind) → lines_text (rows_behind b) ≡ text_behind b
+behind_text_is none = refl
+behind_text_is (begun channels) = ap (λ (t : List ℕ). header_line ++ t) (rows_text channels)
+behind_text_is (whole w) = part_text_is w
+
+-- ---- and their ranges
+pub all_append : (P : Line → Type 0) (xs ys : List Line) → AllByRecursion P xs → AllByRecursion P ys
+    → AllByRecursion P (xs ++ ys)
+all_append P [] ys p q = q
+all_append P (x ∷ xs) ys p q = (p.0, all_append P xs ys p.1 q)
+
+rows_are : (es : Entries) → AllByRecursion (λ (e : List ℕ × Channel). HasChannelLine e.0 e.1) es → AreAll (rows es)
+rows_are [] h = h
+rows_are (e ∷ es) h = (h.0, rows_are es h.1)
+
+faults_are : (n : ℕ) → n < 2 ^ 63 → AreAll (faults_row n)
+faults_are zero l = tt
+faults_are (suc n) l = (record { some = omega arith; fit = l }, tt)
+
+end_are : (bytes : ℕ) (end : Option StreamFault) → IfSome end (λ f. HasFaultLine bytes f)
+    → AreAll (end_row bytes end)
+end_are bytes None h = tt
+end_are bytes (Some f) h = (h, tt)
+
+pub part_are : (w : Written) → HasText w → AreAll (part_rows w)
+part_are w h = (
+  tt,
+  all_append IsLine (rows w.part.channels) (counts w.part.records w.part.bytes ∷ (faults_row w.faults
+      ++ end_row w.part.bytes w.end)) (rows_are w.part.channels h.channels) (
+        h.counts,
+        all_append IsLine (faults_row w.faults) (end_row w.part.bytes w.end) (faults_are w.faults h.faults)
+            (end_are w.part.bytes w.end h.end),
+      ),
+)
+
+pub texts_all : (ws : List Written) → AllByRecursion HasText ws → AreAll (all_rows ws)
+texts_all [] h = tt
+texts_all (w ∷ ws) h = all_append IsLine (part_rows w) (all_rows ws) (part_are w h.0) (texts_all ws h.1)
+
+pub behind_all : (b : Behind) → AllByRecursion HasText (part_behind b) → AreAll (rows_behind b)
+behind_all none h = tt
+behind_all (begun channels) h = (tt, rows_are channels h.0.channels)
+behind_all (whole w) h = part_are w h.0
+
+-- ---- bytes are the lines of one list
+-- what lies behind lines that begin a text
+pub record LeavesLines (ys xs : List Line) (rest : List ℕ) : Type 0 where
+  pub others : List Line
+  pub lines : ys ≡ xs ++ others
+  pub text : rest ≡ lines_text others
+  pub are : AreAll others
+
+pub nothing_first : (x : Line) (rest : List ℕ) → IsLine x → text_of_line x ++ rest ≡ [] → ⊥
+nothing_first x rest l e =
+    let t : IsEnded (text_of_line x) = ended x l in
+    let some : length (text_of_line x) ≡ length t.body + 1 = ap length t.is ∙ length-append t.body (10 ∷ []) in
+    let zero_all : length (text_of_line x ++ rest) ≡ 0 = ap length e in
+    absurd (omega (arith, some, zero_all, length-append (text_of_line x) rest))
+
+first_same : (x y : Line) (r s : List ℕ) → IsLine x → IsLine y → text_of_line x ++ r ≡ text_of_line y ++ s
+    → (x ≡ y) × (r ≡ s)
+first_same x y r s l m e =
+    let t : IsEnded (text_of_line x) = ended x l in
+    let u : IsEnded (text_of_line y) = ended y m in
+    let same : t.body ++ 10 ∷ r ≡ u.body ++ 10 ∷ s =
+    sym (append_assoc t.body (10 ∷ []) r) ∙ ap (λ (a : List ℕ). a ++ r) (sym t.is) ∙ e
+    ∙ ap (λ (a : List ℕ). a ++ s) u.is ∙ append_assoc u.body (10 ∷ []) s in
+    let both = same_line t.body u.body r s t.is_plain u.is_plain same in
+    (line_one x y l m (t.is ∙ ap (λ (a : List ℕ). a ++ 10 ∷ []) both.0 ∙ sym u.is), both.1)
+
+pub leaves : (xs ys : List Line) (rest : List ℕ) → AreAll xs → AreAll ys → lines_text xs ++ rest ≡ lines_text ys
+    → LeavesLines ys xs rest
+leaves [] ys rest p q e = record { others = ys; lines = refl; text = e; are = q }
+leaves (x ∷ xs) [] rest p q e =
+    absurd (nothing_first x (lines_text xs ++ rest) p.0
+    (sym (append_assoc (text_of_line x) (lines_text xs) rest) ∙ e))
+leaves (x ∷ xs) (y ∷ ys) rest p q e =
+    let both = first_same x y (lines_text xs ++ rest) (lines_text ys) p.0 q.0
+    (sym (append_assoc (text_of_line x) (lines_text xs) rest) ∙ e) in
+    let more : LeavesLines ys xs rest = leaves xs ys rest p.1 q.1 both.1 in record {
+      others = more.others;
+      lines = (λ i. sym both.0 i ∷ more.lines i);
+      text = more.text;
+      are = more.are;
+    }
+
+-- ---- how reading goes along lines
+abbrev pub Runs : Stage → List Line → Stage → Type 0
+Runs s [] t = s ≡ t
+Runs s (x ∷ xs) t = May s.behind x × Runs (to s x) xs t
+
+pub runs_on : (s m t : Stage) (xs ys : List Line) → Runs s xs m → Runs m ys t → Runs s (xs ++ ys) t
+runs_on s m t [] ys p q = subst (λ (n : Stage). Runs n ys t) (sym p) q
+runs_on s m t (x ∷ xs) ys p q = (p.0, runs_on (to s x) m t xs ys p.1 q)
+
+pub runs_rest : (s m t : Stage) (xs ys : List Line) → Runs s xs m → Runs s (xs ++ ys) t → Runs m ys t
+runs_rest s m t [] ys p q = subst (λ (n : Stage). Runs n ys t) p q
+runs_rest s m t (x ∷ xs) ys p q = runs_rest (to s x) m t xs ys p.1 q.1

@@ -1,0 +1,221 @@
+-- The ranges of what a record says.
+use Rattle.std.proofs.Common.{◌≡◌, ℕ, zero, suc, ℤ, pos, negsuc, ◌+◌, ◌-◌, ◌*◌, ◌^◌, ◌<◌, ◌≤◌, ◌+ℤ◌, ◌-ℤ◌, List, get_or}
+use Rattle.std.proofs.Common.{ltb, Bool, true, false, cond, Option, Some, None, refl, sym, ap, subst, ◌∙◌, arith}
+use Rattle.std.proofs.Common.{⊎_elim, unsigned_abs}
+use Rattle.std.specs.Prelude.{⊤, slice_index, neg_ℤ, ◌≤ℤ◌, ◌*ℤ◌}
+use Rattle.std.proofs.Math.Nat.{div-le_self}
+use Rattle.std.proofs.lemmas.Bool.{cases_lt, lt-ltb, le-ltb}
+use Rattle.std.proofs.lemmas.Bool.Decides.{nat_tests}
+use Rattle.std.proofs.lemmas.Int.{ints, unsigned_abs-mul}
+use Rattle.std.proofs.lemmas.Nat.{mul-le}
+use Rattle.mseed_time.specs.Btime.{Parts, IsInstant, IsTime, day_of, days_in_year, first_fault, is_leap, instant_of}
+use Rattle.mseed_time.specs.Btime.{shift_of}
+use Rattle.mseed_time.specs.Fields.{number_at}
+use Rattle.mseed_time.specs.Join.{join_of, miss_of, missed_by, step_of}
+use Rattle.mseed_time.specs.Rate.{Ratio, IsRatio, rate_of}
+use Rattle.mseed_time.specs.declared.fault.TimeFault.{TimeFault}
+use Rattle.mseed_time.specs.declared.outcome.Join.{Join}
+use Rattle.mseed_time.specs.declared.outcome.Join.TheVariants.{Meets, Late, Early}
+use Rattle.mseed_time.specs.declared.outcome.LeapStep.{LeapStep}
+use Rattle.mseed_time.specs.declared.outcome.LeapStep.TheVariants.{Plus, Minus}
+use Rattle.mseed_record.specs.Header.{factor_at, multiplier_at, correction_at, time_at}
+use Rattle.mseed_record.specs.View.{View, IsView, microseconds_at, start_of}
+use Rattle.mseed_steim.specs.Reading.{count_of}
+use Rattle.mseed_steim.proofs.Framed.{minus}
+use Rattle.mseed_steim.proofs.Integers.{number_lt}
+use Rattle.mseed_audit.specs.Judging.{known_rate, rate_in, rate_unless, time_fault_of}
+use Rattle.mseed_join.proofs.Digits.{some_is}
+
+abbrev pub AreOctets : List ℕ → Type 0
+AreOctets bytes = (i : ℕ) → get_or bytes i 0 < 256
+
+pub octets_of : (v : View) → IsView v → AreOctets v.bytes
+octets_of v is = is.1.1.1.record_is.octets
+
+-- ---- two's complement
+abbrev IsBetween : ℕ → ℤ → Type 0
+IsBetween half (pos n) = n < half
+IsBetween half (negsuc n) = n < half
+
+minus_all : (x m : ℕ) → x < m → pos x -ℤ pos m ≡ negsuc (m - 1 - x)
+minus_all x zero h = absurd (omega arith)
+minus_all x (suc m) h = minus x m h ∙ ap negsuc (omega arith)
+
+complement : (half x : ℕ) → x < half + half
+    → IsBetween half (cond (ltb x half) (pos x) (pos x -ℤ pos (half + half)))
+complement half x small = ⊎_elim
+    (λ (low : x < half). rw (lt-ltb x half low) low)
+    (λ (high : half ≤ x). rw (le-ltb x half high, minus_all x (half + half) small) (omega (arith, high, small)))
+    (cases_lt x half)
+
+number_two : (v : View) → IsView v → (o : ℕ) → number_at v.order 2 o v.bytes < 2 ^ 16
+number_two v is o = omega (arith, number_lt v.order 2 o v.bytes (octets_of v is))
+
+number_four : (v : View) → IsView v → (o : ℕ) → number_at v.order 4 o v.bytes < 2 ^ 32
+number_four v is o = omega (arith, number_lt v.order 4 o v.bytes (octets_of v is))
+
+-- the number of samples
+pub count_small : (v : View) → IsView v → count_of v < 2 ^ 16
+count_small v is = number_two v is 30
+
+-- ---- the rate
+product : (a b : ℕ) → 0 < a → 0 < b → a ≤ 2 ^ 15 → b ≤ 2 ^ 15 → (0 < a * b) × (a * b ≤ 2 ^ 30)
+product a b some any small few = (omega (arith, mul-le 1 1 a b some any), omega (arith, mul-le a b _ _ small few))
+
+ratio_one : (f m : ℤ) (r : Ratio) → IsBetween (2 ^ 15) f → IsBetween (2 ^ 15) m → rate_of f m ≡ Some r → IsRatio r
+ratio_one (pos zero) m r h k e = cc e
+ratio_one (pos (suc f)) (pos zero) r h k e = cc e
+ratio_one (pos (suc f)) (pos (suc m)) r h k e =
+    let both = product (suc f) (suc m) (omega arith) (omega arith) (omega (arith, h)) (omega (arith, k)) in
+    subst IsRatio (some_is (record { num = suc f * suc m; den = 1 }) r e)
+    (record { num_counts = both.0; num_bound = both.1; den_counts = omega arith; den_bound = omega arith })
+ratio_one (pos (suc f)) (negsuc m) r h k e =
+    subst IsRatio (some_is (record { num = suc f; den = suc m }) r e)
+    (record {
+      num_counts = omega arith;
+      num_bound = omega (arith, h);
+      den_counts = omega arith;
+      den_bound = omega (arith, k);
+    })
+ratio_one (negsuc f) (pos zero) r h k e = cc e
+ratio_one (negsuc f) (pos (suc m)) r h k e =
+    subst IsRatio (some_is (record { num = suc m; den = suc f }) r e)
+    (record {
+      num_counts = omega arith;
+      num_bound = omega (arith, k);
+      den_counts = omega arith;
+      den_bound = omega (arith, h);
+    })
+ratio_one (negsuc f) (negsuc m) r h k e =
+    let both = product (suc f) (suc m) (omega arith) (omega arith) (omega (arith, h)) (omega (arith, k)) in
+    subst IsRatio (some_is (record { num = 1; den = suc f * suc m }) r e)
+    (record { num_counts = omega arith; num_bound = omega arith; den_counts = both.0; den_bound = both.1 })
+
+unless_some : (o : Option TimeFault) (rate : Option Ratio) (r : Ratio) → rate_unless o rate ≡ Some r
+    → (o ≡ None) × (rate ≡ Some r)
+unless_some None rate r e = (refl, e)
+unless_some (Some fault) rate r e = cc e
+
+pub rate_within : (v : View) (r : Ratio) → IsView v → known_rate v ≡ Some r → IsRatio r
+rate_within v r is e =
+    ratio_one (factor_at v.order v.bytes) (multiplier_at v.order v.bytes) r
+    (complement (2 ^ 15) (number_at v.order 2 32 v.bytes) (number_two v is 32))
+    (complement (2 ^ 15) (number_at v.order 2 34 v.bytes) (number_two v is 34))
+    (unless_some (time_fault_of v) (rate_in v) r e).1
+
+-- ---- the start
+is_time : (t : Parts) → first_fault t ≡ None → IsTime t
+is_time t e = grind (arith, nat_tests, e)
+
+year_days : (year : ℕ) → days_in_year year ≤ 366
+year_days year = by (is_leap year)
+  where
+    by : (b : Bool) → cond b 366 365 ≤ 366
+    by true = omega arith
+    by false = omega arith
+
+day_within : (year day : ℕ) → 1900 ≤ year → year ≤ 2100 → 1 ≤ day → day ≤ 366 → (neg_ℤ (pos 30_000) ≤ℤ day_of year day)
+    × (day_of year day ≤ℤ pos 50_000)
+day_within year day low high first last =
+    (omega (arith, ints, low, high, first, last), omega (arith, ints, low, high, first, last))
+
+within : (day shift us : ℤ) (hour minute second fraction : ℕ) → neg_ℤ (pos 30_000) ≤ℤ day → day ≤ℤ pos 50_000
+    → hour ≤ 23 → minute ≤ 59 → second ≤ 60 → fraction ≤ 9999 → neg_ℤ (pos 300_000_000_000) ≤ℤ shift
+    → shift ≤ℤ pos 300_000_000_000 → neg_ℤ (pos 128) ≤ℤ us → us ≤ℤ pos 128
+    → IsInstant ((((day *ℤ pos 24 +ℤ pos hour) *ℤ pos 60 +ℤ pos minute) *ℤ pos 60 +ℤ pos second) *ℤ pos (10 ^ 6)
+    +ℤ pos (100 * fraction) +ℤ shift +ℤ us)
+within day shift us hour minute second fraction low high h m s f below above least most = (
+  omega (arith, ints, low, high, h, m, s, f, below, above, least, most),
+  omega (arith, ints, low, high, h, m, s, f, below, above, least, most),
+)
+
+shift_within : (c : ℤ) (b : Bool) → IsBetween (2 ^ 31) c → (neg_ℤ (pos 300_000_000_000) ≤ℤ shift_of c b)
+    × (shift_of c b ≤ℤ pos 300_000_000_000)
+shift_within c true h = (omega (arith, ints), omega (arith, ints))
+shift_within (pos n) false h = (omega (arith, ints, h), omega (arith, ints, h))
+shift_within (negsuc n) false h = (omega (arith, ints, h), omega (arith, ints, h))
+
+bounds : (z : ℤ) → IsBetween 128 z → (neg_ℤ (pos 128) ≤ℤ z) × (z ≤ℤ pos 128)
+bounds (pos n) h = (omega (arith, ints, h), omega (arith, ints, h))
+bounds (negsuc n) h = (omega (arith, ints, h), omega (arith, ints, h))
+
+micros_between : (b : List ℕ) (o : Option ℕ) → AreOctets b → IsBetween 128 (microseconds_at b o)
+micros_between b (Some o) octets = complement 128 (slice_index b (o + 5)) (omega (arith, octets (o + 5)))
+micros_between b None octets = omega arith
+
+timed : (t : Parts) (c us : ℤ) (b : Bool) → IsTime t → IsBetween (2 ^ 31) c → IsBetween 128 us
+    → IsInstant (instant_of t c b us)
+timed t c us b valid correction micros =
+    let few = year_days t.year in
+    let day = day_within t.year t.day valid.0 valid.1 valid.2 (omega (arith, valid.3, few)) in
+    let shift = shift_within c b correction in
+    let last = bounds us micros in
+    within (day_of t.year t.day) (shift_of c b) us t.hour t.minute t.second t.fraction day.0 day.1 valid.4 valid.5
+    valid.6 valid.7 shift.0 shift.1 last.0 last.1
+
+pub start_within : (v : View) (r : Ratio) → IsView v → known_rate v ≡ Some r → IsInstant (start_of v)
+start_within v r is e =
+    timed (time_at v.order v.bytes) (correction_at v.order v.bytes) v.microseconds _
+    (is_time (time_at v.order v.bytes) (unless_some (time_fault_of v) (rate_in v) r e).0)
+    (complement (2 ^ 31) (number_at v.order 4 40 v.bytes) (number_four v is 40))
+    (subst (λ (z : ℤ). IsBetween 128 z) (sym is.1.1.1.microseconds_is)
+    (micros_between v.bytes _ (octets_of v is)))
+
+-- ---- gaps and overlaps
+abbrev pub JoinFits : Join → Type 0
+JoinFits Meets = ⊤
+JoinFits (Late us) = us < 2 ^ 128
+JoinFits (Early us) = us < 2 ^ 128
+
+missed_fits : (miss : ℤ) (num : ℕ) → unsigned_abs miss < 2 ^ 128 → JoinFits (missed_by miss num)
+missed_fits (pos n) num h = omega (arith, div-le_self n num, h)
+missed_fits (negsuc n) num h = omega (arith, div-le_self (suc n) num, h)
+
+join_by_fits : (b : Bool) (miss : ℤ) (num : ℕ) → unsigned_abs miss < 2 ^ 128
+    → JoinFits (cond b Meets (missed_by miss num))
+join_by_fits true miss num h = tt
+join_by_fits false miss num h = missed_fits miss num h
+
+abs_low : (z : ℤ) (n : ℕ) → neg_ℤ (pos n) ≤ℤ z → z ≤ℤ pos n → unsigned_abs z ≤ n
+abs_low (pos m) n low high = omega (arith, ints, low, high)
+abs_low (negsuc m) n low high = omega (arith, ints, low, high)
+
+abs_bounds : (z : ℤ) (n : ℕ) → unsigned_abs z ≤ n → (neg_ℤ (pos n) ≤ℤ z) × (z ≤ℤ pos n)
+abs_bounds (pos m) n h = (omega (arith, ints, h), omega (arith, ints, h))
+abs_bounds (negsuc m) n h = (omega (arith, ints, h), omega (arith, ints, h))
+
+passed : (start next : ℤ) (step : Option LeapStep) → IsInstant start → IsInstant next
+    → unsigned_abs (next -ℤ start +ℤ step_of step) ≤ 2 ^ 54
+passed start next None h k =
+    abs_low (next -ℤ start +ℤ pos 0) (2 ^ 54) (omega (arith, ints, h.0, h.1, k.0, k.1))
+    (omega (arith, ints, h.0, h.1, k.0, k.1))
+passed start next (Some Plus) h k =
+    abs_low (next -ℤ start +ℤ pos (10 ^ 6)) (2 ^ 54) (omega (arith, ints, h.0, h.1, k.0, k.1))
+    (omega (arith, ints, h.0, h.1, k.0, k.1))
+passed start next (Some Minus) h k =
+    abs_low (next -ℤ start +ℤ negsuc 999_999) (2 ^ 54) (omega (arith, ints, h.0, h.1, k.0, k.1))
+    (omega (arith, ints, h.0, h.1, k.0, k.1))
+
+less : (a : ℤ) (d : ℕ) → unsigned_abs a ≤ 2 ^ 84 → d ≤ 2 ^ 84 → unsigned_abs (a -ℤ pos d) < 2 ^ 128
+less a d h k =
+    let both = abs_bounds a (2 ^ 84) h in
+    let small : unsigned_abs (a -ℤ pos d) ≤ 2 ^ 85 =
+    abs_low (a -ℤ pos d) (2 ^ 85) (omega (arith, ints, both.0, both.1, k)) (omega (arith, ints, both.0, both.1, k)) in
+    omega (arith, small)
+
+miss_small : (start : ℤ) (n : ℕ) (rate : Ratio) (step : Option LeapStep) (next : ℤ) → IsInstant start → n < 2 ^ 16
+    → IsRatio rate → IsInstant next → unsigned_abs (miss_of start n rate step next) < 2 ^ 128
+miss_small start n rate step next h few ratio k =
+    let way : ℤ = next -ℤ start +ℤ step_of step in
+    let scaled : unsigned_abs way * rate.num ≤ 2 ^ 54 * 2 ^ 30 =
+    mul-le (unsigned_abs way) rate.num (2 ^ 54) (2 ^ 30) (passed start next step h k) ratio.num_bound in
+    let first : unsigned_abs (way *ℤ pos rate.num) ≤ 2 ^ 84 =
+    omega (arith, unsigned_abs-mul way (pos rate.num), scaled) in
+    let due : n * rate.den ≤ 2 ^ 16 * 2 ^ 30 =
+    mul-le n rate.den (2 ^ 16) (2 ^ 30) (omega (arith, few)) ratio.den_bound in
+    less (way *ℤ pos rate.num) (n * rate.den * 10 ^ 6) first (omega (arith, due))
+
+pub join_fits : (start : ℤ) (n : ℕ) (rate : Ratio) (step : Option LeapStep) (next : ℤ) → IsInstant start → n < 2 ^ 16
+    → IsRatio rate → IsInstant next → JoinFits (join_of start n rate step next)
+join_fits start n rate step next h few ratio k =
+    join_by_fits _ (miss_of start n rate step next) rate.num (miss_small start n rate step next h few ratio k)

@@ -1,0 +1,328 @@
+-- What is read so far, with one more line.
+use Rattle.std.proofs.Common.{◌≡◌, ℕ, ◌+◌, List, [], ◌∷◌, ◌++◌, Bool, true, false, Option}
+use Rattle.std.proofs.Common.{Some, None, length, refl, sym, ap, ◌∙◌, subst, arith, append_assoc, append-nil}
+use Rattle.std.proofs.Common.{inl, inr, ◌⊎◌}
+use Rattle.std.specs.List.{AllByRecursion}
+use Rattle.std.specs.List.Sorted.{IsStrictlySortedBy}
+use Rattle.std.specs.Option.{option_map}
+use Rattle.std.proofs.lemmas.List.{length-append}
+use Rattle.mseed_stream.specs.declared.fault.StreamFault.{StreamFault}
+use Rattle.mseed_audit.specs.Text.{end_line, fault_line}
+use Rattle.mseed_audit.specs.declared.channel.Channel.{Channel}
+use Rattle.mseed_join.specs.Lines.{Line, header, channel, counts, faults, fault, text_of_line, IsLine, header_line}
+use Rattle.mseed_join.specs.Lines.{channel_line, counts_line, faults_line, HasChannelLine, HasFaultLine}
+use Rattle.mseed_join.specs.Written.{Written, HasText, channel_lines, part_text, texts}
+use Rattle.mseed_join.specs.Joined.{AreJoined, none as no_more, one, IsNext, IsJointOf, counted, counted_by}
+use Rattle.mseed_join.specs.Joined.{moved_fault}
+use Rattle.mseed_join.specs.Joined.{nothing}
+use Rattle.mseed_join.specs.Reached.{Behind, none, begun, whole, Stage, begun_part, part_behind, parts_at, text_behind}
+use Rattle.mseed_join.specs.Reached.{IsStage, IsWhere, passed_from, passed_lines, passed_line, passed_of}
+use Rattle.mseed_join.specs.private.Steps.{May, to, goes, counted_part, with_faults, with_end}
+use Rattle.mseed_join.proofs.Machine.{Entries}
+use Rattle.mseed_join.proofs.Running.{HaveTexts, texts_before, texts_behind}
+use Rattle.mseed_join.proofs.Sums.{IsFirst, IsSplit, first_of, none_of, split, glue, stop}
+
+-- ---- the text
+texts_append : (ws vs : List Written) → texts (ws ++ vs) ≡ texts ws ++ texts vs
+texts_append [] vs = refl
+texts_append (w ∷ ws) vs =
+    ap (λ (t : List ℕ). part_text w ++ t) (texts_append ws vs) ∙ sym (append_assoc (part_text w) (texts ws) (texts vs))
+
+texts_one : (ws : List Written) (w : Written) → texts (ws ++ w ∷ []) ≡ texts ws ++ part_text w
+texts_one ws w = texts_append ws (w ∷ []) ∙ ap (λ (t : List ℕ). texts ws ++ t) (append-nil (part_text w))
+
+rows_one : (cs : Entries) (key : List ℕ) (c : Channel)
+    → channel_lines (cs ++ (key, c) ∷ []) ≡ channel_lines cs ++ channel_line key c
+rows_one [] key c = append-nil (channel_line key c)
+rows_one (d ∷ cs) key c =
+    ap (λ (t : List ℕ). channel_line d.0 d.1 ++ t) (rows_one cs key c)
+    ∙ sym (append_assoc (channel_line d.0 d.1) (channel_lines cs) (channel_line key c))
+
+-- a part's text without what may stand behind its counts
+abbrev front : Written → List ℕ
+front w = header_line ++ channel_lines w.part.channels ++ counts_line w.part.records w.part.bytes
+
+text_more : (over : List Written) (b : Behind) (x : Line) → IsWhere over b → May b x
+    → texts over ++ text_behind b ++ text_of_line x ≡ texts (goes over b x).over ++ text_behind (goes over b x).behind
+text_more over none header w m =
+    (λ i. append-nil (texts over) i ++ sym (append-nil header_line) i)
+text_more over none (channel k c) w m = absurd m
+text_more over none (counts n l) w m = absurd m
+text_more over none (faults n) w m = absurd m
+text_more over none (fault l f) w m = absurd m
+text_more over (begun cs) header w m = absurd m
+text_more over (begun cs) (channel k c) w m =
+    append_assoc (texts over) (header_line ++ channel_lines cs) (channel_line k c)
+    ∙ ap (λ (t : List ℕ). texts over ++ t)
+    (append_assoc header_line (channel_lines cs) (channel_line k c)
+    ∙ ap (λ (t : List ℕ). header_line ++ t) (sym (rows_one cs k c)))
+text_more over (begun cs) (counts n l) w m =
+    append_assoc (texts over) (header_line ++ channel_lines cs) (counts_line n l)
+    ∙ ap (λ (t : List ℕ). texts over ++ t)
+    (sym (append-nil (header_line ++ channel_lines cs ++ counts_line n l ++ [])
+    ∙ append-nil (header_line ++ channel_lines cs ++ counts_line n l)))
+text_more over (begun cs) (faults n) w m = absurd m
+text_more over (begun cs) (fault l f) w m = absurd m
+text_more over (whole v) header w m =
+    (λ i. sym (texts_one over v) i ++ sym (append-nil header_line) i)
+text_more over (whole v) (channel k c) w m = absurd m
+text_more over (whole v) (counts n l) w m = absurd m
+text_more over (whole v) (faults n) w m =
+    append_assoc (texts over) (part_text v) (faults_line n)
+    ∙ ap (λ (t : List ℕ). texts over ++ t)
+    ((λ i. front v ++ faults_line (m i) ++ end_line (w i) ++ faults_line n)
+    ∙ ap (λ (t : List ℕ). t ++ faults_line n) (append-nil (front v ++ []) ∙ append-nil (front v))
+    ∙ sym (append-nil (front v ++ faults_line n))
+    ∙ (λ i. front v ++ faults_line n ++ end_line (sym w i)))
+text_more over (whole v) (fault l f) w m =
+    append_assoc (texts over) (part_text v) (fault_line f)
+    ∙ ap (λ (t : List ℕ). texts over ++ t)
+    ((λ i. front v ++ faults_line v.faults ++ end_line (w i) ++ fault_line f)
+    ∙ ap (λ (t : List ℕ). t ++ fault_line f) (append-nil (front v ++ faults_line v.faults)))
+    ∙ sym (texts_one over (with_end v f)) ∙ sym (append-nil (texts (over ++ with_end v f ∷ [])))
+
+-- ---- the parts' ranges
+pub texts_join : (ws vs : List Written) → HaveTexts ws → HaveTexts vs → HaveTexts (ws ++ vs)
+texts_join [] vs h k = k
+texts_join (w ∷ ws) vs h k = (h.0, texts_join ws vs h.1 k)
+
+entries_one : (P : List ℕ × Channel → Type 0) (cs : Entries) (e : List ℕ × Channel) → AllByRecursion P cs → P e
+    → AllByRecursion P (cs ++ e ∷ [])
+entries_one P [] e h k = (k, tt)
+entries_one P (d ∷ cs) e h k = (h.0, entries_one P cs e h.1 k)
+
+empty_text : HasText (begun_part [])
+unfolding IsStrictlySortedBy
+empty_text = record {
+  ascending = tt;
+  channels = tt;
+  counts = record { records_fit = omega arith; bytes_fit = omega arith };
+  faults = omega arith;
+  end = tt;
+}
+
+each_more : (over : List Written) (b : Behind) (x : Line) → IsLine x → IsWhere over b → May b x
+    → HaveTexts (over ++ part_behind b) → HaveTexts (parts_at (goes over b x))
+each_more over none header l w m h =
+    texts_join over (begun_part [] ∷ []) (texts_before over [] h) (empty_text, tt)
+each_more over none (channel k c) l w m h = absurd m
+each_more over none (counts n k) l w m h = absurd m
+each_more over none (faults n) l w m h = absurd m
+each_more over none (fault k f) l w m h = absurd m
+each_more over (begun cs) header l w m h = absurd m
+each_more over (begun cs) (channel k c) l w m h =
+    let has : HasText (begun_part cs) = (texts_behind over (begun_part cs ∷ []) h).0 in
+    texts_join over (begun_part (cs ++ (k, c) ∷ []) ∷ []) (texts_before over (begun_part cs ∷ []) h) (
+      record {
+        ascending = m;
+        channels = entries_one (λ (e : List ℕ × Channel). HasChannelLine e.0 e.1) cs (k, c) has.channels l;
+        counts = has.counts;
+        faults = has.faults;
+        end = tt;
+      },
+      tt,
+    )
+each_more over (begun cs) (counts n k) l w m h =
+    let has : HasText (begun_part cs) = (texts_behind over (begun_part cs ∷ []) h).0 in
+    texts_join over (counted_part cs n k ∷ []) (texts_before over (begun_part cs ∷ []) h) (
+      record { ascending = has.ascending; channels = has.channels; counts = l; faults = has.faults; end = tt },
+      tt,
+    )
+each_more over (begun cs) (faults n) l w m h = absurd m
+each_more over (begun cs) (fault k f) l w m h = absurd m
+each_more over (whole v) header l w m h =
+    texts_join (over ++ v ∷ []) (begun_part [] ∷ []) h (empty_text, tt)
+each_more over (whole v) (channel k c) l w m h = absurd m
+each_more over (whole v) (counts n k) l w m h = absurd m
+each_more over (whole v) (faults n) l w m h =
+    let has : HasText v = (texts_behind over (v ∷ []) h).0 in
+    texts_join over (with_faults v n ∷ []) (texts_before over (v ∷ []) h) (
+      record { ascending = has.ascending; channels = has.channels; counts = has.counts; faults = l.fit; end = has.end },
+      tt,
+    )
+each_more over (whole v) (fault k f) l w m h =
+    let has : HasText v = (texts_behind over (v ∷ []) h).0 in
+    texts_join (over ++ with_end v f ∷ []) []
+    (texts_join over (with_end v f ∷ []) (texts_before over (v ∷ []) h) (
+      record {
+        ascending = has.ascending;
+        channels = has.channels;
+        counts = has.counts;
+        faults = has.faults;
+        end = subst (λ (n : ℕ). HasFaultLine n f) (sym m) l;
+      },
+      tt,
+    )) tt
+
+where_more : (over : List Written) (b : Behind) (x : Line) → IsWhere over b → May b x
+    → IsWhere (goes over b x).over (goes over b x).behind
+where_more over none header w m = tt
+where_more over none (channel k c) w m = absurd m
+where_more over none (counts n l) w m = absurd m
+where_more over none (faults n) w m = absurd m
+where_more over none (fault l f) w m = absurd m
+where_more over (begun cs) header w m = absurd m
+where_more over (begun cs) (channel k c) w m = tt
+where_more over (begun cs) (counts n l) w m = refl
+where_more over (begun cs) (faults n) w m = absurd m
+where_more over (begun cs) (fault l f) w m = absurd m
+where_more over (whole v) header w m = tt
+where_more over (whole v) (channel k c) w m = absurd m
+where_more over (whole v) (counts n l) w m = absurd m
+where_more over (whole v) (faults n) w m = w
+where_more over (whole v) (fault l f) w m =
+    inr (record { parts = over; last = with_end v f; fault = f; are = refl; ends = refl })
+
+pub stage_more : (lines : List ℕ) (s : Stage) (x : Line) → IsStage lines s → IsLine x → May s.behind x
+    → IsStage (lines ++ text_of_line x) (to s x)
+stage_more lines s x i l m = record {
+  text = ap (λ (t : List ℕ). t ++ text_of_line x) i.text ∙ text_more s.over s.behind x i.is_where m;
+  each = each_more s.over s.behind x l i.is_where m i.each;
+  is_where = where_more s.over s.behind x i.is_where m;
+}
+
+-- ---- the joint part
+some_none : (f : StreamFault) → Some f ≡ None → ⊥
+some_none f k = cc
+
+-- a part without a fault, the last of those that are joined
+pub record IsLast (past : Bool) (over : List Written) (w h : Written) : Type 0 where
+  pub before : Written
+  pub joined : IsJointOf past over before
+  pub goes_on : before.end ≡ None
+  pub next : IsNext before w h
+
+next_same : (a w b h : Written) → b ≡ h → IsNext a w b → IsNext a w h
+next_same a w b h e n = subst (λ (c : Written). IsNext a w c) e n
+
+counts_one : (past : Bool) (w : Written) → w.end ≡ None → counted past (w ∷ []) ≡ w ∷ []
+counts_one past w e = ap (λ (o : Option StreamFault). counted_by past w o []) e
+
+one_next : (past : Bool) (a w h : Written) → w.end ≡ None → AreJoined a (counted past (w ∷ [])) h → IsNext a w h
+one_next past a w h e j =
+    let f : IsFirst a w [] h =
+    first_of a w h [] (subst (λ (ws : List Written). AreJoined a ws h) (counts_one past w e) j) in
+    next_same a w f.between h (none_of f.between h f.more) f.next
+
+pub last_is : (past : Bool) (over : List Written) (w h : Written) → w.end ≡ None → h.end ≡ None
+    → IsJointOf past (over ++ w ∷ []) h → IsLast past over w h
+last_is past over w h e n j = by (split past over (w ∷ []) h j)
+  where
+    by : IsSplit past nothing over (w ∷ []) h → IsLast past over w h
+    by s = cases s.behind
+      where
+        cases : ((s.before.end ≡ None) × AreJoined s.before (counted past (w ∷ [])) h)
+            ⊎ ((f : StreamFault) × (s.before.end ≡ Some f) × (s.before ≡ h)) → IsLast past over w h
+        cases (inl k) = record {
+          before = s.before;
+          joined = s.joined;
+          goes_on = k.0;
+          next = one_next past s.before w h e k.1;
+        }
+        cases (inr k) = absurd (some_none k.0 (sym k.1 ∙ ap (λ (c : Written). c.end) k.2 ∙ n))
+
+-- behind a fault the last doesn't count
+pub before_is : (past : Bool) (over : List Written) (w h : Written) (f : StreamFault) → w.end ≡ None → h.end ≡ Some f
+    → IsJointOf past (over ++ w ∷ []) h → IsJointOf past over h
+before_is past over w h f e n j = by (split past over (w ∷ []) h j)
+  where
+    by : IsSplit past nothing over (w ∷ []) h → IsJointOf past over h
+    by s = cases s.behind
+      where
+        cases : ((s.before.end ≡ None) × AreJoined s.before (counted past (w ∷ [])) h)
+            ⊎ ((x : StreamFault) × (s.before.end ≡ Some x) × (s.before ≡ h)) → IsJointOf past over h
+        cases (inl k) =
+            let next : IsNext s.before w h = one_next past s.before w h e k.1 in
+            absurd (some_none f (sym n ∙ next.end
+            ∙ ap (λ (o : Option StreamFault). option_map (moved_fault s.before.part.bytes) o) e))
+        cases (inr k) = subst (λ (c : Written). IsJointOf past over c) k.2 s.joined
+
+-- behind a fault any parts may stand
+pub stopped : (past : Bool) (over vs : List Written) (w h : Written) (f : StreamFault) → w.end ≡ None
+    → h.end ≡ Some f → IsJointOf past (over ++ w ∷ []) h → IsJointOf past (over ++ vs) h
+stopped past over vs w h f e n j = stop past over vs h f n (before_is past over w h f e n j)
+
+-- another part in its place, without a fault
+pub in_place : (past : Bool) (over : List Written) (a v k : Written) → IsJointOf past over a → a.end ≡ None
+    → v.end ≡ None → IsNext a v k → IsJointOf past (over ++ v ∷ []) k
+in_place past over a v k j n e next =
+    glue past over (v ∷ []) a k n j
+    (subst (λ (ws : List Written). AreJoined a ws k) (sym (counts_one past v e)) (one a v k k [] next (no_more k)))
+
+-- or with one
+pub ends_in_place : (over : List Written) (a v k : Written) (f : StreamFault) → IsJointOf false over a
+    → a.end ≡ None → IsNext a (with_end v f) k → IsJointOf false (over ++ with_end v f ∷ []) k
+ends_in_place over a v k f j n next =
+    glue false over (with_end v f ∷ []) a k n j (one a (with_end v f) k k [] next (no_more k))
+
+pub passed_in_place : (over : List Written) (a v k : Written) (f : StreamFault) → IsJointOf true over a
+    → a.end ≡ None → IsNext a (record { part = v.part; faults = v.faults + 1; end = None }) k
+    → IsJointOf true (over ++ with_end v f ∷ []) k
+passed_in_place over a v k f j n next =
+    glue true over (with_end v f ∷ []) a k n j
+    (one a (record { part = v.part; faults = v.faults + 1; end = None }) k k [] next (no_more k))
+
+-- ---- what is told
+passed_append : (n : ℕ) (ws vs : List Written)
+    → passed_from n (ws ++ vs) ≡ passed_from n ws ++ passed_from (n + length ws) vs
+passed_append n [] vs = let same : n ≡ n + 0 = omega arith in ap (λ (m : ℕ). passed_from m vs) same
+passed_append n (w ∷ ws) vs =
+    let same : n + 1 + length ws ≡ n + length (w ∷ ws) = omega arith in
+    ap (λ (ts : List (List ℕ)). passed_of n w.end ++ ts)
+    (passed_append (n + 1) ws vs ∙ ap (λ (m : ℕ). passed_from (n + 1) ws ++ passed_from m vs) same)
+    ∙ sym (append_assoc (passed_of n w.end) (passed_from (n + 1) ws) (passed_from (n + length (w ∷ ws)) vs))
+
+-- a part without a fault tells nothing
+passed_silent : (past : Bool) (ws : List Written) (w : Written) → w.end ≡ None
+    → passed_lines past (ws ++ w ∷ []) ≡ passed_lines past ws
+passed_silent false ws w e = refl
+passed_silent true ws w e =
+    passed_append 1 ws (w ∷ [])
+    ∙ ap (λ (o : Option StreamFault). passed_from 1 ws ++ (passed_of (1 + length ws) o ++ [])) e
+    ∙ append-nil (passed_from 1 ws)
+
+pub passed_same : (past : Bool) (over : List Written) (b : Behind) (x : Line) → IsWhere over b → May b x
+    → ((bytes : ℕ) (f : StreamFault) → x ≡ fault bytes f → ⊥)
+    → passed_lines past (parts_at (goes over b x)) ≡ passed_lines past (over ++ part_behind b) ++ []
+passed_same past over none header w m o =
+    passed_silent past over (begun_part []) refl
+    ∙ ap (λ (ws : List Written). passed_lines past ws) (sym (append-nil over))
+    ∙ sym (append-nil (passed_lines past (over ++ [])))
+passed_same past over none (channel k c) w m o = absurd m
+passed_same past over none (counts n l) w m o = absurd m
+passed_same past over none (faults n) w m o = absurd m
+passed_same past over none (fault l f) w m o = absurd m
+passed_same past over (begun cs) header w m o = absurd m
+passed_same past over (begun cs) (channel k c) w m o =
+    passed_silent past over (begun_part (cs ++ (k, c) ∷ [])) refl
+    ∙ sym (passed_silent past over (begun_part cs) refl)
+    ∙ sym (append-nil (passed_lines past (over ++ begun_part cs ∷ [])))
+passed_same past over (begun cs) (counts n l) w m o =
+    passed_silent past over (counted_part cs n l) refl
+    ∙ sym (passed_silent past over (begun_part cs) refl)
+    ∙ sym (append-nil (passed_lines past (over ++ begun_part cs ∷ [])))
+passed_same past over (begun cs) (faults n) w m o = absurd m
+passed_same past over (begun cs) (fault l f) w m o = absurd m
+passed_same past over (whole v) header w m o =
+    passed_silent past (over ++ v ∷ []) (begun_part []) refl
+    ∙ sym (append-nil (passed_lines past (over ++ v ∷ [])))
+passed_same past over (whole v) (channel k c) w m o = absurd m
+passed_same past over (whole v) (counts n l) w m o = absurd m
+passed_same past over (whole v) (faults n) w m o =
+    passed_silent past over (with_faults v n) w
+    ∙ sym (passed_silent past over v w)
+    ∙ sym (append-nil (passed_lines past (over ++ v ∷ [])))
+passed_same past over (whole v) (fault l f) w m o = absurd (o l f refl)
+
+pub passed_more : (over : List Written) (v : Written) (f : StreamFault) → v.end ≡ None
+    → passed_lines true ((over ++ with_end v f ∷ []) ++ [])
+    ≡ passed_lines true (over ++ v ∷ []) ++ passed_line (length (over ++ v ∷ [])) f ∷ []
+passed_more over v f e =
+    let same : 1 + length over ≡ length (over ++ v ∷ []) = omega (arith, length-append over (v ∷ [])) in
+    ap (λ (ws : List Written). passed_from 1 ws) (append-nil (over ++ with_end v f ∷ []))
+    ∙ passed_append 1 over (with_end v f ∷ [])
+    ∙ (λ i. sym (passed_silent true over v e) i ++ passed_line (same i) f ∷ [])
+
+-- ---- how many parts there are
+pub number_same : (over : List Written) (w v : Written) → length (over ++ w ∷ []) ≡ length (over ++ v ∷ [])
+number_same over w v = omega (arith, length-append over (w ∷ []), length-append over (v ∷ []))

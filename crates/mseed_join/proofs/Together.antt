@@ -1,0 +1,83 @@
+-- The texts of the parts of archives, one behind another.
+use Rattle.std.proofs.Common.{◌≡◌, ℕ, ◌<◌, ◌^◌, ◌++◌, List, [], ◌∷◌, length, Bool, true, false, refl, sym, subst, arith}
+use Rattle.std.proofs.Common.{length-append}
+use Rattle.std.specs.List.{AllByRecursion}
+use Rattle.mseed_stream.specs.Device.{BytesRead}
+use Rattle.mseed_audit.specs.Summary.{Audited}
+use Rattle.mseed_join.specs.AuditPart.{AuditedPart}
+use Rattle.mseed_join.specs.Headline.{AreParted, EndsByBytes, IsReadOf, IsWithinLimits, SaysAudit, last, more, none}
+use Rattle.mseed_join.specs.Joined.{IsBadLine, IsJointOf}
+use Rattle.mseed_join.specs.Written.{HasText, Spells, Written, texts}
+use Rattle.mseed_join.proofs.Clean.{all_read}
+
+first_octets : (xs ys : List ℕ) → AllByRecursion (λ b. b < 2 ^ 8) (xs ++ ys) → AllByRecursion (λ b. b < 2 ^ 8) xs
+first_octets [] ys h = tt
+first_octets (x ∷ xs) ys h = (h.0, first_octets xs ys h.1)
+
+rest_octets : (xs ys : List ℕ) → AllByRecursion (λ b. b < 2 ^ 8) (xs ++ ys) → AllByRecursion (λ b. b < 2 ^ 8) ys
+rest_octets [] ys h = h
+rest_octets (x ∷ xs) ys h = rest_octets xs ys h.1
+
+first_within : (xs ys : List ℕ) → IsWithinLimits (xs ++ ys) → IsWithinLimits xs
+first_within xs ys h = record {
+  octets = first_octets xs ys h.octets;
+  size = omega (arith, h.size, length-append xs ys);
+}
+
+rest_within : (xs ys : List ℕ) → IsWithinLimits (xs ++ ys) → IsWithinLimits ys
+rest_within xs ys h = record {
+  octets = rest_octets xs ys h.octets;
+  size = omega (arith, h.size, length-append xs ys);
+}
+
+abbrev pub ReadsBack : Type 0
+ReadsBack = (h : BytesRead) (a : AuditedPart h) → IsWithinLimits h.bytes → HasText a.written
+
+read_within : (archive : List ℕ) (h : BytesRead) → IsReadOf archive h → IsWithinLimits archive → IsWithinLimits h.bytes
+read_within archive h read fits = first_within h.bytes read.rest (subst IsWithinLimits read.bytes fits)
+
+have_texts : ReadsBack → (archive : List ℕ) (ws : List Written) → AreParted archive ws → IsWithinLimits archive
+    → AllByRecursion HasText ws
+have_texts back _ _ none fits = tt
+have_texts back _ _ (last archive h a read by) fits = (back h a (read_within archive h read fits), tt)
+have_texts back _ _ (more archive others h a ws read end parted) fits = (
+  back h a (read_within archive h read (first_within archive others fits)),
+  have_texts back others ws parted (rest_within archive others fits),
+)
+
+pub spelled : ReadsBack → (archive : List ℕ) (ws : List Written) → AreParted archive ws → IsWithinLimits archive
+    → Spells (texts ws) ws
+spelled back archive ws parted fits = record { text = refl; each = have_texts back archive ws parted fits }
+
+abbrev pub HaveOneText : Type 0
+HaveOneText = (bytes : List ℕ) (ws vs : List Written) → Spells bytes ws → Spells bytes vs → ws ≡ vs
+
+abbrev pub Says : Type 0
+Says = (archive : List ℕ) (ws : List Written) (joint : Written) (h : BytesRead) (a : Audited h)
+    → AreParted archive ws → IsJointOf false ws joint → IsReadOf archive h → EndsByBytes a.end → SaysAudit joint a
+
+pub says_read : ReadsBack → HaveOneText → Says → (archive : List ℕ) (ws vs : List Written) (joint : Written)
+    (input h : BytesRead) (a : Audited h) → AreParted archive ws → IsWithinLimits archive → IsReadOf archive h
+    → EndsByBytes a.end → IsReadOf (texts ws) input → input.is_at_end ≡ true → Spells input.bytes vs
+    → IsJointOf false vs joint → SaysAudit joint a
+says_read back single says archive ws vs joint input h a parted fits read by told done spells joined =
+    let all : Spells (texts ws) vs =
+    subst (λ (xs : List ℕ). Spells xs vs) (sym (all_read (texts ws) input told done)) spells in
+    let one : vs ≡ ws = single (texts ws) vs ws all (spelled back archive ws parted fits) in
+    says archive ws joint h a parted (subst (λ (us : List Written). IsJointOf false us joint) one joined) read by
+
+abbrev pub NoneBad : Type 0
+NoneBad = (past : Bool) (text : List ℕ) (input : BytesRead) (line : ℕ) (ws : List Written) (joint : Written)
+    → Spells text ws → IsJointOf past ws joint → IsReadOf text input → IsBadLine past input.bytes input.is_at_end line
+    → ⊥
+
+abbrev pub CanJoin : Type 0
+CanJoin = (archive : List ℕ) (ws : List Written) (h : BytesRead) (a : Audited h) → AreParted archive ws
+    → length archive < 2 ^ 63 → IsReadOf archive h → EndsByBytes a.end → (joint : Written) × IsJointOf false ws joint
+
+pub never_bad : ReadsBack → NoneBad → CanJoin → (archive : List ℕ) (ws : List Written) (input h : BytesRead)
+    (a : Audited h) (line : ℕ) → AreParted archive ws → IsWithinLimits archive → IsReadOf archive h → EndsByBytes a.end
+    → IsReadOf (texts ws) input → IsBadLine false input.bytes input.is_at_end line → ⊥
+never_bad back bad can archive ws input h a line parted fits read by told is =
+    let joint = can archive ws h a parted fits.size read by in
+    bad false (texts ws) input line ws joint.0 (spelled back archive ws parted fits) joint.1 told is

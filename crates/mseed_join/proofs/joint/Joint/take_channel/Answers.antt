@@ -1,0 +1,17 @@
+use Rattle.std.proofs.Common.{ap, refl, Err}
+use Rattle.mseed_parts.specs.declared.part.JoinFault.{JoinFault}
+use Rattle.mseed_join.proofs.Steps.{channel_added, channel_refused, channel_skipped}
+use Rattle.mseed_join.proofs.joint.Joint.take_channel.Goals as goal
+
+pub returns-in-Some : goal.returns-in-Some
+returns-in-Some g c = channel_skipped c.args.self.now _ c.in-Some.is c.args.codes c.args.channel.now
+
+pub returns-in-Ok : goal.returns-in-Ok
+returns-in-Ok g c =
+    channel_added c.joined_in_turn.ensures.channel c.args.self.now _ c.told_of.result c.told_of.ensures c.in-None.is
+    c.args.codes c.args.channel.now c.in-Ok.ensures.joined c.in-Ok.ensures.fits refl refl
+
+pub returns-in-Err-Limit : goal.returns-in-Err-Limit
+returns-in-Err-Limit g c =
+    channel_refused c.joining_laws.ensures.one c.args.self.now c.in-None.is c.args.codes c.args.channel.now
+    (c.in-Err-Limit.ensures.limit (ap (λ (e : JoinFault). Err e) c.in-Err-Limit.field-0-is))

@@ -1,0 +1,30 @@
+use Rattle.std.proofs.Common.{sym, ◌∙◌}
+use Rattle.std.proofs.lemmas.Bool.{false≢true}
+use Rattle.mseed_join.proofs.Rows.{row_counted, row_refused, row_taken, row_unknown}
+use Rattle.mseed_join.proofs.joint.Joint.take_row.Goals as goal
+
+pub returns-then-not-is_behind : goal.returns-then-not-is_behind
+returns-then-not-is_behind g c = record {
+  step = row_refused c.args.self.now c.args.last c.args.line.now _ _ c.requires.place c.in-Some.ensures.read
+      c.in-Some.ensures.fits (λ k. false≢true (sym c.if-not-is_behind.true ∙ c.is_behind.ensures.1 k));
+}
+
+pub returns-in-Some : goal.returns-in-Some
+returns-in-Some g c = record {
+  step = row_taken c.args.self.now c.take_channel.new.self c.args.last c.args.line.now _ _ c.take_channel.result
+      c.requires.place c.in-Some.ensures.read c.in-Some.ensures.fits
+      (c.is_behind.ensures.0 c.if-not-is_behind.false) c.take_channel.ensures;
+}
+
+pub returns-in_default-read_counts_line : goal.returns-in_default-read_counts_line
+returns-in_default-read_counts_line g c = record {
+  step = row_unknown c.args.self.now c.args.last c.args.line.now c.requires.place c.requires.ended
+      c.in_default.ensures.none c.in_default-read_counts_line.ensures.none;
+}
+
+pub returns : goal.returns
+returns g c = record {
+  step = row_counted c.args.self.now c.take_counts.new.self c.args.last c.args.line.now
+      c.in-Some-read_counts_line.records c.in-Some-read_counts_line.bytes c.take_counts.result c.requires.place
+      c.in-Some-read_counts_line.ensures.read c.in-Some-read_counts_line.ensures.fits c.take_counts.ensures;
+}

@@ -1,0 +1,10 @@
+use Rattle.std.proofs.Common.{◌≡◌, List, ℕ, OnOk, subst}
+use Rattle.mseed_join.proofs.Verdicts.{join_lines}
+use Rattle.mseed_join.proofs.text.push_join.Goals as goal
+
+pub returns-clause-ok : goal.returns-clause-ok
+returns-clause-ok g c = λ bytes.
+    let a1 = c.in_ok-push_verdicts.ensures.ok in
+    let a2 = rw a1 at c.push_totals.ensures.ok in
+    subst (λ (xs : List ℕ). OnOk c.push_totals.result (c.push_totals.new.text.items ≡ xs))
+    (join_lines c.args.channels.now c.args.records bytes c.args.faults c.args.end.now c.args.text.now.items) a2

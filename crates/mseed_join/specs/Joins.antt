@@ -1,0 +1,59 @@
+-- What is written of the joint part of parts, and what is answered of it.
+use Rattle.std.specs.Prelude.{◌≡◌, ◌||◌, ℕ, ◌+◌, ◌<◌, nat_lt, List, ◌++◌, length, map, take, Bool, true, is_some}
+use Rattle.std.specs.Prelude.{Result, Ok, Err}
+use Rattle.mseed_stream.specs.Device.{BytesRead, BytesWritten, nothing_read}
+use Rattle.mseed_stream.specs.Fault.{IsStreamFault}
+use Rattle.mseed_audit.specs.Summary.{broken_count}
+use Rattle.mseed_join.specs.declared.joining.Form.{Form}
+use Rattle.mseed_join.specs.declared.joining.Form.TheVariants.{Audit, Part}
+use Rattle.mseed_join.specs.declared.joining.Joined.{Joined as Answer}
+use Rattle.mseed_join.specs.declared.joining.JoinsFault.{JoinsFault}
+use Rattle.mseed_join.specs.declared.joining.JoinsFault.TheVariants.{Line, Stream, Write, Memory}
+use Rattle.mseed_join.specs.Joined.{join_text, verdict_at}
+use Rattle.mseed_join.specs.ReadParts.{AreBadParts, AreReadParts}
+use Rattle.mseed_join.specs.Written.{Written, part_text}
+
+-- the text of the audit that it is the part of, or its own
+abbrev pub text_by : Form → Written → List ℕ
+text_by Audit w = join_text w
+text_by Part w = part_text w
+
+-- it ends with a fault, or faults lie behind
+abbrev pub is_faulty : Written → Bool
+is_faulty w = is_some w.end || nat_lt 0 w.faults
+
+-- the answer counts the channels that are broken, and says whether there is a fault
+pub record IsAnswer (answer : Answer) (w : Written) : Type 0 where
+  pub broken : answer.broken ≡ broken_count (map verdict_at w.part.channels)
+  pub fault : answer.fault ≡ is_faulty w
+
+-- the whole input was read: it is the texts of parts, and this is their joint part; each fault that was passed was told
+pub record IsRead (past : Bool) (h : BytesRead) (w : Written) (told now : BytesWritten) : Type 0 where
+  pub whole : h.is_at_end ≡ true
+  pub parts : AreReadParts past h.bytes w told now
+
+-- the text was written
+pub record IsJointWritten (answer : Answer) (form : Form) (w : Written) (old new : BytesWritten) : Type 0 where
+  pub answer_is : IsAnswer answer w
+  pub text : new.bytes ≡ old.bytes ++ text_by form w
+  pub fine : new.failures ≡ old.failures
+
+-- a prefix of it was written, and then the output failed
+pub record IsJointCutOff (form : Form) (w : Written) (old new : BytesWritten) : Type 0 where
+  pub taken : ℕ
+  pub text : new.bytes ≡ old.bytes ++ take taken (text_by form w)
+  pub part : taken < length (text_by form w)
+  pub failed : new.failures ≡ old.failures + 1
+
+-- By the outcome: of the input, of the output before and after, and of the device that faults are told to before and
+-- after. Where the parts weren't read whole, nothing was written.
+abbrev pub IsJoinOutcome : Form → Bool → Result Answer JoinsFault → BytesRead → BytesWritten → BytesWritten
+    → BytesWritten → BytesWritten → Type 0
+IsJoinOutcome form past (Ok answer) h old new told now =
+    (w : Written) × (IsRead past h w told now × IsJointWritten answer form w old new)
+IsJoinOutcome form past (Err (Line k)) h old new told now =
+    (new ≡ old) × AreBadParts past h.bytes h.is_at_end k told now
+IsJoinOutcome form past (Err (Stream fault)) h old new told now = (new ≡ old) × IsStreamFault fault nothing_read h
+IsJoinOutcome form past (Err Write) h old new told now =
+    (w : Written) × (IsRead past h w told now × IsJointCutOff form w old new)
+IsJoinOutcome form past (Err Memory) h old new told now = new ≡ old

@@ -1,0 +1,114 @@
+-- How far parts were read that are read line by line, and what is told of them on the way.
+use Rattle.std.specs.Prelude.{⊤, ◌≡◌, ◌+◌, ℕ, List, [], ◌∷◌, ◌++◌, codes, decimal, Bool, true, false}
+use Rattle.std.specs.Prelude.{Option, Some, None, ◌⊎◌}
+use Rattle.std.specs.List.{AllByRecursion}
+use Rattle.mseed_stream.specs.Device.{BytesWritten}
+use Rattle.mseed_stream.specs.Telling.{Tells}
+use Rattle.mseed_stream.specs.declared.fault.StreamFault.{StreamFault}
+use Rattle.mseed_audit.specs.declared.channel.Channel.{Channel}
+use Rattle.mseed_audit.specs.Text.{fault_line}
+use Rattle.mseed_parts.specs.Parts.{channels_alone}
+use Rattle.mseed_join.specs.Joined.{AreLines, IsNext, border_lines, counted, nothing}
+use Rattle.mseed_join.specs.Lines.{header_line}
+use Rattle.mseed_join.specs.Written.{HasText, Written, channel_lines, part_text, texts}
+
+-- ---- how far parts were read
+-- what stands behind the parts that are over
+pub data Behind : Type 0 where
+  none : Behind
+  -- a header, and these channels
+  begun : List (List ℕ × Channel) → Behind
+  -- a part that can be over; or the number of faults comes next, if it isn't there, or the fault
+  whole : Written → Behind
+
+-- the parts that are over, and what stands behind them
+pub record Stage : Type 0 where
+  pub over : List Written
+  pub behind : Behind
+
+-- nothing was read
+abbrev pub start : Stage
+start = record { over = []; behind = none }
+
+-- a part of these channels, of which no counts were read
+abbrev pub begun_part : List (List ℕ × Channel) → Written
+begun_part channels = record { part = channels_alone channels; faults = 0; end = None }
+
+abbrev pub part_behind : Behind → List Written
+part_behind none = []
+part_behind (begun channels) = begun_part channels ∷ []
+part_behind (whole w) = w ∷ []
+
+-- all parts so far, with the one that has begun
+abbrev pub parts_at : Stage → List Written
+parts_at s = s.over ++ part_behind s.behind
+
+abbrev pub text_behind : Behind → List ℕ
+text_behind none = []
+text_behind (begun channels) = header_line ++ channel_lines channels
+text_behind (whole w) = part_text w
+
+-- no part stands there, or the last ends with a fault
+pub record EndsByFault (over : List Written) : Type 0 where
+  pub parts : List Written
+  pub last : Written
+  pub fault : StreamFault
+  pub are : over ≡ parts ++ last ∷ []
+  pub ends : last.end ≡ Some fault
+
+-- nothing can go on but what is behind: a part that is over, if without a fault, is behind until the next begins
+abbrev pub IsWhere : List Written → Behind → Type 0
+IsWhere over none = (over ≡ []) ⊎ EndsByFault over
+IsWhere over (begun channels) = ⊤
+IsWhere over (whole w) = w.end ≡ None
+
+-- these lines are parts up to here
+pub record IsStage (lines : List ℕ) (s : Stage) : Type 0 where
+  pub text : lines ≡ texts s.over ++ text_behind s.behind
+  pub each : AllByRecursion HasText (parts_at s)
+  pub is_where : IsWhere s.over s.behind
+
+-- ---- faults that are passed
+-- the line of the fault with which the part of this number ends
+abbrev pub passed_line : ℕ → StreamFault → List ℕ
+passed_line number fault = codes "mseed: part " ++ decimal number ++ codes " " ++ fault_line fault
+
+abbrev pub passed_of : ℕ → Option StreamFault → List (List ℕ)
+passed_of number None = []
+passed_of number (Some fault) = passed_line number fault ∷ []
+
+-- the lines of the parts that end with a fault, of which the first has this number
+abbrev pub passed_from : ℕ → List Written → List (List ℕ)
+passed_from number [] = []
+passed_from number (w ∷ ws) = passed_of number w.end ++ passed_from (number + 1) ws
+
+-- where faults are passed, one for each, numbered from 1 over all parts
+abbrev pub passed_lines : Bool → List Written → List (List ℕ)
+passed_lines true ws = passed_from 1 ws
+passed_lines false ws = []
+
+-- lines were written, each as far as the device took it
+pub data AreTold : List (List ℕ) → BytesWritten → BytesWritten → Type 0 where
+  none : (s : BytesWritten) → AreTold [] s s
+  one : (line : List ℕ) (lines : List (List ℕ)) (old now new : BytesWritten) → Tells line old now
+      → AreTold lines now new → AreTold (line ∷ lines) old new
+
+-- ---- borders
+-- the lines of the borders of parts that are joined to one, part after part
+pub data AreBorders : Written → List Written → List ℕ → Type 0 where
+  none : (a : Written) → AreBorders a [] []
+  one : (a w b : Written) (ws : List Written) (text : List ℕ) → IsNext a w b → AreBorders b ws text
+      → AreBorders a (w ∷ ws) (border_lines a.part w.part.channels ++ text)
+
+-- of all parts that count
+abbrev pub IsBordersText : Bool → List Written → List ℕ → Type 0
+IsBordersText past ws text = AreBorders nothing (counted past ws) text
+
+-- ---- what was read
+-- so many whole lines of parts, of these bytes that were read, up to this stage
+pub record AreLinesRead (bytes : List ℕ) (count : ℕ) (s : Stage) : Type 0 where
+  pub lines : List ℕ
+  pub rest : List ℕ
+  pub bytes_are : bytes ≡ lines ++ rest
+  pub number : AreLines lines count
+  pub stage : IsStage lines s

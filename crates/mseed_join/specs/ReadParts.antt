@@ -1,0 +1,44 @@
+-- What reading parts one behind another answers.
+use Rattle.std.specs.Prelude.{⊤, ◌≡◌, ℕ, ◌+◌, List, ◌++◌, Bool, true, Result, Ok, Err}
+use Rattle.mseed_stream.specs.Device.{BytesRead, BytesWritten}
+use Rattle.mseed_stream.specs.Fault.{IsStreamFault}
+use Rattle.mseed_join.specs.declared.joint.JointPart.{JointPart}
+use Rattle.mseed_join.specs.declared.reader.PartsFault.{PartsFault}
+use Rattle.mseed_join.specs.declared.reader.PartsFault.TheVariants.{Line, Stream, Memory}
+use Rattle.mseed_join.specs.Joined.{IsBadLine, IsJointOf}
+use Rattle.mseed_join.specs.Reached.{AreLinesRead, AreTold, Stage, parts_at, passed_lines}
+use Rattle.mseed_join.specs.Written.{Written, Spells}
+
+-- a joint part, as what its text says
+abbrev pub written_of : {A : Type 0} → JointPart A → Written
+written_of j = record { part = j.part; faults = j.faults; end = j.end }
+
+-- so many bytes more were read of the source
+abbrev pub ReadMore : BytesRead → BytesRead → List ℕ → Type 0
+ReadMore old new bytes = new.bytes ≡ old.bytes ++ bytes
+
+-- the bytes are the texts of parts, and this is their joint part; each fault that was passed was told
+pub record AreReadParts (past : Bool) (bytes : List ℕ) (joint : Written) (old new : BytesWritten) : Type 0 where
+  pub parts : List Written
+  pub spells : Spells bytes parts
+  pub is_joint : IsJointOf past parts joint
+  pub told : AreTold (passed_lines past parts) old new
+
+-- the first bad line; of the lines before it each fault that was passed was told
+pub record AreBadParts (past : Bool) (bytes : List ℕ) (at_end : Bool) (k : ℕ) (old new : BytesWritten) : Type 0 where
+  pub bad : IsBadLine past bytes at_end k
+  pub count : ℕ
+  pub behind : k ≡ count + 1
+  pub stage : Stage
+  pub before : AreLinesRead bytes count stage
+  pub told : AreTold (passed_lines past (parts_at stage)) old new
+
+-- By the answer: of what was read of the source, and of the device that faults are told to, before and after.
+abbrev pub IsReadOutcome : {A : Type 0} → Result (JointPart A) PartsFault → Bool → BytesRead → BytesRead → BytesWritten
+    → BytesWritten → Type 0
+IsReadOutcome (Ok joint) past old h s new =
+    (bytes : List ℕ) × (ReadMore old h bytes × (h.is_at_end ≡ true) × AreReadParts past bytes (written_of joint) s new)
+IsReadOutcome (Err (Line k)) past old h s new =
+    (bytes : List ℕ) × (ReadMore old h bytes × AreBadParts past bytes h.is_at_end k s new)
+IsReadOutcome (Err (Stream fault)) past old h s new = IsStreamFault fault old h
+IsReadOutcome (Err Memory) past old h s new = ⊤

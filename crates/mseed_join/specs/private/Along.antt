@@ -1,0 +1,56 @@
+-- How reading parts goes along: no public contract is stated by these words.
+use Rattle.std.specs.Prelude.{⊤, ◌≡◌, ◌+◌, ℕ, List, ◌++◌, Bool, true, false, Option, Some, None, Result, Ok, Err}
+use Rattle.mseed_stream.specs.Device.{BytesRead}
+use Rattle.mseed_stream.specs.Fault.{IsStreamFault}
+use Rattle.mseed_join.specs.declared.joint.Place.{Place}
+use Rattle.mseed_join.specs.declared.joint.Place.TheVariants.{Start, Channels, Whole}
+use Rattle.mseed_join.specs.declared.joint.Told.{Told}
+use Rattle.mseed_join.specs.declared.reader.PartsFault.{PartsFault}
+use Rattle.mseed_join.specs.declared.reader.PartsFault.TheVariants.{Line, Stream, Memory}
+use Rattle.mseed_join.specs.declared.reader.Reader.{Reader}
+use Rattle.mseed_join.specs.Joined.{IsBadLine, IsJointOf}
+use Rattle.mseed_join.specs.Reached.{AreLinesRead, Stage, parts_at}
+use Rattle.mseed_join.specs.ReadParts.{written_of}
+use Rattle.mseed_join.specs.Written.{Spells}
+use Rattle.mseed_join.specs.private.LineReading.{GoesOn, IsReadBy}
+use Rattle.mseed_join.specs.private.Taking.{IsReadTo, IsToldMore}
+
+-- a part can be over here
+abbrev pub can_end : Place → Bool
+can_end Start = true
+can_end (Channels last) = false
+can_end (Whole bytes has_faults) = true
+
+-- the lines that were passed are parts up to this stage, whose joint part is kept
+pub record IsAlong {A : Type 0} (past : Bool) (h now : BytesRead) (s : Stage) (r : Reader A) : Type 0 where
+  pub by : IsReadBy h now r.lines
+  pub read : IsReadTo by.passed s r.joint
+  pub past_is : r.joint.past ≡ past
+  pub goes_on : GoesOn h now r.lines
+
+-- the input's end: all that was read is the texts of these parts
+pub record HasEnded {A : Type 0} (past : Bool) (h now : BytesRead) (s : Stage) (r : Reader A) : Type 0 where
+  pub bytes : List ℕ
+  pub told : now.bytes ≡ h.bytes ++ bytes
+  pub at_end : now.is_at_end ≡ true
+  pub spells : Spells bytes (parts_at s)
+  pub joint : IsJointOf past (parts_at s) (written_of r.joint.so_far)
+
+-- a bad line, behind those that were passed
+pub record IsBadBehind (past : Bool) (h now : BytesRead) (s : Stage) (k : ℕ) : Type 0 where
+  pub bytes : List ℕ
+  pub told : now.bytes ≡ h.bytes ++ bytes
+  pub bad : IsBadLine past bytes now.is_at_end k
+  pub count : ℕ
+  pub behind : k ≡ count + 1
+  pub before : AreLinesRead bytes count s
+
+-- by what one step answers
+abbrev pub IsNextStep : {A : Type 0} → Bool → BytesRead → Stage → Result (Option Told) PartsFault → BytesRead → Reader A
+    → Type 0
+IsNextStep past h s (Ok (Some told)) now r =
+    (t : Stage) × (IsAlong past h now t r × IsToldMore past s t told × (now.is_at_end ≡ false))
+IsNextStep past h s (Ok None) now r = HasEnded past h now s r
+IsNextStep past h s (Err (Line k)) now r = IsBadBehind past h now s k
+IsNextStep past h s (Err (Stream fault)) now r = IsStreamFault fault h now
+IsNextStep past h s (Err Memory) now r = ⊤

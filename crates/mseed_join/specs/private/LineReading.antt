@@ -1,0 +1,78 @@
+-- Lines that are read out of a source, and what was read and not passed yet.
+use Rattle.std.specs.Prelude.{⊤, ◌≡◌, ◌≢◌, ◌<◌, ◌≤◌, ◌^◌, ℕ, ◌+◌, Bool, true, false, List, [], ◌∷◌, ◌++◌, length, take}
+use Rattle.std.specs.Prelude.{Option, Result, Ok, Err}
+use Rattle.std.specs.Io.KnownBytes.{Consumes}
+use Rattle.mseed_stream.specs.Device.{BytesRead}
+use Rattle.mseed_stream.specs.declared.fault.StreamFault.{StreamFault}
+use Rattle.mseed_stream.specs.declared.fault.StreamFault.TheVariants.{Frame, Truncated, Read, Turns, Memory}
+use Rattle.mseed_join.specs.Joined.{AreLines, HasNoEnd}
+use Rattle.mseed_join.specs.declared.line_reader.Ahead.{Ahead}
+use Rattle.mseed_join.specs.declared.line_reader.Ahead.TheVariants.{Line, TooLong, Unended, Nothing}
+
+-- the bytes that were read and not passed, the length of the line that begins them where one was found, the room
+-- behind them, how many lines were passed, how many bytes were read in all, and by how many reads
+pub record LinesRead : Type 0 where
+  pub held : List ℕ
+  pub size : ℕ
+  pub room : ℕ
+  pub lines : ℕ
+  pub bytes : ℕ
+  pub reads : ℕ
+
+-- an LF ends them, and none stands before
+abbrev pub IsWholeLine : List ℕ → Type 0
+IsWholeLine bytes = (body : List ℕ) × HasNoEnd body × (bytes ≡ body ++ 10 ∷ [])
+
+-- the first bytes are a line, so many of them
+pub record IsLineAhead (size : ℕ) (held : List ℕ) : Type 0 where
+  pub line : IsWholeLine (take size held)
+  pub within : size ≤ length held
+  pub short : size ≤ 512
+
+-- what lies ahead, by what was read and not passed, and whether the input is at its end
+abbrev pub LiesAhead : Ahead → LinesRead → Bool → Type 0
+LiesAhead Line r at_end = IsLineAhead r.size r.held
+LiesAhead TooLong r at_end = HasNoEnd (take 512 r.held) × (512 ≤ length r.held)
+LiesAhead Unended r at_end = (at_end ≡ true) × HasNoEnd r.held × (r.held ≢ [])
+LiesAhead Nothing r at_end = (at_end ≡ true) × (r.held ≡ [])
+
+-- what more was read, and is held behind what was held before
+pub record Grows (old new : BytesRead) (left rest : Option (List ℕ)) (r after : LinesRead) : Type 0 where
+  pub more : List ℕ
+  pub asked : ℕ
+  pub told : new.bytes ≡ old.bytes ++ more
+  pub known : Consumes left rest more
+  pub held : after.held ≡ r.held ++ more
+  pub lines : after.lines ≡ r.lines
+  pub bytes : after.bytes ≡ r.bytes + length more
+  pub calls : new.calls ≡ old.calls + asked
+  pub reads : after.reads ≡ r.reads + asked
+
+-- what was read since the reader was made is whole lines that were passed, and what is held
+pub record IsReadBy (start now : BytesRead) (r : LinesRead) : Type 0 where
+  pub passed : List ℕ
+  pub told : now.bytes ≡ start.bytes ++ passed ++ r.held
+  pub lines : AreLines passed r.lines
+  pub bytes : r.bytes ≡ length passed + length r.held
+  pub calls : now.calls ≡ start.calls + r.reads
+
+-- no read since then failed, or told the input's end
+pub record GoesOn (start now : BytesRead) (r : LinesRead) : Type 0 where
+  pub failures : now.failures ≡ start.failures
+  pub is_at_end : 0 < r.reads → now.is_at_end ≡ false
+
+-- the answer tells neither the input's end nor a fault
+abbrev pub IfGoesOn : Result Ahead StreamFault → Type 0 → Type 0
+IfGoesOn (Ok Line) X = X
+IfGoesOn (Ok TooLong) X = X
+IfGoesOn (Ok Unended) X = ⊤
+IfGoesOn (Ok Nothing) X = ⊤
+IfGoesOn (Err e) X = ⊤
+
+-- what a fault means of one read
+abbrev pub IsReadFault : StreamFault → LinesRead → BytesRead → BytesRead → Type 0
+IsReadFault (Frame n f) after old new = ⊥
+IsReadFault (Truncated n have) after old new = ⊥
+IsReadFault (Read n) after old new = (n ≡ after.bytes) × (new.failures ≡ old.failures + 1) × (new.is_at_end ≡ false)
+IsReadFault (Turns n) after old new = (n ≡ after.bytes) × (after.reads ≡ 2 ^ 40) × (new ≡ old)
+IsReadFault Memory after old new = ⊥

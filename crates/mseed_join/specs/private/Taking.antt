@@ -1,0 +1,92 @@
+-- A joint part, by the lines of parts that were taken: no public contract is stated by these words.
+use Rattle.std.specs.Prelude.{⊤, ◌≡◌, ◌<◌, ℕ, List, [], ◌∷◌, ◌++◌, length, Bool, true, false, Option, Some, None}
+use Rattle.std.specs.Prelude.{Result, Ok, Err}
+use Rattle.std.specs.Ordering.{nat_cmp}
+use Rattle.std.specs.Cmp.Lexicographic.{slice_cmp}
+use Rattle.std.specs.declared.cmp.Ordering.TheVariants.{Less}
+use Rattle.mseed_stream.specs.declared.fault.StreamFault.{StreamFault}
+use Rattle.mseed_stream.specs.declared.fault.StreamFault.TheVariants.{Frame, Truncated, Read, Turns, Memory}
+use Rattle.mseed_audit.specs.declared.channel.Channel.{Channel}
+use Rattle.mseed_join.specs.declared.joint.Joint.{Joint}
+use Rattle.mseed_join.specs.declared.joint.LineFault.{LineFault}
+use Rattle.mseed_join.specs.declared.joint.LineFault.TheVariants.{Bad, Memory as NoMemory}
+use Rattle.mseed_join.specs.declared.joint.Place.{Place}
+use Rattle.mseed_join.specs.declared.joint.Place.TheVariants.{Start, Channels, Whole}
+use Rattle.mseed_join.specs.declared.joint.Told.{Told}
+use Rattle.mseed_join.specs.declared.joint.Told.TheVariants.{Nothing, Border, Passed}
+use Rattle.mseed_join.specs.Joined.{Begins, IsJointOf}
+use Rattle.mseed_join.specs.Lines.{Line, text_of_line}
+use Rattle.mseed_join.specs.Reached.{Behind, none, begun, whole, Stage, parts_at, IsStage, passed_line, passed_lines}
+use Rattle.mseed_join.specs.ReadParts.{written_of}
+use Rattle.mseed_join.specs.private.Steps.{to}
+
+-- the key of the last of these channels, if there is one
+abbrev pub IsLastKey : Option (List ℕ) → List (List ℕ × Channel) → Type 0
+IsLastKey None channels = channels ≡ []
+IsLastKey (Some key) channels =
+    (before : List (List ℕ × Channel)) × (c : Channel) × (channels ≡ before ++ (key, c) ∷ [])
+
+-- a key is behind that of the last channel
+abbrev pub IsBehindKey : Option (List ℕ) → List ℕ → Type 0
+IsBehindKey None key = ⊤
+IsBehindKey (Some last) key = slice_cmp nat_cmp last key ≡ Less
+
+-- whether the number of faults behind was read
+abbrev pub IsRead : Bool → ℕ → Type 0
+IsRead false n = n ≡ 0
+IsRead true n = 0 < n
+
+abbrev pub IsPlace : Place → Behind → Type 0
+IsPlace Start none = ⊤
+IsPlace Start (begun channels) = ⊥
+IsPlace Start (whole w) = ⊥
+IsPlace (Channels last) none = ⊥
+IsPlace (Channels last) (begun channels) = IsLastKey last channels
+IsPlace (Channels last) (whole w) = ⊥
+IsPlace (Whole bytes has_faults) none = ⊥
+IsPlace (Whole bytes has_faults) (begun channels) = ⊥
+IsPlace (Whole bytes has_faults) (whole w) = (bytes ≡ w.part.bytes) × IsRead has_faults w.faults
+
+-- these lines were taken, and so far are the parts
+pub record IsReadTo {A : Type 0} (lines : List ℕ) (s : Stage) (j : Joint A) : Type 0 where
+  pub stage : IsStage lines s
+  pub joint : IsJointOf j.past (parts_at s) (written_of j.so_far)
+  pub place : IsPlace j.place s.behind
+  pub number : j.parts ≡ length (parts_at s)
+
+-- ---- what a line tells
+abbrev pub passed_by : Told → List (List ℕ)
+passed_by Nothing = []
+passed_by (Border key start found) = []
+passed_by (Passed number fault) = passed_line number fault ∷ []
+
+-- of the parts so far it is what one more line adds
+pub record IsToldMore (past : Bool) (s t : Stage) (told : Told) : Type 0 where
+  pub passed : passed_lines past (parts_at t) ≡ passed_lines past (parts_at s) ++ passed_by told
+
+-- ---- one more line
+pub record IsTaken {A : Type 0} (lines line : List ℕ) (s t : Stage) (tells : Told) (old new : Joint A) : Type 0 where
+  pub read : IsReadTo (lines ++ line) t new
+  pub told : IsToldMore old.past s t tells
+  pub past : new.past ≡ old.past
+  pub parts : new.parts ≡ length (parts_at t)
+
+-- this line, which can stand there
+abbrev pub IsStep : {A : Type 0} → List ℕ → Stage → Line → Result Told LineFault → Joint A → Joint A → Type 0
+IsStep lines s x (Ok told) old new = IsTaken lines (text_of_line x) s (to s x) told old new
+IsStep lines s x (Err Bad) old new = Begins old.past (lines ++ text_of_line x) → ⊥
+IsStep lines s x (Err NoMemory) old new = ⊤
+
+-- any line
+abbrev pub IsLineStep : {A : Type 0} → List ℕ → Stage → List ℕ → Result Told LineFault → Joint A → Joint A → Type 0
+IsLineStep lines s line (Ok told) old new = (t : Stage) × IsTaken lines line s t told old new
+IsLineStep lines s line (Err Bad) old new = Begins old.past (lines ++ line) → ⊥
+IsLineStep lines s line (Err NoMemory) old new = ⊤
+
+-- a fault behind so many bytes
+abbrev pub fault_behind : ℕ → StreamFault → StreamFault
+fault_behind e (Frame offset f) = Frame e f
+fault_behind e (Truncated offset have) = Truncated e have
+fault_behind e (Read offset) = Read e
+fault_behind e (Turns offset) = Turns e
+fault_behind e Memory = Memory

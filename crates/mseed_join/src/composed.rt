@@ -1,0 +1,97 @@
+//! Laws: what parts say of the archives one behind another.
+ghost use Rattle.std.specs.Prelude.{◌≡◌, ◌<◌, ◌^◌, ◌++◌, Bool, List, ℕ, Option, Some, false, length, take, true};
+ghost use Rattle.std.specs.Io.KnownBytes.{IsAtEnd};
+ghost use Rattle.mseed_stream.specs.Cutting.{TellsMore};
+ghost use Rattle.mseed_stream.specs.Device.{BytesRead, nothing_read};
+ghost use Rattle.mseed_audit.specs.Summary.{Audited};
+ghost use Rattle.mseed_audit.specs.Text.{end_line};
+ghost use Rattle.mseed_join.specs.AuditPart.{AuditedPart};
+ghost use Rattle.mseed_join.specs.Headline.{AreParted, EndsByBytes, IsReadOf, IsWithinLimits, SaysAudit, without_end};
+ghost use Rattle.mseed_join.specs.Joined.{IsBadLine, IsJointOf};
+ghost use Rattle.mseed_join.specs.Written.{HasText, Spells, Written, part_text, texts};
+
+use mseed_audit::{channels_have_verdicts, one_list_of_verdicts};
+use mseed_parts::{joined_in_turn, one_part, parts_add_up};
+
+/// The joint part of archives, of which each but the last ends without a fault, says what the audit of the archives
+/// one behind another says.
+pub fn joined_audit()
+    ensures says { (archive : List ℕ) (ws : List Written) (joint : Written) (h : BytesRead) (a : Audited h)
+        → AreParted archive ws → IsJointOf false ws joint → IsReadOf archive h → EndsByBytes a.end
+        → SaysAudit joint a }
+
+    // It is their part, as `audit_part` writes it.
+    ensures part { (archive : List ℕ) (ws : List Written) (joint : Written) (h : BytesRead) (a : AuditedPart h)
+        → AreParted archive ws → IsJointOf false ws joint → IsReadOf archive h → EndsByBytes a.written.end
+        → joint ≡ a.written }
+
+    // What a source told that is known to have left an archive, and nothing once it is at its end, was read of it.
+    ensures read { (archive : List ℕ) (h : BytesRead) (left : Option (List ℕ))
+        → TellsMore nothing_read h (Some archive) left → (h.is_at_end ≡ true → IsAtEnd left) → IsReadOf archive h }
+
+    // What was read to its end ends by its bytes alone.
+    ensures at_end { (h : BytesRead) (a : Audited h) → h.is_at_end ≡ true → EndsByBytes a.end }
+{
+    parts_add_up();
+    channels_have_verdicts();
+    one_list_of_verdicts();
+    one_part();
+}
+
+/// A part without its last line, if that is a fault, is the part of the archive's first bytes, as many as it counts.
+pub fn cut_part()
+    ensures part { (archive : List ℕ) (h g : BytesRead) (a : AuditedPart h) (b : AuditedPart g)
+        → IsReadOf archive h → IsReadOf (take a.written.part.bytes archive) g → EndsByBytes b.written.end
+        → b.written ≡ without_end a.written }
+    ensures text { (w : Written) → part_text w ≡ part_text (without_end w) ++ end_line w.end }
+{
+    one_part();
+}
+
+/// What `audit_part` writes is a text that can be read.
+pub fn part_reads_back()
+    ensures { (h : BytesRead) (a : AuditedPart h) → IsWithinLimits h.bytes → HasText a.written }
+{}
+
+/// Texts of parts are read in one way.
+pub fn one_text()
+    ensures { (bytes : List ℕ) (ws vs : List Written) → Spells bytes ws → Spells bytes vs → ws ≡ vs }
+{}
+
+/// No line of the texts of parts that can be joined is bad, however much of them was read.
+pub fn no_bad_line()
+    ensures { (past : Bool) (text : List ℕ) (input : BytesRead) (line : ℕ) (ws : List Written) (joint : Written)
+        → Spells text ws → IsJointOf past ws joint → IsReadOf text input
+        → IsBadLine past input.bytes input.is_at_end line → ⊥ }
+{}
+
+/// Parts of archives can be joined where the archives one behind another can be audited: no number passes 2^63 - 1.
+pub fn parts_can_be_joined()
+    ensures { (archive : List ℕ) (ws : List Written) (h : BytesRead) (a : Audited h) → AreParted archive ws
+        → length archive < 2 ^ 63 → IsReadOf archive h → EndsByBytes a.end
+        → (joint : Written) × IsJointOf false ws joint }
+{
+    parts_add_up();
+    joined_in_turn();
+}
+
+/// The headline over texts: where the texts of the parts of archives stand one behind another and the archives one
+/// behind another can be audited, no line of what is read of the texts is bad; and once they were read to their end,
+/// what is joined says what that audit says.
+pub fn joined_texts()
+    ensures spells { (archive : List ℕ) (ws : List Written) → AreParted archive ws → IsWithinLimits archive
+        → Spells (texts ws) ws }
+    ensures never_bad { (archive : List ℕ) (ws : List Written) (input h : BytesRead) (a : Audited h) (line : ℕ)
+        → AreParted archive ws → IsWithinLimits archive → IsReadOf archive h → EndsByBytes a.end
+        → IsReadOf (texts ws) input → IsBadLine false input.bytes input.is_at_end line → ⊥ }
+    ensures says { (archive : List ℕ) (ws vs : List Written) (joint : Written) (input h : BytesRead) (a : Audited h)
+        → AreParted archive ws → IsWithinLimits archive → IsReadOf archive h → EndsByBytes a.end
+        → IsReadOf (texts ws) input → input.is_at_end ≡ true → Spells input.bytes vs → IsJointOf false vs joint
+        → SaysAudit joint a }
+{
+    part_reads_back();
+    one_text();
+    joined_audit();
+    no_bad_line();
+    parts_can_be_joined();
+}

@@ -1,0 +1,173 @@
+//! Parts joined, and what is written of their joint part.
+ghost use Rattle.std.specs.Prelude.{◌≡◌, ◌||◌, ◌++◌, ℕ, nat_lt, List, IfOk, OnOk, is_some, true};
+ghost use Rattle.std.specs.Io.KnownBytes.{Appends, IsAtEnd};
+ghost use Rattle.mseed_stream.specs.Cutting.{TellsMore};
+ghost use Rattle.mseed_stream.specs.Device.{nothing_read};
+ghost use Rattle.mseed_join.specs.Joins.{IsAnswer, IsJoinOutcome, text_by};
+ghost use Rattle.mseed_join.specs.private.Refused.{refusal};
+
+use crate::auditing::count_broken;
+use crate::joint::JointPart;
+use crate::parts::read_parts;
+use crate::reader::PartsFault;
+use crate::text::{push_join, push_part};
+use mseed_audit::{Channel, Memory};
+use mseed_parts::Part;
+use mseed_record::Codes;
+use mseed_stream::{Sink, Source, StreamFault, write_all_of};
+use std::alloc::{AllocError, Allocator};
+use thiserror::Error;
+
+/// What is written of parts that are joined.
+#[derive(Clone, Copy, Debug, PartialEq, Eq)]
+pub enum Form {
+    /// The text of the audit of their archives.
+    Audit,
+    /// Their joint part.
+    Part,
+}
+
+/// What is found of the archives of parts that are joined.
+#[derive(Clone, Copy, Debug, PartialEq, Eq)]
+pub struct Joined {
+    /// The channels that are broken.
+    pub broken: u64,
+    /// Whether the last archive ends with a fault, or faults lie behind.
+    pub fault: bool,
+}
+
+/// Why parts weren't joined, or what they are joined to wasn't written whole.
+#[derive(Clone, Copy, Debug, PartialEq, Eq, Error)]
+pub enum JoinsFault {
+    /// The line of this number, from 1 over all parts, is bad. Nothing was written.
+    #[error("bad part at line {0}")]
+    Line(u64),
+    /// The parts couldn't be read whole. Nothing was written.
+    #[error("the input failed")]
+    Stream(StreamFault),
+    /// The output failed. A prefix of the text was written.
+    #[error("the output failed")]
+    Write,
+    /// An allocation was refused. Nothing was written.
+    #[error("no memory")]
+    Memory,
+}
+
+/// Reads parts, one behind another, and writes what they are joined to. Without `past_faults` a part behind one that
+/// ends with a fault isn't counted; with it each faulty part counts as if it had none, and its fault is one more behind
+/// and is told on `errors` as it is read. The source is one of which nothing was read yet.
+///
+/// # Errors
+///
+/// `Line` where a line is bad, `Stream` where the parts couldn't be read whole, `Write` where the output failed, and
+/// `Memory` where an allocation was refused.
+pub fn join<A: Allocator + Copy, R: Source, W: Sink, E: Sink>(
+    alloc: A,
+    form: Form,
+    past_faults: bool,
+    source: &mut R,
+    sink: &mut W,
+    errors: &mut E,
+) -> Result<Joined, JoinsFault>
+    requires { R.read source.old ≡ nothing_read }
+    ensures outcome { IsJoinOutcome form past_faults result (R.read source.new) (W.written sink.old)
+        (W.written sink.new) (E.written errors.old) (E.written errors.new) }
+
+    // What the source is known to have left is what was read of it, up to its end where the input is at its end.
+    ensures more { TellsMore (R.read source.old) (R.read source.new) (R.remaining source.old)
+        (R.remaining source.new) }
+    ensures known { (R.read source.new).is_at_end ≡ true → IsAtEnd (R.remaining source.new) }
+
+    // What the sink is known to hold grew by what it took.
+    ensures contents { (bytes : List ℕ) → (W.written sink.new).bytes ≡ (W.written sink.old).bytes ++ bytes
+        → Appends (W.contents sink.old) (W.contents sink.new) bytes }
+
+    // What the source takes, and what the sink tells, stay as they were.
+    ensures source_beside { R.beside source.new ≡ R.beside source.old }
+    ensures sink_beside { W.beside sink.new ≡ W.beside sink.old }
+{
+    let JointPart { part, faults, end } = match read_parts(alloc, past_faults, source, errors) {
+        Ok(joint) => joint,
+        Err(fault) => return Err(refused(fault)),
+    };
+    let mut text = Vec::new(alloc);
+    let joined = match push_joined(&mut text, alloc, form, part, faults, &end) {
+        Ok(joined) => joined,
+        Err(Memory) => return Err(JoinsFault::Memory),
+    };
+    match write_all_of(sink, &text) {
+        Ok(()) => Ok(joined),
+        Err(_) => Err(JoinsFault::Write),
+    }
+}
+
+/// Why parts aren't joined that weren't read.
+fn refused(fault: PartsFault) -> JoinsFault
+    ensures { result ≡ refusal fault }
+{
+    match fault {
+        PartsFault::Line(line) => JoinsFault::Line(line),
+        PartsFault::Stream(fault) => JoinsFault::Stream(fault),
+        PartsFault::Memory => JoinsFault::Memory,
+    }
+}
+
+/// Adds the text of a joint part, and answers what is found of its archives.
+fn push_joined<A: Allocator + Copy>(
+    text: &mut Vec<u8, A>,
+    alloc: A,
+    form: Form,
+    part: Part<A>,
+    faults: u64,
+    end: &Option<StreamFault>,
+) -> Result<Joined, Memory>
+    ensures text { OnOk result (text.new.items
+        ≡ text.old.items ++ text_by form (record { part = part; faults = faults; end = end.now })) }
+    ensures answer { IfOk result (λ joined. IsAnswer joined (record {
+      part = part;
+      faults = faults;
+      end = end.now;
+    })) }
+{
+    let (records, bytes) = (part.records(), part.bytes());
+    let channels = part.into_channels(alloc)?;
+    match push_joint(text, form, channels.as_slice(), records, bytes, faults, end) {
+        Ok(()) => Ok(Joined {
+            broken: count_broken(channels.as_slice()),
+            fault: is_faulty(faults, end),
+        }),
+        Err(_) => Err(Memory),
+    }
+}
+
+/// Adds the text of the audit of these channels, or of the part of them.
+fn push_joint<A: Allocator>(
+    text: &mut Vec<u8, A>,
+    form: Form,
+    channels: &[(Codes, Channel)],
+    records: u64,
+    bytes: u64,
+    faults: u64,
+    end: &Option<StreamFault>,
+) -> Result<(), AllocError>
+    ensures { OnOk result (text.new.items ≡ text.old.items ++ text_by form (record {
+      part = record { channels = channels.now; records = records; bytes = bytes };
+      faults = faults;
+      end = end.now;
+    })) }
+{
+    match form {
+        Form::Audit => push_join(text, channels, records, faults, end),
+        Form::Part => push_part(text, channels, records, bytes, faults, end),
+    }
+}
+
+/// Whether there is a fault at the end, or faults lie behind.
+fn is_faulty(faults: u64, end: &Option<StreamFault>) -> bool
+    ensures { result ≡ (is_some end.now || nat_lt 0 faults) }
+{
+    match end {
+        Some(_) => true,
+        None => faults > 0,
+    }
+}

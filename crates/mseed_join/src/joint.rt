@@ -1,0 +1,349 @@
+//! The joint part of parts that are read line by line.
+ghost use Rattle.std.specs.Prelude.{◌≡◌, ◌≢◌, ◌↔◌, ◌<◌, ◌+◌, ◌^◌, ◌++◌, List, ℕ, [], codes, false};
+ghost use Rattle.std.specs.Prelude.{IfSome, IfNone, IfErr, OnOk, IsTrue};
+ghost use Rattle.mseed_join.specs.Joined.{HasNoEnd};
+ghost use Rattle.mseed_join.specs.Lines.{IsLine, Line, header_line};
+ghost use Rattle.mseed_join.specs.Reached.{Stage, start};
+ghost use Rattle.mseed_join.specs.private.Along.{can_end};
+ghost use Rattle.mseed_join.specs.private.Steps.{May};
+ghost use Rattle.mseed_join.specs.private.Taking.{IsBehindKey, IsLineStep, IsReadTo, IsStep, fault_behind, passed_by};
+
+use crate::lines::{read_channel_line, read_counts_line, read_fault_line, read_faults_line};
+use crate::numbers::LIMIT;
+use crate::writing::HEADER;
+use mseed_audit::{Channel, Finding};
+use mseed_parts::{JoinFault, Part, joined_in_turn, joining_laws, one_part};
+use mseed_record::Codes;
+use mseed_stream::StreamFault;
+use mseed_time::Micros;
+use std::alloc::{Allocator, Global};
+use std::cmp::Ordering;
+
+/// The joint part of parts.
+#[derive(Drop)]
+pub struct JointPart<A: Allocator = Global> {
+    /// What is kept of the channels, and how many records and bytes there are.
+    pub part: Part<A>,
+    /// How many faults lie behind.
+    pub faults: u64,
+    /// The fault with which it ends, if with one.
+    pub end: Option<StreamFault>,
+}
+
+/// What a line of a part tells a listener.
+#[derive(Clone, Copy, Debug, PartialEq, Eq)]
+pub enum Told {
+    /// Nothing.
+    Nothing,
+    /// What is found between a channel and its further records: they begin so, and the finding's number and offset are
+    /// those of the joint part.
+    Border {
+        /// The channel.
+        codes: Codes,
+        /// When the record begins.
+        start: Micros,
+        /// What is found of it.
+        finding: Finding,
+    },
+    /// A fault that is passed: that of the part of this number, from 1 over all parts, where it lies in that part.
+    Passed {
+        /// The part's number.
+        part: u64,
+        /// The fault with which it ends.
+        fault: StreamFault,
+    },
+}
+
+/// Why a line wasn't taken.
+#[derive(Clone, Copy, Debug, PartialEq, Eq)]
+pub(crate) enum LineFault {
+    /// No parts go on so.
+    Bad,
+    /// An allocation was refused.
+    Memory,
+}
+
+/// Where in a part's text the next line stands.
+#[derive(Clone, Copy, Debug)]
+pub(crate) enum Place {
+    /// Before the first line of a part.
+    Start,
+    /// Behind a channel with this key, or behind the first line.
+    Channels(Option<Codes>),
+    /// Behind the counts, the bytes among them, and the number of faults, if it was read.
+    Whole { bytes: u64, has_faults: bool },
+}
+
+/// The joint part of the parts of which the lines were taken.
+#[derive(Drop)]
+pub(crate) struct Joint<A: Allocator> {
+    pub(crate) so_far: JointPart<A>,
+    // The parts, the one that has begun too.
+    parts: u64,
+    place: Place,
+    // Faults are passed.
+    past: bool,
+}
+
+impl<A: Allocator + Copy> Joint<A> {
+    /// The joint part of no line.
+    pub(crate) fn new(alloc: A, past: bool) -> Joint<A>
+        ensures read { IsReadTo [] start result }
+        ensures past { result.past ≡ past }
+        ensures parts { result.parts ≡ 0 }
+    {
+        one_part();
+        Joint {
+            so_far: JointPart {
+                part: Part::new(alloc),
+                faults: 0,
+                end: None,
+            },
+            parts: 0,
+            place: Place::Start,
+            past,
+        }
+    }
+
+    /// Takes a line with its LF.
+    ///
+    /// # Errors
+    ///
+    /// `Bad` where no parts that can be joined go on so, `Memory` where there was no room for a channel that is new.
+    pub(crate) fn take_line(&mut self, line: &[u8]) -> Result<Told, LineFault>
+        requires parts { self.old.parts < 2 ^ 63 }
+        requires ended { (body : List ℕ) × HasNoEnd body × (line.now ≡ body ++ codes "\n") }
+        ensures step { (lines : List ℕ) (s : Stage) → IsReadTo lines s self.old
+            → IsLineStep lines s line.now result self.old self.new }
+    {
+        match self.place {
+            Place::Start => self.take_header(line),
+            Place::Channels(last) => self.take_row(last, line),
+            Place::Whole { bytes, has_faults } => self.take_ending(bytes, has_faults, line),
+        }
+    }
+
+    /// Whether the last part is over, or none has begun.
+    pub(crate) fn can_end(&self) -> bool
+        ensures { result ≡ can_end self.now.place }
+    {
+        match self.place {
+            Place::Channels(_) => false,
+            _ => true,
+        }
+    }
+
+    /// The joint part.
+    pub(crate) fn into_part(self) -> JointPart<A>
+        ensures { result ≡ self.so_far }
+    {
+        self.so_far
+    }
+
+    /// Takes the first line of a part.
+    fn take_header(&mut self, line: &[u8]) -> Result<Told, LineFault>
+        requires { self.old.parts < 2 ^ 63 }
+        ensures step { (lines : List ℕ) (s : Stage) → IsReadTo lines s self.old → May s.behind Line.header
+            → OnOk result (IsStep lines s Line.header result self.old self.new) }
+        ensures line { OnOk result (line.now ≡ header_line) }
+        ensures bad { IfErr result (λ fault. (fault ≡ LineFault.Bad) × (line.now ≢ header_line)) }
+    {
+        joined_in_turn();
+        if line != HEADER {
+            return Err(LineFault::Bad);
+        }
+        self.parts += 1;
+        self.place = Place::Channels(None);
+        Ok(Told::Nothing)
+    }
+
+    /// Takes a channel or the counts.
+    fn take_row(&mut self, last: Option<Codes>, line: &[u8]) -> Result<Told, LineFault>
+        requires place { self.old.place ≡ Place.Channels last }
+        requires ended { (body : List ℕ) × HasNoEnd body × (line.now ≡ body ++ codes "\n") }
+        ensures step { (lines : List ℕ) (s : Stage) → IsReadTo lines s self.old
+            → IsLineStep lines s line.now result self.old self.new }
+    {
+        if let Some((codes, channel)) = read_channel_line(line) {
+            if !is_behind(last, codes) {
+                return Err(LineFault::Bad);
+            }
+            return self.take_channel(codes, &channel);
+        }
+        let Some((records, bytes)) = read_counts_line(line) else {
+            return Err(LineFault::Bad);
+        };
+        self.take_counts(records, bytes)
+    }
+
+    /// Takes a fault, the number of faults behind, or the first line of the next part.
+    fn take_ending(&mut self, bytes: u64, has_faults: bool, line: &[u8]) -> Result<Told, LineFault>
+        requires parts { self.old.parts < 2 ^ 63 }
+        requires place { self.old.place ≡ Place.Whole bytes has_faults }
+        requires ended { (body : List ℕ) × HasNoEnd body × (line.now ≡ body ++ codes "\n") }
+        ensures step { (lines : List ℕ) (s : Stage) → IsReadTo lines s self.old
+            → IsLineStep lines s line.now result self.old self.new }
+    {
+        if let Some(fault) = read_fault_line(line, bytes) {
+            return self.take_fault(fault, bytes);
+        }
+        if has_faults {
+            return self.take_header(line);
+        }
+        if let Some(faults) = read_faults_line(line) {
+            return self.take_faults(faults, bytes);
+        }
+        self.take_header(line)
+    }
+
+    /// Takes a channel that is in order.
+    fn take_channel(&mut self, codes: Codes, channel: &Channel) -> Result<Told, LineFault>
+        ensures { (lines : List ℕ) (s : Stage) → IsReadTo lines s self.old → IsLine (Line.channel codes channel.now)
+            → May s.behind (Line.channel codes channel.now)
+            → IsStep lines s (Line.channel codes channel.now) result self.old self.new }
+    {
+        joined_in_turn();
+        joining_laws();
+        match self.so_far.end {
+            Some(_) => {
+                self.place = Place::Channels(Some(codes));
+                return Ok(Told::Nothing);
+            }
+            None => {}
+        }
+        match self.so_far.part.add_channel(codes, channel) {
+            Ok(found) => {
+                self.place = Place::Channels(Some(codes));
+                Ok(told_of(codes, channel, found))
+            }
+            Err(JoinFault::Limit) => Err(LineFault::Bad),
+            Err(JoinFault::Memory) => Err(LineFault::Memory),
+        }
+    }
+
+    /// Takes the counts.
+    fn take_counts(&mut self, records: u64, bytes: u64) -> Result<Told, LineFault>
+        ensures { (lines : List ℕ) (s : Stage) → IsReadTo lines s self.old → IsLine (Line.counts records bytes)
+            → May s.behind (Line.counts records bytes)
+            → IsStep lines s (Line.counts records bytes) result self.old self.new }
+    {
+        joined_in_turn();
+        joining_laws();
+        self.place = Place::Whole {
+            bytes,
+            has_faults: false,
+        };
+        match self.so_far.end {
+            Some(_) => return Ok(Told::Nothing),
+            None => {}
+        }
+        match self.so_far.part.add_counts(records, bytes) {
+            Ok(()) => Ok(Told::Nothing),
+            Err(_) => Err(LineFault::Bad),
+        }
+    }
+
+    /// Takes the number of faults behind.
+    fn take_faults(&mut self, faults: u64, bytes: u64) -> Result<Told, LineFault>
+        requires { self.old.place ≡ Place.Whole bytes false }
+        ensures { (lines : List ℕ) (s : Stage) → IsReadTo lines s self.old → IsLine (Line.faults faults)
+            → May s.behind (Line.faults faults)
+            → IsStep lines s (Line.faults faults) result self.old self.new }
+    {
+        joining_laws();
+        self.place = Place::Whole {
+            bytes,
+            has_faults: true,
+        };
+        match self.so_far.end {
+            Some(_) => return Ok(Told::Nothing),
+            None => {}
+        }
+        match sum(self.so_far.faults, faults) {
+            Some(all) => {
+                self.so_far.faults = all;
+                Ok(Told::Nothing)
+            }
+            None => Err(LineFault::Bad),
+        }
+    }
+
+    /// Takes the fault with which a part of so many bytes ends.
+    fn take_fault(&mut self, fault: StreamFault, bytes: u64) -> Result<Told, LineFault>
+        ensures { (lines : List ℕ) (s : Stage) → IsReadTo lines s self.old → IsLine (Line.fault bytes fault)
+            → May s.behind (Line.fault bytes fault)
+            → IsStep lines s (Line.fault bytes fault) result self.old self.new }
+    {
+        joining_laws();
+        self.place = Place::Start;
+        match self.so_far.end {
+            Some(_) => return Ok(Told::Nothing),
+            None => {}
+        }
+        if !self.past {
+            self.so_far.end = Some(fault_behind(self.so_far.part.bytes(), &fault));
+            return Ok(Told::Nothing);
+        }
+        match sum(self.so_far.faults, 1) {
+            Some(all) => {
+                self.so_far.faults = all;
+                Ok(Told::Passed {
+                    part: self.parts,
+                    fault,
+                })
+            }
+            None => Err(LineFault::Bad),
+        }
+    }
+}
+
+/// The fault behind so many bytes.
+fn fault_behind(bytes: u64, fault: &StreamFault) -> StreamFault
+    ensures { result ≡ fault_behind bytes fault.now }
+{
+    match *fault {
+        StreamFault::Frame(_, fault) => StreamFault::Frame(bytes, fault),
+        StreamFault::Truncated(_, have) => StreamFault::Truncated(bytes, have),
+        StreamFault::Read(_) => StreamFault::Read(bytes),
+        StreamFault::Turns(_) => StreamFault::Turns(bytes),
+        StreamFault::Memory => StreamFault::Memory,
+    }
+}
+
+/// A sum that doesn't pass the limit.
+fn sum(a: u64, b: u64) -> Option<u64>
+    ensures value { IfSome result (λ n. (n ≡ a + b) × (a + b < 2 ^ 63)) }
+    ensures none { IfNone result (a + b < 2 ^ 63 → ⊥) }
+{
+    match a.checked_add(b) {
+        Some(n) => { if n <= LIMIT { Some(n) } else { None } }
+        None => None,
+    }
+}
+
+/// Whether a channel's key is behind that of the last.
+fn is_behind(last: Option<Codes>, codes: Codes) -> bool
+    ensures { IsTrue result ↔ IsBehindKey last codes }
+{
+    match last {
+        Some(last) => match last.key().as_slice().cmp(codes.key().as_slice()) {
+            Ordering::Less => true,
+            _ => false,
+        },
+        None => true,
+    }
+}
+
+/// What is told of a channel, by what is found between it and its further records.
+fn told_of(codes: Codes, channel: &Channel, found: Option<Finding>) -> Told
+    ensures { passed_by result ≡ [] }
+{
+    match (found, channel.findings.head()) {
+        (Some(finding), Some(head)) => Told::Border {
+            codes,
+            start: head.start,
+            finding,
+        },
+        _ => Told::Nothing,
+    }
+}

@@ -1,0 +1,288 @@
+//! Lines of what a source tells.
+ghost use Rattle.std.specs.Prelude.{◌≡◌, ◌==◌, ◌+◌, ◌-◌, ◌*◌, ◌^◌, ◌<◌, ◌≤◌, ◌++◌, [], length, take, drop, true, false};
+ghost use Rattle.std.specs.Prelude.{IfOk, OnOk, IfErr, IfSome, IfNone, IsTrue, Ok, position};
+ghost use Rattle.std.specs.Io.KnownBytes.{IsAtEnd, ReadConsumes};
+ghost use Rattle.mseed_stream.specs.Device.{BytesRead, read_also};
+ghost use Rattle.mseed_stream.specs.Fault.{IsStreamFault};
+ghost use Rattle.mseed_join.specs.Joined.{HasNoEnd};
+ghost use Rattle.mseed_join.specs.private.LineReading.{Grows, IsReadBy, GoesOn, IfGoesOn, IsLineAhead, IsReadFault};
+ghost use Rattle.mseed_join.specs.private.LineReading.{LiesAhead};
+
+use mseed_audit::Memory;
+use mseed_stream::{Failed, Source, StreamFault};
+use std::alloc::Allocator;
+use std::marker::Model;
+
+/// At most so many reads of one input.
+const TURNS: u64 = 1 << 40;
+
+/// The bytes of the buffer.
+const ROOM: usize = 1 << 16;
+
+/// No line has more bytes, its LF included.
+const LONGEST: usize = 512;
+
+/// What lies ahead of a reader of lines.
+#[derive(Debug, Clone, Copy, PartialEq, Eq)]
+pub(crate) enum Ahead {
+    /// A line.
+    Line,
+    /// As many bytes as the longest line has, without an LF.
+    TooLong,
+    /// Bytes without an LF, and then the input's end.
+    Unended,
+    /// The input's end.
+    Nothing,
+}
+
+/// Reads lines out of a source, each of 512 bytes at most, and lends each out of its one buffer.
+///
+/// Contracts see it as a `LinesRead`, and say by `IsReadBy` how it stands to what its source told.
+#[derive(Drop)]
+pub(crate) struct LineReader<A: Allocator> {
+    buffer: Vec<u8, A>,
+    // From here on the buffer has bytes that weren't passed.
+    begin: usize,
+    // From here on it has room.
+    end: usize,
+    // The length of the line that was found at `begin`.
+    size: usize,
+    // How many lines were passed.
+    lines: u64,
+    // How many bytes were read in all.
+    bytes: u64,
+    // How often the source was asked.
+    reads: u64,
+}
+
+impl<A: Allocator> Model for LineReader<A> {
+    ghost use Rattle.std.specs.Prelude.{◌≡◌, ◌≤◌, ◌+◌, ◌-◌, ◌*◌, ◌^◌, slice_range};
+    ghost use Rattle.std.specs.Vec.{vec_len};
+    ghost use Rattle.mseed_join.specs.private.LineReading.{LinesRead};
+
+    ghost Value = { LinesRead };
+
+    ghost view = { λ r. record {
+      held = slice_range r.buffer.items r.begin r.end;
+      size = r.size;
+      room = 2 ^ 16 - r.end;
+      lines = r.lines;
+      bytes = r.bytes;
+      reads = r.reads;
+    } };
+
+    ghost invariant = { λ r. (vec_len r.buffer ≡ 2 ^ 16) × (r.begin + r.size ≤ r.end) × (r.end ≤ 2 ^ 16)
+        × (r.reads ≤ 2 ^ 40) × (r.bytes ≤ 2 ^ 16 * r.reads) × (r.lines + r.end ≤ r.bytes + r.begin) };
+}
+
+impl<A: Allocator> LineReader<A> {
+    /// A reader of which nothing was asked yet.
+    ///
+    /// # Errors
+    ///
+    /// Where there is no memory for its buffer.
+    pub(crate) fn new(alloc: A) -> Result<LineReader<A>, Memory>
+        ensures held { IfOk result (λ r. r.held ≡ []) }
+        ensures lines { IfOk result (λ r. r.lines ≡ 0) }
+        ensures along { IfOk result (λ r. (start : BytesRead) → IsReadBy start start r) }
+        ensures goes_on { IfOk result (λ r. (start : BytesRead) → GoesOn start start r) }
+    {
+        let mut buffer = Vec::new(alloc);
+        if buffer.resize(ROOM, 0).is_err() {
+            return Err(Memory);
+        }
+        Ok(LineReader {
+            buffer,
+            begin: 0,
+            end: 0,
+            size: 0,
+            lines: 0,
+            bytes: 0,
+            reads: 0,
+        })
+    }
+
+    /// Finds what lies ahead, and reads as much as that takes. The source is the same at each call.
+    ///
+    /// # Errors
+    ///
+    /// `Read` where the source failed, `Turns` where it wasn't at its end after 2^40 reads: each with the number of
+    /// bytes that were read in all.
+    pub(crate) fn look<R: Source>(&mut self, source: &mut R) -> Result<Ahead, StreamFault>
+        ensures ahead { IfOk result (λ a. LiesAhead a self.new (R.read source.new).is_at_end) }
+
+        // What is told is held behind what was held before, and no line is passed.
+        ensures more { Grows (R.read source.old) (R.read source.new) (R.remaining source.old) (R.remaining source.new)
+            self.old self.new }
+        ensures along { (start : BytesRead) → IsReadBy start (R.read source.old) self.old
+            → IsReadBy start (R.read source.new) self.new }
+        ensures goes_on { (start : BytesRead) → GoesOn start (R.read source.old) self.old
+            → IfGoesOn result (GoesOn start (R.read source.new) self.new) }
+        ensures fine { OnOk result ((R.read source.new).failures ≡ (R.read source.old).failures) }
+
+        // A fault is that of all reads since the reader was made.
+        ensures fault { IfErr result (λ e. (start : BytesRead) → IsReadBy start (R.read source.old) self.old
+            → GoesOn start (R.read source.old) self.old → IsStreamFault e start (R.read source.new)) }
+
+        // The input's end is that of the bytes that the source is known to have.
+        ensures known { (R.read source.old).is_at_end ≡ false → (R.read source.new).is_at_end ≡ true
+            → IsAtEnd (R.remaining source.new) }
+        ensures beside { R.beside source.new ≡ R.beside source.old }
+    {
+        loop {
+            if let Some(ahead) = self.see() {
+                return Ok(ahead);
+            }
+            if self.fill(source)? {
+                return Ok(self.left());
+            }
+        }
+    }
+
+    /// The line ahead, with its LF.
+    pub(crate) fn line(&self) -> &[u8]
+        ensures { result.now ≡ take self.now.size self.now.held }
+    {
+        &self.buffer[self.begin..self.begin + self.size]
+    }
+
+    /// Passes the line ahead, and counts it.
+    pub(crate) fn pass(&mut self)
+        requires { IsLineAhead self.old.size self.old.held }
+        ensures held { self.old.held ≡ take self.old.size self.old.held ++ self.new.held }
+        ensures lines { self.new.lines ≡ self.old.lines + 1 }
+        ensures along { (start now : BytesRead) → IsReadBy start now self.old → IsReadBy start now self.new }
+        ensures goes_on { (start now : BytesRead) → GoesOn start now self.old → GoesOn start now self.new }
+    {
+        self.begin += self.size;
+        self.size = 0;
+        self.lines += 1;
+    }
+
+    /// How many lines were passed.
+    pub(crate) fn lines(&self) -> u64
+        ensures value { result ≡ self.now.lines }
+        ensures few { self.now.bytes ≤ 2 ^ 56 }
+        ensures reads { self.now.bytes ≤ 2 ^ 16 * self.now.reads }
+    {
+        self.lines
+    }
+
+    /// What lies ahead, where the bytes that are held tell it.
+    #[tactic(auto, using(crate::proofs::LineEnds::no_end_in_few))]
+    fn see(&mut self) -> Option<Ahead>
+        ensures some { IfSome result (λ a. LiesAhead a self.new false) }
+        ensures none { IfNone result ((length self.new.held < 512) × HasNoEnd self.new.held) }
+        ensures stays { self.new ≡ record self.old { size = self.new.size } }
+    {
+        let held = &self.buffer[self.begin..self.end];
+        let is_long = held.len() >= LONGEST;
+        match size_of_line(held) {
+            Some(size) => {
+                self.size = size;
+                Some(Ahead::Line)
+            }
+            None if is_long => Some(Ahead::TooLong),
+            None => None,
+        }
+    }
+
+    /// What lies ahead at the input's end.
+    fn left(&self) -> Ahead
+        requires { HasNoEnd self.now.held }
+        ensures ahead { LiesAhead result self.now true }
+        ensures ends { IfGoesOn (Ok result) ⊥ }
+    {
+        if self.begin == self.end {
+            Ahead::Nothing
+        } else {
+            Ahead::Unended
+        }
+    }
+
+    /// Reads once, and answers whether the input ended.
+    fn fill<R: Source>(&mut self, source: &mut R) -> Result<bool, StreamFault>
+        requires { length self.old.held < 512 }
+        ensures more { Grows (R.read source.old) (R.read source.new) (R.remaining source.old) (R.remaining source.new)
+            self.old self.new }
+        ensures asked { OnOk result (self.new.reads ≡ self.old.reads + 1) }
+        ensures turns { OnOk result (self.new.reads ≤ 2 ^ 40) }
+        ensures whole { result ≡ Ok false → (R.read source.new).is_at_end ≡ false }
+        ensures ended { result ≡ Ok true → ((R.read source.new).is_at_end ≡ true) × (self.new.held ≡ self.old.held)
+            × IsAtEnd (R.remaining source.new) }
+        ensures fine { OnOk result ((R.read source.new).failures ≡ (R.read source.old).failures) }
+        ensures fault { IfErr result (λ e. IsReadFault e self.new (R.read source.old) (R.read source.new)) }
+        ensures beside { R.beside source.new ≡ R.beside source.old }
+    {
+        if self.reads == TURNS {
+            return Err(StreamFault::Turns(self.bytes));
+        }
+        self.make_room();
+        self.read(source)
+    }
+
+    /// Moves what is held to the buffer's front.
+    fn make_room(&mut self)
+        ensures { self.new ≡ record self.old { room = 2 ^ 16 - length self.old.held } }
+    {
+        self.buffer.copy_within(self.begin..self.end, 0);
+        self.end -= self.begin;
+        self.begin = 0;
+    }
+
+    /// Reads into the room behind what is held, and answers whether the input ended.
+    fn read<R: Source>(&mut self, source: &mut R) -> Result<bool, StreamFault>
+        requires room { 0 < self.old.room }
+        requires turns { self.old.reads < 2 ^ 40 }
+        ensures more { Grows (R.read source.old) (R.read source.new) (R.remaining source.old) (R.remaining source.new)
+            self.old self.new }
+        ensures asked { self.new.reads ≡ self.old.reads + 1 }
+        ensures whole { result ≡ Ok false → (R.read source.new).is_at_end ≡ false }
+        ensures ended { result ≡ Ok true → ((R.read source.new).is_at_end ≡ true) × (self.new.held ≡ self.old.held)
+            × IsAtEnd (R.remaining source.new) }
+        ensures fine { OnOk result ((R.read source.new).failures ≡ (R.read source.old).failures) }
+        ensures fault { IfErr result (λ e. IsReadFault e self.new (R.read source.old) (R.read source.new)) }
+        ensures beside { R.beside source.new ≡ R.beside source.old }
+    {
+        self.reads += 1;
+        match pull_behind(source, &mut self.buffer, self.end) {
+            Ok(n) => {
+                self.end += n;
+                self.bytes += n as u64;
+                Ok(n == 0)
+            }
+            Err(Failed) => Err(StreamFault::Read(self.bytes)),
+        }
+    }
+}
+
+/// The length of the line that the bytes begin with, its LF included.
+fn size_of_line(held: &[u8]) -> Option<usize>
+    ensures some { IfSome result (λ size. IsLineAhead size held.now) }
+    ensures none { IfNone result (HasNoEnd (take 512 held.now)) }
+{
+    match place_of_end(&held[..held.len().min(LONGEST)]) {
+        Some(place) => Some(place + 1),
+        None => None,
+    }
+}
+
+/// The place of the first LF.
+fn place_of_end(bytes: &[u8]) -> Option<usize>
+    ensures { result ≡ position (λ b. b == 10) bytes.now }
+{
+    bytes.iter().position(|b| *b == b'\n')
+}
+
+/// Reads once, into the bytes from `end` on.
+fn pull_behind<R: Source>(source: &mut R, buffer: &mut [u8], end: usize) -> Result<usize, Failed>
+    requires { end < length buffer.old }
+    ensures bound { IfOk result (λ n. end + n ≤ length buffer.old) }
+    ensures before { take end buffer.new ≡ take end buffer.old }
+    ensures read { R.read source.new ≡ read_also (R.read source.old) result (drop end buffer.new) }
+    ensures silent { IsTrue (R.read source.old).is_at_end → result ≡ Ok 0 }
+    ensures known { ReadConsumes (R.remaining source.old) (R.remaining source.new) result (drop end buffer.new) }
+    ensures beside { R.beside source.new ≡ R.beside source.old }
+{
+    source.pull(&mut buffer[end..])
+}

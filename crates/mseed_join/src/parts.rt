@@ -1,0 +1,80 @@
+//! Parts one behind another, read and joined.
+ghost use Rattle.std.specs.Prelude.{◌≡◌, true};
+ghost use Rattle.std.specs.Io.KnownBytes.{IsAtEnd};
+ghost use Rattle.mseed_stream.specs.Cutting.{TellsMore};
+ghost use Rattle.mseed_stream.specs.Device.{nothing_read};
+ghost use Rattle.mseed_stream.specs.Telling.{Tells};
+ghost use Rattle.mseed_join.specs.ReadParts.{IsReadOutcome};
+ghost use Rattle.mseed_join.specs.Reached.{AreTold, passed_line};
+ghost use Rattle.mseed_join.specs.private.Taking.{passed_by};
+
+use crate::joint::{JointPart, Told};
+use crate::reader::{PartsFault, Reader};
+use mseed_audit::Piece::{Count, Words};
+use mseed_audit::{Memory, fault_line_of, line_of};
+use mseed_stream::{Sink, Source, StreamFault, tell};
+use std::alloc::Allocator;
+
+/// Reads the texts of parts, one behind another, and joins them as they are read. A part behind one that ends with a
+/// fault isn't counted; where faults are passed (`past`), each part counts as if it ended without one, and a line on
+/// `errors` tells the fault. It takes memory for the channels, and a buffer of a fixed size. The source is one of which
+/// nothing was read yet.
+///
+/// # Errors
+///
+/// `Line` where a line is bad, the first such line by its number: with it the text can be that of no parts that can be
+/// joined. `Stream` where the source failed, or wasn't at its end after 2^40 reads. `Memory` where an allocation was
+/// refused.
+pub fn read_parts<A: Allocator + Copy, R: Source, E: Sink>(
+    alloc: A,
+    past: bool,
+    source: &mut R,
+    errors: &mut E,
+) -> Result<JointPart<A>, PartsFault>
+    requires { R.read source.old ≡ nothing_read }
+    ensures outcome { IsReadOutcome result past (R.read source.old) (R.read source.new) (E.written errors.old)
+        (E.written errors.new) }
+
+    // What the source is known to have left is what was read of it, up to its end where the input is at its end.
+    ensures more { TellsMore (R.read source.old) (R.read source.new) (R.remaining source.old)
+        (R.remaining source.new) }
+    ensures known { (R.read source.new).is_at_end ≡ true → IsAtEnd (R.remaining source.new) }
+
+    // What the source takes stays as it was.
+    ensures beside { R.beside source.new ≡ R.beside source.old }
+{
+    let mut reader = match Reader::new(alloc, past) {
+        Ok(reader) => reader,
+        Err(Memory) => return Err(PartsFault::Memory),
+    };
+    'lines: loop {
+        match reader.next(source)? {
+            Some(told) => tell_passed(errors, &told),
+            None => return Ok(reader.into_joint()),
+        }
+    }
+}
+
+/// Tells a fault that is passed.
+fn tell_passed<E: Sink>(errors: &mut E, told: &Told)
+    ensures { AreTold (passed_by told.now) (E.written errors.old) (E.written errors.new) }
+{
+    match told {
+        Told::Passed { part, fault } => tell_fault(errors, *part, fault),
+        Told::Nothing => {}
+        Told::Border { .. } => {}
+    }
+}
+
+/// Tells the fault with which the part of this number ends.
+fn tell_fault<E: Sink>(errors: &mut E, part: u64, fault: &StreamFault)
+    ensures { Tells (passed_line part fault.now) (E.written errors.old) (E.written errors.new) }
+{
+    let line = line_of(&[
+        Words(b"mseed: part "),
+        Count(part),
+        Words(b" "),
+        Words(&fault_line_of(fault)),
+    ]);
+    tell(errors, &line);
+}

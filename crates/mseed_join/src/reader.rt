@@ -1,0 +1,107 @@
+//! Parts that are read out of a source, line by line.
+ghost use Rattle.std.specs.Prelude.{◌≡◌, ◌≤◌, ◌+◌, ◌^◌, Bool, false, true, IfOk, Ok, Some};
+ghost use Rattle.std.specs.Io.KnownBytes.{IsAtEnd};
+ghost use Rattle.mseed_stream.specs.Cutting.{TellsMore};
+ghost use Rattle.mseed_stream.specs.Device.{BytesRead};
+ghost use Rattle.mseed_join.specs.Joined.{IsJointOf};
+ghost use Rattle.mseed_join.specs.Reached.{Stage, start};
+ghost use Rattle.mseed_join.specs.private.Along.{IsAlong, IsNextStep};
+ghost use Rattle.mseed_join.specs.private.LineReading.{IsLineAhead};
+
+use crate::joint::{Joint, JointPart, LineFault, Told};
+use crate::law::lines_are_short;
+use crate::line_reader::{Ahead, LineReader};
+use mseed_audit::Memory;
+use mseed_stream::{Source, StreamFault};
+use std::alloc::Allocator;
+use thiserror::Error;
+
+/// Why parts weren't read whole.
+#[derive(Clone, Copy, Debug, PartialEq, Eq, Error)]
+pub enum PartsFault {
+    /// The line of this number, from 1 over all parts, is bad.
+    #[error("bad part at line {0}")]
+    Line(u64),
+    /// The source failed, or wasn't at its end after 2^40 reads.
+    #[error("the input failed")]
+    Stream(StreamFault),
+    /// An allocation was refused.
+    #[error("no memory")]
+    Memory,
+}
+
+/// Parts that are read line by line, and joined as they are read.
+#[derive(Drop)]
+pub(crate) struct Reader<A: Allocator> {
+    lines: LineReader<A>,
+    pub(crate) joint: Joint<A>,
+}
+
+impl<A: Allocator + Copy> Reader<A> {
+    /// A reader that read nothing.
+    ///
+    /// # Errors
+    ///
+    /// Where there is no memory for its buffer.
+    pub(crate) fn new(alloc: A, past: bool) -> Result<Reader<A>, Memory>
+        ensures { IfOk result (λ r. (h : BytesRead) → IsAlong past h h (start) r) }
+    {
+        let lines = LineReader::new(alloc)?;
+        Ok(Reader {
+            lines,
+            joint: Joint::new(alloc, past),
+        })
+    }
+
+    /// Takes the next line, and answers what it tells; nothing at the input's end.
+    ///
+    /// # Errors
+    ///
+    /// `Line` where the next line is bad, `Stream` where the source failed, or wasn't at its end after 2^40 reads, and
+    /// `Memory` where there was no room for a channel that is new.
+    pub(crate) fn next<R: Source>(&mut self, source: &mut R) -> Result<Option<Told>, PartsFault>
+        requires { (past : Bool) × (h : BytesRead) × (s : Stage) × IsAlong past h (R.read source.old) s self.old }
+        ensures step { (past : Bool) (h : BytesRead) (s : Stage) → IsAlong past h (R.read source.old) s self.old
+            → IsNextStep past h s result (R.read source.new) self.new }
+        ensures line { (told : Told) → result ≡ Ok (Some told) → self.new.lines.lines ≡ self.old.lines.lines + 1 }
+        ensures few { (told : Told) → result ≡ Ok (Some told) → self.old.lines.lines ≤ 2 ^ 56 }
+        ensures more { TellsMore (R.read source.old) (R.read source.new) (R.remaining source.old)
+            (R.remaining source.new) }
+        ensures known { (R.read source.old).is_at_end ≡ false → (R.read source.new).is_at_end ≡ true
+            → IsAtEnd (R.remaining source.new) }
+        ensures beside { R.beside source.new ≡ R.beside source.old }
+    {
+        lines_are_short();
+        let ahead = match self.lines.look(source) {
+            Ok(ahead) => ahead,
+            Err(fault) => return Err(PartsFault::Stream(fault)),
+        };
+        let number = self.lines.lines() + 1;
+        match ahead {
+            Ahead::Line => match self.joint.take_line(self.lines.line()) {
+                Ok(told) => {
+                    self.lines.pass();
+                    Ok(Some(told))
+                }
+                Err(LineFault::Bad) => Err(PartsFault::Line(number)),
+                Err(LineFault::Memory) => Err(PartsFault::Memory),
+            },
+            Ahead::Nothing => {
+                if self.joint.can_end() {
+                    Ok(None)
+                } else {
+                    Err(PartsFault::Line(number))
+                }
+            }
+            Ahead::TooLong => Err(PartsFault::Line(number)),
+            Ahead::Unended => Err(PartsFault::Line(number)),
+        }
+    }
+
+    /// The joint part.
+    pub(crate) fn into_joint(self) -> JointPart<A>
+        ensures { result ≡ self.joint.so_far }
+    {
+        self.joint.into_part()
+    }
+}
