@@ -6,7 +6,8 @@ ghost use Rattle.mseed_audit.specs.Text.{fault_line, why_text};
 use mseed_audit::{
     Audit, AuditFault, BadStep, Channel, EachFault, Line, Memory, NotContinuous, Piece, Series,
     Verdict, Why, audit, audit_each, fault_line_of, gather, gather_each, is_of, line_of, name_of,
-    push_count, push_fault_line, push_name, push_pieces, push_start, push_why, series,
+    push_count, push_fault_line, push_name, push_pieces, push_start, push_total_line,
+    push_verdict_line, push_why, series,
 };
 use mseed_record::{Codes, RecordView};
 use mseed_stream::{Counted, Sink, Source, StreamFault};
@@ -147,6 +148,19 @@ pub fn reason_text(alloc: Global, why: &Why) -> Result<Vec<u8>, AllocError>
 {
     let mut text = Vec::new(alloc);
     push_why(&mut text, why)?;
+    Ok(text)
+}
+
+/// The audit's text of an archive of one channel, of so many records, that ends without a fault.
+pub fn text_of_one(
+    alloc: Global,
+    codes: &Codes,
+    verdict: &Verdict,
+    records: u64,
+) -> Result<Vec<u8>, AllocError> {
+    let mut text = Vec::new(alloc);
+    push_verdict_line(&mut text, codes, verdict)?;
+    push_total_line(&mut text, records, 1)?;
     Ok(text)
 }
 

@@ -6,7 +6,7 @@ ghost use Rattle.slink_feed.specs.Window.{Shows};
 use mseed_stream::{Duplex, Sink};
 use slink_feed::{
     Bytes, Client, Event, Feed, FeedFault, LinkFault, Mode, Ring, RingFault, Sent, Session, Turn,
-    fetch_turn, serve_turn,
+    fetch_turn, fetch_turn_noting, serve_turn,
 };
 use slink_wire::{Place, Reply};
 use std::alloc::Global;
@@ -124,4 +124,20 @@ pub fn fetch_once<S: Duplex, W: Sink>(
 ) -> Result<bool, LinkFault> {
     let turn = fetch_turn(client, link, output)?;
     Ok(matches!(turn, Turn::Goes))
+}
+
+/// Fetches over a link for a turn, and answers whether a record came.
+pub fn fetch_some<S: Duplex, W: Sink>(
+    client: &mut Client,
+    link: &mut S,
+    output: &mut W,
+) -> Result<bool, LinkFault> {
+    let mut received = false;
+    fetch_turn_noting(client, link, output, &mut received)?;
+    Ok(received)
+}
+
+/// Whether both ends have come through the handshake.
+pub fn are_streaming(session: &Session, client: &Client) -> bool {
+    session.is_streaming() && client.is_streaming()
 }

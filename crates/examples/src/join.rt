@@ -1,11 +1,12 @@
 //! Calls of `mseed_join`.
 use mseed_audit::{AuditFault, Channel, EachFault};
 use mseed_join::{
-    HEADER, audit_part, audit_part_each, push_channel_line, push_counts_line, push_faults_line,
-    read_channel_line, read_counts_line, read_fault_line, read_faults_line,
+    Form, HEADER, JoinsFault, PartsFault, audit_part, audit_part_each, join, push_channel_line,
+    push_counts_line, push_faults_line, read_channel_line, read_counts_line, read_fault_line,
+    read_faults_line, read_parts,
 };
 use mseed_record::Codes;
-use mseed_stream::{Counted, StreamFault};
+use mseed_stream::{Counted, Sink, StreamFault};
 use std::alloc::{AllocError, Global};
 
 /// The text of a slice's part.
@@ -22,6 +23,29 @@ pub fn part_with_findings(alloc: Global, bytes: &[u8]) -> Result<Vec<u8>, EachFa
     let mut sink = Counted::new(Vec::new(alloc));
     audit_part_each(alloc, &mut source, &mut sink)?;
     Ok(sink.into_inner())
+}
+
+/// The text of the audit of the archives of which a slice holds the parts. Faults that are passed are told on a device.
+pub fn audit_of_parts<E: Sink>(
+    alloc: Global,
+    parts: &[u8],
+    told: &mut E,
+) -> Result<Vec<u8>, JoinsFault> {
+    let mut source = Counted::new(parts);
+    let mut sink = Counted::new(Vec::new(alloc));
+    join(alloc, Form::Audit, true, &mut source, &mut sink, told)?;
+    Ok(sink.into_inner())
+}
+
+/// How many records the archives have of which a slice holds the parts. Faults that are passed are told on a device.
+pub fn records_of_parts<E: Sink>(
+    alloc: Global,
+    parts: &[u8],
+    told: &mut E,
+) -> Result<u64, PartsFault> {
+    let mut source = Counted::new(parts);
+    let joint = read_parts(alloc, true, &mut source, told)?;
+    Ok(joint.part.records())
 }
 
 /// The text of a part of one channel, of so many records and bytes; so many faults lie behind.

@@ -1,12 +1,13 @@
 //! Calls of `slink_links`.
+ghost use Rattle.std.specs.Prelude.{◌≡◌, ◌∷◌, ◌++◌, []};
 ghost use Rattle.slink_links.specs.Out.{AreOut};
 ghost use Rattle.slink_links.specs.Served.{IsServed};
 
-use mseed_stream::{Duplex, Sink};
+use mseed_stream::Sink;
 use slink_feed::{Client, Feed, LinkFault};
 use slink_links::{
-    Accept, Dial, FetchEnd, FetchPlan, ServePlan, fetch, fetch_all, fetch_link, fetch_planned,
-    serve, serve_all, serve_link, serve_planned,
+    Accept, Address, Dial, FetchEnd, FetchPlan, Host, Name, Pause, ServePlan, Settle, Timeout,
+    fetch, fetch_all, fetch_link, fetch_planned, serve, serve_all, serve_link, serve_planned,
 };
 use std::net::Net;
 use std::time::Clock;
@@ -14,23 +15,27 @@ use std::time::Clock;
 /// Serves a feed to one connection at port 18000 of this machine. The exit status.
 pub fn serve_one<N: Net + Clock, E: Sink>(host: &N, feed: Feed, errors: &mut E) -> u8 {
     let plan = ServePlan {
+        address: Address::local(),
         port: 18_000,
         connections: 1,
+        timeout: Timeout { seconds: 600 },
         feed,
     };
     serve(host, &plan, errors)
 }
 
 /// Fetches from port 18000 of this machine, over at most three connections. The exit status.
-pub fn fetch_thrice<N: Net, W: Sink, E: Sink>(
+pub fn fetch_thrice<N: Net + Clock, W: Sink, E: Sink>(
     net: &N,
     client: Client,
     output: &mut W,
     errors: &mut E,
 ) -> u8 {
     let mut plan = FetchPlan {
+        host: Host::Address(Address::local()),
         port: 18_000,
         tries: 3,
+        timeout: Timeout { seconds: 600 },
         client,
     };
     fetch(net, &mut plan, output, errors)
@@ -51,38 +56,40 @@ pub fn serve_plan<A: Accept, E: Sink>(plan: &ServePlan, acceptor: &mut A, errors
 }
 
 /// Fetches over at most ten links of the caller's, and says whether all came.
-pub fn fetch_ten<D: Dial, W: Sink, E: Sink>(
+pub fn fetch_ten<D: Dial, P: Pause, W: Sink, E: Sink>(
     client: &mut Client,
     dialler: &mut D,
+    waits: &mut P,
     output: &mut W,
     errors: &mut E,
 ) -> bool
     requires { AreOut 0 (D.calls dialler.old) (D.failures dialler.old) (D.given_back dialler.old) }
 {
-    fetch_all(client, 10, dialler, output, errors) == 0
+    fetch_all(client, 10, dialler, waits, output, errors) == 0
 }
 
 /// Carries out a plan over links of the caller's.
-pub fn fetch_plan<D: Dial, W: Sink, E: Sink>(
+pub fn fetch_plan<D: Dial, P: Pause, W: Sink, E: Sink>(
     plan: &mut FetchPlan,
     dialler: &mut D,
+    waits: &mut P,
     output: &mut W,
     errors: &mut E,
 ) -> u8
     requires { AreOut 0 (D.calls dialler.old) (D.failures dialler.old) (D.given_back dialler.old) }
 {
-    fetch_planned(plan, dialler, output, errors)
+    fetch_planned(plan, dialler, waits, output, errors)
 }
 
 /// Serves one link, until nothing more is to be sent.
-pub fn serve_over<S: Duplex>(feed: &Feed, link: &mut S) -> Result<(), LinkFault>
+pub fn serve_over<S: Settle>(feed: &Feed, link: &mut S) -> Result<(), LinkFault>
     ensures { IsServed feed.now result (S.read link.old) (S.read link.new) (S.written link.old) (S.written link.new) }
 {
     serve_link(feed, link)
 }
 
 /// Fetches over one link; whether the server has sent all that was asked for.
-pub fn fetch_over<S: Duplex, W: Sink>(client: &mut Client, link: &mut S, output: &mut W) -> bool {
+pub fn fetch_over<S: Settle, W: Sink>(client: &mut Client, link: &mut S, output: &mut W) -> bool {
     fetch_link(client, link, output) == FetchEnd::Done
 }
 
@@ -110,4 +117,25 @@ pub fn is_there<D: Dial>(dialler: &mut D) -> bool
         }
         None => false,
     }
+}
+
+/// Whom a word names: this machine, or a host that the system resolves.
+pub fn host_named(word: &str) -> Option<Host> {
+    match word {
+        "here" => Some(Host::Address(Address::local())),
+        _ => Some(Host::Name(Name::new(word)?)),
+    }
+}
+
+/// Tells a link that its handshake is over.
+pub fn settled<S: Settle>(link: S) -> S {
+    link.settle();
+    link
+}
+
+/// Waits for a second.
+pub fn wait_a_second<P: Pause>(waits: &mut P)
+    ensures { P.asked waits.new ≡ P.asked waits.old ++ 10 ∷ [] }
+{
+    waits.pause(10);
 }

@@ -1,5 +1,5 @@
 //! Calls of `mseed_parts`.
-use mseed_audit::{Channel, Finding};
+use mseed_audit::{Channel, Finding, Memory};
 use mseed_parts::{JoinFault, Part};
 use mseed_record::Codes;
 use std::alloc::Global;
@@ -31,4 +31,17 @@ pub fn border_of(
 pub fn joint_counts(one: Part, other: &Part) -> Result<(u64, u64), JoinFault> {
     let joint = one.join(other)?;
     Ok((joint.records(), joint.bytes()))
+}
+
+/// How many samples all channels of a part have; `None` where the sum doesn't fit.
+pub fn samples_of(alloc: Global, part: Part) -> Result<Option<u64>, Memory> {
+    let channels = part.into_channels(alloc)?;
+    let mut sum: u64 = 0;
+    for (_, channel) in channels.as_slice() {
+        match sum.checked_add(channel.samples) {
+            Some(more) => sum = more,
+            None => return Ok(None),
+        }
+    }
+    Ok(Some(sum))
 }

@@ -47,21 +47,20 @@ named [] id = refl
 named (n ∷ ns) id = ap (λ (b : Bool). bytes_eq n.now id || b) (named ns id)
 
 -- nothing left, or one word and the others
-pub left_none : (names xs : List Text) → slice_get xs 0 ≡ None → list_all (is_among names) xs ≡ true
-left_none names [] e = refl
-left_none names (x ∷ xs) e = absurd (some_none x e)
+pub left_none : (p : Text → Bool) (xs : List Text) → slice_get xs 0 ≡ None → list_all p xs ≡ true
+left_none p [] e = refl
+left_none p (x ∷ xs) e = absurd (some_none x e)
   where
     some_none : (x : Text) → Some x ≡ None → ⊥
     some_none x e = cc
 
-pub left_some : (names xs : List Text) (x : Text) → slice_get xs 0 ≡ Some x
-    → list_all (is_among names) xs ≡ (is_among names x && list_all (is_among names) (drop 1 xs))
-left_some names [] x e = absurd (none_some x e)
+pub left_some : (p : Text → Bool) (xs : List Text) (x : Text) → slice_get xs 0 ≡ Some x
+    → list_all p xs ≡ (p x && list_all p (drop 1 xs))
+left_some p [] x e = absurd (none_some x e)
   where
     none_some : (x : Text) → None ≡ Some x → ⊥
     none_some x e = cc
-left_some names (y ∷ ys) x e = ap (λ (o : Option Text). is_among names (unwrap_or o y) && list_all (is_among names) ys)
-    e
+left_some p (y ∷ ys) x e = ap (λ (o : Option Text). p (unwrap_or o y) && list_all p ys) e
 
 -- the words that were found are those of their rows
 pub ids_are : (es : List Entry) → map (λ (r : Row). r.id) (map row_of es) ≡ map (λ (e : Entry). e.0.now) es

@@ -12,6 +12,12 @@ use Rattle.mseed.specs.Numbers.{counted_in, hexadecimal_in, number_in}
 use Rattle.mseed.specs.Places.{ArePlaces, Asked, places_of}
 use Rattle.mseed.specs.declared.feed_words.Naming.{Naming}
 use Rattle.mseed.specs.declared.feed_words.Naming.TheVariants.{Plain, Numbered}
+use Rattle.slink_links.specs.declared.host.Address.{Address}
+use Rattle.slink_links.specs.declared.host.Host.{Host}
+use Rattle.slink_links.specs.declared.host.Timeout.{Timeout}
+use Rattle.mseed.specs.Addresses.{IsTimeout, address_of, host_of, timeout_in}
+use Rattle.mseed.specs.declared.request.Listener.{Listener}
+use Rattle.mseed.specs.declared.request.Server.{Server}
 use Rattle.mseed.specs.declared.request.Serving.{Serving}
 use Rattle.mseed.specs.declared.request.Fetching.{Fetching}
 
@@ -84,35 +90,63 @@ first_in None = Some 0
 first_in (Some text) = hexadecimal_in text
 
 -- what the options give, where each can be had
-abbrev pub serving_with : Option ℕ → Option ℕ → Option ℕ → Option ℕ → Option (List Asked) → Option Serving
-serving_with (Some port) (Some connections) (Some capacity) (Some first) (Some places) =
-    Some (record { port = port; connections = connections; capacity = capacity; first = first; places = places })
+abbrev pub listener_with : Option Address → Option ℕ → Option Timeout → Option Listener
+listener_with (Some address) (Some port) (Some timeout) =
+    Some (record { address = address; port = port; timeout = timeout })
+listener_with _ _ _ = None
+
+abbrev pub server_with : Option Host → Option ℕ → Option Timeout → Option Server
+server_with (Some host) (Some port) (Some timeout) = Some (record { host = host; port = port; timeout = timeout })
+server_with _ _ _ = None
+
+abbrev pub serving_with : Option Listener → Option ℕ → Option ℕ → Option ℕ → Option (List Asked) → Option Serving
+serving_with (Some listener) (Some connections) (Some capacity) (Some first) (Some places) =
+    Some (record {
+      listener = listener;
+      connections = connections;
+      capacity = capacity;
+      first = first;
+      places = places;
+    })
 serving_with _ _ _ _ _ = None
 
-abbrev pub fetching_with : Option ℕ → Option ℕ → Option (List Asked) → Option Fetching
-fetching_with (Some port) (Some tries) (Some places) = Some (record { port = port; tries = tries; places = places })
+abbrev pub fetching_with : Option Server → Option ℕ → Option (List Asked) → Option Fetching
+fetching_with (Some server) (Some tries) (Some places) =
+    Some (record { server = server; tries = tries; places = places })
 fetching_with _ _ _ = None
 
 -- what `serve` takes besides its word
 abbrev pub serve_names : List Text
-serve_names = codes "command" ∷ codes "each" ∷ codes "part" ∷ codes "place" ∷ codes "port"
-    ∷ codes "station" ∷ codes "network"
+serve_names = codes "command" ∷ codes "place" ∷ codes "address" ∷ codes "port" ∷ codes "timeout" ∷ codes "station"
+    ∷ codes "network"
     ∷ codes "capacity"
     ∷ codes "first"
     ∷ codes "connections" ∷ []
 
 -- and `fetch`
 abbrev pub fetch_names : List Text
-fetch_names = codes "command" ∷ codes "each" ∷ codes "part" ∷ codes "place" ∷ codes "port"
-    ∷ codes "station" ∷ codes "network"
+fetch_names = codes "command" ∷ codes "place" ∷ codes "address" ∷ codes "port" ∷ codes "timeout" ∷ codes "station"
+    ∷ codes "network"
     ∷ codes "from"
     ∷ codes "tries" ∷ []
+
+-- where connections are taken
+abbrev pub listener_of : List Row → Option Listener
+listener_of rows =
+    listener_with (address_of (first_of (codes "address") rows)) (port_in (first_of (codes "port") rows))
+    (timeout_in (first_of (codes "timeout") rows))
+
+-- whom to ask
+abbrev pub server_of : List Row → Option Server
+server_of rows =
+    server_with (host_of (first_of (codes "address") rows)) (port_in (first_of (codes "port") rows))
+    (timeout_in (first_of (codes "timeout") rows))
 
 -- a feed to be served: its places have no numbers of their own
 abbrev pub serving_of : List Row → Option Serving
 serving_of rows =
     if has_only serve_names rows
-    then serving_with (port_in (first_of (codes "port") rows)) (count_in (first_of (codes "connections") rows))
+    then serving_with (listener_of rows) (count_in (first_of (codes "connections") rows))
     (capacity_in (first_of (codes "capacity") rows)) (first_in (first_of (codes "first") rows))
     (places_in Plain None rows)
     else None
@@ -121,7 +155,7 @@ serving_of rows =
 abbrev pub fetching_of : List Row → Option Fetching
 fetching_of rows =
     if has_only fetch_names rows
-    then fetching_with (port_in (first_of (codes "port") rows)) (count_in (first_of (codes "tries") rows))
+    then fetching_with (server_of rows) (count_in (first_of (codes "tries") rows))
     (places_in Numbered (first_of (codes "from") rows) rows)
     else None
 
@@ -133,9 +167,18 @@ IsPort port = (1 ≤ port) × (port ≤ 65535)
 abbrev pub IsCount : ℕ → Type 0
 IsCount count = (1 ≤ count) × (count ≤ 1000000)
 
+-- a port that there is, and a time of up to a day
+pub record IsListener (listener : Listener) : Type 0 where
+  pub port : IsPort listener.port
+  pub timeout : IsTimeout listener.timeout
+
+pub record IsServer (server : Server) : Type 0 where
+  pub port : IsPort server.port
+  pub timeout : IsTimeout server.timeout
+
 -- what a feed can be served by
 pub record CanServe (serving : Serving) : Type 0 where
-  pub port : IsPort serving.port
+  pub listener : IsListener serving.listener
   pub connections : IsCount serving.connections
   pub capacity : IsCapacity serving.capacity
   pub first : serving.first < 2 ^ 24
@@ -143,6 +186,6 @@ pub record CanServe (serving : Serving) : Type 0 where
 
 -- what a feed can be fetched by
 pub record CanFetch (fetching : Fetching) : Type 0 where
-  pub port : IsPort fetching.port
+  pub server : IsServer fetching.server
   pub tries : IsCount fetching.tries
   pub places : ArePlaces fetching.places

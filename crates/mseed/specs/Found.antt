@@ -1,8 +1,8 @@
 -- What `clap` found among the words.
-use Rattle.std.specs.Prelude.{Bool, List, [], map, unwrap_or, codes}
+use Rattle.std.specs.Prelude.{Bool, false, not, ◌&&◌, ◌||◌, List, [], ◌∷◌, Option, Some, None, map, unwrap_or, codes}
 use Rattle.std.specs.List.{list_all, list_any}
 use Rattle.std.specs.Str.{bytes_eq}
-use Rattle.clap.specs.Walk.{Row, Text, all_of}
+use Rattle.clap.specs.Walk.{Row, Text, all_of, first_of}
 
 -- the further places, in their order
 abbrev pub further_in : List Row → List Text
@@ -12,6 +12,23 @@ further_in rows = unwrap_or (all_of (codes "place") rows) []
 abbrev pub is_among : List Text → Text → Bool
 is_among names id = list_any (λ name. bytes_eq name id) names
 
--- nothing but what has one of these names
+-- a flag is `true` or `false`
+abbrev pub is_true : Option Text → Bool
+is_true None = false
+is_true (Some text) = bytes_eq text (codes "true")
+
+-- whether a flag is set
+abbrev pub asks : Text → List Row → Bool
+asks name rows = is_true (first_of name rows)
+
+-- the flags, each of which is found as one that is set or isn't
+abbrev pub flag_names : List Text
+flag_names = codes "each" ∷ codes "part" ∷ codes "past-faults" ∷ []
+
+-- one of these names, or that of a flag that isn't set
+abbrev pub is_taken : List Text → List Row → Text → Bool
+is_taken names rows id = is_among names id || (is_among flag_names id && not (asks id rows))
+
+-- nothing was given but what has one of these names
 abbrev pub has_only : List Text → List Row → Bool
-has_only names rows = list_all (is_among names) (map (λ r. r.id) rows)
+has_only names rows = list_all (is_taken names rows) (map (λ r. r.id) rows)

@@ -4,11 +4,13 @@ pub mod Options
 pub mod Found
 pub mod Numbers
 pub mod Places
+pub mod Addresses
 pub mod FeedWords
 pub mod Words
 pub mod Listing
 pub mod Show
 pub mod Done
+pub mod Joined
 pub mod Repacked
 pub mod Filling
 pub mod Plans

@@ -30,10 +30,14 @@ places_rule = record (new_rule (codes "place")) { action = Some Append }
 abbrev pub packing_rules : List Rule
 packing_rules = option_rule (codes "length") ∷ option_rule (codes "encoding") ∷ []
 
+-- where a feed leads, and how long a link may be silent
+abbrev pub link_rules : List Rule
+link_rules = option_rule (codes "address") ∷ option_rule (codes "timeout") ∷ []
+
 -- the options of a feed
 abbrev pub feed_rules : List Rule
 feed_rules = option_rule (codes "station") ∷ option_rule (codes "network") ∷ option_rule (codes "capacity")
-    ∷ option_rule (codes "first") ∷ option_rule (codes "from") ∷ []
+    ∷ option_rule (codes "first") ∷ option_rule (codes "from") ∷ link_rules
 
 abbrev pub number_rules : List Rule
 number_rules = number_rule (codes "port") (Signed (pos 1) (pos 65535)) ∷ number_rule (codes "connections")
@@ -41,7 +45,7 @@ number_rules = number_rule (codes "port") (Signed (pos 1) (pos 65535)) ∷ numbe
     ∷ number_rule (codes "tries") (Signed (pos 1) (pos 1000000)) ∷ []
 
 abbrev pub flag_rules : List Rule
-flag_rules = flag_rule (codes "each") ∷ flag_rule (codes "part") ∷ []
+flag_rules = flag_rule (codes "each") ∷ flag_rule (codes "part") ∷ flag_rule (codes "past-faults") ∷ []
 
 abbrev pub with_rules : App → List Rule → App
 with_rules a [] = a

@@ -25,8 +25,10 @@ fill_text Memory = codes "mseed: no memory\n"
 
 -- the feed, and the values that were asked for
 pub record IsServePlan {A : Type 0} (serving : Serving) (feed : List Window) (plan : ServePlan A) : Type 0 where
-  pub port : plan.port ≡ serving.port
+  pub address : plan.address ≡ serving.listener.address
+  pub port : plan.port ≡ serving.listener.port
   pub connections : plan.connections ≡ serving.connections
+  pub timeout : plan.timeout ≡ serving.listener.timeout
   pub feed_is : plan.feed ≡ feed
 
 -- by what filling the feed came to: a plan, and no line; or status 2, and a line
@@ -49,8 +51,10 @@ pub record IsServeRun {A : Type 0} (serving : Serving) (run : Run A) (read : Byt
 
 -- a new client for the places that were asked for, and the other values
 pub record IsFetchPlan (fetching : Fetching) (plan : FetchPlan) : Type 0 where
-  pub port : plan.port ≡ fetching.port
+  pub host : plan.host ≡ fetching.server.host
+  pub port : plan.port ≡ fetching.server.port
   pub tries : plan.tries ≡ fetching.tries
+  pub timeout : plan.timeout ≡ fetching.server.timeout
   pub talk : plan.client.talk ≡ record { mode = modes.Fetch; wants = wants_of fetching.places; stage = Unlinked }
   pub kept : plan.client.kept ≡ []
 

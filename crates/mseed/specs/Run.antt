@@ -6,6 +6,7 @@ use Rattle.mseed_audit.specs.declared.each.EachFault.{EachFault}
 use Rattle.mseed_stream.specs.Device.{BytesRead, BytesWritten}
 use Rattle.mseed_stream.specs.declared.fault.StreamFault.{StreamFault}
 use Rattle.mseed.specs.Done.{IsMemoryRun, IsRefusedRun, IsShowRun}
+use Rattle.mseed.specs.Joined.{IsJoinRun}
 use Rattle.mseed.specs.Outcome.{IsAuditRun, IsBadRun, IsEachRun, IsPartRun, IsPartEachRun}
 use Rattle.mseed.specs.Plans.{IsFetchRun, IsServeRun}
 use Rattle.mseed.specs.Repacked.{IsRepackRun}
@@ -14,7 +15,9 @@ use Rattle.mseed.specs.declared.outcome.Run.{Run}
 use Rattle.mseed.specs.declared.outcome.Run.TheVariants as runs
 use Rattle.mseed.specs.declared.request.Request.{Request}
 use Rattle.mseed.specs.declared.request.Request.TheVariants.{Audit, AuditEach, AuditPart, AuditPartEach}
-use Rattle.mseed.specs.declared.request.Request.TheVariants.{Show, Repack, Serve, Fetch}
+use Rattle.mseed.specs.declared.request.Request.TheVariants.{Join, Show, Repack, Serve, Fetch}
+use Rattle.mseed_join.specs.declared.joining.Joined.{Joined}
+use Rattle.mseed_join.specs.declared.joining.JoinsFault.{JoinsFault}
 
 -- what was read of the input, and what the output and the errors took
 pub record Streams : Type 0 where
@@ -31,7 +34,7 @@ IsStatusAnd (runs.Status status) P = P status
 IsStatusAnd (runs.Serve plan) P = ⊥
 IsStatusAnd (runs.Fetch plan) P = ⊥
 
--- an audit, a listing and a packing are done; serving and fetching are planned
+-- an audit, a joint, a listing and a packing are done; serving and fetching are planned
 abbrev pub HasCarriedOut : {A : Type 0} → Request → Run A → Streams → Streams → Type 0
 HasCarriedOut Audit run old new = (outcome : Result Summary AuditFault)
     × IsStatusAnd run (λ status. IsAuditRun outcome status new.input old.output new.output old.errors new.errors)
@@ -41,6 +44,8 @@ HasCarriedOut AuditPart run old new = (outcome : Result Summary AuditFault)
     × IsStatusAnd run (λ status. IsPartRun outcome status new.input old.output new.output old.errors new.errors)
 HasCarriedOut AuditPartEach run old new = (outcome : Result Summary EachFault)
     × IsStatusAnd run (λ status. IsPartEachRun outcome status new.input old.output new.output old.errors new.errors)
+HasCarriedOut (Join joining) run old new = (outcome : Result Joined JoinsFault) × IsStatusAnd run (λ status.
+    IsJoinRun joining outcome status new.input old.output new.output old.errors new.errors)
 HasCarriedOut Show run old new = (outcome : Result (Option StreamFault) ShowFault)
     × IsStatusAnd run (λ status. IsShowRun outcome status new.input old.output new.output old.errors new.errors)
 HasCarriedOut (Repack packing) run old new =

@@ -1,6 +1,5 @@
 -- What the words of the command line ask for.
 use Rattle.std.specs.Prelude.{⊤, ◌≡◌, ◌≢◌, ◌≤◌, ◌==◌, ◌^◌, ℕ, List, [], ◌∷◌, if◌then◌else◌, Bool, true, false}
-use Rattle.std.specs.Prelude.{◌||◌}
 use Rattle.std.specs.Prelude.{Option, Some, None, option_and_then, option_map, codes}
 use Rattle.std.specs.Str.{bytes_eq}
 use Rattle.clap.specs.Walk.{Row, Text, first_of}
@@ -10,12 +9,14 @@ use Rattle.clap.specs.Faults.{fault_of}
 use Rattle.mseed_pack.specs.declared.options.Encoding.{Encoding}
 use Rattle.mseed_pack.specs.declared.options.Encoding.TheVariants.{Int16, Int32, Steim1, Steim2}
 use Rattle.mseed.specs.Options.{the_command}
-use Rattle.mseed.specs.Found.{has_only}
+use Rattle.mseed.specs.Found.{asks, has_only}
 use Rattle.mseed.specs.Numbers.{number_in}
 use Rattle.mseed.specs.FeedWords.{CanFetch, CanServe, fetching_of, serving_of}
 use Rattle.mseed.specs.declared.request.Request.{Request}
 use Rattle.mseed.specs.declared.request.Request.TheVariants.{Audit, AuditEach, AuditPart, AuditPartEach}
-use Rattle.mseed.specs.declared.request.Request.TheVariants.{Show, Repack, Serve, Fetch}
+use Rattle.mseed.specs.declared.request.Request.TheVariants.{Join, Show, Repack, Serve, Fetch}
+use Rattle.mseed_join.specs.declared.joining.Form.{Form}
+use Rattle.mseed_join.specs.declared.joining.Form.TheVariants as forms
 
 -- why `clap` refuses the words, a call for help included; none where it takes them
 abbrev pub faults_in : List Text → Kinds
@@ -50,7 +51,7 @@ encoding_in (Some word) = encoding_named word
 
 -- what packing anew takes: its word, a length and an encoding
 abbrev pub packing_names : List Text
-packing_names = codes "command" ∷ codes "each" ∷ codes "part" ∷ codes "length" ∷ codes "encoding" ∷ []
+packing_names = codes "command" ∷ codes "length" ∷ codes "encoding" ∷ []
 
 abbrev pub packing_with : Option ℕ → Option Encoding → Option Request
 packing_with None encoding = None
@@ -63,21 +64,9 @@ packing_of rows =
     then packing_with (exponent_in (first_of (codes "length") rows)) (encoding_in (first_of (codes "encoding") rows))
     else None
 
--- a flag is `true` or `false`
-abbrev pub is_true : Option Text → Bool
-is_true None = false
-is_true (Some text) = bytes_eq text (codes "true")
-
--- whether a flag is set
-abbrev pub asks : Text → List Row → Bool
-asks name rows = is_true (first_of name rows)
-
-abbrev pub alone_names : List Text
-alone_names = codes "command" ∷ codes "each" ∷ codes "part" ∷ []
-
--- a command that takes its word alone, but for flags
-abbrev pub alone : Request → List Row → Option Request
-alone request rows = if has_only alone_names rows then Some request else None
+-- a command that takes its word alone
+abbrev pub showing_of : List Row → Option Request
+showing_of rows = if has_only (codes "command" ∷ []) rows then Some Show else None
 
 -- what an audit writes: with a line for each finding or without, the text of the audit or its part
 abbrev pub auditing_by : Bool → Bool → Request
@@ -86,19 +75,43 @@ auditing_by true false = AuditEach
 auditing_by false true = AuditPart
 auditing_by true true = AuditPartEach
 
--- what a command's word asks for without flags
-abbrev pub request_without : Text → List Row → Option Request
-request_without word rows =
-    if bytes_eq word (codes "show") then alone Show rows
-    else if bytes_eq word (codes "repack") then packing_of rows
-    else if bytes_eq word (codes "serve") then option_map Serve (serving_of rows)
-    else if bytes_eq word (codes "fetch") then option_map Fetch (fetching_of rows) else None
+-- what auditing takes: its word and two flags
+abbrev pub auditing_names : List Text
+auditing_names = codes "command" ∷ codes "each" ∷ codes "part" ∷ []
+
+abbrev pub auditing_of : List Row → Option Request
+auditing_of rows =
+    if has_only auditing_names rows
+    then Some (auditing_by (asks (codes "each") rows) (asks (codes "part") rows))
+    else None
+
+-- what joining takes
+abbrev pub joining_names : List Text
+joining_names = codes "command" ∷ codes "part" ∷ codes "past-faults" ∷ []
+
+-- the text of an audit, or a part
+abbrev pub form_by : Bool → Form
+form_by false = forms.Audit
+form_by true = forms.Part
+
+abbrev pub joining_of : List Row → Option Request
+joining_of rows =
+    if has_only joining_names rows
+    then Some (Join (record {
+      form = form_by (asks (codes "part") rows);
+      past_faults = asks (codes "past-faults") rows;
+    }))
+    else None
 
 -- what a command's word asks for
 abbrev pub request_named : Text → List Row → Option Request
 request_named word rows =
-    if bytes_eq word (codes "audit") then alone (auditing_by (asks (codes "each") rows) (asks (codes "part") rows)) rows
-    else if asks (codes "each") rows || asks (codes "part") rows then None else request_without word rows
+    if bytes_eq word (codes "audit") then auditing_of rows
+    else if bytes_eq word (codes "join") then joining_of rows
+    else if bytes_eq word (codes "show") then showing_of rows
+    else if bytes_eq word (codes "repack") then packing_of rows
+    else if bytes_eq word (codes "serve") then option_map Serve (serving_of rows)
+    else if bytes_eq word (codes "fetch") then option_map Fetch (fetching_of rows) else None
 
 abbrev pub request_by : Option Text → List Row → Option Request
 request_by None rows = None
@@ -113,6 +126,7 @@ CanBeAsked Audit = ⊤
 CanBeAsked AuditEach = ⊤
 CanBeAsked AuditPart = ⊤
 CanBeAsked AuditPartEach = ⊤
+CanBeAsked (Join joining) = ⊤
 CanBeAsked Show = ⊤
 CanBeAsked (Repack packing) = (7 ≤ packing.exponent) × (packing.exponent ≤ 12)
 CanBeAsked (Serve serving) = CanServe serving

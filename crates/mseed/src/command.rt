@@ -5,6 +5,9 @@ ghost use Rattle.mseed_audit.specs.declared.archive.AuditFault.{AuditFault};
 ghost use Rattle.mseed_audit.specs.declared.archive.Summary.{Summary};
 ghost use Rattle.mseed_audit.specs.declared.each.EachFault.{EachFault};
 ghost use Rattle.mseed_stream.specs.Telling.{Tells};
+ghost use Rattle.mseed.specs.Joined.{IsJoinRun, join_status};
+ghost use Rattle.mseed_join.specs.declared.joining.Joined.{Joined};
+ghost use Rattle.mseed_join.specs.declared.joining.JoinsFault.{JoinsFault};
 ghost use Rattle.mseed.specs.Outcome.{IsAuditRun, IsEachRun, IsPartRun, IsPartEachRun, summary_status};
 ghost use Rattle.mseed.specs.Run.{HasCarriedOut, HasRefusedRequest, HasRefusedWords, UnlessMemoryLacks, streams};
 ghost use Rattle.mseed.specs.Words.{AsksFor, AsksForNothing, AreRefused, CanBeAsked};
@@ -20,14 +23,14 @@ ghost use Rattle.mseed_pack.specs.Options.{code_of};
 use crate::ending::ShowFault;
 use crate::outcome::{BAD_COMMAND, BROKEN, DONE, FAULT, Run};
 use crate::planning::{plan_fetch, plan_serve};
-use crate::refusal::refuse_to_repack;
-use crate::request::{Packing, Request};
+use crate::refusal::{refuse_to_join, refuse_to_repack};
+use crate::request::{Joining, Packing, Request};
 use crate::show::show;
 use crate::words;
 use clap::Error;
 use clap::error::ErrorKind;
 use mseed_audit::{AuditFault, EachFault, Summary, audit, audit_each};
-use mseed_join::{audit_part, audit_part_each};
+use mseed_join::{Joined, audit_part, audit_part_each, join};
 use mseed_pack::Options;
 use mseed_repack::repack;
 use mseed_stream::{Sink, Source, tell};
@@ -38,7 +41,8 @@ use std::alloc::{Allocator, Global};
 /// `audit` writes the audit of the records of `input` to `output`: status 0 where every channel is
 /// continuous, 1 where one is broken, and 2 where the input ended with a fault, which the text names, or
 /// where the text couldn't be written whole; with `--each` a line for each record with a finding comes first, and with
-/// `--part` the part of the archive is written instead of the text. `show`
+/// `--part` the part of the archive is written instead of the text. `join` reads parts, one behind another, and writes
+/// the audit of their archives one behind another, or with `--part` their joint part. `show`
 /// lists the records: status 0, or 2 where the input ended with a fault, which the listing names, or where it couldn't
 /// be written whole. `repack` packs the archive anew: status 0, 1 where a channel is broken, and 2 where the input is
 /// no whole archive, where a channel can't be packed, or where the output failed; `errors` takes a line that says so.
@@ -93,6 +97,7 @@ pub fn carry_out<A: Allocator + Copy, R: Source, W: Sink, E: Sink>(
         Request::AuditEach => Run::Status(run_audit_each(alloc, input, output, errors)),
         Request::AuditPart => Run::Status(run_audit_part(alloc, input, output, errors)),
         Request::AuditPartEach => { Run::Status(run_audit_part_each(alloc, input, output, errors)) }
+        Request::Join(joining) => Run::Status(run_join(alloc, joining, input, output, errors)),
         Request::Show => Run::Status(run_show(alloc, input, output, errors)),
         Request::Repack(packing) => Run::Status(run_repack(alloc, packing, input, output, errors)),
         Request::Serve(serving) => plan_serve(alloc, &serving, input, errors),
@@ -169,6 +174,44 @@ fn run_audit_part_each<A: Allocator + Copy, R: Source, W: Sink, E: Sink>(
         Ok(summary) => summary_status(summary),
         Err(EachFault::Write) => write_failed(errors),
         Err(EachFault::Memory) => refuse_memory(errors),
+    }
+}
+
+/// Joins parts, and says on `errors` which faults were passed, and why not all was written.
+fn run_join<A: Allocator + Copy, R: Source, W: Sink, E: Sink>(
+    alloc: A,
+    joining: Joining,
+    input: &mut R,
+    output: &mut W,
+    errors: &mut E,
+) -> u8
+    requires { R.read input.old ≡ nothing_read }
+    ensures { (outcome : Result Joined JoinsFault) × IsJoinRun joining outcome result (R.read input.new)
+        (W.written output.old) (W.written output.new) (E.written errors.old) (E.written errors.new) }
+{
+    match join(
+        alloc,
+        joining.form,
+        joining.past_faults,
+        input,
+        output,
+        errors,
+    ) {
+        Ok(joined) => joined_status(joined),
+        Err(fault) => refuse_to_join(errors, &fault),
+    }
+}
+
+/// The exit status of an audit that was joined.
+fn joined_status(joined: Joined) -> u8
+    ensures { result ≡ join_status (Result.Ok joined) }
+{
+    if joined.fault {
+        FAULT
+    } else if joined.broken > 0 {
+        BROKEN
+    } else {
+        DONE
     }
 }
 

@@ -4,15 +4,19 @@ ghost use Rattle.slink_feed.specs.Fault.{IsCapacity};
 ghost use Rattle.clap.specs.Matches.{found_of};
 ghost use Rattle.clap.specs.Walk.{rows_of};
 ghost use Rattle.mseed.specs.Places.{ArePlaces, places_of};
+ghost use Rattle.mseed.specs.Addresses.{IsTimeout};
+ghost use Rattle.mseed.specs.FeedWords.{IsListener, IsServer, listener_with, server_with};
 ghost use Rattle.mseed.specs.FeedWords.{CanFetch, CanServe, IsCount, IsPort, asked_in, asked_with, capacity_by};
 ghost use Rattle.mseed.specs.FeedWords.{capacity_in, count_in, fetching_of, fetching_with, first_in, numbered_in};
 ghost use Rattle.mseed.specs.FeedWords.{place_by, place_in, place_named, places_in, port_in, serving_of, serving_with};
 
 use crate::found::{has_only, text_of};
+use crate::host_words::{address_of, host_of, timeout_in};
 use crate::numbers::{counted_in, hexadecimal_in, number_in};
 use crate::places::Places;
-use crate::request::{Fetching, Serving};
+use crate::request::{Fetching, Listener, Server, Serving};
 use clap::ArgMatches;
+use slink_links::{Address, Host, Timeout};
 use slink_wire::Place;
 
 /// How further places are named.
@@ -33,10 +37,10 @@ pub(crate) fn serving_of(matches: &ArgMatches<'_>) -> Option<Serving>
         matches,
         &[
             "command",
-            "each",
-            "part",
             "place",
+            "address",
             "port",
+            "timeout",
             "station",
             "network",
             "capacity",
@@ -47,7 +51,11 @@ pub(crate) fn serving_of(matches: &ArgMatches<'_>) -> Option<Serving>
         return None;
     }
     serving_with(
-        port_in(text_of(matches, "port")),
+        listener_with(
+            address_of(text_of(matches, "address")),
+            port_in(text_of(matches, "port")),
+            timeout_in(text_of(matches, "timeout")),
+        ),
         count_in(text_of(matches, "connections")),
         capacity_in(text_of(matches, "capacity")),
         first_in(text_of(matches, "first")),
@@ -55,26 +63,64 @@ pub(crate) fn serving_of(matches: &ArgMatches<'_>) -> Option<Serving>
     )
 }
 
+/// Where connections are taken, if all of it is there.
+fn listener_with(
+    address: Option<Address>,
+    port: Option<u16>,
+    timeout: Option<Timeout>,
+) -> Option<Listener>
+    requires port { IfSome port IsPort }
+    requires timeout { IfSome timeout IsTimeout }
+    ensures value { result ≡ listener_with address port timeout }
+    ensures range { IfSome result IsListener }
+{
+    match (address, port, timeout) {
+        (Some(address), Some(port), Some(timeout)) => Some(Listener {
+            address,
+            port,
+            timeout,
+        }),
+        _ => None,
+    }
+}
+
+/// Whom to ask, if all of it is there.
+fn server_with(host: Option<Host>, port: Option<u16>, timeout: Option<Timeout>) -> Option<Server>
+    requires port { IfSome port IsPort }
+    requires timeout { IfSome timeout IsTimeout }
+    ensures value { result ≡ server_with host port timeout }
+    ensures range { IfSome result IsServer }
+{
+    match (host, port, timeout) {
+        (Some(host), Some(port), Some(timeout)) => Some(Server {
+            host,
+            port,
+            timeout,
+        }),
+        _ => None,
+    }
+}
+
 /// Serving, where all that it wants is there.
 fn serving_with(
-    port: Option<u16>,
+    listener: Option<Listener>,
     connections: Option<u32>,
     capacity: Option<u32>,
     first: Option<u32>,
     places: Option<Places>,
 ) -> Option<Serving>
-    requires port { IfSome port IsPort }
+    requires listener { IfSome listener IsListener }
     requires connections { IfSome connections IsCount }
     requires capacity { IfSome capacity IsCapacity }
     requires first { IfSome first (λ n. n < 2 ^ 24) }
     requires places { IfSome places ArePlaces }
-    ensures value { result ≡ serving_with port connections capacity first places }
+    ensures value { result ≡ serving_with listener connections capacity first places }
     ensures range { IfSome result CanServe }
 {
-    match (port, connections, capacity, first, places) {
-        (Some(port), Some(connections), Some(capacity), Some(first), Some(places)) => {
+    match (listener, connections, capacity, first, places) {
+        (Some(listener), Some(connections), Some(capacity), Some(first), Some(places)) => {
             Some(Serving {
-                port,
+                listener,
                 connections,
                 capacity,
                 first,
@@ -93,29 +139,37 @@ pub(crate) fn fetching_of(matches: &ArgMatches<'_>) -> Option<Fetching>
     if !has_only(
         matches,
         &[
-            "command", "each", "part", "place", "port", "station", "network", "from", "tries",
+            "command", "place", "address", "port", "timeout", "station", "network", "from", "tries",
         ],
     ) {
         return None;
     }
     fetching_with(
-        port_in(text_of(matches, "port")),
+        server_with(
+            host_of(text_of(matches, "address")),
+            port_in(text_of(matches, "port")),
+            timeout_in(text_of(matches, "timeout")),
+        ),
         count_in(text_of(matches, "tries")),
         places_in(Naming::Numbered, text_of(matches, "from"), matches),
     )
 }
 
 /// Fetching, where all that it wants is there.
-fn fetching_with(port: Option<u16>, tries: Option<u32>, places: Option<Places>) -> Option<Fetching>
-    requires port { IfSome port IsPort }
+fn fetching_with(
+    server: Option<Server>,
+    tries: Option<u32>,
+    places: Option<Places>,
+) -> Option<Fetching>
+    requires server { IfSome server IsServer }
     requires tries { IfSome tries IsCount }
     requires places { IfSome places ArePlaces }
-    ensures value { result ≡ fetching_with port tries places }
+    ensures value { result ≡ fetching_with server tries places }
     ensures range { IfSome result CanFetch }
 {
-    match (port, tries, places) {
-        (Some(port), Some(tries), Some(places)) => Some(Fetching {
-            port,
+    match (server, tries, places) {
+        (Some(server), Some(tries), Some(places)) => Some(Fetching {
+            server,
             tries,
             places,
         }),

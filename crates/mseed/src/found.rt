@@ -4,7 +4,7 @@ ghost use Rattle.std.specs.List.{list_any};
 ghost use Rattle.std.specs.Str.{bytes_eq};
 ghost use Rattle.clap.specs.Matches.{found_of};
 ghost use Rattle.clap.specs.Walk.{first_of, rows_of};
-ghost use Rattle.mseed.specs.Found.{has_only};
+ghost use Rattle.mseed.specs.Found.{asks, has_only, is_taken};
 
 use clap::ArgMatches;
 
@@ -15,17 +15,40 @@ pub(crate) fn text_of<'a>(matches: &ArgMatches<'a>, name: &str) -> Option<&'a st
     matches.get_str(name)
 }
 
-/// Whether the words gave nothing but what is named so.
+/// The flags. `clap` finds each of them, as one that is set or isn't.
+const FLAGS: [&str; 3] = ["each", "part", "past-faults"];
+
+/// Whether a flag is set.
+pub(crate) fn asks(matches: &ArgMatches<'_>, name: &str) -> bool
+    ensures { result ≡ asks name.now (rows_of (found_of matches.now)) }
+{
+    match text_of(matches, name) {
+        Some(text) => text == "true",
+        None => false,
+    }
+}
+
+/// Whether the words gave nothing but what is named so: a flag that isn't set wasn't given.
 pub(crate) fn has_only(matches: &ArgMatches<'_>, names: &[&str]) -> bool
     ensures { result ≡ has_only (map (λ n. n.now) names.now) (rows_of (found_of matches.now)) }
 {
     let mut ids = matches.ids();
     while let Some(id) = ids.next() {
-        if !is_among(id, names) {
+        if !is_taken(matches, id, names) {
             return false;
         }
     }
     true
+}
+
+/// Whether a name is one of these, or that of a flag that isn't set.
+fn is_taken(matches: &ArgMatches<'_>, id: &str, names: &[&str]) -> bool
+    ensures { result ≡ is_taken (map (λ n. n.now) names.now) (rows_of (found_of matches.now)) id.now }
+{
+    if is_among(id, names) {
+        return true;
+    }
+    is_among(id, &FLAGS) && !asks(matches, id)
 }
 
 /// Whether a name is one of these.

@@ -4,7 +4,8 @@
 pub const VERSION: &str = "0.1.0";
 
 /// What the program does, and how it is given a file.
-pub const ABOUT: &str = "Audits, lists, repacks, serves and fetches seismic waveforms in miniSEED.
+pub const ABOUT: &str =
+    "Audits, joins audits, lists, repacks, serves and fetches seismic waveforms in miniSEED.
 A file is read from standard input: mseed audit < my.mseed";
 
 /// Each command by what it reads and writes, its options, its statuses and an example.
@@ -14,6 +15,12 @@ pub const COMMANDS: &str = "Commands:
           options: --each, first a line for each record with a finding;
           --part, in place of the lines what audits of further archives can be joined with
             mseed audit < my.mseed
+  join    the audit of archives one behind another, from a part of each
+          reads the parts that audit --part wrote, one behind another in the archives' order,
+          writes the lines of an audit, with its statuses
+          options: --part, in place of the lines the joint part; --past-faults, go on behind
+          a part that ends with a fault, tell the fault and count it: status 2
+            mseed join < january.parts
   show    lists the records
           reads an archive, writes a line for each record
             mseed show < my.mseed
@@ -21,15 +28,15 @@ pub const COMMANDS: &str = "Commands:
           reads an archive, writes an archive; status 1: a channel isn't continuous
           options: --length, --encoding
             mseed repack --length 4096 --encoding steim1 < my.mseed > packed.mseed
-  serve   sends the records of stations to clients on this machine, over SeedLink 3
+  serve   sends the records of stations to clients, over SeedLink 3
           reads an archive of records of 512 bytes, writes nothing
-          options: --port, --station and --network, which it needs, --capacity, --first,
-          --connections; further stations as NET_STA
+          options: --port, --station and --network, which it needs, --address, --timeout,
+          --capacity, --first, --connections; further stations as NET_STA
             mseed serve --port 18000 --station ANMO --network IU < packed.mseed
-  fetch   asks a server on this machine for the records of stations, over SeedLink 3
+  fetch   asks a server for the records of stations, over SeedLink 3
           reads nothing, writes each record as soon as it is whole
-          options: --port, --station and --network, which it needs, --from, --tries;
-          further stations as NET_STA or NET_STA:HEX
+          options: --port, --station and --network, which it needs, --address, --timeout,
+          --from, --tries; further stations as NET_STA or NET_STA:HEX
             mseed fetch --port 18000 --station ANMO --network IU > fetched.mseed
 
 What is read is standard input, and what is written standard output; messages go to standard error.

@@ -9,6 +9,7 @@ mod fill_fault;
 mod filling;
 mod found;
 mod help;
+mod host_words;
 mod listing;
 mod numbers;
 mod outcome;

@@ -27,8 +27,10 @@ pub fn plan_serve<A: Allocator + Copy, R: Source, E: Sink>(
     one_filling();
     match fill(alloc, serving, input) {
         Ok(feed) => Run::Serve(ServePlan {
-            port: serving.port,
+            address: serving.listener.address,
+            port: serving.listener.port,
             connections: serving.connections,
+            timeout: serving.listener.timeout,
             feed,
         }),
         Err(fault) => Run::Status(refuse_to_serve(errors, &fault)),
@@ -41,8 +43,10 @@ pub fn plan_fetch(fetching: &Fetching) -> FetchPlan
     ensures { IsFetchPlan fetching.now result }
 {
     FetchPlan {
-        port: fetching.port,
+        host: fetching.server.host,
+        port: fetching.server.port,
         tries: fetching.tries,
+        timeout: fetching.server.timeout,
         client: Client::new(fetching.places.as_slice(), Mode::Fetch),
     }
 }

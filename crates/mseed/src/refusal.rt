@@ -1,9 +1,11 @@
-//! The lines that say why an archive wasn't packed anew, or a feed not filled. They are built without the heap: a line
-//! is told whatever memory there is.
+//! The lines that say why parts weren't joined, an archive not packed anew, or a feed not filled. They are built
+//! without the heap: a line is told whatever memory there is.
 ghost use Rattle.std.specs.Prelude.{◌≡◌, ◌≤◌, ◌++◌, length, codes};
 ghost use Rattle.mseed_audit.specs.Text.{fault_line, name_text};
 ghost use Rattle.mseed_stream.specs.Telling.{Tells};
 ghost use Rattle.mseed.specs.declared.fill_fault.FillFault.{FillFault};
+ghost use Rattle.mseed_join.specs.declared.joining.JoinsFault.{JoinsFault};
+ghost use Rattle.mseed.specs.Joined.{join_fault_text};
 ghost use Rattle.mseed.specs.Plans.{fill_text};
 ghost use Rattle.mseed.specs.Repacked.{refusal_status, refusal_text, reason_text};
 
@@ -12,6 +14,7 @@ use crate::fill_fault::FillFault;
 use crate::outcome::{BROKEN, FAULT};
 use mseed_audit::Piece::{Count, Words};
 use mseed_audit::{fault_line_of, line_of, name_of};
+use mseed_join::JoinsFault;
 use mseed_pack::PackFault;
 use mseed_record::Codes;
 use mseed_repack::RepackFault;
@@ -49,6 +52,19 @@ pub fn refuse_to_serve<E: Sink>(errors: &mut E, fault: &FillFault) -> u8
     }
 }
 
+/// Says why parts weren't joined, and answers the exit status.
+pub fn refuse_to_join<E: Sink>(errors: &mut E, fault: &JoinsFault) -> u8
+    ensures status { result ≡ 2 }
+    ensures told { Tells (join_fault_text fault.now) (E.written errors.old) (E.written errors.new) }
+{
+    match fault {
+        JoinsFault::Line(number) => tell_bad_line(errors, *number),
+        JoinsFault::Stream(fault) => tell_fault(errors, fault),
+        JoinsFault::Write => write_failed(errors),
+        JoinsFault::Memory => refuse_memory(errors),
+    }
+}
+
 /// Says with what fault the input ended.
 fn tell_fault<E: Sink>(errors: &mut E, fault: &StreamFault) -> u8
     ensures status { result ≡ 2 }
@@ -82,6 +98,20 @@ fn reason(fault: &PackFault) -> &'static [u8]
         PackFault::DifferenceTooLarge(_) => b" does not fit 5\n",
         PackFault::Write(_) => b" does not fit 6\n",
     }
+}
+
+/// Says which line of parts is bad.
+fn tell_bad_line<E: Sink>(errors: &mut E, number: u64) -> u8
+    ensures status { result ≡ 2 }
+    ensures told { Tells (join_fault_text (JoinsFault.Line number)) (E.written errors.old) (E.written errors.new) }
+{
+    let line = line_of(&[
+        Words(b"mseed: bad part at line "),
+        Count(number),
+        Words(b"\n"),
+    ]);
+    tell(errors, &line);
+    FAULT
 }
 
 /// Says which record isn't the feed's.

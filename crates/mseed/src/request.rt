@@ -1,6 +1,8 @@
 //! What the program does.
 use crate::places::Places;
+use mseed_join::Form;
 use mseed_pack::Encoding;
+use slink_links::{Address, Host, Timeout};
 
 /// What the program is asked to do.
 #[derive(Drop)]
@@ -13,6 +15,8 @@ pub enum Request {
     AuditPart,
     /// Audit it, tell each finding, and write its part.
     AuditPartEach,
+    /// Join the parts on standard input.
+    Join(Joining),
     /// List the records on standard input.
     Show,
     /// Pack the archive on standard input anew.
@@ -21,6 +25,15 @@ pub enum Request {
     Serve(Serving),
     /// Fetch the records that are served.
     Fetch(Fetching),
+}
+
+/// How parts are joined.
+#[derive(Clone, Copy, Debug, PartialEq, Eq)]
+pub struct Joining {
+    /// What is written.
+    pub form: Form,
+    /// Whether parts behind one that ends with a fault count.
+    pub past_faults: bool,
 }
 
 /// What records an archive is packed into.
@@ -32,11 +45,33 @@ pub struct Packing {
     pub encoding: Encoding,
 }
 
+/// Where connections are taken.
+#[derive(Clone, Copy)]
+pub struct Listener {
+    /// The address of this machine.
+    pub address: Address,
+    /// The port there.
+    pub port: u16,
+    /// How long a client may be silent that has something to say.
+    pub timeout: Timeout,
+}
+
+/// Whom to ask for connections.
+#[derive(Clone, Copy)]
+pub struct Server {
+    /// The address or the name of its machine.
+    pub host: Host,
+    /// The port there.
+    pub port: u16,
+    /// How long it may be silent.
+    pub timeout: Timeout,
+}
+
 /// How records are served.
 #[derive(Drop)]
 pub struct Serving {
-    /// The port on this machine.
-    pub port: u16,
+    /// Where connections are taken.
+    pub listener: Listener,
     /// So many connections are served, one after another.
     pub connections: u32,
     /// Each place's ring keeps so many records.
@@ -50,8 +85,8 @@ pub struct Serving {
 /// What is fetched.
 #[derive(Drop)]
 pub struct Fetching {
-    /// The port on this machine.
-    pub port: u16,
+    /// Whom to ask.
+    pub server: Server,
     /// At most so many connections are tried.
     pub tries: u32,
     /// Whose records are asked for, and from which number on.

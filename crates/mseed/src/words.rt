@@ -6,19 +6,21 @@ ghost use Rattle.clap.specs.Walk.{rows_of};
 ghost use Rattle.clap.specs.Simple.{app_of, with_rule};
 ghost use Rattle.clap.specs.Kinds.{HasKind};
 ghost use Rattle.clap.specs.declared.builder.value_parser.ValueParser.TheVariants.{Signed};
-ghost use Rattle.mseed.specs.Words.{faults_in, entries_in, request_of, request_named, alone, packing_of, packing_with};
-ghost use Rattle.mseed.specs.Words.{CanBeAsked, asks, auditing_by};
+ghost use Rattle.mseed.specs.Words.{faults_in, entries_in, request_of, request_named, packing_of, packing_with};
+ghost use Rattle.mseed.specs.Words.{CanBeAsked, auditing_by, auditing_of, form_by, joining_of, showing_of};
 ghost use Rattle.mseed.specs.Words.{exponent_in, exponent_by, encoding_in, encoding_named};
 ghost use Rattle.mseed.specs.Options.{bare_command, the_command, word_rule, places_rule, packing_rules, feed_rules};
 ghost use Rattle.mseed.specs.Options.{number_rules, flag_rule, flag_rules, option_rule, number_rule, with_rules};
+ghost use Rattle.mseed.specs.Options.{link_rules};
 
 use crate::feed_words::{fetching_of, serving_of};
-use crate::found::{has_only, text_of};
+use crate::found::{asks, has_only, text_of};
 use crate::help::{ABOUT, COMMANDS, VERSION};
 use crate::numbers::number_in;
-use crate::request::{Packing, Request};
+use crate::request::{Joining, Packing, Request};
 use clap::builder::ValueParser;
 use clap::{Arg, ArgAction, ArgMatches, Command, Error, value_parser};
+use mseed_join::Form;
 use mseed_pack::Encoding;
 use std::alloc::{AllocError, Global};
 
@@ -56,12 +58,9 @@ fn request_named(word: &str, matches: &ArgMatches<'_>) -> Option<Request>
     ensures range { IfSome result CanBeAsked }
 {
     match word {
-        "audit" => alone(
-            auditing_by(asks(matches, "each"), asks(matches, "part")),
-            matches,
-        ),
-        _ if asks(matches, "each") || asks(matches, "part") => None,
-        "show" => alone(Request::Show, matches),
+        "audit" => auditing_of(matches),
+        "join" => joining_of(matches),
+        "show" => showing_of(matches),
         "repack" => packing_of(matches),
         "serve" => Some(Request::Serve(serving_of(matches)?)),
         "fetch" => Some(Request::Fetch(fetching_of(matches)?)),
@@ -69,14 +68,15 @@ fn request_named(word: &str, matches: &ArgMatches<'_>) -> Option<Request>
     }
 }
 
-/// Whether a flag is set.
-fn asks(matches: &ArgMatches<'_>, name: &str) -> bool
-    ensures { result ≡ asks name.now (rows_of (found_of matches.now)) }
+/// What auditing is asked for, by its flags.
+fn auditing_of(matches: &ArgMatches<'_>) -> Option<Request>
+    ensures value { result ≡ auditing_of (rows_of (found_of matches.now)) }
+    ensures range { IfSome result CanBeAsked }
 {
-    match text_of(matches, name) {
-        Some(text) => text == "true",
-        None => false,
+    if !has_only(matches, &["command", "each", "part"]) {
+        return None;
     }
+    Some(auditing_by(asks(matches, "each"), asks(matches, "part")))
 }
 
 /// What an audit writes: with a line for each finding or without, the text of the audit or its part.
@@ -92,14 +92,34 @@ fn auditing_by(each: bool, part: bool) -> Request
     }
 }
 
-/// A command that has no places and options takes its word alone.
-fn alone(request: Request, matches: &ArgMatches<'_>) -> Option<Request>
-    requires { CanBeAsked request }
-    ensures value { result ≡ alone request (rows_of (found_of matches.now)) }
+/// What joining is asked for, by its flags.
+fn joining_of(matches: &ArgMatches<'_>) -> Option<Request>
+    ensures value { result ≡ joining_of (rows_of (found_of matches.now)) }
     ensures range { IfSome result CanBeAsked }
 {
-    if has_only(matches, &["command", "each", "part"]) {
-        Some(request)
+    if !has_only(matches, &["command", "part", "past-faults"]) {
+        return None;
+    }
+    Some(Request::Join(Joining {
+        form: form_by(asks(matches, "part")),
+        past_faults: asks(matches, "past-faults"),
+    }))
+}
+
+/// What joining writes: the text of an audit, or a part.
+fn form_by(part: bool) -> Form
+    ensures { result ≡ form_by part }
+{
+    if part { Form::Part } else { Form::Audit }
+}
+
+/// The command that lists takes its word alone.
+fn showing_of(matches: &ArgMatches<'_>) -> Option<Request>
+    ensures value { result ≡ showing_of (rows_of (found_of matches.now)) }
+    ensures range { IfSome result CanBeAsked }
+{
+    if has_only(matches, &["command"]) {
+        Some(Request::Show)
     } else {
         None
     }
@@ -110,7 +130,7 @@ fn packing_of(matches: &ArgMatches<'_>) -> Option<Request>
     ensures value { result ≡ packing_of (rows_of (found_of matches.now)) }
     ensures range { IfSome result CanBeAsked }
 {
-    if !has_only(matches, &["command", "each", "part", "length", "encoding"]) {
+    if !has_only(matches, &["command", "length", "encoding"]) {
         return None;
     }
     packing_with(
@@ -208,7 +228,7 @@ fn bare_command<'a>(alloc: Global) -> Command<'a>
 fn with_word<'a>(alloc: Global, command: Command<'a>) -> Result<Command<'a>, AllocError>
     ensures { IfOk result (λ c. app_of c ≡ with_rule (app_of command.entry) word_rule) }
 {
-    command.arg(Arg::new(alloc, "command").help("audit, show, repack, serve or fetch"))
+    command.arg(Arg::new(alloc, "command").help("audit, join, show, repack, serve or fetch"))
 }
 
 /// With further places.
@@ -259,11 +279,30 @@ fn with_feed<'a>(alloc: Global, command: Command<'a>) -> Result<Command<'a>, All
         "first",
         "serve: each first record's number, in hexadecimal; by default 0",
     )?;
-    with_option(
+    let command = with_option(
         alloc,
         command,
         "from",
         "fetch: the first number, in hexadecimal; by default the oldest",
+    )?;
+    with_link(alloc, command)
+}
+
+/// With where a feed leads, and how long a link may be silent.
+fn with_link<'a>(alloc: Global, command: Command<'a>) -> Result<Command<'a>, AllocError>
+    ensures { IfOk result (λ c. app_of c ≡ with_rules (app_of command.entry) link_rules) }
+{
+    let command = with_option(
+        alloc,
+        command,
+        "address",
+        "serve, fetch: the IPv4 address, of fetch also a name; by default 127.0.0.1",
+    )?;
+    with_option(
+        alloc,
+        command,
+        "timeout",
+        "serve, fetch: how many seconds to wait, 0 for ever; by default 600",
     )
 }
 
@@ -271,13 +310,7 @@ fn with_feed<'a>(alloc: Global, command: Command<'a>) -> Result<Command<'a>, All
 fn with_numbers<'a>(alloc: Global, command: Command<'a>) -> Result<Command<'a>, AllocError>
     ensures { IfOk result (λ c. app_of c ≡ with_rules (app_of command.entry) number_rules) }
 {
-    let command = with_number(
-        alloc,
-        command,
-        "port",
-        ports(),
-        "serve, fetch: the port on this machine",
-    )?;
+    let command = with_number(alloc, command, "port", ports(), "serve, fetch: the port")?;
     let command = with_number(
         alloc,
         command,
@@ -304,11 +337,17 @@ fn with_flags<'a>(alloc: Global, command: Command<'a>) -> Result<Command<'a>, Al
         "each",
         "audit: before its lines, a line for each record with a finding",
     )?;
-    with_flag(
+    let command = with_flag(
         alloc,
         command,
         "part",
-        "audit: write its part instead of its lines",
+        "audit, join: write a part instead of the lines of an audit",
+    )?;
+    with_flag(
+        alloc,
+        command,
+        "past-faults",
+        "join: go on behind a part that ends with a fault, and count the faults",
     )
 }
 

@@ -6,7 +6,16 @@ returns-in-Ok g c = record {
   outcome = Ok c.in-Ok.feed;
   filling = c.in-Ok.ensures;
   only = c.one_filling.ensures c.args.serving.now (g.R.Source.read c.fill.new.input) (Ok c.in-Ok.feed) c.in-Ok.ensures;
-  planned = (record { port = refl; connections = refl; feed_is = refl }, refl);
+  planned = (
+    record {
+      port = refl;
+      address = refl;
+      connections = refl;
+      timeout = refl;
+      feed_is = refl;
+    },
+    refl,
+  );
 }
 
 pub returns-in-Err : goal.returns-in-Err

@@ -1,6 +1,6 @@
 use Rattle.std.proofs.Common.{◌≡◌, IfOk, subst, codes}
 use Rattle.clap.specs.Simple.{App, app_of, with_rule}
-use Rattle.mseed.specs.Options.{option_rule}
+use Rattle.mseed.specs.Options.{link_rules, option_rule, with_rules}
 use Rattle.mseed.proofs.words.with_feed.Goals as goal
 
 pub returns : goal.returns
@@ -11,5 +11,6 @@ returns c =
     two c.in_ok-command-3.ensures in
     let four = subst (λ (a : App). app_of c.in_ok-command-4.command ≡ with_rule a (option_rule (codes "first"))) three
     c.in_ok-command-4.ensures in
-    subst (λ (a : App). IfOk c.with_option-5.result (λ c'. app_of c' ≡ with_rule a (option_rule (codes "from")))) four
-    c.with_option-5.ensures
+    let five = subst (λ (a : App). app_of c.in_ok-command-5.command ≡ with_rule a (option_rule (codes "from"))) four
+    c.in_ok-command-5.ensures in
+    subst (λ (a : App). IfOk c.with_link.result (λ c'. app_of c' ≡ with_rules a link_rules)) five c.with_link.ensures

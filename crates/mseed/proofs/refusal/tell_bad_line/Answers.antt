@@ -1,0 +1,18 @@
+use Rattle.std.proofs.Common.{◌∙◌, ◌≤◌, length, arith, codes, decimal, subst, List, ℕ}
+use Rattle.std.proofs.lemmas.Fmt.{length-decimal-le}
+use Rattle.std.proofs.lemmas.List.{length-append}
+use Rattle.mseed_stream.specs.Telling.{Tells}
+use Rattle.mseed.proofs.refusal.tell_bad_line.Goals as goal
+
+pub line_of-line-requires : goal.line_of-line-requires
+line_of-line-requires g c =
+    let n : ℕ = c.args.number in
+    let digits : length (decimal n) ≤ 20 = length-decimal-le 20 n (omega arith) (omega (arith, c.ranges.number.fits))
+    c.ranges.number.fits in
+    let words = codes "\n" in
+    omega (arith, digits, length-append (decimal n) words)
+
+pub returns-clause-told : goal.returns-clause-told
+returns-clause-told g c =
+    subst (λ (line : List ℕ). Tells line (g.E.Sink.written c.args.errors.now) (g.E.Sink.written c.tell.new.errors))
+    (c.deref.ensures.0 ∙ c.line_of-line.ensures) c.tell.ensures
