@@ -271,22 +271,26 @@ class Joiner:
             self.joint.fault = found[2]
 
 
-def join(text: bytes, part: bool = False, each: bool = False, past_faults: bool = False) -> tuple[bytes, bytes, int]:
-    """What `join` writes over parts, one behind another: the output, the standard error and the status."""
+def join(text: bytes, part: bool = False, each: bool = False, past_faults: bool = False,
+         fails: bool = False) -> tuple[int, bytes, bytes]:
+    """What `join` does over parts, one behind another: its status, its output and its standard error. Where the reader
+    `fails`, this text is all that it brought."""
     joiner = Joiner(past_faults)
     *lines, rest = text.decode("latin-1").split("\n")
-    bad = None
+    refused = None
     for number, line in enumerate(lines, 1):
         try:
             joiner.read(line)
         except Bad:
-            bad = number
+            refused = f"mseed: bad part at line {number}"
             break
-    if bad is None and (rest or joiner.state == "within"):
-        bad = len(lines) + 1
+    else:
+        if fails:
+            refused = f"mseed: fault at {len(text)} read"
+        elif rest or joiner.state == "within":
+            refused = f"mseed: bad part at line {len(lines) + 1}"
     borders = text_of(joiner.borders) if each else b""
-    if bad is not None:
-        return borders, text_of([*joiner.told, f"mseed: bad part at line {bad}"]), 2
+    if refused:
+        return 2, borders, text_of([*joiner.told, refused])
     joint = joiner.joint
-    out = joint.part_text() if part else borders + joint.audit_text()
-    return out, text_of(joiner.told), joint.status()
+    return joint.status(), joint.part_text() if part else borders + joint.audit_text(), text_of(joiner.told)

@@ -79,6 +79,31 @@ SERVE = ["serve", "--port", "1", "--station", "STA", "--network", "XX"]
 FETCH = ["fetch", *SERVE[1:]]
 
 
+def of_the_link() -> Iterator[Row]:
+    """Addresses, names and times."""
+    addresses = ("", "1", "1.2.3", "1.2.3.4.", ".1.2.3.4", "1.2.3.4.5", "1..3.4", "256.0.0.1", "1.2.3.256", "01.2.3.4",
+                 "1.2.3.00", "1.2.3.1000", "+1.2.3.4", " 1.2.3.4", "1.2.3.4 ", "::1", "1.2.3.4:5", "a b", "local host",
+                 "host/", "höst", "1-2", "...", "_", "a" * 254)
+    for address in addresses:
+        yield bad(f"serve: address '{address}'", *SERVE, f"--address={address}")
+        yield bad(f"fetch: address '{address}'", *FETCH, f"--address={address}")
+    yield bad("serve: a name", *SERVE, "--address", "localhost")
+    for address in ("127.0.0.1", "127.0.0.2", "0.0.0.0", "255.255.255.255"):
+        yield taken(f"serve: address {address}", *SERVE, "--address", address)
+    for address in ("127.0.0.1", "127.255.255.254", "localhost", "LOCALHOST", "no-such-host.invalid", "a_b.invalid"):
+        yield taken(f"fetch: address {address}", *FETCH, "--address", address)
+    for feed in (SERVE, FETCH):
+        for seconds in ("", "-1", "+1", "1.0", "1s", " 1", "86401", "99999", "000000", "086400", "x"):
+            yield bad(f"{feed[0]}: timeout '{seconds}'", *feed, f"--timeout={seconds}")
+        for seconds in ("0", "00000", "1", "00001", "86400"):
+            yield taken(f"{feed[0]}: timeout {seconds}", *feed, "--timeout", seconds)
+        yield refused(f"{feed[0]}: two times", "timeout", *feed, "--timeout", "1", "--timeout", "1")
+        yield refused(f"{feed[0]}: two addresses", "address", *feed, "--address=1.2.3.4", "--address=1.2.3.4")
+    for command in ("audit", "show", "repack"):
+        yield bad(f"{command}: an address", command, "--address", "127.0.0.1")
+        yield bad(f"{command}: a time", command, "--timeout", "1")
+
+
 def of_the_other() -> Iterator[Row]:
     """Options of the other command, and a number for a place that is served."""
     yield bad("serve: a number to begin from", *SERVE, "--from", "0")
@@ -139,7 +164,8 @@ def parsed() -> Iterator[Row]:
     yield refused("fetch: two numbers to begin from", "from", *FETCH, "--from", "1", "--from", "1")
     yield refused("serve: a capacity without a number", "capacity", *SERVE, "--capacity")
     for word in ("audit", "show", "repack", "serve", "fetch", "NET_STA", "--each", "--length", "--encoding", "--station",
-                 "--network", "--capacity", "--first", "--from", "--port", "--connections", "--tries"):
+                 "--network", "--capacity", "--first", "--from", "--port", "--connections", "--tries", "--address",
+                 "--timeout"):
         yield refused(f"help: {word}", word, "--help")
 
 
@@ -147,6 +173,7 @@ def rows() -> Cases:
     """All of them."""
     yield from of_either("serve")
     yield from of_either("fetch")
+    yield from of_the_link()
     yield from of_the_other()
     yield from numbers()
     yield from of_the_audit()
