@@ -4,9 +4,10 @@ from __future__ import annotations
 
 import random
 import time
+from concurrent.futures import ThreadPoolExecutor
 from typing import Sequence
 
-from driver.feed import Cut, Fetching, Proxy, Server, fetch, fetch_words
+from driver.feed import Cut, Ended, Fetching, Proxy, Server, fetch, fetch_words
 from driver.links import free_port
 from driver.rows import Cases, Fact, holds
 from models.seedlink import Place, record_of
@@ -14,6 +15,8 @@ from models.seedlink import Place, record_of
 STA, STB, OTHER = Place("XX_STA"), Place("XX_STB"), Place("n_A1b2C")
 TRIES = ["--tries", 1000000]
 ENDED = (0, b"")
+# So many clients at once.
+SIDE_BY_SIDE = 24
 
 
 def records_at_random(seed: int, places: Sequence[Place], count: int) -> list[bytes]:
@@ -29,39 +32,49 @@ def is_each_once(places: Sequence[Place], records: Sequence[bytes], output: byte
     return ours[0] == ours[1] and len(came) == len(records)
 
 
-def cut_by(name: str, places: Sequence[Place], records: Sequence[bytes], cuts: Sequence[Cut]) -> Cases:
-    """One `fetch` over a proxy that cuts its links, one after the other."""
+def cut_by(name: str, places: Sequence[Place], records: Sequence[bytes], cuts: Sequence[Cut], each: int) -> Cases:
+    """One `fetch` after another over a proxy that cuts its links, some side by side: each has so many of the cuts, since
+    it waits longer and longer as long as no record comes."""
     server = Server(b"".join(records), places, "--capacity", len(records), "--connections", 1000000)
-    proxy = Proxy(lambda: server.port, cuts)
-    status, output, errors = fetch(places, proxy.port, *TRIES)
-    yield Fact(f"{name}: fetch ends", ENDED, (status, errors))
-    yield holds(f"{name}: each record once", is_each_once(places, records, output), len(output))
-    yield Fact(f"{name}: {proxy.carried} links", len(cuts) + 1, proxy.carried)
+
+    def run(part: Sequence[Cut]) -> tuple[Ended, int]:
+        proxy = Proxy(lambda: server.port, part)
+        ended = fetch(places, proxy.port, *TRIES)
+        proxy.close()
+        return ended, proxy.carried
+
+    parts = [cuts[at : at + each] for at in range(0, len(cuts), each)]
+    with ThreadPoolExecutor(SIDE_BY_SIDE) as pool:
+        ends = list(pool.map(run, parts))
+    wrong = [(ended.status, ended.err) for ended, _ in ends if (ended.status, ended.err) != ENDED]
+    yield Fact(f"{name}: {len(parts)} times fetch ends", [], wrong)
+    wrong = [len(ended.out) for ended, _ in ends if not is_each_once(places, records, ended.out)]
+    yield Fact(f"{name}: each record once", [], wrong)
+    yield Fact(f"{name}: {len(cuts)} links are cut", [len(part) + 1 for part in parts], [links for _, links in ends])
     yield holds(f"{name}: serve goes on", server.is_going(), server.process.returncode)
-    proxy.close()
     server.kill()
 
 
 def every_byte() -> Cases:
     """Two replies, two packets, and the first bytes of a third are cut behind each single byte, either way."""
-    records = records_at_random(1, [STA], 1000)
+    records = records_at_random(1, [STA], 8)
     to_client = [Cut(to_client=count) for count in range(8 + 2 * 520 + 8)]
-    yield from cut_by("cut behind each byte to the client", [STA], records, to_client)
+    yield from cut_by("cut behind each byte to the client", [STA], records, to_client, 2)
     to_server = [Cut(to_server=count) for count in range(len("STATION STA XX..FETCH..END..") + 1)]
-    yield from cut_by("cut behind each byte to the server", [STA], records, to_server)
+    yield from cut_by("cut behind each byte to the server", [STA], records, to_server, 2)
 
 
 def any_cut() -> Cases:
     """Links cut and reset anywhere."""
     source = random.Random(2)
     places = [STA, STB, OTHER]
-    records = records_at_random(3, places, 3000)
+    records = records_at_random(3, places, 300)
     cuts = []
     for _ in range(300):
         is_reset = source.random() < 0.3
         to_server = Cut(source.randrange(70), None, is_reset)
         cuts.append(source.choice([to_server, Cut(None, source.randrange(9000), is_reset)]))
-    yield from cut_by("cut and reset anywhere", places, records, cuts)
+    yield from cut_by("cut and reset anywhere", places, records, cuts, 6)
 
 
 def killed_servers() -> Cases:
@@ -89,8 +102,7 @@ def killed_servers() -> Cases:
 
 def killed_at_a_port() -> Cases:
     """The server is killed at random moments and started anew at its port, which nobody serves meanwhile. The client
-    dials there for a moment in vain, and then stands still until the next server listens: so it has tries left,
-    however long that takes."""
+    dials there for a moment in vain, and then stands still until the next server listens."""
     source = random.Random(6)
     records = records_at_random(7, [STA], 20000)
     port = free_port()

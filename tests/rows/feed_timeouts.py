@@ -1,0 +1,202 @@
+"""Peers that are silent, at each state of the protocol, against `--timeout`: who is given up, when, and what is written
+then; the pauses between tries, over a server that is started anew; and the addresses and names of `--address`."""
+
+from __future__ import annotations
+
+import contextlib
+import socket
+import threading
+import time
+from concurrent.futures import ThreadPoolExecutor
+from typing import Iterator, Sequence, Union
+
+from driver.feed import Ended, Fetching, Server, fetch, fetch_words
+from driver.links import addresses_at, dialled, free_port, listening, port_of, received_up_to
+from driver.program import LIMIT
+from driver.rows import Cases, Fact, holds
+from driver.texts import LINK_FAILED
+from models.seedlink import Place, record_of
+
+STA = Place("XX_STA")
+RECORDS = [record_of(STA, index) for index in range(3)]
+ARCHIVE = b"".join(RECORDS)
+PACKETS = [b"SL%06X" % number + record for number, record in enumerate(RECORDS)]
+GRANTED = b"OK\r\nOK\r\n"
+FETCHED = GRANTED + b"".join(PACKETS) + b"END"
+ASKED = b"STATION STA XX\r\nFETCH\r\nEND\r\n"
+FINE, FAILED = Ended(0, b"", b""), Ended(2, b"", LINK_FAILED)
+ALL = Ended(0, ARCHIVE, b"")
+
+# What a peer does: it sends bytes, or is silent for so many seconds.
+Deed = Union[bytes, float]
+
+
+def act(link: socket.socket, deeds: Sequence[Deed]) -> None:
+    """Does one thing after another, as long as the other side is there."""
+    with contextlib.suppress(OSError):
+        for deed in deeds:
+            if isinstance(deed, bytes):
+                link.sendall(deed)
+            else:
+                time.sleep(deed)
+
+
+# Sockets that stay open to the end.
+HELD: list[socket.socket] = []
+
+
+def serve_mutely(listener: socket.socket, deeds: Sequence[Deed]) -> None:
+    """Does this to a client."""
+    with contextlib.suppress(OSError):
+        link, _ = listener.accept()
+        HELD.append(link)
+        act(link, deeds)
+
+
+def mute(deeds: Sequence[Deed]) -> int:
+    """The port of a server that does this to a client, and then keeps the link open, silent."""
+    listener = listening()
+    HELD.append(listener)
+    threading.Thread(target=serve_mutely, args=(listener, deeds), daemon=True).start()
+    return port_of(listener)
+
+
+def drops(byte_for_byte: bytes, pause: float) -> list[Deed]:
+    """Bytes one by one, with a pause before each."""
+    return [deed for at in range(len(byte_for_byte)) for deed in (pause, byte_for_byte[at : at + 1])]
+
+
+# What a server does, how `fetch --timeout 1` ends, and after how many seconds at least and at most.
+SERVERS: list[tuple[str, list[Deed], Ended, float, float]] = [
+    ("says nothing", [], FAILED, 1, 3),
+    ("is silent within a reply", [b"O"], FAILED, 1, 3),
+    ("is silent between the replies", [b"OK\r\n"], FAILED, 1, 3),
+    ("is silent before the packets", [GRANTED], FAILED, 1, 3),
+    ("is silent within a packet", [GRANTED + PACKETS[0][:100]], FAILED, 1, 3),
+    ("is silent between packets", [GRANTED + PACKETS[0]], FAILED._replace(out=RECORDS[0]), 1, 3),
+    ("is silent before the end", [GRANTED + b"".join(PACKETS)], FAILED._replace(out=ARCHIVE), 1, 3),
+    ("is silent within the end", [GRANTED + b"".join(PACKETS) + b"EN"], FAILED._replace(out=ARCHIVE), 1, 3),
+    ("says a byte of the handshake now and then", drops(b"ERRORS", 0.4), FAILED, 1, 2.3),
+    ("says the packets piece by piece", [GRANTED, *(deed for packet in PACKETS for deed in (packet, 0.6)), b"END"],
+     ALL, 1.8, 4),
+]
+
+
+def silent_servers() -> Cases:
+    """Each is given up in time, and no sooner. All side by side."""
+
+    def run(deeds: list[Deed]) -> tuple[Ended, float]:
+        began = time.monotonic()
+        ended = fetch([STA], mute(deeds), "--timeout", 1)
+        return ended, time.monotonic() - began
+
+    with ThreadPoolExecutor(len(SERVERS)) as pool:
+        ends = list(pool.map(run, [deeds for _, deeds, *_ in SERVERS]))
+    for (name, _, wanted, least, most), (ended, seconds) in zip(SERVERS, ends):
+        yield Fact(f"fetch from a server that {name}", wanted, ended)
+        yield holds(f"the time of a server that {name}", least <= seconds < most + 2, seconds)
+
+
+def without_end() -> Cases:
+    """`--timeout 0` waits."""
+    yield Fact("fetch without a time", ALL, fetch([STA], mute([1.5, FETCHED]), "--timeout", 0))
+
+
+# What a client does that is to be given up.
+CLIENTS: list[tuple[str, list[Deed]]] = [
+    ("says nothing", []),
+    ("is silent within a line", [b"STATION ST"]),
+    ("is silent between the lines", [b"STATION STA XX\r\n"]),
+    ("is silent before its end", [b"STATION STA XX\r\nFETCH\r\n"]),
+    ("says the end too early, and then nothing", [b"END\r\n"]),
+    ("says a byte now and then", drops(b"HELLO HELLO", 0.3)),
+]
+
+
+def silent_clients() -> Cases:
+    """Whoever comes next is served, and the server says that a link failed. All side by side."""
+
+    def run(deeds: list[Deed]) -> tuple[bytes, Ended]:
+        server = Server(ARCHIVE, [STA], "--timeout", 1, "--connections", 2)
+        with dialled(server.port) as link, dialled(server.port) as next_link:
+            threading.Thread(target=act, args=(link, deeds), daemon=True).start()
+            next_link.sendall(ASKED)
+            brought = received_up_to(next_link, len(FETCHED))
+        return brought, server.end()
+
+    with ThreadPoolExecutor(len(CLIENTS)) as pool:
+        ends = list(pool.map(run, [deeds for _, deeds in CLIENTS]))
+    for (name, _), (brought, ended) in zip(CLIENTS, ends):
+        yield Fact(f"a client behind one that {name}", FETCHED, brought)
+        yield Fact(f"serve behind a client that {name}", FAILED, ended)
+
+
+def full_link() -> Cases:
+    """A client that reads nothing while packets pile up."""
+    archive = b"".join(record_of(STA, index) for index in range(40000))
+    server = Server(archive, [STA], "--capacity", 40000, "--timeout", 1)
+    with dialled(server.port) as link:
+        link.sendall(ASKED)
+        ended = server.end()
+    yield Fact("serve behind a client that reads nothing", FAILED, ended)
+
+
+def streaming() -> Cases:
+    """A client that has said all may be silent for longer than the time."""
+    server = Server(ARCHIVE, [STA], "--timeout", 1)
+    with dialled(server.port) as link:
+        link.sendall(b"STATION STA XX\r\nDATA 0\r\nEND\r\n")
+        brought = received_up_to(link, len(FETCHED) - 3)
+        time.sleep(1.6)
+        link.settimeout(0.05)
+        try:
+            rest = link.recv(1)
+        except socket.timeout:
+            rest = None
+        yield Fact("a client that streams", (FETCHED[:-3], None), (brought, rest))
+        link.settimeout(LIMIT)
+        link.sendall(b"BYE\r\n")
+        yield Fact("a client that streamed", b"", link.recv(1))
+    yield Fact("serve behind a client that streamed", FINE, server.end())
+
+
+def restarted() -> Cases:
+    """A server gives a record and goes; another one comes to its port a while later, and a client that has tries left
+    finds it."""
+    port = free_port()
+    listener = listening(port)
+    fetching = Fetching(fetch_words([STA], port, "--tries", 9))
+    link, _ = listener.accept()
+    with link, listener:
+        link.sendall(GRANTED + PACKETS[0])
+        received_up_to(link, len(ASKED))
+    server = Server(ARCHIVE, [STA], port=port)
+    yield Fact("a server that is started anew", ALL, fetching.end())
+    yield Fact("the server that was started anew", FINE, server.end())
+    began = time.monotonic()
+    yield Fact("four tries in vain", FAILED, fetch([STA], free_port(), "--tries", 4))
+    seconds = time.monotonic() - began
+    yield holds("the pauses between four tries", 0.7 <= seconds < 5, seconds)
+    two = fetch([STA], mute([GRANTED + PACKETS[0]]), "--tries", 2, "--timeout", 1)
+    yield Fact("two silent links", FAILED._replace(out=RECORDS[0]), two)
+
+
+def addresses() -> Cases:
+    """A second address of the loopback net, names, and an address that isn't this machine's."""
+    server = Server(ARCHIVE, [STA], "--address", "127.0.0.2")
+    yield Fact("the address that is listened at", ["0200007F"], addresses_at(server.port))
+    yield Fact("fetch from the default address", FAILED, fetch([STA], server.port))
+    yield Fact("fetch from 127.0.0.2", ALL, fetch([STA], server.port, "--address", "127.0.0.2"))
+    yield Fact("serve at 127.0.0.2", FINE, server.end())
+    server = Server(ARCHIVE, [STA])
+    yield Fact("fetch from localhost", ALL, fetch([STA], server.port, "--address", "localhost"))
+    yield Fact("serve behind a client by name", FINE, server.end())
+    yield Fact("fetch from nowhere", FAILED, fetch([STA], free_port(), "--address", "nowhere.invalid", "--tries", 2))
+    server = Server(ARCHIVE, [STA], "--address", "203.0.113.1", is_awaited=False)
+    yield Fact("serve at another machine's address", FAILED, server.end())
+
+
+def rows() -> Iterator:
+    """All of them."""
+    for part in (silent_servers, without_end, silent_clients, full_link, streaming, restarted, addresses):
+        yield from part()
