@@ -4,9 +4,10 @@
 # make repack           packs the channels of one anew, into packed.mseed or OUT=..
 # make install          the program and its manual pages, below /usr/local or PREFIX=..
 # make test             the whole gate, then all row files of the tests
+# make tools-test       the row files of the tools beside the program: tools/README.md
 # make packages         installs what some tests want besides: tests/packages.txt, by apt-get where it can be had
 # make dist             an archive of the sources, which builds and tests without git
-# make drawing          draws docs/architecture.svg from crates.txt
+# make drawing          draws docs/architecture.svg from crates.txt, and docs/timeline.svg by tools/timeline
 # make help             these lines
 # make interop          what libmseed packs, packed anew and read by libmseed (wants libmseed-dev)
 # make bench            the program side by side with libmseed (wants libmseed-dev and valgrind)
@@ -20,7 +21,8 @@ VERSION := $(shell cat VERSION)
 NAME := mseed-$(VERSION)
 MANUAL := $(DESTDIR)$(PREFIX)/share/man/man1
 
-.PHONY: audit bench build dist drawing feed-bench help install interop packages repack show test
+.PHONY: audit bench build dist drawing feed-bench help install interop packages repack show test \
+    tools-test
 
 audit: build
 	@$(MSEED) audit < "$(FILE)"; echo "status $$?"
@@ -66,9 +68,13 @@ dist:
 
 drawing:
 	@python3 docs/architecture.py
+	@python3 docs/timeline.py
 
 test:
 	@tests/run.py --gate
+
+tools-test:
+	@tests/run.py $(patsubst tests/rows/%.py,%,$(wildcard tests/rows/tools_*.py))
 
 # Where one of them can't be had, the others are installed all the same, and what wants it is skipped.
 packages:

@@ -1,0 +1,1 @@
+"""What the tools share: the program and its texts, files and what was read of them, trees, and drawings."""

@@ -1,0 +1,62 @@
+"""What the commands share: their words, and how they end."""
+
+from __future__ import annotations
+
+import argparse
+import os
+import signal
+import sys
+from typing import Callable, NoReturn, Optional
+
+from mseed_tools.program import ToolError
+
+FAULT, BAD_WORDS = 2, 3
+
+
+def a_count(word: str) -> int:
+    """How many at once, from 1 to 1,024."""
+    if not word.isascii() or not word.isdigit() or not 1 <= int(word) <= 1024:
+        raise argparse.ArgumentTypeError(f"{word!r} is no number from 1 to 1024")
+    return int(word)
+
+
+class Parser(argparse.ArgumentParser):
+    """Words of a command line, with a help that ends by an example."""
+
+    def __init__(self, about: Optional[str], example: str):
+        super().__init__(description=about, epilog=example, formatter_class=argparse.RawDescriptionHelpFormatter,
+                         allow_abbrev=False)
+
+    def error(self, message: str) -> NoReturn:
+        """Words that mean nothing."""
+        print(f"{self.prog}: {message}", file=sys.stderr)
+        sys.exit(BAD_WORDS)
+
+    def add_tree_options(self) -> None:
+        """The options of tools that read a tree."""
+        self.add_argument("-j", "--jobs", type=a_count, default=os.cpu_count() or 1, metavar="N",
+                          help="files that are read at once; as many as there are cores, where no number is given")
+        self.add_argument("--state", metavar="FOLDER",
+                          help="keeps here what was read of each file, outside of ROOT, and reads what is new")
+
+
+def write(text: str) -> None:
+    """Writes to standard output; names of files as the bytes that they are."""
+    sys.stdout.buffer.write(text.encode("utf-8", "surrogateescape"))
+
+
+def run(main: Callable[[], int]) -> int:
+    """Runs a command, and tells what it can't go on after."""
+    # Whoever reads the output may have enough, and whoever waits may not.
+    signal.signal(signal.SIGINT, signal.SIG_DFL)
+    try:
+        status = main()
+        sys.stdout.flush()
+        return status
+    except ToolError as error:
+        print(f"{os.path.basename(sys.argv[0])}: {error}", file=sys.stderr)
+    except BrokenPipeError:
+        os.dup2(os.open(os.devnull, os.O_WRONLY), sys.stdout.fileno())
+    except OSError as error:
+        print(f"{os.path.basename(sys.argv[0])}: {error}", file=sys.stderr)
+    return FAULT

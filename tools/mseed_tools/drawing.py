@@ -1,0 +1,188 @@
+"""A drawing of channels over time, as an SVG that stands alone."""
+
+from __future__ import annotations
+
+import bisect
+import calendar
+import datetime
+from html import escape
+from typing import Iterator, NamedTuple, Optional, Sequence
+
+from mseed_tools.stretches import Mark, Row
+from mseed_tools.texts import EPOCH, SECOND, time_of
+
+WIDTH, ROW, BAR, HEAD, EDGE = 1120, 18, 10, 74, 18
+# Letters of the names are so wide; marks are at least so wide, so that each is seen.
+LETTER, LEAST = 7.0, 2.0
+DAY = 86400
+# How far apart ticks may stand, in seconds, and behind these in months.
+STEPS = [1, 2, 5, 10, 30, 60, 120, 300, 600, 1800, 3600, 7200, 10800, 21600, 43200, DAY, 2 * DAY, 5 * DAY, 10 * DAY]
+MONTHS = [1, 3, 6, 12, 24, 60, 120, 240, 600]
+COLOURS = {"continuous": "#2f7d4f", "broken": "#4a78a8", "undecoded": "#9a9a9a", "gap": "#d03a2b",
+           "overlap": "#e39a1e", "finding": "#7a2ea0"}
+LEGEND = [("continuous", "continuous"), ("broken", "with findings"), ("undecoded", "not decoded"), ("gap", "gap"),
+          ("overlap", "overlap"), ("finding", "other finding")]
+STYLE = """\
+text { font: 12px "DejaVu Sans Mono", Menlo, Consolas, monospace; fill: #222; }
+.title { font-weight: bold; font-size: 14px; }
+.grid { stroke: #ddd; stroke-width: 1; }
+.even { fill: #f6f6f6; }
+"""
+
+
+class Scale(NamedTuple):
+    """Where instants stand: from `begin` to `end` in microseconds, and from `left` to `right` in pixels."""
+
+    begin: int
+    end: int
+    left: float
+    right: float
+
+    def at(self, instant: int) -> float:
+        """Where an instant stands."""
+        return self.left + (instant - self.begin) / (self.end - self.begin) * (self.right - self.left)
+
+
+def month_after(day: datetime.datetime, months: int) -> Optional[datetime.datetime]:
+    """The first of the month so many months later, if there is one."""
+    month = day.year * 12 + day.month - 1 + months
+    return datetime.datetime(month // 12, month % 12 + 1, 1) if month // 12 <= datetime.MAXYEAR else None
+
+
+def ticks(begin: int, end: int, most: int) -> list[tuple[int, str]]:
+    """Instants between two, at most about so many, at round times, each with its words."""
+    length = (end - begin) / SECOND
+    step = next((step for step in STEPS if length / step <= most), None)
+    if step is not None:
+        first = -(-begin // (step * SECOND)) * step * SECOND
+        return [(at, words_of(at, step)) for at in range(first, end + 1, step * SECOND)]
+    months = next((months for months in MONTHS if length / (months * 30 * DAY) <= most), MONTHS[-1])
+    from_ = EPOCH + datetime.timedelta(seconds=begin // SECOND)
+    at: Optional[datetime.datetime] = datetime.datetime(from_.year, 1, 1)
+    found = []
+    while at is not None and at <= EPOCH + datetime.timedelta(seconds=end // SECOND):
+        instant = calendar.timegm(at.timetuple()) * SECOND
+        if instant >= begin:
+            found.append((instant, at.strftime("%Y-%m") if months < 12 else f"{at.year:04}"))
+        at = month_after(at, months)
+    return found
+
+
+def words_of(instant: int, step: int) -> str:
+    """A tick's words: the day where the tick stands at midnight, else the time."""
+    time = time_of(instant)
+    if instant % (DAY * SECOND) == 0:
+        return time[:10]
+    return time[11:16] if step >= 60 else time[11:19]
+
+
+def merged(spans: Sequence[tuple[float, float]], closer: float) -> Iterator[tuple[float, float, int]]:
+    """Spans, by their beginnings, as few where they are closer than so many pixels, each with how many they are."""
+    begin = end = 0.0
+    count = 0
+    for left, right in spans:
+        if count and left - end < closer:
+            end, count = max(end, right), count + 1
+            continue
+        if count:
+            yield begin, end, count
+        begin, end, count = left, right, 1
+    if count:
+        yield begin, end, count
+
+
+def box(kind: str, left: float, top: float, width: float, height: float, text: str, count: int) -> str:
+    """A rectangle with its words, that are shown where somebody points at it."""
+    return (f'<rect class="{kind}" data-count="{count}" x="{left:.2f}" y="{top:.2f}" width="{width:.2f}" '
+            f'height="{height:.2f}" fill="{COLOURS[kind]}"><title>{escape(text)}</title></rect>')
+
+
+def bars_of(row: Row, scale: Scale, top: float) -> Iterator[str]:
+    """The stretches of a row. Those with nothing between that can be seen are one bar."""
+    spans = sorted((scale.at(begin), scale.at(end)) for begin, end in row.stretches)
+    begins = [begin for begin, _ in row.stretches]
+    for left, right, count in merged(spans, 0.25):
+        place = bisect.bisect_left(spans, (left, left))
+        first, last = begins[place], max(end for _, end in row.stretches[place : place + count])
+        text = f"{row.name} from {time_of(first)} to {time_of(last)}"
+        yield box(row.state, left, top, max(right - left, 1.0), BAR, text, count)
+
+
+def marks_of(row: Row, scale: Scale, top: float, is_above: bool) -> Iterator[str]:
+    """The marks of a row that lie above the bars, or those below: gaps that can be seen as such, since there may be
+    records of later stretches in their place. Overlaps stand at the upper edge, other findings at the lower one."""
+    heights = {"gap": (0.0, BAR), "overlap": (-2.0, 4.0), "finding": (BAR - 3.0, 5.0)}
+    for kind, (down, height) in heights.items():
+        marks: list[Mark] = [mark for mark in row.marks if mark.kind == kind and is_above != is_long(mark, scale)]
+        spans = [wide(scale.at(mark.begin), scale.at(mark.end)) for mark in marks]
+        place = 0
+        for left, right, count in merged(spans, 0.5 if is_above else 0.0):
+            text = f"{row.name} {marks[place].text}" + (f", and {count - 1} more up to here" if count > 1 else "")
+            place += count
+            yield box(kind, left, top + down, right - left, height, text, count)
+
+
+def is_long(mark: Mark, scale: Scale) -> bool:
+    """Whether it is a gap that can be seen as such."""
+    return mark.kind == "gap" and scale.at(mark.end) - scale.at(mark.begin) >= LEAST
+
+
+def wide(left: float, right: float) -> tuple[float, float]:
+    """A span that is seen."""
+    more = max(0.0, LEAST - (right - left)) / 2
+    return left - more, right + more
+
+
+def legend(left: float, top: float) -> Iterator[str]:
+    """What the colours mean."""
+    for kind, words in LEGEND:
+        yield f'<rect x="{left:.1f}" y="{top - 9:.1f}" width="12" height="10" fill="{COLOURS[kind]}"/>'
+        yield f'<text class="legend" x="{left + 17:.1f}" y="{top:.1f}">{words}</text>'
+        left += 17 + LETTER * len(words) + 24
+
+
+def axis(scale: Scale, top: float, bottom: float) -> Iterator[str]:
+    """The ticks, with their words above and, where there are many rows, below."""
+    for instant, words in ticks(scale.begin, scale.end, int((scale.right - scale.left) / 90)):
+        at = scale.at(instant)
+        yield f'<line class="grid" x1="{at:.2f}" x2="{at:.2f}" y1="{top:.1f}" y2="{bottom:.1f}"/>'
+        # Words at the edges stay within the drawing.
+        place = min(max(at, scale.left + 4 * LETTER), scale.right - 3 * LETTER)
+        yield f'<text class="tick" x="{place:.2f}" y="{top - 5:.1f}" text-anchor="middle">{words}</text>'
+        if bottom - top > 40 * ROW:
+            yield f'<text class="tick below" x="{place:.2f}" y="{bottom + 14:.1f}" text-anchor="middle">{words}</text>'
+
+
+def scale_of(rows: Sequence[Row], left: float) -> Scale:
+    """From the first instant to the last one of all stretches."""
+    begins = [begin for row in rows for begin, _ in row.stretches]
+    ends = [end for row in rows for _, end in row.stretches]
+    begin, end = (min(begins), max(ends)) if begins else (0, DAY * SECOND)
+    return Scale(begin, max(end, begin + SECOND), left, WIDTH - EDGE)
+
+
+def drawing(title: str, rows: Sequence[Row]) -> str:
+    """The drawing."""
+    longest = max([len(row.name) for row in rows], default=0)
+    scale = scale_of(rows, EDGE + LETTER * longest + 12)
+    bottom = HEAD + ROW * len(rows)
+    height = bottom + (24 if len(rows) > 40 else 10)
+    when = f"{time_of(scale.begin)[:19]} to {time_of(scale.end)[:19]} UTC" if rows else "no channel"
+    parts = [f'<svg xmlns="http://www.w3.org/2000/svg" width="{WIDTH}" height="{height}" '
+             f'viewBox="0 0 {WIDTH} {height}">', f"<style>\n{STYLE}</style>",
+             f'<rect width="{WIDTH}" height="{height}" fill="#fff"/>',
+             f'<text class="title" x="{EDGE}" y="22">{escape(title)}</text>',
+             f'<text class="when" x="{WIDTH - EDGE}" y="22" text-anchor="end">{when}</text>', *legend(EDGE, 44)]
+    for number in range(0, len(rows), 2):
+        parts.append(f'<rect class="even" x="{EDGE}" y="{HEAD + ROW * number}" width="{WIDTH - 2 * EDGE}" '
+                     f'height="{ROW}"/>')
+    parts += axis(scale, HEAD, bottom)
+    for number, row in enumerate(rows):
+        top = HEAD + ROW * number
+        parts.append(f'<g class="channel" data-name="{escape(row.name)}" data-state="{row.state}">')
+        parts.append(f'<text class="name" x="{EDGE}" y="{top + 13}">{escape(row.name)}</text>')
+        parts += marks_of(row, scale, top + 4, is_above=False)
+        parts += bars_of(row, scale, top + 4)
+        parts += marks_of(row, scale, top + 4, is_above=True)
+        parts.append("</g>")
+    return "\n".join([*parts, "</svg>"]) + "\n"

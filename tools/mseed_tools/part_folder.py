@@ -1,0 +1,131 @@
+"""Parts of many files in a folder that machines share: one file a part, each whole, and their join."""
+
+from __future__ import annotations
+
+import json
+import os
+from typing import IO, NamedTuple, Optional, Sequence
+
+from mseed_tools.program import Done, Program, ToolError
+from mseed_tools.reading import stamp_of
+from mseed_tools.state import locked, write_whole
+from mseed_tools.texts import BEGIN
+from mseed_tools.tree import tree_at
+
+LIST = "files.json"
+# What can't be read, as a file of that name is.
+UNREADABLE = "/"
+
+
+class Part(NamedTuple):
+    """A file, what it is known by, and where its part is."""
+
+    source: str
+    stamp: Optional[list[int]]
+    path: str
+
+    def is_there(self) -> bool:
+        """Whether its part was made."""
+        return os.path.exists(self.path)
+
+
+def sources_in(paths: Sequence[str], lists: Sequence[str]) -> list[str]:
+    """The files that words name: files, the trees of folders, and files that list others, a line each."""
+    sources = []
+    for path in paths:
+        if os.path.isdir(path):
+            sources += [os.path.join(path, file.path) for file in tree_at(path).files]
+        else:
+            sources.append(path)
+    for path in lists:
+        with open(path, encoding="utf-8", errors="surrogateescape") as file:
+            sources += [line for line in file.read().split("\n") if line]
+    return [os.path.abspath(source) for source in sources]
+
+
+def stamp_at(path: str) -> Optional[list[int]]:
+    """What a file is known by; nothing where there is none."""
+    try:
+        return list(stamp_of(os.stat(path)))
+    except OSError:
+        return None
+
+
+def parts_of(folder: str) -> list[Part]:
+    """The parts of a folder, made or not, in the order of their files."""
+    try:
+        with open(os.path.join(folder, LIST), encoding="ascii") as file:
+            listed = json.load(file)["files"]
+    except (OSError, ValueError, KeyError, TypeError) as error:
+        raise ToolError(f"{folder}: lists no files: {error}") from error
+    return [Part(source, stamp, os.path.join(folder, f"{number:08}.part"))
+            for number, (source, stamp) in enumerate(listed, 1)]
+
+
+def held(folder: str) -> IO[bytes]:
+    """A folder that one run at a time may hold, made where there is none."""
+    try:
+        os.makedirs(folder, exist_ok=True)
+        return locked(os.path.join(folder, "lock"))
+    except OSError as error:
+        raise ToolError(f"{folder}: {error.strerror}") from error
+
+
+def prepared(folder: str, sources: Sequence[str], program: Program) -> list[Part]:
+    """Lists files in a folder; parts of other files, of files that changed and of another program are dropped. Gives
+    the parts that are still to be made."""
+    identity = program.identity()
+    try:
+        with open(os.path.join(folder, LIST), encoding="ascii") as file:
+            before = json.load(file)
+        known = before["files"] if before["program"] == identity else []
+    except (OSError, ValueError, KeyError, TypeError):
+        known = []
+    listed = [[source, stamp_at(source)] for source in sources]
+    kept = {number for number, (old, new) in enumerate(zip(known, listed), 1) if old == new and new[1] is not None}
+    for name in os.listdir(folder):
+        number, _, kind = name.partition(".")
+        if kind.startswith("part") and not (kind == "part" and number.isdigit() and int(number) in kept):
+            os.unlink(os.path.join(folder, name))
+    write_whole(os.path.join(folder, LIST), json.dumps({"program": identity, "files": listed}).encode("ascii"))
+    return [part for part in parts_of(folder) if not part.is_there()]
+
+
+def make(program: Program, part: Part) -> None:
+    """Makes a part. Of a file that can't be read it is the program's of what can't be read. Raises ToolError where the
+    file isn't the one that was listed, or changes meanwhile."""
+    try:
+        file = os.open(part.source, os.O_RDONLY)
+    except OSError:
+        file = os.open(UNREADABLE, os.O_RDONLY)
+    try:
+        done = program.run(["audit", "--part"], file)
+    finally:
+        os.close(file)
+    if stamp_at(part.source) != part.stamp:
+        raise ToolError(f"{part.source}: changed")
+    if not done.out.startswith(BEGIN):
+        raise ToolError(f"{part.source}: status {done.status}, {done.err.strip()}")
+    write_whole(part.path, done.out.encode("ascii"))
+
+
+def run_of(parts: Sequence[Part], number: int, count: int) -> Sequence[Part]:
+    """The parts of the task with this number, from 1, of so many: a run of them, as long as the others or one more."""
+    return parts[len(parts) * (number - 1) // count : len(parts) * number // count]
+
+
+def text_of(parts: Sequence[Part]) -> bytes:
+    """Parts, one behind another. Raises ToolError where one wasn't made."""
+    texts = []
+    for part in parts:
+        try:
+            with open(part.path, "rb") as file:
+                texts.append(file.read())
+        except OSError as error:
+            raise ToolError(f"{part.source}: has no part") from error
+    return b"".join(texts)
+
+
+def joined(program: Program, text: bytes, is_part: bool = False) -> Done:
+    """What the program says of parts."""
+    return program.run(["join", *["--part"] * is_part, "--past-faults"], text)

@@ -1,0 +1,183 @@
+"""What `sds` says of an archive."""
+
+from __future__ import annotations
+
+import itertools
+import json
+import os
+from typing import Iterator, NamedTuple, Optional
+
+from mseed_tools.command import write
+from mseed_tools.joining import Channel, Files, joined
+from mseed_tools.program import Program, find
+from mseed_tools.reading import Reading
+from mseed_tools.running import Bar, in_order
+from mseed_tools.state import State
+from mseed_tools.texts import name_of, seconds_of, time_of
+from mseed_tools.tree import DayFile, Tree, days_in_words, missing_between, tree_at
+
+NOTHING = "records 0 samples 0 from none to none gaps 0 0.000000 s overlaps 0 0.000000 s findings 0"
+
+
+class ChannelReport(NamedTuple):
+    """What there is of a channel: its files with what was read of them, what stands in it, if it has samples, and the
+    files with days of it."""
+
+    name: str
+    files: list[DayFile]
+    readings: list[Reading]
+    channel: Optional[Channel]
+
+    def missing(self) -> list[tuple[str, str]]:
+        """The days that lack, as runs. Logs are written when there is something to say: none of theirs does."""
+        if self.channel is None or not self.channel.is_decoded:
+            return []
+        return days_in_words(missing_between({self.files[file].day for file in self.channel.files}))
+
+    def amiss(self) -> Iterator[tuple[str, dict[str, object]]]:
+        """What is amiss in each file, by a word, with its values in the order of its line."""
+        for file, reading in zip(self.files, self.readings):
+            names = {name_of(kept.key): None for piece in reading.pieces for kept in piece.part.channels}
+            for name in sorted(names):
+                if name != self.name:
+                    yield "foreign", {"file": file.path, "channel": name}
+            for fault in reading.faults:
+                yield "fault", {"file": file.path, "at": fault.at, "fault": fault.why, "skipped": fault.skipped}
+            if reading.problem == "read":
+                yield "fault", {"file": file.path, "at": 0, "fault": "read", "skipped": 0}
+            elif reading.problem is not None:
+                yield reading.problem, {"file": file.path}
+            elif reading.stamp.size == 0:
+                yield "empty", {"file": file.path}
+
+
+class Audit(NamedTuple):
+    """What is said of a tree."""
+
+    tree: Tree
+    reports: list[ChannelReport]
+
+    def totals(self) -> dict[str, int]:
+        """The last line."""
+        states = [report.channel.state for report in self.reports if report.channel]
+        amiss = [word for report in self.reports for word, _ in report.amiss()]
+        sizes = [reading.stamp.size for report in self.reports for reading in report.readings]
+        return {"files": len(sizes), "bytes": sum(sizes), "channels": len(states),
+                **{state: states.count(state) for state in ("continuous", "broken", "undecoded")},
+                "faults": amiss.count("fault") + amiss.count("changed")}
+
+
+def reports_of(program: Program, tree: Tree, jobs: int, state: State) -> Iterator[ChannelReport]:
+    """What there is of each channel, one after another; a tree is read as far as the reports are taken."""
+    bar = Bar(sum(size_of(tree, file) for file in tree.files))
+    read = in_order(program, tree.root, tree.files, jobs, state, bar)
+    for name, some in itertools.groupby(read, lambda pair: pair[0].channel):
+        pairs = list(some)
+        files, readings = [file for file, _ in pairs], [reading for _, reading in pairs]
+        paths = [os.path.join(tree.root, file.path) for file in files]
+        found = joined(Files(program, paths, readings), lambda other, ours=name: other == ours)
+        yield ChannelReport(name, files, readings, found.get(name))
+
+
+def size_of(tree: Tree, file: DayFile) -> int:
+    """How long a file is, as far as that can be known."""
+    try:
+        return os.stat(os.path.join(tree.root, file.path)).st_size
+    except OSError:
+        return 0
+
+
+def audited(root: str, jobs: int, state: Optional[str]) -> Audit:
+    """Audits a tree."""
+    program = find()
+    tree = tree_at(root)
+    return Audit(tree, list(reports_of(program, tree, jobs, State(state, root, program.identity()))))
+
+
+def line_of(report: ChannelReport) -> str:
+    """The line of a channel."""
+    channel = report.channel
+    if channel is None:
+        return f"{report.name} days 0 {NOTHING}"
+    what = (f"days {len({report.files[file].day for file in channel.files})} records {channel.records} "
+            f"samples {channel.samples} from {time_of(channel.start)} to {time_of(channel.end)}")
+    if not channel.is_decoded:
+        return f"{channel.name} undecoded {what}"
+    for kind in ("gap", "overlap"):
+        lengths = channel.of_kind(kind)
+        what += f" {kind}s {len(lengths)} {seconds_of(sum(lengths))} s"
+    return f"{channel.name} {what} findings {channel.findings}"
+
+
+def run_in_words(run: tuple[str, str]) -> str:
+    """A run of days."""
+    return run[0] if run[0] == run[1] else f"{run[0]}..{run[1]}"
+
+
+def lines_of(report: ChannelReport) -> Iterator[str]:
+    """The lines of a channel."""
+    yield line_of(report)
+    if report.missing():
+        yield "  missing " + " ".join(run_in_words(run) for run in report.missing())
+    for word, values in report.amiss():
+        if word == "fault":
+            yield "  fault {file} at {at} {fault}, {skipped} bytes skipped".format(**values)
+        else:
+            yield f"  {word} " + " ".join(str(value) for value in values.values())
+
+
+def each_of(audit: Audit) -> Iterator[tuple[str, str, object]]:
+    """Each record with a finding, channel after channel: its file, and what is found."""
+    for report in audit.reports:
+        if report.channel and report.channel.is_decoded:
+            for at in report.channel.found:
+                yield report.files[at.file].path, report.name, at.found
+
+
+def print_text(audit: Audit, is_each: bool) -> None:
+    """Writes the report."""
+    lines = []
+    for path, _, found in each_of(audit) if is_each else ():
+        lines.append(f"{path} {found.offset} {found.name} record {found.number} start {found.start} {found.why}")
+    for report in audit.reports:
+        lines += lines_of(report)
+    lines += [f"misplaced {path}" for path in audit.tree.misplaced]
+    lines.append(" ".join(f"{word} {number}" for word, number in audit.totals().items()))
+    write("".join(f"{line}\n" for line in lines))
+
+
+def channel_in_json(report: ChannelReport) -> dict[str, object]:
+    """What is said of a channel, by the words of its line."""
+    channel = report.channel
+    days = len({report.files[file].day for file in channel.files}) if channel else 0
+    said: dict[str, object] = {"channel": report.name, "state": channel.state if channel else "empty", "days": days,
+                               "records": channel.records if channel else 0,
+                               "samples": channel.samples if channel else 0,
+                               "from": channel.start if channel else None, "to": channel.end if channel else None}
+    for kind in ("gap", "overlap") if channel is None or channel.is_decoded else ():
+        lengths = channel.of_kind(kind) if channel else []
+        said[f"{kind}s"] = {"count": len(lengths), "microseconds": sum(lengths)}
+    if channel is None or channel.is_decoded:
+        said["findings"] = channel.findings if channel else 0
+    said["missing"] = [list(run) for run in report.missing()]
+    for word in ("foreign", "fault", "changed", "empty"):
+        said[word] = [values for other, values in report.amiss() if other == word]
+    return said
+
+
+def print_json(audit: Audit, is_each: bool) -> None:
+    """Writes the report as JSON."""
+    said: dict[str, object] = {"channels": [channel_in_json(report) for report in audit.reports],
+                               "misplaced": audit.tree.misplaced, "total": audit.totals()}
+    if is_each:
+        said["each"] = [{"file": path, **found._asdict()} for path, _, found in each_of(audit)]
+    write(json.dumps(said, indent=1) + "\n")
+
+
+def status_of(audit: Audit) -> int:
+    """The status: that of an audit."""
+    totals = audit.totals()
+    words = {word for report in audit.reports for word, _ in report.amiss()}
+    if totals["faults"]:
+        return 2
+    return 1 if totals["broken"] or "foreign" in words or audit.tree.misplaced else 0

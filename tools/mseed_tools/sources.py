@@ -1,0 +1,64 @@
+"""What the tools over channels read: files one behind another, or the channels of a tree."""
+
+from __future__ import annotations
+
+import argparse
+import datetime
+import os
+import sys
+from typing import NamedTuple
+
+from mseed_tools.command import Parser
+from mseed_tools.joining import Channel, Files, joined
+from mseed_tools.program import ToolError, find
+from mseed_tools.report import reports_of
+from mseed_tools.running import Bar, in_order
+from mseed_tools.state import State
+from mseed_tools.tree import DayFile, tree_at
+
+
+class Source(NamedTuple):
+    """Files, what was read of them, and the channels over them."""
+
+    files: Files
+    channels: list[Channel]
+
+    def told(self) -> bool:
+        """Tells what reading was faulty, on standard error, and whether there was any."""
+        lines = []
+        for path, reading in zip(self.files.paths, self.files.readings):
+            lines += [f"{path}: fault at {fault.at} {fault.why}, {fault.skipped} bytes skipped"
+                      for fault in reading.faults]
+            lines += [f"{path}: {'changed' if reading.problem == 'changed' else 'fault at 0 read'}"] \
+                if reading.problem else []
+        for line in lines:
+            print(line.encode("utf-8", "surrogateescape").decode("utf-8", "replace"), file=sys.stderr)
+        return bool(lines)
+
+
+def sources_of(words: Parser, given: argparse.Namespace) -> list[Source]:
+    """What the paths of the words name."""
+    folders = [path for path in given.paths if os.path.isdir(path)]
+    if folders and len(given.paths) > 1:
+        words.error("a folder stands alone")
+    program = find()
+    if folders:
+        root = folders[0]
+        state = State(given.state, root, program.identity())
+        sources = []
+        for report in reports_of(program, tree_at(root), given.jobs, state):
+            paths = [os.path.join(root, file.path) for file in report.files]
+            channels = [report.channel] if report.channel else []
+            sources.append(Source(Files(program, paths, report.readings), channels))
+        return sources
+    if given.state:
+        words.error("--state goes with a folder")
+    for path in given.paths:
+        if not os.path.exists(path):
+            raise ToolError(f"{path}: no such file")
+    files = [DayFile(path, "", datetime.date.min) for path in given.paths]
+    bar = Bar(sum(os.path.getsize(path) for path in given.paths))
+    state = State(None, "", program.identity())
+    readings = [reading for _, reading in in_order(program, "", files, given.jobs, state, bar)]
+    whole = Files(program, list(given.paths), readings)
+    return [Source(whole, list(joined(whole).values()))]

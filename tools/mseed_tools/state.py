@@ -1,0 +1,121 @@
+"""What is kept of files between runs: a text for each channel and year, written whole and then given its name."""
+
+from __future__ import annotations
+
+import fcntl
+import json
+import os
+import time
+from typing import IO, Optional
+
+from mseed_tools.program import ToolError
+from mseed_tools.reading import Fault, Reading, Stamp, piece_of
+
+FORM = 1
+# What is new is written at least so many seconds after it was read.
+PAUSE = 1.0
+
+
+def write_whole(path: str, content: bytes) -> None:
+    """Writes a file by a rename: it has its old content or this one, whenever it is looked at."""
+    part = f"{path}.new"
+    with open(part, "wb") as file:
+        file.write(content)
+    os.replace(part, path)
+
+
+def locked(path: str) -> IO[bytes]:
+    """A file that one process at a time may hold. Raises ToolError where another does."""
+    file = open(path, "ab")
+    try:
+        fcntl.flock(file, fcntl.LOCK_EX | fcntl.LOCK_NB)
+    except OSError as error:
+        file.close()
+        raise ToolError(f"{path}: held by another run") from error
+    return file
+
+
+class State:
+    """What is kept in a folder of the readings of one archive by one program; without a folder, nothing is kept. One
+    thread uses it."""
+
+    def __init__(self, folder: Optional[str], root: str, identity: str):
+        self.folder = folder
+        self.head = {"form": FORM, "root": os.path.realpath(root), "program": identity}
+        self.name: Optional[str] = None
+        self.entries: dict[str, object] = {}
+        self.held: dict[str, dict[str, object]] = {}
+        self.is_new, self.written = False, time.monotonic()
+        self.lock: Optional[IO[bytes]] = None
+        if folder is not None:
+            root_of, folder_of = os.path.realpath(root), os.path.realpath(folder)
+            if os.path.commonpath([root_of, folder_of]) == root_of:
+                raise ToolError(f"{folder}: is in the archive, which is only read")
+            try:
+                os.makedirs(folder, exist_ok=True)
+                self.lock = locked(os.path.join(folder, "lock"))
+            except OSError as error:
+                raise ToolError(f"{folder}: {error.strerror}") from error
+
+    def path_of(self, name: str) -> str:
+        """Where the text of a channel and year is."""
+        return os.path.join(self.folder or "", f"{name}.json")
+
+    def load(self, name: str) -> dict[str, object]:
+        """What is kept of these files; nothing where the text is another program's or no such text."""
+        if self.folder is None:
+            return {}
+        if name not in self.held:
+            try:
+                with open(self.path_of(name), encoding="ascii") as file:
+                    text = json.load(file)
+                is_ours = all(text.get(word) == value for word, value in self.head.items())
+                self.held[name] = dict(text["files"]) if is_ours else {}
+            except (OSError, ValueError, KeyError, AttributeError, TypeError):
+                self.held[name] = {}
+        return self.held[name]
+
+    def kept(self, name: str, path: str, stamp: Stamp) -> Optional[Reading]:
+        """What is kept of a file, if it is still the same."""
+        try:
+            size, mtime, ctime, pieces, faults = self.load(name)[path]
+            if Stamp(size, mtime, ctime) != stamp:
+                return None
+            return Reading(stamp, [piece_of(*piece) for piece in pieces], [Fault(*fault) for fault in faults], None,
+                           True)
+        except (KeyError, ValueError, TypeError):
+            return None
+
+    def keep(self, name: str, path: str, reading: Reading) -> None:
+        """Keeps what was read of a file, if it is to be trusted later. Channel after channel comes, year after year."""
+        if self.folder is None:
+            return
+        if name != self.name:
+            self.write()
+            self.name, self.entries = name, {}
+        if reading.problem is not None or not reading.is_kept:
+            self.is_new |= path in self.load(name)
+            return
+        pieces, faults = [[piece.at, *piece.texts] for piece in reading.pieces], [list(one) for one in reading.faults]
+        entry = [*reading.stamp, pieces, faults]
+        self.entries[path] = entry
+        if self.load(name).get(path) != entry:
+            self.is_new = True
+            if time.monotonic() - self.written >= PAUSE:
+                self.write(is_done=False)
+
+    def write(self, is_done: bool = True) -> None:
+        """Writes what is new. Until a year is done, what was kept of its other files stays in the text."""
+        if self.folder is None or self.name is None:
+            return
+        if self.is_new or is_done and set(self.load(self.name)) != set(self.entries):
+            files = self.entries if is_done else {**self.load(self.name), **self.entries}
+            path = self.path_of(self.name)
+            try:
+                os.makedirs(os.path.dirname(path), exist_ok=True)
+                write_whole(path, json.dumps({**self.head, "files": files}).encode("ascii"))
+            except OSError as error:
+                raise ToolError(f"{path}: {error.strerror}") from error
+            self.is_new, self.written = False, time.monotonic()
+        if is_done:
+            self.held.pop(self.name, None)

@@ -1,0 +1,153 @@
+"""The program's texts: parts, the lines of findings and of records, names and times."""
+
+from __future__ import annotations
+
+import datetime
+import re
+from fractions import Fraction
+from typing import Iterator, NamedTuple, Optional
+
+SECOND = 10**6
+EPOCH = datetime.datetime(1970, 1, 1)
+# A leap second that a record has behind it, as it moves the record's end.
+STEPS = {"none": 0, "positive": -SECOND, "negative": SECOND, "both": 0}
+BEGIN = "mseed part 1\n"
+
+CHANNEL = re.compile(r"(?P<key>[0-9A-F]{24}) records (?P<records>\d+) samples (?P<samples>\d+) "
+                     r"head (?:none|\d+ \d+ (?P<start>-?\d+) \d+/\d+) "
+                     r"tail (?:none|(?P<last>-?\d+) (?P<held>\d+) (?P<num>\d+)/(?P<den>\d+) (?P<leap>\w+)) "
+                     r"findings (?P<findings>\d+)")
+COUNTS = re.compile(r"records (\d+) bytes (\d+)")
+FOUND = re.compile(r"(\d+) (\S+) record (\d+) start (fault \w+|\S+) (.+)")
+SHOWN = re.compile(r"(\d+) (\S+) . length (\d+) samples (\d+) start (fault \w+|\S+) rate (none|(\d+)/(\d+)) "
+                   r"encoding (\d+) ")
+
+
+class Kept(NamedTuple):
+    """What a part keeps of a channel: counts, where it begins and ends in microseconds, and its line."""
+
+    key: str
+    records: int
+    samples: int
+    start: Optional[int]
+    end: Optional[int]
+    findings: int
+    line: str
+
+
+class Part(NamedTuple):
+    """What the program keeps of an archive."""
+
+    channels: list[Kept]
+    records: int
+    bytes: int
+    fault: Optional[str]
+
+    def text_of(self, names: Optional[set[str]]) -> str:
+        """The part itself, with the channels of these names alone, or with all."""
+        lines = [kept.line for kept in self.channels if names is None or name_of(kept.key) in names]
+        lines.append(f"records {self.records} bytes {self.bytes}")
+        lines += [f"fault at {self.bytes} {self.fault}"] if self.fault else []
+        return BEGIN + "".join(f"{line}\n" for line in lines)
+
+
+class Found(NamedTuple):
+    """A record with a finding, as a line tells it."""
+
+    offset: int
+    name: str
+    number: int
+    start: str
+    why: str
+
+    def micros(self, kind: str) -> Optional[int]:
+        """How long it is, where it is a gap or an overlap, as the kind says."""
+        word, _, number = self.why.partition(" ")
+        return int(number) if word == kind else None
+
+
+class Shown(NamedTuple):
+    """A record, as `show` lists it."""
+
+    offset: int
+    name: str
+    samples: int
+    start: str
+    rate: Optional[Fraction]
+    encoding: int
+
+
+def kept_in(line: str) -> Kept:
+    """What a line of a part says of a channel."""
+    found = CHANNEL.match(line)
+    if found is None:
+        raise ValueError(line)
+    end = None
+    if found["last"]:
+        length = int(found["held"]) * int(found["den"]) * SECOND // int(found["num"])
+        end = int(found["last"]) + length + STEPS[found["leap"]]
+    start = int(found["start"]) if found["start"] else None
+    return Kept(found["key"], int(found["records"]), int(found["samples"]), start, end, int(found["findings"]), line)
+
+
+def part_in(text: str) -> Part:
+    """What a part says. Raises ValueError where it is none."""
+    begin, *lines = text.splitlines()
+    counts = next((place for place, line in enumerate(lines) if COUNTS.fullmatch(line)), None)
+    if begin + "\n" != BEGIN or counts is None:
+        raise ValueError(text[:100])
+    records, size = map(int, COUNTS.fullmatch(lines[counts]).groups())
+    fault = next((line.split(" ", 3)[3] for line in lines[counts + 1 :] if line.startswith("fault at ")), None)
+    return Part([kept_in(line) for line in lines[:counts]], records, size, fault)
+
+
+def parted(text: str) -> tuple[str, str]:
+    """What `audit --part --each` wrote: the lines of findings, and the part."""
+    place = 0 if text.startswith(BEGIN) else text.find("\n" + BEGIN) + 1
+    return text[:place], text[place:]
+
+
+def found_in(text: str) -> Iterator[Found]:
+    """The lines of findings of a text, and of no other lines."""
+    for line in text.splitlines():
+        found = FOUND.fullmatch(line)
+        if found:
+            yield Found(int(found[1]), found[2], int(found[3]), found[4], found[5])
+
+
+def shown_in(text: str) -> Iterator[Shown]:
+    """The records that `show` lists."""
+    for line in text.splitlines():
+        found = SHOWN.match(line)
+        if found:
+            rate = Fraction(int(found[7]), int(found[8])) if found[7] else None
+            yield Shown(int(found[1]), found[2], int(found[4]), found[5], rate, int(found[9]))
+
+
+def name_of(key: str) -> str:
+    """The name by which the program shows a key."""
+    bytes_of = bytes.fromhex(key)
+    codes = [bytes_of[:2], bytes_of[2:7], bytes_of[7:9], bytes_of[9:]]
+    return "_".join("".join(chr(byte) if 33 <= byte <= 126 else "?" for byte in code.rstrip(b" \0"))
+                    for code in codes)
+
+
+def time_of(micros: Optional[int]) -> str:
+    """An instant, as the program writes it."""
+    if micros is None:
+        return "none"
+    seconds, rest = divmod(micros, SECOND)
+    return f"{(EPOCH + datetime.timedelta(seconds=seconds)).isoformat()}.{rest:06}"
+
+
+def micros_of(time: str) -> Optional[int]:
+    """The instant that such a text says; none where it says that there is none."""
+    if time.startswith("fault"):
+        return None
+    seconds, _, rest = time.partition(".")
+    return (datetime.datetime.fromisoformat(seconds) - EPOCH) // datetime.timedelta(seconds=1) * SECOND + int(rest)
+
+
+def seconds_of(micros: int) -> str:
+    """Microseconds, as seconds."""
+    return f"{'-' * (micros < 0)}{abs(micros) // SECOND}.{abs(micros) % SECOND:06}"
