@@ -7,7 +7,7 @@ use Rattle.mseed_join.specs.Joined.{Begins, HasNoEnd, IsBadLine, IsJointOf, lack
 use Rattle.mseed_join.specs.Lines.{Line, IsLine, text_of_line}
 use Rattle.mseed_join.specs.Written.{Spells, Written}
 use Rattle.mseed_join.proofs.Ended.{IsEnded, ended}
-use Rattle.mseed_join.proofs.Listed.{AreAll, all_rows, lines_text, texts_all, texts_are}
+use Rattle.mseed_join.proofs.Machine.{AreAll, all_rows, lines_text, texts_all, texts_are}
 
 -- nothing, or bytes up to an LF
 abbrev IsClosed : List ℕ → Type 0

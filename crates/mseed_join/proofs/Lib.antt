@@ -14,7 +14,6 @@ pub mod Keys
 pub mod LineEnds
 pub mod Lined
 pub mod LinesAhead
-pub mod Listed
 pub mod Longer
 pub mod Machine
 pub mod Merging

@@ -7,8 +7,8 @@ use Rattle.mseed_join.specs.Lines.{Line, header, channel, counts, faults, fault,
 use Rattle.mseed_join.specs.Written.{Spells, Written}
 use Rattle.mseed_join.proofs.Ended.{IsEnded, ended, same_line}
 use Rattle.mseed_join.proofs.OneLine.{line_one}
-use Rattle.mseed_join.proofs.Listed.{AreAll, Entries, all_rows, end_row, faults_row, lines_text, rows, texts_all}
-use Rattle.mseed_join.proofs.Listed.{texts_are}
+use Rattle.mseed_join.proofs.Machine.{AreAll, Entries, all_rows, end_row, faults_row, lines_text, rows, texts_all}
+use Rattle.mseed_join.proofs.Machine.{texts_are}
 
 -- ---- lines one behind another
 nothing_first : (x : Line) (rest : List ℕ) → IsLine x → [] ≡ text_of_line x ++ rest → ⊥
