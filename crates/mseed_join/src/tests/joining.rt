@@ -176,8 +176,9 @@ fn says_that_the_output_failed(rt: HostRuntime) {
 fn writes_nothing_where_memory_is_refused(rt: HostRuntime) -> Result<(), Fail> {
     let mut was_refused = false;
     let mut was_joined = false;
+    // The buffer for lines takes 64 KiB of it.
     for size in 1..=64 {
-        let heap = LocalHeap::new(rt.alloc(), size * 1024)?;
+        let heap = LocalHeap::new(rt.alloc(), size * 2048)?;
         let mut source = Counted::new(OF_FIRST.as_bytes());
         let mut sink = Counted::new(Vec::new(rt.alloc()));
         let mut errors = Counted::new(Vec::new(rt.alloc()));
