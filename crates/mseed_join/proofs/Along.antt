@@ -1,30 +1,28 @@
 -- Parts that are read along lines: what was passed, and what lies ahead.
 use Rattle.std.proofs.Common.{◌≡◌, ◌≢◌, ℕ, ◌+◌, ◌*◌, ◌≤◌, ◌<◌, ◌^◌, List, [], ◌∷◌, ◌++◌, length, take, drop, Bool}
-use Rattle.std.proofs.Common.{true, false, Option, Result, Ok, Err, Some, None, refl, sym, ap, ◌∙◌, subst, arith}
+use Rattle.std.proofs.Common.{true, false, Option, Ok, Err, refl, sym, ap, ◌∙◌, subst, arith}
 use Rattle.std.proofs.Common.{append_assoc, append-nil, length-append}
 use Rattle.std.proofs.Common.{take-append-drop, length-take}
 use Rattle.std.proofs.lemmas.List.{append_cancel_left, append_cancel_right}
 use Rattle.mseed_stream.specs.Device.{BytesRead, BytesWritten}
-use Rattle.mseed_audit.specs.declared.channel.Channel.{Channel}
 use Rattle.mseed_join.specs.declared.joint.Joint.{Joint}
 use Rattle.mseed_join.specs.declared.joint.Place.{Place}
 use Rattle.mseed_join.specs.declared.joint.Place.TheVariants.{Start, Channels, Whole}
 use Rattle.mseed_join.specs.declared.joint.Told.{Told}
 use Rattle.mseed_join.specs.declared.reader.Reader.{Reader}
 use Rattle.mseed_join.specs.Joined.{AreLines, Begins, HasNoEnd, IsBadLine, IsJointOf, IsOfOneLine}
-use Rattle.mseed_join.specs.Lines.{Line, IsLine, counts_line, header_line, text_of_line}
-use Rattle.mseed_join.specs.Reached.{AreLinesRead, Behind, Stage, IsStage, none, begun, whole, begun_part, part_behind}
+use Rattle.mseed_join.specs.Lines.{Line, counts_line, header_line}
+use Rattle.mseed_join.specs.Reached.{AreLinesRead, Behind, Stage, IsStage, none, begun, whole, part_behind}
 use Rattle.mseed_join.specs.Reached.{AreTold, parts_at, passed_lines, start, text_behind}
 use Rattle.mseed_join.specs.ReadParts.{IsReadOutcome, written_of}
 use Rattle.mseed_join.specs.declared.reader.PartsFault.{PartsFault}
 use Rattle.mseed_join.specs.declared.reader.PartsFault.TheVariants.{Line as BadLine, Stream, Memory}
 use Rattle.mseed_join.specs.Written.{Written, Spells, channel_lines, part_text, texts}
 use Rattle.mseed_join.specs.private.Along.{HasEnded, IsAlong, IsBadBehind, IsNextStep, can_end}
-use Rattle.mseed_join.specs.private.LineReading.{GoesOn, Grows, IsLineAhead, IsReadBy, IsWholeLine, LinesRead}
-use Rattle.mseed_join.specs.private.Taking.{IsPlace, IsReadTo, IsTaken, IsToldMore}
+use Rattle.mseed_join.specs.private.LineReading.{GoesOn, Grows, IsLineAhead, IsReadBy, LinesRead}
+use Rattle.mseed_join.specs.private.Taking.{IsPlace, IsReadTo, IsTaken}
 use Rattle.mseed_join.proofs.Ahead.{IsAhead, ahead, too_long}
 use Rattle.mseed_join.proofs.Machine.{AreAll, Runs, lines_text, nothing_first}
-use Rattle.mseed_join.proofs.Running.{HaveTexts}
 
 -- ---- how few lines and parts there are
 pub lines_few : (bytes : List ℕ) (n : ℕ) → AreLines bytes n → n ≤ length bytes

@@ -8,7 +8,6 @@ use Rattle.mseed_stream.specs.Device.{BytesRead, BytesWritten}
 use Rattle.mseed_stream.specs.declared.fault.StreamFault.{StreamFault}
 use Rattle.mseed_audit.specs.declared.archive.Summary.{Summary}
 use Rattle.mseed_audit.specs.declared.channel.Channel.{Channel}
-use Rattle.mseed_audit.specs.declared.each.EachFault.{EachFault}
 use Rattle.mseed_audit.specs.declared.each.EachFault.TheVariants.{Write}
 use Rattle.mseed_audit.specs.Audit.{AreChannels, Held}
 use Rattle.mseed_audit.specs.Channels.{added_from}
@@ -22,7 +21,7 @@ use Rattle.mseed_audit.proofs.Outcomes.{added_length}
 use Rattle.mseed_audit.proofs.OneAudit.{HasOneInput}
 use Rattle.mseed_parts.specs.Parts.{Held as Part, IsPartOf, bytes_in}
 use Rattle.mseed_join.specs.AuditPart.{AuditedPart, IsPartCutOff, IsPartEachOutcome, IsPartWritten, IsToldWritten}
-use Rattle.mseed_join.specs.AuditPart.{ToldPart, told_text}
+use Rattle.mseed_join.specs.AuditPart.{ToldPart}
 use Rattle.mseed_join.specs.Joined.{verdict_at}
 use Rattle.mseed_join.specs.Written.{Written, part_text}
 use Rattle.mseed_join.specs.private.Parted.{IsPushed}

@@ -1,6 +1,5 @@
-use Rattle.std.proofs.Common.{List, ℕ, take}
+use Rattle.std.proofs.Common.{take}
 use Rattle.mseed_stream.specs.Device.{BytesRead, BytesWritten}
-use Rattle.mseed_audit.specs.Told.{Told}
 use Rattle.mseed_audit.proofs.Gathers.{memory_short, takes_on}
 use Rattle.mseed_audit.proofs.Told.{grew}
 use Rattle.mseed_join.proofs.Parting.{told_cut_off, told_written}

@@ -1,5 +1,5 @@
-use Rattle.std.proofs.Common.{arith, ap}
-use Rattle.mseed_join.proofs.Channels.{broken_by, count_more}
+use Rattle.std.proofs.Common.{arith}
+use Rattle.mseed_join.proofs.Channels.{count_more}
 use Rattle.mseed_join.proofs.auditing.count_broken.Goals as goal
 use Rattle.mseed_join.proofs.auditing.count_broken.Goals.{in-Counted, in_default}
 

@@ -2,10 +2,8 @@ use Rattle.std.proofs.Common.{rules, ◌≡◌, ◌∙◌, ℕ, List, [], append
 use Rattle.mseed_stream.specs.Device.{BytesRead, BytesWritten}
 use Rattle.std.proofs.KnownBytes.{Consumes-nil}
 use Rattle.mseed_audit.proofs.Told.{tells_on}
-use Rattle.mseed_join.specs.declared.joint.JointPart.{JointPart}
-use Rattle.mseed_join.specs.declared.joint.Told.{Told}
 use Rattle.mseed_join.specs.declared.reader.PartsFault.{PartsFault}
-use Rattle.mseed_join.specs.Reached.{AreTold, passed_lines, parts_at, start}
+use Rattle.mseed_join.specs.Reached.{AreTold, start}
 use Rattle.mseed_join.specs.ReadParts.{IsReadOutcome}
 use Rattle.mseed_join.proofs.Along.{all_read, failed, told_also, told_none}
 use Rattle.mseed_join.proofs.parts.read_parts.Goals as goal

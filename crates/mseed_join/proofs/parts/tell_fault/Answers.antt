@@ -1,10 +1,9 @@
-use Rattle.std.proofs.Common.{◌≡◌, ◌∙◌, ◌≤◌, ◌++◌, ◌∷◌, [], length, arith, ap, sym, codes, decimal, subst, List, ℕ}
+use Rattle.std.proofs.Common.{◌≡◌, ◌∙◌, ◌≤◌, ◌++◌, [], length, arith, ap, sym, codes, decimal, subst, List, ℕ}
 use Rattle.std.proofs.Common.{append_assoc, append-nil}
 use Rattle.std.proofs.lemmas.Fmt.{length-decimal-le}
 use Rattle.std.proofs.lemmas.List.{length-append}
 use Rattle.mseed_audit.specs.Text.{fault_line}
 use Rattle.mseed_stream.specs.Telling.{Tells}
-use Rattle.mseed_join.specs.Reached.{passed_line}
 use Rattle.mseed_join.proofs.parts.tell_fault.Goals as goal
 
 pub line_of-line-requires : goal.line_of-line-requires

@@ -1,4 +1,4 @@
-use Rattle.std.proofs.Common.{[], ◌∷◌}
+use Rattle.std.proofs.Common.{[]}
 use Rattle.mseed_join.specs.Reached.{AreTold, passed_line}
 use Rattle.mseed_join.proofs.parts.tell_passed.Goals as goal
 

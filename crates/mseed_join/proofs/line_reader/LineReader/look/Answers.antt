@@ -1,11 +1,11 @@
-use Rattle.std.proofs.Common.{◌≡◌, ◌<◌, ℕ, List, Bool, Option, Result, Ok, Err, IfErr, false, refl, sym, ap, subst}
+use Rattle.std.proofs.Common.{◌≡◌, Bool, Result, Ok, Err, IfErr, refl, sym, ap, subst}
 use Rattle.std.proofs.Common.{◌∙◌, arith}
 use Rattle.std.proofs.Common.{rules}
 use Rattle.mseed_stream.specs.Device.{BytesRead}
 use Rattle.mseed_stream.specs.Fault.{IsStreamFault}
 use Rattle.mseed_stream.specs.declared.fault.StreamFault.{StreamFault}
 use Rattle.mseed_join.specs.declared.line_reader.Ahead.{Ahead}
-use Rattle.mseed_join.specs.private.LineReading.{LinesRead, Grows, GoesOn, IsReadBy}
+use Rattle.mseed_join.specs.private.LineReading.{LinesRead, GoesOn, IsReadBy}
 use Rattle.mseed_join.proofs.LinesAhead.{grows_not, grows_on, grows_seen, read_by_more, goes_on_more, not_at_end}
 use Rattle.mseed_join.proofs.LinesAhead.{if_it_does, fault_since}
 use Rattle.mseed_join.proofs.line_reader.LineReader.look.Goals as goal

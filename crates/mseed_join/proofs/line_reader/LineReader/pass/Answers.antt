@@ -1,5 +1,4 @@
-use Rattle.std.proofs.Common.{List, ℕ, ◌≡◌, ◌+◌, ◌++◌, ◌∙◌, refl, sym, ap, subst, take, slice_range}
-use Rattle.mseed_stream.specs.Device.{BytesRead}
+use Rattle.std.proofs.Common.{List, ℕ, ◌≡◌, ◌+◌, ◌++◌, ap, subst, take, slice_range}
 use Rattle.mseed_join.specs.private.LineReading.{LinesRead}
 use Rattle.mseed_join.proofs.LinesAhead.{held_parts, read_by_passed}
 use Rattle.mseed_join.proofs.line_reader.LineReader.pass.Goals as goal
