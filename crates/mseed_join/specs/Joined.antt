@@ -1,18 +1,14 @@
 -- Parts that are joined, and what is written of them.
-use Rattle.std.specs.Prelude.{⊤, ◌≡◌, ◌≢◌, ◌<◌, ◌^◌, ℕ, ◌+◌, ℤ, List, [], ◌∷◌, ◌++◌, length, map, codes, decimal, Bool}
+use Rattle.std.specs.Prelude.{⊤, ◌≡◌, ◌≢◌, ◌<◌, ◌^◌, ℕ, ◌+◌, List, [], ◌∷◌, ◌++◌, length, map, Bool}
 use Rattle.std.specs.Prelude.{true, false, Option, Some, None}
 use Rattle.std.specs.Option.{option_map}
-use Rattle.mseed_time.specs.Text.{time_text}
 use Rattle.mseed_stream.specs.declared.fault.StreamFault.{StreamFault}
 use Rattle.mseed_stream.specs.declared.fault.StreamFault.TheVariants.{Frame, Truncated, Read, Turns, Memory}
 use Rattle.mseed_audit.specs.declared.channel.Channel.{Channel}
-use Rattle.mseed_audit.specs.declared.channel.Head.{Head}
-use Rattle.mseed_audit.specs.declared.finding.Finding.{Finding}
 use Rattle.mseed_audit.specs.declared.verdict.Verdict.{Verdict}
-use Rattle.mseed_audit.specs.Audit.{head_in, verdict_of}
-use Rattle.mseed_audit.specs.Text.{end_line, name_text, total_line, verdict_lines, why_text}
-use Rattle.mseed_parts.specs.Joining.{border_between, moved_channel}
-use Rattle.mseed_parts.specs.Parts.{Held, Fits, IsJoint, kept_of}
+use Rattle.mseed_audit.specs.Audit.{verdict_of}
+use Rattle.mseed_audit.specs.Text.{end_line, total_line, verdict_lines}
+use Rattle.mseed_parts.specs.Parts.{Fits, IsJoint}
 use Rattle.mseed_join.specs.Lines.{faults_line}
 use Rattle.mseed_join.specs.Written.{Written, Spells}
 
@@ -65,25 +61,6 @@ abbrev pub join_text : Written → List ℕ
 join_text w =
     verdict_lines (map verdict_at w.part.channels) ++ total_line w.part.records (length w.part.channels)
     ++ faults_line w.faults ++ end_line w.end
-
--- the line of what is found of a record that begins so
-abbrev pub found_line : List ℕ → ℤ → Finding → List ℕ
-found_line key start f =
-    decimal f.offset ++ codes " " ++ name_text key ++ codes " record " ++ decimal f.number ++ codes " start "
-    ++ time_text start ++ codes " " ++ why_text f.why ++ codes "\n"
-
--- the line of a border with a finding
-abbrev pub border_line : List ℕ → Option Head → Option Finding → List ℕ
-border_line key None found = []
-border_line key (Some h) None = []
-border_line key (Some h) (Some f) = found_line key h.start f
-
--- the lines of the borders between a part and channels of the next
-abbrev pub border_lines : Held → List (List ℕ × Channel) → List ℕ
-border_lines a [] = []
-border_lines a (e ∷ es) =
-    border_line e.0 (head_in e.1.findings)
-    (border_between (kept_of e.0 a.channels) (moved_channel a.records a.bytes e.1)) ++ border_lines a es
 
 -- ---- which bytes begin no text
 -- with something behind them, these bytes are the texts of parts that can be joined

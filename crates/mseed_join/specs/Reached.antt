@@ -8,7 +8,7 @@ use Rattle.mseed_stream.specs.declared.fault.StreamFault.{StreamFault}
 use Rattle.mseed_audit.specs.declared.channel.Channel.{Channel}
 use Rattle.mseed_audit.specs.Text.{fault_line}
 use Rattle.mseed_parts.specs.Parts.{channels_alone}
-use Rattle.mseed_join.specs.Joined.{AreLines, IsNext, border_lines, counted, nothing}
+use Rattle.mseed_join.specs.Joined.{AreLines}
 use Rattle.mseed_join.specs.Lines.{header_line}
 use Rattle.mseed_join.specs.Written.{HasText, Written, channel_lines, part_text, texts}
 
@@ -92,17 +92,6 @@ pub data AreTold : List (List ℕ) → BytesWritten → BytesWritten → Type 0 
   none : (s : BytesWritten) → AreTold [] s s
   one : (line : List ℕ) (lines : List (List ℕ)) (old now new : BytesWritten) → Tells line old now
       → AreTold lines now new → AreTold (line ∷ lines) old new
-
--- ---- borders
--- the lines of the borders of parts that are joined to one, part after part
-pub data AreBorders : Written → List Written → List ℕ → Type 0 where
-  none : (a : Written) → AreBorders a [] []
-  one : (a w b : Written) (ws : List Written) (text : List ℕ) → IsNext a w b → AreBorders b ws text
-      → AreBorders a (w ∷ ws) (border_lines a.part w.part.channels ++ text)
-
--- of all parts that count
-abbrev pub IsBordersText : Bool → List Written → List ℕ → Type 0
-IsBordersText past ws text = AreBorders nothing (counted past ws) text
 
 -- ---- what was read
 -- so many whole lines of parts, of these bytes that were read, up to this stage

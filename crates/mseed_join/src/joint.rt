@@ -32,7 +32,7 @@ pub struct JointPart<A: Allocator = Global> {
 
 /// What a line of a part tells a listener.
 #[derive(Clone, Copy, Debug, PartialEq, Eq)]
-pub enum Told {
+pub(crate) enum Told {
     /// Nothing.
     Nothing,
     /// What is found between a channel and its further records: they begin so, and the finding's number and offset are

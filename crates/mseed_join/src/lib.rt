@@ -26,7 +26,7 @@ pub use composed::{
     parts_can_be_joined,
 };
 pub use joining::{Form, Joined, JoinsFault, join};
-pub use joint::{JointPart, Told};
+pub use joint::JointPart;
 pub use law::{lines_are_short, one_channel, one_line, one_part_of_input};
 pub use lines::{read_channel_line, read_counts_line, read_fault_line, read_faults_line};
 pub use parts::read_parts;

@@ -3,10 +3,8 @@ ghost use Rattle.std.specs.Prelude.{◌≡◌, ◌≤◌, ◌+◌, ◌^◌, Bool
 ghost use Rattle.std.specs.Io.KnownBytes.{IsAtEnd};
 ghost use Rattle.mseed_stream.specs.Cutting.{TellsMore};
 ghost use Rattle.mseed_stream.specs.Device.{BytesRead};
-ghost use Rattle.mseed_join.specs.Joined.{IsJointOf};
 ghost use Rattle.mseed_join.specs.Reached.{Stage, start};
 ghost use Rattle.mseed_join.specs.private.Along.{IsAlong, IsNextStep};
-ghost use Rattle.mseed_join.specs.private.LineReading.{IsLineAhead};
 
 use crate::joint::{Joint, JointPart, LineFault, Told};
 use crate::law::lines_are_short;
