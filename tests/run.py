@@ -8,7 +8,7 @@ Runs the row files in tests/rows, N side by side (as many as there are cores, wh
 are named. The program is that of the build, or the one that $MSEED names; where there is none, it is built first. With
 --gate the toolchain's own gate (`rt ci`) runs before, from nothing, and its count is added. A row that fails is printed
 with what was expected and what came, with -v also each one that passes. What isn't installed is counted as skipped and
-named. The last line is `N passed, M failed`.
+named. With --gate what it all took stands before the last line, which is `N passed, M failed`.
 """
 
 from __future__ import annotations
@@ -16,8 +16,10 @@ from __future__ import annotations
 import argparse
 import os
 import re
+import resource
 import subprocess
 import sys
+import time
 from pathlib import Path
 
 from driver.counting import Count, names
@@ -50,6 +52,13 @@ def is_built() -> bool:
     return subprocess.run(["make", "--silent", "build"], cwd=ROOT, check=False).returncode == 0
 
 
+def taken(began: float) -> str:
+    """What the processes that have ended took, in minutes: by the clock since `began`, and of processors."""
+    used = resource.getrusage(resource.RUSAGE_CHILDREN)
+    minutes = (time.monotonic() - began) / 60
+    return f"took {minutes:.1f} minutes, of processors {used.ru_utime / 60:.1f} user and {used.ru_stime / 60:.1f} sys"
+
+
 def arguments() -> argparse.Namespace:
     """The words of the command line."""
     parser = argparse.ArgumentParser(description="Runs the tests.", epilog="Without names, all row files are run.")
@@ -75,12 +84,15 @@ def main() -> int:
     if given.report:
         run_and_report(given.names[0], given.verbose, given.report)
         return 0
+    began = time.monotonic()
     count = gate() if given.gate else Count()
     if is_built():
         count.add(run_all(given.names or names(), max(1, given.jobs), given.verbose))
     else:
         print(f"FAILED {PROGRAM}: no program")
         count.failed += 1
+    if given.gate:
+        print(taken(began))
     print(count.lines())
     return 1 if count.failed else 0
 
