@@ -77,6 +77,14 @@ pub record IsDateOf (day : ℕ) (d : Date) : Type 0 where
   pub month : d.month ≡ months_over day + 1
   pub day_of_month : d.day ≡ day_of_month day
 
+-- no more of them have begun than there are
+pub begun_most : (start : ℕ → ℕ) (n place : ℕ) → begun start n place ≤ n
+unfolding begun
+begun_most start zero place = omega arith
+begun_most start (suc n) place =
+    let before = begun_most start n place in
+    grind (arith, nat_tests, before)
+
 year_is : (d : Date) (day : ℕ) → day < 146_097 → day_count d.year d.month d.day ≡ day + 4_309_862
     → d.year ≡ pos (year_of day)
 year_is d day high counted =

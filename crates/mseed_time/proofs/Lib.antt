@@ -3,3 +3,4 @@ pub mod Naming
 pub mod Civil
 pub mod Joining
 pub mod Reading
+pub mod Pairs

@@ -1,7 +1,7 @@
 //! Instants as text.
-ghost use Rattle.std.specs.Prelude.{◌≡◌, ◌+◌, ◌/◌, ◌%◌, ◌<◌};
+ghost use Rattle.std.specs.Prelude.{◌≡◌, ◌+◌, ◌<◌};
 ghost use Rattle.mseed_time.specs.Calendar.{year_of, months_over, day_of_month};
-ghost use Rattle.mseed_time.specs.Text.{time_text};
+ghost use Rattle.mseed_time.specs.Text.{padded_decimal, time_text};
 
 use crate::micros::Micros;
 use jiff_core::civil::Date;
@@ -20,35 +20,23 @@ pub fn show_time(instant: Micros) -> [u8; 26]
     let since = instant.since_first();
     let (year, month, day) = civil_date(since / DAY);
     let clock = since % DAY;
-    let (hour, minute) = (clock / 3_600_000_000, clock / 60_000_000 % 60);
-    let (second, micros) = (clock / 1_000_000 % 60, clock % 1_000_000);
+    let (seconds, micros) = (clock / 1_000_000, clock % 1_000_000);
+    let (century, year) = (pair(year / 100), pair(year % 100));
+    let (month, day) = (pair(month), pair(day));
+    let (hour, minute, second) = (
+        pair(seconds / 3600),
+        pair(seconds / 60 % 60),
+        pair(seconds % 60),
+    );
+    let (high, middle, low) = (
+        pair(micros / 10_000),
+        pair(micros / 100 % 100),
+        pair(micros % 100),
+    );
     [
-        digit(year, 1000),
-        digit(year, 100),
-        digit(year, 10),
-        digit(year, 1),
-        b'-',
-        digit(month, 10),
-        digit(month, 1),
-        b'-',
-        digit(day, 10),
-        digit(day, 1),
-        b'T',
-        digit(hour, 10),
-        digit(hour, 1),
-        b':',
-        digit(minute, 10),
-        digit(minute, 1),
-        b':',
-        digit(second, 10),
-        digit(second, 1),
-        b'.',
-        digit(micros, 100_000),
-        digit(micros, 10_000),
-        digit(micros, 1000),
-        digit(micros, 100),
-        digit(micros, 10),
-        digit(micros, 1),
+        century[0], century[1], year[0], year[1], b'-', month[0], month[1], b'-', day[0], day[1],
+        b'T', hour[0], hour[1], b':', minute[0], minute[1], b':', second[0], second[1], b'.',
+        high[0], high[1], middle[0], middle[1], low[0], low[1],
     ]
 }
 
@@ -56,8 +44,10 @@ pub fn show_time(instant: Micros) -> [u8; 26]
 fn civil_date(day: u64) -> (u64, u64, u64)
     requires { day < 146_097 }
     ensures year { result.0 ≡ year_of day }
+    ensures four { result.0 < 10000 }
     ensures month { result.1 ≡ months_over day + 1 }
     ensures day_of_month { result.2 ≡ day_of_month day }
+    ensures two { (result.1 < 100) × (result.2 < 100) }
 {
     let date = Date::from_days_since_min(day as u32 + FIRST_OF_1800);
     (
@@ -67,10 +57,11 @@ fn civil_date(day: u64) -> (u64, u64, u64)
     )
 }
 
-/// The decimal digit of a number that counts this unit.
-fn digit(number: u64, unit: u64) -> u8
-    requires { 0 < unit }
-    ensures { result ≡ 48 + number / unit % 10 }
+/// The two digits of a number.
+fn pair(number: u64) -> [u8; 2]
+    requires { number < 100 }
+    ensures { result ≡ padded_decimal 2 number }
 {
-    b'0' + (number / unit % 10) as u8
+    let number = number as u8;
+    [b'0' + number / 10, b'0' + number % 10]
 }

@@ -1,0 +1,15 @@
+use Rattle.std.proofs.Common.{◌≡◌, sym, subst, ℕ, List, ap, unsigned_abs, codes, ◌++◌, ◌/◌, ◌%◌}
+use Rattle.mseed_time.specs.Text.{since_1800, time_text, date_text, clock_text}
+use Rattle.mseed_time.proofs.Pairs.{pairs_text}
+use Rattle.mseed_time.proofs.show.show_time.Goals as goal
+
+pub returns : goal.returns
+unfolding time_text
+returns c =
+    let since : since_1800 c.args.instant ≡ c.since_first-since.result =
+    ap unsigned_abs c.since_first-since.ensures.value in
+    let date = c.civil_date-year.ensures in
+    rw since (pairs_text _ _ _ (c.since_first-since.result % 86_400_000_000) _ _ _ _ _ _ _ _ _ _
+    (rw date.year at c.pair-century.ensures) (rw date.year at c.pair-year.ensures)
+    (rw date.month at c.pair-month.ensures) (rw date.day_of_month at c.pair-day.ensures) c.pair-hour.ensures
+    c.pair-minute.ensures c.pair-second.ensures c.pair-high.ensures c.pair-middle.ensures c.pair-low.ensures)
