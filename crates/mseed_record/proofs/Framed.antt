@@ -14,6 +14,7 @@ use Rattle.mseed_record.specs.Order.{is_dated, order_of}
 use Rattle.mseed_record.specs.Chain.{type_at, next_at, Passes, IsChain}
 use Rattle.mseed_record.specs.Record.{exponent_at, IsRecordBy, IsRecord}
 use Rattle.mseed_record.specs.Scan.{at_offset, DecidesFrom}
+use Rattle.mseed_record.specs.Framer.{PassesTo}
 use Rattle.mseed_record.proofs.Passing.{none_within}
 
 -- a prefix and its first k bytes spell the same
@@ -72,6 +73,20 @@ found order prefix low o (p ∷ os) k e =
       ),
     )
 
+-- the same, where the steps came to it
+pub found_at : (order : Order) (prefix : List ℕ) (low o : ℕ) (os : List ℕ) (least q k : ℕ)
+    → PassesTo order prefix low o os least q → at_offset order prefix least q ≡ Some (Record k)
+    → (low ≤ o) × Passes order prefix o os q × Stands order prefix q k
+found_at order prefix low o [] least q k h e =
+    let there = record_at order prefix low o k (rw (h.0, h.1) e) in
+    (there.0, h.1, subst (λ (n : ℕ). Stands order prefix n k) h.1 there.1)
+found_at order prefix low o (p ∷ os) least q k h e =
+    let later = found_at order prefix (o + 4) (next_at order prefix o) os least q k h.2 e in (
+      (none_within order prefix low o h.1).0,
+      (h.0, other_at order prefix low o h.1, later.0, later.1),
+      later.2,
+    )
+
 pub passes_above : (order : Order) (b : List ℕ) (o : ℕ) (os : List ℕ) (last : ℕ) → Passes order b o os last → o ≤ last
 passes_above order b o [] last h = omega (arith, h)
 passes_above order b o (q ∷ os) last h =
@@ -119,18 +134,15 @@ octets_prefix b k octets i = ⊎_elim
     rw (get_or-eq_default (take k b) 0 out) (lit< tt))
     (cases_lt i k)
 
--- the first k bytes are a record where the steps answer k
-pub framed : (order : Order) (prefix : List ℕ) (os : List ℕ) (k : ℕ) → ((i : ℕ) → get_or prefix i 0 < 256)
+-- the first k bytes are a record, by what the steps passed and by its first 1000
+record_by : (order : Order) (prefix : List ℕ) (os : List ℕ) (last k : ℕ) → ((i : ℕ) → get_or prefix i 0 < 256)
     → 48 ≤ length prefix → has_fixed_bytes prefix ≡ true → order_of prefix ≡ Some order
-    → DecidesFrom order prefix 48 (blockette_at order prefix) os (Record k)
-    → (k ≤ length prefix) × IsRecord (take k prefix)
-framed order prefix os k octets long fixed dated decided =
-    let it = found order prefix 48 (blockette_at order prefix) os k decided in
-    let last = it.0 in
-    let stands = it.1.2 in
-    let above = passes_above order prefix (blockette_at order prefix) os last it.1.1 in
+    → 48 ≤ blockette_at order prefix → Passes order prefix (blockette_at order prefix) os last
+    → Stands order prefix last k → (k ≤ length prefix) × IsRecordBy order os last (take k prefix)
+record_by order prefix os last k octets long fixed dated low passes stands =
+    let above = passes_above order prefix (blockette_at order prefix) os last passes in
     let inside : last + 8 ≤ k = subst (λ (n : ℕ). last + 8 ≤ n) (sym stands.size) stands.inside in
-    let least : 48 ≤ k = omega (arith, it.1.0) in
+    let least : 48 ≤ k = omega arith in
     let whole : k ≤ length prefix = subst (λ (n : ℕ). n ≤ length prefix) (sym stands.size) stands.whole in
     let exponent : exponent_at (take k prefix) last ≡ exponent_at prefix last =
     get_or-take k prefix (last + 6) 0 (omega arith) in
@@ -139,19 +151,40 @@ framed order prefix os k octets long fixed dated decided =
     let type : type_at order (take k prefix) last ≡ type_at order prefix last =
     number_prefix order prefix last k (omega arith) in
     let chain : IsChain order (take k prefix) os last = record {
-      low = rw begins it.1.0;
+      low = rw begins low;
       others = subst (λ (n : ℕ). Passes order (take k prefix) n os last) (sym begins)
-          (passes_prefix order prefix k (blockette_at order prefix) os last inside it.1.1);
+          (passes_prefix order prefix k (blockette_at order prefix) os last inside passes);
       found = type ∙ stands.type;
-    } in
-    let facts : IsRecordBy order os last (take k prefix) = record {
-      octets = octets_prefix prefix k octets;
-      fixed = fixed_prefix prefix k least ∙ fixed;
-      order_is = order_prefix prefix k least ∙ dated;
-      chain = chain;
-      exponent_low = rw exponent stands.exponent_low;
-      exponent_high = rw exponent stands.exponent_high;
-      inside = rw exponent stands.inside;
-      size = length-take-le k prefix whole ∙ stands.size ∙ ap (λ (n : ℕ). 2 ^ n) (sym exponent);
-    } in
-    (whole, (order, (os, (last, facts))))
+    } in (
+      whole,
+      record {
+        octets = octets_prefix prefix k octets;
+        fixed = fixed_prefix prefix k least ∙ fixed;
+        order_is = order_prefix prefix k least ∙ dated;
+        chain = chain;
+        exponent_low = rw exponent stands.exponent_low;
+        exponent_high = rw exponent stands.exponent_high;
+        inside = rw exponent stands.inside;
+        size = length-take-le k prefix whole ∙ stands.size ∙ ap (λ (n : ℕ). 2 ^ n) (sym exponent);
+      },
+    )
+
+-- the first k bytes are a record where the steps answer k
+pub framed : (order : Order) (prefix : List ℕ) (os : List ℕ) (k : ℕ) → ((i : ℕ) → get_or prefix i 0 < 256)
+    → 48 ≤ length prefix → has_fixed_bytes prefix ≡ true → order_of prefix ≡ Some order
+    → DecidesFrom order prefix 48 (blockette_at order prefix) os (Record k)
+    → (k ≤ length prefix) × IsRecord (take k prefix)
+framed order prefix os k octets long fixed dated decided =
+    let it = found order prefix 48 (blockette_at order prefix) os k decided in
+    let whole = record_by order prefix os it.0 k octets long fixed dated it.1.0 it.1.1 it.1.2 in
+    (whole.0, (order, (os, (it.0, whole.1))))
+
+-- the same where the steps came to its first 1000
+pub framed_at : (order : Order) (prefix : List ℕ) (os : List ℕ) (least last k : ℕ)
+    → ((i : ℕ) → get_or prefix i 0 < 256) → 48 ≤ length prefix → has_fixed_bytes prefix ≡ true
+    → order_of prefix ≡ Some order → PassesTo order prefix 48 (blockette_at order prefix) os least last
+    → at_offset order prefix least last ≡ Some (Record k)
+    → (k ≤ length prefix) × IsRecordBy order os last (take k prefix)
+framed_at order prefix os least last k octets long fixed dated passed e =
+    let it = found_at order prefix 48 (blockette_at order prefix) os least last k passed e in
+    record_by order prefix os last k octets long fixed dated it.0 it.1 it.2

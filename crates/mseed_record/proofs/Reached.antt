@@ -1,18 +1,20 @@
 -- Framing goes on along a chain, and where it ended stays where more bytes come.
 use Rattle.std.proofs.Common.{◌≡◌, ℕ, ◌+◌, ◌^◌, ◌<◌, ◌≤◌, ◌++◌, List, [], ◌∷◌, length, take, Some, None, Option, IfSome}
-use Rattle.std.proofs.Common.{refl, sym, ap, subst, ◌∙◌, arith, length-append}
+use Rattle.std.proofs.Common.{get_or, refl, sym, ap, subst, ◌∙◌, arith, length-append}
 use Rattle.std.proofs.Math.Seq.{take-append_seam}
 use Rattle.mseed_time.specs.declared.order.Order.{Order}
 use Rattle.mseed_record.specs.declared.frame.Scan.{Scan}
+use Rattle.mseed_record.specs.declared.frame.Scan.TheVariants.{Record}
 use Rattle.mseed_record.specs.declared.framer.Framer.{Framer}
 use Rattle.mseed_record.specs.declared.framer.Reached.{Reached}
 use Rattle.mseed_record.specs.Header.{has_fixed_bytes, blockette_at}
 use Rattle.mseed_record.specs.Order.{order_of}
 use Rattle.mseed_record.specs.Chain.{type_at, next_at}
+use Rattle.mseed_record.specs.Record.{IsRecordBy}
 use Rattle.mseed_record.specs.Scan.{is_version3, at_offset, Decides, by_chain}
 use Rattle.mseed_record.specs.Framer.{PassesTo, HasReached, IsFramerOf}
 use Rattle.mseed_record.proofs.Passing.{none_within, passes_more, passes_decides}
-use Rattle.mseed_record.proofs.Framed.{fixed_prefix, order_prefix, other_at}
+use Rattle.mseed_record.proofs.Framed.{fixed_prefix, order_prefix, other_at, framed_at}
 use Rattle.mseed_record.proofs.Answered.{none_at}
 use Rattle.mseed_record.proofs.Needed.{number_more}
 
@@ -22,6 +24,14 @@ pub reached_decides : (r : Reached) (prefix : List ℕ) (answer : Scan) → HasR
 reached_decides r prefix answer h e =
     by_chain r.order h.passed.0 answer h.other_version h.header h.fixed h.order_is
     (passes_decides r.order prefix 48 (blockette_at r.order prefix) h.passed.0 r.low r.offset answer h.passed.1 e)
+
+-- the record whose first 1000 is where the look stands
+pub reached_record : (r : Reached) (prefix : List ℕ) (k : ℕ) → ((i : ℕ) → get_or prefix i 0 < 256)
+    → HasReached r prefix → at_offset r.order prefix r.low r.offset ≡ Some (Record k)
+    → (k ≤ length prefix) × ((os : List ℕ) × IsRecordBy r.order os r.offset (take k prefix))
+reached_record r prefix k octets h e =
+    let it = framed_at r.order prefix h.passed.0 r.low r.offset k octets h.header h.fixed h.order_is h.passed.1 e in
+    (it.0, (h.passed.0, it.1))
 
 -- one blockette further on
 pub reached_next : (r : Reached) (prefix : List ℕ) (next : ℕ) → HasReached r prefix

@@ -32,23 +32,15 @@ rest_once order b o (p ∷ ps) (q ∷ qs) h k =
     let later = rest_once order b p ps qs h.2 (subst (λ (n : ℕ). Rest order b n qs) same k.2) in
     cc (same, later)
 
--- the blockettes of a record, as they were found
-abbrev pub Found : Order → List ℕ → Blockettes → Type 0
-Found order b found = (os : List ℕ)
-    × ((last : ℕ) × ((rest : List ℕ) × (IsRecordBy order os last b × IsWholeChain order b os last rest
-    × AreBlockettes order b (os ++ last ∷ rest) found × (found.first_1000 ≡ Some last))))
-
--- the first 1000 has its eight bytes in the record
-pub found_within : (order : Order) (b : List ℕ) (found : Blockettes) (o : ℕ) → Found order b found
-    → found.first_1000 ≡ Some o → o + 8 ≤ length b
-found_within order b found o (os, (last, (rest, (r, w, f, l)))) e =
-    let same : last ≡ o = cc (l, e) in
-    subst (λ (n : ℕ). n + 8 ≤ length b) same (subst (λ (n : ℕ). last + 8 ≤ n) (sym r.size) r.inside)
+-- the blockettes of a record, as they were found, beside its first 1000
+abbrev pub Found : Order → List ℕ → List ℕ → ℕ → Blockettes → Type 0
+Found order b os last found =
+    (rest : List ℕ) × (IsWholeChain order b os last rest × AreBlockettes order b (os ++ last ∷ rest) found)
 
 -- what is found makes the view
-pub view_by : (order : Order) (b : List ℕ) (found : Blockettes) (o : ℕ) (encoding : ℕ) (payload_order : Order)
-    (microseconds : ℤ) → Found order b found → found.first_1000 ≡ Some o
-    → encoding ≡ slice_index b (o + 4) → payload_order ≡ word_order_at b o
+pub view_by : (order : Order) (b : List ℕ) (os : List ℕ) (last : ℕ) (found : Blockettes) (encoding : ℕ)
+    (payload_order : Order) (microseconds : ℤ) → IsRecordBy order os last b → Found order b os last found
+    → encoding ≡ slice_index b (last + 4) → payload_order ≡ word_order_at b last
     → microseconds ≡ microseconds_at b found.first_1001
     → IsView (record {
       bytes = b;
@@ -58,24 +50,23 @@ pub view_by : (order : Order) (b : List ℕ) (found : Blockettes) (o : ℕ) (enc
       microseconds = microseconds;
       has_rate_blockette = found.has_100;
     })
-view_by order b found o encoding payload_order microseconds (os, (last, (rest, (r, w, f, l)))) e coded ordered timed =
-    let same : o ≡ last = cc (l, e) in (
-      os,
-      (
-        last,
-        (
-          rest,
-          record {
-            record_is = r;
-            chain_is = w;
-            encoding_is = coded ∙ ap (λ (n : ℕ). slice_index b (n + 4)) same;
-            payload_order_is = ordered ∙ ap (λ (n : ℕ). word_order_at b n) same;
-            microseconds_is = timed ∙ ap (λ (m : Option ℕ). microseconds_at b m) f.first_1001;
-            rate_blockette_is = f.has_100;
-          },
-        ),
-      ),
-    )
+view_by order b os last found encoding payload_order microseconds r (rest, (w, f)) coded ordered timed = (
+  os,
+  (
+    last,
+    (
+      rest,
+      record {
+        record_is = r;
+        chain_is = w;
+        encoding_is = coded;
+        payload_order_is = ordered;
+        microseconds_is = timed ∙ ap (λ (m : Option ℕ). microseconds_at b m) f.first_1001;
+        rate_blockette_is = f.has_100;
+      },
+    ),
+  ),
+)
 
 abbrev view_of : List ℕ → Order → ℕ → Order → ℤ → Bool → View
 view_of b o e g m r = record {

@@ -11,7 +11,7 @@ use Rattle.mseed_record.specs.declared.chain.Blockettes.{Blockettes}
 use Rattle.mseed_record.specs.Header.{blockette_at}
 use Rattle.mseed_record.specs.Record.{IsRecordBy}
 use Rattle.mseed_record.specs.private.Blockettes.{AreBlockettes}
-use Rattle.mseed_record.proofs.Framed.{passes_above}
+use Rattle.mseed_record.proofs.Framed.{passes_above, record_room}
 
 -- the chain goes on from o through these blockettes to p
 abbrev pub Visits : Order → List ℕ → ℕ → List ℕ → ℕ → Type 0
@@ -63,14 +63,37 @@ visits_whole order b o (q ∷ os) last (r ∷ vs) p f h e =
     let later = visits_whole order b (next_at order b o) os last vs p f.2 h.2 e in
     (later.0, (cc (f.0, h.0, later.1.0), later.1.1))
 
--- the first 1000 is the last of the chain up to it
-pub first_1000 : (order : Order) (b : List ℕ) (o : ℕ) (os : List ℕ) (last : ℕ) (rest : List ℕ)
-    → Passes order b o os last → type_at order b last ≡ 1000 → first_of order 1000 b (os ++ last ∷ rest) ≡ Some last
-first_1000 order b o [] last rest h t = rw t refl
-first_1000 order b o (q ∷ os) last rest h t =
-    let other : type_at order b q ≢ 1000 = subst (λ (n : ℕ). type_at order b n ≢ 1000) (sym h.0) h.1 in
-    let skipped : (type_at order b q == 1000) ≡ false = grind (arith, nat_tests, other) in
-    rw skipped (first_1000 order b (next_at order b o) os last rest h.3 t)
+-- from a blockette that isn't the first 1000 the chain goes on to it
+passes_next : (order : Order) (b : List ℕ) (o : ℕ) (os : List ℕ) (last : ℕ) → Passes order b o os last
+    → type_at order b last ≡ 1000 → type_at order b o ≢ 1000
+    → (ps : List ℕ) × ((o + 4 ≤ next_at order b o) × Passes order b (next_at order b o) ps last)
+passes_next order b o [] last h t n = absurd (n (subst (λ (m : ℕ). type_at order b m ≡ 1000) (sym h) t))
+passes_next order b o (q ∷ os) last h t n = (os, (h.2, h.3))
+
+passes_here : (order : Order) (b : List ℕ) (o : ℕ) (os : List ℕ) (last : ℕ) → Passes order b o os last
+    → type_at order b o ≡ 1000 → o ≡ last
+passes_here order b o [] last h t = h
+passes_here order b o (q ∷ os) last h t = absurd (h.1 t)
+
+-- the chain of a record goes on from o to its first 1000
+abbrev pub IsAhead : Order → List ℕ → ℕ → Type 0
+IsAhead order b o = (os : List ℕ) × ((last : ℕ) × ((rest : List ℕ) × (IsRecordBy order os last b
+    × Passes order b o rest last)))
+
+pub ahead_within : (order : Order) (b : List ℕ) (o : ℕ) → IsAhead order b o → o + 8 ≤ length b
+ahead_within order b o (os, (last, (rest, (r, p)))) =
+    omega (arith, passes_above order b o rest last p, record_room order os last b r)
+
+pub ahead_next : (order : Order) (b : List ℕ) (o : ℕ) → IsAhead order b o → type_at order b o ≢ 1000
+    → (o + 4 ≤ next_at order b o) × IsAhead order b (next_at order b o)
+ahead_next order b o (os, (last, (rest, (r, p)))) n =
+    let it = passes_next order b o rest last p r.chain.found n in
+    (it.1.0, (os, (last, (it.0, (r, it.1.1)))))
+
+pub ahead_here : (order : Order) (b : List ℕ) (o : ℕ) → IsAhead order b o → type_at order b o ≡ 1000
+    → (os : List ℕ) × IsRecordBy order os o b
+ahead_here order b o (os, (last, (rest, (r, p)))) t =
+    (os, subst (λ (n : ℕ). IsRecordBy order os n b) (sym (passes_here order b o rest last p t)) r)
 
 -- one more blockette
 first_of_more : (order : Order) (kind : ℕ) (b : List ℕ) (vs : List ℕ) (o : ℕ)
@@ -91,11 +114,9 @@ has_type_more order kind b vs o =
 -- what counts, with one more blockette
 pub found_more : (order : Order) (b : List ℕ) (vs : List ℕ) (o : ℕ) (kind : ℕ) (found more : Blockettes)
     → AreBlockettes order b vs found → kind ≡ type_at order b o
-    → more.first_1000 ≡ option_or found.first_1000 (if kind == 1000 then Some o else None)
     → more.first_1001 ≡ option_or found.first_1001 (if kind == 1001 then Some o else None)
     → more.has_100 ≡ (found.has_100 || (kind == 100)) → AreBlockettes order b (vs ++ o ∷ []) more
-found_more order b vs o kind found more h k first second third = record {
-  first_1000 = first ∙ cc (h.first_1000, k) ∙ first_of_more order 1000 b vs o;
+found_more order b vs o kind found more h k second third = record {
   first_1001 = second ∙ cc (h.first_1001, k) ∙ first_of_more order 1001 b vs o;
   has_100 = third ∙ cc (h.has_100, k) ∙ has_type_more order 100 b vs o;
 }

@@ -9,24 +9,35 @@ ghost use Rattle.mseed_record.specs.private.Blockettes.{AreBlockettes};
 
 use mseed_time::Order;
 
-/// The blockettes that count, by their offsets.
+/// The blockettes that count besides the first 1000, by their offsets.
 #[derive(Clone, Copy)]
 pub(crate) struct Blockettes {
-    pub first_1000: Option<usize>,
     pub first_1001: Option<usize>,
     pub has_100: bool,
 }
 
+/// The offset of a record's first blockette 1000.
+pub(crate) fn first_1000_of(bytes: &[u8], order: Order) -> usize
+    requires { (os : List ℕ) × ((last : ℕ) × IsRecordBy order os last bytes.now) }
+    ensures { (os : List ℕ) × IsRecordBy order os result bytes.now }
+{
+    let mut offset = usize::from(order.u16_at(bytes, 46));
+    'chain: while order.u16_at(bytes, offset) != 1000 {
+        offset = usize::from(order.u16_at(bytes, offset + 2));
+    }
+    offset
+}
+
 /// Goes along the whole chain of a record, once.
+#[inline(always)]
 pub(crate) fn blockettes_of(bytes: &[u8], order: Order) -> Blockettes
     requires { (os : List ℕ) × ((last : ℕ) × IsRecordBy order os last bytes.now) }
-    ensures found { (os : List ℕ) × ((last : ℕ) × ((rest : List ℕ) × (IsRecordBy order os last bytes.now
-        × IsWholeChain order bytes.now os last rest × AreBlockettes order bytes.now (os ++ last ∷ rest) result
-        × (result.first_1000 ≡ Some last)))) }
+    ensures found { (os : List ℕ) (last : ℕ) → IsRecordBy order os last bytes.now
+        → (rest : List ℕ) × (IsWholeChain order bytes.now os last rest
+        × AreBlockettes order bytes.now (os ++ last ∷ rest) result) }
     ensures within { IfSome result.first_1001 (λ o. o + 8 ≤ length bytes.now) }
 {
     let mut found = Blockettes {
-        first_1000: None,
         first_1001: None,
         has_100: false,
     };
@@ -43,16 +54,13 @@ pub(crate) fn blockettes_of(bytes: &[u8], order: Order) -> Blockettes
 impl Blockettes {
     /// With one more blockette.
     fn and(self, kind: u16, offset: usize) -> Blockettes
-        ensures first_1000 { result.first_1000 ≡ option_or self.first_1000
-            (if kind == 1000 then Some offset else None) }
         ensures first_1001 { result.first_1001 ≡ option_or self.first_1001
             (if kind == 1001 then Some offset else None) }
         ensures has_100 { result.has_100 ≡ (self.has_100 || (kind == 100)) }
     {
-        let here = |wanted| if kind == wanted { Some(offset) } else { None };
+        let here = if kind == 1001 { Some(offset) } else { None };
         Blockettes {
-            first_1000: self.first_1000.or(here(1000)),
-            first_1001: self.first_1001.or(here(1001)),
+            first_1001: self.first_1001.or(here),
             has_100: self.has_100 || kind == 100,
         }
     }

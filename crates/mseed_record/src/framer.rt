@@ -1,7 +1,7 @@
 //! Framing that goes on where it ended, while a record's bytes come.
-ghost use Rattle.std.specs.Prelude.{◌≡◌, ◌≤◌, ◌<◌, ◌+◌, ◌++◌, ◌^◌, ℕ, List, length, take, IfOk, IfErr, OnErr, Some};
+ghost use Rattle.std.specs.Prelude.{◌≡◌, ◌≢◌, ◌≤◌, ◌<◌, ◌+◌, ◌++◌, ◌^◌, ℕ, List, length, take, IfOk, IfErr, OnErr, Some};
 ghost use Rattle.mseed_record.specs.declared.frame.Scan.TheVariants.{Need, Record};
-ghost use Rattle.mseed_record.specs.Record.{IsRecord};
+ghost use Rattle.mseed_record.specs.Record.{IsRecord, IsRecordBy};
 ghost use Rattle.mseed_record.specs.Scan.{Decides, at_offset, at_1000};
 ghost use Rattle.mseed_record.specs.Framer.{IsFramerOf, HasReached, HasNoChain, StandsAt};
 
@@ -63,11 +63,45 @@ impl Framer {
     }
 }
 
+/// A record that begins the bytes: its length, its byte order, and where its first blockette 1000 stands.
+#[derive(Clone, Copy, Debug)]
+pub(crate) struct Framed {
+    pub size: usize,
+    pub order: Order,
+    pub first_1000: usize,
+}
+
+/// The record that begins the bytes, or what [`scan`](crate::scan) answers in its place.
+#[inline(always)]
+pub(crate) fn frame(prefix: &[u8]) -> Result<Framed, Scan>
+    ensures ok { IfOk result (λ f. (f.size ≤ length prefix.now)
+        × ((os : List ℕ) × IsRecordBy f.order os f.first_1000 (take f.size prefix.now))) }
+    ensures decides { IfOk result (λ f. Decides prefix.now (Record f.size)) }
+    ensures err { IfErr result (λ answer. Decides prefix.now answer) }
+    ensures none { IfErr result (λ answer. (k : ℕ) → answer ≢ Record k) }
+{
+    let begin = match chain_of(prefix) {
+        Ok(begin) => begin,
+        Err(answer) => return Err(answer),
+    };
+    let (reached, answer) = go_along(prefix, begin);
+    match answer {
+        Scan::Record(size) => Ok(Framed {
+            size,
+            order: reached.order,
+            first_1000: reached.offset,
+        }),
+        _ => Err(answer),
+    }
+}
+
 /// Where the chain begins, or what is decided before it.
+#[inline(always)]
 fn chain_of(prefix: &[u8]) -> Result<Reached, Scan>
     ensures ok { IfOk result (λ begin. HasReached begin prefix.now) }
     ensures err { IfErr result (λ answer. Decides prefix.now answer) }
     ensures none { OnErr result (HasNoChain prefix.now) }
+    ensures early { IfErr result (λ answer. (k : ℕ) → answer ≢ Record k) }
 {
     if prefix.starts_with(b"MS\x03") {
         return Err(Scan::Not(FrameFault::Version3));
@@ -89,6 +123,7 @@ fn chain_of(prefix: &[u8]) -> Result<Reached, Scan>
 }
 
 /// Goes along the chain of blockettes up to the first 1000, or to where bytes are missing.
+#[inline(always)]
 fn go_along(prefix: &[u8], from: Reached) -> (Reached, Scan)
     requires { HasReached from prefix.now }
     ensures reached { HasReached result.0 prefix.now }
@@ -109,6 +144,7 @@ fn go_along(prefix: &[u8], from: Reached) -> (Reached, Scan)
 
 /// What is decided at an offset that a header or a blockette names; `None` where the blockette there is
 /// of another type.
+#[inline(always)]
 fn at_offset(prefix: &[u8], order: Order, low: usize, offset: usize) -> Option<Scan>
     requires { offset < 2 ^ 16 }
     ensures { result ≡ at_offset order prefix.now low offset }
@@ -132,6 +168,7 @@ fn at_offset(prefix: &[u8], order: Order, low: usize, offset: usize) -> Option<S
 }
 
 /// What the first blockette 1000 decides.
+#[inline(always)]
 fn at_1000(prefix: &[u8], offset: usize) -> Scan
     requires within { offset + 8 ≤ length prefix.now }
     ensures { result ≡ at_1000 prefix.now offset }

@@ -6,6 +6,7 @@ ghost use Rattle.mseed_time.specs.Fields.{number_at};
 ghost use Rattle.mseed_time.specs.Btime.{first_fault};
 ghost use Rattle.mseed_time.specs.Parts.{parts_of};
 ghost use Rattle.byteorder.specs.Endian.{twos_complement};
+ghost use Rattle.std.specs.Char.{is_ascii_digit};
 ghost use Rattle.std.specs.List.{list_all};
 ghost use Rattle.std.specs.Result.{result_err};
 
@@ -70,11 +71,18 @@ pub(crate) fn has_fixed_bytes(bytes: &[u8]) -> bool
     is_blank(bytes[7])
 }
 
-/// Whether all bytes may stand in a sequence number.
+/// Whether all bytes may stand in a sequence number. In most headers all are digits.
 fn is_sequence(bytes: &[u8]) -> bool
     ensures { result ≡ list_all is_sequence_byte bytes.now }
 {
-    bytes.iter().all(|byte| is_sequence_byte(*byte))
+    are_digits(bytes) || bytes.iter().all(|byte| is_sequence_byte(*byte))
+}
+
+/// Whether all bytes are digits.
+fn are_digits(bytes: &[u8]) -> bool
+    ensures { result ≡ list_all is_ascii_digit bytes.now }
+{
+    bytes.iter().all(u8::is_ascii_digit)
 }
 
 /// Whether a byte may stand in a sequence number.

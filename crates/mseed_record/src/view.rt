@@ -8,15 +8,15 @@ ghost use Rattle.mseed_time.specs.Rate.{rate_of};
 ghost use Rattle.mseed_record.specs.declared.frame.FrameFault.{FrameFault};
 ghost use Rattle.mseed_record.specs.Header.{key_at, quality_at, time_at, samples_at, factor_at, multiplier_at};
 ghost use Rattle.mseed_record.specs.Header.{activity_at, is_quality};
-ghost use Rattle.mseed_record.specs.Record.{IsRecord};
+ghost use Rattle.mseed_record.specs.Record.{IsRecord, IsRecordBy};
 ghost use Rattle.mseed_record.specs.View.{View, IsView, word_order_at, microseconds_at, start_of, leap_of, HasPayload};
 ghost use Rattle.mseed_record.specs.View.{payload_of};
 ghost use Rattle.mseed_record.specs.Scan.{Decides, HasNoRecord, Needs};
 
-use crate::chain::blockettes_of;
+use crate::chain::{blockettes_of, first_1000_of};
 use crate::codes::{Codes, codes_at};
 use crate::frame::{DataOffset, Leap, Scan, ViewFault};
-use crate::framing::scan;
+use crate::framer::frame;
 use crate::header::{HEADER, i8_at, i16_at, i32_at, order_of, read_time};
 use mseed_time::{Micros, NoRate, Order, Rate, TimeFault};
 
@@ -59,6 +59,7 @@ impl<'a> RecordView<'a> {
     /// # Errors
     ///
     /// `Not` where no bytes that may come make a record of them, `Short` where more are needed.
+    #[inline(always)]
     pub fn of(bytes: &'a [u8]) -> Result<RecordView<'a>, ViewFault>
         ensures ok { IsOk result ↔ ((k : ℕ) × ((k ≤ length bytes.now) × IsRecord (take k bytes.now))) }
         ensures prefix { IfOk result (λ r. (view_of r).bytes ≡ take (length (view_of r).bytes) bytes.now) }
@@ -68,10 +69,15 @@ impl<'a> RecordView<'a> {
         ensures refused { (f : FrameFault) → result ≡ Err (ViewFault.Not f) → HasNoRecord bytes.now }
         ensures needed { (k : ℕ) → result ≡ Err (ViewFault.Short k) → Needs bytes.now k }
     {
-        match scan(bytes) {
-            Scan::Need(k) => Err(ViewFault::Short(k)),
-            Scan::Not(fault) => Err(ViewFault::Not(fault)),
-            Scan::Record(k) => Ok(RecordView::of_record(&bytes[..k])),
+        match frame(bytes) {
+            Ok(framed) => Ok(RecordView::by(
+                &bytes[..framed.size],
+                framed.order,
+                framed.first_1000,
+            )),
+            Err(Scan::Need(k)) => Err(ViewFault::Short(k)),
+            Err(Scan::Not(fault)) => Err(ViewFault::Not(fault)),
+            Err(Scan::Record(_)) => unreachable!(),
         }
     }
 
@@ -86,16 +92,22 @@ impl<'a> RecordView<'a> {
             Some(order) => order,
             None => unreachable!(),
         };
+        RecordView::by(bytes, order, first_1000_of(bytes, order))
+    }
+
+    /// The record that all of the bytes are, by its byte order and its first blockette 1000.
+    #[inline(always)]
+    fn by(bytes: &'a [u8], order: Order, first_1000: usize) -> RecordView<'a>
+        requires { (os : List ℕ) × IsRecordBy order os first_1000 bytes.now }
+        ensures bytes { (view_of result).bytes ≡ bytes.now }
+        ensures view { IsView (view_of result) }
+    {
         let found = blockettes_of(bytes, order);
-        let offset = match found.first_1000 {
-            Some(offset) => offset,
-            None => unreachable!(),
-        };
         RecordView {
             bytes,
             order,
-            encoding: bytes[offset + 4],
-            payload_order: word_order_at(bytes, offset),
+            encoding: bytes[first_1000 + 4],
+            payload_order: word_order_at(bytes, first_1000),
             microseconds: microseconds_at(bytes, found.first_1001),
             has_rate_blockette: found.has_100,
         }

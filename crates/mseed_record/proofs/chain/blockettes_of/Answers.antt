@@ -2,7 +2,7 @@ use Rattle.std.proofs.Common.{◌≤◌, ◌+◌, ◌++◌, ℕ, List, [], ◌�
 use Rattle.mseed_record.specs.Header.{blockette_at}
 use Rattle.mseed_record.specs.Chain.{type_at, next_at, head_of, goes_on}
 use Rattle.mseed_record.specs.private.Blockettes.{AreBlockettes}
-use Rattle.mseed_record.proofs.Whole.{Visits, goes_on_within, visits_more, visits_whole, passes_visits, first_1000}
+use Rattle.mseed_record.proofs.Whole.{Visits, goes_on_within, visits_more, visits_whole, passes_visits}
 use Rattle.mseed_record.proofs.Whole.{found_more, head_small, begins_within, if_some, if_none, within_more}
 use Rattle.mseed_record.proofs.chain.blockettes_of.Goals as goal
 
@@ -15,7 +15,7 @@ chain-init c =
     let first = c.from-offset.ensures ∙ c.u16_at.ensures in
     let small = head_small (type_at c.args.order c.args.bytes.now c.from-offset.result) in (
       omega (arith, within, first, small),
-      ([], (sym first, record { first_1000 = refl; first_1001 = refl; has_100 = refl })),
+      ([], (sym first, record { first_1001 = refl; has_100 = refl })),
       tt,
     )
 
@@ -34,8 +34,7 @@ chain-preserved c =
     subst (λ (n : ℕ). Visits order b (blockette_at order b) (visited.0 ++ o ∷ []) n) (sym goes.1)
     (visits_more order b (blockette_at order b) visited.0 o visited.1.0 goes.0) in
     let found = found_more order b visited.0 o c.u16_at-in-chain.result c.chain.found c.and-found.result visited.1.1
-    c.u16_at-in-chain.ensures c.and-found.ensures.first_1000 c.and-found.ensures.first_1001
-    c.and-found.ensures.has_100 in
+    c.u16_at-in-chain.ensures c.and-found.ensures.first_1001 c.and-found.ensures.has_100 in
     let here : o + head_of c.u16_at-in-chain.result ≤ length b =
     subst (λ (n : ℕ). o + head_of n ≤ length b) (sym c.u16_at-in-chain.ensures) c.chain.invariant.0 in (
       within,
@@ -45,35 +44,17 @@ chain-preserved c =
     )
 
 pub returns-in-None-clause-found : goal.returns-in-None-clause-found
-returns-in-None-clause-found c =
+returns-in-None-clause-found c os last there =
     let order = c.args.order in
     let b : List ℕ = c.args.bytes.now in
     let o : ℕ = c.chain.offset in
-    let os = c.requires.0 in
-    let last = c.requires.1.0 in
-    let there = c.requires.1.1 in
     let ends = if_none (goes_on order b o) (next_at order b o) c.next_of.result c.next_of.ensures c.in-None.is in
     let visited = c.chain.invariant.1 in
     let found = found_more order b visited.0 o c.u16_at-in-chain.result c.chain.found c.and-found.result visited.1.1
-    c.u16_at-in-chain.ensures c.and-found.ensures.first_1000 c.and-found.ensures.first_1001
-    c.and-found.ensures.has_100 in
+    c.u16_at-in-chain.ensures c.and-found.ensures.first_1001 c.and-found.ensures.has_100 in
     let inside : last + 8 ≤ length b = subst (λ (n : ℕ). last + 8 ≤ n) (sym there.size) there.inside in
     let prefix = passes_visits order b (blockette_at order b) os last inside there.chain.others in
     let whole = visits_whole order b (blockette_at order b) os last visited.0 o prefix visited.1.0 ends in
     let counts : AreBlockettes order b (os ++ last ∷ whole.0) c.and-found.result =
-    subst (λ (ps : List ℕ). AreBlockettes order b ps c.and-found.result) whole.1.0 found in (
-      os,
-      (
-        last,
-        (
-          whole.0,
-          (
-            there,
-            record { chain = there.chain; others = whole.1.1 },
-            counts,
-            counts.first_1000
-                ∙ first_1000 order b (blockette_at order b) os last whole.0 there.chain.others there.chain.found,
-          ),
-        ),
-      ),
-    )
+    subst (λ (ps : List ℕ). AreBlockettes order b ps c.and-found.result) whole.1.0 found in
+    (whole.0, (record { chain = there.chain; others = whole.1.1 }, counts))
