@@ -126,10 +126,9 @@ impl Channel {
         ensures bounded { (n : ℕ) → IsBounded n self.old → IsBounded (n + 1) self.new }
         ensures found { (ps : List Placed) → Stands self.old ps → IsFound (last_of None ps) (view_of view.now) result }
     {
-        let judged = judge(self.findings.tail(), view);
         self.records += 1;
         self.samples += u64::from(view.samples());
-        match judged {
+        match judge(self.findings.tail(), view) {
             Judged::Sound(tail) => {
                 self.findings.end_with(tail);
                 None

@@ -29,6 +29,7 @@ impl Tail {
     /// # Errors
     ///
     /// Why they aren't.
+    #[inline(always)]
     pub(crate) fn of(view: &RecordView) -> Result<Tail, Why>
         ensures ok { IfOk result (λ t. IsTail t (view_of view.now)) }
         ensures unknown { IfErr result (λ why. known_rate (view_of view.now) ≡ None) }

@@ -35,6 +35,7 @@ pub(crate) fn constants_of(payload: &[u8]) -> Option<Ends>
 }
 
 /// The ends of so many samples of Steim frames.
+#[inline(never)]
 fn check_frames(payload: &[u8], scheme: Scheme, samples: usize) -> Result<Ends, ReadFault>
     requires { 0 < samples }
     ensures { IsChecked (Frames scheme) Big payload.now samples result }
@@ -58,6 +59,7 @@ fn check_frames(payload: &[u8], scheme: Scheme, samples: usize) -> Result<Ends, 
 }
 
 /// The ends of so many integers.
+#[inline(always)]
 pub(crate) fn check_integers(
     payload: &[u8],
     width: Width,
@@ -91,6 +93,7 @@ fn is_little_steim(form: Form, order: Order) -> bool
 }
 
 /// How a record holds its samples, and the bytes that do.
+#[inline(always)]
 pub(crate) fn payload_of<'a>(view: &RecordView<'a>) -> Result<(Form, &'a [u8]), ReadFault>
     ensures held { IfOk result (λ found. HoldsIn (view_of view.now) found.0 found.1.now) }
     ensures not_held { IfErr result (λ _. (form : Form) → (payload : List ℕ)
@@ -114,6 +117,7 @@ pub(crate) fn payload_of<'a>(view: &RecordView<'a>) -> Result<(Form, &'a [u8]), 
 }
 
 /// The ends of a record's samples: one relation, from which the clauses of [`check_samples`] follow.
+#[inline(always)]
 fn check_record(view: &RecordView<'_>) -> Result<Ends, ReadFault>
     requires { 0 < count_of (view_of view.now) }
     ensures { IsAnswer (view_of view.now) result }
@@ -135,6 +139,7 @@ fn check_record(view: &RecordView<'_>) -> Result<Ends, ReadFault>
 /// # Errors
 ///
 /// The first reason, in the order of [`ReadFault`], why the record has no such reading.
+#[inline(always)]
 pub fn check_samples(view: &RecordView<'_>) -> Result<Ends, ReadFault>
     requires { 0 < count_of (view_of view.now) }
     // What is answered are the ends of a reading.
