@@ -1,6 +1,6 @@
 -- Texts in pieces, and what stands in front of a text.
 use Rattle.std.proofs.Common.{◌≡◌, ℕ, ◌+◌, ◌<◌, ◌++◌, List, [], ◌∷◌, length, take, get_or, sym, ap, ◌∙◌, append_assoc}
-use Rattle.std.proofs.Common.{append-nil}
+use Rattle.std.proofs.Common.{append-nil, Bool, true, false, if◌then◌else◌}
 use Rattle.std.proofs.lemmas.List.{take_more}
 use Rattle.mseed_stream.specs.Device.{IsPrefixOf}
 use Rattle.mseed_audit.specs.declared.pieces.Piece.{Piece}
@@ -36,3 +36,9 @@ pub told_joined : (text offset space name record-word number start-word start ga
     ++ (gap ++ [])) ++ why) ++ (end ++ [])
     ≡ text ++ (offset ++ space ++ name ++ record-word ++ number ++ start-word ++ start ++ gap ++ why ++ end)
 told_joined text offset space name record-word number start-word start gap why end = simp (append_assoc, append-nil)
+
+-- what was there stays in front, whether or not more was added
+pub prefix_where : (added : Bool) (old more new : List ℕ) → new ≡ (if added then old ++ more else old)
+    → IsPrefixOf old new
+prefix_where true old more new e = (more, e)
+prefix_where false old more new e = ([], e ∙ sym (append-nil old))

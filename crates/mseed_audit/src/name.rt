@@ -1,10 +1,9 @@
 //! A channel's name as it is printed.
 ghost use Rattle.std.specs.Prelude.{◌≡◌, ◌++◌, OnOk};
 ghost use Rattle.mseed_stream.specs.Device.{IsPrefixOf};
-ghost use Rattle.mseed_audit.specs.Text.{name_text, code_text, printed, trimmed};
+ghost use Rattle.mseed_audit.specs.Text.{name_text, printed, trimmed};
 
-use crate::pieces::Piece::Words;
-use crate::pieces::push_pieces;
+use crate::line::name_of;
 use mseed_record::{Codes, is_blank};
 use std::alloc::{AllocError, Allocator};
 
@@ -19,24 +18,7 @@ pub fn push_name<A: Allocator>(text: &mut Vec<u8, A>, codes: &Codes) -> Result<(
     ensures ok { OnOk result (text.new.items ≡ text.old.items ++ name_text codes.now) }
     ensures prefix { IsPrefixOf text.old.items text.new.items }
 {
-    push_code(text, codes.network())?;
-    push_pieces(text, &[Words(b"_")])?;
-    push_code(text, codes.station())?;
-    push_pieces(text, &[Words(b"_")])?;
-    push_code(text, codes.location())?;
-    push_pieces(text, &[Words(b"_")])?;
-    push_code(text, codes.channel())
-}
-
-/// Adds a code without its trailing spaces and NULs.
-fn push_code<A: Allocator>(text: &mut Vec<u8, A>, code: &[u8]) -> Result<(), AllocError>
-    ensures ok { OnOk result (text.new.items ≡ text.old.items ++ code_text code.now) }
-    ensures prefix { IsPrefixOf text.old.items text.new.items }
-{
-    for byte in trimmed(code) {
-        text.push(printed(*byte))?;
-    }
-    Ok(())
+    text.extend_from_slice(&name_of(codes))
 }
 
 /// A code without its trailing spaces and NULs.

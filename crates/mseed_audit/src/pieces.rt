@@ -77,25 +77,26 @@ fn push_short<A: Allocator>(text: &mut Vec<u8, A>, count: u64) -> Result<(), All
     ensures unchanged { OnErr result (text.new.items ≡ text.old.items) }
     ensures prefix { IsPrefixOf text.old.items text.new.items }
 {
-    let ones = digit(count % 10);
+    let (high, low) = ((count / 100) as u8, (count % 100) as u8);
+    let ones = digit(low % 10);
     if count < 10 {
         return text.extend_from_slice(&[ones]);
     }
-    let tens = digit(count / 10 % 10);
+    let tens = digit(low / 10);
     if count < 100 {
         return text.extend_from_slice(&[tens, ones]);
     }
-    let hundreds = digit(count / 100 % 10);
+    let hundreds = digit(high % 10);
     if count < 1000 {
         return text.extend_from_slice(&[hundreds, tens, ones]);
     }
-    text.extend_from_slice(&[digit(count / 1000), hundreds, tens, ones])
+    text.extend_from_slice(&[digit(high / 10), hundreds, tens, ones])
 }
 
 /// A digit as it is written.
-fn digit(number: u64) -> u8
+fn digit(number: u8) -> u8
     requires { number < 10 }
     ensures { result ≡ 48 + number }
 {
-    b'0' + number as u8
+    b'0' + number
 }
