@@ -29,5 +29,17 @@ pairs_text y m d t century year month day hour minute second high middle low e1 
     let third : n / 100 % 100 / 1 % 10 ≡ n / 100 % 10 = omega arith in
     let second_last : n % 100 / 10 % 10 ≡ n / 10 % 10 = omega arith in
     let last : n % 100 / 1 % 10 ≡ n / 1 % 10 = omega arith in
-    rw (e1, e2, e3, e4, e5, e6, e7, e8, e9, e10) (cc (thousands, hundreds, tens, ones, hours, minutes, sixth, fifth,
-    fourth, third, second_last, last))
+    rw (e1, e2, e3, e4, e5, e6, e7, e8, e9, e10) (cc (
+      thousands,
+      hundreds,
+      tens,
+      ones,
+      hours,
+      minutes,
+      sixth,
+      fifth,
+      fourth,
+      third,
+      second_last,
+      last,
+    ))

@@ -55,10 +55,7 @@ impl Rate {
     pub fn ratio(self) -> Ratio
         ensures { result ≡ ratio_of self }
     {
-        match Ratio::new(self.num(), self.den()) {
-            Some(ratio) => ratio,
-            None => unreachable!(),
-        }
+        Ratio::within(self.num(), self.den())
     }
 
     /// How many samples there are in [`Rate::den`] seconds. The two aren't reduced.

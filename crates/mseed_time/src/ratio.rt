@@ -42,6 +42,14 @@ impl Ratio {
         Some(Ratio { num, den })
     }
 
+    /// So many samples in so many seconds, where both are known to be in 1..=2^30.
+    pub(crate) fn within(num: u32, den: u32) -> Ratio
+        requires { IsRatio (record { num = num; den = den }) }
+        ensures { result ≡ record { num = num; den = den } }
+    {
+        Ratio { num, den }
+    }
+
     /// How many samples there are in [`Ratio::den`] seconds.
     pub fn num(self) -> u32
         ensures value { result ≡ self.num }
