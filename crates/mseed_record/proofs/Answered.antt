@@ -1,6 +1,6 @@
 -- Where a record is there, the framing steps answer it.
 use Rattle.std.proofs.Common.{◌≡◌, ℕ, ◌+◌, ◌^◌, ◌<◌, ◌≤◌, List, [], ◌∷◌, length, take, Option, Some, None, sym, ap}
-use Rattle.std.proofs.Common.{subst, arith, true, ◌∙◌}
+use Rattle.std.proofs.Common.{subst, arith, Bool, true, false, refl, ◌∙◌}
 use Rattle.std.proofs.lemmas.Bool.{false≢true}
 use Rattle.std.proofs.lemmas.Bool.Decides.{nat_tests}
 use Rattle.std.proofs.lemmas.List.{get_or-take, length-take-le}
@@ -61,6 +61,13 @@ one_from order prefix low o (p ∷ os) (q ∷ ps) a c d e =
 other_version : (b : List ℕ) → has_fixed_bytes b ≡ true → is_version3 b ≡ true → ⊥
 other_version [] h v = false≢true v
 other_version (x ∷ xs) h v = grind (arith, nat_tests, h, v)
+
+false_where : (x : Bool) → (x ≡ true → ⊥) → x ≡ false
+false_where true n = absurd (n refl)
+false_where false n = refl
+
+pub no_version3 : (b : List ℕ) → has_fixed_bytes b ≡ true → is_version3 b ≡ false
+no_version3 b h = false_where (is_version3 b) (λ v. other_version b h v)
 
 -- what a record that is there says
 record There (order : Order) (prefix : List ℕ) (k : ℕ) (os : List ℕ) (last : ℕ) : Type 0 where

@@ -1,7 +1,9 @@
 //! Framing that goes on where it ended, while a record's bytes come.
 ghost use Rattle.std.specs.Prelude.{◌≡◌, ◌≢◌, ◌≤◌, ◌<◌, ◌+◌, ◌++◌, ◌^◌, ℕ, List, length, take, IfOk, IfErr, OnErr, Some};
+ghost use Rattle.std.specs.Prelude.{false};
 ghost use Rattle.mseed_record.specs.declared.frame.Scan.TheVariants.{Need, Record};
 ghost use Rattle.mseed_record.specs.Record.{IsRecord, IsRecordBy};
+ghost use Rattle.mseed_record.specs.Header.{has_fixed_bytes};
 ghost use Rattle.mseed_record.specs.Scan.{Decides, at_offset, at_1000};
 ghost use Rattle.mseed_record.specs.Framer.{IsFramerOf, HasReached, HasNoChain, StandsAt};
 
@@ -97,20 +99,15 @@ pub(crate) fn frame(prefix: &[u8]) -> Result<Framed, Scan>
 
 /// Where the chain begins, or what is decided before it.
 #[inline(always)]
+#[tactic(auto, using(crate::proofs::Answered::no_version3))]
 fn chain_of(prefix: &[u8]) -> Result<Reached, Scan>
     ensures ok { IfOk result (λ begin. HasReached begin prefix.now) }
     ensures err { IfErr result (λ answer. Decides prefix.now answer) }
     ensures none { OnErr result (HasNoChain prefix.now) }
     ensures early { IfErr result (λ answer. (k : ℕ) → answer ≢ Record k) }
 {
-    if prefix.starts_with(b"MS\x03") {
-        return Err(Scan::Not(FrameFault::Version3));
-    }
-    if prefix.len() < HEADER {
-        return Err(Scan::Need(HEADER));
-    }
-    if !has_fixed_bytes(prefix) {
-        return Err(Scan::Not(FrameFault::NotData));
+    if prefix.len() < HEADER || !has_fixed_bytes(prefix) {
+        return Err(early_of(prefix));
     }
     match order_of(prefix) {
         Some(order) => Ok(Reached {
@@ -119,6 +116,21 @@ fn chain_of(prefix: &[u8]) -> Result<Reached, Scan>
             offset: usize::from(order.u16_at(prefix, 46)),
         }),
         None => Err(Scan::Not(FrameFault::Order)),
+    }
+}
+
+/// What is decided by the bytes before the station.
+fn early_of(prefix: &[u8]) -> Scan
+    requires { 48 ≤ length prefix.now → has_fixed_bytes prefix.now ≡ false }
+    ensures decides { Decides prefix.now result }
+    ensures early { (k : ℕ) → result ≢ Record k }
+{
+    if prefix.starts_with(b"MS\x03") {
+        Scan::Not(FrameFault::Version3)
+    } else if prefix.len() < HEADER {
+        Scan::Need(HEADER)
+    } else {
+        Scan::Not(FrameFault::NotData)
     }
 }
 

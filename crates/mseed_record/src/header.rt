@@ -58,6 +58,7 @@ pub(crate) fn i16_at(bytes: &[u8], offset: usize, order: Order) -> i16
 }
 
 /// Whether the bytes before the station are those of a header.
+#[inline(always)]
 pub(crate) fn has_fixed_bytes(bytes: &[u8]) -> bool
     requires { 8 ≤ length bytes.now }
     ensures { result ≡ has_fixed_bytes bytes.now }

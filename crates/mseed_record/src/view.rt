@@ -149,6 +149,7 @@ impl<'a> RecordView<'a> {
     /// # Errors
     ///
     /// The first field of the BTIME that is out of its range.
+    #[inline(always)]
     pub fn start(&self) -> Result<Micros, TimeFault>
         ensures value { IfOk result (λ t. t ≡ start_of (view_of self.now)) }
         ensures fault { result_err result ≡ first_fault (time_at (view_of self.now).order (view_of self.now).bytes) }

@@ -1,5 +1,5 @@
-use Rattle.std.proofs.Common.{◌≡◌, ◌≢◌, ◌+◌, ◌≤◌, ℕ, List, length, subst, sym, ◌∙◌, arith, rules}
-use Rattle.mseed_record.specs.Chain.{type_at, next_at}
+use Rattle.std.proofs.Common.{◌≡◌, ◌≢◌, ℕ, List, subst, sym, ◌∙◌, arith, rules}
+use Rattle.mseed_record.specs.Chain.{type_at}
 use Rattle.mseed_record.proofs.Whole.{IsAhead, begins_within, ahead_within, ahead_next, ahead_here}
 use Rattle.mseed_record.proofs.chain.first_1000_of.Goals as goal
 
