@@ -1,5 +1,5 @@
 //! What is kept of each channel while records come.
-ghost use Rattle.std.specs.Prelude.{◌≡◌, ◌↔◌, ◌⊎◌, ◌+◌, ◌^◌, List, ℕ, [], ◌∷◌, ◌++◌, OnOk, OnErr, IfOk, IsOk, IsSome};
+ghost use Rattle.std.specs.Prelude.{◌≡◌, ◌↔◌, ◌⊎◌, ◌+◌, ◌<◌, ◌^◌, List, ℕ, [], ◌∷◌, ◌++◌, OnOk, OnErr, IfOk, IsOk, IsSome};
 ghost use Rattle.std.specs.Prelude.{IsTrue, Option, Some, None};
 ghost use Rattle.mseed_record.specs.Header.{key_at};
 ghost use Rattle.mseed_record.specs.Viewing.{view_of};
@@ -10,8 +10,10 @@ ghost use Rattle.std.specs.Ordering.{nat_cmp};
 ghost use Rattle.std.specs.Cmp.Lexicographic.{slice_cmp};
 ghost use Rattle.std.specs.List.Sorted.{IsStrictlySortedBy};
 ghost use Rattle.mseed_audit.specs.Channels.{Placed, same_key, with_record};
-ghost use Rattle.mseed_audit.specs.Audit.{StandsAt, verdict_of};
-ghost use Rattle.mseed_audit.specs.private.Kept.{AreBounded, place_of};
+ghost use Rattle.mseed_audit.specs.Audit.{Stands, StandsAt, verdict_of};
+ghost use Rattle.mseed_audit.specs.Judging.{IsFound};
+ghost use Rattle.mseed_audit.specs.declared.channel.Channel.{Channel};
+ghost use Rattle.mseed_audit.specs.private.Kept.{AreBounded, IsBounded, place_of};
 ghost use Rattle.mseed_audit.specs.Told.{IsFoundOf};
 
 use crate::audits::Memory;
@@ -109,15 +111,33 @@ impl<A: Allocator + Copy> Roster<A> {
         let codes = view.codes();
         match self.find(codes) {
             Some(index) => Ok(self.channels[index].1.add(view, number, offset)),
-            None => {
-                let (channel, why) = Channel::begin(view, number, offset);
-                self.keep(codes, channel)?;
-                Ok(why)
-            }
+            None => Ok(self.begin(codes, view, number, offset)?),
         }
     }
 
+    /// Begins a channel with its first record, and answers what is found of it.
+    #[inline(never)]
+    fn begin(
+        &mut self,
+        codes: Codes,
+        view: &RecordView,
+        number: u64,
+        offset: u64,
+    ) -> Result<Option<Why>, Memory>
+        requires some { 0 < count_of (view_of view.now) }
+        requires new { lookup (same_key codes) self.old ≡ None }
+        ensures begun { IfOk result (λ why. (channel : Channel) × ((self.new ≡ self.old ++ (codes, channel) ∷ [])
+            × Stands channel (record { view = view_of view.now; offset = offset; number = number } ∷ [])
+            × IsBounded 1 channel × IsFound None (view_of view.now) why)) }
+        ensures unchanged { OnErr result (self.new ≡ self.old) }
+    {
+        let (channel, why) = Channel::begin(view, number, offset);
+        self.keep(codes, channel)?;
+        Ok(why)
+    }
+
     /// Where a channel stands, if it is there. It is then the one that came last.
+    #[inline(always)]
     fn find(&mut self, codes: Codes) -> Option<usize>
         ensures place { result ≡ place_of (same_key codes) self.old }
         ensures stays { self.new ≡ self.old }
@@ -127,6 +147,15 @@ impl<A: Allocator + Copy> Roster<A> {
                 return Some(last.index);
             }
         }
+        self.search(codes)
+    }
+
+    /// The same by a search of the map.
+    #[inline(never)]
+    fn search(&mut self, codes: Codes) -> Option<usize>
+        ensures place { result ≡ place_of (same_key codes) self.old }
+        ensures stays { self.new ≡ self.old }
+    {
         match self.places.get(&codes) {
             Some(index) => {
                 let index = *index;

@@ -90,8 +90,8 @@ returns-in-Some-clause-bounded g c = λ n all.
     (set_bounded n es code after within
     (c.add.ensures.bounded n (bounded_at n es code c.index_mut.result.now.1 found within)))
 
-pub keep-requires : goal.keep-requires
-keep-requires g c =
+pub begin-requires-clause-new : goal.begin-requires-clause-new
+begin-requires-clause-new g c =
     let es : List (List ℕ × Channel) = c.args.self.now in
     let code : List ℕ = c.codes-codes.result in
     let none : lookup (same_key code) es ≡ None = none_there (same_key code) es (sym c.in-None.ensures.place) in
@@ -112,8 +112,9 @@ returns-in-Some-clause-found g c = λ ps s.
     found_kept (lookup (same_key (key_at v.bytes)) c.args.self.now) c.index_mut.result.now.1 ps v c.add.result there s
     (search rules) c.add.ensures.found
 
-pub returns-in_ok-keep-in-None-clause-stands : goal.returns-in_ok-keep-in-None-clause-stands
-returns-in_ok-keep-in-None-clause-stands g c = λ key ps s.
+pub returns-in_ok-begin-in-None-clause-stands : goal.returns-in_ok-begin-in-None-clause-stands
+returns-in_ok-begin-in-None-clause-stands g c = λ key ps s.
+    let made = c.in_ok-begin-in-None.ensures.begun in
     let es : List (List ℕ × Channel) = c.find.new.self in
     let code : List ℕ = c.codes-codes.result in
     let p : Placed = record { view = view_of c.args.view.now; offset = c.args.offset; number = c.args.number } in
@@ -122,32 +123,34 @@ returns-in_ok-keep-in-None-clause-stands g c = λ key ps s.
     ∙ none_there (same_key code) c.args.self.now (sym c.in-None.ensures.place) in
     let before : StandsAt (lookup (same_key key) es) ps =
     subst (λ (fs : List (List ℕ × Channel)). StandsAt (lookup (same_key key) fs) ps) (sym c.find.ensures.stays) s in
-    new_stands es c.keep.new.self code p c.begin-channel.result.0 c.codes-codes.ensures (search rules)
-    (kept_where es c.keep.new.self code c.begin-channel.result.0 c.in_ok-keep-in-None.ensures.kept none) none
-    c.begin-channel.ensures.stands key ps before
+    new_stands es c.begin.new.self code p made.0 c.codes-codes.ensures (search rules)
+    (kept_where es c.begin.new.self code made.0 made.1.0 none) none
+    made.1.1 key ps before
 
-pub returns-in_ok-keep-in-None-clause-bounded : goal.returns-in_ok-keep-in-None-clause-bounded
-returns-in_ok-keep-in-None-clause-bounded g c = λ n all.
+pub returns-in_ok-begin-in-None-clause-bounded : goal.returns-in_ok-begin-in-None-clause-bounded
+returns-in_ok-begin-in-None-clause-bounded g c = λ n all.
+    let made = c.in_ok-begin-in-None.ensures.begun in
     let es : List (List ℕ × Channel) = c.find.new.self in
     let within : AreBounded n es =
     subst (λ (fs : List (List ℕ × Channel)). AreBounded n fs) (sym c.find.ensures.stays) all in
-    let one : IsBounded (n + 1) c.begin-channel.result.0 =
-    within_more 1 (n + 1) _ (omega arith) c.begin-channel.ensures.bounded in
-    bounded_where es c.keep.new.self c.codes-codes.result c.begin-channel.result.0 n c.in_ok-keep-in-None.ensures.kept
+    let one : IsBounded (n + 1) made.0 =
+    within_more 1 (n + 1) _ (omega arith) made.1.2 in
+    bounded_where es c.begin.new.self c.codes-codes.result made.0 n made.1.0
     within one
 
-pub returns-in_ok-keep-in-None-clause-found : goal.returns-in_ok-keep-in-None-clause-found
-returns-in_ok-keep-in-None-clause-found g c = λ ps s.
+pub returns-in_ok-begin-in-None-clause-found : goal.returns-in_ok-begin-in-None-clause-found
+returns-in_ok-begin-in-None-clause-found g c = λ ps s.
+    let made = c.in_ok-begin-in-None.ensures.begun in
     let code : List ℕ = c.codes-codes.result in
     let v : View = view_of c.args.view.now in
     let none : lookup (same_key (key_at v.bytes)) c.args.self.now ≡ None =
     ap (λ (key : List ℕ). lookup (same_key key) c.args.self.now) (sym c.codes-codes.ensures)
     ∙ none_there (same_key code) c.args.self.now (sym c.in-None.ensures.place) in
-    found_new (lookup (same_key (key_at v.bytes)) c.args.self.now) ps v c.begin-channel.result.1 none s (search rules)
-    c.begin-channel.ensures.found
+    found_new (lookup (same_key (key_at v.bytes)) c.args.self.now) ps v c.in_ok-begin-in-None.field-0 none s (search rules)
+    made.1.3
 
-pub returns-in_err-keep-in-None-clause-memory : goal.returns-in_err-keep-in-None-clause-memory
-returns-in_err-keep-in-None-clause-memory g c = elim [
+pub returns-in_err-begin-in-None-clause-memory : goal.returns-in_err-begin-in-None-clause-memory
+returns-in_err-begin-in-None-clause-memory g c = elim [
   | inl none ↦ absurd (search rules)
   | inr there ↦
       let es : List (List ℕ × Channel) = c.args.self.now in
