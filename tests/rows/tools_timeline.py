@@ -123,6 +123,17 @@ def many() -> Cases:
         ticks = [float(one.get("x")) for one in picture.iter(f"{SPACE}text") if one.get("class") == "tick"]
         yield holds(f"the words of the axis of {count} channels are apart",
                     len(ticks) >= 3 and all(b - a >= 50 for a, b in zip(ticks, ticks[1:])), ticks)
+        again = [one for one in picture.iter(f"{SPACE}text") if one.get("class") == "tick again"]
+        # Behind each forty rows, and below the last ones.
+        yield Fact(f"the words of the axis of {count} channels come again", len(ticks) * (13 if count == 500 else 0),
+                   len(again))
+    long = ElementTree.fromstring(drawing("an archive " * 20, list(made_up(1))))
+    title, when = (next(one for one in long.iter(f"{SPACE}text") if one.get("class") == kind)
+                   for kind in ("title", "when"))
+    # Letters of the title are 8.5 pixels wide at most, and those beside it 7.3.
+    yield holds("a long title ends before the times", title.text.endswith("\u2026") and float(title.get("x"))
+                + 8.5 * len(title.text) < float(when.get("x")) - 7.3 * len(when.text), title.text)
+    yield Fact("a long title stands in the drawing as a whole", "an archive " * 20, long.find(f"{SPACE}title").text)
 
 
 def of_files() -> Cases:

@@ -12,14 +12,16 @@ from mseed_tools.stretches import Mark, Row
 from mseed_tools.texts import EPOCH, SECOND, time_of
 
 WIDTH, ROW, BAR, HEAD, EDGE = 1120, 18, 10, 74, 18
-# Letters of the names are so wide; marks are at least so wide, so that each is seen.
-LETTER, LEAST = 7.0, 2.0
+# Behind so many rows the words of the axis come again, in a row of their own.
+RUN = 40
+# Letters of the names and of the title are so wide; a gap that is at least so wide is drawn as such.
+LETTER, BOLD, LEAST = 7.0, 8.5, 2.0
 DAY = 86400
 # How far apart ticks may stand, in seconds, and behind these in months.
 STEPS = [1, 2, 5, 10, 30, 60, 120, 300, 600, 1800, 3600, 7200, 10800, 21600, 43200, DAY, 2 * DAY, 5 * DAY, 10 * DAY]
 MONTHS = [1, 3, 6, 12, 24, 60, 120, 240, 600]
 COLOURS = {"continuous": "#2f7d4f", "broken": "#4a78a8", "undecoded": "#9a9a9a", "gap": "#d03a2b",
-           "overlap": "#e39a1e", "finding": "#7a2ea0"}
+           "overlap": "#e39a1e", "finding": "#a0109c"}
 LEGEND = [("continuous", "continuous"), ("broken", "with findings"), ("undecoded", "not decoded"), ("gap", "gap"),
           ("overlap", "overlap"), ("finding", "other finding")]
 STYLE = """\
@@ -111,10 +113,10 @@ def bars_of(row: Row, scale: Scale, top: float) -> Iterator[str]:
 def marks_of(row: Row, scale: Scale, top: float, is_above: bool) -> Iterator[str]:
     """The marks of a row that lie above the bars, or those below: gaps that can be seen as such, since there may be
     records of later stretches in their place. Overlaps stand at the upper edge, other findings at the lower one."""
-    heights = {"gap": (0.0, BAR), "overlap": (-2.0, 4.0), "finding": (BAR - 3.0, 5.0)}
-    for kind, (down, height) in heights.items():
+    heights = {"gap": (0.0, BAR, 2.0), "overlap": (-3.0, 6.0, 2.0), "finding": (BAR - 6.0, 9.0, 3.0)}
+    for kind, (down, height, least) in heights.items():
         marks: list[Mark] = [mark for mark in row.marks if mark.kind == kind and is_above != is_long(mark, scale)]
-        spans = [wide(scale.at(mark.begin), scale.at(mark.end)) for mark in marks]
+        spans = [wide(scale.at(mark.begin), scale.at(mark.end), least) for mark in marks]
         place = 0
         for left, right, count in merged(spans, 0.5 if is_above else 0.0):
             text = f"{row.name} {marks[place].text}" + (f", and {count - 1} more up to here" if count > 1 else "")
@@ -127,9 +129,9 @@ def is_long(mark: Mark, scale: Scale) -> bool:
     return mark.kind == "gap" and scale.at(mark.end) - scale.at(mark.begin) >= LEAST
 
 
-def wide(left: float, right: float) -> tuple[float, float]:
-    """A span that is seen."""
-    more = max(0.0, LEAST - (right - left)) / 2
+def wide(left: float, right: float, least: float) -> tuple[float, float]:
+    """A span that is seen, as it is at least so wide."""
+    more = max(0.0, least - (right - left)) / 2
     return left - more, right + more
 
 
@@ -141,16 +143,24 @@ def legend(left: float, top: float) -> Iterator[str]:
         left += 17 + LETTER * len(words) + 24
 
 
-def axis(scale: Scale, top: float, bottom: float) -> Iterator[str]:
-    """The ticks, with their words above and, where there are many rows, below."""
+def top_of(number: int) -> int:
+    """Where a row begins."""
+    return HEAD + ROW * (number + number // RUN)
+
+
+def axis(scale: Scale, count: int) -> Iterator[str]:
+    """The ticks of so many rows, with their words above each run of rows and, where there are some, below the last."""
+    heads = [top_of(number) for number in range(0, max(count, 1), RUN)]
+    bottom = top_of(count - 1) + ROW if count else HEAD
+    below = [bottom + ROW] if count > RUN else []
     for instant, words in ticks(scale.begin, scale.end, int((scale.right - scale.left) / 90)):
         at = scale.at(instant)
-        yield f'<line class="grid" x1="{at:.2f}" x2="{at:.2f}" y1="{top:.1f}" y2="{bottom:.1f}"/>'
-        # Words at the edges stay within the drawing.
-        place = min(max(at, scale.left + 4 * LETTER), scale.right - 3 * LETTER)
-        yield f'<text class="tick" x="{place:.2f}" y="{top - 5:.1f}" text-anchor="middle">{words}</text>'
-        if bottom - top > 40 * ROW:
-            yield f'<text class="tick below" x="{place:.2f}" y="{bottom + 14:.1f}" text-anchor="middle">{words}</text>'
+        yield f'<line class="grid" x1="{at:.2f}" x2="{at:.2f}" y1="{HEAD}" y2="{bottom}"/>'
+        # Words at the right edge stay within the drawing.
+        place = min(at, WIDTH - 4 - LETTER * len(words) / 2)
+        for number, top in enumerate([*heads, *below]):
+            kind = "tick again" if number else "tick"
+            yield f'<text class="{kind}" x="{place:.2f}" y="{top - 5}" text-anchor="middle">{words}</text>'
 
 
 def scale_of(rows: Sequence[Row], left: float) -> Scale:
@@ -161,24 +171,30 @@ def scale_of(rows: Sequence[Row], left: float) -> Scale:
     return Scale(begin, max(end, begin + SECOND), left, WIDTH - EDGE)
 
 
+def shortened(title: str, room: float) -> str:
+    """A title that is no wider than so many pixels."""
+    most = max(1, int(room / BOLD))
+    return title if len(title) <= most else title[: most - 1] + "\u2026"
+
+
 def drawing(title: str, rows: Sequence[Row]) -> str:
     """The drawing."""
     longest = max([len(row.name) for row in rows], default=0)
     scale = scale_of(rows, EDGE + LETTER * longest + 12)
-    bottom = HEAD + ROW * len(rows)
-    height = bottom + (24 if len(rows) > 40 else 10)
+    height = (top_of(len(rows) - 1) + ROW if rows else HEAD) + (24 if len(rows) > RUN else 10)
     when = f"{time_of(scale.begin)[:19]} to {time_of(scale.end)[:19]} UTC" if rows else "no channel"
+    short = shortened(title, WIDTH - 2 * EDGE - LETTER * len(when) - 24)
     parts = [f'<svg xmlns="http://www.w3.org/2000/svg" width="{WIDTH}" height="{height}" '
-             f'viewBox="0 0 {WIDTH} {height}">', f"<style>\n{STYLE}</style>",
+             f'viewBox="0 0 {WIDTH} {height}">', f"<title>{escape(title)}</title>", f"<style>\n{STYLE}</style>",
              f'<rect width="{WIDTH}" height="{height}" fill="#fff"/>',
-             f'<text class="title" x="{EDGE}" y="22">{escape(title)}</text>',
+             f'<text class="title" x="{EDGE}" y="22">{escape(short)}</text>',
              f'<text class="when" x="{WIDTH - EDGE}" y="22" text-anchor="end">{when}</text>', *legend(EDGE, 44)]
     for number in range(0, len(rows), 2):
-        parts.append(f'<rect class="even" x="{EDGE}" y="{HEAD + ROW * number}" width="{WIDTH - 2 * EDGE}" '
+        parts.append(f'<rect class="even" x="{EDGE}" y="{top_of(number)}" width="{WIDTH - 2 * EDGE}" '
                      f'height="{ROW}"/>')
-    parts += axis(scale, HEAD, bottom)
+    parts += axis(scale, len(rows))
     for number, row in enumerate(rows):
-        top = HEAD + ROW * number
+        top = top_of(number)
         parts.append(f'<g class="channel" data-name="{escape(row.name)}" data-state="{row.state}">')
         parts.append(f'<text class="name" x="{EDGE}" y="{top + 13}">{escape(row.name)}</text>')
         parts += marks_of(row, scale, top + 4, is_above=False)
