@@ -2,8 +2,8 @@
 behind another; over the tree with whatever goes wrong (driver/tools.py), those of a join of all parts; and what a task
 that was killed leaves.
 
-Slurm is a stand-in (sources/local_sbatch.py), and so is Dask (sources/dask), which also runs itself on this machine
-where it is there."""
+Slurm is a stand-in (sources/local_sbatch.py); tools_slurm has a real one. Dask is a stand-in too (sources/dask), and
+runs itself on this machine where it is there."""
 
 from __future__ import annotations
 
@@ -13,7 +13,7 @@ import subprocess
 import sys
 import tempfile
 from pathlib import Path
-from typing import Iterator, Mapping, Optional, Sequence
+from typing import Mapping, Optional, Sequence
 
 from driver.program import LIMIT, PROGRAM, SOURCES
 from driver.rows import Cases, Fact, Result, Skipped, holds
@@ -67,34 +67,34 @@ def both_trees(cluster: Cluster, sound: Path, files: Sequence[Path], damaged: Pa
     name, parts = cluster.name, cluster.folder / f"parts-{cluster.name}"
     wanted = program(["audit"], b"".join(path.read_bytes() for path in files))
     yield Fact(f"{name}: a sound tree", wanted, cluster.run("--parts", str(parts), str(sound)))
-    made = {path: path.stat().st_mtime_ns for path in parts.glob("*.part")}
+    made = made_in(parts)
     yield Fact(f"{name}: parts of a sound tree", len(files), len(made))
     yield Fact(f"{name}: a sound tree again", wanted, cluster.run("--parts", str(parts), str(sound)))
-    yield Fact(f"{name}: parts that are there aren't made again", made,
-               {path: path.stat().st_mtime_ns for path in parts.glob("*.part")})
+    yield Fact(f"{name}: parts that are there aren't made again", made, made_in(parts))
     lacking = sorted(made)[3]
     lacking.unlink()
     listed = cluster.folder / "list"
     listed.write_text("".join(f"{path}\n" for path in files), encoding="utf-8")
     yield Fact(f"{name}: a list, and a part that lacks", wanted,
                cluster.run("--parts", str(parts), "--list", str(listed)))
-    again = {path: path.stat().st_mtime_ns for path in parts.glob("*.part")}
+    again = made_in(parts)
     yield Fact(f"{name}: only that part was made", [lacking], [path for path in sorted(again)
                                                                if again[path] != made[path]])
-    some = [damaged / path for path in sorted(in_tree(damaged), key=lambda path: (
-        path.split("/")[-1].rsplit(".", 3)[0], path))]
-    yield Fact(f"{name}: the damaged tree", program(["join", "--past-faults"], parts_of(some)),
+    yield Fact(f"{name}: the damaged tree", program(["join", "--past-faults"], parts_of(sources_of(damaged))),
                cluster.run("--parts", f"{parts}-damaged", str(damaged)))
     yield Fact(f"{name}: no files", program(["join"], b""), cluster.run("--parts", f"{parts}-none"))
     yield Fact(f"{name}: words that mean nothing", 3, cluster.run("--no-such-word").status)
 
 
-def in_tree(root: Path) -> Iterator[str]:
-    """The files in their places."""
-    for path in root.rglob("XX.*"):
-        name, folders = path.name.split("."), path.relative_to(root).parts
-        if folders[2] == name[1]:
-            yield str(path.relative_to(root))
+def sources_of(root: Path) -> list[Path]:
+    """The files of a tree in their places, in the order of channels and days."""
+    places = [path for path in root.rglob("XX.*") if path.parts[-3] == path.name.split(".")[1]]
+    return sorted(places, key=lambda path: (path.name.rsplit(".", 3)[0], path))
+
+
+def made_in(parts: Path) -> dict[Path, int]:
+    """The parts that are in a folder, and when each was made."""
+    return {path: path.stat().st_mtime_ns for path in parts.glob("*.part")}
 
 
 def killed(cluster: Cluster, sound: Path, files: Sequence[Path], state: Path) -> Cases:
@@ -102,13 +102,12 @@ def killed(cluster: Cluster, sound: Path, files: Sequence[Path], state: Path) ->
     parts = cluster.folder / "parts-killed"
     words = ["--parts", str(parts), "--tasks", "2", "--sbatch=--partition=all", str(sound)]
     came = cluster.run(*words, env={"KILLED": "1"})
-    made = {path: path.stat().st_mtime_ns for path in parts.glob("*.part")}
+    made = made_in(parts)
     yield holds("a task that was killed is told", came.status == 2 and not came.out and b"parts lack" in came.err, came)
     yield holds("some parts were made", 5 < len(made) < len(files), len(made))
     wanted = program(["audit"], b"".join(path.read_bytes() for path in files))
     yield Fact("the run started anew", wanted, cluster.run(*words))
-    yield holds("parts that were made stay", made.items() <= {
-        path: path.stat().st_mtime_ns for path in parts.glob("*.part")}.items())
+    yield holds("parts that were made stay", made.items() <= made_in(parts).items())
     jobs = (state / "jobs").read_text(encoding="utf-8").splitlines()[-2:]
     array = min(2, len(files) - len(made))
     yield Fact("the jobs", [
