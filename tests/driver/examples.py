@@ -9,7 +9,7 @@ import signal
 import subprocess
 import tempfile
 from pathlib import Path
-from typing import Iterator
+from typing import Iterator, Mapping, Optional
 
 from driver.links import free_port
 from driver.program import BUILT, PROGRAM, ROOT
@@ -26,7 +26,7 @@ def examples(text: str) -> Iterator[tuple[str, str]]:
                 yield command, printed
 
 
-def printed_by(command: str, folder: str) -> str:
+def printed_by(command: str, folder: str, env: Optional[Mapping[str, str]] = None) -> str:
     """What a command prints. The program is the one that is tested, by its path or as `mseed`, a port that the command
     names is another one here, that nobody uses, and this folder is /tmp. Whatever was started is over then."""
     command = re.sub(r"--port \d+", f"--port {free_port()}", command).replace("/tmp/", folder + "/")
@@ -35,7 +35,7 @@ def printed_by(command: str, folder: str) -> str:
         os.symlink(PROGRAM, Path(folder) / "mseed")
     run = subprocess.Popen(["bash", "-c", command], cwd=ROOT, stdin=subprocess.DEVNULL, stdout=subprocess.PIPE,
                            stderr=subprocess.STDOUT, text=True, start_new_session=True,
-                           env={**os.environ, "PATH": f"{folder}:{os.environ['PATH']}"})
+                           env={**os.environ, "PATH": f"{folder}:{os.environ['PATH']}", **(env or {})})
     try:
         return run.communicate(timeout=100)[0]
     except subprocess.TimeoutExpired:

@@ -3,19 +3,53 @@ skipped, with those that want what they leave behind; and each tool is named in 
 
 from __future__ import annotations
 
+import contextlib
 import re
 import shutil
 import tempfile
+from pathlib import Path
+from typing import Iterator
 
 from driver.examples import examples, printed_by
-from driver.program import ROOT
+from driver.program import ROOT, SOURCES
 from driver.rows import Cases, Fact, Skipped, holds
+from driver.slurm import PACKAGES, NotUp, is_installed, slurm
 from driver.tools import TOOLS
+from rows.tools_cluster import DASK, with_dask
 
 DOCUMENTS = ["tools/README.md", "docs/cookbook.md"]
-# Programs that not every machine has.
-WANTED = ["parallel"]
 MOST_LINES = 400
+
+
+class Lacks(Exception):
+    """What isn't installed."""
+
+
+@contextlib.contextmanager
+def environment(command: str, folder: Path) -> Iterator[dict[str, str]]:
+    """What a command runs in, if it is one of those that want what not every machine has. Other machines are this one.
+    Raises Lacks where it isn't there."""
+    if "parallel " in command:
+        if shutil.which("parallel") is None:
+            raise Lacks("parallel")
+        yield {"PARALLEL_SSH": str(SOURCES / "local_ssh.sh")}
+    elif "tools/slurm " in command:
+        if not is_installed():
+            raise Lacks(PACKAGES)
+        try:
+            with slurm(folder / "slurm") as run:
+                yield run.env
+        except NotUp as error:
+            raise Lacks(f"a Slurm that comes up here: {error}") from error
+    elif "tools/dask_audit " in command:
+        python = with_dask()
+        if python is None:
+            raise Lacks(DASK)
+        (folder / "python3").write_text(f'#!/bin/sh\nexec {python} "$@"\n', encoding="utf-8")
+        (folder / "python3").chmod(0o755)
+        yield {}
+    else:
+        yield {}
 
 
 def commands(document: str) -> Cases:
@@ -23,11 +57,12 @@ def commands(document: str) -> Cases:
     text = (ROOT / document).read_text(encoding="utf-8")
     with tempfile.TemporaryDirectory() as folder:
         for command, printed in examples(text):
-            lacking = [name for name in WANTED if command.startswith(f"{name} ") and shutil.which(name) is None]
-            if lacking:
-                yield Skipped(f"{document}: {command}", lacking[0])
+            try:
+                with environment(command, Path(folder)) as env:
+                    came = printed_by(command, folder, env)
+            except Lacks as lacking:
+                yield Skipped(f"{document}: {command}", str(lacking))
                 continue
-            came = printed_by(command, folder)
             yield Fact(f"{document}: {command}", printed, came.replace(folder + "/", "/tmp/"))
 
 
@@ -36,6 +71,8 @@ def names() -> Cases:
     text = (TOOLS / "README.md").read_text(encoding="utf-8")
     for path in sorted(path for path in TOOLS.iterdir() if path.is_file() and not path.suffix):
         yield holds(f"tools/README.md: {path.name}", re.search(rf"^## .*\b{path.name}\b", text, re.MULTILINE))
+        words = path.read_text(encoding="utf-8")
+        yield holds(f"{path.name}: an example in its help", f'"""example:\n  {path.name} ' in words)
     for path in sorted([*TOOLS.glob("mseed_tools/*.py"), *(path for path in TOOLS.iterdir() if path.is_file())]):
         lines = path.read_text(encoding="utf-8").splitlines()
         yield holds(f"{path.name} has fewer than {MOST_LINES} lines", len(lines) < MOST_LINES, len(lines))
