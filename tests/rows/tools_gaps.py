@@ -66,6 +66,8 @@ def of_files() -> Cases:
     twice = ["XX_STA__BHZ", "2024-01-01T00:00:01.550000", "2024-01-01T00:00:00.000000", "-1.600000", "-32"]
     yield Fact("a sample twice and another one", (0, [HEADS, twice, gap]),
                (lambda came: (came.status, in_csv(came.out)))(tool("gaps", "--csv", two, two, one)))
+    yield Fact("files before and behind an option", (0, [HEADS, twice, gap]),
+               (lambda came: (came.status, in_csv(came.out)))(tool("gaps", two, two, "--csv", one)))
     yield Fact("a sample without a gap", (0, ["source  last sample  next sample  delta  samples"], ""),
                said(tool("gaps", two)))
     junk = str(SAMPLES / "network_junk.mseed")

@@ -6,17 +6,17 @@ import argparse
 import os
 import signal
 import sys
-from typing import Callable, NoReturn, Optional
+from typing import Any, Callable, NoReturn, Optional, Sequence
 
 from mseed_tools.program import ToolError
 
 FAULT, BAD_WORDS = 2, 3
 
 
-def a_count(word: str) -> int:
-    """How many at once, from 1 to 1,024."""
-    if not word.isascii() or not word.isdigit() or not 1 <= int(word) <= 1024:
-        raise argparse.ArgumentTypeError(f"{word!r} is no number from 1 to 1024")
+def a_count(word: str, most: int = 1024) -> int:
+    """How many at once, or how often: from 1 to so many."""
+    if not word.isascii() or not word.isdigit() or not 1 <= int(word) <= most:
+        raise argparse.ArgumentTypeError(f"{word!r} is no number from 1 to {most}")
     return int(word)
 
 
@@ -26,6 +26,11 @@ class Parser(argparse.ArgumentParser):
     def __init__(self, about: Optional[str], example: str):
         super().__init__(description=about, epilog=example, formatter_class=argparse.RawDescriptionHelpFormatter,
                          allow_abbrev=False)
+
+    def parse_args(self, args: Optional[Sequence[str]] = None,  # type: ignore[override]
+                   namespace: Any = None) -> argparse.Namespace:
+        """The words, in whatever order options and others stand."""
+        return self.parse_intermixed_args(args, namespace)
 
     def error(self, message: str) -> NoReturn:
         """Words that mean nothing."""
