@@ -63,7 +63,7 @@ class Border(NamedTuple):
 
     name: str
     tail: str
-    head: re.Match
+    head: re.Match[str]
     piece: Piece
 
 
@@ -118,13 +118,21 @@ def joint_part(program: Program, parts: str) -> Part:
         raise ToolError(f"{program.path} join: status {done.status}, {done.err[-200:].strip()}") from error
 
 
+def ends_in(line: str) -> re.Match[str]:
+    """How a channel begins and ends, by its line."""
+    found = ENDS.search(line)
+    if found is None:
+        raise ValueError(line)
+    return found
+
+
 def met(pieces: Sequence[Piece]) -> list[Border]:
     """The borders between pieces of which the program keeps both sides, in order."""
     tails: dict[str, Optional[str]] = {}
     borders = []
     for piece in pieces:
         for kept in piece.channels:
-            ends, tail = ENDS.search(kept.line), tails.get(kept.key)
+            ends, tail = ends_in(kept.line), tails.get(kept.key)
             if tail and ends["number"]:
                 borders.append(Border(name_of(kept.key), tail, ends, piece))
             tails[kept.key] = ends["tail"]
@@ -158,7 +166,10 @@ def found_between(program: Program, borders: Sequence[Border]) -> list[FoundAt]:
 def joined(files: Files, is_ours: Callable[[str], bool] = lambda name: True) -> dict[str, Channel]:
     """What stands in the channels, of names that are ours, over all files, by name. What the program keeps of two keys
     that it shows by one name counts together."""
-    texts, pieces, found, whose = [], [], [], {}
+    texts: list[str] = []
+    pieces: list[Piece] = []
+    found: list[FoundAt] = []
+    whose: dict[str, list[int]] = {}
     for number, reading in enumerate(files.readings):
         before = 0
         for piece in reading.pieces:
@@ -173,7 +184,7 @@ def joined(files: Files, is_ours: Callable[[str], bool] = lambda name: True) -> 
             before += piece.part.records
     found += found_between(files.program, met(pieces))
     found.sort(key=lambda at: (at.file, at.found.offset))
-    kept: dict[str, list] = {}
+    kept: dict[str, list[Kept]] = {}
     for channel in joint_part(files.program, "".join(texts)).channels:
         kept.setdefault(name_of(channel.key), []).append(channel)
     by_name: dict[str, list[FoundAt]] = {}
@@ -183,11 +194,12 @@ def joined(files: Files, is_ours: Callable[[str], bool] = lambda name: True) -> 
             for name in sorted(kept, key=lambda name: min(one.key for one in kept[name]))}
 
 
-def channel_of(files: Files, name: str, kept: Sequence, found: list[FoundAt], holding: list[int]) -> Channel:
+def channel_of(files: Files, name: str, kept: Sequence[Kept], found: list[FoundAt], holding: list[int]) -> Channel:
     """What stands in a channel."""
     records, findings = sum(one.records for one in kept), sum(one.findings for one in kept)
-    starts, ends = [one.start for one in kept], [one.end for one in kept]
-    start = files.first_start(name, holding) if None in starts else min(starts)
-    end = files.last_end(name, holding) if None in ends else max(ends)
+    starts = [one.start for one in kept if one.start is not None]
+    ends = [one.end for one in kept if one.end is not None]
+    start = min(starts) if len(starts) == len(kept) else files.first_start(name, holding)
+    end = max(ends) if len(ends) == len(kept) else files.last_end(name, holding)
     return Channel(name, records, sum(one.samples for one in kept), start, end, findings, found, holding,
                    files.is_decoded(name, findings, records, found))

@@ -2,8 +2,10 @@
 
 from __future__ import annotations
 
+import functools
 import itertools
 import json
+import operator
 import os
 from typing import Iterator, NamedTuple, Optional
 
@@ -13,7 +15,7 @@ from mseed_tools.program import Program, find
 from mseed_tools.reading import Reading
 from mseed_tools.running import Bar, in_order
 from mseed_tools.state import State
-from mseed_tools.texts import name_of, seconds_of, time_of
+from mseed_tools.texts import Found, name_of, seconds_of, time_of
 from mseed_tools.tree import DayFile, Tree, days_in_words, missing_between, tree_at
 
 NOTHING = "records 0 samples 0 from none to none gaps 0 0.000000 s overlaps 0 0.000000 s findings 0"
@@ -75,7 +77,7 @@ def reports_of(program: Program, tree: Tree, jobs: int, state: State) -> Iterato
         pairs = list(some)
         files, readings = [file for file, _ in pairs], [reading for _, reading in pairs]
         paths = [os.path.join(tree.root, file.path) for file in files]
-        found = joined(Files(program, paths, readings), lambda other, ours=name: other == ours)
+        found = joined(Files(program, paths, readings), functools.partial(operator.eq, name))
         yield ChannelReport(name, files, readings, found.get(name))
 
 
@@ -126,18 +128,18 @@ def lines_of(report: ChannelReport) -> Iterator[str]:
             yield f"  {word} " + " ".join(str(value) for value in values.values())
 
 
-def each_of(audit: Audit) -> Iterator[tuple[str, str, object]]:
+def each_of(audit: Audit) -> Iterator[tuple[str, Found]]:
     """Each record with a finding, channel after channel: its file, and what is found."""
     for report in audit.reports:
         if report.channel and report.channel.is_decoded:
             for at in report.channel.found:
-                yield report.files[at.file].path, report.name, at.found
+                yield report.files[at.file].path, at.found
 
 
 def print_text(audit: Audit, is_each: bool) -> None:
     """Writes the report."""
     lines = []
-    for path, _, found in each_of(audit) if is_each else ():
+    for path, found in each_of(audit) if is_each else ():
         lines.append(f"{path} {found.offset} {found.name} record {found.number} start {found.start} {found.why}")
     for report in audit.reports:
         lines += lines_of(report)
@@ -170,7 +172,7 @@ def print_json(audit: Audit, is_each: bool) -> None:
     said: dict[str, object] = {"channels": [channel_in_json(report) for report in audit.reports],
                                "misplaced": audit.tree.misplaced, "total": audit.totals()}
     if is_each:
-        said["each"] = [{"file": path, **found._asdict()} for path, _, found in each_of(audit)]
+        said["each"] = [{"file": path, **found._asdict()} for path, found in each_of(audit)]
     write(json.dumps(said, indent=1) + "\n")
 
 

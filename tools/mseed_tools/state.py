@@ -6,7 +6,7 @@ import fcntl
 import json
 import os
 import time
-from typing import IO, Optional
+from typing import IO, Any, Optional
 
 from mseed_tools.program import ToolError
 from mseed_tools.reading import Fault, Reading, Stamp, piece_of
@@ -43,8 +43,8 @@ class State:
         self.folder = folder
         self.head = {"form": FORM, "root": os.path.realpath(root), "program": identity}
         self.name: Optional[str] = None
-        self.entries: dict[str, object] = {}
-        self.held: dict[str, dict[str, object]] = {}
+        self.entries: dict[str, Any] = {}
+        self.held: dict[str, dict[str, Any]] = {}
         self.is_new, self.written = False, time.monotonic()
         self.lock: Optional[IO[bytes]] = None
         if folder is not None:
@@ -61,7 +61,7 @@ class State:
         """Where the text of a channel and year is."""
         return os.path.join(self.folder or "", f"{name}.json")
 
-    def load(self, name: str) -> dict[str, object]:
+    def load(self, name: str) -> dict[str, Any]:
         """What is kept of these files; nothing where the text is another program's or no such text."""
         if self.folder is None:
             return {}

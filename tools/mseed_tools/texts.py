@@ -93,12 +93,12 @@ def kept_in(line: str) -> Kept:
 def part_in(text: str) -> Part:
     """What a part says. Raises ValueError where it is none."""
     begin, *lines = text.splitlines()
-    counts = next((place for place, line in enumerate(lines) if COUNTS.fullmatch(line)), None)
+    counts = next(((place, found) for place, line in enumerate(lines) if (found := COUNTS.fullmatch(line))), None)
     if begin + "\n" != BEGIN or counts is None:
         raise ValueError(text[:100])
-    records, size = map(int, COUNTS.fullmatch(lines[counts]).groups())
-    fault = next((line.split(" ", 3)[3] for line in lines[counts + 1 :] if line.startswith("fault at ")), None)
-    return Part([kept_in(line) for line in lines[:counts]], records, size, fault)
+    end, found = counts
+    fault = next((line.split(" ", 3)[3] for line in lines[end + 1 :] if line.startswith("fault at ")), None)
+    return Part([kept_in(line) for line in lines[:end]], int(found[1]), int(found[2]), fault)
 
 
 def parted(text: str) -> tuple[str, str]:
