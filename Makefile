@@ -12,6 +12,7 @@
 # make interop          what libmseed packs, packed anew and read by libmseed (wants libmseed-dev)
 # make bench            the program side by side with libmseed (wants libmseed-dev and valgrind)
 # make feed-bench       serve and fetch side by side with a pair of C programs
+# make tools-bench      tools/sds over a tree of 1 GB, beside reading its bytes alone
 
 MSEED := crates/mseed/out/mseed
 FILE ?= samples/two_records.mseed
@@ -22,7 +23,7 @@ NAME := mseed-$(VERSION)
 MANUAL := $(DESTDIR)$(PREFIX)/share/man/man1
 
 .PHONY: audit bench build dist drawing feed-bench help install interop packages repack show test \
-    tools-test
+    tools-bench tools-test
 
 audit: build
 	@$(MSEED) audit < "$(FILE)"; echo "status $$?"
@@ -88,3 +89,6 @@ bench: build
 
 feed-bench: build
 	@python3 bench/feed.py $(MSEED) --write
+
+tools-bench: build
+	@python3 bench/tools.py $(MSEED) --write

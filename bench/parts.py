@@ -149,4 +149,5 @@ def main():
         print(line("join, 10,000 channels a part", joined, parts))
 
 
-main()
+if __name__ == "__main__":
+    main()
