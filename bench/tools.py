@@ -1,7 +1,7 @@
 #!/usr/bin/env python3
 """Measures tools/sds over a tree against reading its bytes alone.
 
-    tools.py MSEED [--jobs 1,4] [--megabytes 1000] [--rounds 3] [--write]
+    tools.py MSEED [--jobs 1,4] [--megabytes 1000] [--rounds 5] [--write]
 
 The tree is what data loggers write: twelve channels of 100 Hz in Steim-2, in records of 512 bytes, a file a channel and
 day. It is read by one process and by several: by `cat` alone, by a first run of sds, which keeps what it reads, and by a
@@ -95,7 +95,7 @@ def main():
     words.add_argument("mseed")
     words.add_argument("--jobs", default="1,4")
     words.add_argument("--megabytes", type=int, default=1000)
-    words.add_argument("--rounds", type=int, default=3)
+    words.add_argument("--rounds", type=int, default=5)
     words.add_argument("--write", action="store_true")
     options = words.parse_args()
     env, jobs = {**os.environ, "MSEED": os.path.abspath(options.mseed)}, options.jobs.split(",")
