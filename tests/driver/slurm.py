@@ -21,7 +21,7 @@ PACKAGES = "munge, slurmctld, slurmd, slurm-client"
 DAEMONS = ["munged", "slurmctld", "slurmd"]
 COMMANDS = ["sbatch", "scancel", "sinfo", "squeue"]
 # So long a daemon may take to come up, and to end.
-SECONDS = 30.0
+SECONDS = 60.0
 
 SETTINGS = """\
 ClusterName=tested
@@ -42,6 +42,7 @@ SlurmctldPidFile={folder}/slurmctld.pid
 SlurmdPidFile={folder}/slurmd.pid
 SlurmctldPort={ports[0]}
 SlurmdPort={ports[1]}
+SlurmdParameters=config_overrides
 SchedulerParameters=batch_sched_delay=0,sched_interval=1,sched_min_interval=0
 ReturnToService=2
 JobAcctGatherType=jobacct_gather/none
@@ -109,14 +110,17 @@ class Slurm:
             time.sleep(0.05)
 
     def said(self, *words: str) -> str:
-        """What one of its commands says."""
-        run = subprocess.run(words, env={**os.environ, **self.env}, stdin=subprocess.DEVNULL, stdout=subprocess.PIPE,
-                             stderr=self.log, text=True, timeout=SECONDS, check=False)
-        return run.stdout.strip()
+        """What one of its commands says; nothing where that takes too long."""
+        try:
+            return subprocess.run(words, env={**os.environ, **self.env}, stdin=subprocess.DEVNULL,
+                                  stdout=subprocess.PIPE, stderr=self.log, text=True, timeout=SECONDS,
+                                  check=False).stdout.strip()
+        except subprocess.TimeoutExpired:
+            return ""
 
     def end(self) -> None:
         """Ends what runs, and the daemons, the last first."""
-        with contextlib.suppress(NotUp, OSError, subprocess.SubprocessError):
+        with contextlib.suppress(NotUp, OSError):
             if len(self.daemons) == len(DAEMONS) and self.said("squeue", "--noheader"):
                 self.said("scancel", f"--user={os.getuid()}")
                 self.wait_for(lambda: not self.said("squeue", "--noheader"))
