@@ -12,5 +12,6 @@ pub mod record;
 pub mod repacks;
 pub mod steim;
 pub mod stream;
+pub mod stretches;
 pub mod time;
 pub mod wire;

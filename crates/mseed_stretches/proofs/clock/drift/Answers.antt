@@ -1,0 +1,18 @@
+use Rattle.std.proofs.Common.{arith, w64, FitsSigned, refl}
+use Rattle.std.proofs.lemmas.Int.{ints, to_z-of_z}
+use Rattle.mseed_stretches.proofs.Drifts.{difference}
+use Rattle.mseed_stretches.proofs.clock.drift.Goals as goal
+
+pub returns-clause-value : goal.returns-clause-value
+returns-clause-value c =
+    let fits : FitsSigned w64 c.passed.result = omega (arith, ints) in
+    rw (difference c.scaled.result c.due.result c.scaled.ensures.low c.scaled.ensures.high c.due.ensures.low
+    c.due.ensures.high) (rw (
+      c.scaled.ensures.value,
+      c.due.ensures.value,
+      to_z-of_z w64 c.passed.result fits,
+      c.passed.ensures,
+      to_z-of_z w64 c.args.added c.ranges.added,
+      c.num.ensures.value,
+      c.den.ensures.value,
+    ) refl)

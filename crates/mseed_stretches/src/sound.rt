@@ -1,0 +1,25 @@
+//! Records without a finding of their own.
+ghost use Rattle.std.specs.Prelude.{◌↔◌, ◌<◌, IsTrue};
+ghost use Rattle.mseed_record.specs.Viewing.{view_of};
+ghost use Rattle.mseed_steim.specs.Reading.{count_of};
+ghost use Rattle.mseed_audit.specs.Follows.{IsSound};
+
+use crate::stretch::beginning_of;
+use mseed_record::RecordView;
+use mseed_steim::{check_samples, one_reading};
+
+/// Whether a record with samples has no finding of its own: its time and its rate are known, and it has one reading,
+/// which ends on its constants.
+pub fn is_sound(view: &RecordView) -> bool
+    requires { 0 < count_of (view_of view.now) }
+    ensures { IsTrue result ↔ IsSound (view_of view.now) }
+{
+    one_reading();
+    let Some(_) = beginning_of(view) else {
+        return false;
+    };
+    match check_samples(view) {
+        Ok(_) => true,
+        Err(_) => false,
+    }
+}
