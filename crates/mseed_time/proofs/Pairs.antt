@@ -1,5 +1,5 @@
 -- An instant's text by pairs of digits.
-use Rattle.std.proofs.Common.{◌≡◌, ℕ, ◌/◌, ◌%◌, ◌++◌, ◌∷◌, [], List, get_or, refl, arith}
+use Rattle.std.proofs.Common.{◌≡◌, ℕ, ◌/◌, ◌%◌, ◌++◌, ◌∷◌, [], List, get_or, arith}
 use Rattle.std.specs.Prelude.{codes}
 use Rattle.mseed_time.specs.Text.{padded_decimal, clock_text}
 

@@ -1,5 +1,5 @@
-use Rattle.std.proofs.Common.{◌≡◌, sym, subst, ℕ, List, ap, unsigned_abs, codes, ◌++◌, ◌/◌, ◌%◌}
-use Rattle.mseed_time.specs.Text.{since_1800, time_text, date_text, clock_text}
+use Rattle.std.proofs.Common.{◌≡◌, ap, unsigned_abs, ◌%◌}
+use Rattle.mseed_time.specs.Text.{since_1800, time_text}
 use Rattle.mseed_time.proofs.Pairs.{pairs_text}
 use Rattle.mseed_time.proofs.show.show_time.Goals as goal
 
