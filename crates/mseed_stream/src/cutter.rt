@@ -233,6 +233,7 @@ impl<A: Allocator> Cutter<A> {
     /// It is lent exactly where it begins what the source holds, and the cutter goes on, holds no bytes and has
     /// two reads left. Neither the cutter nor the source moves: [`pass`](Cutter::pass) goes behind the record.
     /// Where this lends nothing, [`next`](Cutter::next) answers what comes.
+    #[inline(always)]
     pub fn peek<'a, R: Source>(&self, source: &'a R) -> Option<RecordView<'a>>
         // A record is lent as its view, and is what the source tells next.
         ensures record { IfSome result (λ r. IsView (view_of r)
