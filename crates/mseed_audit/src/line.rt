@@ -48,6 +48,7 @@ fn put(line: &mut Line, bytes: &[u8])
 }
 
 /// A channel's name, as [`push_name`](crate::push_name) adds it.
+#[inline(always)]
 pub fn name_of(codes: &Codes) -> Line
     ensures text { result.items ≡ name_text codes.now }
     ensures most { length result.items ≤ 15 }

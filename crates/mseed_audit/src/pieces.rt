@@ -66,8 +66,18 @@ pub fn push_count<A: Allocator>(text: &mut Vec<u8, A>, count: u64) -> Result<(),
     if count < 10_000 {
         push_short(text, count)
     } else {
-        text.extend_from_slice(Buffer::new().format(count).as_bytes())
+        push_long(text, count)
     }
+}
+
+/// Adds the digits of a number that may have any number of them.
+#[inline(never)]
+fn push_long<A: Allocator>(text: &mut Vec<u8, A>, count: u64) -> Result<(), AllocError>
+    ensures ok { OnOk result (text.new.items ≡ text.old.items ++ decimal count) }
+    ensures unchanged { OnErr result (text.new.items ≡ text.old.items) }
+    ensures prefix { IsPrefixOf text.old.items text.new.items }
+{
+    text.extend_from_slice(Buffer::new().format(count).as_bytes())
 }
 
 /// Adds the digits of a number that has four of them at most, each length by a write of its own.
@@ -77,12 +87,11 @@ fn push_short<A: Allocator>(text: &mut Vec<u8, A>, count: u64) -> Result<(), All
     ensures unchanged { OnErr result (text.new.items ≡ text.old.items) }
     ensures prefix { IsPrefixOf text.old.items text.new.items }
 {
-    let (high, low) = ((count / 100) as u8, (count % 100) as u8);
-    let ones = digit(low % 10);
     if count < 10 {
-        return text.extend_from_slice(&[ones]);
+        return text.extend_from_slice(&[digit(count as u8)]);
     }
-    let tens = digit(low / 10);
+    let (high, low) = ((count / 100) as u8, (count % 100) as u8);
+    let (tens, ones) = (digit(low / 10), digit(low % 10));
     if count < 100 {
         return text.extend_from_slice(&[tens, ones]);
     }
@@ -90,7 +99,8 @@ fn push_short<A: Allocator>(text: &mut Vec<u8, A>, count: u64) -> Result<(), All
     if count < 1000 {
         return text.extend_from_slice(&[hundreds, tens, ones]);
     }
-    text.extend_from_slice(&[digit(high / 10), hundreds, tens, ones])
+    let thousands = digit(high / 10);
+    text.extend_from_slice(&[thousands, hundreds, tens, ones])
 }
 
 /// A digit as it is written.
