@@ -9,8 +9,8 @@ same_behind : (b s t rest others : List View) → AllGoOn b s → EndsBefore (b 
     → EndsBefore (b ++ t) others → s ++ rest ≡ t ++ others → (s ≡ t) × (rest ≡ others)
 same_behind b [] [] rest others go ends on end e = (refl, e)
 same_behind b [] (y ∷ t) rest others go ends on end e =
-    let stops : EndsBefore b (y ∷ (t ++ others)) =
-    subst (λ (vs : List View). EndsBefore b vs) e (subst (λ (vs : List View). EndsBefore vs rest) (append-nil b) ends) in
+    let done : EndsBefore b rest = subst (λ (vs : List View). EndsBefore vs rest) (append-nil b) ends in
+    let stops : EndsBefore b (y ∷ (t ++ others)) = subst (λ (vs : List View). EndsBefore b vs) e done in
     absurd (stops on.0)
 same_behind b (x ∷ s) [] rest others go ends on end e =
     let stops : EndsBefore b (x ∷ (s ++ rest)) =

@@ -100,7 +100,9 @@ miss_parts : (x : ℤ) (p q num due : ℕ) → x *ℤ pos num ≡ pos (p * num) 
 miss_parts x p q num due e = omega (arith, ints)
 
 cross : (p num den other : ℕ) (k : ℕ) → num * den ≡ k * other → (p * num) * den ≡ (p * k) * other
-cross p num den other k e = let times : p * (num * den) ≡ p * (k * other) = ap (λ (m : ℕ). p * m) e in omega (arith, times)
+cross p num den other k e =
+    let same : p * (num * den) ≡ p * (k * other) = ap (λ (m : ℕ). p * m) e in
+    omega (arith, same)
 
 cross_due : (q num den other k c : ℕ) → num * den ≡ k * other
     → (q * num + c * other * 10 ^ 6) * den ≡ (q * k + c * den * 10 ^ 6) * other

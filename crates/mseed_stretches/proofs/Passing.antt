@@ -76,7 +76,8 @@ pub cut_last : (rs : List RecordView) (n : ℕ) (s : Stretch) → length rs ≤ 
     → IsFirstStretch (map view_of rs) (map view_of (take s.records rs)) (map view_of (drop s.records rs))
 cut_last rs n s le h =
     cut_at rs s n h
-    (subst (λ (qs : List RecordView). EndsBefore (map view_of (take n rs)) (map view_of qs)) (sym (drop_all n rs le)) tt)
+    (subst (λ (qs : List RecordView). EndsBefore (map view_of (take n rs)) (map view_of qs))
+    (sym (drop_all n rs le)) tt)
 
 pub kept_at : (rs : List RecordView) (n : ℕ) (s : Stretch) → IsPassed rs s n
     → IsStretchOf s (map view_of (take s.records rs))

@@ -72,24 +72,26 @@ some_is r s e = cc
 pub next_goes : (s : Stretch) (vs : List View) (v : View) (next : Ratio) (start : ℤ) → s.closed ≡ false
     → known_rate v ≡ Some next → start ≡ start_of v → IsStretchOf s vs → IsNext s next start → GoesOn vs v
 next_goes s [] v next start unclosed known at is h = is
-next_goes s (first ∷ rest) v next start unclosed known at is h = (
-  ratio_of s.rate,
-  (
-    next,
-    record {
-      rate_is = is.rate_is;
-      next_is = known;
-      same = h.same;
-      one_step = λ both. false≢true (sym unclosed ∙ is.closed_is.1 both);
-      on_time =
-          subst (λ (z : ℤ). IsOnTime (start_of first) (samples_of (first ∷ rest)) (ratio_of s.rate)
-          (added_by (first ∷ rest)) z) at
-          (subst (λ (z : ℤ). IsOnTime (start_of first) (samples_of (first ∷ rest)) (ratio_of s.rate) z start) is.added_is
-          (subst (λ (n : ℕ). IsOnTime (start_of first) n (ratio_of s.rate) s.added start) is.samples_is
-          (subst (λ (z : ℤ). IsOnTime z s.samples (ratio_of s.rate) s.added start) is.start_is h.on_time)));
-    },
-  ),
-)
+next_goes s (first ∷ rest) v next start unclosed known at is h =
+    let own : Ratio = ratio_of s.rate in
+    let count : ℕ = samples_of (first ∷ rest) in
+    let added : ℤ = added_by (first ∷ rest) in (
+      own,
+      (
+        next,
+        record {
+          rate_is = is.rate_is;
+          next_is = known;
+          same = h.same;
+          one_step = λ both. false≢true (sym unclosed ∙ is.closed_is.1 both);
+          on_time =
+              subst (λ (z : ℤ). IsOnTime (start_of first) count own added z) at
+              (subst (λ (z : ℤ). IsOnTime (start_of first) count own z start) is.added_is
+              (subst (λ (n : ℕ). IsOnTime (start_of first) n own s.added start) is.samples_is
+              (subst (λ (z : ℤ). IsOnTime z s.samples own s.added start) is.start_is h.on_time)));
+        },
+      ),
+    )
 
 pub goes_next : (s : Stretch) (vs : List View) (v : View) (next : Ratio) (start : ℤ)
     → known_rate v ≡ Some next → start ≡ start_of v → IsStretchOf s vs → GoesOn vs v → IsNext s next start
