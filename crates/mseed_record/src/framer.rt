@@ -1,6 +1,6 @@
 //! Framing that goes on where it ended, while a record's bytes come.
-ghost use Rattle.std.specs.Prelude.{◌≡◌, ◌≢◌, ◌≤◌, ◌<◌, ◌+◌, ◌++◌, ◌^◌, ℕ, List, length, take, IfOk, IfErr, OnErr, Some};
-ghost use Rattle.std.specs.Prelude.{false};
+ghost use Rattle.std.specs.Prelude.{◌≡◌, ◌≢◌, ◌≤◌, ◌<◌, ◌+◌, ◌++◌, ◌^◌, ℕ, List, length, take, false, IfOk, IfErr};
+ghost use Rattle.std.specs.Prelude.{OnErr, Some};
 ghost use Rattle.mseed_record.specs.declared.frame.Scan.TheVariants.{Need, Record};
 ghost use Rattle.mseed_record.specs.Record.{IsRecord, IsRecordBy};
 ghost use Rattle.mseed_record.specs.Header.{has_fixed_bytes};

@@ -73,7 +73,6 @@ pub(crate) fn has_fixed_bytes(bytes: &[u8]) -> bool
 }
 
 /// Whether all bytes may stand in a sequence number. In most headers all are digits.
-#[inline(always)]
 fn is_sequence(bytes: &[u8]) -> bool
     ensures { result ≡ list_all is_sequence_byte bytes.now }
 {
@@ -81,7 +80,6 @@ fn is_sequence(bytes: &[u8]) -> bool
 }
 
 /// Whether all bytes are digits.
-#[inline(always)]
 fn are_digits(bytes: &[u8]) -> bool
     ensures { result ≡ list_all is_ascii_digit bytes.now }
 {

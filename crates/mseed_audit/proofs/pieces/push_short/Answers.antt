@@ -36,6 +36,6 @@ returns-clause-ok g c =
     let tens : c.digit-tens.result ≡ 48 + n / 10 % 10 = omega (arith, c.digit-tens.ensures) in
     let hundreds : c.digit-hundreds.result ≡ 48 + n / 100 % 10 = omega (arith, c.digit-hundreds.ensures) in
     let thousands : c.digit-thousands.result ≡ 48 + n / 1000 = omega (arith, c.digit-thousands.ensures) in
-    added_text c.extend_from_slice-2.result _ _ (c.digit-thousands.result ∷ c.digit-hundreds.result ∷ c.digit-tens.result
-    ∷ c.digit-ones.result ∷ []) _ c.extend_from_slice-2.ensures.items
+    added_text c.extend_from_slice-2.result _ _ (c.digit-thousands.result ∷ c.digit-hundreds.result
+    ∷ c.digit-tens.result ∷ c.digit-ones.result ∷ []) _ c.extend_from_slice-2.ensures.items
     (rw (ones, tens, hundreds, thousands) (four_digits n (search rules) c.requires))

@@ -146,8 +146,8 @@ returns-in_ok-begin-in-None-clause-found g c = λ ps s.
     let none : lookup (same_key (key_at v.bytes)) c.args.self.now ≡ None =
     ap (λ (key : List ℕ). lookup (same_key key) c.args.self.now) (sym c.codes-codes.ensures)
     ∙ none_there (same_key code) c.args.self.now (sym c.in-None.ensures.place) in
-    found_new (lookup (same_key (key_at v.bytes)) c.args.self.now) ps v c.in_ok-begin-in-None.field-0 none s (search rules)
-    made.1.3
+    found_new (lookup (same_key (key_at v.bytes)) c.args.self.now) ps v c.in_ok-begin-in-None.field-0 none s
+    (search rules) made.1.3
 
 pub returns-in_err-begin-in-None-clause-memory : goal.returns-in_err-begin-in-None-clause-memory
 returns-in_err-begin-in-None-clause-memory g c = elim [
