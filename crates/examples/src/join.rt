@@ -1,9 +1,9 @@
 //! Calls of `mseed_join`.
 use mseed_audit::{AuditFault, Channel, EachFault};
 use mseed_join::{
-    Form, HEADER, JoinsFault, PartsFault, audit_part, audit_part_each, join, push_channel_line,
-    push_counts_line, push_faults_line, read_channel_line, read_counts_line, read_fault_line,
-    read_faults_line, read_parts,
+    Form, HEADER, JoinsFault, PartsFault, audit_part, audit_part_each, join, join_each,
+    push_channel_line, push_counts_line, push_faults_line, read_channel_line, read_counts_line,
+    read_fault_line, read_faults_line, read_parts,
 };
 use mseed_record::Codes;
 use mseed_stream::{Counted, Sink, StreamFault};
@@ -34,6 +34,18 @@ pub fn audit_of_parts<E: Sink>(
     let mut source = Counted::new(parts);
     let mut sink = Counted::new(Vec::new(alloc));
     join(alloc, Form::Audit, true, &mut source, &mut sink, told)?;
+    Ok(sink.into_inner())
+}
+
+/// The same, with a line before it for each border with a finding.
+pub fn audit_with_borders<E: Sink>(
+    alloc: Global,
+    parts: &[u8],
+    told: &mut E,
+) -> Result<Vec<u8>, JoinsFault> {
+    let mut source = Counted::new(parts);
+    let mut sink = Counted::new(Vec::new(alloc));
+    join_each(alloc, true, &mut source, &mut sink, told)?;
     Ok(sink.into_inner())
 }
 

@@ -1,6 +1,6 @@
 -- Parts that are read along lines: what was passed, and what lies ahead.
 use Rattle.std.proofs.Common.{◌≡◌, ◌≢◌, ℕ, ◌+◌, ◌*◌, ◌≤◌, ◌<◌, ◌^◌, List, [], ◌∷◌, ◌++◌, length, take, drop, Bool}
-use Rattle.std.proofs.Common.{true, false, Option, Ok, Err, refl, sym, ap, ◌∙◌, subst, arith}
+use Rattle.std.proofs.Common.{true, false, Option, Ok, Err, refl, sym, ap, ◌∙◌, subst, arith, inl}
 use Rattle.std.proofs.Common.{append_assoc, append-nil, length-append}
 use Rattle.std.proofs.Common.{take-append-drop, length-take}
 use Rattle.std.proofs.lemmas.List.{append_cancel_left, append_cancel_right}
@@ -14,11 +14,12 @@ use Rattle.mseed_join.specs.Joined.{AreLines, Begins, HasNoEnd, IsBadLine, IsJoi
 use Rattle.mseed_join.specs.Lines.{Line, counts_line, header_line}
 use Rattle.mseed_join.specs.Reached.{AreLinesRead, Behind, Stage, IsStage, none, begun, whole, part_behind}
 use Rattle.mseed_join.specs.Reached.{AreTold, parts_at, passed_lines, start, text_behind}
-use Rattle.mseed_join.specs.ReadParts.{IsReadOutcome, written_of}
+use Rattle.mseed_join.specs.ReadParts.{IsReadOutcome, IsStopped, written_of}
 use Rattle.mseed_join.specs.declared.reader.PartsFault.{PartsFault}
 use Rattle.mseed_join.specs.declared.reader.PartsFault.TheVariants.{Line as BadLine, Stream, Memory}
 use Rattle.mseed_join.specs.Written.{Written, Spells, channel_lines, part_text, texts}
-use Rattle.mseed_join.specs.private.Along.{HasEnded, IsAlong, IsBadBehind, IsNextStep, can_end}
+use Rattle.mseed_join.specs.private.Along.{HasEnded, IsAlong, IsBadBehind, IsNextStep, IsStoppedAt}
+use Rattle.mseed_join.specs.private.Along.{can_end}
 use Rattle.mseed_join.specs.private.LineReading.{GoesOn, Grows, IsLineAhead, IsReadBy, LinesRead}
 use Rattle.mseed_join.specs.private.Taking.{IsPlace, IsReadTo, IsTaken}
 use Rattle.mseed_join.proofs.Ahead.{IsAhead, ahead, too_long}
@@ -212,6 +213,16 @@ wrong_line past h now s lines j n l one refused = record {
   before = before past h now s lines j l;
 }
 
+-- no line more was passed
+pub stops : {A : Type 0} → (past : Bool) (h now : BytesRead) (s : Stage) (lines : LinesRead) (j : Joint A)
+    → IsLooked past h now s lines j → IsStoppedAt h now s
+stops past h now s lines j l = record {
+  bytes = l.by.passed ++ lines.held;
+  told = l.by.told ∙ append_assoc h.bytes l.by.passed lines.held;
+  count = lines.lines;
+  before = before past h now s lines j l;
+}
+
 pub long_line : {A : Type 0} → (past : Bool) (h now : BytesRead) (s : Stage) (lines : LinesRead) (j : Joint A)
     → IsLooked past h now s lines j → HasNoEnd (take 512 lines.held) → 512 ≤ length lines.held
     → IsBadBehind past h now s (lines.lines + 1)
@@ -322,6 +333,15 @@ told_also xs ys a b c (AreTold.one line lines old now new t more) q =
     AreTold.one line (lines ++ ys) old now c t (told_also lines ys now new c more q)
 
 -- ---- the outcome
+pub stopped : (past : Bool) (h now : BytesRead) (s : Stage) (told at : BytesWritten) → IsStoppedAt h now s
+    → AreTold (passed_lines past (parts_at s)) told at → IsStopped past h now told at
+stopped past h now s told at step are = record {
+  bytes = step.bytes;
+  more = step.told;
+  stage = s;
+  lines = record { count = step.count; before = step.before; told = are };
+}
+
 pub failed : {A : Type 0} → (past : Bool) (h now : BytesRead) (s : Stage) (r : Reader A) (fault : PartsFault)
     (told at : BytesWritten) → IsNextStep {A = A} past h s (Err fault) now r
     → AreTold (passed_lines past (parts_at s)) told at
@@ -340,8 +360,26 @@ failed past h now s r (BadLine k) told at step are = (
     },
   ),
 )
-failed past h now s r (Stream fault) told at step are = step
-failed past h now s r Memory told at step are = tt
+failed past h now s r (Stream fault) told at step are = (step.0, stopped past h now s told at step.1 are)
+failed past h now s r Memory told at step are = stopped past h now s told at step are
+
+-- nothing was read
+pub none_read : (h : BytesRead) → IsStoppedAt h h start
+none_read h = record {
+  bytes = [];
+  told = sym (append-nil h.bytes);
+  count = 0;
+  before = record {
+    lines = [];
+    rest = [];
+    bytes_are = refl;
+    number = AreLines.none;
+    stage = record { text = refl; each = tt; is_where = inl refl };
+  };
+}
+
+pub none_told : (past : Bool) (at : BytesWritten) → AreTold (passed_lines past (parts_at start)) at at
+none_told past at = subst (λ (lines : List (List ℕ)). AreTold lines at at) (sym (told_none past)) (AreTold.none at)
 
 pub all_read : {A : Type 0} → (past : Bool) (h now : BytesRead) (s : Stage) (r : Reader A) (told at : BytesWritten)
     → HasEnded past h now s r → AreTold (passed_lines past (parts_at s)) told at

@@ -1,11 +1,13 @@
 pub mod Ahead
 pub mod Along
 pub mod Backwards
+pub mod Bordering
 pub mod Channels
 pub mod Clean
 pub mod CutParts
 pub mod Cuts
 pub mod Digits
+pub mod Each
 pub mod Ended
 pub mod Faults
 pub mod Fitting

@@ -25,7 +25,8 @@ use Rattle.mseed_join.specs.ReadParts.{written_of}
 use Rattle.mseed_join.specs.declared.joint.Joint.{Joint}
 use Rattle.mseed_join.specs.declared.joint.Told.{Told}
 use Rattle.mseed_join.specs.private.Steps.{May, to, counted_part, with_faults, with_end}
-use Rattle.mseed_join.specs.private.Taking.{IsReadTo, IsTaken, IsPlace, fault_behind, passed_by}
+use Rattle.mseed_join.specs.private.Taking.{IsReadTo, IsTaken, IsPlace, border_by, fault_behind, passed_by}
+use Rattle.mseed_join.specs.Borders.{AreBordersOf, Border}
 use Rattle.mseed_join.proofs.Machine.{Entries}
 use Rattle.mseed_join.proofs.Running.{AllKeys}
 use Rattle.mseed_join.proofs.Sums.{IsGood, glue, joined_good, nothing_good, stop}
@@ -217,10 +218,12 @@ pub taken : {A : Type 0} → (lines : List ℕ) (s : Stage) (x : Line) (tells : 
     → IsJointOf new.past (parts_at (to s x)) (written_of new.so_far) → IsPlace new.place (to s x).behind
     → new.parts ≡ length (parts_at (to s x))
     → passed_lines old.past (parts_at (to s x)) ≡ passed_lines old.past (parts_at s) ++ passed_by tells
+    → ((found : List Border) → AreBordersOf old.past (parts_at s) found
+    → AreBordersOf old.past (parts_at (to s x)) (found ++ border_by tells))
     → new.past ≡ old.past → IsTaken lines (text_of_line x) s (to s x) tells old new
-taken lines s x tells old new r l m joint place number passed past = record {
+taken lines s x tells old new r l m joint place number passed borders past = record {
   read = record { stage = stage_more lines s x r.stage l m; joint = joint; place = place; number = number };
-  told = record { passed = passed };
+  told = record { passed = passed; borders = borders };
   past = past;
   parts = number;
 }

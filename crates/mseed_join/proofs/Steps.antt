@@ -17,7 +17,9 @@ use Rattle.mseed_join.specs.declared.joint.Place.TheVariants.{Start, Channels, W
 use Rattle.mseed_join.specs.declared.joint.Told.{Told}
 use Rattle.mseed_join.specs.declared.joint.Told.TheVariants.{Nothing, Passed}
 use Rattle.mseed_join.specs.private.Steps.{May, to, goes, counted_part, with_faults, with_end}
-use Rattle.mseed_join.specs.private.Taking.{IsReadTo, IsTaken, IsPlace, fault_behind, passed_by}
+use Rattle.mseed_join.specs.private.Taking.{IsReadTo, IsTaken, IsPlace, border_by, fault_behind, passed_by}
+use Rattle.mseed_join.specs.Borders.{border_with}
+use Rattle.mseed_join.proofs.Bordering.{channel_borders, ends_borders, header_borders, skips_borders}
 use Rattle.std.proofs.lemmas.Bool.{false≢true}
 use Rattle.std.specs.Option.{option_map}
 use Rattle.mseed_join.specs.Joined.{AreJoined, Begins, counted, counted_by, moved_fault, nothing}
@@ -73,7 +75,8 @@ header_step law old lines s r m =
     taken lines s header Nothing old (headed old) r tt m
     (header_joint law old.past s.over s.behind (written_of old.so_far) m r.joint) (header_place s.over s.behind m)
     (header_number s.over s.behind old.parts m r.number)
-    (passed_same old.past s.over s.behind header r.stage.is_where m no_fault) refl
+    (passed_same old.past s.over s.behind header r.stage.is_where m no_fault)
+    (header_borders old.past s.over s.behind (written_of old.so_far) m r.joint) refl
 
 -- ---- a channel
 channel_place : (over : List Written) (b : Behind) (key : List ℕ) (c : Channel) → May b (channel key c)
@@ -123,22 +126,27 @@ channel_skipped old f e key c lines s r l m =
     taken lines s (channel key c) Nothing old (placed old (Channels (Some key))) r l m
     (channel_stops old.past s.over s.behind key c (written_of old.so_far) f m e r.joint)
     (channel_place s.over s.behind key c m) (channel_number s.over s.behind key c old.parts m r.number)
-    (passed_same old.past s.over s.behind (channel key c) r.stage.is_where m (channel_no_fault key c)) refl
+    (passed_same old.past s.over s.behind (channel key c) r.stage.is_where m (channel_no_fault key c))
+    (skips_borders old.past s.over s.behind (channel key c) (written_of old.so_far) f r.stage.is_where m tt e r.joint)
+    refl
 
-pub channel_added : {A : Type 0} → JoinsChannel → (old : Joint A) (so_far : JointPart A) (tells : Told)
+pub channel_added : {A : Type 0} → JoinsChannel → HaveOneJoint → (old : Joint A) (so_far : JointPart A) (tells : Told)
     → passed_by tells ≡ [] → old.so_far.end ≡ None → (key : List ℕ) (c : Channel)
+    → border_by tells ≡ border_with old.so_far.part (key, c)
     → IsJoint old.so_far.part (one_channel key c) so_far.part
     → FitsAt old.so_far.part.records old.so_far.part.bytes (kept_of key old.so_far.part.channels) (Some c)
     → so_far.faults ≡ old.so_far.faults → so_far.end ≡ old.so_far.end
     → (lines : List ℕ) (s : Stage) → IsReadTo lines s old → IsLine (channel key c)
     → May s.behind (channel key c) → IsTaken lines (text_of_line (channel key c)) s (to s (channel key c)) tells old
     (kept_as old so_far (Channels (Some key)))
-channel_added law old so_far tells silent n key c joint fit f e lines s r l m =
+channel_added law only old so_far tells silent n key c border joint fit f e lines s r l m =
     taken lines s (channel key c) tells old (kept_as old so_far (Channels (Some key))) r l m
     (channel_adds law old.past s.over s.behind key c (written_of old.so_far) (written_of so_far) m n joint fit f (e ∙ n)
     r.joint) (channel_place s.over s.behind key c m) (channel_number s.over s.behind key c old.parts m r.number)
     (passed_same old.past s.over s.behind (channel key c) r.stage.is_where m (channel_no_fault key c)
-    ∙ ap (λ (ts : List (List ℕ)). passed_lines old.past (parts_at s) ++ ts) (sym silent)) refl
+    ∙ ap (λ (ts : List (List ℕ)). passed_lines old.past (parts_at s) ++ ts) (sym silent))
+    (channel_borders only old.past s.over s.behind key c (written_of old.so_far) (border_by tells) m n border r.joint)
+    refl
 
 -- what goes on from here, if this line stands there
 pub next_here : (past : Bool) (s : Stage) (lines : List ℕ) (x : Line) → IsStage lines s → IsLine x
@@ -217,7 +225,8 @@ counts_skipped old f e n l lines s r is m =
     taken lines s (counts n l) Nothing old (placed old (Whole l false)) r is m
     (counts_stops old.past s.over s.behind n l (written_of old.so_far) f m e r.joint)
     (counts_place s.over s.behind n l m) (counts_number s.over s.behind n l old.parts m r.number)
-    (passed_same old.past s.over s.behind (counts n l) r.stage.is_where m (counts_no_fault n l)) refl
+    (passed_same old.past s.over s.behind (counts n l) r.stage.is_where m (counts_no_fault n l))
+    (skips_borders old.past s.over s.behind (counts n l) (written_of old.so_far) f r.stage.is_where m tt e r.joint) refl
 
 pub counts_added : {A : Type 0} → JoinsCounts → (old : Joint A) (so_far : JointPart A)
     → old.so_far.end ≡ None → (n l : ℕ) → IsJoint old.so_far.part (counts_alone n l) so_far.part
@@ -229,7 +238,8 @@ counts_added law old so_far free n l joint fit f e lines s r is m =
     taken lines s (counts n l) Nothing old (kept_as old so_far (Whole l false)) r is m
     (counts_adds law old.past s.over s.behind n l (written_of old.so_far) (written_of so_far) m free joint fit f
     (e ∙ free) r.joint) (counts_place s.over s.behind n l m) (counts_number s.over s.behind n l old.parts m r.number)
-    (passed_same old.past s.over s.behind (counts n l) r.stage.is_where m (counts_no_fault n l)) refl
+    (passed_same old.past s.over s.behind (counts n l) r.stage.is_where m (counts_no_fault n l))
+    (ends_borders old.past s.over s.behind (counts n l) (written_of old.so_far) r.stage.is_where m tt free r.joint) refl
 
 pub counts_refused : {A : Type 0} → HaveOneJoint → (old : Joint A) → old.so_far.end ≡ None → (n l : ℕ)
     → (Fits old.so_far.part (counts_alone n l) → ⊥) → (lines : List ℕ) (s : Stage) → IsReadTo lines s old
@@ -284,7 +294,8 @@ faults_skipped old f e l at n lines s r is m =
     (faults_stops old.past s.over s.behind n (written_of old.so_far) f r.stage.is_where m e r.joint)
     (faults_place s.over s.behind n l m is.some (subst (λ (p : Place). IsPlace p s.behind) at r.place))
     (faults_number s.over s.behind n old.parts m r.number)
-    (passed_same old.past s.over s.behind (faults n) r.stage.is_where m (faults_no_fault n)) refl
+    (passed_same old.past s.over s.behind (faults n) r.stage.is_where m (faults_no_fault n))
+    (skips_borders old.past s.over s.behind (faults n) (written_of old.so_far) f r.stage.is_where m tt e r.joint) refl
 
 pub faults_added : {A : Type 0} → (old : Joint A) (so_far : JointPart A) → old.so_far.end ≡ None → (l : ℕ)
     → old.place ≡ Whole l false → (n : ℕ) → old.so_far.faults + n < 2 ^ 63 → so_far.part ≡ old.so_far.part
@@ -298,7 +309,8 @@ faults_added old so_far free l at n fit p f e lines s r is m =
     (e ∙ free) r.joint)
     (faults_place s.over s.behind n l m is.some (subst (λ (q : Place). IsPlace q s.behind) at r.place))
     (faults_number s.over s.behind n old.parts m r.number)
-    (passed_same old.past s.over s.behind (faults n) r.stage.is_where m (faults_no_fault n)) refl
+    (passed_same old.past s.over s.behind (faults n) r.stage.is_where m (faults_no_fault n))
+    (ends_borders old.past s.over s.behind (faults n) (written_of old.so_far) r.stage.is_where m tt free r.joint) refl
 
 pub faults_refused : {A : Type 0} → HaveOneJoint → (old : Joint A) → old.so_far.end ≡ None → (n : ℕ)
     → (old.so_far.faults + n < 2 ^ 63 → ⊥) → (lines : List ℕ) (s : Stage) → IsReadTo lines s old
@@ -392,7 +404,8 @@ fault_skipped old f e l x lines s r is m =
     taken lines s (fault l x) Nothing old (placed old Start) r is m
     (fault_stops old.past s.over s.behind l x (written_of old.so_far) f r.stage.is_where m e r.joint)
     (fault_place s.over s.behind l x m) (fault_number s.over s.behind l x old.parts m r.number)
-    (fault_silent old.past s.over s.behind l x (not_past old.past refl)) refl
+    (fault_silent old.past s.over s.behind l x (not_past old.past refl))
+    (skips_borders old.past s.over s.behind (fault l x) (written_of old.so_far) f r.stage.is_where m tt e r.joint) refl
   where
     not_past : (past : Bool) → old.past ≡ past → old.past ≡ false
     not_past false p = p
@@ -423,7 +436,8 @@ fault_kept old so_far p free x pa fa e l lines s r is m =
     (fault_ends old.past s.over s.behind l x (written_of old.so_far) (written_of so_far) p r.stage.is_where m is free pa
     fa e r.joint)
     (fault_place s.over s.behind l x m) (fault_number s.over s.behind l x old.parts m r.number)
-    (fault_silent old.past s.over s.behind l x p) refl
+    (fault_silent old.past s.over s.behind l x p)
+    (ends_borders old.past s.over s.behind (fault l x) (written_of old.so_far) r.stage.is_where m tt free r.joint) refl
 
 fault_passes : (past : Bool) (over : List Written) (b : Behind) (l : ℕ) (x : StreamFault) (h k : Written) → past ≡ true
     → IsWhere over b → May b (fault l x) → h.end ≡ None → h.faults + 1 < 2 ^ 63 → k.part ≡ h.part
@@ -448,7 +462,8 @@ fault_passed old so_far p free x fit pa fa e l lines s r is m =
     (fault_passes old.past s.over s.behind l x (written_of old.so_far) (written_of so_far) p r.stage.is_where m free fit
     pa fa (e ∙ free) r.joint)
     (fault_place s.over s.behind l x m) (fault_number s.over s.behind l x old.parts m r.number)
-    (fault_told old.past s.over s.behind l x old.parts p r.stage.is_where m r.number) refl
+    (fault_told old.past s.over s.behind l x old.parts p r.stage.is_where m r.number)
+    (ends_borders old.past s.over s.behind (fault l x) (written_of old.so_far) r.stage.is_where m tt free r.joint) refl
 
 pub fault_refused : {A : Type 0} → HaveOneJoint → (old : Joint A) → old.past ≡ true → old.so_far.end ≡ None
     → (x : StreamFault) → (old.so_far.faults + 1 < 2 ^ 63 → ⊥) → (l : ℕ) (lines : List ℕ) (s : Stage)

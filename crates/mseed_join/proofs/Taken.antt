@@ -195,7 +195,7 @@ pub record IsLast (past : Bool) (over : List Written) (w h : Written) : Type 0 w
 next_same : (a w b h : Written) → b ≡ h → IsNext a w b → IsNext a w h
 next_same a w b h e n = subst (λ (c : Written). IsNext a w c) e n
 
-counts_one : (past : Bool) (w : Written) → w.end ≡ None → counted past (w ∷ []) ≡ w ∷ []
+pub counts_one : (past : Bool) (w : Written) → w.end ≡ None → counted past (w ∷ []) ≡ w ∷ []
 counts_one past w e = ap (λ (o : Option StreamFault). counted_by past w o []) e
 
 one_next : (past : Bool) (a w h : Written) → w.end ≡ None → AreJoined a (counted past (w ∷ [])) h → IsNext a w h

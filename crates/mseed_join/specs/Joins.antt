@@ -10,7 +10,7 @@ use Rattle.mseed_join.specs.declared.joining.Joined.{Joined as Answer}
 use Rattle.mseed_join.specs.declared.joining.JoinsFault.{JoinsFault}
 use Rattle.mseed_join.specs.declared.joining.JoinsFault.TheVariants.{Line, Stream, Write, Memory}
 use Rattle.mseed_join.specs.Joined.{join_text, verdict_at}
-use Rattle.mseed_join.specs.ReadParts.{AreBadParts, AreReadParts}
+use Rattle.mseed_join.specs.ReadParts.{AreBadParts, AreReadParts, IsStopped}
 use Rattle.mseed_join.specs.Written.{Written, part_text}
 
 -- the text of the audit that it is the part of, or its own
@@ -53,7 +53,8 @@ IsJoinOutcome form past (Ok answer) h old new told now =
     (w : Written) × (IsRead past h w told now × IsJointWritten answer form w old new)
 IsJoinOutcome form past (Err (Line k)) h old new told now =
     (new ≡ old) × AreBadParts past h.bytes h.is_at_end k told now
-IsJoinOutcome form past (Err (Stream fault)) h old new told now = (new ≡ old) × IsStreamFault fault nothing_read h
+IsJoinOutcome form past (Err (Stream fault)) h old new told now =
+    (new ≡ old) × IsStreamFault fault nothing_read h × IsStopped past nothing_read h told now
 IsJoinOutcome form past (Err Write) h old new told now =
     (w : Written) × (IsRead past h w told now × IsJointCutOff form w old new)
 IsJoinOutcome form past (Err Memory) h old new told now = new ≡ old

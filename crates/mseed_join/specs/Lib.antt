@@ -1,9 +1,11 @@
 pub mod Lines
 pub mod Written
 pub mod Joined
+pub mod Borders
 pub mod Reached
 pub mod ReadParts
 pub mod AuditPart
 pub mod Joins
+pub mod JoinsEach
 pub mod Headline
 pub mod private

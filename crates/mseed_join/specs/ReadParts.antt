@@ -1,5 +1,5 @@
 -- What reading parts one behind another answers.
-use Rattle.std.specs.Prelude.{⊤, ◌≡◌, ℕ, ◌+◌, List, ◌++◌, Bool, true, Result, Ok, Err}
+use Rattle.std.specs.Prelude.{◌≡◌, ℕ, ◌+◌, List, ◌++◌, Bool, true, Result, Ok, Err}
 use Rattle.mseed_stream.specs.Device.{BytesRead, BytesWritten}
 use Rattle.mseed_stream.specs.Fault.{IsStreamFault}
 use Rattle.mseed_join.specs.declared.joint.JointPart.{JointPart}
@@ -33,6 +33,19 @@ pub record AreBadParts (past : Bool) (bytes : List ℕ) (at_end : Bool) (k : ℕ
   pub before : AreLinesRead bytes count stage
   pub told : AreTold (passed_lines past (parts_at stage)) old new
 
+-- the whole lines that were read are those of parts up to this stage; each fault that was passed was told
+pub record AreToldTo (past : Bool) (bytes : List ℕ) (stage : Stage) (old new : BytesWritten) : Type 0 where
+  pub count : ℕ
+  pub before : AreLinesRead bytes count stage
+  pub told : AreTold (passed_lines past (parts_at stage)) old new
+
+-- so far was read, and no further
+pub record IsStopped (past : Bool) (old h : BytesRead) (s new : BytesWritten) : Type 0 where
+  pub bytes : List ℕ
+  pub more : ReadMore old h bytes
+  pub stage : Stage
+  pub lines : AreToldTo past bytes stage s new
+
 -- By the answer: of what was read of the source, and of the device that faults are told to, before and after.
 abbrev pub IsReadOutcome : {A : Type 0} → Result (JointPart A) PartsFault → Bool → BytesRead → BytesRead → BytesWritten
     → BytesWritten → Type 0
@@ -40,5 +53,5 @@ IsReadOutcome (Ok joint) past old h s new =
     (bytes : List ℕ) × (ReadMore old h bytes × (h.is_at_end ≡ true) × AreReadParts past bytes (written_of joint) s new)
 IsReadOutcome (Err (Line k)) past old h s new =
     (bytes : List ℕ) × (ReadMore old h bytes × AreBadParts past bytes h.is_at_end k s new)
-IsReadOutcome (Err (Stream fault)) past old h s new = IsStreamFault fault old h
-IsReadOutcome (Err Memory) past old h s new = ⊤
+IsReadOutcome (Err (Stream fault)) past old h s new = IsStreamFault fault old h × IsStopped past old h s new
+IsReadOutcome (Err Memory) past old h s new = IsStopped past old h s new

@@ -39,16 +39,17 @@ pub struct Joined {
 /// Why parts weren't joined, or what they are joined to wasn't written whole.
 #[derive(Clone, Copy, Debug, PartialEq, Eq, Error)]
 pub enum JoinsFault {
-    /// The line of this number, from 1 over all parts, is bad. Nothing was written.
+    /// The line of this number, from 1 over all parts, is bad. Nothing was written, or by `join_each` the lines of the
+    /// borders before it.
     #[error("bad part at line {0}")]
     Line(u64),
-    /// The parts couldn't be read whole. Nothing was written.
+    /// The parts couldn't be read whole. Nothing was written, or by `join_each` the lines of the borders so far.
     #[error("the input failed")]
     Stream(StreamFault),
     /// The output failed. A prefix of the text was written.
     #[error("the output failed")]
     Write,
-    /// An allocation was refused. Nothing was written.
+    /// An allocation was refused. Nothing was written, or by `join_each` a prefix of the text.
     #[error("no memory")]
     Memory,
 }
@@ -102,7 +103,7 @@ pub fn join<A: Allocator + Copy, R: Source, W: Sink, E: Sink>(
 }
 
 /// Why parts aren't joined that weren't read.
-fn refused(fault: PartsFault) -> JoinsFault
+pub(crate) fn refused(fault: PartsFault) -> JoinsFault
     ensures { result ≡ refusal fault }
 {
     match fault {
@@ -113,7 +114,7 @@ fn refused(fault: PartsFault) -> JoinsFault
 }
 
 /// Adds the text of a joint part, and answers what is found of its archives.
-fn push_joined<A: Allocator + Copy>(
+pub(crate) fn push_joined<A: Allocator + Copy>(
     text: &mut Vec<u8, A>,
     alloc: A,
     form: Form,

@@ -1,12 +1,15 @@
 //! The joint part of parts that are read line by line.
 ghost use Rattle.std.specs.Prelude.{◌≡◌, ◌≢◌, ◌↔◌, ◌<◌, ◌+◌, ◌^◌, ◌++◌, List, ℕ, [], codes, false};
 ghost use Rattle.std.specs.Prelude.{IfSome, IfNone, IfErr, OnOk, IsTrue};
+ghost use Rattle.mseed_audit.specs.Audit.{head_in};
+ghost use Rattle.mseed_join.specs.Borders.{border_at};
 ghost use Rattle.mseed_join.specs.Joined.{HasNoEnd};
 ghost use Rattle.mseed_join.specs.Lines.{IsLine, Line, header_line};
 ghost use Rattle.mseed_join.specs.Reached.{Stage, start};
 ghost use Rattle.mseed_join.specs.private.Along.{can_end};
 ghost use Rattle.mseed_join.specs.private.Steps.{May};
-ghost use Rattle.mseed_join.specs.private.Taking.{IsBehindKey, IsLineStep, IsReadTo, IsStep, fault_behind, passed_by};
+ghost use Rattle.mseed_join.specs.private.Taking.{IsBehindKey, IsLineStep, IsReadTo, IsStep, border_by, fault_behind};
+ghost use Rattle.mseed_join.specs.private.Taking.{passed_by};
 
 use crate::lines::{read_channel_line, read_counts_line, read_fault_line, read_faults_line};
 use crate::numbers::LIMIT;
@@ -336,7 +339,8 @@ fn is_behind(last: Option<Codes>, codes: Codes) -> bool
 
 /// What is told of a channel, by what is found between it and its further records.
 fn told_of(codes: Codes, channel: &Channel, found: Option<Finding>) -> Told
-    ensures { passed_by result ≡ [] }
+    ensures passed { passed_by result ≡ [] }
+    ensures border { border_by result ≡ border_at codes (head_in channel.now.findings) found }
 {
     match (found, channel.findings.head()) {
         (Some(finding), Some(head)) => Told::Border {

@@ -2,10 +2,12 @@
 #![tactic(auto)]
 
 mod auditing;
+mod borders;
 mod composed;
 mod fields;
 mod hex;
 mod joining;
+mod joining_each;
 mod joint;
 mod law;
 mod line_reader;
@@ -26,8 +28,9 @@ pub use composed::{
     parts_can_be_joined,
 };
 pub use joining::{Form, Joined, JoinsFault, join};
+pub use joining_each::join_each;
 pub use joint::JointPart;
-pub use law::{lines_are_short, one_channel, one_line, one_part_of_input};
+pub use law::{lines_are_short, one_channel, one_line, one_list_of_borders, one_part_of_input};
 pub use lines::{read_channel_line, read_counts_line, read_fault_line, read_faults_line};
 pub use parts::read_parts;
 pub use reader::PartsFault;

@@ -56,7 +56,7 @@ pub fn read_parts<A: Allocator + Copy, R: Source, E: Sink>(
 }
 
 /// Tells a fault that is passed.
-fn tell_passed<E: Sink>(errors: &mut E, told: &Told)
+pub(crate) fn tell_passed<E: Sink>(errors: &mut E, told: &Told)
     ensures { AreTold (passed_by told.now) (E.written errors.old) (E.written errors.new) }
 {
     match told {

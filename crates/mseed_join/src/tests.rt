@@ -2,6 +2,7 @@
 
 mod auditing;
 mod joining;
+mod joining_each;
 mod line_reader;
 
 use crate::{

@@ -1,5 +1,5 @@
 -- How reading parts goes along: no public contract is stated by these words.
-use Rattle.std.specs.Prelude.{⊤, ◌≡◌, ◌+◌, ℕ, List, ◌++◌, Bool, true, false, Option, Some, None, Result, Ok, Err}
+use Rattle.std.specs.Prelude.{◌≡◌, ◌+◌, ℕ, List, ◌++◌, Bool, true, false, Option, Some, None, Result, Ok, Err}
 use Rattle.mseed_stream.specs.Device.{BytesRead}
 use Rattle.mseed_stream.specs.Fault.{IsStreamFault}
 use Rattle.mseed_join.specs.declared.joint.Place.{Place}
@@ -45,6 +45,13 @@ pub record IsBadBehind (past : Bool) (h now : BytesRead) (s : Stage) (k : ℕ) :
   pub behind : k ≡ count + 1
   pub before : AreLinesRead bytes count s
 
+-- no line more was passed, of all that was read
+pub record IsStoppedAt (h now : BytesRead) (s : Stage) : Type 0 where
+  pub bytes : List ℕ
+  pub told : now.bytes ≡ h.bytes ++ bytes
+  pub count : ℕ
+  pub before : AreLinesRead bytes count s
+
 -- by what one step answers
 abbrev pub IsNextStep : {A : Type 0} → Bool → BytesRead → Stage → Result (Option Told) PartsFault → BytesRead → Reader A
     → Type 0
@@ -52,5 +59,5 @@ IsNextStep past h s (Ok (Some told)) now r =
     (t : Stage) × (IsAlong past h now t r × IsToldMore past s t told × (now.is_at_end ≡ false))
 IsNextStep past h s (Ok None) now r = HasEnded past h now s r
 IsNextStep past h s (Err (Line k)) now r = IsBadBehind past h now s k
-IsNextStep past h s (Err (Stream fault)) now r = IsStreamFault fault h now
-IsNextStep past h s (Err Memory) now r = ⊤
+IsNextStep past h s (Err (Stream fault)) now r = IsStreamFault fault h now × IsStoppedAt h now s
+IsNextStep past h s (Err Memory) now r = IsStoppedAt h now s

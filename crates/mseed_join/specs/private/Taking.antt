@@ -13,7 +13,8 @@ use Rattle.mseed_join.specs.declared.joint.LineFault.TheVariants.{Bad, Memory as
 use Rattle.mseed_join.specs.declared.joint.Place.{Place}
 use Rattle.mseed_join.specs.declared.joint.Place.TheVariants.{Start, Channels, Whole}
 use Rattle.mseed_join.specs.declared.joint.Told.{Told}
-use Rattle.mseed_join.specs.declared.joint.Told.TheVariants.{Nothing, Border, Passed}
+use Rattle.mseed_join.specs.declared.joint.Told.TheVariants.{Nothing, Border as AtBorder, Passed}
+use Rattle.mseed_join.specs.Borders.{AreBordersOf, Border}
 use Rattle.mseed_join.specs.Joined.{Begins, IsJointOf}
 use Rattle.mseed_join.specs.Lines.{Line, text_of_line}
 use Rattle.mseed_join.specs.Reached.{Behind, none, begun, whole, Stage, parts_at, IsStage, passed_line, passed_lines}
@@ -57,12 +58,19 @@ pub record IsReadTo {A : Type 0} (lines : List ℕ) (s : Stage) (j : Joint A) : 
 -- ---- what a line tells
 abbrev pub passed_by : Told → List (List ℕ)
 passed_by Nothing = []
-passed_by (Border key start found) = []
+passed_by (AtBorder key start found) = []
 passed_by (Passed number fault) = passed_line number fault ∷ []
+
+abbrev pub border_by : Told → List Border
+border_by Nothing = []
+border_by (AtBorder key start found) = record { key = key; start = start; finding = found } ∷ []
+border_by (Passed number fault) = []
 
 -- of the parts so far it is what one more line adds
 pub record IsToldMore (past : Bool) (s t : Stage) (told : Told) : Type 0 where
   pub passed : passed_lines past (parts_at t) ≡ passed_lines past (parts_at s) ++ passed_by told
+  pub borders : (found : List Border) → AreBordersOf past (parts_at s) found
+      → AreBordersOf past (parts_at t) (found ++ border_by told)
 
 -- ---- one more line
 pub record IsTaken {A : Type 0} (lines line : List ℕ) (s t : Stage) (tells : Told) (old new : Joint A) : Type 0 where

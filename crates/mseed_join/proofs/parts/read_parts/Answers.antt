@@ -5,8 +5,14 @@ use Rattle.mseed_audit.proofs.Told.{tells_on}
 use Rattle.mseed_join.specs.declared.reader.PartsFault.{PartsFault}
 use Rattle.mseed_join.specs.Reached.{AreTold, start}
 use Rattle.mseed_join.specs.ReadParts.{IsReadOutcome}
-use Rattle.mseed_join.proofs.Along.{all_read, failed, told_also, told_none}
+use Rattle.mseed_join.proofs.Along.{all_read, failed, none_read, none_told, stopped, told_also}
 use Rattle.mseed_join.proofs.parts.read_parts.Goals as goal
+
+pub returns-in-Err-clause-outcome : goal.returns-in-Err-clause-outcome
+returns-in-Err-clause-outcome g c =
+    let h : BytesRead = g.R.Source.read c.args.source.now in
+    let told : BytesWritten = g.E.Sink.written c.args.errors.now in
+    stopped c.args.past h h start told told (none_read h) (none_told c.args.past told)
 
 pub lines-init : goal.lines-init
 lines-init g c =
@@ -15,7 +21,7 @@ lines-init g c =
         start,
         (
           c.in-Ok.ensures (g.R.Source.read c.args.source.now),
-          subst (λ (lines : List (List ℕ)). AreTold lines told told) (sym (told_none c.args.past)) (AreTold.none told),
+          none_told c.args.past told,
         ),
       );
       goes_on = ap (λ (h : BytesRead). h.is_at_end) c.requires;

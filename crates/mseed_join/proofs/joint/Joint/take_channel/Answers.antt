@@ -1,4 +1,7 @@
-use Rattle.std.proofs.Common.{ap, refl, Err}
+use Rattle.std.proofs.Common.{ap, refl, Err, Option, ◌∙◌}
+use Rattle.mseed_audit.specs.Audit.{head_in}
+use Rattle.mseed_audit.specs.declared.finding.Finding.{Finding}
+use Rattle.mseed_join.specs.Borders.{border_at}
 use Rattle.mseed_parts.specs.declared.part.JoinFault.{JoinFault}
 use Rattle.mseed_join.proofs.Steps.{channel_added, channel_refused, channel_skipped}
 use Rattle.mseed_join.proofs.joint.Joint.take_channel.Goals as goal
@@ -8,8 +11,12 @@ returns-in-Some g c = channel_skipped c.args.self.now _ c.in-Some.is c.args.code
 
 pub returns-in-Ok : goal.returns-in-Ok
 returns-in-Ok g c =
-    channel_added c.joined_in_turn.ensures.channel c.args.self.now _ c.told_of.result c.told_of.ensures c.in-None.is
-    c.args.codes c.args.channel.now c.in-Ok.ensures.joined c.in-Ok.ensures.fits refl refl
+    let found = c.in-Ok.ensures.border in
+    channel_added c.joined_in_turn.ensures.channel c.joining_laws.ensures.one c.args.self.now _ c.told_of.result
+    c.told_of.ensures.passed c.in-None.is c.args.codes c.args.channel.now
+    (c.told_of.ensures.border
+    ∙ ap (λ (o : Option Finding). border_at c.args.codes (head_in c.args.channel.now.findings) o) found)
+    c.in-Ok.ensures.joined c.in-Ok.ensures.fits refl refl
 
 pub returns-in-Err-Limit : goal.returns-in-Err-Limit
 returns-in-Err-Limit g c =

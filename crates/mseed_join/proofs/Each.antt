@@ -1,0 +1,322 @@
+-- The lines of borders, as they are gathered and written while parts are read.
+use Rattle.std.proofs.Common.{◌≡◌, ◌+◌, ◌<◌, ℕ, List, [], ◌++◌, Bool, length, take, refl, sym, ap, ◌∙◌, subst, arith}
+use Rattle.std.proofs.Common.{inl, inr}
+use Rattle.std.proofs.Common.{append_assoc, append-nil, Ok, Err}
+use Rattle.std.specs.Prelude.{Result}
+use Rattle.std.specs.Result.{IsErrAnd}
+use Rattle.std.proofs.Math.Seq.{take-append-add}
+use Rattle.mseed_stream.specs.Device.{BytesRead, BytesWritten, nothing_read}
+use Rattle.mseed_stream.specs.Fault.{IsStreamFault}
+use Rattle.mseed_audit.specs.Each.{AreGathered, TookFirst, TookPart}
+use Rattle.mseed_audit.proofs.Gathers.{behind, gathered_first, gathered_written, part_behind}
+use Rattle.mseed_join.specs.declared.joining.Joined.{Joined as Answer}
+use Rattle.mseed_join.specs.declared.joining.JoinsFault.{JoinsFault}
+use Rattle.mseed_join.specs.declared.joining.JoinsFault.TheVariants.{Line, Stream, Write, Memory}
+use Rattle.mseed_join.specs.declared.joint.JointPart.{JointPart}
+use Rattle.mseed_join.specs.declared.reader.PartsFault.{PartsFault}
+use Rattle.mseed_join.specs.declared.reader.PartsFault.TheVariants.{Line as BadLine, Stream as Unread}
+use Rattle.mseed_join.specs.declared.reader.PartsFault.TheVariants.{Memory as NoMemory}
+use Rattle.mseed_join.specs.declared.reader.Reader.{Reader}
+use Rattle.mseed_join.specs.Borders.{AreBorders, AreBordersOf, Border, border_lines}
+use Rattle.mseed_join.specs.Joined.{IsBadLine, join_text}
+use Rattle.mseed_join.specs.Joins.{IsAnswer}
+use Rattle.mseed_join.specs.JoinsEach.{AreEachTo, AreLinesWritten, IsJoinEachOutcome}
+use Rattle.mseed_join.specs.Reached.{AreLinesRead, AreTold, Stage, parts_at, passed_lines, start}
+use Rattle.mseed_join.specs.ReadParts.{written_of}
+use Rattle.mseed_join.specs.Written.{Written, Spells}
+use Rattle.mseed_join.specs.private.Along.{HasEnded, IsAlong, IsNextStep, IsStoppedAt}
+use Rattle.mseed_join.specs.private.Bordered.{AreAllEach, IsCutShort, IsEachReading, IsFlushed, MovesOn}
+use Rattle.mseed_join.specs.private.Refused.{refusal}
+use Rattle.mseed_join.proofs.Along.{none_read, none_told}
+use Rattle.mseed_join.proofs.Bordering.{lines_append}
+
+-- ---- how far was read
+-- by any step that ends reading
+pub stopped_by : {A : Type 0} → (past : Bool) (h now : BytesRead) (s : Stage) (r : Reader A) (fault : PartsFault)
+    → IsNextStep {A = A} past h s (Err fault) now r → IsStoppedAt h now s
+stopped_by past h now s r (BadLine k) step =
+    record { bytes = step.bytes; told = step.told; count = step.count; before = step.before }
+stopped_by past h now s r (Unread fault) step = step.1
+stopped_by past h now s r NoMemory step = step
+
+-- before it
+pub along_by : {A : Type 0} → (past : Bool) (h now : BytesRead) (s : Stage) (r : Reader A) → IsAlong past h now s r
+    → IsStoppedAt h now s
+along_by past h now s r a = record {
+  bytes = a.by.passed ++ r.lines.held;
+  told = a.by.told ∙ append_assoc h.bytes a.by.passed r.lines.held;
+  count = r.lines.lines;
+  before = record {
+    lines = a.by.passed;
+    rest = r.lines.held;
+    bytes_are = refl;
+    number = a.by.lines;
+    stage = a.read.stage;
+  };
+}
+
+all_bytes : (h now : BytesRead) (bytes : List ℕ) → h ≡ nothing_read → now.bytes ≡ h.bytes ++ bytes
+    → bytes ≡ now.bytes
+all_bytes h now bytes first told = sym (told ∙ ap (λ (k : BytesRead). k.bytes ++ bytes) first)
+
+each_to : (past : Bool) (h now : BytesRead) (s : Stage) (found : List Border) (told at : BytesWritten)
+    → h ≡ nothing_read → IsStoppedAt h now s → AreBordersOf past (parts_at s) found
+    → AreTold (passed_lines past (parts_at s)) told at → AreEachTo past now found told at
+each_to past h now s found told at first stop borders are = record {
+  stage = s;
+  lines = record {
+    count = stop.count;
+    before = subst (λ (b : List ℕ). AreLinesRead b stop.count s) (all_bytes h now stop.bytes first stop.told)
+        stop.before;
+    told = are;
+  };
+  borders = borders;
+}
+
+-- ---- what is gathered
+-- a part of it was written
+part_taken : (first old new : BytesWritten) (text lines : List ℕ) → AreGathered first old text lines
+    → TookPart old new text → TookPart first new lines
+part_taken first old new text lines before took =
+    subst (λ (t : List ℕ). TookPart first new t) (append-nil lines)
+    (part_behind first old new text lines [] before
+    (subst (λ (t : List ℕ). TookPart old new t) (sym (append-nil text)) took))
+
+-- or of more behind it
+first_taken : (first old new : BytesWritten) (text lines tail : List ℕ) → AreGathered first old text lines
+    → TookFirst old new (text ++ tail) → TookFirst first new (lines ++ tail)
+first_taken first old new text lines tail before took = (
+  length before.taken + took.0,
+  took.1 ∙ ap (λ (t : List ℕ). t ++ take took.0 (text ++ tail)) before.bytes
+      ∙ append_assoc first.bytes before.taken (take took.0 (text ++ tail))
+      ∙ ap (λ (t : List ℕ). first.bytes ++ t) (sym (take-append-add before.taken (text ++ tail) took.0))
+      ∙ ap (λ (t : List ℕ). first.bytes ++ take (length before.taken + took.0) t)
+      (behind first old text lines tail before),
+)
+
+-- all of it
+lines_written : (first old new : BytesWritten) (text : List ℕ) (found : List Border)
+    → AreGathered first old text (border_lines found) → new.bytes ≡ old.bytes ++ text → old.failures ≡ first.failures
+    → new.failures ≡ old.failures → AreLinesWritten found first new
+lines_written first old new text found before bytes same fine = record {
+  text = bytes ∙ ap (λ (t : List ℕ). t ++ text) before.bytes ∙ append_assoc first.bytes before.taken text
+      ∙ ap (λ (t : List ℕ). first.bytes ++ t) before.joined;
+  fine = fine ∙ same;
+}
+
+-- one more line was added
+pub moved_on : (first old new : BytesWritten) (text next : List ℕ) (found more : List Border)
+    → AreGathered first old text (border_lines found) → MovesOn old new text next (border_lines more)
+    → AreGathered first new next (border_lines (found ++ more))
+moved_on first old new text next found more before m = record {
+  taken = before.taken ++ m.gathered.taken;
+  bytes = m.gathered.bytes ∙ ap (λ (t : List ℕ). t ++ m.gathered.taken) before.bytes
+      ∙ append_assoc first.bytes before.taken m.gathered.taken;
+  joined = append_assoc before.taken m.gathered.taken next
+      ∙ ap (λ (t : List ℕ). before.taken ++ t) m.gathered.joined
+      ∙ behind first old text (border_lines found) (border_lines more) before
+      ∙ sym (lines_append found more);
+}
+
+-- ---- at a fault
+pub fault_each : {A : Type 0} → (past : Bool) (h now : BytesRead) (s : Stage) (r : Reader A) (fault : PartsFault)
+    (result : JoinsFault) (first old new told at : BytesWritten) (text : List ℕ) (found : List Border)
+    → h ≡ nothing_read → IsNextStep {A = A} past h s (Err fault) now r → AreBordersOf past (parts_at s) found
+    → AreTold (passed_lines past (parts_at s)) told at → AreGathered first old text (border_lines found)
+    → old.failures ≡ first.failures → IsFlushed (refusal fault) old new text result
+    → IsJoinEachOutcome past (Err result) now first new told at
+fault_each past h now s r fault result first old new told at text found begin step borders are before same
+    (IsFlushed.short failed took) = (
+      omega (arith, failed, same),
+      inl (
+        found,
+        (
+          each_to past h now s found told at begin (stopped_by past h now s r fault step) borders are,
+          part_taken first old new text (border_lines found) before took,
+        ),
+      ),
+    )
+fault_each past h now s r (BadLine k) result first old new told at text found begin step borders are before same
+    (IsFlushed.all bytes fine) =
+    let all : step.bytes ≡ now.bytes = all_bytes h now step.bytes begin step.told in (
+      found,
+      (
+        record {
+          bad = record {
+            bad = subst (λ (b : List ℕ). IsBadLine past b now.is_at_end k) all step.bad;
+            count = step.count;
+            behind = step.behind;
+            stage = s;
+            before = subst (λ (b : List ℕ). AreLinesRead b step.count s) all step.before;
+            told = are;
+          };
+          borders = borders;
+        },
+        lines_written first old new text found before bytes same fine,
+      ),
+    )
+fault_each past h now s r (Unread fault) result first old new told at text found begin step borders are before same
+    (IsFlushed.all bytes fine) = (
+      found,
+      (
+        each_to past h now s found told at begin step.1 borders are,
+        lines_written first old new text found before bytes same fine,
+        subst (λ (k : BytesRead). IsStreamFault fault k now) begin step.0,
+      ),
+    )
+fault_each past h now s r NoMemory result first old new told at text found begin step borders are before same
+    (IsFlushed.all bytes fine) = (
+      fine ∙ same,
+      inl (
+        found,
+        (
+          each_to past h now s found told at begin step borders are,
+          gathered_first first new [] (border_lines found)
+              (gathered_written first old new text [] (border_lines found) before bytes refl),
+        ),
+      ),
+    )
+
+-- no memory, or a failed output, as a line is added
+pub cut_each : (past : Bool) (h now : BytesRead) (s : Stage) (fault : JoinsFault) (first old new told at : BytesWritten)
+    (text : List ℕ) (found more : List Border) → h ≡ nothing_read → IsStoppedAt h now s
+    → AreBordersOf past (parts_at s) (found ++ more) → AreTold (passed_lines past (parts_at s)) told at
+    → AreGathered first old text (border_lines found) → old.failures ≡ first.failures
+    → IsCutShort fault old new (text ++ border_lines more)
+    → IsJoinEachOutcome past (Err fault) now first new told at
+cut_each past h now s (Line k) first old new told at text found more begin stop borders are before same cut = absurd cut
+cut_each past h now s (Stream f) first old new told at text found more begin stop borders are before same cut =
+    absurd cut
+cut_each past h now s Write first old new told at text found more begin stop borders are before same cut = (
+  omega (arith, cut.0, same),
+  inl (
+    found ++ more,
+    (
+      each_to past h now s (found ++ more) told at begin stop borders are,
+      subst (λ (t : List ℕ). TookPart first new t) (sym (lines_append found more))
+          (part_behind first old new text (border_lines found) (border_lines more) before cut.1),
+    ),
+  ),
+)
+cut_each past h now s Memory first old new told at text found more begin stop borders are before same cut = (
+  cut.0 ∙ same,
+  inl (
+    found ++ more,
+    (
+      each_to past h now s (found ++ more) told at begin stop borders are,
+      subst (λ (t : List ℕ). TookFirst first new t) (sym (lines_append found more))
+          (first_taken first old new text (border_lines found) (border_lines more) before cut.1),
+    ),
+  ),
+)
+
+-- ---- at the input's end
+pub all_each : {A : Type 0} → (past : Bool) (h now : BytesRead) (s : Stage) (r : Reader A)
+    (first old told at : BytesWritten)
+    (text : List ℕ) (found : List Border) → h ≡ nothing_read → HasEnded past h now s r
+    → AreBordersOf past (parts_at s) found → AreTold (passed_lines past (parts_at s)) told at
+    → AreGathered first old text (border_lines found) → old.failures ≡ first.failures
+    → AreAllEach past r.joint.so_far now first old told at text
+all_each past h now s r first old told at text found begin e borders are before same = record {
+  found = found;
+  read = record {
+    read = record {
+      whole = e.at_end;
+      parts = record {
+        parts = parts_at s;
+        spells = subst (λ (b : List ℕ). Spells b (parts_at s)) (all_bytes h now e.bytes begin e.told) e.spells;
+        is_joint = e.joint;
+        told = are;
+      };
+    };
+    borders = borders;
+  };
+  gathered = before;
+  fine = same;
+}
+
+-- the whole text was written
+pub each_written : {A : Type 0} → (past : Bool) (joint : JointPart A) (h : BytesRead) (answer : Answer)
+    (first old new told at : BytesWritten) (text whole slice : List ℕ)
+    → AreAllEach past joint h first old told at text → whole ≡ text ++ join_text (written_of joint) → slice ≡ whole
+    → IsAnswer answer (written_of joint) → new.bytes ≡ old.bytes ++ slice → new.failures ≡ old.failures
+    → IsJoinEachOutcome past (Ok answer) h first new told at
+each_written past joint h answer first old new told at text whole slice a e same is bytes fine =
+    let w : Written = written_of joint in
+    let tail : List ℕ = join_text w in (
+      w,
+      (
+        a.found,
+        (
+          a.read,
+          record {
+            answer_is = is;
+            text = bytes ∙ ap (λ (t : List ℕ). old.bytes ++ t) (same ∙ e)
+                ∙ ap (λ (t : List ℕ). t ++ (text ++ tail)) a.gathered.bytes
+                ∙ append_assoc first.bytes a.gathered.taken (text ++ tail)
+                ∙ ap (λ (t : List ℕ). first.bytes ++ t)
+                (behind first old text (border_lines a.found) tail a.gathered);
+            fine = fine ∙ a.fine;
+          },
+        ),
+      ),
+    )
+
+-- a prefix of it was written, and then the output failed
+pub each_cut_off : {A : Type 0} → (past : Bool) (joint : JointPart A) (h : BytesRead)
+    (first old new told at : BytesWritten) (text whole slice : List ℕ) (n : ℕ)
+    → AreAllEach past joint h first old told at text → whole ≡ text ++ join_text (written_of joint) → slice ≡ whole
+    → new.bytes ≡ old.bytes ++ take n slice → n < length slice → new.failures ≡ old.failures + 1
+    → IsJoinEachOutcome past (Err Write) h first new told at
+each_cut_off past joint h first old new told at text whole slice n a e same bytes within failed =
+    let w : Written = written_of joint in
+    let took : TookPart old new (text ++ join_text w) =
+    subst (λ (t : List ℕ). TookPart old new t) (same ∙ e) (n, (within, bytes)) in (
+      omega (arith, failed, a.fine),
+      inr (
+        w,
+        (a.found, (a.read, part_behind first old new text (border_lines a.found) (join_text w) a.gathered took)),
+      ),
+    )
+
+-- no memory for it
+pub each_no_memory : {A : Type 0} → (past : Bool) (joint : JointPart A) (h : BytesRead)
+    (first old told at : BytesWritten) (text : List ℕ) → AreAllEach past joint h first old told at text
+    → IsJoinEachOutcome past (Err Memory) h first old told at
+each_no_memory past joint h first old told at text a =
+    let w : Written = written_of joint in (
+      a.fine,
+      inr (
+        w,
+        (
+          a.found,
+          (
+            a.read,
+            first_taken first old old text (border_lines a.found) (join_text w) a.gathered
+                (0, sym (append-nil old.bytes)),
+          ),
+        ),
+      ),
+    )
+
+-- ---- at the beginning, and where a step fails
+pub nothing_each : (past : Bool) (h : BytesRead) (first told : BytesWritten) → h ≡ nothing_read
+    → IsJoinEachOutcome past (Err Memory) h first first told told
+nothing_each past h first told begin = (
+  refl,
+  inl (
+    [],
+    (
+      each_to past h h start [] told told begin (none_read h) (AreBorders.none []) (none_told past told),
+      (0, sym (append-nil first.bytes)),
+    ),
+  ),
+)
+
+pub err_each : {A : Type 0} → (r : Result (JointPart A) JoinsFault) (Q : JoinsFault → Type 0) (fault : JoinsFault)
+    (past : Bool) (h : BytesRead) (first new told at : BytesWritten) (text : List ℕ) → IsErrAnd r Q
+    → ((e : JoinsFault) → Q e → e ≡ fault) → IsJoinEachOutcome past (Err fault) h first new told at
+    → IsEachReading r past h first new told at text
+err_each (Ok joint) Q fault past h first new told at text is q short = absurd is
+err_each (Err e) Q fault past h first new told at text is q short =
+    subst (λ (x : JoinsFault). IsJoinEachOutcome past (Err x) h first new told at) (sym (q e is)) short

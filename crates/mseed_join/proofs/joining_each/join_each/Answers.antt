@@ -1,0 +1,60 @@
+use Rattle.std.proofs.Common.{take}
+use Rattle.mseed_stream.specs.Device.{BytesWritten}
+use Rattle.mseed_audit.proofs.Gathers.{takes_on}
+use Rattle.mseed_audit.proofs.Told.{grew}
+use Rattle.mseed_join.proofs.Each.{each_cut_off, each_no_memory, each_written}
+use Rattle.mseed_join.proofs.joining_each.join_each.Goals as goal
+
+pub returns-in_err-part-clause-contents : goal.returns-in_err-part-clause-contents
+returns-in_err-part-clause-contents g c = λ bytes same.
+    let takes = c.in_err-part.ensures.contents in
+    grew (g.W.Sink.written c.args.sink.now) (g.W.Sink.written c.read_each.new.sink) _ _ takes.0 bytes takes.1 takes.2
+    same
+
+pub returns-in-Err-clause-outcome : goal.returns-in-Err-clause-outcome
+returns-in-Err-clause-outcome g c =
+    each_no_memory c.args.past_faults _ (g.R.Source.read c.read_each.new.source) (g.W.Sink.written c.args.sink.now)
+    (g.W.Sink.written c.read_each.new.sink) (g.E.Sink.written c.args.errors.now)
+    (g.E.Sink.written c.read_each.new.errors) c.read_each.new.text.items c.in_ok-part.ensures.told
+
+pub returns-in-Err-clause-contents : goal.returns-in-Err-clause-contents
+returns-in-Err-clause-contents g c = λ bytes same.
+    let takes = c.in_ok-part.ensures.contents in
+    grew (g.W.Sink.written c.args.sink.now) (g.W.Sink.written c.read_each.new.sink) _ _ takes.0 bytes takes.1 takes.2
+    same
+
+pub returns-in-Ok-write_all_of-clause-outcome : goal.returns-in-Ok-write_all_of-clause-outcome
+returns-in-Ok-write_all_of-clause-outcome g c =
+    let write = c.in-Ok-write_all_of.ensures in
+    each_written c.args.past_faults _ (g.R.Source.read c.read_each.new.source) c.in-Ok.joined
+    (g.W.Sink.written c.args.sink.now) (g.W.Sink.written c.read_each.new.sink)
+    (g.W.Sink.written c.write_all_of.new.sink) (g.E.Sink.written c.args.errors.now)
+    (g.E.Sink.written c.read_each.new.errors) c.read_each.new.text.items c.push_joined.new.text.items
+    c.deref.result.now c.in_ok-part.ensures.told c.in-Ok.ensures.text c.deref.ensures.value c.in-Ok.ensures.answer
+    write.ok write.fine
+
+pub returns-clause-outcome : goal.returns-clause-outcome
+returns-clause-outcome g c =
+    let write = c.in-Err-write_all_of.ensures in
+    each_cut_off c.args.past_faults _ (g.R.Source.read c.read_each.new.source) (g.W.Sink.written c.args.sink.now)
+    (g.W.Sink.written c.read_each.new.sink) (g.W.Sink.written c.write_all_of.new.sink)
+    (g.E.Sink.written c.args.errors.now) (g.E.Sink.written c.read_each.new.errors) c.read_each.new.text.items
+    c.push_joined.new.text.items c.deref.result.now c.in-Err-write_all_of.field-0 c.in_ok-part.ensures.told
+    c.in-Ok.ensures.text c.deref.ensures.value write.err write.within write.failed
+
+pub returns-in-Ok-write_all_of-clause-contents : goal.returns-in-Ok-write_all_of-clause-contents
+returns-in-Ok-write_all_of-clause-contents g c = λ bytes same.
+    let first : BytesWritten = g.W.Sink.written c.args.sink.now in
+    let write = c.in-Ok-write_all_of.ensures in
+    let takes = takes_on first (g.W.Sink.written c.read_each.new.sink) (g.W.Sink.written c.write_all_of.new.sink)
+    _ _ _ c.in_ok-part.ensures.contents (c.deref.result.now, write.ok, write.known) in
+    grew first (g.W.Sink.written c.write_all_of.new.sink) _ _ takes.0 bytes takes.1 takes.2 same
+
+pub returns-clause-contents : goal.returns-clause-contents
+returns-clause-contents g c = λ bytes same.
+    let first : BytesWritten = g.W.Sink.written c.args.sink.now in
+    let write = c.in-Err-write_all_of.ensures in
+    let takes = takes_on first (g.W.Sink.written c.read_each.new.sink) (g.W.Sink.written c.write_all_of.new.sink)
+    _ _ _ c.in_ok-part.ensures.contents
+    (take c.in-Err-write_all_of.field-0 c.deref.result.now, write.err, write.known) in
+    grew first (g.W.Sink.written c.write_all_of.new.sink) _ _ takes.0 bytes takes.1 takes.2 same

@@ -1,0 +1,26 @@
+use Rattle.std.proofs.Common.{◌≡◌, ◌+◌, ◌-◌, ◌^◌, false, List}
+use Rattle.mseed_stream.specs.Cutting.{TellsMore}
+use Rattle.mseed_audit.specs.Each.{AreGathered, TakesMore}
+use Rattle.mseed_join.specs.Borders.{AreBordersOf, Border, border_lines}
+use Rattle.mseed_join.specs.Reached.{AreTold, Stage, parts_at, passed_lines}
+use Rattle.mseed_join.specs.private.Along.{IsAlong}
+use Rattle.mseed_join.proofs.joining_each.read_each.Given as goal
+
+abbrev pub invariant-lines : goal.invariant-lines
+invariant-lines g l = record {
+  along : (s : Stage) × (IsAlong l.fn.past (g.R.Source.read l.fn.source) (g.R.Source.read l.source) s l.reader
+      × AreTold (passed_lines l.fn.past (parts_at s)) (g.E.Sink.written l.fn.errors) (g.E.Sink.written l.errors)
+      × ((found : List Border) × (AreBordersOf l.fn.past (parts_at s) found
+      × AreGathered (g.W.Sink.written l.fn.sink) (g.W.Sink.written l.sink) l.text.items (border_lines found))));
+  fine : (g.W.Sink.written l.sink).failures ≡ (g.W.Sink.written l.fn.sink).failures;
+  goes_on : (g.R.Source.read l.source).is_at_end ≡ false;
+  more : TellsMore (g.R.Source.read l.fn.source) (g.R.Source.read l.source) (g.R.Source.remaining l.fn.source)
+      (g.R.Source.remaining l.source);
+  takes : TakesMore (g.W.Sink.written l.fn.sink) (g.W.Sink.written l.sink) (g.W.Sink.contents l.fn.sink)
+      (g.W.Sink.contents l.sink);
+  beside : g.R.Source.beside l.source ≡ g.R.Source.beside l.fn.source;
+  sink_beside : g.W.Sink.beside l.sink ≡ g.W.Sink.beside l.fn.sink;
+}
+
+abbrev pub decreases-lines : goal.decreases-lines
+decreases-lines g l = 2 ^ 56 + 1 - l.reader.lines.lines

@@ -1,0 +1,153 @@
+//! Parts joined, with a line for each border with a finding.
+ghost use Rattle.std.specs.Prelude.{◌≡◌, ◌+◌, ◌++◌, ℕ, List, [], IfErr, OnOk, true};
+ghost use Rattle.std.specs.Io.KnownBytes.{Appends, IsAtEnd};
+ghost use Rattle.mseed_stream.specs.Cutting.{TellsMore};
+ghost use Rattle.mseed_stream.specs.Device.{nothing_read};
+ghost use Rattle.mseed_audit.specs.Each.{TakesMore};
+ghost use Rattle.mseed_join.specs.Borders.{border_lines};
+ghost use Rattle.mseed_join.specs.JoinsEach.{IsJoinEachOutcome};
+ghost use Rattle.mseed_join.specs.private.Bordered.{IsCutShort, IsEachReading, IsFlushed, MovesOn};
+ghost use Rattle.mseed_join.specs.private.Refused.{refusal};
+ghost use Rattle.mseed_join.specs.private.Taking.{border_by};
+
+use crate::borders::push_told;
+use crate::joining::{Form, Joined, JoinsFault, push_joined, refused};
+use crate::joint::{JointPart, Told};
+use crate::parts::tell_passed;
+use crate::reader::{PartsFault, Reader};
+use mseed_audit::Memory;
+use mseed_stream::{Sink, Source, write_all_of};
+use std::alloc::Allocator;
+
+/// So many bytes of lines are gathered before they are written.
+const GATHERED: usize = 1 << 16;
+
+/// Joins parts as `join` does to the text of the audit of their archives, and writes before it a line for each border
+/// with a finding: part after part, ascending by channel within a part. The lines are written as borders come, some at
+/// a time. The source is one of which nothing was read yet.
+///
+/// # Errors
+///
+/// `Line` where a line is bad, and `Stream` where the parts couldn't be read whole: the lines of the borders so far
+/// were written then. `Write` where the output failed, and `Memory` where an allocation was refused: a prefix of the
+/// text was written then.
+pub fn join_each<A: Allocator + Copy, R: Source, W: Sink, E: Sink>(
+    alloc: A,
+    past_faults: bool,
+    source: &mut R,
+    sink: &mut W,
+    errors: &mut E,
+) -> Result<Joined, JoinsFault>
+    requires { R.read source.old ≡ nothing_read }
+    ensures outcome { IsJoinEachOutcome past_faults result (R.read source.new) (W.written sink.old)
+        (W.written sink.new) (E.written errors.old) (E.written errors.new) }
+
+    // What the source is known to have left is what was read of it, up to its end where the input is at its end.
+    ensures more { TellsMore (R.read source.old) (R.read source.new) (R.remaining source.old)
+        (R.remaining source.new) }
+    ensures known { (R.read source.new).is_at_end ≡ true → IsAtEnd (R.remaining source.new) }
+
+    // What the sink is known to hold grew by what it took.
+    ensures contents { (bytes : List ℕ) → (W.written sink.new).bytes ≡ (W.written sink.old).bytes ++ bytes
+        → Appends (W.contents sink.old) (W.contents sink.new) bytes }
+
+    // What the source takes, and what the sink tells, stay as they were.
+    ensures source_beside { R.beside source.new ≡ R.beside source.old }
+    ensures sink_beside { W.beside sink.new ≡ W.beside sink.old }
+{
+    let mut text = Vec::new(alloc);
+    let JointPart { part, faults, end } = read_each(
+        alloc,
+        past_faults,
+        source,
+        sink,
+        errors,
+        &mut text,
+    )?;
+    let joined = match push_joined(&mut text, alloc, Form::Audit, part, faults, &end) {
+        Ok(joined) => joined,
+        Err(Memory) => return Err(JoinsFault::Memory),
+    };
+    match write_all_of(sink, &text) {
+        Ok(()) => Ok(joined),
+        Err(_) => Err(JoinsFault::Write),
+    }
+}
+
+/// Reads parts as `read_parts` does, and writes the lines of their borders. The last are left in `text`, which is empty
+/// at first.
+fn read_each<A: Allocator + Copy, R: Source, W: Sink, E: Sink>(
+    alloc: A,
+    past: bool,
+    source: &mut R,
+    sink: &mut W,
+    errors: &mut E,
+    text: &mut Vec<u8, A>,
+) -> Result<JointPart<A>, JoinsFault>
+    requires read { R.read source.old ≡ nothing_read }
+    requires text { text.old.items ≡ [] }
+    ensures told { IsEachReading result past (R.read source.new) (W.written sink.old) (W.written sink.new)
+        (E.written errors.old) (E.written errors.new) text.new.items }
+    ensures more { TellsMore (R.read source.old) (R.read source.new) (R.remaining source.old)
+        (R.remaining source.new) }
+    ensures known { (R.read source.new).is_at_end ≡ true → IsAtEnd (R.remaining source.new) }
+    ensures contents { TakesMore (W.written sink.old) (W.written sink.new) (W.contents sink.old) (W.contents sink.new) }
+    ensures source_beside { R.beside source.new ≡ R.beside source.old }
+    ensures sink_beside { W.beside sink.new ≡ W.beside sink.old }
+{
+    let mut reader = match Reader::new(alloc, past) {
+        Ok(reader) => reader,
+        Err(Memory) => return Err(JoinsFault::Memory),
+    };
+    'lines: loop {
+        match reader.next(source) {
+            Ok(Some(told)) => {
+                tell_passed(errors, &told);
+                add_border(sink, text, &told)?;
+            }
+            Ok(None) => return Ok(reader.into_joint()),
+            Err(fault) => return Err(stop(sink, text, fault)),
+        }
+    }
+}
+
+/// Adds the line of a border, if a line of a part tells one, and writes what is gathered once it is much.
+fn add_border<A: Allocator, W: Sink>(
+    sink: &mut W,
+    text: &mut Vec<u8, A>,
+    told: &Told,
+) -> Result<(), JoinsFault>
+    ensures ok { OnOk result (MovesOn (W.written sink.old) (W.written sink.new) text.old.items text.new.items
+        (border_lines (border_by told.now))) }
+    ensures err { IfErr result (λ fault. IsCutShort fault (W.written sink.old) (W.written sink.new)
+        (text.old.items ++ border_lines (border_by told.now))) }
+    ensures contents { TakesMore (W.written sink.old) (W.written sink.new) (W.contents sink.old) (W.contents sink.new) }
+    ensures beside { W.beside sink.new ≡ W.beside sink.old }
+{
+    match push_told(text, told) {
+        Ok(()) => {}
+        Err(_) => return Err(JoinsFault::Memory),
+    }
+    if text.len() < GATHERED {
+        return Ok(());
+    }
+    match write_all_of(sink, text) {
+        Ok(()) => {
+            text.clear();
+            Ok(())
+        }
+        Err(_) => Err(JoinsFault::Write),
+    }
+}
+
+/// Writes what is gathered before a fault, and answers why nothing more is written.
+fn stop<W: Sink>(sink: &mut W, lines: &[u8], fault: PartsFault) -> JoinsFault
+    ensures flushed { IsFlushed (refusal fault) (W.written sink.old) (W.written sink.new) lines.now result }
+    ensures contents { TakesMore (W.written sink.old) (W.written sink.new) (W.contents sink.old) (W.contents sink.new) }
+    ensures beside { W.beside sink.new ≡ W.beside sink.old }
+{
+    match write_all_of(sink, lines) {
+        Ok(()) => refused(fault),
+        Err(_) => JoinsFault::Write,
+    }
+}
