@@ -1,5 +1,5 @@
 -- What joining parts comes to.
-use Rattle.std.specs.Prelude.{◌≡◌, ℕ, List, ◌++◌, nat_lt, if◌then◌else◌, Result, Ok, Err, codes, decimal}
+use Rattle.std.specs.Prelude.{◌≡◌, ℕ, List, ◌++◌, Bool, nat_lt, if◌then◌else◌, Result, Ok, Err, codes, decimal}
 use Rattle.mseed_stream.specs.Device.{BytesRead, BytesWritten}
 use Rattle.mseed_stream.specs.Telling.{Tells}
 use Rattle.mseed_audit.specs.Text.{fault_line}
@@ -7,6 +7,7 @@ use Rattle.mseed_join.specs.declared.joining.Joined.{Joined}
 use Rattle.mseed_join.specs.declared.joining.JoinsFault.{JoinsFault}
 use Rattle.mseed_join.specs.declared.joining.JoinsFault.TheVariants.{Line, Stream, Write, Memory}
 use Rattle.mseed_join.specs.Joins.{IsJoinOutcome}
+use Rattle.mseed_join.specs.JoinsEach.{IsJoinEachOutcome}
 use Rattle.mseed.specs.declared.request.Joining.{Joining}
 
 -- the exit status: that of the audit, where its text or its part was written
@@ -32,5 +33,13 @@ pub record IsJoinRun (joining : Joining) (outcome : Result Joined JoinsFault) (s
   pub told_between : BytesWritten
   pub outcome_is : IsJoinOutcome joining.form joining.past_faults outcome read written_old written_new
       told_old told_between
+  pub status_is : status ≡ join_status outcome
+  pub told : TellsOfJoin outcome told_between told_new
+
+-- joining parts with a line for each border with a finding, its status and its lines
+pub record IsJoinEachRun (past_faults : Bool) (outcome : Result Joined JoinsFault) (status : ℕ) (read : BytesRead)
+    (written_old written_new told_old told_new : BytesWritten) : Type 0 where
+  pub told_between : BytesWritten
+  pub outcome_is : IsJoinEachOutcome past_faults outcome read written_old written_new told_old told_between
   pub status_is : status ≡ join_status outcome
   pub told : TellsOfJoin outcome told_between told_new

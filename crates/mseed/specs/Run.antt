@@ -6,7 +6,7 @@ use Rattle.mseed_audit.specs.declared.each.EachFault.{EachFault}
 use Rattle.mseed_stream.specs.Device.{BytesRead, BytesWritten}
 use Rattle.mseed_stream.specs.declared.fault.StreamFault.{StreamFault}
 use Rattle.mseed.specs.Done.{IsMemoryRun, IsRefusedRun, IsShowRun}
-use Rattle.mseed.specs.Joined.{IsJoinRun}
+use Rattle.mseed.specs.Joined.{IsJoinEachRun, IsJoinRun}
 use Rattle.mseed.specs.Outcome.{IsAuditRun, IsBadRun, IsEachRun, IsPartRun, IsPartEachRun}
 use Rattle.mseed.specs.Plans.{IsFetchRun, IsServeRun}
 use Rattle.mseed.specs.Repacked.{IsRepackRun}
@@ -15,7 +15,7 @@ use Rattle.mseed.specs.declared.outcome.Run.{Run}
 use Rattle.mseed.specs.declared.outcome.Run.TheVariants as runs
 use Rattle.mseed.specs.declared.request.Request.{Request}
 use Rattle.mseed.specs.declared.request.Request.TheVariants.{Audit, AuditEach, AuditPart, AuditPartEach}
-use Rattle.mseed.specs.declared.request.Request.TheVariants.{Join, Show, Repack, Serve, Fetch}
+use Rattle.mseed.specs.declared.request.Request.TheVariants.{Join, JoinEach, Show, Repack, Serve, Fetch}
 use Rattle.mseed_join.specs.declared.joining.Joined.{Joined}
 use Rattle.mseed_join.specs.declared.joining.JoinsFault.{JoinsFault}
 
@@ -46,6 +46,8 @@ HasCarriedOut AuditPartEach run old new = (outcome : Result Summary EachFault)
     × IsStatusAnd run (λ status. IsPartEachRun outcome status new.input old.output new.output old.errors new.errors)
 HasCarriedOut (Join joining) run old new = (outcome : Result Joined JoinsFault) × IsStatusAnd run (λ status.
     IsJoinRun joining outcome status new.input old.output new.output old.errors new.errors)
+HasCarriedOut (JoinEach past_faults) run old new = (outcome : Result Joined JoinsFault) × IsStatusAnd run (λ status.
+    IsJoinEachRun past_faults outcome status new.input old.output new.output old.errors new.errors)
 HasCarriedOut Show run old new = (outcome : Result (Option StreamFault) ShowFault)
     × IsStatusAnd run (λ status. IsShowRun outcome status new.input old.output new.output old.errors new.errors)
 HasCarriedOut (Repack packing) run old new =

@@ -14,7 +14,7 @@ use Rattle.mseed.specs.Numbers.{number_in}
 use Rattle.mseed.specs.FeedWords.{CanFetch, CanServe, fetching_of, serving_of}
 use Rattle.mseed.specs.declared.request.Request.{Request}
 use Rattle.mseed.specs.declared.request.Request.TheVariants.{Audit, AuditEach, AuditPart, AuditPartEach}
-use Rattle.mseed.specs.declared.request.Request.TheVariants.{Join, Show, Repack, Serve, Fetch}
+use Rattle.mseed.specs.declared.request.Request.TheVariants.{Join, JoinEach, Show, Repack, Serve, Fetch}
 use Rattle.mseed_join.specs.declared.joining.Form.{Form}
 use Rattle.mseed_join.specs.declared.joining.Form.TheVariants as forms
 
@@ -87,20 +87,23 @@ auditing_of rows =
 
 -- what joining takes
 abbrev pub joining_names : List Text
-joining_names = codes "command" ∷ codes "part" ∷ codes "past-faults" ∷ []
+joining_names = codes "command" ∷ codes "each" ∷ codes "part" ∷ codes "past-faults" ∷ []
 
 -- the text of an audit, or a part
 abbrev pub form_by : Bool → Form
 form_by false = forms.Audit
 form_by true = forms.Part
 
+-- with a line for each border before the text of an audit, but not before a part
+abbrev pub joining_by : Bool → Bool → Bool → Option Request
+joining_by true true past_faults = None
+joining_by true false past_faults = Some (JoinEach past_faults)
+joining_by false part past_faults = Some (Join (record { form = form_by part; past_faults = past_faults }))
+
 abbrev pub joining_of : List Row → Option Request
 joining_of rows =
     if has_only joining_names rows
-    then Some (Join (record {
-      form = form_by (asks (codes "part") rows);
-      past_faults = asks (codes "past-faults") rows;
-    }))
+    then joining_by (asks (codes "each") rows) (asks (codes "part") rows) (asks (codes "past-faults") rows)
     else None
 
 -- what a command's word asks for
@@ -127,6 +130,7 @@ CanBeAsked AuditEach = ⊤
 CanBeAsked AuditPart = ⊤
 CanBeAsked AuditPartEach = ⊤
 CanBeAsked (Join joining) = ⊤
+CanBeAsked (JoinEach past_faults) = ⊤
 CanBeAsked Show = ⊤
 CanBeAsked (Repack packing) = (7 ≤ packing.exponent) × (packing.exponent ≤ 12)
 CanBeAsked (Serve serving) = CanServe serving

@@ -5,7 +5,7 @@ ghost use Rattle.mseed_audit.specs.declared.archive.AuditFault.{AuditFault};
 ghost use Rattle.mseed_audit.specs.declared.archive.Summary.{Summary};
 ghost use Rattle.mseed_audit.specs.declared.each.EachFault.{EachFault};
 ghost use Rattle.mseed_stream.specs.Telling.{Tells};
-ghost use Rattle.mseed.specs.Joined.{IsJoinRun, join_status};
+ghost use Rattle.mseed.specs.Joined.{IsJoinEachRun, IsJoinRun, join_status};
 ghost use Rattle.mseed_join.specs.declared.joining.Joined.{Joined};
 ghost use Rattle.mseed_join.specs.declared.joining.JoinsFault.{JoinsFault};
 ghost use Rattle.mseed.specs.Outcome.{IsAuditRun, IsEachRun, IsPartRun, IsPartEachRun, summary_status};
@@ -30,7 +30,7 @@ use crate::words;
 use clap::Error;
 use clap::error::ErrorKind;
 use mseed_audit::{AuditFault, EachFault, Summary, audit, audit_each};
-use mseed_join::{Joined, audit_part, audit_part_each, join};
+use mseed_join::{Joined, audit_part, audit_part_each, join, join_each};
 use mseed_pack::Options;
 use mseed_repack::repack;
 use mseed_stream::{Sink, Source, tell};
@@ -38,18 +38,18 @@ use std::alloc::{Allocator, Global};
 
 /// Carries out what the words of the command line ask for, those after the program's name.
 ///
-/// `audit` writes the audit of the records of `input` to `output`: status 0 where every channel is
-/// continuous, 1 where one is broken, and 2 where the input ended with a fault, which the text names, or
-/// where the text couldn't be written whole; with `--each` a line for each record with a finding comes first, and with
-/// `--part` the part of the archive is written instead of the text. `join` reads parts, one behind another, and writes
-/// the audit of their archives one behind another, or with `--part` their joint part. `show`
-/// lists the records: status 0, or 2 where the input ended with a fault, which the listing names, or where it couldn't
-/// be written whole. `repack` packs the archive anew: status 0, 1 where a channel is broken, and 2 where the input is
-/// no whole archive, where a channel can't be packed, or where the output failed; `errors` takes a line that says so.
-/// `serve` fills a feed with the records of `input` and answers how it is to be served, or status 2 with a line where
-/// they aren't all the feed's or don't end where a record ends. `fetch` answers what is to be fetched. Other words are
-/// a bad command line: status 3. Where there was no memory for the words, status 2. The input is one of which nothing
-/// was read yet.
+/// `audit` writes the audit of the records of `input` to `output`: status 0 where every channel is continuous, 1 where
+/// one is broken, and 2 where the input ended with a fault, which the text names, or where the text couldn't be written
+/// whole; with `--each` a line for each record with a finding comes first, and with `--part` the part of the archive is
+/// written instead of the text. `join` reads parts, one behind another, and writes the audit of their archives one
+/// behind another, or with `--part` their joint part; with `--each` a line for each border with a finding comes before
+/// the audit. `show` lists the records: status 0, or 2 where the input ended with a fault, which the listing names, or
+/// where it couldn't be written whole. `repack` packs the archive anew: status 0, 1 where a channel is broken, and 2
+/// where the input is no whole archive, where a channel can't be packed, or where the output failed; `errors` takes a
+/// line that says so. `serve` fills a feed with the records of `input` and answers how it is to be served, or status 2
+/// with a line where they aren't all the feed's or don't end where a record ends. `fetch` answers what is to be
+/// fetched. Other words are a bad command line: status 3. Where there was no memory for the words, status 2. The input
+/// is one of which nothing was read yet.
 pub fn run<R: Source, W: Sink, E: Sink>(
     alloc: Global,
     words: &[&str],
@@ -98,6 +98,9 @@ pub fn carry_out<A: Allocator + Copy, R: Source, W: Sink, E: Sink>(
         Request::AuditPart => Run::Status(run_audit_part(alloc, input, output, errors)),
         Request::AuditPartEach => { Run::Status(run_audit_part_each(alloc, input, output, errors)) }
         Request::Join(joining) => Run::Status(run_join(alloc, joining, input, output, errors)),
+        Request::JoinEach { past_faults } => {
+            Run::Status(run_join_each(alloc, past_faults, input, output, errors))
+        }
         Request::Show => Run::Status(run_show(alloc, input, output, errors)),
         Request::Repack(packing) => Run::Status(run_repack(alloc, packing, input, output, errors)),
         Request::Serve(serving) => plan_serve(alloc, &serving, input, errors),
@@ -197,6 +200,25 @@ fn run_join<A: Allocator + Copy, R: Source, W: Sink, E: Sink>(
         output,
         errors,
     ) {
+        Ok(joined) => joined_status(joined),
+        Err(fault) => refuse_to_join(errors, &fault),
+    }
+}
+
+/// Joins parts, tells each border with a finding, and says on `errors` which faults were passed, and why not all was
+/// written.
+fn run_join_each<A: Allocator + Copy, R: Source, W: Sink, E: Sink>(
+    alloc: A,
+    past_faults: bool,
+    input: &mut R,
+    output: &mut W,
+    errors: &mut E,
+) -> u8
+    requires { R.read input.old ≡ nothing_read }
+    ensures { (outcome : Result Joined JoinsFault) × IsJoinEachRun past_faults outcome result (R.read input.new)
+        (W.written output.old) (W.written output.new) (E.written errors.old) (E.written errors.new) }
+{
+    match join_each(alloc, past_faults, input, output, errors) {
         Ok(joined) => joined_status(joined),
         Err(fault) => refuse_to_join(errors, &fault),
     }

@@ -18,8 +18,9 @@ pub const COMMANDS: &str = "Commands:
   join    the audit of archives one behind another, from a part of each
           reads the parts that audit --part wrote, one behind another in the archives' order,
           writes the lines of an audit, with its statuses
-          options: --part, in place of the lines the joint part; --past-faults, go on behind
-          a part that ends with a fault, tell the fault and count it: status 2
+          options: --part, in place of the lines the joint part; or --each, first a line for
+          each finding between the end of a channel in one archive and its begin in a later one;
+          --past-faults, go on behind a part that ends with a fault, tell the fault and count it: status 2
             mseed join < january.parts
   show    lists the records
           reads an archive, writes a line for each record

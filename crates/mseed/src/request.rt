@@ -17,6 +17,11 @@ pub enum Request {
     AuditPartEach,
     /// Join the parts on standard input.
     Join(Joining),
+    /// Join them, and tell each border with a finding.
+    JoinEach {
+        /// Whether parts behind one that ends with a fault count.
+        past_faults: bool,
+    },
     /// List the records on standard input.
     Show,
     /// Pack the archive on standard input anew.

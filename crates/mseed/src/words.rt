@@ -7,7 +7,7 @@ ghost use Rattle.clap.specs.Simple.{app_of, with_rule};
 ghost use Rattle.clap.specs.Kinds.{HasKind};
 ghost use Rattle.clap.specs.declared.builder.value_parser.ValueParser.TheVariants.{Signed};
 ghost use Rattle.mseed.specs.Words.{faults_in, entries_in, request_of, request_named, packing_of, packing_with};
-ghost use Rattle.mseed.specs.Words.{CanBeAsked, auditing_by, auditing_of, form_by, joining_of, showing_of};
+ghost use Rattle.mseed.specs.Words.{CanBeAsked, auditing_by, auditing_of, form_by, joining_by, joining_of, showing_of};
 ghost use Rattle.mseed.specs.Words.{exponent_in, exponent_by, encoding_in, encoding_named};
 ghost use Rattle.mseed.specs.Options.{bare_command, the_command, word_rule, places_rule, packing_rules, feed_rules};
 ghost use Rattle.mseed.specs.Options.{number_rules, flag_rule, flag_rules, option_rule, number_rule, with_rules};
@@ -97,13 +97,29 @@ fn joining_of(matches: &ArgMatches<'_>) -> Option<Request>
     ensures value { result ≡ joining_of (rows_of (found_of matches.now)) }
     ensures range { IfSome result CanBeAsked }
 {
-    if !has_only(matches, &["command", "part", "past-faults"]) {
+    if !has_only(matches, &["command", "each", "part", "past-faults"]) {
         return None;
     }
-    Some(Request::Join(Joining {
-        form: form_by(asks(matches, "part")),
-        past_faults: asks(matches, "past-faults"),
-    }))
+    joining_by(
+        asks(matches, "each"),
+        asks(matches, "part"),
+        asks(matches, "past-faults"),
+    )
+}
+
+/// What joining is asked for: with a line for each border, the text of the audit alone.
+fn joining_by(each: bool, part: bool, past_faults: bool) -> Option<Request>
+    ensures value { result ≡ joining_by each part past_faults }
+    ensures range { IfSome result CanBeAsked }
+{
+    match (each, part) {
+        (true, true) => None,
+        (true, false) => Some(Request::JoinEach { past_faults }),
+        (false, part) => Some(Request::Join(Joining {
+            form: form_by(part),
+            past_faults,
+        })),
+    }
 }
 
 /// What joining writes: the text of an audit, or a part.
@@ -335,7 +351,7 @@ fn with_flags<'a>(alloc: Global, command: Command<'a>) -> Result<Command<'a>, Al
         alloc,
         command,
         "each",
-        "audit: before its lines, a line for each record with a finding",
+        "audit: before its lines, a line for each record with a finding; join: for each border with one",
     )?;
     let command = with_flag(
         alloc,
