@@ -273,28 +273,105 @@ def past_faults() -> Cases:
 BHN_FIRST, BHN_LATE = OF_FIRST.replace(KEY, BHN_KEY), OF_LATE.replace(KEY, BHN_KEY)
 
 
+# The lines of these borders, where each part has two records of 128 bytes.
+BHN_BORDER, BHZ_BORDER = (f"256 {name} record 3 start 2024-01-01T00:00:00.825001 gap 25001\n" for name in (BHN, BHZ))
+
+
 def bad_behind_borders() -> Cases:
-    """Of a text with a bad line nothing is written, and the faults before it are all that is told."""
+    """Of a text with a bad line nothing is written, or with `--each` the lines of the borders before it; and the faults
+    before it are all that is told."""
     first, two = part(BHN_FIRST, OF_FIRST, counts(2, 256)), counts(2, 256)
-    for name, second, line in (
-        ("the first line", "mseed part 2\n", 5),
-        ("a first channel", part("none", OF_LATE, two), 6),
-        ("a second channel", part(BHN_LATE, "none", two), 7),
-        ("a channel again", part(BHN_LATE, BHN_LATE, two), 7),
-        ("a sum that passes", part(BHN_LATE, OF_LATE.replace("samples 16", f"samples {2**63 - 1}"), two), 7),
-        ("a sum of counts that passes", part(BHN_LATE, OF_LATE, counts(2**63 - 1, 0)), 8),
-        ("no counts", part(BHN_LATE, OF_LATE), 8),
-        ("a last line without its end", part(BHN_LATE, OF_LATE)[:-1], 7),
-        ("the counts", part(BHN_LATE, OF_LATE, "records 2 bytes -1"), 8),
-        ("the faults", part(BHN_LATE, OF_LATE, two, "faults 0"), 9),
-        ("a fault", part(BHN_LATE, OF_LATE, two, "faults 1", "fault at 256 nodata"), 10),
-        ("a line behind", part(BHN_LATE, OF_LATE, two, "fault at 256 order") + "end\n", 10),
+    one, all_of = BHN_BORDER, BHN_BORDER + BHZ_BORDER
+    for name, second, line, lines in (
+        ("the first line", "mseed part 2\n", 5, ""),
+        ("a first channel", part("none", OF_LATE, two), 6, ""),
+        ("a second channel", part(BHN_LATE, "none", two), 7, one),
+        ("a channel again", part(BHN_LATE, BHN_LATE, two), 7, one),
+        ("a sum that passes", part(BHN_LATE, OF_LATE.replace("samples 16", f"samples {2**63 - 1}"), two), 7, one),
+        ("a sum of counts that passes", part(BHN_LATE, OF_LATE, counts(2**63 - 1, 0)), 8, all_of),
+        ("no counts", part(BHN_LATE, OF_LATE), 8, all_of),
+        ("a last line without its end", part(BHN_LATE, OF_LATE)[:-1], 7, one),
+        ("the counts", part(BHN_LATE, OF_LATE, "records 2 bytes -1"), 8, all_of),
+        ("the faults", part(BHN_LATE, OF_LATE, two, "faults 0"), 9, all_of),
+        ("a fault", part(BHN_LATE, OF_LATE, two, "faults 1", "fault at 256 nodata"), 10, all_of),
+        ("a line behind", part(BHN_LATE, OF_LATE, two, "fault at 256 order") + "end\n", 10, all_of),
     ):
         text, error = (first + second).encode(), f"mseed: bad part at line {line}\n"
-        for words in (["--past-faults"], ["--part"], []):
+        for words in (["--past-faults"], ["--part"], [], ["--each"], ["--each", "--past-faults"]):
             told = "mseed: part 2 fault at 256 order\n" if "order" in second and "--past-faults" in words else ""
-            yield Row(f"{name} is bad: join {' '.join(words)}", text, ["join", *words], 2, b"",
-                      (told + error).encode())
+            yield Row(f"{name} is bad: join {' '.join(words)}", text, ["join", *words], 2,
+                      lines.encode() if "--each" in words else b"", (told + error).encode())
+
+
+def tells(name: str, status: int, parts: Sequence[str], lines: str, text: str, errors: str = "",
+          more: Sequence[str] = ()) -> Iterator[Row]:
+    """With `--each` these parts give these lines of borders, and then this text."""
+    words = ["join", "--each", *more]
+    yield from both(Row(f"{name}: {' '.join(words)}", "".join(parts).encode(), words, status, (lines + text).encode(),
+                        errors.encode()))
+
+
+def each_border() -> Cases:
+    """A line for each border with a finding."""
+    one = f"128 {BHZ} record 2 start 2024-01-01T00:00:00.825001 gap 25001\n"
+    text = f"{FOUND}records 2 channels 1\n"
+    yield from tells("a gap at a border", 1, [FIRST, LATE], one, text)
+    yield from tells("a sound border", 0, [FIRST, NEXT], "", TWO)
+    yield from tells("a gap within a part", 1, [part(OF_BOTH, counts(2, 256))], "", text)
+    yield from tells("no part at all", 0, [], "", "records 0 channels 0\n")
+    first, second = part(BHN_FIRST, OF_FIRST, counts(2, 256)), part(BHN_LATE, OF_LATE, counts(2, 256))
+    yield from tells("two channels", 1, [first, second], BHN_BORDER + BHZ_BORDER,
+                     f"{BHN} broken findings 1 first record 3 offset 256 gap 25001\n"
+                     f"{BHZ} broken findings 1 first record 3 offset 256 gap 25001\nrecords 4 channels 2\n")
+    # The channels ascend within a part, wherever their records lie.
+    behind = part(BHN_LATE.replace("head 1 0", "head 2 128"), OF_LATE, counts(2, 256))
+    yield from tells("the second channel first", 1, [first, behind],
+                     BHN_BORDER.replace("256 XX_STA__BHN record 3", "384 XX_STA__BHN record 4") + BHZ_BORDER,
+                     f"{BHN} broken findings 1 first record 4 offset 384 gap 25001\n"
+                     f"{BHZ} broken findings 1 first record 3 offset 256 gap 25001\nrecords 4 channels 2\n")
+    back = "start 2024-01-01T00:00:00.000000 overlap 1625001\n"
+    yield from tells("part after part", 1, [first, second, first],
+                     f"{BHN_BORDER}{BHZ_BORDER}512 {BHN} record 5 {back}512 {BHZ} record 5 {back}",
+                     f"{BHN} broken findings 2 first record 3 offset 256 gap 25001\n"
+                     f"{BHZ} broken findings 2 first record 3 offset 256 gap 25001\nrecords 6 channels 2\n")
+    yield from tells("a channel that a part between hasn't", 1, [FIRST, part(channel(BHN_KEY), ONE), LATE],
+                     f"256 {BHZ} record 3 start 2024-01-01T00:00:00.825001 gap 25001\n",
+                     f"{BHN} {NONE} records 1 samples 16\n"
+                     f"{BHZ} broken findings 1 first record 3 offset 256 gap 25001\nrecords 3 channels 2\n")
+    yield from tells("a finding of its own is no border's", 1, [FIRST, part(UNREAD, ONE)], "",
+                     f"{BHZ} broken findings 1 first record 2 offset 128 encoding 4\nrecords 2 channels 1\n")
+    yield from tells("a tail without a time", 1, [part(TIMELESS, ONE), LATE], "",
+                     f"{BHZ} broken findings 1 first record 1 offset 0 time day\nrecords 2 channels 1\n")
+    yield from tells("a tail with a finding of its own", 1, [part(UNREAD, ONE), LATE],
+                     f"128 {BHZ} record 2 start 2024-01-01T00:00:00.825001 overlap 774999\n",
+                     f"{BHZ} broken findings 2 first record 1 offset 0 encoding 4\nrecords 2 channels 1\n")
+    late = begins(START + 800000, "40/1")
+    yield from tells("another rate", 1, [FIRST, part(late, ONE)],
+                     f"128 {BHZ} record 2 start 2024-01-01T00:00:00.800000 ratechange\n",
+                     f"{BHZ} broken findings 1 first record 2 offset 128 ratechange\nrecords 2 channels 1\n")
+    yield from tells("both leap seconds", 1, [part(begins(START, leap="both"), ONE), NEXT],
+                     f"128 {BHZ} record 2 start 2024-01-01T00:00:00.800000 leap\n",
+                     f"{BHZ} broken findings 1 first record 2 offset 128 leap\nrecords 2 channels 1\n")
+    yield from tells("the first instant", 1, [part(begins(LAST_INSTANT), ONE), part(begins(FIRST_INSTANT), ONE)],
+                     f"128 {BHZ} record 2 start 1800-01-01T00:00:00.000000 overlap 12622780800799999\n",
+                     f"{BHZ} broken findings 1 first record 2 offset 128 overlap 12622780800799999\n"
+                     "records 2 channels 1\n")
+
+
+def each_behind_faults() -> Cases:
+    """Borders behind a part that ends by a fault: none, but with `--past-faults`."""
+    cut = "fault at 128 truncated 10"
+    faulty, one = part(OF_FIRST, ONE, cut), f"128 {BHZ} record 2 start 2024-01-01T00:00:00.825001 gap 25001\n"
+    yield from tells("a part behind a fault", 2, [faulty, LATE], "",
+                     f"{BHZ} {NONE} records 1 samples 16\nrecords 1 channels 1\n{cut}\n")
+    yield from tells("a gap and a fault behind it", 2, [FIRST, part(OF_LATE, ONE, cut), FIRST], one,
+                     f"{FOUND}records 2 channels 1\nfault at 256 truncated 10\n")
+    past = ["--past-faults"]
+    yield from tells("no fault", 1, [FIRST, LATE], one, f"{FOUND}records 2 channels 1\n", more=past)
+    yield from tells("a fault between", 2, [faulty, LATE], one, f"{FOUND}records 2 channels 1\nfaults 1\n",
+                     f"mseed: part 1 {cut}\n", past)
+    yield from tells("a fault at the end", 2, [FIRST, part(OF_LATE, ONE, cut)], one,
+                     f"{FOUND}records 2 channels 1\nfaults 1\n", f"mseed: part 2 {cut}\n", past)
 
 
 def words() -> Cases:
@@ -316,7 +393,9 @@ def words() -> Cases:
                          ("join --past-faults --past-faults", "past-faults"), ("join --past-faults=1", "past-faults")):
         yield Row(given, text, given.split(), 3, b"", About(about), left=len(text))
     lines, joint = f"{FOUND}records 2 channels 1\n", part(OF_BOTH, counts(2, 256))
-    for given, out in (("--part join", joint), ("--past-faults join", lines), ("--past-faults --part join", joint)):
+    each = f"128 {BHZ} record 2 start 2024-01-01T00:00:00.825001 gap 25001\n{lines}"
+    for given, out in (("--part join", joint), ("--past-faults join", lines), ("--past-faults --part join", joint),
+                       ("--each join", each), ("join --each", each), ("--past-faults join --each", each)):
         yield Row(given, text, given.split(), 1, out.encode())
     for word in ("join", "--part", "--past-faults"):
         yield Row(f"help: {word}", b"", ["--help"], 3, b"", About(word))
@@ -324,5 +403,6 @@ def words() -> Cases:
 
 def rows() -> Cases:
     """All of them."""
-    for some in (worked, borders, far_borders, firsts, channels, faults, past_faults, bad_behind_borders, words):
+    for some in (worked, borders, far_borders, firsts, channels, faults, past_faults, bad_behind_borders, each_border,
+                 each_behind_faults, words):
         yield from some()

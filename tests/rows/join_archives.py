@@ -53,6 +53,16 @@ def by_offset(line: bytes) -> int:
     return int(offset) if offset.isdigit() else 0
 
 
+def merged(texts: Sequence[bytes], parts: Sequence[bytes], borders: bytes) -> bytes:
+    """The lines of findings before each of these parts, behind the records of the parts before, and those of the
+    borders, by their offsets."""
+    lines, records, size = borders.splitlines(keepends=True), 0, 0
+    for text, part in zip(texts, parts):
+        lines += gone_up(text.removesuffix(part), records, size)
+        records, size = (sum(both) for both in zip((records, size), counts_of(part)))
+    return b"".join(sorted(lines, key=by_offset))
+
+
 def in_groups(source: Random, parts: Sequence[bytes]) -> list[bytes]:
     """The parts one behind another, in up to four groups, some of which may be empty."""
     places = sorted(source.randrange(len(parts) + 1) for _ in range(source.randrange(4)))
@@ -70,10 +80,13 @@ def cut_archive(seed: int) -> Seen:
         parts = [text[text.index(BEGIN) :] for text in texts]
         text, audited = b"".join(parts), run("audit", archive)
         joint = [run("join --part", group).out for group in in_groups(source, parts)]
-        borders = join(text, each=True)[1]
+        borders, each = join(text, each=True)[1], run("join --each", text)
         name = f"the archive of seed {seed}, in {len(pieces)} pieces"
         facts = [
             Fact(f"{name}: join", audited, run("join", text)),
+            Fact(f"{name}: join --each", audited._replace(out=borders), each),
+            Fact(f"{name}: the lines of the pieces and of the borders, by offset", run("audit --each", archive).out,
+                 merged(texts, parts, each.out.removesuffix(audited.out)) + audited.out),
             Fact(f"{name}: join, by way of {len(joint)} joint parts", (audited, run("audit --part", archive)),
                  (run("join", b"".join(joint)), run("join --part", b"".join(joint)))),
         ]

@@ -27,6 +27,7 @@ from rows.parts import BHZ, LATER, OF_BOTH, OF_FIRST, OF_LATE, START, part
 # Two parts with a gap between them, without faults and with one each.
 GAPPED = f"{FIRST}{LATE}"
 TEXT = f"{FOUND}records 2 channels 1\n"
+BORDER = f"128 {BHZ} record 2 start 2024-01-01T00:00:00.825001 gap 25001\n"
 JOINT = part(OF_BOTH, counts(2, 256))
 CUT = "fault at 128 truncated 10"
 FAULTY = part(OF_FIRST, ONE, CUT) + part(OF_LATE, ONE, CUT)
@@ -50,9 +51,12 @@ def reads(failing: str, text: str, words: Sequence[str], size: int, out: str, er
 
 def inputs(failing: str) -> Cases:
     """Inputs that fail: what stands on the lines before is read."""
+    # The border is in the fifth line.
+    found = len(FIRST) + LATE.index("records 1 bytes")
     for size in range(len(GAPPED) + 1):
         fault = f"mseed: fault at {size} read\n"
         yield from reads(failing, GAPPED, ["join"], size, "", fault)
+        yield from reads(failing, GAPPED, ["join", "--each"], size, BORDER if size >= found else "", fault)
         yield from reads(failing, GAPPED, ["join", "--part"], size, "", fault)
     for size in range(len(FAULTY) + 1):
         lines = FAULTY[:size].count("\n")
@@ -63,6 +67,7 @@ def inputs(failing: str) -> Cases:
     for size in range(end - 30, end + 60):
         error = f"mseed: fault at {size} read\n" if size < end else "mseed: bad part at line 8\n"
         yield from reads(failing, BAD, ["join"], size, "", error)
+        yield from reads(failing, BAD, ["join", "--each"], size, BORDER, error)
     yield Row("an input that can't be read", ROOT, ["join"], 2, b"", b"mseed: fault at 0 read\n")
 
 
@@ -71,6 +76,8 @@ def outputs(failing: str) -> Cases:
     two = f"{BHZ} {NONE} records 2 samples 32\nrecords 2 channels 1\n"
     for words, parts, status, text, told in (
         ([], FIRST + NEXT, 0, two, ""), ([], GAPPED, 1, TEXT, ""), (["--part"], GAPPED, 1, JOINT, ""),
+        (["--each"], GAPPED, 1, BORDER + TEXT, ""),
+        (["--each", "--past-faults"], FAULTY, 2, f"{BORDER}{TEXT}faults 2\n", "".join(TOLD)),
         (["--part", "--past-faults"], FAULTY, 2, part(OF_BOTH, counts(2, 256), "faults 2"), "".join(TOLD)),
     ):
         words = ["join", *words]
@@ -83,6 +90,13 @@ def outputs(failing: str) -> Cases:
     yield Row("a full output", GAPPED.encode(), ["join"], 2, b"", WRITE_FAILED, out_to="/dev/full")
     yield Row("a full output, and nothing to write", BAD.encode(), ["join"], 2, b"", b"mseed: bad part at line 8\n",
               out_to="/dev/full")
+    # What is found before a bad line is written before it.
+    yield Row("a full output, and a border before a bad line", BAD.encode(), ["join", "--each"], 2, b"", WRITE_FAILED,
+              out_to="/dev/full")
+    for room in range(len(BORDER) + 1):
+        error = WRITE_FAILED if room < len(BORDER) else b"mseed: bad part at line 8\n"
+        yield Row(f"join --each of a bad line onto an output that takes {room} bytes", BAD.encode(), ["join", "--each"],
+                  2, BORDER[:room].encode(), error, env=preloaded(failing, WRITE_ROOM=room))
 
 
 def errors(failing: str) -> Cases:
@@ -91,7 +105,8 @@ def errors(failing: str) -> Cases:
     past = part(OF_BOTH, counts(2, 256), "faults 2")
     for words, parts, out, lines in (([], BAD, "", bad),
                                      (["--past-faults", "--part"], FAULTY, past, told),
-                                     (["--past-faults", "--part"], FAULTY + "none\n", "", told)):
+                                     (["--past-faults", "--part"], FAULTY + "none\n", "", told),
+                                     (["--each"], BAD, BORDER, bad)):
         words = ["join", *words]
         for room in range(len(lines) + 1):
             yield Row(f"{' '.join(words)} onto a standard error that takes {room} bytes of {lines!r}", parts.encode(),
@@ -123,10 +138,10 @@ def refusals(refusing: str) -> Cases:
     """Each allocation refused in turn."""
     two = part(channel(BHN_KEY), OF_FIRST, counts(2, 256))
     parts = (two + part(OF_LATE, ONE) + two.replace(str(START), str(LATER))).encode()
-    for words, status in (([], 1), (["--part"], 1), (["--past-faults"], 1),
+    for words, status in (([], 1), (["--part"], 1), (["--past-faults"], 1), (["--each"], 1),
                           (["--part", "--past-faults"], 1), (["--each", "--part"], 3)):
         words = ["join", *words]
-        yield from refuses(" ".join(words), Row("", parts, words, status), refusing)
+        yield from refuses(" ".join(words), Row("", parts, words, status), refusing, "--each" in words)
     past, none = ["join", "--past-faults", "--part"], b"none\n"
     faulty, told = FAULTY.encode(), "".join(TOLD).encode()
     yield from tells(refusing, "a bad line", Row("", parts + none, ["join"], 2, b"", b"mseed: bad part at line 12\n"))
@@ -207,7 +222,9 @@ def memory() -> Cases:
     joint = channel(records=MANY, samples=16 * MANY, tail=f"{START + SECOND * (MANY - 1)} 16 20/1 none",
                     findings=f"{MANY - 1} first 2 128 gap 200000")
     found = f"{BHZ} broken findings {MANY - 1} first record 2 offset 128 gap 200000\nrecords {MANY} channels 1\n"
-    for words, out in (([], found.encode()), (["--part"], part(joint, counts(MANY, 128 * MANY)).encode())):
+    lines = join(text, each=True)[1]
+    for words, out in (([], found.encode()), (["--part"], part(joint, counts(MANY, 128 * MANY)).encode()),
+                       (["--each"], lines)):
         came, peak = peak_over(["join", *words], text)
         name = f"{MANY} parts: join {' '.join(words)}"
         yield Fact(name, Result(1, out, b""), came)

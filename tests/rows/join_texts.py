@@ -18,6 +18,9 @@ from rows.parts import KEY, OF_LATE, START, part
 SEED = 20260415
 COUNT = 2000
 
+# Each set of options that go together.
+ALL = [*OPTIONS, ["--each"], ["--each", "--past-faults"]]
+
 
 def joined(text: bytes, words: Sequence[str]) -> Result:
     """What the second program says of parts, with these options."""
@@ -42,7 +45,7 @@ def bytes_changed() -> Cases:
                 if other == byte:
                     continue
                 text = TRIED[:offset] + other + TRIED[offset + 1 :]
-                words = OPTIONS[(offset + number) % len(OPTIONS)]
+                words = ALL[(offset + number) % len(ALL)]
                 wanted = joined(text, words)
                 seen["refused" if b"bad part" in wanted.err else "accepted"] += 1
                 yield Fact(f"{other!r} in the place of byte {offset}: join {' '.join(words)}", wanted,
@@ -102,7 +105,7 @@ def kinds_of(each: Result) -> list[str]:
 
 
 def at_random() -> Cases:
-    """Parts at random, with two of the options, and by way of joint parts."""
+    """Parts at random, with three sets of the options, and by way of joint parts."""
     kinds: Counter[str] = Counter()
     with Batch() as batch:
         for seed in range(SEED, SEED + COUNT):
@@ -110,7 +113,7 @@ def at_random() -> Cases:
             parts = [part_for(source).encode() for _ in range(source.randrange(1, 6))]
             text = b"".join(parts)
             kinds.update(kinds_of(joined(text, ["--each"])))
-            for words in source.sample(OPTIONS, 2):
+            for words in source.sample(ALL, 3):
                 yield Fact(f"{name}: join {' '.join(words)}", joined(text, words), batch.run(["join", *words], text))
             groups = in_groups(source, parts)
             if not any(b"bad part" in joined(some, ["--part"]).err for some in [text, *groups]):
