@@ -20,6 +20,12 @@ pub six : (n : ℕ) → n < 2 ^ 24 → hexadecimal 6 n ≡ digit_byte (n / 10485
 unfolding hexadecimal
 six n h = same_digits _ _ _ _ _ _ _ _ _ _ (n % 16) (omega arith) (omega arith) (omega arith) (omega arith) refl
 
+-- the last six digits of any number
+pub last_six : (n : ℕ) → hexadecimal 6 n ≡ digit_byte (n / 1048576 % 16) ∷ digit_byte (n / 65536 % 16) ∷ digit_byte
+    (n / 4096 % 16) ∷ digit_byte (n / 256 % 16) ∷ digit_byte (n / 16 % 16) ∷ digit_byte (n % 16) ∷ []
+unfolding hexadecimal
+last_six n = same_digits _ _ _ _ _ _ _ _ _ _ (n % 16) (omega arith) (omega arith) (omega arith) (omega arith) refl
+
 -- one digit more
 hexadecimal_more : (k n d : ℕ) → d < 16 → hexadecimal (k + 1) (n * 16 + d) ≡ hexadecimal k n ++ digit_byte d ∷ []
 unfolding hexadecimal

@@ -40,6 +40,10 @@ abbrev pub SpellsPlace : List ℕ → Fields → Type 0
 SpellsPlace text fields = (sta net : List ℕ) × IsCode 5 sta × IsCode 2 net × (text ≡ net ++ 95 ∷ sta)
     × (fields ≡ fields_of sta net)
 
+-- the text that spells a place
+abbrev pub label_of : Fields → List ℕ
+label_of fields = code_in fields.network ++ 95 ∷ code_in fields.station
+
 -- the place has this station, in this network or in any
 abbrev pub matches : Fields → List ℕ → Option (List ℕ) → Bool
 matches place sta None = bytes_eq place.station sta

@@ -15,6 +15,21 @@ fn digit_byte(digit: u8) -> u8
     }
 }
 
+/// The six digits of a number, modulo 2^24, in capitals.
+#[tactic(auto, using(crate::proofs::Digits::last_six))]
+pub fn six_digits(number: u32) -> [u8; 6]
+    ensures { result ≡ hexadecimal 6 number }
+{
+    [
+        digit_byte(((number >> 20) % 16) as u8),
+        digit_byte(((number >> 16) % 16) as u8),
+        digit_byte(((number >> 12) % 16) as u8),
+        digit_byte(((number >> 8) % 16) as u8),
+        digit_byte(((number >> 4) % 16) as u8),
+        digit_byte((number % 16) as u8),
+    ]
+}
+
 /// What stands before the record in a packet: `SL` and the six digits of its number.
 #[tactic(auto, using(crate::proofs::Digits::six))]
 pub(crate) fn header(number: u32) -> [u8; 8]

@@ -16,6 +16,7 @@ mod tests;
 mod words;
 
 pub use command::Command;
+pub use hexadecimal::six_digits;
 pub use law::{any_pieces, lines_read_back, one_command, one_packet, requests_are_lines};
 pub use lines::{Lines, Took, What};
 pub use packet::{NotPacket, Packet};

@@ -1,10 +1,12 @@
 //! Whose records a feed has.
-ghost use Rattle.std.specs.Prelude.{◌≡◌, ◌↔◌, ◌≤◌, IsTrue, IsOk, IfOk, IsOkAnd, OnErr, length};
+ghost use Rattle.std.specs.Prelude.{◌≡◌, ◌+◌, ◌++◌, ◌↔◌, ◌≤◌, IsTrue, IsOk, IfOk, IsOkAnd, OnErr, length};
 ghost use Rattle.std.specs.List.{list_all};
 ghost use Rattle.std.specs.Char.{is_ascii_alphanumeric};
-ghost use Rattle.slink_wire.specs.Place.{Bears, Fields, IsCode, SpellsPlace, code_in, filled, fields_of, matches};
+ghost use Rattle.slink_wire.specs.Place.{Bears, Fields, IsCode, SpellsPlace, code_in, filled, fields_of, label_of};
+ghost use Rattle.slink_wire.specs.Place.{matches};
 
 use crate::cut::{first, parts};
+use arrayvec::ArrayVec;
 use std::marker::Model;
 
 /// No station and network of 1 to 5 and 1 to 2 ASCII letters or digits.
@@ -61,6 +63,15 @@ fn code_in(field: &[u8]) -> &[u8]
     &field[..first(field, b' ')]
 }
 
+/// Puts bytes behind a label.
+fn put(label: &mut ArrayVec<u8, 8>, bytes: &[u8])
+    requires { length label.old.items + length bytes.now ≤ 8 }
+    ensures { label.new.items ≡ label.old.items ++ bytes.now }
+{
+    // There is room.
+    let _ = label.try_extend_from_slice(bytes);
+}
+
 impl Place {
     /// The place of a station code, 1 to 5 ASCII letters or digits, and a network code, 1 or 2 of them.
     ///
@@ -113,6 +124,19 @@ impl Place {
         ensures field { filled 2 result.now ≡ self.now.network }
     {
         code_in(&self.network)
+    }
+
+    /// The text that spells it: the network's code, an underscore, and the station's code.
+    pub fn label(&self) -> ArrayVec<u8, 8>
+        ensures value { result.items ≡ label_of self.now }
+        // Who reads it takes it for this place.
+        ensures spelled { SpellsPlace result.items self.now }
+    {
+        let mut label = ArrayVec::new();
+        put(&mut label, self.network());
+        put(&mut label, b"_");
+        put(&mut label, self.station());
+        label
     }
 
     /// Whether this is a place that a command names: its station, in its network or in any.
