@@ -10,7 +10,8 @@ use Rattle.slink_feed.specs.declared.dialogue.Stage.{Stage}
 use Rattle.slink_feed.specs.declared.dialogue.Stage.TheVariants.{Unlinked, Station, Number, Packets, Ended}
 use Rattle.slink_feed.specs.declared.dialogue.Wanted.{Wanted}
 use Rattle.slink_feed.specs.Dialogue.{Talk, Whole, Reply, Packet, End, Garbage, answer_of, at_packet, bearer, ended}
-use Rattle.slink_feed.specs.Dialogue.{read_at, if_wanted, next_at, says_number, says_place, to_answer, to_place, told}
+use Rattle.slink_feed.specs.Dialogue.{read_at, if_wanted, is_taken, next_at, says_number, says_place, to_answer}
+use Rattle.slink_feed.specs.Dialogue.{to_place, told}
 use Rattle.slink_feed.specs.Dialogue.{want_at}
 use Rattle.slink_feed.specs.Fetching.{line_written, record_told}
 use Rattle.slink_feed.specs.Listening.{Brings, IsLinked, Listening, begun, whole}
@@ -44,7 +45,7 @@ at_number t k n want r false linked = at_end t (endings.Gap k want n)
 
 at_wanted : (t : Talk) (k n : ℕ) (r : List ℕ) (o : Option ℕ) → IsLinked t.stage → GoesOn (if_wanted o k n r t)
 at_wanted t k n r None linked = goes_on linked
-at_wanted t k n r (Some want) linked = at_number t k n want r (n == want) linked
+at_wanted t k n r (Some want) linked = at_number t k n want r (is_taken t.holes want n) linked
 
 at_bearer : (t : Talk) (n : ℕ) (r : List ℕ) (o : Option ℕ) → IsLinked t.stage → GoesOn (at_packet o n r t)
 at_bearer t n r None linked = at_end t endings.Foreign
@@ -112,7 +113,7 @@ number_linked t k n want r false linked = λ e. cc e
 wanted_linked : (t : Talk) (k n : ℕ) (r : List ℕ) (o : Option ℕ) → t.stage ≢ Unlinked
     → (if_wanted o k n r t).0.stage ≢ Unlinked
 wanted_linked t k n r None linked = linked
-wanted_linked t k n r (Some want) linked = number_linked t k n want r (n == want) linked
+wanted_linked t k n r (Some want) linked = number_linked t k n want r (is_taken t.holes want n) linked
 
 bearer_linked : (t : Talk) (n : ℕ) (r : List ℕ) (o : Option ℕ) → t.stage ≢ Unlinked
     → (at_packet o n r t).0.stage ≢ Unlinked

@@ -10,6 +10,7 @@ pub mod Prefixed
 pub mod Prefixes
 pub mod Goings
 pub mod Heads
+pub mod Quiet
 pub mod Received
 pub mod Items
 pub mod Noting
@@ -20,12 +21,14 @@ pub mod OneTurn
 pub mod Places
 pub mod Reached
 pub mod Replies
+pub mod Reporting
 pub mod Sendings
 pub mod Sendoffs
 pub mod Slots
 pub mod Stretched
 pub mod Stands
 pub mod Telling
+pub mod Tellings
 pub mod Wanting
 pub mod Wholes
 pub mod Closing

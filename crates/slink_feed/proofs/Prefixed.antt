@@ -1,6 +1,7 @@
 -- Of the packets of a link that is cut off, the whole ones are told.
 use Rattle.std.proofs.Common.{◌≡◌, ℕ, ◌+◌, ◌-◌, ◌/◌, ◌^◌, ◌<◌, ◌≤◌, inl, inr, suc, refl, sym, ap, subst, ◌∙◌, arith}
-use Rattle.std.proofs.Common.{true, ◌==◌, if◌then◌else◌, List, [], ◌∷◌, ◌++◌, append_assoc, length, length-append, take}
+use Rattle.std.proofs.Common.{true, ◌==◌, ◌&&◌, ◌||◌, if◌then◌else◌, List, [], ◌∷◌, ◌++◌, append_assoc, length}
+use Rattle.std.proofs.Common.{length-append, take}
 use Rattle.std.proofs.Common.{drop, take-append-drop, Option, Some, None, IfSome, codes}
 use Rattle.std.proofs.lemmas.Bool.{cases_lt}
 use Rattle.std.proofs.lemmas.Bool.Decides.{eqb_tells}
@@ -16,7 +17,7 @@ use Rattle.slink_feed.specs.declared.dialogue.Stage.{Stage}
 use Rattle.slink_feed.specs.declared.dialogue.Stage.TheVariants.{Packets}
 use Rattle.slink_feed.specs.Cutting.{IsBegun, IsWhole}
 use Rattle.slink_feed.specs.Delivered.{AreWanted, Numbered, all_packets, record_events}
-use Rattle.slink_feed.specs.Dialogue.{Talk, Whole, Packet, at_packet, bearer, ended, read, read_at, if_wanted}
+use Rattle.slink_feed.specs.Dialogue.{Talk, Whole, Packet, at_packet, bearer, ended, is_ahead, read, read_at, if_wanted}
 use Rattle.slink_feed.specs.Dialogue.{next_at, told}
 use Rattle.slink_feed.specs.Listening.{AreBrought, Brought, Listening, Reads, bytes_of, events_of, talk_after, telling}
 use Rattle.slink_feed.proofs.Received.{begun_none}
@@ -41,7 +42,8 @@ pub wanted_told : (o : Option ℕ) (k n : ℕ) (bytes : List ℕ) (t : Talk) →
     → if_wanted o k n bytes t ≡ told k n bytes t
 wanted_told None k n bytes t is = refl
 wanted_told (Some want) k n bytes t is =
-    ap (λ b. if b then told k n bytes t else ended (endings.Gap k want n) t) (same_here n want is)
+    ap (λ b. if b || (t.holes && is_ahead want n) then told k n bytes t else ended (endings.Gap k want n) t)
+    (same_here n want is)
 
 packet_read : (t : Talk) (r : Numbered) → t.stage ≡ Packets → bearer t.wants r.bytes ≡ Some r.place
     → IfSome (next_at t.wants r.place) (λ want. r.number ≡ want)

@@ -18,18 +18,20 @@ use Rattle.slink_feed.specs.declared.dialogue.Wanted.{Wanted}
 use Rattle.slink_feed.specs.Cutting.{IsWhole}
 use Rattle.slink_feed.specs.Delivered.{Numbered}
 use Rattle.slink_feed.specs.Dialogue.{Talk, Wants, Whole, Reply, Packet, End, Garbage, answer_of, at_packet, bearer}
+use Rattle.slink_feed.specs.Dialogue.{is_taken}
 use Rattle.slink_feed.specs.Dialogue.{ended, read, read_at, if_wanted, is_borne, next_at, next_set, says_number}
 use Rattle.slink_feed.specs.Dialogue.{says_place, to_answer, to_place, told, want_at}
-use Rattle.slink_feed.specs.Holding.{GoOn}
+use Rattle.slink_feed.specs.Holding.{GoBy, GoOn, IsNext}
 use Rattle.slink_feed.specs.Listening.{AreBrought, Brought, Listening, Reads, events_of, talk_after, telling}
 use Rattle.slink_feed.specs.Told.{AreOf, HasTold, bytes_in, numbers_at, places_of, record_in, records_told}
-use Rattle.slink_feed.proofs.Numbers.{Moved, moves, stays, bearer_some, get_want, go_on_more, moved_told, same_number}
+use Rattle.slink_feed.proofs.Numbers.{Moved, moves, stays, bearer_some, get_want, go_on_more, kept_read, moved_told}
+use Rattle.slink_feed.proofs.Numbers.{taken_next}
 
 -- what comes of a whole: nothing is told of; or a record, of the place that it bears and of the number that this wants
-data Comes (t : Talk) (x : Talk × Event) : Type 0 where
+pub data Comes (t : Talk) (x : Talk × Event) : Type 0 where
   nothing : records_told (telling x.1) ≡ [] → x.0.wants ≡ t.wants → Comes t x
   a_record : (k n : ℕ) (bytes : List ℕ) → length bytes ≡ 512 → bearer t.wants bytes ≡ Some k
-      → IfSome (next_at t.wants k) (λ want. n ≡ want)
+      → IfSome (next_at t.wants k) (λ want. IsNext t.holes want n)
       → x ≡ told k n bytes t → Comes t x
 
 comes_end : (t : Talk) (ending : Ending) → Comes t (ended ending t)
@@ -50,18 +52,18 @@ comes_answer k t next Refusal comes = comes_end t (endings.Refused k)
 comes_answer k t next Neither comes = comes_end t endings.Garbage
 
 comes_if : (k n : ℕ) (bytes : List ℕ) (t : Talk) (b : Bool) (want : ℕ) → length bytes ≡ 512
-    → bearer t.wants bytes ≡ Some k → next_at t.wants k ≡ Some want → (b ≡ true → n ≡ want)
+    → bearer t.wants bytes ≡ Some k → next_at t.wants k ≡ Some want → (b ≡ true → IsNext t.holes want n)
     → Comes t (if b then told k n bytes t else ended (endings.Gap k want n) t)
 comes_if k n bytes t true want long bears is same =
-    a_record k n bytes long bears (subst (λ o. IfSome o (λ x. n ≡ x)) (sym is) (same refl)) refl
+    a_record k n bytes long bears (subst (λ o. IfSome o (λ x. IsNext t.holes x n)) (sym is) (same refl)) refl
 comes_if k n bytes t false want long bears is same = comes_end t (endings.Gap k want n)
 
 comes_wanted : (k n : ℕ) (bytes : List ℕ) (t : Talk) (o : Option ℕ) → length bytes ≡ 512
     → bearer t.wants bytes ≡ Some k → next_at t.wants k ≡ o → Comes t (if_wanted o k n bytes t)
 comes_wanted k n bytes t None long bears is =
-    a_record k n bytes long bears (subst (λ o. IfSome o (λ x. n ≡ x)) (sym is) tt) refl
+    a_record k n bytes long bears (subst (λ o. IfSome o (λ x. IsNext t.holes x n)) (sym is) tt) refl
 comes_wanted k n bytes t (Some want) long bears is =
-    comes_if k n bytes t (n == want) want long bears is (same_number n want)
+    comes_if k n bytes t (is_taken t.holes want n) want long bears is (taken_next t.holes want n)
 
 comes_packet : (n : ℕ) (bytes : List ℕ) (t : Talk) (o : Option ℕ) → length bytes ≡ 512 → bearer t.wants bytes ≡ o
     → Comes t (at_packet o n bytes t)
@@ -72,7 +74,7 @@ comes_packet n bytes t (Some k) long bears = comes_wanted k n bytes t (next_at t
 record_long : (packet bytes : List ℕ) → drop 8 packet ≡ bytes → length packet ≡ 520 → length bytes ≡ 512
 record_long packet bytes is long = ap length (sym is) ∙ (length-drop 8 packet ∙ omega (arith, long))
 
-comes_read : (t : Talk) (stage : Stage) (bytes : List ℕ) (w : Whole) → IsWhole stage bytes w
+pub comes_read : (t : Talk) (stage : Stage) (bytes : List ℕ) (w : Whole) → IsWhole stage bytes w
     → Comes t (read_at stage t w)
 comes_read t (Station j) bytes (Reply line) is =
     comes_answer j t (says_number j t) (answer_of line) (nothing refl refl)
@@ -122,7 +124,7 @@ bearer_same : (old new : Wants) (bytes : List ℕ) → places_of new ≡ places_
 bearer_same old new bytes same = bearer_place new bytes
     ∙ (ap (position (is_place bytes)) same ∙ sym (bearer_place old bytes))
 
-of_same : (old new : Wants) (records : List Numbered) → places_of new ≡ places_of old → AreOf new records
+pub of_same : (old new : Wants) (records : List Numbered) → places_of new ≡ places_of old → AreOf new records
     → AreOf old records
 of_same old new [] same are = tt
 of_same old new (r ∷ rs) same are =
@@ -139,28 +141,29 @@ numbers_both k (r ∷ rs) more =
     let here : List ℕ = if r.place == k then r.number ∷ [] else [] in
     ap (λ ns. here ++ ns) (numbers_both k rs more) ∙ sym (append_assoc here (numbers_at k rs) (numbers_at k more))
 
-go_both : (want now last : Option ℕ) (some more : List ℕ) → GoOn want some now → GoOn now more last
-    → GoOn want (some ++ more) last
-go_both want now last [] more on too = subst (λ o. GoOn o more last) on too
-go_both None now last (n ∷ ns) more on too = go_both (Some ((n + 1) % 2 ^ 24)) now last ns more on too
-go_both (Some want) now last (n ∷ ns) more on too = (on.0, go_both (Some ((n + 1) % 2 ^ 24)) now last ns more on.1 too)
+go_both : (holes : Bool) (want now last : Option ℕ) (some more : List ℕ) → GoBy holes want some now
+    → GoBy holes now more last → GoBy holes want (some ++ more) last
+go_both holes want now last [] more on too = subst (λ o. GoBy holes o more last) on too
+go_both holes None now last (n ∷ ns) more on too = go_both holes (Some ((n + 1) % 2 ^ 24)) now last ns more on too
+go_both holes (Some want) now last (n ∷ ns) more on too =
+    (on.0, go_both holes (Some ((n + 1) % 2 ^ 24)) now last ns more on.1 too)
 
 -- nothing more
-pub told_none : (wants : Wants) → HasTold wants wants []
-told_none wants = record { places = refl; are_of = tt; go_on = λ k. refl }
+pub told_none : (holes : Bool) (wants : Wants) → HasTold holes wants wants []
+told_none holes wants = record { places = refl; are_of = tt; go_on = λ k. refl }
 
 -- one link after another
-pub told_both : (old now new : Wants) (some more : List Numbered) → HasTold old now some → HasTold now new more
-    → HasTold old new (some ++ more)
-told_both old now new some more h too = record {
+pub told_both : (holes : Bool) (old now new : Wants) (some more : List Numbered) → HasTold holes old now some
+    → HasTold holes now new more → HasTold holes old new (some ++ more)
+told_both holes old now new some more h too = record {
   places = too.places ∙ h.places;
   are_of = of_both old some more h.are_of (of_same old now more h.places too.are_of);
-  go_on = λ k. subst (λ ns. GoOn (next_at old k) ns (next_at new k)) (sym (numbers_both k some more))
-      (go_both (next_at old k) (next_at now k) (next_at new k) (numbers_at k some) (numbers_at k more) (h.go_on k)
+  go_on = λ k. subst (λ ns. GoBy holes (next_at old k) ns (next_at new k)) (sym (numbers_both k some more))
+      (go_both holes (next_at old k) (next_at now k) (next_at new k) (numbers_at k some) (numbers_at k more) (h.go_on k)
       (too.go_on k));
 }
 
-places_next : (wants : Wants) (k n : ℕ) (o : Option Wanted) → want_at wants k ≡ o
+pub places_next : (wants : Wants) (k n : ℕ) (o : Option Wanted) → want_at wants k ≡ o
     → places_of (next_set o wants k n) ≡ places_of wants
 places_next wants k n None at = refl
 places_next wants k n (Some w) at =
@@ -168,20 +171,20 @@ places_next wants k n (Some w) at =
     (sym (ap place_of (get_want wants k ∙ at)))
 
 go_one : (j k n : ℕ) (bytes : List ℕ) (t : Talk) → Moved j t (told k n bytes t)
-    → GoOn (next_at t.wants j) (numbers_at j (record { place = k; number = n; bytes = bytes } ∷ []))
+    → GoBy t.holes (next_at t.wants j) (numbers_at j (record { place = k; number = n; bytes = bytes } ∷ []))
     (next_at (told k n bytes t).0.wants j)
 go_one j k n bytes t moved =
     let last : Option ℕ = next_at (told k n bytes t).0.wants j in
     let here : List ℕ = if k == j then n ∷ [] else [] in
     elim moved [
-      | stays none same ↦ subst (λ ns. GoOn (next_at t.wants j) ns last) (sym (append-nil here ∙ none)) same
-      | moves m one wanted next ↦ subst (λ ns. GoOn (next_at t.wants j) ns last) (sym (append-nil here ∙ one))
-          (go_on_more (next_at t.wants j) last m [] wanted next)
+      | stays none same ↦ subst (λ ns. GoBy t.holes (next_at t.wants j) ns last) (sym (append-nil here ∙ none)) same
+      | moves m one wanted next ↦ subst (λ ns. GoBy t.holes (next_at t.wants j) ns last)
+          (sym (append-nil here ∙ one)) (go_on_more t.holes (next_at t.wants j) last m [] wanted next)
     ]
 
 told_record : (k n : ℕ) (bytes : List ℕ) (t : Talk) → length bytes ≡ 512 → bearer t.wants bytes ≡ Some k
-    → IfSome (next_at t.wants k) (λ want. n ≡ want)
-    → HasTold t.wants (told k n bytes t).0.wants (record { place = k; number = n; bytes = bytes } ∷ [])
+    → IfSome (next_at t.wants k) (λ want. IsNext t.holes want n)
+    → HasTold t.holes t.wants (told k n bytes t).0.wants (record { place = k; number = n; bytes = bytes } ∷ [])
 told_record k n bytes t long bears wanted =
     let some : (w : Wanted) × (want_at t.wants k ≡ Some w) = bearer_some t.wants bytes k bears in record {
       places = places_next t.wants k ((n + 1) % 2 ^ 24) (want_at t.wants k) refl;
@@ -189,12 +192,13 @@ told_record k n bytes t long bears wanted =
       go_on = λ j. go_one j k n bytes t (moved_told j k n bytes t some.0 some.1 wanted);
     }
 
-told_one : (t : Talk) (x : Talk × Event) → Comes t x → HasTold t.wants x.0.wants (records_told (telling x.1))
+pub told_one : (t : Talk) (x : Talk × Event) → Comes t x
+    → HasTold t.holes t.wants x.0.wants (records_told (telling x.1))
 told_one t x comes = elim comes [
-  | nothing none same ↦ subst (λ rs. HasTold t.wants x.0.wants rs) (sym none)
-      (subst (λ ws. HasTold t.wants ws []) (sym same) (told_none t.wants))
+  | nothing none same ↦ subst (λ rs. HasTold t.holes t.wants x.0.wants rs) (sym none)
+      (subst (λ ws. HasTold t.holes t.wants ws []) (sym same) (told_none t.holes t.wants))
   | a_record k n bytes long bears wanted is ↦ subst
-      (λ (y : Talk × Event). HasTold t.wants y.0.wants (records_told (telling y.1))) (sym is)
+      (λ (y : Talk × Event). HasTold t.holes t.wants y.0.wants (records_told (telling y.1))) (sym is)
       (told_record k n bytes t long bears wanted)
 ]
 
@@ -209,25 +213,38 @@ bytes_both (r ∷ rs) more = ap (λ bytes. r.bytes ++ bytes) (bytes_both rs more
     ∙ sym (append_assoc r.bytes (bytes_in rs) (bytes_in more))
 
 told_brought : (t : Talk) (bs : List Brought) → AreBrought t bs
-    → HasTold t.wants (talk_after t bs).wants (records_told (events_of t bs))
-told_brought t [] are = told_none t.wants
+    → HasTold t.holes t.wants (talk_after t bs).wants (records_told (events_of t bs))
+told_brought t [] are = told_none t.holes t.wants
 told_brought t (b ∷ bs) are =
     let x : Talk × Event = read t b.whole in
-    let one : HasTold t.wants x.0.wants (records_told (telling x.1)) =
+    let one : HasTold t.holes t.wants x.0.wants (records_told (telling x.1)) =
     told_one t x (comes_read t t.stage b.bytes b.whole are.0) in
-    let more : HasTold x.0.wants (talk_after x.0 bs).wants (records_told (events_of x.0 bs)) =
-    told_brought x.0 bs are.1 in
-    subst (λ rs. HasTold t.wants (talk_after x.0 bs).wants rs) (sym (records_both (telling x.1) (events_of x.0 bs)))
-    (told_both t.wants x.0.wants (talk_after x.0 bs).wants (records_told (telling x.1))
+    let more : HasTold t.holes x.0.wants (talk_after x.0 bs).wants (records_told (events_of x.0 bs)) =
+    subst (λ (h : Bool). HasTold h x.0.wants (talk_after x.0 bs).wants (records_told (events_of x.0 bs)))
+    (kept_read t t.stage b.whole) (told_brought x.0 bs are.1) in
+    subst (λ rs. HasTold t.holes t.wants (talk_after x.0 bs).wants rs)
+    (sym (records_both (telling x.1) (events_of x.0 bs)))
+    (told_both t.holes t.wants x.0.wants (talk_after x.0 bs).wants (records_told (telling x.1))
     (records_told (events_of x.0 bs)) one more)
 
 -- what a client tells of a link
 pub told_link : (start : Talk) (stream : List ℕ) (events : List Event) (now : Listening)
-    → Reads start stream events now → HasTold start.wants now.talk.wants (records_told events)
+    → Reads start stream events now → HasTold start.holes start.wants now.talk.wants (records_told events)
 told_link start stream events now reads =
-    subst (λ es. HasTold start.wants now.talk.wants (records_told es)) (sym reads.events_are)
-    (subst (λ (u : Talk). HasTold start.wants u.wants (records_told (events_of start reads.brought))) (sym reads.talk)
+    subst (λ es. HasTold start.holes start.wants now.talk.wants (records_told es)) (sym reads.events_are)
+    (subst (λ (u : Talk). HasTold start.holes start.wants u.wants (records_told (events_of start reads.brought)))
+    (sym reads.talk)
     (told_brought start reads.brought reads.are_brought))
+
+-- It stays whether the client goes past holes.
+kept_brought : (t : Talk) (bs : List Brought) → (talk_after t bs).holes ≡ t.holes
+kept_brought t [] = refl
+kept_brought t (b ∷ bs) = kept_brought (read t b.whole).0 bs ∙ kept_read t t.stage b.whole
+
+pub kept_link : (start : Talk) (stream : List ℕ) (events : List Event) (now : Listening)
+    → Reads start stream events now → now.talk.holes ≡ start.holes
+kept_link start stream events now reads =
+    ap (λ (u : Talk). u.holes) reads.talk ∙ kept_brought start reads.brought
 
 -- A new link changes nothing of what is wanted.
 pub wants_written : (t : Talk) (o : Option Wanted) → (to_place o 0 t).0.wants ≡ t.wants
@@ -243,7 +260,8 @@ go_far n (m ∷ ns) last short on =
     (arith, on.0) in e)
 
 -- the number of the records is what a place's number moves by
-pub told_far : (old new : Wants) (records : List Numbered) (k n : ℕ) → HasTold old new records → n < 2 ^ 24
+pub told_far : (old new : Wants) (records : List Numbered) (k n : ℕ) → HasTold false old new records
+    → n < 2 ^ 24
     → next_at old k ≡ Some n
     → next_at new k ≡ Some ((n + length (numbers_at k records)) % 2 ^ 24)
 told_far old new records k n h short at =

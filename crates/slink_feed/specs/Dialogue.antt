@@ -1,5 +1,6 @@
 -- What a client says over a link, and what it makes of what the link brings.
-use Rattle.std.specs.Prelude.{◌≡◌, ℕ, Bool, false, ◌+◌, ◌-◌, ◌%◌, ◌^◌, ◌<◌, ◌==◌, ◌&&◌, List, ◌++◌, length, map}
+use Rattle.std.specs.Prelude.{◌≡◌, ℕ, Bool, false, ◌+◌, ◌-◌, ◌%◌, ◌^◌, ◌<◌, ◌==◌, ◌&&◌, ◌||◌, nat_lt, List, ◌++◌}
+use Rattle.std.specs.Prelude.{length, map}
 use Rattle.std.specs.Prelude.{replicate, bytes_eq, codes, Option, Some, None, IfSome, All, nat_eq, unwrap_or, position}
 use Rattle.std.specs.Prelude.{slice_get, slice_range, slice_set, if◌then◌else◌}
 use Rattle.std.specs.List.{starts_with}
@@ -53,11 +54,12 @@ IsStage (Number k) = k < 16
 IsStage Packets = Unit {0}
 IsStage (Ended ending) = Unit {0}
 
--- what a client has come to
+-- what a client has come to; and whether it goes past holes
 pub record Talk : Type 0 where
   pub mode : Mode
   pub wants : List (Option Wanted)
   pub stage : Stage
+  pub holes : Bool
 
 -- what a link brings, in one whole
 pub data Whole : Type 0 where
@@ -128,11 +130,23 @@ with_next wants k n = next_set (want_at wants k) wants k n
 abbrev pub told : ℕ → ℕ → List ℕ → Talk → Talk × Event
 told k number bytes t = (record t { wants = with_next t.wants k ((number + 1) % 2 ^ 24) }, events.Record k number bytes)
 
+-- how far a number is ahead of one below 2^24, modulo 2^24
+abbrev pub ahead_of : ℕ → ℕ → ℕ
+ahead_of want number = (number + 2 ^ 24 - want) % 2 ^ 24
+
+-- whether it is ahead, by less than half of all numbers
+abbrev pub is_ahead : ℕ → ℕ → Bool
+is_ahead want number = nat_lt 0 (ahead_of want number) && nat_lt (ahead_of want number) (2 ^ 23)
+
+-- whether a number is taken where one is wanted: that one, and past holes one that is ahead of it
+abbrev pub is_taken : Bool → ℕ → ℕ → Bool
+is_taken holes want number = number == want || (holes && is_ahead want number)
+
 -- unless another number is wanted
 abbrev pub if_wanted : Option ℕ → ℕ → ℕ → List ℕ → Talk → Talk × Event
 if_wanted None k number bytes t = told k number bytes t
 if_wanted (Some want) k number bytes t =
-    if number == want then told k number bytes t else ended (endings.Gap k want number) t
+    if is_taken t.holes want number then told k number bytes t else ended (endings.Gap k want number) t
 
 -- a packet: its place is sought first
 abbrev pub at_packet : Option ℕ → ℕ → List ℕ → Talk → Talk × Event

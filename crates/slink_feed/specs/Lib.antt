@@ -10,6 +10,8 @@ pub mod Listening
 pub mod Delivered
 pub mod Holding
 pub mod Told
+pub mod Teller
+pub mod Reports
 pub mod Sending
 pub mod Running
 pub mod Turns

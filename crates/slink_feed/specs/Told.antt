@@ -1,11 +1,12 @@
 -- What a client tells of, over any links: the records of its places.
-use Rattle.std.specs.Prelude.{◌≡◌, ℕ, ◌==◌, List, [], ◌∷◌, ◌++◌, length, map, Option, Some, option_map, if◌then◌else◌}
+use Rattle.std.specs.Prelude.{◌≡◌, ℕ, Bool, ◌==◌, List, [], ◌∷◌, ◌++◌, length, map, Option, Some, option_map}
+use Rattle.std.specs.Prelude.{if◌then◌else◌}
 use Rattle.slink_wire.specs.Place.{Fields}
 use Rattle.slink_feed.specs.declared.dialogue.Event.{Event}
 use Rattle.slink_feed.specs.declared.dialogue.Event.TheVariants as events
 use Rattle.slink_feed.specs.Delivered.{Numbered}
 use Rattle.slink_feed.specs.Dialogue.{Wants, bearer, next_at}
-use Rattle.slink_feed.specs.Holding.{GoOn}
+use Rattle.slink_feed.specs.Holding.{GoBy}
 
 -- the record that an event tells of, where it is one
 abbrev pub record_in : Event → List Numbered
@@ -43,8 +44,9 @@ abbrev pub places_of : Wants → List (Option Fields)
 places_of wants = map (option_map (λ w. w.place)) wants
 
 -- A client told of these records: each is a whole one of one of its places, which stay. The numbers of those of a place
--- go up one by one, from the one that it wanted, if any, to the one before the next that it wants.
-pub record HasTold (old new : Wants) (records : List Numbered) : Type 0 where
+-- go up, from the one that it wanted, if any, to the one before the next that it wants: one by one, or, past holes,
+-- with some left out.
+pub record HasTold (holes : Bool) (old new : Wants) (records : List Numbered) : Type 0 where
   pub places : places_of new ≡ places_of old
   pub are_of : AreOf old records
-  pub go_on : (k : ℕ) → GoOn (next_at old k) (numbers_at k records) (next_at new k)
+  pub go_on : (k : ℕ) → GoBy holes (next_at old k) (numbers_at k records) (next_at new k)

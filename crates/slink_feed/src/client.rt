@@ -1,5 +1,5 @@
 //! The client of one feed.
-ghost use Rattle.std.specs.Prelude.{◌≡◌, ◌≢◌, ◌++◌, ◌≤◌, ◌<◌, ◌^◌, ℕ, List, [], IfSome, length, take};
+ghost use Rattle.std.specs.Prelude.{◌≡◌, ◌≢◌, ◌++◌, ◌≤◌, ◌<◌, ◌^◌, ℕ, List, [], true, false, IfSome, length, take};
 ghost use Rattle.std.specs.Bool.{OnFalse, OnTrue};
 ghost use Rattle.slink_wire.specs.Packet.{HasHead, IsPacket};
 ghost use Rattle.slink_feed.specs.Cutting.{IsReply};
@@ -12,7 +12,7 @@ ghost use Rattle.slink_feed.specs.Fetching.{turn_at};
 ghost use Rattle.slink_feed.specs.Listening.{AwaitsReply, Brings, IsLinked, Reads, telling};
 
 use crate::cutting::{Part, take_packet, take_reply};
-use crate::dialogue::{Bytes, Dialogue, Ending, Event, Stage};
+use crate::dialogue::{Bytes, Dialogue, Ending, Event, Stage, Wanted};
 use crate::grant::Mode;
 use crate::turn::Turn;
 use arrayvec::ArrayVec;
@@ -22,7 +22,8 @@ use std::marker::Model;
 /// A client that asks for the records of up to sixteen places over one link, and over another once that is lost.
 ///
 /// It takes no memory. A record is wanted once: the number that a place wants next moves by each record that is told of
-/// it, and by nothing else, so that each link goes on behind the last record of the one before.
+/// it, and by nothing else, so that each link goes on behind the last record of the one before. One that goes past
+/// holes leaves records out, and tells none twice.
 #[derive(Drop)]
 pub struct Client {
     dialogue: Dialogue,
@@ -45,11 +46,27 @@ impl Client {
     pub fn new(places: &[(Place, Option<u32>)], mode: Mode) -> Client
         requires count { length places.now ≤ 16 }
         requires numbers { AreNumbers places.now }
-        ensures talk { result.talk ≡ record { mode = mode; wants = wants_of places.now; stage = Stage.Unlinked } }
+        ensures talk { result.talk
+            ≡ record { mode = mode; wants = wants_of places.now; stage = Stage.Unlinked; holes = false } }
         ensures kept { result.kept ≡ [] }
     {
         Client {
-            dialogue: Dialogue::new(places, mode),
+            dialogue: Dialogue::new(places, mode, false),
+            kept: ArrayVec::new(),
+        }
+    }
+
+    /// A client as by [`Client::new`] that goes past holes: it takes a record too whose number is ahead of the one that
+    /// its place wants, by 1 to 2^23 - 1, modulo 2^24, and wants the one behind it next.
+    pub fn past_holes(places: &[(Place, Option<u32>)], mode: Mode) -> Client
+        requires count { length places.now ≤ 16 }
+        requires numbers { AreNumbers places.now }
+        ensures talk { result.talk
+            ≡ record { mode = mode; wants = wants_of places.now; stage = Stage.Unlinked; holes = true } }
+        ensures kept { result.kept ≡ [] }
+    {
+        Client {
+            dialogue: Dialogue::new(places, mode, true),
             kept: ArrayVec::new(),
         }
     }
@@ -60,6 +77,13 @@ impl Client {
         ensures short { IfSome result (λ n. n < 2 ^ 24) }
     {
         self.dialogue.next(k)
+    }
+
+    /// The places that are asked for, each with the number that it wants next.
+    pub(crate) fn wants(&self) -> &[Option<Wanted>; 16]
+        ensures { result.now ≡ self.now.talk.wants }
+    {
+        self.dialogue.wants()
     }
 
     /// Begins on a new link, to which these bytes are to be written. What was kept of the one before is dropped.

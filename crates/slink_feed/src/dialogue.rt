@@ -2,6 +2,7 @@
 ghost use Rattle.std.specs.Prelude.{◌≡◌, ◌≢◌, ◌+◌, ◌^◌, ◌<◌, ◌≤◌, IfSome, length};
 ghost use Rattle.slink_wire.specs.Request.{IsSpelled};
 ghost use Rattle.slink_feed.specs.Dialogue.{AreNumbers, IsStage, Reply, answer_of, at_packet, bearer, ended, event_of};
+ghost use Rattle.slink_feed.specs.Dialogue.{is_ahead, is_taken};
 ghost use Rattle.slink_feed.specs.Dialogue.{read, if_wanted, is_borne, next_at, says, says_number, says_place};
 ghost use Rattle.slink_feed.specs.Dialogue.{to_answer, want_at, wants_of, with_next};
 ghost use Rattle.slink_feed.specs.Listening.{AwaitsReply};
@@ -134,6 +135,7 @@ pub(crate) struct Dialogue {
     mode: Mode,
     wants: [Option<Wanted>; 16],
     stage: Stage,
+    holes: bool,
 }
 
 impl Model for Dialogue {
@@ -141,7 +143,7 @@ impl Model for Dialogue {
 
     ghost Value = { Talk };
 
-    ghost view = { λ d. record { mode = d.mode; wants = d.wants; stage = d.stage } };
+    ghost view = { λ d. record { mode = d.mode; wants = d.wants; stage = d.stage; holes = d.holes } };
 
     ghost invariant = { λ d. AreShort d.wants × IsStage d.stage };
 }
@@ -171,17 +173,29 @@ fn wants_of(places: &[(Place, Option<u32>)]) -> [Option<Wanted>; 16]
     wants
 }
 
+/// Whether a number is ahead of the one wanted by less than half of all numbers.
+fn is_ahead(want: u32, number: u32) -> bool
+    requires want { want < 2 ^ 24 }
+    requires number { number < 2 ^ 24 }
+    ensures { result ≡ is_ahead want number }
+{
+    let ahead = (number + SPAN as u32 - want) % SPAN as u32;
+    0 < ahead && ahead < SPAN as u32 / 2
+}
+
 impl Dialogue {
-    /// Before the first link.
-    pub(crate) fn new(places: &[(Place, Option<u32>)], mode: Mode) -> Dialogue
+    /// Before the first link; where it goes past holes, with `holes`.
+    pub(crate) fn new(places: &[(Place, Option<u32>)], mode: Mode, holes: bool) -> Dialogue
         requires count { length places.now ≤ 16 }
         requires numbers { AreNumbers places.now }
-        ensures { result ≡ record { mode = mode; wants = wants_of places.now; stage = Stage.Unlinked } }
+        ensures { result
+            ≡ record { mode = mode; wants = wants_of places.now; stage = Stage.Unlinked; holes = holes } }
     {
         Dialogue {
             mode,
             wants: wants_of(places),
             stage: Stage::Unlinked,
+            holes,
         }
     }
 
@@ -190,6 +204,13 @@ impl Dialogue {
         ensures { result ≡ self.now.stage }
     {
         self.stage
+    }
+
+    /// The places that are asked for.
+    pub(crate) fn wants(&self) -> &[Option<Wanted>; 16]
+        ensures { result.now ≡ self.now.wants }
+    {
+        &self.wants
     }
 
     /// The number that is wanted next of a place.
@@ -308,7 +329,7 @@ impl Dialogue {
         ensures told { result ≢ Event.None }
     {
         match self.next(k) {
-            Some(want) if want != number => self.end(Ending::Gap {
+            Some(want) if !self.is_taken(want, number) => self.end(Ending::Gap {
                 place: k,
                 want,
                 got: number,
@@ -318,6 +339,15 @@ impl Dialogue {
                 Event::Record(k, number, *bytes)
             }
         }
+    }
+
+    /// Whether a number is taken where one is wanted.
+    fn is_taken(&self, want: u32, number: u32) -> bool
+        requires want { want < 2 ^ 24 }
+        requires number { number < 2 ^ 24 }
+        ensures { result ≡ is_taken self.now.holes want number }
+    {
+        number == want || self.holes && is_ahead(want, number)
     }
 
     /// Wants this number next of a place.

@@ -4,11 +4,16 @@ ghost use Rattle.std.specs.Bool.{OnFalse, OnTrue};
 ghost use Rattle.slink_feed.specs.Fetching.{Delivers, FailsAt, Fetches, IsFetchFault, Notes, fetching};
 ghost use Rattle.slink_feed.specs.private.Delivery.{IsDelivered, IsUndelivered};
 ghost use Rattle.slink_feed.specs.Listening.{Reads};
+ghost use Rattle.slink_feed.specs.Reports.{Reports, kept};
+ghost use Rattle.slink_feed.specs.Teller.{AreTold, lines_of, telling_behind};
+ghost use Rattle.slink_feed.specs.Told.{record_in};
 
 use crate::client::Client;
 use crate::dialogue::Event;
+use crate::teller::Teller;
 use crate::turn::{LinkFault, Turn};
-use mseed_stream::{Duplex, Failed, Sink, write_all_of};
+use mseed_stream::{Counted, Duplex, Failed, Sink, write_all_of};
+use std::io::sink;
 
 /// The most bytes that a turn reads.
 const ROOM: usize = 1024;
@@ -44,20 +49,23 @@ pub fn fetch_turn<S: Duplex, W: Sink>(
     // The bytes that the client kept read as what is begun: so the turn tells what they read as with those of the link.
     ensures reading { Reads client.old.talk client.old.kept [] client.old }
 {
-    let mut received = false;
-    fetch_turn_noting(client, link, output, &mut received)
+    let mut teller = Teller::new(client, false);
+    let mut nowhere = Counted::new(sink());
+    fetch_turn_telling(client, link, output, &mut nowhere, &mut teller)
 }
 
-/// Takes a turn with a client's link as [`fetch_turn`], and notes in `received` that a record went to the output.
+/// Takes a turn with a client's link as [`fetch_turn`]. Each record is told of on `errors` before it is written, and
+/// the teller notes that the output took one.
 ///
 /// # Errors
 ///
 /// Those of [`fetch_turn`].
-pub fn fetch_turn_noting<S: Duplex, W: Sink>(
+pub fn fetch_turn_telling<S: Duplex, W: Sink, E: Sink>(
     client: &mut Client,
     link: &mut S,
     output: &mut W,
-    received: &mut bool,
+    errors: &mut E,
+    teller: &mut Teller,
 ) -> Result<Turn, LinkFault>
     ensures ok { IfOk result (λ turn. Fetches (fetching client.old (S.written link.old) (W.written output.old))
         (fetching client.new (S.written link.new) (W.written output.new)) (S.read link.old) (S.read link.new) turn) }
@@ -65,7 +73,10 @@ pub fn fetch_turn_noting<S: Duplex, W: Sink>(
         (fetching client.old (S.written link.old) (W.written output.old))
         (fetching client.new (S.written link.new) (W.written output.new)) (S.read link.old) (S.read link.new)) }
     ensures reading { Reads client.old.talk client.old.kept [] client.old }
-    ensures received { Notes received.old received.new (W.written output.old) (W.written output.new) }
+    ensures received { Notes teller.old.received teller.new.received (W.written output.old) (W.written output.new) }
+    ensures reports { Reports client.old.talk client.new.talk
+        (kept (W.written output.old) (E.written errors.old) teller.old.telling)
+        (kept (W.written output.new) (E.written errors.new) teller.new.telling) }
 {
     client.has_reading();
     let mut room = [0; ROOM];
@@ -76,17 +87,18 @@ pub fn fetch_turn_noting<S: Duplex, W: Sink>(
     if count == 0 {
         return Ok(Turn::Closed);
     }
-    read(client, &room[..count], link, output, received)?;
+    read(client, &room[..count], link, output, errors, teller)?;
     Ok(client.turn())
 }
 
 /// Takes bytes of a link, and delivers what they tell.
-fn read<L: Sink, W: Sink>(
+fn read<L: Sink, W: Sink, E: Sink>(
     client: &mut Client,
     bytes: &[u8],
     link: &mut L,
     output: &mut W,
-    received: &mut bool,
+    errors: &mut E,
+    teller: &mut Teller,
 ) -> Result<(), LinkFault>
     requires { length bytes.now ≤ 1024 }
     ensures ok { OnOk result (Delivers (fetching client.old (L.written link.old) (W.written output.old))
@@ -94,7 +106,10 @@ fn read<L: Sink, W: Sink>(
     ensures fault { IfErr result
         (λ fault. FailsAt fault (fetching client.old (L.written link.old) (W.written output.old))
         (fetching client.new (L.written link.new) (W.written output.new)) bytes.now) }
-    ensures received { Notes received.old received.new (W.written output.old) (W.written output.new) }
+    ensures received { Notes teller.old.received teller.new.received (W.written output.old) (W.written output.new) }
+    ensures reports { Reports client.old.talk client.new.talk
+        (kept (W.written output.old) (E.written errors.old) teller.old.telling)
+        (kept (W.written output.new) (E.written errors.new) teller.new.telling) }
     ensures beside { L.beside link.new ≡ L.beside link.old }
 {
     let mut offset = 0;
@@ -107,19 +122,20 @@ fn read<L: Sink, W: Sink>(
             break;
         }
         let (used, event) = client.take(&bytes[offset..]);
-        counts = deliver(&event, link, output, counts, received)?;
+        counts = deliver(&event, link, output, errors, teller, counts)?;
         offset += used;
     }
     Ok(())
 }
 
-/// Puts what an event tells where it belongs: a line to the link, and a record to the output.
-fn deliver<L: Sink, W: Sink>(
+/// Puts what an event tells where it belongs: a line to the link, and a record, once it was told of, to the output.
+fn deliver<L: Sink, W: Sink, E: Sink>(
     event: &Event,
     link: &mut L,
     output: &mut W,
+    errors: &mut E,
+    teller: &mut Teller,
     counts: Counts,
-    received: &mut bool,
 ) -> Result<Counts, LinkFault>
     requires written { counts.written ≤ 2 ^ 32 }
     requires output { counts.output ≤ 2 ^ 32 }
@@ -128,7 +144,11 @@ fn deliver<L: Sink, W: Sink>(
     ensures fault { IfErr result (λ fault. IsUndelivered fault event.now counts (L.written link.old)
         (L.written link.new)
         (W.written output.old) (W.written output.new)) }
-    ensures received { Notes received.old received.new (W.written output.old) (W.written output.new) }
+    ensures received { Notes teller.old.received teller.new.received (W.written output.old) (W.written output.new) }
+    // A record is told of before it is written, also where that fails.
+    ensures telling { teller.new.telling ≡ telling_behind teller.old.telling (record_in event.now) }
+    ensures lines { AreTold (lines_of teller.old.telling (record_in event.now)) (E.written errors.old)
+        (E.written errors.new) }
     ensures beside { L.beside link.new ≡ L.beside link.old }
 {
     match event {
@@ -139,16 +159,19 @@ fn deliver<L: Sink, W: Sink>(
             }),
             Err(count) => Err(LinkFault::Write(counts.written + count)),
         },
-        Event::Record(_, _, record) => match write_all_of(output, record) {
-            Ok(()) => {
-                *received = true;
-                Ok(Counts {
-                    written: counts.written,
-                    output: counts.output + record.len(),
-                })
+        Event::Record(place, number, record) => {
+            teller.note(*place, *number, errors);
+            match write_all_of(output, record) {
+                Ok(()) => {
+                    teller.receive();
+                    Ok(Counts {
+                        written: counts.written,
+                        output: counts.output + record.len(),
+                    })
+                }
+                Err(count) => Err(LinkFault::Output(counts.output + count)),
             }
-            Err(count) => Err(LinkFault::Output(counts.output + count)),
-        },
+        }
         Event::None | Event::End | Event::Refused(_) | Event::Gap { .. } => Ok(counts),
         Event::Garbage | Event::Foreign => Ok(counts),
     }

@@ -1,5 +1,6 @@
 //! The laws of what a session sends, and of what a client takes.
-ghost use Rattle.std.specs.Prelude.{◌≡◌, ◌+◌, ◌^◌, ◌<◌, ◌≤◌, ◌/◌, ◌%◌, ℕ, IfSome, List, None, Some, length, take};
+ghost use Rattle.std.specs.Prelude.{◌≡◌, ◌+◌, ◌^◌, ◌<◌, ◌≤◌, ◌/◌, ◌%◌, ℕ, false, IfSome, List, None, Some, length};
+ghost use Rattle.std.specs.Prelude.{take};
 ghost use Rattle.slink_wire.specs.declared.lines.What.{What};
 ghost use Rattle.slink_wire.specs.declared.reply.Reply.{Reply};
 ghost use Rattle.slink_feed.specs.declared.dialogue.Event.{Event};
@@ -9,7 +10,7 @@ ghost use Rattle.slink_feed.specs.Delivered.{record_events};
 ghost use Rattle.slink_feed.specs.Dialogue.{Talk, next_at};
 ghost use Rattle.slink_feed.specs.declared.grant.Mode.{Mode};
 ghost use Rattle.slink_feed.specs.Grant.{grant_of};
-ghost use Rattle.slink_feed.specs.Holding.{GoOn, Turn, numbers_of, talk_behind};
+ghost use Rattle.slink_feed.specs.Holding.{AreRising, GoOn, Turn, numbers_of, talk_behind};
 ghost use Rattle.slink_feed.specs.Listening.{Listening, Reads};
 ghost use Rattle.slink_feed.specs.Sending.{AreAsked, AreShown, Asked, IsReadFrom, IsStretch, packets_from, packets_of};
 ghost use Rattle.slink_feed.specs.Serving.{IsAnswer};
@@ -48,11 +49,20 @@ pub fn a_stretch_is_sent()
         → s.phase ≡ Phase.Streaming → IsAnswer feed s what new reply → IsReadFrom s new }
 {}
 
-/// A client tells each record once and in order, over any links and whatever they bring: the numbers of the records of
-/// a place go up one by one, modulo 2^24, from the one that it wants, if any, to the one before the next that it wants.
+/// A client that doesn't go past holes tells each record once and in order, over any links and whatever they bring: the
+/// numbers of the records of a place go up one by one, modulo 2^24, from the one that it wants, if any, to the one
+/// before the next that it wants.
 pub fn each_record_once()
-    ensures { (k : ℕ) (t : Talk) (turns : List Turn)
+    ensures { (k : ℕ) (t : Talk) (turns : List Turn) → t.holes ≡ false
         → GoOn (next_at t.wants k) (numbers_of k t turns) (next_at (talk_behind t turns).wants k) }
+{}
+
+/// A client, also one that goes past holes, tells each record at most once and in rising order, over any links and
+/// whatever they bring: the numbers of the records of a place are those of positions that go up from the one that it
+/// wants, if any, each by less than half of all numbers.
+pub fn no_record_twice()
+    ensures { (k : ℕ) (t : Talk) (turns : List Turn) → IfSome (next_at t.wants k) (λ n. n < 2 ^ 24)
+        → AreRising (next_at t.wants k) (numbers_of k t turns) }
 {}
 
 /// Of the packets of a link that is cut off at any byte, a client that wants their records tells of those that were

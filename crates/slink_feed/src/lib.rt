@@ -14,6 +14,7 @@ mod law;
 mod ring;
 mod serving;
 mod session;
+mod teller;
 mod told;
 mod turn;
 
@@ -21,14 +22,15 @@ pub use client::Client;
 pub use connection::{one_turn, turns_send_stretches};
 pub use dialogue::{Answer, Bytes, Ending, Event, Stage, Wanted};
 pub use feed::{Feed, FeedFault};
-pub use fetching::{fetch_turn, fetch_turn_noting};
+pub use fetching::{fetch_turn, fetch_turn_telling};
 pub use grant::{Grant, Mode};
 pub use law::{
-    a_stretch_is_sent, a_stretch_is_wanted, each_record_once, granted_behind_the_last, one_reading,
-    whole_packets_are_told,
+    a_stretch_is_sent, a_stretch_is_wanted, each_record_once, granted_behind_the_last,
+    no_record_twice, one_reading, whole_packets_are_told,
 };
 pub use ring::{Ring, RingFault};
 pub use serving::serve_turn;
 pub use session::{Phase, Sent, Session};
+pub use teller::Teller;
 pub use told::wants_move_by_records;
 pub use turn::{LinkFault, Turn};

@@ -1,5 +1,5 @@
 //! The law of what a client tells of over its links.
-ghost use Rattle.std.specs.Prelude.{◌≡◌, ◌+◌, ◌^◌, ◌<◌, ◌%◌, ◌++◌, ℕ, List, Some, length};
+ghost use Rattle.std.specs.Prelude.{◌≡◌, ◌+◌, ◌^◌, ◌<◌, ◌%◌, ◌++◌, ℕ, Bool, false, List, Some, length};
 ghost use Rattle.slink_feed.specs.declared.dialogue.Event.{Event};
 ghost use Rattle.slink_feed.specs.Delivered.{Numbered};
 ghost use Rattle.slink_feed.specs.Dialogue.{Talk, Wants, next_at};
@@ -7,13 +7,14 @@ ghost use Rattle.slink_feed.specs.Listening.{Listening, Reads};
 ghost use Rattle.slink_feed.specs.Told.{HasTold, numbers_at, records_told};
 
 /// What a client tells of are whole records of its places, and what a place wants next moves by the records that were
-/// told of it and by nothing else: over one link, whatever this brings, and so over one link after another.
+/// told of it and by nothing else: over one link, whatever this brings, and so over one link after another. Where the
+/// client doesn't go past holes, it moves by their number.
 pub fn wants_move_by_records()
     ensures link { (start : Talk) (stream : List ℕ) (events : List Event) (now : Listening)
-        → Reads start stream events now → HasTold start.wants now.talk.wants (records_told events) }
-    ensures links { (old now new : Wants) (some more : List Numbered)
-        → HasTold old now some → HasTold now new more → HasTold old new (some ++ more) }
+        → Reads start stream events now → HasTold start.holes start.wants now.talk.wants (records_told events) }
+    ensures links { (holes : Bool) (old now new : Wants) (some more : List Numbered)
+        → HasTold holes old now some → HasTold holes now new more → HasTold holes old new (some ++ more) }
     ensures moved { (old new : Wants) (records : List Numbered) (k n : ℕ)
-        → HasTold old new records → n < 2 ^ 24 → next_at old k ≡ Some n
+        → HasTold false old new records → n < 2 ^ 24 → next_at old k ≡ Some n
         → next_at new k ≡ Some ((n + length (numbers_at k records)) % 2 ^ 24) }
 {}

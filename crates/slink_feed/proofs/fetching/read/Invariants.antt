@@ -1,5 +1,6 @@
 use Rattle.std.proofs.Common.{◌-◌, ◌≡◌, length}
 use Rattle.slink_feed.specs.Fetching.{Notes, fetching}
+use Rattle.slink_feed.specs.Reports.{Reports, kept}
 use Rattle.slink_feed.proofs.Deliveries.{SoFar}
 use Rattle.slink_feed.proofs.fetching.read.Given as goal
 
@@ -8,7 +9,10 @@ invariant-loop-offset g l = record {
   so_far : SoFar (fetching l.fn.client (g.L.Sink.written l.fn.link) (g.W.Sink.written l.fn.output))
       (fetching l.client (g.L.Sink.written l.link) (g.W.Sink.written l.output)) l.bytes l.offset l.counts.written
       l.counts.output;
-  received : Notes l.fn.received l.received (g.W.Sink.written l.fn.output) (g.W.Sink.written l.output);
+  received : Notes l.fn.teller.received l.teller.received (g.W.Sink.written l.fn.output) (g.W.Sink.written l.output);
+  reports : Reports l.fn.client.talk l.client.talk
+      (kept (g.W.Sink.written l.fn.output) (g.E.Sink.written l.fn.errors) l.fn.teller.telling)
+      (kept (g.W.Sink.written l.output) (g.E.Sink.written l.errors) l.teller.telling);
   beside : g.L.Sink.beside l.link ≡ g.L.Sink.beside l.fn.link;
 }
 

@@ -5,7 +5,7 @@ pub returns-clause-link : goal.returns-clause-link
 returns-clause-link c = λ start stream events now reads. told_link start stream events now reads
 
 pub returns-clause-links : goal.returns-clause-links
-returns-clause-links c = λ old now new some more h too. told_both old now new some more h too
+returns-clause-links c = λ holes old now new some more h too. told_both holes old now new some more h too
 
 pub returns-clause-moved : goal.returns-clause-moved
 returns-clause-moved c = λ old new records k n h short at. told_far old new records k n h short at

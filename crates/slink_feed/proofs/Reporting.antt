@@ -1,0 +1,211 @@
+-- What is told of records and taken by the output, one after another.
+use Rattle.std.proofs.Common.{◌≡◌, ℕ, ◌+◌, ◌≤◌, ◌<◌, refl, sym, ap, subst, ◌∙◌, arith, List, [], ◌∷◌, ◌++◌}
+use Rattle.std.proofs.Common.{append_assoc}
+use Rattle.std.proofs.Common.{Bool, append-nil, length, length-append, take}
+use Rattle.std.proofs.Math.Seq.{take-append-add}
+use Rattle.mseed_stream.specs.Device.{BytesWritten}
+use Rattle.slink_feed.specs.declared.dialogue.Event.{Event}
+use Rattle.slink_feed.specs.declared.dialogue.Event.TheVariants as events
+use Rattle.slink_feed.specs.declared.fetching.Counts.{Counts}
+use Rattle.slink_feed.specs.declared.turn.LinkFault.{LinkFault}
+use Rattle.slink_feed.specs.declared.turn.LinkFault.TheVariants as faults
+use Rattle.slink_feed.specs.Delivered.{Numbered}
+use Rattle.slink_feed.specs.Dialogue.{Talk, read}
+use Rattle.slink_feed.specs.Fetching.{line_written, record_told}
+use Rattle.slink_feed.specs.Listening.{Brings, Listening, begun, telling, whole}
+use Rattle.slink_feed.specs.private.Delivery.{IsDelivered, IsUndelivered}
+use Rattle.slink_feed.specs.Reports.{AreReported, Kept, Reports, TakesRecords, all, but_last}
+use Rattle.slink_feed.specs.Teller.{AreTold, Telling, lines_at, lines_of, none, one, telling_behind, telling_past}
+use Rattle.slink_feed.specs.Told.{HasTold, bytes_in, record_in, records_told}
+use Rattle.slink_feed.specs.Turns.{Took, TookPrefix}
+use Rattle.slink_feed.proofs.Numbers.{kept_read}
+use Rattle.slink_feed.proofs.Telling.{bytes_both, comes_read, told_both, told_none, told_one}
+
+-- What a sink takes, one part after another.
+pub took_none : (old : BytesWritten) → Took old old []
+took_none old = record { bytes = sym (append-nil old.bytes); failures = refl }
+
+pub took_both : (a b c : BytesWritten) (xs ys : List ℕ) → Took a b xs → Took b c ys → Took a c (xs ++ ys)
+took_both a b c xs ys p q = record {
+  bytes = q.bytes ∙ (ap (λ z. z ++ ys) p.bytes ∙ append_assoc a.bytes xs ys);
+  failures = q.failures ∙ p.failures;
+}
+
+pub took_prefix : (a b c : BytesWritten) (xs ys : List ℕ) (n : ℕ) → Took a b xs → TookPrefix b c ys n
+    → TookPrefix a c (xs ++ ys) (length xs + n)
+took_prefix a b c xs ys n p q = record {
+  bytes = q.bytes ∙ (ap (λ z. z ++ take n ys) p.bytes
+      ∙ (append_assoc a.bytes xs (take n ys) ∙ ap (λ z. a.bytes ++ z) (sym (take-append-add xs ys n))));
+  part = omega (arith, q.part, length-append xs ys);
+  failures = q.failures ∙ ap (λ f. f + 1) p.failures;
+}
+
+-- What the output takes of records.
+pub takes_none : (old : BytesWritten) → TakesRecords [] old old
+takes_none old = all (took_none old)
+
+pub takes_both : (a b c : BytesWritten) (some more : List Numbered) → Took a b (bytes_in some) → TakesRecords more b c
+    → TakesRecords (some ++ more) a c
+takes_both a b c some more p q = elim q [
+  | all took ↦ all (subst (Took a c) (sym (bytes_both some more))
+      (took_both a b c (bytes_in some) (bytes_in more) p took))
+  | but_last prefix last n is behind took ↦
+      but_last (some ++ prefix) last (length (bytes_in some) + n) (ap (λ rs. some ++ rs) is
+      ∙ sym (append_assoc some prefix (last ∷ [])))
+      (omega (arith, behind, ap length (bytes_both some prefix), length-append (bytes_in some) (bytes_in prefix)))
+      (subst (λ bytes. TookPrefix a c bytes (length (bytes_in some) + n)) (sym (bytes_both some more))
+      (took_prefix a b c (bytes_in some) (bytes_in more) n p took))
+]
+
+-- Where the output didn't fail, it took all.
+pub all_taken : (rs : List Numbered) (a b : BytesWritten) → TakesRecords rs a b → b.failures ≡ a.failures
+    → Took a b (bytes_in rs)
+all_taken rs a b takes fine =
+    elim takes [ all took ↦ took | but_last prefix last n is behind took ↦ absurd (omega (arith, took.failures, fine)) ]
+
+-- the bytes of the record that an event tells of
+pub record_bytes : (e : Event) → record_told e ≡ bytes_in (record_in e)
+record_bytes events.None = refl
+record_bytes (events.Say line) = refl
+record_bytes (events.Record k n bytes) = sym (append-nil bytes)
+record_bytes events.End = refl
+record_bytes (events.Refused k) = refl
+record_bytes (events.Gap k want got) = refl
+record_bytes events.Garbage = refl
+record_bytes events.Foreign = refl
+
+-- a line that says something tells of no record
+pub line_alone : (e : Event) → 0 < length (line_written e) → record_in e ≡ []
+line_alone events.None some = refl
+line_alone (events.Say line) some = refl
+line_alone (events.Record k n bytes) some = absurd (omega (arith, some))
+line_alone events.End some = refl
+line_alone (events.Refused k) some = refl
+line_alone (events.Gap k want got) some = refl
+line_alone events.Garbage some = refl
+line_alone events.Foreign some = refl
+
+-- an event with bytes for the output tells of a record
+pub record_alone : (e : Event) → 0 < length (record_told e) → (r : Numbered) × (record_in e ≡ r ∷ [])
+record_alone events.None some = absurd (omega (arith, some))
+record_alone (events.Say line) some = absurd (omega (arith, some))
+record_alone (events.Record k n bytes) some = (record { place = k; number = n; bytes = bytes }, refl)
+record_alone events.End some = absurd (omega (arith, some))
+record_alone (events.Refused k) some = absurd (omega (arith, some))
+record_alone (events.Gap k want got) some = absurd (omega (arith, some))
+record_alone events.Garbage some = absurd (omega (arith, some))
+record_alone events.Foreign some = absurd (omega (arith, some))
+
+event_alone : (e : Event) → records_told (telling e) ≡ record_in e
+event_alone events.None = refl
+event_alone (events.Say line) = refl
+event_alone (events.Record k n bytes) = refl
+event_alone events.End = refl
+event_alone (events.Refused k) = refl
+event_alone (events.Gap k want got) = refl
+event_alone events.Garbage = refl
+event_alone events.Foreign = refl
+
+-- Lines that are told, one after another.
+pub lines_both : (xs ys : List (List ℕ)) (a b c : BytesWritten) → AreTold xs a b → AreTold ys b c
+    → AreTold (xs ++ ys) a c
+lines_both _ ys _ _ c (none now) more = more
+lines_both _ ys _ _ c (one line lines old now new tells rest) more =
+    one line (lines ++ ys) old now c tells (lines_both lines ys now new c rest more)
+
+lines_more : (t : Telling) (some more : List Numbered)
+    → lines_of t (some ++ more) ≡ lines_of t some ++ lines_of (telling_behind t some) more
+lines_more t [] more = refl
+lines_more t (r ∷ rs) more =
+    let past : Telling = telling_past t r.place r.number in
+    let here : List (List ℕ) = lines_at t r.place r.number in
+    ap (λ ls. here ++ ls) (lines_more past rs more)
+    ∙ sym (append_assoc here (lines_of past rs) (lines_of (telling_behind past rs) more))
+
+behind_more : (t : Telling) (some more : List Numbered)
+    → telling_behind t (some ++ more) ≡ telling_behind (telling_behind t some) more
+behind_more t [] more = refl
+behind_more t (r ∷ rs) more = behind_more (telling_past t r.place r.number) rs more
+
+-- Records that are told of and taken, one after another.
+pub reported_none : (a : Kept) → AreReported [] a a
+reported_none a = record { took = takes_none a.output; telling = refl; lines = none a.errors }
+
+pub reported_both : (some more : List Numbered) (a b c : Kept) → AreReported some a b
+    → b.output.failures ≡ a.output.failures → AreReported more b c → AreReported (some ++ more) a c
+reported_both some more a b c p fine q = record {
+  took = takes_both a.output b.output c.output some more (all_taken some a.output b.output p.took fine) q.took;
+  telling = q.telling ∙ (ap (λ t. telling_behind t more) p.telling ∙ sym (behind_more a.telling some more));
+  lines = subst (λ ls. AreTold ls a.errors c.errors) (sym (lines_more a.telling some more))
+      (lines_both (lines_of a.telling some) (lines_of (telling_behind a.telling some) more) a.errors b.errors c.errors
+      p.lines (subst (λ t. AreTold (lines_of t more) b.errors c.errors) p.telling q.lines));
+}
+
+pub reports_none : (t : Talk) (a : Kept) → Reports t t a a
+reports_none t a = record {
+  records = [];
+  told = told_none t.holes t.wants;
+  holes = refl;
+  reported = reported_none a;
+}
+
+pub reports_both : (old now new : Talk) (a b c : Kept) → Reports old now a b → b.output.failures ≡ a.output.failures
+    → Reports now new b c → Reports old new a c
+reports_both old now new a b c p fine q = record {
+  records = p.records ++ q.records;
+  told = told_both old.holes old.wants now.wants new.wants p.records q.records p.told
+      (subst (λ (h : Bool). HasTold h now.wants new.wants q.records) p.holes q.told);
+  holes = q.holes ∙ p.holes;
+  reported = reported_both p.records q.records a b c p.reported fine q.reported;
+}
+
+-- What an event tells of.
+told_event : (talk : Talk) (bytes : List ℕ) (new : Listening) (event : Event) → Brings talk bytes new event
+    → HasTold talk.holes talk.wants new.talk.wants (record_in event)
+told_event talk bytes new event (whole w is h nothing) =
+    subst (λ rs. HasTold talk.holes talk.wants new.talk.wants rs) (event_alone event)
+    (subst (λ (x : Talk × Event). HasTold talk.holes talk.wants x.0.wants (records_told (telling x.1))) h
+    (told_one talk (read talk w) (comes_read talk talk.stage bytes w is)))
+told_event talk bytes new event (begun is same quiet) =
+    subst (λ (e : Event). HasTold talk.holes talk.wants new.talk.wants (record_in e)) (sym quiet)
+    (subst (λ (l : Listening). HasTold talk.holes talk.wants l.talk.wants []) (sym same)
+    (told_none talk.holes talk.wants))
+
+-- It doesn't change whether the client goes past holes.
+pub kept_event : (talk : Talk) (bytes : List ℕ) (new : Listening) (event : Event) → Brings talk bytes new event
+    → new.talk.holes ≡ talk.holes
+kept_event talk bytes new event (whole w is h nothing) =
+    ap (λ (x : Talk × Event). x.0.holes) (sym h) ∙ kept_read talk talk.stage w
+kept_event talk bytes new event (begun is same quiet) = ap (λ (l : Listening). l.talk.holes) same
+
+-- What the output takes of it.
+pub takes_event : (event : Event) (before after : Counts) (w w' o o' : BytesWritten)
+    → IsDelivered event before after w w' o o' → TakesRecords (record_in event) o o'
+takes_event event before after w w' o o' done = all (subst (Took o o') (record_bytes event) done.output)
+
+pub takes_cut : (fault : LinkFault) (event : Event) (before : Counts) (w w' o o' : BytesWritten)
+    → IsUndelivered fault event before w w' o o' → TakesRecords (record_in event) o o'
+takes_cut faults.Read event before w w' o o' cut = absurd cut
+takes_cut (faults.Write count) event before w w' o o' cut =
+    let quiet : record_in event ≡ [] = line_alone event (omega (arith, cut.written.part)) in
+    subst (λ rs. TakesRecords rs o o') (sym quiet)
+    (subst (λ (x : BytesWritten). TakesRecords [] o x) (sym cut.output) (takes_none o))
+takes_cut (faults.Output count) event before w w' o o' cut =
+    let alone : (r : Numbered) × (record_in event ≡ r ∷ []) =
+    record_alone event (omega (arith, cut.output.part)) in
+    but_last [] alone.0 cut.more alone.1 (omega arith)
+    (subst (λ bytes. TookPrefix o o' bytes cut.more) (record_bytes event) cut.output)
+
+-- one event more
+pub reports_more : (first : Talk) (now new : Listening) (bytes : List ℕ) (event : Event) (a b c : Kept)
+    → Reports first now.talk a b → b.output.failures ≡ a.output.failures → Brings now.talk bytes new event
+    → TakesRecords (record_in event) b.output c.output → c.telling ≡ telling_behind b.telling (record_in event)
+    → AreTold (lines_of b.telling (record_in event)) b.errors c.errors → Reports first new.talk a c
+reports_more first now new bytes event a b c p fine brings took telling lines =
+    reports_both first now.talk new.talk a b c p fine
+    (record {
+      records = record_in event;
+      told = told_event now.talk bytes new event brings;
+      holes = kept_event now.talk bytes new event brings;
+      reported = record { took = took; telling = telling; lines = lines };
+    })

@@ -1,0 +1,20 @@
+use Rattle.std.proofs.Common.{◌≡◌, ◌∙◌, ◌<◌, ℕ, List, Option, ap, length, rules, subst, take, drop, ◌-◌}
+use Rattle.mseed_stream.specs.Telling.{Tells}
+use Rattle.slink_feed.specs.declared.dialogue.Wanted.{Wanted}
+use Rattle.slink_feed.specs.Dialogue.{Wants, want_at}
+use Rattle.slink_feed.specs.Teller.{next_line, next_line_of}
+use Rattle.slink_feed.proofs.Tellings.{behind_first, first_is}
+use Rattle.slink_feed.proofs.teller.Teller.tell_next.Goals as goal
+
+pub returns : goal.returns
+returns g c =
+    let wants : Wants = c.wants_left-wants.result in
+    let some : 0 < length wants = search rules in
+    let first : c.index-all-0.result ≡ want_at wants 0 = first_is wants c.index-all-0.result some c.index-all-0.is in
+    let line : next_line c.index-all-0.result (take (length wants - 1) (drop 1 wants)) ≡ next_line_of wants =
+    ap (λ (o : Option Wanted). next_line o (take (length wants - 1) (drop 1 wants))) first
+    ∙ ap (λ (ws : Wants). next_line (want_at wants 0) ws) (behind_first wants) in
+    subst (λ (ws : Wants). Tells (next_line_of ws) (g.E.Sink.written c.args.errors.now)
+    (g.E.Sink.written c.tell.new.errors)) c.wants_left-wants.ensures
+    (subst (λ (l : List ℕ). Tells l (g.E.Sink.written c.args.errors.now) (g.E.Sink.written c.tell.new.errors))
+    (c.as_slice.ensures.value ∙ (c.next_line.ensures ∙ line)) c.tell.ensures)

@@ -1,0 +1,11 @@
+use Rattle.slink_feed.proofs.Tellings.{hole_none, hole_told}
+use Rattle.slink_feed.proofs.teller.tell_hole.Goals as goal
+
+pub returns-in-Some : goal.returns-in-Some
+returns-in-Some g c =
+    hole_told c.args.want.now c.in-Some.wanted c.args.number (g.E.Sink.written c.args.errors.now)
+    (g.E.Sink.written c.tell_if_other.new.errors) c.in-Some.is c.tell_if_other.ensures
+
+pub returns-in-None : goal.returns-in-None
+returns-in-None g c =
+    hole_none c.args.want.now c.args.number (g.E.Sink.written c.args.errors.now) c.in-None.is

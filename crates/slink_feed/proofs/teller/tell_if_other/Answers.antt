@@ -1,0 +1,21 @@
+use Rattle.std.proofs.Common.{◌∙◌}
+use Rattle.slink_feed.specs.Teller.{hole_line}
+use Rattle.slink_feed.proofs.Tellings.{other_none, other_same, other_told, told_line}
+use Rattle.slink_feed.proofs.teller.tell_if_other.Goals as goal
+
+pub returns-then-want-got : goal.returns-then-want-got
+returns-then-want-got g c =
+    other_told c.args.place.now c.args.want c.in-Some.want c.args.got (g.E.Sink.written c.args.errors.now)
+    (g.E.Sink.written c.tell.new.errors) c.in-Some.is c.if-want-got.true
+    (told_line c.as_slice.result.now (hole_line c.args.place.now c.in-Some.want c.args.got)
+    (g.E.Sink.written c.args.errors.now) (g.E.Sink.written c.tell.new.errors)
+    (c.as_slice.ensures.value ∙ c.hole_line.ensures) c.tell.ensures)
+
+pub returns-else-want-got : goal.returns-else-want-got
+returns-else-want-got g c =
+    other_same c.args.place.now c.args.want c.in-Some.want c.args.got (g.E.Sink.written c.args.errors.now) c.in-Some.is
+    c.if-want-got.false
+
+pub returns-in-None : goal.returns-in-None
+returns-in-None g c =
+    other_none c.args.place.now c.args.want c.args.got (g.E.Sink.written c.args.errors.now) c.in-None.is

@@ -1,0 +1,110 @@
+-- What is told on standard error of records before they are written, and of what is wanted next.
+use Rattle.std.specs.Prelude.{ℕ, Bool, true, false, ◌+◌, ◌%◌, ◌^◌, ◌==◌, List, [], ◌∷◌, ◌++◌, codes, replicate}
+use Rattle.std.specs.Prelude.{drop, Option, Some, None, slice_get, slice_set, unwrap_or, if◌then◌else◌}
+use Rattle.mseed_stream.specs.Device.{BytesWritten}
+use Rattle.mseed_stream.specs.Telling.{Tells}
+use Rattle.slink_wire.specs.Hexadecimal.{hexadecimal}
+use Rattle.slink_wire.specs.Place.{Fields, code_in, label_of}
+use Rattle.slink_feed.specs.declared.dialogue.Wanted.{Wanted}
+use Rattle.slink_feed.specs.Delivered.{Numbered}
+use Rattle.slink_feed.specs.Dialogue.{Wants, want_at, with_next}
+
+-- Lines were written, each as far as the device took it.
+pub data AreTold : List (List ℕ) → BytesWritten → BytesWritten → Type 0 where
+  none : (now : BytesWritten) → AreTold [] now now
+  one : (line : List ℕ) (lines : List (List ℕ)) (old now new : BytesWritten) → Tells line old now
+      → AreTold lines now new → AreTold (line ∷ lines) old new
+
+-- what is told of records: which number each place wants next, of which places the first record is to be told, and the
+-- last record that was told of, by the index of its place and its number
+pub record Telling : Type 0 where
+  pub wants : List (Option Wanted)
+  pub firsts : List Bool
+  pub last : Option (ℕ × ℕ)
+
+-- before the first record
+abbrev pub telling_of : Wants → Bool → Telling
+telling_of wants firsts = record { wants = wants; firsts = replicate 16 firsts; last = None }
+
+-- the line of a place's first record
+abbrev pub first_line : Fields → ℕ → List ℕ
+first_line place number = codes "mseed: first " ++ label_of place ++ codes ":" ++ hexadecimal 6 number ++ codes "\n"
+
+-- the line of a record that comes behind a hole: the number that was wanted, and the one that came
+abbrev pub hole_line : Fields → ℕ → ℕ → List ℕ
+hole_line place want got = codes "mseed: hole " ++ label_of place ++ codes " " ++ hexadecimal 6 want ++ codes " "
+    ++ hexadecimal 6 got ++ codes "\n"
+
+-- the lines of a record of a place
+abbrev pub if_other : Fields → Option ℕ → ℕ → List (List ℕ)
+if_other place None got = []
+if_other place (Some want) got = if got == want then [] else hole_line place want got ∷ []
+
+abbrev pub hole_lines : Option Wanted → ℕ → List (List ℕ)
+hole_lines None number = []
+hole_lines (Some w) number = if_other w.place w.next number
+
+abbrev pub first_lines : Bool → Option Wanted → ℕ → List (List ℕ)
+first_lines false want number = []
+first_lines true None number = []
+first_lines true (Some w) number = first_line w.place number ∷ []
+
+abbrev pub lines_at : Telling → ℕ → ℕ → List (List ℕ)
+lines_at t k number = hole_lines (want_at t.wants k) number
+    ++ first_lines (unwrap_or (slice_get t.firsts k) false) (want_at t.wants k) number
+
+-- what is told from there on
+abbrev pub telling_past : Telling → ℕ → ℕ → Telling
+telling_past t k number = record {
+  wants = with_next t.wants k ((number + 1) % 2 ^ 24);
+  firsts = slice_set t.firsts k false;
+  last = Some (k, number);
+}
+
+-- records, one after another
+abbrev pub lines_of : Telling → List Numbered → List (List ℕ)
+lines_of t [] = []
+lines_of t (r ∷ rs) = lines_at t r.place r.number ++ lines_of (telling_past t r.place r.number) rs
+
+abbrev pub telling_behind : Telling → List Numbered → Telling
+telling_behind t [] = t
+telling_behind t (r ∷ rs) = telling_behind (telling_past t r.place r.number) rs
+
+-- the words that name a number, where one is known
+abbrev pub number_behind : List ℕ → Option ℕ → List ℕ
+number_behind name None = []
+number_behind name (Some n) = name ++ hexadecimal 6 n
+
+-- the options that name the first place
+abbrev pub options_of : Option Wanted → List ℕ
+options_of None = []
+options_of (Some w) = codes " --network " ++ code_in w.place.network ++ codes " --station " ++ code_in w.place.station
+    ++ number_behind (codes " --from ") w.next
+
+-- the word that names a further place
+abbrev pub word_of : Option Wanted → List ℕ
+word_of None = []
+word_of (Some w) = codes " " ++ label_of w.place ++ number_behind (codes ":") w.next
+
+abbrev pub words_of : Wants → List ℕ
+words_of [] = []
+words_of (w ∷ ws) = word_of w ++ words_of ws
+
+-- the words of a fetch that goes on with these places
+abbrev pub next_line : Option Wanted → Wants → List ℕ
+next_line first others = codes "mseed: next" ++ options_of first ++ words_of others ++ codes "\n"
+
+abbrev pub next_line_of : Wants → List ℕ
+next_line_of wants = next_line (want_at wants 0) (drop 1 wants)
+
+-- what is wanted then: where the output failed, the last record that was told of again
+abbrev pub wants_left : Bool → Option (ℕ × ℕ) → Wants → Wants
+wants_left failed None wants = wants
+wants_left false (Some last) wants = wants
+wants_left true (Some last) wants = with_next wants last.0 last.1
+
+-- what one who tells of records has come to: what is told, and whether the output took a whole record since it was
+-- asked to note that
+pub record Account : Type 0 where
+  pub telling : Telling
+  pub received : Bool

@@ -1,0 +1,297 @@
+//! What is told on standard error of the records of a fetch, and of what it wants next.
+ghost use Rattle.std.specs.Prelude.{◌≡◌, ◌+◌, ◌++◌, ◌≤◌, true, false, length, slice_get, unwrap_or};
+ghost use Rattle.mseed_stream.specs.Telling.{Tells};
+ghost use Rattle.slink_feed.specs.Dialogue.{want_at, with_next};
+ghost use Rattle.slink_feed.specs.Teller.{AreTold, first_line, first_lines, hole_line, hole_lines, if_other, lines_at};
+ghost use Rattle.slink_feed.specs.Teller.{next_line, next_line_of, number_behind, options_of, telling_of, telling_past};
+ghost use Rattle.slink_feed.specs.Teller.{wants_left, word_of};
+
+use crate::client::Client;
+use crate::dialogue::Wanted;
+use crate::ring::SPAN;
+use arrayvec::ArrayVec;
+use mseed_stream::{Sink, tell};
+use slink_wire::{Place, six_digits};
+use std::marker::Model;
+
+/// A line: the longest one names sixteen places.
+type Line = ArrayVec<u8, 320>;
+
+/// Puts bytes behind a line.
+fn put(line: &mut Line, bytes: &[u8])
+    requires { length line.old.items + length bytes.now ≤ 320 }
+    ensures { line.new.items ≡ line.old.items ++ bytes.now }
+{
+    // There is room.
+    let _ = line.try_extend_from_slice(bytes);
+}
+
+/// The line of a place's first record.
+fn first_line(place: &Place, number: u32) -> Line
+    ensures { result.items ≡ first_line place.now number }
+{
+    let mut line = Line::new();
+    put(&mut line, b"mseed: first ");
+    put(&mut line, place.label().as_slice());
+    put(&mut line, b":");
+    put(&mut line, &six_digits(number));
+    put(&mut line, b"\n");
+    line
+}
+
+/// The line of a record that comes behind a hole.
+fn hole_line(place: &Place, want: u32, got: u32) -> Line
+    ensures { result.items ≡ hole_line place.now want got }
+{
+    let mut line = Line::new();
+    put(&mut line, b"mseed: hole ");
+    put(&mut line, place.label().as_slice());
+    put(&mut line, b" ");
+    put(&mut line, &six_digits(want));
+    put(&mut line, b" ");
+    put(&mut line, &six_digits(got));
+    put(&mut line, b"\n");
+    line
+}
+
+/// Puts a number behind a line, with its name, where it is known.
+fn put_number(line: &mut Line, name: &[u8], number: Option<u32>)
+    requires { length line.old.items + length name.now + 6 ≤ 320 }
+    ensures text { line.new.items ≡ line.old.items ++ number_behind name.now number }
+    ensures short { length line.new.items ≤ length line.old.items + length name.now + 6 }
+{
+    if let Some(number) = number {
+        put(line, name);
+        put(line, &six_digits(number));
+    }
+}
+
+/// Puts the options that name the first place behind a line.
+fn put_options(line: &mut Line, want: &Option<Wanted>)
+    requires { length line.old.items + 43 ≤ 320 }
+    ensures text { line.new.items ≡ line.old.items ++ options_of want.now }
+    ensures short { length line.new.items ≤ length line.old.items + 43 }
+{
+    if let Some(wanted) = want {
+        put(line, b" --network ");
+        put(line, wanted.place.network());
+        put(line, b" --station ");
+        put(line, wanted.place.station());
+        put_number(line, b" --from ", wanted.next);
+    }
+}
+
+/// Puts the word that names a further place behind a line.
+fn put_word(line: &mut Line, want: &Option<Wanted>)
+    requires { length line.old.items + 16 ≤ 320 }
+    ensures text { line.new.items ≡ line.old.items ++ word_of want.now }
+    ensures short { length line.new.items ≤ length line.old.items + 16 }
+{
+    if let Some(wanted) = want {
+        put(line, b" ");
+        put(line, wanted.place.label().as_slice());
+        put_number(line, b":", wanted.next);
+    }
+}
+
+/// The words of a fetch that goes on with these places.
+fn next_line(first: &Option<Wanted>, others: &[Option<Wanted>]) -> Line
+    requires { length others.now ≤ 15 }
+    ensures { result.items ≡ next_line first.now others.now }
+{
+    let mut line = Line::new();
+    put(&mut line, b"mseed: next");
+    put_options(&mut line, first);
+    for want in others {
+        put_word(&mut line, want);
+    }
+    put(&mut line, b"\n");
+    line
+}
+
+/// The same places, and the same numbers.
+fn copied(wants: &[Option<Wanted>; 16]) -> [Option<Wanted>; 16]
+    ensures { result ≡ wants.now }
+{
+    let mut all = [None; 16];
+    all.copy_from_slice(wants);
+    all
+}
+
+/// Wants this number next of the place at an index, if there is one.
+fn want_next(wants: &mut [Option<Wanted>; 16], k: usize, number: u32)
+    ensures { wants.new ≡ with_next wants.old k number }
+{
+    if let Some(Some(wanted)) = wants.get(k) {
+        let place = wanted.place;
+        wants[k] = Some(Wanted {
+            place,
+            next: Some(number),
+        });
+    }
+}
+
+/// Tells of a hole, where another number is wanted of a place than the one that came.
+fn tell_if_other<E: Sink>(place: &Place, want: Option<u32>, got: u32, errors: &mut E)
+    ensures { AreTold (if_other place.now want got) (E.written errors.old) (E.written errors.new) }
+{
+    match want {
+        Some(want) => {
+            if want != got {
+                tell(errors, hole_line(place, want, got).as_slice());
+            }
+        }
+        None => {}
+    }
+}
+
+/// Tells of a hole, where there is one before a record.
+fn tell_hole<E: Sink>(want: &Option<Wanted>, number: u32, errors: &mut E)
+    ensures { AreTold (hole_lines want.now number) (E.written errors.old) (E.written errors.new) }
+{
+    match want {
+        Some(wanted) => tell_if_other(&wanted.place, wanted.next, number, errors),
+        None => {}
+    }
+}
+
+/// Tells of a place's first record.
+fn tell_first<E: Sink>(is_first: bool, want: &Option<Wanted>, number: u32, errors: &mut E)
+    ensures { AreTold (first_lines is_first want.now number) (E.written errors.old) (E.written errors.new) }
+{
+    match want {
+        Some(wanted) => {
+            if is_first {
+                tell(errors, first_line(&wanted.place, number).as_slice());
+            }
+        }
+        None => {}
+    }
+}
+
+/// Tells on standard error of each record that is about to be written: that it comes behind a hole, and that it is the
+/// first one of its place.
+#[derive(Drop)]
+pub struct Teller {
+    wants: [Option<Wanted>; 16],
+    firsts: [bool; 16],
+    last: Option<(usize, u32)>,
+    received: bool,
+}
+
+impl Model for Teller {
+    ghost use Rattle.slink_feed.specs.Teller.{Account};
+
+    ghost Value = { Account };
+
+    ghost view = { λ t. record {
+      telling = record { wants = t.wants; firsts = t.firsts; last = t.last };
+      received = t.received;
+    } };
+}
+
+impl Teller {
+    /// For the records that a client wants. The first one of each place is told of where `firsts` says so, and each
+    /// hole in any case.
+    pub fn new(client: &Client, firsts: bool) -> Teller
+        ensures { result ≡ record { telling = telling_of client.now.talk.wants firsts; received = false } }
+    {
+        Teller {
+            wants: copied(client.wants()),
+            firsts: [firsts; 16],
+            last: None,
+            received: false,
+        }
+    }
+
+    /// The place at an index, with the number that it wants next.
+    fn want(&self, k: usize) -> Option<Wanted>
+        ensures { result ≡ want_at self.now.telling.wants k }
+    {
+        match self.wants.get(k) {
+            Some(want) => *want,
+            None => None,
+        }
+    }
+
+    /// Whether the next record of the place at an index is its first, of which is to be told.
+    fn is_first(&self, k: usize) -> bool
+        ensures { result ≡ unwrap_or (slice_get self.now.telling.firsts k) false }
+    {
+        match self.firsts.get(k) {
+            Some(is_first) => *is_first,
+            None => false,
+        }
+    }
+
+    /// Goes on behind a record.
+    #[tactic(auto, using(std::proofs::lemmas::List::set_past))]
+    fn pass(&mut self, k: usize, number: u32)
+        ensures { self.new ≡ record self.old { telling = telling_past self.old.telling k number } }
+    {
+        want_next(&mut self.wants, k, (number % SPAN as u32 + 1) % SPAN as u32);
+        if k < self.firsts.len() {
+            self.firsts[k] = false;
+        }
+        self.last = Some((k, number));
+    }
+
+    /// Tells of the record of the place at an index, with its number: it is about to be written.
+    pub(crate) fn note<E: Sink>(&mut self, k: usize, number: u32, errors: &mut E)
+        ensures telling { self.new ≡ record self.old { telling = telling_past self.old.telling k number } }
+        ensures lines { AreTold (lines_at self.old.telling k number) (E.written errors.old) (E.written errors.new) }
+    {
+        let want = self.want(k);
+        tell_hole(&want, number, errors);
+        tell_first(self.is_first(k), &want, number, errors);
+        self.pass(k, number);
+    }
+
+    /// The output took a whole record.
+    pub(crate) fn receive(&mut self)
+        ensures { self.new ≡ record self.old { received = true } }
+    {
+        self.received = true;
+    }
+
+    /// Forgets that the output took a whole record.
+    pub fn begin(&mut self)
+        ensures { self.new ≡ record self.old { received = false } }
+    {
+        self.received = false;
+    }
+
+    /// Whether the output took a whole record since the last `begin`.
+    pub fn has_received(&self) -> bool
+        ensures { result ≡ self.now.received }
+    {
+        self.received
+    }
+
+    /// What a client wants; where the output `failed`, the last record that was told of again.
+    fn wants_left(&self, client: &Client, failed: bool) -> [Option<Wanted>; 16]
+        ensures { result ≡ wants_left failed self.now.telling.last client.now.talk.wants }
+    {
+        match self.last {
+            Some((k, number)) => {
+                let mut wants = copied(client.wants());
+                if failed {
+                    want_next(&mut wants, k, number);
+                }
+                wants
+            }
+            None => copied(client.wants()),
+        }
+    }
+
+    /// Tells the words of a fetch that goes on with what a client wants. Where the output `failed`, the last record
+    /// that was told of is wanted again.
+    pub fn tell_next<E: Sink>(&self, client: &Client, failed: bool, errors: &mut E)
+        ensures { Tells (next_line_of (wants_left failed self.now.telling.last client.now.talk.wants))
+            (E.written errors.old) (E.written errors.new) }
+    {
+        let wants = self.wants_left(client, failed);
+        let all = &wants[..];
+        tell(errors, next_line(&all[0], &all[1..]).as_slice());
+    }
+}
