@@ -1,5 +1,6 @@
 -- Turns with a link, one after another, and links one after another.
-use Rattle.std.proofs.Common.{◌≡◌, ◌⊎◌, ℕ, ◌+◌, ◌<◌, ◌≤◌, inl, inr, refl, sym, ap, subst, ◌∙◌, arith, List, [], ◌∷◌}
+use Rattle.std.proofs.Common.{Bool, ◌≡◌, ◌⊎◌, ℕ, ◌+◌, ◌<◌, ◌≤◌, inl, inr, refl, sym, ap, subst, ◌∙◌, arith, List, []}
+use Rattle.std.proofs.Common.{◌∷◌}
 use Rattle.std.proofs.Common.{◌++◌, append_assoc, append-nil, length, length-append, take, Option, Some, None, Result}
 use Rattle.std.proofs.Common.{Ok, Err, IfOk, IfErr}
 use Rattle.std.proofs.Math.Seq.{take-append-add}
@@ -22,34 +23,19 @@ use Rattle.slink_feed.specs.Fetching.{fetching, line_written, lines_written, rec
 use Rattle.slink_feed.specs.Listening.{IsLinked, Listening, Reads}
 use Rattle.slink_feed.specs.Told.{HasTold, bytes_in, record_in, records_told}
 use Rattle.slink_feed.specs.Turns.{Took, TookPrefix}
+use Rattle.slink_feed.specs.Reports.{Kept, TakesRecords, Reports, all, but_last}
+use Rattle.slink_feed.proofs.Numbers.{kept_place}
 use Rattle.slink_feed.proofs.OneReading as one
-use Rattle.slink_feed.proofs.Telling.{bytes_both, records_both, told_both, told_far, told_link, told_none}
+use Rattle.slink_feed.proofs.Reporting.{all_taken, line_alone, record_alone, record_bytes, reported_both, reported_none}
+use Rattle.slink_feed.proofs.Reporting.{takes_both, takes_none}
+use Rattle.slink_feed.proofs.Telling.{bytes_both, records_both, kept_link, told_both, told_far, told_link, told_none}
 use Rattle.slink_feed.proofs.Telling.{wants_written}
 use Rattle.slink_links.specs.declared.fetching.FetchEnd.{FetchEnd}
 use Rattle.slink_links.specs.declared.fetching.FetchEnd.TheVariants.{Done, Refused, BadFeed, WriteFailed, LinkFailed}
 use Rattle.slink_links.specs.Fetched.{AreTaken, HasFetched, HasReadEach, HasReadLink, HasReadLinks, HasTurned}
 use Rattle.slink_links.specs.Fetched.{WasFetchedOver}
-use Rattle.slink_links.specs.Fetched.{HaveMoved, IsFetchedOver, IsReading, IsUnended, StandsAt, StandsBy, TakesRecords}
-use Rattle.slink_links.specs.Fetched.{all, but_last, end_by, failures_by, over_none, over_one_more, over_the_last}
-
--- What the output takes, one part after another.
-took_none : (old : BytesWritten) → Took old old []
-took_none old = record { bytes = sym (append-nil old.bytes); failures = refl }
-
-took_both : (a b c : BytesWritten) (xs ys : List ℕ) → Took a b xs → Took b c ys → Took a c (xs ++ ys)
-took_both a b c xs ys p q = record {
-  bytes = q.bytes ∙ (ap (λ z. z ++ ys) p.bytes ∙ append_assoc a.bytes xs ys);
-  failures = q.failures ∙ p.failures;
-}
-
-took_prefix : (a b c : BytesWritten) (xs ys : List ℕ) (n : ℕ) → Took a b xs → TookPrefix b c ys n
-    → TookPrefix a c (xs ++ ys) (length xs + n)
-took_prefix a b c xs ys n p q = record {
-  bytes = q.bytes ∙ (ap (λ z. z ++ take n ys) p.bytes
-      ∙ (append_assoc a.bytes xs (take n ys) ∙ ap (λ z. a.bytes ++ z) (sym (take-append-add xs ys n))));
-  part = omega (arith, q.part, length-append xs ys);
-  failures = q.failures ∙ ap (λ f. f + 1) p.failures;
-}
+use Rattle.slink_links.specs.Fetched.{HaveMoved, IsFetchedOver, IsReading, IsUnended, StandsAt, StandsBy}
+use Rattle.slink_links.specs.Fetched.{FetchesTelling, end_by, failures_by, over_none, over_one_more, over_the_last}
 
 -- What a sink took, said of an equal list.
 pub took_as : (a b : BytesWritten) (xs ys : List ℕ) → b.bytes ≡ a.bytes ++ xs → b.failures ≡ a.failures → xs ≡ ys
@@ -61,39 +47,7 @@ pub took_prefix_as : (a b : BytesWritten) (xs ys : List ℕ) (n : ℕ) → b.byt
 took_prefix_as a b xs ys n bytes within failed same =
     subst (λ zs. TookPrefix a b zs n) same (record { bytes = bytes; part = within; failures = failed })
 
-takes_none : (old : BytesWritten) → TakesRecords [] old old
-takes_none old = all (took_none old)
-
-takes_both : (a b c : BytesWritten) (some more : List Numbered) → Took a b (bytes_in some) → TakesRecords more b c
-    → TakesRecords (some ++ more) a c
-takes_both a b c some more p q = elim q [
-  | all took ↦ all (subst (Took a c) (sym (bytes_both some more))
-      (took_both a b c (bytes_in some) (bytes_in more) p took))
-  | but_last prefix last n is behind took ↦
-      but_last (some ++ prefix) last (length (bytes_in some) + n) (ap (λ rs. some ++ rs) is
-      ∙ sym (append_assoc some prefix (last ∷ [])))
-      (omega (arith, behind, ap length (bytes_both some prefix), length-append (bytes_in some) (bytes_in prefix)))
-      (subst (λ bytes. TookPrefix a c bytes (length (bytes_in some) + n)) (sym (bytes_both some more))
-      (took_prefix a b c (bytes_in some) (bytes_in more) n p took))
-]
-
--- Where the output didn't fail, it took all.
-pub all_taken : (rs : List Numbered) (a b : BytesWritten) → TakesRecords rs a b → b.failures ≡ a.failures
-    → Took a b (bytes_in rs)
-all_taken rs a b takes fine =
-    elim takes [ all took ↦ took | but_last prefix last n is behind took ↦ absurd (omega (arith, took.failures, fine)) ]
-
 -- the bytes of the records that events tell of
-record_bytes : (e : Event) → record_told e ≡ bytes_in (record_in e)
-record_bytes events.None = refl
-record_bytes (events.Say line) = refl
-record_bytes (events.Record k n bytes) = sym (append-nil bytes)
-record_bytes events.End = refl
-record_bytes (events.Refused k) = refl
-record_bytes (events.Gap k want got) = refl
-record_bytes events.Garbage = refl
-record_bytes events.Foreign = refl
-
 told_bytes : (es : List Event) → bytes_told es ≡ bytes_in (records_told es)
 told_bytes [] = refl
 told_bytes (e ∷ es) = ap (λ bytes. bytes ++ bytes_told es) (record_bytes e)
@@ -106,28 +60,6 @@ lines_both (x ∷ es) e = ap (λ bytes. line_written x ++ bytes) (lines_both es 
 
 records_last : (es : List Event) (e : Event) → records_told (es ++ e ∷ []) ≡ records_told es ++ record_in e
 records_last es e = records_both es (e ∷ []) ∙ ap (λ rs. records_told es ++ rs) (append-nil (record_in e))
-
--- what a line that says something tells of: no record
-line_alone : (e : Event) → 0 < length (line_written e) → record_in e ≡ []
-line_alone events.None some = refl
-line_alone (events.Say line) some = refl
-line_alone (events.Record k n bytes) some = absurd (omega (arith, some))
-line_alone events.End some = refl
-line_alone (events.Refused k) some = refl
-line_alone (events.Gap k want got) some = refl
-line_alone events.Garbage some = refl
-line_alone events.Foreign some = refl
-
--- an event with bytes for the output tells of a record
-record_alone : (e : Event) → 0 < length (record_told e) → (r : Numbered) × (record_in e ≡ r ∷ [])
-record_alone events.None some = absurd (omega (arith, some))
-record_alone (events.Say line) some = absurd (omega (arith, some))
-record_alone (events.Record k n bytes) some = (record { place = k; number = n; bytes = bytes }, refl)
-record_alone events.End some = absurd (omega (arith, some))
-record_alone (events.Refused k) some = absurd (omega (arith, some))
-record_alone (events.Gap k want got) some = absurd (omega (arith, some))
-record_alone events.Garbage some = absurd (omega (arith, some))
-record_alone events.Foreign some = absurd (omega (arith, some))
 
 -- a line that wasn't taken whole
 unwritten_none : (es : List Event) (e : Event) (n : ℕ) → n < length (lines_written (es ++ e ∷ []))
@@ -422,8 +354,21 @@ pub connected_wants : (old : Talk) (new : Talk) (event : Event) → says_place 0
     → new.wants ≡ old.wants
 connected_wants old new event says = ap (λ p. p.0.wants) (sym says) ∙ wants_written old (want_at old.wants 0)
 
-moved_by : (old new : Wants) (records : List Numbered) → HasTold old new records → HaveMoved old new records
-moved_by old new records told k n short at = told_far old new records k n told short at
+connected_holes : (old : Talk) (new : Talk) (event : Event) → says_place 0 old ≡ (new, event)
+    → new.holes ≡ old.holes
+connected_holes old new event says = ap (λ p. p.0.holes) (sym says) ∙ kept_place 0 old (want_at old.wants 0)
+
+connected_told : (old : Talk) (new : Talk) (event : Event) (wants : Wants) (records : List Numbered)
+    → says_place 0 old ≡ (new, event) → HasTold new.holes new.wants wants records
+    → HasTold old.holes old.wants wants records
+connected_told old new event wants records says told =
+    subst (λ (h : Bool). HasTold h old.wants wants records) (connected_holes old new event says)
+    (subst (λ ws. HasTold new.holes ws wants records) (connected_wants old new event says) told)
+
+moved_by : (holes : Bool) (old new : Wants) (records : List Numbered) → HasTold holes old new records
+    → HaveMoved holes old new records
+moved_by holes old new records told plain k n short at =
+    told_far old new records k n (subst (λ (h : Bool). HasTold h old new records) plain told) short at
 
 stands_linked : (end : FetchEnd) (old now new : Listening) → IsUnended now.talk.stage → StandsAt end now new
     → StandsAt end old new
@@ -442,14 +387,15 @@ pub fetched_link : (end : FetchEnd) (old now new : Listening) (event : Event) (h
     → says_place 0 old.talk ≡ (now.talk, event) → Reads now.talk [] [] now → HasTurned (Some end) now new h i s t
     → HasFetched end old new s t
 fetched_link end old now new event h i s t says reads p =
-    let linked : HasTold now.talk.wants new.talk.wants (records_told p.told) =
-    told_link now.talk p.bytes p.told new (p.reads now.talk [] [] reads) in
-    let told : HasTold old.talk.wants new.talk.wants (records_told p.told) =
-    subst (λ ws. HasTold ws new.talk.wants (records_told p.told)) (connected_wants old.talk now.talk event says)
-    linked in record {
+    let all : Reads now.talk p.bytes p.told new = p.reads now.talk [] [] reads in
+    let same : now.talk.holes ≡ old.talk.holes = connected_holes old.talk now.talk event says in
+    let told : HasTold old.talk.holes old.talk.wants new.talk.wants (records_told p.told) =
+    connected_told old.talk now.talk event new.talk.wants (records_told p.told) says
+    (told_link now.talk p.bytes p.told new all) in record {
       records = records_told p.told;
       told = told;
-      moved = moved_by old.talk.wants new.talk.wants (records_told p.told) told;
+      moved = moved_by old.talk.holes old.talk.wants new.talk.wants (records_told p.told) told;
+      holes = kept_link now.talk p.bytes p.told new all ∙ same;
       took = p.took;
       stands = stands_linked end old now new (connected_unended old.talk now.talk event says) p.stands;
       failures = p.failures;
@@ -469,15 +415,38 @@ read_link end old now new event h i s t says reads p = record {
   took = p.took;
 }
 
+-- its records are those that were told of
+pub fetched_telling : (end : FetchEnd) (old now new : Listening) (event : Event) (a b : Kept)
+    → says_place 0 old.talk ≡ (now.talk, event) → HasFetched end old new a.output b.output
+    → Reports now.talk new.talk a b → FetchesTelling end old new a b
+fetched_telling end old now new event a b says f p =
+    let told : HasTold old.talk.holes old.talk.wants new.talk.wants p.records =
+    connected_told old.talk now.talk event new.talk.wants p.records says p.told in record {
+      fetched = record {
+        records = p.records;
+        told = told;
+        moved = moved_by old.talk.holes old.talk.wants new.talk.wants p.records told;
+        holes = f.holes;
+        took = p.reported.took;
+        stands = f.stands;
+        failures = f.failures;
+      };
+      reported = p.reported;
+    }
+
 -- no link yet
-pub fetched_none : (now : Listening) (written : BytesWritten) → HasFetched LinkFailed now now written written
-fetched_none now written = record {
-  records = [];
-  told = told_none now.talk.wants;
-  moved = moved_by now.talk.wants now.talk.wants [] (told_none now.talk.wants);
-  took = takes_none written;
-  stands = inr refl;
-  failures = omega arith;
+pub fetched_none : (now : Listening) (a : Kept) → FetchesTelling LinkFailed now now a a
+fetched_none now a = record {
+  fetched = record {
+    records = [];
+    told = told_none now.talk.holes now.talk.wants;
+    moved = moved_by now.talk.holes now.talk.wants now.talk.wants [] (told_none now.talk.holes now.talk.wants);
+    holes = refl;
+    took = takes_none a.output;
+    stands = inr refl;
+    failures = omega arith;
+  };
+  reported = reported_none a;
 }
 
 stands_behind : (end : FetchEnd) (a b c : Listening) → StandsAt LinkFailed a b → StandsAt end b c → StandsAt end a c
@@ -491,18 +460,26 @@ stands_behind LinkFailed a b c before stands = elim stands [
 ]
 
 -- one link after another
-pub fetched_both : (end : FetchEnd) (a b c : Listening) (s t u : BytesWritten) → HasFetched LinkFailed a b s t
-    → HasFetched end b c t u → HasFetched end a c s u
-fetched_both end a b c s t u p q =
-    let took : Took s t (bytes_in p.records) = all_taken p.records s t p.took (p.failures ∙ omega arith) in
-    let told : HasTold a.talk.wants c.talk.wants (p.records ++ q.records) =
-    told_both a.talk.wants b.talk.wants c.talk.wants p.records q.records p.told q.told in record {
-      records = p.records ++ q.records;
-      told = told;
-      moved = moved_by a.talk.wants c.talk.wants (p.records ++ q.records) told;
-      took = takes_both s t u p.records q.records took q.took;
-      stands = stands_behind end a b c p.stands q.stands;
-      failures = omega (arith, p.failures, q.failures);
+pub fetched_both : (end : FetchEnd) (a b c : Listening) (s t u : Kept) → FetchesTelling LinkFailed a b s t
+    → FetchesTelling end b c t u → FetchesTelling end a c s u
+fetched_both end a b c s t u x y =
+    let p : HasFetched LinkFailed a b s.output t.output = x.fetched in
+    let q : HasFetched end b c t.output u.output = y.fetched in
+    let fine : t.output.failures ≡ s.output.failures = p.failures ∙ omega arith in
+    let took : Took s.output t.output (bytes_in p.records) = all_taken p.records s.output t.output p.took fine in
+    let told : HasTold a.talk.holes a.talk.wants c.talk.wants (p.records ++ q.records) =
+    told_both a.talk.holes a.talk.wants b.talk.wants c.talk.wants p.records q.records p.told
+    (subst (λ (h : Bool). HasTold h b.talk.wants c.talk.wants q.records) p.holes q.told) in record {
+      fetched = record {
+        records = p.records ++ q.records;
+        told = told;
+        moved = moved_by a.talk.holes a.talk.wants c.talk.wants (p.records ++ q.records) told;
+        holes = q.holes ∙ p.holes;
+        took = takes_both s.output t.output u.output p.records q.records took q.took;
+        stands = stands_behind end a b c p.stands q.stands;
+        failures = omega (arith, p.failures, q.failures);
+      };
+      reported = reported_both p.records q.records s t u x.reported fine y.reported;
     }
 
 -- no link given back yet

@@ -1,3 +1,4 @@
+pub mod Ends
 pub mod Serves
 pub mod Fetches
 pub mod Tries

@@ -15,7 +15,7 @@ use Rattle.slink_links.specs.declared.fetching.FetchEnd.TheVariants.{LinkFailed}
 use Rattle.slink_links.specs.Fetched.{Calls, HasBrought, HasFetched, HasPaused, HasTried, HaveFailed, WasFetchedOver}
 use Rattle.slink_links.specs.Fetched.{dialled, none, one_more, output_failures, tried, undialled}
 use Rattle.slink_links.specs.Pauses.{pause_behind, pauses_from, pauses_since}
-use Rattle.slink_links.proofs.Fetches.{all_taken}
+use Rattle.slink_feed.proofs.Reporting.{all_taken}
 
 -- behind how many pauses the next one comes
 abbrev pub behind_after : ℕ → List Bool → ℕ

@@ -18,23 +18,18 @@ use Rattle.slink_feed.specs.Delivered.{Numbered}
 use Rattle.slink_feed.specs.Dialogue.{Talk, Wants, next_at, says_place}
 use Rattle.slink_feed.specs.Fetching.{Fetches, Fetching, IsFetchFault, ReadsOn, fetching, line_written}
 use Rattle.slink_feed.specs.Listening.{IsLinked, Listening, Reads}
-use Rattle.slink_feed.specs.Told.{HasTold, bytes_in, numbers_at, records_told}
+use Rattle.slink_feed.specs.Reports.{AreReported, Kept, TakesRecords}
+use Rattle.slink_feed.specs.Teller.{AreTold, lines_of, next_line_of, telling_behind, telling_of, wants_left}
+use Rattle.slink_feed.specs.Told.{HasTold, numbers_at, records_told}
 use Rattle.slink_feed.specs.Turns.{Took, TookPrefix}
 use Rattle.slink_links.specs.declared.fetching.FetchEnd.{FetchEnd}
 use Rattle.slink_links.specs.declared.fetching.FetchEnd.TheVariants.{Done, Refused, BadFeed, WriteFailed, LinkFailed}
 use Rattle.mseed_stream.specs.Telling.{Tells}
 use Rattle.slink_links.specs.Pauses.{pauses_from}
 
--- The output took these records: all of them; or, where it failed, those before the last one, and a prefix of that.
-pub data TakesRecords (records : List Numbered) (old new : BytesWritten) : Type 0 where
-  all : Took old new (bytes_in records) → TakesRecords records old new
-  but_last : (some : List Numbered) (last : Numbered) (count : ℕ) → records ≡ some ++ last ∷ []
-      → length (bytes_in some) ≤ count
-      → TookPrefix old new (bytes_in records) count → TakesRecords records old new
-
--- The number that a place wanted moved by how many records of it there are.
-abbrev pub HaveMoved : Wants → Wants → List Numbered → Type 0
-HaveMoved old new records = (k n : ℕ) → n < 2 ^ 24 → next_at old k ≡ Some n
+-- Where the client doesn't go past holes, the number that a place wanted moved by how many records of it there are.
+abbrev pub HaveMoved : Bool → Wants → Wants → List Numbered → Type 0
+HaveMoved holes old new records = holes ≡ false → (k n : ℕ) → n < 2 ^ 24 → next_at old k ≡ Some n
     → next_at new k ≡ Some ((n + length (numbers_at k records)) % 2 ^ 24)
 
 -- what no server sends that serves these places
@@ -96,11 +91,45 @@ TellsOfFetch LinkFailed old new = Tells (codes "mseed: link failed\n") old new
 -- Links were fetched over, up to an end: a client told of these records, and the output took them.
 pub record HasFetched (end : FetchEnd) (old new : Listening) (written_old written_new : BytesWritten) : Type 0 where
   pub records : List Numbered
-  pub told : HasTold old.talk.wants new.talk.wants records
-  pub moved : HaveMoved old.talk.wants new.talk.wants records
+  pub told : HasTold old.talk.holes old.talk.wants new.talk.wants records
+  pub moved : HaveMoved old.talk.holes old.talk.wants new.talk.wants records
+  pub holes : new.talk.holes ≡ old.talk.holes
   pub took : TakesRecords records written_old written_new
   pub stands : StandsAt end old new
   pub failures : written_new.failures ≡ written_old.failures + output_failures end
+
+-- Links were fetched over so, and standard error was told of the records before the output took them.
+pub record FetchesTelling (end : FetchEnd) (old new : Listening) (before after : Kept) : Type 0 where
+  pub fetched : HasFetched end old new before.output after.output
+  pub reported : AreReported fetched.records before after
+
+-- whether the last record wasn't taken whole
+abbrev pub is_unwritten : FetchEnd → Bool
+is_unwritten Done = false
+is_unwritten Refused = false
+is_unwritten BadFeed = false
+is_unwritten WriteFailed = true
+is_unwritten LinkFailed = false
+
+-- the words of a fetch that goes on, where they are asked for
+abbrev pub next_lines : Bool → Wants → List (List ℕ)
+next_lines false wants = []
+next_lines true wants = next_line_of wants ∷ []
+
+-- what is wanted next behind these records: what the client wants, and a record again that wasn't taken whole
+abbrev pub left_behind : Bool → FetchEnd → List Numbered → Wants → Wants → Wants
+left_behind firsts end records old new =
+    wants_left (is_unwritten end) (telling_behind (telling_of old firsts) records).last new
+
+-- Standard error took the lines of these records, each before the output took a byte of it; then the line that says how
+-- the fetch ended; and at last, where the first records are told of, the words of a fetch that goes on.
+pub record TellsOfAll (firsts : Bool) (end : FetchEnd) (records : List Numbered) (old new : Wants)
+    (before after : BytesWritten) : Type 0 where
+  pub told : BytesWritten
+  pub ended : BytesWritten
+  pub lines : AreTold (lines_of (telling_of old firsts) records) before told
+  pub end_line : TellsOfFetch end told ended
+  pub next : AreTold (next_lines firsts (left_behind firsts end records old new)) ended after
 
 -- how a fetch ends by the event at which a client stopped
 abbrev pub stopped_by : Event → FetchEnd

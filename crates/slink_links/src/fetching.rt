@@ -4,19 +4,22 @@ ghost use Rattle.slink_feed.specs.declared.dialogue.Ending.{Ending};
 ghost use Rattle.slink_feed.specs.declared.dialogue.Stage.{Stage};
 ghost use Rattle.slink_feed.specs.Fetching.{Notes, fetching};
 ghost use Rattle.slink_feed.specs.Listening.{IsLinked};
+ghost use Rattle.slink_feed.specs.Reports.{Reports, kept};
+ghost use Rattle.slink_feed.specs.Teller.{AreTold, wants_left};
 ghost use Rattle.slink_links.specs.Fetched.{HasDialled, HasFetched, HasReadEach, HasReadLink, HasTakenAll, HasTurned};
 ghost use Rattle.slink_links.specs.Out.{AreOut};
 ghost use Rattle.slink_links.specs.Fetched.{HasPaused, IsFetchedOver, IsReading, IsTurnBy, TellsOfFetch, calls_of};
-ghost use Rattle.slink_links.specs.Fetched.{HasTried};
-ghost use Rattle.slink_links.specs.Fetched.{end_by, fetch_status, stopped_by};
+ghost use Rattle.slink_links.specs.Fetched.{FetchesTelling, HasTried, TellsOfAll};
+ghost use Rattle.slink_links.specs.Fetched.{end_by, fetch_status, is_unwritten, next_lines, stopped_by};
 
 use crate::dial::Dial;
 use crate::pause::{Pause, wait_behind};
 use crate::serving::TURNS;
 use crate::settle::Settle;
 use crate::status::{DONE, FAULT};
-use mseed_stream::{Sink, tell, write_all_of};
-use slink_feed::{Client, Event, LinkFault, Turn, fetch_turn_noting};
+use mseed_stream::{Counted, Sink, tell, write_all_of};
+use slink_feed::{Client, Event, LinkFault, Teller, Turn, fetch_turn_telling};
+use std::io::sink;
 
 /// How a fetch ended.
 #[derive(Clone, Copy, Debug, PartialEq, Eq)]
@@ -38,7 +41,9 @@ pub enum FetchEnd {
 /// Behind each try but the last it waits by `waits`: a tenth of a second, and then twice as long each time, up to five
 /// seconds; a received record begins anew.
 ///
-/// The exit status is answered: 0, or 2 with a line on `errors` that says why not all came.
+/// The exit status is answered: 0, or 2 with a line on `errors` that says why not all came. Before each record that
+/// comes behind a hole a line is written there; with `tell_next` also before the first record of each place, and, at
+/// the end, the words of a fetch that goes on.
 pub fn fetch_all<D: Dial, P: Pause, W: Sink, E: Sink>(
     client: &mut Client,
     tries: u64,
@@ -46,6 +51,7 @@ pub fn fetch_all<D: Dial, P: Pause, W: Sink, E: Sink>(
     waits: &mut P,
     output: &mut W,
     errors: &mut E,
+    tell_next: bool,
 ) -> u8
     requires { AreOut 0 (D.calls dialler.old) (D.failures dialler.old) (D.given_back dialler.old) }
     ensures dials { D.calls dialler.new ≤ D.calls dialler.old + tries }
@@ -53,38 +59,96 @@ pub fn fetch_all<D: Dial, P: Pause, W: Sink, E: Sink>(
     // What the client told of went to the output, and the status and the line are by how it ended. Each link was
     // fetched over before it was given back, one behind another, and all but the last one failed. Between the tries it
     // paused, by which of them brought a record.
-    ensures end { (end : FetchEnd) × HasFetched end client.old client.new (W.written output.old) (W.written output.new)
+    ensures end { (end : FetchEnd)
+        × (fetched : HasFetched end client.old client.new (W.written output.old) (W.written output.new))
         × HasDialled end tries (D.calls dialler.old) (D.calls dialler.new)
         × HasReadEach end client.old client.new (D.given_back dialler.old) (D.given_back dialler.new)
         (W.written output.old) (W.written output.new)
-        × (result ≡ fetch_status end) × TellsOfFetch end (E.written errors.old) (E.written errors.new)
+        × (result ≡ fetch_status end)
+        × TellsOfAll tell_next end fetched.records client.old.talk.wants client.new.talk.wants (E.written errors.old)
+        (E.written errors.new)
         × HasPaused end client.old client.new (W.written output.old) (W.written output.new)
         (calls_of (D.calls dialler.old) (D.given_back dialler.old) (P.asked waits.old))
         (calls_of (D.calls dialler.new) (D.given_back dialler.new) (P.asked waits.new)) }
+    // Where nothing more is asked for, standard error takes the line of the end alone.
+    ensures quiet { tell_next ≡ false → client.old.talk.holes ≡ false
+        → (end : FetchEnd) × (result ≡ fetch_status end)
+        × TellsOfFetch end (E.written errors.old) (E.written errors.new) }
     // Each link was given back before the next one was dialled.
     ensures out { AreOut 0 (D.calls dialler.new) (D.failures dialler.new) (D.given_back dialler.new) }
 {
-    let end = fetch_links(client, tries, dialler, waits, output);
+    let mut teller = Teller::new(client, tell_next);
+    let end = fetch_links(client, tries, dialler, waits, output, errors, &mut teller);
+    tell_end(end, errors);
+    tell_next_of(tell_next, &teller, client, end, errors);
+    fetch_status(end)
+}
+
+/// Tells the words of a fetch that goes on, where they are asked for.
+fn tell_next_of<E: Sink>(
+    is_asked: bool,
+    teller: &Teller,
+    client: &Client,
+    end: FetchEnd,
+    errors: &mut E,
+)
+    ensures { AreTold (next_lines is_asked
+        (wants_left (is_unwritten end) teller.now.telling.last client.now.talk.wants)) (E.written errors.old)
+        (E.written errors.new) }
+{
+    if is_asked {
+        teller.tell_next(client, is_unwritten(end), errors);
+    }
+}
+
+/// Tells why not all came.
+fn tell_end<E: Sink>(end: FetchEnd, errors: &mut E)
+    ensures { TellsOfFetch end (E.written errors.old) (E.written errors.new) }
+{
     match end {
-        FetchEnd::Done => return DONE,
+        FetchEnd::Done => {}
         FetchEnd::Refused => tell(errors, b"mseed: refused\n"),
         FetchEnd::BadFeed => tell(errors, b"mseed: bad feed\n"),
         FetchEnd::WriteFailed => tell(errors, b"mseed: write failed\n"),
         FetchEnd::LinkFailed => tell(errors, b"mseed: link failed\n"),
     }
-    FAULT
+}
+
+/// The exit status.
+fn fetch_status(end: FetchEnd) -> u8
+    ensures { result ≡ fetch_status end }
+{
+    match end {
+        FetchEnd::Done => DONE,
+        FetchEnd::Refused | FetchEnd::BadFeed | FetchEnd::WriteFailed | FetchEnd::LinkFailed =>
+            FAULT,
+    }
+}
+
+/// Whether the last record wasn't taken whole.
+fn is_unwritten(end: FetchEnd) -> bool
+    ensures { result ≡ is_unwritten end }
+{
+    match end {
+        FetchEnd::WriteFailed => true,
+        FetchEnd::Done | FetchEnd::Refused | FetchEnd::BadFeed | FetchEnd::LinkFailed => false,
+    }
 }
 
 /// Fetches over one link after another, waits between them, and answers how it ended.
-fn fetch_links<D: Dial, P: Pause, W: Sink>(
+fn fetch_links<D: Dial, P: Pause, W: Sink, E: Sink>(
     client: &mut Client,
     tries: u64,
     dialler: &mut D,
     waits: &mut P,
     output: &mut W,
+    errors: &mut E,
+    teller: &mut Teller,
 ) -> FetchEnd
     requires { AreOut 0 (D.calls dialler.old) (D.failures dialler.old) (D.given_back dialler.old) }
-    ensures fetched { HasFetched result client.old client.new (W.written output.old) (W.written output.new) }
+    ensures fetched { FetchesTelling result client.old client.new
+        (kept (W.written output.old) (E.written errors.old) teller.old.telling)
+        (kept (W.written output.new) (E.written errors.new) teller.new.telling) }
     ensures dialled { HasDialled result tries (D.calls dialler.old) (D.calls dialler.new) }
     ensures out { AreOut 0 (D.calls dialler.new) (D.failures dialler.new) (D.given_back dialler.new) }
     ensures read { HasReadEach result client.old client.new (D.given_back dialler.old) (D.given_back dialler.new)
@@ -98,24 +162,28 @@ fn fetch_links<D: Dial, P: Pause, W: Sink>(
     }
     let mut count = 0;
     for dialled in 1..tries {
-        let (end, received) = try_link(client, dialler, output);
+        let (end, received) = try_link(client, dialler, output, errors, teller);
         if end != FetchEnd::LinkFailed {
             return end;
         }
         count = wait_behind(received, count, waits);
     }
-    let (end, received) = try_link(client, dialler, output);
+    let (end, received) = try_link(client, dialler, output, errors, teller);
     end
 }
 
 /// Dials once and fetches over that link, and answers how it ended, and whether it brought a record.
-fn try_link<D: Dial, W: Sink>(
+fn try_link<D: Dial, W: Sink, E: Sink>(
     client: &mut Client,
     dialler: &mut D,
     output: &mut W,
+    errors: &mut E,
+    teller: &mut Teller,
 ) -> (FetchEnd, bool)
     requires { AreOut 0 (D.calls dialler.old) (D.failures dialler.old) (D.given_back dialler.old) }
-    ensures fetched { HasFetched result.0 client.old client.new (W.written output.old) (W.written output.new) }
+    ensures fetched { FetchesTelling result.0 client.old client.new
+        (kept (W.written output.old) (E.written errors.old) teller.old.telling)
+        (kept (W.written output.new) (E.written errors.new) teller.new.telling) }
     ensures dialled { D.calls dialler.new ≡ D.calls dialler.old + 1 }
     ensures out { AreOut 0 (D.calls dialler.new) (D.failures dialler.new) (D.given_back dialler.new) }
     ensures read { HasReadEach result.0 client.old client.new (D.given_back dialler.old) (D.given_back dialler.new)
@@ -125,10 +193,10 @@ fn try_link<D: Dial, W: Sink>(
 {
     match dialler.dial() {
         Some(mut link) => {
-            let mut received = false;
-            let end = fetch_link_noting(client, &mut link, output, &mut received);
+            teller.begin();
+            let end = fetch_link_telling(client, &mut link, output, errors, teller);
             dialler.hang_up(link);
-            (end, received)
+            (end, teller.has_received())
         }
         None => (FetchEnd::LinkFailed, false),
     }
@@ -144,38 +212,44 @@ pub fn fetch_link<S: Settle, W: Sink>(client: &mut Client, link: &mut S, output:
         result
         (fetching client.new (S.written link.new) (W.written output.new)) (S.read link.new) }
 {
-    let mut received = false;
-    fetch_link_noting(client, link, output, &mut received)
+    let mut teller = Teller::new(client, false);
+    let mut nowhere = Counted::new(sink());
+    fetch_link_telling(client, link, output, &mut nowhere, &mut teller)
 }
 
-/// Fetches over one link as [`fetch_link`], and notes that the output took a record.
-fn fetch_link_noting<S: Settle, W: Sink>(
+/// Fetches over one link as [`fetch_link`], tells of each record before it is written, and notes that the output took
+/// one.
+fn fetch_link_telling<S: Settle, W: Sink, E: Sink>(
     client: &mut Client,
     link: &mut S,
     output: &mut W,
-    received: &mut bool,
+    errors: &mut E,
+    teller: &mut Teller,
 ) -> FetchEnd
-    ensures fetched { HasFetched result client.old client.new (W.written output.old) (W.written output.new) }
+    ensures fetched { FetchesTelling result client.old client.new
+        (kept (W.written output.old) (E.written errors.old) teller.old.telling)
+        (kept (W.written output.new) (E.written errors.new) teller.new.telling) }
     ensures read { HasReadLink client.old client.new (S.read link.old) (S.read link.new) (W.written output.old)
         (W.written output.new) }
     ensures turns { IsFetchedOver (fetching client.old (S.written link.old) (W.written output.old)) (S.read link.old)
         result
         (fetching client.new (S.written link.new) (W.written output.new)) (S.read link.new) }
-    ensures received { Notes received.old received.new (W.written output.old) (W.written output.new) }
+    ensures received { Notes teller.old.received teller.new.received (W.written output.old) (W.written output.new) }
 {
     let line = client.connect();
     match write_all_of(link, line.as_slice()) {
-        Ok(()) => take_turns(client, link, output, received),
+        Ok(()) => take_turns(client, link, output, errors, teller),
         Err(_) => FetchEnd::LinkFailed,
     }
 }
 
 /// Takes turns with a link until it ends, or until many were taken.
-fn take_turns<S: Settle, W: Sink>(
+fn take_turns<S: Settle, W: Sink, E: Sink>(
     client: &mut Client,
     link: &mut S,
     output: &mut W,
-    received: &mut bool,
+    errors: &mut E,
+    teller: &mut Teller,
 ) -> FetchEnd
     requires reading { IsReading client.old }
     requires linked { IsLinked client.old.talk.stage }
@@ -184,10 +258,13 @@ fn take_turns<S: Settle, W: Sink>(
     ensures taken { HasTakenAll (fetching client.old (S.written link.old) (W.written output.old)) (S.read link.old)
         result
         (fetching client.new (S.written link.new) (W.written output.new)) (S.read link.new) }
-    ensures received { Notes received.old received.new (W.written output.old) (W.written output.new) }
+    ensures received { Notes teller.old.received teller.new.received (W.written output.old) (W.written output.new) }
+    ensures reports { Reports client.old.talk client.new.talk
+        (kept (W.written output.old) (E.written errors.old) teller.old.telling)
+        (kept (W.written output.new) (E.written errors.new) teller.new.telling) }
 {
     for turn in 0..TURNS {
-        if let Some(end) = take_turn(client, link, output, received) {
+        if let Some(end) = take_turn(client, link, output, errors, teller) {
             return end;
         }
     }
@@ -195,11 +272,12 @@ fn take_turns<S: Settle, W: Sink>(
 }
 
 /// Takes a turn with a link, and answers how the fetch ends by it, if it does.
-fn take_turn<S: Settle, W: Sink>(
+fn take_turn<S: Settle, W: Sink, E: Sink>(
     client: &mut Client,
     link: &mut S,
     output: &mut W,
-    received: &mut bool,
+    errors: &mut E,
+    teller: &mut Teller,
 ) -> Option<FetchEnd>
     requires reading { IsReading client.old }
     requires linked { IsLinked client.old.talk.stage }
@@ -207,9 +285,12 @@ fn take_turn<S: Settle, W: Sink>(
         (W.written output.new) }
     ensures by { IsTurnBy result (fetching client.old (S.written link.old) (W.written output.old))
         (fetching client.new (S.written link.new) (W.written output.new)) (S.read link.old) (S.read link.new) }
-    ensures received { Notes received.old received.new (W.written output.old) (W.written output.new) }
+    ensures received { Notes teller.old.received teller.new.received (W.written output.old) (W.written output.new) }
+    ensures reports { Reports client.old.talk client.new.talk
+        (kept (W.written output.old) (E.written errors.old) teller.old.telling)
+        (kept (W.written output.new) (E.written errors.new) teller.new.telling) }
 {
-    let turn = fetch_turn_noting(client, link, output, received);
+    let turn = fetch_turn_telling(client, link, output, errors, teller);
     settle(client, link);
     end_by(&turn)
 }

@@ -51,6 +51,7 @@ fn fetch_over(
         &mut waits,
         &mut records,
         &mut errors,
+        false,
     );
     Ok(Fetched {
         status,
@@ -108,6 +109,7 @@ fn goes_on_behind_the_last_record(rt: HostRuntime) -> Result<(), Fail> {
         port: 0,
         tries: 2,
         timeout: Timeout { seconds: 600 },
+        tell_next: false,
         client: client()?,
     };
     let mut waits = Clockless::new(rt.alloc());
@@ -149,6 +151,7 @@ fn ends_at_once_where_no_try_helps(rt: HostRuntime) -> Result<(), Fail> {
             &mut waits,
             &mut records,
             &mut errors,
+            false,
         );
         assert_eq!(rt; ended, 2);
         assert_eq!(rt; taken_by(errors).as_slice(), *line);
@@ -175,6 +178,47 @@ fn waits_between_tries(rt: HostRuntime) -> Result<(), Fail> {
     for (counts, pauses) in &rows {
         let fetched = fetch_over(rt.alloc(), counts.len() as u64, all.as_slice(), counts)?;
         assert_eq!(rt; fetched.pauses.as_slice(), *pauses);
+    }
+    Ok(())
+}
+
+#[test]
+fn tells_where_to_go_on(rt: HostRuntime) -> Result<(), Fail> {
+    let all = two_packets(rt.alloc())?;
+    // What the first of two links tells, the room of the output, and the lines.
+    let rows: [(&[u8], usize, &[u8]); 3] = [
+        (
+            all.as_slice(),
+            ALL,
+            b"mseed: first XX_STA:000001\nmseed: next --network XX --station STA --from 000003\n",
+        ),
+        (
+            all.as_slice(),
+            1023,
+            b"mseed: first XX_STA:000001\nmseed: write failed\n\
+              mseed: next --network XX --station STA --from 000002\n",
+        ),
+        (
+            b"ERROR\r\n",
+            ALL,
+            b"mseed: refused\nmseed: next --network XX --station STA --from 000001\n",
+        ),
+    ];
+    for (told, room, lines) in &rows {
+        let mut links = Links::new(rt.alloc(), &[Some((*told, ALL))])?;
+        let mut records = output(rt.alloc(), *room);
+        let mut errors = output(rt.alloc(), ALL);
+        let mut waits = Clockless::new(rt.alloc());
+        fetch_all(
+            &mut client()?,
+            1,
+            &mut links,
+            &mut waits,
+            &mut records,
+            &mut errors,
+            true,
+        );
+        assert_eq!(rt; taken_by(errors).as_slice(), *lines);
     }
     Ok(())
 }

@@ -1,13 +1,15 @@
 use Rattle.std.proofs.Common.{◌≡◌, arith, refl, rules, subst}
 use Rattle.slink_links.specs.declared.fetching.FetchEnd.TheVariants.{LinkFailed}
-use Rattle.slink_links.specs.Fetched.{Calls, HasFetched, HasReadEach, HasTried, calls_of}
+use Rattle.slink_feed.specs.Reports.{Kept, kept}
+use Rattle.slink_links.specs.Fetched.{Calls, FetchesTelling, HasReadEach, HasTried, calls_of}
 use Rattle.slink_links.proofs.Fetches.{fetched_both, fetched_none, reads_both, reads_none}
 use Rattle.slink_links.proofs.Tries.{few_counted, nothing_tried, tried_last, tried_more}
 use Rattle.slink_links.proofs.fetching.fetch_links.Goals as goal
 
 pub returns-then-tries-eq0-clause-fetched : goal.returns-then-tries-eq0-clause-fetched
 returns-then-tries-eq0-clause-fetched g c =
-    fetched_none c.args.client.now (g.W.Sink.written c.args.output.now)
+    fetched_none c.args.client.now
+    (kept (g.W.Sink.written c.args.output.now) (g.E.Sink.written c.args.errors.now) c.args.teller.now.telling)
 
 pub returns-then-tries-eq0-clause-read : goal.returns-then-tries-eq0-clause-read
 returns-then-tries-eq0-clause-read g c =
@@ -18,7 +20,8 @@ loop-dialled-init g c =
     let before : Calls = calls_of (g.D.Dial.calls c.args.dialler.now) (g.D.Dial.given_back c.args.dialler.now)
     (g.P.Pause.asked c.args.waits.now) in
     record {
-      fetched = fetched_none c.args.client.now (g.W.Sink.written c.args.output.now);
+      fetched = fetched_none c.args.client.now
+          (kept (g.W.Sink.written c.args.output.now) (g.E.Sink.written c.args.errors.now) c.args.teller.now.telling);
       dialled = refl;
       out = c.requires;
       read = reads_none c.args.client.now (g.D.Dial.given_back c.args.dialler.now) (g.W.Sink.written c.args.output.now);
@@ -28,8 +31,11 @@ loop-dialled-init g c =
 pub returns-then-ne-clause-fetched : goal.returns-then-ne-clause-fetched
 returns-then-ne-clause-fetched g c =
     fetched_both c.try_link-end.result.0 c.args.client.now c.loop-dialled.client c.try_link-end.new.client
-    (g.W.Sink.written c.args.output.now) (g.W.Sink.written c.loop-dialled.output)
-    (g.W.Sink.written c.try_link-end.new.output) c.loop-dialled.invariant.fetched c.try_link-end.ensures.fetched
+    (kept (g.W.Sink.written c.args.output.now) (g.E.Sink.written c.args.errors.now) c.args.teller.now.telling)
+    (kept (g.W.Sink.written c.loop-dialled.output) (g.E.Sink.written c.loop-dialled.errors)
+    c.loop-dialled.teller.telling)
+    (kept (g.W.Sink.written c.try_link-end.new.output) (g.E.Sink.written c.try_link-end.new.errors)
+    c.try_link-end.new.teller.telling) c.loop-dialled.invariant.fetched c.try_link-end.ensures.fetched
 
 pub returns-then-ne-clause-read : goal.returns-then-ne-clause-read
 returns-then-ne-clause-read g c =
@@ -77,6 +83,9 @@ loop-dialled-preserved g c =
     let first = g.W.Sink.written c.args.output.now in
     let written_now = g.W.Sink.written c.loop-dialled.output in
     let written_new = g.W.Sink.written c.try_link-end.new.output in
+    let kept_now : Kept = kept written_now (g.E.Sink.written c.loop-dialled.errors) c.loop-dialled.teller.telling in
+    let kept_new : Kept = kept written_new (g.E.Sink.written c.try_link-end.new.errors)
+    c.try_link-end.new.teller.telling in
     let links_now = g.D.Dial.given_back c.loop-dialled.dialler in
     let links_new = g.D.Dial.given_back c.try_link-end.new.dialler in
     let before : Calls = calls_of (g.D.Dial.calls c.args.dialler.now) (g.D.Dial.given_back c.args.dialler.now)
@@ -87,9 +96,10 @@ loop-dialled-preserved g c =
     (g.D.Dial.given_back c.try_link-end.new.dialler)
     (g.P.Pause.asked c.wait_behind-count.new.waits) in
     record {
-      fetched = fetched_both LinkFailed c.args.client.now now new first written_now written_new
-          c.loop-dialled.invariant.fetched
-          (subst (λ end. HasFetched end now new written_now written_new) same c.try_link-end.ensures.fetched);
+      fetched = fetched_both LinkFailed c.args.client.now now new
+          (kept (g.W.Sink.written c.args.output.now) (g.E.Sink.written c.args.errors.now) c.args.teller.now.telling)
+          kept_now kept_new c.loop-dialled.invariant.fetched
+          (subst (λ end. FetchesTelling end now new kept_now kept_new) same c.try_link-end.ensures.fetched);
       dialled = omega (arith, c.try_link-end.ensures.dialled, c.loop-dialled.invariant.dialled);
       out = c.try_link-end.ensures.out;
       read = reads_both LinkFailed c.args.client.now now new (g.D.Dial.given_back c.args.dialler.now) links_now
@@ -107,8 +117,11 @@ loop-dialled-preserved g c =
 pub returns-clause-fetched : goal.returns-clause-fetched
 returns-clause-fetched g c =
     fetched_both c.try_link-end-2.result.0 c.args.client.now c.loop-dialled.client c.try_link-end-2.new.client
-    (g.W.Sink.written c.args.output.now) (g.W.Sink.written c.loop-dialled.output)
-    (g.W.Sink.written c.try_link-end-2.new.output) c.loop-dialled.invariant.fetched c.try_link-end-2.ensures.fetched
+    (kept (g.W.Sink.written c.args.output.now) (g.E.Sink.written c.args.errors.now) c.args.teller.now.telling)
+    (kept (g.W.Sink.written c.loop-dialled.output) (g.E.Sink.written c.loop-dialled.errors)
+    c.loop-dialled.teller.telling)
+    (kept (g.W.Sink.written c.try_link-end-2.new.output) (g.E.Sink.written c.try_link-end-2.new.errors)
+    c.try_link-end-2.new.teller.telling) c.loop-dialled.invariant.fetched c.try_link-end-2.ensures.fetched
 
 pub returns-clause-read : goal.returns-clause-read
 returns-clause-read g c =

@@ -1,13 +1,16 @@
 use Rattle.std.proofs.Common.{◌≡◌, ◌+◌}
 use Rattle.slink_links.specs.declared.fetching.FetchEnd.TheVariants.{LinkFailed}
-use Rattle.slink_links.specs.Fetched.{HasFetched, HasReadEach, calls_of}
+use Rattle.slink_feed.specs.Reports.{kept}
+use Rattle.slink_links.specs.Fetched.{FetchesTelling, HasReadEach, calls_of}
 use Rattle.slink_links.specs.Out.{AreOut}
 use Rattle.slink_links.proofs.Tries.{AreTried}
 use Rattle.slink_links.proofs.fetching.fetch_links.Given as goal
 
 abbrev pub invariant-loop-dialled : goal.invariant-loop-dialled
 invariant-loop-dialled g l = record {
-  fetched : HasFetched LinkFailed l.fn.client l.client (g.W.Sink.written l.fn.output) (g.W.Sink.written l.output);
+  fetched : FetchesTelling LinkFailed l.fn.client l.client
+      (kept (g.W.Sink.written l.fn.output) (g.E.Sink.written l.fn.errors) l.fn.teller.telling)
+      (kept (g.W.Sink.written l.output) (g.E.Sink.written l.errors) l.teller.telling);
   dialled : g.D.Dial.calls l.dialler + 1 ≡ g.D.Dial.calls l.fn.dialler + l.dialled;
   out : AreOut 0 (g.D.Dial.calls l.dialler) (g.D.Dial.failures l.dialler) (g.D.Dial.given_back l.dialler);
   read : HasReadEach LinkFailed l.fn.client l.client (g.D.Dial.given_back l.fn.dialler) (g.D.Dial.given_back l.dialler)

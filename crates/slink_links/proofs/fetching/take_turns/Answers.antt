@@ -2,7 +2,9 @@ use Rattle.std.proofs.Common.{◌≡◌, ◌+◌, ℕ, None, Some, arith, subst}
 use Rattle.slink_feed.specs.Fetching.{Fetching, fetching}
 use Rattle.slink_links.specs.Fetched.{HasTakenTurns, HasTurned, IsTurnBy, for_long, more, none, to_the_end}
 use Rattle.slink_links.proofs.Fetches.{turned_both, turned_none, turned_out, turned_reading}
+use Rattle.slink_feed.specs.Reports.{kept}
 use Rattle.slink_feed.proofs.Noting.{nothing_noted, notes_both}
+use Rattle.slink_feed.proofs.Reporting.{reports_both, reports_none}
 use Rattle.slink_links.proofs.fetching.take_turns.Goals as goal
 
 pub loop-turn-init : goal.loop-turn-init
@@ -10,7 +12,9 @@ loop-turn-init g c = record {
   turned = turned_none c.args.client.now (g.S.Source.read c.args.link.now) (g.W.Sink.written c.args.output.now)
       c.requires.linked;
   taken = none;
-  received = nothing_noted c.args.received.now (g.W.Sink.written c.args.output.now);
+  reports = reports_none c.args.client.now.talk
+      (kept (g.W.Sink.written c.args.output.now) (g.E.Sink.written c.args.errors.now) c.args.teller.now.telling);
+  received = nothing_noted c.args.teller.now.received (g.W.Sink.written c.args.output.now);
 }
 
 pub take_turn-requires-clause-reading : goal.take_turn-requires-clause-reading
@@ -46,10 +50,19 @@ fine e = omega (arith, e)
 
 pub returns-in-Some-clause-received : goal.returns-in-Some-clause-received
 returns-in-Some-clause-received g c =
-    notes_both c.args.received.now c.loop-turn.received c.take_turn.new.received
+    notes_both c.args.teller.now.received c.loop-turn.teller.received c.take_turn.new.teller.received
     (g.W.Sink.written c.args.output.now) (g.W.Sink.written c.loop-turn.output)
     (g.W.Sink.written c.take_turn.new.output) (fine c.loop-turn.invariant.turned.failures)
     c.loop-turn.invariant.received c.take_turn.ensures.received
+
+pub returns-in-Some-clause-reports : goal.returns-in-Some-clause-reports
+returns-in-Some-clause-reports g c =
+    reports_both c.args.client.now.talk c.loop-turn.client.talk c.take_turn.new.client.talk
+    (kept (g.W.Sink.written c.args.output.now) (g.E.Sink.written c.args.errors.now) c.args.teller.now.telling)
+    (kept (g.W.Sink.written c.loop-turn.output) (g.E.Sink.written c.loop-turn.errors) c.loop-turn.teller.telling)
+    (kept (g.W.Sink.written c.take_turn.new.output) (g.E.Sink.written c.take_turn.new.errors)
+    c.take_turn.new.teller.telling)
+    c.loop-turn.invariant.reports (fine c.loop-turn.invariant.turned.failures) c.take_turn.ensures.reports
 
 pub loop-turn-preserved : goal.loop-turn-preserved
 loop-turn-preserved g c =
@@ -67,7 +80,13 @@ loop-turn-preserved g c =
           c.in_default.is c.take_turn.ensures.turned);
       taken = more c.loop-turn.turn now new mid after c.loop-turn.invariant.taken
           (subst (λ end. IsTurnBy end now new mid after) c.in_default.is c.take_turn.ensures.by);
-      received = notes_both c.args.received.now c.loop-turn.received c.take_turn.new.received
+      reports = reports_both c.args.client.now.talk c.loop-turn.client.talk c.take_turn.new.client.talk
+          (kept (g.W.Sink.written c.args.output.now) (g.E.Sink.written c.args.errors.now) c.args.teller.now.telling)
+          (kept (g.W.Sink.written c.loop-turn.output) (g.E.Sink.written c.loop-turn.errors) c.loop-turn.teller.telling)
+          (kept (g.W.Sink.written c.take_turn.new.output) (g.E.Sink.written c.take_turn.new.errors)
+          c.take_turn.new.teller.telling)
+          c.loop-turn.invariant.reports (fine c.loop-turn.invariant.turned.failures) c.take_turn.ensures.reports;
+      received = notes_both c.args.teller.now.received c.loop-turn.teller.received c.take_turn.new.teller.received
           (g.W.Sink.written c.args.output.now) (g.W.Sink.written c.loop-turn.output)
           (g.W.Sink.written c.take_turn.new.output) (fine c.loop-turn.invariant.turned.failures)
           c.loop-turn.invariant.received c.take_turn.ensures.received;

@@ -4,9 +4,12 @@ use Rattle.mseed_stream.specs.Device.{BytesRead}
 use Rattle.slink_feed.specs.Fetching.{Fetching, fetching}
 use Rattle.slink_links.specs.declared.fetching.FetchEnd.TheVariants.{LinkFailed}
 use Rattle.slink_links.specs.Fetched.{HasReadLink, HasTakenAll, IsFetchedOver, by_turns, unwritten}
-use Rattle.slink_links.proofs.Fetches.{connected_linked, fetched_link, read_link, took_as, took_prefix_as, turned_none}
+use Rattle.slink_feed.specs.Reports.{Kept, kept}
+use Rattle.slink_feed.proofs.Reporting.{reports_none}
+use Rattle.slink_links.proofs.Fetches.{connected_linked, fetched_link, fetched_telling, read_link, took_as}
+use Rattle.slink_links.proofs.Fetches.{took_prefix_as, turned_none}
 use Rattle.slink_links.proofs.Fetches.{turned_out}
-use Rattle.slink_links.proofs.fetching.fetch_link_noting.Goals as goal
+use Rattle.slink_links.proofs.fetching.fetch_link_telling.Goals as goal
 
 pub take_turns-requires-clause-linked : goal.take_turns-requires-clause-linked
 take_turns-requires-clause-linked g c =
@@ -15,11 +18,18 @@ take_turns-requires-clause-linked g c =
 
 pub returns-in-Ok-clause-fetched : goal.returns-in-Ok-clause-fetched
 returns-in-Ok-clause-fetched g c =
-    fetched_link c.take_turns.result c.args.client.now c.connect-line.new.self c.take_turns.new.client
+    let before : Kept = kept (g.W.Sink.written c.args.output.now) (g.E.Sink.written c.args.errors.now)
+    c.args.teller.now.telling in
+    let after : Kept = kept (g.W.Sink.written c.take_turns.new.output) (g.E.Sink.written c.take_turns.new.errors)
+    c.take_turns.new.teller.telling in
+    fetched_telling c.take_turns.result c.args.client.now c.connect-line.new.self c.take_turns.new.client
+    (Say c.connect-line.result) before after c.connect-line.ensures.written
+    (fetched_link c.take_turns.result c.args.client.now c.connect-line.new.self c.take_turns.new.client
     (Say c.connect-line.result) (g.S.Source.read c.write_all_of.new.sink)
     (g.S.Source.read c.take_turns.new.link) (g.W.Sink.written c.args.output.now)
     (g.W.Sink.written c.take_turns.new.output)
-    c.connect-line.ensures.written c.connect-line.ensures.reads c.take_turns.ensures.turned
+    c.connect-line.ensures.written c.connect-line.ensures.reads c.take_turns.ensures.turned)
+    c.take_turns.ensures.reports
 
 pub returns-in-Ok-clause-read : goal.returns-in-Ok-clause-read
 returns-in-Ok-clause-read g c =
@@ -40,11 +50,15 @@ returns-in-Err-clause-fetched g c =
     let now = c.connect-line.new.self in
     let read = g.S.Source.read c.args.link.now in
     let written = g.W.Sink.written c.args.output.now in
+    let same : Kept = kept written (g.E.Sink.written c.args.errors.now) c.args.teller.now.telling in
     let none = turned_none now read written
     (connected_linked c.args.client.now.talk now.talk (Say c.connect-line.result)
     c.connect-line.ensures.written) in
-    fetched_link _ c.args.client.now now now (Say c.connect-line.result) read read written written
-    c.connect-line.ensures.written c.connect-line.ensures.reads (turned_out now now read read written written none)
+    fetched_telling LinkFailed c.args.client.now now now (Say c.connect-line.result) same same
+    c.connect-line.ensures.written
+    (fetched_link LinkFailed c.args.client.now now now (Say c.connect-line.result) read read written written
+    c.connect-line.ensures.written c.connect-line.ensures.reads (turned_out now now read read written written none))
+    (reports_none now.talk same)
 
 pub returns-in-Err-clause-read : goal.returns-in-Err-clause-read
 returns-in-Err-clause-read g c =
