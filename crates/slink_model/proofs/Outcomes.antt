@@ -1,7 +1,7 @@
 -- What a client makes of the bytes of replies and packets, cut anywhere.
 use Rattle.std.proofs.Common.{◌≡◌, ℕ, ◌+◌, ◌%◌, ◌^◌, inl, inr, refl, sym, ap, subst, ◌∙◌, arith, Bool, true, false}
 use Rattle.std.proofs.Common.{List, [], ◌∷◌, ◌++◌, length, length-append, take, drop, take_at, drop_at, Option, Some}
-use Rattle.std.proofs.Common.{None, slice_get, codes, bytes_eq, nat_eq, if◌then◌else◌}
+use Rattle.std.proofs.Common.{None, slice_get, codes, bytes_eq, nat_eq, ◌==◌, ◌&&◌, ◌||◌, if◌then◌else◌}
 use Rattle.std.specs.List.{starts_with}
 use Rattle.std.proofs.lemmas.Bool.Decides.{eqb_tells}
 use Rattle.std.proofs.lemmas.List.{take-append-le}
@@ -22,7 +22,8 @@ use Rattle.slink_feed.specs.declared.dialogue.Stage.TheVariants.{Unlinked, Stati
 use Rattle.slink_feed.specs.declared.dialogue.Wanted.{Wanted}
 use Rattle.slink_feed.specs.Cutting.{IsWhole}
 use Rattle.slink_feed.specs.Dialogue.{Talk, Whole, Reply, Packet, End, Garbage, answer_of, at_packet, bearer, ended}
-use Rattle.slink_feed.specs.Dialogue.{event_of, read, read_at, if_wanted, next_at, says_number, says_place, to_answer}
+use Rattle.slink_feed.specs.Dialogue.{event_of, is_ahead, is_taken, read, read_at, if_wanted, next_at, says_number}
+use Rattle.slink_feed.specs.Dialogue.{says_place, to_answer}
 use Rattle.slink_feed.specs.Dialogue.{to_place, told, want_at, with_next}
 use Rattle.slink_feed.specs.Listening.{Brings, Listening, begun, whole}
 use Rattle.slink_model.specs.Ties.{AreWhole, Item, Accepted, Refused, Greeted, Carried, Finished, Outcome, ends, says}
@@ -75,7 +76,7 @@ pub place_written : (o : Option Wanted) (k : ℕ) (t : Talk) → ((to_place o k 
 place_written None k t = (refl, refl)
 place_written (Some w) k t = (refl, refl)
 
-module _ (t : Talk) (bytes way : List ℕ) (new : Listening) (e : Event) where
+module _ (t : Talk) (bytes way : List ℕ) (new : Listening) (e : Event) (plain : t.holes ≡ false) where
   -- the link is ended
   has_ended : (items : List Item) (ending : Ending) → ended ending t ≡ (new.talk, e) → new.kept ≡ []
       → Outcome t items bytes way new e
@@ -177,13 +178,19 @@ module _ (t : Talk) (bytes way : List ℕ) (new : Listening) (e : Event) where
   has_wanted items n j r k m rest None is left number at next read none =
       has_told items n j r k m rest is left number at (λ w some. absurd (let bad : None ≡ Some w = sym next ∙ some in
       cc bad)) read none
-  has_wanted items n j r k m rest (Some want) is left number at next read none = elim (eqb_tells n want) [
-    | inl same ↦ has_told items n j r k m rest is left number at (λ w some. let both : Some want ≡ Some w = sym next
-        ∙ some in let one : want ≡ w = cc both in same.1 ∙ one)
-        (ap (λ (b : Bool). if b then told j n r t else ended (endings.Gap j want n) t) (sym same.0) ∙ read) none
-    | inr other ↦ has_ended items (endings.Gap j want n)
-        (ap (λ (b : Bool). if b then told j n r t else ended (endings.Gap j want n) t) (sym other.0) ∙ read) none
-  ]
+  has_wanted items n j r k m rest (Some want) is left number at next read none =
+      let taken : (b : Bool) → (n == want) ≡ b → is_taken t.holes want n ≡ b || (false && is_ahead want n) =
+      λ b same. ap (λ (x : Bool). x || (t.holes && is_ahead want n)) same
+      ∙ ap (λ (h : Bool). b || (h && is_ahead want n)) plain in
+      elim (eqb_tells n want) [
+        | inl same ↦ has_told items n j r k m rest is left number at (λ w some. let both : Some want ≡ Some w = sym next
+            ∙ some in let one : want ≡ w = cc both in same.1 ∙ one)
+            (ap (λ (b : Bool). if b then told j n r t else ended (endings.Gap j want n) t) (sym (taken true same.0))
+            ∙ read) none
+        | inr other ↦ has_ended items (endings.Gap j want n)
+            (ap (λ (b : Bool). if b then told j n r t else ended (endings.Gap j want n) t) (sym (taken false other.0))
+            ∙ read) none
+      ]
 
   -- a packet that is read
   has_packet : (items : List Item) (n : ℕ) (r : List ℕ) (o : Option ℕ) → AreWhole items → IsPacket bytes n r

@@ -15,6 +15,7 @@ use Rattle.slink_feed.specs.declared.grant.Grant.{Grant}
 use Rattle.slink_feed.specs.Dialogue.{Talk, Wants, bearer, is_borne, next_at, next_set, want_at, with_next}
 use Rattle.slink_feed.specs.Listening.{Brings, IsLinked, Listening}
 use Rattle.slink_feed.specs.Session.{State, grant_at}
+use Rattle.slink_feed.proofs.Reporting.{kept_event}
 use Rattle.slink_model.specs.Ties.{AllHold, AreOfPlaces, AreWanted, AreWhole, Carried, Holds, IsOnWay, Item, LinkTies}
 use Rattle.slink_model.specs.Ties.{Outcome, Places, Told, ends, of_place, says, takes, WantFirst, told_of, waits}
 use Rattle.slink_model.specs.Ties.{way_bytes}
@@ -149,6 +150,7 @@ module _ (places : Places) (first : ℕ) (pushed : Lists) (state : State) (first
   -- what the client has come to, with these bytes on their way to it
   pub record ClientTies (client : Listening) (held : Lists) (start : Numbers) (way : List ℕ) : Type 0 where
     pub wanted : AreWanted places client.talk.wants
+    pub plain : client.talk.holes ≡ false
     pub holds : AllHold places first pushed client.talk.wants held start
     pub want_first : WantFirst places client.talk.wants start
     pub long : (length held ≡ length places) × (length start ≡ length places)
@@ -156,13 +158,14 @@ module _ (places : Places) (first : ℕ) (pushed : Lists) (state : State) (first
 
   -- nothing is told, and what is wanted stays
   quiet_ties : (client new : Listening) (held : Lists) (start : Numbers) (way left : List ℕ)
-      → new.talk.wants ≡ client.talk.wants → ClientTies client held start way
+      → new.talk.wants ≡ client.talk.wants → new.talk.holes ≡ client.talk.holes → ClientTies client held start way
       → (l : List Item) → AreWhole l → (IsLinked new.talk.stage → new.kept ++ left ≡ way_bytes l)
       → (t : LinkTies places first few pushed client held start state first_sent way)
       → ((k : ℕ) → of_place k l ≡ of_place k t.items)
       → ClientTies new held start left
-  quiet_ties client new held start way left wants c l are flow t of = record {
+  quiet_ties client new held start way left wants holes c l are flow t of = record {
     wanted = subst (AreWanted places) (sym wants) c.wanted;
+    plain = holes ∙ c.plain;
     holds = subst (λ (w : Wants). AllHold places first pushed w held start) (sym wants) c.holds;
     want_first = subst (λ (w : Wants). WantFirst places w start) (sym wants) c.want_first;
     long = c.long;
@@ -183,9 +186,10 @@ module _ (places : Places) (first : ℕ) (pushed : Lists) (state : State) (first
       → c.link.items ≡ Carried j n r ∷ rest → left ≡ way_bytes rest → j < length places → slice_get places j ≡ Some p
       → w.place ≡ p.0 → slice_get client.talk.wants j ≡ Some (Some w) → grant_at state.grants j ≡ Some g
       → ((x : ℕ) → next_at client.talk.wants j ≡ Some x → n % 2 ^ 24 ≡ x)
-      → new.talk.wants ≡ with_next client.talk.wants j ((n % 2 ^ 24 + 1) % 2 ^ 24) → new.kept ≡ []
+      → new.talk.wants ≡ with_next client.talk.wants j ((n % 2 ^ 24 + 1) % 2 ^ 24)
+      → new.talk.holes ≡ client.talk.holes → new.kept ≡ []
       → ClientTies new (with_one held j r) (with_first start j (number_at first_sent j)) left
-  taken_at client new held start way left j n r rest w p g c is flow lt of_p place has grant wanted wants none =
+  taken_at client new held start way left j n r rest w p g c is flow lt of_p place has grant wanted wants holes none =
       let m : ℕ = (n % 2 ^ 24 + 1) % 2 ^ 24 in
       let v : Wanted = record { place = w.place; next = Some m } in
       let want : want_at client.talk.wants j ≡ Some w = ap (λ o. unwrap_or o None) has in
@@ -246,6 +250,7 @@ module _ (places : Places) (first : ℕ) (pushed : Lists) (state : State) (first
           )
           | inr ne ↦ c.wanted i x (sym (want_i i ne) ∙ at)
         ]);
+        plain = holes ∙ c.plain;
         holds = subst (λ (y : Wants). AllHold places first pushed y held' start') (sym becomes)
             (λ i below. elim (same_or_not i j) [
               | inl e ↦ subst (λ y. Holds first (get_or pushed y []) (next_at ws y) (get_or held' y [])
@@ -300,9 +305,10 @@ module _ (places : Places) (first : ℕ) (pushed : Lists) (state : State) (first
       (rest : List Item) → (c : ClientTies client held start way)
       → c.link.items ≡ Carried k n r ∷ rest → left ≡ way_bytes rest → bearer client.talk.wants r ≡ Some j
       → ((x : ℕ) → next_at client.talk.wants j ≡ Some x → n % 2 ^ 24 ≡ x)
-      → new.talk.wants ≡ with_next client.talk.wants j ((n % 2 ^ 24 + 1) % 2 ^ 24) → new.kept ≡ []
+      → new.talk.wants ≡ with_next client.talk.wants j ((n % 2 ^ 24 + 1) % 2 ^ 24)
+      → new.talk.holes ≡ client.talk.holes → new.kept ≡ []
       → ClientTies new (with_one held j r) (with_first start j (number_at first_sent j)) left
-  taken_ties client new held start way left k j n r rest c is flow bears wanted wants none =
+  taken_ties client new held start way left k j n r rest c is flow bears wanted wants holes none =
       let of_k : of_place k c.link.items ≡ (n, r) ∷ of_place k rest = ap (of_place k) is
       ∙ ap (λ b. b ++ of_place k rest) (carried_here k n r) in
       let lt : k < length places =
@@ -324,42 +330,43 @@ module _ (places : Places) (first : ℕ) (pushed : Lists) (state : State) (first
       let same : k ≡ j = differ k j q.0 pw.0 q.1 pw.1 (one_place r q.0.0 pw.0.0 borne.1 (subst (Bears r) pw.2 b.2)) in
       taken_at client new held start way left j n r rest b.0 pw.0 top.0 c (is ∙ ap (λ i. Carried i n r ∷ rest) same)
       flow (is_within places j pw.0 pw.1) pw.1 pw.2 b.1
-      (subst (λ i. grant_at state.grants i ≡ Some top.0) same top.1) wanted wants none
+      (subst (λ i. grant_at state.grants i ≡ Some top.0) same top.1) wanted wants holes none
 
   outcome_ties : (client new : Listening) (held held' : Lists) (start start' : Numbers) (way piece left : List ℕ)
       (e : Event) → (c : ClientTies client held start (piece ++ left)) → IsLinked client.talk.stage
-      → Outcome client.talk c.link.items (client.kept ++ piece) left new e
+      → Outcome client.talk c.link.items (client.kept ++ piece) left new e → new.talk.holes ≡ client.talk.holes
       → (told_of e ≡ None → (held' ≡ held) × (start' ≡ start))
       → ((a : Told) → told_of e ≡ Some a → (held' ≡ with_one held a.index a.bytes)
       × (start' ≡ with_first start a.index (number_at first_sent a.index)))
       → ClientTies new held' start' left
-  outcome_ties client new held held' start start' way piece left e c linked (waits same quiet) stays takes_it =
+  outcome_ties client new held held' start start' way piece left e c linked (waits same quiet) holes stays
+      takes_it =
       let flow : (client.kept ++ piece) ++ left ≡ way_bytes c.link.items = append_assoc client.kept piece left
       ∙ c.link.flow linked in
       let done : ClientTies new held start left =
-      quiet_ties client new held start (piece ++ left) left (ap (λ (x : Listening). x.talk.wants) same) c
+      quiet_ties client new held start (piece ++ left) left (ap (λ (x : Listening). x.talk.wants) same) holes c
       c.link.items c.link.are_whole (λ l. ap (λ (x : Listening). x.kept ++ left) same ∙ flow) c.link (λ k. refl) in
       subst (λ s. ClientTies new held' s left) (sym (stays quiet).1)
       (subst (λ h. ClientTies new h start left) (sym (stays quiet).0) done)
-  outcome_ties client new held held' start start' way piece left e c linked (says rest is flow wants none quiet) stays
-      takes_it =
+  outcome_ties client new held held' start start' way piece left e c linked (says rest is flow wants none quiet) holes
+      stays takes_it =
       let done : ClientTies new held start left =
-      quiet_ties client new held start (piece ++ left) left wants c rest (subst AreWhole is c.link.are_whole)
+      quiet_ties client new held start (piece ++ left) left wants holes c rest (subst AreWhole is c.link.are_whole)
       (λ l. ap (λ k. k ++ left) none ∙ flow) c.link (λ k. sym (ap (of_place k) is)) in
       subst (λ s. ClientTies new held' s left) (sym (stays quiet).1)
       (subst (λ h. ClientTies new h start left) (sym (stays quiet).0) done)
-  outcome_ties client new held held' start start' way piece left e c linked (ends ending talk none quiet) stays
-      takes_it =
+  outcome_ties client new held held' start start' way piece left e c linked (ends ending talk none quiet) holes
+      stays takes_it =
       let done : ClientTies new held start left =
-      quiet_ties client new held start (piece ++ left) left (ap (λ (x : Talk). x.wants) talk) c c.link.items
+      quiet_ties client new held start (piece ++ left) left (ap (λ (x : Talk). x.wants) talk) holes c c.link.items
       c.link.are_whole (λ l. absurd (subst (λ (x : Talk). IsLinked x.stage) talk l)) c.link (λ k. refl) in
       subst (λ s. ClientTies new held' s left) (sym (stays quiet).1)
       (subst (λ h. ClientTies new h start left) (sym (stays quiet).0) done)
   outcome_ties client new held held' start start' way piece left e c linked
-      (takes k j n r rest is flow bears wanted talk none told) stays takes_it =
+      (takes k j n r rest is flow bears wanted talk none told) holes stays takes_it =
       let done : ClientTies new (with_one held j r) (with_first start j (number_at first_sent j)) left
       = taken_ties client new held start (piece ++ left) left k j n r rest c is flow bears wanted
-      (ap (λ (x : Talk). x.wants) talk) none in
+      (ap (λ (x : Talk). x.wants) talk) holes none in
       let it : (held' ≡ with_one held j r) × (start' ≡ with_first start j (number_at first_sent j)) =
       takes_it (record { index = j; number = n % 2 ^ 24; bytes = r }) told in
       subst (λ s. ClientTies new held' s left) (sym it.1)
@@ -375,11 +382,12 @@ module _ (places : Places) (first : ℕ) (pushed : Lists) (state : State) (first
       let flow : (t.client.kept ++ piece) ++ left ≡ way_bytes c.link.items = append_assoc t.client.kept piece left
       ∙ c.link.flow linked in
       let out : Outcome t.client.talk c.link.items (t.client.kept ++ piece) left now e =
-      outcome t.client.talk (t.client.kept ++ piece) left now e c.link.items c.link.are_whole flow brings in
+      outcome t.client.talk (t.client.kept ++ piece) left now e c.plain c.link.items c.link.are_whole flow brings in
       subst (λ (x : Listening). ClientTies x (noted first_sent e u).held (noted first_sent e u).start left)
       (sym (same_client first_sent e u))
       (outcome_ties t.client now t.held (noted first_sent e u).held t.start (noted first_sent e u).start left piece
-      left e c linked out (λ q. quiet_held first_sent e u q) (λ a q. told_held first_sent e u a q))
+      left e c linked out (kept_event t.client.talk (t.client.kept ++ piece) now e brings)
+      (λ q. quiet_held first_sent e u q) (λ a q. told_held first_sent e u a q))
 
   -- all of these bytes are taken, piece by piece
   pub reads_ties : (t : Taking) (bytes : List ℕ) (last : Taking) (left : List ℕ) → Reads first_sent t bytes last
@@ -390,5 +398,6 @@ module _ (places : Places) (first : ℕ) (pushed : Lists) (state : State) (first
       (piece_ties u now piece (rest ++ left) e linked brings
       (subst (ClientTies u.client u.held u.start) (ap (λ b. b ++ left) split ∙ append_assoc piece rest left) c))
   reads_ties t bytes last left (piece_lost u v all piece rest split over more) c =
-      reads_ties u rest v left more (quiet_ties u.client u.client u.held u.start (all ++ left) (rest ++ left) refl c
+      reads_ties u rest v left more (quiet_ties u.client u.client u.held u.start (all ++ left) (rest ++ left) refl
+      refl c
       c.link.items c.link.are_whole (λ linked. absurd (over linked)) c.link (λ k. refl))

@@ -15,6 +15,7 @@ use Rattle.slink_feed.specs.Listening.{Listening}
 use Rattle.slink_feed.specs.Serving.{Standing}
 use Rattle.slink_feed.specs.Session.{Grants, State, grant_at, sent_in}
 use Rattle.slink_model.specs.Stretch.{HoldsStretches, IsSchedule, IsSound, LackFew, LacksFew}
+use Rattle.slink_feed.proofs.Numbers.{kept_place}
 use Rattle.slink_model.specs.Ties.{AllHold, AreOfPlaces, AreShown, AreSound, AreWanted, Holds, IsLinkTied, IsOnWay}
 use Rattle.slink_model.specs.Ties.{LinkTies, Places, WantFirst, WorldTies, of_place}
 use Rattle.slink_feed.specs.Running.{HasStream}
@@ -139,6 +140,7 @@ module _ (places : Places) (first : ℕ) where
         shown = shown;
         sound = sound;
         wanted = t.wanted;
+        plain = t.plain;
         holds = holds;
         want_first = t.want_first;
         long = (
@@ -156,6 +158,7 @@ module _ (places : Places) (first : ℕ) where
     shown = t.shown;
     sound = t.sound;
     wanted = t.wanted;
+    plain = t.plain;
     holds = t.holds;
     want_first = t.want_first;
     long = t.long;
@@ -169,6 +172,7 @@ module _ (places : Places) (first : ℕ) where
     shown = t.shown;
     sound = t.sound;
     wanted = t.wanted;
+    plain = t.plain;
     holds = t.holds;
     want_first = t.want_first;
     long = t.long;
@@ -178,6 +182,7 @@ module _ (places : Places) (first : ℕ) where
     shown = t.shown;
     sound = t.sound;
     wanted = t.wanted;
+    plain = t.plain;
     holds = t.holds;
     want_first = t.want_first;
     long = t.long;
@@ -205,6 +210,7 @@ module _ (places : Places) (first : ℕ) where
         shown = t.shown;
         sound = t.sound;
         wanted = subst (AreWanted places) (sym wants) t.wanted;
+        plain = kept_place 0 w.client.talk (want_at w.client.talk.wants 0) ∙ t.plain;
         holds = subst (λ (x : Wants). AllHold places first w.pushed x w.held w.start) (sym wants) t.holds;
         want_first = subst (λ (x : Wants). WantFirst places x w.start) (sym wants) t.want_first;
         long = t.long;
@@ -298,6 +304,7 @@ module _ (places : Places) (first : ℕ) where
       let c : ClientTies places first w.pushed l.session.state l.first_sent differ t.sound w.client w.held w.start
       (take n l.to_client ++ drop n l.to_client) = record {
         wanted = t.wanted;
+        plain = t.plain;
         holds = t.holds;
         want_first = t.want_first;
         long = (t.long.2, t.long.3);
@@ -318,6 +325,7 @@ module _ (places : Places) (first : ℕ) where
             (subst (AreShown places first w.windows) (sym pushed) t.shown);
         sound = subst (AreOfPlaces places) (sym pushed) t.sound;
         wanted = d.wanted;
+        plain = d.plain;
         holds = subst (λ (x : Lists). AllHold places first x v.client.talk.wants v.held v.start) (sym pushed) d.holds;
         want_first = d.want_first;
         long = (ap length windows ∙ t.long.0, ap length pushed ∙ t.long.1, d.long.0, d.long.1);
@@ -423,6 +431,7 @@ opening_ties setup room =
       sound = λ k p here. subst (AreSound p.0) (sym (nothing_at ps k)) (λ i r h. absurd (let bad : None ≡ Some r = h in
           cc bad));
       wanted = λ k w h. opening_wanted ps (16 - n) k w h;
+      plain = refl;
       holds = λ k lt. subst (λ (o : Option ℕ). Holds setup.first (get_or (map (λ _. []) ps) k [])
           (next_at (wants_of ps) k) (get_or (map (λ _. []) ps) k []) o) (sym (none_number ps k)) (nothing_at ps k);
       want_first = λ k p here unheld. opening_first ps (16 - n) k p here;

@@ -222,7 +222,7 @@ counted_after setup c (step ∷ steps) = counted_after setup (counted_step setup
 abbrev pub counted_opening : Setup → Counted
 counted_opening setup = record {
   pushed = map (λ p. []) setup.places.items;
-  talk = record { mode = setup.mode; wants = wants_of setup.places.items; stage = Unlinked };
+  talk = record { mode = setup.mode; wants = wants_of setup.places.items; stage = Unlinked; holes = false };
   held = map (λ p. []) setup.places.items;
   start = map (λ p. None) setup.places.items;
   link = None;

@@ -1,6 +1,6 @@
 -- What is held of a place, and what of it is on its way to the client.
 use Rattle.std.specs.Prelude.{◌≡◌, ℕ, ◌+◌, ◌-◌, ◌%◌, ◌^◌, ◌<◌, ◌≤◌, ◌⊎◌, ◌==◌, List, [], ◌∷◌, ◌++◌, length, codes}
-use Rattle.std.specs.Prelude.{Option, Some, None, slice_get, slice_index_or, if◌then◌else◌}
+use Rattle.std.specs.Prelude.{false, Option, Some, None, slice_get, slice_index_or, if◌then◌else◌}
 use Rattle.slink_wire.specs.declared.reply.Reply.{Reply}
 use Rattle.slink_wire.specs.declared.reply.Reply.TheVariants as replies
 use Rattle.slink_wire.specs.Packet.{packet_bytes}
@@ -200,6 +200,7 @@ pub record WorldTies (places : Places) (first : ℕ) (w : WorldState) : Type 0 w
   pub shown : AreShown places first w.windows w.pushed
   pub sound : AreOfPlaces places w.pushed
   pub wanted : AreWanted places w.client.talk.wants
+  pub plain : w.client.talk.holes ≡ false
   pub holds : AllHold places first w.pushed w.client.talk.wants w.held w.start
   pub want_first : WantFirst places w.client.talk.wants w.start
   pub long : (length w.windows ≡ length places) × (length w.pushed ≡ length places)

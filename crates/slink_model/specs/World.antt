@@ -1,5 +1,6 @@
 -- A server, a client and at most one link between them, and what each step of a schedule does.
-use Rattle.std.specs.Prelude.{◌≡◌, ℕ, ◌<◌, List, [], ◌∷◌, ◌++◌, length, map, take, drop, replicate, Option, Some, None}
+use Rattle.std.specs.Prelude.{false, ◌≡◌, ℕ, ◌<◌, List, [], ◌∷◌, ◌++◌, length, map, take, drop, replicate, Option, Some}
+use Rattle.std.specs.Prelude.{None}
 use Rattle.std.specs.Prelude.{option_map, unwrap_or, slice_get, slice_set, slice_index_or}
 use Rattle.std.specs.Global.{Vec}
 use Rattle.slink_wire.specs.Lines.{IsHeld}
@@ -192,7 +193,7 @@ opening setup = record {
   windows = map (empty_window setup) setup.places.items;
   pushed = map (λ p. []) setup.places.items;
   client = record {
-    talk = record { mode = setup.mode; wants = wants_of setup.places.items; stage = Unlinked };
+    talk = record { mode = setup.mode; wants = wants_of setup.places.items; stage = Unlinked; holes = false };
     kept = [];
   };
   held = map (λ p. []) setup.places.items;
