@@ -7,7 +7,7 @@ use Rattle.std.specs.List.{after_first, before_first, list_all, position_or_len}
 use Rattle.clap.specs.Walk.{Row, Text, first_of}
 use Rattle.slink_wire.specs.Place.{Fields, fields_of}
 use Rattle.slink_feed.specs.Fault.{IsCapacity}
-use Rattle.mseed.specs.Found.{further_in, has_only}
+use Rattle.mseed.specs.Found.{asks, further_in, has_only}
 use Rattle.mseed.specs.Numbers.{counted_in, hexadecimal_in, number_in}
 use Rattle.mseed.specs.Places.{ArePlaces, Asked, places_of}
 use Rattle.mseed.specs.declared.feed_words.Naming.{Naming}
@@ -110,10 +110,10 @@ serving_with (Some listener) (Some connections) (Some capacity) (Some first) (So
     })
 serving_with _ _ _ _ _ = None
 
-abbrev pub fetching_with : Option Server → Option ℕ → Option (List Asked) → Option Fetching
-fetching_with (Some server) (Some tries) (Some places) =
-    Some (record { server = server; tries = tries; places = places })
-fetching_with _ _ _ = None
+abbrev pub fetching_with : Option Server → Option ℕ → Option (List Asked) → Bool → Bool → Option Fetching
+fetching_with (Some server) (Some tries) (Some places) tell_next holes =
+    Some (record { server = server; tries = tries; places = places; tell_next = tell_next; holes = holes })
+fetching_with _ _ _ _ _ = None
 
 -- what `serve` takes besides its word
 abbrev pub serve_names : List Text
@@ -128,7 +128,9 @@ abbrev pub fetch_names : List Text
 fetch_names = codes "command" ∷ codes "place" ∷ codes "address" ∷ codes "port" ∷ codes "timeout" ∷ codes "station"
     ∷ codes "network"
     ∷ codes "from"
-    ∷ codes "tries" ∷ []
+    ∷ codes "tries"
+    ∷ codes "tell-next"
+    ∷ codes "holes" ∷ []
 
 -- where connections are taken
 abbrev pub listener_of : List Row → Option Listener
@@ -156,7 +158,7 @@ abbrev pub fetching_of : List Row → Option Fetching
 fetching_of rows =
     if has_only fetch_names rows
     then fetching_with (server_of rows) (count_in (first_of (codes "tries") rows))
-    (places_in Numbered (first_of (codes "from") rows) rows)
+    (places_in Numbered (first_of (codes "from") rows) rows) (asks (codes "tell-next") rows) (asks (codes "holes") rows)
     else None
 
 -- a port that there is

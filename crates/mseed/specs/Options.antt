@@ -47,6 +47,9 @@ number_rules = number_rule (codes "port") (Signed (pos 1) (pos 65535)) ∷ numbe
 abbrev pub flag_rules : List Rule
 flag_rules = flag_rule (codes "each") ∷ flag_rule (codes "part") ∷ flag_rule (codes "past-faults") ∷ []
 
+abbrev pub fetch_flag_rules : List Rule
+fetch_flag_rules = flag_rule (codes "tell-next") ∷ flag_rule (codes "holes") ∷ []
+
 abbrev pub with_rules : App → List Rule → App
 with_rules a [] = a
 with_rules a (r ∷ rs) = with_rules (with_rule a r) rs
@@ -58,5 +61,5 @@ bare_command = on_top (λ s. record s { has_version = true; no_binary_name = tru
 -- with all places and options side by side
 abbrev pub the_command : App
 the_command =
-    with_rules (with_rules (with_rules (with_rules (with_rule (with_rule bare_command word_rule) places_rule)
-    packing_rules) feed_rules) number_rules) flag_rules
+    with_rules (with_rules (with_rules (with_rules (with_rules (with_rule (with_rule bare_command word_rule)
+    places_rule) packing_rules) feed_rules) number_rules) flag_rules) fetch_flag_rules

@@ -2,7 +2,7 @@
 use Rattle.std.specs.Prelude.{◌≡◌, ℕ, List, [], ◌++◌, Result, Ok, Err, codes, decimal}
 use Rattle.mseed_stream.specs.Device.{BytesRead, BytesWritten}
 use Rattle.mseed_audit.specs.Text.{fault_line}
-use Rattle.slink_feed.specs.Dialogue.{wants_of}
+use Rattle.slink_feed.specs.Dialogue.{Talk, wants_of}
 use Rattle.slink_feed.specs.Window.{Window}
 use Rattle.slink_feed.specs.declared.dialogue.Stage.TheVariants.{Unlinked}
 use Rattle.slink_feed.specs.declared.grant.Mode.TheVariants as modes
@@ -49,13 +49,23 @@ pub record IsServeRun {A : Type 0} (serving : Serving) (run : Run A) (read : Byt
   pub only : IsOneFilling serving outcome read
   pub planned : IsPlannedBy serving outcome run told_old told_new
 
--- a new client for the places that were asked for, and the other values
+-- a new client for the places that were asked for
+abbrev pub talk_of : Fetching → Talk
+talk_of fetching = record {
+  mode = modes.Fetch;
+  wants = wants_of fetching.places;
+  stage = Unlinked;
+  holes = fetching.holes;
+}
+
+-- it, and the other values
 pub record IsFetchPlan (fetching : Fetching) (plan : FetchPlan) : Type 0 where
   pub host : plan.host ≡ fetching.server.host
   pub port : plan.port ≡ fetching.server.port
   pub tries : plan.tries ≡ fetching.tries
   pub timeout : plan.timeout ≡ fetching.server.timeout
-  pub talk : plan.client.talk ≡ record { mode = modes.Fetch; wants = wants_of fetching.places; stage = Unlinked }
+  pub tell_next : plan.tell_next ≡ fetching.tell_next
+  pub talk : plan.client.talk ≡ talk_of fetching
   pub kept : plan.client.kept ≡ []
 
 -- what `fetch` comes to before it opens a socket

@@ -10,7 +10,7 @@ ghost use Rattle.mseed.specs.FeedWords.{CanFetch, CanServe, IsCount, IsPort, ask
 ghost use Rattle.mseed.specs.FeedWords.{capacity_in, count_in, fetching_of, fetching_with, first_in, numbered_in};
 ghost use Rattle.mseed.specs.FeedWords.{place_by, place_in, place_named, places_in, port_in, serving_of, serving_with};
 
-use crate::found::{has_only, text_of};
+use crate::found::{asks, has_only, text_of};
 use crate::host_words::{address_of, host_of, timeout_in};
 use crate::numbers::{counted_in, hexadecimal_in, number_in};
 use crate::places::Places;
@@ -139,7 +139,17 @@ pub(crate) fn fetching_of(matches: &ArgMatches<'_>) -> Option<Fetching>
     if !has_only(
         matches,
         &[
-            "command", "place", "address", "port", "timeout", "station", "network", "from", "tries",
+            "command",
+            "place",
+            "address",
+            "port",
+            "timeout",
+            "station",
+            "network",
+            "from",
+            "tries",
+            "tell-next",
+            "holes",
         ],
     ) {
         return None;
@@ -152,6 +162,8 @@ pub(crate) fn fetching_of(matches: &ArgMatches<'_>) -> Option<Fetching>
         ),
         count_in(text_of(matches, "tries")),
         places_in(Naming::Numbered, text_of(matches, "from"), matches),
+        asks(matches, "tell-next"),
+        asks(matches, "holes"),
     )
 }
 
@@ -160,11 +172,13 @@ fn fetching_with(
     server: Option<Server>,
     tries: Option<u32>,
     places: Option<Places>,
+    tell_next: bool,
+    holes: bool,
 ) -> Option<Fetching>
     requires server { IfSome server IsServer }
     requires tries { IfSome tries IsCount }
     requires places { IfSome places ArePlaces }
-    ensures value { result ≡ fetching_with server tries places }
+    ensures value { result ≡ fetching_with server tries places tell_next holes }
     ensures range { IfSome result CanFetch }
 {
     match (server, tries, places) {
@@ -172,6 +186,8 @@ fn fetching_with(
             server,
             tries,
             places,
+            tell_next,
+            holes,
         }),
         _ => None,
     }

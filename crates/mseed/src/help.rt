@@ -37,7 +37,10 @@ pub const COMMANDS: &str = "Commands:
   fetch   asks a server for the records of stations, over SeedLink 3
           reads nothing, writes each record as soon as it is whole
           options: --port, --station and --network, which it needs, --address, --timeout,
-          --from, --tries; further stations as NET_STA or NET_STA:HEX
+          --from, --tries; further stations as NET_STA or NET_STA:HEX; --tell-next, tell on
+          standard error each station's first number and, at the end, the words to go on;
+          --holes, for servers that number all their stations together: take records whose
+          numbers are ahead and tell each hole, in which records may be lost unseen
             mseed fetch --port 18000 --station ANMO --network IU > fetched.mseed
 
 What is read is standard input, and what is written standard output; messages go to standard error.

@@ -1,8 +1,8 @@
 //! The plans of the two commands of a feed.
-ghost use Rattle.std.specs.Prelude.{◌≡◌};
+ghost use Rattle.std.specs.Prelude.{◌≡◌, []};
 ghost use Rattle.mseed_stream.specs.Device.{nothing_read};
 ghost use Rattle.mseed.specs.FeedWords.{CanFetch, CanServe};
-ghost use Rattle.mseed.specs.Plans.{IsFetchPlan, IsServeRun};
+ghost use Rattle.mseed.specs.Plans.{IsFetchPlan, IsServeRun, talk_of};
 
 use crate::filling::{fill, one_filling};
 use crate::outcome::Run;
@@ -47,6 +47,21 @@ pub fn plan_fetch(fetching: &Fetching) -> FetchPlan
         port: fetching.server.port,
         tries: fetching.tries,
         timeout: fetching.server.timeout,
-        client: Client::new(fetching.places.as_slice(), Mode::Fetch),
+        tell_next: fetching.tell_next,
+        client: client_of(fetching),
+    }
+}
+
+/// A new client, which goes past holes where that is asked for.
+fn client_of(fetching: &Fetching) -> Client
+    requires { CanFetch fetching.now }
+    ensures talk { result.talk ≡ talk_of fetching.now }
+    ensures kept { result.kept ≡ [] }
+{
+    let places = fetching.places.as_slice();
+    if fetching.holes {
+        Client::past_holes(places, Mode::Fetch)
+    } else {
+        Client::new(places, Mode::Fetch)
     }
 }

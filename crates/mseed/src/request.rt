@@ -96,4 +96,8 @@ pub struct Fetching {
     pub tries: u32,
     /// Whose records are asked for, and from which number on.
     pub places: Places,
+    /// Whether standard error is told of the first record of each place and, at the end, how to go on.
+    pub tell_next: bool,
+    /// Whether records behind a hole are taken.
+    pub holes: bool,
 }

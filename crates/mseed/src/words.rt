@@ -11,7 +11,7 @@ ghost use Rattle.mseed.specs.Words.{CanBeAsked, auditing_by, auditing_of, form_b
 ghost use Rattle.mseed.specs.Words.{exponent_in, exponent_by, encoding_in, encoding_named};
 ghost use Rattle.mseed.specs.Options.{bare_command, the_command, word_rule, places_rule, packing_rules, feed_rules};
 ghost use Rattle.mseed.specs.Options.{number_rules, flag_rule, flag_rules, option_rule, number_rule, with_rules};
-ghost use Rattle.mseed.specs.Options.{link_rules};
+ghost use Rattle.mseed.specs.Options.{fetch_flag_rules, link_rules};
 
 use crate::feed_words::{fetching_of, serving_of};
 use crate::found::{asks, has_only, text_of};
@@ -226,7 +226,8 @@ fn command<'a>(alloc: Global) -> Result<Command<'a>, AllocError>
     let command = with_packing(alloc, command)?;
     let command = with_feed(alloc, command)?;
     let command = with_numbers(alloc, command)?;
-    with_flags(alloc, command)
+    let command = with_flags(alloc, command)?;
+    with_fetch_flags(alloc, command)
 }
 
 /// The command without places and options. The program's name isn't among the words.
@@ -364,6 +365,24 @@ fn with_flags<'a>(alloc: Global, command: Command<'a>) -> Result<Command<'a>, Al
         command,
         "past-faults",
         "join: go on behind a part that ends with a fault, and count the faults",
+    )
+}
+
+/// With the flags of a fetch.
+fn with_fetch_flags<'a>(alloc: Global, command: Command<'a>) -> Result<Command<'a>, AllocError>
+    ensures { IfOk result (λ c. app_of c ≡ with_rules (app_of command.entry) fetch_flag_rules) }
+{
+    let command = with_flag(
+        alloc,
+        command,
+        "tell-next",
+        "fetch: tell each first record's number, and at the end the words to go on",
+    )?;
+    with_flag(
+        alloc,
+        command,
+        "holes",
+        "fetch: take records whose numbers are ahead, and tell each hole",
     )
 }
 

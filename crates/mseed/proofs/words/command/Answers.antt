@@ -1,5 +1,6 @@
 use Rattle.std.proofs.Common.{◌≡◌, IfOk, subst}
 use Rattle.clap.specs.Simple.{App, app_of, with_rule}
+use Rattle.mseed.specs.Options.{fetch_flag_rules}
 use Rattle.mseed.specs.Options.{word_rule, places_rule, packing_rules, feed_rules, number_rules, with_rules, flag_rules}
 use Rattle.mseed.proofs.words.command.Goals as goal
 
@@ -15,4 +16,7 @@ returns c =
     c.in_ok-command-4.ensures in
     let five = subst (λ (a : App). app_of c.in_ok-command-5.command ≡ with_rules a number_rules) four
     c.in_ok-command-5.ensures in
-    subst (λ (a : App). IfOk c.with_flags.result (λ c'. app_of c' ≡ with_rules a flag_rules)) five c.with_flags.ensures
+    let six = subst (λ (a : App). app_of c.in_ok-command-6.command ≡ with_rules a flag_rules) five
+    c.in_ok-command-6.ensures in
+    subst (λ (a : App). IfOk c.with_fetch_flags.result (λ c'. app_of c' ≡ with_rules a fetch_flag_rules)) six
+    c.with_fetch_flags.ensures
