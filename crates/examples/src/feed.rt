@@ -5,8 +5,8 @@ ghost use Rattle.slink_feed.specs.Window.{Shows};
 
 use mseed_stream::{Duplex, Sink};
 use slink_feed::{
-    Bytes, Client, Event, Feed, FeedFault, LinkFault, Mode, Ring, RingFault, Sent, Session, Turn,
-    fetch_turn, fetch_turn_noting, serve_turn,
+    Bytes, Client, Event, Feed, FeedFault, LinkFault, Mode, Ring, RingFault, Sent, Session, Teller,
+    Turn, fetch_turn, fetch_turn_telling, serve_turn,
 };
 use slink_wire::{Place, Reply};
 use std::alloc::Global;
@@ -94,6 +94,11 @@ pub fn client_of(place: Place) -> (Client, Bytes) {
     (client, line)
 }
 
+/// A client of one place that goes past holes.
+pub fn client_past_holes(place: Place) -> Client {
+    Client::past_holes(&[(place, None)], Mode::Fetch)
+}
+
 /// Takes bytes of a link up to the first event, and counts a record.
 pub fn count_event(client: &mut Client, bytes: &[u8], records: &mut u64) -> usize {
     let (taken, event) = client.take(bytes);
@@ -126,15 +131,22 @@ pub fn fetch_once<S: Duplex, W: Sink>(
     Ok(matches!(turn, Turn::Goes))
 }
 
-/// Fetches over a link for a turn, and answers whether a record came.
-pub fn fetch_some<S: Duplex, W: Sink>(
+/// Fetches over a link for a turn, tells of the first record of each place, and answers whether a record came.
+pub fn fetch_some<S: Duplex, W: Sink, E: Sink>(
     client: &mut Client,
     link: &mut S,
     output: &mut W,
+    errors: &mut E,
 ) -> Result<bool, LinkFault> {
-    let mut received = false;
-    fetch_turn_noting(client, link, output, &mut received)?;
-    Ok(received)
+    let mut teller = Teller::new(client, true);
+    teller.begin();
+    fetch_turn_telling(client, link, output, errors, &mut teller)?;
+    Ok(teller.has_received())
+}
+
+/// Tells how to go on behind a record that wasn't written whole.
+pub fn tell_where_to_go_on<E: Sink>(teller: &Teller, client: &Client, errors: &mut E) {
+    teller.tell_next(client, true, errors);
 }
 
 /// Whether both ends have come through the handshake.

@@ -36,6 +36,7 @@ pub fn fetch_thrice<N: Net + Clock, W: Sink, E: Sink>(
         port: 18_000,
         tries: 3,
         timeout: Timeout { seconds: 600 },
+        tell_next: false,
         client,
     };
     fetch(net, &mut plan, output, errors)
@@ -55,7 +56,7 @@ pub fn serve_plan<A: Accept, E: Sink>(plan: &ServePlan, acceptor: &mut A, errors
     serve_planned(plan, acceptor, errors)
 }
 
-/// Fetches over at most ten links of the caller's, and says whether all came.
+/// Fetches over at most ten links of the caller's, tells how to go on, and says whether all came.
 pub fn fetch_ten<D: Dial, P: Pause, W: Sink, E: Sink>(
     client: &mut Client,
     dialler: &mut D,
@@ -65,7 +66,7 @@ pub fn fetch_ten<D: Dial, P: Pause, W: Sink, E: Sink>(
 ) -> bool
     requires { AreOut 0 (D.calls dialler.old) (D.failures dialler.old) (D.given_back dialler.old) }
 {
-    fetch_all(client, 10, dialler, waits, output, errors) == 0
+    fetch_all(client, 10, dialler, waits, output, errors, true) == 0
 }
 
 /// Carries out a plan over links of the caller's.

@@ -5,7 +5,9 @@ ghost use Rattle.slink_wire.specs.Packet.{IsPacket};
 ghost use Rattle.slink_wire.specs.Place.{SpellsPlace};
 
 use arrayvec::ArrayVec;
-use slink_wire::{BadPlace, Command, Lines, NotPacket, Packet, Place, Reply, Request, What};
+use slink_wire::{
+    BadPlace, Command, Lines, NotPacket, Packet, Place, Reply, Request, What, six_digits,
+};
 
 /// The place of a network and station, such as `NL_HGN`.
 pub fn place_of(text: &[u8]) -> Result<Place, BadPlace>
@@ -17,6 +19,13 @@ pub fn place_of(text: &[u8]) -> Result<Place, BadPlace>
 /// Whether two places are of one network.
 pub fn are_in_one_network(one: &Place, other: &Place) -> bool {
     one.network() == other.network() && one.station() != other.station()
+}
+
+/// The text that spells the place of a station and network.
+pub fn text_of(place: &Place) -> ArrayVec<u8, 8>
+    ensures { SpellsPlace result.items place.now }
+{
+    place.label()
 }
 
 /// Whether a record is of the station HGN in the network NL.
@@ -77,4 +86,11 @@ pub fn number_of(packet: &[u8; 520]) -> Result<u32, NotPacket> {
 /// Whether the first eight bytes of a packet say that it has the number that is wanted.
 pub fn has_number(head: &[u8; 8], wanted: u32) -> bool {
     Packet::number(head) == Some(wanted)
+}
+
+/// The digits of the number behind one.
+pub fn digits_behind(number: u32) -> [u8; 6]
+    requires { number < 2 ^ 24 }
+{
+    six_digits(number + 1)
 }
