@@ -5,8 +5,8 @@
     architecture.py --check   compares it with what stands there, and the table of architecture.md with crates.txt
 
 A line is drawn from a crate to each one that it uses, but for those that it reaches through another. A crate's row
-is the length of its longest way down. A crate that no column is given for, or a call of a way that isn't public in
-its crate, is a fault. The last line of a check is `N passed, M failed`.
+is the length of its longest way down. A crate that no column is given for, boxes that overlap, or a call of a way that
+isn't public in its crate, is a fault. The last line of a check is `N passed, M failed`.
 """
 
 import os
@@ -18,20 +18,20 @@ DRAWING = os.path.join(ROOT, "docs", "architecture.svg")
 
 # The middle of each crate's box, in columns from the left, and what the crate does.
 CRATES = {
-    "mseed_time": (0.5, "instants, rates, joins"),
-    "mseed_record": (0.5, "framing, views, headers"),
-    "mseed_steim": (0, "words, frames, samples"),
-    "mseed_stream": (1, "devices, the cutter"),
-    "mseed_audit": (0.5, "findings, verdicts, text"),
-    "mseed_parts": (2, "parts of audits, joined"),
-    "mseed_join": (2, "the text of parts"),
-    "mseed_stretches": (1.25, "stretches of one clock"),
-    "mseed_pack": (0.25, "packing a series"),
-    "mseed_repack": (0.5, "packing an archive anew"),
-    "slink_wire": (2, "packets, lines, commands"),
-    "slink_feed": (1.75, "rings, sessions, clients, turns"),
-    "slink_links": (1.5, "one link after another, TCP"),
-    "slink_model": (2.5, "schedules over cut links"),
+    "mseed_time": (1, "instants, rates, joins"),
+    "mseed_record": (1, "framing, views, headers"),
+    "mseed_steim": (0.5, "words, frames, samples"),
+    "mseed_stream": (1.5, "devices, the cutter"),
+    "mseed_audit": (1, "findings, verdicts, text"),
+    "mseed_parts": (0, "parts of audits, joined"),
+    "mseed_join": (0, "the text of parts"),
+    "mseed_stretches": (2, "stretches of a channel"),
+    "mseed_pack": (1, "packing a series"),
+    "mseed_repack": (1, "packing an archive anew"),
+    "slink_wire": (3, "packets, lines, commands"),
+    "slink_feed": (3, "rings, sessions, clients, turns"),
+    "slink_links": (3, "one link after another, TCP"),
+    "slink_model": (2, "schedules over cut links"),
     "mseed": (1, "the command"),
 }
 
@@ -129,7 +129,7 @@ def draw_crates(used):
 
 
 def draw_ways(y):
-    step, parts = 183, []
+    step, parts = 205, []
     for way, steps in WAYS.items():
         y += 50
         parts.append(label(MARGIN, y, way, 14, "bold", "start"))
@@ -165,6 +165,9 @@ def faults():
         for crate, calls in steps:
             for call in calls.split(", "):
                 yield f"{way}: {call} isn't public in {crate}", not is_public(crate, call)
+    places = sorted((depth(crate, used), CRATES[crate][0], crate) for crate in used)
+    for (row, column, crate), (next_row, next_column, other) in zip(places, places[1:]):
+        yield f"{crate} and {other} are drawn over one another", row == next_row and next_column < column + 1
     rows = dict(re.findall(r"^\| `(\w+)` \|[^|]*\|([^|]*)\|", text_of("docs", "architecture.md"), re.MULTILINE))
     for crate in used:
         listed = re.findall(r"`(\w+)`", rows.get(crate, ""))
