@@ -1,0 +1,4 @@
+pub mod MoreHeads
+pub mod MoreRows
+pub mod Texts
+pub mod Walking

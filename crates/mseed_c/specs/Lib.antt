@@ -1,0 +1,9 @@
+pub mod Audited
+pub mod Codes
+pub mod Decoded
+pub mod Heading
+pub mod Lent
+pub mod Packed
+pub mod Room
+pub mod Rows
+pub mod private

@@ -1,0 +1,106 @@
+//! The audit of an archive that lies in memory.
+ghost use Rattle.std.specs.Prelude.{◌≡◌, ◌≢◌, length};
+ghost use Rattle.mseed_c.specs.Audited.{IsShown, SaysAudit, SaysEach, SaysPart, Stays, status_of, totals_of};
+ghost use Rattle.mseed_c.specs.Room.{overwritten};
+
+use crate::codes::MEMORY;
+use crate::lent::Lent;
+use crate::room::overwrite;
+use mseed_audit::{Summary, audit, audit_each};
+use mseed_join::audit_part;
+use mseed_stream::Counted;
+use std::alloc::Global;
+
+/// What an audit tells in numbers.
+#[repr(C)]
+#[derive(Clone, Copy, Debug, PartialEq, Eq)]
+pub struct Totals {
+    /// The records, silent ones too.
+    pub records: u64,
+    /// The channels with samples.
+    pub channels: u64,
+    /// Those of them that are broken.
+    pub broken: u64,
+    /// The length of the whole text, in bytes.
+    pub length: usize,
+}
+
+/// The audit of an archive that lies in memory: the status of `mseed audit`, or 3 where memory was refused. The text is
+/// written into the room, as much of it as there is room for; how long the whole of it is, is told.
+#[unsafe(no_mangle)]
+pub extern "C" fn mseed_audit(
+    alloc: Global,
+    bytes: &[u8],
+    room: &mut [u8],
+    totals: &mut Totals,
+) -> u32
+    ensures shown { result ≢ 3 → IsShown SaysAudit bytes.now room.old room.new totals.new result }
+    ensures refused { result ≡ 3 → Stays room.old room.new totals.old totals.new }
+{
+    let mut source = Lent::new(bytes);
+    let mut sink = Counted::new(Vec::new(alloc));
+    match audit(alloc, &mut source, &mut sink) {
+        Ok(summary) => show(sink.get_ref(), &summary, room, totals),
+        Err(_) => MEMORY,
+    }
+}
+
+/// The same with a line for each record with a finding before the text, as `mseed audit --each` writes it.
+#[unsafe(no_mangle)]
+pub extern "C" fn mseed_audit_each(
+    alloc: Global,
+    bytes: &[u8],
+    room: &mut [u8],
+    totals: &mut Totals,
+) -> u32
+    ensures shown { result ≢ 3 → IsShown SaysEach bytes.now room.old room.new totals.new result }
+    ensures refused { result ≡ 3 → Stays room.old room.new totals.old totals.new }
+{
+    let mut source = Lent::new(bytes);
+    let mut sink = Counted::new(Vec::new(alloc));
+    match audit_each(alloc, &mut source, &mut sink) {
+        Ok(summary) => show(sink.get_ref(), &summary, room, totals),
+        Err(_) => MEMORY,
+    }
+}
+
+/// The same with the archive's part in place of the text, as `mseed audit --part` writes it.
+#[unsafe(no_mangle)]
+pub extern "C" fn mseed_part(
+    alloc: Global,
+    bytes: &[u8],
+    room: &mut [u8],
+    totals: &mut Totals,
+) -> u32
+    ensures shown { result ≢ 3 → IsShown SaysPart bytes.now room.old room.new totals.new result }
+    ensures refused { result ≡ 3 → Stays room.old room.new totals.old totals.new }
+{
+    let mut source = Lent::new(bytes);
+    let mut sink = Counted::new(Vec::new(alloc));
+    match audit_part(alloc, &mut source, &mut sink) {
+        Ok(summary) => show(sink.get_ref(), &summary, room, totals),
+        Err(_) => MEMORY,
+    }
+}
+
+/// Writes a text into a room, tells its totals, and answers the status.
+fn show(text: &[u8], summary: &Summary, room: &mut [u8], totals: &mut Totals) -> u32
+    ensures room { room.new ≡ overwritten text.now room.old }
+    ensures totals { totals.new ≡ totals_of summary.now (length text.now) }
+    ensures status { result ≡ status_of summary.now }
+{
+    overwrite(text, room);
+    *totals = Totals {
+        records: summary.records,
+        channels: summary.channels,
+        broken: summary.broken,
+        length: text.len(),
+    };
+    if summary.fault {
+        2
+    } else if summary.broken > 0 {
+        1
+    } else {
+        0
+    }
+}

@@ -1,0 +1,217 @@
+//! What a call answers, as a code, and the numbers that belong to it.
+ghost use Rattle.std.specs.Prelude.{◌≡◌};
+ghost use Rattle.mseed_c.specs.Codes.{code_of, code_of_frame, code_of_read, code_of_refusal};
+ghost use Rattle.mseed_c.specs.Codes.{code_of_misfit, code_of_stop, detail_of, index_of, detail_of_read};
+ghost use Rattle.mseed_c.specs.Codes.{number, needed_by};
+
+use mseed_pack::{BadOption, PackFault};
+use mseed_record::FrameFault;
+use mseed_steim::ReadFault;
+
+/// Memory was refused.
+pub(crate) const MEMORY: u32 = 3;
+
+/// Why no record more is read.
+#[derive(Clone, Copy, Debug, PartialEq, Eq)]
+pub enum Stop {
+    /// There's no place left for a row.
+    Rows,
+    /// So many places are needed for the record's samples.
+    Room(usize),
+    /// So many bytes are needed before it can be said what begins them.
+    Short(usize),
+    /// No record begins the bytes.
+    Not(FrameFault),
+}
+
+/// Why a record at the beginning of some bytes gives no samples.
+#[derive(Clone, Copy, Debug, PartialEq, Eq)]
+pub enum SampleFault {
+    /// It has no reading.
+    Read(ReadFault),
+    /// There's no record, or no room for its samples.
+    Stop(Stop),
+}
+
+/// Why a heading is refused: the first reason that applies, in this order.
+#[derive(Clone, Copy, Debug, PartialEq, Eq)]
+pub enum Refusal {
+    /// A length, an encoding or a sequence number that can't be.
+    Option(BadOption),
+    /// The factor or the multiplier is 0.
+    Rate,
+    /// The start isn't in the years 1800 to 2199.
+    Start,
+    /// A leap second of no kind, or behind none of the samples.
+    Leap,
+}
+
+/// The numbers that belong to a code.
+#[repr(C)]
+#[derive(Clone, Copy, Debug, PartialEq, Eq)]
+pub struct Detail {
+    /// How many samples were filled in, how many bytes or places are needed, or the first number of a reason.
+    pub first: u64,
+    /// The second number of a reason.
+    pub second: u64,
+    /// The last sample.
+    pub found: i32,
+    /// The payload's constant for it.
+    pub constant: i32,
+}
+
+/// The code of an answer.
+pub(crate) fn code_of(answer: &Result<usize, SampleFault>) -> u32
+    ensures { result ≡ code_of answer.now }
+{
+    match answer {
+        Ok(_) => 0,
+        Err(SampleFault::Read(fault)) => code_of_read(*fault),
+        Err(SampleFault::Stop(stop)) => code_of_stop(*stop),
+    }
+}
+
+/// The numbers of an answer.
+pub(crate) fn detail_of(answer: &Result<usize, SampleFault>) -> Detail
+    ensures { result ≡ detail_of answer.now }
+{
+    match answer {
+        Ok(samples) => number(*samples),
+        Err(SampleFault::Read(fault)) => detail_of_read(*fault),
+        Err(SampleFault::Stop(stop)) => number(needed_by(*stop)),
+    }
+}
+
+/// The code of a stop.
+pub(crate) fn code_of_stop(stop: Stop) -> u32
+    ensures { result ≡ code_of_stop stop }
+{
+    match stop {
+        Stop::Rows => 4,
+        Stop::Room(_) => 5,
+        Stop::Short(_) => 6,
+        Stop::Not(fault) => code_of_frame(fault),
+    }
+}
+
+/// How many places or bytes a stop asks for, or the number of its reason.
+pub(crate) fn needed_by(stop: Stop) -> usize
+    ensures { result ≡ needed_by stop }
+{
+    match stop {
+        Stop::Rows => 0,
+        Stop::Room(places) => places,
+        Stop::Short(bytes) => bytes,
+        Stop::Not(FrameFault::Length(exponent)) => usize::from(exponent),
+        Stop::Not(_) => 0,
+    }
+}
+
+/// The code of bytes that begin no record.
+fn code_of_frame(fault: FrameFault) -> u32
+    ensures { result ≡ code_of_frame fault }
+{
+    match fault {
+        FrameFault::NotData => 16,
+        FrameFault::Order => 17,
+        FrameFault::Chain => 18,
+        FrameFault::No1000 => 19,
+        FrameFault::Length(_) => 20,
+        FrameFault::Outside => 21,
+        FrameFault::Version3 => 22,
+    }
+}
+
+/// The code of a record without a reading.
+pub(crate) fn code_of_read(fault: ReadFault) -> u32
+    ensures { result ≡ code_of_read fault }
+{
+    match fault {
+        ReadFault::Memory => MEMORY,
+        ReadFault::Blockette100 => 32,
+        ReadFault::Encoding(_) => 33,
+        ReadFault::LittleSteim => 34,
+        ReadFault::DataOffset => 35,
+        ReadFault::Short(_) => 36,
+        ReadFault::BadWord(_, _) => 37,
+        ReadFault::Overflow(_) => 38,
+        ReadFault::LastDiffers(_, _) => 39,
+    }
+}
+
+/// The numbers of a record without a reading.
+fn detail_of_read(fault: ReadFault) -> Detail
+    ensures { result ≡ detail_of_read fault }
+{
+    match fault {
+        ReadFault::Encoding(code) => number(usize::from(code)),
+        ReadFault::Short(found) => number(found),
+        ReadFault::BadWord(frame, word) => Detail {
+            second: word as u64,
+            ..number(frame)
+        },
+        ReadFault::Overflow(index) => number(index),
+        ReadFault::LastDiffers(found, constant) => Detail {
+            found,
+            constant,
+            ..number(0)
+        },
+        ReadFault::Blockette100
+        | ReadFault::LittleSteim
+        | ReadFault::DataOffset
+        | ReadFault::Memory => number(0),
+    }
+}
+
+/// One number.
+fn number(first: usize) -> Detail
+    ensures { result ≡ number first }
+{
+    Detail {
+        first: first as u64,
+        second: 0,
+        found: 0,
+        constant: 0,
+    }
+}
+
+/// The code of a heading that is refused.
+pub(crate) fn code_of_refusal(refusal: Refusal) -> u32
+    ensures { result ≡ code_of_refusal refusal }
+{
+    match refusal {
+        Refusal::Option(BadOption::Exponent) => 64,
+        Refusal::Option(BadOption::Encoding) => 65,
+        Refusal::Option(BadOption::Sequence) => 66,
+        Refusal::Rate => 67,
+        Refusal::Start => 68,
+        Refusal::Leap => 69,
+    }
+}
+
+/// The code of a series that can't be packed. A sink that takes its bytes into memory fails where there is none.
+pub(crate) fn code_of_misfit(fault: PackFault) -> u32
+    ensures { result ≡ code_of_misfit fault }
+{
+    match fault {
+        PackFault::Write(_) => MEMORY,
+        PackFault::Empty => 48,
+        PackFault::RateTooHigh => 49,
+        PackFault::TimeOutOfRange => 50,
+        PackFault::SampleTooLarge(_) => 51,
+        PackFault::DifferenceTooLarge(_) => 52,
+    }
+}
+
+/// Which sample a misfit names; 0 where it names none.
+pub(crate) fn index_of(fault: PackFault) -> usize
+    ensures { result ≡ index_of fault }
+{
+    match fault {
+        PackFault::SampleTooLarge(index) | PackFault::DifferenceTooLarge(index) => index,
+        PackFault::Empty
+        | PackFault::RateTooHigh
+        | PackFault::TimeOutOfRange
+        | PackFault::Write(_) => 0,
+    }
+}

@@ -1,0 +1,108 @@
+//! What a series has besides its samples, and how it is packed.
+ghost use Rattle.std.specs.Prelude.{◌≡◌, ◌≤◌, ◌<◌, List, ℕ, IfErr, IfOk, IfSome, IfNone};
+ghost use Rattle.mseed_time.specs.declared.outcome.LeapStep.{LeapStep};
+ghost use Rattle.mseed_c.specs.Heading.{HasLeap, IsRefusedFor, exponent_of};
+ghost use Rattle.mseed_c.specs.private.Parts.{AreParts, steps_of};
+
+use crate::codes::Refusal;
+use mseed_pack::Options;
+use mseed_time::{LeapStep, Micros, Rate};
+
+/// What a series has besides its samples, and how it is packed.
+#[repr(C)]
+#[derive(Clone, Copy, Debug, PartialEq, Eq)]
+pub struct Heading {
+    /// The instant of the first sample, in microseconds since 1970.
+    pub start: i64,
+    /// How many samples stand before the leap second, where there is one.
+    pub leap_after: u64,
+    /// The sequence number of the first record: 0 to 999,999.
+    pub sequence: u32,
+    /// The length of a record: 128, 256, 512, 1024, 2048 or 4096 bytes.
+    pub length: u16,
+    /// The factor of the rate.
+    pub factor: i16,
+    /// The multiplier of the rate.
+    pub multiplier: i16,
+    /// How the samples are encoded: 1, 3, 10 or 11.
+    pub encoding: u8,
+    /// The leap second: 0 for none, 1 for one that was inserted, 2 for one that was left out.
+    pub leap: u8,
+    /// The network, station, location and channel, 2, 5, 2 and 3 bytes.
+    pub key: [u8; 12],
+}
+
+/// The power of two that a record's length is; 0 for a length that no record has.
+fn exponent_of(length: u16) -> u8
+    ensures { result ≡ exponent_of length }
+{
+    match length {
+        128 => 7,
+        256 => 8,
+        512 => 9,
+        1024 => 10,
+        2048 => 11,
+        4096 => 12,
+        _ => 0,
+    }
+}
+
+/// What a heading says.
+#[derive(Clone, Copy)]
+pub(crate) struct Parts {
+    pub(crate) options: Options,
+    pub(crate) start: Micros,
+    pub(crate) rate: Rate,
+    pub(crate) step: Option<(u64, LeapStep)>,
+}
+
+/// The leap second of a heading with so many samples, if there's one; nothing where it can't be.
+fn leap_of(heading: &Heading, samples: usize) -> Option<Option<(u64, LeapStep)>>
+    ensures some { IfSome result (λ step. HasLeap heading.now samples (steps_of step)) }
+    ensures none { IfNone result ((steps : List (ℕ × LeapStep)) → HasLeap heading.now samples steps → ⊥) }
+{
+    let place = heading.leap_after;
+    if heading.leap == 0 {
+        return Some(None);
+    }
+    if heading.leap > 2 || place == 0 || place > samples as u64 {
+        return None;
+    }
+    let step = if heading.leap == 1 {
+        LeapStep::Plus
+    } else {
+        LeapStep::Minus
+    };
+    Some(Some((place, step)))
+}
+
+/// What a heading says of so many samples.
+///
+/// # Errors
+///
+/// The first reason why it's refused.
+pub(crate) fn parts_of(heading: &Heading, samples: usize) -> Result<Parts, Refusal>
+    ensures parts { IfOk result (λ parts. AreParts heading.now samples parts) }
+    ensures refused { IfErr result (λ refusal. IsRefusedFor heading.now samples refusal) }
+{
+    let exponent = exponent_of(heading.length);
+    let options = match Options::new(exponent, heading.encoding, heading.sequence) {
+        Ok(options) => options,
+        Err(bad) => return Err(Refusal::Option(bad)),
+    };
+    let Ok(rate) = Rate::of(heading.factor, heading.multiplier) else {
+        return Err(Refusal::Rate);
+    };
+    let Some(start) = Micros::new(heading.start) else {
+        return Err(Refusal::Start);
+    };
+    let Some(step) = leap_of(heading, samples) else {
+        return Err(Refusal::Leap);
+    };
+    Ok(Parts {
+        options,
+        start,
+        rate,
+        step,
+    })
+}

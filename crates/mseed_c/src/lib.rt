@@ -1,0 +1,26 @@
+//! `mseed` for C: the records of an archive that lies in memory, with their samples, its audit, its part, and packing.
+//!
+//! Each call answers a code, writes what belongs to it into places that its caller lends, and keeps no state. What the
+//! codes mean is said in `specs/Codes`; `include/mseed.h` declares the calls for C.
+#![tactic(auto)]
+
+mod auditing;
+mod codes;
+mod decoding;
+mod heading;
+mod heads;
+mod lent;
+mod packing;
+mod reading;
+mod room;
+mod row;
+
+pub use auditing::{Totals, mseed_audit, mseed_audit_each, mseed_part};
+pub use codes::{Detail, Refusal, SampleFault, Stop};
+pub use decoding::mseed_samples;
+pub use heading::Heading;
+pub use heads::mseed_rows;
+pub use lent::Lent;
+pub use packing::{Packed, mseed_pack};
+pub use reading::{Progress, mseed_read};
+pub use row::Row;

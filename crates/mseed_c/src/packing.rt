@@ -1,0 +1,115 @@
+//! Packing a series that lies in memory.
+ghost use Rattle.std.specs.Prelude.{◌≡◌, length};
+ghost use Rattle.mseed_audit.specs.Series.{AreSteps};
+ghost use Rattle.mseed_pack.specs.Traces.{trace_of};
+ghost use Rattle.mseed_c.specs.Heading.{HasLeap};
+ghost use Rattle.mseed_c.specs.Packed.{IsPackedInto, IsPackOutcome};
+ghost use Rattle.mseed_c.specs.private.Parts.{AreParts};
+
+use crate::codes::{MEMORY, code_of_misfit, code_of_refusal, index_of};
+use crate::heading::{Heading, Parts, parts_of};
+use crate::room::overwrite;
+use mseed_pack::{Options, SeriesView, fit_view, pack_fitting};
+use mseed_record::Codes;
+use mseed_stream::Counted;
+use mseed_time::LeapStep;
+use std::alloc::Global;
+
+/// What packing tells.
+#[repr(C)]
+#[derive(Clone, Copy, Debug, PartialEq, Eq)]
+pub struct Packed {
+    /// The number of records.
+    pub records: u64,
+    /// The index of the sample that isn't held, where that's the reason why there are none.
+    pub index: usize,
+}
+
+/// Packs a series into records, of which as many bytes are written into the room as it has; how many records there are,
+/// is told. The answer is 0, or the code of why there are none: then nothing is written.
+#[unsafe(no_mangle)]
+pub extern "C" fn mseed_pack(
+    alloc: Global,
+    heading: &Heading,
+    samples: &[i32],
+    room: &mut [u8],
+    told: &mut Packed,
+) -> u32
+    ensures { IsPackOutcome heading.now samples.now room.old room.new told.old told.new result }
+{
+    match parts_of(heading, samples.len()) {
+        Ok(parts) => pack_parts(alloc, heading, &parts, samples, room, told),
+        Err(refusal) => code_of_refusal(refusal),
+    }
+}
+
+/// Packs the series of a heading that was read.
+fn pack_parts(
+    alloc: Global,
+    heading: &Heading,
+    parts: &Parts,
+    samples: &[i32],
+    room: &mut [u8],
+    told: &mut Packed,
+) -> u32
+    requires { AreParts heading.now (length samples.now) parts.now }
+    ensures { IsPackOutcome heading.now samples.now room.old room.new told.old told.new result }
+{
+    match parts.step {
+        Some(step) => pack_steps(alloc, heading, parts, samples, &[step], room, told),
+        None => pack_steps(alloc, heading, parts, samples, &[], room, told),
+    }
+}
+
+/// The same with these leap seconds.
+fn pack_steps(
+    alloc: Global,
+    heading: &Heading,
+    parts: &Parts,
+    samples: &[i32],
+    steps: &[(u64, LeapStep)],
+    room: &mut [u8],
+    told: &mut Packed,
+) -> u32
+    requires parts { AreParts heading.now (length samples.now) parts.now }
+    requires steps { HasLeap heading.now (length samples.now) steps.now }
+    ensures { IsPackOutcome heading.now samples.now room.old room.new told.old told.new result }
+{
+    let series = SeriesView {
+        codes: Codes::of_key(heading.key),
+        start: parts.start,
+        rate: parts.rate,
+        samples,
+        steps,
+    };
+    pack_series(alloc, &series, &parts.options, room, told)
+}
+
+/// Packs a series.
+fn pack_series(
+    alloc: Global,
+    series: &SeriesView,
+    options: &Options,
+    room: &mut [u8],
+    told: &mut Packed,
+) -> u32
+    requires { AreSteps (length series.now.samples.now) series.now.steps.now }
+    ensures { IsPackedInto (trace_of series.now) options.now room.old room.new told.old told.new result }
+{
+    if let Err(fault) = fit_view(series, options) {
+        *told = Packed {
+            records: 0,
+            index: index_of(fault),
+        };
+        return code_of_misfit(fault);
+    }
+    let mut sink = Counted::new(Vec::new(alloc));
+    match pack_fitting(series, options, &mut sink) {
+        Ok(records) => {
+            overwrite(sink.get_ref(), room);
+            *told = Packed { records, index: 0 };
+            0
+        }
+        Err(_) => MEMORY,
+    }
+}
