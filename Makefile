@@ -2,7 +2,8 @@
 # make audit FILE=..    the same for an archive of yours
 # make show             lists the records of a sample archive, or of FILE=..
 # make repack           packs the channels of one anew, into packed.mseed or OUT=..
-# make install          the program and its manual pages, below /usr/local or PREFIX=..
+# make lib              the library for C, C++ and Python, in crates/mseed_c/out/lib
+# make install          the program, its manual pages and what make lib built, below /usr/local or PREFIX=..
 # make test             the whole gate, then all row files of the tests
 # make tools-test       the row files of the tools beside the program: tools/README.md
 # make packages         installs what some tests want besides: tests/packages.txt, by apt-get where it can be had
@@ -10,7 +11,7 @@
 # make drawing          draws docs/architecture.svg from crates.txt, and docs/timeline.svg by tools/timeline
 # make help             these lines
 # make interop          what libmseed packs, packed anew and read by libmseed (wants libmseed-dev)
-# make bench            the program side by side with libmseed (wants libmseed-dev and valgrind)
+# make bench            the program and the library side by side with libmseed (wants libmseed-dev and valgrind)
 # make feed-bench       serve and fetch side by side with a pair of C programs
 # make tools-bench      tools/sds over a tree of 1 GB, beside reading its bytes alone
 
@@ -21,9 +22,12 @@ PREFIX ?= /usr/local
 VERSION := $(shell cat VERSION)
 NAME := mseed-$(VERSION)
 MANUAL := $(DESTDIR)$(PREFIX)/share/man/man1
+KIT = $(patsubst %/,%,$(dir $(shell rt doc)))
+LIB := crates/mseed_c/out/lib
+PYTHON_DIR ?= $(PREFIX)/lib/python3/dist-packages
 
-.PHONY: audit bench build dist drawing feed-bench help install interop packages repack show test \
-    tools-bench tools-test
+.PHONY: audit bench build dist drawing feed-bench help install install-lib interop lib packages \
+    repack show test tools-bench tools-test
 
 audit: build
 	@$(MSEED) audit < "$(FILE)"; echo "status $$?"
@@ -47,7 +51,22 @@ build:
 	@rm -f crates/mseed/out.log
 	@echo 'Proved and built.'
 
-# Where nothing was built yet, it is built first.
+# The archive holds the toolchain's part of the C library too, so that a program links with one file. Of the shared
+# library only the calls that include/mseed.h declares are seen.
+lib:
+	@cd crates/mseed_c && rt lib > lib.log 2>&1 || { cat lib.log; exit 1; }
+	@rm -f crates/mseed_c/lib.log
+	@rm -rf $(LIB) && install -d $(LIB)
+	@printf '%s\n' 'create $(LIB)/libmseed_c.a' 'addlib crates/mseed_c/out/libmseed_c.a' \
+	    'addlib $(KIT)/c/liblibc_c.a' save end | ar -M
+	@printf '%s\n' '{ global: mseed_*; local: *; };' > $(LIB)/exports.map
+	@$(CC) -shared -o $(LIB)/libmseed_c.so -Wl,-soname,libmseed_c.so -Wl,--version-script=$(LIB)/exports.map \
+	    -Wl,--whole-archive $(LIB)/libmseed_c.a -Wl,--no-whole-archive
+	@rm -f $(LIB)/exports.map
+	@sed 's,@PREFIX@,$(PREFIX),; s,@VERSION@,$(VERSION),' include/mseed.pc.in > $(LIB)/mseed.pc
+	@echo 'Proved and built: $(LIB)/libmseed_c.a and libmseed_c.so.'
+
+# Where nothing was built yet, it is built first. What make lib didn't build is left out.
 install:
 	@[ -x $(MSEED) ] || $(MAKE) --no-print-directory build
 	@install -d "$(DESTDIR)$(PREFIX)/bin" "$(MANUAL)"
@@ -56,6 +75,18 @@ install:
 	    to="$(MANUAL)/$${page#man/}"; sed 's/@VERSION@/$(VERSION)/' "$$page" > "$$to"; chmod 644 "$$to"; \
 	done
 	@echo 'Installed $(DESTDIR)$(PREFIX)/bin/mseed, and its pages in $(MANUAL).'
+	@[ ! -e $(LIB)/libmseed_c.so ] || $(MAKE) --no-print-directory install-lib
+
+install-lib:
+	@[ -e $(LIB)/libmseed_c.so ] || $(MAKE) --no-print-directory lib
+	@install -d "$(DESTDIR)$(PREFIX)/include" "$(DESTDIR)$(PREFIX)/lib/pkgconfig" "$(DESTDIR)$(PYTHON_DIR)/mseed"
+	@install -m 644 include/mseed.h "$(DESTDIR)$(PREFIX)/include/mseed.h"
+	@install -m 644 $(LIB)/libmseed_c.a "$(DESTDIR)$(PREFIX)/lib/libmseed_c.a"
+	@install -m 755 $(LIB)/libmseed_c.so "$(DESTDIR)$(PREFIX)/lib/libmseed_c.so"
+	@sed 's,@PREFIX@,$(PREFIX),; s,@VERSION@,$(VERSION),' include/mseed.pc.in \
+	    > "$(DESTDIR)$(PREFIX)/lib/pkgconfig/mseed.pc"
+	@install -m 644 python/mseed/*.py python/mseed/py.typed "$(DESTDIR)$(PYTHON_DIR)/mseed"
+	@echo 'Installed the library in $(DESTDIR)$(PREFIX)/lib, mseed.h, and the Python package in $(DESTDIR)$(PYTHON_DIR).'
 
 # Of a clone, what is committed; else of this folder all but what was made.
 dist:
@@ -82,10 +113,11 @@ packages:
 	@tests/packages.py
 
 interop: build
-	@tests/run.py interop
+	@tests/run.py interop library_interop
 
-bench: build
+bench: build lib
 	@python3 bench/bench.py $(MSEED) --write
+	@python3 bench/library.py --write
 
 feed-bench: build
 	@python3 bench/feed.py $(MSEED) --write
