@@ -17,11 +17,13 @@ import argparse
 import os
 import re
 import resource
+import shutil
 import subprocess
 import sys
 import time
 from pathlib import Path
 
+from driver import library
 from driver.counting import Count, names
 from driver.program import BUILT, PROGRAM, ROOT
 from driver.side_by_side import run_all, run_and_report
@@ -29,8 +31,9 @@ from driver.side_by_side import run_all, run_and_report
 
 def gate() -> Count:
     """Runs the toolchain's gate, shows what it prints, and counts what its last line counts. A gate that fails without
-    such a line, or that ran nothing, is a failure. It leaves the program that it proved and built."""
+    such a line, or that ran nothing, is a failure. It leaves the program that it proved and built, and no library."""
     BUILT.unlink(missing_ok=True)
+    shutil.rmtree(library.BUILT, ignore_errors=True)
     last = ""
     with subprocess.Popen(["rt", "ci"], cwd=ROOT, stdout=subprocess.PIPE, stderr=subprocess.STDOUT, text=True,
                           errors="replace") as run:

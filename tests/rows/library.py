@@ -1,0 +1,179 @@
+"""The library for C: the header by itself, the examples of the README, and the calls between pages that can't be
+touched, under valgrind, by eight threads at once, and with memory refused."""
+
+from __future__ import annotations
+
+import os
+import re
+import shutil
+import subprocess
+import sys
+import tempfile
+from pathlib import Path
+
+from driver.library import BUILT, HEADERS, PYTHON, WANTS, compiled, has_numpy, library, python
+from driver.program import CRATES, ROOT, SAMPLES, SOURCES
+from driver.rows import Cases, Fact, Skipped, holds
+from models.auditing import channels_of, cut, findings, name_of, time_of
+
+# How far apart the beginnings and the changed bytes of an archive are.
+STEPS = {"two_records": 1, "gap": 1, "steim2": 1, "steim2_one_bit": 1, "network_gap": 17, "network_bad_constant": 23,
+         "network_junk": 29, "network_overlap": 31, "network_drift": 37, "network_cut": 41}
+
+STANDARDS = [("cc", "c89"), ("cc", "c99"), ("cc", "c11"), ("c++", "c++98"), ("c++", "c++11"), ("c++", "c++17")]
+
+ALONE = """
+#include "mseed.h"
+int main (void) { return mseed_why (MSEED_OK)[0] == 'o' && sizeof (mseed_row) == 72 ? 0 : 1; }
+"""
+
+
+def ran(words: list[str], seconds: int = 600) -> str:
+    """What a program prints, and its status, where that isn't 0."""
+    run = subprocess.run(words, stdout=subprocess.PIPE, stderr=subprocess.STDOUT, text=True, timeout=seconds,
+                         check=False)
+    return run.stdout + (f"status {run.returncode}" if run.returncode else "")
+
+
+def header(folder: Path) -> Cases:
+    """The header compiles without a warning, by C89 to C++."""
+    for compiler, standard in STANDARDS:
+        if shutil.which(compiler) is None:
+            yield Skipped(f"the header by {standard}", compiler)
+            continue
+        code = folder / ("alone.c" if compiler == "cc" else "alone.cc")
+        code.write_text(ALONE, encoding="ascii")
+        words = [compiler, f"-std={standard}", "-Wall", "-Wextra", "-Wpedantic", "-Werror", f"-I{HEADERS}", "-o",
+                 str(folder / "alone"), str(code)]
+        yield Fact(f"the header by {standard}", "", ran(words) or ran([str(folder / "alone")]))
+
+
+def codes() -> Cases:
+    """Each code of the header is one of the contracts, and the other way round; its words are the documents'."""
+    text = (HEADERS / "mseed.h").read_text(encoding="ascii")
+    named = {name: int(number) for name, number in re.findall(r"^  (MSEED_\w+) = (\d+),?$", text, re.MULTILINE)}
+    codes = {number for name, number in named.items() if f"case {name}: return" in text}
+    spec = (CRATES / "mseed_c" / "specs" / "Codes.antt").read_text(encoding="utf-8")
+    spelled = {int(number) for number in re.findall(r"^code_of\w* .*= (\d+)$", spec, re.MULTILINE)}
+    yield Fact("the codes of the header are those of the contracts", sorted(spelled | {0, 1, 2}), sorted(codes))
+    words = dict(re.findall(r'case (MSEED_\w+): return "([^"]*)";', text))
+    documents = (ROOT / "docs" / "texts.md").read_text(encoding="utf-8")
+    for name, number in named.items():
+        if name in words and (number == 6 or 16 <= number < 40):
+            yield holds(f"{words[name]} is a word of the documents", re.search(rf"`{words[name]}[ `]", documents))
+    package = (ROOT / "python" / "mseed" / "_library.py").read_text(encoding="ascii")
+    listed = {int(number): word for number, word in re.findall(r'(\d+): "([^"]*)"', package)}
+    yield Fact("the words of the package are those of the header",
+               {named[name]: word for name, word in words.items()}, listed)
+
+
+def sweeps(built: Path, folder: Path) -> Cases:
+    """Each sample between pages that can't be touched, whole, cut and with each byte changed; a few under valgrind."""
+    program = folder / "sweep"
+    yield Fact("the sweep compiles", "", compiled(built, SOURCES / "library_sweep.c", program, ["-std=c99"]).stdout)
+    for name, step in STEPS.items():
+        said = ran([str(program), str(SAMPLES / f"{name}.mseed"), str(step)])
+        yield holds(f"{name}: every call keeps to its rooms", re.fullmatch(r"\d+ calls\n", said), said)
+    for name in ("two_records", "steim2", "steim2_one_bit"):
+        if shutil.which("valgrind") is None:
+            yield Skipped(f"{name} under valgrind", "valgrind")
+            continue
+        words = ["valgrind", "--quiet", "--error-exitcode=9", "--leak-check=full", str(program),
+                 str(SAMPLES / f"{name}.mseed"), "97" if name == "two_records" else "1", "once"]
+        said = ran(words[:-1] if name == "two_records" else words)
+        yield holds(f"{name}: valgrind finds nothing", re.fullmatch(r"\d+ calls\n", said), said[-1500:])
+
+
+def refusals(built: Path, folder: Path) -> Cases:
+    """Each request for memory refused in turn."""
+    program = folder / "memory"
+    options = ["-Wl,--wrap=malloc,--wrap=realloc"]
+    yield Fact("the refusals compile", "", compiled(built, SOURCES / "library_memory.c", program, options).stdout)
+    for name in ("two_records", "gap", "steim2", "network_gap", "network_junk"):
+        yield Fact(f"{name}: where memory is refused, nothing is written", "",
+                   ran([str(program), str(SAMPLES / f"{name}.mseed")]))
+
+
+def threads(built: Path, folder: Path) -> Cases:
+    """Eight threads at once."""
+    program = folder / "threads"
+    yield Fact("the threads compile", "",
+               compiled(built, SOURCES / "library_threads.c", program, ["-pthread"]).stdout)
+    yield Fact("eight threads get what one gets", "55 records, 0 other answers\n",
+               ran([str(program), str(SAMPLES / "network_gap.mseed")]))
+
+
+def readme(built: Path, folder: Path) -> Cases:
+    """The examples of the README in C, Python and NumPy say of the samples what the second program says."""
+    text = (ROOT / "README.md").read_text(encoding="utf-8")
+    in_c, plain, with_numpy = (re.findall(rf"^```{language}\n(.*?)^```", text, re.MULTILINE | re.DOTALL)[index]
+                               for language, index in (("c", 0), ("python", 0), ("python", 1)))
+    gap, network = ((SAMPLES / f"{name}.mseed").read_bytes() for name in ("network_gap", "network"))
+    code, program = folder / "readme.c", folder / "readme"
+    code.write_text(in_c, encoding="ascii")
+    yield Fact("README's example in C compiles", "", compiled(built, code, program).stdout)
+    records = [record for _, record in cut(gap)[0]]
+    with (SAMPLES / "network_gap.mseed").open("rb") as source:
+        said = subprocess.run([str(program)], stdin=source, stdout=subprocess.PIPE, text=True, check=False).stdout
+    yield Fact("README's example in C", f"ok: {len(records)} records, {sum(r.count for r in records)} samples\n", said)
+    if not os.path.exists(PYTHON):
+        yield Skipped("README's examples in Python", PYTHON)
+        return
+    lines = [f"{name} {time_of(start)[11:].removesuffix('.000000')} {len(samples)}\n"
+             for name, start, samples in stretches(gap)]
+    ended = python(built, ["-c", plain], numpy=False)
+    yield Fact("README's example in Python", "".join(lines), (ended.stdout + ended.stderr).decode())
+    if not has_numpy():
+        yield Skipped("README's example in NumPy", "python3-numpy, for /usr/bin/python3")
+        return
+    lines = [f"{name} int32 {max(abs(sample) for sample in samples)}\n" for name, _, samples in stretches(network)[:3]]
+    ended = python(built, ["-c", with_numpy])
+    yield Fact("README's example in NumPy", "".join(lines), (ended.stdout + ended.stderr).decode())
+
+
+def stretches(archive: bytes) -> list[tuple[str, int, list[int]]]:
+    """The stretches of each channel up to its next finding, as they begin in the archive: name, start and samples."""
+    found = []
+    for key, channel in channels_of(cut(archive)[0]).items():
+        breaks = {number for number, _, _ in findings(channel)}
+        for number, _, record in channel:
+            if number == channel[0][0] or number in breaks:
+                found.append((number, name_of(key).replace("_", "."), record.start(), []))
+            found[-1][3].extend(record.read())
+    return [stretch[1:] for stretch in sorted(found)]
+
+
+def installed(built: Path, folder: Path) -> Cases:
+    """`make install-lib` puts in place what a program, by pkg-config, and Python need."""
+    if built != BUILT or shutil.which("pkg-config") is None:
+        yield Skipped("an installed library", "make lib, and pkg-config")
+        return
+    place = folder / "installed"
+    said = ran(["make", "--silent", "-C", str(ROOT), "install-lib", f"PREFIX={place}"])
+    yield holds("the library is installed", said.startswith("Installed"), said)
+    code = folder / "alone.c"
+    code.write_text(ALONE, encoding="ascii")
+    flags = ran(["env", f"PKG_CONFIG_PATH={place}/lib/pkgconfig", "pkg-config", "--cflags", "--libs", "mseed"]).split()
+    yield Fact("a program is compiled by pkg-config", "", ran(["cc", str(code), "-o", str(folder / "by"), *flags]))
+    yield Fact("and finds the library", "", ran(["env", f"LD_LIBRARY_PATH={place}/lib", str(folder / "by")]))
+    found = ran(["env", "-u", "MSEED_LIBRARY", f"PYTHONPATH={place}/lib/python3/dist-packages", sys.executable, "-B",
+                 "-c", "import mseed; print(mseed.__file__, mseed.audit(b'').text, end='')"])
+    yield Fact("Python finds the package and the library",
+               f"{place}/lib/python3/dist-packages/mseed/__init__.py records 0 channels 0\n", found)
+
+
+def rows() -> Cases:
+    """All of them."""
+    with tempfile.TemporaryDirectory() as name:
+        folder = Path(name)
+        yield from header(folder)
+        yield from codes()
+        built = library()
+        if built is None:
+            yield Skipped("calls from C", WANTS)
+            return
+        yield from readme(built, folder)
+        yield from installed(built, folder)
+        yield from sweeps(built, folder)
+        yield from refusals(built, folder)
+        yield from threads(built, folder)

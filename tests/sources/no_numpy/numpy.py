@@ -1,0 +1,3 @@
+"""Stands before NumPy in the path, so that it is as if NumPy weren't there."""
+
+raise ImportError("no NumPy here")
