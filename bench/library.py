@@ -1,7 +1,7 @@
 #!/usr/bin/env python3
 """Measures the library from C and from NumPy side by side with libmseed's reader and packer, over archives in memory.
 
-    library.py [--rounds 9] [--turns 3] [--megabytes 20] [--archives NAME ..] [--write]
+    library.py [--rounds 5] [--turns 3] [--megabytes 20] [--archives NAME ..] [--write]
 
 Both do the same work over the same archive in turn, round after round; every other round goes in reverse. What counts
 is user and system time. The ratio, libmseed / mseed, is above 1 where mseed is faster; it is the median of the rounds'
@@ -85,7 +85,7 @@ def measured(work, peer, where, archive, options):
 
 def main():
     words = argparse.ArgumentParser(description=__doc__, formatter_class=argparse.RawDescriptionHelpFormatter)
-    words.add_argument("--rounds", type=int, default=9)
+    words.add_argument("--rounds", type=int, default=5)
     words.add_argument("--turns", type=int, default=3)
     words.add_argument("--megabytes", type=int, default=20)
     words.add_argument("--archives", nargs="+", default=ARCHIVES)
