@@ -207,5 +207,16 @@ pub(crate) fn word_ahead(scheme: Scheme, most: usize, diffs: &[i32]) -> (u8, u32
 {
     let layout = layout_of(scheme, most);
     let word = layout.head | join(scheme, layout, diffs);
-    (layout.row.code, word, layout.row.count)
+    (layout.row.code, word, taken(scheme, most))
+}
+
+/// How many of so many that are held a word takes: Steim-1 has no word of three.
+#[inline(always)]
+fn taken(scheme: Scheme, most: usize) -> usize
+    ensures { result ≡ taken scheme most }
+{
+    match scheme {
+        Scheme::One if most == 3 => 2,
+        _ => most,
+    }
 }

@@ -1,7 +1,9 @@
-use Rattle.std.proofs.Common.{◌≡◌, ◌+◌, ◌*◌, ◌%◌, ◌^◌, arith, take, length, subst, sym, bit_or, Some}
+use Rattle.std.proofs.Common.{◌≡◌, ◌+◌, ◌*◌, ◌%◌, ◌^◌, ◌∙◌, ℕ, arith, ap, take, length, subst, sym, bit_or, Some}
 use Rattle.std.proofs.lemmas.List.{length-take-le}
 use Rattle.mseed_steim.specs.declared.row.Row.{Row}
+use Rattle.mseed_steim.specs.Packing.{IsFullest}
 use Rattle.mseed_steim.specs.Spelling.{positional}
+use Rattle.mseed_steim.specs.private.Ahead.{taken}
 use Rattle.mseed_steim.specs.private.Rows.{IsBestRow}
 use Rattle.mseed_steim.proofs.Rows.{row_is}
 use Rattle.mseed_steim.proofs.Packs.{is_fullest}
@@ -24,4 +26,7 @@ returns c =
     (λ some. rw long (is.apart some)) in
     let word : bit_or layout.head c.join.result ≡ layout.row.dnib * 2 ^ 30 + positional layout.row.width prefix =
     rw (head, c.join.ensures) joined in
-    is_fullest c.args.scheme ds layout.row (bit_or layout.head c.join.result) best.0 best.1 best.2 best.3 word
+    let count : layout.row.count ≡ c.taken.result = ap (λ (r : Row). r.count) told.0
+    ∙ (row_is c.args.scheme (taken c.args.scheme c.args.most) known.2.0 known.2.1.0).1 ∙ sym c.taken.ensures in
+    subst (λ (n : ℕ). IsFullest c.args.scheme ds layout.row.code (bit_or layout.head c.join.result) n) count
+    (is_fullest c.args.scheme ds layout.row (bit_or layout.head c.join.result) best.0 best.1 best.2 best.3 word)
