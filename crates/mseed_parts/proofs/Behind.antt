@@ -27,7 +27,7 @@ abbrev pub HaveOneFinding : Type 0
 HaveOneFinding = (before : Option View) (v : View) (a b : Option Why) → IsFound before v a → IsFound before v b → a ≡ b
 
 -- ---- what is found of a record alone is found of it behind another
-own_found : (before : Option View) (v : View) (a : Option Why) (why : Why) → IsFound None v a → a ≡ Some why
+pub own_found : (before : Option View) (v : View) (a : Option Why) (why : Why) → IsFound None v a → a ≡ Some why
     → IsFound before v (Some why)
 own_found before v a why (by_time fault e) h =
     subst (λ (x : Option Why). IsFound before v x) h (by_time fault e)
@@ -37,7 +37,7 @@ own_found before v a why (by_read next known fault is) h =
 own_found before v a why (by_after next known samples whole) h = cc (h)
 
 -- where nothing is, it is judged by the one before
-sound_found : (before : Option View) (v : View) (a : Option Why) (next : Ratio) → IsFound None v a → a ≡ None
+pub sound_found : (before : Option View) (v : View) (a : Option Why) (next : Ratio) → IsFound None v a → a ≡ None
     → known_rate v ≡ Some next → IsFound before v (why_after before v next)
 sound_found before v a next (by_time fault e) h is = cc (h)
 sound_found before v a next (by_rate e r) h is = cc (h)
@@ -45,7 +45,7 @@ sound_found before v a next (by_read other known fault k) h is = cc (h)
 sound_found before v a next (by_after other known samples whole) h is = by_after next is samples whole
 
 -- the border says so of the record by which the next is judged
-border_is : (t : Tail) (b : View) (h : Head) (q : Placed) → IsTail t b → IsHead h q
+pub border_is : (t : Tail) (b : View) (h : Head) (q : Placed) → IsTail t b → IsHead h q
     → why_after (Some b) q.view h.rate ≡ border_why t h
 border_is t b h q tail head =
     ap (λ (r : Option Ratio). why_from b r q.view h.rate) tail.rate

@@ -3,7 +3,11 @@ pub mod Associative
 pub mod Behind
 pub mod Extended
 pub mod Joined
+pub mod Merging
 pub mod Moving
+pub mod Noticing
 pub mod Placing
+pub mod Rising
+pub mod Telling
 pub mod Turns
 pub mod Within

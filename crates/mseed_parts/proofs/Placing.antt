@@ -42,7 +42,7 @@ placed_moved d e n o (v ∷ vs) =
     (omega arith)
     ∙ placed_moved d e (n + 1) (o + length v.bytes) vs)
 
-placed_behind : (xs ys : List View)
+pub placed_behind : (xs ys : List View)
     → placed 1 0 (xs ++ ys) ≡ placed 1 0 xs ++ map (moved (length xs) (bytes_in xs)) (placed 1 0 ys)
 placed_behind xs ys =
     placed_append 1 0 xs ys

@@ -1,2 +1,4 @@
+pub mod Borders
 pub mod Joining
+pub mod Notices
 pub mod Parts
