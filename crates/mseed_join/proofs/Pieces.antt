@@ -26,10 +26,10 @@ use Rattle.mseed_join.specs.Written.{Written}
 use Rattle.mseed_join.proofs.Cuts.{IsKnown, known, known_behind, known_none, one_known}
 
 -- ---- what parts are joined, one by one
-joined_none : (a h : Written) → AreJoined a [] h → a ≡ h
+pub joined_none : (a h : Written) → AreJoined a [] h → a ≡ h
 joined_none a _ (none _) = refl
 
-joined_more : (a w h : Written) (ws : List Written) → AreJoined a (w ∷ ws) h
+pub joined_more : (a w h : Written) (ws : List Written) → AreJoined a (w ∷ ws) h
     → (b : Written) × (IsNext a w b × AreJoined b ws h)
 joined_more a w h ws (one _ _ b _ _ next rest) = (b, (next, rest))
 

@@ -8,4 +8,5 @@ pub mod AuditPart
 pub mod Joins
 pub mod JoinsEach
 pub mod Headline
+pub mod HeadlineEach
 pub mod private

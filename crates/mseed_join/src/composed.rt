@@ -3,15 +3,20 @@ ghost use Rattle.std.specs.Prelude.{◌≡◌, ◌<◌, ◌^◌, ◌++◌, Bool,
 ghost use Rattle.std.specs.Io.KnownBytes.{IsAtEnd};
 ghost use Rattle.mseed_stream.specs.Cutting.{TellsMore};
 ghost use Rattle.mseed_stream.specs.Device.{BytesRead, nothing_read};
+ghost use Rattle.mseed_audit.specs.Each.{AuditedEach};
 ghost use Rattle.mseed_audit.specs.Summary.{Audited};
-ghost use Rattle.mseed_audit.specs.Text.{end_line};
+ghost use Rattle.mseed_audit.specs.Text.{end_line, told_lines};
+ghost use Rattle.mseed_audit.specs.Told.{Told};
+ghost use Rattle.mseed_parts.specs.Notices.{Notice, border_notices, notices_of};
 ghost use Rattle.mseed_join.specs.AuditPart.{AuditedPart};
+ghost use Rattle.mseed_join.specs.Borders.{AreBordersOf, Border, border_lines, notice_lines};
 ghost use Rattle.mseed_join.specs.Headline.{AreParted, EndsByBytes, IsReadOf, IsWithinLimits, SaysAudit, without_end};
+ghost use Rattle.mseed_join.specs.HeadlineEach.{AreToldApart, SaysEach};
 ghost use Rattle.mseed_join.specs.Joined.{IsBadLine, IsJointOf};
 ghost use Rattle.mseed_join.specs.Written.{HasText, Spells, Written, part_text, texts};
 
-use mseed_audit::{channels_have_verdicts, one_list_of_verdicts};
-use mseed_parts::{joined_in_turn, one_part, parts_add_up};
+use mseed_audit::{channels_have_verdicts, one_list_of_verdicts, one_telling};
+use mseed_parts::{findings_add_up, joined_in_turn, joining_laws, one_part, parts_add_up};
 
 /// The joint part of archives, of which each but the last ends without a fault, says what the audit of the archives
 /// one behind another says.
@@ -36,6 +41,31 @@ pub fn joined_audit()
     channels_have_verdicts();
     one_list_of_verdicts();
     one_part();
+}
+
+/// The headline with a line for each finding: the lines of archives, of which each but the last ends without a fault,
+/// with their numbers and offsets gone up, and the lines of the borders of their parts, merged by offset, and then the
+/// text of the joint part, are what the audit of the archives one behind another writes that tells each record with a
+/// finding.
+pub fn joined_each()
+    ensures says { (archive : List ℕ) (ws : List Written) (told : List Notice) (found : List Border) (joint : Written)
+        (h : BytesRead) (a : AuditedEach h) → AreToldApart archive ws told → IsJointOf false ws joint
+        → AreBordersOf false ws found → IsReadOf archive h → EndsByBytes a.audited.end → SaysEach told found joint a }
+
+    // They are the archives and parts of the headline.
+    ensures parted { (archive : List ℕ) (ws : List Written) (told : List Notice) → AreToldApart archive ws told
+        → AreParted archive ws }
+
+    // What is told of records, and of borders, has the lines with which it is written.
+    ensures records { (told : List Told) → notice_lines (notices_of told) ≡ told_lines told }
+    ensures borders { (found : List Border) → notice_lines (border_notices found) ≡ border_lines found }
+{
+    parts_add_up();
+    findings_add_up();
+    joining_laws();
+    one_telling();
+    channels_have_verdicts();
+    one_list_of_verdicts();
 }
 
 /// A part without its last line, if that is a fault, is the part of the archive's first bytes, as many as it counts.

@@ -24,7 +24,7 @@ mod writing;
 
 pub use auditing::{audit_part, audit_part_each};
 pub use composed::{
-    cut_part, joined_audit, joined_texts, no_bad_line, one_text, part_reads_back,
+    cut_part, joined_audit, joined_each, joined_texts, no_bad_line, one_text, part_reads_back,
     parts_can_be_joined,
 };
 pub use joining::{Form, Joined, JoinsFault, join};
