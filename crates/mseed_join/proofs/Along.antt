@@ -18,9 +18,9 @@ use Rattle.mseed_join.specs.ReadParts.{IsReadOutcome, IsStopped, written_of}
 use Rattle.mseed_join.specs.declared.reader.PartsFault.{PartsFault}
 use Rattle.mseed_join.specs.declared.reader.PartsFault.TheVariants.{Line as BadLine, Stream, Memory}
 use Rattle.mseed_join.specs.Written.{Written, Spells, channel_lines, part_text, texts}
-use Rattle.mseed_join.specs.private.Along.{HasEnded, IsAlong, IsBadBehind, IsNextStep, IsStoppedAt}
+use Rattle.mseed_join.specs.private.Along.{HasEnded, IsAlong, IsBadBehind, IsFailedAt, IsNextStep, IsStoppedAt}
 use Rattle.mseed_join.specs.private.Along.{can_end}
-use Rattle.mseed_join.specs.private.LineReading.{GoesOn, Grows, IsLineAhead, IsReadBy, LinesRead}
+use Rattle.mseed_join.specs.private.LineReading.{GoesOn, Grows, IsLineAhead, IsOpen, IsReadBy, LinesRead}
 use Rattle.mseed_join.specs.private.Taking.{IsPlace, IsReadTo, IsTaken}
 use Rattle.mseed_join.proofs.Ahead.{IsAhead, ahead, too_long}
 use Rattle.mseed_join.proofs.Machine.{AreAll, Runs, lines_text, nothing_first}
@@ -182,7 +182,7 @@ looked_few past h now s lines j l few = (
   omega (arith, few, l.by.bytes, lines_few l.by.passed lines.lines l.by.lines),
 )
 
-before : {A : Type 0} → (past : Bool) (h now : BytesRead) (s : Stage) (lines : LinesRead) (j : Joint A)
+abbrev before : {A : Type 0} → (past : Bool) (h now : BytesRead) (s : Stage) (lines : LinesRead) (j : Joint A)
     → (l : IsLooked past h now s lines j) → AreLinesRead (l.by.passed ++ lines.held) lines.lines s
 before past h now s lines j l = record {
   lines = l.by.passed;
@@ -214,13 +214,30 @@ wrong_line past h now s lines j n l one refused = record {
 }
 
 -- no line more was passed
-pub stops : {A : Type 0} → (past : Bool) (h now : BytesRead) (s : Stage) (lines : LinesRead) (j : Joint A)
+abbrev pub stops : {A : Type 0} → (past : Bool) (h now : BytesRead) (s : Stage) (lines : LinesRead) (j : Joint A)
     → IsLooked past h now s lines j → IsStoppedAt h now s
 stops past h now s lines j l = record {
   bytes = l.by.passed ++ lines.held;
   told = l.by.told ∙ append_assoc h.bytes l.by.passed lines.held;
   count = lines.lines;
   before = before past h now s lines j l;
+}
+
+-- and none that was held is bad
+pub fails : {A : Type 0} → (past : Bool) (h now : BytesRead) (s : Stage) (lines : LinesRead) (j : Joint A)
+    → IsLooked past h now s lines j → IsOpen lines.held → IsFailedAt past h now s
+fails past h now s lines j l held = record {
+  stopped = stops past h now s lines j l;
+  none_bad = record {
+    lines = l.by.passed;
+    rest = lines.held;
+    bytes_are = refl;
+    count = lines.lines;
+    whole = l.by.lines;
+    begins = begun_so past h now s lines j l;
+    no_end = held.1;
+    short = held.0;
+  };
 }
 
 pub long_line : {A : Type 0} → (past : Bool) (h now : BytesRead) (s : Stage) (lines : LinesRead) (j : Joint A)
@@ -333,7 +350,7 @@ told_also xs ys a b c (AreTold.one line lines old now new t more) q =
     AreTold.one line (lines ++ ys) old now c t (told_also lines ys now new c more q)
 
 -- ---- the outcome
-pub stopped : (past : Bool) (h now : BytesRead) (s : Stage) (told at : BytesWritten) → IsStoppedAt h now s
+abbrev pub stopped : (past : Bool) (h now : BytesRead) (s : Stage) (told at : BytesWritten) → IsStoppedAt h now s
     → AreTold (passed_lines past (parts_at s)) told at → IsStopped past h now told at
 stopped past h now s told at step are = record {
   bytes = step.bytes;
@@ -360,7 +377,10 @@ failed past h now s r (BadLine k) told at step are = (
     },
   ),
 )
-failed past h now s r (Stream fault) told at step are = (step.0, stopped past h now s told at step.1 are)
+failed past h now s r (Stream fault) told at step are = (
+  step.0,
+  record { stopped = stopped past h now s told at step.1.stopped are; none_bad = step.1.none_bad },
+)
 failed past h now s r Memory told at step are = stopped past h now s told at step are
 
 -- nothing was read

@@ -18,7 +18,7 @@ use Rattle.mseed_join.specs.declared.reader.PartsFault.TheVariants.{Line as BadL
 use Rattle.mseed_join.specs.declared.reader.PartsFault.TheVariants.{Memory as NoMemory}
 use Rattle.mseed_join.specs.declared.reader.Reader.{Reader}
 use Rattle.mseed_join.specs.Borders.{AreBorders, AreBordersOf, Border, border_lines}
-use Rattle.mseed_join.specs.Joined.{IsBadLine, join_text}
+use Rattle.mseed_join.specs.Joined.{HasNoBadLine, IsBadLine, join_text}
 use Rattle.mseed_join.specs.Joins.{IsAnswer}
 use Rattle.mseed_join.specs.JoinsEach.{AreEachTo, AreLinesWritten, IsJoinEachOutcome}
 use Rattle.mseed_join.specs.Reached.{AreLinesRead, AreTold, Stage, parts_at, passed_lines, start}
@@ -36,7 +36,7 @@ pub stopped_by : {A : Type 0} → (past : Bool) (h now : BytesRead) (s : Stage) 
     → IsNextStep {A = A} past h s (Err fault) now r → IsStoppedAt h now s
 stopped_by past h now s r (BadLine k) step =
     record { bytes = step.bytes; told = step.told; count = step.count; before = step.before }
-stopped_by past h now s r (Unread fault) step = step.1
+stopped_by past h now s r (Unread fault) step = step.1.stopped
 stopped_by past h now s r NoMemory step = step
 
 -- before it
@@ -159,9 +159,11 @@ fault_each past h now s r (Unread fault) result first old new told at text found
     (IsFlushed.all bytes fine) = (
       found,
       (
-        each_to past h now s found told at begin step.1 borders are,
+        each_to past h now s found told at begin step.1.stopped borders are,
         lines_written first old new text found before bytes same fine,
         subst (λ (k : BytesRead). IsStreamFault fault k now) begin step.0,
+        subst (λ (b : List ℕ). HasNoBadLine past b)
+            (all_bytes h now step.1.stopped.bytes begin step.1.stopped.told) step.1.none_bad,
       ),
     )
 fault_each past h now s r NoMemory result first old new told at text found begin step borders are before same

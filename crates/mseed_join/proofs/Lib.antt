@@ -1,5 +1,6 @@
 pub mod Ahead
 pub mod Along
+pub mod Apart
 pub mod Backwards
 pub mod Bordering
 pub mod Channels
@@ -25,6 +26,7 @@ pub mod Parting
 pub mod Pieces
 pub mod Ranges
 pub mod Readable
+pub mod Refusing
 pub mod Rows
 pub mod Running
 pub mod Shorts

@@ -96,3 +96,15 @@ pub data IsBadLine (past : Bool) (bytes : List ℕ) (at_end : Bool) : ℕ → Ty
       → Begins past lines → line ≢ [] → HasNoEnd line → IsBadLine past bytes at_end (count + 1)
   lacks : (count : ℕ) → at_end ≡ true → AreLines bytes count → Begins past bytes
       → ((ws : List Written) → Spells bytes ws → ⊥) → IsBadLine past bytes at_end (count + 1)
+
+-- No line of what was read is bad: it is whole lines with which parts that can be joined begin, and the first bytes of
+-- a line that isn't too long, which has no end yet.
+pub record HasNoBadLine (past : Bool) (bytes : List ℕ) : Type 0 where
+  pub lines : List ℕ
+  pub rest : List ℕ
+  pub bytes_are : bytes ≡ lines ++ rest
+  pub count : ℕ
+  pub whole : AreLines lines count
+  pub begins : Begins past lines
+  pub no_end : HasNoEnd rest
+  pub short : length rest < 512

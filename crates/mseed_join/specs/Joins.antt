@@ -1,5 +1,5 @@
 -- What is written of the joint part of parts, and what is answered of it.
-use Rattle.std.specs.Prelude.{◌≡◌, ◌||◌, ℕ, ◌+◌, ◌<◌, nat_lt, List, ◌++◌, length, map, take, Bool, true, is_some}
+use Rattle.std.specs.Prelude.{◌≡◌, ◌||◌, ◌⊎◌, ℕ, ◌+◌, ◌<◌, nat_lt, List, ◌++◌, length, map, take, Bool, true, is_some}
 use Rattle.std.specs.Prelude.{Result, Ok, Err}
 use Rattle.mseed_stream.specs.Device.{BytesRead, BytesWritten, nothing_read}
 use Rattle.mseed_stream.specs.Fault.{IsStreamFault}
@@ -10,7 +10,7 @@ use Rattle.mseed_join.specs.declared.joining.Joined.{Joined as Answer}
 use Rattle.mseed_join.specs.declared.joining.JoinsFault.{JoinsFault}
 use Rattle.mseed_join.specs.declared.joining.JoinsFault.TheVariants.{Line, Stream, Write, Memory}
 use Rattle.mseed_join.specs.Joined.{join_text, verdict_at}
-use Rattle.mseed_join.specs.ReadParts.{AreBadParts, AreReadParts, IsStopped}
+use Rattle.mseed_join.specs.ReadParts.{AreBadParts, AreReadParts, IsFailed, IsStopped}
 use Rattle.mseed_join.specs.Written.{Written, part_text}
 
 -- the text of the audit that it is the part of, or its own
@@ -46,7 +46,7 @@ pub record IsJointCutOff (form : Form) (w : Written) (old new : BytesWritten) : 
   pub failed : new.failures ≡ old.failures + 1
 
 -- By the outcome: of the input, of the output before and after, and of the device that faults are told to before and
--- after. Where the parts weren't read whole, nothing was written.
+-- after. Where the parts weren't read whole, nothing was written; where the input failed, no bad line was read before.
 abbrev pub IsJoinOutcome : Form → Bool → Result Answer JoinsFault → BytesRead → BytesWritten → BytesWritten
     → BytesWritten → BytesWritten → Type 0
 IsJoinOutcome form past (Ok answer) h old new told now =
@@ -54,7 +54,8 @@ IsJoinOutcome form past (Ok answer) h old new told now =
 IsJoinOutcome form past (Err (Line k)) h old new told now =
     (new ≡ old) × AreBadParts past h.bytes h.is_at_end k told now
 IsJoinOutcome form past (Err (Stream fault)) h old new told now =
-    (new ≡ old) × IsStreamFault fault nothing_read h × IsStopped past nothing_read h told now
+    (new ≡ old) × IsStreamFault fault nothing_read h × IsFailed past nothing_read h told now
 IsJoinOutcome form past (Err Write) h old new told now =
     (w : Written) × (IsRead past h w told now × IsJointCutOff form w old new)
-IsJoinOutcome form past (Err Memory) h old new told now = new ≡ old
+IsJoinOutcome form past (Err Memory) h old new told now =
+    (new ≡ old) × (IsStopped past nothing_read h told now ⊎ ((w : Written) × IsRead past h w told now))

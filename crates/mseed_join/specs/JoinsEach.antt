@@ -7,7 +7,7 @@ use Rattle.mseed_join.specs.declared.joining.Joined.{Joined as Answer}
 use Rattle.mseed_join.specs.declared.joining.JoinsFault.{JoinsFault}
 use Rattle.mseed_join.specs.declared.joining.JoinsFault.TheVariants.{Line, Stream, Write, Memory}
 use Rattle.mseed_join.specs.Borders.{AreBordersOf, Border, border_lines}
-use Rattle.mseed_join.specs.Joined.{join_text}
+use Rattle.mseed_join.specs.Joined.{HasNoBadLine, join_text}
 use Rattle.mseed_join.specs.Joins.{IsAnswer, IsRead}
 use Rattle.mseed_join.specs.Reached.{Stage, parts_at}
 use Rattle.mseed_join.specs.ReadParts.{AreBadParts, AreToldTo}
@@ -64,7 +64,7 @@ IsJoinEachOutcome past (Err (Line k)) h old new told now =
     (found : List Border) × (AreBadEach past h k found told now × AreLinesWritten found old new)
 IsJoinEachOutcome past (Err (Stream fault)) h old new told now =
     (found : List Border) × (AreEachTo past h found told now × AreLinesWritten found old new
-    × IsStreamFault fault nothing_read h)
+    × IsStreamFault fault nothing_read h × HasNoBadLine past h.bytes)
 IsJoinEachOutcome past (Err Write) h old new told now =
     (new.failures ≡ old.failures + 1) × EndsShort (TookPart old new) past h told now
 IsJoinEachOutcome past (Err Memory) h old new told now =

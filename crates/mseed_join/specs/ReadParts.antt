@@ -5,7 +5,7 @@ use Rattle.mseed_stream.specs.Fault.{IsStreamFault}
 use Rattle.mseed_join.specs.declared.joint.JointPart.{JointPart}
 use Rattle.mseed_join.specs.declared.reader.PartsFault.{PartsFault}
 use Rattle.mseed_join.specs.declared.reader.PartsFault.TheVariants.{Line, Stream, Memory}
-use Rattle.mseed_join.specs.Joined.{IsBadLine, IsJointOf}
+use Rattle.mseed_join.specs.Joined.{HasNoBadLine, IsBadLine, IsJointOf}
 use Rattle.mseed_join.specs.Reached.{AreLinesRead, AreTold, Stage, parts_at, passed_lines}
 use Rattle.mseed_join.specs.Written.{Written, Spells}
 
@@ -46,6 +46,11 @@ pub record IsStopped (past : Bool) (old h : BytesRead) (s new : BytesWritten) : 
   pub stage : Stage
   pub lines : AreToldTo past bytes stage s new
 
+-- the source failed behind it: no bad line was read before
+pub record IsFailed (past : Bool) (old h : BytesRead) (s new : BytesWritten) : Type 0 where
+  pub stopped : IsStopped past old h s new
+  pub none_bad : HasNoBadLine past stopped.bytes
+
 -- By the answer: of what was read of the source, and of the device that faults are told to, before and after.
 abbrev pub IsReadOutcome : {A : Type 0} → Result (JointPart A) PartsFault → Bool → BytesRead → BytesRead → BytesWritten
     → BytesWritten → Type 0
@@ -53,5 +58,5 @@ IsReadOutcome (Ok joint) past old h s new =
     (bytes : List ℕ) × (ReadMore old h bytes × (h.is_at_end ≡ true) × AreReadParts past bytes (written_of joint) s new)
 IsReadOutcome (Err (Line k)) past old h s new =
     (bytes : List ℕ) × (ReadMore old h bytes × AreBadParts past bytes h.is_at_end k s new)
-IsReadOutcome (Err (Stream fault)) past old h s new = IsStreamFault fault old h × IsStopped past old h s new
+IsReadOutcome (Err (Stream fault)) past old h s new = IsStreamFault fault old h × IsFailed past old h s new
 IsReadOutcome (Err Memory) past old h s new = IsStopped past old h s new

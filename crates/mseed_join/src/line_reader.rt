@@ -1,12 +1,12 @@
 //! Lines of what a source tells.
 ghost use Rattle.std.specs.Prelude.{◌≡◌, ◌==◌, ◌+◌, ◌-◌, ◌*◌, ◌^◌, ◌<◌, ◌≤◌, ◌++◌, [], length, take, drop, true, false};
-ghost use Rattle.std.specs.Prelude.{IfOk, OnOk, IfErr, IfSome, IfNone, IsTrue, Ok, position};
+ghost use Rattle.std.specs.Prelude.{IfOk, OnOk, IfErr, OnErr, IfSome, IfNone, IsTrue, Ok, position};
 ghost use Rattle.std.specs.Io.KnownBytes.{IsAtEnd, ReadConsumes};
 ghost use Rattle.mseed_stream.specs.Device.{BytesRead, read_also};
 ghost use Rattle.mseed_stream.specs.Fault.{IsStreamFault};
 ghost use Rattle.mseed_join.specs.Joined.{HasNoEnd};
-ghost use Rattle.mseed_join.specs.private.LineReading.{Grows, IsReadBy, GoesOn, IfGoesOn, IsLineAhead, IsReadFault};
-ghost use Rattle.mseed_join.specs.private.LineReading.{LiesAhead};
+ghost use Rattle.mseed_join.specs.private.LineReading.{Grows, IsReadBy, GoesOn, IfGoesOn, IsLineAhead, IsOpen};
+ghost use Rattle.mseed_join.specs.private.LineReading.{IsReadFault, LiesAhead};
 
 use mseed_audit::Memory;
 use mseed_stream::{Failed, Source, StreamFault};
@@ -124,6 +124,9 @@ impl<A: Allocator> LineReader<A> {
         ensures fault { IfErr result (λ e. (start : BytesRead) → IsReadBy start (R.read source.old) self.old
             → GoesOn start (R.read source.old) self.old → IsStreamFault e start (R.read source.new)) }
 
+        // No line lies ahead then, and no more bytes than a line has.
+        ensures open { IfErr result (λ e. IsOpen self.new.held) }
+
         // The input's end is that of the bytes that the source is known to have.
         ensures known { (R.read source.old).is_at_end ≡ false → (R.read source.new).is_at_end ≡ true
             → IsAtEnd (R.remaining source.new) }
@@ -212,6 +215,7 @@ impl<A: Allocator> LineReader<A> {
             × IsAtEnd (R.remaining source.new) }
         ensures fine { OnOk result ((R.read source.new).failures ≡ (R.read source.old).failures) }
         ensures fault { IfErr result (λ e. IsReadFault e self.new (R.read source.old) (R.read source.new)) }
+        ensures held { OnErr result (self.new.held ≡ self.old.held) }
         ensures beside { R.beside source.new ≡ R.beside source.old }
     {
         if self.reads == TURNS {
@@ -242,6 +246,7 @@ impl<A: Allocator> LineReader<A> {
             × IsAtEnd (R.remaining source.new) }
         ensures fine { OnOk result ((R.read source.new).failures ≡ (R.read source.old).failures) }
         ensures fault { IfErr result (λ e. IsReadFault e self.new (R.read source.old) (R.read source.new)) }
+        ensures held { OnErr result (self.new.held ≡ self.old.held) }
         ensures beside { R.beside source.new ≡ R.beside source.old }
     {
         self.reads += 1;

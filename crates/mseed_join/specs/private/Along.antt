@@ -8,7 +8,7 @@ use Rattle.mseed_join.specs.declared.joint.Told.{Told}
 use Rattle.mseed_join.specs.declared.reader.PartsFault.{PartsFault}
 use Rattle.mseed_join.specs.declared.reader.PartsFault.TheVariants.{Line, Stream, Memory}
 use Rattle.mseed_join.specs.declared.reader.Reader.{Reader}
-use Rattle.mseed_join.specs.Joined.{IsBadLine, IsJointOf}
+use Rattle.mseed_join.specs.Joined.{HasNoBadLine, IsBadLine, IsJointOf}
 use Rattle.mseed_join.specs.Reached.{AreLinesRead, Stage, parts_at}
 use Rattle.mseed_join.specs.ReadParts.{written_of}
 use Rattle.mseed_join.specs.Written.{Spells}
@@ -52,6 +52,11 @@ pub record IsStoppedAt (h now : BytesRead) (s : Stage) : Type 0 where
   pub count : ℕ
   pub before : AreLinesRead bytes count s
 
+-- and no bad line was read
+pub record IsFailedAt (past : Bool) (h now : BytesRead) (s : Stage) : Type 0 where
+  pub stopped : IsStoppedAt h now s
+  pub none_bad : HasNoBadLine past stopped.bytes
+
 -- by what one step answers
 abbrev pub IsNextStep : {A : Type 0} → Bool → BytesRead → Stage → Result (Option Told) PartsFault → BytesRead → Reader A
     → Type 0
@@ -59,5 +64,5 @@ IsNextStep past h s (Ok (Some told)) now r =
     (t : Stage) × (IsAlong past h now t r × IsToldMore past s t told × (now.is_at_end ≡ false))
 IsNextStep past h s (Ok None) now r = HasEnded past h now s r
 IsNextStep past h s (Err (Line k)) now r = IsBadBehind past h now s k
-IsNextStep past h s (Err (Stream fault)) now r = IsStreamFault fault h now × IsStoppedAt h now s
+IsNextStep past h s (Err (Stream fault)) now r = IsStreamFault fault h now × IsFailedAt past h now s
 IsNextStep past h s (Err Memory) now r = IsStoppedAt h now s

@@ -29,6 +29,10 @@ pub record IsLineAhead (size : ℕ) (held : List ℕ) : Type 0 where
   pub within : size ≤ length held
   pub short : size ≤ 512
 
+-- no line is whole, and none is too long
+abbrev pub IsOpen : List ℕ → Type 0
+IsOpen held = (length held < 512) × HasNoEnd held
+
 -- what lies ahead, by what was read and not passed, and whether the input is at its end
 abbrev pub LiesAhead : Ahead → LinesRead → Bool → Type 0
 LiesAhead Line r at_end = IsLineAhead r.size r.held

@@ -91,3 +91,7 @@ returns-in-Ok-clause-ended g c ends =
           ∙ (ap (λ (k : ℕ). held ++ take k (drop i.end now)) zero ∙ append-nil held),
       c.in-Ok.ensures.known.1 zero some,
     )
+
+pub returns-in-Err-clause-held : goal.returns-in-Err-clause-held
+unfolding returns-in-Err-clause-more
+returns-in-Err-clause-held g c = (returns-in-Err-clause-more g c).held ∙ append-nil c.args.self.now.held

@@ -6,7 +6,7 @@ use Rattle.mseed_join.specs.private.Along.{IsBadBehind}
 use Rattle.mseed_join.specs.private.LineReading.{GoesOn, IsLineAhead}
 use Rattle.mseed_join.specs.private.Taking.{IsToldMore}
 use Rattle.mseed_join.proofs.Along.{looked, looked_few, whole_line, long_line, unended_line, lacking, has_ended}
-use Rattle.mseed_join.proofs.Along.{line_taken, some_read}
+use Rattle.mseed_join.proofs.Along.{fails, line_taken, some_read}
 use Rattle.mseed_join.proofs.reader.Reader.next.Goals as goal
 
 pub overflow_add-number : goal.overflow_add-number
@@ -22,6 +22,15 @@ take_line-requires-clause-parts g c =
     let l = looked known.0 known.1 (g.R.Source.read c.args.source.now) (g.R.Source.read c.look.new.source) _ _
     known.2 c.args.self.now c.look.new.self known.3 c.look.ensures.more (c.look.ensures.along known.1 known.3.by) in
     omega (arith, (looked_few _ _ _ _ _ _ l c.lines-number.ensures.few).0)
+
+pub returns-in-Err-clause-step : goal.returns-in-Err-clause-step
+returns-in-Err-clause-step g c = λ past h s along.
+    let now : BytesRead = g.R.Source.read c.look.new.source in
+    let l = looked past h (g.R.Source.read c.args.source.now) now _ _ s c.args.self.now c.look.new.self along
+    c.look.ensures.more (c.look.ensures.along h along.by) in (
+      c.in-Err.ensures.fault h along.by along.goes_on,
+      fails past h now s c.look.new.self c.args.self.now.joint l c.in-Err.ensures.open,
+    )
 
 pub returns-in-Ok-take_line-clause-step : goal.returns-in-Ok-take_line-clause-step
 returns-in-Ok-take_line-clause-step g c = λ past h s along.
