@@ -94,10 +94,14 @@ packs_more s o records first n b h inside one =
       each = each_more (IsPacked s o) h.pieces p h.each one;
     }
 
+-- no record
+pub packs_none : (s : Trace) (o : Options) → PacksUpTo s o [] s.samples
+packs_none s o = record { pieces = []; bytes = refl; joined = refl; placed = tt; each = tt }
+
 pub took_none : (s : Trace) (o : Options) (written : BytesWritten) → TookSo s o 0 0 written written
 took_none s o written = record {
   records = [];
-  packing = record { pieces = []; bytes = refl; joined = refl; placed = tt; each = tt };
+  packing = packs_none s o;
   count_is = refl;
   long = omega arith;
   bytes = sym (append-nil written.bytes);

@@ -1,7 +1,7 @@
 -- What is so of the series of a channel's records.
-use Rattle.std.proofs.Common.{◌≡◌, ◌≢◌, ℕ, zero, suc, ℤ, pos, negsuc, ◌+◌, ◌-◌, ◌*◌, ◌/◌, ◌^◌, ◌<◌, ◌≤◌, ◌+ℤ◌, ◌-ℤ◌}
+use Rattle.std.proofs.Common.{◌≡◌, ◌≢◌, ℕ, zero, suc, ℤ, pos, negsuc, ◌+◌, ◌*◌, ◌/◌, ◌^◌, ◌<◌, ◌≤◌, ◌+ℤ◌, ◌-ℤ◌}
 use Rattle.std.proofs.Common.{List, [], ◌∷◌, ◌++◌, length, get_or, Bool, true, false, cond, Option, Some, None, IsSome}
-use Rattle.std.proofs.Common.{FitsSigned, refl, sym, ap, subst, ◌∙◌, arith, length-append}
+use Rattle.std.proofs.Common.{FitsSigned, sym, ap, subst, ◌∙◌, arith, length-append}
 use Rattle.std.specs.Prelude.{slice_range, flat_map, neg_ℤ, ◌≤ℤ◌, ◌*ℤ◌}
 use Rattle.std.specs.Int.{w16}
 use Rattle.std.specs.List.{filter, AllByRecursion}
@@ -14,7 +14,7 @@ use Rattle.mseed_time.specs.declared.fault.TimeFault.{TimeFault}
 use Rattle.mseed_time.specs.declared.order.Order.{Order}
 use Rattle.mseed_time.specs.declared.order.Order.TheVariants.{Big, Little}
 use Rattle.mseed_time.specs.declared.outcome.LeapStep.{LeapStep}
-use Rattle.mseed_time.specs.Btime.{Parts, IsInstant, IsTime, day_of, days_in_year, is_leap, microsecond_of}
+use Rattle.mseed_time.specs.Btime.{Parts, IsInstant, day_of, days_in_year, is_leap}
 use Rattle.mseed_time.specs.Fields.{number_at}
 use Rattle.mseed_time.specs.Naming.{Names}
 use Rattle.mseed_time.specs.Rate.{Ratio, rate_of}
@@ -26,11 +26,11 @@ use Rattle.mseed_steim.specs.Reading.{count_of}
 use Rattle.mseed_stream.proofs.Records.{view_record}
 use Rattle.mseed_audit.specs.Channels.{is_of}
 use Rattle.mseed_audit.specs.Follows.{IsContinuous, IsSound}
-use Rattle.mseed_audit.specs.Judging.{known_rate, rate_unless, rate_in, time_fault_of, step_in}
+use Rattle.mseed_audit.specs.Judging.{rate_unless, rate_in, time_fault_of, step_in}
 use Rattle.mseed_audit.specs.Series.{Trace, AreJoined, none, one, AreStepsFrom, AreSteps, IsSeriesOf, step_at}
 use Rattle.mseed_audit.specs.Series.{steps_from}
 use Rattle.mseed_audit.proofs.Joined.{count_is}
-use Rattle.mseed_pack.specs.Clock.{added_before, instant_at, periods}
+use Rattle.mseed_pack.specs.Clock.{added_before, instant_at}
 use Rattle.mseed_pack.specs.Fitting.{Fits}
 use Rattle.mseed_pack.specs.Outcome.{IsTrace}
 use Rattle.mseed_pack.specs.Packing.{IsPacked, IsPacking, Piece, ArePlaced}

@@ -51,6 +51,14 @@ pub record TookAll (s : Trace) (o : Options) (count : ℕ) (old new : BytesWritt
   pub bytes : new.bytes ≡ old.bytes ++ concat records
   pub failures : new.failures ≡ old.failures
 
+-- The records that the series is packed into, so many, stand in a room, as many bytes of them as it has. What lies
+-- behind them is what was there.
+pub record FillsRoom (s : Trace) (o : Options) (count : ℕ) (old new : List ℕ) : Type 0 where
+  pub records : List (List ℕ)
+  pub packing : IsPacking s o records
+  pub count_is : count ≡ length records
+  pub bytes : new ≡ take (length old) (concat records) ++ drop (length (concat records)) old
+
 -- The sink failed, once it had taken so many bytes of records that the series is packed into: all of those before the
 -- last, and of that a part.
 pub record TookPrefix (s : Trace) (o : Options) (taken : ℕ) (old new : BytesWritten) : Type 0 where

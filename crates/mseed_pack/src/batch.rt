@@ -1,5 +1,5 @@
 //! Records that are gathered, to be written at once.
-ghost use Rattle.std.specs.Prelude.{◌≡◌, ◌^◌, ◌%◌, ◌<◌, ◌≤◌, length, take};
+ghost use Rattle.std.specs.Prelude.{◌≡◌, ◌^◌, ◌%◌, ◌<◌, ◌≤◌, length, take, drop};
 ghost use Rattle.mseed_audit.specs.Series.{AreSteps};
 ghost use Rattle.mseed_pack.specs.private.Filling.{HoldsDifferences};
 ghost use Rattle.mseed_pack.specs.Fitting.{Fits};
@@ -60,6 +60,7 @@ pub(crate) fn gather(
     ensures on { PacksOn (trace_of series.now) options.now place result.next (take result.bytes out.new) }
     ensures some { place.first < result.next.first }
     ensures within { result.bytes ≤ length out.new }
+    ensures behind { drop result.bytes out.new ≡ drop result.bytes out.old }
 {
     let length = length_of(options);
     let mut next = place;

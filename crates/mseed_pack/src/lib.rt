@@ -10,6 +10,7 @@ mod fitting;
 mod frames;
 mod integers;
 mod law;
+mod lent;
 mod options;
 mod packing;
 mod payload;
@@ -24,6 +25,7 @@ pub use law::{
     a_packing_exists, a_stretch_keeps_time, a_stretch_reads_back, archive_reads_back,
     called_continuous, fewest_words, one_length, one_misfit, one_packing, one_prefix, reads_back,
 };
+pub use lent::pack_into;
 pub use options::{BadOption, Encoding, Options};
 pub use packing::{Packer, pack, pack_fitting, pack_view};
 pub use series_view::SeriesView;

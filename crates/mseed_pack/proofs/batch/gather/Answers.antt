@@ -1,5 +1,7 @@
-use Rattle.std.proofs.Common.{◌≡◌, ◌+◌, ◌-◌, ◌≤◌, ◌++◌, ◌∙◌, sym, subst, arith, rules, length, take, List, ℕ}
-use Rattle.std.proofs.lemmas.Slice.{take-put_mid}
+use Rattle.std.proofs.Common.{◌≡◌, ◌+◌, ◌-◌, ◌≤◌, ◌++◌, ◌∙◌, sym, subst, ap, arith, rules, refl, length, take}
+use Rattle.std.proofs.Common.{drop, List, ℕ}
+use Rattle.std.proofs.lemmas.List.{drop-drop}
+use Rattle.std.proofs.lemmas.Slice.{take-put_mid, drop-put_mid}
 use borrow.Rule.Slice.PartMut.{put_mid}
 use Rattle.mseed_pack.specs.Outcome.{PacksOn}
 use Rattle.mseed_pack.specs.Traces.{trace_of}
@@ -14,6 +16,7 @@ loop-out-init c = record {
   within = omega arith;
   order = omega arith;
   some = omega arith;
+  behind = refl;
 }
 
 pub loop-out-preserved : goal.loop-out-preserved
@@ -37,6 +40,13 @@ loop-out-preserved c =
     let prefix : take (l.bytes + size) (put_mid l.bytes (l.bytes + size - l.bytes) l.out buf) ≡ take l.bytes l.out
     ++ buf = take-put_mid l.bytes (l.bytes + size - l.bytes) l.out buf (l.bytes + size) (omega (arith, buf_long))
     (omega (arith, within)) in
+    let further : drop size (drop l.bytes l.out) ≡ drop size (drop l.bytes c.args.out.now) =
+    ap (λ (b : List ℕ). drop size b) l.invariant.behind in
+    let stays : drop (l.bytes + size) (put_mid l.bytes (l.bytes + size - l.bytes) l.out buf) ≡ drop (l.bytes + size)
+    c.args.out.now =
+    drop-put_mid l.bytes (l.bytes + size - l.bytes) l.out buf (l.bytes + size) (omega arith) (omega (arith, within))
+    (omega (arith, buf_long)) ∙ sym (drop-drop size l.bytes l.out) ∙ further
+    ∙ drop-drop size l.bytes c.args.out.now in
     record {
       held = c.put_record-next.ensures.held;
       standing = c.put_record-next.ensures.standing;
@@ -45,6 +55,7 @@ loop-out-preserved c =
       within = omega (arith, kept, room);
       order = omega (arith, order, more);
       some = omega (arith, order, some, more, short);
+      behind = stays;
     }
 
 pub put_record-next-requires-clause-more : goal.put_record-next-requires-clause-more

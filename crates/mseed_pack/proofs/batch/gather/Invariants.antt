@@ -1,4 +1,4 @@
-use Rattle.std.proofs.Common.{◌≤◌, ◌*◌, ◌-◌, length, take}
+use Rattle.std.proofs.Common.{◌≡◌, ◌≤◌, ◌*◌, ◌-◌, length, take, drop}
 use Rattle.mseed_pack.specs.private.Filling.{HoldsDifferences}
 use Rattle.mseed_pack.specs.Outcome.{PacksOn}
 use Rattle.mseed_pack.specs.private.Standing.{StandsAt}
@@ -13,6 +13,7 @@ invariant-loop-out l = record {
   within : l.bytes ≤ length l.out;
   order : l.fn.place.first ≤ l.next.first;
   some : l.bytes ≤ 4096 * (l.next.first - l.fn.place.first);
+  behind : drop l.bytes l.out ≡ drop l.bytes l.fn.out;
 }
 
 abbrev pub decreases-loop-out : goal.decreases-loop-out

@@ -1,0 +1,74 @@
+//! Packing into a room that the caller lends.
+ghost use Rattle.std.specs.Prelude.{◌≡◌, ◌≤◌, ◌<◌, ◌++◌, List, ℕ, length, take, drop};
+ghost use Rattle.mseed_audit.specs.Series.{AreSteps};
+ghost use Rattle.mseed_pack.specs.private.Filling.{HoldsDifferences};
+ghost use Rattle.mseed_pack.specs.Fitting.{Fits};
+ghost use Rattle.mseed_pack.specs.Outcome.{FillsRoom, PacksOn};
+ghost use Rattle.mseed_pack.specs.private.Standing.{StandsAt};
+ghost use Rattle.mseed_pack.specs.Traces.{trace_of};
+
+use crate::batch::{Batch, Place, first_place, gather};
+use crate::options::Options;
+use crate::series_view::SeriesView;
+use crate::window::Window;
+
+/// The bytes of the longest record.
+const LONGEST: usize = 4096;
+
+/// [`pack_fitting`](crate::pack_fitting) into a room, which takes as many bytes of the records as it has, and answers
+/// how many records there are. What lies behind them stays as it was. The numbers of samples before its leap seconds
+/// rise strictly, from 1 to at most the number of samples.
+pub fn pack_into(series: &SeriesView, options: &Options, room: &mut [u8]) -> u64
+    requires fits { Fits (trace_of series.now) options.now }
+    requires steps { AreSteps (length series.now.samples.now) series.now.steps.now }
+    ensures { FillsRoom (trace_of series.now) options.now result room.old room.new }
+{
+    let mut records = [0; LONGEST];
+    let mut window = Window::new();
+    let mut place = first_place(series);
+    let mut filled = 0;
+    while place.first < series.samples.len() {
+        let left = &mut room[filled..];
+        let batch = fill_on(series, options, place, &mut window, &mut records, left);
+        filled += batch.bytes.min(room.len() - filled);
+        place = batch.next;
+    }
+    place.number
+}
+
+/// Packs from a place on into what is left of the room; or through these bytes, where a record could be longer.
+fn fill_on(
+    series: &SeriesView,
+    options: &Options,
+    place: Place,
+    window: &mut Window,
+    records: &mut [u8],
+    room: &mut [u8],
+) -> Batch
+    requires fits { Fits (trace_of series.now) options.now }
+    requires standing { StandsAt series.now.steps.now (length series.now.samples.now) place }
+    requires more { place.first < length series.now.samples.now }
+    requires long { 4096 ≤ length records.old }
+    requires held { HoldsDifferences series.now.samples.now window.old }
+    ensures held { HoldsDifferences series.now.samples.now window.new }
+    ensures standing { StandsAt series.now.steps.now (length series.now.samples.now) result.next }
+    ensures some { place.first < result.next.first }
+    ensures on { (bytes : List ℕ) × (PacksOn (trace_of series.now) options.now place result.next bytes
+        × (room.new ≡ take (length room.old) bytes ++ drop (length bytes) room.old)
+        × (result.bytes ≡ length bytes)) }
+{
+    if LONGEST <= room.len() {
+        return gather(series, options, place, window, room);
+    }
+    let batch = gather(series, options, place, window, records);
+    overwrite(&records[..batch.bytes], room);
+    batch
+}
+
+/// Writes bytes over a room, as many of them as there is room for. What lies behind them stays.
+fn overwrite(bytes: &[u8], room: &mut [u8])
+    ensures { room.new ≡ take (length room.old) bytes.now ++ drop (length bytes.now) room.old }
+{
+    let shown = bytes.len().min(room.len());
+    room[..shown].copy_from_slice(&bytes[..shown]);
+}
