@@ -8,3 +8,7 @@ pub mod Outlines
 pub mod Judged
 pub mod Written
 pub mod ReadBack
+pub mod Fronts
+pub mod Cutting
+pub mod Stretched
+pub mod Restretched

@@ -1,4 +1,5 @@
 pub mod Repack
 pub mod OneRepacking
 pub mod ReadBack
+pub mod Restretch
 pub mod private

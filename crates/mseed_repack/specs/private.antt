@@ -2,4 +2,5 @@
 pub mod Outline
 pub mod Reading
 pub mod Repacking
+pub mod Restretching
 pub mod Trails

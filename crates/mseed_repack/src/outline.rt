@@ -78,7 +78,11 @@ pub(crate) fn outline_channel(
 }
 
 /// The outline with one more record, which is sound.
-fn outline_record(view: &RecordView, before: Outline, steps: &mut [(u64, LeapStep)]) -> Outline
+pub(crate) fn outline_record(
+    view: &RecordView,
+    before: Outline,
+    steps: &mut [(u64, LeapStep)],
+) -> Outline
     requires sound { IsSound (view_of view.now) }
     requires few { before.samples + count_of (view_of view.now) < 2 ^ 64 }
     requires steps_fit { before.steps + step_count (view_of view.now) ≤ length steps.old }

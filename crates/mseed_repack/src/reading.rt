@@ -61,7 +61,7 @@ pub(crate) fn read_channel(
 }
 
 /// Reads the samples of a sound record, and the leap second that it bears, behind those that were read.
-fn read_record(
+pub(crate) fn read_record(
     view: &RecordView,
     before: Read,
     samples: &mut [i32],

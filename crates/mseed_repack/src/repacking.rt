@@ -168,14 +168,14 @@ fn repack_along<A: Allocator + Copy, W: Sink>(
 }
 
 /// So many samples.
-fn zeros<A: Allocator + Copy>(alloc: A, count: usize) -> Result<Vec<i32, A>, AllocError>
+pub(crate) fn zeros<A: Allocator + Copy>(alloc: A, count: usize) -> Result<Vec<i32, A>, AllocError>
     ensures { IfOk result (λ samples. length samples.items ≡ count) }
 {
     Ok(vec![in alloc; 0; count]?)
 }
 
 /// So many leap seconds.
-fn blank_steps<A: Allocator + Copy>(
+pub(crate) fn blank_steps<A: Allocator + Copy>(
     alloc: A,
     count: usize,
 ) -> Result<Vec<(u64, LeapStep), A>, AllocError>

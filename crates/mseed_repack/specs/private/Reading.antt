@@ -5,17 +5,12 @@ use Rattle.mseed_time.specs.declared.outcome.LeapStep.{LeapStep}
 use Rattle.mseed_time.specs.declared.rate.Rate.{Rate}
 use Rattle.mseed_record.specs.Header.{factor_at, multiplier_at}
 use Rattle.mseed_record.specs.View.{View, leap_of}
-use Rattle.mseed_steim.specs.Reading.{count_of}
 use Rattle.mseed_audit.specs.Channels.{is_of}
 use Rattle.mseed_audit.specs.Judging.{step_in}
 use Rattle.mseed_audit.specs.Series.{HoldsAll, step_at}
+pub use Rattle.mseed_stretches.specs.Stretches.{samples_of}
 use Rattle.mseed_audit.specs.declared.verdict.Verdict.{Verdict}
 use Rattle.mseed_audit.specs.declared.verdict.Verdict.TheVariants.{Continuous, Broken}
-
--- how many samples records have
-abbrev pub samples_of : List View → ℕ
-samples_of [] = 0
-samples_of (v ∷ vs) = count_of v + samples_of vs
 
 -- how many leap seconds a record bears: one, or none
 abbrev pub step_count : View → ℕ

@@ -1,0 +1,79 @@
+-- The series of a stretch, and whether it fits.
+use Rattle.std.proofs.Common.{◌≡◌, ℕ, ◌+◌, ◌%◌, ◌<◌, ℤ, List, [], ◌∷◌}
+use Rattle.std.proofs.Common.{sym, subst, ap, ◌∙◌, refl, arith, Result, Ok, Err, OnOk, IfErr, All}
+use Rattle.mseed_time.specs.declared.outcome.LeapStep.{LeapStep}
+use Rattle.mseed_record.specs.View.{View}
+use Rattle.mseed_audit.specs.Series.{Trace, IsSeriesOf}
+use Rattle.mseed_stretches.specs.Clocks.{IsStretchOf}
+use Rattle.mseed_stretches.specs.declared.stretch.Stretch.{Stretch}
+use Rattle.mseed_pack.specs.Stretches.{differences}
+use Rattle.mseed_pack.specs.Fitting.{Fits, IsDifferenceOf, IsMisfit, IsSampleOf}
+use Rattle.mseed_pack.specs.declared.options.Encoding.{Encoding}
+use Rattle.mseed_pack.specs.declared.fault.PackFault.{PackFault}
+use Rattle.mseed_pack.specs.declared.options.Options.{Options}
+use Rattle.mseed_repack.specs.Restretch.{IsNumberedOn, StretchFits, StretchMisfits}
+use Rattle.mseed_repack.specs.private.Reading.{AreOf}
+
+pub series_is : (s : Stretch) (vs : List View) (xs : List ℤ) (ss : List (ℕ × LeapStep)) → IsStretchOf s vs
+    → AreOf s.codes vs xs ss
+    → IsSeriesOf (record { codes = s.codes; start = s.start; rate = s.rate; samples = xs; steps = ss }) vs
+series_is s [] xs ss is are = absurd is
+series_is s (first ∷ rest) xs ss is are =
+    let all = are s.start s.rate in
+    record {
+      first = first;
+      rest = rest;
+      parts = refl;
+      codes = is.codes_is;
+      start = is.start_is;
+      factor = is.factor_is;
+      multiplier = is.multiplier_is;
+      samples = all.samples;
+      steps = all.steps;
+    }
+
+pub fits_as : {U : Type 0} (r : Result U PackFault) (o : Options) (vs : List View) (s : Trace)
+    → IsSeriesOf s vs → OnOk r (Fits s o) → OnOk r (StretchFits o vs)
+fits_as (Ok u) o vs s series fits = record { trace = s; series = series; fits = fits }
+fits_as (Err e) o vs s series fits = tt
+
+pub misfits_as : {U : Type 0} (r : Result U PackFault) (o : Options) (vs : List View) (s : Trace)
+    → IsSeriesOf s vs → IfErr r (λ f. IsMisfit s o f) → IfErr r (λ f. StretchMisfits o f vs)
+misfits_as (Ok u) o vs s series misfit = tt
+misfits_as (Err f) o vs s series misfit = record { trace = s; series = series; misfit = misfit }
+
+-- what fits doesn't depend on the sequence number
+pub fits_on : (o next : Options) (n : ℕ) (vs : List View) → IsNumberedOn o n next → StretchFits o vs
+    → StretchFits next vs
+fits_on o next n vs on h = record {
+  trace = h.trace;
+  series = h.series;
+  fits = record {
+    some = h.fits.some;
+    slow = h.fits.slow;
+    timed = h.fits.timed;
+    samples = subst (λ (e : Encoding). All (IsSampleOf e) h.trace.samples) (sym on.encoding_is) h.fits.samples;
+    differences_fit = subst (λ (e : Encoding). All (IsDifferenceOf e) (differences h.trace.samples))
+        (sym on.encoding_is) h.fits.differences_fit;
+  };
+}
+
+-- sequence numbers run on
+
+wraps : (a n c : ℕ) → ((a + n) % 1_000_000 + c) % 1_000_000 ≡ (a + (n + c)) % 1_000_000
+wraps a n c = omega arith
+
+kept : (a : ℕ) → a < 1_000_000 → a ≡ (a + 0) % 1_000_000
+kept a few = omega (arith, few)
+
+pub on_none : (o : Options) → o.first_sequence < 1_000_000 → IsNumberedOn o 0 o
+on_none o few = record { exponent_is = refl; encoding_is = refl; sequence_is = kept o.first_sequence few }
+
+pub on_more : (o next further : Options) (n c : ℕ) → IsNumberedOn o n next → IsNumberedOn next c further
+    → IsNumberedOn o (n + c) further
+on_more o next further n c first then = record {
+  exponent_is = then.exponent_is ∙ first.exponent_is;
+  encoding_is = then.encoding_is ∙ first.encoding_is;
+  sequence_is = then.sequence_is ∙ ap (λ (m : ℕ). (m + c) % 1_000_000) first.sequence_is
+      ∙ wraps o.first_sequence n c;
+}

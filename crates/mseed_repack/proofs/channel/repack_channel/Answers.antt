@@ -1,0 +1,15 @@
+use Rattle.std.proofs.Common.{refl, sym, ◌∙◌}
+use Rattle.std.proofs.lemmas.Bool.{false≢true}
+use Rattle.mseed_repack.proofs.channel.repack_channel.Goals as goal
+
+pub returns-then-not-are_sound : goal.returns-then-not-are_sound
+returns-then-not-are_sound g c = (
+  λ sound. false≢true (sym c.if-not-are_sound.true ∙ c.are_sound.ensures.1 sound),
+  refl,
+)
+
+pub longest_stretch-requires-clause-sound : goal.longest_stretch-requires-clause-sound
+longest_stretch-requires-clause-sound g c = c.are_sound.ensures.0 c.if-not-are_sound.false
+
+pub repack_within-requires-clause-sound : goal.repack_within-requires-clause-sound
+repack_within-requires-clause-sound g c = c.are_sound.ensures.0 c.if-not-are_sound.false

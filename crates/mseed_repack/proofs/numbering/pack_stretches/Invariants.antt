@@ -1,0 +1,10 @@
+use Rattle.std.proofs.Common.{◌-◌, length}
+use Rattle.mseed_repack.proofs.Restretched.{IsPackedSo}
+use Rattle.mseed_repack.proofs.numbering.pack_stretches.Given as goal
+
+abbrev pub invariant-loop-from : goal.invariant-loop-from
+invariant-loop-from g l =
+    IsPackedSo l.options l.records l.from l.next (g.W.Sink.written l.fn.output) (g.W.Sink.written l.output)
+
+abbrev pub decreases-loop-from : goal.decreases-loop-from
+decreases-loop-from g l = length l.records - l.from

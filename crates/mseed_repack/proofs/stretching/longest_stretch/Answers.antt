@@ -1,0 +1,43 @@
+use Rattle.std.proofs.Common.{◌≡◌, ◌≤◌, ◌^◌, List, arith, map, take, drop}
+use Rattle.mseed_steim.proofs.Fullest.{max_is}
+use Rattle.mseed_record.specs.View.{View}
+use Rattle.mseed_record.specs.Viewing.{view_of}
+use Rattle.mseed_audit.specs.Follows.{IsSound}
+use Rattle.mseed_stretches.specs.Clocks.{IsStretchOf}
+use Rattle.mseed_repack.specs.private.Reading.{samples_of}
+use Rattle.mseed_repack.proofs.Cutting.{cut_none, each_sliced, few_sliced, inside_sliced, of_cut, room_next}
+use Rattle.mseed_repack.proofs.Cutting.{samples_kept, sliced, some_sliced, within_is}
+use Rattle.mseed_repack.proofs.stretching.longest_stretch.Goals as goal
+
+pub loop-from-init : goal.loop-from-init
+loop-from-init c = cut_none (λ (s : List View). samples_of s ≤ 0) c.args.records.now
+
+pub first_stretch-stretch-requires-clause-some : goal.first_stretch-stretch-requires-clause-some
+first_stretch-stretch-requires-clause-some c =
+    some_sliced c.args.records.now c.loop-from.from c.loop-from-test.true
+
+pub first_stretch-stretch-requires-clause-few : goal.first_stretch-stretch-requires-clause-few
+first_stretch-stretch-requires-clause-few c =
+    few_sliced c.args.records.now c.loop-from.from (2 ^ 40) c.requires.few
+
+pub first_stretch-stretch-requires-clause-sound : goal.first_stretch-stretch-requires-clause-sound
+first_stretch-stretch-requires-clause-sound c =
+    each_sliced IsSound c.args.records.now c.loop-from.from c.requires.sound
+
+pub loop-from-preserved : goal.loop-from-preserved
+loop-from-preserved c =
+    let rs = c.args.records.now in
+    let from = c.loop-from.from in
+    let s = c.first_stretch-stretch.result in
+    let top = max_is c.loop-from.most s.samples c.max-most.result c.max-most.ensures in
+    let kept = of_cut (λ (vs : List View). IsStretchOf s vs) rs from s.records c.first_stretch-stretch.ensures.kept in
+    let size : s.samples ≡ samples_of (map view_of (take s.records (drop from rs))) =
+    samples_kept s (map view_of (take s.records (drop from rs))) kept in
+    room_next rs from s.records c.loop-from.most c.max-most.result c.loop-from.invariant
+    (sliced rs from s.records c.first_stretch-stretch.ensures.first)
+    (inside_sliced rs from s.records c.first_stretch-stretch.ensures.inside) top.0 (omega (arith, size, top.1))
+
+pub returns : goal.returns
+returns c =
+    within_is c.args.records.now c.loop-from.from c.loop-from.most (omega (arith, c.loop-from-test.false))
+    c.loop-from.invariant

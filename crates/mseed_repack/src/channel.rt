@@ -1,0 +1,103 @@
+//! A channel packed anew by its stretches.
+ghost use Rattle.std.specs.Prelude.{◌≡◌, ◌↔◌, ◌≤◌, ◌^◌, IsTrue, length, map};
+ghost use Rattle.std.specs.List.{AllByRecursion};
+ghost use Rattle.mseed_record.specs.Viewing.{view_of};
+ghost use Rattle.mseed_audit.specs.Follows.{IsSound};
+ghost use Rattle.mseed_repack.specs.private.Reading.{steps_of};
+ghost use Rattle.mseed_repack.specs.private.Restretching.{AreStretchesWithin};
+ghost use Rattle.mseed_repack.specs.Restretch.{IsChannelRepacking};
+
+use crate::channel_fault::ChannelFault;
+use crate::fitting::fit_stretches;
+use crate::numbering::pack_stretches;
+use crate::reading::count_steps;
+use crate::repacking::{blank_steps, zeros};
+use crate::stretching::longest_stretch;
+use mseed_pack::{Options, Packer};
+use mseed_record::RecordView;
+use mseed_stream::Sink;
+use mseed_stretches::is_sound;
+use mseed_time::LeapStep;
+use std::alloc::Allocator;
+
+/// Packs the records of one channel, in their order, anew: stretch by stretch, each from its own start, with sequence
+/// numbers that run on. All stretches are known to fit before the first byte is written. Memory is asked for once: for
+/// the samples of the largest stretch and for all leap seconds.
+///
+/// # Errors
+///
+/// `Broken` where a record has no samples or a finding of its own, else `Misfit` for the first stretch that can't be
+/// packed; `Write` where the output failed, of which a part may have been written; `Memory` where an allocation was
+/// refused.
+pub fn repack_channel<A: Allocator + Copy, W: Sink>(
+    alloc: A,
+    records: &[RecordView],
+    options: &Options,
+    output: &mut W,
+) -> Result<(), ChannelFault>
+    requires few { length records.now ≤ 2 ^ 40 }
+    ensures { IsChannelRepacking options.now (map view_of records.now) result
+        (W.written output.old) (W.written output.new) }
+{
+    if !are_sound(records) {
+        return Err(ChannelFault::Broken);
+    }
+    let mut samples = match zeros(alloc, longest_stretch(records)) {
+        Ok(samples) => samples,
+        Err(_) => return Err(ChannelFault::Memory),
+    };
+    let mut steps = match blank_steps(alloc, count_steps(records)) {
+        Ok(steps) => steps,
+        Err(_) => return Err(ChannelFault::Memory),
+    };
+    repack_within(records, options, &mut samples, &mut steps, output)
+}
+
+/// The same of sound records, with lists that have room for the samples of one stretch and for
+/// the leap seconds of all.
+fn repack_within<W: Sink>(
+    records: &[RecordView],
+    options: &Options,
+    samples: &mut [i32],
+    steps: &mut [(u64, LeapStep)],
+    output: &mut W,
+) -> Result<(), ChannelFault>
+    requires few { length records.now ≤ 2 ^ 40 }
+    requires sound { AllByRecursion IsSound (map view_of records.now) }
+    requires samples_fit { AreStretchesWithin (length samples.old) (map view_of records.now) }
+    requires steps_fit { steps_of (map view_of records.now) ≤ length steps.old }
+    ensures { IsChannelRepacking options.now (map view_of records.now) result
+        (W.written output.old) (W.written output.new) }
+{
+    match fit_stretches(records, options, samples, steps) {
+        Ok(()) => {}
+        Err(misfit) => return Err(ChannelFault::Misfit(misfit.number, misfit.fault)),
+    }
+    let mut packer = Packer::new();
+    match pack_stretches(records, options, samples, steps, &mut packer, output) {
+        Ok(()) => Ok(()),
+        Err(_) => Err(ChannelFault::Write),
+    }
+}
+
+/// Whether each of some records is sound.
+fn are_sound(records: &[RecordView]) -> bool
+    ensures { IsTrue result ↔ AllByRecursion IsSound (map view_of records.now) }
+{
+    for view in records {
+        if !is_sound_record(view) {
+            return false;
+        }
+    }
+    true
+}
+
+/// Whether a record has samples and no finding of its own.
+fn is_sound_record(view: &RecordView) -> bool
+    ensures { IsTrue result ↔ IsSound (view_of view.now) }
+{
+    if view.samples() == 0 {
+        return false;
+    }
+    is_sound(view)
+}
