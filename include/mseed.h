@@ -15,8 +15,8 @@
  * - A struct that is passed in is set before, also where the call only writes it: by memset to 0, say.
  * - No call is made from a signal handler, or in a child that a process with threads forked.
  *
- * Memory is asked of malloc by mseed_audit, mseed_audit_each, mseed_part and mseed_pack, and given back before they
- * return; the others ask for none. Where malloc refuses, the call answers MSEED_NO_MEMORY and has written nothing.
+ * Memory is asked of malloc by mseed_audit, mseed_audit_each and mseed_part, and given back before they return; the
+ * others ask for none. Where malloc refuses, the call answers MSEED_NO_MEMORY and has written nothing.
  *
  * The library is for machines with 64-bit pointers whose bytes are little-endian (x86-64). Link with -lmseed_c, or by
  * pkg-config --cflags --libs mseed.
@@ -231,9 +231,9 @@ uint32_t mseed_samples (const uint8_t *record, size_t size, int32_t *samples, si
 /* Packs a series into records, as much of them as there is room for: packed->records times heading->length are all
  * bytes of them. Room 0 asks for the number. What lies behind them stays as it was.
  *
- * Answers MSEED_OK; MSEED_BAD_LENGTH to MSEED_BAD_LEAP, the first that applies; MSEED_EMPTY to
- * MSEED_DIFFERENCE_TOO_LARGE, the first that applies; or MSEED_NO_MEMORY. Without MSEED_OK no record is written. packed
- * is written with MSEED_OK, and with MSEED_EMPTY to MSEED_DIFFERENCE_TOO_LARGE.
+ * Answers MSEED_OK; MSEED_BAD_LENGTH to MSEED_BAD_LEAP, the first that applies; or MSEED_EMPTY to
+ * MSEED_DIFFERENCE_TOO_LARGE, the first that applies. Without MSEED_OK no record is written. packed is written with
+ * MSEED_OK, and with MSEED_EMPTY to MSEED_DIFFERENCE_TOO_LARGE.
  */
 uint32_t mseed_pack (const mseed_heading *heading, const int32_t *samples, size_t nsamples, uint8_t *records,
                      size_t room, mseed_packed *packed);

@@ -5,7 +5,7 @@ import os
 from fractions import Fraction
 from typing import Any, Optional, Sequence, Tuple, Union
 
-from mseed._library import (DIFFERENCE_TOO_LARGE, LIBRARY, NO_MEMORY, OK, SAMPLE_TOO_LARGE, WORDS, Heading, Packed)
+from mseed._library import DIFFERENCE_TOO_LARGE, LIBRARY, OK, SAMPLE_TOO_LARGE, WORDS, Heading, Packed
 from mseed._memory import address_in, numpy, samples_from
 from mseed._trace import Trace
 
@@ -93,8 +93,6 @@ def pack(trace: Trace, *, length: int = 512, encoding: str = "steim2", sequence:
     while True:
         records = ctypes.create_string_buffer(room)
         code = LIBRARY.mseed_pack(ctypes.byref(heading), place, count, records, room, ctypes.byref(packed))
-        if code == NO_MEMORY:
-            raise MemoryError("mseed_pack had no memory")
         if code in (SAMPLE_TOO_LARGE, DIFFERENCE_TOO_LARGE):
             raise PackError(WORDS[code], packed.index)
         if code != OK:

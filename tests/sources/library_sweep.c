@@ -233,6 +233,53 @@ check_records (const uint8_t *archive, size_t size, int all_rooms, int at_end)
 }
 
 /* ---- packing */
+static uint8_t whole_packing[1 << 19];
+
+/* A room of a packing holds the first bytes of the whole, and the pattern behind them. */
+static void
+check_packing_room (const mseed_heading *heading, const int32_t *samples, size_t count, size_t size, size_t room,
+                    int at_end)
+{
+  mseed_packed *told = room_in (small_fence, sizeof *told, at_end);
+  uint8_t *records = room_in (records_fence, room, at_end);
+  size_t shown = room < size ? room : size;
+  calls++;
+  if (mseed_pack (heading, samples, count, records, room, told) != MSEED_OK || told->records * heading->length != size
+      || told->index != 0)
+    fail ("another answer of packing", room);
+  if (memcmp (records, whole_packing, shown) != 0 || !is_pattern (records + shown, room - shown))
+    fail ("another packing", room);
+}
+
+/* What was packed reads back; rooms of every size, where all of them are asked for, else those about the end. */
+static void
+check_packed (const mseed_heading *heading, const int32_t *samples, size_t count, int all_rooms, int at_end)
+{
+  mseed_packed *told = room_in (small_fence, sizeof *told, at_end);
+  uint8_t *records = room_in (records_fence, 0, at_end);
+  size_t size, room;
+  mseed_progress progress;
+  uint32_t code = mseed_pack (heading, samples, count, records, 0, told);
+  calls++;
+  if (count == 0 ? code != MSEED_EMPTY : code != MSEED_OK && code != MSEED_SAMPLE_TOO_LARGE
+      && code != MSEED_DIFFERENCE_TOO_LARGE)
+    fail ("another code of packing", code);
+  if (code != MSEED_OK)
+    return;
+  size = (size_t)told->records * heading->length;
+  code = mseed_pack (heading, samples, count, whole_packing, sizeof whole_packing, told);
+  calls++;
+  if (code != MSEED_OK || size > sizeof whole_packing)
+    fail ("another code of packing", code);
+  for (room = all_rooms || size == 0 ? 0 : size - 1; room <= size + 1; room++)
+    check_packing_room (heading, samples, count, size, room, at_end);
+  code = mseed_read (whole_packing, size, 0, all_rows, MOST_ROWS, all_samples + count, MOST_SAMPLES - count, &progress);
+  calls++;
+  if (code != MSEED_OK || progress.filled != count
+      || memcmp (all_samples + count, samples, count * sizeof *samples) != 0)
+    fail ("what was packed reads otherwise", heading->length);
+}
+
 static void
 check_packing (int at_end)
 {
@@ -248,38 +295,9 @@ check_packing (int at_end)
   for (k = 0; k < sizeof ENCODINGS; k++)
     for (length = 128; length <= 4096; length *= 2)
     {
-      mseed_packed *told = room_in (small_fence, sizeof *told, at_end);
-      uint8_t *records = room_in (records_fence, 0, at_end);
-      size_t size, room;
-      uint32_t code;
       heading.length = (uint16_t)length;
       heading.encoding = ENCODINGS[k];
-      code = mseed_pack (&heading, samples, count, records, 0, told);
-      calls++;
-      if (count == 0 ? code != MSEED_EMPTY : code != MSEED_OK && code != MSEED_SAMPLE_TOO_LARGE
-          && code != MSEED_DIFFERENCE_TOO_LARGE)
-        fail ("another code of packing", code);
-      if (code != MSEED_OK)
-        continue;
-      size = (size_t)told->records * length;
-      for (room = size - 1; room <= size + 1; room++)
-      {
-        size_t shown = room < size ? room : size;
-        mseed_progress progress;
-        told = room_in (small_fence, sizeof *told, at_end);
-        records = room_in (records_fence, room, at_end);
-        code = mseed_pack (&heading, samples, count, records, room, told);
-        calls++;
-        if (code != MSEED_OK || told->records * length != size || !is_pattern (records + shown, room - shown))
-          fail ("another packing", room);
-        if (room != size)
-          continue;
-        code = mseed_read (records, size, 0, all_rows, MOST_ROWS, all_samples + count, MOST_SAMPLES - count, &progress);
-        calls++;
-        if (code != MSEED_OK || progress.filled != count
-            || memcmp (all_samples + count, samples, count * sizeof *samples) != 0)
-          fail ("what was packed reads otherwise", length);
-      }
+      check_packed (&heading, samples, count, length == 512 || k == 3, at_end);
     }
 }
 

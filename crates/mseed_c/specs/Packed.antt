@@ -14,13 +14,12 @@ use Rattle.mseed_c.specs.declared.heading.Heading.{Heading}
 use Rattle.mseed_c.specs.declared.packing.Packed.{Packed}
 
 -- By the code: the records that the series is packed into stand in the room, as many bytes of them as it has; or the
--- series doesn't fit, and nothing was written; or memory was refused, and all stays.
+-- series doesn't fit, and nothing was written. No memory is asked for.
 pub data IsPackedInto (s : Trace) (o : Options) (old new : List ℕ) (before told : Packed) : ℕ → Type 0 where
   packed : (records : List (List ℕ)) → Fits s o → IsPacking s o records → new ≡ overwritten (concat records) old
       → told ≡ record { records = length records; index = 0 } → IsPackedInto s o old new before told 0
   misfit : (fault : PackFault) → IsMisfit s o fault → new ≡ old → told ≡ record { records = 0; index = index_of fault }
       → IsPackedInto s o old new before told (code_of_misfit fault)
-  no_memory : Fits s o → new ≡ old → told ≡ before → IsPackedInto s o old new before told 3
 
 -- the same of the series of a heading and samples; where the heading is refused, all stays
 pub data IsPackOutcome (h : Heading) (samples : List ℤ) (old new : List ℕ) (before told : Packed) : ℕ → Type 0 where

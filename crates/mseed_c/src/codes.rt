@@ -189,7 +189,7 @@ pub(crate) fn code_of_refusal(refusal: Refusal) -> u32
     }
 }
 
-/// The code of a series that can't be packed. A sink that takes its bytes into memory fails where there is none.
+/// The code of a series that can't be packed. There is no sink that could fail.
 pub(crate) fn code_of_misfit(fault: PackFault) -> u32
     ensures { result ≡ code_of_misfit fault }
 {

@@ -6,14 +6,11 @@ ghost use Rattle.mseed_c.specs.Heading.{HasLeap};
 ghost use Rattle.mseed_c.specs.Packed.{IsPackedInto, IsPackOutcome};
 ghost use Rattle.mseed_c.specs.private.Parts.{AreParts};
 
-use crate::codes::{MEMORY, code_of_misfit, code_of_refusal, index_of};
+use crate::codes::{code_of_misfit, code_of_refusal, index_of};
 use crate::heading::{Heading, Parts, parts_of};
-use crate::room::overwrite;
-use mseed_pack::{Options, SeriesView, fit_view, pack_fitting};
+use mseed_pack::{Options, SeriesView, fit_view, pack_into};
 use mseed_record::Codes;
-use mseed_stream::Counted;
 use mseed_time::LeapStep;
-use std::alloc::Global;
 
 /// What packing tells.
 #[repr(C)]
@@ -29,7 +26,6 @@ pub struct Packed {
 /// is told. The answer is 0, or the code of why there are none: then nothing is written.
 #[unsafe(no_mangle)]
 pub extern "C" fn mseed_pack(
-    alloc: Global,
     heading: &Heading,
     samples: &[i32],
     room: &mut [u8],
@@ -38,14 +34,13 @@ pub extern "C" fn mseed_pack(
     ensures { IsPackOutcome heading.now samples.now room.old room.new told.old told.new result }
 {
     match parts_of(heading, samples.len()) {
-        Ok(parts) => pack_parts(alloc, heading, &parts, samples, room, told),
+        Ok(parts) => pack_parts(heading, &parts, samples, room, told),
         Err(refusal) => code_of_refusal(refusal),
     }
 }
 
 /// Packs the series of a heading that was read.
 fn pack_parts(
-    alloc: Global,
     heading: &Heading,
     parts: &Parts,
     samples: &[i32],
@@ -56,14 +51,13 @@ fn pack_parts(
     ensures { IsPackOutcome heading.now samples.now room.old room.new told.old told.new result }
 {
     match parts.step {
-        Some(step) => pack_steps(alloc, heading, parts, samples, &[step], room, told),
-        None => pack_steps(alloc, heading, parts, samples, &[], room, told),
+        Some(step) => pack_steps(heading, parts, samples, &[step], room, told),
+        None => pack_steps(heading, parts, samples, &[], room, told),
     }
 }
 
 /// The same with these leap seconds.
 fn pack_steps(
-    alloc: Global,
     heading: &Heading,
     parts: &Parts,
     samples: &[i32],
@@ -82,17 +76,11 @@ fn pack_steps(
         samples,
         steps,
     };
-    pack_series(alloc, &series, &parts.options, room, told)
+    pack_series(&series, &parts.options, room, told)
 }
 
 /// Packs a series.
-fn pack_series(
-    alloc: Global,
-    series: &SeriesView,
-    options: &Options,
-    room: &mut [u8],
-    told: &mut Packed,
-) -> u32
+fn pack_series(series: &SeriesView, options: &Options, room: &mut [u8], told: &mut Packed) -> u32
     requires { AreSteps (length series.now.samples.now) series.now.steps.now }
     ensures { IsPackedInto (trace_of series.now) options.now room.old room.new told.old told.new result }
 {
@@ -103,13 +91,7 @@ fn pack_series(
         };
         return code_of_misfit(fault);
     }
-    let mut sink = Counted::new(Vec::new(alloc));
-    match pack_fitting(series, options, &mut sink) {
-        Ok(records) => {
-            overwrite(sink.get_ref(), room);
-            *told = Packed { records, index: 0 };
-            0
-        }
-        Err(_) => MEMORY,
-    }
+    let records = pack_into(series, options, room);
+    *told = Packed { records, index: 0 };
+    0
 }
