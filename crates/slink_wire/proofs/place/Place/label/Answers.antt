@@ -1,6 +1,6 @@
 use Rattle.std.proofs.Common.{◌≡◌, ◌++◌, ◌∷◌, List, ℕ, arith, sym, ap, ◌∙◌}
 use Rattle.std.proofs.lemmas.Grind.{common_steps}
-use Rattle.slink_wire.specs.Place.{Fields, IsCode, SpellsPlace, code_in, filled, fields_of, label_of}
+use Rattle.slink_wire.specs.Place.{Fields, IsCode, SpellsPlace, code_in, filled, label_of}
 use Rattle.slink_wire.proofs.place.Place.label.Goals as goal
 
 spells : (f : Fields) (items net sta : List ℕ) → items ≡ label_of f → net ≡ code_in f.network
