@@ -100,7 +100,7 @@ def killed_clients() -> Cases:
     while True:
         fetching = Fetching(fetch_words(places, server.port, TELL, wants=wants))
         if kills < 25:
-            time.sleep(source.random() * 0.02)
+            time.sleep(source.random() * 0.008)
             kills += fetching.process.poll() is None
             fetching.process.kill()
         status, output, errors = fetching.end()

@@ -109,7 +109,7 @@ def whole(folder: Path) -> Cases:
 
 def kills(folder: Path) -> Cases:
     """Runs that are killed at random moments, by what they have written or by time, and go on."""
-    source, records = Random(SEED), [record_of(STA, index) for index in range(40000)]
+    source, records = Random(SEED), [record_of(STA, index) for index in range(100000)]
     archive, out = b"".join(records), folder / "killed"
     server = Server(archive, [STA], "--capacity", len(records), "--connections", 1000000)
     given, ends, sizes = words(out, server.port, [STA]), [], []

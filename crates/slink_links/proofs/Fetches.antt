@@ -3,13 +3,11 @@ use Rattle.std.proofs.Common.{Bool, ◌≡◌, ◌⊎◌, ℕ, ◌+◌, ◌<◌,
 use Rattle.std.proofs.Common.{◌∷◌}
 use Rattle.std.proofs.Common.{◌++◌, append_assoc, append-nil, length, length-append, take, Option, Some, None, Result}
 use Rattle.std.proofs.Common.{Ok, Err, IfOk, IfErr}
-use Rattle.std.proofs.Math.Seq.{take-append-add}
 use Rattle.mseed_stream.specs.Device.{BytesRead, IsPrefixOf, BytesWritten, nothing_read, nothing_written}
 use Rattle.mseed_stream.specs.Exchanges.{Exchange, exchange}
 use Rattle.slink_feed.specs.declared.dialogue.Ending.{Ending}
 use Rattle.slink_feed.specs.declared.dialogue.Ending.TheVariants as endings
 use Rattle.slink_feed.specs.declared.dialogue.Event.{Event}
-use Rattle.slink_feed.specs.declared.dialogue.Event.TheVariants as events
 use Rattle.slink_feed.specs.declared.dialogue.Stage.{Stage}
 use Rattle.slink_feed.specs.declared.dialogue.Stage.TheVariants.{Unlinked, Station, Number, Packets, Ended}
 use Rattle.slink_feed.specs.declared.dialogue.Wanted.{Wanted}

@@ -9,9 +9,11 @@
 #![tactic(auto)]
 
 mod accept;
+mod ahead;
 mod closing;
 mod dial;
 mod fetching;
+mod gathering;
 mod host;
 mod patient;
 mod pause;

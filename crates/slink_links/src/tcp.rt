@@ -7,9 +7,11 @@ ghost use Rattle.slink_links.specs.Out.{AreOut};
 ghost use Rattle.slink_links.specs.Served.{HasServed};
 
 use crate::accept::Accept;
+use crate::ahead::Ahead;
 use crate::closing::close;
 use crate::dial::Dial;
 use crate::fetching::FetchEnd;
+use crate::gathering::Gathering;
 use crate::host::{Address, Host, Name, Timeout};
 use crate::patient::{Limits, Patient};
 use crate::pause::Sleeper;
@@ -36,7 +38,7 @@ fn socket_of(address: Address, port: u16) -> SocketAddr {
     SocketAddr::from((Ipv4Addr::from(address.octets), port))
 }
 
-/// The link over a new stream. Its bytes go out at once, where the stream can be told so.
+/// A new stream with its bounds. Its bytes go out at once, where the stream can be told so.
 ///
 /// # Errors
 ///
@@ -45,16 +47,21 @@ fn link_over<'a, C: Clock, S: OpenStream + Drop>(
     clock: &'a C,
     stream: S,
     limits: Limits,
-) -> io::Result<Counted<Patient<'a, C, S>>>
-    ensures { IfOk result (λ link. (read_by link ≡ nothing_read) × (written_by link ≡ nothing_written)) }
-{
+) -> io::Result<Patient<'a, C, S>> {
     let _ = stream.set_nodelay(true);
-    Ok(Counted::new(Patient::new(clock, stream, limits)?))
+    Patient::new(clock, stream, limits)
 }
 
-impl<C: Clock, S: Read + Write + OpenStream + Drop> Settle for Counted<Patient<'_, C, S>> {
+impl<C: Clock, S: Read + Write + OpenStream + Drop> Settle
+    for Counted<Gathering<Patient<'_, C, S>>> {
     fn settle(&self) {
-        self.get_ref().settle();
+        self.get_ref().stream().settle();
+    }
+}
+
+impl<C: Clock, S: Read + Write + OpenStream + Drop> Settle for Counted<Ahead<Patient<'_, C, S>>> {
+    fn settle(&self) {
+        self.get_ref().stream().settle();
     }
 }
 
@@ -193,7 +200,7 @@ impl<'a, N: Net + Clock> Listening<'a, N> {
     /// # Errors
     ///
     /// Where there is none.
-    fn next_link(&self) -> io::Result<Counted<Patient<'a, N, N::Stream>>>
+    fn next_link(&self) -> io::Result<Counted<Gathering<Patient<'a, N, N::Stream>>>>
         ensures { IfOk result (λ link. (read_by link ≡ nothing_read) × (written_by link ≡ nothing_written)) }
     {
         // A client that has said all may be silent for as long as it likes.
@@ -201,12 +208,13 @@ impl<'a, N: Net + Clock> Listening<'a, N> {
             all: self.timeout.limit(),
             reads: None,
         };
-        link_over(self.host, next_stream(&self.listener)?, limits)
+        let stream = link_over(self.host, next_stream(&self.listener)?, limits)?;
+        Ok(Counted::new(Gathering::new(stream)))
     }
 }
 
 impl<'a, N: Net + Clock> Accept for Listening<'a, N> {
-    type Link = Counted<Patient<'a, N, N::Stream>>;
+    type Link = Counted<Gathering<Patient<'a, N, N::Stream>>>;
 
     ghost calls = { λ l. l.tally.calls };
 
@@ -216,7 +224,7 @@ impl<'a, N: Net + Clock> Accept for Listening<'a, N> {
 
     ghost given_back = { λ l. l.given_back.all };
 
-    fn accept(&mut self) -> Option<Counted<Patient<'a, N, N::Stream>>> {
+    fn accept(&mut self) -> Option<Counted<Gathering<Patient<'a, N, N::Stream>>>> {
         match self.next_link() {
             Ok(link) => {
                 self.tally.record(&[], false);
@@ -229,10 +237,10 @@ impl<'a, N: Net + Clock> Accept for Listening<'a, N> {
         }
     }
 
-    fn hang_up(&mut self, link: Counted<Patient<'a, N, N::Stream>>, failed: bool) {
+    fn hang_up(&mut self, link: Counted<Gathering<Patient<'a, N, N::Stream>>>, failed: bool) {
         self.given_back.record(&link);
         self.lost.record(&[], failed);
-        close(self.host, link.into_inner().into_stream());
+        close(self.host, link.into_inner().into_stream().into_stream());
     }
 }
 
@@ -267,7 +275,7 @@ impl<'a, N: Net + Clock> Dialler<'a, N> {
     /// # Errors
     ///
     /// Where there is none.
-    fn next_link(&self) -> io::Result<Counted<Patient<'a, N, N::Stream>>>
+    fn next_link(&self) -> io::Result<Counted<Ahead<Patient<'a, N, N::Stream>>>>
         ensures { IfOk result (λ link. (read_by link ≡ nothing_read) × (written_by link ≡ nothing_written)) }
     {
         let limit = self.timeout.limit();
@@ -279,12 +287,12 @@ impl<'a, N: Net + Clock> Dialler<'a, N> {
             Host::Address(address) => stream_to(self.net, socket_of(*address, self.port), limit)?,
             Host::Name(name) => stream_to_name(self.net, name, self.port, limit)?,
         };
-        link_over(self.net, stream, limits)
+        Ok(Counted::new(Ahead::new(link_over(self.net, stream, limits)?)))
     }
 }
 
 impl<'a, N: Net + Clock> Dial for Dialler<'a, N> {
-    type Link = Counted<Patient<'a, N, N::Stream>>;
+    type Link = Counted<Ahead<Patient<'a, N, N::Stream>>>;
 
     ghost calls = { λ d. d.tally.calls };
 
@@ -292,7 +300,7 @@ impl<'a, N: Net + Clock> Dial for Dialler<'a, N> {
 
     ghost given_back = { λ d. d.given_back.all };
 
-    fn dial(&mut self) -> Option<Counted<Patient<'a, N, N::Stream>>> {
+    fn dial(&mut self) -> Option<Counted<Ahead<Patient<'a, N, N::Stream>>>> {
         match self.next_link() {
             Ok(link) => {
                 self.tally.record(&[], false);
@@ -305,7 +313,7 @@ impl<'a, N: Net + Clock> Dial for Dialler<'a, N> {
         }
     }
 
-    fn hang_up(&mut self, link: Counted<Patient<'a, N, N::Stream>>) {
+    fn hang_up(&mut self, link: Counted<Ahead<Patient<'a, N, N::Stream>>>) {
         self.given_back.record(&link);
     }
 }

@@ -2,6 +2,7 @@
 ghost use Rattle.std.specs.Prelude.{◌≡◌, IfOk};
 ghost use Rattle.slink_links.specs.Out.{AreOut};
 
+mod buffers;
 mod fetching;
 mod serving;
 

@@ -3,11 +3,12 @@ ghost use Rattle.slink_feed.specs.Session.{Fits};
 
 use super::{Listening, link_over, socket_of};
 use crate::accept::Accept;
+use crate::ahead::Ahead;
 use crate::host::{Address, Timeout};
 use crate::patient::Limits;
 use crate::serving::serve_all;
 use crate::tests::{ALL, output, station, taken_by, three_pushed, two_packets, two_records};
-use mseed_stream::write_all_of;
+use mseed_stream::{Counted, write_all_of};
 use slink_feed::{Client, Feed, Mode, Session, Turn, fetch_turn, serve_turn};
 use std::io::{Read, Write};
 use std::net::{OpenListener, OpenStream, Shutdown, TcpStream};
@@ -60,7 +61,7 @@ fn takes_turns(rt: HostRuntime) -> Result<(), Fail> {
         reads: None,
     };
     let stream = TcpStream::connect(&rt, socket_of(Address::local(), port))?;
-    let mut client_link = link_over(&rt, stream, limits)?;
+    let mut client_link = Counted::new(Ahead::new(link_over(&rt, stream, limits)?));
     let mut server_link = listening.accept().ok_or("no link")?;
     let mut client = Client::new(&[(station()?, Some(1))], Mode::Fetch);
     let mut session = session_of(&feed);

@@ -1,0 +1,75 @@
+//! A stream that is read ahead.
+ghost use Rattle.std.specs.Prelude.{◌≡◌};
+
+use std::io;
+use std::io::{Read, Write};
+use std::marker::Model;
+
+/// So many bytes are read at once, where they are there.
+const ROOM: usize = 1 << 15;
+
+/// A stream of which all that is there is read at once, and told piece by piece. It isn't asked while something is left
+/// to tell, so that a client that takes a packet at a time costs the system one read for many.
+#[derive(Drop)]
+pub(crate) struct Ahead<S> {
+    stream: S,
+    bytes: [u8; ROOM],
+    told: usize,
+    count: usize,
+}
+
+impl<S> Model for Ahead<S> {
+    ghost use Rattle.std.specs.Prelude.{◌≤◌};
+
+    ghost Value = { S };
+
+    ghost view = { λ a. a.stream };
+
+    ghost invariant = { λ a. (a.told ≤ a.count) × (a.count ≤ 32768) };
+}
+
+impl<S> Ahead<S> {
+    /// The stream, of which nothing was read ahead yet.
+    pub(crate) fn new(stream: S) -> Ahead<S>
+        ensures { result ≡ stream }
+    {
+        Ahead {
+            stream,
+            bytes: [0; ROOM],
+            told: 0,
+            count: 0,
+        }
+    }
+
+    /// The stream.
+    pub(crate) fn stream(&self) -> &S
+        ensures { result.now ≡ self.now }
+    {
+        &self.stream
+    }
+}
+
+impl<S: Read> Read for Ahead<S> {
+    fn read(&mut self, buf: &mut [u8]) -> io::Result<usize> {
+        if self.told == self.count {
+            let count = self.stream.read(&mut self.bytes)?;
+            self.told = 0;
+            self.count = count;
+        }
+        let held = &self.bytes[self.told..self.count];
+        let n = held.len().min(buf.len());
+        buf[..n].copy_from_slice(&held[..n]);
+        self.told += n;
+        Ok(n)
+    }
+}
+
+impl<S: Write> Write for Ahead<S> {
+    fn write(&mut self, bytes: &[u8]) -> io::Result<usize> {
+        self.stream.write(bytes)
+    }
+
+    fn flush(&mut self) -> io::Result<()> {
+        self.stream.flush()
+    }
+}
