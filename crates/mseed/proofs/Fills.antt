@@ -2,7 +2,8 @@
 use Rattle.std.proofs.Common.{◌≡◌, ◌≢◌, ℕ, ◌+◌, ◌<◌, ◌≤◌, ◌^◌, inl, inr, zero, suc, refl, sym, ap, subst, ◌∙◌, arith}
 use Rattle.std.proofs.Common.{Bool, true, false, ◌&&◌, ◌||◌, not, List, [], ◌∷◌, ◌++◌, length, append-nil}
 use Rattle.std.proofs.Common.{if◌then◌else◌, ◌-◌, map, set, get_or, take, take_all, drop, Option, Some, None, Result}
-use Rattle.std.proofs.Common.{Ok, slice_get, slice_range, bytes_eq, IsTrue}
+use Rattle.std.proofs.Common.{Ok, Err, slice_get, slice_range, bytes_eq, IsTrue, IsErrAnd}
+use Rattle.std.specs.Bool.{OnFalse, OnTrue}
 use Rattle.std.specs.List.{filter}
 use Rattle.std.proofs.lemmas.List.{length-map, map-append, map_more}
 use Rattle.std.proofs.lemmas.Option.{slice_get_read}
@@ -11,14 +12,25 @@ use Rattle.std.proofs.lemmas.Slice.Eq.{bytes_eq-Decides}
 use Rattle.mseed_record.specs.View.{View}
 use Rattle.mseed_record.specs.Viewing.{view_of}
 use Rattle.mseed_record.specs.declared.view.RecordView.{RecordView}
-use Rattle.mseed_stream.specs.Walk.{IfGoesOn, bytes_in}
+use Rattle.mseed_stream.specs.Device.{BytesRead}
+use Rattle.mseed_stream.specs.Standing.{Standing}
+use Rattle.mseed_stream.specs.Cutting.{IfEnds, failed_by}
+use Rattle.mseed_stream.specs.Walk.{AreAllViews, HasHandedOut, IfGoesOn, bytes_in}
 use Rattle.mseed_stream.specs.declared.fault.StreamFault.{StreamFault}
+use Rattle.mseed_stream.specs.declared.fault.StreamFault.TheVariants.{Frame, Truncated, Read, Turns, Memory as NoMemory}
 use Rattle.slink_wire.specs.Place.{Bears, Fields}
 use Rattle.slink_feed.specs.Rings.{HasPlace}
 use Rattle.slink_feed.specs.Window.{Shows, Window, window, with_record}
 use Rattle.slink_feed.proofs.Items.{one_value, same_or_not, shows_more, within_is}
 use Rattle.mseed.specs.Places.{Asked, are_different, has_place, is_same}
-use Rattle.mseed.specs.Filling.{AreOfFeed, IsOfFeed, IsPushed, feed_of, is_of, records_of, ring_of, served}
+use Rattle.mseed.specs.FeedWords.{CanServe}
+use Rattle.mseed.specs.Filling.{AreOfFeed, IsFilling, IsOfFeed, IsPushed, feed_of, is_of, records_of, ring_of, served}
+use Rattle.mseed.specs.Filling.{stream_fault}
+use Rattle.mseed.specs.private.Pushing.{IsNextPushed}
+use Rattle.mseed.specs.declared.fill_fault.FillFault.{FillFault}
+use Rattle.mseed.specs.declared.fill_fault.FillFault.TheVariants.{Foreign}
+use Rattle.mseed.specs.declared.filling.Step.{Step}
+use Rattle.mseed.specs.declared.filling.Step.TheVariants.{Pushed}
 use Rattle.mseed.specs.declared.request.Serving.{Serving}
 
 both_true : (a b : Bool) → (a && b) ≡ true → (a ≡ true) × (b ≡ true)
@@ -361,3 +373,72 @@ pub handed_on : (r : Result (Option RecordView) StreamFault) (o : Option RecordV
     → Type 0) → r ≡ Ok o → o ≡ Some view → IfGoesOn r P → P (view_of view ∷ [])
 handed_on r o view P is some goes =
     subst (λ (q : Result (Option RecordView) StreamFault). IfGoesOn q P) (is ∙ ap Ok some) goes
+
+-- the next record, by whether a ring took it
+pub pushed_next : (s : Serving) (views : List View) (view : View) (bytes : List ℕ) (number : ℕ)
+    (result : Result Step FillFault) (is_pushed : Bool) (feed new : List Window) (old h : BytesRead) (c : Standing)
+    → CanServe s → bytes ≡ view.bytes → HasHandedOut h c (views ++ view ∷ []) → old.calls < h.calls
+    → AreOfFeed (served s) (bytes_in views) → feed ≡ feed_of s (bytes_in views) → number ≡ length views + 1
+    → OnTrue is_pushed (IsPushed feed bytes new)
+    → OnFalse is_pushed (length bytes ≡ 512
+    → (k : ℕ) (w : Window) → slice_get feed k ≡ Some w → ¬ (Bears bytes w.place))
+    → OnTrue is_pushed (result ≡ Ok Pushed) → OnFalse is_pushed (result ≡ Err (Foreign number))
+    → IsNextPushed s result views old h c new
+pushed_next s views view bytes number result is_pushed feed new old h c can same handed asked each is n =
+    by_test is_pushed
+  where
+    by_test : (t : Bool) → OnTrue t (IsPushed feed bytes new)
+        → OnFalse t (length bytes ≡ 512
+        → (k : ℕ) (w : Window) → slice_get feed k ≡ Some w → ¬ (Bears bytes w.place))
+        → OnTrue t (result ≡ Ok Pushed) → OnFalse t (result ≡ Err (Foreign number))
+        → IsNextPushed s result views old h c new
+    by_test true pushed _ ok _ =
+        subst (λ (r : Result Step FillFault). IsNextPushed s r views old h c new) (sym ok) (record {
+          view = view;
+          filled = record {
+            handed = handed;
+            each = records_told s views view bytes feed new same is pushed each;
+            feed_is = feed_told s views view bytes feed new can.places.different same is pushed;
+          };
+          asked = asked;
+        })
+    by_test false _ none _ err =
+        subst (λ (r : Result Step FillFault). IsNextPushed s r views old h c new) (sym err) (record {
+          before = views;
+          view = view;
+          offset = c.offset;
+          views = handed.records;
+          fine = handed.fine;
+          each = each;
+          other = subst (λ (bs : List ℕ). ¬ (IsOfFeed (served s) bs)) same
+              (not_of_feed s (bytes_in views) bytes feed is none);
+          number_is = n;
+        })
+
+-- what is wrong comes of an error
+pub not_filled : (s : Serving) (r : Result (List Window) FillFault) (Q : FillFault → Type 0) (fault : FillFault)
+    (h : BytesRead) → IsErrAnd r Q → ((e : FillFault) → Q e → e ≡ fault) → IsFilling s (Err fault) h
+    → IsFilling s r h
+not_filled s (Ok feed) Q fault h is q wrong = absurd is
+not_filled s (Err e) Q fault h is q wrong =
+    subst (λ (x : FillFault). IsFilling s (Err x) h) (sym (q e is)) wrong
+
+pub not_pushed : (s : Serving) (r : Result Step FillFault) (Q : FillFault → Type 0) (fault : FillFault)
+    (views : List View) (old h : BytesRead) (c : Standing) (new : List Window) → IsErrAnd r Q
+    → ((e : FillFault) → Q e → e ≡ fault) → IsFilling s (Err fault) h → IsNextPushed s r views old h c new
+not_pushed s (Ok step) Q fault views old h c new is q wrong = absurd is
+not_pushed s (Err e) Q fault views old h c new is q wrong =
+    subst (λ (x : FillFault). IsFilling s (Err x) h) (sym (q e is)) wrong
+
+-- the input ended with a fault, or memory was wanted
+pub broken_off : (X : Type 0) (s : Serving) (fault : StreamFault) (h : BytesRead) (views : List View)
+    → AreOfFeed (served s) (bytes_in views) → IfEnds {X = X} (Err fault) (AreAllViews h views (Some fault))
+    → h.failures ≡ failed_by {X = X} (Err fault) → IsFilling s (Err (stream_fault fault)) h
+broken_off X s (Frame n f) h views each all failed = record { views = views; all = all; each = each }
+broken_off X s (Truncated n have) h views each all failed = record { views = views; all = all; each = each }
+broken_off X s (Read n) h views each all failed = record { views = views; all = all; each = each }
+broken_off X s (Turns n) h views each all failed = record { views = views; all = all; each = each }
+broken_off X s NoMemory h views each all failed = failed
+
+pub number_of : {n : ℕ} (views : List View) → n ≡ length views → n + 1 ≡ length views + 1
+number_of views is = ap (λ (m : ℕ). m + 1) is

@@ -6,11 +6,20 @@ use Rattle.mseed_record.specs.View.{View}
 use Rattle.mseed_stream.specs.Device.{BytesRead}
 use Rattle.mseed_stream.specs.Walk.{AreAllViews, AreViews, bytes_in}
 use Rattle.mseed_stream.specs.declared.fault.StreamFault.{StreamFault}
+use Rattle.mseed_stream.specs.declared.fault.StreamFault.TheVariants.{Frame, Truncated, Read, Turns, Memory as NoMemory}
 use Rattle.slink_wire.specs.Place.{Bears, Fields}
 use Rattle.slink_feed.specs.Window.{Window, window, with_record}
 use Rattle.mseed.specs.declared.request.Serving.{Serving}
 use Rattle.mseed.specs.declared.fill_fault.FillFault.{FillFault}
 use Rattle.mseed.specs.declared.fill_fault.FillFault.TheVariants.{Stream, Foreign, Memory}
+
+-- a fault of the input; a want of memory is none
+abbrev pub stream_fault : StreamFault → FillFault
+stream_fault (Frame n f) = Stream (Frame n f)
+stream_fault (Truncated n have) = Stream (Truncated n have)
+stream_fault (Read n) = Stream (Read n)
+stream_fault (Turns n) = Stream (Turns n)
+stream_fault NoMemory = Memory
 
 -- the places whose records are served
 abbrev pub served : Serving → List Fields

@@ -11,3 +11,17 @@ pub enum FillFault {
     /// An allocation was refused.
     Memory,
 }
+
+impl From<StreamFault> for FillFault {
+    ghost use Rattle.std.specs.Prelude.{◌≡◌};
+    ghost use Rattle.mseed.specs.Filling.{stream_fault};
+
+    ghost from_gives = { λ fault result. result ≡ stream_fault fault };
+
+    fn from(fault: StreamFault) -> FillFault {
+        match fault {
+            StreamFault::Memory => FillFault::Memory,
+            fault => FillFault::Stream(fault),
+        }
+    }
+}

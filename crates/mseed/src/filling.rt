@@ -1,21 +1,33 @@
 //! Filling a feed with the records of an archive.
 ghost use Rattle.std.specs.Prelude.{◌≡◌, ◌^◌, ◌<◌, ℕ, List, [], ◌∷◌, ◌++◌, length, IfErr, IfOk, IfSome};
-ghost use Rattle.std.specs.Prelude.{None, Some, Result, slice_get};
+ghost use Rattle.std.specs.Prelude.{None, Some, Ok, Err, Result, slice_get, ◌+◌};
 ghost use Rattle.std.specs.Bool.{OnFalse, OnTrue};
 ghost use Rattle.std.specs.Option.{ForSome};
+ghost use Rattle.mseed_record.specs.View.{View};
+ghost use Rattle.mseed_stream.specs.Cutting.{IsAlong};
 ghost use Rattle.mseed_stream.specs.Device.{BytesRead, nothing_read};
 ghost use Rattle.slink_wire.specs.Place.{Bears};
 ghost use Rattle.slink_feed.specs.Window.{Window};
 ghost use Rattle.mseed.specs.Filling.{IsFilling, IsOneFilling, IsPushed, feed_of};
 ghost use Rattle.mseed.specs.FeedWords.{CanServe};
+ghost use Rattle.mseed.specs.private.Pushing.{HasFilled, IsNextPushed};
 ghost use Rattle.mseed.specs.declared.fill_fault.FillFault.{FillFault};
 ghost use Rattle.mseed.specs.declared.request.Serving.{Serving};
 
 use crate::fill_fault::FillFault;
 use crate::request::Serving;
-use mseed_stream::{Cutter, Source, StreamFault};
+use mseed_stream::{Cutter, Source};
 use slink_feed::{Feed, Ring};
 use std::alloc::Allocator;
+
+/// What comes next of an input.
+#[derive(Clone, Copy, Debug)]
+pub(crate) enum Step {
+    /// A record, which a ring took.
+    Pushed,
+    /// Its end, where a record ended.
+    Ended,
+}
 
 /// Fills a feed with the records of the archive that the input tells: it has a ring of so many records for each
 /// place, and each record goes to the ring of its place, the first under the first number.
@@ -37,17 +49,48 @@ pub fn fill<A: Allocator + Copy, R: Source>(
     let mut cutter = Cutter::new(alloc);
     let mut records = 0;
     'records: loop {
-        match cutter.next(input) {
-            Ok(Some(view)) => {
-                if !push_record(&mut feed, view.bytes()) {
-                    return Err(FillFault::Foreign(records + 1));
-                }
-            }
-            Ok(None) => return Ok(feed),
-            Err(StreamFault::Memory) => return Err(FillFault::Memory),
-            Err(fault) => return Err(FillFault::Stream(fault)),
+        match push_next(&mut feed, &mut cutter, input, records + 1)? {
+            Step::Pushed => records += 1,
+            Step::Ended => return Ok(feed),
         }
-        records += 1;
+    }
+}
+
+/// Gives the next record, which has this number, to the ring of its place, or answers that the input ended where a
+/// record ended. A record that the input holds whole goes into its ring from there, and isn't copied before.
+fn push_next<A: Allocator, R: Source>(
+    feed: &mut Feed<A>,
+    cutter: &mut Cutter<A>,
+    input: &mut R,
+    number: u64,
+) -> Result<Step, FillFault>
+    requires along { IsAlong (R.read input.old) cutter.old }
+    requires room { (k : ℕ) (w : Window) → slice_get feed.old k ≡ Some w → w.next < 2 ^ 63 }
+    ensures { (serving : Serving) (views : List View) → CanServe serving
+        → HasFilled serving (R.read input.old) cutter.old feed.old views → number ≡ length views + 1
+        → IsNextPushed serving result views (R.read input.old) (R.read input.new) cutter.new feed.new }
+{
+    if let Some(view) = cutter.peek(input) {
+        let size = view.bytes().len();
+        let is_pushed = push_record(feed, view.bytes());
+        cutter.pass(input, size);
+        return answer(is_pushed, number);
+    }
+    match cutter.next(input)? {
+        Some(view) => answer(push_record(feed, view.bytes()), number),
+        None => Ok(Step::Ended),
+    }
+}
+
+/// What came of the record of this number, of which it is known whether a ring took it.
+fn answer(is_pushed: bool, number: u64) -> Result<Step, FillFault>
+    ensures yes { OnTrue is_pushed (result ≡ Ok Step.Pushed) }
+    ensures no { OnFalse is_pushed (result ≡ Err (FillFault.Foreign number)) }
+{
+    if is_pushed {
+        Ok(Step::Pushed)
+    } else {
+        Err(FillFault::Foreign(number))
     }
 }
 
