@@ -8,7 +8,7 @@ ghost use Rattle.mseed_pack.specs.Traces.{trace_of};
 use mseed_audit::Series;
 use mseed_pack::{
     BadOption, Encoding, Options, PackFault, Packer, SeriesView, a_packing_exists, fit, fit_view,
-    pack, pack_fitting, pack_view,
+    pack, pack_fitting, pack_into, pack_view,
 };
 use mseed_record::Codes;
 use mseed_stream::{Counted, Sink};
@@ -89,6 +89,13 @@ pub fn pack_in_one_room<W: Sink>(
     let mut packer = Packer::new();
     let is_first = packer.pack_fitting(&one, options, sink).is_ok();
     Ok(is_first && packer.pack_fitting(&other, options, sink).is_ok())
+}
+
+/// Packs a series into bytes that are there already, as far as they go, and says how many records there are.
+pub fn pack_over(series: &Series, options: &Options, bytes: &mut [u8]) -> Result<u64, PackFault> {
+    let view = SeriesView::of(series);
+    fit_view(&view, options)?;
+    Ok(pack_into(&view, options, bytes))
 }
 
 /// Packs a series that fits, for a proof that speaks of its packing.
