@@ -5,6 +5,7 @@ pub mod audits;
 pub mod feed;
 pub mod join;
 pub mod links;
+pub mod live;
 pub mod model;
 pub mod pack;
 pub mod parts;

@@ -1,0 +1,153 @@
+-- Which ring takes a record.
+use Rattle.std.proofs.Common.{◌≡◌, ℕ, zero, suc, ◌+◌, ◌<◌, ◌≤◌, ◌∙◌, ap, subst, refl, sym, arith, Bool, true, false}
+use Rattle.std.proofs.Common.{◌&&◌, List}
+use Rattle.std.proofs.Common.{[], ◌∷◌, ◌++◌, length, set, Some, None, option_map, slice_get, slice_range}
+use Rattle.std.proofs.Common.{bytes_eq, if◌then◌else◌, inl, inr, IsTrue}
+use Rattle.std.proofs.lemmas.Option.{slice_get-map}
+use Rattle.std.proofs.lemmas.Slice.Eq.{bytes_eq-Decides}
+use Rattle.slink_wire.specs.Place.{Bears, Fields}
+use Rattle.slink_feed.specs.Window.{Window, with_record}
+use Rattle.slink_feed.proofs.Items.{one_value, same_or_not}
+use Rattle.slink_live.specs.Input.{fed, is_of, places_of, pushed}
+use Rattle.slink_live.specs.Served.{IsBelow}
+use Rattle.slink_live.specs.private.Cutting.{IsBearer, IsOfNone, IsPushed}
+
+both_true : (a b : Bool) → (a && b) ≡ true → (a ≡ true) × (b ≡ true)
+both_true true b h = (refl, h)
+both_true false b h = absurd (let bad : false ≡ true = h in cc bad)
+
+bears_is : (p : Fields) (r : List ℕ) → Bears r p → is_of p r ≡ true
+bears_is p r h =
+    ap (λ (t : Bool). t && bytes_eq (slice_range r 18 20) p.network)
+    ((bytes_eq-Decides (slice_range r 8 13) p.station).1 h.0)
+    ∙ (bytes_eq-Decides (slice_range r 18 20) p.network).1 h.1
+
+is_bears : (p : Fields) (r : List ℕ) → is_of p r ≡ true → Bears r p
+is_bears p r h =
+    let each : (bytes_eq (slice_range r 8 13) p.station ≡ true) × (bytes_eq (slice_range r 18 20) p.network ≡ true) =
+    both_true (bytes_eq (slice_range r 8 13) p.station) (bytes_eq (slice_range r 18 20) p.network) h in (
+      (bytes_eq-Decides (slice_range r 8 13) p.station).0 each.0,
+      (bytes_eq-Decides (slice_range r 18 20) p.network).0 each.1,
+    )
+
+not_is : (p : Fields) (r : List ℕ) → ¬ (Bears r p) → is_of p r ≡ false
+not_is p r other = by_test (is_of p r) refl
+  where
+    by_test : (t : Bool) → is_of p r ≡ t → is_of p r ≡ false
+    by_test true h = absurd (other (is_bears p r h))
+    by_test false h = h
+
+same_some : (v w : Window) → Some v ≡ Some w → v ≡ w
+same_some v w e = cc e
+
+-- one ring more is not of its place
+pub none_more : (feed : List Window) (r : List ℕ) (k : ℕ) (w : Window) → slice_get feed k ≡ Some w
+    → ¬ (Bears r w.place) → ((j : ℕ) (v : Window) → j < k → slice_get feed j ≡ Some v → ¬ (Bears r v.place))
+    → (j : ℕ) (v : Window) → j < k + 1 → slice_get feed j ≡ Some v → ¬ (Bears r v.place)
+none_more feed r k w here other before j v lt there = elim (same_or_not j k) [
+  | inl same ↦ λ bears. other
+      (subst (λ (x : Window). Bears r x.place)
+      (one_value (slice_get feed k) v w (subst (λ (i : ℕ). slice_get feed i ≡ Some v) same there) here) bears)
+  | inr ne ↦ before j v (omega (arith, lt, ne)) there
+]
+
+pub bears_by : (feed : List Window) (k : ℕ) (v w : Window) (r : List ℕ) (place : Fields) (t : Bool)
+    → slice_get feed k ≡ Some v → slice_get feed k ≡ Some w → place ≡ v.place → (IsTrue t → Bears r place) → t ≡ true
+    → Bears r w.place
+bears_by feed k v w r place t here there same tells is =
+    subst (λ (x : Window). Bears r x.place) (one_value (slice_get feed k) v w here there)
+    (subst (λ (p : Fields). Bears r p) same (tells is))
+
+pub bears_not : (v : Window) (r : List ℕ) (place : Fields) (t : Bool) → place ≡ v.place → (Bears r place → IsTrue t)
+    → t ≡ false → ¬ (Bears r v.place)
+bears_not v r place t same tells is bears = let bad : false ≡ true =
+    sym is ∙ tells (subst (λ (p : Fields). Bears r p) (sym same) bears) in cc bad
+
+pub window_at : (feed : List Window) (k : ℕ) → k < length feed → (w : Window) × (slice_get feed k ≡ Some w)
+window_at [] k lt = absurd (omega (arith, lt))
+window_at (w ∷ ws) zero lt = (w, refl)
+window_at (w ∷ ws) (suc k) lt = window_at ws k (omega (arith, lt))
+
+-- The first ring of its place takes it.
+pub pushed_at : (feed : List Window) (r : List ℕ) (k : ℕ) (w : Window) → slice_get feed k ≡ Some w → Bears r w.place
+    → ((j : ℕ) (v : Window) → j < k → slice_get feed j ≡ Some v → ¬ (Bears r v.place))
+    → pushed feed r ≡ set feed k (with_record w r)
+pushed_at [] r k w here bears first = absurd (let bad : None ≡ Some w = here in cc bad)
+pushed_at (v ∷ ws) r zero w here bears first =
+    let same : v ≡ w = same_some v w here in
+    ap (λ (t : Bool). if t then with_record v r ∷ ws else v ∷ pushed ws r)
+    (bears_is v.place r (subst (λ (x : Window). Bears r x.place) (sym same) bears))
+    ∙ ap (λ (x : Window). with_record x r ∷ ws) same
+pushed_at (v ∷ ws) r (suc k) w here bears first =
+    ap (λ (t : Bool). if t then with_record v r ∷ ws else v ∷ pushed ws r)
+    (not_is v.place r (first 0 v (omega arith) refl))
+    ∙ ap (λ xs. v ∷ xs) (pushed_at ws r k w here bears (λ j x lt there. first (suc j) x (omega (arith, lt)) there))
+
+-- the places stay
+places_if : (t : Bool) (v : Window) (ws xs : List Window) (r : List ℕ) → places_of xs ≡ places_of ws
+    → places_of (if t then with_record v r ∷ ws else v ∷ xs) ≡ places_of (v ∷ ws)
+places_if true v ws xs r e = refl
+places_if false v ws xs r e = ap (λ ps. v.place ∷ ps) e
+
+pub places_pushed : (feed : List Window) (r : List ℕ) → places_of (pushed feed r) ≡ places_of feed
+places_pushed [] r = refl
+places_pushed (v ∷ ws) r = places_if (is_of v.place r) v ws (pushed ws r) r (places_pushed ws r)
+
+pub places_fed : (feed : List Window) (records : List (List ℕ)) → places_of (fed feed records) ≡ places_of feed
+places_fed feed [] = refl
+places_fed feed (r ∷ rs) = places_fed (pushed feed r) rs ∙ places_pushed feed r
+
+pub fed_append : (feed : List Window) (rs more : List (List ℕ)) → fed feed (rs ++ more) ≡ fed (fed feed rs) more
+fed_append feed [] more = refl
+fed_append feed (r ∷ rs) more = fed_append (pushed feed r) rs more
+
+pub place_at : (feed : List Window) (k : ℕ) (w : Window) → slice_get feed k ≡ Some w
+    → slice_get (places_of feed) k ≡ Some w.place
+place_at feed k w here = slice_get-map (λ (v : Window). v.place) feed k ∙ ap (option_map (λ (v : Window). v.place)) here
+
+pub window_of : (feed : List Window) (k : ℕ) (p : Fields) → slice_get (places_of feed) k ≡ Some p
+    → (w : Window) × (slice_get feed k ≡ Some w) × (w.place ≡ p)
+window_of [] k p h = absurd (let bad : None ≡ Some p = h in cc bad)
+window_of (v ∷ ws) zero p h = (v, refl, (let both : Some v.place ≡ Some p = h in cc both))
+window_of (v ∷ ws) (suc k) p h = window_of ws k p h
+
+pub of_none : (feed : List Window) (r : List ℕ)
+    → ((k : ℕ) (w : Window) → slice_get feed k ≡ Some w → ¬ (Bears r w.place)) → IsOfNone (places_of feed) r
+of_none feed r none k p here bears =
+    let at : (w : Window) × (slice_get feed k ≡ Some w) × (w.place ≡ p) = window_of feed k p here in
+    none k at.0 at.1 (subst (Bears r) (sym at.2) bears)
+
+pub is_pushed : (feed new : List Window) (r : List ℕ) (k : ℕ) → IsBearer feed r k
+    → ((w : Window) → slice_get feed k ≡ Some w → new ≡ set feed k (with_record w r)) → IsPushed feed new r
+is_pushed feed new r k b done =
+    let at : (w : Window) × (slice_get feed k ≡ Some w) = window_at feed k b.within in
+    record {
+      k = k;
+      place = at.0.place;
+      there = place_at feed k at.0 at.1;
+      bears = b.bears at.0 at.1;
+      feed_is = done at.0 at.1 ∙ sym (pushed_at feed r k at.0 at.1 (b.bears at.0 at.1) b.first);
+    }
+
+-- numbers go up by one
+set_below : (n : ℕ) (feed : List Window) (k : ℕ) (w : Window) (r : List ℕ) → slice_get feed k ≡ Some w → IsBelow n feed
+    → IsBelow (n + 1) (set feed k (with_record w r))
+set_below n [] k w r here below j v there = absurd (let bad : None ≡ Some v = there in cc bad)
+set_below n (x ∷ ws) zero w r here below zero v there =
+    let one : with_record w r ≡ v = same_some (with_record w r) v there in
+    let number : w.next + 1 ≡ v.next = ap (λ (y : Window). y.next) one in
+    omega (arith, below 0 w here, number)
+set_below n (x ∷ ws) zero w r here below (suc j) v there = omega (arith, below (suc j) v there)
+set_below n (x ∷ ws) (suc k) w r here below zero v there = omega (arith, below 0 v there)
+set_below n (x ∷ ws) (suc k) w r here below (suc j) v there =
+    set_below n ws k w r here (λ i y e. below (suc i) y e) j v there
+
+pub pushed_below : (n : ℕ) (feed new : List Window) (r : List ℕ) (k : ℕ) → IsBearer feed r k
+    → ((w : Window) → slice_get feed k ≡ Some w → new ≡ set feed k (with_record w r)) → IsBelow n feed
+    → IsBelow (n + 1) new
+pushed_below n feed new r k b done below =
+    let at : (w : Window) × (slice_get feed k ≡ Some w) = window_at feed k b.within in
+    subst (IsBelow (n + 1)) (sym (done at.0 at.1)) (set_below n feed k at.0 r at.1 below)
+
+pub below_more : (m n : ℕ) (feed : List Window) → m ≤ n → IsBelow m feed → IsBelow n feed
+below_more m n feed le below k w there = omega (arith, le, below k w there)

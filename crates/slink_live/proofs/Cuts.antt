@@ -1,0 +1,217 @@
+-- The input is cut into records: none is lost, whatever the pieces.
+use Rattle.std.proofs.Common.{◌≡◌, ℕ, ◌+◌, ◌-◌, ◌*◌, ◌<◌, ◌≤◌, ◌∙◌, ap, subst, refl, sym, arith, inl, inr}
+use Rattle.std.proofs.Common.{List, []}
+use Rattle.std.proofs.Common.{◌∷◌, ◌++◌, length, length-append, length-take, append_assoc, append-nil, take, drop}
+use Rattle.std.proofs.Common.{take-append-drop}
+use Rattle.std.proofs.Common.{take_all}
+use Rattle.std.proofs.lemmas.List.{take-append-le}
+use Rattle.std.proofs.lemmas.List.Folds.{concat-append}
+use Rattle.std.specs.List.{AllByRecursion, concat}
+use Rattle.mseed_record.specs.declared.frame.FrameFault.{FrameFault}
+use Rattle.mseed_record.specs.declared.frame.Scan.TheVariants as scans
+use Rattle.mseed_record.specs.Record.{IsRecord}
+use Rattle.mseed_record.specs.Scan.{Decides, HasNoRecord, HasNoShorter}
+use Rattle.mseed_record.proofs.OneRecord.{one_record}
+use Rattle.mseed_stream.specs.declared.fault.StreamFault.TheVariants as faults
+use Rattle.slink_wire.specs.Place.{Fields}
+use Rattle.slink_feed.specs.Window.{Window}
+use Rattle.slink_live.specs.declared.fault.InputFault.{InputFault}
+use Rattle.slink_live.specs.declared.fault.InputFault.TheVariants.{Stream, Foreign}
+use Rattle.slink_live.specs.Input.{IsFaultIn, IsFedTo, IsOf, fed, places_of, pushed}
+use Rattle.slink_live.specs.Served.{IntakeState}
+use Rattle.slink_live.specs.private.Cutting.{Cuts, CutsOff, IsOfNone, IsRefused, LooksOn, waits, pushes}
+use Rattle.slink_feed.proofs.Deliveries.{take_prefix}
+use Rattle.slink_live.proofs.Borne.{fed_append, places_fed}
+
+all_append : (P : List ℕ → Type 0) (xs ys : List (List ℕ)) → AllByRecursion P xs → AllByRecursion P ys
+    → AllByRecursion P (xs ++ ys)
+all_append P [] ys a b = b
+all_append P (x ∷ xs) ys a b = (a.0, all_append P xs ys a.1 b)
+
+-- a short rest begins with no record of the feed
+pub short_none : (places : List Fields) (rest : List ℕ) → length rest < 512 → ¬ (IsOf places (take 512 rest))
+short_none places rest short of = omega (arith, short, of.size, length-take 512 rest)
+
+pub nothing_cut : (old : IntakeState) → Cuts old [] old old.kept
+nothing_cut old = record {
+  records = [];
+  joined = append-nil old.kept;
+  each = tt;
+  feed_is = refl;
+  counted = omega arith;
+}
+
+-- bytes are kept, and looked at
+module _ (old now : IntakeState) (bytes chunk : List ℕ) (cuts : Cuts old bytes now now.kept) where
+  abbrev pub with_chunk : IntakeState
+  with_chunk = record { feed = now.feed; kept = now.kept ++ chunk; records = now.records }
+
+  chunk_joined : old.kept ++ (bytes ++ chunk) ≡ concat cuts.records ++ (now.kept ++ chunk)
+  chunk_joined = sym (append_assoc old.kept bytes chunk) ∙ (ap (λ x. x ++ chunk) cuts.joined
+      ∙ append_assoc (concat cuts.records) now.kept chunk)
+
+  kept_more : Cuts old (bytes ++ chunk) with_chunk (now.kept ++ chunk)
+  kept_more = record {
+    records = cuts.records;
+    joined = chunk_joined;
+    each = cuts.each;
+    feed_is = cuts.feed_is;
+    counted = cuts.counted;
+  }
+
+  same_places : places_of now.feed ≡ places_of old.feed
+  same_places = ap places_of cuts.feed_is ∙ places_fed old.feed cuts.records
+
+  whole : List ℕ
+  whole = now.kept ++ chunk
+
+  pushed_more : IsOf (places_of now.feed) (now.kept ++ chunk)
+      → Cuts old (bytes ++ chunk)
+      (record { feed = pushed now.feed (now.kept ++ chunk); kept = []; records = now.records + 1 }) []
+  pushed_more of = record {
+    records = cuts.records ++ (now.kept ++ chunk) ∷ [];
+    joined = chunk_joined ∙ sym (append-nil (concat (cuts.records ++ (now.kept ++ chunk) ∷ []))
+        ∙ (concat-append cuts.records ((now.kept ++ chunk) ∷ [])
+        ∙ ap (λ x. concat cuts.records ++ x) (append-nil (now.kept ++ chunk))));
+    each = all_append (IsOf (places_of old.feed)) cuts.records ((now.kept ++ chunk) ∷ []) cuts.each
+        (subst (λ ps. IsOf ps (now.kept ++ chunk)) same_places of, tt);
+    feed_is = ap (λ f. pushed f (now.kept ++ chunk)) cuts.feed_is
+        ∙ sym (fed_append old.feed cuts.records ((now.kept ++ chunk) ∷ []));
+    counted = omega (arith, cuts.counted, length-append cuts.records ((now.kept ++ chunk) ∷ []));
+  }
+
+  pub looked_on : (new : IntakeState) → LooksOn with_chunk new → Cuts old (bytes ++ chunk) new new.kept
+  looked_on new (waits short same) =
+      subst (λ (s : IntakeState). Cuts old (bytes ++ chunk) s s.kept) (sym same) kept_more
+  looked_on new (pushes of same) =
+      subst (λ (s : IntakeState). Cuts old (bytes ++ chunk) s s.kept) (sym same) (pushed_more of)
+
+  pub looked_short : (new : IntakeState) → LooksOn with_chunk new → length new.kept < 512
+  looked_short new (waits short same) = subst (λ (s : IntakeState). length s.kept < 512) (sym same) short
+  looked_short new (pushes of same) =
+      subst (λ (s : IntakeState). length s.kept < 512) (sym same) (let lt : 0 < 512 = omega arith in lt)
+
+  pub cut_off : (new : IntakeState) (fault : InputFault) (more all : List ℕ) → new ≡ with_chunk
+      → IsRefused (places_of now.feed) now.records (now.kept ++ chunk) fault → all ≡ (bytes ++ chunk) ++ more
+      → CutsOff old all new fault
+  cut_off new fault more all same refused split = record {
+    rest = (now.kept ++ chunk) ++ more;
+    cuts = record {
+      records = cuts.records;
+      joined = ap (λ x. old.kept ++ x) split ∙ (sym (append_assoc old.kept (bytes ++ chunk) more)
+          ∙ (ap (λ x. x ++ more) chunk_joined ∙ append_assoc (concat cuts.records) (now.kept ++ chunk) more));
+      each = cuts.each;
+      feed_is = ap (λ (s : IntakeState). s.feed) same ∙ cuts.feed_is;
+      counted = ap (λ (s : IntakeState). s.records) same ∙ cuts.counted;
+    };
+    no_further = subst (λ ps. ¬ (IsOf ps (take 512 ((now.kept ++ chunk) ++ more)))) same_places (refused.none more);
+    is_fault = subst (λ n. IsFaultIn (places_of old.feed) n ((now.kept ++ chunk) ++ more) fault)
+        (sym (ap (λ (s : IntakeState). s.records) same))
+        (subst (λ ps. IsFaultIn ps now.records ((now.kept ++ chunk) ++ more) fault) same_places
+        (refused.is_fault more));
+  }
+
+-- why no record of the feed begins
+pub refused_not : (places : List Fields) (n offset : ℕ) (kept : List ℕ) (f : FrameFault) → Decides kept (scans.Not f)
+    → HasNoRecord kept → offset ≡ 512 * n → IsRefused places n kept (Stream (faults.Frame offset f))
+refused_not places n offset kept f decides none at = record {
+  none = λ more of. none more 512 of.is_record;
+  is_fault = λ more. (kept, more, refl, decides, at);
+}
+
+pub refused_long : (places : List Fields) (n number : ℕ) (kept : List ℕ) (k : ℕ) → Decides kept (scans.Need k)
+    → HasNoShorter kept k → 512 < k → number ≡ n + 1 → IsRefused places n kept (Foreign number)
+refused_long places n number kept k decides none long at = record {
+  none = λ more of. omega (arith, none more 512 of.is_record, of.size, long);
+  is_fault = λ more. (kept, more, refl, inr (k, decides, long), at);
+}
+
+pub refused_none : (places : List Fields) (n number : ℕ) (kept : List ℕ) → length kept ≡ 512
+    → Decides kept (scans.Record 512) → IsOfNone places kept → number ≡ n + 1
+    → IsRefused places n kept (Foreign number)
+refused_none places n number kept size decides none at =
+    let front : (more : List ℕ) → take 512 (kept ++ more) ≡ kept =
+    λ more. take-append-le 512 kept more (omega (arith, size)) ∙ take_all 512 kept (omega (arith, size)) in
+    let not_of : ¬ (IsOf places kept) = λ of. none of.k of.place of.there of.bears in
+    record {
+      none = λ more of. not_of (subst (IsOf places) (front more) of);
+      is_fault = λ more. (
+        kept,
+        more,
+        refl,
+        inl (512, decides, λ of. not_of (subst (IsOf places) (take_all 512 kept (omega (arith, size))) of)),
+        at,
+      );
+    }
+
+-- A record of another length: no record of 512 bytes begins with the same bytes.
+pub refused_other : (places : List Fields) (n number : ℕ) (kept : List ℕ) (k : ℕ) → k ≤ length kept → (k ≡ 512 → ⊥)
+    → Decides kept (scans.Record k) → IsRecord (take k kept) → number ≡ n + 1
+    → IsRefused places n kept (Foreign number)
+refused_other places n number kept k le other decides is at = record {
+  none = λ more of. other (one_record (kept ++ more) k 512 (omega (arith, le, length-append kept more))
+      (omega (arith, of.size, length-take 512 (kept ++ more)))
+      (subst IsRecord (sym (take-append-le k kept more le)) is) of.is_record);
+  is_fault = λ more. (
+    kept,
+    more,
+    refl,
+    inl (k, decides, λ of. other (let e : k ≡ 512 = omega (arith, le, of.size, length-take k kept) in e)),
+    at,
+  );
+}
+
+-- further bytes
+pub cuts_on : (start : List Window) (told : List ℕ) (old new : IntakeState) (bytes rest : List ℕ)
+    (to : IsFedTo start told old.feed old.kept) (cuts : Cuts old bytes new rest)
+    → ¬ (IsOf (places_of old.feed) (take 512 rest))
+    → (now : IsFedTo start (told ++ bytes) new.feed rest)
+    × (length now.records ≡ length to.records + length cuts.records)
+cuts_on start told old new bytes rest to cuts none =
+    let same : places_of old.feed ≡ places_of start = ap places_of to.feed_is ∙ places_fed start to.records in (
+      record {
+        records = to.records ++ cuts.records;
+        input = record {
+          joined = ap (λ x. x ++ bytes) to.input.joined ∙ (append_assoc (concat to.records) old.kept bytes
+              ∙ (ap (λ x. concat to.records ++ x) cuts.joined
+              ∙ (sym (append_assoc (concat to.records) (concat cuts.records) rest)
+              ∙ ap (λ x. x ++ rest) (sym (concat-append to.records cuts.records)))));
+          each = all_append (IsOf (places_of start)) to.records cuts.records to.input.each
+              (subst (λ ps. AllByRecursion (IsOf ps) cuts.records) same cuts.each);
+          no_further = subst (λ ps. ¬ (IsOf ps (take 512 rest))) same none;
+        };
+        feed_is = cuts.feed_is ∙ (ap (λ f. fed f cuts.records) to.feed_is
+            ∙ sym (fed_append start to.records cuts.records));
+      },
+      length-append to.records cuts.records,
+    )
+
+-- what a scan of all that is kept tells
+pub whole_record : (front kept : List ℕ) (size : ℕ) → front ≡ kept → size ≡ 512 → length kept ≤ 512
+    → (size ≤ length front) × IsRecord (take size front) → (length kept ≡ 512) × IsRecord kept
+whole_record front kept size same is most h =
+    let long : length front ≡ length kept = ap length same in
+    let le : size ≤ length front = h.0 in
+    let all : take size front ≡ front = take_all size front (omega (arith, long, is, most)) in (
+      omega (arith, long, is, most, le),
+      subst IsRecord (all ∙ same) h.1,
+    )
+
+pub looked_few : (old new : IntakeState) → LooksOn old new → new.records ≤ old.records + 1
+looked_few old new (waits short same) =
+    let one : new.records ≡ old.records = ap (λ (s : IntakeState). s.records) same in omega (arith, one)
+looked_few old new (pushes of same) =
+    let one : new.records ≡ old.records + 1 = ap (λ (s : IntakeState). s.records) same in omega (arith, one)
+
+-- the next bytes of a piece
+pub chunk_is : (bytes : List ℕ) (start count : ℕ)
+    → take start bytes ++ take (start + count - start) (drop start bytes) ≡ take (start + count) bytes
+chunk_is bytes start count =
+    let same : start + count - start ≡ count = omega arith in
+    ap (λ n. take start bytes ++ take n (drop start bytes)) same ∙ sym (take_prefix bytes start count)
+
+pub split_at : (bytes : List ℕ) (start count : ℕ)
+    → bytes ≡ (take start bytes ++ take (start + count - start) (drop start bytes)) ++ drop (start + count) bytes
+split_at bytes start count =
+    sym (ap (λ x. x ++ drop (start + count) bytes) (chunk_is bytes start count)
+    ∙ take-append-drop (start + count) bytes)

@@ -1,0 +1,56 @@
+-- A session answers the bytes of its link, line by line.
+use Rattle.std.proofs.Common.{◌≡◌, ℕ, ◌+◌, ◌-◌, ◌≤◌, ◌∙◌, ap, subst, sym, arith, List, ◌++◌}
+use Rattle.std.proofs.Common.{length}
+use Rattle.std.proofs.Common.{take, drop, take_all, take-append-drop}
+use Rattle.std.proofs.lemmas.List.{drop-drop, drop_all, length-drop}
+use Rattle.slink_wire.specs.declared.reply.Reply.{Reply}
+use Rattle.slink_wire.specs.declared.reply.Reply.TheVariants as Replies
+use Rattle.slink_wire.specs.Reply.{reply_bytes}
+use Rattle.slink_feed.specs.Serving.{Serves, Standing, Takes, none_served, piece_served}
+use Rattle.slink_feed.specs.Window.{Window}
+
+-- the bytes from an offset on
+abbrev pub from_on : ℕ → List ℕ → List ℕ
+from_on start bytes = take (length bytes - start) (drop start bytes)
+
+from_is : (start : ℕ) (bytes : List ℕ) → from_on start bytes ≡ drop start bytes
+from_is start bytes = take_all (length bytes - start) (drop start bytes) (omega (arith, length-drop start bytes))
+
+pub from_length : (start : ℕ) (bytes : List ℕ) → length (from_on start bytes) ≡ length bytes - start
+from_length start bytes = ap length (from_is start bytes) ∙ length-drop start bytes
+
+split_on : (start used : ℕ) (bytes : List ℕ)
+    → drop start bytes ≡ take used (from_on start bytes) ++ drop (start + used) bytes
+split_on start used bytes =
+    sym (ap (λ x. take used x ++ drop (start + used) bytes) (from_is start bytes)
+    ∙ (ap (λ x. take used (drop start bytes) ++ x) (sym (drop-drop used start bytes))
+    ∙ take-append-drop used (drop start bytes)))
+
+-- What is left to be answered leads to what all leads to.
+abbrev pub Leads : List Window → Standing → List ℕ → List ℕ → ℕ → Standing → List ℕ → Type 0
+Leads feed s bytes way start now said = (last : Standing) (all : List ℕ)
+    → Serves feed now (drop start bytes) said last all → Serves feed s bytes way last all
+
+pub leads_first : (feed : List Window) (s : Standing) (bytes way : List ℕ) → Leads feed s bytes way 0 s way
+leads_first feed s bytes way last all h = h
+
+-- one line more
+pub leads_on : (feed : List Window) (s now new : Standing) (bytes way said : List ℕ) (start used : ℕ) (reply : Reply)
+    → Leads feed s bytes way start now said → Takes feed now (take used (from_on start bytes)) new reply
+    → Leads feed s bytes way (start + used) new (said ++ reply_bytes reply)
+leads_on feed s now new bytes way said start used reply before takes last all h =
+    before last all (piece_served now new last (drop start bytes) (take used (from_on start bytes))
+    (drop (start + used) bytes) said all reply (split_on start used bytes) takes h)
+
+pub leads_last : (feed : List Window) (s now : Standing) (bytes way said : List ℕ) (start : ℕ)
+    → Leads feed s bytes way start now said → length bytes ≤ start → Serves feed s bytes way now said
+leads_last feed s now bytes way said start before whole =
+    before now said (subst (λ (x : List ℕ). Serves feed now x said now said) (sym (drop_all start bytes whole))
+    (none_served now said))
+
+-- No reply has more bytes.
+pub reply_short : (r : Reply) → length (reply_bytes r) ≤ 35
+reply_short Replies.Nothing = let le : 0 ≤ 35 = omega arith in le
+reply_short Replies.Ok = let le : 4 ≤ 35 = omega arith in le
+reply_short Replies.Error = let le : 7 ≤ 35 = omega arith in le
+reply_short Replies.Hello = let le : 35 ≤ 35 = omega arith in le

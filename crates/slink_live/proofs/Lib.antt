@@ -1,0 +1,13 @@
+pub mod Tells
+pub mod Borne
+pub mod Cuts
+pub mod Rings
+pub mod Inputs
+pub mod Own
+pub mod Saying
+pub mod Hearing
+pub mod Begun
+pub mod Stories
+pub mod Slots
+pub mod Takings
+pub mod Steps

@@ -1,0 +1,15 @@
+use Rattle.std.proofs.Common.{◌+◌, ◌-◌, ◌*◌, ◌≤◌, length}
+use Rattle.slink_feed.specs.Session.{Fits}
+use Rattle.slink_live.proofs.Hearing.{Leads}
+use Rattle.slink_live.proofs.link.Link.hear.Given as goal
+
+abbrev pub invariant-loop-start : goal.invariant-loop-start
+invariant-loop-start l = record {
+  within : l.start ≤ length l.bytes;
+  leads : Leads l.feed l.fn.self.session l.bytes l.fn.self.pending l.start l.self.session l.self.pending;
+  fits : Fits l.feed l.self.session.state;
+  room : length l.self.pending + 35 * length l.bytes ≤ 3120 + 35 * l.start;
+}
+
+abbrev pub decreases-loop-start : goal.decreases-loop-start
+decreases-loop-start l = length l.bytes - l.start

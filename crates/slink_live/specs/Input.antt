@@ -1,0 +1,79 @@
+-- The input: records of the places that are served, one behind another (own).
+use Rattle.std.specs.Prelude.{◌≡◌, ℕ, Bool, ◌&&◌, ◌*◌, ◌+◌, ◌<◌, ◌⊎◌, List, [], ◌∷◌, ◌++◌, length, map, take, bytes_eq}
+use Rattle.std.specs.Prelude.{slice_get, slice_range, Some, if◌then◌else◌}
+use Rattle.std.specs.List.{AllByRecursion, concat}
+use Rattle.mseed_record.specs.declared.frame.Scan.TheVariants as scans
+use Rattle.mseed_record.specs.Record.{IsRecord}
+use Rattle.mseed_record.specs.Scan.{Decides}
+use Rattle.mseed_stream.specs.declared.fault.StreamFault.TheVariants.{Frame, Truncated, Read, Turns, Memory}
+use Rattle.slink_wire.specs.Place.{Bears, Fields}
+use Rattle.slink_feed.specs.Window.{Window, with_record}
+use Rattle.slink_live.specs.declared.fault.InputFault.{InputFault}
+use Rattle.slink_live.specs.declared.fault.InputFault.TheVariants.{Stream, Foreign}
+
+-- the places of rings
+abbrev pub places_of : List Window → List Fields
+places_of feed = map (λ w. w.place) feed
+
+-- The bytes are a record of 512 bytes, of one of the places.
+pub record IsOf (places : List Fields) (bytes : List ℕ) : Type 0 where
+  pub size : length bytes ≡ 512
+  pub is_record : IsRecord bytes
+  pub k : ℕ
+  pub place : Fields
+  pub there : slice_get places k ≡ Some place
+  pub bears : Bears bytes place
+
+-- The bytes are such records, as far as they go, and then the rest, which begins with none.
+pub record IsInput (places : List Fields) (bytes : List ℕ) (records : List (List ℕ)) (rest : List ℕ) : Type 0 where
+  pub joined : bytes ≡ concat records ++ rest
+  pub each : AllByRecursion (IsOf places) records
+  pub no_further : ¬ (IsOf places (take 512 rest))
+
+-- whether a record's header has the station and network of a place
+abbrev pub is_of : Fields → List ℕ → Bool
+is_of place bytes = bytes_eq (slice_range bytes 8 13) place.station && bytes_eq (slice_range bytes 18 20) place.network
+
+-- the rings, once the first one of a record's place took it
+abbrev pub pushed : List Window → List ℕ → List Window
+pushed [] bytes = []
+pushed (w ∷ ws) bytes = if is_of w.place bytes then with_record w bytes ∷ ws else w ∷ pushed ws bytes
+
+-- the rings, once records came, one after another
+abbrev pub fed : List Window → List (List ℕ) → List Window
+fed feed [] = feed
+fed feed (bytes ∷ records) = fed (pushed feed bytes) records
+
+-- The rings are those of the beginning, once all records came that the input told so far, and this is left of it.
+pub record IsFedTo (start : List Window) (bytes : List ℕ) (feed : List Window) (rest : List ℕ) : Type 0 where
+  pub records : List (List ℕ)
+  pub input : IsInput (places_of start) bytes records rest
+  pub feed_is : feed ≡ fed start records
+
+abbrev pub IsFed : List Window → List ℕ → List Window → Type 0
+IsFed start bytes feed = (rest : List ℕ) × IsFedTo start bytes feed rest
+
+-- No record of these places begins so: the record that is there isn't one, or one would be longer.
+abbrev pub IsForeign : List Fields → List ℕ → Type 0
+IsForeign places front = ((k : ℕ) × Decides front (scans.Record k) × ¬ (IsOf places (take k front)))
+    ⊎ ((k : ℕ) × Decides front (scans.Need k) × (512 < k))
+
+-- What is wrong with the rest behind so many records: bytes that begin no record, or none of these places; a record
+-- that the input ended within; a read that failed, or 2^40 of them.
+abbrev pub IsFaultIn : List Fields → ℕ → List ℕ → InputFault → Type 0
+IsFaultIn places n rest (Stream (Frame offset fault)) = (front more : List ℕ) × (rest ≡ front ++ more)
+    × Decides front (scans.Not fault) × (offset ≡ 512 * n)
+IsFaultIn places n rest (Stream (Truncated offset have)) = (0 < have) × (have ≡ length rest) × (have < 512)
+    × (offset ≡ 512 * n)
+IsFaultIn places n rest (Stream (Read offset)) = offset ≡ 512 * n
+IsFaultIn places n rest (Stream (Turns offset)) = offset ≡ 512 * n
+IsFaultIn places n rest (Stream Memory) = ⊥
+IsFaultIn places n rest (Foreign number) = (front more : List ℕ) × (rest ≡ front ++ more) × IsForeign places front
+    × (number ≡ n + 1)
+
+-- What is wrong with an input that told these bytes.
+pub record IsInputFault (places : List Fields) (bytes : List ℕ) (fault : InputFault) : Type 0 where
+  pub records : List (List ℕ)
+  pub rest : List ℕ
+  pub input : IsInput places bytes records rest
+  pub is_fault : IsFaultIn places (length records) rest fault

@@ -1,0 +1,77 @@
+-- How a server stands to what happened.
+use Rattle.std.specs.Prelude.{◌≡◌, ℕ, Bool, true, false, ◌+◌, ◌*◌, ◌^◌, ◌<◌, ◌≤◌, List, ◌++◌, length, get_or, Option}
+use Rattle.std.specs.Prelude.{Some}
+use Rattle.std.specs.Prelude.{None, slice_get}
+use Rattle.slink_feed.specs.Serving.{Standing}
+use Rattle.slink_feed.specs.Session.{Fits}
+use Rattle.slink_feed.specs.Window.{Window}
+use Rattle.slink_live.specs.Happening.{Happening, input_of}
+use Rattle.slink_live.specs.Input.{IsFedTo}
+use Rattle.slink_live.specs.Story.{IsServed, Story}
+
+-- what a server keeps of a link: its session, and what that said and the link didn't take yet
+pub record LinkState : Type 0 where
+  pub session : Standing
+  pub pending : List ℕ
+
+abbrev pub link_state : Standing → List ℕ → LinkState
+link_state session pending = record { session = session; pending = pending }
+
+-- what it keeps of the input: the rings, the bytes behind the last record, and how many records there were
+pub record IntakeState : Type 0 where
+  pub feed : List Window
+  pub kept : List ℕ
+  pub records : ℕ
+
+-- what a clause sees of a server: the links in their slots, whether the input is read no more, and how often it was
+pub record ServerState : Type 0 where
+  pub intake : IntakeState
+  pub links : List (Option LinkState)
+  pub is_ended : Bool
+  pub reads : ℕ
+
+-- Records can be numbered on: each ring's next number is at most this.
+abbrev pub IsBelow : ℕ → List Window → Type 0
+IsBelow n feed = (k : ℕ) (w : Window) → slice_get feed k ≡ Some w → w.next ≤ n
+
+-- The session of each link can be served from these rings.
+abbrev pub AllFit : List Window → List (Option LinkState) → Type 0
+AllFit feed links = (k : ℕ) (l : LinkState) → get_or links k None ≡ Some l → Fits feed l.session.state
+
+-- what a server keeps to
+pub record IsSound (s : ServerState) : Type 0 where
+  pub short : s.is_ended ≡ false → length s.intake.kept < 512
+  pub fit : AllFit s.intake.feed s.links
+  pub below : IsBelow (2 ^ 62 + 8192 * s.reads) s.intake.feed
+  pub few : s.intake.records ≤ 8192 * s.reads
+  pub few_reads : s.reads ≤ 2 ^ 40
+
+-- A slot has a link where the story has one: with its session, and what that said and the link didn't take yet.
+abbrev pub Matches : Option LinkState → Option Story → Type 0
+Matches None None = Unit {0}
+Matches None (Some t) = ⊥
+Matches (Some l) None = ⊥
+Matches (Some l) (Some t) = (t.session ≡ l.session) × (t.said ≡ t.took ++ l.pending)
+
+-- what happened in a slot comes to a story that its link matches
+pub record IsStory (start : List Window) (k : ℕ) (o : Option LinkState) (log : List Happening) : Type 0 where
+  pub told : Option Story
+  pub served : IsServed start k log told
+  pub matches : Matches o told
+
+-- The server has served its input and its links, from these rings on, by what happened.
+pub record IsServing (start : List Window) (s : ServerState) (log : List Happening) : Type 0 where
+  pub rest : List ℕ
+  pub fed : IsFedTo start (input_of log) s.intake.feed rest
+  pub counted : s.intake.records ≡ length fed.records
+  pub goes_on : s.is_ended ≡ false → rest ≡ s.intake.kept
+  pub slots : (k : ℕ) → IsStory start k (get_or s.links k None) log
+
+-- No link stands in any slot.
+abbrev pub AreEmpty : List (Option LinkState) → Type 0
+AreEmpty links = (k : ℕ) → get_or links k None ≡ None
+
+-- Nothing is left to do: the input is read no more, and no link stands.
+pub record IsFinished (s : ServerState) : Type 0 where
+  pub ended : s.is_ended ≡ true
+  pub empty : AreEmpty s.links

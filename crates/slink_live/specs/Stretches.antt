@@ -1,0 +1,40 @@
+-- What a link is sent, by slink_feed's own words: replies, and then packets of stretches of the records.
+use Rattle.std.specs.Prelude.{◌≡◌, ℕ, Bool, false, not, ◌&&◌, zero, suc, List, [], ◌∷◌, ◌++◌, Some, slice_get}
+use Rattle.std.specs.List.{filter}
+use Rattle.slink_wire.specs.declared.reply.Reply.{Reply}
+use Rattle.slink_wire.specs.Place.{Fields}
+use Rattle.slink_wire.specs.Reply.{reply_bytes}
+use Rattle.slink_feed.specs.declared.grant.Grant.{Grant}
+use Rattle.slink_feed.specs.declared.session.Phase.TheVariants.{Streaming}
+use Rattle.slink_feed.specs.Connection.{bytes_sent}
+use Rattle.slink_feed.specs.Sending.{AreAsked, Asked, IsStretch, packets_of}
+use Rattle.slink_feed.specs.Session.{State, grant_at}
+use Rattle.slink_feed.specs.Window.{Shows, Window}
+use Rattle.slink_live.specs.Input.{is_of, places_of}
+
+-- whether the place at an index is the first one that a record is of
+abbrev pub is_first : ℕ → List Fields → List ℕ → Bool
+is_first k [] bytes = false
+is_first zero (p ∷ ps) bytes = is_of p bytes
+is_first (suc k) (p ∷ ps) bytes = not (is_of p bytes) && is_first k ps bytes
+
+-- the records of the place at an index
+abbrev pub records_at : ℕ → List Fields → List (List ℕ) → List (List ℕ)
+records_at k places records = filter (is_first k places) records
+
+-- the bytes of replies, one after another
+abbrev pub all_replies : List Reply → List ℕ
+all_replies [] = []
+all_replies (r ∷ rs) = reply_bytes r ++ all_replies rs
+
+-- Of an input of these records a session said these bytes: replies; and, once it streamed from this state on, packets,
+-- and `END` where all that was asked for was sent. The packets of each place that has a grant are those of a stretch of
+-- its records from the grant on, whatever the ring had in the beginning.
+pub data SaysStretches (start : List Window) (records : List (List ℕ)) (said : List ℕ) : Type 0 where
+  replies_alone : (replies : List Reply) → said ≡ all_replies replies → SaysStretches start records said
+  streams : (replies : List Reply) (s : State) (asked : List Asked) → s.phase ≡ Streaming → AreAsked s asked
+      → said ≡ all_replies replies ++ bytes_sent asked
+      → ((k first : ℕ) (w : Window) (pushed : List (List ℕ)) (g : Grant) → slice_get start k ≡ Some w
+      → Shows w first pushed → grant_at s.grants k ≡ Some g
+      → IsStretch first (pushed ++ records_at k (places_of start) records) g.position (packets_of k asked))
+      → SaysStretches start records said

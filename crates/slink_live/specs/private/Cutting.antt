@@ -1,0 +1,53 @@
+-- How bytes of the input are taken in.
+use Rattle.std.specs.Prelude.{◌≡◌, ℕ, ◌+◌, ◌<◌, List, [], ◌++◌, length, take, slice_get, Some}
+use Rattle.std.specs.List.{AllByRecursion, concat}
+use Rattle.std.specs.Option.{ForSome}
+use Rattle.slink_wire.specs.Place.{Bears, Fields}
+use Rattle.slink_feed.specs.Window.{Window}
+use Rattle.slink_live.specs.declared.fault.InputFault.{InputFault}
+use Rattle.slink_live.specs.Input.{IsFaultIn, IsOf, fed, places_of, pushed}
+use Rattle.slink_live.specs.Served.{IntakeState}
+
+-- the first ring whose place a record is of
+pub record IsBearer (feed : List Window) (bytes : List ℕ) (k : ℕ) : Type 0 where
+  pub within : k < length feed
+  pub bears : ForSome (slice_get feed k) (λ w. Bears bytes w.place)
+  pub first : (j : ℕ) (w : Window) → j < k → slice_get feed j ≡ Some w → ¬ (Bears bytes w.place)
+
+-- The first ring of its place took the record.
+pub record IsPushed (old new : List Window) (bytes : List ℕ) : Type 0 where
+  pub k : ℕ
+  pub place : Fields
+  pub there : slice_get (places_of old) k ≡ Some place
+  pub bears : Bears bytes place
+  pub feed_is : new ≡ pushed old bytes
+
+-- it is of none of these places
+abbrev pub IsOfNone : List Fields → List ℕ → Type 0
+IsOfNone places bytes = (k : ℕ) (place : Fields) → slice_get places k ≡ Some place → ¬ (Bears bytes place)
+
+-- What is kept isn't whole yet; or it was a record, which its ring has now.
+pub data LooksOn (old new : IntakeState) : Type 0 where
+  waits : length old.kept < 512 → new ≡ old → LooksOn old new
+  pushes : IsOf (places_of old.feed) old.kept
+      → new ≡ record { feed = pushed old.feed old.kept; kept = []; records = old.records + 1 } → LooksOn old new
+
+-- Whatever comes, no record of these places begins with what is kept, and this is why.
+pub record IsRefused (places : List Fields) (n : ℕ) (kept : List ℕ) (fault : InputFault) : Type 0 where
+  pub none : (more : List ℕ) → ¬ (IsOf places (take 512 (kept ++ more)))
+  pub is_fault : (more : List ℕ) → IsFaultIn places n (kept ++ more) fault
+
+-- The bytes that were kept and those behind them were cut into records, which the rings have now, and this rest.
+pub record Cuts (old : IntakeState) (bytes : List ℕ) (new : IntakeState) (rest : List ℕ) : Type 0 where
+  pub records : List (List ℕ)
+  pub joined : old.kept ++ bytes ≡ concat records ++ rest
+  pub each : AllByRecursion (IsOf (places_of old.feed)) records
+  pub feed_is : new.feed ≡ fed old.feed records
+  pub counted : new.records ≡ old.records + length records
+
+-- They go no further.
+pub record CutsOff (old : IntakeState) (bytes : List ℕ) (new : IntakeState) (fault : InputFault) : Type 0 where
+  pub rest : List ℕ
+  pub cuts : Cuts old bytes new rest
+  pub no_further : ¬ (IsOf (places_of old.feed) (take 512 rest))
+  pub is_fault : IsFaultIn (places_of old.feed) new.records rest fault

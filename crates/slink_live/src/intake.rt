@@ -1,0 +1,225 @@
+//! The input, cut into records, each of which goes into the ring of its place.
+ghost use Rattle.std.specs.Prelude.{◌≡◌, ◌+◌, ◌*◌, ◌^◌, ◌<◌, ◌≤◌, ◌++◌, [], ℕ, List, None, Some, IfErr, IfSome, OnErr};
+ghost use Rattle.std.specs.Prelude.{OnOk, length, slice_get};
+ghost use Rattle.std.specs.Bool.{OnFalse, OnTrue};
+ghost use Rattle.mseed_record.specs.Record.{IsRecord};
+ghost use Rattle.mseed_stream.specs.declared.fault.StreamFault.{StreamFault};
+ghost use Rattle.slink_wire.specs.Place.{Bears};
+ghost use Rattle.slink_feed.specs.Session.{State, Fits};
+ghost use Rattle.slink_feed.specs.Window.{Window};
+ghost use Rattle.slink_live.specs.Input.{places_of};
+ghost use Rattle.slink_live.specs.Served.{IsBelow};
+ghost use Rattle.slink_live.specs.private.Cutting.{Cuts, CutsOff, IsBearer, IsOfNone, IsPushed, IsRefused, LooksOn};
+
+use crate::fault::InputFault;
+use arrayvec::ArrayVec;
+use mseed_record::{Scan, scan};
+use mseed_stream::StreamFault;
+use slink_feed::Feed;
+use std::marker::Model;
+
+/// So many bytes has each record of a feed.
+const RECORD: usize = 512;
+
+/// The rings, the bytes of the input behind its last record, and how many records there were.
+#[derive(Drop)]
+pub(crate) struct Intake {
+    feed: Feed,
+    kept: ArrayVec<u8, 512>,
+    records: u64,
+}
+
+impl Model for Intake {
+    ghost use Rattle.slink_live.specs.Served.{IntakeState};
+
+    ghost Value = { IntakeState };
+
+    ghost view = { λ i. record { feed = i.feed; kept = i.kept.items; records = i.records } };
+}
+
+/// The index of the first ring whose place a record is of.
+fn bearer(feed: &Feed, bytes: &[u8; 512]) -> Option<usize>
+    ensures some { IfSome result (IsBearer feed.now bytes.now) }
+    ensures none { result ≡ None
+        → (k : ℕ) (w : Window) → slice_get feed.now k ≡ Some w → ¬ (Bears bytes.now w.place) }
+{
+    for k in 0..feed.len() {
+        if feed.ring(k).place().bears(bytes) {
+            return Some(k);
+        }
+    }
+    None
+}
+
+/// Gives a record to the first ring of its place, and answers whether there is one.
+fn push_record(feed: &mut Feed, bytes: &[u8; 512]) -> bool
+    requires room { IsBelow 9223372036854775807 feed.old }
+    ensures yes { OnTrue result (IsPushed feed.old feed.new bytes.now) }
+    ensures no { OnFalse result (IsOfNone (places_of feed.old) bytes.now) }
+    ensures stays { OnFalse result (feed.new ≡ feed.old) }
+    ensures fits { (s : State) → Fits feed.old s → Fits feed.new s }
+    ensures below { (n : ℕ) → IsBelow n feed.old → IsBelow (n + 1) feed.new }
+{
+    match bearer(feed, bytes) {
+        Some(k) => {
+            feed.push(k, bytes);
+            true
+        }
+        None => false,
+    }
+}
+
+impl Intake {
+    /// Before the first byte of the input.
+    pub(crate) fn new(feed: Feed) -> Self
+        ensures { result ≡ record { feed = feed; kept = []; records = 0 } }
+    {
+        Intake {
+            feed,
+            kept: ArrayVec::new(),
+            records: 0,
+        }
+    }
+
+    /// The rings.
+    pub(crate) fn feed(&self) -> &Feed
+        ensures { result.now ≡ self.now.feed }
+    {
+        &self.feed
+    }
+
+    /// Where the next record begins, in bytes.
+    fn offset(&self) -> u64
+        requires { self.now.records ≤ 2 ^ 54 }
+        ensures { result ≡ 512 * self.now.records }
+    {
+        512 * self.records
+    }
+
+    /// Takes bytes of the input, at most 8,192. Each record goes to its ring as soon as it is whole.
+    ///
+    /// # Errors
+    ///
+    /// `Stream` where bytes begin no record, `Foreign` where a record hasn't 512 bytes or is of none of the places.
+    /// What was before them is in the rings.
+    pub(crate) fn take(&mut self, bytes: &[u8]) -> Result<(), InputFault>
+        requires short { length self.old.kept < 512 }
+        requires size { length bytes.now ≤ 8192 }
+        requires below { IsBelow (2 ^ 62 + 2 ^ 54) self.old.feed }
+        requires few { self.old.records ≤ 2 ^ 53 }
+        ensures ok { OnOk result (Cuts self.old bytes.now self.new self.new.kept) }
+        ensures short { OnOk result (length self.new.kept < 512) }
+        ensures err { IfErr result (CutsOff self.old bytes.now self.new) }
+        ensures fits { (s : State) → Fits self.old.feed s → Fits self.new.feed s }
+        ensures below { (n : ℕ) → IsBelow n self.old.feed → IsBelow (n + length bytes.now) self.new.feed }
+        ensures few { self.new.records ≤ self.old.records + length bytes.now }
+    {
+        let mut start = 0;
+        while start < bytes.len() {
+            let count = self.wanted(bytes.len() - start);
+            self.keep(&bytes[start..start + count]);
+            start += count;
+            self.look()?;
+        }
+        Ok(())
+    }
+
+    /// How many of so many bytes are kept: as many as a record still wants.
+    fn wanted(&self, left: usize) -> usize
+        requires short { length self.now.kept < 512 }
+        requires left { 0 < left }
+        ensures some { 0 < result }
+        ensures room { length self.now.kept + result ≤ 512 }
+        ensures within { result ≤ left }
+    {
+        (RECORD - self.kept.len()).min(left)
+    }
+
+    /// Keeps bytes, for which there is room.
+    fn keep(&mut self, bytes: &[u8])
+        requires { length self.old.kept + length bytes.now ≤ 512 }
+        ensures kept { self.new ≡ record self.old { kept = self.old.kept ++ bytes.now } }
+        ensures few { length self.new.kept ≤ 512 }
+    {
+        match self.kept.try_extend_from_slice(bytes) {
+            Ok(()) => {}
+            Err(_) => unreachable!(),
+        }
+    }
+
+    /// Looks whether what is kept is a record, and gives it to its ring.
+    fn look(&mut self) -> Result<(), InputFault>
+        requires size { length self.old.kept ≤ 512 }
+        requires below { IsBelow 9223372036854775807 self.old.feed }
+        requires few { self.old.records ≤ 2 ^ 54 }
+        ensures ok { OnOk result (LooksOn self.old self.new) }
+        ensures err { IfErr result (IsRefused (places_of self.old.feed) self.old.records self.old.kept) }
+        ensures stays { OnErr result (self.new ≡ self.old) }
+        ensures fits { (s : State) → Fits self.old.feed s → Fits self.new.feed s }
+        ensures below { (n : ℕ) → IsBelow n self.old.feed → IsBelow (n + 1) self.new.feed }
+    {
+        match scan(self.kept.as_slice()) {
+            Scan::Need(needed) if needed <= RECORD => Ok(()),
+            Scan::Record(size) if size == RECORD => self.push_kept(),
+            Scan::Not(fault) => Err(InputFault::Stream(StreamFault::Frame(self.offset(), fault))),
+            Scan::Need(_) | Scan::Record(_) => Err(InputFault::Foreign(self.records + 1)),
+        }
+    }
+
+    /// Gives the record that is kept to its ring.
+    fn push_kept(&mut self) -> Result<(), InputFault>
+        requires whole { length self.old.kept ≡ 512 }
+        requires record { IsRecord self.old.kept }
+        requires below { IsBelow 9223372036854775807 self.old.feed }
+        requires few { self.old.records ≤ 2 ^ 54 }
+        ensures ok { OnOk result (LooksOn self.old self.new) }
+        ensures err { IfErr result (λ e. e ≡ InputFault.Foreign (self.old.records + 1)) }
+        ensures none { OnErr result (IsOfNone (places_of self.old.feed) self.old.kept) }
+        ensures stays { OnErr result (self.new ≡ self.old) }
+        ensures fits { (s : State) → Fits self.old.feed s → Fits self.new.feed s }
+        ensures below { (n : ℕ) → IsBelow n self.old.feed → IsBelow (n + 1) self.new.feed }
+    {
+        let mut bytes = [0; RECORD];
+        bytes.copy_from_slice(self.kept.as_slice());
+        if !push_record(&mut self.feed, &bytes) {
+            return Err(InputFault::Foreign(self.records + 1));
+        }
+        self.records += 1;
+        self.kept.clear();
+        Ok(())
+    }
+
+    /// What is wrong with an input that ends now.
+    ///
+    /// # Errors
+    ///
+    /// `Stream` where it ends within a record.
+    pub(crate) fn end(&self) -> Result<(), InputFault>
+        requires few { self.now.records ≤ 2 ^ 54 }
+        ensures ok { OnOk result (self.now.kept ≡ []) }
+        ensures err { IfErr result (λ e. (0 < length self.now.kept)
+            × (e ≡ InputFault.Stream (StreamFault.Truncated (512 * self.now.records) (length self.now.kept)))) }
+    {
+        if self.kept.is_empty() {
+            Ok(())
+        } else {
+            Err(InputFault::Stream(StreamFault::Truncated(self.offset(), self.kept.len())))
+        }
+    }
+
+    /// What is wrong with an input that fails now.
+    pub(crate) fn failure(&self) -> InputFault
+        requires few { self.now.records ≤ 2 ^ 54 }
+        ensures { result ≡ InputFault.Stream (StreamFault.Read (512 * self.now.records)) }
+    {
+        InputFault::Stream(StreamFault::Read(self.offset()))
+    }
+
+    /// What is wrong with an input that was read too often.
+    pub(crate) fn last_turn(&self) -> InputFault
+        requires few { self.now.records ≤ 2 ^ 54 }
+        ensures { result ≡ InputFault.Stream (StreamFault.Turns (512 * self.now.records)) }
+    {
+        InputFault::Stream(StreamFault::Turns(self.offset()))
+    }
+}

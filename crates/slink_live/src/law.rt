@@ -1,0 +1,48 @@
+//! Laws of what links are sent.
+ghost use Rattle.std.specs.Prelude.{◌≡◌, ◌++◌, ℕ, List, Option, Some, slice_get};
+ghost use Rattle.slink_wire.specs.Place.{Fields};
+ghost use Rattle.slink_feed.specs.Window.{Shows, Window};
+ghost use Rattle.slink_live.specs.Happening.{Happening, input_of, those_of};
+ghost use Rattle.slink_live.specs.Input.{IsFed, IsInput, fed, places_of};
+ghost use Rattle.slink_live.specs.Story.{IsServed, Story};
+ghost use Rattle.slink_live.specs.Stretches.{SaysStretches, records_at};
+
+/// Of a link only what happened in its slot matters, and the input.
+pub fn no_other_link_matters()
+    ensures { (start : List Window) (k : ℕ) (log : List Happening) (told : Option Story)
+        → IsServed start k log told → IsServed start k (those_of k log) told }
+{}
+
+/// A slot has a story at each moment: what happened up to there comes to one, by which the link that stood there took a
+/// prefix of what its session had said.
+pub fn each_moment_has_a_story()
+    ensures { (start : List Window) (k : ℕ) (before after : List Happening) (told : Option Story)
+        → IsServed start k (before ++ after) told → (told_then : Option Story) × IsServed start k before told_then }
+{}
+
+/// An input has one list of records, in whatever pieces it came, and so its rings come to one thing. More of it adds
+/// records behind those that there are, and leaves them.
+pub fn input_in_order()
+    ensures one { (places : List Fields) (bytes : List ℕ) (records others : List (List ℕ)) (rest left : List ℕ)
+        → IsInput places bytes records rest → IsInput places bytes others left
+        → (records ≡ others) × (rest ≡ left) }
+    ensures grows { (places : List Fields) (bytes more : List ℕ) (records others : List (List ℕ)) (rest left : List ℕ)
+        → IsInput places bytes records rest → IsInput places (bytes ++ more) others left
+        → (added : List (List ℕ)) × (others ≡ records ++ added) }
+    ensures rings { (start : List Window) (bytes : List ℕ) (feed other : List Window)
+        → IsFed start bytes feed → IsFed start bytes other → feed ≡ other }
+    // Each ring shows the last of its place's records.
+    ensures shows { (start : List Window) (records : List (List ℕ)) (k first : ℕ) (w : Window)
+        (pushed : List (List ℕ)) → slice_get start k ≡ Some w → Shows w first pushed
+        → (v : Window) × (slice_get (fed start records) k ≡ Some v)
+        × Shows v first (pushed ++ records_at k (places_of start) records) }
+{}
+
+/// What a link's session says, to the link's own lines and over the records of the input so far, is as slink_feed has
+/// it of one link alone: replies, and then packets, of which those of each place are a stretch of its records from the
+/// grant on. Whatever the other links say and take, and in whatever order.
+pub fn a_link_is_sent_stretches()
+    ensures { (start : List Window) (k : ℕ) (log : List Happening) (told : Story) (records : List (List ℕ))
+        (rest : List ℕ) → IsServed start k log (Some told) → IsInput (places_of start) (input_of log) records rest
+        → SaysStretches start records told.said }
+{}

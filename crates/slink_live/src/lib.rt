@@ -1,0 +1,20 @@
+//! A feed of SeedLink 3 that is served to many links at once, by one thread, while its input comes.
+#![tactic(auto)]
+
+mod fault;
+mod intake;
+mod law;
+mod link;
+mod log;
+mod ready;
+mod server;
+#[cfg(test)]
+mod tests;
+
+pub use fault::InputFault;
+pub use law::{
+    a_link_is_sent_stretches, each_moment_has_a_story, input_in_order, no_other_link_matters,
+};
+pub use log::Log;
+pub use ready::{Event, Ready, Wishes};
+pub use server::Server;

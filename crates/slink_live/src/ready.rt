@@ -1,0 +1,87 @@
+//! What comes next, asked of a device.
+ghost use Rattle.std.specs.Prelude.{◌≡◌, ◌≤◌, ◌∷◌, ◌++◌, [], List, Bool, true, length, take, if◌then◌else◌};
+ghost use Rattle.slink_live.specs.Happening.{Happening, Input, Opened, Heard, Took, Gone};
+
+/// What can be done next.
+#[derive(Clone, Copy, Debug, PartialEq, Eq)]
+pub enum Event {
+    /// The input has bytes.
+    Input,
+    /// The input has no more bytes.
+    InputEnded,
+    /// The input failed.
+    InputFailed,
+    /// Somebody dials.
+    Dialled,
+    /// The link in a slot may have bytes.
+    Readable(usize),
+    /// The link in a slot may take bytes.
+    Writable(usize),
+    /// The link in a slot is at its end, or failed, or was silent for too long.
+    Gone(usize),
+    /// Nothing comes any more.
+    Nothing,
+}
+
+/// What a server wants of a link.
+#[derive(Clone, Copy, Debug, PartialEq, Eq)]
+pub struct Wishes {
+    /// It would read.
+    pub reads: bool,
+    /// It has something to write.
+    pub writes: bool,
+    /// The handshake is over: the client has said all that it has to say.
+    pub is_streaming: bool,
+}
+
+/// The input and the links of a server, none of which is waited for but by `next`.
+///
+/// The links stand in slots, of which the server says the number. What is ready is the device's to say, and how long
+/// it waits: no clause speaks of time.
+pub trait Ready {
+    // What happened so far, in order.
+    ghost log: { Self → List Happening };
+
+    // Nothing comes any more.
+    ghost is_over: { Self → Bool };
+
+    /// What can be done next. It may be less than it says.
+    fn next(&mut self) -> Event
+        ensures log { log self.new ≡ log self.old }
+        ensures over { result ≡ Event.Nothing → is_over self.new ≡ true };
+
+    /// Reads once from the input; 0 where there is nothing now.
+    fn read_input(&mut self, buf: &mut [u8]) -> usize
+        ensures bound { result ≤ length buf.new }
+        ensures log { log self.new ≡ log self.old ++ Input (take result buf.new) ∷ [] };
+
+    /// The input isn't read any more.
+    fn leave_input(&mut self)
+        ensures log { log self.new ≡ log self.old };
+
+    /// Puts a link that dials into a slot, if there is one.
+    fn accept(&mut self, slot: usize) -> bool
+        ensures log { log self.new ≡ log self.old ++ (if result then Opened slot ∷ [] else []) };
+
+    /// Reads once from the link in a slot; 0 where there is nothing now.
+    fn read(&mut self, slot: usize, buf: &mut [u8]) -> usize
+        ensures bound { result ≤ length buf.new }
+        ensures log { log self.new ≡ log self.old ++ Heard slot (take result buf.new) ∷ [] };
+
+    /// Writes once to the link in a slot, which takes a prefix of the bytes; 0 where it takes nothing now.
+    fn write(&mut self, slot: usize, bytes: &[u8]) -> usize
+        ensures bound { result ≤ length bytes.now }
+        ensures log { log self.new ≡ log self.old ++ Took slot (take result bytes.now) ∷ [] };
+
+    /// Closes the link in a slot.
+    fn close(&mut self, slot: usize)
+        ensures log { log self.new ≡ log self.old ++ Gone slot ∷ [] };
+
+    /// What the server wants of the link in a slot.
+    fn wants(&mut self, slot: usize, wishes: Wishes)
+        ensures log { log self.new ≡ log self.old };
+
+    /// Whether the server would take another link.
+    fn wants_links(&mut self, wanted: bool)
+        ensures log { log self.new ≡ log self.old };
+}

@@ -1,0 +1,504 @@
+//! A server's state, and what each event does to it.
+ghost use Rattle.std.specs.Prelude.{◌≡◌, ◌+◌, ◌*◌, ◌^◌, ◌<◌, ◌≤◌, ◌++◌, [], ◌∷◌, ℕ, List, Some, None, IfErr, IfSome};
+ghost use Rattle.std.specs.Prelude.{IfOk, OnOk, ◌⊎◌, get_or, length, false, true};
+ghost use Rattle.std.specs.Bool.{OnTrue};
+ghost use Rattle.std.specs.List.{AllByRecursion};
+ghost use Rattle.slink_feed.specs.Session.{Fits};
+ghost use Rattle.slink_feed.specs.Window.{Window};
+ghost use Rattle.slink_live.specs.Happening.{Happening, Input, input_of};
+ghost use Rattle.slink_live.specs.Input.{IsInputFault, places_of};
+ghost use Rattle.slink_live.specs.Served.{AreEmpty, IsBelow, IsFinished, IsServing, IsSound, ServerState};
+ghost use Rattle.slink_live.specs.private.Calling.{Closes, HasFilled, HasHeard, HasTaken, IsCalled};
+ghost use Rattle.slink_live.specs.private.Calling.{ReadsFrom, ReadsInput, Stays, WritesTo};
+
+use crate::fault::InputFault;
+use crate::intake::Intake;
+use crate::link::{Link, PIECE};
+use crate::ready::{Event, Ready, Wishes};
+use slink_feed::Feed;
+use std::alloc::{AllocError, Global};
+use std::marker::Model;
+
+/// The most bytes of the input that are read at once: four records, since a link takes up to six packets in between,
+/// and so keeps up with an input that is always ready.
+const INPUT: usize = 2_048;
+
+/// So often the input is read at most, and so many events are carried out in one call.
+const TURNS: u64 = 1 << 40;
+
+/// The rings of a feed, filled as their input comes, and links in slots, each with a session of its own.
+#[derive(Drop)]
+pub struct Server {
+    intake: Intake,
+    links: Vec<Option<Link>>,
+    is_ended: bool,
+    reads: u64,
+}
+
+impl Model for Server {
+    ghost use Rattle.slink_live.specs.Served.{ServerState};
+
+    ghost Value = { ServerState };
+
+    ghost view = { λ s. record {
+      intake = s.intake;
+      links = s.links.items;
+      is_ended = s.is_ended;
+      reads = s.reads;
+    } };
+}
+
+/// So many slots without a link.
+fn slots(alloc: Global, count: usize) -> Result<Vec<Option<Link>>, AllocError>
+    ensures empty { IfOk result (λ slots. AreEmpty slots.items) }
+    ensures count { IfOk result (λ slots. length slots.items ≡ count) }
+{
+    let mut slots = Vec::new(alloc);
+    for slot in 0..count {
+        slots.push(None)?;
+    }
+    Ok(slots)
+}
+
+/// Reads once from the link in a slot, where one stands, and has its session answer.
+fn hear<R: Ready>(link: &mut Option<Link>, feed: &Feed, slot: usize, ready: &mut R)
+    requires { IfSome link.old (λ l. Fits feed.now l.session.state) }
+    ensures { HasHeard feed.now slot link.old link.new (R.log ready.old) (R.log ready.new) }
+{
+    if let Some(link) = link {
+        hear_link(link, feed, slot, ready);
+    }
+}
+
+/// Reads once from a link, as much as there is room for replies.
+fn hear_link<R: Ready>(link: &mut Link, feed: &Feed, slot: usize, ready: &mut R)
+    requires { Fits feed.now link.old.session.state }
+    ensures { HasHeard feed.now slot (Some link.old) (Some link.new) (R.log ready.old) (R.log ready.new) }
+{
+    let mut buf = [0; PIECE];
+    let most = link.readable();
+    let count = ready.read(slot, &mut buf[..most]);
+    link.hear(feed, &buf[..count]);
+}
+
+/// Writes once to the link in a slot, where one stands, what its session said.
+fn tell<R: Ready>(link: &mut Option<Link>, slot: usize, ready: &mut R)
+    ensures { HasTaken slot link.old link.new (R.log ready.old) (R.log ready.new) }
+{
+    if let Some(link) = link {
+        tell_link(link, slot, ready);
+    }
+}
+
+/// Writes once to a link.
+fn tell_link<R: Ready>(link: &mut Link, slot: usize, ready: &mut R)
+    ensures { HasTaken slot (Some link.old) (Some link.new) (R.log ready.old) (R.log ready.new) }
+{
+    let count = ready.write(slot, link.pending());
+    link.taken(count);
+}
+
+/// Has the session of the link in a slot say what is due.
+fn fill(link: &mut Option<Link>, feed: &Feed)
+    requires { IfSome link.old (λ l. Fits feed.now l.session.state) }
+    ensures { HasFilled feed.now link.old link.new }
+{
+    if let Some(link) = link {
+        link.fill(feed);
+    }
+}
+
+impl Server {
+    /// A server of these rings, with so many slots for links.
+    ///
+    /// # Errors
+    ///
+    /// Where there is no memory for the slots.
+    pub fn new(alloc: Global, feed: Feed, clients: usize) -> Result<Self, AllocError>
+        requires { AllByRecursion (λ w. w.next ≤ 2 ^ 62) feed }
+        ensures serving { IfOk result (λ s. IsServing feed s []) }
+        ensures sound { IfOk result IsSound }
+        ensures slots { IfOk result (λ s. length s.links ≡ clients) }
+    {
+        Ok(Server {
+            intake: Intake::new(feed),
+            links: slots(alloc, clients)?,
+            is_ended: false,
+            reads: 0,
+        })
+    }
+
+    /// Whether nothing is left to do: the input is read no more, and no link stands.
+    fn is_finished(&self) -> bool
+        ensures { OnTrue result (IsFinished self.now) }
+    {
+        self.is_ended && self.is_empty()
+    }
+
+    /// Whether no link stands.
+    fn is_empty(&self) -> bool
+        ensures { OnTrue result (AreEmpty self.now.links) }
+    {
+        for slot in 0..self.links.len() {
+            if self.links[slot].is_some() {
+                return false;
+            }
+        }
+        true
+    }
+
+    /// Serves the input to the links until it is read no more and no link stands, or nothing comes any more.
+    ///
+    /// # Errors
+    ///
+    /// What is wrong with the input, at once: `Turns` behind 2^40 reads, and where 2^40 events came in one call. It
+    /// isn't read further: the next call serves the links on, from the records that came before.
+    pub fn serve<R: Ready>(&mut self, ready: &mut R) -> Result<(), InputFault>
+        requires sound { IsSound self.old }
+        ensures sound { IsSound self.new }
+        ensures serving { (start : List Window) → IsServing start self.old (R.log ready.old)
+            → IsServing start self.new (R.log ready.new) }
+        ensures over { OnOk result (IsFinished self.new ⊎ (R.is_over ready.new ≡ true)) }
+        ensures fault { IfErr result (λ e. (start : List Window) → IsServing start self.old (R.log ready.old)
+            → IsInputFault (places_of start) (input_of (R.log ready.new)) e) }
+        ensures ended { IfErr result (λ _. self.new.is_ended ≡ true) }
+    {
+        for turn in 0..TURNS {
+            if self.is_finished() {
+                return Ok(());
+            }
+            match ready.next() {
+                Event::Nothing => return Ok(()),
+                event => self.step(event, ready)?,
+            }
+        }
+        Err(self.give_up(ready))
+    }
+
+    /// Does what can be done next.
+    fn step<R: Ready>(&mut self, event: Event, ready: &mut R) -> Result<(), InputFault>
+        requires sound { IsSound self.old }
+        ensures sound { IsSound self.new }
+        ensures serving { (start : List Window) → IsServing start self.old (R.log ready.old)
+            → IsServing start self.new (R.log ready.new) }
+        ensures fault { IfErr result (λ e. (start : List Window) → IsServing start self.old (R.log ready.old)
+            → IsInputFault (places_of start) (input_of (R.log ready.new)) e) }
+        ensures ended { IfErr result (λ _. self.new.is_ended ≡ true) }
+        ensures called { IsCalled event self.old (R.log ready.old) (R.log ready.new) }
+    {
+        match event {
+            Event::Input => return self.on_input(ready),
+            Event::InputEnded => return self.on_end(ready),
+            Event::InputFailed => return self.on_failure(ready),
+            Event::Dialled => self.on_dialled(ready),
+            Event::Readable(slot) => self.on_readable(slot, ready),
+            Event::Writable(slot) => self.on_writable(slot, ready),
+            Event::Gone(slot) => self.close(slot, ready),
+            Event::Nothing => {}
+        }
+        Ok(())
+    }
+
+    /// Reads once from the input, unless it is read no more.
+    fn on_input<R: Ready>(&mut self, ready: &mut R) -> Result<(), InputFault>
+        requires sound { IsSound self.old }
+        ensures sound { IsSound self.new }
+        ensures serving { (start : List Window) → IsServing start self.old (R.log ready.old)
+            → IsServing start self.new (R.log ready.new) }
+        ensures fault { IfErr result (λ e. (start : List Window) → IsServing start self.old (R.log ready.old)
+            → IsInputFault (places_of start) (input_of (R.log ready.new)) e) }
+        ensures ended { IfErr result (λ _. self.new.is_ended ≡ true) }
+        ensures called { ReadsInput self.old (R.log ready.old) (R.log ready.new) }
+    {
+        if self.is_ended {
+            return Ok(());
+        }
+        if self.reads == TURNS {
+            return Err(self.give_up(ready));
+        }
+        if let Err(fault) = self.read_input(ready) {
+            self.end(ready);
+            return Err(fault);
+        }
+        self.settle_all(ready);
+        Ok(())
+    }
+
+    /// Reads once from the input. What is wrong with it is the end.
+    fn read_input<R: Ready>(&mut self, ready: &mut R) -> Result<(), InputFault>
+        requires sound { IsSound self.old }
+        requires goes_on { self.old.is_ended ≡ false }
+        requires few { self.old.reads < 2 ^ 40 }
+        ensures sound { IsSound self.new }
+        ensures serving { (start : List Window) → IsServing start self.old (R.log ready.old)
+            → IsServing start self.new (R.log ready.new) }
+        ensures fault { IfErr result (λ e. (start : List Window) → IsServing start self.old (R.log ready.old)
+            → IsInputFault (places_of start) (input_of (R.log ready.new)) e) }
+        ensures ended { IfErr result (λ _. self.new.is_ended ≡ true) }
+        ensures called { (bytes : List ℕ) × (R.log ready.new ≡ R.log ready.old ++ Input bytes ∷ []) }
+    {
+        let mut buf = [0; INPUT];
+        let count = ready.read_input(&mut buf);
+        self.reads += 1;
+        let taken = self.intake.take(&buf[..count]);
+        self.is_ended = taken.is_err();
+        taken
+    }
+
+    /// Takes note that no record comes any more.
+    fn on_end<R: Ready>(&mut self, ready: &mut R) -> Result<(), InputFault>
+        requires sound { IsSound self.old }
+        ensures sound { IsSound self.new }
+        ensures serving { (start : List Window) → IsServing start self.old (R.log ready.old)
+            → IsServing start self.new (R.log ready.new) }
+        ensures fault { IfErr result (λ e. (start : List Window) → IsServing start self.old (R.log ready.old)
+            → IsInputFault (places_of start) (input_of (R.log ready.new)) e) }
+        ensures ended { IfErr result (λ _. self.new.is_ended ≡ true) }
+        ensures closes { Closes (R.log ready.old) (R.log ready.new) }
+    {
+        if self.is_ended {
+            return Ok(());
+        }
+        self.end(ready);
+        self.intake.end()
+    }
+
+    /// Takes note that the input failed.
+    fn on_failure<R: Ready>(&mut self, ready: &mut R) -> Result<(), InputFault>
+        requires sound { IsSound self.old }
+        ensures sound { IsSound self.new }
+        ensures serving { (start : List Window) → IsServing start self.old (R.log ready.old)
+            → IsServing start self.new (R.log ready.new) }
+        ensures fault { IfErr result (λ e. (start : List Window) → IsServing start self.old (R.log ready.old)
+            → IsInputFault (places_of start) (input_of (R.log ready.new)) e) }
+        ensures ended { IfErr result (λ _. self.new.is_ended ≡ true) }
+        ensures closes { Closes (R.log ready.old) (R.log ready.new) }
+    {
+        if self.is_ended {
+            return Ok(());
+        }
+        self.end(ready);
+        Err(self.intake.failure())
+    }
+
+    /// Reads the input no more, takes no more links, and closes those that have all.
+    fn end<R: Ready>(&mut self, ready: &mut R)
+        requires sound { IsSound self.old }
+        ensures sound { IsSound self.new }
+        ensures serving { (start : List Window) → IsServing start self.old (R.log ready.old)
+            → IsServing start self.new (R.log ready.new) }
+        ensures ended { self.new.is_ended ≡ true }
+        ensures intake { self.new.intake ≡ self.old.intake }
+        ensures closes { Closes (R.log ready.old) (R.log ready.new) }
+    {
+        self.is_ended = true;
+        ready.leave_input();
+        ready.wants_links(false);
+        self.settle_all(ready);
+    }
+
+    /// Reads the input no more, since it was asked too often what can be done, and says so.
+    fn give_up<R: Ready>(&mut self, ready: &mut R) -> InputFault
+        requires sound { IsSound self.old }
+        ensures sound { IsSound self.new }
+        ensures serving { (start : List Window) → IsServing start self.old (R.log ready.old)
+            → IsServing start self.new (R.log ready.new) }
+        ensures fault { (start : List Window) → IsServing start self.old (R.log ready.old)
+            → IsInputFault (places_of start) (input_of (R.log ready.new)) result }
+        ensures ended { self.new.is_ended ≡ true }
+        ensures closes { Closes (R.log ready.old) (R.log ready.new) }
+    {
+        self.end(ready);
+        self.intake.last_turn()
+    }
+
+    /// Takes a new link into a free slot.
+    fn on_dialled<R: Ready>(&mut self, ready: &mut R)
+        requires sound { IsSound self.old }
+        ensures sound { IsSound self.new }
+        ensures serving { (start : List Window) → IsServing start self.old (R.log ready.old)
+            → IsServing start self.new (R.log ready.new) }
+        ensures called { (opened : List Happening) × Closes (R.log ready.old ++ opened) (R.log ready.new) }
+    {
+        match self.free_slot() {
+            Some(slot) => self.open(slot, ready),
+            None => ready.wants_links(false),
+        }
+    }
+
+    /// A slot without a link, while the input is read.
+    fn free_slot(&self) -> Option<usize>
+        ensures within { IfSome result (λ slot. slot < length self.now.links) }
+        ensures free { IfSome result (λ slot. get_or self.now.links slot None ≡ None) }
+    {
+        if self.is_ended {
+            return None;
+        }
+        for slot in 0..self.links.len() {
+            if self.links[slot].is_none() {
+                return Some(slot);
+            }
+        }
+        None
+    }
+
+    /// Takes a new link into a slot.
+    fn open<R: Ready>(&mut self, slot: usize, ready: &mut R)
+        requires sound { IsSound self.old }
+        requires within { slot < length self.old.links }
+        requires free { get_or self.old.links slot None ≡ None }
+        ensures sound { IsSound self.new }
+        ensures serving { (start : List Window) → IsServing start self.old (R.log ready.old)
+            → IsServing start self.new (R.log ready.new) }
+        ensures called { (opened : List Happening) × Closes (R.log ready.old ++ opened) (R.log ready.new) }
+    {
+        if ready.accept(slot) {
+            self.links[slot] = Some(Link::new());
+            ready.wants(slot, self.wishes(slot));
+        }
+    }
+
+    /// Reads from the link in a slot.
+    fn on_readable<R: Ready>(&mut self, slot: usize, ready: &mut R)
+        requires sound { IsSound self.old }
+        ensures sound { IsSound self.new }
+        ensures serving { (start : List Window) → IsServing start self.old (R.log ready.old)
+            → IsServing start self.new (R.log ready.new) }
+        ensures called { ReadsFrom (get_or self.old.links slot None) slot (R.log ready.old) (R.log ready.new) }
+    {
+        if slot < self.links.len() {
+            self.hear_slot(slot, ready);
+            self.settle(slot, ready);
+        }
+    }
+
+    /// Reads from the link in a slot, and has its session answer.
+    fn hear_slot<R: Ready>(&mut self, slot: usize, ready: &mut R)
+        requires sound { IsSound self.old }
+        requires within { slot < length self.old.links }
+        ensures sound { IsSound self.new }
+        ensures serving { (start : List Window) → IsServing start self.old (R.log ready.old)
+            → IsServing start self.new (R.log ready.new) }
+        ensures heard { HasHeard self.old.intake.feed slot (get_or self.old.links slot None)
+            (get_or self.new.links slot None) (R.log ready.old) (R.log ready.new) }
+    {
+        hear(&mut self.links[slot], self.intake.feed(), slot, ready);
+    }
+
+    /// Writes to the link in a slot.
+    fn on_writable<R: Ready>(&mut self, slot: usize, ready: &mut R)
+        requires sound { IsSound self.old }
+        ensures sound { IsSound self.new }
+        ensures serving { (start : List Window) → IsServing start self.old (R.log ready.old)
+            → IsServing start self.new (R.log ready.new) }
+        ensures called { WritesTo (get_or self.old.links slot None) slot (R.log ready.old) (R.log ready.new) }
+    {
+        if slot < self.links.len() {
+            self.tell_slot(slot, ready);
+            self.settle(slot, ready);
+        }
+    }
+
+    /// Writes to the link in a slot what its session said.
+    fn tell_slot<R: Ready>(&mut self, slot: usize, ready: &mut R)
+        requires sound { IsSound self.old }
+        requires within { slot < length self.old.links }
+        ensures sound { IsSound self.new }
+        ensures serving { (start : List Window) → IsServing start self.old (R.log ready.old)
+            → IsServing start self.new (R.log ready.new) }
+        ensures taken { HasTaken slot (get_or self.old.links slot None) (get_or self.new.links slot None)
+            (R.log ready.old) (R.log ready.new) }
+    {
+        tell(&mut self.links[slot], slot, ready);
+    }
+
+    /// Closes the link in a slot.
+    fn close<R: Ready>(&mut self, slot: usize, ready: &mut R)
+        requires sound { IsSound self.old }
+        ensures sound { IsSound self.new }
+        ensures serving { (start : List Window) → IsServing start self.old (R.log ready.old)
+            → IsServing start self.new (R.log ready.new) }
+        ensures stays { Stays self.old self.new }
+        ensures closes { Closes (R.log ready.old) (R.log ready.new) }
+    {
+        if slot < self.links.len() {
+            self.links[slot] = None;
+            ready.close(slot);
+            ready.wants_links(!self.is_ended);
+        }
+    }
+
+    /// Has each link's session say what is due, says what is wanted of it, and closes those that have all.
+    fn settle_all<R: Ready>(&mut self, ready: &mut R)
+        requires sound { IsSound self.old }
+        ensures sound { IsSound self.new }
+        ensures serving { (start : List Window) → IsServing start self.old (R.log ready.old)
+            → IsServing start self.new (R.log ready.new) }
+        ensures stays { Stays self.old self.new }
+        ensures closes { Closes (R.log ready.old) (R.log ready.new) }
+    {
+        for slot in 0..self.links.len() {
+            self.settle(slot, ready);
+        }
+    }
+
+    /// Has the session of the link in a slot say what is due, and says what is wanted of the link, or closes it.
+    fn settle<R: Ready>(&mut self, slot: usize, ready: &mut R)
+        requires sound { IsSound self.old }
+        ensures sound { IsSound self.new }
+        ensures serving { (start : List Window) → IsServing start self.old (R.log ready.old)
+            → IsServing start self.new (R.log ready.new) }
+        ensures stays { Stays self.old self.new }
+        ensures closes { Closes (R.log ready.old) (R.log ready.new) }
+    {
+        if slot < self.links.len() {
+            self.fill_slot(slot);
+            if self.is_over(slot) {
+                self.close(slot, ready);
+            } else {
+                ready.wants(slot, self.wishes(slot));
+            }
+        }
+    }
+
+    /// Has the session of the link in a slot say what is due.
+    fn fill_slot(&mut self, slot: usize)
+        requires sound { IsSound self.old }
+        requires within { slot < length self.old.links }
+        ensures sound { IsSound self.new }
+        ensures serving { (start : List Window) (log : List Happening) → IsServing start self.old log
+            → IsServing start self.new log }
+        ensures stays { Stays self.old self.new }
+    {
+        fill(&mut self.links[slot], self.intake.feed());
+    }
+
+    /// Whether the link in a slot is to be closed. One that lost its place is found here, when records come: a link
+    /// that takes nothing is never writable.
+    fn is_over(&self, slot: usize) -> bool {
+        match self.links.get(slot) {
+            Some(Some(link)) => {
+                link.is_done()
+                    || link.is_lost(self.intake.feed())
+                    || self.is_ended && link.has_all()
+            }
+            Some(None) | None => false,
+        }
+    }
+
+    /// What is wanted of the link in a slot.
+    fn wishes(&self, slot: usize) -> Wishes {
+        match self.links.get(slot) {
+            Some(Some(link)) => Wishes {
+                reads: link.readable() > 0,
+                writes: !link.pending().is_empty(),
+                is_streaming: link.is_streaming(),
+            },
+            Some(None) | None => Wishes {
+                reads: false,
+                writes: false,
+                is_streaming: false,
+            },
+        }
+    }
+}

@@ -1,0 +1,326 @@
+//! Orders and pieces chosen at random, in memory.
+ghost use Rattle.std.specs.Prelude.{◌≡◌, ◌≢◌, ◌≤◌, ◌<◌, [], IfOk, IfSome, length};
+ghost use Rattle.slink_live.specs.Served.{IsSound};
+
+use crate::{Event, InputFault, Log, Ready, Server, Wishes};
+use mseed_stream::StreamFault;
+use slink_feed::{Feed, Ring};
+use slink_wire::Place;
+use std::alloc::{AllocError, Global};
+
+const SLOTS: usize = 3;
+
+/// A client: what it says, and what it took.
+#[derive(Drop)]
+struct Peer {
+    says: Vec<u8>,
+    said: usize,
+    took: Vec<u8>,
+}
+
+/// A device in memory.
+#[derive(Drop)]
+struct Script {
+    input: Vec<u8>,
+    given: usize,
+    peers: Vec<Peer>,
+    dialled: usize,
+    places: [Option<usize>; 3],
+    // Whether its clients take nothing.
+    is_deaf: bool,
+    // With so many events left the input begins.
+    begins: u32,
+    seed: u64,
+    left: u32,
+    is_left: bool,
+    is_over: bool,
+    log: Log,
+}
+
+impl Script {
+    /// A number below `most`.
+    fn random(&mut self, most: usize) -> usize
+        requires { 0 < most }
+        ensures below { result < most }
+        ensures log { self.new.log ≡ self.old.log }
+        ensures over { self.new.is_over ≡ self.old.is_over }
+    {
+        self.seed = self
+            .seed
+            .wrapping_mul(6364136223846793005)
+            .wrapping_add(1442695040888963407);
+        (self.seed >> 33) as usize % most
+    }
+
+    /// What comes of the input.
+    fn input_event(&self) -> Event
+        ensures { result ≢ Event.Nothing }
+    {
+        if self.left > self.begins {
+            Event::Dialled
+        } else if self.given < self.input.len() && !self.is_left {
+            Event::Input
+        } else {
+            Event::InputEnded
+        }
+    }
+
+    /// The client in a slot.
+    fn peer(&self, slot: usize) -> Option<usize> {
+        if slot < SLOTS {
+            self.places[slot]
+        } else {
+            None
+        }
+    }
+
+    /// Gives a client's next bytes.
+    fn give(&mut self, slot: usize, buf: &mut [u8]) -> usize
+        ensures bound { result ≤ length buf.new }
+        ensures log { self.new.log ≡ self.old.log }
+    {
+        let most = self.random(9);
+        match self.peer(slot) {
+            Some(k) if k < self.peers.len() => {
+                let said = self.peers[k].said.min(self.peers[k].says.len());
+                let count = copy(&self.peers[k].says[said..], most, buf);
+                self.peers[k].said = said.saturating_add(count);
+                count
+            }
+            _ => 0,
+        }
+    }
+
+    /// Has a client take a prefix of the bytes.
+    fn take(&mut self, slot: usize, bytes: &[u8]) -> usize
+        ensures bound { result ≤ length bytes.now }
+        ensures log { self.new.log ≡ self.old.log }
+    {
+        let count = self.random(900).min(bytes.len());
+        match self.peer(slot) {
+            Some(k) if k < self.peers.len() && !self.is_deaf => {
+                match self.peers[k].took.extend_from_slice(&bytes[..count]) {
+                    Ok(()) => count,
+                    Err(_) => 0,
+                }
+            }
+            _ => 0,
+        }
+    }
+}
+
+/// Copies at most so many bytes, and counts them.
+fn copy(from: &[u8], most: usize, to: &mut [u8]) -> usize
+    ensures { result ≤ length to.new }
+{
+    let count = most.min(from.len()).min(to.len());
+    to[..count].copy_from_slice(&from[..count]);
+    count
+}
+
+impl Ready for Script {
+    ghost log = { λ s. s.log.all };
+
+    ghost is_over = { λ s. s.is_over };
+
+    fn next(&mut self) -> Event {
+        if self.left == 0 {
+            self.is_over = true;
+            return Event::Nothing;
+        }
+        self.left -= 1;
+        let choice = self.random(8);
+        match choice {
+            0 => self.input_event(),
+            1 => Event::Dialled,
+            2 => Event::Readable(0),
+            3 => Event::Readable(1),
+            4 => Event::Readable(2),
+            5 => Event::Writable(0),
+            6 => Event::Writable(1),
+            _ => Event::Writable(2),
+        }
+    }
+
+    fn read_input(&mut self, buf: &mut [u8]) -> usize {
+        let most = self.random(700);
+        let given = self.given.min(self.input.len());
+        let count = copy(&self.input[given..], most, buf);
+        self.given = given.saturating_add(count);
+        self.log.input(&buf[..count]);
+        count
+    }
+
+    fn leave_input(&mut self) {
+        self.is_left = true;
+    }
+
+    fn accept(&mut self, slot: usize) -> bool {
+        let is_open = slot < SLOTS && self.dialled < self.peers.len();
+        if is_open {
+            self.places[slot] = Some(self.dialled);
+            self.dialled = self.dialled.saturating_add(1);
+            self.log.opened(slot);
+        }
+        is_open
+    }
+
+    fn read(&mut self, slot: usize, buf: &mut [u8]) -> usize {
+        let count = self.give(slot, buf);
+        self.log.heard(slot, &buf[..count]);
+        count
+    }
+
+    fn write(&mut self, slot: usize, bytes: &[u8]) -> usize {
+        let count = self.take(slot, bytes);
+        self.log.took(slot, &bytes[..count]);
+        count
+    }
+
+    fn close(&mut self, slot: usize) {
+        if slot < SLOTS {
+            self.places[slot] = None;
+        }
+        self.log.gone(slot);
+    }
+
+    fn wants(&mut self, _slot: usize, _wishes: Wishes) {}
+
+    fn wants_links(&mut self, _wanted: bool) {}
+}
+
+/// A record of 512 bytes of the station STA in the network XX, with a byte that tells its number.
+fn record(number: u8) -> [u8; 512] {
+    let mut bytes = [0; 512];
+    bytes[..20].copy_from_slice(b"000001D STA  00BHZXX");
+    bytes[20..24].copy_from_slice(&[7, 232, 0, 1]);
+    bytes[44..56].copy_from_slice(&[0, 64, 0, 48, 3, 232, 0, 0, 10, 1, 9, 0]);
+    bytes[511] = number;
+    bytes
+}
+
+/// Records, one behind another.
+fn records(alloc: Global, count: u8) -> Result<Vec<u8>, AllocError> {
+    let mut bytes = Vec::new(alloc);
+    for number in 0..count {
+        bytes.extend_from_slice(&record(number))?;
+    }
+    Ok(bytes)
+}
+
+/// What is owed to a client whose first request is refused, and the second granted from the first record on.
+fn owed(alloc: Global, count: u8) -> Result<Vec<u8>, AllocError> {
+    let mut bytes = Vec::new(alloc);
+    bytes.extend_from_slice(b"OK\r\nERROR\r\nOK\r\n")?;
+    for number in 0..count {
+        bytes.extend_from_slice(b"SL00000")?;
+        bytes.extend_from_slice(&[b'0' + number % 10])?;
+        bytes.extend_from_slice(&record(number))?;
+    }
+    Ok(bytes)
+}
+
+/// Three clients of one place.
+fn three_peers(alloc: Global) -> Result<Vec<Peer>, AllocError> {
+    let mut peers = Vec::new(alloc);
+    for peer in 0..3 {
+        let mut says = Vec::new(alloc);
+        says.extend_from_slice(b"STATION STA XX\r\nDATA 999\r\nDATA 0\r\nEND\r\n")?;
+        peers.push(Peer {
+            says,
+            said: 0,
+            took: Vec::new(alloc),
+        })?;
+    }
+    Ok(peers)
+}
+
+/// A server of one ring of so many records.
+fn server_of(alloc: Global, capacity: usize) -> Result<Option<Server>, AllocError>
+    ensures { IfOk result (λ server. IfSome server IsSound) }
+{
+    let Ok(place) = Place::new(b"STA", b"XX") else {
+        return Ok(None);
+    };
+    let Ok(ring) = Ring::new(alloc, place, capacity, 0) else {
+        return Ok(None);
+    };
+    let mut feed = Feed::new();
+    feed.add_other(ring);
+    Ok(Some(Server::new(alloc, feed, SLOTS)?))
+}
+
+/// Three clients, an input, and an order of this seed.
+fn script_of(alloc: Global, input: Vec<u8>, seed: u64) -> Result<Script, AllocError>
+    ensures { IfOk result (λ script. script.log.all ≡ []) }
+{
+    Ok(Script {
+        input,
+        given: 0,
+        peers: three_peers(alloc)?,
+        dialled: 0,
+        places: [None; 3],
+        is_deaf: false,
+        begins: 100_000,
+        seed,
+        left: 100_000,
+        is_left: false,
+        is_over: false,
+        log: Log::new(),
+    })
+}
+
+/// Three clients by an order of this seed: whether each took all that is owed to it, and the server answered so.
+fn went_well(
+    alloc: Global,
+    input: Vec<u8>,
+    seed: u64,
+    answer: Result<(), InputFault>,
+) -> Result<bool, AllocError> {
+    let Some(mut server) = server_of(alloc, 100)? else {
+        return Ok(false);
+    };
+    let mut script = script_of(alloc, input, seed)?;
+    let mut is_well = server.serve(&mut script) == answer;
+    is_well = is_well && server.serve(&mut script).is_ok() && script.left > 0;
+    let owed = owed(alloc, 9)?;
+    for peer in &script.peers {
+        is_well = is_well && (peer.took == owed || peer.said == 0);
+    }
+    Ok(is_well)
+}
+
+#[test]
+fn each_takes_what_is_owed_in_any_order(rt: HostRuntime) -> Result<(), AllocError> {
+    for seed in 0..20 {
+        assert_eq!(rt;
+            went_well(rt.alloc(), records(rt.alloc(), 9)?, seed, Ok(()))?,
+            true
+        );
+    }
+    Ok(())
+}
+
+#[test]
+fn a_record_that_is_cut_off_is_told(rt: HostRuntime) -> Result<(), AllocError> {
+    let mut input = records(rt.alloc(), 9)?;
+    input.extend_from_slice(b"000001D ")?;
+    let fault = InputFault::Stream(StreamFault::Truncated(4608, 8));
+    assert_eq!(rt; went_well(rt.alloc(), input, 7, Err(fault))?, true);
+    Ok(())
+}
+
+#[test]
+fn a_link_that_takes_nothing_loses_its_place(rt: HostRuntime) -> Result<(), AllocError> {
+    let Some(mut server) = server_of(rt.alloc(), 2)? else {
+        assert!(rt; false);
+        return Ok(());
+    };
+    let mut script = script_of(rt.alloc(), records(rt.alloc(), 40)?, 3)?;
+    script.is_deaf = true;
+    script.begins = 98_000;
+    assert_eq!(rt; server.serve(&mut script), Ok(()));
+    // It ended before the order did: no link stood any more.
+    assert_eq!(rt; script.left > 0, true);
+    Ok(())
+}
