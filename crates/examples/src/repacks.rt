@@ -3,7 +3,10 @@ ghost use Rattle.std.specs.Prelude.{◌≤◌, ◌^◌, length};
 
 use mseed_pack::Options;
 use mseed_record::RecordView;
-use mseed_repack::{ChannelFault, RepackFault, repack, repack_channel};
+use mseed_repack::{
+    ChannelFault, RepackFault, StretchesFault, repack, repack_channel, repack_stretches,
+    tell_broken, tell_misfit,
+};
 use mseed_stream::Counted;
 use std::alloc::Global;
 
@@ -25,6 +28,32 @@ pub fn may_be_retried(fault: &RepackFault) -> bool {
         RepackFault::Write | RepackFault::Memory => true,
         RepackFault::Stream(_) | RepackFault::Broken(_) | RepackFault::Misfit(_, _) => false,
     }
+}
+
+/// An archive packed anew by stretches, without the channels that can't be, and what says which these are.
+pub fn packed_as_far(
+    alloc: Global,
+    archive: &[u8],
+    options: &Options,
+) -> Result<(Vec<u8>, Vec<u8>), StretchesFault> {
+    let mut input = Counted::new(archive);
+    let mut output = Counted::new(Vec::new(alloc));
+    let mut lines = Counted::new(Vec::new(alloc));
+    repack_stretches(alloc, options, true, &mut input, &mut output, &mut lines)?;
+    Ok((output.into_inner(), lines.into_inner()))
+}
+
+/// The line that says for which channel an archive is refused, where it is for one.
+pub fn line_of_refusal(alloc: Global, fault: &StretchesFault) -> Vec<u8> {
+    let mut line = Counted::new(Vec::new(alloc));
+    match fault {
+        StretchesFault::Broken(channel) => tell_broken(channel, &mut line),
+        StretchesFault::Misfit(channel, number, fault) => {
+            tell_misfit(channel, *number, *fault, &mut line)
+        }
+        StretchesFault::Stream(_) | StretchesFault::Write | StretchesFault::Memory => {}
+    }
+    line.into_inner()
 }
 
 /// The records of a channel packed anew by its stretches.

@@ -12,3 +12,6 @@ pub mod Fronts
 pub mod Cutting
 pub mod Stretched
 pub mod Restretched
+pub mod Gathered
+pub mod Standings
+pub mod ChannelReadBack

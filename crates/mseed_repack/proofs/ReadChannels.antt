@@ -31,7 +31,7 @@ pub steps_append : (vs ws : List View) → steps_of (vs ++ ws) ≡ steps_of vs +
 steps_append [] ws = omega arith
 steps_append (v ∷ vs) ws = let rest = steps_append vs ws in omega (arith, rest)
 
-steps_in : (key : List ℕ) (vs : List View) → steps_of (channel_in key vs) ≤ steps_of vs
+pub steps_in : (key : List ℕ) (vs : List View) → steps_of (channel_in key vs) ≤ steps_of vs
 steps_in key [] = omega arith
 steps_in key (v ∷ vs) = by (is_of key v) (steps_in key vs)
   where

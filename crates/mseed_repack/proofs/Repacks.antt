@@ -159,7 +159,7 @@ audit_next rs n r offset old new lt is at before step =
     subst (λ (added : List Added). IsAuditOf new added) (sym all) (step (added_from 0 vs) before)
 
 -- what a verdict says of its channel
-says_of : (views : List View) (cs : List Channel) (i : ℕ) (c : Channel) (b : Bool)
+pub says_of : (views : List View) (cs : List Channel) (i : ℕ) (c : Channel) (b : Bool)
     → AreVerdicts (added_from 0 views) cs → i < length cs → c ≡ get_or cs i c → b ≡ says_continuous c.1
     → IsTrue b ↔ IsContinuous (records_in views (get_or cs i c).0)
 says_of views cs i c b are lt is of =

@@ -81,7 +81,7 @@ fn repack_within<W: Sink>(
 }
 
 /// Whether each of some records is sound.
-fn are_sound(records: &[RecordView]) -> bool
+pub(crate) fn are_sound(records: &[RecordView]) -> bool
     ensures { IsTrue result ↔ AllByRecursion IsSound (map view_of records.now) }
 {
     for view in records {

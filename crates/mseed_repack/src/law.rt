@@ -1,15 +1,21 @@
 //! Laws of packing an archive anew.
-ghost use Rattle.std.specs.Prelude.{⊤, Result, Ok};
+ghost use Rattle.std.specs.Prelude.{⊤, ◌≡◌, ℕ, List, Result, Ok};
+ghost use Rattle.std.specs.List.{AllByRecursion};
+ghost use Rattle.mseed_record.specs.View.{View, IsView};
 ghost use Rattle.mseed_pack.specs.declared.options.Options.{Options};
 ghost use Rattle.mseed_stream.specs.Device.{BytesRead, BytesWritten};
 ghost use Rattle.mseed_repack.specs.OneRepacking.{ComeToOne};
 ghost use Rattle.mseed_repack.specs.ReadBack.{IsReadBack};
-ghost use Rattle.mseed_repack.specs.Repack.{IsRepacking};
+ghost use Rattle.mseed_repack.specs.ByStretches.{AreStretched};
+ghost use Rattle.mseed_repack.specs.Repack.{Channel, IsRepacking};
+ghost use Rattle.mseed_repack.specs.Restretch.{ChannelFits, IsChannelPacked};
+ghost use Rattle.mseed_repack.specs.StretchesReadBack.{IsChannelReadBack};
 ghost use Rattle.mseed_repack.specs.declared.fault.RepackFault.{RepackFault};
 
 use mseed_audit::{continuous_exactly, one_list_of_verdicts, one_series};
 use mseed_pack::{archive_reads_back, one_misfit, one_packing, reads_back};
 use mseed_stream::one_input;
+use mseed_stretches::{instants_stay_near, one_list_of_stretches, stretches_are_continuous};
 
 /// What was read of an input, packed anew by some options, comes to one text or to one fault, but where memory was
 /// refused; an output that fails takes a prefix of that text; and of what two outputs took that failed, one is a prefix
@@ -38,4 +44,30 @@ pub fn repacked_reads_back()
     continuous_exactly();
     one_series();
     one_repacking();
+}
+
+/// A channel is packed by its stretches into one list of records, and the channels of an archive into one text.
+pub fn one_channel_packing()
+    ensures channel { (o : Options) (vs : List View) (records others : List (List ℕ))
+        → IsChannelPacked o vs records → IsChannelPacked o vs others → records ≡ others }
+    ensures archive { (o : Options) (views : List View) (channels : List Channel) (text other : List ℕ)
+        → AreStretched o views channels text → AreStretched o views channels other → text ≡ other }
+{
+    one_list_of_stretches();
+    one_series();
+    one_packing();
+}
+
+/// What a channel is packed into by its stretches reads back: the records of each stretch as its series, which begins
+/// at its first record's start, so that no sample is further than a quarter of its period from where its own record has
+/// it; and the samples of all stretches, one behind another, are those of the channel's records, each once, in order.
+pub fn stretches_read_back()
+    ensures { (o : Options) (vs : List View) (records : List (List ℕ)) → AllByRecursion IsView vs
+        → ChannelFits o vs → IsChannelPacked o vs records → IsChannelReadBack vs records }
+{
+    reads_back();
+    one_series();
+    one_list_of_stretches();
+    stretches_are_continuous();
+    instants_stay_near();
 }

@@ -59,7 +59,10 @@ pub fn repack<A: Allocator + Copy, R: Source, W: Sink>(
 }
 
 /// The channels of an archive and what the audit says of each.
-fn judge<A: Allocator + Copy>(alloc: A, views: &[RecordView]) -> Result<Verdicts<A>, RepackFault>
+pub(crate) fn judge<A: Allocator + Copy>(
+    alloc: A,
+    views: &[RecordView],
+) -> Result<Verdicts<A>, RepackFault>
     requires { length views.now < 2 ^ 40 }
     ensures ok { IfOk result (λ verdicts. AreVerdicts (added_from 0 (map view_of views.now)) verdicts) }
     ensures err { IfErr result (λ fault. fault ≡ RepackFault.Memory) }

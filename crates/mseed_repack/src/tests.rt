@@ -1,6 +1,8 @@
-//! A channel whose clock drifts, and which has a gap, packed anew by its stretches.
+//! A channel whose clock drifts, and which has a gap, packed anew by its stretches; and an archive with a log.
 use crate::channel::repack_channel;
 use crate::channel_fault::ChannelFault;
+use crate::refusing::Left;
+use crate::restretching::repack_stretches;
 use mseed_pack::Options;
 use mseed_record::RecordView;
 use mseed_stream::Counted;
@@ -69,4 +71,38 @@ fn refuses_what_is_not_sound(rt: HostRuntime) {
         assert_eq!(rt; answer, Err(ChannelFault::Broken));
         assert_eq!(rt; output.into_inner().len(), 0);
     }
+}
+
+#[test]
+fn packs_an_archive_and_leaves_out_its_log(rt: HostRuntime) {
+    // Text (encoding 0), which isn't read, of another channel; and a gap of 8.4 s.
+    let log = with(&[(15, b"LOG"), (52, &[0])]);
+    let apart = with(&[(26, &[10])]);
+    let mut archive = [0; 384];
+    archive[..128].copy_from_slice(&FIRST);
+    archive[128..256].copy_from_slice(&log);
+    archive[256..].copy_from_slice(&apart);
+    let options = Options::new(7, 3, 1).expect(&rt, "options");
+    let mut input = Counted::new(archive.as_slice());
+    let mut output = Counted::new(Vec::new(rt.alloc()));
+    let mut lines = Counted::new(Vec::new(rt.alloc()));
+    let answer = repack_stretches(
+        rt.alloc(),
+        &options,
+        true,
+        &mut input,
+        &mut output,
+        &mut lines,
+    );
+    assert_eq!(rt; answer, Ok(Left::Broken));
+    let mut wanted = [0; 256];
+    wanted[..128].copy_from_slice(&with(&[(0, b"000001")]));
+    wanted[128..].copy_from_slice(&with(&[(0, b"000002"), (26, &[10])]));
+    let packed = output.into_inner();
+    assert_eq!(rt; packed.as_slice(), wanted.as_slice());
+    let told = lines.into_inner();
+    assert_eq!(rt;
+        told.as_slice(),
+        b"mseed: XX_STA__LOG is broken\n".as_slice()
+    );
 }

@@ -1,14 +1,24 @@
 -- What the steps of packing a channel by its stretches know.
-use Rattle.std.specs.Prelude.{◌≡◌, ℕ, ◌≤◌, ℤ, List, length, take}
-use Rattle.std.specs.List.{concat}
+use Rattle.std.specs.Prelude.{Bool, false, ⊤, ◌≡◌, ℕ, ◌≤◌, ℤ, List, [], ◌∷◌, length, take}
+use Rattle.std.specs.List.{concat, AllByRecursion}
 use Rattle.mseed_time.specs.declared.outcome.LeapStep.{LeapStep}
 use Rattle.mseed_record.specs.View.{View}
+use Rattle.mseed_stream.specs.Device.{BytesWritten}
+use Rattle.mseed_audit.specs.Follows.{IsSound}
 use Rattle.mseed_audit.specs.Series.{Trace, IsSeriesOf}
 use Rattle.mseed_stretches.specs.Stretches.{AreStretchesUpTo, IsFirstStretch}
 use Rattle.mseed_pack.specs.Packing.{PacksUpTo}
 use Rattle.mseed_pack.specs.declared.options.Options.{Options}
 use Rattle.mseed_repack.specs.private.Reading.{AreOf, samples_of}
+use Rattle.mseed_repack.specs.Repack.{Channel, IsFirst, records_in}
+use Rattle.mseed_repack.specs.Restretch.{ChannelFits, ChannelMisfits, IsChannelPart, IsChannelText}
 use Rattle.mseed_repack.specs.Restretch.{IsStretchPacked}
+use Rattle.mseed_repack.specs.ByStretches.{AreSound, WereStretchedInPart}
+use Rattle.mseed_repack.specs.declared.standing.Standing.{Standing}
+use Rattle.mseed_repack.specs.declared.standing.Standing.TheVariants.{Fit, Broken as IsBroken, Misfit as IsMisfit}
+use Rattle.mseed_repack.specs.declared.stretches_fault.StretchesFault.{StretchesFault}
+use Rattle.mseed_repack.specs.declared.stretches_fault.StretchesFault.TheVariants.{Stream, Broken, Misfit, Write}
+use Rattle.mseed_repack.specs.declared.stretches_fault.StretchesFault.TheVariants.{Memory}
 
 -- the samples and leap seconds are those of the records, whatever their key is
 abbrev pub AreOfAny : List View → List ℤ → List (ℕ × LeapStep) → Type 0
@@ -36,3 +46,59 @@ pub record IsStretchPart (o : Options) (s : List View) (text : List ℕ) : Type 
   pub packing : PacksUpTo trace o further samples_left
   pub taken : ℕ
   pub text_is : text ≡ take taken (concat further)
+
+-- there is room for each stretch of each channel that fits
+abbrev pub AreRoomy : ℕ → List View → List Channel → List Standing → Type 0
+AreRoomy most views [] ss = ⊤
+AreRoomy most views (c ∷ cs) [] = ⊤
+AreRoomy most views (c ∷ cs) (s ∷ ss) =
+    (s ≡ Fit → AreStretchesWithin most (records_in views c.0)) × AreRoomy most views cs ss
+
+-- the text is all records of a channel that fits, and nothing of another
+abbrev pub IsTextIfFit : Options → List View → Standing → List ℕ → Type 0
+IsTextIfFit o vs Fit text = IsChannelText o vs text
+IsTextIfFit o vs IsBroken text = text ≡ []
+IsTextIfFit o vs (IsMisfit number fault) text = text ≡ []
+
+-- the text is a part of the records of a channel that fits
+abbrev pub IsPartIfFit : Options → List View → Standing → List ℕ → Type 0
+IsPartIfFit o vs Fit text = IsChannelPart o vs text
+IsPartIfFit o vs IsBroken text = ⊥
+IsPartIfFit o vs (IsMisfit number fault) text = ⊥
+
+-- the fault is the first broken channel, or else the first that doesn't fit
+abbrev pub IsFirstRefused : Options → List View → List Channel → StretchesFault → Type 0
+IsFirstRefused o views channels (Stream fault) = ⊥
+IsFirstRefused o views channels (Broken key) =
+    IsFirst (λ k. AllByRecursion IsSound (records_in views k)) (λ k. ¬ (AllByRecursion IsSound (records_in views k)))
+    key channels
+IsFirstRefused o views channels (Misfit key number fault) =
+    AreSound views channels
+    × IsFirst (λ k. ChannelFits o (records_in views k)) (λ k. ChannelMisfits o number fault (records_in views k)) key
+    channels
+IsFirstRefused o views channels Write = ⊥
+IsFirstRefused o views channels Memory = ⊥
+
+-- why an archive wasn't packed by stretches: it is refused, or the output failed, or memory was refused
+abbrev pub FailsToStretch : Options → Bool → List View → List Channel → BytesWritten → BytesWritten → BytesWritten
+    → BytesWritten → StretchesFault → Type 0
+FailsToStretch o leave views channels old new told_old told_new (Stream fault) = ⊥
+FailsToStretch o leave views channels old new told_old told_new (Broken key) =
+    IsFirstRefused o views channels (Broken key) × (leave ≡ false) × (new ≡ old) × (told_new ≡ told_old)
+FailsToStretch o leave views channels old new told_old told_new (Misfit key number fault) =
+    IsFirstRefused o views channels (Misfit key number fault) × (leave ≡ false) × (new ≡ old) × (told_new ≡ told_old)
+FailsToStretch o leave views channels old new told_old told_new Write =
+    WereStretchedInPart o leave views channels old new told_old told_new
+FailsToStretch o leave views channels old new told_old told_new Memory = (new ≡ old) × (told_new ≡ told_old)
+
+-- a channel isn't broken
+abbrev pub IsUnbroken : Standing → Type 0
+IsUnbroken Fit = ⊤
+IsUnbroken IsBroken = ⊥
+IsUnbroken (IsMisfit number fault) = ⊤
+
+-- no stretch of it is known not to fit
+abbrev pub IsNoMisfit : Standing → Type 0
+IsNoMisfit Fit = ⊤
+IsNoMisfit IsBroken = ⊤
+IsNoMisfit (IsMisfit number fault) = ⊥

@@ -1,0 +1,10 @@
+use Rattle.std.proofs.Common.{map, take}
+use Rattle.mseed_record.specs.Viewing.{view_of}
+use Rattle.mseed_repack.specs.ByStretches.{AreStretched, kept_of}
+use Rattle.mseed_repack.specs.Repack.{Wrote}
+use Rattle.mseed_repack.proofs.restretching.pack_kept.Given as goal
+
+abbrev pub invariant-loop-number : goal.invariant-loop-number
+invariant-loop-number g l =
+    Wrote (AreStretched l.options (map view_of l.views) (kept_of (take l.number l.channels)
+    (take l.number l.standings))) 0 (g.W.Sink.written l.fn.output) (g.W.Sink.written l.output)

@@ -1,0 +1,45 @@
+use Rattle.std.proofs.Common.{◌+◌, ◌≤◌, List, arith, length, map, subst, sym, take, ℕ}
+use Rattle.mseed_record.specs.View.{View}
+use Rattle.mseed_record.specs.Viewing.{view_of}
+use Rattle.mseed_repack.specs.private.Reading.{steps_of}
+use Rattle.mseed_repack.specs.declared.standing.Standing.{Standing}
+use Rattle.mseed_repack.proofs.Standings.{AreJudgedSo, judged_more, judged_none, sound_by, steps_gathered}
+use Rattle.mseed_repack.proofs.Trails.{trail_of}
+use Rattle.mseed_repack.proofs.standing.stand_all.Goals as goal
+
+pub loop-number-init : goal.loop-number-init
+loop-number-init g c = judged_none c.args.options.now (map view_of c.args.views.now) c.args.channels.now
+    c.new-standings.result.items (length c.args.samples.now.items) c.new-standings.ensures.items
+
+pub gather-count-requires-clause-trail : goal.gather-count-requires-clause-trail
+gather-count-requires-clause-trail g c =
+    trail_of c.args.views.now c.args.channels.now c.args.trails.firsts.now c.args.trails.nexts.now c.loop-number.number
+    c.index-channels-number.result _ _ c.requires.laid.trails c.loop-number-test.true
+    c.index-channels-number.is c.of.ensures.first c.of.ensures.nexts
+
+pub stand-requires-clause-continuous : goal.stand-requires-clause-continuous
+stand-requires-clause-continuous g c = λ continuous.
+    sound_by (map view_of c.args.views.now) c.args.channels.now c.loop-number.number c.index-channels-number.result
+    c.is_continuous-continuous.result (map view_of (take c.gather-count.result c.gather-count.new.out))
+    c.requires.verdicts c.loop-number-test.true c.index-channels-number.is c.is_continuous-continuous.ensures
+    c.gather-count.ensures.records continuous
+
+pub stand-requires-clause-steps_fit : goal.stand-requires-clause-steps_fit
+stand-requires-clause-steps_fit g c =
+    let gathered : List View = map view_of (take c.gather-count.result c.gather-count.new.out) in
+    let fits : steps_of gathered ≤ length c.args.steps.now =
+    steps_gathered c.index-channels-number.result.0 gathered (map view_of c.args.views.now) (length c.args.steps.now)
+    c.gather-count.ensures.records c.requires.steps_fit in
+    omega (arith, fits, c.loop-number.auto.steps)
+
+pub loop-number-preserved : goal.loop-number-preserved
+loop-number-preserved g c =
+    let views : List View = map view_of c.args.views.now in
+    let room : ℕ = length c.stand.new.samples.items in
+    subst (λ (ss : List Standing). AreJudgedSo c.args.options.now views c.args.channels.now (c.loop-number.number + 1)
+    ss room) (sym c.in_ok-push.ensures.items)
+    (judged_more c.args.options.now views c.args.channels.now c.loop-number.number c.loop-number.standings.items
+    (length c.loop-number.samples.items) room c.index-channels-number.result c.in_ok-standing.standing
+    (map view_of (take c.gather-count.result c.gather-count.new.out)) c.loop-number-test.true
+    c.index-channels-number.is c.gather-count.ensures.records c.in_ok-standing.ensures.grown
+    c.in_ok-standing.ensures.standing c.in_ok-standing.ensures.room c.loop-number.invariant)

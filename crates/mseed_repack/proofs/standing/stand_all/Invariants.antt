@@ -1,0 +1,8 @@
+use Rattle.std.proofs.Common.{length, map}
+use Rattle.mseed_record.specs.Viewing.{view_of}
+use Rattle.mseed_repack.proofs.Standings.{AreJudgedSo}
+use Rattle.mseed_repack.proofs.standing.stand_all.Given as goal
+
+abbrev pub invariant-loop-number : goal.invariant-loop-number
+invariant-loop-number g l =
+    AreJudgedSo l.options (map view_of l.views) l.channels l.number l.standings.items (length l.samples.items)

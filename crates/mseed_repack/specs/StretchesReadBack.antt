@@ -1,0 +1,36 @@
+-- What the stretches of a channel were packed into, read again.
+use Rattle.std.specs.Prelude.{⊤, ◌≡◌, ℕ, ℤ, List, [], ◌∷◌, ◌++◌, Some}
+use Rattle.mseed_time.specs.Rate.{Ratio}
+use Rattle.mseed_record.specs.View.{View}
+use Rattle.mseed_audit.specs.Judging.{known_rate}
+use Rattle.mseed_audit.specs.Series.{Trace, AreJoined, IsSeriesOf}
+use Rattle.mseed_stretches.specs.Stretches.{AllStayNear, AreStretches}
+use Rattle.mseed_pack.specs.ReadBack.{ReadsAs}
+
+-- by its first record's clock, no sample of a stretch stands further than a quarter of its period from where its own
+-- record has it
+abbrev pub KeepsTime : List View → Type 0
+KeepsTime [] = ⊤
+KeepsTime (first ∷ rest) = (rate : Ratio) → known_rate first ≡ Some rate → AllStayNear first rate (first ∷ rest)
+
+-- the records that a stretch was packed into read back as its series, from the first one's start, which keeps its time
+pub record IsStretchReadBack (s : List View) (trace : Trace) (records : List (List ℕ)) : Type 0 where
+  pub series : IsSeriesOf trace s
+  pub reads : ReadsAs trace records
+  pub keeps : KeepsTime s
+
+-- of stretches one behind another: the records, and the samples that are read from all of them
+pub data AreReadBack : List (List View) → List (List ℕ) → List ℤ → Type 0 where
+  read_none : AreReadBack [] [] []
+  read_more : (s : List View) (ss : List (List View)) (trace : Trace) (records rest : List (List ℕ))
+      (samples : List ℤ) → IsStretchReadBack s trace records → AreReadBack ss rest samples
+      → AreReadBack (s ∷ ss) (records ++ rest) (trace.samples ++ samples)
+
+-- What a channel was packed into reads back, stretch by stretch: and the samples of all its stretches, one behind
+-- another, are those of the channel's records, each once, in order.
+pub record IsChannelReadBack (vs : List View) (records : List (List ℕ)) : Type 0 where
+  pub stretches : List (List View)
+  pub are : AreStretches vs stretches
+  pub samples : List ℤ
+  pub read : AreReadBack stretches records samples
+  pub joined : AreJoined vs samples

@@ -1,0 +1,190 @@
+//! Channels that aren't packed: an archive is refused for them, or they are left out.
+ghost use Rattle.std.specs.Prelude.{◌≡◌, ◌<◌, ◌≤◌, List, length, take, false, All, IfNone, IfSome};
+ghost use Rattle.std.specs.Prelude.{slice_index_or};
+ghost use Rattle.std.specs.List.{AllByRecursion};
+ghost use Rattle.mseed_record.specs.View.{View};
+ghost use Rattle.mseed_stream.specs.Telling.{Tells};
+ghost use Rattle.mseed_pack.specs.declared.options.Options.{Options};
+ghost use Rattle.mseed_repack.specs.ByStretches.{AreStandings, IsFit, TellsEach, left_of, lines_of, misfit_line};
+ghost use Rattle.mseed_repack.specs.ByStretches.{broken_line, line_of, misfit_number, worse_of};
+ghost use Rattle.mseed_repack.specs.private.Restretching.{IsFirstRefused, IsNoMisfit, IsUnbroken};
+ghost use Rattle.mseed_repack.specs.declared.standing.Standing.{Standing};
+
+use crate::standing::Standing;
+use crate::stretches_fault::StretchesFault;
+use mseed_audit::Piece::{Count, Words};
+use mseed_audit::{Verdict, line_of, name_of};
+use mseed_pack::PackFault;
+use mseed_record::Codes;
+use mseed_stream::{Sink, tell};
+
+/// What was left out, the worst of it.
+#[derive(Clone, Copy, Debug, PartialEq, Eq)]
+pub enum Left {
+    /// Nothing.
+    Nothing,
+    /// A channel of which a record has a finding of its own, and none of which a stretch can't be packed.
+    Broken,
+    /// A channel of which a stretch can't be packed.
+    Misfit,
+}
+
+/// Why an archive with such channels is refused, unless these are left out.
+pub(crate) fn refusal_unless(
+    leave: bool,
+    channels: &[(Codes, Verdict)],
+    standings: &[Standing],
+) -> Option<StretchesFault>
+    requires { length standings.now ≡ length channels.now }
+    ensures some { IfSome result (λ fault. (o : Options) (views : List View)
+        → AreStandings o views channels.now standings.now → IsFirstRefused o views channels.now fault) }
+    ensures refuses { IfSome result (λ _. leave ≡ false) }
+    ensures fit { IfNone result (leave ≡ false → AllByRecursion IsFit standings.now) }
+{
+    if leave {
+        return None;
+    }
+    refusal(channels, standings)
+}
+
+/// Why an archive with such channels is refused: the first that is broken, else the first that doesn't fit.
+fn refusal(channels: &[(Codes, Verdict)], standings: &[Standing]) -> Option<StretchesFault>
+    requires { length standings.now ≡ length channels.now }
+    ensures some { IfSome result (λ fault. (o : Options) (views : List View)
+        → AreStandings o views channels.now standings.now → IsFirstRefused o views channels.now fault) }
+    ensures fit { IfNone result (AllByRecursion IsFit standings.now) }
+{
+    if let Some(number) = first_broken(standings) {
+        return Some(StretchesFault::Broken(channels[number].0));
+    }
+    match first_misfit(standings) {
+        Some((number, stretch, fault)) => Some(StretchesFault::Misfit(
+            channels[number].0,
+            stretch,
+            fault,
+        )),
+        None => None,
+    }
+}
+
+/// The index of the first channel that is broken.
+fn first_broken(standings: &[Standing]) -> Option<usize>
+    ensures inside { IfSome result (λ number. number < length standings.now) }
+    ensures some { IfSome result (λ number. slice_index_or standings.now number Standing.Fit ≡ Standing.Broken) }
+    ensures before { IfSome result (λ number. All IsUnbroken (take number standings.now)) }
+    ensures none { IfNone result (All IsUnbroken standings.now) }
+{
+    for (number, standing) in standings.iter().enumerate() {
+        if let Standing::Broken = standing {
+            return Some(number);
+        }
+    }
+    None
+}
+
+/// The index of the first channel of which a stretch doesn't fit, with the stretch's number and the reason.
+fn first_misfit(standings: &[Standing]) -> Option<(usize, u64, PackFault)>
+    ensures inside { IfSome result (λ found. found.0 < length standings.now) }
+    ensures some { IfSome result (λ found. slice_index_or standings.now found.0 Standing.Fit
+        ≡ Standing.Misfit found.1 found.2) }
+    ensures before { IfSome result (λ found. All IsNoMisfit (take found.0 standings.now)) }
+    ensures none { IfNone result (All IsNoMisfit standings.now) }
+{
+    for (number, standing) in standings.iter().enumerate() {
+        if let Standing::Misfit(stretch, fault) = *standing {
+            return Some((number, stretch, fault));
+        }
+    }
+    None
+}
+
+/// Says of each channel that is left out why, in the order of their keys.
+pub(crate) fn tell_left<E: Sink>(
+    channels: &[(Codes, Verdict)],
+    standings: &[Standing],
+    errors: &mut E,
+)
+    requires { length standings.now ≡ length channels.now }
+    ensures { TellsEach (lines_of channels.now standings.now) (E.written errors.old) (E.written errors.new) }
+{
+    for (number, channel) in channels.iter().enumerate() {
+        tell_standing(&channel.0, &standings[number], errors);
+    }
+}
+
+/// Says of a channel why it is left out, where it is.
+fn tell_standing<E: Sink>(channel: &Codes, standing: &Standing, errors: &mut E)
+    ensures { TellsEach (line_of channel.now standing.now) (E.written errors.old) (E.written errors.new) }
+{
+    match *standing {
+        Standing::Fit => {}
+        Standing::Broken => tell_broken(channel, errors),
+        Standing::Misfit(stretch, fault) => tell_misfit(channel, stretch, fault, errors),
+    }
+}
+
+/// Says of a channel that it is broken.
+pub fn tell_broken<E: Sink>(channel: &Codes, errors: &mut E)
+    ensures { Tells (broken_line channel.now) (E.written errors.old) (E.written errors.new) }
+{
+    let line = line_of(&[
+        Words(b"mseed: "),
+        Words(&name_of(channel)),
+        Words(b" is broken\n"),
+    ]);
+    tell(errors, &line);
+}
+
+/// Says of a channel which of its stretches can't be packed, and why.
+pub fn tell_misfit<E: Sink>(channel: &Codes, stretch: u64, fault: PackFault, errors: &mut E)
+    ensures { Tells (misfit_line channel.now stretch fault) (E.written errors.old) (E.written errors.new) }
+{
+    let line = line_of(&[
+        Words(b"mseed: "),
+        Words(&name_of(channel)),
+        Words(b" does not fit "),
+        Count(misfit_number(fault)),
+        Words(b" stretch "),
+        Count(stretch),
+        Words(b"\n"),
+    ]);
+    tell(errors, &line);
+}
+
+/// The place of a reason among those why a series can't be packed.
+fn misfit_number(fault: PackFault) -> u64
+    ensures value { result ≡ misfit_number fault }
+    ensures bound { result ≤ 6 }
+{
+    match fault {
+        PackFault::Empty => 1,
+        PackFault::RateTooHigh => 2,
+        PackFault::TimeOutOfRange => 3,
+        PackFault::SampleTooLarge(_) => 4,
+        PackFault::DifferenceTooLarge(_) => 5,
+        PackFault::Write(_) => 6,
+    }
+}
+
+/// What is left out of channels with such standings.
+pub(crate) fn left_of(standings: &[Standing]) -> Left
+    ensures { result ≡ left_of standings.now }
+{
+    let mut left = Left::Nothing;
+    for turn in 0..standings.len() {
+        left = worse_of(&standings[standings.len() - 1 - turn], left);
+    }
+    left
+}
+
+/// The worse of what is left out of one channel, and of others.
+fn worse_of(standing: &Standing, left: Left) -> Left
+    ensures { result ≡ worse_of standing.now left }
+{
+    match (standing, left) {
+        (Standing::Fit, left) => left,
+        (Standing::Broken, Left::Nothing) => Left::Broken,
+        (Standing::Broken, left) => left,
+        (Standing::Misfit(_, _), _) => Left::Misfit,
+    }
+}

@@ -1,0 +1,283 @@
+//! Packing an archive anew by the stretches of its channels.
+ghost use Rattle.std.specs.Prelude.{◌≡◌, ◌≤◌, ◌^◌, length, map, All, IfErr, IfOk, OnOk};
+ghost use Rattle.mseed_record.specs.Viewing.{view_of};
+ghost use Rattle.mseed_stream.specs.Device.{nothing_read};
+ghost use Rattle.mseed_audit.specs.Channels.{added_from};
+ghost use Rattle.mseed_audit.specs.Verdict.{AreVerdicts};
+ghost use Rattle.mseed_repack.specs.private.Reading.{channel_in, steps_of};
+ghost use Rattle.mseed_repack.specs.private.Restretching.{AreRoomy, AreStretchesWithin, FailsToStretch};
+ghost use Rattle.mseed_repack.specs.private.Restretching.{IsPartIfFit, IsTextIfFit};
+ghost use Rattle.mseed_repack.specs.private.Trails.{AreLaid, IsTrail};
+ghost use Rattle.mseed_repack.specs.Repack.{Wrote};
+ghost use Rattle.mseed_repack.specs.ByStretches.{AreStandings, AreStretched, IsPartStretched, IsRestretching};
+ghost use Rattle.mseed_repack.specs.ByStretches.{Stands, WereStretched, kept_of};
+ghost use Rattle.mseed_repack.specs.declared.standing.Standing.{Standing};
+
+use crate::gathering::gather;
+use crate::numbering::pack_stretches;
+use crate::reading::count_steps;
+use crate::refusing::{Left, left_of, refusal_unless, tell_left};
+use crate::repacking::{blank_steps, judge};
+use crate::standing::{Standing, stand_all};
+use crate::stretches_fault::StretchesFault;
+use crate::trail::{Trail, Trails, indices, lay_trails};
+use mseed_audit::Verdict;
+use mseed_pack::{Options, Packer};
+use mseed_record::{Codes, RecordView};
+use mseed_stream::{Failed, Sink, Source, read_all_in, split_in};
+use mseed_time::LeapStep;
+use std::alloc::Allocator;
+
+/// Packs the archive that the input tells anew, each channel as a list of stretches, in the order of their keys. All
+/// are judged before the first byte is written. A channel of which a record has a finding of its own, or a stretch
+/// can't be packed, is refused; or else, where such channels are to be left out, each is told to `errors` by a line,
+/// and the others are written as they would be alone. Answers what was left out.
+///
+/// # Errors
+///
+/// `Stream` where the input is no whole archive, `Broken` where a record has a finding of its own, `Misfit` where a
+/// stretch can't be packed: each is asked of the whole archive before the next. `Write` where the output failed,
+/// `Memory` where an allocation was refused.
+pub fn repack_stretches<A: Allocator + Copy, R: Source, W: Sink, E: Sink>(
+    alloc: A,
+    options: &Options,
+    leave: bool,
+    input: &mut R,
+    output: &mut W,
+    errors: &mut E,
+) -> Result<Left, StretchesFault>
+    requires { R.read input.old ≡ nothing_read }
+    ensures { IsRestretching options.now leave result (R.read input.new)
+        (W.written output.old) (W.written output.new) (E.written errors.old) (E.written errors.new) }
+{
+    let archive = read_all_in(alloc, input)?;
+    let views = split_in(alloc, &archive)?;
+    let verdicts = match judge(alloc, &views) {
+        Ok(verdicts) => verdicts,
+        Err(_) => return Err(StretchesFault::Memory),
+    };
+    let channels = verdicts.as_slice();
+    restretch(alloc, &views, channels, options, leave, output, errors)
+}
+
+/// The same of records whose channels are known.
+fn restretch<A: Allocator + Copy, W: Sink, E: Sink>(
+    alloc: A,
+    views: &[RecordView],
+    channels: &[(Codes, Verdict)],
+    options: &Options,
+    leave: bool,
+    output: &mut W,
+    errors: &mut E,
+) -> Result<Left, StretchesFault>
+    requires few { length views.now ≤ 2 ^ 40 }
+    requires verdicts { AreVerdicts (added_from 0 (map view_of views.now)) channels.now }
+    ensures ok { IfOk result (λ left. WereStretched options.now leave (map view_of views.now) channels.now left
+        (W.written output.old) (W.written output.new) (E.written errors.old) (E.written errors.new)) }
+    ensures err { IfErr result (FailsToStretch options.now leave (map view_of views.now) channels.now
+        (W.written output.old) (W.written output.new) (E.written errors.old) (E.written errors.new)) }
+{
+    let mut firsts = match indices(alloc, views.len(), channels.len()) {
+        Ok(firsts) => firsts,
+        Err(_) => return Err(StretchesFault::Memory),
+    };
+    let mut nexts = match indices(alloc, views.len(), views.len()) {
+        Ok(nexts) => nexts,
+        Err(_) => return Err(StretchesFault::Memory),
+    };
+    restretch_along(
+        alloc,
+        views,
+        channels,
+        options,
+        leave,
+        &mut firsts,
+        &mut nexts,
+        output,
+        errors,
+    )
+}
+
+/// The same by the trails of the channels, which are laid in lists that have room for them.
+fn restretch_along<A: Allocator + Copy, W: Sink, E: Sink>(
+    alloc: A,
+    views: &[RecordView],
+    channels: &[(Codes, Verdict)],
+    options: &Options,
+    leave: bool,
+    firsts: &mut [usize],
+    nexts: &mut [usize],
+    output: &mut W,
+    errors: &mut E,
+) -> Result<Left, StretchesFault>
+    requires few { length views.now ≤ 2 ^ 40 }
+    requires verdicts { AreVerdicts (added_from 0 (map view_of views.now)) channels.now }
+    requires firsts { length firsts.old ≡ length channels.now }
+    requires none { All (λ first. first ≡ length views.now) firsts.old }
+    requires nexts { length nexts.old ≡ length views.now }
+    ensures ok { IfOk result (λ left. WereStretched options.now leave (map view_of views.now) channels.now left
+        (W.written output.old) (W.written output.new) (E.written errors.old) (E.written errors.new)) }
+    ensures err { IfErr result (FailsToStretch options.now leave (map view_of views.now) channels.now
+        (W.written output.old) (W.written output.new) (E.written errors.old) (E.written errors.new)) }
+{
+    let mut steps = match blank_steps(alloc, count_steps(views)) {
+        Ok(steps) => steps,
+        Err(_) => return Err(StretchesFault::Memory),
+    };
+    let mut records = match views.to_vec(alloc) {
+        Ok(records) => records,
+        Err(_) => return Err(StretchesFault::Memory),
+    };
+    lay_trails(views, channels, firsts, nexts);
+    let trails = Trails { firsts, nexts };
+    restretch_within(
+        alloc,
+        views,
+        trails,
+        channels,
+        options,
+        leave,
+        &mut records,
+        &mut steps,
+        output,
+        errors,
+    )
+}
+
+/// The same with lists that have room for the records of a channel and for all leap seconds.
+fn restretch_within<'a, A: Allocator + Copy, W: Sink, E: Sink>(
+    alloc: A,
+    views: &[RecordView<'a>],
+    trails: Trails,
+    channels: &[(Codes, Verdict)],
+    options: &Options,
+    leave: bool,
+    records: &mut [RecordView<'a>],
+    steps: &mut [(u64, LeapStep)],
+    output: &mut W,
+    errors: &mut E,
+) -> Result<Left, StretchesFault>
+    requires few { length views.now ≤ 2 ^ 40 }
+    requires verdicts { AreVerdicts (added_from 0 (map view_of views.now)) channels.now }
+    requires laid { AreLaid views.now channels.now trails.firsts.now trails.nexts.now }
+    requires room { length views.now ≤ length records.old }
+    requires steps_fit { steps_of (map view_of views.now) ≤ length steps.old }
+    ensures ok { IfOk result (λ left. WereStretched options.now leave (map view_of views.now) channels.now left
+        (W.written output.old) (W.written output.new) (E.written errors.old) (E.written errors.new)) }
+    ensures err { IfErr result (FailsToStretch options.now leave (map view_of views.now) channels.now
+        (W.written output.old) (W.written output.new) (E.written errors.old) (E.written errors.new)) }
+{
+    let mut samples = Vec::new(alloc);
+    let standings = match stand_all(
+        alloc,
+        views,
+        trails,
+        channels,
+        options,
+        records,
+        &mut samples,
+        steps,
+    ) {
+        Ok(standings) => standings,
+        Err(_) => return Err(StretchesFault::Memory),
+    };
+    if let Some(fault) = refusal_unless(leave, channels, &standings) {
+        return Err(fault);
+    }
+    tell_left(channels, &standings, errors);
+    match pack_kept(
+        views,
+        trails,
+        channels,
+        &standings,
+        options,
+        records,
+        &mut samples,
+        steps,
+        output,
+    ) {
+        Ok(()) => Ok(left_of(&standings)),
+        Err(_) => Err(StretchesFault::Write),
+    }
+}
+
+/// Writes the records of the channels that fit.
+fn pack_kept<'a, W: Sink>(
+    views: &[RecordView<'a>],
+    trails: Trails,
+    channels: &[(Codes, Verdict)],
+    standings: &[Standing],
+    options: &Options,
+    records: &mut [RecordView<'a>],
+    samples: &mut [i32],
+    steps: &mut [(u64, LeapStep)],
+    output: &mut W,
+) -> Result<(), Failed>
+    requires few { length views.now ≤ 2 ^ 40 }
+    requires laid { AreLaid views.now channels.now trails.firsts.now trails.nexts.now }
+    requires room { length views.now ≤ length records.old }
+    requires standings { AreStandings options.now (map view_of views.now) channels.now standings.now }
+    requires samples_fit { AreRoomy (length samples.old) (map view_of views.now) channels.now standings.now }
+    requires steps_fit { steps_of (map view_of views.now) ≤ length steps.old }
+    ensures ok { OnOk result (Wrote (AreStretched options.now (map view_of views.now)
+        (kept_of channels.now standings.now)) 0 (W.written output.old) (W.written output.new)) }
+    ensures err { IfErr result (λ _. Wrote (IsPartStretched options.now (map view_of views.now)
+        (kept_of channels.now standings.now)) 1 (W.written output.old) (W.written output.new)) }
+{
+    let mut packer = Packer::new();
+    for (number, channel) in channels.iter().enumerate() {
+        match pack_if_fit(
+            views,
+            trails.of(number),
+            &channel.0,
+            &standings[number],
+            options,
+            records,
+            samples,
+            steps,
+            &mut packer,
+            output,
+        ) {
+            Ok(()) => {}
+            Err(failed) => return Err(failed),
+        }
+    }
+    Ok(())
+}
+
+/// Writes the records of a channel, if it fits.
+fn pack_if_fit<'a, W: Sink>(
+    views: &[RecordView<'a>],
+    trail: Trail,
+    codes: &Codes,
+    standing: &Standing,
+    options: &Options,
+    records: &mut [RecordView<'a>],
+    samples: &mut [i32],
+    steps: &mut [(u64, LeapStep)],
+    packer: &mut Packer,
+    output: &mut W,
+) -> Result<(), Failed>
+    requires few { length views.now ≤ 2 ^ 40 }
+    requires trail { IsTrail codes.now views.now trail.first trail.nexts.now }
+    requires nexts { length trail.nexts.now ≡ length views.now }
+    requires room { length views.now ≤ length records.old }
+    requires stands { Stands options.now (channel_in codes.now (map view_of views.now)) standing.now }
+    requires samples_fit { standing.now ≡ Standing.Fit
+        → AreStretchesWithin (length samples.old) (channel_in codes.now (map view_of views.now)) }
+    requires steps_fit { steps_of (map view_of views.now) ≤ length steps.old }
+    ensures ok { OnOk result (Wrote
+        (IsTextIfFit options.now (channel_in codes.now (map view_of views.now)) standing.now) 0
+        (W.written output.old) (W.written output.new)) }
+    ensures err { IfErr result (λ _. Wrote
+        (IsPartIfFit options.now (channel_in codes.now (map view_of views.now)) standing.now) 1
+        (W.written output.old) (W.written output.new)) }
+{
+    match *standing {
+        Standing::Fit => {
+            let count = gather(views, trail, codes, records);
+            pack_stretches(&records[..count], options, samples, steps, packer, output)
+        }
+        Standing::Broken | Standing::Misfit(_, _) => Ok(()),
+    }
+}

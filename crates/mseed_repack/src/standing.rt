@@ -1,0 +1,115 @@
+//! What is found of the channels of an archive that is packed by stretches.
+ghost use Rattle.std.specs.Prelude.{◌≡◌, ◌↔◌, ◌≤◌, ◌^◌, IsTrue, length, map, true, IfOk, OnOk};
+ghost use Rattle.std.specs.List.{AllByRecursion};
+ghost use Rattle.mseed_record.specs.Viewing.{view_of};
+ghost use Rattle.mseed_audit.specs.Channels.{added_from};
+ghost use Rattle.mseed_audit.specs.Follows.{IsSound};
+ghost use Rattle.mseed_audit.specs.Verdict.{AreVerdicts};
+ghost use Rattle.mseed_repack.specs.private.Reading.{steps_of};
+ghost use Rattle.mseed_repack.specs.private.Restretching.{AreRoomy, AreStretchesWithin};
+ghost use Rattle.mseed_repack.specs.private.Trails.{AreLaid};
+ghost use Rattle.mseed_repack.specs.ByStretches.{AreStandings, Stands};
+ghost use Rattle.mseed_repack.specs.declared.standing.Standing.{Standing};
+
+use crate::channel::are_sound;
+use crate::fitting::fit_stretches;
+use crate::gathering::gather;
+use crate::stretching::longest_stretch;
+use crate::trail::Trails;
+use mseed_audit::Verdict;
+use mseed_pack::{Options, PackFault};
+use mseed_record::{Codes, RecordView};
+use mseed_time::LeapStep;
+use std::alloc::{AllocError, Allocator};
+
+/// What is found of a channel, taken as a list of stretches.
+#[derive(Clone, Copy, Debug, PartialEq, Eq)]
+pub enum Standing {
+    /// Each of its stretches can be packed.
+    Fit,
+    /// Some record has a finding of its own.
+    Broken,
+    /// The first stretch that can't be packed, by its number, from 1, and why.
+    Misfit(u64, PackFault),
+}
+
+/// What is found of each channel. The list of samples grows where a stretch wants more room, and the records of one
+/// channel after another are put into the list that there is for them.
+pub(crate) fn stand_all<'a, A: Allocator + Copy>(
+    alloc: A,
+    views: &[RecordView<'a>],
+    trails: Trails,
+    channels: &[(Codes, Verdict)],
+    options: &Options,
+    records: &mut [RecordView<'a>],
+    samples: &mut Vec<i32, A>,
+    steps: &mut [(u64, LeapStep)],
+) -> Result<Vec<Standing, A>, AllocError>
+    requires few { length views.now ≤ 2 ^ 40 }
+    requires verdicts { AreVerdicts (added_from 0 (map view_of views.now)) channels.now }
+    requires laid { AreLaid views.now channels.now trails.firsts.now trails.nexts.now }
+    requires room { length views.now ≤ length records.old }
+    requires steps_fit { steps_of (map view_of views.now) ≤ length steps.old }
+    ensures standings { IfOk result (λ standings.
+        AreStandings options.now (map view_of views.now) channels.now standings.items) }
+    ensures roomy { IfOk result (λ standings.
+        AreRoomy (length samples.new.items) (map view_of views.now) channels.now standings.items) }
+{
+    let mut standings = Vec::new(alloc);
+    for (number, channel) in channels.iter().enumerate() {
+        let count = gather(views, trails.of(number), &channel.0, records);
+        let continuous = channel.1.is_continuous();
+        let standing = stand(&records[..count], continuous, options, samples, steps)?;
+        standings.push(standing)?;
+    }
+    Ok(standings)
+}
+
+/// What is found of a channel with these records. Where it is continuous, each is sound.
+fn stand<A: Allocator>(
+    records: &[RecordView],
+    continuous: bool,
+    options: &Options,
+    samples: &mut Vec<i32, A>,
+    steps: &mut [(u64, LeapStep)],
+) -> Result<Standing, AllocError>
+    requires few { length records.now ≤ 2 ^ 40 }
+    requires continuous { continuous ≡ true → AllByRecursion IsSound (map view_of records.now) }
+    requires steps_fit { steps_of (map view_of records.now) ≤ length steps.old }
+    ensures standing { IfOk result (λ s. Stands options.now (map view_of records.now) s) }
+    ensures room { IfOk result (λ s. s ≡ Standing.Fit
+        → AreStretchesWithin (length samples.new.items) (map view_of records.now)) }
+    ensures grown { IfOk result (λ _. length samples.old.items ≤ length samples.new.items) }
+{
+    if !are_all_sound(records, continuous) {
+        return Ok(Standing::Broken);
+    }
+    make_room(samples, longest_stretch(records))?;
+    match fit_stretches(records, options, samples, steps) {
+        Ok(()) => Ok(Standing::Fit),
+        Err(misfit) => Ok(Standing::Misfit(misfit.number, misfit.fault)),
+    }
+}
+
+/// Whether each of a channel's records is sound. Where the channel is continuous, each is.
+fn are_all_sound(records: &[RecordView], continuous: bool) -> bool
+    requires { continuous ≡ true → AllByRecursion IsSound (map view_of records.now) }
+    ensures { IsTrue result ↔ AllByRecursion IsSound (map view_of records.now) }
+{
+    if continuous {
+        return true;
+    }
+    are_sound(records)
+}
+
+/// Lets a list have room for so many samples.
+fn make_room<A: Allocator>(samples: &mut Vec<i32, A>, most: usize) -> Result<(), AllocError>
+    ensures room { OnOk result (most ≤ length samples.new.items) }
+    ensures grown { OnOk result (length samples.old.items ≤ length samples.new.items) }
+{
+    if samples.len() < most {
+        samples.resize(most, 0)
+    } else {
+        Ok(())
+    }
+}
