@@ -113,7 +113,7 @@ packages:
 	@tests/packages.py
 
 interop: build
-	@tests/run.py interop library_interop
+	@tests/run.py interop interop_stretches library_interop
 
 bench: build lib
 	@python3 bench/bench.py $(MSEED) --write

@@ -46,7 +46,8 @@ def outputs(failing: str) -> Cases:
     """Outputs that fail."""
     packed = record(samples=32, encoding=11, exponent=7, frames=1, data=payload(
         "03FD0000 00000000 0000001F 80111111 81111111 81111111 81111111 01010101"))
-    yield from fails_to_write(failing, packed, WHOLE, TWO, ["repack", "--length", "128"])
+    for words in ("repack --length 128", "repack --stretches --length 128"):
+        yield from fails_to_write(failing, packed, WHOLE, TWO, words.split())
     yield from fails_to_write(failing, AUDIT_OF_TWO.encode(), 2, TWO, ["audit"])
     yield from fails_to_write(failing, f"{LINE}records 1\n".encode(), 2, ONE, ["show"])
 

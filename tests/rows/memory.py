@@ -71,6 +71,7 @@ def rows() -> Cases:
         ("two audit", TWO, "audit", 0),
         ("two repack", TWO, "repack", 0),
         ("four repack", FOUR, "repack", 1),
+        ("four repack --stretches", FOUR, "repack --stretches", 0),
         ("two repack --length 500", TWO, "repack --length 500", 3),
         ("two show", TWO, "show", 0),
         ("two show --bogus", TWO, "show --bogus", 3),

@@ -12,9 +12,10 @@ use Rattle.std.proofs.lemmas.List.{length-append}
 use Rattle.clap.specs.Facts.{Entry}
 use Rattle.clap.specs.Walk.{Row, Text, first_of, row_of}
 use Rattle.mseed_pack.specs.declared.options.Encoding.{Encoding}
-use Rattle.mseed.specs.Found.{has_only, is_among}
+use Rattle.mseed.specs.Found.{asks, has_only, is_among}
 use Rattle.mseed.specs.Numbers.{is_digit, value_of}
-use Rattle.mseed.specs.Words.{encoding_in, exponent_in, packing_names, packing_of, packing_with}
+use Rattle.mseed.specs.Words.{encoding_in, exponent_in, packing_by, packing_names, packing_of, packing_with}
+use Rattle.mseed.specs.declared.request.Packing.{Packing}
 
 -- a digit behind others
 value_more : (xs : Text) (c : ℕ) → value_of (xs ++ c ∷ []) ≡ value_of xs * 10 + (c - 48)
@@ -70,9 +71,11 @@ ids_are (e ∷ es) = ap (λ (ids : List Text). e.0.now ∷ ids) (ids_are es)
 pub below : (c : ℕ) → is_digit c ≡ true → c < 58
 below c is = grind (arith, common_steps, is)
 
--- packing anew with the length and the encoding that the rows give
-pub packing_is : (rows : List Row) (exponent : Option ℕ) (encoding : Option Encoding)
-    (all : has_only packing_names rows ≡ true)
+-- packing anew with the length and the encoding that the rows give, and by their flags
+pub packing_is : (rows : List Row) (exponent : Option ℕ) (encoding : Option Encoding) (packing : Option Packing)
+    (stretches leave : Bool) (all : has_only packing_names rows ≡ true)
     → exponent ≡ exponent_in (first_of (codes "length") rows)
-    → encoding ≡ encoding_in (first_of (codes "encoding") rows) → packing_with exponent encoding ≡ packing_of rows
-packing_is rows exponent encoding all e n = rw (all, e, n) refl
+    → encoding ≡ encoding_in (first_of (codes "encoding") rows) → packing ≡ packing_with exponent encoding
+    → stretches ≡ asks (codes "stretches") rows → leave ≡ asks (codes "leave") rows
+    → packing_by packing stretches leave ≡ packing_of rows
+packing_is rows exponent encoding packing stretches leave all e n p s l = rw (all, p, e, n, s, l) refl

@@ -23,7 +23,9 @@ asks name rows = is_true (first_of name rows)
 
 -- the flags, each of which is found as one that is set or isn't
 abbrev pub flag_names : List Text
-flag_names = codes "each" ∷ codes "part" ∷ codes "past-faults" ∷ codes "tell-next" ∷ codes "holes" ∷ []
+flag_names =
+    codes "each" ∷ codes "part" ∷ codes "past-faults" ∷ codes "tell-next" ∷ codes "holes" ∷ codes "stretches"
+    ∷ codes "leave" ∷ []
 
 -- one of these names, or that of a flag that isn't set
 abbrev pub is_taken : List Text → List Row → Text → Bool

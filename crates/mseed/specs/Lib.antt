@@ -12,6 +12,7 @@ pub mod Show
 pub mod Done
 pub mod Joined
 pub mod Repacked
+pub mod Restretched
 pub mod Filling
 pub mod Plans
 pub mod private

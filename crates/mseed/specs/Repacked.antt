@@ -3,28 +3,15 @@ use Rattle.std.specs.Prelude.{⊤, ◌≡◌, ℕ, List, ◌++◌, Result, Ok, E
 use Rattle.mseed_stream.specs.Device.{BytesRead, BytesWritten}
 use Rattle.mseed_audit.specs.Text.{name_text, fault_line}
 use Rattle.mseed_pack.specs.declared.fault.PackFault.{PackFault}
-use Rattle.mseed_pack.specs.declared.fault.PackFault.TheVariants.{Empty, RateTooHigh, TimeOutOfRange, SampleTooLarge}
-use Rattle.mseed_pack.specs.declared.fault.PackFault.TheVariants.{DifferenceTooLarge, Write as WriteFailed}
 use Rattle.mseed_pack.specs.declared.options.Options.{Options}
 use Rattle.mseed_stream.specs.Telling.{Tells}
+use Rattle.mseed_repack.specs.ByStretches.{broken_line, misfit_number}
 use Rattle.mseed_repack.specs.Repack.{IsRepacking}
 use Rattle.mseed.specs.declared.request.Packing.{Packing}
 use Rattle.mseed_repack.specs.declared.fault.RepackFault.{RepackFault}
 use Rattle.mseed_repack.specs.declared.fault.RepackFault.TheVariants.{Stream, Broken, Misfit, Write, Memory}
 
--- why a series can't be packed, by its place among the reasons
-abbrev pub misfit_number : PackFault → ℕ
-misfit_number Empty = 1
-misfit_number RateTooHigh = 2
-misfit_number TimeOutOfRange = 3
-misfit_number (SampleTooLarge index) = 4
-misfit_number (DifferenceTooLarge index) = 5
-misfit_number (WriteFailed taken) = 6
-
--- the lines about a channel
-abbrev pub broken_text : List ℕ → List ℕ
-broken_text key = codes "mseed: " ++ name_text key ++ codes " is broken\n"
-
+-- the line about a channel that can't be packed
 abbrev pub reason_text : PackFault → List ℕ
 reason_text fault = codes " does not fit " ++ decimal (misfit_number fault) ++ codes "\n"
 
@@ -34,7 +21,7 @@ misfit_text key fault = codes "mseed: " ++ name_text key ++ reason_text fault
 -- the line of a fault
 abbrev pub refusal_text : RepackFault → List ℕ
 refusal_text (Stream fault) = codes "mseed: " ++ fault_line fault
-refusal_text (Broken key) = broken_text key
+refusal_text (Broken key) = broken_line key
 refusal_text (Misfit key fault) = misfit_text key fault
 refusal_text Write = codes "mseed: write failed\n"
 refusal_text Memory = codes "mseed: no memory\n"

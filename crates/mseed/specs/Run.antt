@@ -10,12 +10,14 @@ use Rattle.mseed.specs.Joined.{IsJoinEachRun, IsJoinRun}
 use Rattle.mseed.specs.Outcome.{IsAuditRun, IsBadRun, IsEachRun, IsPartRun, IsPartEachRun}
 use Rattle.mseed.specs.Plans.{IsFetchRun, IsServeRun}
 use Rattle.mseed.specs.Repacked.{IsRepackRun}
+use Rattle.mseed.specs.Restretched.{IsStretchesRun}
 use Rattle.mseed.specs.declared.ending.ShowFault.{ShowFault}
 use Rattle.mseed.specs.declared.outcome.Run.{Run}
 use Rattle.mseed.specs.declared.outcome.Run.TheVariants as runs
 use Rattle.mseed.specs.declared.request.Request.{Request}
 use Rattle.mseed.specs.declared.request.Request.TheVariants.{Audit, AuditEach, AuditPart, AuditPartEach}
-use Rattle.mseed.specs.declared.request.Request.TheVariants.{Join, JoinEach, Show, Repack, Serve, Fetch}
+use Rattle.mseed.specs.declared.request.Request.TheVariants.{Join, JoinEach, Show, Repack, RepackStretches, Serve}
+use Rattle.mseed.specs.declared.request.Request.TheVariants.{Fetch}
 use Rattle.mseed_join.specs.declared.joining.Joined.{Joined}
 use Rattle.mseed_join.specs.declared.joining.JoinsFault.{JoinsFault}
 
@@ -52,6 +54,9 @@ HasCarriedOut Show run old new = (outcome : Result (Option StreamFault) ShowFaul
     × IsStatusAnd run (λ status. IsShowRun outcome status new.input old.output new.output old.errors new.errors)
 HasCarriedOut (Repack packing) run old new =
     IsStatusAnd run (λ status. IsRepackRun packing status new.input old.output new.output old.errors new.errors)
+HasCarriedOut (RepackStretches packing leave) run old new =
+    IsStatusAnd run (λ status.
+    IsStretchesRun packing leave status new.input old.output new.output old.errors new.errors)
 HasCarriedOut (Serve serving) run old new =
     IsServeRun serving run new.input old.errors new.errors × (new.output ≡ old.output)
 HasCarriedOut (Fetch fetching) run old new =

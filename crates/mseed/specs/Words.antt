@@ -14,7 +14,9 @@ use Rattle.mseed.specs.Numbers.{number_in}
 use Rattle.mseed.specs.FeedWords.{CanFetch, CanServe, fetching_of, serving_of}
 use Rattle.mseed.specs.declared.request.Request.{Request}
 use Rattle.mseed.specs.declared.request.Request.TheVariants.{Audit, AuditEach, AuditPart, AuditPartEach}
-use Rattle.mseed.specs.declared.request.Request.TheVariants.{Join, JoinEach, Show, Repack, Serve, Fetch}
+use Rattle.mseed.specs.declared.request.Request.TheVariants.{Join, JoinEach, Show, Repack, RepackStretches, Serve}
+use Rattle.mseed.specs.declared.request.Request.TheVariants.{Fetch}
+use Rattle.mseed.specs.declared.request.Packing.{Packing}
 use Rattle.mseed_join.specs.declared.joining.Form.{Form}
 use Rattle.mseed_join.specs.declared.joining.Form.TheVariants as forms
 
@@ -49,19 +51,27 @@ abbrev pub encoding_in : Option Text → Option Encoding
 encoding_in None = Some Steim2
 encoding_in (Some word) = encoding_named word
 
--- what packing anew takes: its word, a length and an encoding
+-- what packing anew takes: its word, a length and an encoding, and two flags
 abbrev pub packing_names : List Text
-packing_names = codes "command" ∷ codes "length" ∷ codes "encoding" ∷ []
+packing_names = codes "command" ∷ codes "length" ∷ codes "encoding" ∷ codes "stretches" ∷ codes "leave" ∷ []
 
-abbrev pub packing_with : Option ℕ → Option Encoding → Option Request
+abbrev pub packing_with : Option ℕ → Option Encoding → Option Packing
 packing_with None encoding = None
 packing_with (Some exponent) None = None
-packing_with (Some exponent) (Some encoding) = Some (Repack (record { exponent = exponent; encoding = encoding }))
+packing_with (Some exponent) (Some encoding) = Some (record { exponent = exponent; encoding = encoding })
+
+-- as it is, or by stretches, which alone can leave channels out
+abbrev pub packing_by : Option Packing → Bool → Bool → Option Request
+packing_by None stretches leave = None
+packing_by (Some packing) true leave = Some (RepackStretches packing leave)
+packing_by (Some packing) false false = Some (Repack packing)
+packing_by (Some packing) false true = None
 
 abbrev pub packing_of : List Row → Option Request
 packing_of rows =
     if has_only packing_names rows
-    then packing_with (exponent_in (first_of (codes "length") rows)) (encoding_in (first_of (codes "encoding") rows))
+    then packing_by (packing_with (exponent_in (first_of (codes "length") rows))
+    (encoding_in (first_of (codes "encoding") rows))) (asks (codes "stretches") rows) (asks (codes "leave") rows)
     else None
 
 -- a command that takes its word alone
@@ -133,6 +143,7 @@ CanBeAsked (Join joining) = ⊤
 CanBeAsked (JoinEach past_faults) = ⊤
 CanBeAsked Show = ⊤
 CanBeAsked (Repack packing) = (7 ≤ packing.exponent) × (packing.exponent ≤ 12)
+CanBeAsked (RepackStretches packing leave) = (7 ≤ packing.exponent) × (packing.exponent ≤ 12)
 CanBeAsked (Serve serving) = CanServe serving
 CanBeAsked (Fetch fetching) = CanFetch fetching
 

@@ -13,6 +13,7 @@ ghost use Rattle.mseed.specs.Run.{HasCarriedOut, HasRefusedRequest, HasRefusedWo
 ghost use Rattle.mseed.specs.Words.{AsksFor, AsksForNothing, AreRefused, CanBeAsked};
 ghost use Rattle.mseed.specs.Done.{IsShowRun};
 ghost use Rattle.mseed.specs.Repacked.{IsRepackRun};
+ghost use Rattle.mseed.specs.Restretched.{IsStretchesRun, left_status};
 ghost use Rattle.clap.specs.Values.{kind_of};
 ghost use Rattle.mseed_stream.specs.declared.fault.StreamFault.{StreamFault};
 ghost use Rattle.mseed.specs.declared.ending.ShowFault.{ShowFault};
@@ -23,7 +24,7 @@ ghost use Rattle.mseed_pack.specs.Options.{code_of};
 use crate::ending::ShowFault;
 use crate::outcome::{BAD_COMMAND, BROKEN, DONE, FAULT, Run};
 use crate::planning::{plan_fetch, plan_serve};
-use crate::refusal::{refuse_to_join, refuse_to_repack};
+use crate::refusal::{refuse_to_join, refuse_to_repack, refuse_to_stretch};
 use crate::request::{Joining, Packing, Request};
 use crate::show::show;
 use crate::words;
@@ -32,7 +33,7 @@ use clap::error::ErrorKind;
 use mseed_audit::{AuditFault, EachFault, Summary, audit, audit_each};
 use mseed_join::{Joined, audit_part, audit_part_each, join, join_each};
 use mseed_pack::Options;
-use mseed_repack::repack;
+use mseed_repack::{Left, repack, repack_stretches};
 use mseed_stream::{Sink, Source, tell};
 use std::alloc::{Allocator, Global};
 
@@ -103,6 +104,9 @@ pub fn carry_out<A: Allocator + Copy, R: Source, W: Sink, E: Sink>(
         }
         Request::Show => Run::Status(run_show(alloc, input, output, errors)),
         Request::Repack(packing) => Run::Status(run_repack(alloc, packing, input, output, errors)),
+        Request::RepackStretches { packing, leave } => {
+            Run::Status(run_stretches(alloc, packing, leave, input, output, errors))
+        }
         Request::Serve(serving) => plan_serve(alloc, &serving, input, errors),
         Request::Fetch(fetching) => Run::Fetch(plan_fetch(&fetching)),
     }
@@ -290,6 +294,41 @@ fn run_repack<A: Allocator + Copy, R: Source, W: Sink, E: Sink>(
     match repack(alloc, &options, input, output) {
         Ok(()) => DONE,
         Err(fault) => refuse_to_repack(errors, &fault),
+    }
+}
+
+/// Packs anew by stretches, and says on `errors` why it didn't, or what was left out.
+fn run_stretches<A: Allocator + Copy, R: Source, W: Sink, E: Sink>(
+    alloc: A,
+    packing: Packing,
+    leave: bool,
+    input: &mut R,
+    output: &mut W,
+    errors: &mut E,
+) -> u8
+    requires unread { R.read input.old ≡ nothing_read }
+    requires asked { CanBeAsked (Request.RepackStretches packing leave) }
+    ensures { IsStretchesRun packing leave result (R.read input.new)
+        (W.written output.old) (W.written output.new) (E.written errors.old) (E.written errors.new) }
+{
+    let options = match Options::new(packing.exponent, packing.encoding.code(), 1) {
+        Ok(options) => options,
+        Err(_) => unreachable!(),
+    };
+    match repack_stretches(alloc, &options, leave, input, output, errors) {
+        Ok(left) => left_status(left),
+        Err(fault) => refuse_to_stretch(errors, &fault),
+    }
+}
+
+/// The exit status where all was written but what was left out.
+fn left_status(left: Left) -> u8
+    ensures { result ≡ left_status left }
+{
+    match left {
+        Left::Nothing => DONE,
+        Left::Broken => BROKEN,
+        Left::Misfit => FAULT,
     }
 }
 

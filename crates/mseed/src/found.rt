@@ -16,7 +16,15 @@ pub(crate) fn text_of<'a>(matches: &ArgMatches<'a>, name: &str) -> Option<&'a st
 }
 
 /// The flags. `clap` finds each of them, as one that is set or isn't.
-const FLAGS: [&str; 5] = ["each", "part", "past-faults", "tell-next", "holes"];
+const FLAGS: [&str; 7] = [
+    "each",
+    "part",
+    "past-faults",
+    "tell-next",
+    "holes",
+    "stretches",
+    "leave",
+];
 
 /// Whether a flag is set.
 pub(crate) fn asks(matches: &ArgMatches<'_>, name: &str) -> bool

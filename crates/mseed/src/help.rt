@@ -27,7 +27,9 @@ pub const COMMANDS: &str = "Commands:
             mseed show < my.mseed
   repack  packs each channel anew, in records of one length and one encoding
           reads an archive, writes an archive; status 1: a channel isn't continuous
-          options: --length, --encoding
+          options: --length, --encoding; --stretches, take each channel as a list of stretches, so
+          that a channel may have gaps and its clock may drift; with it --leave, leave out and tell
+          the channels that can't be packed: status 1 or 2
             mseed repack --length 4096 --encoding steim1 < my.mseed > packed.mseed
   serve   sends the records of stations to clients, over SeedLink 3
           reads an archive of records of 512 bytes, writes nothing
@@ -47,7 +49,8 @@ What is read is standard input, and what is written standard output; messages go
 
 Statuses:
   0  done; of audit: each channel is continuous
-  1  of audit: a channel is broken; of repack: one isn't continuous, and nothing was written
+  1  of audit: a channel is broken; of repack: one isn't continuous, and nothing was written, or
+     with --leave the others
   2  a fault: of the input, the output or a connection, of what is asked for, or out of memory;
      a line says which
   3  a bad command line, this help, or the version";

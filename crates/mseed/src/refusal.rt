@@ -8,6 +8,8 @@ ghost use Rattle.mseed_join.specs.declared.joining.JoinsFault.{JoinsFault};
 ghost use Rattle.mseed.specs.Joined.{join_fault_text};
 ghost use Rattle.mseed.specs.Plans.{fill_text};
 ghost use Rattle.mseed.specs.Repacked.{refusal_status, refusal_text, reason_text};
+ghost use Rattle.mseed.specs.Restretched.{stretches_status, stretches_text};
+ghost use Rattle.mseed_repack.specs.ByStretches.{broken_line};
 
 use crate::command::{refuse_memory, write_failed};
 use crate::fill_fault::FillFault;
@@ -17,7 +19,7 @@ use mseed_audit::{fault_line_of, line_of, name_of};
 use mseed_join::JoinsFault;
 use mseed_pack::PackFault;
 use mseed_record::Codes;
-use mseed_repack::RepackFault;
+use mseed_repack::{RepackFault, StretchesFault, tell_broken, tell_misfit};
 use mseed_stream::{Sink, StreamFault, tell};
 
 /// Says why an archive wasn't packed anew, and answers the exit status: a broken channel is no fault.
@@ -27,16 +29,30 @@ pub fn refuse_to_repack<E: Sink>(errors: &mut E, fault: &RepackFault) -> u8
 {
     match fault {
         RepackFault::Stream(fault) => tell_fault(errors, fault),
-        RepackFault::Broken(channel) => {
-            tell_of_channel(errors, channel, b" is broken\n");
-            BROKEN
-        }
+        RepackFault::Broken(channel) => refuse_broken(errors, channel),
         RepackFault::Misfit(channel, fault) => {
             tell_of_channel(errors, channel, reason(fault));
             FAULT
         }
         RepackFault::Write => write_failed(errors),
         RepackFault::Memory => refuse_memory(errors),
+    }
+}
+
+/// Says why an archive wasn't packed anew by stretches, and answers the exit status: a broken channel is no fault.
+pub fn refuse_to_stretch<E: Sink>(errors: &mut E, fault: &StretchesFault) -> u8
+    ensures status { result ≡ stretches_status fault.now }
+    ensures told { Tells (stretches_text fault.now) (E.written errors.old) (E.written errors.new) }
+{
+    match fault {
+        StretchesFault::Stream(fault) => tell_fault(errors, fault),
+        StretchesFault::Broken(channel) => refuse_broken(errors, channel),
+        StretchesFault::Misfit(channel, number, fault) => {
+            tell_misfit(channel, *number, *fault, errors);
+            FAULT
+        }
+        StretchesFault::Write => write_failed(errors),
+        StretchesFault::Memory => refuse_memory(errors),
     }
 }
 
@@ -73,6 +89,15 @@ fn tell_fault<E: Sink>(errors: &mut E, fault: &StreamFault) -> u8
     let line = line_of(&[Words(b"mseed: "), Words(&fault_line_of(fault))]);
     tell(errors, &line);
     FAULT
+}
+
+/// Says that a channel is broken.
+fn refuse_broken<E: Sink>(errors: &mut E, channel: &Codes) -> u8
+    ensures status { result ≡ 1 }
+    ensures told { Tells (broken_line channel.now) (E.written errors.old) (E.written errors.new) }
+{
+    tell_broken(channel, errors);
+    BROKEN
 }
 
 /// Says something of a channel.

@@ -26,6 +26,13 @@ pub enum Request {
     Show,
     /// Pack the archive on standard input anew.
     Repack(Packing),
+    /// Pack it anew, each channel as a list of stretches.
+    RepackStretches {
+        /// What records it is packed into.
+        packing: Packing,
+        /// Whether channels that can't be packed are left out.
+        leave: bool,
+    },
     /// Serve the records on standard input.
     Serve(Serving),
     /// Fetch the records that are served.

@@ -6,12 +6,13 @@ ghost use Rattle.clap.specs.Walk.{rows_of};
 ghost use Rattle.clap.specs.Simple.{app_of, with_rule};
 ghost use Rattle.clap.specs.Kinds.{HasKind};
 ghost use Rattle.clap.specs.declared.builder.value_parser.ValueParser.TheVariants.{Signed};
-ghost use Rattle.mseed.specs.Words.{faults_in, entries_in, request_of, request_named, packing_of, packing_with};
+ghost use Rattle.mseed.specs.Words.{faults_in, entries_in, request_of, request_named, packing_by, packing_of};
+ghost use Rattle.mseed.specs.Words.{packing_with};
 ghost use Rattle.mseed.specs.Words.{CanBeAsked, auditing_by, auditing_of, form_by, joining_by, joining_of, showing_of};
 ghost use Rattle.mseed.specs.Words.{exponent_in, exponent_by, encoding_in, encoding_named};
 ghost use Rattle.mseed.specs.Options.{bare_command, the_command, word_rule, places_rule, packing_rules, feed_rules};
 ghost use Rattle.mseed.specs.Options.{number_rules, flag_rule, flag_rules, option_rule, number_rule, with_rules};
-ghost use Rattle.mseed.specs.Options.{fetch_flag_rules, link_rules};
+ghost use Rattle.mseed.specs.Options.{fetch_flag_rules, link_rules, packing_flag_rules};
 
 use crate::feed_words::{fetching_of, serving_of};
 use crate::found::{asks, has_only, text_of};
@@ -146,23 +147,41 @@ fn packing_of(matches: &ArgMatches<'_>) -> Option<Request>
     ensures value { result ≡ packing_of (rows_of (found_of matches.now)) }
     ensures range { IfSome result CanBeAsked }
 {
-    if !has_only(matches, &["command", "length", "encoding"]) {
+    if !has_only(
+        matches,
+        &["command", "length", "encoding", "stretches", "leave"],
+    ) {
         return None;
     }
-    packing_with(
+    let packing = packing_with(
         exponent_in(text_of(matches, "length")),
         encoding_in(text_of(matches, "encoding")),
-    )
+    );
+    packing_by(packing, asks(matches, "stretches"), asks(matches, "leave"))
 }
 
-/// Packing anew, where the length and the encoding are some that there are.
-fn packing_with(exponent: Option<u8>, encoding: Option<Encoding>) -> Option<Request>
-    requires { IfSome exponent (λ e. (7 ≤ e) × (e ≤ 12)) }
-    ensures value { result ≡ packing_with exponent encoding }
+/// Packing anew, as it is, or by stretches; these alone can leave channels out.
+fn packing_by(packing: Option<Packing>, stretches: bool, leave: bool) -> Option<Request>
+    requires { IfSome packing (λ p. (7 ≤ p.exponent) × (p.exponent ≤ 12)) }
+    ensures value { result ≡ packing_by packing stretches leave }
     ensures range { IfSome result CanBeAsked }
 {
+    match (packing, stretches, leave) {
+        (None, _, _) => None,
+        (Some(packing), true, leave) => Some(Request::RepackStretches { packing, leave }),
+        (Some(packing), false, false) => Some(Request::Repack(packing)),
+        (Some(_), false, true) => None,
+    }
+}
+
+/// What records are packed, where the length and the encoding are some that there are.
+fn packing_with(exponent: Option<u8>, encoding: Option<Encoding>) -> Option<Packing>
+    requires { IfSome exponent (λ e. (7 ≤ e) × (e ≤ 12)) }
+    ensures value { result ≡ packing_with exponent encoding }
+    ensures range { IfSome result (λ packing. (7 ≤ packing.exponent) × (packing.exponent ≤ 12)) }
+{
     match (exponent, encoding) {
-        (Some(exponent), Some(encoding)) => Some(Request::Repack(Packing { exponent, encoding })),
+        (Some(exponent), Some(encoding)) => Some(Packing { exponent, encoding }),
         _ => None,
     }
 }
@@ -227,7 +246,8 @@ fn command<'a>(alloc: Global) -> Result<Command<'a>, AllocError>
     let command = with_feed(alloc, command)?;
     let command = with_numbers(alloc, command)?;
     let command = with_flags(alloc, command)?;
-    with_fetch_flags(alloc, command)
+    let command = with_fetch_flags(alloc, command)?;
+    with_packing_flags(alloc, command)
 }
 
 /// The command without places and options. The program's name isn't among the words.
@@ -383,6 +403,24 @@ fn with_fetch_flags<'a>(alloc: Global, command: Command<'a>) -> Result<Command<'
         command,
         "holes",
         "fetch: take records whose numbers are ahead, and tell each hole",
+    )
+}
+
+/// With the flags of packing.
+fn with_packing_flags<'a>(alloc: Global, command: Command<'a>) -> Result<Command<'a>, AllocError>
+    ensures { IfOk result (λ c. app_of c ≡ with_rules (app_of command.entry) packing_flag_rules) }
+{
+    let command = with_flag(
+        alloc,
+        command,
+        "stretches",
+        "repack: take each channel as a list of stretches, whose clocks go on",
+    )?;
+    with_flag(
+        alloc,
+        command,
+        "leave",
+        "repack --stretches: leave out, and tell, the channels that can't be packed",
     )
 }
 

@@ -1,0 +1,118 @@
+"""Packing anew by stretches in Python, from docs/format.md and docs/texts.md alone."""
+
+from __future__ import annotations
+
+import dataclasses
+from typing import NamedTuple, Optional
+
+from models.auditing import Record, channels_of, cut, name_of
+from models.packing import SECOND, Series, btime, fits, packed
+
+SHIFTS = {16: SECOND, 32: -SECOND}
+WIDTH_OF_SAMPLES = {1: 16, 3: 32, 10: 32, 11: 32}
+WIDTH_OF_DIFFERENCES = {10: 32, 11: 30}
+
+
+@dataclasses.dataclass
+class Stretch:
+    """Records of one channel that follow one clock, and what that clock needs to be known for."""
+
+    records: list[Record]
+
+    def goes_on(self, record: Record) -> bool:
+        """Whether a record goes on with it."""
+        (num, den), (other_num, other_den) = self.records[0].rate(), record.rate()
+        if num * other_den != other_num * den or self.records[-1].activity & 48 == 48:
+            return False
+        samples = sum(one.count for one in self.records)
+        shift = sum(SHIFTS.get(one.activity & 48, 0) for one in self.records)
+        off = (record.start() - self.records[0].start() + shift) * num - samples * den * SECOND
+        return 4 * abs(off) <= den * SECOND
+
+    def series(self) -> Series:
+        """Its series. A record with both leap flags says no leap second."""
+        first, samples, steps = self.records[0], [], []
+        for record in self.records:
+            samples += record.read()
+            if record.activity & 48 in SHIFTS:
+                steps.append((len(samples), 1 if record.activity & 16 else -1))
+        return Series(first.bytes[8:20], first.start(), first.factor, first.multiplier, samples, steps)
+
+
+class Misfit(NamedTuple):
+    """The first stretch of a channel that can't be packed, counted from 1, and the number of the reason."""
+
+    reason: int
+    stretch: int
+
+
+def is_sound(record: Record) -> bool:
+    """Whether nothing is found of a record by itself."""
+    return not isinstance(record.start(), str) and record.rate() is not None and not isinstance(record.read(), str)
+
+
+def stretches_of(records: list[Record]) -> list[Stretch]:
+    """The stretches of a channel's records, each of which is sound."""
+    found: list[Stretch] = []
+    for record in records:
+        if found and found[-1].goes_on(record):
+            found[-1].records.append(record)
+        else:
+            found.append(Stretch([record]))
+    return found
+
+
+def reason_against(series: Series, encoding: int) -> Optional[int]:
+    """The number by which is named why a series can't be packed; nothing where it can."""
+    num, den = series.rate()
+    if num > 500_000 * den:
+        return 2
+    places = [place for place, _ in series.steps]
+    ends = [0] + [at for place in places for at in (place - 1, place)] + [len(series.samples) - 1]
+    try:
+        years = [btime(series.instant(at))["year"] for at in ends if at < len(series.samples)]
+    except (OverflowError, ValueError):
+        return 3
+    if not all(1900 <= year <= 2100 for year in years):
+        return 3
+    if not all(fits(sample, WIDTH_OF_SAMPLES[encoding]) for sample in series.samples):
+        return 4
+    width = WIDTH_OF_DIFFERENCES.get(encoding, 40)
+    return None if all(fits(b - a, width) for a, b in zip(series.samples, series.samples[1:])) else 5
+
+
+def misfit_of(stretches: list[Stretch], encoding: int) -> Optional[Misfit]:
+    """The first stretch that can't be packed."""
+    for number, stretch in enumerate(stretches, 1):
+        reason = reason_against(stretch.series(), encoding)
+        if reason:
+            return Misfit(reason, number)
+    return None
+
+
+def packed_on(stretches: list[Stretch], exponent: int, encoding: int) -> list[bytes]:
+    """The records of a channel's stretches, with sequence numbers that run on."""
+    records = [record for stretch in stretches for record in packed(stretch.series(), exponent, encoding)]
+    return [b"%06d" % (number % 10**6) + record[6:] for number, record in enumerate(records, 1)]
+
+
+def restretched(archive: bytes, exponent: int = 9, encoding: int = 11,
+                leave: bool = False) -> tuple[bytes, bytes, int]:
+    """Packing an archive anew by stretches: the output, the standard error, and the status."""
+    records, end, fault = cut(archive)
+    if fault:
+        return b"", f"mseed: fault at {end} {fault}\n".encode(), 2
+    channels = {key: [record for _, _, record in channel] for key, channel in channels_of(records).items()}
+    broken = {key for key, channel in channels.items() if not all(is_sound(record) for record in channel)}
+    stretches = {key: stretches_of(channel) for key, channel in channels.items() if key not in broken}
+    misfits = {key: misfit_of(some, encoding) for key, some in stretches.items()}
+    lines = {key: f"mseed: {name_of(key)} is broken\n" for key in sorted(broken)}
+    lines.update({key: f"mseed: {name_of(key)} does not fit {misfit.reason} stretch {misfit.stretch}\n"
+                  for key, misfit in misfits.items() if misfit})
+    status = 2 if any(misfits.values()) else 1 if broken else 0
+    if not leave and lines:
+        first = min(broken) if broken else min(lines)
+        return b"", lines[first].encode(), 1 if broken else 2
+    output = b"".join(record for key, some in stretches.items() if key not in lines
+                      for record in packed_on(some, exponent, encoding))
+    return output, "".join(lines[key] for key in sorted(lines)).encode(), status
