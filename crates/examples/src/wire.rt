@@ -1,7 +1,7 @@
 //! Calls of `slink_wire`.
-ghost use Rattle.std.specs.Prelude.{IfOk, ◌<◌, ◌^◌};
+ghost use Rattle.std.specs.Prelude.{IfOk, ◌≡◌, ◌<◌, ◌^◌};
 ghost use Rattle.slink_wire.specs.Command.{IsCommand};
-ghost use Rattle.slink_wire.specs.Packet.{IsPacket};
+ghost use Rattle.slink_wire.specs.Packet.{IsPacket, packet_bytes};
 ghost use Rattle.slink_wire.specs.Place.{SpellsPlace};
 
 use arrayvec::ArrayVec;
@@ -75,6 +75,14 @@ pub fn packet_of(number: u32, bytes: &[u8; 512]) -> [u8; 520]
     ensures { IsPacket result number bytes.now }
 {
     Packet::write(number, bytes)
+}
+
+/// Puts the packet of a record into room that is used for one after another.
+pub fn put_packet(room: &mut [u8; 520], number: u32, bytes: &[u8; 512])
+    requires { number < 2 ^ 24 }
+    ensures { room.new ≡ packet_bytes number bytes.now }
+{
+    Packet::put(room, number, bytes);
 }
 
 /// The number of a packet's record.

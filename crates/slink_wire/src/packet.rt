@@ -20,10 +20,18 @@ impl Packet {
         ensures reads_back { IsPacket result number bytes.now }
     {
         let mut packet = [0; 520];
-        let (head, body) = packet.split_at_mut(8);
+        Packet::put(&mut packet, number, bytes);
+        packet
+    }
+
+    /// Puts the packet of a record into room, as [`Packet::write`] has it.
+    pub fn put(room: &mut [u8; 520], number: u32, bytes: &[u8; 512])
+        requires { number < 2 ^ 24 }
+        ensures value { room.new ≡ packet_bytes number bytes.now }
+    {
+        let (head, body) = room.split_at_mut(8);
         head.copy_from_slice(&header(number));
         body.copy_from_slice(bytes);
-        packet
     }
 
     /// The number of the record, from the first eight bytes of a packet: its digits may stand in either case.
