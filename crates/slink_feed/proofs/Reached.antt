@@ -1,12 +1,14 @@
 -- Grants that the rings of a feed reach.
 use Rattle.std.proofs.Common.{◌≡◌, ℕ, ◌+◌, ◌<◌, ◌≤◌, ◌⊎◌, inl, inr, zero, suc, refl, sym, ap, subst, ◌∙◌, arith, List}
-use Rattle.std.proofs.Common.{[], ◌∷◌, set, Option, Some, None, slice_get}
+use Rattle.std.proofs.Common.{[], ◌∷◌, set, Option, Some, None, slice_get, if◌then◌else◌}
+use Rattle.std.proofs.lemmas.Bool.Decides.{eqb_tells}
 use Rattle.slink_feed.specs.declared.grant.Grant.{Grant}
 use Rattle.slink_feed.specs.declared.session.Phase.{Phase}
 use Rattle.slink_feed.specs.declared.session.Phase.TheVariants.{Streaming}
 use Rattle.slink_feed.specs.declared.session.Sent.{Sent}
-use Rattle.slink_feed.specs.Session.{AreReached, Grants, IsReached, State, grant_at, sent, sent_from, sent_in, sent_of}
-use Rattle.slink_feed.specs.Window.{Window}
+use Rattle.slink_feed.specs.Session.{AreReached, Grants, IsReached, State, all_done, at_next, grant_at, packet_at, sent}
+use Rattle.slink_feed.specs.Session.{sent_from, sent_in, sent_of}
+use Rattle.slink_feed.specs.Window.{Window, record_at}
 
 -- a grant once another was written
 grant_set : (gs : Grants) (k j : ℕ) (o : Option Grant) → ((j ≡ k) × (grant_at (set gs k o) j ≡ o))
@@ -58,3 +60,14 @@ sent_is feed s k g w o x phase read is here e =
     ap (λ (p : Phase). sent_in p feed s k) phase
     ∙ (ap (λ (h : Option Grant). sent_of feed s k h (slice_get feed k)) (sym read ∙ is)
     ∙ (ap (λ (r : Option Window). sent_of feed s k (Some g) r) here ∙ e))
+
+-- what is sent, where the ring has the grant's record
+pub record_sent : (feed : List Window) (s : State) (k : ℕ) (g : Grant) (w : Window) (bytes : List ℕ)
+    → s.phase ≡ Streaming → grant_at s.grants k ≡ Some g → slice_get feed k ≡ Some w
+    → Some bytes ≡ record_at w g.position → g.position < w.next → sent feed s k ≡ packet_at s k g (Some bytes)
+record_sent feed s k g w bytes is granted here read lt = elim (eqb_tells g.position w.next) [
+  | inl same ↦ absurd (omega (arith, same.1, lt))
+  | inr other ↦ sent_is feed s k g w (Some g) (packet_at s k g (Some bytes)) is (sym granted) refl here
+      (ap (λ b. if b then at_next (all_done feed s.grants) s else packet_at s k g (record_at w g.position)) other.0
+      ∙ ap (packet_at s k g) (sym read))
+]

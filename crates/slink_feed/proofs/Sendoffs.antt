@@ -1,7 +1,7 @@
 -- What a session gave so far, and which of the bytes it took were answered.
-use Rattle.std.proofs.Common.{◌≡◌, ℕ, ◌+◌, ◌-◌, ◌*◌, ◌≤◌, ◌<◌, ◌⊎◌, zero, suc, refl, sym, ap, subst, ◌∙◌, arith, inl}
-use Rattle.std.proofs.Common.{inr, if◌then◌else◌, List, [], ◌∷◌, ◌++◌, append_assoc, append-nil, length, length-append}
-use Rattle.std.proofs.Common.{replicate, take, take_all, drop, Result, Err, IfErr}
+use Rattle.std.proofs.Common.{◌≡◌, ◌≢◌, ℕ, ◌+◌, ◌-◌, ◌*◌, ◌≤◌, ◌<◌, ◌⊎◌, zero, suc, refl, sym, ap, subst, ◌∙◌, arith}
+use Rattle.std.proofs.Common.{inl, inr, if◌then◌else◌, List, [], ◌∷◌, ◌++◌, append_assoc, append-nil, length}
+use Rattle.std.proofs.Common.{length-append, replicate, take, take_all, drop, Result, Err, IfErr}
 use Rattle.std.proofs.lemmas.Bool.Decides.{eqb_tells}
 use Rattle.slink_wire.specs.declared.reply.Reply.{Reply}
 use Rattle.slink_wire.specs.declared.reply.Reply.TheVariants as replies
@@ -12,16 +12,16 @@ use Rattle.slink_feed.specs.declared.session.Sent.TheVariants as sents
 use Rattle.slink_feed.specs.declared.turn.LinkFault.{LinkFault}
 use Rattle.slink_feed.specs.declared.turn.LinkFault.TheVariants as faults
 use Rattle.slink_feed.specs.Attending.{RepliesToAll}
-use Rattle.slink_feed.specs.private.Replying.{HasFailed, HasSent, IsReplyFault, IsWritten, IsSayFault, IsSendFault}
-use Rattle.slink_feed.specs.private.Replying.{IsUnwritten}
+use Rattle.slink_feed.specs.private.Replying.{HasFailed, HasGiven, HasSent, IsReplyFault, IsWritten, IsSayFault}
+use Rattle.slink_feed.specs.private.Replying.{IsSendFault, IsUnwritten}
 use Rattle.slink_feed.specs.private.Replying.{waits_after}
 use Rattle.slink_feed.specs.Rounds.{Attending, FailsToSend, Gives, HasWaited, all_sent, place_behind}
 use Rattle.slink_feed.specs.Serving.{Serves, Standing, Takes, none_served, piece_served}
-use Rattle.slink_feed.specs.Session.{State, sent, sent_bytes}
+use Rattle.slink_feed.specs.Session.{AreReached, State, sent, sent_bytes}
 use Rattle.slink_feed.specs.Turns.{Took}
 use Rattle.slink_feed.specs.Window.{Window}
 use Rattle.slink_feed.proofs.Deliveries.{prefix_further, piece_is, took_further, took_none}
-use Rattle.slink_feed.proofs.Dues.{Moves, due, few_due, moves, waits}
+use Rattle.slink_feed.proofs.Dues.{Moves, due, few_due, moved, moves, waits}
 
 pub record SentSoFar (feed : List Window) (old now : Attending) (k waits written : ℕ) : Type 0 where
   pub given : List Sent
@@ -171,6 +171,15 @@ less_left feed s new x n (waits is same) e lt =
     omega (arith, one, more, lt)
 less_left feed s new x n (moves is less) e lt = let one : due feed new ≡ due feed x.0 = ap (due feed) e in
     omega (arith, one, less, lt)
+
+pub has_moved : (feed : List Window) (k : ℕ) (now new : Attending) (before after n waited : ℕ)
+    → now.session.state.phase ≢ Closed → AreReached feed now.session.state.grants
+    → (given : HasGiven feed k now new before after n waited)
+    → Moves feed now.session.state (new.session.state, given.answer)
+has_moved feed k now new before after n waited open_still reached given =
+    subst (Moves feed now.session.state) given.is
+    (moved feed now.session.state k open_still reached
+    (λ bytes w p at. given.few bytes (ap (λ (y : State × Sent). y.1) (sym given.is) ∙ p) w at))
 
 pub has_sent : (feed : List Window) (old now : Attending) (k n written : ℕ) → length feed ≤ 16
     → (now.session.state.phase ≡ Closed) ⊎ (length feed ≤ n) → SentSoFar feed old now k n written

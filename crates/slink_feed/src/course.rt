@@ -1,7 +1,9 @@
 //! Where a session stands: which commands it answers how, and which packets it sends.
-ghost use Rattle.std.specs.Prelude.{◌≡◌, ◌≢◌, ◌⊎◌, ◌≤◌, ◌<◌, List, ℕ, None, IfSome, length, replicate, slice_get};
+ghost use Rattle.std.specs.Prelude.{◌≡◌, ◌≢◌, ◌⊎◌, ◌≤◌, ◌<◌, List, ℕ, None, IfNone, IfSome};
+ghost use Rattle.std.specs.Prelude.{◌^◌, Some, length, replicate, slice_get};
 ghost use Rattle.std.specs.Bool.{OnFalse, OnTrue};
 ghost use Rattle.std.specs.Option.{ForSome};
+ghost use Rattle.slink_wire.specs.Packet.{packet_bytes};
 ghost use Rattle.slink_feed.specs.declared.grant.Grant.{Grant};
 ghost use Rattle.slink_feed.specs.declared.session.Phase.{Phase};
 ghost use Rattle.slink_feed.specs.declared.session.Sent.{Sent};
@@ -112,6 +114,62 @@ impl Course {
                 self.phase = Phase::Closed;
                 Sent::Overrun
             }
+        }
+    }
+
+    /// The record that is sent now of the place at an index of the feed, with its number modulo 2^24. Where none is,
+    /// nothing changes.
+    pub(crate) fn record<'f, A: Allocator>(
+        &mut self,
+        feed: &'f Feed<A>,
+        k: usize,
+    ) -> Option<(u32, &'f [u8; 512])>
+        requires in_range { k < length feed.now }
+        requires fits { Fits feed.now self.old }
+        ensures sent { IfSome result (λ r. sent feed.now self.old k
+            ≡ (self.new, Sent.Packet (packet_bytes r.0 r.1.now))) }
+        ensures number { IfSome result (λ r. r.0 < 2 ^ 24) }
+        ensures none { IfNone result (self.new ≡ self.old) }
+        ensures fits { Fits feed.now self.new }
+        ensures few { IfSome result (λ _. ForSome (slice_get feed.now k) (λ w. length w.records ≤ 1000000)) }
+    {
+        if !self.is_streaming() {
+            return None;
+        }
+        match self.grant_of(k) {
+            Some(grant) => self.record_from(feed, k, grant),
+            None => None,
+        }
+    }
+
+    /// The record at a grant's position.
+    fn record_from<'f, A: Allocator>(
+        &mut self,
+        feed: &'f Feed<A>,
+        k: usize,
+        grant: Grant,
+    ) -> Option<(u32, &'f [u8; 512])>
+        requires in_range { k < length feed.now }
+        requires phase { self.old.phase ≡ Phase.Streaming }
+        requires granted { grant_at self.old.grants k ≡ Some grant }
+        requires fits { AreReached feed.now self.old.grants }
+        ensures sent { IfSome result (λ r. sent feed.now self.old k
+            ≡ (self.new, Sent.Packet (packet_bytes r.0 r.1.now))) }
+        ensures number { IfSome result (λ r. r.0 < 2 ^ 24) }
+        ensures none { IfNone result (self.new ≡ self.old) }
+        ensures fits { Fits feed.now self.new }
+        ensures few { IfSome result (λ _. ForSome (slice_get feed.now k) (λ w. length w.records ≤ 1000000)) }
+    {
+        let ring = feed.ring(k);
+        match ring.get(grant.position) {
+            Some(bytes) => {
+                self.grants[k] = Some(Grant {
+                    mode: grant.mode,
+                    position: grant.position + 1,
+                });
+                Some(((grant.position % SPAN) as u32, bytes))
+            }
+            None => None,
         }
     }
 

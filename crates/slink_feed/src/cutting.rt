@@ -14,7 +14,7 @@ const LONGEST_REPLY: usize = 256;
 const HEAD: usize = 8;
 
 /// The bytes of a packet.
-const PACKET: usize = 520;
+pub(crate) const PACKET: usize = 520;
 
 /// What bytes that are kept have come to.
 #[derive(Clone, Copy)]

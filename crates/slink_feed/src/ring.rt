@@ -123,6 +123,7 @@ impl<A: Allocator> Ring<A> {
     pub fn get(&self, number: u64) -> Option<&[u8; 512]>
         ensures value { option_copied result ≡ record_at self.now number }
         ensures within { IfSome result (λ _. number < self.now.next) }
+        ensures short { IfSome result (λ _. number < 2 ^ 63) }
         ensures few { length self.now.records ≤ 1000000 }
     {
         let oldest = self.oldest();

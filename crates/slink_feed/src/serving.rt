@@ -1,16 +1,19 @@
 //! One turn of a session with its link.
 ghost use Rattle.std.specs.Prelude.{◌≡◌, ◌≤◌, ◌<◌, IfErr, IfOk, OnOk, length};
 ghost use Rattle.slink_feed.specs.Attending.{Attends, IsServeFault, RepliesToAll, attending};
-ghost use Rattle.slink_feed.specs.private.Replying.{HasSent, IsReplyFault, IsWritten, IsSayFault, IsSendFault};
+ghost use Rattle.slink_feed.specs.private.Replying.{FailsToGive, HasGiven, HasSent, IsReplyFault, IsSayFault};
+ghost use Rattle.slink_feed.specs.private.Replying.{IsSendFault, IsWritten};
 ghost use Rattle.slink_feed.specs.private.Replying.{waits_after};
 ghost use Rattle.slink_feed.specs.Rounds.{place_behind};
 ghost use Rattle.slink_feed.specs.Running.{Stands};
 ghost use Rattle.slink_feed.specs.Session.{Fits};
 
+use crate::cutting::PACKET;
 use crate::feed::Feed;
 use crate::session::{Sent, Session};
 use crate::turn::{LinkFault, Turn};
 use mseed_stream::{Duplex, Failed, Sink, write_all_of};
+use slink_wire::Packet;
 use std::alloc::Allocator;
 
 /// The most bytes that a turn reads.
@@ -43,7 +46,7 @@ pub fn serve_turn<A: Allocator, S: Duplex>(
     ensures stands { Stands session.new }
 {
     session.has_stream();
-    let written = send_all(session, feed, link)?;
+    let written = send_all(session, feed, link, &mut [0; PACKET])?;
     if session.is_closed() {
         return Ok(Turn::Closed);
     }
@@ -59,11 +62,12 @@ pub fn serve_turn<A: Allocator, S: Duplex>(
     Ok(Turn::Goes)
 }
 
-/// Writes what is due, and counts its bytes.
+/// Writes what is due, and counts its bytes. Each packet is made in the room.
 fn send_all<A: Allocator, L: Sink>(
     session: &mut Session,
     feed: &Feed<A>,
     link: &mut L,
+    room: &mut [u8; PACKET],
 ) -> Result<usize, LinkFault>
     requires fits { Fits feed.now session.old.state }
     requires stands { Stands session.old }
@@ -82,12 +86,58 @@ fn send_all<A: Allocator, L: Sink>(
         if session.is_closed() {
             break;
         }
-        let sent = session.packet(feed, k);
-        written = say(link, sent.bytes(), written)?;
-        waits = count_waits(&sent, waits);
+        let given = give(session, feed, k, link, room, written, waits)?;
+        written = given.written;
+        waits = given.waits;
         k = next_place(feed, k);
     }
     Ok(written)
+}
+
+/// How many bytes were written, and how often there was nothing to give by then, one after another.
+#[derive(Clone, Copy)]
+pub(crate) struct Given {
+    written: usize,
+    waits: usize,
+}
+
+/// Writes what is due of a place behind so many bytes. The packet of a record, which its ring lends, is made in room.
+fn give<A: Allocator, L: Sink>(
+    session: &mut Session,
+    feed: &Feed<A>,
+    k: usize,
+    link: &mut L,
+    room: &mut [u8; PACKET],
+    before: usize,
+    waits: usize,
+) -> Result<Given, LinkFault>
+    requires in_range { k < length feed.now }
+    requires fits { Fits feed.now session.old.state }
+    requires room { before ≤ 2199023255552 }
+    requires waits { waits < 16 }
+    ensures ok { IfOk result (λ given. HasGiven feed.now k (attending session.old (L.written link.old))
+        (attending session.new (L.written link.new)) before given.written waits given.waits) }
+    ensures fault { IfErr result (λ fault. FailsToGive fault feed.now k (attending session.old (L.written link.old))
+        (attending session.new (L.written link.new)) before) }
+    ensures fits { Fits feed.now session.new.state }
+    ensures stands { Stands session.new }
+    ensures beside { L.beside link.new ≡ L.beside link.old }
+{
+    match session.record(feed, k) {
+        Some((number, bytes)) => {
+            Packet::put(room, number, bytes);
+            let written = say(link, room, before)?;
+            Ok(Given { written, waits: 0 })
+        }
+        None => {
+            let sent = session.packet(feed, k);
+            let after = say(link, sent.bytes(), before)?;
+            Ok(Given {
+                written: after,
+                waits: count_waits(&sent, waits),
+            })
+        }
+    }
 }
 
 /// How often there was nothing to give, one after another.

@@ -1,9 +1,10 @@
 //! The session that serves one connection.
 ghost use Rattle.std.specs.Prelude.{◌≡◌, ◌≢◌, ◌≤◌, ◌<◌, ◌++◌, List, ℕ, [], None, length, option_map, replicate};
-ghost use Rattle.std.specs.Prelude.{slice_get, take};
+ghost use Rattle.std.specs.Prelude.{◌^◌, IfNone, IfSome, slice_get, take};
 ghost use Rattle.std.specs.Bool.{OnFalse, OnTrue};
 ghost use Rattle.std.specs.Option.{ForSome};
 ghost use Rattle.slink_wire.specs.Lines.{IsHeld, TellsNothing};
+ghost use Rattle.slink_wire.specs.Packet.{packet_bytes};
 ghost use Rattle.slink_feed.specs.declared.grant.Grant.{Grant};
 ghost use Rattle.slink_feed.specs.Window.{Window};
 ghost use Rattle.slink_feed.specs.Running.{Stands};
@@ -140,6 +141,27 @@ impl Session {
             → ForSome (slice_get feed.now k) (λ w. length w.records ≤ 1000000) }
     {
         self.course.packet(feed, k)
+    }
+
+    /// The record that is sent now of the place at an index of the feed, with its number modulo 2^24, lent by the ring.
+    /// Where none is, nothing changes.
+    pub(crate) fn record<'f, A: Allocator>(
+        &mut self,
+        feed: &'f Feed<A>,
+        k: usize,
+    ) -> Option<(u32, &'f [u8; 512])>
+        requires in_range { k < length feed.now }
+        requires fits { Fits feed.now self.old.state }
+        ensures sent { IfSome result (λ r. sent feed.now self.old.state k
+            ≡ (self.new.state, Sent.Packet (packet_bytes r.0 r.1.now))) }
+        ensures number { IfSome result (λ r. r.0 < 2 ^ 24) }
+        ensures none { IfNone result (self.new ≡ self.old) }
+        ensures held { self.new.held ≡ self.old.held }
+        ensures fits { Fits feed.now self.new.state }
+        ensures stands { Stands self.new }
+        ensures few { IfSome result (λ _. ForSome (slice_get feed.now k) (λ w. length w.records ≤ 1000000)) }
+    {
+        self.course.record(feed, k)
     }
 
     /// It stands for the stream that its link brought, unless it is closed. Nothing is done.

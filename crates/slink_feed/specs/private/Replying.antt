@@ -1,5 +1,6 @@
 -- What the parts of a session's turn do.
-use Rattle.std.specs.Prelude.{◌≡◌, ℕ, ◌+◌, ◌≤◌, List, length}
+use Rattle.std.specs.Prelude.{◌≡◌, ℕ, ◌+◌, ◌≤◌, List, length, slice_get}
+use Rattle.std.specs.Option.{ForSome}
 use Rattle.mseed_stream.specs.Device.{BytesWritten}
 use Rattle.slink_feed.specs.declared.session.Sent.{Sent}
 use Rattle.slink_feed.specs.declared.session.Sent.TheVariants as sents
@@ -7,6 +8,7 @@ use Rattle.slink_feed.specs.declared.turn.LinkFault.{LinkFault}
 use Rattle.slink_feed.specs.declared.turn.LinkFault.TheVariants as faults
 use Rattle.slink_feed.specs.Attending.{FailsToReply}
 use Rattle.slink_feed.specs.Rounds.{Attending, FailsToSend, SendsAll}
+use Rattle.slink_feed.specs.Session.{sent, sent_bytes}
 use Rattle.slink_feed.specs.Turns.{Took, TookPrefix}
 use Rattle.slink_feed.specs.Window.{Window}
 
@@ -33,6 +35,25 @@ waits_after sents.Wait waits = waits + 1
 waits_after sents.Done waits = 0
 waits_after sents.Overrun waits = 0
 waits_after sents.Closed waits = 0
+
+-- Behind so many bytes, what a session gave of a place was written; so often, one after another, there was nothing.
+pub record HasGiven (feed : List Window) (k : ℕ) (old new : Attending) (before after waits waited : ℕ) : Type 0 where
+  pub answer : Sent
+  pub is : sent feed old.session.state k ≡ (new.session.state, answer)
+  pub held : new.session.held ≡ old.session.held
+  pub written : IsWritten old.written new.written (sent_bytes answer) before after
+  pub short : length (sent_bytes answer) ≤ 520
+  pub waited_is : waited ≡ waits_after answer waits
+  pub few : (bytes : List ℕ) → answer ≡ sents.Packet bytes
+      → ForSome (slice_get feed k) (λ w. length w.records ≤ 1000000)
+
+-- The link failed within that.
+pub record FailsToGive (fault : LinkFault) (feed : List Window) (k : ℕ) (old new : Attending) (before : ℕ) : Type
+    0 where
+  pub answer : Sent
+  pub is : sent feed old.session.state k ≡ (new.session.state, answer)
+  pub held : new.session.held ≡ old.session.held
+  pub cut : IsSayFault fault old.written new.written (sent_bytes answer) before
 
 -- All that is due was sent, which was so many bytes.
 pub record HasSent (feed : List Window) (old new : Attending) (count : ℕ) : Type 0 where

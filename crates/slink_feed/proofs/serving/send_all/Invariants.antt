@@ -1,4 +1,4 @@
-use Rattle.std.proofs.Common.{◌≡◌, ◌+◌, ◌-◌, ◌*◌}
+use Rattle.std.proofs.Common.{◌≡◌, ◌≤◌, ◌+◌, ◌-◌, ◌*◌}
 use Rattle.slink_feed.specs.Attending.{attending}
 use Rattle.slink_feed.specs.Running.{Stands}
 use Rattle.slink_feed.specs.Session.{Fits}
@@ -10,6 +10,7 @@ abbrev pub invariant-loop-waits : goal.invariant-loop-waits
 invariant-loop-waits g l = record {
   so_far : SentSoFar l.feed (attending l.fn.session (g.L.Sink.written l.fn.link))
       (attending l.session (g.L.Sink.written l.link)) l.k l.waits l.written;
+  few : l.written ≤ 2199023255552;
   fits : Fits l.feed l.session.state;
   stands : Stands l.session;
   beside : g.L.Sink.beside l.link ≡ g.L.Sink.beside l.fn.link;

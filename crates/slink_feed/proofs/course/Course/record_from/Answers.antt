@@ -1,0 +1,29 @@
+use Rattle.std.proofs.Common.{◌≡◌, ◌+◌, ap, subst, sym, ◌∙◌, Some}
+use Rattle.slink_feed.specs.declared.session.Phase.TheVariants.{Streaming}
+use Rattle.slink_feed.specs.Session.{AreReached, IsChosenOf, State, at, grant_at, packet_at, sent}
+use Rattle.slink_feed.proofs.Reached.{reached_next, reached_with, record_sent}
+use Rattle.slink_feed.proofs.course.Course.record_from.Goals as goal
+
+pub returns-in-Some-clause-sent : goal.returns-in-Some-clause-sent
+returns-in-Some-clause-sent g c =
+    let view : State = at c.self.inside.phase c.self.inside.grants in
+    let streams : view.phase ≡ Streaming = ap (λ (s : State). s.phase) c.self.view_is ∙ c.requires.phase in
+    let granted : grant_at view.grants c.args.k ≡ Some c.args.grant =
+    ap (λ (s : State). grant_at s.grants c.args.k) c.self.view_is ∙ c.requires.granted in
+    subst (λ (s : State). sent c.args.feed.now s c.args.k
+    ≡ packet_at view c.args.k c.args.grant (Some c.in-Some.bytes.now)) c.self.view_is
+    (record_sent c.args.feed.now view c.args.k c.args.grant c.ring-ring.result.now c.in-Some.bytes.now streams granted
+    c.ring-ring.ensures.ring c.in-Some.ensures.value c.in-Some.ensures.within)
+
+pub returns-in-Some-clause-fits : goal.returns-in-Some-clause-fits
+returns-in-Some-clause-fits g c =
+    let streams : c.self.inside.phase ≡ Streaming = ap (λ (s : State). s.phase) c.self.view_is
+    ∙ c.requires.phase in (
+      subst (IsChosenOf c.args.feed.now) (sym streams) tt,
+      reached_with c.args.feed.now c.self.inside.grants c.args.k
+          (record { mode = c.args.grant.mode; position = c.args.grant.position + 1 })
+          (reached_next c.args.feed.now c.args.k c.ring-ring.result.now c.args.grant.position c.ring-ring.ensures.ring
+          c.in-Some.ensures.within)
+          (subst (AreReached c.args.feed.now) (sym (ap (λ (s : State). s.grants) c.self.view_is))
+          c.requires.fits),
+    )
