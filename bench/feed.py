@@ -1,16 +1,18 @@
 #!/usr/bin/env python3
 """Measures `mseed serve` and `mseed fetch` side by side with a pair of C programs that bring the same bytes over TCP.
 
-    feed.py MSEED [--rounds 7] [--megabytes 100] [--write]
+    feed.py MSEED [--rounds 7] [--megabytes 100] [--count] [--write]
 
 The pairs go in turn, round after round, every other round in reverse. For each side the user and system time and
 the peak memory are printed, and for the pair the wall time from dialling to the end: medians of the rounds. A ratio,
 C / mseed, is above 1 where mseed is faster. With --write they are written into the table of docs/performance.md.
-Wants a C compiler.
+Wants a C compiler. With --count only the instructions of mseed are counted, by valgrind: those of a record that is
+pushed, of one that is sent over a connection, and of one that is fetched.
 """
 
 import argparse
 import os
+import re
 import statistics
 import subprocess
 import sys
@@ -38,12 +40,12 @@ def build():
         subprocess.run(["cc", "-O2", "-o", path_of(name), os.path.join(HERE, name + ".c")], check=True)
 
 
-def make_archive(megabytes):
+def make_archive(records):
     """The path of an archive of one station, in records of 512 bytes."""
-    path = path_of(f"feed_{megabytes}.mseed")
+    path = path_of(f"feed_{records}.mseed")
     if not os.path.exists(path):
         with open(path, "wb") as file:
-            for index in range(megabytes * 1000000 // 512):
+            for index in range(records):
                 file.write(record_of(STA, index))
     return path
 
@@ -79,15 +81,50 @@ def run(mseed, who, archive, output):
     return figures(client), figures(server)
 
 
+def instructions(mseed, counted, records, connections=1):
+    """The instructions of serving or fetching an archive of so many records."""
+    archive, output, port = make_archive(records), path_of("feed_counted"), str(free_port())
+    counting = ["valgrind", "--tool=cachegrind", "--cache-sim=no", "--cachegrind-out-file=/dev/null"]
+    serve, fetch = calls(mseed, "mseed", port, records)
+    serve += ["--connections", str(connections)]
+    serve, fetch = (counting + serve, fetch) if counted == "serve" else (serve, counting + fetch)
+    with open(archive, "rb") as source:
+        server = subprocess.Popen(serve, stdin=source, stderr=subprocess.PIPE, text=True)
+    while server.poll() is None and not is_listened_at(int(port)):
+        time.sleep(0.01)
+    for _ in range(connections):
+        with open(output, "wb") as target:
+            fetched = subprocess.run(fetch, stdout=target, stderr=subprocess.PIPE, text=True, check=True).stderr
+        subprocess.run(["cmp", archive, output], check=True)
+    told = server.communicate(timeout=300)[1] if counted == "serve" else fetched
+    return int(re.search(r"I +refs: +([\d,]+)", told).group(1).replace(",", ""))
+
+
+def count(mseed):
+    """Prints the instructions of a record: the difference of two archives, over their records."""
+    fewer, more = 5000, 25000
+
+    def of_a_record(counted, connections=1):
+        many, few = (instructions(mseed, counted, records, connections) for records in (more, fewer))
+        return (many - few) / (more - fewer)
+
+    once, twice, fetched = of_a_record("serve"), of_a_record("serve", 2), of_a_record("fetch")
+    print(f"instructions a record: pushed {2 * once - twice:.0f}, sent {twice - once:.0f}, fetched {fetched:.0f}")
+
+
 def main():
     words = argparse.ArgumentParser(description=__doc__, formatter_class=argparse.RawDescriptionHelpFormatter)
     words.add_argument("mseed")
     words.add_argument("--rounds", type=int, default=7)
     words.add_argument("--megabytes", type=int, default=100)
+    words.add_argument("--count", action="store_true")
     words.add_argument("--write", action="store_true")
     options = words.parse_args()
+    if options.count:
+        os.makedirs(FOLDER, exist_ok=True)
+        return count(os.path.abspath(options.mseed))
     build()
-    archive = make_archive(options.megabytes)
+    archive = make_archive(options.megabytes * 1000000 // 512)
     rows = {"C": [], "mseed": []}
     for turn in range(options.rounds):
         for who in list(rows)[:: -1 if turn % 2 else 1]:
