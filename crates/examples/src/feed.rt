@@ -5,8 +5,8 @@ ghost use Rattle.slink_feed.specs.Window.{Shows};
 
 use mseed_stream::{Duplex, Sink};
 use slink_feed::{
-    Bytes, Client, Event, Feed, FeedFault, LinkFault, Mode, Ring, RingFault, Sent, Session, Teller,
-    Turn, fetch_turn, fetch_turn_telling, serve_turn,
+    Bytes, Client, Event, Feed, FeedFault, LinkFault, Mode, Ring, RingFault, Room, Sent, Session,
+    Teller, Turn, fetch_turn, fetch_turn_in, fetch_turn_telling, serve_turn,
 };
 use slink_wire::{Place, Reply};
 use std::alloc::Global;
@@ -142,6 +142,25 @@ pub fn fetch_some<S: Duplex, W: Sink, E: Sink>(
     teller.begin();
     fetch_turn_telling(client, link, output, errors, &mut teller)?;
     Ok(teller.has_received())
+}
+
+/// Fetches over a link for so many turns, in one room; whether a further turn is to be taken.
+pub fn fetch_turns<S: Duplex, W: Sink, E: Sink>(
+    client: &mut Client,
+    link: &mut S,
+    output: &mut W,
+    errors: &mut E,
+    turns: u64,
+) -> Result<bool, LinkFault> {
+    let mut teller = Teller::new(client, false);
+    let mut room: Room = [0; 520];
+    for turn in 0..turns {
+        match fetch_turn_in(client, link, output, errors, &mut teller, &mut room)? {
+            Turn::Goes => {}
+            Turn::Closed | Turn::Ended | Turn::Stopped(_) => return Ok(false),
+        }
+    }
+    Ok(true)
 }
 
 /// Tells how to go on behind a record that wasn't written whole.

@@ -10,13 +10,14 @@ use Rattle.slink_feed.specs.declared.fetching.Counts.{Counts}
 use Rattle.slink_feed.specs.declared.turn.LinkFault.{LinkFault}
 use Rattle.slink_feed.specs.declared.turn.LinkFault.TheVariants as faults
 use Rattle.slink_feed.specs.declared.turn.Turn.TheVariants as turns
-use Rattle.slink_feed.specs.private.Delivery.{IsDelivered, IsUndelivered, IsUnwritten, FailsToOutput}
+use Rattle.slink_feed.specs.private.Delivery.{ComesTo, FailsToOutput, IsDelivered, IsUndelivered, IsUnwritten}
 use Rattle.slink_feed.specs.Fetching.{Delivers, FailsAt, Fetches, Fetching, ReadsOn, Takes, bytes_told, joined_by}
 use Rattle.slink_feed.specs.Fetching.{line_written, lines_written, record_told}
 use Rattle.slink_feed.specs.Listening.{Brings, IsLinked, Listening, Reads, telling}
 use Rattle.slink_feed.specs.Turns.{Took, TookPrefix, told_once}
 use Rattle.slink_feed.proofs.Goings.{says_on, still_linked, tells_on}
 use Rattle.slink_feed.proofs.Prefixes.{from_offset}
+use Rattle.slink_feed.proofs.Received.{reads_more}
 
 pub record SoFar (old now : Fetching) (bytes : List ℕ) (offset written_count output_count_is : ℕ) : Type 0 where
   pub told : List Event
@@ -107,6 +108,19 @@ pub record IsPiece (now new : Listening) (bytes : List ℕ) (offset used : ℕ) 
   pub reads : ReadsOn now (take used (take (length bytes - offset) (drop offset bytes))) (telling event) new
   pub some : 0 < used
   pub bound : used ≤ length bytes - offset
+
+-- what is heard of it is one
+pub piece_of : (now new : Listening) (bytes : List ℕ) (offset used : ℕ) (event : Event) → IsLinked now.talk.stage
+    → ComesTo event used (take (length bytes - offset) (drop offset bytes)) now new
+    → IsPiece now new bytes offset used event
+piece_of now new bytes offset used event linked comes = record {
+  linked = linked;
+  brings = comes.brings;
+  reads = λ start stream before. reads_more start stream
+      (take used (take (length bytes - offset) (drop offset bytes))) before now new event comes.brings;
+  some = comes.some;
+  bound = omega (arith, comes.bound, length-drop offset bytes, ap length (from_offset bytes offset));
+}
 
 pub take_prefix : (bytes : List ℕ) (n m : ℕ) → take (n + m) bytes ≡ take n bytes ++ take m (drop n bytes)
 take_prefix bytes zero m = let none : zero + m ≡ m = omega arith in ap (λ k. take k bytes) none

@@ -1,6 +1,6 @@
 -- What a client reads, and what it goes on to stand for.
-use Rattle.std.proofs.Common.{◌≡◌, ℕ, ◌<◌, ◌^◌, refl, sym, ap, subst, ◌∙◌, arith, List, [], ◌∷◌, ◌++◌, append_assoc}
-use Rattle.std.proofs.Common.{append-nil, length, length-drop, take, drop, Some, None}
+use Rattle.std.proofs.Common.{◌≡◌, ℕ, ◌<◌, ◌≤◌, ◌^◌, refl, sym, ap, subst, ◌∙◌, arith, List, [], ◌∷◌, ◌++◌}
+use Rattle.std.proofs.Common.{append_assoc, append-nil, length, length-drop, take, drop, Some, None}
 use Rattle.std.proofs.lemmas.List.{length-take-le, take_all}
 use Rattle.slink_wire.specs.Packet.{HasHead, IsPacket}
 use Rattle.slink_feed.specs.declared.cutting.Part.{Part}
@@ -26,6 +26,11 @@ packet_short bytes packet r n long same is =
     (omega (arith, length-drop 2 packet, ap length same, length-take-le 520 bytes (omega (arith, long)))) in
     let small : n < 16 ^ 6 = subst (λ k. n < 16 ^ k) six is.1.0 in
     omega (arith, small)
+
+pub short_packet : (packet record_bytes : List ℕ) (n : ℕ) → length packet ≡ 520 → IsPacket packet n record_bytes
+    → n < 2 ^ 24
+short_packet packet r n long is =
+    packet_short packet packet r n long (sym (take_all 520 packet (omega (arith, long)))) is
 
 pub same_packet : (bytes packet : List ℕ) → length bytes ≡ 520 → packet ≡ take 520 bytes → packet ≡ bytes
 same_packet bytes packet long same = same ∙ take_all 520 bytes (omega (arith, long))
@@ -80,6 +85,16 @@ packet_brings t d talk bytes slice kept part x e at is whole_part same packet sa
     let w : Whole = Packet packet.0 packet.1 in
     whole w (packet_whole t bytes w at (subst (λ (b : List ℕ). IsPacket b packet.0 packet.1) same packet.2, long.2))
     (paired d talk x e (read t w) (ap (λ (s : Stage). read_at s t w) at ∙ packet.3) same_talk same_event) none
+
+-- a packet at the front of bytes, whose record is wanted
+pub front_brings : (t new : Talk) (bytes packet r : List ℕ) (n k : ℕ) → t.stage ≡ Packets → packet ≡ take 520 bytes
+    → 520 ≤ length bytes → IsPacket packet n r → at_packet (bearer t.wants r) n r t ≡ (new, events.Record k n r)
+    → Brings t (take 520 bytes) (record { talk = new; kept = [] }) (events.Record k n r)
+front_brings t new bytes packet r n k at same long is h =
+    let w : Whole = Packet n r in
+    whole w (packet_whole t (take 520 bytes) w at
+    (subst (λ (b : List ℕ). IsPacket b n r) same is, length-take-le 520 bytes long))
+    (ap (λ (s : Stage). read_at s t w) at ∙ h) refl
 
 pub end_brings : (t d talk : Talk) (bytes kept : List ℕ) (part : Part) (x e : Event) → t.stage ≡ Packets
     → IsPacketPart bytes part → part ≡ parts.End → ended endings.End t ≡ (talk, e) → d ≡ talk → x ≡ e → kept ≡ []

@@ -11,9 +11,9 @@ use Rattle.slink_feed.specs.declared.turn.LinkFault.{LinkFault}
 use Rattle.slink_feed.specs.declared.turn.LinkFault.TheVariants as faults
 use Rattle.slink_feed.specs.Delivered.{Numbered}
 use Rattle.slink_feed.specs.Dialogue.{Talk, read}
-use Rattle.slink_feed.specs.Fetching.{line_written, record_told}
+use Rattle.slink_feed.specs.Fetching.{Fetching, line_written, record_told}
 use Rattle.slink_feed.specs.Listening.{Brings, Listening, begun, telling, whole}
-use Rattle.slink_feed.specs.private.Delivery.{IsDelivered, IsUndelivered}
+use Rattle.slink_feed.specs.private.Delivery.{FailsToHear, Hears, IsDelivered, IsUndelivered}
 use Rattle.slink_feed.specs.Reports.{AreReported, Kept, Reports, TakesRecords, all, but_last}
 use Rattle.slink_feed.specs.Teller.{AreTold, Telling, lines_at, lines_of, none, one, telling_behind, telling_past}
 use Rattle.slink_feed.specs.Told.{HasTold, bytes_in, record_in, records_told}
@@ -209,3 +209,30 @@ reports_more first now new bytes event a b c p fine brings took telling lines =
       holes = kept_event now.talk bytes new event brings;
       reported = record { took = took; telling = telling; lines = lines };
     })
+
+-- what is heard of bytes
+pub reports_heard : (first : Talk) (bytes : List ℕ) (used : ℕ) (before after : Counts) (now new : Fetching)
+    (a b c : Kept) → now.output ≡ b.output → new.output ≡ c.output → Reports first now.client.talk a b
+    → b.output.failures ≡ a.output.failures → Hears bytes used before after now new b c
+    → Reports first new.client.talk a c
+reports_heard first bytes used before after now new a b c from to p fine heard =
+    let done : TakesRecords (record_in heard.event) now.output new.output =
+    takes_event heard.event before after now.written new.written now.output new.output heard.done in
+    reports_more first now.client new.client (now.client.kept ++ take used bytes) heard.event a b c p fine
+    heard.comes.brings
+    (subst (λ (o : BytesWritten). TakesRecords (record_in heard.event) o c.output) from
+    (subst (λ (o : BytesWritten). TakesRecords (record_in heard.event) now.output o) to done))
+    heard.told.telling heard.told.lines
+
+pub reports_cut : (first : Talk) (bytes : List ℕ) (fault : LinkFault) (before : Counts) (now new : Fetching)
+    (a b c : Kept) → now.output ≡ b.output → new.output ≡ c.output → Reports first now.client.talk a b
+    → b.output.failures ≡ a.output.failures → FailsToHear fault bytes before now new b c
+    → Reports first new.client.talk a c
+reports_cut first bytes fault before now new a b c from to p fine heard =
+    let done : TakesRecords (record_in heard.event) now.output new.output =
+    takes_cut fault heard.event before now.written new.written now.output new.output heard.cut in
+    reports_more first now.client new.client (now.client.kept ++ take heard.used bytes) heard.event a b c p fine
+    heard.comes.brings
+    (subst (λ (o : BytesWritten). TakesRecords (record_in heard.event) o c.output) from
+    (subst (λ (o : BytesWritten). TakesRecords (record_in heard.event) now.output o) to done))
+    heard.told.telling heard.told.lines

@@ -1,5 +1,6 @@
 //! The client of one feed.
-ghost use Rattle.std.specs.Prelude.{◌≡◌, ◌≢◌, ◌++◌, ◌≤◌, ◌<◌, ◌^◌, ℕ, List, [], true, false, IfSome, length, take};
+ghost use Rattle.std.specs.Prelude.{◌≡◌, ◌≢◌, ◌++◌, ◌≤◌, ◌<◌, ◌^◌, ℕ, List, [], true, false, IfNone, IfSome};
+ghost use Rattle.std.specs.Prelude.{length, take};
 ghost use Rattle.std.specs.Bool.{OnFalse, OnTrue};
 ghost use Rattle.slink_wire.specs.Packet.{HasHead, IsPacket};
 ghost use Rattle.slink_feed.specs.Cutting.{IsReply};
@@ -11,7 +12,7 @@ ghost use Rattle.slink_feed.specs.Dialogue.{wants_of};
 ghost use Rattle.slink_feed.specs.Fetching.{turn_at};
 ghost use Rattle.slink_feed.specs.Listening.{AwaitsReply, Brings, IsLinked, Reads, telling};
 
-use crate::cutting::{Part, take_packet, take_reply};
+use crate::cutting::{PACKET, Part, take_packet, take_reply};
 use crate::dialogue::{Bytes, Dialogue, Ending, Event, Stage, Wanted};
 use crate::grant::Mode;
 use crate::turn::Turn;
@@ -133,6 +134,31 @@ impl Client {
         }
     }
 
+    /// Takes the packet at the front of bytes, where nothing is kept and its record is wanted, and lends the record
+    /// with the index of its place and its number. Else nothing is taken.
+    pub(crate) fn take_record<'a>(&mut self, bytes: &'a [u8]) -> Option<(usize, u32, &'a [u8; 512])>
+        ensures brings { IfSome result (λ r. Brings self.old.talk (self.old.kept ++ take 520 bytes.now) self.new
+            (Event.Record r.0 r.1 r.2.now)) }
+        ensures long { IfSome result (λ _. 520 ≤ length bytes.now) }
+        ensures none { IfNone result (self.new ≡ self.old) }
+    {
+        if !self.kept.is_empty() {
+            return None;
+        }
+        match self.dialogue.stage() {
+            Stage::Packets => read_front(&mut self.dialogue, bytes),
+            Stage::Unlinked | Stage::Station(_) | Stage::Number(_) | Stage::Ended(_) => None,
+        }
+    }
+
+    /// How many bytes a packet still lacks with those that are kept.
+    pub(crate) fn lack(&self) -> usize
+        ensures some { 0 < result }
+        ensures most { result ≤ 520 }
+    {
+        PACKET - self.kept.len()
+    }
+
     /// What is kept reads as what is begun. Nothing is done.
     pub(crate) fn has_reading(&self)
         ensures { Reads self.now.talk self.now.kept [] self.now }
@@ -215,6 +241,26 @@ fn read_packets(dialogue: &mut Dialogue, kept: &mut ArrayVec<u8, 520>, part: Par
     };
     kept.clear();
     event
+}
+
+/// Hears the packet at the front of bytes, where its record is wanted.
+fn read_front<'a>(dialogue: &mut Dialogue, bytes: &'a [u8]) -> Option<(usize, u32, &'a [u8; 512])>
+    requires { dialogue.old.stage ≡ Stage.Packets }
+    ensures brings { IfSome result (λ r. Brings dialogue.old (take 520 bytes.now)
+        (record { talk = dialogue.new; kept = [] }) (Event.Record r.0 r.1 r.2.now)) }
+    ensures long { IfSome result (λ _. 520 ≤ length bytes.now) }
+    ensures none { IfNone result (dialogue.new ≡ dialogue.old) }
+{
+    let Some(packet) = bytes.first_chunk() else {
+        return None;
+    };
+    match Packet::read(packet) {
+        Ok((number, record)) => match dialogue.read_wanted(number, record) {
+            Some(k) => Some((k, number, record)),
+            None => None,
+        },
+        Err(_) => None,
+    }
 }
 
 /// Hears a packet.

@@ -1,5 +1,5 @@
 //! What a client says over a link, and what it makes of what the link brings.
-ghost use Rattle.std.specs.Prelude.{◌≡◌, ◌≢◌, ◌+◌, ◌^◌, ◌<◌, ◌≤◌, IfSome, length};
+ghost use Rattle.std.specs.Prelude.{◌≡◌, ◌≢◌, ◌+◌, ◌%◌, ◌^◌, ◌<◌, ◌≤◌, IfNone, IfSome, length};
 ghost use Rattle.slink_wire.specs.Request.{IsSpelled};
 ghost use Rattle.slink_feed.specs.Dialogue.{AreNumbers, IsStage, Reply, answer_of, at_packet, bearer, ended, event_of};
 ghost use Rattle.slink_feed.specs.Dialogue.{is_ahead, is_taken};
@@ -335,8 +335,28 @@ impl Dialogue {
                 got: number,
             }),
             _ => {
-                self.want_next(k, (number + 1) % SPAN as u32);
+                self.pass(k, number);
                 Event::Record(k, number, *bytes)
+            }
+        }
+    }
+
+    /// Hears a packet whose record is wanted, and answers the index of its place. Of another one nothing is heard.
+    pub(crate) fn read_wanted(&mut self, number: u32, bytes: &[u8; 512]) -> Option<usize>
+        requires { number < 2 ^ 24 }
+        ensures read { IfSome result (λ k. at_packet (bearer self.old.wants bytes.now) number bytes.now self.old
+            ≡ (self.new, Event.Record k number bytes.now)) }
+        ensures unread { IfNone result (self.new ≡ self.old) }
+    {
+        let k = match self.bearer(bytes) {
+            Some(k) => k,
+            None => return None,
+        };
+        match self.next(k) {
+            Some(want) if !self.is_taken(want, number) => None,
+            _ => {
+                self.pass(k, number);
+                Some(k)
             }
         }
     }
@@ -348,6 +368,15 @@ impl Dialogue {
         ensures { result ≡ is_taken self.now.holes want number }
     {
         number == want || self.holes && is_ahead(want, number)
+    }
+
+    /// Goes on behind a record of a place.
+    fn pass(&mut self, k: usize, number: u32)
+        requires place { k < 16 }
+        requires number { number < 2 ^ 24 }
+        ensures { self.new ≡ record self.old { wants = with_next self.old.wants k ((number + 1) % 2 ^ 24) } }
+    {
+        self.want_next(k, (number + 1) % SPAN as u32);
     }
 
     /// Wants this number next of a place.

@@ -1,22 +1,25 @@
 //! One turn of a client with its link.
-ghost use Rattle.std.specs.Prelude.{◌≡◌, ◌≤◌, ◌^◌, [], IfErr, IfOk, OnOk, length};
+ghost use Rattle.std.specs.Prelude.{◌≡◌, ◌≤◌, ◌<◌, ◌^◌, [], IfErr, IfOk, OnOk, length};
 ghost use Rattle.std.specs.Bool.{OnFalse, OnTrue};
+ghost use Rattle.mseed_stream.specs.Device.{BytesWritten};
+ghost use Rattle.slink_feed.specs.declared.dialogue.Event.{Event};
 ghost use Rattle.slink_feed.specs.Fetching.{Delivers, FailsAt, Fetches, IsFetchFault, Notes, fetching};
-ghost use Rattle.slink_feed.specs.private.Delivery.{IsDelivered, IsUndelivered};
-ghost use Rattle.slink_feed.specs.Listening.{Reads};
+ghost use Rattle.slink_feed.specs.private.Delivery.{FailsToHear, Hears, IsDelivered, IsToldOf, IsUndelivered};
+ghost use Rattle.slink_feed.specs.Listening.{IsLinked, Reads};
 ghost use Rattle.slink_feed.specs.Reports.{Reports, kept};
 ghost use Rattle.slink_feed.specs.Teller.{AreTold, lines_of, telling_behind};
 ghost use Rattle.slink_feed.specs.Told.{record_in};
 
 use crate::client::Client;
+use crate::cutting::PACKET;
 use crate::dialogue::Event;
 use crate::teller::Teller;
 use crate::turn::{LinkFault, Turn};
 use mseed_stream::{Counted, Duplex, Failed, Sink, write_all_of};
 use std::io::sink;
 
-/// The most bytes that a turn reads.
-const ROOM: usize = 1024;
+/// Room for what a turn reads, which is lent to one turn after another.
+pub type Room = [u8; PACKET];
 
 /// How many bytes the link and the output took in a turn so far.
 #[derive(Clone, Copy)]
@@ -78,9 +81,37 @@ pub fn fetch_turn_telling<S: Duplex, W: Sink, E: Sink>(
         (kept (W.written output.old) (E.written errors.old) teller.old.telling)
         (kept (W.written output.new) (E.written errors.new) teller.new.telling) }
 {
+    fetch_turn_in(client, link, output, errors, teller, &mut [0; PACKET])
+}
+
+/// Takes a turn with a client's link as [`fetch_turn_telling`]. What is read stands in room that is lent to one turn
+/// after another: a record goes to the output from there.
+///
+/// # Errors
+///
+/// Those of [`fetch_turn`].
+pub fn fetch_turn_in<S: Duplex, W: Sink, E: Sink>(
+    client: &mut Client,
+    link: &mut S,
+    output: &mut W,
+    errors: &mut E,
+    teller: &mut Teller,
+    room: &mut Room,
+) -> Result<Turn, LinkFault>
+    ensures ok { IfOk result (λ turn. Fetches (fetching client.old (S.written link.old) (W.written output.old))
+        (fetching client.new (S.written link.new) (W.written output.new)) (S.read link.old) (S.read link.new) turn) }
+    ensures fault { IfErr result (λ fault. IsFetchFault fault
+        (fetching client.old (S.written link.old) (W.written output.old))
+        (fetching client.new (S.written link.new) (W.written output.new)) (S.read link.old) (S.read link.new)) }
+    ensures reading { Reads client.old.talk client.old.kept [] client.old }
+    ensures received { Notes teller.old.received teller.new.received (W.written output.old) (W.written output.new) }
+    ensures reports { Reports client.old.talk client.new.talk
+        (kept (W.written output.old) (E.written errors.old) teller.old.telling)
+        (kept (W.written output.new) (E.written errors.new) teller.new.telling) }
+{
     client.has_reading();
-    let mut room = [0; ROOM];
-    let count = match link.pull(&mut room) {
+    let lack = client.lack();
+    let count = match link.pull(&mut room[..lack]) {
         Ok(count) => count,
         Err(Failed) => return Err(LinkFault::Read),
     };
@@ -121,11 +152,73 @@ fn read<L: Sink, W: Sink, E: Sink>(
         if !client.is_linked() {
             break;
         }
-        let (used, event) = client.take(&bytes[offset..]);
-        counts = deliver(&event, link, output, errors, teller, counts)?;
-        offset += used;
+        let heard = hear(
+            client,
+            &bytes[offset..],
+            link,
+            output,
+            errors,
+            teller,
+            counts,
+        )?;
+        offset += heard.used;
+        counts = heard.counts;
     }
     Ok(())
+}
+
+/// How many bytes were taken, and what the link and the output took by then.
+#[derive(Clone, Copy)]
+pub(crate) struct Heard {
+    used: usize,
+    counts: Counts,
+}
+
+/// Takes bytes of a link up to the first event, or all, and delivers what they tell. The record of a packet that is
+/// there whole goes to the output from where it stands.
+fn hear<L: Sink, W: Sink, E: Sink>(
+    client: &mut Client,
+    bytes: &[u8],
+    link: &mut L,
+    output: &mut W,
+    errors: &mut E,
+    teller: &mut Teller,
+    counts: Counts,
+) -> Result<Heard, LinkFault>
+    requires linked { IsLinked client.old.talk.stage }
+    requires some { 0 < length bytes.now }
+    requires written { counts.written ≤ 2 ^ 32 }
+    requires output { counts.output ≤ 2 ^ 32 }
+    ensures ok { IfOk result (λ heard. Hears bytes.now heard.used counts heard.counts
+        (fetching client.old (L.written link.old) (W.written output.old))
+        (fetching client.new (L.written link.new) (W.written output.new))
+        (kept (W.written output.old) (E.written errors.old) teller.old.telling)
+        (kept (W.written output.new) (E.written errors.new) teller.new.telling)) }
+    ensures fault { IfErr result (λ fault. FailsToHear fault bytes.now counts
+        (fetching client.old (L.written link.old) (W.written output.old))
+        (fetching client.new (L.written link.new) (W.written output.new))
+        (kept (W.written output.old) (E.written errors.old) teller.old.telling)
+        (kept (W.written output.new) (E.written errors.new) teller.new.telling)) }
+    ensures received { Notes teller.old.received teller.new.received (W.written output.old) (W.written output.new) }
+    ensures beside { L.beside link.new ≡ L.beside link.old }
+{
+    match client.take_record(bytes) {
+        Some((place, number, record)) => {
+            let counts = deliver_record(place, number, record, output, errors, teller, counts)?;
+            Ok(Heard {
+                used: PACKET,
+                counts,
+            })
+        }
+        None => {
+            let (used, event) = client.take(bytes);
+            let after = deliver(&event, link, output, errors, teller, counts)?;
+            Ok(Heard {
+                used,
+                counts: after,
+            })
+        }
+    }
 }
 
 /// Puts what an event tells where it belongs: a line to the link, and a record, once it was told of, to the output.
@@ -160,19 +253,44 @@ fn deliver<L: Sink, W: Sink, E: Sink>(
             Err(count) => Err(LinkFault::Write(counts.written + count)),
         },
         Event::Record(place, number, record) => {
-            teller.note(*place, *number, errors);
-            match write_all_of(output, record) {
-                Ok(()) => {
-                    teller.receive();
-                    Ok(Counts {
-                        written: counts.written,
-                        output: counts.output + record.len(),
-                    })
-                }
-                Err(count) => Err(LinkFault::Output(counts.output + count)),
-            }
+            deliver_record(*place, *number, record, output, errors, teller, counts)
         }
         Event::None | Event::End | Event::Refused(_) | Event::Gap { .. } => Ok(counts),
         Event::Garbage | Event::Foreign => Ok(counts),
+    }
+}
+
+/// Tells of a record, and puts it to the output.
+fn deliver_record<W: Sink, E: Sink>(
+    place: usize,
+    number: u32,
+    bytes: &[u8; 512],
+    output: &mut W,
+    errors: &mut E,
+    teller: &mut Teller,
+    counts: Counts,
+) -> Result<Counts, LinkFault>
+    requires written { counts.written ≤ 2 ^ 32 }
+    requires output { counts.output ≤ 2 ^ 32 }
+    // Whatever the link took, it stays so.
+    ensures ok { (link : BytesWritten) → IfOk result (λ after. IsDelivered (Event.Record place number bytes.now) counts
+        after link link (W.written output.old) (W.written output.new)) }
+    ensures fault { (link : BytesWritten) → IfErr result (λ fault. IsUndelivered fault
+        (Event.Record place number bytes.now) counts link link (W.written output.old) (W.written output.new)) }
+    ensures received { Notes teller.old.received teller.new.received (W.written output.old) (W.written output.new) }
+    ensures told { IsToldOf (Event.Record place number bytes.now)
+        (kept (W.written output.old) (E.written errors.old) teller.old.telling)
+        (kept (W.written output.new) (E.written errors.new) teller.new.telling) }
+{
+    teller.note(place, number, errors);
+    match write_all_of(output, bytes) {
+        Ok(()) => {
+            teller.receive();
+            Ok(Counts {
+                written: counts.written,
+                output: counts.output + bytes.len(),
+            })
+        }
+        Err(count) => Err(LinkFault::Output(counts.output + count)),
     }
 }

@@ -22,7 +22,7 @@ pub use client::Client;
 pub use connection::{one_turn, turns_send_stretches};
 pub use dialogue::{Answer, Bytes, Ending, Event, Stage, Wanted};
 pub use feed::{Feed, FeedFault};
-pub use fetching::{fetch_turn, fetch_turn_telling};
+pub use fetching::{Room, fetch_turn, fetch_turn_in, fetch_turn_telling};
 pub use grant::{Grant, Mode};
 pub use law::{
     a_stretch_is_sent, a_stretch_is_wanted, each_record_once, granted_behind_the_last,

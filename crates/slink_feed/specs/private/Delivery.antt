@@ -1,11 +1,15 @@
 -- What is done for one event of a turn.
-use Rattle.std.specs.Prelude.{◌≡◌, ℕ, ◌+◌, ◌≤◌, length}
+use Rattle.std.specs.Prelude.{◌≡◌, ℕ, ◌+◌, ◌≤◌, ◌<◌, List, ◌++◌, length, take}
 use Rattle.mseed_stream.specs.Device.{BytesWritten}
 use Rattle.slink_feed.specs.declared.dialogue.Event.{Event}
 use Rattle.slink_feed.specs.declared.fetching.Counts.{Counts}
 use Rattle.slink_feed.specs.declared.turn.LinkFault.{LinkFault}
 use Rattle.slink_feed.specs.declared.turn.LinkFault.TheVariants as faults
-use Rattle.slink_feed.specs.Fetching.{line_written, record_told}
+use Rattle.slink_feed.specs.Fetching.{Fetching, line_written, record_told}
+use Rattle.slink_feed.specs.Listening.{Brings, Listening}
+use Rattle.slink_feed.specs.Reports.{Kept}
+use Rattle.slink_feed.specs.Teller.{AreTold, lines_of, telling_behind}
+use Rattle.slink_feed.specs.Told.{record_in}
 use Rattle.slink_feed.specs.Turns.{Took, TookPrefix}
 
 -- Its line went to the link, and its record to the output; so many bytes each of them took now.
@@ -43,3 +47,30 @@ IsUndelivered (faults.Write count) event before written_old written_new output_o
     IsUnwritten event before.written count written_old written_new output_old output_new
 IsUndelivered (faults.Output count) event before written_old written_new output_old output_new =
     FailsToOutput event before.output count written_old written_new output_old output_new
+
+-- So many of these bytes come to an event, or to none yet.
+pub record ComesTo (event : Event) (used : ℕ) (bytes : List ℕ) (old new : Listening) : Type 0 where
+  pub brings : Brings old.talk (old.kept ++ take used bytes) new event
+  pub some : 0 < used
+  pub bound : used ≤ length bytes
+
+-- A record that an event tells of was told of.
+pub record IsToldOf (event : Event) (old new : Kept) : Type 0 where
+  pub telling : new.telling ≡ telling_behind old.telling (record_in event)
+  pub lines : AreTold (lines_of old.telling (record_in event)) old.errors new.errors
+
+-- Of these bytes so many were taken, and what they come to was told of and delivered.
+pub record Hears (bytes : List ℕ) (used : ℕ) (before after : Counts) (old new : Fetching) (was is : Kept) : Type 0 where
+  pub event : Event
+  pub comes : ComesTo event used bytes old.client new.client
+  pub told : IsToldOf event was is
+  pub done : IsDelivered event before after old.written new.written old.output new.output
+
+-- It was told of, and a device failed at it.
+pub record FailsToHear (fault : LinkFault) (bytes : List ℕ) (before : Counts) (old new : Fetching)
+    (was is : Kept) : Type 0 where
+  pub event : Event
+  pub used : ℕ
+  pub comes : ComesTo event used bytes old.client new.client
+  pub told : IsToldOf event was is
+  pub cut : IsUndelivered fault event before old.written new.written old.output new.output

@@ -4,7 +4,7 @@ use Rattle.slink_feed.specs.Fetching.{fetching}
 use Rattle.slink_feed.specs.Turns.{told_once}
 use Rattle.slink_feed.proofs.Deliveries.{closed_turn}
 use Rattle.slink_feed.proofs.Reporting.{reports_none}
-use Rattle.slink_feed.proofs.fetching.fetch_turn_telling.Goals as goal
+use Rattle.slink_feed.proofs.fetching.fetch_turn_in.Goals as goal
 
 pub returns-then-count-eq0-clause-ok : goal.returns-then-count-eq0-clause-ok
 returns-then-count-eq0-clause-ok g c =

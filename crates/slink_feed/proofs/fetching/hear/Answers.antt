@@ -1,0 +1,80 @@
+use Rattle.std.proofs.Common.{rules, ◌≡◌, arith, sym, subst}
+use Rattle.slink_feed.specs.declared.dialogue.Event.TheVariants as events
+use Rattle.slink_feed.specs.Fetching.{Fetching, fetching}
+use Rattle.slink_feed.specs.private.Delivery.{ComesTo, FailsToHear}
+use Rattle.slink_feed.specs.Listening.{IsLinked, Listening}
+use Rattle.slink_feed.specs.Reports.{Kept, kept}
+use Rattle.slink_feed.proofs.fetching.hear.Goals as goal
+
+pub returns-in_ok-counts-in-Some-clause-ok : goal.returns-in_ok-counts-in-Some-clause-ok
+returns-in_ok-counts-in-Some-clause-ok g c = record {
+  event = events.Record c.in-Some.place c.in-Some.number c.in-Some.record.now;
+  comes = record { brings = c.in-Some.ensures.brings; some = omega arith; bound = c.in-Some.ensures.long };
+  told = c.deliver_record.ensures.told;
+  done = c.in_ok-counts-in-Some.ensures.ok (g.L.Sink.written c.args.link.now);
+}
+
+pub returns-in_err-counts-in-Some-clause-fault : goal.returns-in_err-counts-in-Some-clause-fault
+returns-in_err-counts-in-Some-clause-fault g c =
+    let old : Fetching = fetching c.args.client.now (g.L.Sink.written c.args.link.now)
+    (g.W.Sink.written c.args.output.now) in
+    let new : Fetching = fetching c.take_record.new.self (g.L.Sink.written c.args.link.now)
+    (g.W.Sink.written c.deliver_record.new.output) in
+    let was : Kept = kept (g.W.Sink.written c.args.output.now) (g.E.Sink.written c.args.errors.now)
+    c.args.teller.now.telling in
+    let is : Kept = kept (g.W.Sink.written c.deliver_record.new.output) (g.E.Sink.written c.deliver_record.new.errors)
+    c.deliver_record.new.teller.telling in
+    let fails : FailsToHear c.in_err-counts-in-Some.field-0.0 c.args.bytes.now c.args.counts old new was is = record {
+      event = events.Record c.in-Some.place c.in-Some.number c.in-Some.record.now;
+      used = 520;
+      comes = record { brings = c.in-Some.ensures.brings; some = omega arith; bound = c.in-Some.ensures.long };
+      told = c.deliver_record.ensures.told;
+      cut = c.in_err-counts-in-Some.ensures.fault (g.L.Sink.written c.args.link.now);
+    } in
+    search (rules, fails)
+
+pub returns-in_ok-after-in-None-clause-ok : goal.returns-in_ok-after-in-None-clause-ok
+returns-in_ok-after-in-None-clause-ok g c =
+    let linked : IsLinked c.take_record.new.self.talk.stage =
+    subst (λ (l : Listening). IsLinked l.talk.stage) (sym c.in-None.ensures.none) c.requires.linked in
+    let comes : ComesTo c.take-used.result.1 c.take-used.result.0 c.args.bytes.now c.take_record.new.self
+    c.take-used.new.self = record {
+      brings = c.take-used.ensures.brings linked;
+      some = c.take-used.ensures.some linked c.requires.some;
+      bound = c.take-used.ensures.bound;
+    } in
+    record {
+      event = c.take-used.result.1;
+      comes = subst (λ (l : Listening). ComesTo c.take-used.result.1 c.take-used.result.0 c.args.bytes.now l
+          c.take-used.new.self) c.in-None.ensures.none comes;
+      told = record { telling = c.deliver.ensures.telling; lines = c.deliver.ensures.lines };
+      done = c.in_ok-after-in-None.ensures.ok;
+    }
+
+pub returns-in_err-after-in-None-clause-fault : goal.returns-in_err-after-in-None-clause-fault
+returns-in_err-after-in-None-clause-fault g c =
+    let old : Fetching = fetching c.args.client.now (g.L.Sink.written c.args.link.now)
+    (g.W.Sink.written c.args.output.now) in
+    let new : Fetching = fetching c.take-used.new.self (g.L.Sink.written c.deliver.new.link)
+    (g.W.Sink.written c.deliver.new.output) in
+    let was : Kept = kept (g.W.Sink.written c.args.output.now) (g.E.Sink.written c.args.errors.now)
+    c.args.teller.now.telling in
+    let is : Kept = kept (g.W.Sink.written c.deliver.new.output) (g.E.Sink.written c.deliver.new.errors)
+    c.deliver.new.teller.telling in
+    let linked : IsLinked c.take_record.new.self.talk.stage =
+    subst (λ (l : Listening). IsLinked l.talk.stage) (sym c.in-None.ensures.none) c.requires.linked in
+    let comes : ComesTo c.take-used.result.1 c.take-used.result.0 c.args.bytes.now c.take_record.new.self
+    c.take-used.new.self = record {
+      brings = c.take-used.ensures.brings linked;
+      some = c.take-used.ensures.some linked c.requires.some;
+      bound = c.take-used.ensures.bound;
+    } in
+    let fails : FailsToHear c.in_err-after-in-None.field-0.0 c.args.bytes.now c.args.counts old new was is = record {
+      event = c.take-used.result.1;
+      used = c.take-used.result.0;
+      comes = subst (λ (l : Listening). ComesTo c.take-used.result.1 c.take-used.result.0 c.args.bytes.now l
+          c.take-used.new.self) c.in-None.ensures.none comes;
+      told = record { telling = c.deliver.ensures.telling; lines = c.deliver.ensures.lines };
+      cut = c.in_err-after-in-None.ensures.fault;
+    } in
+    search (rules, fails)
