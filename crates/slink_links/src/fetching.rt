@@ -18,7 +18,7 @@ use crate::serving::TURNS;
 use crate::settle::Settle;
 use crate::status::{DONE, FAULT};
 use mseed_stream::{Counted, Sink, tell, write_all_of};
-use slink_feed::{Client, Event, LinkFault, Teller, Turn, fetch_turn_telling};
+use slink_feed::{Client, Event, LinkFault, Room, Teller, Turn, fetch_turn_in};
 use std::io::sink;
 
 /// How a fetch ended.
@@ -238,7 +238,7 @@ fn fetch_link_telling<S: Settle, W: Sink, E: Sink>(
 {
     let line = client.connect();
     match write_all_of(link, line.as_slice()) {
-        Ok(()) => take_turns(client, link, output, errors, teller),
+        Ok(()) => take_turns(client, link, output, errors, teller, &mut [0; 520]),
         Err(_) => FetchEnd::LinkFailed,
     }
 }
@@ -250,6 +250,7 @@ fn take_turns<S: Settle, W: Sink, E: Sink>(
     output: &mut W,
     errors: &mut E,
     teller: &mut Teller,
+    room: &mut Room,
 ) -> FetchEnd
     requires reading { IsReading client.old }
     requires linked { IsLinked client.old.talk.stage }
@@ -264,7 +265,7 @@ fn take_turns<S: Settle, W: Sink, E: Sink>(
         (kept (W.written output.new) (E.written errors.new) teller.new.telling) }
 {
     for turn in 0..TURNS {
-        if let Some(end) = take_turn(client, link, output, errors, teller) {
+        if let Some(end) = take_turn(client, link, output, errors, teller, room) {
             return end;
         }
     }
@@ -278,6 +279,7 @@ fn take_turn<S: Settle, W: Sink, E: Sink>(
     output: &mut W,
     errors: &mut E,
     teller: &mut Teller,
+    room: &mut Room,
 ) -> Option<FetchEnd>
     requires reading { IsReading client.old }
     requires linked { IsLinked client.old.talk.stage }
@@ -290,7 +292,7 @@ fn take_turn<S: Settle, W: Sink, E: Sink>(
         (kept (W.written output.old) (E.written errors.old) teller.old.telling)
         (kept (W.written output.new) (E.written errors.new) teller.new.telling) }
 {
-    let turn = fetch_turn_telling(client, link, output, errors, teller);
+    let turn = fetch_turn_in(client, link, output, errors, teller, room);
     settle(client, link);
     end_by(&turn)
 }

@@ -6,22 +6,22 @@ use Rattle.slink_links.proofs.fetching.take_turn.Goals as goal
 pub returns-clause-turned : goal.returns-clause-turned
 returns-clause-turned g c =
     let old = c.args.client.now in
-    let new = c.fetch_turn_telling-turn.new.client in
+    let new = c.fetch_turn_in-turn.new.client in
     let before = g.W.Sink.written c.args.output.now in
-    let after = g.W.Sink.written c.fetch_turn_telling-turn.new.output in
+    let after = g.W.Sink.written c.fetch_turn_in-turn.new.output in
     subst (λ end. HasTurned end old new (g.S.Source.read c.args.link.now)
-    (g.S.Source.read c.fetch_turn_telling-turn.new.link) before after) (sym c.end_by.ensures)
-    (turned c.fetch_turn_telling-turn.result old new (g.S.Sink.written c.args.link.now)
-    (g.S.Sink.written c.fetch_turn_telling-turn.new.link)
+    (g.S.Source.read c.fetch_turn_in-turn.new.link) before after) (sym c.end_by.ensures)
+    (turned c.fetch_turn_in-turn.result old new (g.S.Sink.written c.args.link.now)
+    (g.S.Sink.written c.fetch_turn_in-turn.new.link)
     before after
-    (g.S.Source.read c.args.link.now) (g.S.Source.read c.fetch_turn_telling-turn.new.link)
-    c.fetch_turn_telling-turn.ensures.ok c.fetch_turn_telling-turn.ensures.fault
+    (g.S.Source.read c.args.link.now) (g.S.Source.read c.fetch_turn_in-turn.new.link)
+    c.fetch_turn_in-turn.ensures.ok c.fetch_turn_in-turn.ensures.fault
     c.requires.reading c.requires.linked)
 
 pub returns-clause-by : goal.returns-clause-by
 returns-clause-by g c = record {
-  turn = c.fetch_turn_telling-turn.result;
-  goes = c.fetch_turn_telling-turn.ensures.ok;
-  fails = c.fetch_turn_telling-turn.ensures.fault;
+  turn = c.fetch_turn_in-turn.result;
+  goes = c.fetch_turn_in-turn.ensures.ok;
+  fails = c.fetch_turn_in-turn.ensures.fault;
   ends = c.end_by.ensures;
 }
