@@ -28,9 +28,24 @@ pub(crate) fn first_1000_of(bytes: &[u8], order: Order) -> usize
     offset
 }
 
-/// Goes along the whole chain of a record, once.
+/// Goes along the whole chain of a record, once, by a body for each order.
 #[inline(always)]
 pub(crate) fn blockettes_of(bytes: &[u8], order: Order) -> Blockettes
+    requires { (os : List ℕ) × ((last : ℕ) × IsRecordBy order os last bytes.now) }
+    ensures found { (os : List ℕ) (last : ℕ) → IsRecordBy order os last bytes.now
+        → (rest : List ℕ) × (IsWholeChain order bytes.now os last rest
+        × AreBlockettes order bytes.now (os ++ last ∷ rest) result) }
+    ensures within { IfSome result.first_1001 (λ o. o + 8 ≤ length bytes.now) }
+{
+    match order {
+        Order::Big => blockettes_by(bytes, Order::Big),
+        Order::Little => blockettes_by(bytes, Order::Little),
+    }
+}
+
+/// Goes along the whole chain of a record, once.
+#[inline(always)]
+fn blockettes_by(bytes: &[u8], order: Order) -> Blockettes
     requires { (os : List ℕ) × ((last : ℕ) × IsRecordBy order os last bytes.now) }
     ensures found { (os : List ℕ) (last : ℕ) → IsRecordBy order os last bytes.now
         → (rest : List ℕ) × (IsWholeChain order bytes.now os last rest

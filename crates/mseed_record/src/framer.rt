@@ -68,8 +68,8 @@ impl Framer {
 /// A record that begins the bytes: its length, its byte order, and where its first blockette 1000 stands.
 #[derive(Clone, Copy, Debug)]
 pub(crate) struct Framed {
-    pub size: usize,
     pub order: Order,
+    pub size: usize,
     pub first_1000: usize,
 }
 

@@ -34,12 +34,13 @@ const LEAP_DROPPED: u32 = 5;
 /// What its chain of blockettes says is looked up once, when the view is made.
 #[derive(Clone, Copy, Debug)]
 pub struct RecordView<'a> {
-    bytes: &'a [u8],
     order: Order,
     encoding: u8,
     payload_order: Order,
     microseconds: i8,
     has_rate_blockette: bool,
+    // Behind the small fields, so that a fault in place of a view stands over none of its bytes.
+    bytes: &'a [u8],
     ghost has_header: { 48 ≤ length bytes.now },
     ghost is_view: { ∥ IsView (record {
       bytes = bytes.now;

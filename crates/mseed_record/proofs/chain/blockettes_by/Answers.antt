@@ -4,7 +4,7 @@ use Rattle.mseed_record.specs.Chain.{type_at, next_at, head_of, goes_on}
 use Rattle.mseed_record.specs.private.Blockettes.{AreBlockettes}
 use Rattle.mseed_record.proofs.Whole.{Visits, goes_on_within, visits_more, visits_whole, passes_visits}
 use Rattle.mseed_record.proofs.Whole.{found_more, head_small, begins_within, if_some, if_none, within_more}
-use Rattle.mseed_record.proofs.chain.blockettes_of.Goals as goal
+use Rattle.mseed_record.proofs.chain.blockettes_by.Goals as goal
 
 pub u16_at-requires : goal.u16_at-requires
 u16_at-requires c = (begins_within c.args.order c.args.bytes.now c.requires.0 c.requires.1.0 c.requires.1.1).0

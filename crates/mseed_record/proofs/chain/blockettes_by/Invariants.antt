@@ -3,7 +3,7 @@ use Rattle.mseed_record.specs.Header.{blockette_at}
 use Rattle.mseed_record.specs.Chain.{type_at, head_of}
 use Rattle.mseed_record.specs.private.Blockettes.{AreBlockettes}
 use Rattle.mseed_record.proofs.Whole.{Visits}
-use Rattle.mseed_record.proofs.chain.blockettes_of.Given as goal
+use Rattle.mseed_record.proofs.chain.blockettes_by.Given as goal
 
 abbrev pub invariant-chain : goal.invariant-chain
 invariant-chain l = (l.offset + head_of (type_at l.order l.bytes l.offset) ≤ length l.bytes)
