@@ -4,7 +4,7 @@ ghost use Rattle.std.specs.Prelude.{◌≡◌, ◌+◌, ◌-◌, ◌*◌, ◌^�
 ghost use Rattle.std.specs.Prelude.{IfNone, IfOk, IfSome, OnOk, drop, map, take, length};
 ghost use Rattle.mseed_steim.specs.declared.differences.BadWordAt.{BadWordAt};
 ghost use Rattle.mseed_steim.specs.private.Digits.{digits};
-ghost use Rattle.mseed_steim.specs.Frames.{DataWord, data_words, words_from};
+ghost use Rattle.mseed_steim.specs.Frames.{DataWord, data_words, words_from, word_count};
 ghost use Rattle.mseed_steim.specs.private.Items.{items_of};
 ghost use Rattle.mseed_steim.specs.private.Lanes.{Begins, span};
 ghost use Rattle.mseed_steim.specs.private.Reads.{as_data};
@@ -243,19 +243,17 @@ fn put_first_frame(
     }
 }
 
-/// The differences of a later frame, as far as they are needed.
-fn put_frame(
+/// The differences of a later frame, word by word, as far as they are needed.
+#[cold]
+fn put_frame_words(
     scheme: Scheme,
     payload: &[u8],
-    frame: &[u8; 64],
     index: usize,
     samples: usize,
     sum: Sum,
-    differences: &mut [i32; ROOM],
     out: &mut [i32],
 ) -> Result<Sum, ReadFault>
     requires inside { 64 * (index + 1) ≤ length payload.now }
-    requires at { frame.now ≡ take 64 (drop (64 * index) payload.now) }
     requires places { length out.old ≡ samples }
     requires met { sum.met ≤ samples }
     ensures goes_on { (rest : List DataWord)
@@ -267,17 +265,53 @@ fn put_frame(
     ensures met { IfOk result (λ next. next.met ≤ samples) }
     ensures places { length out.new ≡ samples }
 {
-    match put_at_once(scheme, frame, FROM_1, samples, sum, differences, out) {
-        Some(sum) => Ok(sum),
-        None => {
-            let words = Words::between(payload, FRAME * index, FRAME * (index + 1));
-            put_all_words(scheme, words, samples, sum, out)
+    let words = Words::between(payload, FRAME * index, FRAME * (index + 1));
+    put_all_words(scheme, words, samples, sum, out)
+}
+
+/// The differences of the frames behind the first one. They are added up at once, where that can't go wrong, and else
+/// word by word.
+fn put_later_frames(
+    scheme: Scheme,
+    payload: &[u8],
+    samples: usize,
+    sum: Sum,
+    differences: &mut [i32; ROOM],
+    out: &mut [i32],
+) -> Result<Sum, ReadFault>
+    requires framed { 64 ≤ length payload.now }
+    requires places { length out.old ≡ samples }
+    requires met { sum.met ≤ samples }
+    ensures folded { result ≡ fold samples sum
+        (items_of scheme (words_from payload.now 16 (word_count payload.now - 16))) }
+    ensures kept { OnOk result (out.new ≡ take sum.met out.old ++ met_in samples sum
+        (items_of scheme (words_from payload.now 16 (word_count payload.now - 16)))) }
+{
+    let (frames, _) = payload.as_chunks::<64>();
+    let mut sum = sum;
+    for index in 1..frames.len() {
+        if sum.met == samples {
+            return Ok(sum);
         }
+        let frame = &frames[index];
+        if let Some(next) = put_at_once(scheme, frame, FROM_1, samples, sum, differences, out) {
+            sum = next;
+            continue;
+        }
+        match put_frame_words(scheme, payload, index, samples, sum, out) {
+            Ok(next) => sum = next,
+            Err(fault) => return Err(fault),
+        }
+    }
+    if sum.met == samples {
+        Ok(sum)
+    } else {
+        Err(ReadFault::Short(sum.met))
     }
 }
 
 /// The sum of so many samples, of which this is the first, each put in its place, or what comes first in place
-/// of one. Frames are added up at once, where that can't go wrong, and else word by word.
+/// of one.
 pub(crate) fn put_words(
     payload: &[u8],
     scheme: Scheme,
@@ -293,42 +327,10 @@ pub(crate) fn put_words(
         ≡ met_in samples (record { met = 0; last = first }) (items_of scheme (data_words payload.now))) }
 {
     let (frames, _) = payload.as_chunks::<64>();
-    let mut differences = [0; ROOM];
-    let begun = put_first_frame(
-        scheme,
-        payload,
-        &frames[0],
-        samples,
-        first,
-        &mut differences,
-        out,
-    );
-    let mut sum = match begun {
-        Ok(sum) => sum,
-        Err(fault) => return Err(fault),
-    };
-    for index in 1..frames.len() {
-        if sum.met == samples {
-            return Ok(sum);
-        }
-        let frame = &frames[index];
-        match put_frame(
-            scheme,
-            payload,
-            frame,
-            index,
-            samples,
-            sum,
-            &mut differences,
-            out,
-        ) {
-            Ok(next) => sum = next,
-            Err(fault) => return Err(fault),
-        }
-    }
-    if sum.met == samples {
-        Ok(sum)
-    } else {
-        Err(ReadFault::Short(sum.met))
+    let frame = &frames[0];
+    let mut room = [0; ROOM];
+    match put_first_frame(scheme, payload, frame, samples, first, &mut room, out) {
+        Ok(sum) => put_later_frames(scheme, payload, samples, sum, &mut room, out),
+        Err(fault) => Err(fault),
     }
 }

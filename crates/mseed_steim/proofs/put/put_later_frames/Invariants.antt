@@ -1,17 +1,18 @@
 use Rattle.std.proofs.Common.{◌≡◌, ◌≤◌, ◌-◌, ◌*◌, ◌++◌, take, length}
-use Rattle.mseed_steim.specs.Frames.{data_words, words_from, word_count}
+use Rattle.mseed_steim.specs.Frames.{words_from, word_count}
 use Rattle.mseed_steim.specs.private.Items.{items_of}
 use Rattle.mseed_steim.specs.private.Sums.{fold, met_in}
-use Rattle.mseed_steim.proofs.put.put_words.Given as goal
+use Rattle.mseed_steim.proofs.put.put_later_frames.Given as goal
 
 abbrev pub invariant-loop-index : goal.invariant-loop-index
 invariant-loop-index l = record {
   places : length l.out ≡ l.samples;
   met : l.sum.met ≤ l.samples;
-  same : fold l.samples (record { met = 0; last = l.first }) (items_of l.scheme (data_words l.payload))
+  same : fold l.samples l.fn.sum (items_of l.scheme (words_from l.payload 16 (word_count l.payload - 16)))
       ≡ fold l.samples l.sum (items_of l.scheme
       (words_from l.payload (16 * l.index) (word_count l.payload - 16 * l.index)));
   kept : take l.sum.met l.out ++ met_in l.samples l.sum
       (items_of l.scheme (words_from l.payload (16 * l.index) (word_count l.payload - 16 * l.index)))
-      ≡ met_in l.samples (record { met = 0; last = l.first }) (items_of l.scheme (data_words l.payload));
+      ≡ take l.fn.sum.met l.fn.out ++ met_in l.samples l.fn.sum
+      (items_of l.scheme (words_from l.payload 16 (word_count l.payload - 16)));
 }

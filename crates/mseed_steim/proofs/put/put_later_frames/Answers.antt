@@ -1,0 +1,107 @@
+use Rattle.std.proofs.Common.{◌≡◌, ◌+◌, ◌-◌, ◌*◌, ◌/◌, ◌<◌, ◌++◌, ◌∙◌, List, take, length, ap, sym, arith, refl, inl}
+use Rattle.mseed_steim.specs.Frames.{DataWord, words_from, word_count}
+use Rattle.mseed_steim.specs.private.Items.{items_of}
+use Rattle.mseed_steim.specs.private.Sums.{fold, met_in}
+use Rattle.mseed_steim.proofs.Walking.{words_cut, words_none, words_skip, no_items, frame_at}
+use Rattle.mseed_steim.proofs.Folds.{fold_enough, fold_short}
+use Rattle.mseed_steim.proofs.Folded.{all_kept}
+use Rattle.mseed_steim.proofs.put.put_later_frames.Goals.{Else-sum-samples}
+use Rattle.mseed_steim.proofs.put.put_later_frames.Goals as goal
+
+pub returns-then-sum-samples-clause-folded : goal.returns-then-sum-samples-clause-folded
+returns-then-sum-samples-clause-folded c =
+    sym (c.loop-index.invariant.same ∙ fold_enough c.args.samples c.loop-index.sum _ c.if-sum-samples.true)
+
+pub returns-then-sum-samples-clause-kept : goal.returns-then-sum-samples-clause-kept
+returns-then-sum-samples-clause-kept c =
+    all_kept c.args.samples c.loop-index.sum c.loop-index.out _ c.loop-index.invariant.places c.if-sum-samples.true
+    ∙ c.loop-index.invariant.kept
+
+pub put_at_once-requires-clause-begins : goal.put_at_once-requires-clause-begins
+put_at_once-requires-clause-begins c = (1, inl (refl, refl))
+
+-- the words of a later frame, and those behind it
+cut : (c : Else-sum-samples)
+    → words_from c.args.payload.now (16 * c.loop-index.index) (word_count c.args.payload.now - 16 * c.loop-index.index)
+    ≡ words_from c.args.payload.now (16 * c.loop-index.index) 16 ++ words_from c.args.payload.now
+    (16 * (c.loop-index.index + 1)) (word_count c.args.payload.now - 16 * (c.loop-index.index + 1))
+cut c =
+    let inside : c.loop-index.index < length c.args.payload.now / 64 = omega arith in
+    let count : 16 + (word_count c.args.payload.now - 16 * (c.loop-index.index + 1)) ≡ word_count c.args.payload.now
+    - 16 * c.loop-index.index = omega arith in
+    let place : 16 * c.loop-index.index + 16 ≡ 16 * (c.loop-index.index + 1) = omega arith in
+    rw (count, place) at (words_cut c.args.payload.now (16 * c.loop-index.index) 16
+    (word_count c.args.payload.now - 16 * (c.loop-index.index + 1)))
+
+-- the first word of a frame, its codes, is no data word
+skip : (c : Else-sum-samples)
+    → words_from c.args.payload.now (16 * c.loop-index.index) (word_count c.args.payload.now - 16 * c.loop-index.index)
+    ≡ words_from c.args.payload.now (16 * c.loop-index.index + 1) 15 ++ words_from c.args.payload.now
+    (16 * (c.loop-index.index + 1)) (word_count c.args.payload.now - 16 * (c.loop-index.index + 1))
+skip c =
+    cut c ∙ ap (λ (ws : List DataWord). ws ++ words_from c.args.payload.now
+    (16 * (c.loop-index.index + 1)) (word_count c.args.payload.now - 16 * (c.loop-index.index + 1)))
+    (words_skip c.args.payload.now (16 * c.loop-index.index) 15 (omega arith))
+
+pub returns-in-Err-clause-folded : goal.returns-in-Err-clause-folded
+returns-in-Err-clause-folded c =
+    sym (c.loop-index.invariant.same
+    ∙ ap (λ (ws : List DataWord). fold c.args.samples c.loop-index.sum (items_of c.args.scheme ws))
+    (cut (goal.at.returns-in-Err-clause-folded c).Else-sum-samples)
+    ∙ c.in-Err.ensures.goes_on _)
+
+pub loop-index-preserved-in-Some : goal.loop-index-preserved-in-Some
+loop-index-preserved-in-Some c =
+    let parts = skip (goal.at.loop-index-preserved-in-Some c).Else-sum-samples in
+    let inside : c.loop-index.index < length c.args.payload.now / 64 = omega arith in
+    record {
+      places = c.in-Some.ensures.places;
+      met = c.in-Some.ensures.met;
+      same = c.loop-index.invariant.same
+          ∙ ap (λ (ws : List DataWord). fold c.args.samples c.loop-index.sum (items_of c.args.scheme ws)) parts
+          ∙ c.in-Some.ensures.goes_on c.args.payload.now c.loop-index.index 1 _ (inl (refl, refl))
+          (rw c.as_chunks.ensures.front (frame_at (length c.args.payload.now / 64) c.args.payload.now c.loop-index.index
+          inside));
+      kept = c.in-Some.ensures.kept c.args.payload.now c.loop-index.index 1 _ (inl (refl, refl))
+          (rw c.as_chunks.ensures.front (frame_at (length c.args.payload.now / 64) c.args.payload.now c.loop-index.index
+          inside))
+          ∙ ap (λ (ws : List DataWord). take c.loop-index.sum.met c.loop-index.out ++ met_in c.args.samples
+          c.loop-index.sum (items_of c.args.scheme ws)) (sym parts)
+          ∙ c.loop-index.invariant.kept;
+    }
+
+pub loop-index-preserved : goal.loop-index-preserved
+loop-index-preserved c =
+    let parts = cut (goal.at.loop-index-preserved c).Else-sum-samples in
+    let rest = words_from c.args.payload.now (16 * (c.loop-index.index + 1))
+    (word_count c.args.payload.now - 16 * (c.loop-index.index + 1)) in
+    let kept = rw c.in_default.ensures.none at (c.in-Ok.ensures.kept rest) in
+    record {
+      places = c.in-Ok.ensures.places;
+      met = c.in-Ok.ensures.met;
+      same = c.loop-index.invariant.same
+          ∙ ap (λ (ws : List DataWord). fold c.args.samples c.loop-index.sum (items_of c.args.scheme ws)) parts
+          ∙ c.in-Ok.ensures.goes_on _;
+      kept = kept
+          ∙ ap (λ (ws : List DataWord). take c.loop-index.sum.met c.loop-index.out ++ met_in c.args.samples
+          c.loop-index.sum (items_of c.args.scheme ws)) (sym parts)
+          ∙ c.loop-index.invariant.kept;
+    }
+
+pub returns-then-sum-samples-2-clause-folded : goal.returns-then-sum-samples-2-clause-folded
+returns-then-sum-samples-2-clause-folded c =
+    sym (c.loop-index.invariant.same ∙ fold_enough c.args.samples c.loop-index.sum _ c.if-sum-samples-2.true)
+
+pub returns-then-sum-samples-2-clause-kept : goal.returns-then-sum-samples-2-clause-kept
+returns-then-sum-samples-2-clause-kept c =
+    all_kept c.args.samples c.loop-index.sum c.loop-index.out _ c.loop-index.invariant.places c.if-sum-samples-2.true
+    ∙ c.loop-index.invariant.kept
+
+pub returns-else-sum-samples-2-clause-folded : goal.returns-else-sum-samples-2-clause-folded
+returns-else-sum-samples-2-clause-folded c =
+    let over : word_count c.args.payload.now - 16 * c.loop-index.index ≡ 0 = omega arith in
+    let none = no_items c.args.scheme (words_from c.args.payload.now (16 * c.loop-index.index)
+    (word_count c.args.payload.now - 16 * c.loop-index.index))
+    (rw over (words_none c.args.payload.now (16 * c.loop-index.index))) in
+    sym (c.loop-index.invariant.same
+    ∙ (rw none (fold_short c.args.samples c.loop-index.sum (λ e. c.if-sum-samples-2.false e))))
