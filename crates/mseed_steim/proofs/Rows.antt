@@ -14,6 +14,7 @@ use Rattle.mseed_steim.specs.Groups.{Group, group_of}
 use Rattle.mseed_steim.specs.Spelling.{Spells, IsGroup, empty, IsWithin, positional}
 use Rattle.mseed_steim.specs.Packing.{CanSpell}
 use Rattle.mseed_steim.specs.private.Rows.{row_with, row_for}
+use Rattle.mseed_steim.specs.private.Unpacked.{lanes_of}
 use Rattle.mseed_steim.proofs.Words.{positional_lt}
 
 -- a row is one of the table's, and has the bits of a word at the most
@@ -112,6 +113,19 @@ row_is Two k =
       omega arith,
       omega arith,
     ) (omega arith, omega arith) (omega arith) (λ h. omega arith)) refl (no_rows Two k)))))))
+
+few_rows : (k n : ℕ) (r : Row) (more : Option Row) → n ≤ 4 → ((q : Row) → more ≡ Some q → k ≤ 4) → (q : Row)
+    → cond (eqb k n) (Some r) more ≡ Some q → k ≤ 4
+few_rows k n r more few rest =
+    cond_both (eqb k n) (Some r) more (λ (o : Option Row). (q : Row) → o ≡ Some q → k ≤ 4)
+    (λ e. λ q p. let found : k ≡ n = eqb-true k n e in omega (arith, found, few))
+    (λ _. rest)
+
+-- a word has no more differences than lanes are taken for it
+pub row_lanes : (s : Scheme) (k : ℕ) (r : Row) → row_for s k ≡ Some r → k ≤ lanes_of s
+row_lanes One k r e =
+    few_rows k 1 _ _ (omega arith) (few_rows k 2 _ _ (omega arith) (few_rows k 4 _ None (omega arith) (λ q e. cc))) r e
+row_lanes Two k r e = let is = row_is Two k r e in omega (arith, is.0.most, is.1)
 
 -- each group of the table has a row of its count, with its code and its dnib, where one is marked
 record HasRow (s : Scheme) (c d : ℕ) (g : Group) : Type 0 where

@@ -9,3 +9,4 @@ pub mod Unpacked
 pub mod Sums
 pub mod Rows
 pub mod Ahead
+pub mod Packed

@@ -9,9 +9,7 @@ ghost use Rattle.mseed_steim.specs.declared.row.Row.{Row};
 
 use crate::row::Row;
 use crate::scheme::Scheme;
-
-/// How many differences are joined in one turn, be they of the word or not.
-const LANES: usize = 8;
+use crate::unpack::{LANES, lanes_of};
 
 /// A row, the bits of one of its differences, its dnib where it stands in a word, and what each of its differences
 /// counts for; nothing behind the last.
@@ -183,7 +181,7 @@ fn layout_of(scheme: Scheme, most: usize) -> &'static Layout
 }
 
 /// The first differences of eight or more, as many as a row has. There is no branch on how many, which the processor
-/// could but guess.
+/// could but guess: as many are joined as any word holds, be they of this one or not.
 #[inline(always)]
 fn join(scheme: Scheme, layout: &Layout, diffs: &[i32]) -> u32
     requires eight { 8 ≤ length diffs.now }
@@ -191,7 +189,7 @@ fn join(scheme: Scheme, layout: &Layout, diffs: &[i32]) -> u32
     ensures { result ≡ positional layout.now.row.width (take layout.now.row.count diffs.now) }
 {
     let mut word = 0u32;
-    for index in 0..LANES {
+    for index in 0..lanes_of(scheme) {
         let digit = diffs[index].cast_unsigned() & layout.mask;
         word = word.wrapping_add(digit.wrapping_mul(layout.places[index]));
     }

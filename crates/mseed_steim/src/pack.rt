@@ -6,6 +6,7 @@ ghost use Rattle.std.specs.Prelude.{MatchResult, length, take, drop};
 ghost use Rattle.std.specs.List.{AllByRecursion};
 ghost use Rattle.mseed_steim.specs.declared.scheme.Scheme.TheVariants.{Two};
 ghost use Rattle.mseed_steim.specs.private.Ahead.{IsAhead};
+ghost use Rattle.mseed_steim.specs.private.Packed.{IsRunPacked};
 ghost use Rattle.mseed_steim.specs.Frames.{code_at, data_words, word_at, word_count};
 ghost use Rattle.mseed_steim.specs.Packing.{IsEmptyWord, IsFarthest, IsFewest, IsFirstTooLarge, IsFullest};
 ghost use Rattle.mseed_steim.specs.Packing.{IsTooLargeAt, LeavesRoom, PacksRun};
@@ -90,36 +91,12 @@ fn with_code(codes: u32, code: u8, shift: u32) -> u32
     codes | u32::from(code) << shift
 }
 
-/// Packs differences into frames, from the first on: each data word in turn takes the largest number of
-/// those that are left, until no difference or no word is left. X0 and Xn and all words behind are 0.
-///
-/// # Errors
-///
-/// `TooLargeAt` exactly where a difference is too large for Steim-2 and a word is left for it once those
-/// before it are packed, with the index of the first; what the frames hold is then open.
-pub fn pack_words(scheme: Scheme, diffs: &[i32], frames: &mut [u8]) -> Result<Packed, TooLargeAt>
+/// The same, by one relation, from which the clauses of [`pack_words`] follow.
+#[inline(always)]
+fn pack_run(scheme: Scheme, diffs: &[i32], frames: &mut [u8]) -> Result<Packed, TooLargeAt>
     requires some { 0 < length frames.old }
     requires whole { length frames.old % 64 ≡ 0 }
-    // The words in use hold the first `used` differences, each as many as any word can.
-    ensures packed { IfOk result
-        (λ p. PacksRun scheme (take p.words (data_words frames.new)) diffs.now (drop p.used diffs.now)) }
-    ensures spelled { IfOk result
-        (λ p. SpellsRun scheme (take p.words (data_words frames.new)) (take p.used diffs.now)) }
-    ensures inside { IfOk result (λ p. (p.used ≤ length diffs.now) × (p.words ≤ length (data_words frames.new))) }
-    // All differences are used, or all words.
-    ensures whole { IfOk result (λ p. (p.used ≡ length diffs.now) ⊎ (p.words ≡ length (data_words frames.new))) }
-    // All else is 0: the words behind, X0 and Xn, and the codes of words that hold no differences.
-    ensures behind { IfOk result (λ p. AllByRecursion IsEmptyWord (drop p.words (data_words frames.new))) }
-    ensures constants { IfOk result (λ _. (word_at frames.new 1 ≡ 0) × (word_at frames.new 2 ≡ 0)) }
-    ensures codes { IfOk result (λ _. (k : ℕ) → k < word_count frames.new → (k < 3) ⊎ (k % 16 ≡ 0)
-        → code_at frames.new k ≡ 0) }
-    // In Steim-2 no fewer words spell those that are used, and no list of as many words comes further.
-    ensures fewest { IfOk result (λ p. scheme ≡ Two → IsFewest (take p.used diffs.now) p.words) }
-    ensures farthest { IfOk result (λ p. scheme ≡ Two → IsFarthest diffs.now p.words p.used) }
-    // It's refused exactly where a word is left for a difference that no word holds.
-    ensures refused { (i : ℕ)
-        → (result ≡ Err (record { index = i })) ↔ (IsFirstTooLarge scheme diffs.now i
-        × LeavesRoom scheme (take i diffs.now) (length (data_words frames.new))) }
+    ensures { IsRunPacked scheme diffs.now frames.new result }
 {
     frames.fill(0);
     let mut used = 0;
@@ -154,6 +131,44 @@ pub fn pack_words(scheme: Scheme, diffs: &[i32], frames: &mut [u8]) -> Result<Pa
     }
     write_word(frames, head, codes);
     Ok(Packed { used, words })
+}
+
+/// Packs differences into frames, from the first on: each data word in turn takes the largest number of
+/// those that are left, until no difference or no word is left. X0 and Xn and all words behind are 0.
+///
+/// # Errors
+///
+/// `TooLargeAt` exactly where a difference is too large for Steim-2 and a word is left for it once those
+/// before it are packed, with the index of the first; what the frames hold is then open.
+pub fn pack_words(scheme: Scheme, diffs: &[i32], frames: &mut [u8]) -> Result<Packed, TooLargeAt>
+    requires some { 0 < length frames.old }
+    requires whole { length frames.old % 64 ≡ 0 }
+    // The words in use hold the first `used` differences, each as many as any word can.
+    ensures packed { IfOk result
+        (λ p. PacksRun scheme (take p.words (data_words frames.new)) diffs.now (drop p.used diffs.now)) }
+    ensures spelled { IfOk result
+        (λ p. SpellsRun scheme (take p.words (data_words frames.new)) (take p.used diffs.now)) }
+    ensures inside { IfOk result (λ p. (p.used ≤ length diffs.now) × (p.words ≤ length (data_words frames.new))) }
+    // All differences are used, or all words.
+    ensures whole { IfOk result (λ p. (p.used ≡ length diffs.now) ⊎ (p.words ≡ length (data_words frames.new))) }
+    // All else is 0: the words behind, X0 and Xn, and the codes of words that hold no differences.
+    ensures behind { IfOk result (λ p. AllByRecursion IsEmptyWord (drop p.words (data_words frames.new))) }
+    ensures constants { IfOk result (λ _. (word_at frames.new 1 ≡ 0) × (word_at frames.new 2 ≡ 0)) }
+    ensures codes { IfOk result (λ _. (k : ℕ) → k < word_count frames.new → (k < 3) ⊎ (k % 16 ≡ 0)
+        → code_at frames.new k ≡ 0) }
+    // In Steim-2 no fewer words spell those that are used, and no list of as many words comes further.
+    ensures fewest { IfOk result (λ p. scheme ≡ Two → IsFewest (take p.used diffs.now) p.words) }
+    ensures farthest { IfOk result (λ p. scheme ≡ Two → IsFarthest diffs.now p.words p.used) }
+    // It's refused exactly where a word is left for a difference that no word holds.
+    ensures refused { (i : ℕ)
+        → (result ≡ Err (record { index = i })) ↔ (IsFirstTooLarge scheme diffs.now i
+        × LeavesRoom scheme (take i diffs.now) (length (data_words frames.new))) }
+{
+    // A body for each scheme, with its own table and lanes.
+    match scheme {
+        Scheme::One => pack_run(Scheme::One, diffs, frames),
+        Scheme::Two => pack_run(Scheme::Two, diffs, frames),
+    }
 }
 
 /// The fewest words of Steim-2 that hold the differences, 0 where there are none.

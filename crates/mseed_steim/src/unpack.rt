@@ -20,7 +20,7 @@ use crate::lanes::{Rows, planes, rows_of, sum_of, tally};
 use crate::scheme::Scheme;
 
 /// The lanes of a word: no fewer than it has differences.
-const LANES: usize = 8;
+pub(crate) const LANES: usize = 8;
 
 /// Those of a word of Steim-1, as far as its differences have at most 16 bits.
 const LANES_ONE: usize = 4;
@@ -117,7 +117,7 @@ fn unpacking_of(scheme: Scheme, row: usize) -> &'static Unpacking
 
 /// How many lanes a word has.
 #[inline(always)]
-fn lanes_of(scheme: Scheme) -> usize
+pub(crate) fn lanes_of(scheme: Scheme) -> usize
     ensures { result ≡ lanes_of scheme }
 {
     match scheme {

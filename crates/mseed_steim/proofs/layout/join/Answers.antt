@@ -1,6 +1,7 @@
 use Rattle.std.proofs.Common.{◌≡◌, ◌<◌, get_or, length, pos, rules, w32, of_z, FitsSigned, arith}
 use Rattle.std.proofs.lemmas.Int.{to_z-of_z}
-use Rattle.mseed_steim.proofs.Rows.{row_is}
+use Rattle.mseed_steim.proofs.Rows.{row_is, row_lanes}
+use Rattle.mseed_steim.proofs.FrameUnpacked.{lanes_few}
 use Rattle.mseed_steim.proofs.Joins.{placed_none, placed_next, placed_all}
 use Rattle.mseed_steim.proofs.layout.join.Goals as goal
 
@@ -12,18 +13,20 @@ loop-index-preserved c =
     let i = c.loop-index.index in
     let layout = c.args.layout.now in
     let is = (row_is c.args.scheme layout.row.count layout.row c.requires.layout.0).0 in
-    let inside : i < length c.args.diffs.now = omega (arith, c.loop-index-test.true, c.requires.eight) in
+    let lanes = lanes_few c.args.scheme in
+    let lane : i < 8 = omega (arith, c.loop-index-test.true, c.lanes_of-index-end.ensures, lanes) in
+    let inside : i < length c.args.diffs.now = omega (arith, lane, c.requires.eight) in
     let fits : FitsSigned w32 (get_or c.args.diffs.now i (pos 0)) = search rules in
     let digit : c.cast_unsigned.result ≡ of_z w32 (get_or c.args.diffs.now i (pos 0)) =
     rw to_z-of_z at c.cast_unsigned.ensures in
     placed_next layout.row.width layout.row.count i c.args.diffs.now c.loop-index.word c.cast_unsigned.result
     layout.mask (get_or layout.places i 0) is.wide is.narrow is.room
     (omega (arith, is.most, c.requires.eight)) c.loop-index.invariant fits digit c.requires.layout.1
-    (c.requires.layout.3 i c.loop-index-test.true)
+    (c.requires.layout.3 i lane)
 
 pub returns : goal.returns
 returns c =
     let layout = c.args.layout.now in
-    let is = (row_is c.args.scheme layout.row.count layout.row c.requires.layout.0).0 in
+    let enough = row_lanes c.args.scheme layout.row.count layout.row c.requires.layout.0 in
     placed_all layout.row.width layout.row.count c.args.diffs.now c.loop-index.index c.loop-index.word
-    (omega (arith, c.loop-index-test.false, is.most)) c.loop-index.invariant
+    (omega (arith, c.loop-index-test.false, c.lanes_of-index-end.ensures, enough)) c.loop-index.invariant

@@ -1,7 +1,7 @@
 use Rattle.std.proofs.Common.{◌≡◌, ◌≤◌, ◌+◌, ◌-◌, ◌*◌, ◌%◌}
 use Rattle.mseed_steim.specs.private.Ahead.{Tells}
 use Rattle.mseed_steim.proofs.Coding.{Coding}
-use Rattle.mseed_steim.proofs.pack.pack_words.Given as goal
+use Rattle.mseed_steim.proofs.pack.pack_run.Given as goal
 
 abbrev pub invariant-loop-index : goal.invariant-loop-index
 invariant-loop-index l = record {
