@@ -86,17 +86,17 @@ walk_told Is bytes offset old rows p needed w =
 
 -- what ends a walk, at the bytes from the next record's offset on
 pub ends_at : (stop : Stop) (bytes ahead : List ℕ) (rows room : ℕ) (p : Progress) → ahead ≡ drop p.offset bytes
-    → IsStopAt ahead stop → EndsWalk stop bytes rows room p
-ends_at Rows bytes ahead rows room p e s = absurd s
-ends_at (Room places) bytes ahead rows room p e s = absurd s
-ends_at (Short k) bytes ahead rows room p e s = subst (λ (xs : List ℕ). IsStopAt xs (Short k)) e s
-ends_at (Not fault) bytes ahead rows room p e s = subst (λ (xs : List ℕ). IsStopAt xs (Not fault)) e s
+    → p.rows < rows → IsStopAt ahead stop → EndsWalk stop bytes rows room p
+ends_at Rows bytes ahead rows room p e more s = absurd s
+ends_at (Room places) bytes ahead rows room p e more s = absurd s
+ends_at (Short k) bytes ahead rows room p e more s = (more, subst (λ (xs : List ℕ). IsStopAt xs (Short k)) e s)
+ends_at (Not fault) bytes ahead rows room p e more s = (more, subst (λ (xs : List ℕ). IsStopAt xs (Not fault)) e s)
 
 pub ends_told : (stop : Stop) (bytes : List ℕ) (rows room : ℕ) (p : Progress) (needed : ℕ)
     → EndsWalk stop bytes rows room p
     → EndsWalk stop bytes rows room (record { rows = p.rows; offset = p.offset; filled = p.filled; needed = needed })
 ends_told Rows bytes rows room p needed e = e
 ends_told (Room places) bytes rows room p needed e =
-    record { view = e.view; at = e.at; count = e.count; fewer = e.fewer }
+    (e.0, record { view = e.1.view; at = e.1.at; count = e.1.count; fewer = e.1.fewer })
 ends_told (Short k) bytes rows room p needed e = e
 ends_told (Not fault) bytes rows room p needed e = e

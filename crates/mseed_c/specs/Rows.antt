@@ -121,12 +121,13 @@ pub record LacksPlaces (bytes : List ℕ) (room : ℕ) (p : Progress) (places : 
   pub count : places ≡ count_of view
   pub fewer : room < p.filled + places
 
--- why no row more was written, where there are so many places for rows, and so many for samples
+-- Why no row more was written, where there are so many places for rows, and so many for samples: there is no place for
+-- a row, or else what begins the bytes from the offset on says why.
 abbrev pub EndsWalk : Stop → List ℕ → ℕ → ℕ → Progress → Type 0
 EndsWalk Rows bytes rows room p = p.rows ≡ rows
-EndsWalk (Room places) bytes rows room p = LacksPlaces bytes room p places
-EndsWalk (Short k) bytes rows room p = IsStopAt (drop p.offset bytes) (Short k)
-EndsWalk (Not fault) bytes rows room p = IsStopAt (drop p.offset bytes) (Not fault)
+EndsWalk (Room places) bytes rows room p = (p.rows < rows) × LacksPlaces bytes room p places
+EndsWalk (Short k) bytes rows room p = (p.rows < rows) × IsStopAt (drop p.offset bytes) (Short k)
+EndsWalk (Not fault) bytes rows room p = (p.rows < rows) × IsStopAt (drop p.offset bytes) (Not fault)
 
 -- by the code: all bytes were gone through, or there's a reason why no more were, with its number
 pub data IsEnd (bytes : List ℕ) (rows room : ℕ) (p : Progress) : ℕ → Type 0 where

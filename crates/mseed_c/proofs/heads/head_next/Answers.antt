@@ -10,7 +10,7 @@ use Rattle.mseed_c.proofs.heads.head_next.Goals as goal
 pub returns-in-Err-clause-stopped : goal.returns-in-Err-clause-stopped
 returns-in-Err-clause-stopped c =
     ends_at c.in-Err.stop c.args.bytes.now _ (length c.args.rows.now) 18446744073709551615 c.args.progress.now
-    (take_rest c.args.bytes.now c.args.progress.now.offset) c.in-Err.ensures.stop
+    (take_rest c.args.bytes.now c.args.progress.now.offset) c.requires.more c.in-Err.ensures.stop
 
 pub returns-clause-heads : goal.returns-clause-heads
 returns-clause-heads c = λ offset first h.

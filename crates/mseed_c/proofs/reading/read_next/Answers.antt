@@ -10,7 +10,7 @@ use Rattle.mseed_c.proofs.reading.read_next.Goals as goal
 pub returns-in-Err-clause-stopped : goal.returns-in-Err-clause-stopped
 returns-in-Err-clause-stopped c =
     ends_at c.in-Err.stop c.args.bytes.now _ (length c.args.rows.now) (length c.args.out.now) c.args.progress.now
-    (take_rest c.args.bytes.now c.args.progress.now.offset) c.in-Err.ensures.stop
+    (take_rest c.args.bytes.now c.args.progress.now.offset) c.requires.more c.in-Err.ensures.stop
 
 pub returns-in-Err-fill_row-clause-read : goal.returns-in-Err-fill_row-clause-read
 returns-in-Err-fill_row-clause-read c = λ offset first r.
