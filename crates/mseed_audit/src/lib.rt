@@ -30,7 +30,7 @@ pub use law::{
     channels_have_verdicts, continuous_exactly, findings_told, one_audit, one_bad_step,
     one_finding, one_list_of_verdicts, one_series, one_telling, one_verdict,
 };
-pub use line::{Line, fault_line_of, line_of, name_of};
+pub use line::{Line, Name, fault_line_of, line_of, name_of};
 pub use name::push_name;
 pub use pieces::{Piece, push_count, push_pieces};
 pub use tail::Tail;

@@ -1,5 +1,5 @@
 //! A line that is built without the heap.
-ghost use Rattle.std.specs.Prelude.{◌≡◌, ◌≤◌, ◌+◌, ◌++◌, length, codes, decimal};
+ghost use Rattle.std.specs.Prelude.{◌≡◌, ◌≤◌, ◌<◌, ◌+◌, ◌++◌, length, codes, decimal};
 ghost use Rattle.mseed_audit.specs.Pieces.{piece_text, pieces_text};
 ghost use Rattle.mseed_audit.specs.Text.{code_text, name_text, fault_line, frame_words};
 
@@ -12,6 +12,9 @@ use mseed_stream::StreamFault;
 
 /// A line, or a piece of one.
 pub type Line = ArrayVec<u8, 128>;
+
+/// A channel's name: four codes, of 12 bytes at the most, and what stands between them.
+pub type Name = ArrayVec<u8, 16>;
 
 /// The pieces, one behind another.
 pub fn line_of(pieces: &[Piece<'_>]) -> Line
@@ -49,29 +52,37 @@ fn put(line: &mut Line, bytes: &[u8])
 
 /// A channel's name, as [`push_name`](crate::push_name) adds it.
 #[inline(always)]
-pub fn name_of(codes: &Codes) -> Line
+pub fn name_of(codes: &Codes) -> Name
     ensures text { result.items ≡ name_text codes.now }
     ensures most { length result.items ≤ 15 }
 {
     let mut name = ArrayVec::new();
     put_code(&mut name, codes.network());
-    put(&mut name, b"_");
+    put_mark(&mut name);
     put_code(&mut name, codes.station());
-    put(&mut name, b"_");
+    put_mark(&mut name);
     put_code(&mut name, codes.location());
-    put(&mut name, b"_");
+    put_mark(&mut name);
     put_code(&mut name, codes.channel());
     name
 }
 
-/// Puts a code without its trailing spaces and NULs behind a line.
-fn put_code(line: &mut Line, code: &[u8])
-    requires { length line.old.items + length code.now ≤ 128 }
-    ensures text { line.new.items ≡ line.old.items ++ code_text code.now }
-    ensures most { length line.new.items ≤ length line.old.items + length code.now }
+/// Puts what stands between two codes behind a name.
+fn put_mark(name: &mut Name)
+    requires { length name.old.items < 16 }
+    ensures { name.new.items ≡ name.old.items ++ codes "_" }
+{
+    name.push(b'_');
+}
+
+/// Puts a code without its trailing spaces and NULs behind a name.
+fn put_code(name: &mut Name, code: &[u8])
+    requires { length name.old.items + length code.now ≤ 16 }
+    ensures text { name.new.items ≡ name.old.items ++ code_text code.now }
+    ensures most { length name.new.items ≤ length name.old.items + length code.now }
 {
     for byte in trimmed(code) {
-        line.push(printed(*byte));
+        name.push(printed(*byte));
     }
 }
 

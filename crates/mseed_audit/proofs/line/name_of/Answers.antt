@@ -11,12 +11,12 @@ put_code-requires-3 c =
       code_fits key _ 0 2 c.network.ensures,
       code_fits key _ 2 7 c.station.ensures,
       code_fits key _ 7 9 c.location.ensures,
-      one_longer _ _ 95 c.put.ensures,
-      one_longer _ _ 95 c.put-2.ensures,
+      one_longer _ _ 95 c.put_mark.ensures,
+      one_longer _ _ 95 c.put_mark-2.ensures,
     )
 
-pub put-requires-3 : goal.put-requires-3
-put-requires-3 c =
+pub put_mark-requires-3 : goal.put_mark-requires-3
+put_mark-requires-3 c =
     let key = c.args.codes.now in
     omega (
       arith,
@@ -24,8 +24,8 @@ put-requires-3 c =
       code_fits key _ 0 2 c.network.ensures,
       code_fits key _ 2 7 c.station.ensures,
       code_fits key _ 7 9 c.location.ensures,
-      one_longer _ _ 95 c.put.ensures,
-      one_longer _ _ 95 c.put-2.ensures,
+      one_longer _ _ 95 c.put_mark.ensures,
+      one_longer _ _ 95 c.put_mark-2.ensures,
     )
 
 pub put_code-requires-4 : goal.put_code-requires-4
@@ -38,9 +38,9 @@ put_code-requires-4 c =
       code_fits key _ 2 7 c.station.ensures,
       code_fits key _ 7 9 c.location.ensures,
       code_fits key _ 9 12 c.channel.ensures,
-      one_longer _ _ 95 c.put.ensures,
-      one_longer _ _ 95 c.put-2.ensures,
-      one_longer _ _ 95 c.put-3.ensures,
+      one_longer _ _ 95 c.put_mark.ensures,
+      one_longer _ _ 95 c.put_mark-2.ensures,
+      one_longer _ _ 95 c.put_mark-3.ensures,
     )
 
 pub returns-clause-most : goal.returns-clause-most
@@ -53,7 +53,7 @@ returns-clause-most c =
       code_fits key _ 2 7 c.station.ensures,
       code_fits key _ 7 9 c.location.ensures,
       code_fits key _ 9 12 c.channel.ensures,
-      one_longer _ _ 95 c.put.ensures,
-      one_longer _ _ 95 c.put-2.ensures,
-      one_longer _ _ 95 c.put-3.ensures,
+      one_longer _ _ 95 c.put_mark.ensures,
+      one_longer _ _ 95 c.put_mark-2.ensures,
+      one_longer _ _ 95 c.put_mark-3.ensures,
     )
