@@ -14,7 +14,7 @@ use Rattle.mseed_audit.specs.declared.finding.Why.TheVariants.{RateChange}
 use Rattle.mseed_audit.specs.Judging.{time_fault_of, rate_in, rate_unless, known_rate, why_between, why_from, why_after}
 use Rattle.mseed_audit.specs.Judging.{IsFound, after, step_in, why_by}
 use Rattle.mseed_audit.specs.Audit.{IsTail, break_by}
-use Rattle.mseed_audit.specs.private.Kept.{IsTailBefore}
+use Rattle.mseed_audit.specs.private.Kept.{IsTailBefore, break_after}
 
 pub none_unless : {X : Type 0} (x : Option X) → ¬ (IsSome x) → x ≡ None
 none_unless None h = refl
@@ -52,6 +52,12 @@ pub after_some : (t next : Tail) (before : Option View) (v : View) → IsTailBef
 after_some t next None v h k = absurd h
 after_some t next (Some b) v h k =
     ap (λ (rate : Option Ratio). why_from b rate v next.rate) h.rate ∙ sym (between t next b v h k)
+
+-- whether the one before has a rate or not
+pub after_either : (before : Option Tail) (next : Tail) (b : Option View) (v : View) → IsTailBefore before b
+    → IsTail next v → why_after b v next.rate ≡ break_after before next
+after_either None next b v h k = after_none b v next.rate h
+after_either (Some t) next b v h k = after_some t next b v h k
 
 -- its samples are whole
 pub found_whole : (before : Option View) (v : View) (next : Ratio) (s : List ℤ) (why : Option Why)

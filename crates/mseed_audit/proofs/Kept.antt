@@ -207,3 +207,11 @@ stands_verdict c ps s = verdict_by_findings c.findings c.records c.samples ps s.
 pub tail_before : (t : Option Tail) (v : View) → IsTailOf t v → IsTailBefore t (Some v)
 tail_before None v h = h
 tail_before (Some t) v h = h
+
+-- what was kept of the last record
+pub kept_before : (findings : Findings) (tail : Option Tail) (c : Channel) (ps : List Placed) (s : Stands c ps)
+    → c.findings ≡ findings → tail ≡ tail_in findings → IsTailBefore tail (Some s.last.view)
+kept_before findings tail c ps s is e =
+    subst (λ (t : Option Tail). IsTailBefore t (Some s.last.view)) (sym e)
+    (subst (λ (f : Findings). IsTailBefore (tail_in f) (Some s.last.view)) is
+    (tail_before (tail_in c.findings) s.last.view s.tail))

@@ -1,6 +1,6 @@
 -- What is told of records, with one more record.
 use Rattle.std.proofs.Common.{◌≡◌, ℕ, ◌+◌, ◌++◌, List, [], ◌∷◌, length, Option, refl, sym, ap, ◌∙◌, subst, append_assoc}
-use Rattle.std.proofs.Common.{append-nil, arith, Result, Ok, Err, OnOk}
+use Rattle.std.proofs.Common.{append-nil, arith, Result, Ok, Err, OnOk, None}
 use Rattle.mseed_audit.specs.declared.finding.Why.{Why}
 use Rattle.mseed_audit.specs.declared.archive.Lines.{Lines}
 use Rattle.mseed_audit.specs.declared.archive.Lines.TheVariants.{OfVerdicts, OfRecords}
@@ -68,4 +68,19 @@ told_no_line lines added a number why text is e found = record {
   more = told_at (placed_at a number) why;
   told = λ earlier before. told_more added a number why earlier e before found;
   text_is = sym (append-nil text) ∙ ap (λ (l : Lines). text ++ lines_by l (told_at (placed_at a number) why)) (sym is);
+}
+
+no_lines : (lines : Lines) → lines_by lines [] ≡ []
+no_lines OfVerdicts = refl
+no_lines OfRecords = refl
+
+-- nothing is found of it
+pub told_nothing : (lines : Lines) (added : List Added) (a : Added) (number : ℕ) (why : Option Why) (text : List ℕ)
+    → why ≡ None → number ≡ length added + 1
+    → IsFoundBehind (numbered 1 added) a.view why → IsToldMore lines added (added ++ a ∷ []) text text
+told_nothing lines added a number why text is e found = record {
+  more = told_at (placed_at a number) why;
+  told = λ earlier before. told_more added a number why earlier e before found;
+  text_is = sym (append-nil text) ∙ ap (λ (bytes : List ℕ). text ++ bytes)
+      (sym (ap (λ (w : Option Why). lines_by lines (told_at (placed_at a number) w)) is ∙ no_lines lines));
 }

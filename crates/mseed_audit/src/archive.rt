@@ -209,6 +209,9 @@ fn add_told<A: Allocator + Copy>(
     ensures number { OnOk result (audit.new.added ≡ audit.old.added + 1) }
 {
     let why = audit.add_judged(view, offset)?;
+    let Some(_) = why else {
+        return Ok(());
+    };
     match lines {
         Lines::OfVerdicts => Ok(()),
         Lines::OfRecords => push_told(text, view, audit.added(), offset, why),

@@ -1,5 +1,5 @@
 //! What is kept of a channel while its records come.
-ghost use Rattle.std.specs.Prelude.{◌≡◌, ◌<◌, ◌≤◌, ◌+◌, ◌^◌, ℕ, List, [], ◌∷◌, ◌++◌, Option, Some};
+ghost use Rattle.std.specs.Prelude.{◌≡◌, ◌<◌, ◌≤◌, ◌+◌, ◌^◌, ℕ, List, [], ◌∷◌, ◌++◌, Option, Some, IfSome};
 ghost use Rattle.mseed_record.specs.View.{View};
 ghost use Rattle.mseed_record.specs.Viewing.{view_of};
 ghost use Rattle.mseed_steim.specs.Reading.{count_of};
@@ -116,9 +116,29 @@ impl Channel {
         (channel, why)
     }
 
-    /// One more record of the channel. Answers what is found of it.
+    /// One more record of the channel. Answers what is found of it. Where nothing is, that is known by fewer steps.
     #[inline(always)]
     pub(crate) fn add(&mut self, view: &RecordView, number: u64, offset: u64) -> Option<Why>
+        requires some { 0 < count_of (view_of view.now) }
+        requires bounded { IsBounded (2 ^ 40) self.old }
+        ensures stands { (ps : List Placed) → Stands self.old ps
+            → Stands self.new (ps ++ record { view = view_of view.now; offset = offset; number = number } ∷ []) }
+        ensures bounded { (n : ℕ) → IsBounded n self.old → IsBounded (n + 1) self.new }
+        ensures found { (ps : List Placed) → Stands self.old ps → IsFound (last_of None ps) (view_of view.now) result }
+    {
+        let Some(end) = sound_end(self.findings.tail(), view) else {
+            return self.add_judged(view, number, offset);
+        };
+        self.records += 1;
+        self.samples += u64::from(end.samples);
+        self.findings.end_with(end);
+        None
+    }
+
+    /// The same, of any record.
+    #[cold]
+    #[inline(never)]
+    fn add_judged(&mut self, view: &RecordView, number: u64, offset: u64) -> Option<Why>
         requires some { 0 < count_of (view_of view.now) }
         requires bounded { IsBounded (2 ^ 40) self.old }
         ensures stands { (ps : List Placed) → Stands self.old ps
@@ -230,6 +250,28 @@ impl Judged {
             None => Judged::Sound(tail),
             Some(why) => Judged::Faulty(why, Some(tail)),
         }
+    }
+}
+
+/// The end of a record of which nothing is found, by the end of the channel's record before it. Where there is none,
+/// nothing is said.
+#[inline(always)]
+fn sound_end(before: Option<Tail>, view: &RecordView) -> Option<Tail>
+    requires { 0 < count_of (view_of view.now) }
+    ensures tail { IfSome result (λ tail. IsTailOf (Some tail) (view_of view.now)) }
+    ensures sound { IfSome result (λ tail. (b : Option View) → IsTailBefore before b
+        → IsFound b (view_of view.now) None) }
+{
+    let Ok(tail) = Tail::of(view) else {
+        return None;
+    };
+    let Ok(_) = check_samples(view) else {
+        return None;
+    };
+    if tail.follows(before) {
+        Some(tail)
+    } else {
+        None
     }
 }
 

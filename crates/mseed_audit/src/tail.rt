@@ -1,9 +1,10 @@
 //! The end of a record, by which the next one is judged.
-ghost use Rattle.std.specs.Prelude.{◌≡◌, Option, Some, None, IfOk, IfErr};
+ghost use Rattle.std.specs.Prelude.{◌≡◌, Option, Some, None, IfOk, IfErr, IsTrue};
 ghost use Rattle.mseed_record.specs.View.{View};
 ghost use Rattle.mseed_record.specs.Viewing.{view_of};
 ghost use Rattle.mseed_audit.specs.Judging.{known_rate, IsFound};
 ghost use Rattle.mseed_audit.specs.Audit.{IsTail, break_by};
+ghost use Rattle.mseed_audit.specs.private.Kept.{break_after};
 
 use crate::finding::Why;
 use mseed_record::{Leap, RecordView};
@@ -49,6 +50,17 @@ impl Tail {
             rate,
             leap: view.leap(),
         })
+    }
+
+    /// Whether the record that ends so follows the one before it, if there is one whose end is known.
+    #[inline(always)]
+    pub(crate) fn follows(&self, before: Option<Tail>) -> bool
+        ensures { IsTrue result → break_after before self.now ≡ None }
+    {
+        match before {
+            Some(before) => before.break_to(self.start, self.rate).is_none(),
+            None => true,
+        }
     }
 
     /// Why a record of this start and rate doesn't follow one that ends so, if it doesn't.

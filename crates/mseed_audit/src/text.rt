@@ -136,6 +136,8 @@ fn push_broken<A: Allocator>(
 }
 
 /// Adds the line of a record, if something is found of it. Where memory is refused, a part of it may have been added.
+#[cold]
+#[inline(never)]
 pub(crate) fn push_told<A: Allocator>(
     text: &mut Vec<u8, A>,
     view: &RecordView,

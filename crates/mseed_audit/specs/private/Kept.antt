@@ -18,7 +18,7 @@ use Rattle.mseed_audit.specs.declared.finding.Why.{Why}
 use Rattle.mseed_audit.specs.declared.roster.Place.{Place}
 use Rattle.mseed_audit.specs.declared.tail.Tail.{Tail}
 use Rattle.mseed_audit.specs.declared.verdict.Verdict.{Verdict}
-use Rattle.mseed_audit.specs.Audit.{IsTail, count_in}
+use Rattle.mseed_audit.specs.Audit.{IsTail, count_in, break_by}
 use Rattle.mseed_audit.specs.Channels.{same_key}
 use Rattle.mseed_audit.specs.Judging.{known_rate, rate_in}
 
@@ -38,6 +38,11 @@ IsTailBefore None None = ⊤
 IsTailBefore None (Some b) = known_rate b ≡ None
 IsTailBefore (Some t) None = ⊥
 IsTailBefore (Some t) (Some b) = IsTail t b
+
+-- why a record that ends so doesn't follow the one before it, if there is one whose end is known
+abbrev pub break_after : Option Tail → Tail → Option Why
+break_after None next = None
+break_after (Some t) next = break_by t next.start next.rate
 
 -- with a further record that has no finding and ends so
 abbrev pub with_end : Findings → Tail → Findings
