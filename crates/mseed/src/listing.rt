@@ -99,8 +99,26 @@ fn push_payload<A: Allocator>(text: &mut Vec<u8, A>, view: &RecordView) -> Resul
     ensures { OnOk result (text.new.items ≡ text.old.items ++ payload_words (view_of view.now)) }
 {
     push_counted(text, b" encoding ", u64::from(view.encoding()))?;
-    text.extend_from_slice(order_word(view.payload_order()))?;
-    text.extend_from_slice(last_words(view.has_rate_blockette()))
+    push_last(text, view.payload_order(), view.has_rate_blockette())
+}
+
+/// Adds a payload's order, and the end of a line. The words' length is known where they stand.
+fn push_last<A: Allocator>(
+    text: &mut Vec<u8, A>,
+    order: Order,
+    has_rate_blockette: bool,
+) -> Result<(), AllocError>
+    ensures { OnOk result (text.new.items ≡ text.old.items ++ (order_word order ++ last_words has_rate_blockette)) }
+{
+    match (order, has_rate_blockette) {
+        (Order::Big, false) => text.extend_from_slice(b" big\n"),
+        (Order::Little, false) => text.extend_from_slice(b" little\n"),
+        (Order::Big, true) => text.extend_from_slice(b" big blockette100\n"),
+        (Order::Little, true) => {
+            text.extend_from_slice(b" little")?;
+            text.extend_from_slice(b" blockette100\n")
+        }
+    }
 }
 
 /// Adds words and the digits of a number. The words' length is known where this stands.
@@ -127,26 +145,5 @@ fn time_fault_words(fault: TimeFault) -> &'static [u8]
         TimeFault::Minute => b"fault minute",
         TimeFault::Second => b"fault second",
         TimeFault::Fraction => b"fault fraction",
-    }
-}
-
-/// The word of a payload's order.
-fn order_word(order: Order) -> &'static [u8]
-    ensures { result.now ≡ order_word order }
-{
-    match order {
-        Order::Big => b" big",
-        Order::Little => b" little",
-    }
-}
-
-/// The end of a line, by whether there is a blockette 100.
-fn last_words(has_rate_blockette: bool) -> &'static [u8]
-    ensures { result.now ≡ last_words has_rate_blockette }
-{
-    if has_rate_blockette {
-        b" blockette100\n"
-    } else {
-        b"\n"
     }
 }
