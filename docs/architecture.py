@@ -38,7 +38,7 @@ CRATES = {
 }
 
 # Crates of tests and examples, on which nothing stands.
-LEFT_OUT = ["examples", "mseed_tests"]
+LEFT_OUT = ["examples", "mseed_tests", "slink_tests"]
 
 # Each step of a way: the crate, and its calls.
 WAYS = {

@@ -18,7 +18,7 @@ from documents.sources import Sources, files_below, text_of
 from driver.program import CRATES
 
 # The libraries that nobody calls, and the one that C calls, which its header documents.
-WITHOUT_CALLERS = ["examples", "mseed_tests", "mseed_c"]
+WITHOUT_CALLERS = ["examples", "mseed_tests", "slink_tests", "mseed_c"]
 BLOCK = re.compile(r"^```rust\n(.*?)^```$", re.MULTILINE | re.DOTALL)
 EXAMPLES = re.compile(r"\]\((\.\./examples/src/\w+\.rt)\)")
 # Of an enum its variants, and the fields of these, each on a line of its own.

@@ -1,5 +1,5 @@
-"""The tables in the tests of two crates are those that second programs make: a hundred words of Steim frames in
-mseed_steim, and a stream of command lines in slink_wire."""
+"""The tables in the tests of two crates are those that second programs make: a hundred words of Steim frames for
+mseed_steim, and a stream of command lines for slink_wire."""
 
 from __future__ import annotations
 
@@ -12,10 +12,10 @@ from models import command_lines, steim_words
 
 def rows() -> Cases:
     """All of them."""
-    table = steim_words.plain((CRATES / "mseed_steim/src/tests/words.rt").read_text(encoding="utf-8"))
+    table = steim_words.plain((CRATES / "mseed_tests/src/steim/words.rt").read_text(encoding="utf-8"))
     for row in steim_words.rows():
         yield holds(f"the words of frames have {row}", steim_words.plain(row) in table, "no such row")
-    stream = re.sub(r"\s+", "", (CRATES / "slink_wire/src/tests/stream.rt").read_text(encoding="utf-8"))
+    stream = re.sub(r"\s+", "", (CRATES / "slink_tests/src/wire/stream.rt").read_text(encoding="utf-8"))
     pieces, commands = command_lines.rows()
     for name, lines in (("pieces", pieces), ("commands", commands)):
         text = re.sub(r"\s+", "", ",".join(lines) + ",")

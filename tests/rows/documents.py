@@ -53,7 +53,7 @@ WRONG = [
     "| promise | call | definition | fails |\n|---|---|---|---|\n"
     "| a | b | c | [`another_name`](crates/mseed_time/must-fail/half_excluded.edit) |",
     "| promise | call | definition | fails |\n|---|---|---|---|\n"
-    "| a | b | c | test [`no_test`](crates/slink_wire/src/tests.rt) |",
+    "| a | b | c | test [`no_test`](crates/slink_tests/src/wire.rt) |",
     "`one_packing` of `mseed_time`",
     "`make nothing`",
     "`mseed nothing`",
@@ -69,7 +69,7 @@ RIGHT = [
     "| a | [`Rate::of`](crates/mseed_time/src/rate.rt) (`ok`, `value`); [`Rate::num`](crates/mseed_time/src/rate.rt) "
     "| [`ratio_of`](crates/mseed_time/specs/Ratios.antt) "
     "| law, [`half_excluded`](crates/mseed_time/must-fail/half_excluded.edit), "
-    "test [`replies`](crates/slink_wire/src/tests.rt), [`readme.py`](tests/rows/readme.py) |",
+    "test [`replies`](crates/slink_tests/src/wire.rt), [`readme.py`](tests/rows/readme.py) |",
     "`one_packing` of `mseed_pack`, `truncated <bytes>`, `make audit FILE=..`",
 ]
 

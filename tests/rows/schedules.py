@@ -23,8 +23,8 @@ from models.schedules import schedule, two_stations
 
 # Random schedules.
 COUNT = 3000
-TESTS = CRATES / "slink_model" / "out" / "slink_model_tests"
-ROW = "tests::schedule::goes_on_behind_the_last_record"
+TESTS = CRATES / "slink_tests" / "out" / "slink_tests_tests"
+ROW = "model::schedule::goes_on_behind_the_last_record"
 
 
 def schedules() -> Cases:
@@ -52,7 +52,7 @@ def refused_schedules() -> Cases:
     allocates for its lists of steps and records too: these are the test's own, and not of a schedule."""
     refusing = library("refuse_memory")
     if refusing is None or not TESTS.exists():
-        wants = COMPILER if refusing is None else "what the gate leaves, crates/slink_model/out/slink_model_tests"
+        wants = COMPILER if refusing is None else "what the gate leaves, crates/slink_tests/out/slink_tests_tests"
         yield Skipped("schedules with allocations refused", wants)
         return
 

@@ -14,8 +14,6 @@ mod name;
 mod pieces;
 mod roster;
 mod tail;
-#[cfg(test)]
-mod tests;
 mod text;
 mod verdict;
 

@@ -17,8 +17,6 @@ mod parts;
 mod reader;
 mod reading;
 mod reasons;
-#[cfg(test)]
-mod tests;
 mod text;
 mod writing;
 

@@ -5,8 +5,6 @@ mod border;
 mod joining;
 mod law;
 mod part;
-#[cfg(test)]
-mod tests;
 
 pub use law::{findings_add_up, joined_in_turn, joining_laws, one_part, parts_add_up};
 pub use part::{JoinFault, Part};

@@ -16,8 +16,6 @@ mod restretching;
 mod standing;
 mod stretches_fault;
 mod stretching;
-#[cfg(test)]
-mod tests;
 mod trail;
 
 pub use channel::repack_channel;

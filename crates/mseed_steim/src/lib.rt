@@ -18,13 +18,9 @@ mod pack;
 mod put;
 mod read;
 mod ready;
-#[cfg(test)]
-mod reference;
 mod row;
 mod scheme;
 mod sum;
-#[cfg(test)]
-mod tests;
 mod unpack;
 mod walk;
 mod widen;

@@ -8,8 +8,6 @@ mod kept;
 mod relaying;
 mod schedule;
 mod stretch;
-#[cfg(test)]
-mod tests;
 mod world;
 
 pub use relaying::{RelayFault, relay};

@@ -11,8 +11,6 @@ mod packet;
 mod place;
 mod reply;
 mod request;
-#[cfg(test)]
-mod tests;
 mod words;
 
 pub use command::Command;

@@ -1,5 +1,0 @@
-use Rattle.mseed_stream.specs.Cutting.{IsAlong}
-use Rattle.mseed_audit.proofs.tests.cutting.refusals_before_record.Given as goal
-
-abbrev pub invariant-loop-refusals : goal.invariant-loop-refusals
-invariant-loop-refusals g l = IsAlong (g.R.Source.read l.source) l.cutter

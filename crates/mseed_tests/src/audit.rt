@@ -1,0 +1,12 @@
+//! Rows of the audit and of the crates below it: what no clause says and no script over the program sees.
+
+mod assembling;
+mod auditing;
+mod cutting;
+mod devices;
+mod framing;
+mod keeping;
+mod records;
+mod telling;
+mod times;
+mod writing;

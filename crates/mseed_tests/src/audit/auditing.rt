@@ -1,0 +1,103 @@
+//! A cutter and an audit that go on where they were once memory that was refused is given.
+ghost use Rattle.mseed_stream.specs.Cutting.{IsAlong};
+
+use super::records::{NEXT, two, with};
+use linked_list_allocator::LocalHeap;
+use mseed_audit::{Audit, Memory, Verdict};
+use mseed_record::RecordView;
+use mseed_stream::{Counted, Cutter, Source, StreamFault};
+use std::alloc::Allocator;
+use std::process::Abort;
+use std::test::Fail;
+
+/// Adds a record to an audit of few.
+fn add<A: Allocator + Copy>(
+    rt: &impl Abort,
+    audit: &mut Audit<A>,
+    view: &RecordView,
+    offset: u64,
+) -> Result<(), Memory> {
+    assert!(rt; audit.added() < 1000);
+    audit.add(view, offset)
+}
+
+/// Adds a record, where each time that memory is refused one more block is given back. Answers how often
+/// it was.
+fn add_in_turn<A: Allocator + Copy, B: Drop>(
+    rt: &impl Abort,
+    audit: &mut Audit<A>,
+    view: &RecordView,
+    offset: u64,
+    blocks: &mut Vec<B>,
+) -> Option<usize> {
+    for refusals in 0..300 {
+        let added = audit.added();
+        match add(rt, audit, view, offset) {
+            Ok(()) => return Some(refusals),
+            Err(Memory) => drop(blocks.pop()),
+        }
+        assert_eq!(rt; audit.added(), added);
+    }
+    None
+}
+
+/// Cuts and adds the next record, likewise. Answers how often the cutter and the audit had no memory.
+fn cut_in_turn<A: Allocator + Copy, R: Source, B: Drop>(
+    rt: &impl Abort,
+    cutter: &mut Cutter<A>,
+    audit: &mut Audit<A>,
+    source: &mut R,
+    blocks: &mut Vec<B>,
+) -> Option<(usize, usize)>
+    requires { IsAlong (R.read source.old) cutter.old }
+    ensures { IsAlong (R.read source.new) cutter.new }
+{
+    for refusals in 0..300 {
+        let offset = cutter.offset();
+        match cutter.next(source) {
+            Ok(Some(view)) => {
+                return add_in_turn(rt, audit, &view, offset, blocks).map(|added| (refusals, added));
+            }
+            Err(StreamFault::Memory) => drop(blocks.pop()),
+            _ => return None,
+        }
+    }
+    None
+}
+
+#[test]
+fn goes_on_where_memory_is_refused(rt: HostRuntime) -> Result<(), Fail> {
+    let bytes = two(&with(NEXT));
+    let heap = LocalHeap::new(rt.alloc(), 8192)?;
+    let mut blocks = Vec::new(rt.alloc());
+    for _ in 0..256 {
+        if let Ok(block) = Vec::<u8, _>::with_capacity(&heap, 32) {
+            blocks.push(block)?;
+        }
+    }
+    let mut source = Counted::new(bytes.as_slice());
+    let mut cutter = Cutter::new(&heap);
+    let mut audit = Audit::new(&heap);
+    let first = cut_in_turn(&rt, &mut cutter, &mut audit, &mut source, &mut blocks);
+    let second = cut_in_turn(&rt, &mut cutter, &mut audit, &mut source, &mut blocks);
+    assert!(rt; first.is_some_and(|(cuts, adds)| cuts > 1 && adds > 1));
+    assert_eq!(rt; second, Some((0, 0)));
+    assert_eq!(rt; audit.added(), 2);
+    let verdicts = audit.finish();
+    match verdicts.as_slice() {
+        [
+            (
+                _,
+                Verdict::Continuous {
+                    records,
+                    samples,
+                    ..
+                },
+            ),
+        ] => {
+            assert_eq!(rt; (*records, *samples), (2, 32));
+        }
+        _ => assert!(rt; false, "one channel"),
+    }
+    Ok(())
+}

@@ -1,0 +1,239 @@
+//! Samples of made payloads, compared with sums of one difference after another: words of every row and damaged
+//! ones, few samples and many, and first samples within a frame's reach of both limits.
+
+use super::record::{STEIM_1, record};
+use mseed_record::RecordView;
+use mseed_steim::{Differences, Ends, ReadFault, Scheme, check_samples, fill_samples};
+use std::process::Abort;
+
+/// Payloads of each scheme.
+const ROUNDS: u32 = 20_000;
+
+/// The next of a sequence of numbers that look like random ones (xorshift, by Marsaglia).
+fn next_number(number: u64) -> u64 {
+    let number = number ^ (number << 13);
+    let number = number ^ (number >> 7);
+    number ^ (number << 17)
+}
+
+/// A code, and a word of it that has narrow differences in this scheme.
+fn tame(scheme: Scheme, code: u32, word: u32) -> (u32, u32) {
+    let bits = word & 0x3FFF_FFFF;
+    match (scheme, code) {
+        (Scheme::One, 3) => (1, word),
+        (Scheme::Two, 2) => (2, bits | (2 + word % 2) << 30),
+        (Scheme::Two, 3) => (3, bits | (word % 3) << 30),
+        _ => (code, word),
+    }
+}
+
+/// Fills three frames by numbers from this one on, tame words or any, and gives the number after them.
+fn fill(payload: &mut [u8; 192], scheme: Scheme, is_tame: bool, number: u64) -> u64 {
+    let mut number = number;
+    for frame in 0..3usize {
+        let mut codes = 0u32;
+        for place in 1..16usize {
+            number = next_number(number);
+            let word = (number >> 32) as u32;
+            let code = (number >> 8 & 3) as u32;
+            let (code, word) = if is_tame {
+                tame(scheme, code, word)
+            } else {
+                (code, word)
+            };
+            codes |= (code & 3) << (30 - 2 * place);
+            let at = 64 * frame + 4 * place;
+            payload[at..at + 4].copy_from_slice(&word.to_be_bytes());
+        }
+        payload[64 * frame..64 * frame + 4].copy_from_slice(&codes.to_be_bytes());
+    }
+    number
+}
+
+/// Codes and words of Steim-1 whose differences are the least and the most of their width, in turn and alone.
+const EDGES_ONE: [(u32, u32); 18] = [
+    (1, 0x8080_8080),
+    (1, 0x7F7F_7F7F),
+    (1, 0x807F_807F),
+    (1, 0x7F80_7F80),
+    (1, 0xFFFF_FFFF),
+    (1, 0x0101_0101),
+    (1, 0x0000_0080),
+    (1, 0x8000_0000),
+    (1, 0x7FFF_FFFF),
+    (2, 0x8000_8000),
+    (2, 0x7FFF_7FFF),
+    (2, 0x8000_7FFF),
+    (2, 0x7FFF_8000),
+    (2, 0xFFFF_FFFF),
+    (2, 0x0001_0001),
+    (2, 0x0000_8000),
+    (2, 0x8000_0000),
+    (2, 0x7FFF_FFFF),
+];
+
+/// Codes and words of each row of Steim-2 but that of 30 bits: the least of its width, the most, and both in turn.
+const EDGES_TWO: [(u32, u32); 18] = [
+    (1, 0x8080_8080),
+    (1, 0x7F7F_7F7F),
+    (1, 0x807F_807F),
+    (2, 0xA000_4000),
+    (2, 0x9FFF_BFFF),
+    (2, 0xA000_3FFF),
+    (2, 0xE008_0200),
+    (2, 0xDFF7_FDFF),
+    (2, 0xE007_FE00),
+    (3, 0x2082_0820),
+    (3, 0x1F7D_F7DF),
+    (3, 0x207E_07E0),
+    (3, 0x6108_4210),
+    (3, 0x5EF7_BDEF),
+    (3, 0x60F8_3E0F),
+    (3, 0x8888_8888),
+    (3, 0x8777_7777),
+    (3, 0x8878_7878),
+];
+
+/// Fills three frames with these words one after another, from one of them on.
+fn fill_edges(payload: &mut [u8; 192], edges: &[(u32, u32); 18], from: usize) {
+    for frame in 0..3usize {
+        let mut codes = 0u32;
+        for place in 1..16usize {
+            let (code, word) = edges[(from % 18 + 15 * frame + place) % 18];
+            codes |= (code & 3) << (30 - 2 * place);
+            let at = 64 * frame + 4 * place;
+            payload[at..at + 4].copy_from_slice(&word.to_be_bytes());
+        }
+        payload[64 * frame..64 * frame + 4].copy_from_slice(&codes.to_be_bytes());
+    }
+}
+
+/// A first sample: near a limit, near where a frame's reach to it ends, or anywhere.
+fn first_by(number: u64) -> i32 {
+    let some = (number >> 40 & 0xFFFF) as i32;
+    match number % 5 {
+        0 => i32::MAX - some,
+        1 => i32::MIN + some,
+        2 => i32::MAX - (1 << 20) - 0x8000 + some,
+        3 => i32::MIN + (1 << 20) + 0x8000 - some,
+        _ => ((number >> 16 & 0xFFFF_FFFF) as u32).cast_signed(),
+    }
+}
+
+/// Sums up a payload's differences from its first sample on, one after another, each into its place. An error is the
+/// one of a record with as many samples as places.
+fn sum_up(payload: &[u8], scheme: Scheme, first: i32, places: &mut [i32]) -> Result<(), ReadFault> {
+    let mut items = Differences::over(payload, scheme);
+    let (mut last, mut left) = (i64::from(first), None);
+    for met in 0..places.len() {
+        let difference = match items.next() {
+            Some(Ok(difference)) => difference,
+            Some(Err(bad)) => return Err(ReadFault::BadWord(bad.frame, bad.word)),
+            None => return Err(ReadFault::Short(met)),
+        };
+        if 0 < met {
+            last = last.saturating_add(i64::from(difference));
+        }
+        match i32::try_from(last) {
+            Ok(sample) => places[met] = sample,
+            Err(_) => left = left.or(Some(ReadFault::Overflow(met))),
+        }
+    }
+    left.map_or(Ok(()), Err)
+}
+
+/// Puts bytes into a record from this offset on.
+fn put(record: &mut [u8; 256], offset: usize, bytes: &[u8]) {
+    for (place, byte) in record.iter_mut().skip(offset).zip(bytes) {
+        *place = *byte;
+    }
+}
+
+/// The record of a payload, which ends with this sample.
+fn record_of(
+    payload: &[u8; 192],
+    scheme: Scheme,
+    samples: u16,
+    first: i32,
+    last: i32,
+) -> [u8; 256] {
+    let mut bytes = record(&STEIM_1);
+    let encoding = match scheme {
+        Scheme::One => 10,
+        Scheme::Two => 11,
+    };
+    put(&mut bytes, 30, &samples.to_be_bytes());
+    put(&mut bytes, 52, &[encoding]);
+    put(&mut bytes, 64, payload);
+    put(&mut bytes, 68, &first.to_be_bytes());
+    put(&mut bytes, 72, &last.to_be_bytes());
+    bytes
+}
+
+/// Compares what is checked and filled in of a payload's record with its sums.
+fn assert_same(rt: &impl Abort, payload: &[u8; 192], scheme: Scheme, samples: u16, first: i32) {
+    let count = usize::from(samples);
+    let (mut kept, mut put) = ([0; 320], [0; 320]);
+    if samples == 0 || 320 < samples {
+        assert!(rt; false, "{samples} samples");
+        return;
+    }
+    let wanted = sum_up(payload, scheme, first, &mut kept[..count]);
+    let last = kept[count - 1];
+    let bytes = record_of(payload, scheme, samples, first, last);
+    let Ok(view) = RecordView::of(&bytes) else {
+        assert!(rt; false, "no record");
+        return;
+    };
+    if view.samples() != samples {
+        assert!(rt; false, "{} samples in place of {samples}", view.samples());
+        return;
+    }
+    let ends = wanted.map(|()| Ends { first, last });
+    assert_eq!(rt;
+        check_samples(&view),
+        ends,
+        "{scheme:?}, {samples} samples from {first}"
+    );
+    let filled = fill_samples(&view, &mut put[..count]);
+    assert_eq!(rt;
+        filled,
+        wanted,
+        "{scheme:?}, {samples} samples from {first} kept"
+    );
+    if wanted.is_ok() {
+        assert!(rt;
+            put == kept,
+            "{scheme:?}, {samples} samples from {first} kept"
+        );
+    }
+}
+
+#[test]
+fn reads_made_frames(rt: HostRuntime) {
+    let mut payload = [0; 192];
+    let mut number = 0x2545_F491_4F6C_DD1D;
+    for scheme in [Scheme::One, Scheme::Two] {
+        for round in 0..ROUNDS {
+            number = fill(&mut payload, scheme, round % 8 != 0, number);
+            number = next_number(number);
+            let samples = 1 + (number >> 48) as u16 % 300;
+            assert_same(&rt, &payload, scheme, samples, first_by(number));
+        }
+    }
+}
+
+#[test]
+fn reads_the_edges_of_each_row(rt: HostRuntime) {
+    let mut payload = [0; 192];
+    for (scheme, edges) in [(Scheme::One, EDGES_ONE), (Scheme::Two, EDGES_TWO)] {
+        for from in 0..18usize {
+            fill_edges(&mut payload, &edges, from);
+            for samples in [1, 2, 50, 90, 120, 160, 300] {
+                for first in [0, i32::MAX, i32::MIN, 1 << 30] {
+                    assert_same(&rt, &payload, scheme, samples, first);
+                }
+            }
+        }
+    }
+}

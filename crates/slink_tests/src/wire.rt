@@ -1,0 +1,206 @@
+//! Worked rows of packets, lines and commands, and a stream by `tests/models/command_lines.py`, a plain Python program
+//! that has the grammar as regular expressions.
+
+mod stream;
+
+use slink_wire::{Command, Lines, Packet, Place, Reply, Request, What};
+use std::test::Fail;
+
+/// A packet, or what may be taken for one.
+fn with_header(header: &[u8; 8]) -> [u8; 520] {
+    let mut packet = [7; 520];
+    let (head, _) = packet.split_at_mut(8);
+    head.copy_from_slice(header);
+    packet
+}
+
+#[test]
+fn writes_and_reads_packets(rt: HostRuntime) {
+    let written = Packet::write(16_777_215, &[7; 512]);
+    assert_eq!(rt; &written[..10], b"SLFFFFFF\x07\x07".as_slice());
+    let cases: [(&[u8; 8], Option<u32>); 8] = [
+        (b"SLFFFFFF", Some(16_777_215)),
+        (b"SL000000", Some(0)),
+        (b"SLabcDEF", Some(11_259_375)),
+        (b"SL00001f", Some(31)),
+        (b"SL00000g", None),
+        (b"SL 0001f", None),
+        (b"SX000000", None),
+        (b"sl000000", None),
+    ];
+    for (header, wanted) in cases {
+        assert_eq!(rt;
+            Packet::read(&with_header(header))
+                .ok()
+                .map(|(number, _)| number),
+            wanted,
+            "{header:?}"
+        );
+    }
+}
+
+#[test]
+fn spells_places(rt: HostRuntime) {
+    let cases: [(&[u8], Option<(&[u8], &[u8])>); 8] = [
+        (b"XX_STA", Some((b"STA", b"XX"))),
+        (b"x_a1B2c", Some((b"a1B2c", b"x"))),
+        (b"XX_ABCDEF", None),
+        (b"XXX_STA", None),
+        (b"XX_", None),
+        (b"_STA", None),
+        (b"XXSTA", None),
+        (b"XX_S_A", None),
+    ];
+    for (text, wanted) in cases {
+        match (Place::read(text), wanted) {
+            (Ok(place), Some((sta, net))) => {
+                assert_eq!(rt; place.station(), sta);
+                assert_eq!(rt; place.network(), net);
+            }
+            (found, wanted) => assert!(rt; found.is_err() && wanted.is_none(), "{text:?}"),
+        }
+    }
+}
+
+#[test]
+fn takes_lines_in_pieces(rt: HostRuntime) {
+    let mut lines = Lines::new();
+    let cases: [(&[u8], usize, Option<&[u8]>); 3] = [
+        (b"HEL", 3, None),
+        (b"LO\r\nEND\r", 3, Some(b"HELLO")),
+        (b"\nEND\r", 5, Some(b"END")),
+    ];
+    for (piece, used, line) in cases {
+        let took = lines.take(piece);
+        assert_eq!(rt; took.used, used);
+        match took.what {
+            What::Line(found) => assert_eq!(rt; Some(found.as_slice()), line),
+            What::More => assert!(rt; line.is_none()),
+            What::TooLong => assert!(rt; false, "too long"),
+        }
+    }
+}
+
+#[test]
+fn ends_at_a_line_too_long(rt: HostRuntime) {
+    let mut lines = Lines::new();
+    let mut longest = [b'A'; 256];
+    longest[255] = b'\r';
+    let took = lines.take(&longest);
+    assert_eq!(rt; took.used, 256);
+    assert!(rt; matches!(took.what, What::Line(line) if line.len() == 255));
+    let took = lines.take(&[b'A'; 300]);
+    assert_eq!(rt; took.used, 256);
+    assert!(rt; matches!(took.what, What::TooLong));
+    let took = lines.take(b"END\r");
+    assert_eq!(rt; took.used, 0);
+    assert!(rt; matches!(took.what, What::TooLong));
+}
+
+#[test]
+fn reads_commands(rt: HostRuntime) {
+    let cases: [(&[u8], Command); 24] = [
+        (b"HELLO", Command::Hello),
+        (b"  hello ", Command::Hello),
+        (
+            b"STATION STA",
+            Command::Station {
+                sta: *b"STA  ",
+                net: None,
+            },
+        ),
+        (
+            b" station   a1B2c  ",
+            Command::Station {
+                sta: *b"a1B2c",
+                net: None,
+            },
+        ),
+        (
+            b"STATION STA XX",
+            Command::Station {
+                sta: *b"STA  ",
+                net: Some(*b"XX"),
+            },
+        ),
+        (
+            b"Station STA  x",
+            Command::Station {
+                sta: *b"STA  ",
+                net: Some(*b"x "),
+            },
+        ),
+        (b"SELECT", Command::SelectAll),
+        (b" select ", Command::SelectAll),
+        (b"DATA", Command::Data(None)),
+        (b"  data   1f ", Command::Data(Some(31))),
+        (b"FETCH", Command::Fetch(None)),
+        (b"fetch FFffFF", Command::Fetch(Some(16_777_215))),
+        (b"END", Command::End),
+        (b"bye  ", Command::Bye),
+        (b"DATA 1234567", Command::Other),
+        (b"DATA 12g", Command::Other),
+        (b"STATION ABCDEF", Command::Other),
+        (b"STATION STA XXX", Command::Other),
+        (b"SELECT BHZ", Command::Other),
+        (b"HELLO x", Command::Other),
+        (b"HEL\0LO", Command::Other),
+        (b"DATA\t1", Command::Other),
+        (b"   ", Command::Other),
+        (b"", Command::Other),
+    ];
+    for (line, wanted) in cases {
+        assert_eq!(rt; Command::read(line), wanted, "{line:?}");
+    }
+}
+
+#[test]
+fn writes_requests(rt: HostRuntime) -> Result<(), Fail> {
+    let place = Place::new(b"STA", b"X").map_err(|_| "a place")?;
+    let cases: [(Request, &[u8]); 5] = [
+        (Request::Station(place), b"STATION STA X\r\n"),
+        (Request::Data(Some(0)), b"DATA 000000\r\n"),
+        (Request::Fetch(Some(11_259_375)), b"FETCH ABCDEF\r\n"),
+        (Request::Fetch(None), b"FETCH\r\n"),
+        (Request::End, b"END\r\n"),
+    ];
+    for (request, wanted) in cases {
+        assert_eq!(rt; request.bytes().as_slice(), wanted);
+    }
+    Ok(())
+}
+
+#[test]
+fn replies(rt: HostRuntime) {
+    let cases: [(Reply, &[u8]); 4] = [
+        (Reply::Nothing, b""),
+        (Reply::Ok, b"OK\r\n"),
+        (Reply::Error, b"ERROR\r\n"),
+        (Reply::Hello, b"SeedLink v3.0 (mseed)\r\nmseed feed\r\n"),
+    ];
+    for (reply, wanted) in cases {
+        assert_eq!(rt; reply.bytes(), wanted);
+    }
+}
+
+#[test]
+fn reads_a_stream_cut_at_random(rt: HostRuntime) {
+    let mut lines = Lines::new();
+    let mut wanted = stream::COMMANDS.iter();
+    for piece in stream::PIECES {
+        let mut rest = piece;
+        for _ in 0..64 {
+            let took = lines.take(rest);
+            rest = &rest[took.used..];
+            match took.what {
+                What::More => break,
+                What::Line(line) => assert_eq!(rt; Some(&Command::read(&line)), wanted.next()),
+                What::TooLong => {
+                    assert_eq!(rt; wanted.next(), None);
+                    return;
+                }
+            }
+        }
+    }
+    assert!(rt; false, "no line was too long");
+}
