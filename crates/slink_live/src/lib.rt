@@ -8,8 +8,6 @@ mod link;
 mod log;
 mod ready;
 mod server;
-#[cfg(test)]
-mod tests;
 
 pub use fault::InputFault;
 pub use law::{

@@ -3,6 +3,8 @@
 #![tactic(auto)]
 
 #[cfg(test)]
+mod live;
+#[cfg(test)]
 mod model;
 #[cfg(test)]
 mod wire;

@@ -2,9 +2,9 @@
 ghost use Rattle.std.specs.Prelude.{◌≡◌, ◌≢◌, ◌≤◌, ◌<◌, [], IfOk, IfSome, length};
 ghost use Rattle.slink_live.specs.Served.{IsSound};
 
-use crate::{Event, InputFault, Log, Ready, Server, Wishes};
 use mseed_stream::StreamFault;
 use slink_feed::{Feed, Ring};
+use slink_live::{Event, InputFault, Log, Ready, Server, Wishes};
 use slink_wire::Place;
 use std::alloc::{AllocError, Global};
 
