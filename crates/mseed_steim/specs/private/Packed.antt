@@ -9,7 +9,8 @@ use Rattle.mseed_steim.specs.Frames.{code_at, data_words, word_at, word_count}
 use Rattle.mseed_steim.specs.Packing.{IsEmptyWord, IsFarthest, IsFewest, IsFirstTooLarge, LeavesRoom, PacksRun}
 use Rattle.mseed_steim.specs.Runs.{SpellsRun}
 
-pub record IsRunPacked (scheme : Scheme) (ds : List ℤ) (frames : List ℕ) (result : Result Packed TooLargeAt) : Type 0 where
+pub record IsRunPacked (scheme : Scheme) (ds : List ℤ) (frames : List ℕ) (result : Result Packed TooLargeAt)
+    : Type 0 where
   pub packed : IfOk result (λ p. PacksRun scheme (take p.words (data_words frames)) ds (drop p.used ds))
   pub spelled : IfOk result (λ p. SpellsRun scheme (take p.words (data_words frames)) (take p.used ds))
   pub inside : IfOk result (λ p. (p.used ≤ length ds) × (p.words ≤ length (data_words frames)))

@@ -41,8 +41,8 @@ returns-in-Faulty-clause-stands c = λ ps stands.
     let old : Channel = c.args.self.now in
     let p : Placed = record { view = view_of c.args.view.now; offset = c.args.offset; number = c.args.number } in
     let why : IsFound (Some stands.last.view) p.view (Some c.in-Faulty.why) =
-    c.in-Faulty.ensures.why (Some stands.last.view) (kept_before old.findings c.tail.result old ps stands refl c.tail.ensures)
-    in
+    c.in-Faulty.ensures.why (Some stands.last.view) (kept_before old.findings c.tail.result old ps stands refl
+    c.tail.ensures) in
     let samples : old.samples + c.from.result ≡ old.samples + count_of p.view =
     ap (λ (n : ℕ). old.samples + n) (c.from.ensures ∙ c.samples.ensures) in
     let records : old.records + 1 ≡ old.records + 1 = refl in
