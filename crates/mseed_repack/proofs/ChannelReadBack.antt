@@ -1,13 +1,15 @@
 -- What the stretches of a channel were packed into reads back, and is one list of records.
 use Rattle.std.proofs.Common.{◌≡◌, ℕ, ℤ, ◌+◌, ◌<◌, ◌≤◌, List, [], ◌∷◌, ◌++◌, length, refl, sym, ap, subst, ◌∙◌, Some}
-use Rattle.std.proofs.Common.{append_assoc, append-nil, arith, drop, get_or, length-append}
+use Rattle.std.proofs.Common.{append_assoc, append-nil, arith, drop, get_or, length-append, Bool, Ok}
 use Rattle.std.proofs.Math.Bridge.{le_prop}
 use Rattle.std.specs.List.{AllByRecursion, concat}
 use Rattle.mseed_time.specs.Rate.{Ratio}
 use Rattle.mseed_record.specs.View.{View, IsView}
+use Rattle.mseed_stream.specs.Device.{BytesRead, BytesWritten}
 use Rattle.mseed_audit.specs.Follows.{IsContinuous, IsSound}
 use Rattle.mseed_audit.specs.Judging.{known_rate}
 use Rattle.mseed_audit.specs.Series.{Trace, AreJoined, IsSeriesOf, none, one}
+use Rattle.mseed_audit.proofs.Behind.{views_are}
 use Rattle.mseed_stretches.specs.Stretches.{AllStayNear, AreStretches, AreStretchesUpTo, IsStretch}
 use Rattle.mseed_pack.specs.Fitting.{Fits}
 use Rattle.mseed_pack.specs.Outcome.{IsTrace}
@@ -15,13 +17,17 @@ use Rattle.mseed_pack.specs.Packing.{IsPacking}
 use Rattle.mseed_pack.specs.ReadBack.{ReadsAs}
 use Rattle.mseed_pack.specs.declared.options.Encoding.{Encoding}
 use Rattle.mseed_pack.specs.declared.options.Options.{Options}
-use Rattle.mseed_pack.proofs.Traced.{is_trace}
-use Rattle.mseed_repack.specs.ByStretches.{AreStretched, further, nothing}
+use Rattle.mseed_pack.proofs.Traced.{is_trace, kept_views}
+use Rattle.mseed_repack.specs.ByStretches.{AreStandings, AreStretched, IsRestretching, further, kept_of, nothing}
+use Rattle.mseed_repack.specs.declared.refusing.Left.{Left}
+use Rattle.mseed_repack.specs.declared.standing.Standing.{Standing}
+use Rattle.mseed_repack.specs.declared.standing.Standing.TheVariants.{Fit, Broken, Misfit}
 use Rattle.mseed_repack.specs.Repack.{Channel, records_in}
 use Rattle.mseed_repack.specs.Restretch.{ArePackedOn, ChannelFits, IsChannelPacked, IsNumberedOn, IsStretchPacked}
 use Rattle.mseed_repack.specs.Restretch.{IsChannelText, StretchFits, none as packed_none, more as packed_more}
-use Rattle.mseed_repack.specs.StretchesReadBack.{AreReadBack, IsChannelReadBack, IsStretchReadBack, KeepsTime}
-use Rattle.mseed_repack.specs.StretchesReadBack.{read_none, read_more}
+use Rattle.mseed_repack.specs.StretchesReadBack.{AreChannelsReadBack, AreReadBack, IsChannelReadBack}
+use Rattle.mseed_repack.specs.StretchesReadBack.{IsStretchReadBack, IsStretchedBack, KeepsTime, next_channel}
+use Rattle.mseed_repack.specs.StretchesReadBack.{no_channel, read_none, read_more}
 use Rattle.mseed_repack.proofs.Stretched.{fits_on}
 
 -- What laws of lower rooms say.
@@ -253,3 +259,42 @@ one_texts laws o views _ _ _ _ (further cs c text own before here) (further ds d
 pub one_text : OneLaws → (o : Options) (views : List View) (cs : List Channel) (text other : List ℕ)
     → AreStretched o views cs text → AreStretched o views cs other → text ≡ other
 one_text laws o views cs text other a b = one_texts laws o views cs cs text other a b refl
+
+-- What was written of an archive reads back.
+
+-- each channel that is kept fits
+kept_fit : (o : Options) (views : List View) (cs : List Channel) (ss : List Standing) → AreStandings o views cs ss
+    → AllByRecursion (λ (c : Channel). ChannelFits o (records_in views c.0)) (kept_of cs ss)
+kept_fit o views [] ss all = tt
+kept_fit o views (c ∷ cs) [] all = tt
+kept_fit o views (c ∷ cs) (Fit ∷ ss) all = (all.0, kept_fit o views cs ss all.1)
+kept_fit o views (c ∷ cs) (Broken ∷ ss) all = kept_fit o views cs ss all.1
+kept_fit o views (c ∷ cs) (Misfit n f ∷ ss) all = kept_fit o views cs ss all.1
+
+channels_read : Laws → (o : Options) (views : List View) (cs : List Channel) (text : List ℕ)
+    → AllByRecursion IsView views → AllByRecursion (λ (c : Channel). ChannelFits o (records_in views c.0)) cs
+    → AreStretched o views cs text → AreChannelsReadBack views cs text
+channels_read laws o views _ _ each fit nothing = no_channel
+channels_read laws o views _ _ each fit (further cs c text own before here) =
+    let P : Channel → Type 0 = λ c. ChannelFits o (records_in views c.0) in
+    let own_views : AllByRecursion IsView (records_in views c.0) =
+    subst (λ (vs : List View). AllByRecursion IsView vs) (sym (views_are c.0 views)) (kept_views c.0 views each) in
+    subst (λ (xs : List ℕ). AreChannelsReadBack views (cs ++ c ∷ []) (text ++ xs)) (sym here.text_is)
+    (next_channel cs c text here.records
+    (channels_read laws o views cs text each (each_in_front P cs (c ∷ []) fit) before)
+    (reads_back laws o (records_in views c.0) here.records own_views (each_at_back P cs (c ∷ []) fit).0 here.packed))
+
+pub stretched_back : Laws → (o : Options) (leave : Bool) (left : Left) (h : BytesRead)
+    (old new told_old told_new : BytesWritten) → IsRestretching o leave (Ok left) h old new told_old told_new
+    → IsStretchedBack o h old new
+stretched_back laws o leave left h old new told_old told_new (views, (channels, (archive, were))) = record {
+  views = views;
+  channels = channels;
+  archive = archive;
+  standings = were.standings;
+  are = were.are;
+  text = were.wrote.text;
+  wrote = were.wrote.bytes;
+  read = channels_read laws o views (kept_of channels were.standings) were.wrote.text archive.whole.each
+      (kept_fit o views channels were.standings were.are) were.wrote.text_is;
+}

@@ -1,11 +1,17 @@
 -- What the stretches of a channel were packed into, read again.
 use Rattle.std.specs.Prelude.{⊤, ◌≡◌, ℕ, ℤ, List, [], ◌∷◌, ◌++◌, Some}
+use Rattle.std.specs.List.{concat}
 use Rattle.mseed_time.specs.Rate.{Ratio}
 use Rattle.mseed_record.specs.View.{View}
 use Rattle.mseed_audit.specs.Judging.{known_rate}
 use Rattle.mseed_audit.specs.Series.{Trace, AreJoined, IsSeriesOf}
 use Rattle.mseed_stretches.specs.Stretches.{AllStayNear, AreStretches}
+use Rattle.mseed_stream.specs.Device.{BytesRead, BytesWritten}
 use Rattle.mseed_pack.specs.ReadBack.{ReadsAs}
+use Rattle.mseed_repack.specs.Repack.{Channel, IsArchiveOf, records_in}
+use Rattle.mseed_pack.specs.declared.options.Options.{Options}
+use Rattle.mseed_repack.specs.ByStretches.{AreStandings, kept_of}
+use Rattle.mseed_repack.specs.declared.standing.Standing.{Standing}
 
 -- by its first record's clock, no sample of a stretch stands further than a quarter of its period from where its own
 -- record has it
@@ -34,3 +40,21 @@ pub record IsChannelReadBack (vs : List View) (records : List (List ℕ)) : Type
   pub samples : List ℤ
   pub read : AreReadBack stretches records samples
   pub joined : AreJoined vs samples
+
+-- of channels one behind another: the text, which is the records that each channel was packed into, and these read back
+pub data AreChannelsReadBack (views : List View) : List Channel → List ℕ → Type 0 where
+  no_channel : AreChannelsReadBack views [] []
+  next_channel : (cs : List Channel) (c : Channel) (text : List ℕ) (records : List (List ℕ))
+      → AreChannelsReadBack views cs text → IsChannelReadBack (records_in views c.0) records
+      → AreChannelsReadBack views (cs ++ c ∷ []) (text ++ concat records)
+
+-- What was written of an archive by stretches reads back: of the channels that fit, each in its place.
+pub record IsStretchedBack (o : Options) (h : BytesRead) (old new : BytesWritten) : Type 0 where
+  pub views : List View
+  pub channels : List Channel
+  pub archive : IsArchiveOf h views channels
+  pub standings : List Standing
+  pub are : AreStandings o views channels standings
+  pub text : List ℕ
+  pub wrote : new.bytes ≡ old.bytes ++ text
+  pub read : AreChannelsReadBack views (kept_of channels standings) text

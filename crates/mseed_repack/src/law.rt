@@ -1,15 +1,16 @@
 //! Laws of packing an archive anew.
-ghost use Rattle.std.specs.Prelude.{⊤, ◌≡◌, ℕ, List, Result, Ok};
+ghost use Rattle.std.specs.Prelude.{⊤, ◌≡◌, Bool, ℕ, List, Result, Ok};
 ghost use Rattle.std.specs.List.{AllByRecursion};
 ghost use Rattle.mseed_record.specs.View.{View, IsView};
 ghost use Rattle.mseed_pack.specs.declared.options.Options.{Options};
 ghost use Rattle.mseed_stream.specs.Device.{BytesRead, BytesWritten};
 ghost use Rattle.mseed_repack.specs.OneRepacking.{ComeToOne};
 ghost use Rattle.mseed_repack.specs.ReadBack.{IsReadBack};
-ghost use Rattle.mseed_repack.specs.ByStretches.{AreStretched};
+ghost use Rattle.mseed_repack.specs.ByStretches.{AreStretched, IsRestretching};
 ghost use Rattle.mseed_repack.specs.Repack.{Channel, IsRepacking};
 ghost use Rattle.mseed_repack.specs.Restretch.{ChannelFits, IsChannelPacked};
-ghost use Rattle.mseed_repack.specs.StretchesReadBack.{IsChannelReadBack};
+ghost use Rattle.mseed_repack.specs.StretchesReadBack.{IsChannelReadBack, IsStretchedBack};
+ghost use Rattle.mseed_repack.specs.declared.refusing.Left.{Left};
 ghost use Rattle.mseed_repack.specs.declared.fault.RepackFault.{RepackFault};
 
 use mseed_audit::{continuous_exactly, one_list_of_verdicts, one_series};
@@ -62,8 +63,12 @@ pub fn one_channel_packing()
 /// at its first record's start, so that no sample is further than a quarter of its period from where its own record has
 /// it; and the samples of all stretches, one behind another, are those of the channel's records, each once, in order.
 pub fn stretches_read_back()
-    ensures { (o : Options) (vs : List View) (records : List (List ℕ)) → AllByRecursion IsView vs
+    ensures channel { (o : Options) (vs : List View) (records : List (List ℕ)) → AllByRecursion IsView vs
         → ChannelFits o vs → IsChannelPacked o vs records → IsChannelReadBack vs records }
+    // And what is written of an archive: of each channel that fits, in its place.
+    ensures archive { (o : Options) (leave : Bool) (left : Left) (read : BytesRead)
+        (old new told_old told_new : BytesWritten)
+        → IsRestretching o leave (Ok left) read old new told_old told_new → IsStretchedBack o read old new }
 {
     reads_back();
     one_series();
