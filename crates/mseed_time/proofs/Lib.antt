@@ -4,3 +4,4 @@ pub mod Civil
 pub mod Joining
 pub mod Reading
 pub mod Pairs
+pub mod Digits

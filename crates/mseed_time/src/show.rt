@@ -9,6 +9,13 @@ use jiff_core::civil::Date;
 /// Microseconds in a day.
 const DAY: u64 = 86_400_000_000;
 
+/// The two digits of each number below 100, one number behind another.
+static DIGITS: [u8; 200] = *b"\
+    00010203040506070809101112131415161718192021222324\
+    25262728293031323334353637383940414243444546474849\
+    50515253545556575859606162636465666768697071727374\
+    75767778798081828384858687888990919293949596979899";
+
 /// The days from the calendar's first day to 1800-01-01.
 const FIRST_OF_1800: u32 = 4_309_496;
 
@@ -20,7 +27,7 @@ pub fn show_time(instant: Micros) -> [u8; 26]
     let since = instant.since_first();
     let (year, month, day) = civil_date(since / DAY);
     let clock = since % DAY;
-    let (seconds, micros) = (clock / 1_000_000, clock % 1_000_000);
+    let (seconds, micros) = ((clock / 1_000_000) as u32, (clock % 1_000_000) as u32);
     let (century, year) = (pair(year / 100), pair(year % 100));
     let (month, day) = (pair(month), pair(day));
     let (hour, minute, second) = (
@@ -41,7 +48,7 @@ pub fn show_time(instant: Micros) -> [u8; 26]
 }
 
 /// The year, the month and the day of the month, by the days after 1800-01-01.
-fn civil_date(day: u64) -> (u64, u64, u64)
+fn civil_date(day: u64) -> (u32, u32, u32)
     requires { day < 146_097 }
     ensures year { result.0 ≡ year_of day }
     ensures four { result.0 < 10000 }
@@ -51,17 +58,17 @@ fn civil_date(day: u64) -> (u64, u64, u64)
 {
     let date = Date::from_days_since_min(day as u32 + FIRST_OF_1800);
     (
-        u64::from(date.year.unsigned_abs()),
-        u64::from(date.month),
-        u64::from(date.day),
+        u32::from(date.year.unsigned_abs()),
+        u32::from(date.month),
+        u32::from(date.day),
     )
 }
 
 /// The two digits of a number.
-fn pair(number: u64) -> [u8; 2]
+fn pair(number: u32) -> [u8; 2]
     requires { number < 100 }
     ensures { result ≡ padded_decimal 2 number }
 {
-    let number = number as u8;
-    [b'0' + number / 10, b'0' + number % 10]
+    let at = 2 * number as usize;
+    [DIGITS[at], DIGITS[at + 1]]
 }
