@@ -208,10 +208,31 @@ fn add_told<A: Allocator + Copy>(
         text.old.items text.new.items) }
     ensures number { OnOk result (audit.new.added ≡ audit.old.added + 1) }
 {
-    let why = audit.add_judged(view, offset)?;
-    let Some(_) = why else {
+    if audit.add_sound(view) {
         return Ok(());
-    };
+    }
+    add_judged(audit, view, offset, lines, text)
+}
+
+/// The same, of any record.
+#[cold]
+#[inline(never)]
+fn add_judged<A: Allocator + Copy>(
+    audit: &mut Audit<A>,
+    view: &RecordView,
+    offset: u64,
+    lines: Lines,
+    text: &mut Vec<u8, A>,
+) -> Result<(), Memory>
+    requires { audit.old.added < 2 ^ 40 }
+    ensures adds { (added : List Added) → IsAuditOf audit.old added
+        → OnOk result (IsAuditOf audit.new (added ++ record { view = view_of view.now; offset = offset } ∷ [])) }
+    ensures told { (added : List Added) → IsAuditOf audit.old added
+        → OnOk result (IsToldMore lines added (added ++ record { view = view_of view.now; offset = offset } ∷ [])
+        text.old.items text.new.items) }
+    ensures number { OnOk result (audit.new.added ≡ audit.old.added + 1) }
+{
+    let why = audit.add_judged(view, offset)?;
     match lines {
         Lines::OfVerdicts => Ok(()),
         Lines::OfRecords => push_told(text, view, audit.added(), offset, why),

@@ -1,6 +1,6 @@
 //! The audit of records as they come, and the verdicts that it ends with.
 ghost use Rattle.std.specs.Prelude.{◌≡◌, ◌≢◌, ◌↔◌, ◌⊎◌, ◌<◌, ◌+◌, ◌^◌, List, [], ◌∷◌, ◌++◌, OnOk, OnErr, IfOk, IsOk};
-ghost use Rattle.std.specs.Prelude.{IsTrue};
+ghost use Rattle.std.specs.Prelude.{ℕ, IsTrue, None, false};
 ghost use Rattle.mseed_record.specs.Header.{key_at};
 ghost use Rattle.mseed_record.specs.Viewing.{view_of};
 ghost use Rattle.mseed_steim.specs.Reading.{count_of};
@@ -118,8 +118,30 @@ impl<A: Allocator + Copy> Audit<A> {
         ensures memory { (count_of (view_of view.now) ≡ 0)
             ⊎ HoldsKey self.old (key_at (view_of view.now).bytes) → IsOk result }
     {
+        if self.add_sound(view) {
+            return Ok(());
+        }
         self.add_judged(view, offset)?;
         Ok(())
+    }
+
+    /// Adds a record as `add` does, if nothing is found of it and its channel isn't new. Answers whether it was added;
+    /// else the audit is as it was.
+    #[inline(always)]
+    pub(crate) fn add_sound(&mut self, view: &RecordView) -> bool
+        requires { self.old.added < 2 ^ 40 }
+        ensures adds { IsTrue result → (added : List Added) (offset : ℕ) → IsAuditOf self.old added
+            → IsAuditOf self.new (added ++ record { view = view_of view.now; offset = offset } ∷ []) }
+        ensures sound { IsTrue result → (added : List Added) → IsAuditOf self.old added
+            → IsFoundBehind (numbered 1 added) (view_of view.now) None }
+        ensures number { IsTrue result → self.new.added ≡ self.old.added + 1 }
+        ensures unchanged { result ≡ false → self.new ≡ self.old }
+    {
+        if !self.roster.add_sound(view) {
+            return false;
+        }
+        self.added += 1;
+        true
     }
 
     /// Adds a record as `add` does, and answers what is found of it: of a silent one, nothing.
@@ -127,7 +149,7 @@ impl<A: Allocator + Copy> Audit<A> {
     /// # Errors
     ///
     /// `Memory` as `add`.
-    #[inline(always)]
+    #[inline(never)]
     pub fn add_judged(&mut self, view: &RecordView, offset: u64) -> Result<Option<Why>, Memory>
         requires { self.old.added < 2 ^ 40 }
         ensures adds { (added : List Added) → IsAuditOf self.old added

@@ -1,5 +1,5 @@
 //! What is kept of a channel while its records come.
-ghost use Rattle.std.specs.Prelude.{◌≡◌, ◌<◌, ◌≤◌, ◌+◌, ◌^◌, ℕ, List, [], ◌∷◌, ◌++◌, Option, Some, IfSome};
+ghost use Rattle.std.specs.Prelude.{◌≡◌, ◌<◌, ◌≤◌, ◌+◌, ◌^◌, ℕ, List, [], ◌∷◌, ◌++◌, Option, Some, IfSome, IsTrue, false};
 ghost use Rattle.mseed_record.specs.View.{View};
 ghost use Rattle.mseed_record.specs.Viewing.{view_of};
 ghost use Rattle.mseed_steim.specs.Reading.{count_of};
@@ -116,29 +116,30 @@ impl Channel {
         (channel, why)
     }
 
-    /// One more record of the channel. Answers what is found of it. Where nothing is, that is known by fewer steps.
+    /// One more record of the channel, if nothing is found of it. Answers whether it was added; else the channel is as
+    /// it was.
     #[inline(always)]
-    pub(crate) fn add(&mut self, view: &RecordView, number: u64, offset: u64) -> Option<Why>
+    pub(crate) fn add_sound(&mut self, view: &RecordView) -> bool
         requires some { 0 < count_of (view_of view.now) }
         requires bounded { IsBounded (2 ^ 40) self.old }
-        ensures stands { (ps : List Placed) → Stands self.old ps
+        ensures stands { IsTrue result → (ps : List Placed) (offset number : ℕ) → Stands self.old ps
             → Stands self.new (ps ++ record { view = view_of view.now; offset = offset; number = number } ∷ []) }
-        ensures bounded { (n : ℕ) → IsBounded n self.old → IsBounded (n + 1) self.new }
-        ensures found { (ps : List Placed) → Stands self.old ps → IsFound (last_of None ps) (view_of view.now) result }
+        ensures sound { IsTrue result → (ps : List Placed) → Stands self.old ps
+            → IsFound (last_of None ps) (view_of view.now) None }
+        ensures bounded { IsTrue result → (n : ℕ) → IsBounded n self.old → IsBounded (n + 1) self.new }
+        ensures unchanged { result ≡ false → self.new ≡ self.old }
     {
         let Some(end) = sound_end(self.findings.tail(), view) else {
-            return self.add_judged(view, number, offset);
+            return false;
         };
         self.records += 1;
         self.samples += u64::from(end.samples);
         self.findings.end_with(end);
-        None
+        true
     }
 
-    /// The same, of any record.
-    #[cold]
-    #[inline(never)]
-    fn add_judged(&mut self, view: &RecordView, number: u64, offset: u64) -> Option<Why>
+    /// One more record of the channel. Answers what is found of it.
+    pub(crate) fn add(&mut self, view: &RecordView, number: u64, offset: u64) -> Option<Why>
         requires some { 0 < count_of (view_of view.now) }
         requires bounded { IsBounded (2 ^ 40) self.old }
         ensures stands { (ps : List Placed) → Stands self.old ps

@@ -1,5 +1,5 @@
 //! What is kept of each channel while records come.
-ghost use Rattle.std.specs.Prelude.{◌≡◌, ◌↔◌, ◌⊎◌, ◌+◌, ◌<◌, ◌^◌, List, ℕ, [], ◌∷◌, ◌++◌, OnOk, OnErr, IfOk, IsOk};
+ghost use Rattle.std.specs.Prelude.{◌≡◌, ◌↔◌, ◌⊎◌, ◌+◌, ◌<◌, ◌^◌, List, ℕ, [], ◌∷◌, ◌++◌, OnOk, OnErr, IfOk, IsOk, false};
 ghost use Rattle.std.specs.Prelude.{IsSome, IsTrue, Option, Some, None};
 ghost use Rattle.mseed_record.specs.Header.{key_at};
 ghost use Rattle.mseed_record.specs.Viewing.{view_of};
@@ -80,13 +80,35 @@ impl<A: Allocator + Copy> Roster<A> {
         self.places.contains_key(codes)
     }
 
+    /// Adds a record to its channel, if the channel is there and nothing is found of the record, or if it is a silent
+    /// one. Answers whether it was added; else the roster is as it was.
+    #[inline(always)]
+    pub(crate) fn add_sound(&mut self, view: &RecordView) -> bool
+        requires { AreBounded (2 ^ 40) self.old }
+        ensures stands { IsTrue result → (key : List ℕ) (ps : List Placed) (offset number : ℕ)
+            → StandsAt (lookup (same_key key) self.old) ps → StandsAt (lookup (same_key key) self.new)
+            (with_record key ps (record { view = view_of view.now; offset = offset; number = number })) }
+        ensures sound { IsTrue result → (ps : List Placed)
+            → StandsAt (lookup (same_key (key_at (view_of view.now).bytes)) self.old) ps
+            → IsFoundOf ps (view_of view.now) None }
+        ensures bounded { IsTrue result → (n : ℕ) → AreBounded n self.old → AreBounded (n + 1) self.new }
+        ensures unchanged { result ≡ false → self.new ≡ self.old }
+    {
+        if view.samples() == 0 {
+            return true;
+        }
+        match self.find(view.codes()) {
+            Some(index) => self.channels[index].1.add_sound(view),
+            None => false,
+        }
+    }
+
     /// Adds a record to its channel, which may be new, and answers what is found of it. Nothing is kept of a silent
     /// one, and nothing is found of it.
     ///
     /// # Errors
     ///
     /// `Memory` where the channel is new and there was no room for it; the roster is then as it was.
-    #[inline(always)]
     pub(crate) fn add(
         &mut self,
         view: &RecordView,
