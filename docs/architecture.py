@@ -32,6 +32,7 @@ CRATES = {
     "slink_feed": (3, "rings, sessions, clients, turns"),
     "slink_links": (3, "one link after another, TCP"),
     "slink_live": (4, "many links at once, as records come"),
+    "slink_live_tcp": (4, "an input and links over TCP"),
     "slink_model": (2, "schedules over cut links"),
     "mseed_c": (0, "the calls for C"),
     "mseed": (1, "the command"),

@@ -6,6 +6,7 @@ pub mod feed;
 pub mod join;
 pub mod links;
 pub mod live;
+pub mod live_tcp;
 pub mod model;
 pub mod pack;
 pub mod parts;

@@ -1,0 +1,39 @@
+//! Calls of `slink_live_tcp`.
+ghost use Rattle.slink_live.specs.Served.{IsSound};
+
+use slink_live::{InputFault, Server};
+use slink_live_tcp::{Plan, Tcp};
+use std::alloc::Global;
+use std::io;
+use std::io::Read;
+use std::net::{Ipv4Addr, Net, SocketAddr};
+use std::os::fd::AsRawFd;
+use std::time::{Clock, Duration};
+
+/// Serves an input to at most 64 clients at once, at port 18000 of this machine. What is wrong with the input is
+/// answered, and what came before it stays served.
+pub fn serve_over_tcp<N: Net + Clock, I: Read + AsRawFd + Drop>(
+    host: &N,
+    alloc: Global,
+    server: &mut Server,
+    input: I,
+) -> io::Result<Result<(), InputFault>>
+    requires { IsSound server.old }
+{
+    let plan = Plan {
+        address: SocketAddr::from((Ipv4Addr::LOCALHOST, 18_000)),
+        clients: 64,
+        timeout: Some(Duration::from_secs(600)),
+    };
+    let mut tcp = Tcp::bind(host, alloc, plan, input)?;
+    let _ = tcp.address()?;
+    let served = server.serve(&mut tcp);
+    if served.is_err() {
+        let _ = server.serve(&mut tcp);
+    }
+    if tcp.has_failed() {
+        return Err(io::ErrorKind::Other.into());
+    }
+    tcp.finish();
+    Ok(served)
+}

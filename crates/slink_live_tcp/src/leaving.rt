@@ -1,0 +1,136 @@
+//! Links that are closed so that what was written to them comes through.
+ghost use Rattle.std.specs.Prelude.{◌<◌, IfSome, length};
+
+use mio::net::TcpStream;
+use mio::{Interest, Registry, Token};
+use std::alloc::{AllocError, Global};
+use std::io::{ErrorKind, Read};
+use std::net::Shutdown;
+use std::time::{Duration, Instant};
+
+/// What still comes is thrown away by so many reads at most at a time.
+const READS: usize = 64;
+
+/// For so many seconds it is waited for at most.
+const PATIENCE: u64 = 2;
+
+/// The bytes that one read has room for.
+const ROOM: usize = 1024;
+
+/// A stream on which nothing is written any more.
+#[derive(Drop)]
+struct Leaving {
+    stream: TcpStream,
+    since: Instant,
+    may_read: bool,
+}
+
+impl Leaving {
+    /// Whether it stays: the other side hasn't closed it, said too many bytes, or had its time.
+    fn stays(&mut self, now: Instant) -> bool {
+        if now.saturating_duration_since(self.since) >= Duration::from_secs(PATIENCE) {
+            return false;
+        }
+        if !self.may_read {
+            return true;
+        }
+        self.may_read = false;
+        let mut room = [0; ROOM];
+        for read in 0..READS {
+            match self.stream.read(&mut room) {
+                Ok(0) => return false,
+                Ok(_) => {}
+                Err(error) => return error.kind() == ErrorKind::WouldBlock,
+            }
+        }
+        false
+    }
+}
+
+/// Streams that are let go of once the other side has closed them. The system resets a stream that is closed while a
+/// byte of it is unread, or to which one comes later, and then drops what the other side hasn't received.
+#[derive(Drop)]
+pub(crate) struct Departures {
+    streams: Vec<Option<Leaving>>,
+    // The token of the first place.
+    first: usize,
+    count: usize,
+}
+
+impl Departures {
+    /// Room for so many streams, whose tokens begin with this one.
+    ///
+    /// # Errors
+    ///
+    /// Where there is no memory.
+    pub(crate) fn new(alloc: Global, first: usize, count: usize) -> Result<Self, AllocError> {
+        let mut streams = Vec::new(alloc);
+        for stream in 0..count {
+            streams.push(None)?;
+        }
+        Ok(Departures {
+            streams,
+            first,
+            count: 0,
+        })
+    }
+
+    /// Writes nothing more on a stream that is registered, and takes it. Without room for it, it is let go of at once.
+    pub(crate) fn add(&mut self, mut stream: TcpStream, registry: &Registry, since: Instant) {
+        let Some(place) = self.free() else {
+            return;
+        };
+        let token = Token(self.first.saturating_add(place));
+        if stream.shutdown(Shutdown::Write).is_ok()
+            && registry
+                .reregister(&mut stream, token, Interest::READABLE)
+                .is_ok()
+        {
+            self.streams[place] = Some(Leaving {
+                stream,
+                since,
+                may_read: true,
+            });
+            self.count = self.count.saturating_add(1);
+        }
+    }
+
+    /// A free place.
+    fn free(&self) -> Option<usize>
+        ensures { IfSome result (λ place. place < length self.now.streams.items) }
+    {
+        for place in 0..self.streams.len() {
+            if self.streams[place].is_none() {
+                return Some(place);
+            }
+        }
+        None
+    }
+
+    /// An event says that the stream with a token may have bytes, or be at its end.
+    pub(crate) fn may(&mut self, token: usize) {
+        let place = token.saturating_sub(self.first);
+        if let Some(Some(leaving)) = self.streams.get_mut(place) {
+            leaving.may_read = true;
+        }
+    }
+
+    /// Whether there is none.
+    pub(crate) fn is_empty(&self) -> bool {
+        self.count == 0
+    }
+
+    /// Reads what still comes, and lets go of those that are done.
+    pub(crate) fn settle(&mut self, now: Instant) {
+        for place in 0..self.streams.len() {
+            let stays = match &mut self.streams[place] {
+                Some(leaving) => leaving.stays(now),
+                None => true,
+            };
+            if !stays {
+                self.streams[place] = None;
+                self.count = self.count.saturating_sub(1);
+            }
+        }
+    }
+}

@@ -1,0 +1,236 @@
+//! A link over TCP, and what is known of it.
+ghost use Rattle.std.specs.Prelude.{◌≤◌, length};
+
+use mio::net::TcpStream;
+use slink_live::Wishes;
+use std::io::{ErrorKind, Read, Write};
+use std::time::{Duration, Instant};
+
+/// What a server wants of a new link.
+const FIRST_WISHES: Wishes = Wishes {
+    reads: true,
+    writes: false,
+    is_streaming: false,
+};
+
+/// A stream, what the server wants of it, and what may be had.
+#[derive(Drop)]
+struct Line {
+    stream: TcpStream,
+    wishes: Wishes,
+    may_read: bool,
+    may_write: bool,
+    // The client says nothing more. What it asked for is written all the same.
+    is_at_end: bool,
+    is_gone: bool,
+    // Since when it has only so much time.
+    waits_since: Option<Instant>,
+}
+
+/// A place for a link.
+#[derive(Drop)]
+pub(crate) struct Slot {
+    line: Option<Line>,
+}
+
+/// What a slot has to tell.
+#[derive(Clone, Copy, Debug, PartialEq, Eq)]
+pub(crate) enum News {
+    /// Nothing can be done.
+    None,
+    /// The link may have bytes.
+    Readable,
+    /// The link may take bytes.
+    Writable,
+    /// The link is at its end, or failed, or was silent for too long.
+    Gone,
+}
+
+impl Line {
+    /// Whether it has only so much time: in the handshake, and while it takes nothing though there is something to write.
+    fn is_timed(&self) -> bool {
+        !self.wishes.is_streaming || self.wishes.writes && !self.may_write
+    }
+
+    /// What the server wants, and whether that is something else than before.
+    fn wants(&mut self, wishes: Wishes) -> bool {
+        if wishes == self.wishes {
+            return false;
+        }
+        if wishes.is_streaming && !self.wishes.is_streaming {
+            self.waits_since = None;
+        }
+        self.wishes = wishes;
+        true
+    }
+
+    /// Takes note of the time, and answers whether the link has waited for too long: then it is gone.
+    fn look_at(&mut self, now: Instant, limit: Duration) -> bool {
+        if !self.is_timed() {
+            self.waits_since = None;
+            return false;
+        }
+        match self.waits_since {
+            Some(since) => {
+                self.is_gone = self.is_gone || now.saturating_duration_since(since) >= limit;
+                self.is_gone
+            }
+            None => {
+                self.waits_since = Some(now);
+                false
+            }
+        }
+    }
+
+    /// What can be done. A write comes before a read.
+    fn news(&self) -> News {
+        if self.is_gone || self.is_at_end && !self.wishes.writes {
+            News::Gone
+        } else if self.wishes.writes && self.may_write {
+            News::Writable
+        } else if self.wishes.reads && self.may_read && !self.is_at_end {
+            News::Readable
+        } else {
+            News::None
+        }
+    }
+
+    /// Reads once.
+    fn read(&mut self, buf: &mut [u8]) -> usize
+        ensures { result ≤ length buf.new }
+    {
+        match self.stream.read(buf) {
+            Ok(0) => {
+                self.is_at_end = true;
+                0
+            }
+            Ok(count) => count,
+            Err(error) => {
+                match error.kind() {
+                    ErrorKind::WouldBlock => self.may_read = false,
+                    ErrorKind::Interrupted => {}
+                    _ => self.is_gone = true,
+                }
+                0
+            }
+        }
+    }
+
+    /// Writes once. Whoever takes something has all the time again.
+    fn write(&mut self, bytes: &[u8]) -> usize
+        ensures { result ≤ length bytes.now }
+    {
+        match self.stream.write(bytes) {
+            Ok(0) => {
+                self.is_gone = true;
+                0
+            }
+            Ok(count) => {
+                if self.wishes.is_streaming {
+                    self.waits_since = None;
+                }
+                count
+            }
+            Err(error) => {
+                match error.kind() {
+                    ErrorKind::WouldBlock => self.may_write = false,
+                    ErrorKind::Interrupted => {}
+                    _ => self.is_gone = true,
+                }
+                0
+            }
+        }
+    }
+}
+
+impl Slot {
+    /// A place without a link.
+    pub(crate) fn new() -> Slot {
+        Slot { line: None }
+    }
+
+    /// Takes a link, of which a read and a write are tried at once.
+    pub(crate) fn open(&mut self, stream: TcpStream) {
+        self.line = Some(Line {
+            stream,
+            wishes: FIRST_WISHES,
+            may_read: true,
+            may_write: true,
+            is_at_end: false,
+            is_gone: false,
+            waits_since: None,
+        });
+    }
+
+    /// The stream of the link, which stands here no more.
+    pub(crate) fn leave(&mut self) -> Option<TcpStream> {
+        match self.line.take() {
+            Some(line) => Some(line.stream),
+            None => None,
+        }
+    }
+
+    /// What the server wants, and whether that is something else than before.
+    pub(crate) fn wants(&mut self, wishes: Wishes) -> bool {
+        match &mut self.line {
+            Some(line) => line.wants(wishes),
+            None => false,
+        }
+    }
+
+    /// What an event says.
+    pub(crate) fn may(&mut self, reads: bool, writes: bool) {
+        if let Some(line) = &mut self.line {
+            line.may_read = line.may_read || reads;
+            line.may_write = line.may_write || writes;
+        }
+    }
+
+    /// Whether it has only so much time.
+    pub(crate) fn is_timed(&self) -> bool {
+        match &self.line {
+            Some(line) => line.is_timed(),
+            None => false,
+        }
+    }
+
+    /// Takes note of the time, and answers whether the link has waited for too long.
+    pub(crate) fn look_at(&mut self, now: Instant, limit: Duration) -> bool {
+        match &mut self.line {
+            Some(line) => line.look_at(now, limit),
+            None => false,
+        }
+    }
+
+    /// What can be done.
+    pub(crate) fn news(&self) -> News {
+        match &self.line {
+            Some(line) => line.news(),
+            None => News::None,
+        }
+    }
+
+    /// Reads once.
+    pub(crate) fn read(&mut self, buf: &mut [u8]) -> usize
+        ensures { result ≤ length buf.new }
+    {
+        match &mut self.line {
+            Some(line) => if buf.is_empty() { 0 } else { line.read(buf) },
+            None => 0,
+        }
+    }
+
+    /// Writes once.
+    pub(crate) fn write(&mut self, bytes: &[u8]) -> usize
+        ensures { result ≤ length bytes.now }
+    {
+        match &mut self.line {
+            Some(line) => if bytes.is_empty() {
+                0
+            } else {
+                line.write(bytes)
+            },
+            None => 0,
+        }
+    }
+}

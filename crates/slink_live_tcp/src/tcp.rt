@@ -1,0 +1,401 @@
+//! An input, a listener and its links, by one wait for all of them.
+ghost use Rattle.std.specs.Prelude.{◌≡◌, ◌≤◌, [], IfOk, IfSome, length};
+ghost use Rattle.slink_live_tcp.specs.Happened.{happened, is_over};
+
+use crate::door::Door;
+use crate::guards::Guards;
+use crate::input::{INPUT, Input};
+use crate::leaving::Departures;
+use crate::round::Round;
+use crate::slot::{News, Slot};
+use mio::net::TcpListener;
+use mio::{Events, Interest, Poll, Token};
+use slink_live::{Event, Log, Ready, Wishes};
+use std::alloc::Global;
+use std::io;
+use std::io::Read;
+use std::net::{Net, SocketAddr};
+use std::os::fd::AsRawFd;
+use std::time::{Clock, Duration, Instant};
+
+/// The token of the listener. The slots' tokens follow, and those of the links that leave.
+const LISTENER: usize = 1;
+
+/// The token of the first slot.
+const FIRST: usize = 2;
+
+/// So many events are taken from the system at once.
+const EVENTS: usize = 256;
+
+/// So often it is looked at the time while links leave or have only so much of it, in milliseconds.
+const TICK: u64 = 250;
+
+/// Where links are taken from, and how.
+#[derive(Clone, Copy, Debug)]
+pub struct Plan {
+    /// The address and port at which they dial.
+    pub address: SocketAddr,
+    /// How many stand at once.
+    pub clients: usize,
+    /// How long a handshake may take, and a link take nothing though there is something to send; no bound where there
+    /// is none.
+    pub timeout: Option<Duration>,
+}
+
+/// An input, a listener and its links.
+#[derive(Drop)]
+pub struct Tcp<'a, C: Clock, I: Drop> {
+    clock: &'a C,
+    guards: Guards,
+    poll: Poll,
+    events: Events,
+    input: Input<I>,
+    door: Door,
+    timeout: Option<Duration>,
+    slots: Vec<Slot>,
+    departures: Departures,
+    round: Round,
+    // The next place of the round, and whether the round found something.
+    cursor: usize,
+    is_busy: bool,
+    looked_at: Option<Instant>,
+    is_over: bool,
+    log: Log,
+}
+
+/// So many places for links.
+fn slots(alloc: Global, count: usize) -> io::Result<Vec<Slot>> {
+    let mut slots = Vec::new(alloc);
+    for slot in 0..count {
+        slots.push(Slot::new())?;
+    }
+    Ok(slots)
+}
+
+/// A listener that is waited for.
+fn door_at<N: Net>(host: &N, address: SocketAddr, poll: &Poll) -> io::Result<Door> {
+    let mut listener = TcpListener::bind(host, address)?;
+    poll.registry()
+        .register(&mut listener, Token(LISTENER), Interest::READABLE)?;
+    Ok(Door::new(listener))
+}
+
+/// A round in which the input and the listener have their turn.
+fn first_round(alloc: Global, count: usize) -> io::Result<Round> {
+    let mut round = Round::new(alloc, count)?;
+    round.add(INPUT);
+    round.add(LISTENER);
+    Ok(round)
+}
+
+impl<'a, C: Net + Clock, I: Read + AsRawFd + Drop> Tcp<'a, C, I> {
+    /// Listens at an address. No socket takes the descriptor of a standard stream that is closed.
+    ///
+    /// # Errors
+    ///
+    /// Where the system refuses it, or memory lacks.
+    pub fn bind(host: &'a C, alloc: Global, plan: Plan, input: I) -> io::Result<Tcp<'a, C, I>>
+        ensures { IfOk result (λ t. happened t ≡ []) }
+    {
+        let guards = Guards::new(host, alloc)?;
+        let poll = Poll::new(host)?;
+        let door = door_at(host, plan.address, &poll)?;
+        let input = Input::new(input, &guards, poll.registry());
+        let end = FIRST.saturating_add(plan.clients);
+        Ok(Tcp {
+            clock: host,
+            guards,
+            poll,
+            events: Events::with_capacity(alloc, EVENTS)?,
+            input,
+            door,
+            timeout: plan.timeout,
+            slots: slots(alloc, plan.clients)?,
+            departures: Departures::new(alloc, end, plan.clients)?,
+            round: first_round(alloc, end)?,
+            cursor: 0,
+            is_busy: false,
+            looked_at: None,
+            is_over: false,
+            log: Log::new(),
+        })
+    }
+}
+
+impl<C: Clock, I: Read + AsRawFd + Drop> Tcp<'_, C, I> {
+    /// Where links dial.
+    ///
+    /// # Errors
+    ///
+    /// Where the system doesn't say.
+    pub fn address(&self) -> io::Result<SocketAddr> {
+        self.door.address()
+    }
+
+    /// Whether the system failed to say what is ready, so that nothing comes any more.
+    pub fn has_failed(&self) -> bool
+        ensures { result ≡ is_over self.now }
+    {
+        self.is_over
+    }
+
+    /// Waits until each link that was closed has what was written to it, or was given time to: before the program ends.
+    pub fn finish(&mut self)
+        ensures { happened self.new ≡ happened self.old }
+    {
+        for round in 0..u64::MAX {
+            if self.departures.is_empty() || self.ask().is_err() {
+                return;
+            }
+        }
+    }
+
+    /// What can be done in the rest of the round.
+    fn in_round(&mut self) -> Option<Event>
+        ensures log { self.new.log ≡ self.old.log }
+        ensures some { IfSome result (λ event. event ≡ Event.Nothing → ⊥) }
+    {
+        for turn in 0..u64::MAX {
+            let place = self.round.next(self.cursor)?;
+            self.cursor = place.saturating_add(1);
+            let event = self.at(place);
+            if event.is_some() {
+                self.is_busy = true;
+                return event;
+            }
+            self.round.remove(place);
+        }
+        None
+    }
+
+    /// What can be done at a place of the round: the input, the listener, a slot.
+    fn at(&mut self, place: usize) -> Option<Event>
+        ensures log { self.new.log ≡ self.old.log }
+        ensures some { IfSome result (λ event. event ≡ Event.Nothing → ⊥) }
+    {
+        if place == INPUT {
+            return self.input.news();
+        }
+        if place == LISTENER {
+            return if self.door.is_dialled() {
+                Some(Event::Dialled)
+            } else {
+                None
+            };
+        }
+        let slot = place - FIRST;
+        match self.slots.get(slot)?.news() {
+            News::None => None,
+            News::Readable => Some(Event::Readable(slot)),
+            News::Writable => Some(Event::Writable(slot)),
+            News::Gone => Some(Event::Gone(slot)),
+        }
+    }
+
+    /// How long the system may wait: not at all where the round found something, else up to the next look at the time.
+    fn wait(&self) -> Option<Duration> {
+        if self.is_busy {
+            return Some(Duration::ZERO);
+        }
+        let is_timed = self.timeout.is_some() && self.slots.iter().any(|slot| slot.is_timed());
+        if is_timed || !self.departures.is_empty() || self.door.is_short() {
+            Some(Duration::from_millis(TICK))
+        } else {
+            None
+        }
+    }
+
+    /// Asks the system what is ready, and waits for it where the round found nothing.
+    ///
+    /// # Errors
+    ///
+    /// Where the system doesn't say, or the clock fails.
+    fn ask(&mut self) -> io::Result<()>
+        ensures { self.new.log ≡ self.old.log }
+    {
+        let wait = self.wait();
+        self.cursor = 0;
+        self.is_busy = false;
+        self.poll.poll(&mut self.events, wait)?;
+        self.take_events();
+        self.look_at_time()
+    }
+
+    /// Takes note of what is ready.
+    fn take_events(&mut self)
+        ensures { self.new.log ≡ self.old.log }
+    {
+        for event in self.events.iter() {
+            let Token(place) = event.token();
+            if place == INPUT {
+                self.input.may();
+            } else if place == LISTENER {
+                self.door.may();
+            } else if place - FIRST < self.slots.len() {
+                let reads = event.is_readable() || event.is_read_closed() || event.is_error();
+                let writes = event.is_writable() || event.is_write_closed();
+                self.slots[place - FIRST].may(reads, writes);
+            } else {
+                self.departures.may(place);
+            }
+            self.round.add(place);
+        }
+    }
+
+    /// Lets go of links that have left, and now and then gives up those that wait for too long.
+    ///
+    /// # Errors
+    ///
+    /// Where the clock fails.
+    fn look_at_time(&mut self) -> io::Result<()>
+        ensures { self.new.log ≡ self.old.log }
+    {
+        if self.timeout.is_none() && self.departures.is_empty() && !self.door.is_short() {
+            return Ok(());
+        }
+        let now = Instant::now(self.clock)?;
+        if !self.departures.is_empty() {
+            self.departures.settle(now);
+        }
+        if self.is_due(now) {
+            self.looked_at = Some(now);
+            self.door.try_again();
+            self.round.add(LISTENER);
+            self.give_up(now);
+        }
+        Ok(())
+    }
+
+    /// Whether the last look is long enough ago.
+    fn is_due(&self, now: Instant) -> bool {
+        match self.looked_at {
+            Some(last) => now.saturating_duration_since(last) >= Duration::from_millis(TICK),
+            None => true,
+        }
+    }
+
+    /// Gives up the links that wait for too long.
+    fn give_up(&mut self, now: Instant)
+        ensures { self.new.log ≡ self.old.log }
+    {
+        if let Some(limit) = self.timeout {
+            for slot in 0..self.slots.len() {
+                if self.slots[slot].look_at(now, limit) {
+                    self.round.add(slot.saturating_add(FIRST));
+                }
+            }
+        }
+    }
+
+    /// Takes a link that dials into a slot.
+    fn accept_once(&mut self, slot: usize) -> bool
+        ensures { self.new.log ≡ self.old.log }
+    {
+        if slot >= self.slots.len() {
+            return false;
+        }
+        let Some(mut stream) = self.door.accept() else {
+            return false;
+        };
+        let place = slot.saturating_add(FIRST);
+        let both = Interest::READABLE | Interest::WRITABLE;
+        if self
+            .poll
+            .registry()
+            .register(&mut stream, Token(place), both)
+            .is_err()
+        {
+            return false;
+        }
+        self.slots[slot].open(stream);
+        self.round.add(place);
+        true
+    }
+
+    /// Closes the link in a slot so that what was written to it comes through.
+    fn let_go(&mut self, slot: usize)
+        ensures { self.new.log ≡ self.old.log }
+    {
+        if slot < self.slots.len()
+            && let Some(stream) = self.slots[slot].leave()
+            && let Ok(now) = Instant::now(self.clock)
+        {
+            self.departures.add(stream, self.poll.registry(), now);
+        }
+    }
+}
+
+impl<C: Clock, I: Read + AsRawFd + Drop> Ready for Tcp<'_, C, I> {
+    ghost use Rattle.slink_live_tcp.specs.Happened.{happened, is_over};
+
+    ghost log = { happened };
+
+    ghost is_over = { is_over };
+
+    fn next(&mut self) -> Event {
+        for round in 0..u64::MAX {
+            if let Some(event) = self.in_round() {
+                return event;
+            }
+            if self.ask().is_err() {
+                break;
+            }
+        }
+        self.is_over = true;
+        Event::Nothing
+    }
+
+    fn read_input(&mut self, buf: &mut [u8]) -> usize {
+        let count = self.input.read(self.poll.registry(), buf);
+        self.log.input(&buf[..count]);
+        count
+    }
+
+    fn leave_input(&mut self) {
+        self.input.leave(self.poll.registry());
+    }
+
+    fn accept(&mut self, slot: usize) -> bool {
+        let is_open = self.accept_once(slot);
+        if is_open {
+            self.log.opened(slot);
+        }
+        is_open
+    }
+
+    fn read(&mut self, slot: usize, buf: &mut [u8]) -> usize {
+        let count = if slot < self.slots.len() {
+            self.slots[slot].read(buf)
+        } else {
+            0
+        };
+        self.log.heard(slot, &buf[..count]);
+        count
+    }
+
+    fn write(&mut self, slot: usize, bytes: &[u8]) -> usize {
+        let count = if slot < self.slots.len() {
+            self.slots[slot].write(bytes)
+        } else {
+            0
+        };
+        self.log.took(slot, &bytes[..count]);
+        count
+    }
+
+    fn close(&mut self, slot: usize) {
+        self.let_go(slot);
+        self.log.gone(slot);
+    }
+
+    fn wants(&mut self, slot: usize, wishes: Wishes) {
+        if slot < self.slots.len() && self.slots[slot].wants(wishes) {
+            self.round.add(slot.saturating_add(FIRST));
+        }
+    }
+
+    fn wants_links(&mut self, wanted: bool) {
+        self.door.wants(wanted);
+        self.round.add(LISTENER);
+    }
+}
