@@ -5,6 +5,8 @@
 #[cfg(test)]
 mod live;
 #[cfg(test)]
+mod live_tcp;
+#[cfg(test)]
 mod model;
 #[cfg(test)]
 mod wire;
