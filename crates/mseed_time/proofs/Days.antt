@@ -22,18 +22,6 @@ days_from_civil-first y low =
       day_count-early (pos y) (y + 9999) 1 1 here (omega arith) (omega arith) (omega arith),
     )
 
--- the same of a date
-pub epoch_day-first : (d : Date) (y : ℕ) → 1 ≤ y → d.year ≡ pos y → d.month ≡ 1 → d.day ≡ 1 → epoch_day d ≡ day_of y 1
-epoch_day-first d y low e f g = rw (e, f, g) (days_from_civil-first y low)
-
--- the same, counted from the calendar's first day and from 1900
-pub first_from_1900 : (d : Date) (y n : ℕ) → 1900 ≤ y → d.year ≡ pos y → d.month ≡ 1 → d.day ≡ 1
-    → epoch_day d +ℤ pos 4_371_587 ≡ pos n → (4_346_020 ≤ n) × (day_of y 1 +ℤ pos 25_567 ≡ pos (n - 4_346_020))
-first_from_1900 d y n low e f g counted =
-    let first = epoch_day-first d y (omega arith) e f g in
-    let same : day_of y 1 +ℤ pos 4_371_587 ≡ pos n = rw first at counted in
-    (omega (arith, signed_arith, same), omega (arith, signed_arith, same))
-
 -- a time, by its day from 1900
 pub microsecond_of-counted : (t : Parts) (days : ℕ) → day_of t.year t.day +ℤ pos 25_567 ≡ pos days
     → microsecond_of t +ℤ pos 2_208_988_800_000_000

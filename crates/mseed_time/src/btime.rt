@@ -191,7 +191,8 @@ fn days_since_1900(year: u16) -> u64
     requires high { year ≤ 2100 }
     ensures { day_of year 1 +ℤ pos 25_567 ≡ pos result }
 {
-    u64::from(Date::constrain(year as i16, 1, 1).days_since_min() - FIRST_OF_1900)
+    // From 1901 to 2099 each fourth year is a leap year, and 1900 is none.
+    (1461 * (u64::from(year) - 1900)).saturating_sub(1) / 4
 }
 
 /// The year and the day of the year, by the days after 1900-01-01.
