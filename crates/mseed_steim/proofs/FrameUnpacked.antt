@@ -3,7 +3,7 @@ use Rattle.std.proofs.Common.{◌≡◌, ◌≢◌, ℕ, zero, suc, ◌+◌, ◌
 use Rattle.std.proofs.Common.{take, drop, get_or, ℤ, refl, sym, ap, subst, ◌∙◌, append_assoc, append-nil, arith, inl}
 use Rattle.std.proofs.Common.{inr, Some, Ok, Result}
 use Rattle.std.specs.List.{range_with_len}
-use Rattle.std.proofs.lemmas.List.{map-append, take_all}
+use Rattle.std.proofs.lemmas.List.{map-append}
 use lib.Lanes.{sum_l}
 use Rattle.mseed_steim.specs.declared.scheme.Scheme.{Scheme}
 use Rattle.mseed_steim.specs.declared.scheme.Scheme.TheVariants.{One, Two}
@@ -12,21 +12,14 @@ use Rattle.mseed_steim.specs.declared.unpack.Unpacking.{Unpacking}
 use Rattle.mseed_steim.specs.private.Digits.{differences_of}
 use Rattle.mseed_steim.specs.Frames.{DataWord, data_word, word_at, code_at, words_from}
 use Rattle.mseed_steim.specs.private.Items.{items_of}
-use Rattle.mseed_steim.specs.private.Lanes.{span, words, word_at as lanes_word_at, row_at, Begins}
+use Rattle.mseed_steim.specs.private.Lanes.{span, words, row_at, Begins}
 use Rattle.mseed_steim.specs.private.Unpacked.{AreNarrow, Unpacks, counts_of, widths_of, lanes_of, differences_at}
 use Rattle.mseed_steim.specs.private.Unpacked.{unpacked}
 use Rattle.mseed_steim.proofs.Walking.{words_none, words_step, items_group}
-use Rattle.mseed_steim.proofs.FrameItems.{Reads, reads_by, rows_one, rows_two, zeros_one, zeros_two, word_is, none_at}
+use Rattle.mseed_steim.proofs.FrameItems.{Reads, reads_by, rows_one, rows_two, zeros_one, zeros_two, none_at}
 use Rattle.mseed_steim.proofs.FrameItems.{span-append}
 use Rattle.mseed_steim.proofs.LaneDigits.{at_word, one_of_sum}
 use Rattle.mseed_steim.proofs.FrameNear.{frame_near_one, frame_near_two}
-
--- a word of the frame itself
-pub word_in : (f : List ℕ) (j : ℕ) → length f ≡ 64 → j < 16 → word_at f j ≡ lanes_word_at f j
-word_in f j long less =
-    let whole : f ≡ take 64 (drop (64 * 0) f) = sym (take_all 64 f (omega (arith, long))) in
-    let at : 0 + j ≡ j = omega arith in
-    rw at at (word_is f f 0 j whole less)
 
 -- one word more
 pub unpacked_more : (s : Scheme) (f : List ℕ) (from j n : ℕ)

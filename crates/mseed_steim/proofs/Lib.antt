@@ -45,5 +45,6 @@ pub mod Nearness
 pub mod Constants
 pub mod Lifts
 pub mod LaneDigits
+pub mod LaneWords
 pub mod FrameUnpacked
 pub mod Turns

@@ -5,19 +5,19 @@
 //! same in all lanes, leaves the differences. The lanes behind the last one hold anything: there stand the
 //! differences of the next word.
 
-ghost use Rattle.std.specs.Prelude.{◌≡◌, ◌<◌, ◌≤◌, ◌+◌, ◌-◌, ◌*◌, ◌^◌, ℕ, List, ◌++◌, ℤ, Ok, IfSome, map, take, drop};
-ghost use Rattle.std.specs.Prelude.{slice_index, slice_index_or};
+ghost use Rattle.std.specs.Prelude.{◌≡◌, ◌<◌, ◌≤◌, ◌+◌, ◌-◌, ◌*◌, ◌^◌, ℕ, List, [], ◌∷◌, ◌++◌, ℤ, Ok, IfSome, map};
+ghost use Rattle.std.specs.Prelude.{take, drop, slice_index, slice_index_or};
 ghost use Rattle.std.specs.Simd.Lanes.{sum_l};
 ghost use Rattle.mseed_steim.specs.private.Digits.{digit_at, digits};
 ghost use Rattle.mseed_steim.specs.Frames.{DataWord, words_from};
 ghost use Rattle.mseed_steim.specs.private.Items.{items_of};
-ghost use Rattle.mseed_steim.specs.private.Lanes.{Begins, row_at, span, word_at, words};
+ghost use Rattle.mseed_steim.specs.private.Lanes.{Begins, row_at, span, word_at, word_of, words};
 ghost use Rattle.mseed_steim.specs.private.Unpacked.{AreNarrow, Unpacks, counts_of, lanes_of, unpacked, widths_of};
 
-use crate::data_words::read_word;
 use crate::frame::{COUNT_ONE, COUNT_TWO};
 use crate::lanes::{Rows, planes, rows_of, sum_of, tally};
 use crate::scheme::Scheme;
+use std::simd::prelude::*;
 
 /// The lanes of a word: no fewer than it has differences.
 pub(crate) const LANES: usize = 8;
@@ -170,11 +170,37 @@ fn rows_in(scheme: Scheme, frame: &[u8; 64], begin: Rows) -> ([u8; 16], u32)
     (rows.to_array(), count)
 }
 
+/// Four words, the highest byte of each first.
+#[inline(always)]
+fn four_words(bytes: u8x16) -> [u32; 4]
+    ensures { (byte : ℕ → ℕ) → ((place : ℕ) → byte place < 256) → bytes ≡ map byte words
+        → result ≡ word_of (byte 0) (byte 1) (byte 2) (byte 3) ∷ word_of (byte 4) (byte 5) (byte 6) (byte 7)
+        ∷ word_of (byte 8) (byte 9) (byte 10) (byte 11) ∷ word_of (byte 12) (byte 13) (byte 14) (byte 15) ∷ [] }
+{
+    let swapped = bytes.swizzle::<16>([3, 2, 1, 0, 7, 6, 5, 4, 11, 10, 9, 8, 15, 14, 13, 12]);
+    u32x4::from_le_bytes(swapped).to_array()
+}
+
+/// The words of a frame.
+#[inline(always)]
+fn words_of(frame: &[u8; 64]) -> [u32; 16]
+    ensures { result ≡ map (word_at frame.now) words }
+{
+    let a = four_words(u8x16::from_slice(&frame[0..16]));
+    let b = four_words(u8x16::from_slice(&frame[16..32]));
+    let c = four_words(u8x16::from_slice(&frame[32..48]));
+    let d = four_words(u8x16::from_slice(&frame[48..64]));
+    [
+        a[0], a[1], a[2], a[3], b[0], b[1], b[2], b[3], c[0], c[1], c[2], c[3], d[0], d[1], d[2],
+        d[3],
+    ]
+}
+
 /// The differences of five words of these rows, put behind those that there are: how many there are then.
 #[inline(always)]
 fn unpack_five(
     scheme: Scheme,
-    frame: &[u8; 64],
+    bits: &[u32; 16],
     rows: &[u8; 16],
     first: usize,
     met: usize,
@@ -184,15 +210,15 @@ fn unpack_five(
     requires inside { first + 5 ≤ 16 }
     requires room { met ≤ 80 }
     ensures few { result ≤ met + 40 }
-    ensures unpacked { (from : ℕ) → ((word : ℕ) → word < 16 → slice_index rows.now word ≡ row_at frame.now from word)
-        → AreNarrow scheme frame.now from
-        → take result differences.new ≡ take met differences.old ++ unpacked scheme frame.now from first 5 }
+    ensures unpacked { (frame : List ℕ) (from : ℕ) → bits.now ≡ map (word_at frame) words
+        → ((word : ℕ) → word < 16 → slice_index rows.now word ≡ row_at frame from word)
+        → AreNarrow scheme frame from
+        → take result differences.new ≡ take met differences.old ++ unpacked scheme frame from first 5 }
 {
     let mut met = met;
     for index in 0..5 {
         let by = unpacking_of(scheme, usize::from(rows[first + index]));
-        let word = read_word(frame, first + index);
-        spread(word, by, lanes_of(scheme), met, differences);
+        spread(bits[first + index], by, lanes_of(scheme), met, differences);
         met += by.count;
     }
     met
@@ -211,9 +237,10 @@ fn unpack_words(
     ensures unpacked { (from : ℕ) → ((word : ℕ) → word < 16 → slice_index rows.now word ≡ row_at frame.now from word)
         → AreNarrow scheme frame.now from → take result differences.new ≡ unpacked scheme frame.now from 1 15 }
 {
-    let met = unpack_five(scheme, frame, rows, 1, 0, differences);
-    let met = unpack_five(scheme, frame, rows, 6, met, differences);
-    unpack_five(scheme, frame, rows, 11, met, differences)
+    let bits = words_of(frame);
+    let met = unpack_five(scheme, &bits, rows, 1, 0, differences);
+    let met = unpack_five(scheme, &bits, rows, 6, met, differences);
+    unpack_five(scheme, &bits, rows, 11, met, differences)
 }
 
 /// The differences of a frame's words from word 1 or word 4 on, in their order: how many there are. None where a word

@@ -3,7 +3,8 @@ use Rattle.std.proofs.Common.{append_assoc}
 use Rattle.mseed_steim.specs.private.Digits.{digits}
 use Rattle.mseed_steim.specs.private.Lanes.{row_at, word_at}
 use Rattle.mseed_steim.specs.private.Unpacked.{lanes_of, differences_at, unpacked, widths_of}
-use Rattle.mseed_steim.proofs.FrameUnpacked.{by_own_count, lanes_few, unpacked_more, word_in}
+use Rattle.mseed_steim.proofs.FrameUnpacked.{by_own_count, lanes_few, unpacked_more}
+use Rattle.mseed_steim.proofs.LaneDigits.{at_word}
 use Rattle.mseed_steim.proofs.unpack.unpack_five.Goals as goal
 
 pub loop-index-init : goal.loop-index-init
@@ -11,12 +12,11 @@ unfolding unpacked
 loop-index-init c = record {
   long = c.told-differences;
   few = omega arith;
-  so_far = λ from rows narrow. rw append-nil refl;
+  so_far = λ frame from ws rows narrow. rw append-nil refl;
 }
 
 pub loop-index-preserved : goal.loop-index-preserved
 loop-index-preserved c =
-    let f = c.args.frame.now in
     let s = c.args.scheme in
     let index = c.loop-index.index in
     let place : ℕ = c.args.first + index in
@@ -28,19 +28,20 @@ loop-index-preserved c =
     record {
       long = c.spread.array_long;
       few = omega (arith, most, enough, c.loop-index.invariant.few);
-      so_far = λ from rows narrow.
+      so_far = λ f from ws rows narrow.
           let row : c.from.result ≡ row_at f from place = c.from.ensures ∙ rows place inside in
           let known = rw row at c.unpacking_of-by.ensures.row in
           let u = known (narrow place inside) in
           let width : ℕ = get_or (widths_of s) (row_at f from place) 0 in
-          let word : c.read_word-word.result ≡ word_at f place = c.read_word-word.ensures
-          ∙ word_in f place c.told-frame inside in
-          let same : digits width c.read_word-word.result by.count ≡ differences_at s f from place =
+          let bits : ℕ = get_or c.args.bits.now place 0 in
+          let word : bits ≡ word_at f place =
+          ap (λ (ws : List ℕ). get_or ws place 0) ws ∙ at_word (word_at f) place inside in
+          let same : digits width bits by.count ≡ differences_at s f from place =
           rw (word, u.as_many) refl in
           c.spread.ensures width (by_own_count _ width by u)
-          ∙ ap (λ (xs : List ℤ). xs ++ digits width c.read_word-word.result by.count)
-          (c.loop-index.invariant.so_far from rows narrow)
-          ∙ append_assoc prefix (unpacked s f from c.args.first index) (digits width c.read_word-word.result by.count)
+          ∙ ap (λ (xs : List ℤ). xs ++ digits width bits by.count)
+          (c.loop-index.invariant.so_far f from ws rows narrow)
+          ∙ append_assoc prefix (unpacked s f from c.args.first index) (digits width bits by.count)
           ∙ ap (λ (xs : List ℤ). prefix ++ (unpacked s f from c.args.first index ++ xs)) same
           ∙ ap (λ (xs : List ℤ). prefix ++ xs) (sym (unpacked_more s f from c.args.first index));
     }

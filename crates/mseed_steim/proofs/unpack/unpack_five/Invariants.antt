@@ -1,5 +1,5 @@
-use Rattle.std.proofs.Common.{◌≡◌, ℕ, ◌+◌, ◌*◌, ◌<◌, ◌≤◌, ◌++◌, take, length, get_or}
-use Rattle.mseed_steim.specs.private.Lanes.{row_at}
+use Rattle.std.proofs.Common.{◌≡◌, ℕ, ◌+◌, ◌*◌, ◌<◌, ◌≤◌, ◌++◌, take, length, get_or, List, map}
+use Rattle.mseed_steim.specs.private.Lanes.{row_at, word_at, words}
 use Rattle.mseed_steim.specs.private.Unpacked.{AreNarrow, unpacked}
 use Rattle.mseed_steim.proofs.unpack.unpack_five.Given as goal
 
@@ -7,7 +7,8 @@ abbrev pub invariant-loop-index : goal.invariant-loop-index
 invariant-loop-index l = record {
   long : length l.differences ≡ 128;
   few : l.met ≤ l.fn.met + 8 * l.index;
-  so_far : (from : ℕ) → ((word : ℕ) → word < 16 → get_or l.rows word 0 ≡ row_at l.frame from word)
-      → AreNarrow l.scheme l.frame from
-      → take l.met l.differences ≡ take l.fn.met l.fn.differences ++ unpacked l.scheme l.frame from l.first l.index;
+  so_far : (frame : List ℕ) (from : ℕ) → l.bits ≡ map (word_at frame) words
+      → ((word : ℕ) → word < 16 → get_or l.rows word 0 ≡ row_at frame from word)
+      → AreNarrow l.scheme frame from
+      → take l.met l.differences ≡ take l.fn.met l.fn.differences ++ unpacked l.scheme frame from l.first l.index;
 }

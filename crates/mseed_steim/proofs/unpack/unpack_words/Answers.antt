@@ -7,7 +7,8 @@ pub returns-clause-unpacked : goal.returns-clause-unpacked
 returns-clause-unpacked c = λ from rows narrow.
     let s = c.args.scheme in
     let f = c.args.frame.now in
-    c.unpack_five.ensures.unpacked from rows narrow
-    ∙ ap (λ (xs : List ℤ). xs ++ unpacked s f from 11 5) (c.unpack_five-met-2.ensures.unpacked from rows narrow
-    ∙ ap (λ (xs : List ℤ). xs ++ unpacked s f from 6 5) (c.unpack_five-met.ensures.unpacked from rows narrow))
+    let bits = c.words_of-bits.ensures in
+    c.unpack_five.ensures.unpacked f from bits rows narrow
+    ∙ ap (λ (xs : List ℤ). xs ++ unpacked s f from 11 5) (c.unpack_five-met-2.ensures.unpacked f from bits rows narrow
+    ∙ ap (λ (xs : List ℤ). xs ++ unpacked s f from 6 5) (c.unpack_five-met.ensures.unpacked f from bits rows narrow))
     ∙ unpacked_fives s f from
