@@ -1,5 +1,5 @@
 -- Distances in time, scaled by rates.
-use Rattle.std.proofs.Common.{◌≡◌, ℕ, suc, ◌+◌, ◌*◌, ◌^◌, ◌≤◌, ◌<◌, ℤ, pos, negsuc, ◌+ℤ◌, ◌-ℤ◌, ◌*ℤ◌, unsigned_abs}
+use Rattle.std.proofs.Common.{◌≡◌, ℕ, zero, suc, ◌+◌, ◌*◌, ◌^◌, ◌≤◌, ◌<◌, ℤ, pos, negsuc, ◌+ℤ◌, ◌-ℤ◌, ◌*ℤ◌, unsigned_abs}
 use Rattle.std.proofs.Common.{arith, refl, sym, ap, ◌∙◌, neg_ℤ, ◌≤ℤ◌, to_z, of_z, w64}
 use mir.Syntax.{w128}
 use Rattle.std.proofs.lemmas.Int.{ints, unsigned_abs-mul}
@@ -126,6 +126,28 @@ misses x num den k other c e =
     ∙ sym (abs_times (p * num) (q * num + c * den * 10 ^ 6) other)
     ∙ ap (λ (z : ℤ). unsigned_abs z * other) (sym first)
 
+-- and their signs are one
+signed_misses : (x : ℤ) (num den k other c : ℕ) → k * den ≡ num * other
+    → (x *ℤ pos k -ℤ pos (c * other * 10 ^ 6)) *ℤ pos den ≡ (x *ℤ pos num -ℤ pos (c * den * 10 ^ 6)) *ℤ pos other
+signed_misses x num den k other c e =
+    let p : ℕ = above x in
+    let q : ℕ = below x in
+    let own : x *ℤ pos k -ℤ pos (c * other * 10 ^ 6) ≡ pos (p * k) -ℤ pos (q * k + c * other * 10 ^ 6) =
+    miss_parts x p q k (c * other * 10 ^ 6) (parts x k) in
+    let first : x *ℤ pos num -ℤ pos (c * den * 10 ^ 6) ≡ pos (p * num) -ℤ pos (q * num + c * den * 10 ^ 6) =
+    miss_parts x p q num (c * den * 10 ^ 6) (parts x num) in
+    times_parts (x *ℤ pos k -ℤ pos (c * other * 10 ^ 6)) (p * k) (q * k + c * other * 10 ^ 6) den own
+    ∙ ap (λ (m : ℕ). pos m -ℤ pos ((q * k + c * other * 10 ^ 6) * den)) (cross p k den other num e)
+    ∙ ap (λ (m : ℕ). pos ((p * num) * other) -ℤ pos m) (cross_due q k den other num c e)
+    ∙ sym (times_parts (x *ℤ pos num -ℤ pos (c * den * 10 ^ 6)) (p * num) (q * num + c * den * 10 ^ 6) other first)
+  where
+    times_parts : (z : ℤ) (a b n : ℕ) → z ≡ pos a -ℤ pos b → z *ℤ pos n ≡ pos (a * n) -ℤ pos (b * n)
+    times_parts z a b n h =
+        let whole_is : pos a *ℤ pos n ≡ pos (a * n) = omega (arith, ints) in
+        let less_is : pos b *ℤ pos n ≡ pos (b * n) = omega (arith, ints) in
+        times_sub z (pos a) (pos b) n h ∙ ap (λ (y : ℤ). y -ℤ pos b *ℤ pos n) whole_is
+        ∙ ap (λ (y : ℤ). pos (a * n) -ℤ y) less_is
+
 smaller : (m n den other : ℕ) → 0 < den → m * den ≡ n * other → 2 * n ≤ den * 10 ^ 6 → 2 * m ≤ other * 10 ^ 6
 smaller m n den other some e h =
     let most : (2 * n) * other ≤ (den * 10 ^ 6) * other = mul-le-mul_right other h in
@@ -139,6 +161,72 @@ pub half_alike : (x : ℤ) (num den k other c : ℕ) → 0 < den → k * den ≡
 half_alike x num den k other c some e h =
     smaller (unsigned_abs (x *ℤ pos k -ℤ pos (c * other * 10 ^ 6)))
     (unsigned_abs (x *ℤ pos num -ℤ pos (c * den * 10 ^ 6))) den other some (misses x num den k other c e) h
+
+-- One that is within a quarter of a period, less a microsecond, by one is by the other.
+pub close_alike : (x : ℤ) (num den k other c : ℕ) → 0 < other → k * den ≡ num * other
+    → 4 * (unsigned_abs (x *ℤ pos k -ℤ pos (c * other * 10 ^ 6)) + k) ≤ other * 10 ^ 6
+    → 4 * (unsigned_abs (x *ℤ pos num -ℤ pos (c * den * 10 ^ 6)) + num) ≤ den * 10 ^ 6
+close_alike x num den k other c some e h =
+    closer (unsigned_abs (x *ℤ pos k -ℤ pos (c * other * 10 ^ 6)))
+    (unsigned_abs (x *ℤ pos num -ℤ pos (c * den * 10 ^ 6))) num den k other some e (misses x num den k other c e) h
+  where
+    closer : (m n num den k other : ℕ) → 0 < other → k * den ≡ num * other → m * den ≡ n * other
+        → 4 * (m + k) ≤ other * 10 ^ 6 → 4 * (n + num) ≤ den * 10 ^ 6
+    closer m n num den k other some e f h =
+        let most : (4 * (m + k)) * den ≤ (other * 10 ^ 6) * den = mul-le-mul_right den h in
+        let scaled : (4 * (n + num)) * other ≤ (den * 10 ^ 6) * other = omega (arith, most, e, f) in
+        le_of_mul-le-mul_right scaled some
+
+-- One that is three quarters of a period and a microsecond, or more, by one is by the other, and its sign is the same.
+wider : (m n num den k other : ℕ) → 0 < other → k * den ≡ num * other → m * den ≡ n * other
+    → 3 * (other * 10 ^ 6) + 4 * k ≤ 4 * m → 3 * (den * 10 ^ 6) + 4 * num ≤ 4 * n
+wider m n num den k other some e f h =
+    let most : (3 * (other * 10 ^ 6) + 4 * k) * den ≤ (4 * m) * den = mul-le-mul_right den h in
+    let scaled : (3 * (den * 10 ^ 6) + 4 * num) * other ≤ (4 * n) * other = omega (arith, most, e, f) in
+    le_of_mul-le-mul_right scaled some
+
+some_times : (a n : ℕ) → 0 < n → 0 < suc a * n
+some_times a n h = omega (arith, h, mul-le-mul_right n (let one : 1 ≤ suc a = omega arith in one))
+
+pub late_alike : (x : ℤ) (num den k other c m : ℕ) → 0 < other → k * den ≡ num * other
+    → x *ℤ pos k -ℤ pos (c * other * 10 ^ 6) ≡ pos m → 3 * (other * 10 ^ 6) + 4 * k ≤ 4 * m
+    → (n : ℕ) × ((x *ℤ pos num -ℤ pos (c * den * 10 ^ 6) ≡ pos n) × (3 * (den * 10 ^ 6) + 4 * num ≤ 4 * n))
+late_alike x num den k other c m some e is wide =
+    by (x *ℤ pos num -ℤ pos (c * den * 10 ^ 6)) refl
+    (ap (λ (z : ℤ). z *ℤ pos den) (sym is) ∙ signed_misses x num den k other c e)
+  where
+    by : (z : ℤ) → x *ℤ pos num -ℤ pos (c * den * 10 ^ 6) ≡ z
+        → pos m *ℤ pos den ≡ (x *ℤ pos num -ℤ pos (c * den * 10 ^ 6)) *ℤ pos other
+        → (n : ℕ) × ((x *ℤ pos num -ℤ pos (c * den * 10 ^ 6) ≡ pos n) × (3 * (den * 10 ^ 6) + 4 * num ≤ 4 * n))
+    by (pos n) at f =
+        let scaled : pos m *ℤ pos den ≡ pos n *ℤ pos other = f ∙ ap (λ (z : ℤ). z *ℤ pos other) at in
+        let same : m * den ≡ n * other = omega (arith, ints, scaled) in
+        (n, (at, wider m n num den k other some e same wide))
+    by (negsuc n) at f =
+        let scaled : pos m *ℤ pos den ≡ negsuc n *ℤ pos other = f ∙ ap (λ (z : ℤ). z *ℤ pos other) at in
+        let below_zero : 0 < suc n * other = some_times n other some in
+        absurd (omega (arith, ints, scaled, below_zero))
+
+pub early_alike : (x : ℤ) (num den k other c m : ℕ) → 0 < den → 0 < other → k * den ≡ num * other
+    → x *ℤ pos k -ℤ pos (c * other * 10 ^ 6) ≡ neg_ℤ (pos m) → 3 * (other * 10 ^ 6) + 4 * k ≤ 4 * m
+    → (n : ℕ) × ((x *ℤ pos num -ℤ pos (c * den * 10 ^ 6) ≡ neg_ℤ (pos n)) × (3 * (den * 10 ^ 6) + 4 * num ≤ 4 * n))
+early_alike x num den k other c zero own some e is wide = absurd (omega (arith, some, wide))
+early_alike x num den k other c (suc m) own some e is wide =
+    by (x *ℤ pos num -ℤ pos (c * den * 10 ^ 6)) refl
+    (ap (λ (z : ℤ). z *ℤ pos den) (sym is) ∙ signed_misses x num den k other c e)
+  where
+    by : (z : ℤ) → x *ℤ pos num -ℤ pos (c * den * 10 ^ 6) ≡ z
+        → neg_ℤ (pos (suc m)) *ℤ pos den ≡ (x *ℤ pos num -ℤ pos (c * den * 10 ^ 6)) *ℤ pos other
+        → (n : ℕ) × ((x *ℤ pos num -ℤ pos (c * den * 10 ^ 6) ≡ neg_ℤ (pos n))
+        × (3 * (den * 10 ^ 6) + 4 * num ≤ 4 * n))
+    by (pos n) at f =
+        let scaled : negsuc m *ℤ pos den ≡ pos n *ℤ pos other = f ∙ ap (λ (z : ℤ). z *ℤ pos other) at in
+        let below_zero : 0 < suc m * den = some_times m den own in
+        absurd (omega (arith, ints, scaled, below_zero))
+    by (negsuc n) at f =
+        let scaled : negsuc m *ℤ pos den ≡ negsuc n *ℤ pos other = f ∙ ap (λ (z : ℤ). z *ℤ pos other) at in
+        let same : suc m * den ≡ suc n * other = omega (arith, ints, scaled) in
+        (suc n, (at, wider (suc m) (suc n) num den k other some e same wide))
 
 least : (m n : ℕ) → m ≤ n → n ≤ m → m ≡ n
 least m n h k = omega (arith, h, k)

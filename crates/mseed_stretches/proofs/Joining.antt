@@ -19,7 +19,7 @@ use Rattle.mseed_stretches.specs.Stretches.{samples_of}
 use Rattle.mseed_stretches.proofs.Drifts.{at_start, half, half_alike, miss_is, same_rates}
 use Rattle.mseed_stretches.proofs.Runs.{added_append, last_snoc, samples_append}
 
--- a rate has a denominator
+-- of a rate both numbers count
 
 some_is : (r s : Ratio) → Some r ≡ Some s → r ≡ s
 some_is r s e = cc
@@ -27,25 +27,29 @@ some_is r s e = cc
 product : (a b : ℕ) → 0 < suc a * suc b
 product a b = omega arith
 
-den_by : (f m : ℤ) (r : Ratio) → rate_of f m ≡ Some r → 0 < r.den
-den_by (pos zero) m r e = cc
-den_by (pos (suc f)) (pos zero) r e = cc
-den_by (pos (suc f)) (pos (suc m)) r e =
-    subst (λ (s : Ratio). 0 < s.den) (some_is (record { num = suc f * suc m; den = 1 }) r e) (omega arith)
-den_by (pos (suc f)) (negsuc m) r e =
-    subst (λ (s : Ratio). 0 < s.den) (some_is (record { num = suc f; den = suc m }) r e) (omega arith)
-den_by (negsuc f) (pos zero) r e = cc
-den_by (negsuc f) (pos (suc m)) r e =
-    subst (λ (s : Ratio). 0 < s.den) (some_is (record { num = suc m; den = suc f }) r e) (omega arith)
-den_by (negsuc f) (negsuc m) r e =
-    subst (λ (s : Ratio). 0 < s.den) (some_is (record { num = 1; den = suc f * suc m }) r e) (product f m)
+both_by : (f m : ℤ) (r : Ratio) → rate_of f m ≡ Some r → (0 < r.num) × (0 < r.den)
+both_by (pos zero) m r e = cc
+both_by (pos (suc f)) (pos zero) r e = cc
+both_by (pos (suc f)) (pos (suc m)) r e =
+    subst (λ (s : Ratio). (0 < s.num) × (0 < s.den)) (some_is (record { num = suc f * suc m; den = 1 }) r e)
+    (product f m, omega arith)
+both_by (pos (suc f)) (negsuc m) r e =
+    subst (λ (s : Ratio). (0 < s.num) × (0 < s.den)) (some_is (record { num = suc f; den = suc m }) r e)
+    (omega arith, omega arith)
+both_by (negsuc f) (pos zero) r e = cc
+both_by (negsuc f) (pos (suc m)) r e =
+    subst (λ (s : Ratio). (0 < s.num) × (0 < s.den)) (some_is (record { num = suc m; den = suc f }) r e)
+    (omega arith, omega arith)
+both_by (negsuc f) (negsuc m) r e =
+    subst (λ (s : Ratio). (0 < s.num) × (0 < s.den)) (some_is (record { num = 1; den = suc f * suc m }) r e)
+    (omega arith, product f m)
 
 unless_some : (o : Option TimeFault) (rate : Option Ratio) (r : Ratio) → rate_unless o rate ≡ Some r → rate ≡ Some r
 unless_some None rate r e = e
 unless_some (Some fault) rate r e = cc
 
-den_some : (v : View) (r : Ratio) → known_rate v ≡ Some r → 0 < r.den
-den_some v r e = den_by (factor_at v.order v.bytes) (multiplier_at v.order v.bytes) r
+pub both_some : (v : View) (r : Ratio) → known_rate v ≡ Some r → (0 < r.num) × (0 < r.den)
+both_some v r e = both_by (factor_at v.order v.bytes) (multiplier_at v.order v.bytes) r
     (unless_some (time_fault_of v) (rate_in v) r e)
 
 -- A record that is on time behind others, by a rate and a start, and has that rate itself.
@@ -66,13 +70,13 @@ last_is first rest (w ∷ ws) b e =
     let back : rest ≡ ws ++ b ∷ [] = cc in
     ap (λ (vs : List View). last_of first vs) back ∙ last_snoc first ws b
 
-added_one : (before : List View) (b : View)
+pub added_one : (before : List View) (b : View)
     → added_by (before ++ b ∷ []) ≡ added_by before +ℤ step_of (step_in (leap_of b.bytes))
 added_one before b =
     let one : added_by (b ∷ []) ≡ step_of (step_in (leap_of b.bytes)) = omega (arith, ints) in
     added_append before (b ∷ []) ∙ ap (λ (z : ℤ). added_by before +ℤ z) one
 
-samples_one : (before : List View) (b : View) → samples_of (before ++ b ∷ []) ≡ samples_of before + count_of b
+pub samples_one : (before : List View) (b : View) → samples_of (before ++ b ∷ []) ≡ samples_of before + count_of b
 samples_one before b = let all = samples_append before (b ∷ []) in omega (arith, all)
 
 -- the next record is on time behind them and this one
@@ -115,7 +119,7 @@ follows_next : (rate next : Ratio) (first : View) (rest before : List View) (b v
     → first ∷ rest ≡ before ++ b ∷ [] → Stands rate (start_of first) before b → GoesOnAt rate next first rest v
     → Follows b v
 follows_next rate next first rest before b v known e stands go =
-    let some : 0 < rate.den = den_some first rate known in (
+    let some : 0 < rate.den = (both_some first rate known).1 in (
       stands.own,
       (
         next,

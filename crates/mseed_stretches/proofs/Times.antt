@@ -11,31 +11,24 @@ use Rattle.mseed_stretches.proofs.Drifts.{times_sub}
 use Rattle.mseed_stretches.proofs.Joining.{Stands, going, stands_first, stands_next}
 
 -- each record of a stretch is on time
-on_time_at : (rate : Ratio) (first : View) (rest before : List View) (b : View) (vs front back : List View) (v : View)
-    → known_rate first ≡ Some rate → first ∷ rest ≡ before ++ b ∷ [] → Stands rate (start_of first) before b
-    → AllGoOn (first ∷ rest) vs → b ∷ vs ≡ front ++ v ∷ back
-    → IsOnTime (start_of first) (samples_of (before ++ front)) rate (added_by (before ++ front)) (start_of v)
-on_time_at rate first rest before b vs [] back v known e stands more at =
+pub stands_at : (rate : Ratio) (first : View) (rest before : List View) (b : View) (vs front back : List View)
+    (v : View) → known_rate first ≡ Some rate → first ∷ rest ≡ before ++ b ∷ [] → Stands rate (start_of first) before b
+    → AllGoOn (first ∷ rest) vs → b ∷ vs ≡ front ++ v ∷ back → Stands rate (start_of first) (before ++ front) v
+stands_at rate first rest before b vs [] back v known e stands more at =
     let same : b ≡ v = cc in
-    subst (λ (w : View). IsOnTime (start_of first) (samples_of (before ++ [])) rate (added_by (before ++ []))
-    (start_of w)) same (none before stands.on_time)
-  where
-    none : (us : List View) → IsOnTime (start_of first) (samples_of us) rate (added_by us) (start_of b)
-        → IsOnTime (start_of first) (samples_of (us ++ [])) rate (added_by (us ++ [])) (start_of b)
-    none us h =
-        subst (λ (ws : List View). IsOnTime (start_of first) (samples_of ws) rate (added_by ws) (start_of b))
-        (sym (append-nil us)) h
-on_time_at rate first rest before b [] (w ∷ []) back v known e stands more at = cc
-on_time_at rate first rest before b [] (w ∷ (u ∷ us)) back v known e stands more at = cc
-on_time_at rate first rest before b (x ∷ vs) (w ∷ front) back v known e stands more at =
+    subst (λ (w : View). Stands rate (start_of first) (before ++ []) w) same
+    (subst (λ (us : List View). Stands rate (start_of first) us b) (sym (append-nil before)) stands)
+stands_at rate first rest before b [] (w ∷ []) back v known e stands more at = cc
+stands_at rate first rest before b [] (w ∷ (u ∷ us)) back v known e stands more at = cc
+stands_at rate first rest before b (x ∷ vs) (w ∷ front) back v known e stands more at =
     let here : b ≡ w = cc in
     let behind : x ∷ vs ≡ front ++ v ∷ back = cc in
     let next = going rate first rest x known more.0 in
-    let later = on_time_at rate first (rest ++ x ∷ []) (before ++ b ∷ []) x vs front back v known
+    let later = stands_at rate first (rest ++ x ∷ []) (before ++ b ∷ []) x vs front back v known
     (ap (λ (us : List View). us ++ x ∷ []) e) (stands_next rate next.0 first rest before b x e next.1) more.1 behind in
     let all : (before ++ b ∷ []) ++ front ≡ before ++ w ∷ front =
     append_assoc before (b ∷ []) front ∙ ap (λ (u : View). before ++ u ∷ front) here in
-    subst (λ (us : List View). IsOnTime (start_of first) (samples_of us) rate (added_by us) (start_of v)) all later
+    subst (λ (us : List View). Stands rate (start_of first) us v) all later
 
 -- what a sample's two instants differ by is what its record begins beside the clock
 moved : (x y z : ℤ) (p q r : ℕ) → x ≡ y -ℤ z → p ≡ q + r → (y +ℤ pos r -ℤ pos 0) -ℤ (z +ℤ pos p) ≡ x -ℤ pos q
@@ -76,4 +69,4 @@ pub stay_near : (first : View) (rest : List View) (rate : Ratio) → IsStretch (
     → known_rate first ≡ Some rate → AllStayNear first rate (first ∷ rest)
 stay_near first rest rate is known = λ before back v n at inside.
     near_by (start_of first) (start_of v) (added_by before) (samples_of before) n rate
-    (on_time_at rate first [] [] first rest before back v known refl (stands_first rate first known) is at)
+    (stands_at rate first [] [] first rest before back v known refl (stands_first rate first known) is at).on_time
