@@ -40,21 +40,21 @@ pub record Laws : Type 0 where
   pub near : (first : View) (rest : List View) (rate : Ratio) → IsStretch (first ∷ rest)
       → known_rate first ≡ Some rate → AllStayNear first rate (first ∷ rest)
 
-each_in_front : {X : Type 0} (P : X → Type 0) (xs ys : List X) → AllByRecursion P (xs ++ ys) → AllByRecursion P xs
+pub each_in_front : {X : Type 0} (P : X → Type 0) (xs ys : List X) → AllByRecursion P (xs ++ ys) → AllByRecursion P xs
 each_in_front P [] ys all = tt
 each_in_front P (x ∷ xs) ys all = (all.0, each_in_front P xs ys all.1)
 
-each_at_back : {X : Type 0} (P : X → Type 0) (xs ys : List X) → AllByRecursion P (xs ++ ys) → AllByRecursion P ys
+pub each_at_back : {X : Type 0} (P : X → Type 0) (xs ys : List X) → AllByRecursion P (xs ++ ys) → AllByRecursion P ys
 each_at_back P [] ys all = all
 each_at_back P (x ∷ xs) ys all = each_at_back P xs ys all.1
 
 -- a stretch of sound records
-record IsSoundStretch (s : List View) : Type 0 where
-  stretch : IsStretch s
-  sound : AllByRecursion IsSound s
-  views : AllByRecursion IsView s
+pub record IsSoundStretch (s : List View) : Type 0 where
+  pub stretch : IsStretch s
+  pub sound : AllByRecursion IsSound s
+  pub views : AllByRecursion IsView s
 
-each_sound : (vs : List View) (ss : List (List View)) (left : List View) → AllByRecursion IsSound vs
+pub each_sound : (vs : List View) (ss : List (List View)) (left : List View) → AllByRecursion IsSound vs
     → AllByRecursion IsView vs → AreStretchesUpTo vs ss left → AllByRecursion IsSoundStretch ss
 each_sound vs [] left sound views cut = tt
 each_sound vs (s ∷ ss) left sound views (rest, (first, cut)) =

@@ -15,3 +15,6 @@ pub mod Restretched
 pub mod Gathered
 pub mod Standings
 pub mod ChannelReadBack
+pub mod Misses
+pub mod Borders
+pub mod Bordered

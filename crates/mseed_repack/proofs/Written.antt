@@ -61,7 +61,7 @@ known_as None None other some = absurd (false≢true some)
 known_as None (Some rate) other some = refl
 known_as (Some fault) rate other some = absurd (false≢true some)
 
-rate_as : (v : View) (rate : Rate) → IsSound v → rate.factor ≡ factor_at v.order v.bytes
+pub rate_as : (v : View) (rate : Rate) → IsSound v → rate.factor ≡ factor_at v.order v.bytes
     → rate.multiplier ≡ multiplier_at v.order v.bytes → known_rate v ≡ Some (ratio_of rate)
 rate_as v rate sound factor multiplier =
     let other : Ratio = record { num = 0; den = 0 } in

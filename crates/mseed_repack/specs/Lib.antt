@@ -4,4 +4,5 @@ pub mod ReadBack
 pub mod Restretch
 pub mod ByStretches
 pub mod StretchesReadBack
+pub mod Borders
 pub mod private

@@ -1,11 +1,15 @@
 //! Laws of packing an archive anew.
-ghost use Rattle.std.specs.Prelude.{⊤, ◌≡◌, Bool, ℕ, List, Result, Ok};
+ghost use Rattle.std.specs.Prelude.{⊤, ◌≡◌, ◌≢◌, ◌∷◌, ◌++◌, Bool, ℕ, List, [], Result, Ok};
 ghost use Rattle.std.specs.List.{AllByRecursion};
-ghost use Rattle.mseed_record.specs.View.{View, IsView};
+ghost use Rattle.mseed_record.specs.View.{View, IsView, start_of};
+ghost use Rattle.mseed_audit.specs.Follows.{AllNeighbours, IsContinuous};
+ghost use Rattle.mseed_audit.specs.declared.finding.Why.TheVariants.{Gap, Overlap};
+ghost use Rattle.mseed_stretches.specs.Stretches.{samples_of};
 ghost use Rattle.mseed_pack.specs.declared.options.Options.{Options};
 ghost use Rattle.mseed_stream.specs.Device.{BytesRead, BytesWritten};
 ghost use Rattle.mseed_repack.specs.OneRepacking.{ComeToOne};
 ghost use Rattle.mseed_repack.specs.ReadBack.{IsReadBack};
+ghost use Rattle.mseed_repack.specs.Borders.{AreReadAs, IsClose, IsFoundBehind, LeavesGap, Overlaps};
 ghost use Rattle.mseed_repack.specs.ByStretches.{AreStretched, IsRestretching};
 ghost use Rattle.mseed_repack.specs.Repack.{Channel, IsRepacking};
 ghost use Rattle.mseed_repack.specs.Restretch.{ChannelFits, IsChannelPacked};
@@ -15,6 +19,8 @@ ghost use Rattle.mseed_repack.specs.declared.fault.RepackFault.{RepackFault};
 
 use mseed_audit::{continuous_exactly, one_list_of_verdicts, one_series};
 use mseed_pack::{archive_reads_back, one_misfit, one_packing, reads_back};
+use mseed_record::header_reads_back;
+use mseed_steim::{one_reading, packed_spells};
 use mseed_stream::one_input;
 use mseed_stretches::{instants_stay_near, one_list_of_stretches, stretches_are_continuous};
 
@@ -75,4 +81,33 @@ pub fn stretches_read_back()
     one_list_of_stretches();
     stretches_are_continuous();
     instants_stay_near();
+}
+
+/// What is written of a channel by its stretches is continuous where the channel nearly is, and tells each wide gap and
+/// overlap. Of two neighbours in one stretch each is within a quarter of a period of the stretch's clock; of two in two
+/// stretches the border moves by a quarter at most, and by less than a microsecond where a start is rounded down.
+pub fn borders_are_kept()
+    // Where each record has the same rate and begins within a quarter of a sample period, less a microsecond, of the
+    // last one's end, its leap second put in, what is written is continuous.
+    ensures continuous { (o : Options) (vs : List View) (records : List (List ℕ)) → AllByRecursion IsView vs
+        → ChannelFits o vs → IsChannelPacked o vs records → vs ≢ [] → AllNeighbours IsClose vs
+        → AreReadAs IsContinuous records }
+    // Where one begins three quarters of a period and a microsecond behind it, or later, a gap is found in what is
+    // written, behind as many samples.
+    ensures gap { (o : Options) (vs : List View) (records : List (List ℕ)) (front : List View) (b v : View)
+        (back : List View) → AllByRecursion IsView vs → ChannelFits o vs → IsChannelPacked o vs records
+        → vs ≡ front ++ b ∷ (v ∷ back) → LeavesGap b v
+        → AreReadAs (IsFoundBehind (λ us. Gap us) (samples_of (front ++ b ∷ [])) (start_of v)) records }
+    // And an overlap, where one begins so early.
+    ensures overlap { (o : Options) (vs : List View) (records : List (List ℕ)) (front : List View) (b v : View)
+        (back : List View) → AllByRecursion IsView vs → ChannelFits o vs → IsChannelPacked o vs records
+        → vs ≡ front ++ b ∷ (v ∷ back) → Overlaps b v
+        → AreReadAs (IsFoundBehind (λ us. Overlap us) (samples_of (front ++ b ∷ [])) (start_of v)) records }
+{
+    header_reads_back();
+    packed_spells();
+    one_reading();
+    one_input();
+    one_series();
+    one_list_of_stretches();
 }

@@ -21,7 +21,9 @@ mod trail;
 pub use channel::repack_channel;
 pub use channel_fault::ChannelFault;
 pub use fault::RepackFault;
-pub use law::{one_channel_packing, one_repacking, repacked_reads_back, stretches_read_back};
+pub use law::{
+    borders_are_kept, one_channel_packing, one_repacking, repacked_reads_back, stretches_read_back,
+};
 pub use refusing::{Left, tell_broken, tell_misfit};
 pub use repacking::repack;
 pub use restretching::repack_stretches;
