@@ -7,3 +7,4 @@ pub mod PlaceWords
 pub mod Different
 pub mod Fills
 pub mod OneFilling
+pub mod Numbered

@@ -18,6 +18,7 @@ use Rattle.slink_links.specs.declared.host.Timeout.{Timeout}
 use Rattle.mseed.specs.Addresses.{IsTimeout, address_of, host_of, timeout_in}
 use Rattle.mseed.specs.declared.request.Listener.{Listener}
 use Rattle.mseed.specs.declared.request.Server.{Server}
+use Rattle.mseed.specs.declared.request.Living.{Living}
 use Rattle.mseed.specs.declared.request.Serving.{Serving}
 use Rattle.mseed.specs.declared.request.Fetching.{Fetching}
 
@@ -123,6 +124,15 @@ serve_names = codes "command" ∷ codes "place" ∷ codes "address" ∷ codes "p
     ∷ codes "first"
     ∷ codes "connections" ∷ []
 
+-- and with `--live`
+abbrev pub live_names : List Text
+live_names = codes "command" ∷ codes "place" ∷ codes "address" ∷ codes "port" ∷ codes "timeout" ∷ codes "station"
+    ∷ codes "network"
+    ∷ codes "capacity"
+    ∷ codes "first"
+    ∷ codes "live"
+    ∷ codes "clients" ∷ []
+
 -- and `fetch`
 abbrev pub fetch_names : List Text
 fetch_names = codes "command" ∷ codes "place" ∷ codes "address" ∷ codes "port" ∷ codes "timeout" ∷ codes "station"
@@ -144,13 +154,30 @@ server_of rows =
     server_with (host_of (first_of (codes "address") rows)) (port_in (first_of (codes "port") rows))
     (timeout_in (first_of (codes "timeout") rows))
 
--- a feed to be served: its places have no numbers of their own
-abbrev pub serving_of : List Row → Option Serving
-serving_of rows =
-    if has_only serve_names rows
-    then serving_with (listener_of rows) (count_in (first_of (codes "connections") rows))
+-- a feed to be served, whatever else is named: its places have no numbers of their own
+abbrev pub serving_in : List Row → Option Serving
+serving_in rows =
+    serving_with (listener_of rows) (count_in (first_of (codes "connections") rows))
     (capacity_in (first_of (codes "capacity") rows)) (first_in (first_of (codes "first") rows))
     (places_in Plain None rows)
+
+abbrev pub serving_of : List Row → Option Serving
+serving_of rows = if has_only serve_names rows then serving_in rows else None
+
+-- how many clients at once: 64 where none is said
+abbrev pub clients_in : Option Text → Option ℕ
+clients_in None = Some 64
+clients_in (Some text) = counted_in 1024 text
+
+abbrev pub living_with : Option Serving → Option ℕ → Option Living
+living_with (Some serving) (Some clients) = Some (record { serving = serving; clients = clients })
+living_with _ _ = None
+
+-- a feed to be served while its records come
+abbrev pub living_of : List Row → Option Living
+living_of rows =
+    if has_only live_names rows
+    then living_with (serving_in rows) (clients_in (first_of (codes "clients") rows))
     else None
 
 -- a feed to be fetched: `--from` is the number of the first place
@@ -185,6 +212,15 @@ pub record CanServe (serving : Serving) : Type 0 where
   pub capacity : IsCapacity serving.capacity
   pub first : serving.first < 2 ^ 24
   pub places : ArePlaces serving.places
+
+-- one to 1,024
+abbrev pub IsClients : ℕ → Type 0
+IsClients clients = (1 ≤ clients) × (clients ≤ 1024)
+
+-- what a feed can be served by while its records come
+pub record CanLive (living : Living) : Type 0 where
+  pub serving : CanServe living.serving
+  pub clients : IsClients living.clients
 
 -- what a feed can be fetched by
 pub record CanFetch (fetching : Fetching) : Type 0 where

@@ -25,7 +25,7 @@ asks name rows = is_true (first_of name rows)
 abbrev pub flag_names : List Text
 flag_names =
     codes "each" ∷ codes "part" ∷ codes "past-faults" ∷ codes "tell-next" ∷ codes "holes" ∷ codes "stretches"
-    ∷ codes "leave" ∷ []
+    ∷ codes "leave" ∷ codes "live" ∷ []
 
 -- one of these names, or that of a flag that isn't set
 abbrev pub is_taken : List Text → List Row → Text → Bool

@@ -15,4 +15,5 @@ pub mod Repacked
 pub mod Restretched
 pub mod Filling
 pub mod Plans
+pub mod Live
 pub mod private

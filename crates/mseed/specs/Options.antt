@@ -53,6 +53,9 @@ fetch_flag_rules = flag_rule (codes "tell-next") ∷ flag_rule (codes "holes") �
 abbrev pub packing_flag_rules : List Rule
 packing_flag_rules = flag_rule (codes "stretches") ∷ flag_rule (codes "leave") ∷ []
 
+abbrev pub live_rules : List Rule
+live_rules = flag_rule (codes "live") ∷ number_rule (codes "clients") (Signed (pos 1) (pos 1024)) ∷ []
+
 abbrev pub with_rules : App → List Rule → App
 with_rules a [] = a
 with_rules a (r ∷ rs) = with_rules (with_rule a r) rs
@@ -64,5 +67,6 @@ bare_command = on_top (λ s. record s { has_version = true; no_binary_name = tru
 -- with all places and options side by side
 abbrev pub the_command : App
 the_command =
-    with_rules (with_rules (with_rules (with_rules (with_rules (with_rules (with_rule (with_rule bare_command word_rule)
-    places_rule) packing_rules) feed_rules) number_rules) flag_rules) fetch_flag_rules) packing_flag_rules
+    with_rules (with_rules (with_rules (with_rules (with_rules (with_rules (with_rules
+    (with_rule (with_rule bare_command word_rule) places_rule) packing_rules) feed_rules) number_rules) flag_rules)
+    fetch_flag_rules) packing_flag_rules) live_rules

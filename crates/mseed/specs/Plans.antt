@@ -11,10 +11,11 @@ use Rattle.mseed_stream.specs.Telling.{Tells}
 use Rattle.mseed.specs.declared.fill_fault.FillFault.{FillFault}
 use Rattle.mseed.specs.declared.fill_fault.FillFault.TheVariants.{Stream, Foreign, Memory}
 use Rattle.mseed.specs.declared.outcome.Run.{Run}
-use Rattle.mseed.specs.declared.outcome.Run.TheVariants.{Status, Serve, Fetch}
+use Rattle.mseed.specs.declared.outcome.Run.TheVariants.{Status, Serve, Live, Fetch}
 use Rattle.slink_links.specs.declared.plan.FetchPlan.{FetchPlan}
 use Rattle.slink_links.specs.declared.plan.ServePlan.{ServePlan}
 use Rattle.mseed.specs.declared.request.Fetching.{Fetching}
+use Rattle.mseed.specs.declared.request.Living.{Living}
 use Rattle.mseed.specs.declared.request.Serving.{Serving}
 
 -- why a feed wasn't filled
@@ -36,9 +37,11 @@ abbrev pub IsPlannedBy : {A : Type 0} → Serving → Result (List Window) FillF
     → Type 0
 IsPlannedBy serving (Ok feed) (Status status) old new = ⊥
 IsPlannedBy serving (Ok feed) (Serve plan) old new = IsServePlan serving feed plan × (new ≡ old)
+IsPlannedBy serving (Ok feed) (Live living) old new = ⊥
 IsPlannedBy serving (Ok feed) (Fetch plan) old new = ⊥
 IsPlannedBy serving (Err fault) (Status status) old new = (status ≡ 2) × Tells (fill_text fault) old new
 IsPlannedBy serving (Err fault) (Serve plan) old new = ⊥
+IsPlannedBy serving (Err fault) (Live living) old new = ⊥
 IsPlannedBy serving (Err fault) (Fetch plan) old new = ⊥
 
 -- what `serve` comes to before it opens a socket; the input decides it, but for memory
@@ -48,6 +51,13 @@ pub record IsServeRun {A : Type 0} (serving : Serving) (run : Run A) (read : Byt
   pub filling : IsFilling serving outcome read
   pub only : IsOneFilling serving outcome read
   pub planned : IsPlannedBy serving outcome run told_old told_new
+
+-- what `serve --live` comes to before it opens a socket: what was asked for
+abbrev pub IsLiveRun : {A : Type 0} → Living → Run A → Type 0
+IsLiveRun living (Status status) = ⊥
+IsLiveRun living (Serve plan) = ⊥
+IsLiveRun living (Live asked) = asked ≡ living
+IsLiveRun living (Fetch plan) = ⊥
 
 -- a new client for the places that were asked for
 abbrev pub talk_of : Fetching → Talk
@@ -72,4 +82,5 @@ pub record IsFetchPlan (fetching : Fetching) (plan : FetchPlan) : Type 0 where
 abbrev pub IsFetchRun : {A : Type 0} → Fetching → Run A → Type 0
 IsFetchRun fetching (Status status) = ⊥
 IsFetchRun fetching (Serve plan) = ⊥
+IsFetchRun fetching (Live living) = ⊥
 IsFetchRun fetching (Fetch plan) = IsFetchPlan fetching plan

@@ -8,7 +8,7 @@ use Rattle.mseed_stream.specs.declared.fault.StreamFault.{StreamFault}
 use Rattle.mseed.specs.Done.{IsMemoryRun, IsRefusedRun, IsShowRun}
 use Rattle.mseed.specs.Joined.{IsJoinEachRun, IsJoinRun}
 use Rattle.mseed.specs.Outcome.{IsAuditRun, IsBadRun, IsEachRun, IsPartRun, IsPartEachRun}
-use Rattle.mseed.specs.Plans.{IsFetchRun, IsServeRun}
+use Rattle.mseed.specs.Plans.{IsFetchRun, IsLiveRun, IsServeRun}
 use Rattle.mseed.specs.Repacked.{IsRepackRun}
 use Rattle.mseed.specs.Restretched.{IsStretchesRun}
 use Rattle.mseed.specs.declared.ending.ShowFault.{ShowFault}
@@ -17,7 +17,7 @@ use Rattle.mseed.specs.declared.outcome.Run.TheVariants as runs
 use Rattle.mseed.specs.declared.request.Request.{Request}
 use Rattle.mseed.specs.declared.request.Request.TheVariants.{Audit, AuditEach, AuditPart, AuditPartEach}
 use Rattle.mseed.specs.declared.request.Request.TheVariants.{Join, JoinEach, Show, Repack, RepackStretches, Serve}
-use Rattle.mseed.specs.declared.request.Request.TheVariants.{Fetch}
+use Rattle.mseed.specs.declared.request.Request.TheVariants.{Live, Fetch}
 use Rattle.mseed_join.specs.declared.joining.Joined.{Joined}
 use Rattle.mseed_join.specs.declared.joining.JoinsFault.{JoinsFault}
 
@@ -34,6 +34,7 @@ streams input output errors = record { input = input; output = output; errors = 
 abbrev pub IsStatusAnd : {A : Type 0} → Run A → (ℕ → Type 0) → Type 0
 IsStatusAnd (runs.Status status) P = P status
 IsStatusAnd (runs.Serve plan) P = ⊥
+IsStatusAnd (runs.Live living) P = ⊥
 IsStatusAnd (runs.Fetch plan) P = ⊥
 
 -- an audit, a joint, a listing and a packing are done; serving and fetching are planned
@@ -59,6 +60,8 @@ HasCarriedOut (RepackStretches packing leave) run old new =
     IsStretchesRun packing leave status new.input old.output new.output old.errors new.errors)
 HasCarriedOut (Serve serving) run old new =
     IsServeRun serving run new.input old.errors new.errors × (new.output ≡ old.output)
+HasCarriedOut (Live living) run old new =
+    IsLiveRun living run × (new.input ≡ old.input) × (new.output ≡ old.output) × (new.errors ≡ old.errors)
 HasCarriedOut (Fetch fetching) run old new =
     IsFetchRun fetching run × (new.input ≡ old.input) × (new.output ≡ old.output) × (new.errors ≡ old.errors)
 

@@ -11,11 +11,11 @@ use Rattle.mseed_pack.specs.declared.options.Encoding.TheVariants.{Int16, Int32,
 use Rattle.mseed.specs.Options.{the_command}
 use Rattle.mseed.specs.Found.{asks, has_only}
 use Rattle.mseed.specs.Numbers.{number_in}
-use Rattle.mseed.specs.FeedWords.{CanFetch, CanServe, fetching_of, serving_of}
+use Rattle.mseed.specs.FeedWords.{CanFetch, CanLive, CanServe, fetching_of, living_of, serving_of}
 use Rattle.mseed.specs.declared.request.Request.{Request}
 use Rattle.mseed.specs.declared.request.Request.TheVariants.{Audit, AuditEach, AuditPart, AuditPartEach}
 use Rattle.mseed.specs.declared.request.Request.TheVariants.{Join, JoinEach, Show, Repack, RepackStretches, Serve}
-use Rattle.mseed.specs.declared.request.Request.TheVariants.{Fetch}
+use Rattle.mseed.specs.declared.request.Request.TheVariants.{Live, Fetch}
 use Rattle.mseed.specs.declared.request.Packing.{Packing}
 use Rattle.mseed_join.specs.declared.joining.Form.{Form}
 use Rattle.mseed_join.specs.declared.joining.Form.TheVariants as forms
@@ -116,6 +116,11 @@ joining_of rows =
     then joining_by (asks (codes "each") rows) (asks (codes "part") rows) (asks (codes "past-faults") rows)
     else None
 
+-- what serving asks for: all of the input first, or while it comes
+abbrev pub serving_by : Bool → List Row → Option Request
+serving_by false rows = option_map Serve (serving_of rows)
+serving_by true rows = option_map Live (living_of rows)
+
 -- what a command's word asks for
 abbrev pub request_named : Text → List Row → Option Request
 request_named word rows =
@@ -123,7 +128,7 @@ request_named word rows =
     else if bytes_eq word (codes "join") then joining_of rows
     else if bytes_eq word (codes "show") then showing_of rows
     else if bytes_eq word (codes "repack") then packing_of rows
-    else if bytes_eq word (codes "serve") then option_map Serve (serving_of rows)
+    else if bytes_eq word (codes "serve") then serving_by (asks (codes "live") rows) rows
     else if bytes_eq word (codes "fetch") then option_map Fetch (fetching_of rows) else None
 
 abbrev pub request_by : Option Text → List Row → Option Request
@@ -145,6 +150,7 @@ CanBeAsked Show = ⊤
 CanBeAsked (Repack packing) = (7 ≤ packing.exponent) × (packing.exponent ≤ 12)
 CanBeAsked (RepackStretches packing leave) = (7 ≤ packing.exponent) × (packing.exponent ≤ 12)
 CanBeAsked (Serve serving) = CanServe serving
+CanBeAsked (Live living) = CanLive living
 CanBeAsked (Fetch fetching) = CanFetch fetching
 
 -- the words ask for this

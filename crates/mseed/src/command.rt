@@ -9,6 +9,7 @@ ghost use Rattle.mseed.specs.Joined.{IsJoinEachRun, IsJoinRun, join_status};
 ghost use Rattle.mseed_join.specs.declared.joining.Joined.{Joined};
 ghost use Rattle.mseed_join.specs.declared.joining.JoinsFault.{JoinsFault};
 ghost use Rattle.mseed.specs.Outcome.{IsAuditRun, IsEachRun, IsPartRun, IsPartEachRun, summary_status};
+ghost use Rattle.mseed.specs.Live.{CanBeServed};
 ghost use Rattle.mseed.specs.Run.{HasCarriedOut, HasRefusedRequest, HasRefusedWords, UnlessMemoryLacks, streams};
 ghost use Rattle.mseed.specs.Words.{AsksFor, AsksForNothing, AreRefused, CanBeAsked};
 ghost use Rattle.mseed.specs.Done.{IsShowRun};
@@ -71,6 +72,7 @@ pub fn run<R: Source, W: Sink, E: Sink>(
         → UnlessMemoryLacks HasRefusedWords result
         (streams (R.read input.old) (W.written output.old) (E.written errors.old))
         (streams (R.read input.new) (W.written output.new) (E.written errors.new)) }
+    ensures served { CanBeServed result }
 {
     match words::read(alloc, words) {
         Ok(Some(request)) => carry_out(alloc, request, input, output, errors),
@@ -89,9 +91,10 @@ pub fn carry_out<A: Allocator + Copy, R: Source, W: Sink, E: Sink>(
 ) -> Run<A>
     requires unread { R.read input.old ≡ nothing_read }
     requires asked { CanBeAsked request }
-    ensures { HasCarriedOut request result
+    ensures done { HasCarriedOut request result
         (streams (R.read input.old) (W.written output.old) (E.written errors.old))
         (streams (R.read input.new) (W.written output.new) (E.written errors.new)) }
+    ensures served { CanBeServed result }
 {
     match request {
         Request::Audit => Run::Status(run_audit(alloc, input, output, errors)),
@@ -108,6 +111,7 @@ pub fn carry_out<A: Allocator + Copy, R: Source, W: Sink, E: Sink>(
             Run::Status(run_stretches(alloc, packing, leave, input, output, errors))
         }
         Request::Serve(serving) => plan_serve(alloc, &serving, input, errors),
+        Request::Live(living) => Run::Live(living),
         Request::Fetch(fetching) => Run::Fetch(plan_fetch(&fetching)),
     }
 }

@@ -5,7 +5,8 @@ ghost use Rattle.clap.specs.Matches.{found_of};
 ghost use Rattle.clap.specs.Walk.{rows_of};
 ghost use Rattle.mseed.specs.Places.{ArePlaces, places_of};
 ghost use Rattle.mseed.specs.Addresses.{IsTimeout};
-ghost use Rattle.mseed.specs.FeedWords.{IsListener, IsServer, listener_with, server_with};
+ghost use Rattle.mseed.specs.FeedWords.{CanLive, IsClients, IsListener, IsServer, clients_in, listener_with};
+ghost use Rattle.mseed.specs.FeedWords.{living_of, living_with, server_with, serving_in};
 ghost use Rattle.mseed.specs.FeedWords.{CanFetch, CanServe, IsCount, IsPort, asked_in, asked_with, capacity_by};
 ghost use Rattle.mseed.specs.FeedWords.{capacity_in, count_in, fetching_of, fetching_with, first_in, numbered_in};
 ghost use Rattle.mseed.specs.FeedWords.{place_by, place_in, place_named, places_in, port_in, serving_of, serving_with};
@@ -14,7 +15,7 @@ use crate::found::{asks, has_only, text_of};
 use crate::host_words::{address_of, host_of, timeout_in};
 use crate::numbers::{counted_in, hexadecimal_in, number_in};
 use crate::places::Places;
-use crate::request::{Fetching, Listener, Server, Serving};
+use crate::request::{Fetching, Listener, Living, Server, Serving};
 use clap::ArgMatches;
 use slink_links::{Address, Host, Timeout};
 use slink_wire::Place;
@@ -50,6 +51,14 @@ pub(crate) fn serving_of(matches: &ArgMatches<'_>) -> Option<Serving>
     ) {
         return None;
     }
+    serving_in(matches)
+}
+
+/// What serving is asked for by its options and places, whatever else is named.
+fn serving_in(matches: &ArgMatches<'_>) -> Option<Serving>
+    ensures value { result ≡ serving_in (rows_of (found_of matches.now)) }
+    ensures range { IfSome result CanServe }
+{
     serving_with(
         listener_with(
             address_of(text_of(matches, "address")),
@@ -61,6 +70,47 @@ pub(crate) fn serving_of(matches: &ArgMatches<'_>) -> Option<Serving>
         first_in(text_of(matches, "first")),
         places_in(Naming::Plain, None, matches),
     )
+}
+
+/// What serving while records come is asked for.
+pub(crate) fn living_of(matches: &ArgMatches<'_>) -> Option<Living>
+    ensures value { result ≡ living_of (rows_of (found_of matches.now)) }
+    ensures range { IfSome result CanLive }
+{
+    if !has_only(
+        matches,
+        &[
+            "command", "place", "address", "port", "timeout", "station", "network", "capacity",
+            "first", "live", "clients",
+        ],
+    ) {
+        return None;
+    }
+    living_with(serving_in(matches), clients_in(text_of(matches, "clients")))
+}
+
+/// What serving while records come is asked for, where each value is one that there is.
+fn living_with(serving: Option<Serving>, clients: Option<u32>) -> Option<Living>
+    requires serving { IfSome serving CanServe }
+    requires clients { IfSome clients IsClients }
+    ensures value { result ≡ living_with serving clients }
+    ensures range { IfSome result CanLive }
+{
+    match (serving, clients) {
+        (Some(serving), Some(clients)) => Some(Living { serving, clients }),
+        _ => None,
+    }
+}
+
+/// How many clients at once: 64 where none is said.
+fn clients_in(text: Option<&str>) -> Option<u32>
+    ensures value { result ≡ clients_in (option_map (λ t. t.now) text.entry) }
+    ensures range { IfSome result IsClients }
+{
+    match text {
+        None => Some(64),
+        Some(text) => counted_in(1_024, text),
+    }
 }
 
 /// Where connections are taken, if all of it is there.

@@ -18,7 +18,7 @@ use crate::fill_fault::FillFault;
 use crate::request::Serving;
 use mseed_stream::{Cutter, Source};
 use slink_feed::{Feed, Ring};
-use std::alloc::Allocator;
+use std::alloc::{Allocator, Global};
 
 /// What comes next of an input.
 #[derive(Clone, Copy, Debug)]
@@ -108,6 +108,19 @@ fn open<A: Allocator + Copy>(alloc: A, serving: &Serving) -> Result<Feed<A>, Fil
         feed.add_other(ring);
     }
     Ok(feed)
+}
+
+/// The feed before the first record, of the heap.
+///
+/// # Errors
+///
+/// `Memory` where an allocation was refused.
+pub(crate) fn open_feed(alloc: Global, serving: &Serving) -> Result<Feed, FillFault>
+    requires { CanServe serving.now }
+    ensures ok { IfOk result (λ feed. feed ≡ feed_of serving.now []) }
+    ensures err { IfErr result (λ fault. fault ≡ FillFault.Memory) }
+{
+    open(alloc, serving)
 }
 
 /// Gives a record to the ring of its place, and answers whether it has 512 bytes and is of one of the places.

@@ -16,7 +16,7 @@ pub(crate) fn text_of<'a>(matches: &ArgMatches<'a>, name: &str) -> Option<&'a st
 }
 
 /// The flags. `clap` finds each of them, as one that is set or isn't.
-const FLAGS: [&str; 7] = [
+const FLAGS: [&str; 8] = [
     "each",
     "part",
     "past-faults",
@@ -24,6 +24,7 @@ const FLAGS: [&str; 7] = [
     "holes",
     "stretches",
     "leave",
+    "live",
 ];
 
 /// Whether a flag is set.

@@ -34,8 +34,11 @@ pub const COMMANDS: &str = "Commands:
   serve   sends the records of stations to clients, over SeedLink 3
           reads an archive of records of 512 bytes, writes nothing
           options: --port, --station and --network, which it needs, --address, --timeout,
-          --capacity, --first, --connections; further stations as NET_STA
+          --capacity, --first, --connections; further stations as NET_STA;
+          --live, serve many clients at once while the archive comes, --clients of them:
+          over a file that is appended to, each record has the same number after a restart
             mseed serve --port 18000 --station ANMO --network IU < packed.mseed
+            tail -c +1 -f kept.mseed | mseed serve --live --port 18000 --station ANMO --network IU
   fetch   asks a server for the records of stations, over SeedLink 3
           reads nothing, writes each record as soon as it is whole
           options: --port, --station and --network, which it needs, --address, --timeout,

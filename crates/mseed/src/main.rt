@@ -2,6 +2,9 @@
 //! their records.
 #![tactic(auto)]
 
+ghost use Rattle.std.specs.Prelude.{IfOk};
+ghost use Rattle.mseed.specs.Live.{CanBeServed};
+
 mod command;
 mod ending;
 mod feed_words;
@@ -11,6 +14,7 @@ mod found;
 mod help;
 mod host_words;
 mod listing;
+mod live;
 mod numbers;
 mod outcome;
 mod places;
@@ -34,6 +38,7 @@ fn main(rt: HostRuntime) -> ExitCode {
     let status = match run_with_words(&rt, &mut errors) {
         Ok(Run::Status(status)) => status,
         Ok(Run::Serve(plan)) => slink_links::serve(&rt, &plan, &mut errors),
+        Ok(Run::Live(living)) => { live::serve(&rt, rt.alloc(), &living, rt.stdin(), &mut errors) }
         Ok(Run::Fetch(mut plan)) => {
             let mut output = Counted::new(io::writer(&rt));
             slink_links::fetch(&rt, &mut plan, &mut output, &mut errors)
@@ -52,7 +57,9 @@ fn main(rt: HostRuntime) -> ExitCode {
 ///
 /// `OutOfMemory` where there was no room for the words, and `InvalidData` where one isn't UTF-8.
 /// Nothing was read or written then.
-fn run_with_words<E: Sink>(rt: &HostRuntime, errors: &mut E) -> io::Result<Run> {
+fn run_with_words<E: Sink>(rt: &HostRuntime, errors: &mut E) -> io::Result<Run>
+    ensures { IfOk result CanBeServed }
+{
     let mut words = Vec::new(rt.alloc());
     for word in env::args(rt)?.skip(1) {
         words.push(word)?;

@@ -1,4 +1,5 @@
 //! What a command leaves to do, and the exit statuses.
+use crate::request::Living;
 use slink_links::{FetchPlan, ServePlan};
 use std::alloc::{Allocator, Global};
 
@@ -21,6 +22,8 @@ pub enum Run<A: Allocator = Global> {
     Status(u8),
     /// A feed is to be served.
     Serve(ServePlan<A>),
+    /// A feed is to be served while its records come.
+    Live(Living),
     /// Records are to be fetched.
     Fetch(FetchPlan),
 }

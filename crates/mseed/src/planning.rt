@@ -2,6 +2,7 @@
 ghost use Rattle.std.specs.Prelude.{◌≡◌, []};
 ghost use Rattle.mseed_stream.specs.Device.{nothing_read};
 ghost use Rattle.mseed.specs.FeedWords.{CanFetch, CanServe};
+ghost use Rattle.mseed.specs.Live.{CanBeServed};
 ghost use Rattle.mseed.specs.Plans.{IsFetchPlan, IsServeRun, talk_of};
 
 use crate::filling::{fill, one_filling};
@@ -22,7 +23,8 @@ pub fn plan_serve<A: Allocator + Copy, R: Source, E: Sink>(
 ) -> Run<A>
     requires unread { R.read input.old ≡ nothing_read }
     requires asked { CanServe serving.now }
-    ensures { IsServeRun serving.now result (R.read input.new) (E.written errors.old) (E.written errors.new) }
+    ensures run { IsServeRun serving.now result (R.read input.new) (E.written errors.old) (E.written errors.new) }
+    ensures served { CanBeServed result }
 {
     one_filling();
     match fill(alloc, serving, input) {

@@ -35,6 +35,8 @@ pub enum Request {
     },
     /// Serve the records on standard input.
     Serve(Serving),
+    /// Serve the records on standard input while they come.
+    Live(Living),
     /// Fetch the records that are served.
     Fetch(Fetching),
 }
@@ -92,6 +94,16 @@ pub struct Serving {
     pub first: u32,
     /// Whose records are served. None has a number of its own.
     pub places: Places,
+}
+
+/// How records are served while they come.
+#[derive(Drop)]
+pub struct Living {
+    /// Where connections are taken, and the rings. Its count of connections is that of a `serve` that names none, and
+    /// isn't asked for.
+    pub serving: Serving,
+    /// So many connections stand at once.
+    pub clients: u32,
 }
 
 /// What is fetched.

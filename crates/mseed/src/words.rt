@@ -9,12 +9,12 @@ ghost use Rattle.clap.specs.declared.builder.value_parser.ValueParser.TheVariant
 ghost use Rattle.mseed.specs.Words.{faults_in, entries_in, request_of, request_named, packing_by, packing_of};
 ghost use Rattle.mseed.specs.Words.{packing_with};
 ghost use Rattle.mseed.specs.Words.{CanBeAsked, auditing_by, auditing_of, form_by, joining_by, joining_of, showing_of};
-ghost use Rattle.mseed.specs.Words.{exponent_in, exponent_by, encoding_in, encoding_named};
+ghost use Rattle.mseed.specs.Words.{serving_by, exponent_in, exponent_by, encoding_in, encoding_named};
 ghost use Rattle.mseed.specs.Options.{bare_command, the_command, word_rule, places_rule, packing_rules, feed_rules};
 ghost use Rattle.mseed.specs.Options.{number_rules, flag_rule, flag_rules, option_rule, number_rule, with_rules};
-ghost use Rattle.mseed.specs.Options.{fetch_flag_rules, link_rules, packing_flag_rules};
+ghost use Rattle.mseed.specs.Options.{fetch_flag_rules, link_rules, live_rules, packing_flag_rules};
 
-use crate::feed_words::{fetching_of, serving_of};
+use crate::feed_words::{fetching_of, living_of, serving_of};
 use crate::found::{asks, has_only, text_of};
 use crate::help::{ABOUT, COMMANDS, VERSION};
 use crate::numbers::number_in;
@@ -63,9 +63,21 @@ fn request_named(word: &str, matches: &ArgMatches<'_>) -> Option<Request>
         "join" => joining_of(matches),
         "show" => showing_of(matches),
         "repack" => packing_of(matches),
-        "serve" => Some(Request::Serve(serving_of(matches)?)),
+        "serve" => serving_by(asks(matches, "live"), matches),
         "fetch" => Some(Request::Fetch(fetching_of(matches)?)),
         _ => None,
+    }
+}
+
+/// What serving is asked for: all of the input first, or while it comes.
+fn serving_by(live: bool, matches: &ArgMatches<'_>) -> Option<Request>
+    ensures value { result ≡ serving_by live (rows_of (found_of matches.now)) }
+    ensures range { IfSome result CanBeAsked }
+{
+    if live {
+        Some(Request::Live(living_of(matches)?))
+    } else {
+        Some(Request::Serve(serving_of(matches)?))
     }
 }
 
@@ -247,7 +259,8 @@ fn command<'a>(alloc: Global) -> Result<Command<'a>, AllocError>
     let command = with_numbers(alloc, command)?;
     let command = with_flags(alloc, command)?;
     let command = with_fetch_flags(alloc, command)?;
-    with_packing_flags(alloc, command)
+    let command = with_packing_flags(alloc, command)?;
+    with_live(alloc, command)
 }
 
 /// The command without places and options. The program's name isn't among the words.
@@ -422,6 +435,32 @@ fn with_packing_flags<'a>(alloc: Global, command: Command<'a>) -> Result<Command
         "leave",
         "repack --stretches: leave out, and tell, the channels that can't be packed",
     )
+}
+
+/// With the options of a feed that is served while its records come.
+fn with_live<'a>(alloc: Global, command: Command<'a>) -> Result<Command<'a>, AllocError>
+    ensures { IfOk result (λ c. app_of c ≡ with_rules (app_of command.entry) live_rules) }
+{
+    let command = with_flag(
+        alloc,
+        command,
+        "live",
+        "serve: read the input while clients are served, many at once",
+    )?;
+    with_number(
+        alloc,
+        command,
+        "clients",
+        clients(),
+        "serve --live: how many clients to serve at once; by default 64",
+    )
+}
+
+/// 1 to 1,024.
+fn clients<'a>() -> ValueParser<'a>
+    ensures { result ≡ Signed (pos 1) (pos 1024) }
+{
+    value_parser!(u32).range(1..=1_024)
 }
 
 /// With a flag.

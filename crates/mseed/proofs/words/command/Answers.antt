@@ -1,6 +1,6 @@
 use Rattle.std.proofs.Common.{◌≡◌, IfOk, subst}
 use Rattle.clap.specs.Simple.{App, app_of, with_rule}
-use Rattle.mseed.specs.Options.{fetch_flag_rules, packing_flag_rules}
+use Rattle.mseed.specs.Options.{fetch_flag_rules, live_rules, packing_flag_rules}
 use Rattle.mseed.specs.Options.{word_rule, places_rule, packing_rules, feed_rules, number_rules, with_rules, flag_rules}
 use Rattle.mseed.proofs.words.command.Goals as goal
 
@@ -20,5 +20,7 @@ returns c =
     c.in_ok-command-6.ensures in
     let seven = subst (λ (a : App). app_of c.in_ok-command-7.command ≡ with_rules a fetch_flag_rules) six
     c.in_ok-command-7.ensures in
-    subst (λ (a : App). IfOk c.with_packing_flags.result (λ c'. app_of c' ≡ with_rules a packing_flag_rules)) seven
-    c.with_packing_flags.ensures
+    let eight = subst (λ (a : App). app_of c.in_ok-command-8.command ≡ with_rules a packing_flag_rules) seven
+    c.in_ok-command-8.ensures in
+    subst (λ (a : App). IfOk c.with_live.result (λ c'. app_of c' ≡ with_rules a live_rules)) eight
+    c.with_live.ensures

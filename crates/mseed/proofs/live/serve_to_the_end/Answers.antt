@@ -1,0 +1,29 @@
+use Rattle.std.proofs.Common.{◌≡◌, ℕ, subst}
+use Rattle.mseed_stream.specs.Telling.{Tells}
+use Rattle.mseed.specs.Plans.{fill_text}
+use Rattle.mseed.specs.Live.{EndsWith, for_long, input_ended, input_wrong}
+use Rattle.mseed.specs.declared.fill_fault.FillFault.{FillFault}
+use Rattle.mseed.proofs.live.serve_to_the_end.Goals as goal
+
+pub returns-in-Ok-clause-ended : goal.returns-in-Ok-clause-ended
+returns-in-Ok-clause-ended g c start v = input_ended (c.end_of.ensures c.serve.new.self c.in-Ok.ensures.over)
+
+pub returns-in-Ok-serve-clause-ended : goal.returns-in-Ok-serve-clause-ended
+returns-in-Ok-serve-clause-ended g c start v =
+    input_wrong c.in-Err.fault (g.R.Ready.log c.serve.new.ready)
+    (g.E.Sink.written c.refuse_to_serve-status.new.errors) (c.in-Err.ensures.fault start v)
+    (subst (λ (f : FillFault). Tells (fill_text f) (g.E.Sink.written c.args.errors.now)
+    (g.E.Sink.written c.refuse_to_serve-status.new.errors)) c.fill_fault.ensures c.refuse_to_serve-status.ensures.told)
+    (subst (λ (n : ℕ). EndsWith c.serve-in-Err.new.self (g.R.Ready.is_over c.serve-in-Err.new.ready) n
+    c.end_of-in-Ok-serve.result (g.E.Sink.written c.refuse_to_serve-status.new.errors)
+    (g.E.Sink.written c.end_of-in-Ok-serve.new.errors)) c.refuse_to_serve-status.ensures.status
+    (c.end_of-in-Ok-serve.ensures c.serve-in-Err.new.self c.in-Ok-serve.ensures.over))
+
+pub returns-in-Err-serve-clause-ended : goal.returns-in-Err-serve-clause-ended
+returns-in-Err-serve-clause-ended g c start v =
+    for_long c.in-Err.fault c.in-Err-serve.field-0 (g.R.Ready.log c.serve.new.ready)
+    (g.E.Sink.written c.refuse_to_serve-status.new.errors) (c.in-Err.ensures.fault start v)
+    (subst (λ (f : FillFault). Tells (fill_text f) (g.E.Sink.written c.args.errors.now)
+    (g.E.Sink.written c.refuse_to_serve-status.new.errors)) c.fill_fault.ensures c.refuse_to_serve-status.ensures.told)
+    (c.in-Err-serve.ensures.fault start (c.in-Err.ensures.serving start v)) c.link_failed.ensures.status
+    c.link_failed.ensures.told

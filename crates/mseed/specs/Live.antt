@@ -1,0 +1,69 @@
+-- How serving a feed to many clients ends, while its records come.
+use Rattle.std.specs.Prelude.{◌≡◌, ⊤, ℕ, ◌^◌, ◌≤◌, Bool, true, List, codes}
+use Rattle.std.specs.List.{AllByRecursion}
+use Rattle.mseed_stream.specs.Device.{BytesWritten}
+use Rattle.mseed_stream.specs.Telling.{Tells}
+use Rattle.slink_wire.specs.Place.{Fields}
+use Rattle.slink_feed.specs.Window.{Window}
+use Rattle.slink_live.specs.Happening.{Happening, input_of}
+use Rattle.slink_live.specs.Input.{IsInputFault, places_of}
+use Rattle.slink_live.specs.Served.{IsFinished, IsServing, ServerState}
+use Rattle.slink_live.specs.declared.fault.InputFault.{InputFault}
+use Rattle.slink_live.specs.declared.fault.InputFault.TheVariants as inputs
+use Rattle.mseed.specs.FeedWords.{CanLive}
+use Rattle.mseed.specs.Plans.{fill_text}
+use Rattle.mseed.specs.declared.fill_fault.FillFault.{FillFault}
+use Rattle.mseed.specs.declared.fill_fault.FillFault.TheVariants as fills
+use Rattle.mseed.specs.declared.outcome.Run.{Run}
+use Rattle.mseed.specs.declared.outcome.Run.TheVariants as runs
+
+-- Records can be numbered on for as long as the input is read.
+abbrev pub CanNumber : List Window → Type 0
+CanNumber feed = AllByRecursion (λ w. w.next ≤ 2 ^ 62) feed
+
+-- What is left to be served while records come can be served so.
+abbrev pub CanBeServed : {A : Type 0} → Run A → Type 0
+CanBeServed (runs.Status status) = ⊤
+CanBeServed (runs.Serve plan) = ⊤
+CanBeServed (runs.Live living) = CanLive living
+CanBeServed (runs.Fetch plan) = ⊤
+
+-- what is wrong with the input, as what keeps a feed from being filled
+abbrev pub fill_fault : InputFault → FillFault
+fill_fault (inputs.Stream fault) = fills.Stream fault
+fill_fault (inputs.Foreign number) = fills.Foreign number
+
+-- Nothing is left to do: the input is read no more, and no link stands, and the status is the one that is due. Or links
+-- may have been cut off, since the device failed, and standard error was told.
+pub data EndsWith (s : ServerState) (is_over : Bool) (due status : ℕ) (old new : BytesWritten) : Type 0 where
+  to_the_end : IsFinished s → status ≡ due → new ≡ old → EndsWith s is_over due status old new
+  cut_off : is_over ≡ true → status ≡ 2 → Tells (codes "mseed: link failed\n") old new
+      → EndsWith s is_over due status old new
+
+-- The input came to its end, where a record ends. Or it was wrong by what it had told by then, which standard error was
+-- told before the links that stood were served on: to the end, or until 2^40 events had come.
+pub data HasEnded (places : List Fields) (s : ServerState) (is_over : Bool) (log : List Happening) (status : ℕ)
+    (old new : BytesWritten) : Type 0 where
+  input_ended : EndsWith s is_over 0 status old new → HasEnded places s is_over log status old new
+  input_wrong : (fault : InputFault) (by_then : List Happening) (told : BytesWritten)
+      → IsInputFault places (input_of by_then) fault → Tells (fill_text (fill_fault fault)) old told
+      → EndsWith s is_over 2 status told new → HasEnded places s is_over log status old new
+  for_long : (fault last : InputFault) (by_then : List Happening) (told : BytesWritten)
+      → IsInputFault places (input_of by_then) fault → Tells (fill_text (fill_fault fault)) old told
+      → IsInputFault places (input_of log) last → status ≡ 2 → Tells (codes "mseed: link failed\n") told new
+      → HasEnded places s is_over log status old new
+
+-- The rings were filled by what the input told, and each link was served from them by a session of its own, as the log
+-- of all that happened says; or there was no memory for rings or links.
+pub data HasServed (feed : List Window) (is_over : Bool) (log : List Happening) (status : ℕ) (old new : BytesWritten)
+    : Type 0 where
+  served : (s : ServerState) → IsServing feed s log → HasEnded (places_of feed) s is_over log status old new
+      → HasServed feed is_over log status old new
+  no_room : status ≡ 2 → Tells (fill_text fills.Memory) old new → HasServed feed is_over log status old new
+
+-- Over TCP: so it was, whatever happened; or the port couldn't be had, or there was no memory for the device.
+pub data HasServedTcp (feed : List Window) (status : ℕ) (old new : BytesWritten) : Type 0 where
+  over_links : (is_over : Bool) (log : List Happening) → HasServed feed is_over log status old new
+      → HasServedTcp feed status old new
+  no_port : status ≡ 2 → Tells (codes "mseed: link failed\n") old new → HasServedTcp feed status old new
+  no_device : status ≡ 2 → Tells (fill_text fills.Memory) old new → HasServedTcp feed status old new

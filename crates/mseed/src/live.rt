@@ -1,0 +1,185 @@
+//! Serving the records of an input to many clients at once, while they come.
+ghost use Rattle.std.specs.Prelude.{◌≡◌, ◌⊎◌, [], List, IfErr, IfOk, codes, length, true};
+ghost use Rattle.mseed_stream.specs.Telling.{Tells};
+ghost use Rattle.slink_feed.specs.Window.{Window};
+ghost use Rattle.slink_live.specs.Happening.{input_of};
+ghost use Rattle.slink_live.specs.Input.{IsInputFault, places_of};
+ghost use Rattle.slink_live.specs.Served.{IsFinished, IsServing, IsSound, ServerState};
+ghost use Rattle.mseed.specs.FeedWords.{CanLive};
+ghost use Rattle.mseed.specs.Filling.{feed_of};
+ghost use Rattle.mseed.specs.Live.{CanNumber, EndsWith, HasEnded, HasServed, HasServedTcp, fill_fault};
+
+use crate::command::refuse_memory;
+use crate::fill_fault::FillFault;
+use crate::filling::open_feed;
+use crate::outcome::{DONE, FAULT};
+use crate::refusal::refuse_to_serve;
+use crate::request::Living;
+use mseed_stream::{Sink, tell};
+use slink_feed::Feed;
+use slink_live::{InputFault, Ready, Server};
+use slink_live_tcp::{Plan, Tcp};
+use std::alloc::{AllocError, Global};
+use std::io::{ErrorKind, Read};
+use std::net::{Ipv4Addr, Net, SocketAddr};
+use std::os::fd::AsRawFd;
+use std::time::{Clock, Duration};
+
+/// An input and links of which it is known whether they failed all together.
+pub trait Device: Ready {
+    /// Whether nothing comes any more.
+    fn has_failed(&self) -> bool
+        ensures { result ≡ Self.is_over self.now };
+}
+
+impl<C: Clock, I: Read + AsRawFd + Drop> Device for Tcp<'_, C, I> {
+    fn has_failed(&self) -> bool {
+        Tcp::has_failed(self)
+    }
+}
+
+/// Serves a feed over TCP to many clients at once, as the records of an input come, and answers the exit status. A port
+/// that can't be had is as a link that failed.
+pub fn serve<N: Net + Clock, I: Read + AsRawFd + Drop, E: Sink>(
+    host: &N,
+    alloc: Global,
+    living: &Living,
+    input: I,
+    errors: &mut E,
+) -> u8
+    requires { CanLive living.now }
+    ensures { HasServedTcp (feed_of living.now.serving []) result (E.written errors.old) (E.written errors.new) }
+{
+    match Tcp::bind(host, alloc, links_of(living), input) {
+        Ok(mut device) => {
+            let status = serve_live(alloc, living, &mut device, errors);
+            device.finish();
+            status
+        }
+        Err(error) if error.kind() == ErrorKind::OutOfMemory => refuse_memory(errors),
+        Err(_) => link_failed(errors),
+    }
+}
+
+/// Where links are taken, how many, and how long each may be silent.
+fn links_of(living: &Living) -> Plan {
+    let listener = &living.serving.listener;
+    let address = Ipv4Addr::from(listener.address.octets);
+    let seconds = listener.timeout.seconds;
+    Plan {
+        address: SocketAddr::from((address, listener.port)),
+        clients: living.clients as usize,
+        timeout: if seconds == 0 {
+            None
+        } else {
+            Some(Duration::from_secs(u64::from(seconds)))
+        },
+    }
+}
+
+/// Serves a feed to the links of a device, as the records of its input come, and answers the exit status. Each place has
+/// a ring of the capacity that was asked for, without records at first.
+///
+/// What is wrong with the input is told on `errors` at once. What came before it stays served, and nothing behind it
+/// is.
+pub fn serve_live<R: Device, E: Sink>(
+    alloc: Global,
+    living: &Living,
+    ready: &mut R,
+    errors: &mut E,
+) -> u8
+    requires new { R.log ready.old ≡ [] }
+    requires asked { CanLive living.now }
+    ensures { HasServed (feed_of living.now.serving []) (R.is_over ready.new) (R.log ready.new) result
+        (E.written errors.old) (E.written errors.new) }
+{
+    match open_feed(alloc, &living.serving) {
+        Ok(feed) => serve_feed(alloc, feed, living.clients, ready, errors),
+        Err(_) => refuse_memory(errors),
+    }
+}
+
+/// Serves these rings to so many links at once.
+fn serve_feed<R: Device, E: Sink>(
+    alloc: Global,
+    feed: Feed,
+    clients: u32,
+    ready: &mut R,
+    errors: &mut E,
+) -> u8
+    requires new { R.log ready.old ≡ [] }
+    requires numbers { CanNumber feed }
+    ensures { HasServed feed (R.is_over ready.new) (R.log ready.new) result (E.written errors.old)
+        (E.written errors.new) }
+{
+    match server_of(alloc, feed, clients) {
+        Ok(mut server) => serve_to_the_end(&mut server, ready, errors),
+        Err(_) => refuse_memory(errors),
+    }
+}
+
+/// A server of these rings, with a slot for each client that is served at once.
+///
+/// # Errors
+///
+/// Where there is no memory for the slots.
+fn server_of(alloc: Global, feed: Feed, clients: u32) -> Result<Server, AllocError>
+    requires { CanNumber feed }
+    ensures serving { IfOk result (λ server. IsServing feed server []) }
+    ensures sound { IfOk result IsSound }
+    ensures clients { IfOk result (λ server. length server.links ≡ clients) }
+{
+    Server::new(alloc, feed, clients as usize)
+}
+
+/// Serves until nothing is left to do, or the device failed, and answers the exit status.
+fn serve_to_the_end<R: Device, E: Sink>(server: &mut Server, ready: &mut R, errors: &mut E) -> u8
+    requires sound { IsSound server.old }
+    ensures serving { (start : List Window) → IsServing start server.old (R.log ready.old)
+        → IsServing start server.new (R.log ready.new) }
+    ensures ended { (start : List Window) → IsServing start server.old (R.log ready.old)
+        → HasEnded (places_of start) server.new (R.is_over ready.new) (R.log ready.new) result
+        (E.written errors.old) (E.written errors.new) }
+{
+    match server.serve(ready) {
+        Ok(()) => end_of(ready, DONE, errors),
+        Err(fault) => {
+            let status = refuse_to_serve(errors, &fill_fault(fault));
+            match server.serve(ready) {
+                Ok(()) => end_of(ready, status, errors),
+                Err(_) => link_failed(errors),
+            }
+        }
+    }
+}
+
+/// The exit status that is due, unless the device failed.
+fn end_of<R: Device, E: Sink>(ready: &R, due: u8, errors: &mut E) -> u8
+    ensures { (s : ServerState) → IsFinished s ⊎ (R.is_over ready.now ≡ true)
+        → EndsWith s (R.is_over ready.now) due result (E.written errors.old) (E.written errors.new) }
+{
+    if ready.has_failed() {
+        link_failed(errors)
+    } else {
+        due
+    }
+}
+
+/// Says that a link failed, and answers the exit status.
+fn link_failed<E: Sink>(errors: &mut E) -> u8
+    ensures status { result ≡ 2 }
+    ensures told { Tells (codes "mseed: link failed\n") (E.written errors.old) (E.written errors.new) }
+{
+    tell(errors, b"mseed: link failed\n");
+    FAULT
+}
+
+/// The same fault, of a feed that isn't filled further.
+fn fill_fault(fault: InputFault) -> FillFault
+    ensures { result ≡ fill_fault fault }
+{
+    match fault {
+        InputFault::Stream(fault) => FillFault::Stream(fault),
+        InputFault::Foreign(number) => FillFault::Foreign(number),
+    }
+}
