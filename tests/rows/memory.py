@@ -9,6 +9,7 @@ from dataclasses import replace
 from typing import Generator
 
 from driver.helpers import COMPILER, library, preloaded, refused_in_turn
+from driver.links import free_port
 from driver.program import SAMPLES
 from driver.rows import Case, Cases, Fact, Result, Row, Skipped, holds
 from driver.texts import NO_MEMORY, Expected, PrefixOf, matches
@@ -76,6 +77,7 @@ def rows() -> Cases:
         ("two show", TWO, "show", 0),
         ("two show --bogus", TWO, "show --bogus", 3),
         ("two show show", TWO, "show show", 3),
+        ("an ended serve --live", b"", f"serve --live --port {free_port()} --station STA --network XX", 0),
     ):
         yield from refuses(name, Row(name, archive, words.split(), status), refusing, is_listing=words == "show")
     of_four = yield from refuses("four audit", Row("", FOUR, ["audit"], 1), refusing)

@@ -1,0 +1,383 @@
+"""`serve --live`: its words, many clients at once while records come, each cut off and reconnected at random, clients
+that take nothing or say nothing, a server that is killed and started anew, and inputs that end badly."""
+
+from __future__ import annotations
+
+import contextlib
+import random
+import socket
+import subprocess
+import tempfile
+import threading
+import time
+from pathlib import Path
+from typing import Callable, Iterator, NamedTuple, Optional, Sequence
+
+from driver.feed import Ended, Env, fetch, kept, words_of
+from driver.helpers import COMPILER, library, preloaded
+from driver.links import HOST, OPEN, dialled, free_port, is_listened_at, listening, port_of, received_up_to, sockets
+from driver.program import LIMIT
+from driver.rows import Cases, Fact, Row, Skipped, contents_of, holds, started, status_of
+from driver.texts import BAD_VALUE, LINK_FAILED, About
+from models.seedlink import Place, record_of
+
+STA, STB = Place("XX_STA"), Place("XX_STB")
+ASKED = b"STATION STA XX\r\nDATA %06X\r\nEND\r\n"
+GRANTED = b"OK\r\nOK\r\n"
+PACKET = 520
+FINE = Ended(0, b"", b"")
+# More bytes than the system keeps of a link that isn't read.
+MANY = 20000
+
+
+class Held(NamedTuple):
+    """A record that a client holds, under the number that the server gave it."""
+
+    number: int
+    bytes: bytes
+
+
+def recorded(count: int, places: Sequence[Place] = (STA,)) -> list[bytes]:
+    """So many records, of one place after another."""
+    return [record_of(places[index % len(places)], index) for index in range(count)]
+
+
+def numbered(records: Sequence[bytes]) -> list[Held]:
+    """The records as a client has to hold them."""
+    return [Held(number, record) for number, record in enumerate(records)]
+
+
+def held_of(stream: bytes) -> list[Held]:
+    """The records of the whole packets of a stream."""
+    packets = [stream[at : at + PACKET] for at in range(0, len(stream) - PACKET + 1, PACKET)]
+    return [Held(int(packet[2:8], 16), packet[8:]) for packet in packets]
+
+
+def until(holds_now: Callable[[], object], seconds: float = LIMIT) -> bool:
+    """Waits until something holds, and answers whether it did in time."""
+    end = time.monotonic() + seconds
+    while not holds_now():
+        if time.monotonic() > end:
+            return False
+        time.sleep(0.003)
+    return True
+
+
+class Live:
+    """`mseed serve --live` over an input that is fed while it runs, once it listens or has ended."""
+
+    def __init__(self, *options: object, places: Sequence[Place] = (STA,), port: Optional[int] = None,
+                 stdin: int = subprocess.PIPE, env: Env = None):
+        self.port = port or free_port()
+        self.errors = tempfile.TemporaryFile()
+        words = ["serve", "--live", "--port", str(self.port), *words_of(places, options)]
+        self.process = kept(started(words, env, stdin=stdin, stdout=subprocess.DEVNULL, stderr=self.errors))
+        until(lambda: not self.is_going() or is_listened_at(self.port))
+
+    def is_going(self) -> bool:
+        """Whether it hasn't ended."""
+        return self.process.poll() is None
+
+    def feed(self, piece: bytes) -> None:
+        """Gives it bytes at once."""
+        with contextlib.suppress(BrokenPipeError):
+            self.process.stdin.write(piece)
+            self.process.stdin.flush()
+
+    def told(self) -> bytes:
+        """What it said so far."""
+        return contents_of(self.errors)
+
+    def end_input(self) -> None:
+        """Ends its input."""
+        with contextlib.suppress(BrokenPipeError):
+            self.process.stdin.close()
+
+    def end(self) -> Ended:
+        """How it ended, once its input has."""
+        self.end_input()
+        return Ended(status_of(self.process), b"", self.told())
+
+    def kill(self) -> None:
+        """Ends it at once."""
+        self.process.kill()
+        self.process.wait()
+
+    def ticks(self) -> int:
+        """The processor time that it took so far, in hundredths of a second."""
+        fields = Path(f"/proc/{self.process.pid}/stat").read_text(encoding="ascii").split()
+        return int(fields[13]) + int(fields[14])
+
+    def links(self) -> int:
+        """How many links stand, on the server's side."""
+        return sum(near.endswith(f":{self.port:04X}") and state == OPEN for near, _, state in sockets())
+
+
+def granted(port: int, number: int, room: Optional[int] = None) -> Optional[socket.socket]:
+    """A link that is sent the records from a number on, or nothing where that is refused or nobody listens. Where a room
+    is named, the system keeps about so many bytes of it that aren't read."""
+    link = socket.socket()
+    link.settimeout(LIMIT)
+    if room is not None:
+        link.setsockopt(socket.SOL_SOCKET, socket.SO_RCVBUF, room)
+    with contextlib.suppress(OSError):
+        link.connect((HOST, port))
+        link.sendall(ASKED % number)
+        if received_up_to(link, len(GRANTED)) == GRANTED:
+            return link
+    link.close()
+    return None
+
+
+def brought_by(link: socket.socket, most: int) -> bytes:
+    """What a link brings next, at most so many bytes, and none at its end, however it ends."""
+    try:
+        return link.recv(min(most, 1 << 18))
+    except OSError:
+        return b""
+
+
+def taken(link: socket.socket, most: int) -> bytes:
+    """What a link brings, up to so many bytes, or to its end."""
+    came = bytearray()
+    while len(came) < most and (brought := brought_by(link, most - len(came))):
+        came += brought
+    return bytes(came)
+
+
+def hold_all(port: int, count: int, seed: int, held: list[Held]) -> None:
+    """A client that is cut off at random, within packets too, and goes on until it holds so many records. While the
+    server isn't there, or hasn't read on to where the client stands, it tries again."""
+    chance, end = random.Random(seed), time.monotonic() + LIMIT
+    while len(held) < count and time.monotonic() < end:
+        link = granted(port, len(held))
+        if link is None:
+            time.sleep(0.01)
+            continue
+        with link:
+            left, first, came = PACKET * (count - len(held)), len(held), bytearray()
+            most = min(left, chance.randrange(PACKET, left + PACKET))
+            while len(came) < most and (brought := brought_by(link, most - len(came))):
+                came += brought
+                held[first:] = held_of(came)
+
+
+def started_clients(clients: int, port: int, count: int) -> tuple[list[threading.Thread], list[list[Held]]]:
+    """So many clients that are cut off at random, and what each holds."""
+    helds: list[list[Held]] = [[] for _ in range(clients)]
+    threads = [threading.Thread(target=hold_all, args=(port, count, seed, held), daemon=True)
+               for seed, held in enumerate(helds)]
+    for thread in threads:
+        thread.start()
+    return threads, helds
+
+
+def many_at_once() -> Cases:
+    """64 clients while a record comes each millisecond, in two pieces."""
+    records, live, chance = recorded(400), Live("--timeout", 60), random.Random(0)
+    threads, helds = started_clients(64, live.port, len(records))
+    for record in records:
+        cut = chance.randrange(len(record))
+        live.feed(record[:cut])
+        live.feed(record[cut:])
+        time.sleep(0.001)
+    for thread in threads:
+        thread.join(LIMIT)
+    yield Fact("each of 64 clients holds each record once, in order", 64,
+               sum(held == numbered(records) for held in helds))
+    yield Fact("the server of 64 ends with its input", FINE, live.end())
+
+
+def take_all(link: socket.socket, came: bytearray) -> None:
+    """A client that takes what it is sent, to the end."""
+    while brought := brought_by(link, 1 << 18):
+        came += brought
+
+
+def one_never_reads() -> Cases:
+    """One client that takes nothing loses its place, and holds up none of ten others. These are never more than half
+    their ring behind, however slow this machine is."""
+    records, live = recorded(100) * 90, Live("--timeout", 0)
+    deaf, links = granted(live.port, 0, room=4096), [granted(live.port, 0) for _ in range(10)]
+    cames = [bytearray() for _ in links]
+    threads = [threading.Thread(target=take_all, args=each, daemon=True) for each in zip(links, cames)]
+    for thread in threads:
+        thread.start()
+    kept_up = True
+    for at in range(0, len(records), 100):
+        kept_up = kept_up and until(lambda: all(len(came) >= PACKET * (at - 400) for came in cames), 60)
+        live.feed(b"".join(records[at : at + 100]))
+    yield holds("ten that read are sent on beside one that never does", kept_up)
+    yield Fact("one that never reads keeps no server from its end", FINE, live.end())
+    for thread in threads:
+        thread.join(LIMIT)
+    yield Fact("ten that read hold all", 10, sum(held_of(came) == numbered(records) for came in cames))
+    rest = taken(deaf, PACKET * len(records))
+    yield holds("one that never read was sent a beginning", held_of(rest) == numbered(records)[: len(rest) // PACKET])
+
+
+def silent_clients() -> Cases:
+    """200 that say nothing cost no time, and are given up."""
+    live = Live("--clients", 256, "--timeout", 4)
+    links = [dialled(live.port) for _ in range(200)]
+    time.sleep(1)
+    before = live.ticks()
+    time.sleep(1)
+    cost = live.ticks() - before
+    yield holds("200 silent clients cost no time", cost <= 3, cost)
+    yield Fact("200 silent clients are given up", [b""] * 200, [taken(link, 10) for link in links])
+    yield Fact("the server of silent clients ends", FINE, live.end())
+
+
+def times() -> Cases:
+    """A client that takes nothing is given up; one that waits for records is not."""
+    live = Live("--timeout", 1, "--capacity", MANY)
+    waiting = granted(live.port, 0)
+    time.sleep(2.5)
+    records = recorded(1) * MANY
+    live.feed(records[0])
+    yield Fact("one that waited for longer than the time is served", numbered(records[:1]),
+               held_of(received_up_to(waiting, PACKET)))
+    waiting.close()
+    deaf = granted(live.port, 0, room=4096)
+    live.feed(b"".join(records[1:]))
+    yield holds("one that takes nothing is given up, though the input goes on", until(lambda: live.links() == 0, 60))
+    yield holds("the server goes on", live.is_going())
+    rest = held_of(taken(deaf, PACKET * MANY))
+    yield holds("one that took nothing was sent a beginning", rest == numbered(records)[: len(rest)])
+    yield Fact("the server of one that took nothing ends", FINE, live.end())
+
+
+def killed_and_started_anew() -> Cases:
+    """The recipe: records are appended to a file, and each has the same number after a restart. The server is killed
+    twice, once with half a record in the file, while eight clients stand."""
+    records = recorded(90)
+    archive, port = b"".join(records), free_port()
+    with tempfile.NamedTemporaryFile() as file:
+        threads, helds = started_clients(8, port, len(records))
+        written = 0
+        for size in (30 * 512, 60 * 512 + 200, len(archive)):
+            tail = kept(subprocess.Popen(["tail", "-c", "+1", "-f", file.name], stdout=subprocess.PIPE))
+            live = Live("--timeout", 60, port=port, stdin=tail.stdout)
+            tail.stdout.close()
+            file.write(archive[written:size])
+            file.flush()
+            written = size
+            until(lambda: all(len(held) >= size // 512 - 10 for held in helds), 60)
+            if size == len(archive):
+                for thread in threads:
+                    thread.join(LIMIT)
+            live.kill()
+            tail.kill()
+    yield Fact("each of eight clients holds each record once, over two kills", 8,
+               sum(held == numbered(records) for held in helds))
+
+
+def more_than_clients() -> Cases:
+    """Who comes while enough are there waits, and is served then; a client that fetches ends as ever."""
+    records = recorded(60, [STA, STB])
+    live = Live("--clients", 2, "--timeout", 60, places=[STA, STB])
+    live.feed(b"".join(records))
+    first, second, third = granted(live.port, 0), granted(live.port, 0), dialled(live.port)
+    yield Fact("one that waits for records has those of its place", numbered(records[::2]),
+               held_of(received_up_to(first, PACKET * 30)))
+    third.sendall(ASKED % 0)
+    third.settimeout(0.5)
+    with contextlib.suppress(socket.timeout):
+        yield Fact("a third one, with two slots, isn't served", "a time-out", third.recv(1))
+    first.close()
+    third.settimeout(LIMIT)
+    yield Fact("until one of the two has gone", GRANTED, received_up_to(third, len(GRANTED)))
+    second.close()
+    third.close()
+    ends: list[Ended] = []
+    clients = [threading.Thread(target=lambda: ends.append(fetch([STB], live.port)), daemon=True) for _ in range(8)]
+    for client in clients:
+        client.start()
+    for client in clients:
+        client.join(LIMIT)
+    yield Fact("eight fetches by two slots", [Ended(0, b"".join(records[1::2]), b"")] * 8, ends)
+    yield Fact("the server of two slots ends", FINE, live.end())
+
+
+# What may be wrong behind three records, and the line that says so.
+WRONG = [
+    ("within a record", recorded(1)[0][:100], b"mseed: fault at 1536 truncated 100\n"),
+    ("with bytes that begin no record", b"x" * 64 + recorded(1)[0], b"mseed: fault at 1536 notdata\n"),
+    ("with another station's record", record_of(STB, 0) + recorded(1)[0], b"mseed: record 4 is not of this feed\n"),
+]
+
+
+def bad_inputs() -> Cases:
+    """What is wrong with the input is the line and the status; what was before it is served, and nothing behind it."""
+    records = recorded(3)
+    for name, tail, line in WRONG:
+        live = Live("--timeout", 60)
+        link = granted(live.port, 0)
+        live.feed(b"".join(records) + tail)
+        live.end_input()
+        yield Fact(f"a client of an input that ends {name}", numbered(records), held_of(taken(link, PACKET * 9)))
+        link.close()
+        yield Fact(f"an input that ends {name}", Ended(2, b"", line), live.end())
+
+
+def told_at_once() -> Cases:
+    """The line is there while a client has much to take yet, and no further client is taken."""
+    records, line = recorded(1) * MANY, b"mseed: fault at %d notdata\n" % (MANY * 512)
+    live = Live("--timeout", 60, "--capacity", MANY)
+    slow = granted(live.port, 0, room=1 << 16)
+    live.feed(b"".join(records) + b"x" * 64)
+    yield holds("the line is told at once", until(lambda: live.told() == line, 60), live.told())
+    yield holds("a client that has much to take yet is served on", live.is_going() and live.links() >= 1)
+    late = dialled(live.port)
+    late.sendall(ASKED % 0)
+    yield holds("it takes all that came before", held_of(taken(slow, PACKET * (MANY + 1))) == numbered(records))
+    slow.close()
+    yield Fact("the server ends once it has", Ended(2, b"", line), live.end())
+    yield Fact("who comes behind the end isn't served", b"", taken(late, 1))
+
+
+def failing() -> Cases:
+    """A port that is taken, and an input that fails."""
+    taken_port = listening()
+    yield Fact("serve --live at a port that is taken", Ended(2, b"", LINK_FAILED), Live(port=port_of(taken_port)).end())
+    fails = library("failing_devices")
+    if fails is None:
+        yield Skipped("serve --live of an input that fails", COMPILER)
+        return
+    for room in (0, 511, 512, 1000, 1536):
+        live = Live(env=preloaded(fails, READ_ROOM=room))
+        live.feed(b"".join(recorded(3)) + b"x")
+        line = b"mseed: fault at %d read\n" % (room // 512 * 512)
+        yield Fact(f"serve --live of an input that fails behind {room} bytes", Ended(2, b"", line), live.end())
+
+
+def words() -> Iterator[Row]:
+    """What goes with `--live`, and what doesn't."""
+    serve: Sequence[str] = ["serve", "--station", "STA", "--network", "XX", "--port", str(free_port())]
+    yield Row("live, with no input", b"", [*serve, "--live"], 0)
+    yield Row("live, with two records", b"".join(recorded(2)), [*serve, "--live"], 0)
+    for clients in ("1", "64", "1024", "+0007"):
+        yield Row(f"live, with {clients} clients", b"", [*serve, "--live", "--clients", clients], 0)
+    for clients in ("0", "1025", "-1", "1.5", "x", ""):
+        yield Row(f"live, with {clients} clients", b"", [*serve, "--live", f"--clients={clients}"], 3, b"",
+                  About("clients"))
+    yield Row("live twice", b"", [*serve, "--live", "--live"], 3, b"", About("live"))
+    yield Row("clients twice", b"", [*serve, "--live", "--clients", "1", "--clients", "1"], 3, b"", About("clients"))
+    yield Row("live, with connections", b"", [*serve, "--live", "--connections", "1"], 3, b"", BAD_VALUE)
+    yield Row("clients without live", b"", [*serve, "--clients", "2"], 3, b"", BAD_VALUE)
+    yield Row("live, with a capacity of 0", b"", [*serve, "--live", "--capacity", "0"], 3, b"", BAD_VALUE)
+    yield Row("live, with a place that has a number", b"", [*serve, "--live", "XX_STB:1"], 3, b"", BAD_VALUE)
+    yield Row("live, with an option of fetch", b"", [*serve, "--live", "--from", "0"], 3, b"", BAD_VALUE)
+    for command in ("audit", "show", "repack", "join"):
+        yield Row(f"{command}, live", b"", [command, "--live"], 3, b"", BAD_VALUE)
+    yield Row("fetch, live", b"", ["fetch", *serve[1:], "--live"], 3, b"", BAD_VALUE)
+    yield Row("fetch, with clients", b"", ["fetch", *serve[1:], "--clients", "2"], 3, b"", BAD_VALUE)
+
+
+def rows() -> Cases:
+    """All of it."""
+    yield from words()
+    for part in (many_at_once, one_never_reads, silent_clients, times, killed_and_started_anew, more_than_clients,
+                 bad_inputs, told_at_once, failing):
+        yield from part()
