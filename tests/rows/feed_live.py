@@ -114,8 +114,8 @@ class Live:
 
 
 def granted(port: int, number: int, room: Optional[int] = None) -> Optional[socket.socket]:
-    """A link that is sent the records from a number on, or nothing where that is refused or nobody listens. Where a room
-    is named, the system keeps about so many bytes of it that aren't read."""
+    """A link that is sent the records from a number on, or nothing where that is refused or nobody listens. Where a
+    room is named, the system keeps about so many bytes of it that aren't read."""
     link = socket.socket()
     link.settimeout(LIMIT)
     if room is not None:

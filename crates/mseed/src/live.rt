@@ -77,8 +77,8 @@ fn links_of(living: &Living) -> Plan {
     }
 }
 
-/// Serves a feed to the links of a device, as the records of its input come, and answers the exit status. Each place has
-/// a ring of the capacity that was asked for, without records at first.
+/// Serves a feed to the links of a device, as the records of its input come, and answers the exit status. Each place
+/// has a ring of the capacity that was asked for, without records at first.
 ///
 /// What is wrong with the input is told on `errors` at once. What came before it stays served, and nothing behind it
 /// is.

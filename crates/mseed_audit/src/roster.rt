@@ -1,5 +1,6 @@
 //! What is kept of each channel while records come.
-ghost use Rattle.std.specs.Prelude.{◌≡◌, ◌↔◌, ◌⊎◌, ◌+◌, ◌<◌, ◌^◌, List, ℕ, [], ◌∷◌, ◌++◌, OnOk, OnErr, IfOk, IsOk, false};
+ghost use Rattle.std.specs.Prelude.{◌≡◌, ◌↔◌, ◌⊎◌, ◌+◌, ◌<◌, ◌^◌, List, ℕ, [], ◌∷◌, ◌++◌, OnOk};
+ghost use Rattle.std.specs.Prelude.{OnErr, IfOk, IsOk, false};
 ghost use Rattle.std.specs.Prelude.{IsSome, IsTrue, Option, Some, None};
 ghost use Rattle.mseed_record.specs.Header.{key_at};
 ghost use Rattle.mseed_record.specs.Viewing.{view_of};

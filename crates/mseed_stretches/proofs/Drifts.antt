@@ -1,5 +1,6 @@
 -- Distances in time, scaled by rates.
-use Rattle.std.proofs.Common.{◌≡◌, ℕ, zero, suc, ◌+◌, ◌*◌, ◌^◌, ◌≤◌, ◌<◌, ℤ, pos, negsuc, ◌+ℤ◌, ◌-ℤ◌, ◌*ℤ◌, unsigned_abs}
+use Rattle.std.proofs.Common.{◌≡◌, ℕ, zero, suc, ◌+◌, ◌*◌, ◌^◌, ◌≤◌, ◌<◌, ℤ, pos, negsuc, ◌+ℤ◌, ◌-ℤ◌, ◌*ℤ◌}
+use Rattle.std.proofs.Common.{unsigned_abs}
 use Rattle.std.proofs.Common.{arith, refl, sym, ap, ◌∙◌, neg_ℤ, ◌≤ℤ◌, to_z, of_z, w64}
 use mir.Syntax.{w128}
 use Rattle.std.proofs.lemmas.Int.{ints, unsigned_abs-mul}

@@ -1,5 +1,6 @@
 -- What a miss means.
-use Rattle.std.proofs.Common.{◌≡◌, ◌*◌, ◌^◌, ◌≤◌, ◌↔◌, arith, ℤ, pos, negsuc, unsigned_abs, neg_ℤ, ◌-ℤ◌, ◌*ℤ◌, ◌≤ℤ◌, ℕ, suc, to_z}
+use Rattle.std.proofs.Common.{◌≡◌, ◌*◌, ◌^◌, ◌≤◌, ◌↔◌, arith, ℤ, pos, negsuc, unsigned_abs, neg_ℤ, ◌-ℤ◌, ◌*ℤ◌, ◌≤ℤ◌}
+use Rattle.std.proofs.Common.{ℕ, suc, to_z}
 use Rattle.std.proofs.Common.{of_z}
 use mir.Syntax.{w32, w64, w128}
 use Rattle.std.proofs.Common.{Fits, FitsSigned, refl}

@@ -47,7 +47,8 @@ pub(crate) enum News {
 }
 
 impl Line {
-    /// Whether it has only so much time: in the handshake, and while it takes nothing though there is something to write.
+    /// Whether it has only so much time: in the handshake, and while it takes nothing though there is something to
+    /// write.
     fn is_timed(&self) -> bool {
         !self.wishes.is_streaming || self.wishes.writes && !self.may_write
     }

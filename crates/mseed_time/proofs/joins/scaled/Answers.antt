@@ -13,7 +13,7 @@ pub returns-clause-value : goal.returns-clause-value
 returns-clause-value c =
     rw (
       widened c.args.passed c.from.result c.from-2.result c.args.num c.ranges.passed c.ranges.num
-      c.from.ensures c.from-2.ensures,
+          c.from.ensures c.from-2.ensures,
       to_z-of_z w128 _ (product_fits c.args.passed c.args.num c.ranges.passed c.ranges.num),
     ) refl
 

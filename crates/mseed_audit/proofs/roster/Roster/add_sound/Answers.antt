@@ -7,8 +7,8 @@ use Rattle.mseed_audit.specs.declared.channel.Channel.{Channel}
 use Rattle.mseed_audit.specs.Channels.{Placed, same_key, with_record}
 use Rattle.mseed_audit.specs.Audit.{StandsAt}
 use Rattle.mseed_audit.specs.private.Kept.{AreBounded, ArePlaces, IsPlace, place_of}
-use Rattle.mseed_audit.proofs.Rosters.{bounded_at, found_at, place_set, place_within, places_set, set_bounded, set_found}
-use Rattle.mseed_audit.proofs.Rosters.{set_stands}
+use Rattle.mseed_audit.proofs.Rosters.{bounded_at, found_at, place_set, place_within, places_set, set_bounded}
+use Rattle.mseed_audit.proofs.Rosters.{set_found, set_stands}
 use Rattle.mseed_audit.proofs.Lasts.{found_kept}
 use Rattle.mseed_audit.proofs.roster.Roster.add_sound.Goals as goal
 
