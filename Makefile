@@ -12,7 +12,7 @@
 # make help             these lines
 # make interop          what libmseed packs, packed anew and read by libmseed (wants libmseed-dev)
 # make bench            the program and the library side by side with libmseed (wants libmseed-dev and valgrind)
-# make feed-bench       serve and fetch side by side with a pair of C programs
+# make feed-bench       serve and fetch side by side with a pair of C programs, and what many clients cost
 # make tools-bench      tools/sds over a tree of 1 GB, beside reading its bytes alone
 
 MSEED := crates/mseed/out/mseed
@@ -121,6 +121,7 @@ bench: build lib
 
 feed-bench: build
 	@python3 bench/feed.py $(MSEED) --write
+	@python3 bench/feed_live.py $(MSEED) --write
 
 tools-bench: build
 	@python3 bench/tools.py $(MSEED) --write
