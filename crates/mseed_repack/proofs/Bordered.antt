@@ -3,7 +3,8 @@ use Rattle.std.proofs.Common.{◌≡◌, ◌≢◌, ◌⊎◌, inl, inr, ℕ, su
 use Rattle.std.proofs.Common.{false, List, []}
 use Rattle.std.proofs.Common.{◌∷◌, ◌++◌, length, map, refl, sym, ap, subst, ◌∙◌, arith, ℤ, pos, negsuc}
 use Rattle.std.proofs.Common.{neg_ℤ, unsigned_abs}
-use Rattle.std.proofs.Common.{◌/◌, ◌+ℤ◌, ◌-ℤ◌, Option, Some, None, append-nil, append_assoc, ⊎_elim}
+use Rattle.std.proofs.Common.{◌/◌, ◌+ℤ◌, ◌-ℤ◌, ◌&&◌, Bool, IsTrue, nat_lt}
+use Rattle.std.proofs.Common.{Option, Some, None, append-nil, append_assoc, ⊎_elim}
 use Rattle.std.specs.List.{AllByRecursion, concat}
 use Rattle.std.proofs.lemmas.Bool.Decides.{nat_tests}
 use Rattle.std.proofs.lemmas.Int.{ints}
@@ -14,15 +15,18 @@ use Rattle.mseed_time.specs.Join.{Joins, join_by, miss_of, step_of}
 use Rattle.mseed_time.specs.Rate.{Ratio, SameRate}
 use Rattle.mseed_record.specs.declared.frame.Leap.{Leap}
 use Rattle.mseed_record.specs.declared.frame.Leap.TheVariants.{None as NoLeap, Positive, Negative, Both}
+use Rattle.mseed_record.specs.Header.{key_at}
 use Rattle.mseed_record.specs.Record.{IsRecord}
 use Rattle.mseed_record.specs.View.{View, IsView, leap_of, start_of}
 use Rattle.mseed_steim.specs.Reading.{HasOneReading, count_of}
 use Rattle.mseed_stream.specs.Walk.{AreViews}
+use Rattle.mseed_audit.specs.Channels.{is_of, same_key}
 use Rattle.mseed_audit.specs.declared.finding.Why.{Why}
 use Rattle.mseed_audit.specs.declared.finding.Why.TheVariants.{Gap, Overlap}
 use Rattle.mseed_audit.specs.Follows.{AllNeighbours, Follows, IsContinuous, IsSound}
 use Rattle.mseed_audit.specs.Judging.{IsFound, after, known_rate, step_in, why_after, why_by, why_from, why_of}
 use Rattle.mseed_audit.specs.Series.{Trace, IsSeriesOf}
+use Rattle.mseed_audit.proofs.Maps.{same_itself}
 use Rattle.mseed_stretches.specs.Stretches.{AreStretches, AreStretchesUpTo, samples_of}
 use Rattle.mseed_stretches.proofs.Drifts.{close_alike, early_alike, late_alike, same_rates}
 use Rattle.mseed_stretches.proofs.Joining.{both_some, continuous}
@@ -35,7 +39,8 @@ use Rattle.mseed_pack.proofs.Followed.{AreAt, are_views, bytes_in, continuous_at
 use Rattle.mseed_pack.proofs.ReadBack.{HaveOneViews}
 use Rattle.mseed_pack.proofs.Traced.{is_trace}
 use Rattle.mseed_pack.proofs.Viewed.{HeadersReadBack, PackedSpells}
-use Rattle.mseed_repack.specs.Borders.{AreReadAs, IsClose, IsFar, IsFoundBehind, LeavesGap, MissesBy, Overlaps}
+use Rattle.mseed_repack.specs.Borders.{AreReadAs, IsClose, IsFar, IsFoundBehind, KeepsBorders, LeavesGap, MissesBy}
+use Rattle.mseed_repack.specs.Borders.{Overlaps}
 use Rattle.mseed_repack.specs.Restretch.{ArePackedOn, ChannelFits, IsChannelPacked, IsNumberedOn, IsStretchPacked}
 use Rattle.mseed_repack.specs.Restretch.{StretchFits, none as packed_none, more as packed_more}
 use Rattle.mseed_repack.proofs.Borders.{AreBordering, IsBorder, IsLaid, bordering, joined_samples, samples_at}
@@ -130,6 +135,36 @@ each_view [] ws e = subst (λ (us : List View). AllByRecursion IsView us) (sym e
 each_view (s ∷ ss) ws (own, (rest, (parts, here, more))) =
     subst (λ (us : List View). AllByRecursion IsView us) (sym parts)
     (both_each IsView own rest (are_views here.trace 0 own here.trace.samples here.at) (each_view ss rest more))
+
+-- those of records of one key are of that key
+of_key_at : (key : List ℕ) (s : Trace) (first : ℕ) (vs : List View) (samples : List ℤ) → s.codes ≡ key
+    → AreAt s first vs samples → AllByRecursion (λ (v : View). IsTrue (is_of key v)) vs
+of_key_at key s first [] samples e h = tt
+of_key_at key s first (v ∷ vs) samples e h =
+    let is = h.1.1.1 in
+    let some : 0 < count_of v = subst (λ (n : ℕ). 0 < n) (sym is.count) is.some in
+    let counted : nat_lt 0 (count_of v) ≡ true = grind (arith, nat_tests, some) in
+    let same : same_key key (key_at v.bytes) ≡ true =
+    ap (λ (k : List ℕ). same_key key k) (is.key ∙ e) ∙ same_itself key in (
+      ap (λ (b : Bool). b && same_key key (key_at v.bytes)) counted ∙ same,
+      of_key_at key s (first + length h.0) vs h.1.0 e h.1.1.2,
+    )
+
+each_of_key : (key : List ℕ) (vs : List View) (ss : List (List View)) (ws : List View) → AreStretchesUpTo vs ss []
+    → AllByRecursion (λ (v : View). key_at v.bytes ≡ key) vs → AreLaid ss ws
+    → AllByRecursion (λ (v : View). IsTrue (is_of key v)) ws
+each_of_key key vs [] ws cut keys e =
+    subst (λ (us : List View). AllByRecursion (λ (v : View). IsTrue (is_of key v)) us) (sym e) tt
+each_of_key key vs (s ∷ ss) ws (left, (first, cut)) keys (own, (rest, (parts, here, more))) =
+    let P : View → Type 0 = λ v. key_at v.bytes ≡ key in
+    let all : AllByRecursion P (s ++ left) = subst (λ (us : List View). AllByRecursion P us) first.parts keys in
+    let of_first : AllByRecursion P (here.series.first ∷ here.series.rest) =
+    subst (λ (us : List View). AllByRecursion P us) here.series.parts (each_in_front P s left all) in
+    let code : here.trace.codes ≡ key = here.series.codes ∙ of_first.0 in
+    subst (λ (us : List View). AllByRecursion (λ (v : View). IsTrue (is_of key v)) us) (sym parts)
+    (both_each (λ (v : View). IsTrue (is_of key v)) own rest
+    (of_key_at key here.trace 0 own here.trace.samples code here.at)
+    (each_of_key key left ss rest cut (each_at_back P s left all) more))
 
 each_record : (vs : List View) → AllByRecursion IsView vs → AllByRecursion IsRecord (bytes_in vs)
 each_record [] h = tt
@@ -525,6 +560,42 @@ some_written laws vs (s ∷ ss) ws some cut (own, (rest, (parts, here, more))) n
     by [] is e = is refl
     by (v ∷ vs) is e = nothing_there [] v (vs ++ rest) (sym none ∙ e)
 
+pub keeps_borders : Layers → (vs : List View) (ss : List (List View)) (ws : List View) → AreStretches vs ss
+    → AreLaid ss ws → KeepsBorders vs ws
+keeps_borders laws vs ss ws cut all = record {
+  continuous = λ some close. record {
+    some = some_written laws vs ss ws some cut all;
+    each = each_laid_sound laws ss ws all;
+    follow = all_follow laws vs ss ws close cut all;
+  };
+  gap = λ front b v back e gap. find gaps_show vs ss ws front b v back cut all gap e;
+  overlap = λ front b v back e overlap. find overlaps_show vs ss ws front b v back cut all overlap e;
+}
+
+-- What was written of a channel: its views, which are of its key.
+pub record IsOwn (vs : List View) (key : List ℕ) (records : List (List ℕ)) : Type 0 where
+  pub views : List View
+  pub bytes : bytes_in views ≡ records
+  pub each : AllByRecursion IsView views
+  pub of_key : AllByRecursion (λ (v : View). IsTrue (is_of key v)) views
+  pub borders : KeepsBorders vs views
+
+pub own_of : Layers → (o : Options) (vs : List View) (key : List ℕ) (records : List (List ℕ))
+    → AllByRecursion IsView vs → AllByRecursion (λ (v : View). key_at v.bytes ≡ key) vs → ChannelFits o vs
+    → IsChannelPacked o vs records → IsOwn vs key records
+own_of laws o vs key records views keys fits packed =
+    let same = laws.cut vs fits.stretches packed.stretches fits.are packed.are in
+    let fit = subst (λ (ss : List (List View)). AllByRecursion (StretchFits o) ss) same fits.fit in
+    let all = all_laid laws o packed.stretches records (each_sound vs packed.stretches [] fits.sound views packed.are)
+    fit packed.packed in
+    record {
+      views = all.0;
+      bytes = all.1.1;
+      each = each_view packed.stretches all.0 all.1.0;
+      of_key = each_of_key key vs packed.stretches all.0 packed.are keys all.1.0;
+      borders = keeps_borders laws vs packed.stretches all.0 packed.are all.1.0;
+    }
+
 -- What is so of the views of what was written.
 read_as : Layers → (o : Options) (vs : List View) (records : List (List ℕ)) (P : List View → Type 0)
     → AllByRecursion IsView vs → ChannelFits o vs → IsChannelPacked o vs records
@@ -548,11 +619,8 @@ pub written_on : Layers → (o : Options) (vs : List View) (records : List (List
     → ChannelFits o vs → IsChannelPacked o vs records → vs ≢ [] → AllNeighbours IsClose vs
     → AreReadAs IsContinuous records
 written_on laws o vs records views fits packed some close =
-    read_as laws o vs records IsContinuous views fits packed (λ ss ws cut all. record {
-      some = some_written laws vs ss ws some cut all;
-      each = each_laid_sound laws ss ws all;
-      follow = all_follow laws vs ss ws close cut all;
-    })
+    read_as laws o vs records IsContinuous views fits packed (λ ss ws cut all.
+    (keeps_borders laws vs ss ws cut all).continuous some close)
 
 pub gap_written : Layers → (o : Options) (vs : List View) (records : List (List ℕ)) (front : List View) (b v : View)
     (back : List View) → AllByRecursion IsView vs → ChannelFits o vs → IsChannelPacked o vs records
@@ -560,7 +628,7 @@ pub gap_written : Layers → (o : Options) (vs : List View) (records : List (Lis
     → AreReadAs (IsFoundBehind (λ us. Gap us) (samples_of (front ++ b ∷ [])) (start_of v)) records
 gap_written laws o vs records front b v back views fits packed e gap =
     read_as laws o vs records (IsFoundBehind (λ us. Gap us) (samples_of (front ++ b ∷ [])) (start_of v)) views fits
-    packed (λ ss ws cut all. find gaps_show vs ss ws front b v back cut all gap e)
+    packed (λ ss ws cut all. (keeps_borders laws vs ss ws cut all).gap front b v back e gap)
 
 pub overlap_written : Layers → (o : Options) (vs : List View) (records : List (List ℕ)) (front : List View)
     (b v : View) (back : List View) → AllByRecursion IsView vs → ChannelFits o vs → IsChannelPacked o vs records
@@ -568,4 +636,4 @@ pub overlap_written : Layers → (o : Options) (vs : List View) (records : List 
     → AreReadAs (IsFoundBehind (λ us. Overlap us) (samples_of (front ++ b ∷ [])) (start_of v)) records
 overlap_written laws o vs records front b v back views fits packed e overlap =
     read_as laws o vs records (IsFoundBehind (λ us. Overlap us) (samples_of (front ++ b ∷ [])) (start_of v)) views fits
-    packed (λ ss ws cut all. find overlaps_show vs ss ws front b v back cut all overlap e)
+    packed (λ ss ws cut all. (keeps_borders laws vs ss ws cut all).overlap front b v back e overlap)

@@ -263,7 +263,7 @@ one_text laws o views cs text other a b = one_texts laws o views cs cs text othe
 -- What was written of an archive reads back.
 
 -- each channel that is kept fits
-kept_fit : (o : Options) (views : List View) (cs : List Channel) (ss : List Standing) → AreStandings o views cs ss
+pub kept_fit : (o : Options) (views : List View) (cs : List Channel) (ss : List Standing) → AreStandings o views cs ss
     → AllByRecursion (λ (c : Channel). ChannelFits o (records_in views c.0)) (kept_of cs ss)
 kept_fit o views [] ss all = tt
 kept_fit o views (c ∷ cs) [] all = tt

@@ -18,3 +18,4 @@ pub mod ChannelReadBack
 pub mod Misses
 pub mod Borders
 pub mod Bordered
+pub mod StretchedArchive

@@ -181,11 +181,11 @@ no_others o views written packed each are = λ key others.
 
 -- They are an archive.
 
-all_records : (vs : List View) → AllByRecursion IsView vs → AllByRecursion IsRecord (bytes_in vs)
+pub all_records : (vs : List View) → AllByRecursion IsView vs → AllByRecursion IsRecord (bytes_in vs)
 all_records [] each = tt
 all_records (v ∷ vs) each = (view_record v each.0, all_records vs each.1)
 
-none_further : HasNoFurther []
+pub none_further : HasNoFurther []
 none_further k fits is =
     let rest : List ℕ = [] in
     let long : 48 ≤ length (take k rest) = record_long (take k rest) is in

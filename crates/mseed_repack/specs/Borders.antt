@@ -1,13 +1,23 @@
 -- Where a record of a channel borders on the next one, and what is read there of what was written.
-use Rattle.std.specs.Prelude.{◌≡◌, ℕ, ◌+◌, ◌*◌, ◌^◌, ◌≤◌, ℤ, pos, neg_ℤ, unsigned_abs, List, [], ◌∷◌, ◌++◌, Some}
+use Rattle.std.specs.Prelude.{◌≡◌, ◌≢◌, ℕ, ◌+◌, ◌*◌, ◌^◌, ◌≤◌, ℤ, pos, neg_ℤ, unsigned_abs, List, [], ◌∷◌, ◌++◌, Some}
+use Rattle.std.specs.List.{AllByRecursion}
 use Rattle.mseed_time.specs.Join.{miss_of}
 use Rattle.mseed_time.specs.Rate.{Ratio, SameRate}
-use Rattle.mseed_record.specs.View.{View, leap_of, start_of}
+use Rattle.mseed_record.specs.View.{View, IsView, leap_of, start_of}
 use Rattle.mseed_steim.specs.Reading.{count_of}
+use Rattle.mseed_stream.specs.Archive.{IsArchive}
+use Rattle.mseed_stream.specs.Device.{BytesRead, BytesWritten}
+use Rattle.mseed_stream.specs.Walk.{bytes_in}
+use Rattle.mseed_audit.specs.Follows.{AllNeighbours, IsContinuous}
 use Rattle.mseed_audit.specs.Judging.{IsFound, known_rate, step_in}
 use Rattle.mseed_audit.specs.declared.finding.Why.{Why}
+use Rattle.mseed_audit.specs.declared.finding.Why.TheVariants.{Gap, Overlap}
 use Rattle.mseed_stretches.specs.Stretches.{samples_of}
 use Rattle.mseed_pack.specs.ReadBack.{AreViewsOf}
+use Rattle.mseed_pack.specs.declared.options.Options.{Options}
+use Rattle.mseed_repack.specs.Repack.{Channel, IsArchiveOf, records_in}
+use Rattle.mseed_repack.specs.ByStretches.{AreStandings, kept_of}
+use Rattle.mseed_repack.specs.declared.standing.Standing.{Standing}
 
 -- The next record has the same rate, and misses this one's end, with its leap second put in, by so many microseconds
 -- times num: positive where it is late.
@@ -54,3 +64,29 @@ pub record IsFoundBehind (why : ℕ → Why) (samples : ℕ) (start : ℤ) (view
   pub start_is : start_of next ≡ start
   pub microseconds : ℕ
   pub found : IsFound (Some last) next (Some (why microseconds))
+
+-- what was written of records is continuous where they nearly are, and shows each gap and overlap that is wide
+pub record KeepsBorders (vs written : List View) : Type 0 where
+  pub continuous : vs ≢ [] → AllNeighbours IsClose vs → IsContinuous written
+  pub gap : (front : List View) (b v : View) (back : List View) → vs ≡ front ++ b ∷ (v ∷ back) → LeavesGap b v
+      → IsFoundBehind (λ us. Gap us) (samples_of (front ++ b ∷ [])) (start_of v) written
+  pub overlap : (front : List View) (b v : View) (back : List View) → vs ≡ front ++ b ∷ (v ∷ back) → Overlaps b v
+      → IsFoundBehind (λ us. Overlap us) (samples_of (front ++ b ∷ [])) (start_of v) written
+
+-- What was written of an archive by stretches is an archive, of the channels that fit and no others: and so is what was
+-- written of each of them.
+pub record IsStretchedArchive (o : Options) (h : BytesRead) (old new : BytesWritten) : Type 0 where
+  pub views : List View
+  pub channels : List Channel
+  pub archive : IsArchiveOf h views channels
+  pub standings : List Standing
+  pub are : AreStandings o views channels standings
+  pub text : List ℕ
+  pub wrote : new.bytes ≡ old.bytes ++ text
+  pub written : List View
+  pub read : IsArchive text (bytes_in written) []
+  pub each : AllByRecursion IsView written
+  pub others : (key : List ℕ) → AllByRecursion (λ (c : Channel). c.0 ≢ key) (kept_of channels standings)
+      → records_in written key ≡ []
+  pub borders : AllByRecursion (λ (c : Channel). KeepsBorders (records_in views c.0) (records_in written c.0))
+      (kept_of channels standings)

@@ -9,7 +9,8 @@ ghost use Rattle.mseed_pack.specs.declared.options.Options.{Options};
 ghost use Rattle.mseed_stream.specs.Device.{BytesRead, BytesWritten};
 ghost use Rattle.mseed_repack.specs.OneRepacking.{ComeToOne};
 ghost use Rattle.mseed_repack.specs.ReadBack.{IsReadBack};
-ghost use Rattle.mseed_repack.specs.Borders.{AreReadAs, IsClose, IsFoundBehind, LeavesGap, Overlaps};
+ghost use Rattle.mseed_repack.specs.Borders.{AreReadAs, IsClose, IsFoundBehind, IsStretchedArchive, LeavesGap};
+ghost use Rattle.mseed_repack.specs.Borders.{Overlaps};
 ghost use Rattle.mseed_repack.specs.ByStretches.{AreStretched, IsRestretching};
 ghost use Rattle.mseed_repack.specs.Repack.{Channel, IsRepacking};
 ghost use Rattle.mseed_repack.specs.Restretch.{ChannelFits, IsChannelPacked};
@@ -103,6 +104,10 @@ pub fn borders_are_kept()
         (back : List View) → AllByRecursion IsView vs → ChannelFits o vs → IsChannelPacked o vs records
         → vs ≡ front ++ b ∷ (v ∷ back) → Overlaps b v
         → AreReadAs (IsFoundBehind (λ us. Overlap us) (samples_of (front ++ b ∷ [])) (start_of v)) records }
+    // What is written of an archive is an archive of the channels that fit, and so is each of them in it.
+    ensures archive { (o : Options) (leave : Bool) (left : Left) (read : BytesRead)
+        (old new told_old told_new : BytesWritten)
+        → IsRestretching o leave (Ok left) read old new told_old told_new → IsStretchedArchive o read old new }
 {
     header_reads_back();
     packed_spells();

@@ -1,4 +1,5 @@
 use Rattle.mseed_repack.proofs.Bordered.{Layers, gap_written, overlap_written, written_on}
+use Rattle.mseed_repack.proofs.StretchedArchive.{stretched_archive}
 use Rattle.mseed_repack.proofs.law.borders_are_kept.Goals as goal
 
 layers : goal.After-one_list_of_stretches → Layers
@@ -19,3 +20,6 @@ returns-clause-gap c = gap_written (layers c)
 
 pub returns-clause-overlap : goal.returns-clause-overlap
 returns-clause-overlap c = overlap_written (layers c)
+
+pub returns-clause-archive : goal.returns-clause-archive
+returns-clause-archive c = stretched_archive (layers c)

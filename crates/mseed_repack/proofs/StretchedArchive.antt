@@ -1,0 +1,254 @@
+-- What was written of an archive by stretches is an archive, channel behind channel.
+use Rattle.std.specs.Prelude.{⊤}
+use Rattle.std.proofs.Common.{◌≡◌, ◌≢◌, ℕ, List, [], ◌∷◌, ◌++◌, Bool, true, false, IsTrue, Ok, refl, sym, ap, subst}
+use Rattle.std.proofs.Common.{◌∙◌}
+use Rattle.std.proofs.Common.{append_assoc, append-nil, cond}
+use Rattle.std.specs.List.{AllByRecursion, concat, filter}
+use Rattle.std.specs.Map.{keys_of}
+use Rattle.std.specs.Ordering.{nat_cmp, is_eq}
+use Rattle.std.specs.Cmp.Lexicographic.{slice_cmp}
+use Rattle.std.specs.List.Sorted.{IsStrictlySortedBy}
+use Rattle.std.specs.declared.cmp.Ordering.TheVariants.{Less}
+use Rattle.std.proofs.lemmas.Bool.{false≢true}
+use Rattle.std.proofs.lemmas.List.{map-append}
+use Rattle.std.proofs.lemmas.List.Elements.{filter-append}
+use Rattle.std.proofs.lemmas.List.Folds.{concat-append}
+use Rattle.mseed_record.specs.Header.{key_at}
+use Rattle.mseed_record.specs.View.{View, IsView}
+use Rattle.mseed_stream.specs.Archive.{IsArchive}
+use Rattle.mseed_stream.specs.Device.{BytesRead, BytesWritten}
+use Rattle.mseed_stream.specs.Walk.{bytes_in}
+use Rattle.mseed_audit.specs.Channels.{is_of, same_key}
+use Rattle.mseed_audit.proofs.Behind.{views_are}
+use Rattle.mseed_audit.proofs.Maps.{same_itself}
+use Rattle.mseed_pack.specs.declared.options.Options.{Options}
+use Rattle.mseed_pack.proofs.Archived.{all_kept, key_of}
+use Rattle.mseed_pack.proofs.Traced.{kept_views}
+use Rattle.mseed_repack.specs.Borders.{IsStretchedArchive, KeepsBorders}
+use Rattle.mseed_repack.specs.ByStretches.{AreStretched, IsRestretching, further, kept_of, nothing}
+use Rattle.mseed_repack.specs.Repack.{Channel, records_in}
+use Rattle.mseed_repack.specs.Restretch.{ChannelFits, IsChannelText}
+use Rattle.mseed_repack.specs.declared.refusing.Left.{Left}
+use Rattle.mseed_repack.specs.declared.standing.Standing.{Standing}
+use Rattle.mseed_repack.specs.declared.standing.Standing.TheVariants.{Fit, Broken, Misfit}
+use Rattle.mseed_repack.proofs.Bordered.{IsOwn, Layers, own_of}
+use Rattle.mseed_repack.proofs.ChannelReadBack.{each_at_back, each_in_front, kept_fit}
+use Rattle.mseed_repack.proofs.ReadBack.{all_records, none_further}
+
+-- The views of what was written of each channel, one channel's behind another's.
+
+record IsOf (views : List View) (c : Channel) (own : List View) : Type 0 where
+  each : AllByRecursion IsView own
+  of_key : AllByRecursion (λ (v : View). IsTrue (is_of c.0 v)) own
+  borders : KeepsBorders (records_in views c.0) own
+
+abbrev AreOf : List View → List Channel → List View → Type 0
+AreOf views [] ws = ws ≡ []
+AreOf views (c ∷ cs) ws =
+    (own : List View) × ((rest : List View) × ((ws ≡ own ++ rest) × IsOf views c own × AreOf views cs rest))
+
+one_behind : (views : List View) (cs : List Channel) (c : Channel) (ws own : List View) → AreOf views cs ws
+    → IsOf views c own → AreOf views (cs ++ c ∷ []) (ws ++ own)
+one_behind views [] c ws own e h =
+    (own, ([], (ap (λ (us : List View). us ++ own) e ∙ sym (append-nil own), h, refl)))
+one_behind views (d ∷ cs) c ws own (mine, (rest, (parts, here, more))) h = (
+  mine,
+  (
+    rest ++ own,
+    (
+      ap (λ (us : List View). us ++ own) parts ∙ append_assoc mine rest own,
+      here,
+      one_behind views cs c rest own more h,
+    ),
+  ),
+)
+
+-- the records of a channel have its key
+kept_keys : (key : List ℕ) (vs : List View)
+    → AllByRecursion (λ (v : View). key_at v.bytes ≡ key) (filter (is_of key) vs)
+kept_keys key [] = tt
+kept_keys key (v ∷ vs) = by (is_of key v) refl (kept_keys key vs)
+  where
+    by : (b : Bool) → is_of key v ≡ b → AllByRecursion (λ (u : View). key_at u.bytes ≡ key) (filter (is_of key) vs)
+        → AllByRecursion (λ (u : View). key_at u.bytes ≡ key)
+        (cond b (v ∷ filter (is_of key) vs) (filter (is_of key) vs))
+    by true e rest = (sym (key_of key v e), rest)
+    by false e rest = rest
+
+all_of : Layers → (o : Options) (views : List View) (cs : List Channel) (text : List ℕ) → AllByRecursion IsView views
+    → AllByRecursion (λ (c : Channel). ChannelFits o (records_in views c.0)) cs → AreStretched o views cs text
+    → (ws : List View) × (AreOf views cs ws × (concat (bytes_in ws) ≡ text))
+all_of laws o views _ _ each fit nothing = ([], (refl, refl))
+all_of laws o views _ _ each fit (further cs c text own before here) =
+    let P : Channel → Type 0 = λ c. ChannelFits o (records_in views c.0) in
+    let front = all_of laws o views cs text each (each_in_front P cs (c ∷ []) fit) before in
+    let mine : records_in views c.0 ≡ filter (is_of c.0) views = views_are c.0 views in
+    let own_views : AllByRecursion IsView (records_in views c.0) =
+    subst (λ (vs : List View). AllByRecursion IsView vs) (sym mine) (kept_views c.0 views each) in
+    let keys : AllByRecursion (λ (v : View). key_at v.bytes ≡ c.0) (records_in views c.0) =
+    subst (λ (vs : List View). AllByRecursion (λ (v : View). key_at v.bytes ≡ c.0) vs) (sym mine)
+    (kept_keys c.0 views) in
+    let is = own_of laws o (records_in views c.0) c.0 here.records own_views keys
+    (each_at_back P cs (c ∷ []) fit).0 here.packed in (
+      front.0 ++ is.views,
+      (
+        one_behind views cs c front.0 is.views front.1.0
+            (record { each = is.each; of_key = is.of_key; borders = is.borders }),
+        ap (λ (rs : List (List ℕ)). concat rs) (map-append (λ (v : View). v.bytes) front.0 is.views)
+            ∙ concat-append (bytes_in front.0) (bytes_in is.views)
+            ∙ (λ i. front.1.1 i ++ concat (is.bytes i)) ∙ ap (λ (xs : List ℕ). text ++ xs) (sym here.text_is),
+      ),
+    )
+
+-- They are views.
+
+both_each : {X : Type 0} (P : X → Type 0) (xs ys : List X) → AllByRecursion P xs → AllByRecursion P ys
+    → AllByRecursion P (xs ++ ys)
+both_each P [] ys h k = k
+both_each P (x ∷ xs) ys h k = (h.0, both_each P xs ys h.1 k)
+
+each_view : (views : List View) (cs : List Channel) (ws : List View) → AreOf views cs ws → AllByRecursion IsView ws
+each_view views [] ws e = subst (λ (us : List View). AllByRecursion IsView us) (sym e) tt
+each_view views (c ∷ cs) ws (own, (rest, (parts, here, more))) =
+    subst (λ (us : List View). AllByRecursion IsView us) (sym parts)
+    (both_each IsView own rest here.each (each_view views cs rest more))
+
+-- The keys of channels rise, so that no two are the same.
+
+abbrev AreOthers : List ℕ → List Channel → Type 0
+AreOthers key cs = AllByRecursion (λ (c : Channel). c.0 ≢ key) cs
+
+abbrev AreDistinct : List Channel → Type 0
+AreDistinct [] = ⊤
+AreDistinct (c ∷ cs) = AreOthers c.0 cs × AreDistinct cs
+
+behind_others : (key : List ℕ) (cs : List Channel)
+    → AllByRecursion (λ k. slice_cmp nat_cmp key k ≡ Less) (keys_of cs) → AreOthers key cs
+behind_others key [] h = tt
+behind_others key (c ∷ cs) h = (
+  λ same. false≢true (sym (ap is_eq h.0) ∙ ap (λ (k : List ℕ). same_key key k) same ∙ same_itself key),
+  behind_others key cs h.1,
+)
+
+distinct : (cs : List Channel) → IsStrictlySortedBy (slice_cmp nat_cmp) (keys_of cs) → AreDistinct cs
+unfolding IsStrictlySortedBy
+distinct [] sorted = tt
+distinct (c ∷ cs) sorted = (behind_others c.0 cs sorted.0, distinct cs sorted.1)
+
+others_kept : (key : List ℕ) (cs : List Channel) (ss : List Standing) → AreOthers key cs
+    → AreOthers key (kept_of cs ss)
+others_kept key [] ss h = tt
+others_kept key (c ∷ cs) [] h = tt
+others_kept key (c ∷ cs) (Fit ∷ ss) h = (h.0, others_kept key cs ss h.1)
+others_kept key (c ∷ cs) (Broken ∷ ss) h = others_kept key cs ss h.1
+others_kept key (c ∷ cs) (Misfit n f ∷ ss) h = others_kept key cs ss h.1
+
+distinct_kept : (cs : List Channel) (ss : List Standing) → AreDistinct cs → AreDistinct (kept_of cs ss)
+distinct_kept [] ss h = tt
+distinct_kept (c ∷ cs) [] h = tt
+distinct_kept (c ∷ cs) (Fit ∷ ss) h = (others_kept c.0 cs ss h.0, distinct_kept cs ss h.1)
+distinct_kept (c ∷ cs) (Broken ∷ ss) h = distinct_kept cs ss h.1
+distinct_kept (c ∷ cs) (Misfit n f ∷ ss) h = distinct_kept cs ss h.1
+
+-- Of all that was written, the records of a channel are its own.
+
+none_of : (key other : List ℕ) (vs : List View) → key ≢ other
+    → AllByRecursion (λ (v : View). IsTrue (is_of key v)) vs → filter (is_of other) vs ≡ []
+none_of key other [] apart h = refl
+none_of key other (v ∷ vs) apart h = by (is_of other v) refl (none_of key other vs apart h.1)
+  where
+    by : (b : Bool) → is_of other v ≡ b → filter (is_of other) vs ≡ []
+        → cond b (v ∷ filter (is_of other) vs) (filter (is_of other) vs) ≡ []
+    by true e rest = absurd (apart (key_of key v h.0 ∙ sym (key_of other v e)))
+    by false e rest = rest
+
+filter_parts : (key : List ℕ) (ws own rest : List View) → ws ≡ own ++ rest
+    → filter (is_of key) ws ≡ filter (is_of key) own ++ filter (is_of key) rest
+filter_parts key ws own rest e =
+    ap (λ (us : List View). filter (is_of key) us) e ∙ filter-append (is_of key) own rest
+
+none_among : (views : List View) (key : List ℕ) (cs : List Channel) (ws : List View) → AreOf views cs ws
+    → AreOthers key cs → filter (is_of key) ws ≡ []
+none_among views key [] ws e others = ap (λ (us : List View). filter (is_of key) us) e
+none_among views key (c ∷ cs) ws (own, (rest, (parts, here, more))) others =
+    let mine : filter (is_of key) own ≡ [] = none_of c.0 key own others.0 here.of_key in
+    let theirs : filter (is_of key) rest ≡ [] = none_among views key cs rest more others.1 in
+    filter_parts key ws own rest parts ∙ (λ i. mine i ++ theirs i)
+
+-- in front of others nothing of theirs stands
+abbrev NoneBefore : List View → List Channel → Type 0
+NoneBefore before cs = AllByRecursion (λ (c : Channel). filter (is_of c.0) before ≡ []) cs
+
+none_yet : (cs : List Channel) → NoneBefore [] cs
+none_yet [] = tt
+none_yet (c ∷ cs) = (refl, none_yet cs)
+
+none_still : (key : List ℕ) (before own : List View) (cs : List Channel)
+    → AllByRecursion (λ (v : View). IsTrue (is_of key v)) own → AreOthers key cs → NoneBefore before cs
+    → NoneBefore (before ++ own) cs
+none_still key before own [] of_key others none = tt
+none_still key before own (c ∷ cs) of_key others none =
+    let first : filter (is_of c.0) before ≡ [] = none.0 in
+    let mine : filter (is_of c.0) own ≡ [] = none_of key c.0 own (λ e. others.0 (sym e)) of_key in (
+      filter-append (is_of c.0) before own ∙ (λ i. first i ++ mine i),
+      none_still key before own cs of_key others.1 none.1,
+    )
+
+each_keeps : (views : List View) (cs : List Channel) (before ws : List View) → AreOf views cs ws → AreDistinct cs
+    → NoneBefore before cs
+    → AllByRecursion (λ (c : Channel). KeepsBorders (records_in views c.0) (filter (is_of c.0) (before ++ ws))) cs
+each_keeps views [] before ws are apart none = tt
+each_keeps views (c ∷ cs) before ws (own, (rest, (parts, here, more))) apart none =
+    let first : filter (is_of c.0) before ≡ [] = none.0 in
+    let mine : filter (is_of c.0) own ≡ own = all_kept c.0 own here.of_key in
+    let theirs : filter (is_of c.0) rest ≡ [] = none_among views c.0 cs rest more apart.0 in
+    let same : filter (is_of c.0) (before ++ ws) ≡ own =
+    filter-append (is_of c.0) before ws ∙ (λ i. first i ++ filter (is_of c.0) ws) ∙ filter_parts c.0 ws own rest parts
+    ∙ (λ i. mine i ++ theirs i) ∙ append-nil own in
+    let further = each_keeps views cs (before ++ own) rest more apart.1
+    (none_still c.0 before own cs here.of_key apart.0 none.1) in
+    let all : (before ++ own) ++ rest ≡ before ++ ws =
+    append_assoc before own rest ∙ ap (λ (us : List View). before ++ us) (sym parts) in (
+      subst (λ (us : List View). KeepsBorders (records_in views c.0) us) (sym same) here.borders,
+      subst (λ (us : List View). AllByRecursion
+          (λ (d : Channel). KeepsBorders (records_in views d.0) (filter (is_of d.0) us)) cs) all further,
+    )
+
+in_records : (views written : List View) (cs : List Channel)
+    → AllByRecursion (λ (c : Channel). KeepsBorders (records_in views c.0) (filter (is_of c.0) written)) cs
+    → AllByRecursion (λ (c : Channel). KeepsBorders (records_in views c.0) (records_in written c.0)) cs
+in_records views written [] h = tt
+in_records views written (c ∷ cs) h = (
+  subst (λ (us : List View). KeepsBorders (records_in views c.0) us) (sym (views_are c.0 written)) h.0,
+  in_records views written cs h.1,
+)
+
+pub stretched_archive : Layers → (o : Options) (leave : Bool) (left : Left) (h : BytesRead)
+    (old new told_old told_new : BytesWritten) → IsRestretching o leave (Ok left) h old new told_old told_new
+    → IsStretchedArchive o h old new
+stretched_archive laws o leave left h old new told_old told_new (views, (channels, (archive, were))) =
+    let kept : List Channel = kept_of channels were.standings in
+    let all = all_of laws o views kept were.wrote.text archive.whole.each
+    (kept_fit o views channels were.standings were.are) were.wrote.text_is in
+    let written : List View = all.0 in
+    let each : AllByRecursion IsView written = each_view views kept written all.1.0 in
+    let apart : AreDistinct kept =
+    distinct_kept channels were.standings (distinct channels archive.verdicts.ascending) in
+    record {
+      views = views;
+      channels = channels;
+      archive = archive;
+      standings = were.standings;
+      are = were.are;
+      text = were.wrote.text;
+      wrote = were.wrote.bytes;
+      written = written;
+      read = record {
+        joined = sym all.1.1 ∙ sym (append-nil (concat (bytes_in written)));
+        each = all_records written each;
+        no_further = none_further;
+      };
+      each = each;
+      others = λ key others. views_are key written ∙ none_among views key kept written all.1.0 others;
+      borders = in_records views written kept (each_keeps views kept [] written all.1.0 apart (none_yet kept));
+    }
