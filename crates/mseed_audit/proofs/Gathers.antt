@@ -16,11 +16,11 @@ use Rattle.mseed_audit.specs.declared.verdict.Verdict.{Verdict}
 use Rattle.mseed_audit.specs.Audit.{Held}
 use Rattle.mseed_audit.specs.Channels.{added_from}
 use Rattle.mseed_audit.specs.Each.{AreGathered, AuditedEach, IsEachOutcome, IsEachWritten, IsLinesFault, IsTelling}
-use Rattle.mseed_audit.specs.Each.{TakesMore, TookFirst, TookPart}
+use Rattle.mseed_audit.specs.Each.{TakesMore, EmittedFirst, EmittedPart}
 use Rattle.mseed_audit.specs.private.Gathered.{IsPrefixWritten}
 use Rattle.mseed_audit.specs.Summary.{IsSummary, text_of}
-use Rattle.mseed_audit.specs.Text.{audit_text, told_lines}
-use Rattle.mseed_audit.specs.Told.{Told, AreToldOf}
+use Rattle.mseed_audit.specs.Text.{audit_text, reported_lines}
+use Rattle.mseed_audit.specs.Reported.{Reported, AreReportedOf}
 use Rattle.mseed_audit.proofs.Outcomes.{HasVerdicts, audited, text_is}
 use Rattle.mseed_audit.proofs.Telling.{lines_behind}
 
@@ -30,7 +30,7 @@ gathered_all s text = record { taken = []; bytes = sym (append-nil s.bytes); joi
 
 -- what was taken is a prefix
 pub gathered_first : (first old : BytesWritten) (text lines : List ℕ) → AreGathered first old text lines
-    → TookFirst first old lines
+    → EmittedFirst first old lines
 gathered_first first old text lines g =
     let prefix : g.taken ≡ take (length g.taken) lines = sym (take-append_seam g.taken text)
     ∙ ap (λ (xs : List ℕ). take (length g.taken) xs) g.joined in
@@ -46,12 +46,12 @@ gathered_more first old text next lines line before e = record {
       ∙ ap (λ (xs : List ℕ). xs ++ line) before.joined;
 }
 
-pub gathered_told : (first old : BytesWritten) (text next : List ℕ) (told more : List Told)
-    → AreGathered first old text (told_lines told) → next ≡ text ++ told_lines more
-    → AreGathered first old next (told_lines (told ++ more))
-gathered_told first old text next told more before e =
-    subst (λ (xs : List ℕ). AreGathered first old next xs) (sym (lines_behind told more))
-    (gathered_more first old text next (told_lines told) (told_lines more) before e)
+pub gathered_reported : (first old : BytesWritten) (text next : List ℕ) (reported more : List Reported)
+    → AreGathered first old text (reported_lines reported) → next ≡ text ++ reported_lines more
+    → AreGathered first old next (reported_lines (reported ++ more))
+gathered_reported first old text next reported more before e =
+    subst (λ (xs : List ℕ). AreGathered first old next xs) (sym (lines_behind reported more))
+    (gathered_more first old text next (reported_lines reported) (reported_lines more) before e)
 
 -- what is gathered was written
 pub gathered_written : (first old new : BytesWritten) (text rest lines : List ℕ) → AreGathered first old text lines
@@ -79,32 +79,32 @@ taken_behind first old new text lines tail n before taken =
     ∙ ap (λ (xs : List ℕ). first.bytes ++ take (length before.taken + n) xs) (behind first old text lines tail before)
 
 first_behind : (first old new : BytesWritten) (text lines tail : List ℕ) → AreGathered first old text lines
-    → TookFirst old new (text ++ tail) → TookFirst first new (lines ++ tail)
-first_behind first old new text lines tail before took =
-    (length before.taken + took.0, taken_behind first old new text lines tail took.0 before took.1)
+    → EmittedFirst old new (text ++ tail) → EmittedFirst first new (lines ++ tail)
+first_behind first old new text lines tail before emitted =
+    (length before.taken + emitted.0, taken_behind first old new text lines tail emitted.0 before emitted.1)
 
 pub part_behind : (first old new : BytesWritten) (text lines tail : List ℕ) → AreGathered first old text lines
-    → TookPart old new (text ++ tail) → TookPart first new (lines ++ tail)
-part_behind first old new text lines tail before took =
+    → EmittedPart old new (text ++ tail) → EmittedPart first new (lines ++ tail)
+part_behind first old new text lines tail before emitted =
     let size : length before.taken + length (text ++ tail) ≡ length (lines ++ tail) =
     sym (length-append before.taken (text ++ tail))
     ∙ ap (λ (xs : List ℕ). length xs) (behind first old text lines tail before) in (
-      length before.taken + took.0,
-      (omega (arith, took.1.0, size), taken_behind first old new text lines tail took.0 before took.1.1),
+      length before.taken + emitted.0,
+      (omega (arith, emitted.1.0, size), taken_behind first old new text lines tail emitted.0 before emitted.1.1),
     )
 
 -- a fault, before which a prefix of the lines was written
 pub cut_short : (fault : EachFault) (h : BytesRead) (first old new : BytesWritten) (text next : List ℕ) (offset : ℕ)
-    (views : List View) (told more : List Told) → AreViews h.bytes offset views → old.failures ≡ first.failures
-    → AreGathered first old text (told_lines told) → AreToldOf (added_from 0 views) (told ++ more)
-    → next ≡ text ++ told_lines more → IsPrefixWritten fault old new next → IsLinesFault fault h first new
-cut_short fault h first old new text next offset views told more shown same before are e written =
+    (views : List View) (reported more : List Reported) → AreViews h.bytes offset views → old.failures ≡ first.failures
+    → AreGathered first old text (reported_lines reported) → AreReportedOf (added_from 0 views) (reported ++ more)
+    → next ≡ text ++ reported_lines more → IsPrefixWritten fault old new next → IsLinesFault fault h first new
+cut_short fault h first old new text next offset views reported more shown same before are e written =
     go fault (subst (λ (xs : List ℕ). IsPrefixWritten fault old new xs) e written)
   where
-    lines : told_lines told ++ told_lines more ≡ told_lines (told ++ more)
-    lines = sym (lines_behind told more)
+    lines : reported_lines reported ++ reported_lines more ≡ reported_lines (reported ++ more)
+    lines = sym (lines_behind reported more)
 
-    go : (f : EachFault) → IsPrefixWritten f old new (text ++ told_lines more) → IsLinesFault f h first new
+    go : (f : EachFault) → IsPrefixWritten f old new (text ++ reported_lines more) → IsLinesFault f h first new
     go Write w = (
       omega (arith, same, w.0),
       (
@@ -112,12 +112,12 @@ cut_short fault h first old new text next offset views told more shown same befo
         (
           views,
           (
-            told ++ more,
+            reported ++ more,
             record {
               shown = shown;
-              are_told = are;
-              prefix = subst (λ (xs : List ℕ). TookPart first new xs) lines
-                  (part_behind first old new text (told_lines told) (told_lines more) before w.1);
+              are_reported = are;
+              prefix = subst (λ (xs : List ℕ). EmittedPart first new xs) lines
+                  (part_behind first old new text (reported_lines reported) (reported_lines more) before w.1);
             },
           ),
         ),
@@ -130,12 +130,12 @@ cut_short fault h first old new text next offset views told more shown same befo
         (
           views,
           (
-            told ++ more,
+            reported ++ more,
             record {
               shown = shown;
-              are_told = are;
-              prefix = subst (λ (xs : List ℕ). TookFirst first new xs) lines
-                  (first_behind first old new text (told_lines told) (told_lines more) before w.1);
+              are_reported = are;
+              prefix = subst (λ (xs : List ℕ). EmittedFirst first new xs) lines
+                  (first_behind first old new text (reported_lines reported) (reported_lines more) before w.1);
             },
           ),
         ),
@@ -144,21 +144,21 @@ cut_short fault h first old new text next offset views told more shown same befo
 
 -- no memory for more than these lines
 pub memory_short : (h : BytesRead) (first new : BytesWritten) (text : List ℕ) (offset : ℕ) (views : List View)
-    (told : List Told) → AreViews h.bytes offset views → new.failures ≡ first.failures
-    → AreGathered first new text (told_lines told) → AreToldOf (added_from 0 views) told
+    (reported : List Reported) → AreViews h.bytes offset views → new.failures ≡ first.failures
+    → AreGathered first new text (reported_lines reported) → AreReportedOf (added_from 0 views) reported
     → IsLinesFault Memory h first new
-memory_short h first new text offset views told shown same before are = (
+memory_short h first new text offset views reported shown same before are = (
   same,
   (
     offset,
     (
       views,
       (
-        told,
+        reported,
         record {
           shown = shown;
-          are_told = are;
-          prefix = gathered_first first new text (told_lines told) before;
+          are_reported = are;
+          prefix = gathered_first first new text (reported_lines reported) before;
         },
       ),
     ),
@@ -176,7 +176,7 @@ lines_outcome Write h old new f = (
       f.1.1.0,
       (
         f.1.1.1.0,
-        record { shown = f.1.1.1.1.shown; are_told = f.1.1.1.1.are_told; prefix = inl f.1.1.1.1.prefix },
+        record { shown = f.1.1.1.1.shown; are_reported = f.1.1.1.1.are_reported; prefix = inl f.1.1.1.1.prefix },
       ),
     ),
   ),
@@ -189,17 +189,18 @@ lines_outcome Memory h old new f = (
       f.1.1.0,
       (
         f.1.1.1.0,
-        record { shown = f.1.1.1.1.shown; are_told = f.1.1.1.1.are_told; prefix = inl f.1.1.1.1.prefix },
+        record { shown = f.1.1.1.1.shown; are_reported = f.1.1.1.1.are_reported; prefix = inl f.1.1.1.1.prefix },
       ),
     ),
   ),
 )
 
--- what was audited, and told
+-- what was audited, and reported
 abbrev pub audited_each : (held : Held) (end : Option StreamFault) (h : BytesRead) (verdicts : List (List ℕ × Verdict))
-    (told : List Told) (f : HasVerdicts held end h verdicts) → AreToldOf (added_from 0 f.views) told → AuditedEach h
-audited_each held end h verdicts told f are =
-    record { audited = audited held end h verdicts f; told = told; are_told = are }
+    (reported : List Reported) (f : HasVerdicts held end h verdicts) → AreReportedOf (added_from 0 f.views) reported
+    → AuditedEach h
+audited_each held end h verdicts reported f are =
+    record { audited = audited held end h verdicts f; reported = reported; are_reported = are }
 
 -- what is added to the lines is the audit's text
 pub rest_is : (held : Held) (end : Option StreamFault) (h : BytesRead) (verdicts slice : List (List ℕ × Verdict))
@@ -212,7 +213,7 @@ rest_is held end h verdicts slice records text whole f e same number =
 
 -- the whole text was written
 pub each_written : {h : BytesRead} (s : Summary) (a : AuditedEach h) (first old new : BytesWritten)
-    (text whole : List ℕ) → AreGathered first old text (told_lines a.told) → whole ≡ text ++ text_of a.audited
+    (text whole : List ℕ) → AreGathered first old text (reported_lines a.reported) → whole ≡ text ++ text_of a.audited
     → IsSummary s a.audited
     → new.bytes ≡ old.bytes ++ whole → old.failures ≡ first.failures → new.failures ≡ old.failures
     → IsEachWritten s a first new
@@ -221,13 +222,13 @@ each_written s a first old new text whole before e summary bytes same fine =
       summary = summary;
       text = bytes ∙ ap (λ (xs : List ℕ). old.bytes ++ xs) e ∙ ap (λ (xs : List ℕ). xs ++ (text ++ tail)) before.bytes
           ∙ append_assoc first.bytes before.taken (text ++ tail)
-          ∙ ap (λ (xs : List ℕ). first.bytes ++ xs) (behind first old text (told_lines a.told) tail before);
+          ∙ ap (λ (xs : List ℕ). first.bytes ++ xs) (behind first old text (reported_lines a.reported) tail before);
       fine = fine ∙ same;
     }
 
 -- a fault, before which a prefix of the whole text was written
 pub end_short : {h : BytesRead} (fault : EachFault) (a : AuditedEach h) (first old new : BytesWritten)
-    (text whole : List ℕ) → AreGathered first old text (told_lines a.told) → whole ≡ text ++ text_of a.audited
+    (text whole : List ℕ) → AreGathered first old text (reported_lines a.reported) → whole ≡ text ++ text_of a.audited
     → old.failures ≡ first.failures → IsPrefixWritten fault old new whole → IsEachOutcome (Err fault) h first new
 end_short {h} fault a first old new text whole before e same written =
     go fault (subst (λ (xs : List ℕ). IsPrefixWritten fault old new xs) e written)
@@ -243,11 +244,11 @@ end_short {h} fault a first old new text whole before e same written =
         (
           a.audited.views,
           (
-            a.told,
+            a.reported,
             record {
               shown = a.audited.all.records;
-              are_told = a.are_told;
-              prefix = inr (a, part_behind first old new text (told_lines a.told) tail before w.1);
+              are_reported = a.are_reported;
+              prefix = inr (a, part_behind first old new text (reported_lines a.reported) tail before w.1);
             },
           ),
         ),
@@ -260,11 +261,11 @@ end_short {h} fault a first old new text whole before e same written =
         (
           a.audited.views,
           (
-            a.told,
+            a.reported,
             record {
               shown = a.audited.all.records;
-              are_told = a.are_told;
-              prefix = inr (a, first_behind first old new text (told_lines a.told) tail before w.1);
+              are_reported = a.are_reported;
+              prefix = inr (a, first_behind first old new text (reported_lines a.reported) tail before w.1);
             },
           ),
         ),
@@ -285,7 +286,7 @@ each_err (Ok x) Q fault h old new is q short = absurd is
 each_err (Err e) Q fault h old new is q short =
     subst (λ (x : EachFault). IsEachOutcome (Err x) h old new) (sym (q e is)) short
 
--- what a sink took by two calls
+-- what a sink accepted by two calls
 pub takes_on : (a b c : BytesWritten) (p q r : Option (List ℕ)) → TakesMore a b p q → TakesMore b c q r
     → TakesMore a c p r
 takes_on a b c p q r x y = (

@@ -7,7 +7,7 @@ use Rattle.mseed_audit.specs.declared.finding.Why.{Why}
 use Rattle.mseed_audit.specs.Audit.{Stands, StandsAt}
 use Rattle.mseed_audit.specs.Channels.{Placed}
 use Rattle.mseed_audit.specs.Judging.{IsFound}
-use Rattle.mseed_audit.specs.Told.{last_of, IsFoundOf}
+use Rattle.mseed_audit.specs.Reported.{last_of, IsFoundOf}
 
 pub last_snoc : (before : Option View) (ps : List Placed) (p : Placed) → last_of before (ps ++ p ∷ []) ≡ Some p.view
 last_snoc before [] p = refl

@@ -26,6 +26,6 @@ pub mod Rosters
 pub mod Shorts
 pub mod Steps
 pub mod Telling
-pub mod Told
+pub mod Reported
 pub mod Trims
 pub mod Views

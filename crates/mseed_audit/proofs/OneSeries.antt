@@ -33,7 +33,7 @@ series_one single s t vs h k =
     let steps : s.steps ≡ t.steps = h.steps ∙ sym k.steps in
     λ i. record { codes = codes i; start = start i; rate = rate i; samples = samples i; steps = steps i }
 
--- the good ones in front of the first bad one are no fewer than any good ones
+-- the good ones before the first bad one are no fewer than any good ones
 no_later : (place size : ℕ) (prefix back others rest : List (ℕ × LeapStep)) (bad other : ℕ × LeapStep)
     → prefix ++ bad ∷ back ≡ others ++ other ∷ rest
     → AreStepsFrom place size others → ¬ (AreStepsFrom place size (prefix ++ bad ∷ [])) → length others ≤ length prefix

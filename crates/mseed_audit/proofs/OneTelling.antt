@@ -1,4 +1,4 @@
--- What is told of an archive is told once, and of each channel it is the channel's findings.
+-- What is reported of an archive is reported once, and of each channel it is the channel's findings.
 use Rattle.std.proofs.Common.{◌≡◌, ℕ, zero, suc, ◌+◌, ◌<◌, ◌&&◌, nat_lt, ◌++◌, List, [], ◌∷◌, length, Bool, true, false}
 use Rattle.std.proofs.Common.{Option, Some, None, refl, sym, ap, ◌∙◌, subst, append_assoc, append-nil, arith, rules}
 use Rattle.std.proofs.lemmas.Bool.{false≢true}
@@ -16,9 +16,10 @@ use Rattle.mseed_audit.specs.Channels.{Added, Placed, added_from, is_of, numbere
 use Rattle.mseed_audit.specs.Each.{AuditedEach, each_text}
 use Rattle.mseed_audit.specs.Judging.{IsFound}
 use Rattle.mseed_audit.specs.Summary.{text_of}
-use Rattle.mseed_audit.specs.Text.{told_lines}
-use Rattle.mseed_audit.specs.Told.{Told, AreTold, AreToldOf, IsFoundOf, channel_in, finding_count, findings_in, last_of}
-use Rattle.mseed_audit.specs.Told.{told_at, told_with, none, one}
+use Rattle.mseed_audit.specs.Text.{reported_lines}
+use Rattle.mseed_audit.specs.Reported.{Reported, AreReported, AreReportedOf, IsFoundOf, channel_in, finding_count}
+use Rattle.mseed_audit.specs.Reported.{findings_in, last_of}
+use Rattle.mseed_audit.specs.Reported.{reported_at, reported_with, none, one}
 use Rattle.mseed_audit.specs.Verdict.{AreFindings, AreVerdicts, IsVerdictAt, finding_at, none as no_finding}
 use Rattle.mseed_audit.specs.Verdict.{one as one_finding}
 use Rattle.mseed_audit.proofs.Continuity.{Excludes}
@@ -39,26 +40,26 @@ of_one only excludes channel v a b h k = go (count_of v) refl
         let some : 0 < count_of v = omega (arith, e) in
         found_one only excludes (last_of None channel) v a b (h.judged some) (k.judged some)
 
-told_one : HasOneFault → Excludes → (earlier ps : List Placed) (a b : List Told) → AreTold earlier ps a
-    → AreTold earlier ps b → a ≡ b
-told_one only excludes earlier [] a b (none _) (none _) = refl
-told_one only excludes earlier (p ∷ ps) a b (one _ _ _ why rest h later) (one _ _ _ other others k latter) =
+reported_one : HasOneFault → Excludes → (earlier ps : List Placed) (a b : List Reported) → AreReported earlier ps a
+    → AreReported earlier ps b → a ≡ b
+reported_one only excludes earlier [] a b (none _) (none _) = refl
+reported_one only excludes earlier (p ∷ ps) a b (one _ _ _ why rest h later) (one _ _ _ other others k latter) =
     let here : why ≡ other = of_one only excludes (channel_in (key_at p.view.bytes) earlier) p.view why other h k in
-    let more : rest ≡ others = told_one only excludes (earlier ++ p ∷ []) ps rest others later latter in
-    ap (λ (w : Option Why). told_at p w ++ rest) here ∙ ap (λ (ts : List Told). told_at p other ++ ts) more
+    let more : rest ≡ others = reported_one only excludes (earlier ++ p ∷ []) ps rest others later latter in
+    ap (λ (w : Option Why). reported_at p w ++ rest) here ∙ ap (λ (ts : List Reported). reported_at p other ++ ts) more
 
-pub telling_one : HasOneFault → Excludes → (added : List Added) (a b : List Told) → AreToldOf added a
-    → AreToldOf added b → a ≡ b
-telling_one only excludes added a b h k = told_one only excludes [] (numbered 1 added) a b h k
+pub telling_one : HasOneFault → Excludes → (added : List Added) (a b : List Reported) → AreReportedOf added a
+    → AreReportedOf added b → a ≡ b
+telling_one only excludes added a b h k = reported_one only excludes [] (numbered 1 added) a b h k
 
 pub each_one : HasOneFault → Excludes → HasOneInput → (h : BytesRead) (a b : AuditedEach h) → each_text a ≡ each_text b
 each_one only excludes input h a b =
     let same = audited_one only excludes input h a.audited b.audited in
-    let told : AreToldOf (added_from 0 b.audited.views) a.told =
-    subst (λ (vs : List View). AreToldOf (added_from 0 vs) a.told) same.views a.are_told in
-    ap (λ (ts : List Told). told_lines ts ++ text_of a.audited)
-    (telling_one only excludes (added_from 0 b.audited.views) a.told b.told told b.are_told)
-    ∙ ap (λ (xs : List ℕ). told_lines b.told ++ xs) (text_one a.audited b.audited same)
+    let reported : AreReportedOf (added_from 0 b.audited.views) a.reported =
+    subst (λ (vs : List View). AreReportedOf (added_from 0 vs) a.reported) same.views a.are_reported in
+    ap (λ (ts : List Reported). reported_lines ts ++ text_of a.audited)
+    (telling_one only excludes (added_from 0 b.audited.views) a.reported b.reported reported b.are_reported)
+    ∙ ap (λ (xs : List ℕ). reported_lines b.reported ++ xs) (text_one a.audited b.audited same)
 
 -- a record with samples is of its channel alone
 of_some : (key : List ℕ) (v : View) → 0 < count_of v → is_of key v ≡ same_key key (key_at v.bytes)
@@ -100,70 +101,74 @@ last_without key p earlier e =
     filter-append (λ q. is_of key q.view) earlier (p ∷ []) ∙ ap (λ (ps : List Placed). channel_in key earlier ++ ps)
     (channel_without key p [] e) ∙ append-nil (channel_in key earlier)
 
-told_here : (key : List ℕ) (p : Placed) (why : Option Why) (rest : List Told)
+reported_here : (key : List ℕ) (p : Placed) (why : Option Why) (rest : List Reported)
     → same_key key (key_at p.view.bytes) ≡ true
-    → findings_in (told_with key (told_at p why ++ rest)) ≡ finding_at p why ++ findings_in (told_with key rest)
-told_here key p None rest e = refl
-told_here key p (Some why) rest e = rw e refl
+    → findings_in (reported_with key (reported_at p why ++ rest)) ≡ finding_at p why ++ findings_in
+    (reported_with key rest)
+reported_here key p None rest e = refl
+reported_here key p (Some why) rest e = rw e refl
 
-told_elsewhere : (key : List ℕ) (p : Placed) (why : Option Why) (rest : List Told) (channel : List Placed)
+reported_elsewhere : (key : List ℕ) (p : Placed) (why : Option Why) (rest : List Reported) (channel : List Placed)
     → is_of key p.view ≡ false → IsFoundOf channel p.view why
-    → told_with key (told_at p why ++ rest) ≡ told_with key rest
-told_elsewhere key p None rest channel e h = refl
-told_elsewhere key p (Some why) rest channel e h = go (count_of p.view) refl
+    → reported_with key (reported_at p why ++ rest) ≡ reported_with key rest
+reported_elsewhere key p None rest channel e h = refl
+reported_elsewhere key p (Some why) rest channel e h = go (count_of p.view) refl
   where
-    go : (n : ℕ) → count_of p.view ≡ n → told_with key (told_at p (Some why) ++ rest) ≡ told_with key rest
+    go : (n : ℕ) → count_of p.view ≡ n → reported_with key (reported_at p (Some why) ++ rest) ≡ reported_with key rest
     go zero z = absurd (let no : Some why ≡ None = h.silent z in cc)
     go (suc n) z =
         let other : same_key key (key_at p.view.bytes) ≡ false = sym (of_some key p.view (omega (arith, z))) ∙ e in
         rw other refl
 
 by_channel : (key : List ℕ) (earlier : List Placed) (p : Placed) (ps : List Placed) (why : Option Why)
-    (rest : List Told) (b : Bool) → is_of key p.view ≡ b
+    (rest : List Reported) (b : Bool) → is_of key p.view ≡ b
     → IsFoundOf (channel_in (key_at p.view.bytes) earlier) p.view why
     → AreFindings (last_of None (channel_in key (earlier ++ p ∷ []))) (channel_in key ps)
-    (findings_in (told_with key rest))
+    (findings_in (reported_with key rest))
     → AreFindings (last_of None (channel_in key earlier)) (channel_in key (p ∷ ps))
-    (findings_in (told_with key (told_at p why ++ rest)))
+    (findings_in (reported_with key (reported_at p why ++ rest)))
 by_channel key earlier p ps why rest true e h later =
     let some : 0 < count_of p.view = samples_of key p.view e in
     let here : same_key key (key_at p.view.bytes) ≡ true = sym (of_some key p.view some) ∙ e in
     let same : key ≡ key_at p.view.bytes = same_is key (key_at p.view.bytes) here in
     let found : IsFound (last_of None (channel_in key earlier)) p.view why =
     subst (λ (k : List ℕ). IsFound (last_of None (channel_in k earlier)) p.view why) (sym same) (h.judged some) in
-    let next : AreFindings (Some p.view) (channel_in key ps) (findings_in (told_with key rest)) =
-    subst (λ (b : Option View). AreFindings b (channel_in key ps) (findings_in (told_with key rest)))
+    let next : AreFindings (Some p.view) (channel_in key ps) (findings_in (reported_with key rest)) =
+    subst (λ (b : Option View). AreFindings b (channel_in key ps) (findings_in (reported_with key rest)))
     (last_with key p earlier e) later in
     let all : AreFindings (last_of None (channel_in key earlier)) (p ∷ channel_in key ps)
-    (finding_at p why ++ findings_in (told_with key rest)) =
-    one_finding (last_of None (channel_in key earlier)) p (channel_in key ps) why (findings_in (told_with key rest))
+    (finding_at p why ++ findings_in (reported_with key rest)) =
+    one_finding (last_of None (channel_in key earlier)) p (channel_in key ps) why (findings_in (reported_with key rest))
     found next in
     let records = subst (λ (qs : List Placed). AreFindings (last_of None (channel_in key earlier)) qs
-    (finding_at p why ++ findings_in (told_with key rest))) (sym (channel_with key p ps e)) all in
+    (finding_at p why ++ findings_in (reported_with key rest))) (sym (channel_with key p ps e)) all in
     subst (λ (fs : List Finding). AreFindings (last_of None (channel_in key earlier)) (channel_in key (p ∷ ps)) fs)
-    (sym (told_here key p why rest here)) records
+    (sym (reported_here key p why rest here)) records
 by_channel key earlier p ps why rest false e h later =
     let next : AreFindings (last_of None (channel_in key earlier)) (channel_in key ps)
-    (findings_in (told_with key rest)) =
-    subst (λ (qs : List Placed). AreFindings (last_of None qs) (channel_in key ps) (findings_in (told_with key rest)))
+    (findings_in (reported_with key rest)) =
+    subst (λ (qs : List Placed). AreFindings (last_of None qs) (channel_in key ps)
+    (findings_in (reported_with key rest)))
     (last_without key p earlier e) later in
     let records = subst (λ (qs : List Placed). AreFindings (last_of None (channel_in key earlier)) qs
-    (findings_in (told_with key rest))) (sym (channel_without key p ps e)) next in
-    subst (λ (ts : List Told). AreFindings (last_of None (channel_in key earlier)) (channel_in key (p ∷ ps))
-    (findings_in ts)) (sym (told_elsewhere key p why rest (channel_in (key_at p.view.bytes) earlier) e h)) records
+    (findings_in (reported_with key rest))) (sym (channel_without key p ps e)) next in
+    subst (λ (ts : List Reported). AreFindings (last_of None (channel_in key earlier)) (channel_in key (p ∷ ps))
+    (findings_in ts)) (sym (reported_elsewhere key p why rest (channel_in (key_at p.view.bytes) earlier) e h)) records
 
-told_findings : (key : List ℕ) (earlier ps : List Placed) (told : List Told) → AreTold earlier ps told
-    → AreFindings (last_of None (channel_in key earlier)) (channel_in key ps) (findings_in (told_with key told))
-told_findings key earlier [] told (none _) = no_finding (last_of None (channel_in key earlier))
-told_findings key earlier (p ∷ ps) told (one _ _ _ why rest h later) =
-    by_channel key earlier p ps why rest (is_of key p.view) refl h (told_findings key (earlier ++ p ∷ []) ps rest later)
+reported_findings : (key : List ℕ) (earlier ps : List Placed) (reported : List Reported)
+    → AreReported earlier ps reported
+    → AreFindings (last_of None (channel_in key earlier)) (channel_in key ps) (findings_in (reported_with key reported))
+reported_findings key earlier [] reported (none _) = no_finding (last_of None (channel_in key earlier))
+reported_findings key earlier (p ∷ ps) reported (one _ _ _ why rest h later) =
+    by_channel key earlier p ps why rest (is_of key p.view) refl h
+    (reported_findings key (earlier ++ p ∷ []) ps rest later)
 
--- what is told of a channel's records are its findings
-pub telling_findings : (added : List Added) (told : List Told) (key : List ℕ) → AreToldOf added told
-    → AreFindings None (records_of key added) (findings_in (told_with key told))
-telling_findings added told key are = told_findings key [] (numbered 1 added) told are
+-- what is reported of a channel's records are its findings
+pub telling_findings : (added : List Added) (reported : List Reported) (key : List ℕ) → AreReportedOf added reported
+    → AreFindings None (records_of key added) (findings_in (reported_with key reported))
+telling_findings added reported key are = reported_findings key [] (numbered 1 added) reported are
 
-length_findings : (told : List Told) → length (findings_in told) ≡ length told
+length_findings : (reported : List Reported) → length (findings_in reported) ≡ length reported
 length_findings [] = refl
 length_findings (t ∷ ts) = ap suc (length_findings ts)
 
@@ -180,25 +185,27 @@ count_by only excludes (Some (Continuous start rate records samples)) ps found i
 count_by only excludes (Some (Broken first count)) ps found is are =
     is.1.1 ∙ ap (λ (fs : List Finding). length fs) (findings_same only excludes None ps (first ∷ is.0) found is.1.0 are)
 
--- a channel has as many findings as are told with its key
+-- a channel has as many findings as are reported with its key
 pub telling_count : HasOneFault → Excludes
-    → (added : List Added) (told : List Told) (verdicts : List (List ℕ × Verdict)) (key : List ℕ)
-    → AreToldOf added told → AreVerdicts added verdicts
-    → finding_count (lookup (same_key key) verdicts) ≡ length (told_with key told)
-telling_count only excludes added told verdicts key are is =
-    count_by only excludes (lookup (same_key key) verdicts) (records_of key added) (findings_in (told_with key told))
-    (is.each key) (telling_findings added told key are)
-    ∙ length_findings (told_with key told)
+    → (added : List Added) (reported : List Reported) (verdicts : List (List ℕ × Verdict)) (key : List ℕ)
+    → AreReportedOf added reported → AreVerdicts added verdicts
+    → finding_count (lookup (same_key key) verdicts) ≡ length (reported_with key reported)
+telling_count only excludes added reported verdicts key are is =
+    count_by only excludes (lookup (same_key key) verdicts) (records_of key added)
+    (findings_in (reported_with key reported))
+    (is.each key) (telling_findings added reported key are)
+    ∙ length_findings (reported_with key reported)
 
-told_prefix : (earlier ps qs : List Placed) (all : List Told) → AreTold earlier (ps ++ qs) all
-    → (prefix : List Told) × (rest : List Told) × AreTold earlier ps prefix × (all ≡ prefix ++ rest)
-told_prefix earlier [] qs all are = ([], all, none earlier, refl)
-told_prefix earlier (p ∷ ps) qs all (one _ _ _ why rest h later) =
-    let more = told_prefix (earlier ++ p ∷ []) ps qs rest later in (
-      told_at p why ++ more.0,
+reported_prefix : (earlier ps qs : List Placed) (all : List Reported) → AreReported earlier (ps ++ qs) all
+    → (prefix : List Reported) × (rest : List Reported) × AreReported earlier ps prefix × (all ≡ prefix ++ rest)
+reported_prefix earlier [] qs all are = ([], all, none earlier, refl)
+reported_prefix earlier (p ∷ ps) qs all (one _ _ _ why rest h later) =
+    let more = reported_prefix (earlier ++ p ∷ []) ps qs rest later in (
+      reported_at p why ++ more.0,
       more.1,
       one earlier p ps why more.0 h more.2,
-      ap (λ (ts : List Told). told_at p why ++ ts) more.3 ∙ sym (append_assoc (told_at p why) more.0 more.1),
+      ap (λ (ts : List Reported). reported_at p why ++ ts) more.3
+          ∙ sym (append_assoc (reported_at p why) more.0 more.1),
     )
 
 numbered_prefix : (n : ℕ) (xs ys : List Added) → (rest : List Placed) × (numbered n (xs ++ ys) ≡ numbered n xs ++ rest)
@@ -208,14 +215,15 @@ numbered_prefix n (x ∷ xs) ys =
     (more.0, ap (λ (ps : List Placed). placed_at x n ∷ ps) more.1)
 
 -- the lines of an archive's first records are the first of its lines
-pub telling_prefix : HasOneFault → Excludes → (added more : List Added) (told all : List Told) → AreToldOf added told
-    → AreToldOf (added ++ more) all → IsPrefixOf (told_lines told) (told_lines all)
-telling_prefix only excludes added more told all first whole =
+pub telling_prefix : HasOneFault → Excludes → (added more : List Added) (reported all : List Reported)
+    → AreReportedOf added reported
+    → AreReportedOf (added ++ more) all → IsPrefixOf (reported_lines reported) (reported_lines all)
+telling_prefix only excludes added more reported all first whole =
     let numbers = numbered_prefix 1 added more in
-    let parts = told_prefix [] (numbered 1 added) numbers.0 all
-    (subst (λ (ps : List Placed). AreTold [] ps all) numbers.1 whole) in
-    let same : parts.0 ≡ told = telling_one only excludes added parts.0 told parts.2 first in (
-      told_lines parts.1,
-      ap told_lines parts.3 ∙ lines_behind parts.0 parts.1
-          ∙ ap (λ (ts : List Told). told_lines ts ++ told_lines parts.1) same,
+    let parts = reported_prefix [] (numbered 1 added) numbers.0 all
+    (subst (λ (ps : List Placed). AreReported [] ps all) numbers.1 whole) in
+    let same : parts.0 ≡ reported = telling_one only excludes added parts.0 reported parts.2 first in (
+      reported_lines parts.1,
+      ap reported_lines parts.3 ∙ lines_behind parts.0 parts.1
+          ∙ ap (λ (ts : List Reported). reported_lines ts ++ reported_lines parts.1) same,
     )

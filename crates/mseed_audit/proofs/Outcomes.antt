@@ -51,10 +51,10 @@ count_is held end h verdicts f = f.audit.number ∙ added_length 0 f.views
 
 -- the text that was made is the audit's
 pub text_is : (held : Held) (end : Option StreamFault) (h : BytesRead) (verdicts slice : List (List ℕ × Verdict))
-    (records : ℕ) (start text told : List ℕ) (f : HasVerdicts held end h verdicts) → start ≡ []
+    (records : ℕ) (start text reported : List ℕ) (f : HasVerdicts held end h verdicts) → start ≡ []
     → text ≡ start ++ audit_text slice records end
-    → slice ≡ verdicts → records ≡ held.added → told ≡ text → told ≡ text_of (audited held end h verdicts f)
-text_is held end h verdicts slice records start text told f empty is same number t =
+    → slice ≡ verdicts → records ≡ held.added → reported ≡ text → reported ≡ text_of (audited held end h verdicts f)
+text_is held end h verdicts slice records start text reported f empty is same number t =
     t ∙ is ∙ ap (λ (xs : List ℕ). xs ++ audit_text slice records end) empty
     ∙ ap (λ (vs : List (List ℕ × Verdict)). audit_text vs records end) same
     ∙ ap (λ (n : ℕ). audit_text verdicts n end) (number ∙ count_is held end h verdicts f)

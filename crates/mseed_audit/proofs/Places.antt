@@ -22,7 +22,7 @@ pub steps_last : (place size : ℕ) (ss : List (ℕ × LeapStep)) (s : ℕ × Le
 steps_last place size [] s h = (h.0, h.1)
 steps_last place size (t ∷ ss) s h = steps_last t.0 size ss s h.2
 
--- those in front
+-- those before it
 pub steps_prefix : (place size : ℕ) (ss ts : List (ℕ × LeapStep)) → AreStepsFrom place size (ss ++ ts)
     → AreStepsFrom place size ss
 steps_prefix place size [] ts h = tt

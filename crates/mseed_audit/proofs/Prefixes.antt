@@ -1,4 +1,4 @@
--- Texts in pieces, and what stands in front of a text.
+-- Texts in pieces, and what stands before a text.
 use Rattle.std.proofs.Common.{◌≡◌, ℕ, ◌+◌, ◌<◌, ◌++◌, List, [], ◌∷◌, length, take, get_or, sym, ap, ◌∙◌, append_assoc}
 use Rattle.std.proofs.Common.{append-nil, Bool, true, false, if◌then◌else◌}
 use Rattle.std.proofs.lemmas.List.{take_more}
@@ -31,13 +31,13 @@ pub prefix_trans : (a b c : List ℕ) → IsPrefixOf a b → IsPrefixOf b c → 
 prefix_trans a b c prefix whole = prefix_behind a prefix.0 b c prefix.1 whole
 
 -- the pieces of the line of a record with a finding, one behind another
-pub told_joined : (text offset space name record-word number start-word start gap why end : List ℕ)
+pub reported_joined : (text offset space name record-word number start-word start gap why end : List ℕ)
     → ((((((text ++ (offset ++ (space ++ []))) ++ name) ++ (record-word ++ (number ++ (start-word ++ [])))) ++ start)
     ++ (gap ++ [])) ++ why) ++ (end ++ [])
     ≡ text ++ (offset ++ space ++ name ++ record-word ++ number ++ start-word ++ start ++ gap ++ why ++ end)
-told_joined text offset space name record-word number start-word start gap why end = simp (append_assoc, append-nil)
+reported_joined text offset space name record-word number start-word start gap why end = simp (append_assoc, append-nil)
 
--- what was there stays in front, whether or not more was added
+-- what was there stays, whether or not more was added
 pub prefix_where : (added : Bool) (old more new : List ℕ) → new ≡ (if added then old ++ more else old)
     → IsPrefixOf old new
 prefix_where true old more new e = (more, e)

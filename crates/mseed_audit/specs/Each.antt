@@ -11,18 +11,18 @@ use Rattle.mseed_audit.specs.declared.each.EachFault.TheVariants.{Write, Memory}
 use Rattle.mseed_audit.specs.Audit.{Held}
 use Rattle.mseed_audit.specs.Channels.{added_from}
 use Rattle.mseed_audit.specs.Summary.{Audited, IsGathered, IsSummary, text_of}
-use Rattle.mseed_audit.specs.Text.{told_lines}
-use Rattle.mseed_audit.specs.Told.{Told, AreToldOf}
+use Rattle.mseed_audit.specs.Text.{reported_lines}
+use Rattle.mseed_audit.specs.Reported.{Reported, AreReportedOf}
 
--- what was read is audited so, and this is told of its records
+-- what was read is audited so, and this is reported of its records
 pub record AuditedEach (h : BytesRead) : Type 0 where
   pub audited : Audited h
-  pub told : List Told
-  pub are_told : AreToldOf (added_from 0 audited.views) told
+  pub reported : List Reported
+  pub are_reported : AreReportedOf (added_from 0 audited.views) reported
 
 -- the lines of the records with a finding, and then the text of the audit
 abbrev pub each_text : {h : BytesRead} → AuditedEach h → List ℕ
-each_text a = told_lines a.told ++ text_of a.audited
+each_text a = reported_lines a.reported ++ text_of a.audited
 
 -- the whole text was written
 pub record IsEachWritten {h : BytesRead} (s : Summary) (a : AuditedEach h) (old new : BytesWritten) : Type 0 where
@@ -30,68 +30,69 @@ pub record IsEachWritten {h : BytesRead} (s : Summary) (a : AuditedEach h) (old 
   pub text : new.bytes ≡ old.bytes ++ each_text a
   pub fine : new.failures ≡ old.failures
 
--- the output took the first bytes of a text
-abbrev pub TookFirst : BytesWritten → BytesWritten → List ℕ → Type 0
-TookFirst old new text = (count : ℕ) × (new.bytes ≡ old.bytes ++ take count text)
+-- the output accepted the first bytes of a text
+abbrev pub EmittedFirst : BytesWritten → BytesWritten → List ℕ → Type 0
+EmittedFirst old new text = (count : ℕ) × (new.bytes ≡ old.bytes ++ take count text)
 
 -- and not all of it
-abbrev pub TookPart : BytesWritten → BytesWritten → List ℕ → Type 0
-TookPart old new text = (count : ℕ) × ((count < length text) × (new.bytes ≡ old.bytes ++ take count text))
+abbrev pub EmittedPart : BytesWritten → BytesWritten → List ℕ → Type 0
+EmittedPart old new text = (count : ℕ) × ((count < length text) × (new.bytes ≡ old.bytes ++ take count text))
 
 -- what was written is so of a text: the lines of the first records, or the whole
-pub record IsCutShort (Took : List ℕ → Type 0) (h : BytesRead) (offset : ℕ) (views : List View)
-    (told : List Told) : Type 0 where
+pub record IsCutShort (Emitted : List ℕ → Type 0) (h : BytesRead) (offset : ℕ) (views : List View)
+    (reported : List Reported) : Type 0 where
   pub shown : AreViews h.bytes offset views
-  pub are_told : AreToldOf (added_from 0 views) told
-  pub prefix : Took (told_lines told) ⊎ ((a : AuditedEach h) × Took (each_text a))
+  pub are_reported : AreReportedOf (added_from 0 views) reported
+  pub prefix : Emitted (reported_lines reported) ⊎ ((a : AuditedEach h) × Emitted (each_text a))
 
 abbrev pub EndsShort : (List ℕ → Type 0) → BytesRead → Type 0
-EndsShort Took h = (offset : ℕ) × ((views : List View) × ((told : List Told) × IsCutShort Took h offset views told))
+EndsShort Emitted h = (offset : ℕ) × ((views : List View)
+    × ((reported : List Reported) × IsCutShort Emitted h offset views reported))
 
--- By the outcome. An output that failed isn't asked again.
+-- By the outcome. An output that failed isn't called again.
 abbrev pub IsEachOutcome : Result Summary EachFault → BytesRead → BytesWritten → BytesWritten → Type 0
 IsEachOutcome (Ok summary) h old new = (a : AuditedEach h) × IsEachWritten summary a old new
-IsEachOutcome (Err Write) h old new = (new.failures ≡ old.failures + 1) × EndsShort (TookPart old new) h
-IsEachOutcome (Err Memory) h old new = (new.failures ≡ old.failures) × EndsShort (TookFirst old new) h
+IsEachOutcome (Err Write) h old new = (new.failures ≡ old.failures + 1) × EndsShort (EmittedPart old new) h
+IsEachOutcome (Err Memory) h old new = (new.failures ≡ old.failures) × EndsShort (EmittedFirst old new) h
 
 -- ---- the lines, as records are added
--- the output took some bytes, and with those that are gathered they are a text
+-- the output accepted some bytes, and with those that are gathered they are a text
 pub record AreGathered (old new : BytesWritten) (gathered text : List ℕ) : Type 0 where
   pub taken : List ℕ
   pub bytes : new.bytes ≡ old.bytes ++ taken
   pub joined : taken ++ gathered ≡ text
 
--- what a sink took, and what it's known to hold
+-- what a sink accepted, and what it's known to hold
 abbrev pub TakesMore : BytesWritten → BytesWritten → Option (List ℕ) → Option (List ℕ) → Type 0
 TakesMore old new held holds = (more : List ℕ) × (new.bytes ≡ old.bytes ++ more) × Appends held holds more
 
 -- all records up to the end were added, and the lines of those with a finding were written or are gathered
 pub record HasLines (held : Held) (end : Option StreamFault) (bytes : ℕ) (h : BytesRead) (old new : BytesWritten)
-    (text : List ℕ) (views : List View) (told : List Told) : Type 0 where
+    (text : List ℕ) (views : List View) (reported : List Reported) : Type 0 where
   pub all : IsGathered held end bytes h views
-  pub are_told : AreToldOf (added_from 0 views) told
-  pub lines : AreGathered old new text (told_lines told)
+  pub are_reported : AreReportedOf (added_from 0 views) reported
+  pub lines : AreGathered old new text (reported_lines reported)
   pub fine : new.failures ≡ old.failures
 
 -- what was written is so of the lines of the first records
-pub record HasLinesShort (Took : List ℕ → Type 0) (h : BytesRead) (offset : ℕ) (views : List View)
-    (told : List Told) : Type 0 where
+pub record HasLinesShort (Emitted : List ℕ → Type 0) (h : BytesRead) (offset : ℕ) (views : List View)
+    (reported : List Reported) : Type 0 where
   pub shown : AreViews h.bytes offset views
-  pub are_told : AreToldOf (added_from 0 views) told
-  pub prefix : Took (told_lines told)
+  pub are_reported : AreReportedOf (added_from 0 views) reported
+  pub prefix : Emitted (reported_lines reported)
 
 abbrev pub EndsInLines : (List ℕ → Type 0) → BytesRead → Type 0
-EndsInLines Took h =
-    (offset : ℕ) × ((views : List View) × ((told : List Told) × HasLinesShort Took h offset views told))
+EndsInLines Emitted h =
+    (offset : ℕ) × ((views : List View) × ((reported : List Reported) × HasLinesShort Emitted h offset views reported))
 
--- By the fault: an output that failed isn't asked again.
+-- By the fault: an output that failed isn't called again.
 abbrev pub IsLinesFault : EachFault → BytesRead → BytesWritten → BytesWritten → Type 0
-IsLinesFault Write h old new = (new.failures ≡ old.failures + 1) × EndsInLines (TookPart old new) h
-IsLinesFault Memory h old new = (new.failures ≡ old.failures) × EndsInLines (TookFirst old new) h
+IsLinesFault Write h old new = (new.failures ≡ old.failures + 1) × EndsInLines (EmittedPart old new) h
+IsLinesFault Memory h old new = (new.failures ≡ old.failures) × EndsInLines (EmittedFirst old new) h
 
 -- by the outcome: the audit, how the input ends, and how many bytes the records have; the last lines are left in a text
 abbrev pub IsTelling : Result (Held × Option StreamFault × ℕ) EachFault → BytesRead → BytesWritten → BytesWritten
     → List ℕ → Type 0
 IsTelling (Ok found) h old new text =
-    (views : List View) × ((told : List Told) × HasLines found.0 found.1 found.2 h old new text views told)
+    (views : List View) × ((reported : List Reported) × HasLines found.0 found.1 found.2 h old new text views reported)
 IsTelling (Err fault) h old new text = IsLinesFault fault h old new

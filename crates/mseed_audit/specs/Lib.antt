@@ -7,6 +7,6 @@ pub mod Pieces
 pub mod Series
 pub mod Summary
 pub mod Text
-pub mod Told
+pub mod Reported
 pub mod Verdict
 pub mod private

@@ -24,7 +24,7 @@ use Rattle.mseed_audit.specs.declared.finding.Why.TheVariants.{Overlap}
 use Rattle.mseed_audit.specs.declared.finding.Finding.{Finding}
 use Rattle.mseed_audit.specs.declared.verdict.Verdict.{Verdict}
 use Rattle.mseed_audit.specs.declared.verdict.Verdict.TheVariants.{Continuous, Broken}
-use Rattle.mseed_audit.specs.Told.{Told}
+use Rattle.mseed_audit.specs.Reported.{Reported}
 
 -- a code without its trailing spaces and NULs
 abbrev pub trimmed : List ℕ → List ℕ
@@ -119,15 +119,15 @@ abbrev pub start_text : View → List ℕ
 start_text v = start_by (first_fault (time_at v.order v.bytes)) (start_of v)
 
 -- the line of a record with a finding
-abbrev pub told_line : Told → List ℕ
-told_line t =
+abbrev pub reported_line : Reported → List ℕ
+reported_line t =
     decimal t.finding.offset ++ codes " " ++ name_text (key_at t.view.bytes) ++ codes " record "
     ++ decimal t.finding.number
     ++ codes " start " ++ start_text t.view ++ codes " " ++ why_text t.finding.why ++ codes "\n"
 
-abbrev pub told_lines : List Told → List ℕ
-told_lines [] = []
-told_lines (t ∷ ts) = told_line t ++ told_lines ts
+abbrev pub reported_lines : List Reported → List ℕ
+reported_lines [] = []
+reported_lines (t ∷ ts) = reported_line t ++ reported_lines ts
 
 -- the lines of the verdicts
 abbrev pub verdict_lines : List (List ℕ × Verdict) → List ℕ

@@ -10,7 +10,7 @@ ghost use Rattle.mseed_audit.specs.Audit.{IsAuditOf};
 ghost use Rattle.mseed_audit.specs.Channels.{Added, added_from};
 
 use crate::audits::{Audit, Memory};
-use crate::text::{push_audit, push_told};
+use crate::text::{push_audit, push_reported};
 use crate::verdict::Verdict;
 use mseed_record::{Codes, RecordView};
 use mseed_stream::{Cutter, Sink, Source, StreamFault, write_all_of};
@@ -59,7 +59,7 @@ pub(crate) enum Step {
     Ended(Option<StreamFault>),
 }
 
-ghost use Rattle.mseed_audit.specs.private.Gathered.{IsNext, IsToldMore};
+ghost use Rattle.mseed_audit.specs.private.Gathered.{IsNext, IsReportedMore};
 ghost use Rattle.mseed_audit.specs.Summary.{IsOutcome, IsGathered, broken_count};
 
 /// Audits the records that a source tells, and writes the text of the audit. The source is one of which
@@ -81,7 +81,7 @@ pub fn audit<A: Allocator + Copy, R: Source, W: Sink>(
         (R.remaining source.new) }
     ensures known { (R.read source.new).is_at_end ≡ true → IsAtEnd (R.remaining source.new) }
 
-    // What the sink is known to hold grew by what it took.
+    // What the sink is known to hold grew by what it accepted.
     ensures contents { (bytes : List ℕ) → (W.written sink.new).bytes ≡ (W.written sink.old).bytes ++ bytes
         → Appends (W.contents sink.old) (W.contents sink.new) bytes }
 
@@ -175,14 +175,14 @@ pub(crate) fn add_next<A: Allocator + Copy, R: Source>(
 {
     let offset = cutter.offset();
     if let Some(view) = cutter.peek(source) {
-        add_told(audit, &view, offset, lines, text)?;
+        add_reported(audit, &view, offset, lines, text)?;
         let size = view.bytes().len();
         cutter.pass(source, size);
         return Ok(Step::Added);
     }
     match cutter.next(source) {
         Ok(Some(view)) => {
-            add_told(audit, &view, offset, lines, text)?;
+            add_reported(audit, &view, offset, lines, text)?;
             Ok(Step::Added)
         }
         Ok(None) => Ok(Step::Ended(None)),
@@ -193,7 +193,7 @@ pub(crate) fn add_next<A: Allocator + Copy, R: Source>(
 
 /// Adds a record, and its line, if it has one.
 #[inline(always)]
-fn add_told<A: Allocator + Copy>(
+fn add_reported<A: Allocator + Copy>(
     audit: &mut Audit<A>,
     view: &RecordView,
     offset: u64,
@@ -203,8 +203,8 @@ fn add_told<A: Allocator + Copy>(
     requires { audit.old.added < 2 ^ 40 }
     ensures adds { (added : List Added) → IsAuditOf audit.old added
         → OnOk result (IsAuditOf audit.new (added ++ record { view = view_of view.now; offset = offset } ∷ [])) }
-    ensures told { (added : List Added) → IsAuditOf audit.old added
-        → OnOk result (IsToldMore lines added (added ++ record { view = view_of view.now; offset = offset } ∷ [])
+    ensures reported { (added : List Added) → IsAuditOf audit.old added
+        → OnOk result (IsReportedMore lines added (added ++ record { view = view_of view.now; offset = offset } ∷ [])
         text.old.items text.new.items) }
     ensures number { OnOk result (audit.new.added ≡ audit.old.added + 1) }
 {
@@ -227,15 +227,15 @@ fn add_judged<A: Allocator + Copy>(
     requires { audit.old.added < 2 ^ 40 }
     ensures adds { (added : List Added) → IsAuditOf audit.old added
         → OnOk result (IsAuditOf audit.new (added ++ record { view = view_of view.now; offset = offset } ∷ [])) }
-    ensures told { (added : List Added) → IsAuditOf audit.old added
-        → OnOk result (IsToldMore lines added (added ++ record { view = view_of view.now; offset = offset } ∷ [])
+    ensures reported { (added : List Added) → IsAuditOf audit.old added
+        → OnOk result (IsReportedMore lines added (added ++ record { view = view_of view.now; offset = offset } ∷ [])
         text.old.items text.new.items) }
     ensures number { OnOk result (audit.new.added ≡ audit.old.added + 1) }
 {
     let why = audit.add_judged(view, offset)?;
     match lines {
         Lines::OfVerdicts => Ok(()),
-        Lines::OfRecords => push_told(text, view, audit.added(), offset, why),
+        Lines::OfRecords => push_reported(text, view, audit.added(), offset, why),
     }
 }
 

@@ -6,7 +6,7 @@ ghost use Rattle.mseed_record.specs.Viewing.{view_of};
 ghost use Rattle.mseed_steim.specs.Reading.{count_of};
 ghost use Rattle.mseed_audit.specs.Audit.{AreChannels};
 ghost use Rattle.mseed_audit.specs.Channels.{Added, numbered, records_of};
-ghost use Rattle.mseed_audit.specs.Told.{IsFoundBehind};
+ghost use Rattle.mseed_audit.specs.Reported.{IsFoundBehind};
 ghost use Rattle.mseed_audit.specs.Verdict.{AreVerdicts};
 
 use crate::channel::Channel;

@@ -7,7 +7,7 @@ ghost use Rattle.mseed_steim.specs.Reading.{count_of};
 ghost use Rattle.mseed_audit.specs.Judging.{IsFound};
 ghost use Rattle.mseed_audit.specs.Audit.{IsTailOf, count_in, head_in, tail_in, verdict_of};
 ghost use Rattle.mseed_audit.specs.private.Kept.{IsTailBefore, end_in, why_in, with_end, with_finding};
-ghost use Rattle.mseed_audit.specs.Told.{last_of};
+ghost use Rattle.mseed_audit.specs.Reported.{last_of};
 
 use crate::finding::{Finding, Why};
 use crate::tail::Tail;
@@ -256,7 +256,7 @@ impl Judged {
 }
 
 /// The end of a record of which nothing is found, by the end of the channel's record before it. Where there is none,
-/// nothing is said.
+/// nothing is found.
 #[inline(always)]
 fn sound_end(before: Option<Tail>, view: &RecordView) -> Option<Tail>
     requires { 0 < count_of (view_of view.now) }

@@ -46,7 +46,7 @@ pub fn audit_each<A: Allocator + Copy, R: Source, W: Sink>(
         (R.remaining source.new) }
     ensures known { (R.read source.new).is_at_end ≡ true → IsAtEnd (R.remaining source.new) }
 
-    // What the sink is known to hold grew by what it took.
+    // What the sink is known to hold grew by what it accepted.
     ensures contents { (bytes : List ℕ) → (W.written sink.new).bytes ≡ (W.written sink.old).bytes ++ bytes
         → Appends (W.contents sink.old) (W.contents sink.new) bytes }
 
@@ -86,14 +86,14 @@ pub fn gather_each<A: Allocator + Copy, R: Source, W: Sink>(
 ) -> Result<(Audit<A>, Option<StreamFault>, u64), EachFault>
     requires read { R.read source.old ≡ nothing_read }
     requires text { text.old.items ≡ [] }
-    ensures told { IsTelling result (R.read source.new) (W.written sink.old) (W.written sink.new) text.new.items }
+    ensures reported { IsTelling result (R.read source.new) (W.written sink.old) (W.written sink.new) text.new.items }
 
     // What the source is known to have left is what was read of it, up to its end where the input is at its end.
     ensures more { TellsMore (R.read source.old) (R.read source.new) (R.remaining source.old)
         (R.remaining source.new) }
     ensures known { (R.read source.new).is_at_end ≡ true → IsAtEnd (R.remaining source.new) }
 
-    // What the sink is known to hold grew by what it took.
+    // What the sink is known to hold grew by what it accepted.
     ensures contents { TakesMore (W.written sink.old) (W.written sink.new) (W.contents sink.old) (W.contents sink.new) }
 
     // What the source takes, and what the sink tells, stay as they were.

@@ -10,8 +10,8 @@ ghost use Rattle.mseed_audit.specs.declared.verdict.Verdict.{Verdict};
 ghost use Rattle.mseed_audit.specs.Audit.{AreChannels, verdict_of};
 ghost use Rattle.mseed_audit.specs.Channels.{Added, Placed, records_of, same_key, views_in};
 ghost use Rattle.mseed_audit.specs.Each.{AuditedEach, each_text};
-ghost use Rattle.mseed_audit.specs.Text.{told_lines};
-ghost use Rattle.mseed_audit.specs.Told.{Told, AreToldOf, finding_count, findings_in, told_with};
+ghost use Rattle.mseed_audit.specs.Text.{reported_lines};
+ghost use Rattle.mseed_audit.specs.Reported.{Reported, AreReportedOf, finding_count, findings_in, reported_with};
 ghost use Rattle.mseed_audit.specs.Follows.{IsContinuous};
 ghost use Rattle.mseed_audit.specs.Judging.{IsFound};
 ghost use Rattle.mseed_audit.specs.Series.{Trace, AreJoined, IsBadStep, IsSeriesOf};
@@ -74,29 +74,30 @@ pub fn one_audit()
     one_input();
 }
 
-/// What is told of an archive's records is told once, and what was read has one text that tells them.
+/// What is reported of an archive's records is reported once, and what was read has one text that tells them.
 pub fn one_telling()
-    ensures told { (added : List Added) (a b : List Told) → AreToldOf added a → AreToldOf added b → a ≡ b }
+    ensures reported { (added : List Added) (a b : List Reported) → AreReportedOf added a → AreReportedOf added b
+        → a ≡ b }
     ensures text { (h : BytesRead) (a b : AuditedEach h) → each_text a ≡ each_text b }
 {
     one_fault();
     one_input();
 }
 
-/// The findings that are told of the records of an archive are those of its channels.
-pub fn findings_told()
+/// The findings that are reported of the records of an archive are those of its channels.
+pub fn findings_reported()
     // Those with a channel's key are its findings, in their order.
-    ensures channel { (added : List Added) (told : List Told) (key : List ℕ) → AreToldOf added told
-        → AreFindings None (records_of key added) (findings_in (told_with key told)) }
+    ensures channel { (added : List Added) (reported : List Reported) (key : List ℕ) → AreReportedOf added reported
+        → AreFindings None (records_of key added) (findings_in (reported_with key reported)) }
 
     // They are as many as its verdict counts.
-    ensures count { (added : List Added) (told : List Told) (verdicts : List (List ℕ × Verdict)) (key : List ℕ)
-        → AreToldOf added told → AreVerdicts added verdicts
-        → finding_count (lookup (same_key key) verdicts) ≡ length (told_with key told) }
+    ensures count { (added : List Added) (reported : List Reported) (verdicts : List (List ℕ × Verdict)) (key : List ℕ)
+        → AreReportedOf added reported → AreVerdicts added verdicts
+        → finding_count (lookup (same_key key) verdicts) ≡ length (reported_with key reported) }
 
-    // The lines of the first records stand in front of the lines of all.
-    ensures prefix { (added more : List Added) (told all : List Told) → AreToldOf added told
-        → AreToldOf (added ++ more) all → IsPrefixOf (told_lines told) (told_lines all) }
+    // The lines of the first records stand before the lines of all.
+    ensures prefix { (added more : List Added) (reported all : List Reported) → AreReportedOf added reported
+        → AreReportedOf (added ++ more) all → IsPrefixOf (reported_lines reported) (reported_lines all) }
 {
     one_fault();
 }

@@ -25,7 +25,7 @@ pub use channel_series::{BadStep, Series};
 pub use each::{EachFault, audit_each, gather_each};
 pub use finding::{Finding, Why};
 pub use law::{
-    channels_have_verdicts, continuous_exactly, findings_told, one_audit, one_bad_step,
+    channels_have_verdicts, continuous_exactly, findings_reported, one_audit, one_bad_step,
     one_finding, one_list_of_verdicts, one_series, one_telling, one_verdict,
 };
 pub use line::{Line, Name, fault_line_of, line_of, name_of};

@@ -12,7 +12,7 @@ use std::alloc::{AllocError, Allocator};
 ///
 /// # Errors
 ///
-/// `AllocError` where memory is refused. What was there stays in front, and a part of the name may have been
+/// `AllocError` where memory is refused. What was there stays, and a part of the name may have been
 /// added behind it.
 pub fn push_name<A: Allocator>(text: &mut Vec<u8, A>, codes: &Codes) -> Result<(), AllocError>
     ensures ok { OnOk result (text.new.items ≡ text.old.items ++ name_text codes.now) }

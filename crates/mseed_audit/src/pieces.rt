@@ -23,7 +23,7 @@ pub enum Piece<'a> {
 ///
 /// # Errors
 ///
-/// `AllocError` where memory is refused. What was there stays in front, and some of the pieces may have been added
+/// `AllocError` where memory is refused. What was there stays, and some of the pieces may have been added
 /// behind it.
 #[inline(always)]
 pub fn push_pieces<A: Allocator>(

@@ -15,7 +15,7 @@ ghost use Rattle.mseed_audit.specs.Audit.{Stands, StandsAt, verdict_of};
 ghost use Rattle.mseed_audit.specs.Judging.{IsFound};
 ghost use Rattle.mseed_audit.specs.declared.channel.Channel.{Channel};
 ghost use Rattle.mseed_audit.specs.private.Kept.{AreBounded, IsBounded, place_of};
-ghost use Rattle.mseed_audit.specs.Told.{IsFoundOf};
+ghost use Rattle.mseed_audit.specs.Reported.{IsFoundOf};
 
 use crate::audits::Memory;
 use crate::channel::Channel;

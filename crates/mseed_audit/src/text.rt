@@ -3,8 +3,8 @@ ghost use Rattle.std.specs.Prelude.{◌≡◌, ◌++◌, OnOk};
 ghost use Rattle.mseed_stream.specs.Device.{IsPrefixOf};
 ghost use Rattle.mseed_audit.specs.Text.{audit_text, verdict_lines, verdict_line, continuous_words};
 ghost use Rattle.mseed_audit.specs.Text.{broken_words, total_line, why_text, read_text};
-ghost use Rattle.mseed_audit.specs.Text.{fault_line, frame_words, start_text, told_line, told_lines};
-ghost use Rattle.mseed_audit.specs.Told.{told_at};
+ghost use Rattle.mseed_audit.specs.Text.{fault_line, frame_words, start_text, reported_line, reported_lines};
+ghost use Rattle.mseed_audit.specs.Reported.{reported_at};
 ghost use Rattle.mseed_record.specs.Viewing.{view_of};
 ghost use Rattle.mseed_stream.specs.declared.fault.StreamFault.{StreamFault};
 
@@ -58,7 +58,7 @@ fn push_verdicts<A: Allocator>(
 ///
 /// # Errors
 ///
-/// `AllocError` where memory is refused. What was there stays in front, and a part of the line may have been added
+/// `AllocError` where memory is refused. What was there stays, and a part of the line may have been added
 /// behind it.
 pub fn push_verdict_line<A: Allocator>(
     text: &mut Vec<u8, A>,
@@ -138,15 +138,15 @@ fn push_broken<A: Allocator>(
 /// Adds the line of a record, if something is found of it. Where memory is refused, a part of it may have been added.
 #[cold]
 #[inline(never)]
-pub(crate) fn push_told<A: Allocator>(
+pub(crate) fn push_reported<A: Allocator>(
     text: &mut Vec<u8, A>,
     view: &RecordView,
     number: u64,
     offset: u64,
     why: Option<Why>,
 ) -> Result<(), Memory>
-    ensures { OnOk result (text.new.items ≡ text.old.items ++ told_lines
-        (told_at (record { view = view_of view.now; offset = offset; number = number }) why)) }
+    ensures { OnOk result (text.new.items ≡ text.old.items ++ reported_lines
+        (reported_at (record { view = view_of view.now; offset = offset; number = number }) why)) }
 {
     let Some(why) = why else {
         return Ok(());
@@ -156,20 +156,20 @@ pub(crate) fn push_told<A: Allocator>(
         offset,
         why,
     };
-    match push_told_line(text, view, &finding) {
+    match push_reported_line(text, view, &finding) {
         Ok(()) => Ok(()),
         Err(_) => Err(Memory),
     }
 }
 
 /// Adds the line of a record with a finding.
-fn push_told_line<A: Allocator>(
+fn push_reported_line<A: Allocator>(
     text: &mut Vec<u8, A>,
     view: &RecordView,
     finding: &Finding,
 ) -> Result<(), AllocError>
     ensures { OnOk result (text.new.items
-        ≡ text.old.items ++ told_line (record { view = view_of view.now; finding = finding.now })) }
+        ≡ text.old.items ++ reported_line (record { view = view_of view.now; finding = finding.now })) }
 {
     push_pieces(text, &[Count(finding.offset), Words(b" ")])?;
     push_name(text, &view.codes())?;
@@ -187,7 +187,7 @@ fn push_told_line<A: Allocator>(
 ///
 /// # Errors
 ///
-/// `AllocError` where memory is refused. What was there stays in front, and a part of the start may have been added
+/// `AllocError` where memory is refused. What was there stays, and a part of the start may have been added
 /// behind it.
 pub fn push_start<A: Allocator>(text: &mut Vec<u8, A>, view: &RecordView) -> Result<(), AllocError>
     ensures ok { OnOk result (text.new.items ≡ text.old.items ++ start_text (view_of view.now)) }
@@ -203,7 +203,7 @@ pub fn push_start<A: Allocator>(text: &mut Vec<u8, A>, view: &RecordView) -> Res
 ///
 /// # Errors
 ///
-/// `AllocError` where memory is refused. What was there stays in front, and a part of the line may have been added
+/// `AllocError` where memory is refused. What was there stays, and a part of the line may have been added
 /// behind it.
 pub fn push_total_line<A: Allocator>(
     text: &mut Vec<u8, A>,
@@ -229,7 +229,7 @@ pub fn push_total_line<A: Allocator>(
 ///
 /// # Errors
 ///
-/// `AllocError` where memory is refused. What was there stays in front, and a part of the line may have been added
+/// `AllocError` where memory is refused. What was there stays, and a part of the line may have been added
 /// behind it.
 pub fn push_fault_line<A: Allocator>(
     text: &mut Vec<u8, A>,
@@ -305,7 +305,7 @@ fn push_frame_words<A: Allocator>(
 ///
 /// # Errors
 ///
-/// `AllocError` where memory is refused. What was there stays in front, and a part of the words may have been added
+/// `AllocError` where memory is refused. What was there stays, and a part of the words may have been added
 /// behind it.
 pub fn push_why<A: Allocator>(text: &mut Vec<u8, A>, why: &Why) -> Result<(), AllocError>
     ensures ok { OnOk result (text.new.items ≡ text.old.items ++ why_text why.now) }

@@ -12,9 +12,9 @@ use Rattle.mseed_c.specs.declared.row.Row.{Row}
 use Rattle.mseed_c.specs.declared.reading.Progress.{Progress}
 use Rattle.mseed_c.proofs.Walking.{record_fits, walk_more}
 
-same_front : (k filled : ℕ) (old new : List ℤ) → k ≤ filled → take filled new ≡ take filled old
+same_leading : (k filled : ℕ) (old new : List ℤ) → k ≤ filled → take filled new ≡ take filled old
     → take k old ≡ take k new
-same_front k filled old new low e =
+same_leading k filled old new low e =
     sym (take-take k filled old low) ∙ ap (λ (xs : List ℤ). take k xs) (sym e) ∙ take-take k filled new low
 
 kept_samples : (row : Row) (v : View) (filled more : ℕ) (old new : List ℤ) → take filled new ≡ take filled old
@@ -24,7 +24,7 @@ kept_samples row v filled more old new e h =
     let P : List ℤ → Type 0 = λ xs. IsWhole v (drop row.first xs) in
     record {
       within = omega arith;
-      whole = λ some. subst P (same_front (row.first + row.samples) filled old new within e) (h.whole some);
+      whole = λ some. subst P (same_leading (row.first + row.samples) filled old new within e) (h.whole some);
     }
 
 kept_row : (bytes : List ℕ) (filled more : ℕ) (old new : List ℤ) → take filled new ≡ take filled old → (row : Row)
@@ -83,12 +83,12 @@ pub read_more : (bytes : List ℕ) (offset : ℕ) (first rows : List Row) (old n
     → AreSamples v (drop p.filled new) n code
     → IsRead bytes offset first (slice_set rows p.rows row) new
     (record { rows = p.rows + 1; offset = p.offset + length v.bytes; filled = p.filled + n; needed = p.needed })
-read_more bytes offset first rows old new p v row n code r more inside room size front at describes o f c s =
+read_more bytes offset first rows old new p v row n code r more inside room size leading at describes o f c s =
     let left = length-drop p.filled new in
     let fits : n ≤ length (drop p.filled new) = s.fits in
     record {
       walk = walk_more (λ filled. IsRow bytes filled old) (λ filled. IsRow bytes filled new) bytes offset first rows p
-          row (length v.bytes) n r.walk more (kept_row bytes p.filled n old new front)
+          row (length v.bytes) n r.walk more (kept_row bytes p.filled n old new leading)
           (own_row bytes row v n p.filled code p.offset new at describes o f c s)
           (record {
             offset_is = o;

@@ -54,13 +54,13 @@ walk_more Is Is' bytes offset old rows p row size n w more kept last next =
     let Q : List Row → Type 0 = λ xs. ArePlaced start 0 xs (p.offset + size) (p.filled + n) in
     let R : ℕ → Type 0 = λ k. ArePlaced start 0 (take p.rows rows ++ row ∷ []) (p.offset + k) (p.filled + n) in
     let S : ℕ → Type 0 = λ k. ArePlaced start 0 (take p.rows rows ++ row ∷ []) (p.offset + row.length) (p.filled + k) in
-    let front : take (p.rows + 1) (slice_set rows p.rows row) ≡ take p.rows rows ++ row ∷ [] =
+    let leading : take (p.rows + 1) (slice_set rows p.rows row) ≡ take p.rows rows ++ row ∷ [] =
     take_more_set rows p.rows row more in
     record {
       counted = let same = length-set rows p.rows row in omega arith;
       inside = next.fits;
-      each = subst P (sym front) (All-push (Is' (p.filled + n)) (take p.rows rows) row before last);
-      placed = subst Q (sym front) (subst R next.size_is (subst S next.filled_is
+      each = subst P (sym leading) (All-push (Is' (p.filled + n)) (take p.rows rows) row before last);
+      placed = subst Q (sym leading) (subst R next.size_is (subst S next.filled_is
           (placed_more start 0 (take p.rows rows) row p.offset p.filled w.placed next.offset_is next.first_is)));
       behind = behind_more rows old row p.rows w.behind;
     }
@@ -77,11 +77,12 @@ walk_none Is bytes offset start rows e = record {
   behind = refl;
 }
 
--- the number of a reason is told besides
-pub walk_told : (Is : ℕ → Row → Type 0) (bytes : List ℕ) (offset : ℕ) (old rows : List Row) (p : Progress) (needed : ℕ)
+-- the number of a reason is reported besides
+pub walk_reported : (Is : ℕ → Row → Type 0) (bytes : List ℕ) (offset : ℕ) (old rows : List Row) (p : Progress)
+    (needed : ℕ)
     → IsWalk Is bytes offset old rows p
     → IsWalk Is bytes offset old rows (record { rows = p.rows; offset = p.offset; filled = p.filled; needed = needed })
-walk_told Is bytes offset old rows p needed w =
+walk_reported Is bytes offset old rows p needed w =
     record { counted = w.counted; inside = w.inside; each = w.each; placed = w.placed; behind = w.behind }
 
 -- what ends a walk, at the bytes from the next record's offset on
@@ -92,11 +93,11 @@ ends_at (Room places) bytes ahead rows room p e more s = absurd s
 ends_at (Short k) bytes ahead rows room p e more s = (more, subst (λ (xs : List ℕ). IsStopAt xs (Short k)) e s)
 ends_at (Not fault) bytes ahead rows room p e more s = (more, subst (λ (xs : List ℕ). IsStopAt xs (Not fault)) e s)
 
-pub ends_told : (stop : Stop) (bytes : List ℕ) (rows room : ℕ) (p : Progress) (needed : ℕ)
+pub ends_reported : (stop : Stop) (bytes : List ℕ) (rows room : ℕ) (p : Progress) (needed : ℕ)
     → EndsWalk stop bytes rows room p
     → EndsWalk stop bytes rows room (record { rows = p.rows; offset = p.offset; filled = p.filled; needed = needed })
-ends_told Rows bytes rows room p needed e = e
-ends_told (Room places) bytes rows room p needed e =
+ends_reported Rows bytes rows room p needed e = e
+ends_reported (Room places) bytes rows room p needed e =
     (e.0, record { view = e.1.view; at = e.1.at; count = e.1.count; fewer = e.1.fewer })
-ends_told (Short k) bytes rows room p needed e = e
-ends_told (Not fault) bytes rows room p needed e = e
+ends_reported (Short k) bytes rows room p needed e = e
+ends_reported (Not fault) bytes rows room p needed e = e

@@ -36,7 +36,7 @@ SaysEach h s text = (a : AuditedEach h) × (IsSummary s a.audited × (text ≡ e
 abbrev pub SaysPart : BytesRead → Summary → List ℕ → Type 0
 SaysPart h s text = (a : AuditedPart h) × (IsSummary s a.audited × (text ≡ part_text a.written))
 
--- The text stands in the room, as much of it as there is room for, and its numbers and the status are told.
+-- The text stands in the room, as much of it as there is room for, and its numbers and the status are reported.
 pub record IsShown (Says : BytesRead → Summary → List ℕ → Type 0) (bytes old new : List ℕ) (totals : Totals)
     (status : ℕ) : Type 0 where
   pub read : BytesRead

@@ -26,7 +26,7 @@ pub struct Totals {
 }
 
 /// The audit of an archive that lies in memory: the status of `mseed audit`, or 3 where memory was refused. The text is
-/// written into the room, as much of it as there is room for; how long the whole of it is, is told.
+/// written into the room, as much of it as there is room for; how long the whole of it is, is reported.
 #[unsafe(no_mangle)]
 pub extern "C" fn mseed_audit(
     alloc: Global,

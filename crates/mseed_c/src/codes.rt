@@ -18,7 +18,7 @@ pub enum Stop {
     Rows,
     /// So many places are needed for the record's samples.
     Room(usize),
-    /// So many bytes are needed before it can be said what begins them.
+    /// So many bytes are needed before it is known what begins them.
     Short(usize),
     /// No record begins the bytes.
     Not(FrameFault),

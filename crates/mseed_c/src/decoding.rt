@@ -53,13 +53,13 @@ fn decode(bytes: &[u8], out: &mut [i32]) -> Result<usize, SampleFault>
 }
 
 /// The samples of the record at the beginning of the bytes: 0, or the code of why there are none. How many there are,
-/// or the numbers of the reason, are told.
+/// or the numbers of the reason, are reported.
 #[unsafe(no_mangle)]
-pub extern "C" fn mseed_samples(bytes: &[u8], out: &mut [i32], told: &mut Detail) -> u32
+pub extern "C" fn mseed_samples(bytes: &[u8], out: &mut [i32], reported: &mut Detail) -> u32
     ensures { (answer : Result ℕ SampleFault) × (IsDecoded bytes.now out.old out.new answer
-        × (told.new ≡ detail_of answer) × (result ≡ code_of answer)) }
+        × (reported.new ≡ detail_of answer) × (result ≡ code_of answer)) }
 {
     let answer = decode(bytes, out);
-    *told = detail_of(&answer);
+    *reported = detail_of(&answer);
     code_of(&answer)
 }

@@ -61,8 +61,8 @@ fn heads_on(bytes: &[u8], rows: &mut [Row], progress: &mut Progress) -> Option<S
     }
 }
 
-/// The rows of the records of an archive from an offset on, without their samples. How far it was gone through is told.
-/// The answer is 0 at the end of the bytes, and else the code of why it stopped.
+/// The rows of the records of an archive from an offset on, without their samples. How far it was gone through is
+/// reported. The answer is 0 at the end of the bytes, and else the code of why it stopped.
 #[unsafe(no_mangle)]
 pub extern "C" fn mseed_rows(
     bytes: &[u8],

@@ -15,7 +15,7 @@ pub struct Lent<'a> {
 impl<'a> Lent<'a> {
     ghost use Rattle.mseed_c.specs.Lent.{read_by, left_of};
 
-    /// The bytes, of which nothing was asked yet.
+    /// The bytes, of which nothing was called yet.
     pub fn new(bytes: &'a [u8]) -> Lent<'a>
         ensures read { read_by result ≡ nothing_read }
         ensures left { left_of result ≡ Some bytes.now }

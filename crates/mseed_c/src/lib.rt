@@ -1,7 +1,7 @@
 //! `mseed` for C: the records of an archive that lies in memory, with their samples, its audit, its part, and packing.
 //!
 //! Each call answers a code, writes what belongs to it into places that its caller lends, and keeps no state. What the
-//! codes mean is said in `specs/Codes`; `include/mseed.h` declares the calls for C.
+//! codes mean is stated in `specs/Codes`; `include/mseed.h` declares the calls for C.
 #![tactic(auto)]
 
 mod auditing;

@@ -23,18 +23,18 @@ pub struct Packed {
 }
 
 /// Packs a series into records, of which as many bytes are written into the room as it has; how many records there are,
-/// is told. The answer is 0, or the code of why there are none: then nothing is written.
+/// is reported. The answer is 0, or the code of why there are none: then nothing is written.
 #[unsafe(no_mangle)]
 pub extern "C" fn mseed_pack(
     heading: &Heading,
     samples: &[i32],
     room: &mut [u8],
-    told: &mut Packed,
+    reported: &mut Packed,
 ) -> u32
-    ensures { IsPackOutcome heading.now samples.now room.old room.new told.old told.new result }
+    ensures { IsPackOutcome heading.now samples.now room.old room.new reported.old reported.new result }
 {
     match parts_of(heading, samples.len()) {
-        Ok(parts) => pack_parts(heading, &parts, samples, room, told),
+        Ok(parts) => pack_parts(heading, &parts, samples, room, reported),
         Err(refusal) => code_of_refusal(refusal),
     }
 }
@@ -45,14 +45,14 @@ fn pack_parts(
     parts: &Parts,
     samples: &[i32],
     room: &mut [u8],
-    told: &mut Packed,
+    reported: &mut Packed,
 ) -> u32
     requires { AreParts heading.now (length samples.now) parts.now }
-    ensures { IsPackOutcome heading.now samples.now room.old room.new told.old told.new result }
+    ensures { IsPackOutcome heading.now samples.now room.old room.new reported.old reported.new result }
 {
     match parts.step {
-        Some(step) => pack_steps(heading, parts, samples, &[step], room, told),
-        None => pack_steps(heading, parts, samples, &[], room, told),
+        Some(step) => pack_steps(heading, parts, samples, &[step], room, reported),
+        None => pack_steps(heading, parts, samples, &[], room, reported),
     }
 }
 
@@ -63,11 +63,11 @@ fn pack_steps(
     samples: &[i32],
     steps: &[(u64, LeapStep)],
     room: &mut [u8],
-    told: &mut Packed,
+    reported: &mut Packed,
 ) -> u32
     requires parts { AreParts heading.now (length samples.now) parts.now }
     requires steps { HasLeap heading.now (length samples.now) steps.now }
-    ensures { IsPackOutcome heading.now samples.now room.old room.new told.old told.new result }
+    ensures { IsPackOutcome heading.now samples.now room.old room.new reported.old reported.new result }
 {
     let series = SeriesView {
         codes: Codes::of_key(heading.key),
@@ -76,22 +76,27 @@ fn pack_steps(
         samples,
         steps,
     };
-    pack_series(&series, &parts.options, room, told)
+    pack_series(&series, &parts.options, room, reported)
 }
 
 /// Packs a series.
-fn pack_series(series: &SeriesView, options: &Options, room: &mut [u8], told: &mut Packed) -> u32
+fn pack_series(
+    series: &SeriesView,
+    options: &Options,
+    room: &mut [u8],
+    reported: &mut Packed,
+) -> u32
     requires { AreSteps (length series.now.samples.now) series.now.steps.now }
-    ensures { IsPackedInto (trace_of series.now) options.now room.old room.new told.old told.new result }
+    ensures { IsPackedInto (trace_of series.now) options.now room.old room.new reported.old reported.new result }
 {
     if let Err(fault) = fit_view(series, options) {
-        *told = Packed {
+        *reported = Packed {
             records: 0,
             index: index_of(fault),
         };
         return code_of_misfit(fault);
     }
     let records = pack_into(series, options, room);
-    *told = Packed { records, index: 0 };
+    *reported = Packed { records, index: 0 };
     0
 }

@@ -106,7 +106,7 @@ fn read_on(bytes: &[u8], rows: &mut [Row], out: &mut [i32], progress: &mut Progr
 }
 
 /// The records of an archive from an offset on: a row each, and their samples one behind another. How far it was read
-/// is told. The answer is 0 at the end of the bytes, and else the code of why it stopped.
+/// is reported. The answer is 0 at the end of the bytes, and else the code of why it stopped.
 #[unsafe(no_mangle)]
 pub extern "C" fn mseed_read(
     bytes: &[u8],

@@ -8,12 +8,12 @@ use Rattle.mseed_stream.specs.Device.{BytesRead, BytesWritten}
 use Rattle.mseed_join.specs.declared.joint.Joint.{Joint}
 use Rattle.mseed_join.specs.declared.joint.Place.{Place}
 use Rattle.mseed_join.specs.declared.joint.Place.TheVariants.{Start, Channels, Whole}
-use Rattle.mseed_join.specs.declared.joint.Told.{Told}
+use Rattle.mseed_join.specs.declared.joint.Reported.{Reported}
 use Rattle.mseed_join.specs.declared.reader.Reader.{Reader}
 use Rattle.mseed_join.specs.Joined.{AreLines, Begins, HasNoEnd, IsBadLine, IsJointOf, IsOfOneLine}
 use Rattle.mseed_join.specs.Lines.{Line, counts_line, header_line}
 use Rattle.mseed_join.specs.Reached.{AreLinesRead, Behind, Stage, IsStage, none, begun, whole, part_behind}
-use Rattle.mseed_join.specs.Reached.{AreTold, parts_at, passed_lines, start, text_behind}
+use Rattle.mseed_join.specs.Reached.{AreReported, parts_at, passed_lines, start, text_behind}
 use Rattle.mseed_join.specs.ReadParts.{IsReadOutcome, IsStopped, written_of}
 use Rattle.mseed_join.specs.declared.reader.PartsFault.{PartsFault}
 use Rattle.mseed_join.specs.declared.reader.PartsFault.TheVariants.{Line as BadLine, Stream, Memory}
@@ -141,7 +141,7 @@ pub same_passed : (h old new : BytesRead) (left rest : Option (List ℕ)) (befor
     → c.passed ≡ b.passed
 same_passed h old new left rest before after b g c =
     let all : h.bytes ++ c.passed ++ after.held ≡ h.bytes ++ b.passed ++ after.held =
-    sym c.told ∙ g.told ∙ ap (λ (t : List ℕ). t ++ g.more) b.told
+    sym c.reported ∙ g.reported ∙ ap (λ (t : List ℕ). t ++ g.more) b.reported
     ∙ append_assoc (h.bytes ++ b.passed) before.held g.more
     ∙ ap (λ (t : List ℕ). h.bytes ++ b.passed ++ t) (sym g.held) in
     append_cancel_left h.bytes c.passed b.passed
@@ -152,7 +152,7 @@ pub passed_line_too : (h now : BytesRead) (line : List ℕ) (before after : Line
     → before.held ≡ line ++ after.held → (c : IsReadBy h now after) → c.passed ≡ b.passed ++ line
 passed_line_too h now line before after b held c =
     let all : h.bytes ++ c.passed ++ after.held ≡ h.bytes ++ b.passed ++ line ++ after.held =
-    sym c.told ∙ b.told ∙ ap (λ (t : List ℕ). h.bytes ++ b.passed ++ t) held
+    sym c.reported ∙ b.reported ∙ ap (λ (t : List ℕ). h.bytes ++ b.passed ++ t) held
     ∙ sym (append_assoc (h.bytes ++ b.passed) line after.held) in
     append_cancel_left h.bytes c.passed (b.passed ++ line)
     (append_cancel_right (h.bytes ++ c.passed) (h.bytes ++ b.passed ++ line) after.held all
@@ -203,7 +203,7 @@ pub wrong_line : {A : Type 0} → (past : Bool) (h now : BytesRead) (s : Stage) 
     → (Begins past (l.by.passed ++ take n lines.held) → ⊥) → IsBadBehind past h now s (lines.lines + 1)
 wrong_line past h now s lines j n l one refused = record {
   bytes = l.by.passed ++ lines.held;
-  told = l.by.told ∙ append_assoc h.bytes l.by.passed lines.held;
+  reported = l.by.reported ∙ append_assoc h.bytes l.by.passed lines.held;
   bad = IsBadLine.wrong l.by.passed (take n lines.held) (drop n lines.held) lines.lines
       (ap (λ (t : List ℕ). l.by.passed ++ t) (sym (take-append-drop n lines.held))
       ∙ sym (append_assoc l.by.passed (take n lines.held) (drop n lines.held))) l.by.lines
@@ -218,7 +218,7 @@ abbrev pub stops : {A : Type 0} → (past : Bool) (h now : BytesRead) (s : Stage
     → IsLooked past h now s lines j → IsStoppedAt h now s
 stops past h now s lines j l = record {
   bytes = l.by.passed ++ lines.held;
-  told = l.by.told ∙ append_assoc h.bytes l.by.passed lines.held;
+  reported = l.by.reported ∙ append_assoc h.bytes l.by.passed lines.held;
   count = lines.lines;
   before = before past h now s lines j l;
 }
@@ -253,7 +253,7 @@ pub unended_line : {A : Type 0} → (past : Bool) (h now : BytesRead) (s : Stage
     → IsBadBehind past h now s (lines.lines + 1)
 unended_line past h now s lines j l at_end no_end some = record {
   bytes = l.by.passed ++ lines.held;
-  told = l.by.told ∙ append_assoc h.bytes l.by.passed lines.held;
+  reported = l.by.reported ∙ append_assoc h.bytes l.by.passed lines.held;
   bad = IsBadLine.unended l.by.passed lines.held lines.lines at_end refl l.by.lines
       (begun_so past h now s lines j l) some no_end;
   count = lines.lines;
@@ -265,14 +265,14 @@ unended_line past h now s lines j l at_end no_end some = record {
 all_passed : {A : Type 0} → (past : Bool) (h now : BytesRead) (s : Stage) (lines : LinesRead) (j : Joint A)
     → (l : IsLooked past h now s lines j) → lines.held ≡ [] → now.bytes ≡ h.bytes ++ l.by.passed
 all_passed past h now s lines j l held =
-    l.by.told ∙ ap (λ (t : List ℕ). h.bytes ++ l.by.passed ++ t) held ∙ append-nil (h.bytes ++ l.by.passed)
+    l.by.reported ∙ ap (λ (t : List ℕ). h.bytes ++ l.by.passed ++ t) held ∙ append-nil (h.bytes ++ l.by.passed)
 
 pub lacking : {A : Type 0} → (past : Bool) (h now : BytesRead) (s : Stage) (lines : LinesRead) (j : Joint A)
     → IsLooked past h now s lines j → now.is_at_end ≡ true → lines.held ≡ [] → can_end j.place ≡ false
     → IsBadBehind past h now s (lines.lines + 1)
 lacking past h now s lines j l at_end held e = record {
   bytes = l.by.passed;
-  told = all_passed past h now s lines j l held;
+  reported = all_passed past h now s lines j l held;
   bad = IsBadLine.lacks lines.lines at_end l.by.lines (begun_so past h now s lines j l)
       (lacks l.by.passed s j l.read e);
   count = lines.lines;
@@ -291,7 +291,7 @@ pub has_ended : {A : Type 0} → (past : Bool) (h now : BytesRead) (s : Stage) (
     → HasEnded past h now s r
 has_ended past h now s r l at_end held e = record {
   bytes = l.by.passed;
-  told = all_passed past h now s r.lines r.joint l held;
+  reported = all_passed past h now s r.lines r.joint l held;
   at_end = at_end;
   spells = ended l.by.passed s r.joint l.read e;
   joint = subst (λ (p : Bool). IsJointOf p (parts_at s) (written_of r.joint.so_far)) l.past_is l.read.joint;
@@ -300,7 +300,7 @@ has_ended past h now s r l at_end held e = record {
 -- ---- a line that was taken
 pub line_taken : {A : Type 0} → (past : Bool) (h now : BytesRead) (s t : Stage) (line : List ℕ)
     (lines after : LinesRead)
-    (j : Joint A) (r : Reader A) (tells : Told) → (l : IsLooked past h now s lines j) → r.lines ≡ after
+    (j : Joint A) (r : Reader A) (tells : Reported) → (l : IsLooked past h now s lines j) → r.lines ≡ after
     → lines.held ≡ line ++ after.held → IsReadBy h now after → GoesOn h now after
     → IsTaken l.by.passed line s t tells j r.joint → IsAlong past h now t r
 line_taken past h now s t line lines after j r tells l same held c goes taken =
@@ -338,56 +338,56 @@ some_read h now lines by a few = omega (
   length-take lines.size lines.held,
 )
 
--- ---- what is told
-pub told_none : (past : Bool) → passed_lines past (parts_at start) ≡ []
-told_none true = refl
-told_none false = refl
+-- ---- what is reported
+pub reported_none : (past : Bool) → passed_lines past (parts_at start) ≡ []
+reported_none true = refl
+reported_none false = refl
 
-pub told_also : (xs ys : List (List ℕ)) (a b c : BytesWritten) → AreTold xs a b → AreTold ys b c
-    → AreTold (xs ++ ys) a c
-told_also xs ys a b c (AreTold.none s) q = q
-told_also xs ys a b c (AreTold.one line lines old now new t more) q =
-    AreTold.one line (lines ++ ys) old now c t (told_also lines ys now new c more q)
+pub reported_also : (xs ys : List (List ℕ)) (a b c : BytesWritten) → AreReported xs a b → AreReported ys b c
+    → AreReported (xs ++ ys) a c
+reported_also xs ys a b c (AreReported.none s) q = q
+reported_also xs ys a b c (AreReported.one line lines old now new t more) q =
+    AreReported.one line (lines ++ ys) old now c t (reported_also lines ys now new c more q)
 
 -- ---- the outcome
-abbrev pub stopped : (past : Bool) (h now : BytesRead) (s : Stage) (told at : BytesWritten) → IsStoppedAt h now s
-    → AreTold (passed_lines past (parts_at s)) told at → IsStopped past h now told at
-stopped past h now s told at step are = record {
+abbrev pub stopped : (past : Bool) (h now : BytesRead) (s : Stage) (reported at : BytesWritten) → IsStoppedAt h now s
+    → AreReported (passed_lines past (parts_at s)) reported at → IsStopped past h now reported at
+stopped past h now s reported at step are = record {
   bytes = step.bytes;
-  more = step.told;
+  more = step.reported;
   stage = s;
-  lines = record { count = step.count; before = step.before; told = are };
+  lines = record { count = step.count; before = step.before; reported = are };
 }
 
 pub failed : {A : Type 0} → (past : Bool) (h now : BytesRead) (s : Stage) (r : Reader A) (fault : PartsFault)
-    (told at : BytesWritten) → IsNextStep {A = A} past h s (Err fault) now r
-    → AreTold (passed_lines past (parts_at s)) told at
-    → IsReadOutcome {A = A} (Err fault) past h now told at
-failed past h now s r (BadLine k) told at step are = (
+    (reported at : BytesWritten) → IsNextStep {A = A} past h s (Err fault) now r
+    → AreReported (passed_lines past (parts_at s)) reported at
+    → IsReadOutcome {A = A} (Err fault) past h now reported at
+failed past h now s r (BadLine k) reported at step are = (
   step.bytes,
   (
-    step.told,
+    step.reported,
     record {
       bad = step.bad;
       count = step.count;
       behind = step.behind;
       stage = s;
       before = step.before;
-      told = are;
+      reported = are;
     },
   ),
 )
-failed past h now s r (Stream fault) told at step are = (
+failed past h now s r (Stream fault) reported at step are = (
   step.0,
-  record { stopped = stopped past h now s told at step.1.stopped are; none_bad = step.1.none_bad },
+  record { stopped = stopped past h now s reported at step.1.stopped are; none_bad = step.1.none_bad },
 )
-failed past h now s r Memory told at step are = stopped past h now s told at step are
+failed past h now s r Memory reported at step are = stopped past h now s reported at step are
 
 -- nothing was read
 pub none_read : (h : BytesRead) → IsStoppedAt h h start
 none_read h = record {
   bytes = [];
-  told = sym (append-nil h.bytes);
+  reported = sym (append-nil h.bytes);
   count = 0;
   before = record {
     lines = [];
@@ -398,15 +398,16 @@ none_read h = record {
   };
 }
 
-pub none_told : (past : Bool) (at : BytesWritten) → AreTold (passed_lines past (parts_at start)) at at
-none_told past at = subst (λ (lines : List (List ℕ)). AreTold lines at at) (sym (told_none past)) (AreTold.none at)
+pub none_reported : (past : Bool) (at : BytesWritten) → AreReported (passed_lines past (parts_at start)) at at
+none_reported past at = subst (λ (lines : List (List ℕ)). AreReported lines at at) (sym (reported_none past))
+    (AreReported.none at)
 
-pub all_read : {A : Type 0} → (past : Bool) (h now : BytesRead) (s : Stage) (r : Reader A) (told at : BytesWritten)
-    → HasEnded past h now s r → AreTold (passed_lines past (parts_at s)) told at
-    → IsReadOutcome (Ok r.joint.so_far) past h now told at
-all_read past h now s r told at e are = (
+pub all_read : {A : Type 0} → (past : Bool) (h now : BytesRead) (s : Stage) (r : Reader A) (reported at : BytesWritten)
+    → HasEnded past h now s r → AreReported (passed_lines past (parts_at s)) reported at
+    → IsReadOutcome (Ok r.joint.so_far) past h now reported at
+all_read past h now s r reported at e are = (
   e.bytes,
-  (e.told, e.at_end, record { parts = parts_at s; spells = e.spells; is_joint = e.joint; told = are }),
+  (e.reported, e.at_end, record { parts = parts_at s; spells = e.spells; is_joint = e.joint; reported = are }),
 )
 
 -- ---- at the beginning
@@ -417,7 +418,7 @@ empty (x ∷ xs) e = absurd (omega (arith, e))
 pub nothing_passed : (h : BytesRead) (r : LinesRead) → (b : IsReadBy h h r) → b.passed ≡ []
 nothing_passed h r b = empty b.passed (omega (
   arith,
-  ap length b.told,
+  ap length b.reported,
   length-append (h.bytes ++ b.passed) r.held,
   length-append h.bytes b.passed,
 ))

@@ -1,4 +1,4 @@
--- What is told of archives one behind another.
+-- What is reported of archives one behind another.
 use Rattle.std.proofs.Common.{◌≡◌, ℕ, ◌+◌, List, [], ◌∷◌, ◌++◌, Option, None, refl, sym, ap, ◌∙◌, subst}
 use Rattle.std.proofs.Common.{append_assoc, append-nil, arith, IsPermutation, false}
 use Rattle.std.specs.List.{AllByRecursion}
@@ -7,24 +7,24 @@ use Rattle.std.proofs.lemmas.List.{map-append}
 use Rattle.std.proofs.lemmas.List.Sorted.{IsPermutation-append_comm, IsPermutation-append_left}
 use Rattle.std.proofs.lemmas.List.Sorted.{IsPermutation-append_right, IsPermutation-refl, IsPermutation-trans}
 use Rattle.mseed_record.specs.View.{View, IsView}
-use Rattle.mseed_record.proofs.Asked.{record_long}
+use Rattle.mseed_record.proofs.Called.{record_long}
 use Rattle.mseed_stream.specs.Device.{BytesRead}
 use Rattle.mseed_stream.specs.declared.fault.StreamFault.{StreamFault}
 use Rattle.mseed_stream.proofs.Records.{view_record}
 use Rattle.mseed_audit.specs.Channels.{Added, added_from}
 use Rattle.mseed_audit.specs.Each.{AuditedEach}
-use Rattle.mseed_audit.specs.Text.{told_line, told_lines}
-use Rattle.mseed_audit.specs.Told.{Told, AreToldOf, none as nothing_told}
+use Rattle.mseed_audit.specs.Text.{reported_line, reported_lines}
+use Rattle.mseed_audit.specs.Reported.{Reported, AreReportedOf, none as nothing_reported}
 use Rattle.mseed_parts.specs.Borders.{borders_with}
 use Rattle.mseed_parts.specs.Notices.{AreMerged, HaveBytes, Notice, border_notice, border_notices, moved_notice}
 use Rattle.mseed_parts.specs.Notices.{moved_notices, notices_of}
 use Rattle.mseed_parts.specs.Parts.{Held, IsPartOf}
-use Rattle.mseed_parts.proofs.Rising.{told_first, told_rise}
-use Rattle.mseed_join.specs.AuditPart.{ToldPart}
+use Rattle.mseed_parts.proofs.Rising.{reported_first, reported_rise}
+use Rattle.mseed_join.specs.AuditPart.{ReportedPart}
 use Rattle.mseed_join.specs.Borders.{AreBorders, AreBordersOf, Border, border_line, border_lines}
 use Rattle.mseed_join.specs.Borders.{notice_lines}
 use Rattle.mseed_join.specs.Headline.{AreParted, EndsByBytes, IsReadOf, SaysAudit}
-use Rattle.mseed_join.specs.HeadlineEach.{AreToldApart, SaysEach, last, more, none as none_apart}
+use Rattle.mseed_join.specs.HeadlineEach.{AreReportedApart, SaysEach, last, more, none as none_apart}
 use Rattle.mseed_join.specs.Joined.{AreJoined, IsJointOf, IsNext, counted, counted_by, moved_fault, nothing}
 use Rattle.mseed_join.specs.Written.{Written}
 use Rattle.mseed_join.proofs.Bordering.{IsFirstOf, first_found, joined_behind, none_found}
@@ -34,9 +34,9 @@ use Rattle.mseed_join.proofs.Pieces.{joined_more, joined_none, of_nothing, says}
 use Rattle.mseed_join.proofs.Sums.{HaveOneJoint, joined_one}
 
 abbrev pub AddFindings : Type 0
-AddFindings = (a b : Held) (xs ys : List View) (first second whole : List Told) → IsPartOf a xs → IsPartOf b ys
-    → HaveBytes (xs ++ ys) → AreToldOf (added_from 0 xs) first → AreToldOf (added_from 0 ys) second
-    → AreToldOf (added_from 0 (xs ++ ys)) whole
+AddFindings = (a b : Held) (xs ys : List View) (first second whole : List Reported) → IsPartOf a xs → IsPartOf b ys
+    → HaveBytes (xs ++ ys) → AreReportedOf (added_from 0 xs) first → AreReportedOf (added_from 0 ys) second
+    → AreReportedOf (added_from 0 (xs ++ ys)) whole
     → AreMerged (notices_of first ++ moved_notices a.records a.bytes (notices_of second))
     (border_notices (borders_with a b.channels)) (notices_of whole)
 
@@ -78,18 +78,18 @@ moved_still (n ∷ ns) =
     } ∷ rest i
 
 -- ---- of all archives so far, with more behind
-pub record IsMergedTo (before archive : List ℕ) (told : List Notice) (found : List Border) (a joint : Written)
+pub record IsMergedTo (before archive : List ℕ) (reported : List Notice) (found : List Border) (a joint : Written)
     (so : IsSoFar before a) : Type 0 where
   pub all : IsSoFar (before ++ archive) joint
   pub rest : List View
   pub behind : all.views ≡ so.views ++ rest
-  pub merged : (first whole : List Told) → AreToldOf (added_from 0 so.views) first
-      → AreToldOf (added_from 0 all.views) whole
-      → IsPermutation (notices_of first ++ (moved_notices a.part.records a.part.bytes told ++ border_notices found))
+  pub merged : (first whole : List Reported) → AreReportedOf (added_from 0 so.views) first
+      → AreReportedOf (added_from 0 all.views) whole
+      → IsPermutation (notices_of first ++ (moved_notices a.part.records a.part.bytes reported ++ border_notices found))
       (notices_of whole)
 
 abbrev pub HaveOneTelling : Type 0
-HaveOneTelling = (added : List Added) (a b : List Told) → AreToldOf added a → AreToldOf added b → a ≡ b
+HaveOneTelling = (added : List Added) (a b : List Reported) → AreReportedOf added a → AreReportedOf added b → a ≡ b
 
 -- the same part, and the same bytes
 abbrev as_joint : (bytes : List ℕ) (a joint : Written) → a ≡ joint → IsSoFar bytes a → IsSoFar bytes joint
@@ -116,26 +116,26 @@ ends_here single before a joint so same = record {
   rest = [];
   behind = sym (append-nil so.views);
   merged = λ first whole one all.
-      let told : first ≡ whole = single (added_from 0 so.views) first whole one all in
+      let reported : first ≡ whole = single (added_from 0 so.views) first whole one all in
       subst (λ (ns : List Notice). IsPermutation ns (notices_of whole)) (sym (append-nil (notices_of first)))
-      (subst (λ (ts : List Told). IsPermutation (notices_of first) (notices_of ts)) told
+      (subst (λ (ts : List Reported). IsPermutation (notices_of first) (notices_of ts)) reported
       (IsPermutation-refl (notices_of first)));
 }
 
 -- one archive is behind
-piece : AddFindings → (before : List ℕ) (a : Written) (so : IsSoFar before a) (h : BytesRead) (p : ToldPart h)
-    → AllByRecursion IsView (so.views ++ p.parted.audited.views) → (first whole : List Told)
-    → AreToldOf (added_from 0 so.views) first
-    → AreToldOf (added_from 0 (so.views ++ p.parted.audited.views)) whole
-    → IsPermutation (notices_of first ++ (moved_notices a.part.records a.part.bytes (notices_of p.told)
+piece : AddFindings → (before : List ℕ) (a : Written) (so : IsSoFar before a) (h : BytesRead) (p : ReportedPart h)
+    → AllByRecursion IsView (so.views ++ p.parted.audited.views) → (first whole : List Reported)
+    → AreReportedOf (added_from 0 so.views) first
+    → AreReportedOf (added_from 0 (so.views ++ p.parted.audited.views)) whole
+    → IsPermutation (notices_of first ++ (moved_notices a.part.records a.part.bytes (notices_of p.reported)
     ++ border_notices (borders_with a.part p.parted.written.part.channels))) (notices_of whole)
 piece add before a so h p views first whole here all =
-    let moved : List Notice = moved_notices a.part.records a.part.bytes (notices_of p.told) in
+    let moved : List Notice = moved_notices a.part.records a.part.bytes (notices_of p.reported) in
     let between : List Notice = border_notices (borders_with a.part p.parted.written.part.channels) in
     let both : List View = so.views ++ p.parted.audited.views in
     let merged : AreMerged (notices_of first ++ moved) between (notices_of whole) =
-    add a.part p.parted.written.part so.views p.parted.audited.views first p.told whole so.part p.parted.part
-    (have_bytes both views) here p.are_told all in
+    add a.part p.parted.written.part so.views p.parted.audited.views first p.reported whole so.part p.parted.part
+    (have_bytes both views) here p.are_reported all in
     subst (λ (ns : List Notice). IsPermutation ns (notices_of whole)) (append_assoc (notices_of first) moved between)
     merged.members
 
@@ -156,7 +156,7 @@ shuffled fs ms ns bs rs =
     (IsPermutation-append_right (fs ++ ms) ((ns ++ bs) ++ rs) ((bs ++ ns) ++ rs)
     (IsPermutation-append_left rs (ns ++ bs) (bs ++ ns) (IsPermutation-append_comm ns bs))))
 
--- what is told behind what is told of all so far
+-- what is reported behind what is reported of all so far
 carried : (fs ms ns bs rs mid whole : List Notice) → IsPermutation (fs ++ (ms ++ bs)) mid
     → IsPermutation (mid ++ (ns ++ rs)) whole → IsPermutation (fs ++ ((ms ++ ns) ++ (bs ++ rs))) whole
 carried fs ms ns bs rs mid whole first behind =
@@ -183,10 +183,10 @@ bordered only befores a w ws found joined borders =
 
 -- ---- all archives
 one_piece : AddUp → AddFindings → HaveOneJoint → (archive before : List ℕ) (befores : List Written)
-    (found : List Border) (a joint : Written) (so : IsSoFar before a) (h : BytesRead) (p : ToldPart h)
+    (found : List Border) (a joint : Written) (so : IsSoFar before a) (h : BytesRead) (p : ReportedPart h)
     → IsReadOf archive h → EndsByBytes p.parted.written.end → a.end ≡ None → AreJoined nothing befores a
     → AreJoined a (p.parted.written ∷ []) joint → AreBorders befores (p.parted.written ∷ []) found
-    → IsMergedTo before archive (notices_of p.told) found a joint so
+    → IsMergedTo before archive (notices_of p.reported) found a joint so
 one_piece add_up add only archive before befores found a joint so h p read by clear joined parts borders =
     let w : Written = p.parted.written in
     let first = joined_more a w joint [] parts in
@@ -200,34 +200,35 @@ one_piece add_up add only archive before befores found a joint so h p read by cl
       all = as_joint (before ++ archive) first.0 joint (joined_none first.0 joint first.1.1) now;
       rest = p.parted.audited.views;
       behind = refl;
-      merged = λ one whole told all.
+      merged = λ one whole reported all.
           subst (λ (bs : List Border). IsPermutation (notices_of one
-          ++ (moved_notices a.part.records a.part.bytes (notices_of p.told) ++ border_notices bs)) (notices_of whole))
-          (sym are) (piece add before a so h p now.are_known.cut.views_are one whole told all);
+          ++ (moved_notices a.part.records a.part.bytes (notices_of p.reported) ++ border_notices bs))
+          (notices_of whole))
+          (sym are) (piece add before a so h p now.are_known.cut.views_are one whole reported all);
     }
 
-more_pieces : AddUp → AddFindings → (archive others before : List ℕ) (told : List Notice) (found rest : List Border)
-    (a b joint : Written) (so : IsSoFar before a) (h : BytesRead) (p : ToldPart h)
+more_pieces : AddUp → AddFindings → (archive others before : List ℕ) (reported : List Notice) (found rest : List Border)
+    (a b joint : Written) (so : IsSoFar before a) (h : BytesRead) (p : ReportedPart h)
     (now : IsSoFar (before ++ archive) b) → now.views ≡ so.views ++ p.parted.audited.views
     → IsNext a p.parted.written b → found ≡ borders_with a.part p.parted.written.part.channels ++ rest
-    → IsMergedTo (before ++ archive) others told rest b joint now
-    → IsMergedTo before (archive ++ others) (notices_of p.told
-    ++ moved_notices p.parted.written.part.records p.parted.written.part.bytes told) found a joint so
-more_pieces add_up add archive others before told found rest a b joint so h p now views next are m =
+    → IsMergedTo (before ++ archive) others reported rest b joint now
+    → IsMergedTo before (archive ++ others) (notices_of p.reported
+    ++ moved_notices p.parted.written.part.records p.parted.written.part.bytes reported) found a joint so
+more_pieces add_up add archive others before reported found rest a b joint so h p now views next are m =
     let w : Written = p.parted.written in
     let d : ℕ = a.part.records in
     let e : ℕ = a.part.bytes in
-    let own : List Notice = notices_of p.told in
-    let later : List Notice = moved_notices w.part.records w.part.bytes told in
+    let own : List Notice = notices_of p.reported in
+    let later : List Notice = moved_notices w.part.records w.part.bytes reported in
     let between : List Notice = border_notices (borders_with a.part w.part.channels) in
     let known : AllByRecursion IsView (so.views ++ p.parted.audited.views) =
     subst (λ (vs : List View). AllByRecursion IsView vs) views now.are_known.cut.views_are in
-    let there : moved_notices d e later ≡ moved_notices b.part.records b.part.bytes told =
-    moved_twice d e w.part.records w.part.bytes told
-    ∙ moved_same (d + w.part.records) (e + w.part.bytes) b.part.records b.part.bytes told (sym next.part.records)
+    let there : moved_notices d e later ≡ moved_notices b.part.records b.part.bytes reported =
+    moved_twice d e w.part.records w.part.bytes reported
+    ∙ moved_same (d + w.part.records) (e + w.part.bytes) b.part.records b.part.bytes reported (sym next.part.records)
     (sym next.part.bytes) in
     let notices : moved_notices d e (own ++ later) ++ border_notices found
-    ≡ (moved_notices d e own ++ moved_notices b.part.records b.part.bytes told)
+    ≡ (moved_notices d e own ++ moved_notices b.part.records b.part.bytes reported)
     ++ (between ++ border_notices rest) =
     (λ i. map-append (moved_notice d e) own later i
     ++ (ap border_notices are ∙ map-append border_notice (borders_with a.part w.part.channels) rest) i)
@@ -238,20 +239,22 @@ more_pieces add_up add archive others before told found rest a b joint so h p no
       behind = m.behind ∙ ap (λ (vs : List View). vs ++ m.rest) views
           ∙ append_assoc so.views p.parted.audited.views m.rest;
       merged = λ first whole one all.
-          let mid = told_first now.views m.rest whole
-          (subst (λ (vs : List View). AreToldOf (added_from 0 vs) whole) m.behind all) in
-          let near : AreToldOf (added_from 0 (so.views ++ p.parted.audited.views)) mid.0 =
-          subst (λ (vs : List View). AreToldOf (added_from 0 vs) mid.0) views mid.1 in
+          let mid = reported_first now.views m.rest whole
+          (subst (λ (vs : List View). AreReportedOf (added_from 0 vs) whole) m.behind all) in
+          let near : AreReportedOf (added_from 0 (so.views ++ p.parted.audited.views)) mid.0 =
+          subst (λ (vs : List View). AreReportedOf (added_from 0 vs) mid.0) views mid.1 in
           subst (λ (ns : List Notice). IsPermutation (notices_of first ++ ns) (notices_of whole)) (sym notices)
-          (carried (notices_of first) (moved_notices d e own) (moved_notices b.part.records b.part.bytes told) between
+          (carried (notices_of first) (moved_notices d e own) (moved_notices b.part.records b.part.bytes reported)
+          between
           (border_notices rest) (notices_of mid.0) (notices_of whole)
           (piece add before a so h p known first mid.0 one near) (m.merged mid.0 whole mid.1 all));
     }
 
 merge_all : HaveOneTelling → AddUp → AddFindings → HaveOneJoint → (archive before : List ℕ) (ws befores : List Written)
-    (told : List Notice) (found : List Border) (a joint : Written) (so : IsSoFar before a)
-    → AreToldApart archive ws told → a.end ≡ None → AreJoined nothing befores a → AreJoined a (counted false ws) joint
-    → AreBorders befores (counted false ws) found → IsMergedTo before archive told found a joint so
+    (reported : List Notice) (found : List Border) (a joint : Written) (so : IsSoFar before a)
+    → AreReportedApart archive ws reported → a.end ≡ None → AreJoined nothing befores a
+    → AreJoined a (counted false ws) joint
+    → AreBorders befores (counted false ws) found → IsMergedTo before archive reported found a joint so
 merge_all single add_up add only _ before _ befores _ found a joint so none_apart clear joined parts borders =
     subst (λ (bs : List Border). IsMergedTo before [] [] bs a joint so) (sym (none_found befores found borders))
     (ends_here single before a joint so (joined_none a joint parts))
@@ -262,7 +265,8 @@ merge_all single add_up add only _ before _ befores _ found a joint so (last arc
     one_piece add_up add only archive before befores found a joint so h p read by clear joined
     (subst (λ (ws : List Written). AreJoined a ws joint) one parts)
     (subst (λ (ws : List Written). AreBorders befores ws found) one borders)
-merge_all single add_up add only _ before _ befores _ found a joint so (more archive others h p ws told read end apart)
+merge_all single add_up add only _ before _ befores _ found a joint so
+    (more archive others h p ws reported read end apart)
     clear joined parts borders =
     let w : Written = p.parted.written in
     let on : AreJoined a (w ∷ counted false ws) joint =
@@ -278,47 +282,51 @@ merge_all single add_up add only _ before _ befores _ found a joint so (more arc
     ∙ ap (λ (o : Option StreamFault). option_map (moved_fault a.part.bytes) o) end in
     let c : IsBordered befores a w (counted false ws) found =
     bordered only befores a w (counted false ws) found joined along in
-    more_pieces add_up add archive others before told found c.rest a b joint so h p now refl first.1.0 c.are
-    (merge_all single add_up add only others (before ++ archive) ws (befores ++ w ∷ []) told c.rest b joint now apart
+    more_pieces add_up add archive others before reported found c.rest a b joint so h p now refl first.1.0 c.are
+    (merge_all single add_up add only others (before ++ archive) ws (befores ++ w ∷ []) reported c.rest b joint now
+    apart
     goes_on (joined_behind nothing befores a w b joined first.1.0) first.1.1 c.more)
 
 -- ---- their lines
-pub told_text : (told : List Told) → notice_lines (notices_of told) ≡ told_lines told
-told_text [] = refl
-told_text (t ∷ told) = ap (λ (xs : List ℕ). told_line t ++ xs) (told_text told)
+pub reported_text : (reported : List Reported) → notice_lines (notices_of reported) ≡ reported_lines reported
+reported_text [] = refl
+reported_text (t ∷ reported) = ap (λ (xs : List ℕ). reported_line t ++ xs) (reported_text reported)
 
 pub border_text : (found : List Border) → notice_lines (border_notices found) ≡ border_lines found
 border_text [] = refl
 border_text (b ∷ found) = ap (λ (xs : List ℕ). border_line b ++ xs) (border_text found)
 
 -- ---- what the audit of all tells
-pub parted_of_told : (archive : List ℕ) (ws : List Written) (told : List Notice) → AreToldApart archive ws told
+pub parted_of_reported : (archive : List ℕ) (ws : List Written) (reported : List Notice)
+    → AreReportedApart archive ws reported
     → AreParted archive ws
-parted_of_told _ _ _ none_apart = AreParted.none
-parted_of_told _ _ _ (last archive h a read by) = AreParted.last archive h a.parted read by
-parted_of_told _ _ _ (more archive others h a ws told read end apart) =
-    AreParted.more archive others h a.parted ws read end (parted_of_told others ws told apart)
+parted_of_reported _ _ _ none_apart = AreParted.none
+parted_of_reported _ _ _ (last archive h a read by) = AreParted.last archive h a.parted read by
+parted_of_reported _ _ _ (more archive others h a ws reported read end apart) =
+    AreParted.more archive others h a.parted ws read end (parted_of_reported others ws reported apart)
 
 pub each_says : HaveOneTelling → AddUp → AddFindings → HaveOneJoint → HaveVerdicts → HaveOneVerdicts
-    → (archive : List ℕ) (ws : List Written) (told : List Notice) (found : List Border) (joint : Written)
-    (h : BytesRead) (a : AuditedEach h) → AreToldApart archive ws told → IsJointOf false ws joint
-    → AreBordersOf false ws found → IsReadOf archive h → EndsByBytes a.audited.end → SaysEach told found joint a
-each_says single add_up add only verdicts one archive ws told found joint h a apart joined borders read by =
-    let m : IsMergedTo [] archive told found nothing joint (at_first nothing.part of_nothing) =
-    merge_all single add_up add only archive [] ws [] told found nothing joint (at_first nothing.part of_nothing) apart
+    → (archive : List ℕ) (ws : List Written) (reported : List Notice) (found : List Border) (joint : Written)
+    (h : BytesRead) (a : AuditedEach h) → AreReportedApart archive ws reported → IsJointOf false ws joint
+    → AreBordersOf false ws found → IsReadOf archive h → EndsByBytes a.audited.end → SaysEach reported found joint a
+each_says single add_up add only verdicts one archive ws reported found joint h a apart joined borders read by =
+    let m : IsMergedTo [] archive reported found nothing joint (at_first nothing.part of_nothing) =
+    merge_all single add_up add only archive [] ws [] reported found nothing joint (at_first nothing.part of_nothing)
+    apart
     refl (AreJoined.none nothing) joined borders in
     let both = one_known archive m.all.views a.audited.views joint.end a.audited.end m.all.are_known
     (known archive h a.audited.views a.audited.end read a.audited.all by) in
-    let whole : AreToldOf (added_from 0 m.all.views) a.told =
-    subst (λ (vs : List View). AreToldOf (added_from 0 vs) a.told) (sym both.0) a.are_told in
+    let whole : AreReportedOf (added_from 0 m.all.views) a.reported =
+    subst (λ (vs : List View). AreReportedOf (added_from 0 vs) a.reported) (sym both.0) a.are_reported in
     let says_it : SaysAudit joint a.audited =
-    says add_up verdicts one archive ws joint h a.audited (parted_of_told archive ws told apart) joined read by in
+    says add_up verdicts one archive ws joint h a.audited (parted_of_reported archive ws reported apart) joined read
+    by in
     record {
-      merged = notices_of a.told;
+      merged = notices_of a.reported;
       are_merged = record {
-        members = subst (λ (ns : List Notice). IsPermutation (ns ++ border_notices found) (notices_of a.told))
-            (moved_still told) (m.merged [] a.told (nothing_told []) whole);
-        rise = told_rise m.all.views a.told (have_bytes m.all.views m.all.are_known.cut.views_are) whole;
+        members = subst (λ (ns : List Notice). IsPermutation (ns ++ border_notices found) (notices_of a.reported))
+            (moved_still reported) (m.merged [] a.reported (nothing_reported []) whole);
+        rise = reported_rise m.all.views a.reported (have_bytes m.all.views m.all.are_known.cut.views_are) whole;
       };
-      text = λ i. told_text a.told i ++ says_it.text i;
+      text = λ i. reported_text a.reported i ++ says_it.text i;
     }

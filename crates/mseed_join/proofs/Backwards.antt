@@ -42,10 +42,11 @@ use Rattle.mseed_join.specs.private.Reading.{some_tail_at, head_at, tail_at, tim
 use Rattle.mseed_join.specs.private.Reading.{counted_findings_at, findings_at, channel_at, counts_at, faults_at}
 use Rattle.mseed_join.specs.private.Reading.{frame_fault_at, stream_fault_at, fault_at}
 use Rattle.mseed_join.proofs.Digits.{Ends, Begins, begins, number_back, integer_back, IsWithin}
-use Rattle.mseed_join.proofs.Fronts.{ratio_then, head_then, head_front, tail_then, tail_front, first_then}
-use Rattle.mseed_join.proofs.Fronts.{findings_then}
-use Rattle.mseed_join.proofs.Fronts.{nothing_front, counted_front, channel_front, counts_front, faults_front}
-use Rattle.mseed_join.proofs.Fronts.{fault_words, fault_of, findings_ends, bad_word_front, last_differs_front}
+use Rattle.mseed_join.proofs.Prefixes.{ratio_then, head_then, head_leading, tail_then, tail_leading, first_then}
+use Rattle.mseed_join.proofs.Prefixes.{findings_then}
+use Rattle.mseed_join.proofs.Prefixes.{nothing_leading, counted_leading, channel_leading, counts_leading}
+use Rattle.mseed_join.proofs.Prefixes.{faults_leading}
+use Rattle.mseed_join.proofs.Prefixes.{fault_words, fault_of, findings_ends, bad_word_leading, last_differs_leading}
 use Rattle.mseed_join.proofs.Keys.{key_back}
 
 -- a number of a part
@@ -129,7 +130,7 @@ head_back (Some h) rest fits e =
     let behind : List ℕ =
     codes " " ++ (decimal h.offset ++
     (codes " " ++ (signed_decimal h.start ++ (codes " " ++ ratio_then h.rate rest)))) in
-    ap head_at (head_front h rest)
+    ap head_at (head_leading h rest)
     ∙ rw (digits_no_word h.number behind (omega (arith, fits.number)), some_head_back h rest fits e) refl
 
 some_tail_back : (t : Tail) (rest : List ℕ) → HasTail t → some_tail_at (tail_then t rest) ≡ Some (t, rest)
@@ -154,7 +155,7 @@ tail_back None rest fits = refl
 tail_back (Some t) rest fits =
     let last : List ℕ = codes " " ++ (leap_text t.leap ++ rest) in
     let behind : List ℕ = codes " " ++ (decimal t.samples ++ (codes " " ++ ratio_then t.rate last)) in
-    ap tail_at (tail_front t rest)
+    ap tail_at (tail_leading t rest)
     ∙ rw (integer_no_word t.start behind fits.start, some_tail_back t rest fits) refl
 
 -- ---- findings
@@ -177,13 +178,13 @@ read_fault_back LittleSteim rest l e = refl
 read_fault_back DataOffset rest l e = refl
 read_fault_back (Short found) rest l e = rw (count_back found rest l e) refl
 read_fault_back (BadWord frame word) rest l e =
-    ap read_fault_at (bad_word_front frame word rest) ∙ rw (
+    ap read_fault_at (bad_word_leading frame word rest) ∙ rw (
       count_back frame (codes " " ++ (decimal word ++ rest)) l.0 refl,
       count_back word rest l.1 e,
     ) refl
 read_fault_back (Overflow index) rest l e = rw (count_back index rest l e) refl
 read_fault_back (LastDiffers found constant) rest l e =
-    ap read_fault_at (last_differs_front found constant rest) ∙ rw (
+    ap read_fault_at (last_differs_leading found constant rest) ∙ rw (
       sample_back found (codes " " ++ (signed_decimal constant ++ rest)) l.0 refl,
       sample_back constant rest l.1 e,
     ) refl
@@ -237,11 +238,11 @@ findings_back : (f : Findings) (rest : List ℕ) → HasFindings f → Ends rest
     → findings_at (findings_text f ++ rest) ≡ Some (f, rest)
 unfolding counted_findings_at
 findings_back (Nothing head tail) rest fits e =
-    ap findings_at (nothing_front head tail rest)
+    ap findings_at (nothing_leading head tail rest)
     ∙ findings_then_back (Some head) (Some tail) 0 rest fits.0 fits.1 (omega arith) e
 findings_back (Counted zero first head tail) rest fits e = absurd (omega (arith, fits.0))
 findings_back (Counted (suc n) first head tail) rest fits e =
-    ap findings_at (counted_front (suc n) first head tail rest)
+    ap findings_at (counted_leading (suc n) first head tail rest)
     ∙ findings_then_back head tail (suc n) (first_then first rest) fits.3 fits.4 fits.1 refl
     ∙ rw (first_back first rest fits.2 e) refl
 
@@ -252,7 +253,7 @@ channel_back key c l =
     let a1 : List ℕ = findings_text c.findings ++ codes "\n" in
     let a2 : List ℕ = codes " samples " ++ (decimal c.samples ++ a1) in
     let a3 : List ℕ = codes " records " ++ (decimal c.records ++ a2) in
-    ap channel_at (channel_front key c)
+    ap channel_at (channel_leading key c)
     ∙ rw (
       key_back key a3 l.key_length l.key_bytes,
       count_back c.records a2 l.records refl,
@@ -264,7 +265,7 @@ pub counts_back : (records bytes : ℕ) → HasCountsLine records bytes
     → counts_at (counts_line records bytes) ≡ Some (records, bytes)
 unfolding counts_at
 counts_back records bytes l =
-    ap counts_at (counts_front records bytes)
+    ap counts_at (counts_leading records bytes)
     ∙ rw (
       count_back records (codes " bytes " ++ (decimal bytes ++ codes "\n")) l.records_fit refl,
       count_back bytes (codes "\n") l.bytes_fit refl,
@@ -274,7 +275,7 @@ pub faults_back : (n : ℕ) → HasFaultsLine n → faults_at (faults_line n) �
 unfolding faults_at
 faults_back zero l = absurd (omega (arith, l.some))
 faults_back (suc n) l =
-    ap faults_at (faults_front n)
+    ap faults_at (faults_leading n)
     ∙ rw (
       count_back (suc n) (codes "\n") l.fit refl,
       lt-ltb 0 (suc n) (omega arith),

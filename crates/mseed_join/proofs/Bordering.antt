@@ -331,24 +331,25 @@ same_border a h cs key c absent more_records more_bytes joined =
     λ i. border_at key (head_in c.findings) (border_between (kept i) (moved_channel (records i) (bytes i) c))
 
 pub channel_borders : HaveOneJoint → (past : Bool) (over : List Written) (b : Behind) (key : List ℕ) (c : Channel)
-    (h : Written) (told : List Border) → May b (channel key c) → h.end ≡ None → told ≡ border_with h.part (key, c)
+    (h : Written) (reported : List Border) → May b (channel key c) → h.end ≡ None
+    → reported ≡ border_with h.part (key, c)
     → IsJointOf past (over ++ part_behind b) h → (found : List Border) → AreBordersOf past (over ++ part_behind b) found
-    → AreBordersOf past (parts_at (goes over b (channel key c))) (found ++ told)
-channel_borders only past over none key c h told m n is j found b = absurd m
-channel_borders only past over (begun cs) key c h told m n is j found b =
+    → AreBordersOf past (parts_at (goes over b (channel key c))) (found ++ reported)
+channel_borders only past over none key c h reported m n is j found b = absurd m
+channel_borders only past over (begun cs) key c h reported m n is j found b =
     let next : Written = begun_part (cs ++ (key, c) ∷ []) in
     let l : IsLast past over (begun_part cs) h = last_is past over (begun_part cs) h refl n j in
-    replaced past over (begun_part cs) next next h l refl (counts_one past next refl) told found
+    replaced past over (begun_part cs) next next h l refl (counts_one past next refl) reported found
     (λ a k. with_one a cs (key, c) ∙ ap (λ (bs : List Border). borders_with a.part cs ++ bs) (new l a k)) b
   where
     new : (l : IsLast past over (begun_part cs) h) (a : Written) → IsJointOf past over a
-        → border_with a.part (key, c) ≡ told
+        → border_with a.part (key, c) ≡ reported
     new l a k =
         let before : l.before ≡ a = joined_one only nothing (counted past over) l.before a l.joined k in
         ap (λ (w : Written). border_with w.part (key, c)) (sym before)
         ∙ sym (same_border l.before h cs key c (kept_none cs key c m) l.next.part.records l.next.part.bytes
         (l.next.part.each key)) ∙ sym is
-channel_borders only past over (whole w) key c h told m n is j found b = absurd m
+channel_borders only past over (whole w) key c h reported m n is j found b = absurd m
 
 -- ---- their lines
 pub lines_append : (bs ds : List Border) → border_lines (bs ++ ds) ≡ border_lines bs ++ border_lines ds

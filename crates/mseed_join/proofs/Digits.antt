@@ -136,9 +136,9 @@ digit_behind : (n b : ℕ) → 0 < n → 48 ≤ b → b ≤ 57 → 10 * n + (b -
     → decimal (10 * n + (b - 48)) ≡ decimal n ++ b ∷ []
 digit_behind n b some l h few =
     let m : ℕ = 10 * n + (b - 48) in
-    let front : m / 10 ≡ n = omega (arith, l, h) in
+    let leading : m / 10 ≡ n = omega (arith, l, h) in
     let last : 48 + m % 10 ≡ b = omega (arith, l, h) in
-    decimal_step_wide m (omega (arith, some)) few ∙ (λ i. decimal (front i) ++ last i ∷ [])
+    decimal_step_wide m (omega (arith, some)) few ∙ (λ i. decimal (leading i) ++ last i ∷ [])
 
 more_behind : (n : ℕ) (bs : List ℕ) → 0 < n → (more_at n bs).0 < 10 ^ 64
     → decimal n ++ bs ≡ decimal (more_at n bs).0 ++ (more_at n bs).1
@@ -279,7 +279,7 @@ integer_back below above (negsuc n) rest low high l e =
 pub some_is : {X : Type 0} (x y : X) → Some x ≡ Some y → x ≡ y
 some_is x y e = cc
 
--- an integer that was read stands in front
+-- an integer that was read stands before it
 abbrev pub IsInteger : ℕ → ℕ → List ℕ → ℤ × List ℕ → Type 0
 IsInteger below above bytes x = (bytes ≡ signed_decimal x.0 ++ x.1) × IsWithin below above x.0
 

@@ -7,7 +7,7 @@ use Rattle.std.specs.Result.{IsErrAnd}
 use Rattle.std.proofs.Math.Seq.{take-append-add}
 use Rattle.mseed_stream.specs.Device.{BytesRead, BytesWritten, nothing_read}
 use Rattle.mseed_stream.specs.Fault.{IsStreamFault}
-use Rattle.mseed_audit.specs.Each.{AreGathered, TookFirst, TookPart}
+use Rattle.mseed_audit.specs.Each.{AreGathered, EmittedFirst, EmittedPart}
 use Rattle.mseed_audit.proofs.Gathers.{behind, gathered_first, gathered_written, part_behind}
 use Rattle.mseed_join.specs.declared.joining.Joined.{Joined as Answer}
 use Rattle.mseed_join.specs.declared.joining.JoinsFault.{JoinsFault}
@@ -21,13 +21,13 @@ use Rattle.mseed_join.specs.Borders.{AreBorders, AreBordersOf, Border, border_li
 use Rattle.mseed_join.specs.Joined.{HasNoBadLine, IsBadLine, join_text}
 use Rattle.mseed_join.specs.Joins.{IsAnswer}
 use Rattle.mseed_join.specs.JoinsEach.{AreEachTo, AreLinesWritten, IsJoinEachOutcome}
-use Rattle.mseed_join.specs.Reached.{AreLinesRead, AreTold, Stage, parts_at, passed_lines, start}
+use Rattle.mseed_join.specs.Reached.{AreLinesRead, AreReported, Stage, parts_at, passed_lines, start}
 use Rattle.mseed_join.specs.ReadParts.{written_of}
 use Rattle.mseed_join.specs.Written.{Written, Spells}
 use Rattle.mseed_join.specs.private.Along.{HasEnded, IsAlong, IsNextStep, IsStoppedAt}
 use Rattle.mseed_join.specs.private.Bordered.{AreAllEach, IsCutShort, IsEachReading, IsFlushed, MovesOn}
 use Rattle.mseed_join.specs.private.Refused.{refusal}
-use Rattle.mseed_join.proofs.Along.{none_read, none_told}
+use Rattle.mseed_join.proofs.Along.{none_read, none_reported}
 use Rattle.mseed_join.proofs.Bordering.{lines_append}
 
 -- ---- how far was read
@@ -35,7 +35,7 @@ use Rattle.mseed_join.proofs.Bordering.{lines_append}
 pub stopped_by : {A : Type 0} → (past : Bool) (h now : BytesRead) (s : Stage) (r : Reader A) (fault : PartsFault)
     → IsNextStep {A = A} past h s (Err fault) now r → IsStoppedAt h now s
 stopped_by past h now s r (BadLine k) step =
-    record { bytes = step.bytes; told = step.told; count = step.count; before = step.before }
+    record { bytes = step.bytes; reported = step.reported; count = step.count; before = step.before }
 stopped_by past h now s r (Unread fault) step = step.1.stopped
 stopped_by past h now s r NoMemory step = step
 
@@ -44,7 +44,7 @@ pub along_by : {A : Type 0} → (past : Bool) (h now : BytesRead) (s : Stage) (r
     → IsStoppedAt h now s
 along_by past h now s r a = record {
   bytes = a.by.passed ++ r.lines.held;
-  told = a.by.told ∙ append_assoc h.bytes a.by.passed r.lines.held;
+  reported = a.by.reported ∙ append_assoc h.bytes a.by.passed r.lines.held;
   count = r.lines.lines;
   before = record {
     lines = a.by.passed;
@@ -57,18 +57,18 @@ along_by past h now s r a = record {
 
 all_bytes : (h now : BytesRead) (bytes : List ℕ) → h ≡ nothing_read → now.bytes ≡ h.bytes ++ bytes
     → bytes ≡ now.bytes
-all_bytes h now bytes first told = sym (told ∙ ap (λ (k : BytesRead). k.bytes ++ bytes) first)
+all_bytes h now bytes first reported = sym (reported ∙ ap (λ (k : BytesRead). k.bytes ++ bytes) first)
 
-each_to : (past : Bool) (h now : BytesRead) (s : Stage) (found : List Border) (told at : BytesWritten)
+each_to : (past : Bool) (h now : BytesRead) (s : Stage) (found : List Border) (reported at : BytesWritten)
     → h ≡ nothing_read → IsStoppedAt h now s → AreBordersOf past (parts_at s) found
-    → AreTold (passed_lines past (parts_at s)) told at → AreEachTo past now found told at
-each_to past h now s found told at first stop borders are = record {
+    → AreReported (passed_lines past (parts_at s)) reported at → AreEachTo past now found reported at
+each_to past h now s found reported at first stop borders are = record {
   stage = s;
   lines = record {
     count = stop.count;
-    before = subst (λ (b : List ℕ). AreLinesRead b stop.count s) (all_bytes h now stop.bytes first stop.told)
+    before = subst (λ (b : List ℕ). AreLinesRead b stop.count s) (all_bytes h now stop.bytes first stop.reported)
         stop.before;
-    told = are;
+    reported = are;
   };
   borders = borders;
 }
@@ -76,21 +76,21 @@ each_to past h now s found told at first stop borders are = record {
 -- ---- what is gathered
 -- a part of it was written
 part_taken : (first old new : BytesWritten) (text lines : List ℕ) → AreGathered first old text lines
-    → TookPart old new text → TookPart first new lines
-part_taken first old new text lines before took =
-    subst (λ (t : List ℕ). TookPart first new t) (append-nil lines)
+    → EmittedPart old new text → EmittedPart first new lines
+part_taken first old new text lines before emitted =
+    subst (λ (t : List ℕ). EmittedPart first new t) (append-nil lines)
     (part_behind first old new text lines [] before
-    (subst (λ (t : List ℕ). TookPart old new t) (sym (append-nil text)) took))
+    (subst (λ (t : List ℕ). EmittedPart old new t) (sym (append-nil text)) emitted))
 
 -- or of more behind it
 first_taken : (first old new : BytesWritten) (text lines tail : List ℕ) → AreGathered first old text lines
-    → TookFirst old new (text ++ tail) → TookFirst first new (lines ++ tail)
-first_taken first old new text lines tail before took = (
-  length before.taken + took.0,
-  took.1 ∙ ap (λ (t : List ℕ). t ++ take took.0 (text ++ tail)) before.bytes
-      ∙ append_assoc first.bytes before.taken (take took.0 (text ++ tail))
-      ∙ ap (λ (t : List ℕ). first.bytes ++ t) (sym (take-append-add before.taken (text ++ tail) took.0))
-      ∙ ap (λ (t : List ℕ). first.bytes ++ take (length before.taken + took.0) t)
+    → EmittedFirst old new (text ++ tail) → EmittedFirst first new (lines ++ tail)
+first_taken first old new text lines tail before emitted = (
+  length before.taken + emitted.0,
+  emitted.1 ∙ ap (λ (t : List ℕ). t ++ take emitted.0 (text ++ tail)) before.bytes
+      ∙ append_assoc first.bytes before.taken (take emitted.0 (text ++ tail))
+      ∙ ap (λ (t : List ℕ). first.bytes ++ t) (sym (take-append-add before.taken (text ++ tail) emitted.0))
+      ∙ ap (λ (t : List ℕ). first.bytes ++ take (length before.taken + emitted.0) t)
       (behind first old text lines tail before),
 )
 
@@ -120,25 +120,25 @@ moved_on first old new text next found more before m = record {
 
 -- ---- at a fault
 pub fault_each : {A : Type 0} → (past : Bool) (h now : BytesRead) (s : Stage) (r : Reader A) (fault : PartsFault)
-    (result : JoinsFault) (first old new told at : BytesWritten) (text : List ℕ) (found : List Border)
+    (result : JoinsFault) (first old new reported at : BytesWritten) (text : List ℕ) (found : List Border)
     → h ≡ nothing_read → IsNextStep {A = A} past h s (Err fault) now r → AreBordersOf past (parts_at s) found
-    → AreTold (passed_lines past (parts_at s)) told at → AreGathered first old text (border_lines found)
+    → AreReported (passed_lines past (parts_at s)) reported at → AreGathered first old text (border_lines found)
     → old.failures ≡ first.failures → IsFlushed (refusal fault) old new text result
-    → IsJoinEachOutcome past (Err result) now first new told at
-fault_each past h now s r fault result first old new told at text found begin step borders are before same
-    (IsFlushed.short failed took) = (
+    → IsJoinEachOutcome past (Err result) now first new reported at
+fault_each past h now s r fault result first old new reported at text found begin step borders are before same
+    (IsFlushed.short failed emitted) = (
       omega (arith, failed, same),
       inl (
         found,
         (
-          each_to past h now s found told at begin (stopped_by past h now s r fault step) borders are,
-          part_taken first old new text (border_lines found) before took,
+          each_to past h now s found reported at begin (stopped_by past h now s r fault step) borders are,
+          part_taken first old new text (border_lines found) before emitted,
         ),
       ),
     )
-fault_each past h now s r (BadLine k) result first old new told at text found begin step borders are before same
+fault_each past h now s r (BadLine k) result first old new reported at text found begin step borders are before same
     (IsFlushed.all bytes fine) =
-    let all : step.bytes ≡ now.bytes = all_bytes h now step.bytes begin step.told in (
+    let all : step.bytes ≡ now.bytes = all_bytes h now step.bytes begin step.reported in (
       found,
       (
         record {
@@ -148,31 +148,31 @@ fault_each past h now s r (BadLine k) result first old new told at text found be
             behind = step.behind;
             stage = s;
             before = subst (λ (b : List ℕ). AreLinesRead b step.count s) all step.before;
-            told = are;
+            reported = are;
           };
           borders = borders;
         },
         lines_written first old new text found before bytes same fine,
       ),
     )
-fault_each past h now s r (Unread fault) result first old new told at text found begin step borders are before same
+fault_each past h now s r (Unread fault) result first old new reported at text found begin step borders are before same
     (IsFlushed.all bytes fine) = (
       found,
       (
-        each_to past h now s found told at begin step.1.stopped borders are,
+        each_to past h now s found reported at begin step.1.stopped borders are,
         lines_written first old new text found before bytes same fine,
         subst (λ (k : BytesRead). IsStreamFault fault k now) begin step.0,
         subst (λ (b : List ℕ). HasNoBadLine past b)
-            (all_bytes h now step.1.stopped.bytes begin step.1.stopped.told) step.1.none_bad,
+            (all_bytes h now step.1.stopped.bytes begin step.1.stopped.reported) step.1.none_bad,
       ),
     )
-fault_each past h now s r NoMemory result first old new told at text found begin step borders are before same
+fault_each past h now s r NoMemory result first old new reported at text found begin step borders are before same
     (IsFlushed.all bytes fine) = (
       fine ∙ same,
       inl (
         found,
         (
-          each_to past h now s found told at begin step borders are,
+          each_to past h now s found reported at begin step borders are,
           gathered_first first new [] (border_lines found)
               (gathered_written first old new text [] (border_lines found) before bytes refl),
         ),
@@ -180,33 +180,35 @@ fault_each past h now s r NoMemory result first old new told at text found begin
     )
 
 -- no memory, or a failed output, as a line is added
-pub cut_each : (past : Bool) (h now : BytesRead) (s : Stage) (fault : JoinsFault) (first old new told at : BytesWritten)
+pub cut_each : (past : Bool) (h now : BytesRead) (s : Stage) (fault : JoinsFault)
+    (first old new reported at : BytesWritten)
     (text : List ℕ) (found more : List Border) → h ≡ nothing_read → IsStoppedAt h now s
-    → AreBordersOf past (parts_at s) (found ++ more) → AreTold (passed_lines past (parts_at s)) told at
+    → AreBordersOf past (parts_at s) (found ++ more) → AreReported (passed_lines past (parts_at s)) reported at
     → AreGathered first old text (border_lines found) → old.failures ≡ first.failures
     → IsCutShort fault old new (text ++ border_lines more)
-    → IsJoinEachOutcome past (Err fault) now first new told at
-cut_each past h now s (Line k) first old new told at text found more begin stop borders are before same cut = absurd cut
-cut_each past h now s (Stream f) first old new told at text found more begin stop borders are before same cut =
+    → IsJoinEachOutcome past (Err fault) now first new reported at
+cut_each past h now s (Line k) first old new reported at text found more begin stop borders are before same cut =
     absurd cut
-cut_each past h now s Write first old new told at text found more begin stop borders are before same cut = (
+cut_each past h now s (Stream f) first old new reported at text found more begin stop borders are before same cut =
+    absurd cut
+cut_each past h now s Write first old new reported at text found more begin stop borders are before same cut = (
   omega (arith, cut.0, same),
   inl (
     found ++ more,
     (
-      each_to past h now s (found ++ more) told at begin stop borders are,
-      subst (λ (t : List ℕ). TookPart first new t) (sym (lines_append found more))
+      each_to past h now s (found ++ more) reported at begin stop borders are,
+      subst (λ (t : List ℕ). EmittedPart first new t) (sym (lines_append found more))
           (part_behind first old new text (border_lines found) (border_lines more) before cut.1),
     ),
   ),
 )
-cut_each past h now s Memory first old new told at text found more begin stop borders are before same cut = (
+cut_each past h now s Memory first old new reported at text found more begin stop borders are before same cut = (
   cut.0 ∙ same,
   inl (
     found ++ more,
     (
-      each_to past h now s (found ++ more) told at begin stop borders are,
-      subst (λ (t : List ℕ). TookFirst first new t) (sym (lines_append found more))
+      each_to past h now s (found ++ more) reported at begin stop borders are,
+      subst (λ (t : List ℕ). EmittedFirst first new t) (sym (lines_append found more))
           (first_taken first old new text (border_lines found) (border_lines more) before cut.1),
     ),
   ),
@@ -214,21 +216,21 @@ cut_each past h now s Memory first old new told at text found more begin stop bo
 
 -- ---- at the input's end
 pub all_each : {A : Type 0} → (past : Bool) (h now : BytesRead) (s : Stage) (r : Reader A)
-    (first old told at : BytesWritten)
+    (first old reported at : BytesWritten)
     (text : List ℕ) (found : List Border) → h ≡ nothing_read → HasEnded past h now s r
-    → AreBordersOf past (parts_at s) found → AreTold (passed_lines past (parts_at s)) told at
+    → AreBordersOf past (parts_at s) found → AreReported (passed_lines past (parts_at s)) reported at
     → AreGathered first old text (border_lines found) → old.failures ≡ first.failures
-    → AreAllEach past r.joint.so_far now first old told at text
-all_each past h now s r first old told at text found begin e borders are before same = record {
+    → AreAllEach past r.joint.so_far now first old reported at text
+all_each past h now s r first old reported at text found begin e borders are before same = record {
   found = found;
   read = record {
     read = record {
       whole = e.at_end;
       parts = record {
         parts = parts_at s;
-        spells = subst (λ (b : List ℕ). Spells b (parts_at s)) (all_bytes h now e.bytes begin e.told) e.spells;
+        spells = subst (λ (b : List ℕ). Spells b (parts_at s)) (all_bytes h now e.bytes begin e.reported) e.spells;
         is_joint = e.joint;
-        told = are;
+        reported = are;
       };
     };
     borders = borders;
@@ -239,11 +241,11 @@ all_each past h now s r first old told at text found begin e borders are before 
 
 -- the whole text was written
 pub each_written : {A : Type 0} → (past : Bool) (joint : JointPart A) (h : BytesRead) (answer : Answer)
-    (first old new told at : BytesWritten) (text whole slice : List ℕ)
-    → AreAllEach past joint h first old told at text → whole ≡ text ++ join_text (written_of joint) → slice ≡ whole
+    (first old new reported at : BytesWritten) (text whole slice : List ℕ)
+    → AreAllEach past joint h first old reported at text → whole ≡ text ++ join_text (written_of joint) → slice ≡ whole
     → IsAnswer answer (written_of joint) → new.bytes ≡ old.bytes ++ slice → new.failures ≡ old.failures
-    → IsJoinEachOutcome past (Ok answer) h first new told at
-each_written past joint h answer first old new told at text whole slice a e same is bytes fine =
+    → IsJoinEachOutcome past (Ok answer) h first new reported at
+each_written past joint h answer first old new reported at text whole slice a e same is bytes fine =
     let w : Written = written_of joint in
     let tail : List ℕ = join_text w in (
       w,
@@ -266,26 +268,26 @@ each_written past joint h answer first old new told at text whole slice a e same
 
 -- a prefix of it was written, and then the output failed
 pub each_cut_off : {A : Type 0} → (past : Bool) (joint : JointPart A) (h : BytesRead)
-    (first old new told at : BytesWritten) (text whole slice : List ℕ) (n : ℕ)
-    → AreAllEach past joint h first old told at text → whole ≡ text ++ join_text (written_of joint) → slice ≡ whole
+    (first old new reported at : BytesWritten) (text whole slice : List ℕ) (n : ℕ)
+    → AreAllEach past joint h first old reported at text → whole ≡ text ++ join_text (written_of joint) → slice ≡ whole
     → new.bytes ≡ old.bytes ++ take n slice → n < length slice → new.failures ≡ old.failures + 1
-    → IsJoinEachOutcome past (Err Write) h first new told at
-each_cut_off past joint h first old new told at text whole slice n a e same bytes within failed =
+    → IsJoinEachOutcome past (Err Write) h first new reported at
+each_cut_off past joint h first old new reported at text whole slice n a e same bytes within failed =
     let w : Written = written_of joint in
-    let took : TookPart old new (text ++ join_text w) =
-    subst (λ (t : List ℕ). TookPart old new t) (same ∙ e) (n, (within, bytes)) in (
+    let emitted : EmittedPart old new (text ++ join_text w) =
+    subst (λ (t : List ℕ). EmittedPart old new t) (same ∙ e) (n, (within, bytes)) in (
       omega (arith, failed, a.fine),
       inr (
         w,
-        (a.found, (a.read, part_behind first old new text (border_lines a.found) (join_text w) a.gathered took)),
+        (a.found, (a.read, part_behind first old new text (border_lines a.found) (join_text w) a.gathered emitted)),
       ),
     )
 
 -- no memory for it
 pub each_no_memory : {A : Type 0} → (past : Bool) (joint : JointPart A) (h : BytesRead)
-    (first old told at : BytesWritten) (text : List ℕ) → AreAllEach past joint h first old told at text
-    → IsJoinEachOutcome past (Err Memory) h first old told at
-each_no_memory past joint h first old told at text a =
+    (first old reported at : BytesWritten) (text : List ℕ) → AreAllEach past joint h first old reported at text
+    → IsJoinEachOutcome past (Err Memory) h first old reported at
+each_no_memory past joint h first old reported at text a =
     let w : Written = written_of joint in (
       a.fine,
       inr (
@@ -302,23 +304,24 @@ each_no_memory past joint h first old told at text a =
     )
 
 -- ---- at the beginning, and where a step fails
-pub nothing_each : (past : Bool) (h : BytesRead) (first told : BytesWritten) → h ≡ nothing_read
-    → IsJoinEachOutcome past (Err Memory) h first first told told
-nothing_each past h first told begin = (
+pub nothing_each : (past : Bool) (h : BytesRead) (first reported : BytesWritten) → h ≡ nothing_read
+    → IsJoinEachOutcome past (Err Memory) h first first reported reported
+nothing_each past h first reported begin = (
   refl,
   inl (
     [],
     (
-      each_to past h h start [] told told begin (none_read h) (AreBorders.none []) (none_told past told),
+      each_to past h h start [] reported reported begin (none_read h) (AreBorders.none [])
+          (none_reported past reported),
       (0, sym (append-nil first.bytes)),
     ),
   ),
 )
 
 pub err_each : {A : Type 0} → (r : Result (JointPart A) JoinsFault) (Q : JoinsFault → Type 0) (fault : JoinsFault)
-    (past : Bool) (h : BytesRead) (first new told at : BytesWritten) (text : List ℕ) → IsErrAnd r Q
-    → ((e : JoinsFault) → Q e → e ≡ fault) → IsJoinEachOutcome past (Err fault) h first new told at
-    → IsEachReading r past h first new told at text
-err_each (Ok joint) Q fault past h first new told at text is q short = absurd is
-err_each (Err e) Q fault past h first new told at text is q short =
-    subst (λ (x : JoinsFault). IsJoinEachOutcome past (Err x) h first new told at) (sym (q e is)) short
+    (past : Bool) (h : BytesRead) (first new reported at : BytesWritten) (text : List ℕ) → IsErrAnd r Q
+    → ((e : JoinsFault) → Q e → e ≡ fault) → IsJoinEachOutcome past (Err fault) h first new reported at
+    → IsEachReading r past h first new reported at text
+err_each (Ok joint) Q fault past h first new reported at text is q short = absurd is
+err_each (Err e) Q fault past h first new reported at text is q short =
+    subst (λ (x : JoinsFault). IsJoinEachOutcome past (Err x) h first new reported at) (sym (q e is)) short

@@ -40,7 +40,7 @@ use Rattle.mseed_join.specs.Lines.{HasFinding, HasFindings, HasFrameFault, IsFau
 use Rattle.mseed_join.specs.Lines.{faults, fault, text_of_line, IsLine}
 use Rattle.mseed_join.proofs.Backwards.{instant_within}
 use Rattle.mseed_join.proofs.Digits.{IsWithin}
-use Rattle.mseed_join.proofs.Fronts.{fault_words, fault_of}
+use Rattle.mseed_join.proofs.Prefixes.{fault_words, fault_of}
 
 -- no LF is among them
 abbrev pub plain : List ℕ → Bool

@@ -23,7 +23,7 @@ use Rattle.mseed_steim.specs.declared.form.Form.{Form}
 use Rattle.mseed_steim.specs.declared.form.Form.TheVariants.{Integers, Frames}
 use Rattle.mseed_steim.specs.declared.fault.ReadFault.{ReadFault}
 use Rattle.mseed_steim.proofs.Framed.{constant_fits}
-use Rattle.mseed_stream.proofs.Ahead.{record_few}
+use Rattle.mseed_stream.proofs.Passed.{record_few}
 use Rattle.mseed_stream.proofs.Records.{view_record}
 use Rattle.mseed_audit.specs.declared.finding.Why.{Why}
 use Rattle.mseed_audit.specs.declared.finding.Why.TheVariants.{RateChange}

@@ -97,10 +97,10 @@ byte_spelled (h ∷ l ∷ rest) x e = by (nibble_of h) refl (nibble_of l) refl e
     by (Some high) k (Some low) m given =
         let p : IsNibble h high = nibble_spelled h high k in
         let q : IsNibble l low = nibble_spelled l low m in
-        let front : (16 * high + low) / 16 ≡ high = omega (arith, q.small) in
+        let leading : (16 * high + low) / 16 ≡ high = omega (arith, q.small) in
         let back : (16 * high + low) % 16 ≡ low = omega (arith, q.small) in
         subst (λ (y : ℕ × List ℕ). IsByte (h ∷ l ∷ rest) y) (some_is (16 * high + low, rest) x given) (record {
-          is = (λ i. p.is i ∷ q.is i ∷ rest) ∙ (λ i. hex_digit (sym front i) ∷ hex_digit (sym back i) ∷ rest);
+          is = (λ i. p.is i ∷ q.is i ∷ rest) ∙ (λ i. hex_digit (sym leading i) ∷ hex_digit (sym back i) ∷ rest);
           small = omega (arith, p.small, q.small);
         })
 

@@ -12,7 +12,7 @@ pub mod Each
 pub mod Ended
 pub mod Faults
 pub mod Fitting
-pub mod Fronts
+pub mod Prefixes
 pub mod Keys
 pub mod LineEnds
 pub mod Lined

@@ -44,8 +44,8 @@ held_parts items begin size end =
 pub grows_not : (h : BytesRead) (left : Option (List ℕ)) (r : LinesRead) → Grows h h left left r r
 grows_not h left r = record {
   more = [];
-  asked = 0;
-  told = sym (append-nil h.bytes);
+  called = 0;
+  reported = sym (append-nil h.bytes);
   known = Consumes-nil left;
   held = sym (append-nil r.held);
   lines = refl;
@@ -58,8 +58,9 @@ pub grows_on : (a b c : BytesRead) (x y z : Option (List ℕ)) (r s t : LinesRea
     → Grows b c y z s t → Grows a c x z r t
 grows_on a b c x y z r s t first then = record {
   more = first.more ++ then.more;
-  asked = first.asked + then.asked;
-  told = then.told ∙ (ap (λ (xs : List ℕ). xs ++ then.more) first.told ∙ append_assoc a.bytes first.more then.more);
+  called = first.called + then.called;
+  reported = then.reported ∙ (ap (λ (xs : List ℕ). xs ++ then.more) first.reported
+      ∙ append_assoc a.bytes first.more then.more);
   known = Consumes-trans x y z first.more then.more first.known then.known;
   held = then.held ∙ (ap (λ (xs : List ℕ). xs ++ then.more) first.held ∙ append_assoc r.held first.more then.more);
   lines = then.lines ∙ first.lines;
@@ -75,8 +76,8 @@ grows_seen a b x y r s t n same grows =
     let seen : LinesRead = record s { size = n } in
     let it : Grows a b x y r seen = record {
       more = grows.more;
-      asked = grows.asked;
-      told = grows.told;
+      called = grows.called;
+      reported = grows.reported;
       known = grows.known;
       held = grows.held;
       lines = grows.lines;
@@ -90,7 +91,7 @@ pub read_by_more : (start old new : BytesRead) (left rest : Option (List ℕ)) (
     → Grows old new left rest r after → IsReadBy start old r → IsReadBy start new after
 read_by_more start old new left rest r after grows is = record {
   passed = is.passed;
-  told = grows.told ∙ (ap (λ (xs : List ℕ). xs ++ grows.more) is.told
+  reported = grows.reported ∙ (ap (λ (xs : List ℕ). xs ++ grows.more) is.reported
       ∙ (append_assoc (start.bytes ++ is.passed) r.held grows.more
       ∙ ap (λ (xs : List ℕ). start.bytes ++ is.passed ++ xs) (sym grows.held)));
   lines = subst (λ (n : ℕ). AreLines is.passed n) (sym grows.lines) is.lines;
@@ -115,7 +116,7 @@ read_by_passed start now r after ahead held lines bytes reads is =
     (lines_more body ahead.line.1 is.passed r.lines is.lines) in
     record {
       passed = is.passed ++ line;
-      told = is.told ∙ (ap (λ (xs : List ℕ). start.bytes ++ is.passed ++ xs) held
+      reported = is.reported ∙ (ap (λ (xs : List ℕ). start.bytes ++ is.passed ++ xs) held
           ∙ (sym (append_assoc (start.bytes ++ is.passed) line after.held)
           ∙ ap (λ (xs : List ℕ). xs ++ after.held) (append_assoc start.bytes is.passed line)));
       lines = subst (λ (n : ℕ). AreLines (is.passed ++ line) n) (sym lines) more;
@@ -134,22 +135,22 @@ or_true : (b : Bool) → (b || true) ≡ true
 or_true true = refl
 or_true false = refl
 
--- nothing told, where there was room, is the end
-pub told_end : (b : Bool) (n : ℕ) (bytes : List ℕ) → n ≡ 0 → 0 < length bytes
+-- nothing read, where there was room, is the end
+pub reported_end : (b : Bool) (n : ℕ) (bytes : List ℕ) → n ≡ 0 → 0 < length bytes
     → (b || ((n == 0) && not (length bytes == 0))) ≡ true
-told_end b n bytes zero some = elim (eqb_tells (length bytes) 0) [
+reported_end b n bytes zero some = elim (eqb_tells (length bytes) 0) [
   | inl same ↦ absurd (omega (arith, same.1, some))
   | inr other ↦ subst (λ (k : ℕ). (b || ((k == 0) && not (length bytes == 0))) ≡ true) (sym zero)
       (subst (λ (t : Bool). (b || (true && not t)) ≡ true) (sym other.0) (or_true b))
 ]
 
--- what holds of a source that wasn't asked holds still, and one that was asked told no end
+-- what holds of a source that wasn't called holds still, and one that was called gave no end
 pub not_at_end : (old new : BytesRead) (r after : LinesRead) (left rest : Option (List ℕ))
     → Grows old new left rest r after → (after.reads ≡ r.reads → new ≡ old)
     → (r.reads < after.reads → new.is_at_end ≡ false) → (0 < r.reads → old.is_at_end ≡ false)
     → 0 < after.reads → new.is_at_end ≡ false
 not_at_end old new r after left rest grows still going before some =
-    ⊎_elim (λ (asked : r.reads < after.reads). going asked)
+    ⊎_elim (λ (called : r.reads < after.reads). going called)
     (λ (none : after.reads ≤ r.reads).
     let same : after.reads ≡ r.reads = omega (arith, none, grows.reads) in
     ap (λ (h : BytesRead). h.is_at_end) (still same) ∙ before (omega (arith, same, some)))
@@ -159,7 +160,7 @@ pub no_end_yet : (old new : BytesRead) (r after : LinesRead) (left rest : Option
     → Grows old new left rest r after → (after.reads ≡ r.reads → new ≡ old)
     → (r.reads < after.reads → new.is_at_end ≡ false) → old.is_at_end ≡ false → new.is_at_end ≡ false
 no_end_yet old new r after left rest grows still going before =
-    ⊎_elim (λ (asked : r.reads < after.reads). going asked)
+    ⊎_elim (λ (called : r.reads < after.reads). going called)
     (λ (none : after.reads ≤ r.reads).
     let same : after.reads ≡ r.reads = omega (arith, none, grows.reads) in
     ap (λ (h : BytesRead). h.is_at_end) (still same) ∙ before)
@@ -200,16 +201,16 @@ pub fault_since : (e : StreamFault) (start old new : BytesRead) (r after : Lines
 fault_since (Frame n f) start old new r after fault is fine going same = fault
 fault_since (Truncated n have) start old new r after fault is fine going same = fault
 fault_since (Read n) start old new r after fault is fine going same =
-    let told : length new.bytes ≡ length (start.bytes ++ is.passed) + length after.held =
-    ap (λ (xs : List ℕ). length xs) is.told ∙ length-append (start.bytes ++ is.passed) after.held in (
-      omega (arith, told, length-append start.bytes is.passed, is.bytes, fault.0),
+    let reported : length new.bytes ≡ length (start.bytes ++ is.passed) + length after.held =
+    ap (λ (xs : List ℕ). length xs) is.reported ∙ length-append (start.bytes ++ is.passed) after.held in (
+      omega (arith, reported, length-append start.bytes is.passed, is.bytes, fault.0),
       omega (arith, fault.1, fine),
       fault.2,
     )
 fault_since (Turns n) start old new r after fault is fine going same =
-    let told : length new.bytes ≡ length (start.bytes ++ is.passed) + length after.held =
-    ap (λ (xs : List ℕ). length xs) is.told ∙ length-append (start.bytes ++ is.passed) after.held in (
-      omega (arith, told, length-append start.bytes is.passed, is.bytes, fault.0),
+    let reported : length new.bytes ≡ length (start.bytes ++ is.passed) + length after.held =
+    ap (λ (xs : List ℕ). length xs) is.reported ∙ length-append (start.bytes ++ is.passed) after.held in (
+      omega (arith, reported, length-append start.bytes is.passed, is.bytes, fault.0),
       ap (λ (h : BytesRead). h.failures) fault.2 ∙ fine,
       omega (arith, is.calls, fault.1),
       ap (λ (h : BytesRead). h.is_at_end) fault.2 ∙ going (omega (arith, same fault.2, fault.1)),

@@ -84,7 +84,7 @@ at_1000_more prefix more o f h d =
     subst (λ (n : ℕ). cond (not (nat_le 7 n && nat_le n 20)) (Not (Length n)) (cond (ltb (2 ^ n) (o + 8)) (Not Outside)
     (cond (ltb (length all) (2 ^ n)) (Need (2 ^ n)) (Record (2 ^ n)))) ≡ Not f) (sym same) moved
 
--- where the steps stand: nothing that is missing is asked for
+-- where the steps stand: nothing that is missing is requested
 by_offset : (none back four other eight far off wide : Bool) (k n : ℕ) (x y : Scan) (f : FrameFault)
     → (four ≡ false → far ≡ false) → (four ≡ false → off ≡ other) → (eight ≡ false → wide ≡ false)
     → (eight ≡ false → x ≡ Not f → y ≡ Not f)

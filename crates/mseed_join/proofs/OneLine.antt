@@ -10,7 +10,7 @@ use Rattle.mseed_join.specs.Lines.{fault}
 use Rattle.mseed_join.specs.Lines.{text_of_line, IsLine}
 use Rattle.mseed_join.specs.private.Reading.{◌>>=◌, behind_at, channel_at, counts_at, faults_at, fault_at}
 use Rattle.mseed_join.proofs.Digits.{some_is}
-use Rattle.mseed_join.proofs.Fronts.{fault_words, fault_then, fault_of}
+use Rattle.mseed_join.proofs.Prefixes.{fault_words, fault_then, fault_of}
 use Rattle.mseed_join.proofs.Backwards.{count_back, channel_back, counts_back, faults_back, fault_back}
 
 -- a line of any kind

@@ -112,10 +112,10 @@ channels_one (c ∷ cs) (d ∷ ds) records held count size xs ys e =
       rest = more.rest;
     }
 
--- a part in front, and what stands behind it
-part_front : (w : Written) (ws : List Written) → all_rows (w ∷ ws)
+-- a part before it, and what stands behind it
+part_leading : (w : Written) (ws : List Written) → all_rows (w ∷ ws)
     ≡ header ∷ (rows w.part.channels ++ counts w.part.records w.part.bytes ∷ behind w.faults w.part.bytes w.end ws)
-part_front w ws =
+part_leading w ws =
     joined (rows w.part.channels) (counts w.part.records w.part.bytes) (faults_row w.faults)
     (end_row w.part.bytes w.end) (all_rows ws)
   where
@@ -140,7 +140,7 @@ parts_one (w ∷ ws) (v ∷ vs) e =
     rows w.part.channels ++ counts w.part.records w.part.bytes ∷ behind w.faults w.part.bytes w.end ws in
     let b : List Line =
     rows v.part.channels ++ counts v.part.records v.part.bytes ∷ behind v.faults v.part.bytes v.end vs in
-    let whole : header ∷ a ≡ header ∷ b = sym (part_front w ws) ∙ e ∙ part_front v vs in
+    let whole : header ∷ a ≡ header ∷ b = sym (part_leading w ws) ∙ e ∙ part_leading v vs in
     let tails : a ≡ b = cc whole in
     let first = channels_one w.part.channels v.part.channels w.part.records w.part.bytes v.part.records v.part.bytes
     (behind w.faults w.part.bytes w.end ws) (behind v.faults v.part.bytes v.end vs) tails in

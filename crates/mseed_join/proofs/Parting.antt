@@ -13,15 +13,15 @@ use Rattle.mseed_audit.specs.Audit.{AreChannels, Held}
 use Rattle.mseed_audit.specs.Channels.{added_from}
 use Rattle.mseed_audit.specs.Each.{AreGathered}
 use Rattle.mseed_audit.specs.Summary.{IsGathered, broken_count}
-use Rattle.mseed_audit.specs.Text.{told_lines}
-use Rattle.mseed_audit.specs.Told.{Told, AreToldOf}
+use Rattle.mseed_audit.specs.Text.{reported_lines}
+use Rattle.mseed_audit.specs.Reported.{Reported, AreReportedOf}
 use Rattle.mseed_audit.specs.Verdict.{AreVerdicts}
 use Rattle.mseed_audit.proofs.Gathers.{behind, part_behind}
 use Rattle.mseed_audit.proofs.Outcomes.{added_length}
 use Rattle.mseed_audit.proofs.OneAudit.{HasOneInput}
 use Rattle.mseed_parts.specs.Parts.{Held as Part, IsPartOf, bytes_in}
-use Rattle.mseed_join.specs.AuditPart.{AuditedPart, IsPartCutOff, IsPartEachOutcome, IsPartWritten, IsToldWritten}
-use Rattle.mseed_join.specs.AuditPart.{ToldPart}
+use Rattle.mseed_join.specs.AuditPart.{AuditedPart, IsPartCutOff, IsPartEachOutcome, IsPartWritten, IsReportedWritten}
+use Rattle.mseed_join.specs.AuditPart.{ReportedPart}
 use Rattle.mseed_join.specs.Joined.{verdict_at}
 use Rattle.mseed_join.specs.Written.{Written, part_text}
 use Rattle.mseed_join.specs.private.Parted.{IsPushed}
@@ -119,45 +119,48 @@ part_cut_off s taken views start next text old new p empty same bytes part faile
     )
 
 -- ---- with lines before it
-abbrev pub told_part : {h : BytesRead} (s : Summary) (views : List View) (text next : List ℕ) (told : List Told)
-    → IsPushed s h views text next → AreToldOf (added_from 0 views) told → ToldPart h
-told_part s views text next told p are = record {
+abbrev pub reported_part : {h : BytesRead} (s : Summary) (views : List View) (text next : List ℕ)
+    (reported : List Reported)
+    → IsPushed s h views text next → AreReportedOf (added_from 0 views) reported → ReportedPart h
+reported_part s views text next reported p are = record {
   parted = p.parted;
-  told = told;
-  are_told = subst (λ (vs : List View). AreToldOf (added_from 0 vs) told) (sym p.views_are) are;
+  reported = reported;
+  are_reported = subst (λ (vs : List View). AreReportedOf (added_from 0 vs) reported) (sym p.views_are) are;
 }
 
-pub told_written : {h : BytesRead} (s : Summary) (views : List View) (text next taken : List ℕ) (told : List Told)
-    (first old new : BytesWritten) → IsPushed s h views text next → AreToldOf (added_from 0 views) told
-    → AreGathered first old text (told_lines told) → taken ≡ next → new.bytes ≡ old.bytes ++ taken
+pub reported_written : {h : BytesRead} (s : Summary) (views : List View) (text next taken : List ℕ)
+    (reported : List Reported)
+    (first old new : BytesWritten) → IsPushed s h views text next → AreReportedOf (added_from 0 views) reported
+    → AreGathered first old text (reported_lines reported) → taken ≡ next → new.bytes ≡ old.bytes ++ taken
     → old.failures ≡ first.failures → new.failures ≡ old.failures
-    → (a : ToldPart h) × IsToldWritten s a first new
-told_written s views text next taken told first old new p are before same bytes same_failures fine =
+    → (a : ReportedPart h) × IsReportedWritten s a first new
+reported_written s views text next taken reported first old new p are before same bytes same_failures fine =
     let tail : List ℕ = part_text p.parted.written in (
-      told_part s views text next told p are,
+      reported_part s views text next reported p are,
       record {
         summary = p.summary;
         text = bytes ∙ ap (λ (xs : List ℕ). old.bytes ++ xs) (same ∙ p.text_is)
             ∙ ap (λ (xs : List ℕ). xs ++ (text ++ tail)) before.bytes
             ∙ append_assoc first.bytes before.taken (text ++ tail)
-            ∙ ap (λ (xs : List ℕ). first.bytes ++ xs) (behind first old text (told_lines told) tail before);
+            ∙ ap (λ (xs : List ℕ). first.bytes ++ xs) (behind first old text (reported_lines reported) tail before);
         fine = fine ∙ same_failures;
       },
     )
 
 -- or a prefix of both
-pub told_cut_off : {h : BytesRead} (s : Summary) (count : ℕ) (views : List View) (text next taken : List ℕ)
-    (told : List Told) (first old new : BytesWritten) → IsPushed s h views text next
-    → AreToldOf (added_from 0 views) told → AreGathered first old text (told_lines told) → taken ≡ next
+pub reported_cut_off : {h : BytesRead} (s : Summary) (count : ℕ) (views : List View) (text next taken : List ℕ)
+    (reported : List Reported) (first old new : BytesWritten) → IsPushed s h views text next
+    → AreReportedOf (added_from 0 views) reported → AreGathered first old text (reported_lines reported) → taken ≡ next
     → new.bytes ≡ old.bytes ++ take count taken → count < length taken → old.failures ≡ first.failures
     → new.failures ≡ old.failures + 1 → IsPartEachOutcome (Err Write) h first new
-told_cut_off s count views text next taken told first old new p are before same bytes part same_failures failed =
+reported_cut_off s count views text next taken reported first old new p are before same bytes part same_failures
+    failed =
     let tail : List ℕ = part_text p.parted.written in
     let is : taken ≡ text ++ tail = same ∙ p.text_is in (
       omega (arith, same_failures, failed),
       inr (
-        told_part s views text next told p are,
-        part_behind first old new text (told_lines told) tail before (
+        reported_part s views text next reported p are,
+        part_behind first old new text (reported_lines reported) tail before (
           count,
           (
             subst (λ (xs : List ℕ). count < length xs) is part,

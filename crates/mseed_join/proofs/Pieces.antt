@@ -158,11 +158,11 @@ is_part add_up only archive ws joint h a parted joined read by =
     let end : joint.end ≡ a.written.end = both.1 ∙ sym a.end in
     λ i. record { part = same i; faults = faults i; end = end i }
 
--- what a source told that is known to have left an archive was read of it
-read_by : (archive : List ℕ) (h : BytesRead) (told : List ℕ) (left : Option (List ℕ)) → h.bytes ≡ told
-    → Consumes (Some archive) left told → (h.is_at_end ≡ true → IsAtEnd left) → IsReadOf archive h
-read_by archive h told None same takes done = absurd takes
-read_by archive h told (Some rest) same takes done = record {
+-- what a source gave that is known to have left an archive was read of it
+read_by : (archive : List ℕ) (h : BytesRead) (reported : List ℕ) (left : Option (List ℕ)) → h.bytes ≡ reported
+    → Consumes (Some archive) left reported → (h.is_at_end ≡ true → IsAtEnd left) → IsReadOf archive h
+read_by archive h reported None same takes done = absurd takes
+read_by archive h reported (Some rest) same takes done = record {
   rest = rest;
   bytes = takes ∙ ap (λ (xs : List ℕ). xs ++ rest) (sym same);
   all = done;
@@ -170,4 +170,4 @@ read_by archive h told (Some rest) same takes done = record {
 
 pub read_of : (archive : List ℕ) (h : BytesRead) (left : Option (List ℕ))
     → TellsMore nothing_read h (Some archive) left → (h.is_at_end ≡ true → IsAtEnd left) → IsReadOf archive h
-read_of archive h left told done = read_by archive h told.0 left told.1 told.2 done
+read_of archive h left reported done = read_by archive h reported.0 left reported.1 reported.2 done

@@ -24,7 +24,7 @@ use Rattle.mseed_record.specs.declared.frame.FrameFault.{FrameFault}
 use Rattle.mseed_record.specs.declared.frame.FrameFault.TheVariants.{Chain, Length, No1000, Outside}
 use Rattle.mseed_record.specs.declared.frame.Scan.{Scan}
 use Rattle.mseed_record.specs.declared.frame.Scan.TheVariants.{Need, Record, Not}
-use Rattle.mseed_record.proofs.Asked.{record_long}
+use Rattle.mseed_record.proofs.Called.{record_long}
 use Rattle.mseed_steim.specs.Reading.{count_of}
 use Rattle.mseed_stream.specs.Archive.{IsEndOf, is_truncated, truncated}
 use Rattle.mseed_stream.specs.Cutting.{read_from}

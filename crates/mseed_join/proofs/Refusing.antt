@@ -9,13 +9,14 @@ use Rattle.mseed_join.specs.ReadParts.{AreBadParts, IsReadOutcome}
 use Rattle.mseed_join.specs.private.Refused.{refusal}
 
 pub refused_so : (A : Type 0) (form : Form) (past : Bool) (fault : PartsFault) (start h : BytesRead)
-    (old told now : BytesWritten) → start ≡ nothing_read → IsReadOutcome {A = A} (Err fault) past start h told now
-    → IsJoinOutcome form past (Err (refusal fault)) h old old told now
-refused_so A form past fault start h old told now begin outcome =
-    by fault (subst (λ (s : BytesRead). IsReadOutcome {A = A} (Err fault) past s h told now) begin outcome)
+    (old reported now : BytesWritten) → start ≡ nothing_read
+    → IsReadOutcome {A = A} (Err fault) past start h reported now
+    → IsJoinOutcome form past (Err (refusal fault)) h old old reported now
+refused_so A form past fault start h old reported now begin outcome =
+    by fault (subst (λ (s : BytesRead). IsReadOutcome {A = A} (Err fault) past s h reported now) begin outcome)
   where
-    by : (f : PartsFault) → IsReadOutcome {A = A} (Err f) past nothing_read h told now
-        → IsJoinOutcome form past (Err (refusal f)) h old old told now
-    by (Line k) o = (refl, subst (λ (b : List ℕ). AreBadParts past b h.is_at_end k told now) (sym o.1.0) o.1.1)
+    by : (f : PartsFault) → IsReadOutcome {A = A} (Err f) past nothing_read h reported now
+        → IsJoinOutcome form past (Err (refusal f)) h old old reported now
+    by (Line k) o = (refl, subst (λ (b : List ℕ). AreBadParts past b h.is_at_end k reported now) (sym o.1.0) o.1.1)
     by (Stream f) o = (refl, o.0, o.1)
     by Memory o = (refl, inl o)

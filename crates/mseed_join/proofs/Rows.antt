@@ -23,7 +23,7 @@ use Rattle.mseed_join.specs.declared.joint.LineFault.{LineFault}
 use Rattle.mseed_join.specs.declared.joint.LineFault.TheVariants.{Bad, Memory}
 use Rattle.mseed_join.specs.declared.joint.Place.{Place}
 use Rattle.mseed_join.specs.declared.joint.Place.TheVariants.{Start, Channels, Whole}
-use Rattle.mseed_join.specs.declared.joint.Told.{Told}
+use Rattle.mseed_join.specs.declared.joint.Reported.{Reported}
 use Rattle.mseed_join.specs.private.Steps.{May, to}
 use Rattle.mseed_join.specs.private.Taking.{IsBehindKey, IsLastKey, IsLineStep, IsPlace, IsReadTo, IsStep, IsTaken}
 use Rattle.mseed_join.proofs.Ahead.{IsNextLine, next_line}
@@ -81,10 +81,10 @@ out_of_order (Some last) cs key c l s =
     two_last l.0 (last, l.1) (key, c) (subst (λ (es : Entries). IsAscending (es ++ (key, c) ∷ [])) l.2 s)
 
 -- ---- a step, by its line
-pub step_line : {A : Type 0} → (lines : List ℕ) (s : Stage) (x : Line) (line : List ℕ) (r : Result Told LineFault)
+pub step_line : {A : Type 0} → (lines : List ℕ) (s : Stage) (x : Line) (line : List ℕ) (r : Result Reported LineFault)
     (old new : Joint A) → line ≡ text_of_line x → IsStep lines s x r old new → IsLineStep lines s line r old new
-step_line lines s x line (Ok told) old new e h =
-    (to s x, subst (λ (t : List ℕ). IsTaken lines t s (to s x) told old new) (sym e) h)
+step_line lines s x line (Ok reported) old new e h =
+    (to s x, subst (λ (t : List ℕ). IsTaken lines t s (to s x) reported old new) (sym e) h)
 step_line lines s x line (Err Bad) old new e h = λ b. h (subst (λ (t : List ℕ). Begins old.past (lines ++ t)) e b)
 step_line lines s x line (Err Memory) old new e h = tt
 
@@ -116,7 +116,7 @@ counts_may last (begun cs) n l p = tt
 counts_may last (whole w) n l p = absurd p
 
 pub row_taken : {A : Type 0} → (old new : Joint A) (last : Option (List ℕ)) (line : List ℕ) (key : List ℕ)
-    (c : Channel) (r : Result Told LineFault) → old.place ≡ Channels last → line ≡ channel_line key c
+    (c : Channel) (r : Result Reported LineFault) → old.place ≡ Channels last → line ≡ channel_line key c
     → HasChannelLine key c → IsBehindKey last key
     → ((lines : List ℕ) (s : Stage) → IsReadTo lines s old → IsLine (channel key c) → May s.behind (channel key c)
     → IsStep lines s (channel key c) r old new)
@@ -135,7 +135,7 @@ row_refused old last line key c at is fits never lines s q b =
     never (channel_must last s.behind key c (row_place old last s.behind at q.place) h.may)
 
 pub row_counted : {A : Type 0} → (old new : Joint A) (last : Option (List ℕ)) (line : List ℕ) (n l : ℕ)
-    (r : Result Told LineFault) → old.place ≡ Channels last → line ≡ counts_line n l → HasCountsLine n l
+    (r : Result Reported LineFault) → old.place ≡ Channels last → line ≡ counts_line n l → HasCountsLine n l
     → ((lines : List ℕ) (s : Stage) → IsReadTo lines s old → IsLine (counts n l) → May s.behind (counts n l)
     → IsStep lines s (counts n l) r old new)
     → (lines : List ℕ) (s : Stage) → IsReadTo lines s old → IsLineStep lines s line r old new
@@ -179,7 +179,7 @@ faults_may l (begun cs) n p = absurd p
 faults_may l (whole w) n p = p.1
 
 pub ending_fault : {A : Type 0} → (old new : Joint A) (l : ℕ) (has : Bool) (line : List ℕ) (f : StreamFault)
-    (r : Result Told LineFault) → old.place ≡ Whole l has → line ≡ fault_line f → HasFaultLine l f
+    (r : Result Reported LineFault) → old.place ≡ Whole l has → line ≡ fault_line f → HasFaultLine l f
     → ((lines : List ℕ) (s : Stage) → IsReadTo lines s old → IsLine (fault l f) → May s.behind (fault l f)
     → IsStep lines s (fault l f) r old new)
     → (lines : List ℕ) (s : Stage) → IsReadTo lines s old → IsLineStep lines s line r old new
@@ -188,7 +188,7 @@ ending_fault old new l has line f r at is fits step lines s q =
     (fault_may l has s.behind f (whole_place old l has s.behind at q.place)))
 
 pub ending_faults : {A : Type 0} → (old new : Joint A) (l : ℕ) (line : List ℕ) (n : ℕ)
-    (r : Result Told LineFault) → old.place ≡ Whole l false → line ≡ faults_line n → HasFaultsLine n
+    (r : Result Reported LineFault) → old.place ≡ Whole l false → line ≡ faults_line n → HasFaultsLine n
     → ((lines : List ℕ) (s : Stage) → IsReadTo lines s old → IsLine (faults n) → May s.behind (faults n)
     → IsStep lines s (faults n) r old new)
     → (lines : List ℕ) (s : Stage) → IsReadTo lines s old → IsLineStep lines s line r old new
@@ -236,17 +236,17 @@ no_ending (Whole k false) line (whole w) (fault l x) p i e m f o =
 no_ending (Whole k true) line (whole w) (fault l x) p i e m f o =
     o x (subst (λ (n : ℕ). HasFaultLine n x) (sym (p.0 ∙ m)) i) (sym e)
 
-abbrev pub IsHeaderStep : {A : Type 0} → Result Told LineFault → Joint A → Joint A → Type 0
+abbrev pub IsHeaderStep : {A : Type 0} → Result Reported LineFault → Joint A → Joint A → Type 0
 IsHeaderStep r old new = (lines : List ℕ) (s : Stage) → IsReadTo lines s old → May s.behind header
     → OnOk r (IsStep lines s header r old new)
 
-pub header_or_none : {A : Type 0} → (old new : Joint A) (place : Place) (line : List ℕ) (r : Result Told LineFault)
+pub header_or_none : {A : Type 0} → (old new : Joint A) (place : Place) (line : List ℕ) (r : Result Reported LineFault)
     → old.place ≡ place → ((last : Option (List ℕ)) → place ≡ Channels last → ⊥) → IsEndedLine line
     → IsHeaderStep r old new → OnOk r (line ≡ header_line)
     → IfErr r (λ e. (e ≡ Bad) × (line ≢ header_line)) → IsNoOther place line
     → (lines : List ℕ) (s : Stage) → IsReadTo lines s old → IsLineStep lines s line r old new
-header_or_none old new place line (Ok told) at never ends step is bad other lines s q =
-    step_line lines s header line (Ok told) old new is (step lines s q
+header_or_none old new place line (Ok reported) at never ends step is bad other lines s q =
+    step_line lines s header line (Ok reported) old new is (step lines s q
     (header_may place s.behind (subst (λ (p : Place). IsPlace p s.behind) at q.place) never))
 header_or_none old new place line (Err Bad) at never ends step is bad other lines s q = λ b.
     let n : IsNextLine old.past s line = next_line old.past s lines ends.0 line q.stage ends.1 ends.2 b in

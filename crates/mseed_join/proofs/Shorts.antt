@@ -36,7 +36,7 @@ use Rattle.mseed_join.specs.Lines.{HasFindings, HasFrameFault, IsFaultBehind, Li
 use Rattle.mseed_join.specs.Lines.{fault, text_of_line, IsLine}
 use Rattle.mseed_join.proofs.Digits.{IsWithin}
 use Rattle.mseed_join.proofs.Backwards.{instant_within}
-use Rattle.mseed_join.proofs.Fronts.{fault_words, fault_of}
+use Rattle.mseed_join.proofs.Prefixes.{fault_words, fault_of}
 
 -- lists one behind another
 two : (a b : List ℕ) (m n : ℕ) → length a ≤ m → length b ≤ n → length (a ++ b) ≤ m + n

@@ -44,10 +44,11 @@ use Rattle.mseed_join.specs.private.Reading.{timed_at, why_at, first_at, counted
 use Rattle.mseed_join.specs.private.Reading.{channel_at, counts_at, faults_at, frame_fault_at, stream_fault_at}
 use Rattle.mseed_join.specs.private.Reading.{fault_at}
 use Rattle.mseed_join.proofs.Digits.{some_is, word_behind, IsNumber, number_behind, IsWithin, IsInteger, integer_behind}
-use Rattle.mseed_join.proofs.Fronts.{ratio_then, head_then, head_front, tail_then, tail_front, first_then}
-use Rattle.mseed_join.proofs.Fronts.{findings_then}
-use Rattle.mseed_join.proofs.Fronts.{nothing_front, counted_front, channel_front, counts_front, faults_front}
-use Rattle.mseed_join.proofs.Fronts.{fault_words, fault_then, fault_of, bad_word_front, last_differs_front}
+use Rattle.mseed_join.proofs.Prefixes.{ratio_then, head_then, head_leading, tail_then, tail_leading, first_then}
+use Rattle.mseed_join.proofs.Prefixes.{findings_then}
+use Rattle.mseed_join.proofs.Prefixes.{nothing_leading, counted_leading, channel_leading, counts_leading}
+use Rattle.mseed_join.proofs.Prefixes.{faults_leading}
+use Rattle.mseed_join.proofs.Prefixes.{fault_words, fault_then, fault_of, bad_word_leading, last_differs_leading}
 use Rattle.mseed_join.proofs.Keys.{IsKey, key_spelled}
 
 -- a step that answered, and the steps behind it
@@ -59,8 +60,8 @@ bind_then P None f y e k = absurd (no y e)
     no z h = cc
 bind_then P (Some x) f y e k = k x refl e
 
-front : (w a b c : List ℕ) → a ≡ w ++ b → b ≡ c → a ≡ w ++ c
-front w a b c e h = e ∙ ap (λ (t : List ℕ). w ++ t) h
+leading : (w a b c : List ℕ) → a ≡ w ++ b → b ≡ c → a ≡ w ++ c
+leading w a b c e h = e ∙ ap (λ (t : List ℕ). w ++ t) h
 
 both_true : (a b : Bool) → (a && b) ≡ true → (a ≡ true) × (b ≡ true)
 both_true true b e = (refl, e)
@@ -72,7 +73,7 @@ counts n e = grind (arith, nat_tests)
 same : (m n : ℕ) → nat_eq m n ≡ true → m ≡ n
 same m n e = grind (arith, nat_tests)
 
--- what was read is the text of it, in front of what is left
+-- what was read is the text of it, before what is left
 abbrev IsRead : {X : Type 0} → (X → List ℕ) → (X → Type 0) → List ℕ → X × List ℕ → Type 0
 IsRead text Fits bytes y = (bytes ≡ text y.0 ++ y.1) × Fits y.0
 
@@ -101,7 +102,7 @@ behind_spelled : (word : List ℕ) (largest : ℕ) (bytes : List ℕ) (x : ℕ �
 behind_spelled word largest bytes x few e =
     bind_then (IsBehind word largest bytes x) (after word bytes) _ x e (λ rest first more.
     let n : IsNumber largest rest x = number_behind largest rest x few more in record {
-      is = front word bytes rest (decimal x.0 ++ x.1) (word_behind word bytes rest first) n.is;
+      is = leading word bytes rest (decimal x.0 ++ x.1) (word_behind word bytes rest first) n.is;
       bounded = n.bounded;
     })
 
@@ -129,8 +130,8 @@ ratio_spelled bytes y e =
     let made = cond_some (nat_lt 0 num.0 && nat_lt 0 den.0) (r, den.1) y last in
     let some = both_true (nat_lt 0 num.0) (nat_lt 0 den.0) made.0 in
     subst (λ (z : Ratio × List ℕ). (bytes ≡ ratio_then z.0 z.1) × IsRatio z.0) made.1 (
-      front (decimal num.0) bytes num.1 (codes "/" ++ (decimal den.0 ++ den.1)) n.is
-          (front (codes "/") num.1 rest (decimal den.0 ++ den.1) (word_behind (codes "/") num.1 rest are) d.is),
+      leading (decimal num.0) bytes num.1 (codes "/" ++ (decimal den.0 ++ den.1)) n.is
+          (leading (codes "/") num.1 rest (decimal den.0 ++ den.1) (word_behind (codes "/") num.1 rest are) d.is),
       record {
         num_counts = counts num.0 some.0;
         num_bound = n.bounded;
@@ -185,16 +186,16 @@ some_head_spelled bytes y e =
     let s = start_spelled r2 start is5 in
     let r = ratio_spelled r3 rate is7 in
     let h : Head = record { number = number.0; offset = offset.0; start = start.0; rate = rate.0 } in
-    let t6 = front (codes " ") start.1 r3 (ratio_then rate.0 rate.1) (word_behind (codes " ") start.1 r3 is6) r.0 in
-    let t5 = front (signed_decimal start.0) r2 start.1 _ s.0 t6 in
-    let t4 = front (codes " ") offset.1 r2 _ (word_behind (codes " ") offset.1 r2 is4) t5 in
-    let t3 = front (decimal offset.0) r1 offset.1 _ o.is t4 in
-    let t2 = front (codes " ") number.1 r1 _ (word_behind (codes " ") number.1 r1 is2) t3 in
-    let t1 : bytes ≡ head_then h rate.1 = front (decimal number.0) bytes number.1 _ n.is t2 in
+    let t6 = leading (codes " ") start.1 r3 (ratio_then rate.0 rate.1) (word_behind (codes " ") start.1 r3 is6) r.0 in
+    let t5 = leading (signed_decimal start.0) r2 start.1 _ s.0 t6 in
+    let t4 = leading (codes " ") offset.1 r2 _ (word_behind (codes " ") offset.1 r2 is4) t5 in
+    let t3 = leading (decimal offset.0) r1 offset.1 _ o.is t4 in
+    let t2 = leading (codes " ") number.1 r1 _ (word_behind (codes " ") number.1 r1 is2) t3 in
+    let t1 : bytes ≡ head_then h rate.1 = leading (decimal number.0) bytes number.1 _ n.is t2 in
     let fits : HasHead h =
     record { number = omega (arith, n.bounded); offset = omega (arith, o.bounded); start = s.1; rate = r.1 } in
     subst (λ (z : Head × List ℕ). IsRead head_text HasHead bytes z) (some_is (h, rate.1) y e7)
-    (t1 ∙ sym (head_front h rate.1), fits))))))))
+    (t1 ∙ sym (head_leading h rate.1), fits))))))))
 
 some_tail_spelled : (bytes : List ℕ) (y : Tail × List ℕ) → some_tail_at bytes ≡ Some y
     → IsRead tail_text HasTail bytes y
@@ -212,20 +213,24 @@ some_tail_spelled bytes y e =
     let l = leap_spelled r3 leap is7 in
     let t : Tail = record { start = start.0; samples = samples.0; rate = rate.0; leap = leap.0 } in
     let made = cond_some (nat_lt 0 samples.0) (t, leap.1) y e7 in
-    let t6 = front (codes " ") rate.1 r3 (leap_text leap.0 ++ leap.1) (word_behind (codes " ") rate.1 r3 is6) l.0 in
+    let t6 = leading (codes " ") rate.1 r3 (leap_text leap.0 ++ leap.1) (word_behind (codes " ") rate.1 r3 is6) l.0 in
     let t5 : r2 ≡ ratio_then rate.0 (codes " " ++ (leap_text leap.0 ++ leap.1)) =
     r.0 ∙ ap (λ (z : List ℕ). ratio_then rate.0 z) t6 in
-    let t4 = front (codes " ") samples.1 r2 _ (word_behind (codes " ") samples.1 r2 is4) t5 in
-    let t3 = front (decimal samples.0) r1 samples.1 _ n.is t4 in
-    let t2 = front (codes " ") start.1 r1 _ (word_behind (codes " ") start.1 r1 is2) t3 in
-    let t1 : bytes ≡ tail_then t leap.1 = front (signed_decimal start.0) bytes start.1 _ s.0 t2 in
+    let t4 = leading (codes " ") samples.1 r2 _ (word_behind (codes " ") samples.1 r2 is4) t5 in
+    let t3 = leading (decimal samples.0) r1 samples.1 _ n.is t4 in
+    let t2 = leading (codes " ") start.1 r1 _ (word_behind (codes " ") start.1 r1 is2) t3 in
+    let t1 : bytes ≡ tail_then t leap.1 = leading (signed_decimal start.0) bytes start.1 _ s.0 t2 in
     let fits : HasTail t = record {
       start = s.1;
       some = counts samples.0 made.0;
       samples = omega (arith, n.bounded);
       rate = r.1;
     } in
-    subst (λ (z : Tail × List ℕ). IsRead tail_text HasTail bytes z) made.1 (t1 ∙ sym (tail_front t leap.1), fits))))))))
+    subst (λ (z : Tail × List ℕ). IsRead tail_text HasTail bytes z) made.1 (
+      t1
+          ∙ sym (tail_leading t leap.1),
+      fits,
+    ))))))))
 
 or_none_spelled : {X : Type 0} (text : X → List ℕ) (Fits : X → Type 0) (read : List ℕ → Option (X × List ℕ))
     → ((bytes : List ℕ) (y : X × List ℕ) → read bytes ≡ Some y → IsRead text Fits bytes y)
@@ -275,7 +280,7 @@ bad_word_spelled bytes y e =
     subst (λ (z : ReadFault × List ℕ). IsRead read_text HasReadFault bytes z)
     (some_is (BadWord frame.0 word.0, word.1) y e2) (
       f.is ∙ ap (λ (z : List ℕ). codes "badword " ++ (decimal frame.0 ++ z)) w.is
-          ∙ sym (bad_word_front frame.0 word.0 word.1),
+          ∙ sym (bad_word_leading frame.0 word.0 word.1),
       (omega (arith, f.bounded), omega (arith, w.bounded)),
     )))
 
@@ -288,12 +293,12 @@ last_differs_spelled bytes y e =
     bind_then P (sample_at r2) _ y e3 (λ constant is4 e4.
     let f = sample_spelled r1 found is2 in
     let c = sample_spelled r2 constant is4 in
-    let t3 = front (codes " ") found.1 r2 _ (word_behind (codes " ") found.1 r2 is3) c.0 in
-    let t2 = front (signed_decimal found.0) r1 found.1 _ f.0 t3 in
-    let t1 = front (codes "lastdiffers ") bytes r1 _ (word_behind (codes "lastdiffers ") bytes r1 is1) t2 in
+    let t3 = leading (codes " ") found.1 r2 _ (word_behind (codes " ") found.1 r2 is3) c.0 in
+    let t2 = leading (signed_decimal found.0) r1 found.1 _ f.0 t3 in
+    let t1 = leading (codes "lastdiffers ") bytes r1 _ (word_behind (codes "lastdiffers ") bytes r1 is1) t2 in
     subst (λ (z : ReadFault × List ℕ). IsRead read_text HasReadFault bytes z)
     (some_is (LastDiffers found.0 constant.0, constant.1) y e4)
-    (t1 ∙ sym (last_differs_front found.0 constant.0 constant.1), (f.1, c.1))))))
+    (t1 ∙ sym (last_differs_leading found.0 constant.0 constant.1), (f.1, c.1))))))
 
 read_fault_spelled : (bytes : List ℕ) (y : ReadFault × List ℕ) → read_fault_at bytes ≡ Some y
     → IsRead read_text HasReadFault bytes y
@@ -319,7 +324,7 @@ timed_spelled bytes y e =
     bind_then P (after (codes "time ") bytes) _ y e (λ r1 is1 e1. bind_then P (time_at r1) _ y e1 (λ fault is2 e2.
     let f = time_spelled r1 fault is2 in
     let t1 : bytes ≡ why_text (Time fault.0) ++ fault.1 =
-    front (codes "time ") bytes r1 _ (word_behind (codes "time ") bytes r1 is1) f.0 in
+    leading (codes "time ") bytes r1 _ (word_behind (codes "time ") bytes r1 is1) f.0 in
     subst (λ (z : Why × List ℕ). IsRead why_text HasWhy bytes z) (some_is (Time fault.0, fault.1) y e2) (t1, tt)))
 
 unread_spelled : (bytes : List ℕ) (y : Why × List ℕ)
@@ -358,7 +363,7 @@ first_spelled bytes y e =
     behind_spelled (codes " ") (2 ^ 63 - 1) number.1 offset (omega arith) is2 in
     let w = why_spelled r3 why is4 in
     let f : Finding = record { number = number.0; offset = offset.0; why = why.0 } in
-    let t3 = front (codes " ") offset.1 r3 (why_text why.0 ++ why.1) (word_behind (codes " ") offset.1 r3 is3) w.0 in
+    let t3 = leading (codes " ") offset.1 r3 (why_text why.0 ++ why.1) (word_behind (codes " ") offset.1 r3 is3) w.0 in
     let t2 : number.1 ≡ codes " " ++ (decimal offset.0 ++ (codes " " ++ (why_text why.0 ++ why.1))) =
     o.is ∙ ap (λ (z : List ℕ). codes " " ++ (decimal offset.0 ++ z)) t3 in
     let t1 : bytes ≡ first_then f why.1 = n.is ∙ ap (λ (z : List ℕ). codes " first " ++ (decimal number.0 ++ z)) t2 in
@@ -377,7 +382,7 @@ counted_findings_spelled zero None tail bytes y e l h t = absurd (cc e)
 counted_findings_spelled zero (Some head) None bytes y e l h t = absurd (cc e)
 counted_findings_spelled zero (Some head) (Some tail) bytes y e l h t =
     subst (λ (z : Findings × List ℕ). (findings_then (Some head) (Some tail) 0 bytes ≡ findings_text z.0 ++ z.1)
-    × HasFindings z.0) (some_is (Nothing head tail, bytes) y e) (sym (nothing_front head tail bytes), (h, t))
+    × HasFindings z.0) (some_is (Nothing head tail, bytes) y e) (sym (nothing_leading head tail bytes), (h, t))
 counted_findings_spelled (suc n) head tail bytes y e l h t =
     bind_then ((findings_then head tail (suc n) bytes ≡ findings_text y.0 ++ y.1) × HasFindings y.0) (first_at bytes)
     _ y e (λ first is more.
@@ -385,7 +390,7 @@ counted_findings_spelled (suc n) head tail bytes y e l h t =
     subst (λ (z : Findings × List ℕ). (findings_then head tail (suc n) bytes ≡ findings_text z.0 ++ z.1)
     × HasFindings z.0) (some_is (Counted (suc n) first.0 head tail, first.1) y more) (
       ap (λ (z : List ℕ). findings_then head tail (suc n) z) f.0
-          ∙ sym (counted_front (suc n) first.0 head tail first.1),
+          ∙ sym (counted_leading (suc n) first.0 head tail first.1),
       (omega arith, l, f.1, h, t),
     ))
 
@@ -403,11 +408,11 @@ findings_spelled bytes y e =
     behind_spelled (codes " findings ") (2 ^ 63 - 1) tail.1 count (omega arith) is5 in
     let f = counted_findings_spelled count.0 head.0 tail.0 count.1 y e5 (omega (arith, c.bounded)) h.1 t.1 in
     let t4 : r3 ≡ text_or_none tail_text tail.0 ++ (codes " findings " ++ (decimal count.0 ++ count.1)) =
-    front (text_or_none tail_text tail.0) r3 tail.1 _ t.0 c.is in
-    let t3 = front (codes " tail ") head.1 r3 _ (word_behind (codes " tail ") head.1 r3 is3) t4 in
-    let t2 = front (text_or_none head_text head.0) r1 head.1 _ h.0 t3 in
+    leading (text_or_none tail_text tail.0) r3 tail.1 _ t.0 c.is in
+    let t3 = leading (codes " tail ") head.1 r3 _ (word_behind (codes " tail ") head.1 r3 is3) t4 in
+    let t2 = leading (text_or_none head_text head.0) r1 head.1 _ h.0 t3 in
     let t1 : bytes ≡ findings_then head.0 tail.0 count.0 count.1 =
-    front (codes " head ") bytes r1 _ (word_behind (codes " head ") bytes r1 is1) t2 in
+    leading (codes " head ") bytes r1 _ (word_behind (codes " head ") bytes r1 is1) t2 in
     (t1 ∙ f.0, f.1))))))
 
 -- ---- whole lines
@@ -436,7 +441,7 @@ channel_spelled bytes y e =
     let t3 = s.is ∙ ap (λ (z : List ℕ). codes " samples " ++ (decimal samples.0 ++ z)) t4 in
     let t2 = r.is ∙ ap (λ (z : List ℕ). codes " records " ++ (decimal records.0 ++ z)) t3 in
     let t1 : bytes ≡ channel_line key.0 c =
-    front (key_text key.0) bytes key.1 _ k.is t2 ∙ sym (channel_front key.0 c) in
+    leading (key_text key.0) bytes key.1 _ k.is t2 ∙ sym (channel_leading key.0 c) in
     let fits : HasChannelLine key.0 c = record {
       key_length = k.long;
       key_bytes = k.small;
@@ -461,14 +466,15 @@ counts_spelled bytes y e =
     let t2 : records.1 ≡ codes " bytes " ++ (decimal held.0 ++ codes "\n") =
     h.is ∙ ap (λ (z : List ℕ). codes " bytes " ++ (decimal held.0 ++ z)) (ended held.1 made.0) in
     let t1 : bytes ≡ counts_line records.0 held.0 =
-    r.is ∙ ap (λ (z : List ℕ). codes "records " ++ (decimal records.0 ++ z)) t2 ∙ sym (counts_front records.0 held.0) in
+    r.is ∙ ap (λ (z : List ℕ). codes "records " ++ (decimal records.0 ++ z)) t2
+    ∙ sym (counts_leading records.0 held.0) in
     let fits : HasCountsLine records.0 held.0 =
     record { records_fit = omega (arith, r.bounded); bytes_fit = omega (arith, h.bounded) } in
     subst (λ (z : ℕ × ℕ). (bytes ≡ counts_line z.0 z.1) × HasCountsLine z.0 z.1) made.1 (t1, fits)))
 
 some_faults : (n : ℕ) → 0 < n → faults_line n ≡ codes "faults " ++ (decimal n ++ codes "\n")
 some_faults zero l = absurd (omega (arith, l))
-some_faults (suc n) l = faults_front n
+some_faults (suc n) l = faults_leading n
 
 pub faults_spelled : (bytes : List ℕ) (y : ℕ) → faults_at bytes ≡ Some y → (bytes ≡ faults_line y) × HasFaultsLine y
 unfolding faults_at
@@ -536,7 +542,7 @@ fault_spelled bytes offset y e =
     let there : at.0 ≡ offset = same at.0 offset both.0 in
     let t3 : r2 ≡ fault_words fault.0 ++ codes "\n" =
     f.0 ∙ ap (λ (z : List ℕ). fault_words fault.0 ++ z) (ended fault.1 both.1) in
-    let t2 = front (codes " ") at.1 r2 _ (word_behind (codes " ") at.1 r2 is2) t3 in
+    let t2 = leading (codes " ") at.1 r2 _ (word_behind (codes " ") at.1 r2 is2) t3 in
     let t1 : bytes ≡ fault_then at.0 fault.0 =
     a.is ∙ ap (λ (z : List ℕ). codes "fault at " ++ (decimal at.0 ++ z)) t2 in
     let fits : HasFaultLine offset fault.0 = record { bytes_fit = omega (arith, there, a.bounded); is = f.1 } in

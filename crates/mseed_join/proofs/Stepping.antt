@@ -23,7 +23,7 @@ use Rattle.mseed_join.specs.Reached.{Stage, begun_part, parts_at}
 use Rattle.mseed_join.specs.Reached.{passed_lines}
 use Rattle.mseed_join.specs.ReadParts.{written_of}
 use Rattle.mseed_join.specs.declared.joint.Joint.{Joint}
-use Rattle.mseed_join.specs.declared.joint.Told.{Told}
+use Rattle.mseed_join.specs.declared.joint.Reported.{Reported}
 use Rattle.mseed_join.specs.private.Steps.{May, to, counted_part, with_faults, with_end}
 use Rattle.mseed_join.specs.private.Taking.{IsReadTo, IsTaken, IsPlace, border_by, fault_behind, passed_by}
 use Rattle.mseed_join.specs.Borders.{AreBordersOf, Border}
@@ -213,7 +213,7 @@ ended_joint over w f h k j e free is part_same faults_same ends =
     })
 
 -- ---- a line that was taken
-pub taken : {A : Type 0} → (lines : List ℕ) (s : Stage) (x : Line) (tells : Told) (old new : Joint A)
+pub taken : {A : Type 0} → (lines : List ℕ) (s : Stage) (x : Line) (tells : Reported) (old new : Joint A)
     → IsReadTo lines s old → IsLine x → May s.behind x
     → IsJointOf new.past (parts_at (to s x)) (written_of new.so_far) → IsPlace new.place (to s x).behind
     → new.parts ≡ length (parts_at (to s x))
@@ -223,7 +223,7 @@ pub taken : {A : Type 0} → (lines : List ℕ) (s : Stage) (x : Line) (tells : 
     → new.past ≡ old.past → IsTaken lines (text_of_line x) s (to s x) tells old new
 taken lines s x tells old new r l m joint place number passed borders past = record {
   read = record { stage = stage_more lines s x r.stage l m; joint = joint; place = place; number = number };
-  told = record { passed = passed; borders = borders };
+  reported = record { passed = passed; borders = borders };
   past = past;
   parts = number;
 }

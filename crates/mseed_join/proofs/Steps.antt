@@ -14,8 +14,8 @@ use Rattle.mseed_join.specs.declared.joint.Joint.{Joint}
 use Rattle.mseed_join.specs.declared.joint.JointPart.{JointPart}
 use Rattle.mseed_join.specs.declared.joint.Place.{Place}
 use Rattle.mseed_join.specs.declared.joint.Place.TheVariants.{Start, Channels, Whole}
-use Rattle.mseed_join.specs.declared.joint.Told.{Told}
-use Rattle.mseed_join.specs.declared.joint.Told.TheVariants.{Nothing, Passed}
+use Rattle.mseed_join.specs.declared.joint.Reported.{Reported}
+use Rattle.mseed_join.specs.declared.joint.Reported.TheVariants.{Nothing, Passed}
 use Rattle.mseed_join.specs.private.Steps.{May, to, goes, counted_part, with_faults, with_end}
 use Rattle.mseed_join.specs.private.Taking.{IsReadTo, IsTaken, IsPlace, border_by, fault_behind, passed_by}
 use Rattle.mseed_join.specs.Borders.{border_with}
@@ -130,7 +130,8 @@ channel_skipped old f e key c lines s r l m =
     (skips_borders old.past s.over s.behind (channel key c) (written_of old.so_far) f r.stage.is_where m tt e r.joint)
     refl
 
-pub channel_added : {A : Type 0} → JoinsChannel → HaveOneJoint → (old : Joint A) (so_far : JointPart A) (tells : Told)
+pub channel_added : {A : Type 0} → JoinsChannel → HaveOneJoint
+    → (old : Joint A) (so_far : JointPart A) (tells : Reported)
     → passed_by tells ≡ [] → old.so_far.end ≡ None → (key : List ℕ) (c : Channel)
     → border_by tells ≡ border_with old.so_far.part (key, c)
     → IsJoint old.so_far.part (one_channel key c) so_far.part
@@ -384,13 +385,13 @@ fault_silent past over b l f p =
     ap (λ (q : Bool). passed_lines q (parts_at (goes over b (fault l f)))) p
     ∙ ap (λ (q : Bool). passed_lines q (over ++ part_behind b) ++ []) (sym p)
 
-fault_told : (past : Bool) (over : List Written) (b : Behind) (l : ℕ) (f : StreamFault) (k : ℕ) → past ≡ true
+fault_reported : (past : Bool) (over : List Written) (b : Behind) (l : ℕ) (f : StreamFault) (k : ℕ) → past ≡ true
     → IsWhere over b → May b (fault l f) → k ≡ length (over ++ part_behind b)
     → passed_lines past (parts_at (goes over b (fault l f)))
     ≡ passed_lines past (over ++ part_behind b) ++ passed_line k f ∷ []
-fault_told past over none l f k p v m e = absurd m
-fault_told past over (begun cs) l f k p v m e = absurd m
-fault_told past over (whole w) l f k p v m e =
+fault_reported past over none l f k p v m e = absurd m
+fault_reported past over (begun cs) l f k p v m e = absurd m
+fault_reported past over (whole w) l f k p v m e =
     ap (λ (q : Bool). passed_lines q ((over ++ with_end w f ∷ []) ++ [])) p
     ∙ passed_more over w f v
     ∙ (λ i. passed_lines (sym p i) (over ++ w ∷ []) ++ passed_line (sym e i) f ∷ [])
@@ -462,7 +463,7 @@ fault_passed old so_far p free x fit pa fa e l lines s r is m =
     (fault_passes old.past s.over s.behind l x (written_of old.so_far) (written_of so_far) p r.stage.is_where m free fit
     pa fa (e ∙ free) r.joint)
     (fault_place s.over s.behind l x m) (fault_number s.over s.behind l x old.parts m r.number)
-    (fault_told old.past s.over s.behind l x old.parts p r.stage.is_where m r.number)
+    (fault_reported old.past s.over s.behind l x old.parts p r.stage.is_where m r.number)
     (ends_borders old.past s.over s.behind (fault l x) (written_of old.so_far) r.stage.is_where m tt free r.joint) refl
 
 pub fault_refused : {A : Type 0} → HaveOneJoint → (old : Joint A) → old.past ≡ true → old.so_far.end ≡ None

@@ -39,8 +39,8 @@ rows_one (d ∷ cs) key c =
     ∙ sym (append_assoc (channel_line d.0 d.1) (channel_lines cs) (channel_line key c))
 
 -- a part's text without what may stand behind its counts
-abbrev front : Written → List ℕ
-front w = header_line ++ channel_lines w.part.channels ++ counts_line w.part.records w.part.bytes
+abbrev leading : Written → List ℕ
+leading w = header_line ++ channel_lines w.part.channels ++ counts_line w.part.records w.part.bytes
 
 text_more : (over : List Written) (b : Behind) (x : Line) → IsWhere over b → May b x
     → texts over ++ text_behind b ++ text_of_line x ≡ texts (goes over b x).over ++ text_behind (goes over b x).behind
@@ -70,15 +70,15 @@ text_more over (whole v) (counts n l) w m = absurd m
 text_more over (whole v) (faults n) w m =
     append_assoc (texts over) (part_text v) (faults_line n)
     ∙ ap (λ (t : List ℕ). texts over ++ t)
-    ((λ i. front v ++ faults_line (m i) ++ end_line (w i) ++ faults_line n)
-    ∙ ap (λ (t : List ℕ). t ++ faults_line n) (append-nil (front v ++ []) ∙ append-nil (front v))
-    ∙ sym (append-nil (front v ++ faults_line n))
-    ∙ (λ i. front v ++ faults_line n ++ end_line (sym w i)))
+    ((λ i. leading v ++ faults_line (m i) ++ end_line (w i) ++ faults_line n)
+    ∙ ap (λ (t : List ℕ). t ++ faults_line n) (append-nil (leading v ++ []) ∙ append-nil (leading v))
+    ∙ sym (append-nil (leading v ++ faults_line n))
+    ∙ (λ i. leading v ++ faults_line n ++ end_line (sym w i)))
 text_more over (whole v) (fault l f) w m =
     append_assoc (texts over) (part_text v) (fault_line f)
     ∙ ap (λ (t : List ℕ). texts over ++ t)
-    ((λ i. front v ++ faults_line v.faults ++ end_line (w i) ++ fault_line f)
-    ∙ ap (λ (t : List ℕ). t ++ fault_line f) (append-nil (front v ++ faults_line v.faults)))
+    ((λ i. leading v ++ faults_line v.faults ++ end_line (w i) ++ fault_line f)
+    ∙ ap (λ (t : List ℕ). t ++ fault_line f) (append-nil (leading v ++ faults_line v.faults)))
     ∙ sym (texts_one over (with_end v f)) ∙ sym (append-nil (texts (over ++ with_end v f ∷ [])))
 
 -- ---- the parts' ranges
@@ -262,7 +262,7 @@ passed_in_place over a v k f j n next =
     glue true over (with_end v f ∷ []) a k n j
     (one a (record { part = v.part; faults = v.faults + 1; end = None }) k k [] next (no_more k))
 
--- ---- what is told
+-- ---- what is reported
 passed_append : (n : ℕ) (ws vs : List Written)
     → passed_from n (ws ++ vs) ≡ passed_from n ws ++ passed_from (n + length ws) vs
 passed_append n [] vs = let same : n ≡ n + 0 = omega arith in ap (λ (m : ℕ). passed_from m vs) same

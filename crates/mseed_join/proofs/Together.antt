@@ -60,9 +60,9 @@ pub says_read : ReadsBack → HaveOneText → Says → (archive : List ℕ) (ws 
     (input h : BytesRead) (a : Audited h) → AreParted archive ws → IsWithinLimits archive → IsReadOf archive h
     → EndsByBytes a.end → IsReadOf (texts ws) input → input.is_at_end ≡ true → Spells input.bytes vs
     → IsJointOf false vs joint → SaysAudit joint a
-says_read back single says archive ws vs joint input h a parted fits read by told done spells joined =
+says_read back single says archive ws vs joint input h a parted fits read by reported done spells joined =
     let all : Spells (texts ws) vs =
-    subst (λ (xs : List ℕ). Spells xs vs) (sym (all_read (texts ws) input told done)) spells in
+    subst (λ (xs : List ℕ). Spells xs vs) (sym (all_read (texts ws) input reported done)) spells in
     let one : vs ≡ ws = single (texts ws) vs ws all (spelled back archive ws parted fits) in
     says archive ws joint h a parted (subst (λ (us : List Written). IsJointOf false us joint) one joined) read by
 
@@ -78,6 +78,6 @@ CanJoin = (archive : List ℕ) (ws : List Written) (h : BytesRead) (a : Audited 
 pub never_bad : ReadsBack → NoneBad → CanJoin → (archive : List ℕ) (ws : List Written) (input h : BytesRead)
     (a : Audited h) (line : ℕ) → AreParted archive ws → IsWithinLimits archive → IsReadOf archive h → EndsByBytes a.end
     → IsReadOf (texts ws) input → IsBadLine false input.bytes input.is_at_end line → ⊥
-never_bad back bad can archive ws input h a line parted fits read by told is =
+never_bad back bad can archive ws input h a line parted fits read by reported is =
     let joint = can archive ws h a parted fits.size read by in
-    bad false (texts ws) input line ws joint.0 (spelled back archive ws parted fits) joint.1 told is
+    bad false (texts ws) input line ws joint.0 (spelled back archive ws parted fits) joint.1 reported is

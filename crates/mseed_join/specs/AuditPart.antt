@@ -7,10 +7,10 @@ use Rattle.mseed_audit.specs.declared.archive.AuditFault.TheVariants.{Write, Mem
 use Rattle.mseed_audit.specs.declared.each.EachFault.{EachFault}
 use Rattle.mseed_audit.specs.declared.each.EachFault.TheVariants.{Write as NotWritten, Memory as NoMemory}
 use Rattle.mseed_audit.specs.Channels.{added_from}
-use Rattle.mseed_audit.specs.Each.{EndsInLines, TookFirst, TookPart}
+use Rattle.mseed_audit.specs.Each.{EndsInLines, EmittedFirst, EmittedPart}
 use Rattle.mseed_audit.specs.Summary.{Audited, IsSummary}
-use Rattle.mseed_audit.specs.Text.{told_lines}
-use Rattle.mseed_audit.specs.Told.{Told, AreToldOf}
+use Rattle.mseed_audit.specs.Text.{reported_lines}
+use Rattle.mseed_audit.specs.Reported.{Reported, AreReportedOf}
 use Rattle.mseed_parts.specs.Parts.{IsPartOf}
 use Rattle.mseed_join.specs.Written.{Written, part_text}
 
@@ -41,28 +41,28 @@ IsPartOutcome (Err (Write taken)) h old new = (a : AuditedPart h) × IsPartCutOf
 IsPartOutcome (Err Memory) h old new = new ≡ old
 
 -- ---- with a line for each record with a finding
--- and this is told of its records
-pub record ToldPart (h : BytesRead) : Type 0 where
+-- and this is reported of its records
+pub record ReportedPart (h : BytesRead) : Type 0 where
   pub parted : AuditedPart h
-  pub told : List Told
-  pub are_told : AreToldOf (added_from 0 parted.audited.views) told
+  pub reported : List Reported
+  pub are_reported : AreReportedOf (added_from 0 parted.audited.views) reported
 
 -- the lines of the records with a finding, and then the text of the part
-abbrev pub told_text : {h : BytesRead} → ToldPart h → List ℕ
-told_text a = told_lines a.told ++ part_text a.parted.written
+abbrev pub reported_text : {h : BytesRead} → ReportedPart h → List ℕ
+reported_text a = reported_lines a.reported ++ part_text a.parted.written
 
 -- the whole text was written
-pub record IsToldWritten {h : BytesRead} (s : Summary) (a : ToldPart h) (old new : BytesWritten) : Type 0 where
+pub record IsReportedWritten {h : BytesRead} (s : Summary) (a : ReportedPart h) (old new : BytesWritten) : Type 0 where
   pub summary : IsSummary s a.parted.audited
-  pub text : new.bytes ≡ old.bytes ++ told_text a
+  pub text : new.bytes ≡ old.bytes ++ reported_text a
   pub fine : new.failures ≡ old.failures
 
 -- what was written is so of a text: the lines of the first records, or the whole
 abbrev pub EndsInPart : (List ℕ → Type 0) → BytesRead → Type 0
-EndsInPart Took h = EndsInLines Took h ⊎ ((a : ToldPart h) × Took (told_text a))
+EndsInPart Emitted h = EndsInLines Emitted h ⊎ ((a : ReportedPart h) × Emitted (reported_text a))
 
--- By the outcome. An output that failed isn't asked again.
+-- By the outcome. An output that failed isn't called again.
 abbrev pub IsPartEachOutcome : Result Summary EachFault → BytesRead → BytesWritten → BytesWritten → Type 0
-IsPartEachOutcome (Ok summary) h old new = (a : ToldPart h) × IsToldWritten summary a old new
-IsPartEachOutcome (Err NotWritten) h old new = (new.failures ≡ old.failures + 1) × EndsInPart (TookPart old new) h
-IsPartEachOutcome (Err NoMemory) h old new = (new.failures ≡ old.failures) × EndsInLines (TookFirst old new) h
+IsPartEachOutcome (Ok summary) h old new = (a : ReportedPart h) × IsReportedWritten summary a old new
+IsPartEachOutcome (Err NotWritten) h old new = (new.failures ≡ old.failures + 1) × EndsInPart (EmittedPart old new) h
+IsPartEachOutcome (Err NoMemory) h old new = (new.failures ≡ old.failures) × EndsInLines (EmittedFirst old new) h

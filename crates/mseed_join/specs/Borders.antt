@@ -29,7 +29,7 @@ abbrev pub border_lines : List Border → List ℕ
 border_lines [] = []
 border_lines (b ∷ bs) = border_line b ++ border_lines bs
 
--- and of all findings that are told: of a record whose start is refused, the fault stands in its place
+-- and of all findings that are reported: of a record whose start is refused, the fault stands in its place
 abbrev pub notice_line : Notice → List ℕ
 notice_line n =
     decimal n.finding.offset ++ codes " " ++ name_text n.key ++ codes " record " ++ decimal n.finding.number

@@ -27,10 +27,11 @@ pub record IsAnswer (answer : Answer) (w : Written) : Type 0 where
   pub broken : answer.broken ≡ broken_count (map verdict_at w.part.channels)
   pub fault : answer.fault ≡ is_faulty w
 
--- the whole input was read: it is the texts of parts, and this is their joint part; each fault that was passed was told
-pub record IsRead (past : Bool) (h : BytesRead) (w : Written) (told now : BytesWritten) : Type 0 where
+-- the whole input was read: it is the texts of parts, and this is their joint part; each fault that was passed was
+-- reported
+pub record IsRead (past : Bool) (h : BytesRead) (w : Written) (reported now : BytesWritten) : Type 0 where
   pub whole : h.is_at_end ≡ true
-  pub parts : AreReadParts past h.bytes w told now
+  pub parts : AreReadParts past h.bytes w reported now
 
 -- the text was written
 pub record IsJointWritten (answer : Answer) (form : Form) (w : Written) (old new : BytesWritten) : Type 0 where
@@ -45,17 +46,18 @@ pub record IsJointCutOff (form : Form) (w : Written) (old new : BytesWritten) : 
   pub part : taken < length (text_by form w)
   pub failed : new.failures ≡ old.failures + 1
 
--- By the outcome: of the input, of the output before and after, and of the device that faults are told to before and
--- after. Where the parts weren't read whole, nothing was written; where the input failed, no bad line was read before.
+-- By the outcome: of the input, of the output before and after, and of the device that faults are reported to before
+-- and after. Where the parts weren't read whole, nothing was written; where the input failed, no bad line was read
+-- before.
 abbrev pub IsJoinOutcome : Form → Bool → Result Answer JoinsFault → BytesRead → BytesWritten → BytesWritten
     → BytesWritten → BytesWritten → Type 0
-IsJoinOutcome form past (Ok answer) h old new told now =
-    (w : Written) × (IsRead past h w told now × IsJointWritten answer form w old new)
-IsJoinOutcome form past (Err (Line k)) h old new told now =
-    (new ≡ old) × AreBadParts past h.bytes h.is_at_end k told now
-IsJoinOutcome form past (Err (Stream fault)) h old new told now =
-    (new ≡ old) × IsStreamFault fault nothing_read h × IsFailed past nothing_read h told now
-IsJoinOutcome form past (Err Write) h old new told now =
-    (w : Written) × (IsRead past h w told now × IsJointCutOff form w old new)
-IsJoinOutcome form past (Err Memory) h old new told now =
-    (new ≡ old) × (IsStopped past nothing_read h told now ⊎ ((w : Written) × IsRead past h w told now))
+IsJoinOutcome form past (Ok answer) h old new reported now =
+    (w : Written) × (IsRead past h w reported now × IsJointWritten answer form w old new)
+IsJoinOutcome form past (Err (Line k)) h old new reported now =
+    (new ≡ old) × AreBadParts past h.bytes h.is_at_end k reported now
+IsJoinOutcome form past (Err (Stream fault)) h old new reported now =
+    (new ≡ old) × IsStreamFault fault nothing_read h × IsFailed past nothing_read h reported now
+IsJoinOutcome form past (Err Write) h old new reported now =
+    (w : Written) × (IsRead past h w reported now × IsJointCutOff form w old new)
+IsJoinOutcome form past (Err Memory) h old new reported now =
+    (new ≡ old) × (IsStopped past nothing_read h reported now ⊎ ((w : Written) × IsRead past h w reported now))

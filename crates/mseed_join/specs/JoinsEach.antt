@@ -2,7 +2,7 @@
 use Rattle.std.specs.Prelude.{◌≡◌, ◌⊎◌, ℕ, ◌+◌, List, ◌++◌, Bool, Result, Ok, Err}
 use Rattle.mseed_stream.specs.Device.{BytesRead, BytesWritten, nothing_read}
 use Rattle.mseed_stream.specs.Fault.{IsStreamFault}
-use Rattle.mseed_audit.specs.Each.{TookFirst, TookPart}
+use Rattle.mseed_audit.specs.Each.{EmittedFirst, EmittedPart}
 use Rattle.mseed_join.specs.declared.joining.Joined.{Joined as Answer}
 use Rattle.mseed_join.specs.declared.joining.JoinsFault.{JoinsFault}
 use Rattle.mseed_join.specs.declared.joining.JoinsFault.TheVariants.{Line, Stream, Write, Memory}
@@ -10,13 +10,13 @@ use Rattle.mseed_join.specs.Borders.{AreBordersOf, Border, border_lines}
 use Rattle.mseed_join.specs.Joined.{HasNoBadLine, join_text}
 use Rattle.mseed_join.specs.Joins.{IsAnswer, IsRead}
 use Rattle.mseed_join.specs.Reached.{Stage, parts_at}
-use Rattle.mseed_join.specs.ReadParts.{AreBadParts, AreToldTo}
+use Rattle.mseed_join.specs.ReadParts.{AreBadParts, AreReportedTo}
 use Rattle.mseed_join.specs.Written.{Written}
 
 -- the whole input was read, and this is found at the borders of its parts
-pub record IsReadEach (past : Bool) (h : BytesRead) (w : Written) (found : List Border) (told now : BytesWritten)
+pub record IsReadEach (past : Bool) (h : BytesRead) (w : Written) (found : List Border) (reported now : BytesWritten)
     : Type 0 where
-  pub read : IsRead past h w told now
+  pub read : IsRead past h w reported now
   pub borders : AreBordersOf past read.parts.parts found
 
 -- the lines of the borders, and then the text of the audit
@@ -36,36 +36,36 @@ pub record AreLinesWritten (found : List Border) (old new : BytesWritten) : Type
   pub fine : new.failures ≡ old.failures
 
 -- the first bad line, and what is found at the borders of the lines before it
-pub record AreBadEach (past : Bool) (h : BytesRead) (k : ℕ) (found : List Border) (told now : BytesWritten)
+pub record AreBadEach (past : Bool) (h : BytesRead) (k : ℕ) (found : List Border) (reported now : BytesWritten)
     : Type 0 where
-  pub bad : AreBadParts past h.bytes h.is_at_end k told now
+  pub bad : AreBadParts past h.bytes h.is_at_end k reported now
   pub borders : AreBordersOf past (parts_at bad.stage) found
 
 -- so far was read, and this is found at the borders of those lines
-pub record AreEachTo (past : Bool) (h : BytesRead) (found : List Border) (told now : BytesWritten) : Type 0 where
+pub record AreEachTo (past : Bool) (h : BytesRead) (found : List Border) (reported now : BytesWritten) : Type 0 where
   pub stage : Stage
-  pub lines : AreToldTo past h.bytes stage told now
+  pub lines : AreReportedTo past h.bytes stage reported now
   pub borders : AreBordersOf past (parts_at stage) found
 
 -- what was written is so of a text: the lines of the borders so far, or the whole
 abbrev pub EndsShort : (List ℕ → Type 0) → Bool → BytesRead → BytesWritten → BytesWritten → Type 0
-EndsShort Took past h told now =
-    ((found : List Border) × (AreEachTo past h found told now × Took (border_lines found)))
-    ⊎ ((w : Written) × ((found : List Border) × (IsReadEach past h w found told now × Took (each_text found w))))
+EndsShort Emitted past h reported now =
+    ((found : List Border) × (AreEachTo past h found reported now × Emitted (border_lines found)))
+    ⊎ ((w : Written) × ((found : List Border) × (IsReadEach past h w found reported now × Emitted (each_text found w))))
 
--- By the outcome: of the input, of the output before and after, and of the device that faults are told to before and
--- after. An output that failed isn't asked again.
+-- By the outcome: of the input, of the output before and after, and of the device that faults are reported to before
+-- and after. An output that failed isn't called again.
 abbrev pub IsJoinEachOutcome : Bool → Result Answer JoinsFault → BytesRead → BytesWritten → BytesWritten
     → BytesWritten → BytesWritten → Type 0
-IsJoinEachOutcome past (Ok answer) h old new told now =
-    (w : Written) × ((found : List Border) × (IsReadEach past h w found told now
+IsJoinEachOutcome past (Ok answer) h old new reported now =
+    (w : Written) × ((found : List Border) × (IsReadEach past h w found reported now
     × IsEachWritten answer w found old new))
-IsJoinEachOutcome past (Err (Line k)) h old new told now =
-    (found : List Border) × (AreBadEach past h k found told now × AreLinesWritten found old new)
-IsJoinEachOutcome past (Err (Stream fault)) h old new told now =
-    (found : List Border) × (AreEachTo past h found told now × AreLinesWritten found old new
+IsJoinEachOutcome past (Err (Line k)) h old new reported now =
+    (found : List Border) × (AreBadEach past h k found reported now × AreLinesWritten found old new)
+IsJoinEachOutcome past (Err (Stream fault)) h old new reported now =
+    (found : List Border) × (AreEachTo past h found reported now × AreLinesWritten found old new
     × IsStreamFault fault nothing_read h × HasNoBadLine past h.bytes)
-IsJoinEachOutcome past (Err Write) h old new told now =
-    (new.failures ≡ old.failures + 1) × EndsShort (TookPart old new) past h told now
-IsJoinEachOutcome past (Err Memory) h old new told now =
-    (new.failures ≡ old.failures) × EndsShort (TookFirst old new) past h told now
+IsJoinEachOutcome past (Err Write) h old new reported now =
+    (new.failures ≡ old.failures + 1) × EndsShort (EmittedPart old new) past h reported now
+IsJoinEachOutcome past (Err Memory) h old new reported now =
+    (new.failures ≡ old.failures) × EndsShort (EmittedFirst old new) past h reported now

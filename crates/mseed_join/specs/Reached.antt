@@ -1,4 +1,4 @@
--- How far parts were read that are read line by line, and what is told of them on the way.
+-- How far parts were read that are read line by line, and what is reported of them on the way.
 use Rattle.std.specs.Prelude.{⊤, ◌≡◌, ◌+◌, ℕ, List, [], ◌∷◌, ◌++◌, codes, decimal, Bool, true, false}
 use Rattle.std.specs.Prelude.{Option, Some, None, ◌⊎◌}
 use Rattle.std.specs.List.{AllByRecursion}
@@ -87,11 +87,11 @@ abbrev pub passed_lines : Bool → List Written → List (List ℕ)
 passed_lines true ws = passed_from 1 ws
 passed_lines false ws = []
 
--- lines were written, each as far as the device took it
-pub data AreTold : List (List ℕ) → BytesWritten → BytesWritten → Type 0 where
-  none : (s : BytesWritten) → AreTold [] s s
+-- lines were written, each as far as the device accepted it
+pub data AreReported : List (List ℕ) → BytesWritten → BytesWritten → Type 0 where
+  none : (s : BytesWritten) → AreReported [] s s
   one : (line : List ℕ) (lines : List (List ℕ)) (old now new : BytesWritten) → Tells line old now
-      → AreTold lines now new → AreTold (line ∷ lines) old new
+      → AreReported lines now new → AreReported (line ∷ lines) old new
 
 -- ---- what was read
 -- so many whole lines of parts, of these bytes that were read, up to this stage

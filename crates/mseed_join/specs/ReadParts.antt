@@ -6,7 +6,7 @@ use Rattle.mseed_join.specs.declared.joint.JointPart.{JointPart}
 use Rattle.mseed_join.specs.declared.reader.PartsFault.{PartsFault}
 use Rattle.mseed_join.specs.declared.reader.PartsFault.TheVariants.{Line, Stream, Memory}
 use Rattle.mseed_join.specs.Joined.{HasNoBadLine, IsBadLine, IsJointOf}
-use Rattle.mseed_join.specs.Reached.{AreLinesRead, AreTold, Stage, parts_at, passed_lines}
+use Rattle.mseed_join.specs.Reached.{AreLinesRead, AreReported, Stage, parts_at, passed_lines}
 use Rattle.mseed_join.specs.Written.{Written, Spells}
 
 -- a joint part, as what its text says
@@ -17,41 +17,41 @@ written_of j = record { part = j.part; faults = j.faults; end = j.end }
 abbrev pub ReadMore : BytesRead → BytesRead → List ℕ → Type 0
 ReadMore old new bytes = new.bytes ≡ old.bytes ++ bytes
 
--- the bytes are the texts of parts, and this is their joint part; each fault that was passed was told
+-- the bytes are the texts of parts, and this is their joint part; each fault that was passed was reported
 pub record AreReadParts (past : Bool) (bytes : List ℕ) (joint : Written) (old new : BytesWritten) : Type 0 where
   pub parts : List Written
   pub spells : Spells bytes parts
   pub is_joint : IsJointOf past parts joint
-  pub told : AreTold (passed_lines past parts) old new
+  pub reported : AreReported (passed_lines past parts) old new
 
--- the first bad line; of the lines before it each fault that was passed was told
+-- the first bad line; of the lines before it each fault that was passed was reported
 pub record AreBadParts (past : Bool) (bytes : List ℕ) (at_end : Bool) (k : ℕ) (old new : BytesWritten) : Type 0 where
   pub bad : IsBadLine past bytes at_end k
   pub count : ℕ
   pub behind : k ≡ count + 1
   pub stage : Stage
   pub before : AreLinesRead bytes count stage
-  pub told : AreTold (passed_lines past (parts_at stage)) old new
+  pub reported : AreReported (passed_lines past (parts_at stage)) old new
 
--- the whole lines that were read are those of parts up to this stage; each fault that was passed was told
-pub record AreToldTo (past : Bool) (bytes : List ℕ) (stage : Stage) (old new : BytesWritten) : Type 0 where
+-- the whole lines that were read are those of parts up to this stage; each fault that was passed was reported
+pub record AreReportedTo (past : Bool) (bytes : List ℕ) (stage : Stage) (old new : BytesWritten) : Type 0 where
   pub count : ℕ
   pub before : AreLinesRead bytes count stage
-  pub told : AreTold (passed_lines past (parts_at stage)) old new
+  pub reported : AreReported (passed_lines past (parts_at stage)) old new
 
 -- so far was read, and no further
 pub record IsStopped (past : Bool) (old h : BytesRead) (s new : BytesWritten) : Type 0 where
   pub bytes : List ℕ
   pub more : ReadMore old h bytes
   pub stage : Stage
-  pub lines : AreToldTo past bytes stage s new
+  pub lines : AreReportedTo past bytes stage s new
 
 -- the source failed behind it: no bad line was read before
 pub record IsFailed (past : Bool) (old h : BytesRead) (s new : BytesWritten) : Type 0 where
   pub stopped : IsStopped past old h s new
   pub none_bad : HasNoBadLine past stopped.bytes
 
--- By the answer: of what was read of the source, and of the device that faults are told to, before and after.
+-- By the answer: of what was read of the source, and of the device that faults are reported to, before and after.
 abbrev pub IsReadOutcome : {A : Type 0} → Result (JointPart A) PartsFault → Bool → BytesRead → BytesRead → BytesWritten
     → BytesWritten → Type 0
 IsReadOutcome (Ok joint) past old h s new =

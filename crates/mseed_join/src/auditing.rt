@@ -37,7 +37,7 @@ pub fn audit_part<A: Allocator + Copy, R: Source, W: Sink>(
         (R.remaining source.new) }
     ensures known { (R.read source.new).is_at_end ≡ true → IsAtEnd (R.remaining source.new) }
 
-    // What the sink is known to hold grew by what it took.
+    // What the sink is known to hold grew by what it accepted.
     ensures contents { (bytes : List ℕ) → (W.written sink.new).bytes ≡ (W.written sink.old).bytes ++ bytes
         → Appends (W.contents sink.old) (W.contents sink.new) bytes }
 
@@ -79,7 +79,7 @@ pub fn audit_part_each<A: Allocator + Copy, R: Source, W: Sink>(
         (R.remaining source.new) }
     ensures known { (R.read source.new).is_at_end ≡ true → IsAtEnd (R.remaining source.new) }
 
-    // What the sink is known to hold grew by what it took.
+    // What the sink is known to hold grew by what it accepted.
     ensures contents { (bytes : List ℕ) → (W.written sink.new).bytes ≡ (W.written sink.old).bytes ++ bytes
         → Appends (W.contents sink.old) (W.contents sink.new) bytes }
 

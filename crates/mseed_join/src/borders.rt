@@ -3,7 +3,7 @@ ghost use Rattle.std.specs.Prelude.{◌≡◌, ◌++◌, OnOk};
 ghost use Rattle.mseed_join.specs.Borders.{border_line, border_lines};
 ghost use Rattle.mseed_join.specs.private.Taking.{border_by};
 
-use crate::joint::Told;
+use crate::joint::Reported;
 use mseed_audit::Piece::{Count, Words};
 use mseed_audit::{Finding, push_name, push_pieces, push_why};
 use mseed_record::Codes;
@@ -12,17 +12,20 @@ use std::alloc::{AllocError, Allocator};
 
 /// Adds the line of a border, if a line of a part tells one. Where memory is refused, the first bytes of it may have
 /// been added.
-pub(crate) fn push_told<A: Allocator>(text: &mut Vec<u8, A>, told: &Told) -> Result<(), AllocError>
-    ensures { OnOk result (text.new.items ≡ text.old.items ++ border_lines (border_by told.now)) }
+pub(crate) fn push_reported<A: Allocator>(
+    text: &mut Vec<u8, A>,
+    reported: &Reported,
+) -> Result<(), AllocError>
+    ensures { OnOk result (text.new.items ≡ text.old.items ++ border_lines (border_by reported.now)) }
 {
-    match told {
-        Told::Border {
+    match reported {
+        Reported::Border {
             codes,
             start,
             finding,
         } => push_border_line(text, codes, *start, finding),
-        Told::Nothing => Ok(()),
-        Told::Passed { .. } => Ok(()),
+        Reported::Nothing => Ok(()),
+        Reported::Passed { .. } => Ok(()),
     }
 }
 

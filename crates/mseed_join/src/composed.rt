@@ -5,13 +5,13 @@ ghost use Rattle.mseed_stream.specs.Cutting.{TellsMore};
 ghost use Rattle.mseed_stream.specs.Device.{BytesRead, nothing_read};
 ghost use Rattle.mseed_audit.specs.Each.{AuditedEach};
 ghost use Rattle.mseed_audit.specs.Summary.{Audited};
-ghost use Rattle.mseed_audit.specs.Text.{end_line, told_lines};
-ghost use Rattle.mseed_audit.specs.Told.{Told};
+ghost use Rattle.mseed_audit.specs.Text.{end_line, reported_lines};
+ghost use Rattle.mseed_audit.specs.Reported.{Reported};
 ghost use Rattle.mseed_parts.specs.Notices.{Notice, border_notices, notices_of};
 ghost use Rattle.mseed_join.specs.AuditPart.{AuditedPart};
 ghost use Rattle.mseed_join.specs.Borders.{AreBordersOf, Border, border_lines, notice_lines};
 ghost use Rattle.mseed_join.specs.Headline.{AreParted, EndsByBytes, IsReadOf, IsWithinLimits, SaysAudit, without_end};
-ghost use Rattle.mseed_join.specs.HeadlineEach.{AreToldApart, SaysEach};
+ghost use Rattle.mseed_join.specs.HeadlineEach.{AreReportedApart, SaysEach};
 ghost use Rattle.mseed_join.specs.Joined.{IsBadLine, IsJointOf};
 ghost use Rattle.mseed_join.specs.Written.{HasText, Spells, Written, part_text, texts};
 
@@ -30,7 +30,7 @@ pub fn joined_audit()
         → AreParted archive ws → IsJointOf false ws joint → IsReadOf archive h → EndsByBytes a.written.end
         → joint ≡ a.written }
 
-    // What a source told that is known to have left an archive, and nothing once it is at its end, was read of it.
+    // What a source gave that is known to have left an archive, and nothing once it is at its end, was read of it.
     ensures read { (archive : List ℕ) (h : BytesRead) (left : Option (List ℕ))
         → TellsMore nothing_read h (Some archive) left → (h.is_at_end ≡ true → IsAtEnd left) → IsReadOf archive h }
 
@@ -48,16 +48,18 @@ pub fn joined_audit()
 /// text of the joint part, are what the audit of the archives one behind another writes that tells each record with a
 /// finding.
 pub fn joined_each()
-    ensures says { (archive : List ℕ) (ws : List Written) (told : List Notice) (found : List Border) (joint : Written)
-        (h : BytesRead) (a : AuditedEach h) → AreToldApart archive ws told → IsJointOf false ws joint
-        → AreBordersOf false ws found → IsReadOf archive h → EndsByBytes a.audited.end → SaysEach told found joint a }
+    ensures says { (archive : List ℕ) (ws : List Written) (reported : List Notice) (found : List Border)
+        (joint : Written) (h : BytesRead) (a : AuditedEach h) → AreReportedApart archive ws reported
+        → IsJointOf false ws joint
+        → AreBordersOf false ws found → IsReadOf archive h → EndsByBytes a.audited.end
+        → SaysEach reported found joint a }
 
     // They are the archives and parts of the headline.
-    ensures parted { (archive : List ℕ) (ws : List Written) (told : List Notice) → AreToldApart archive ws told
-        → AreParted archive ws }
+    ensures parted { (archive : List ℕ) (ws : List Written) (reported : List Notice)
+        → AreReportedApart archive ws reported → AreParted archive ws }
 
-    // What is told of records, and of borders, has the lines with which it is written.
-    ensures records { (told : List Told) → notice_lines (notices_of told) ≡ told_lines told }
+    // What is reported of records, and of borders, has the lines with which it is written.
+    ensures records { (reported : List Reported) → notice_lines (notices_of reported) ≡ reported_lines reported }
     ensures borders { (found : List Border) → notice_lines (border_notices found) ≡ border_lines found }
 {
     parts_add_up();

@@ -56,7 +56,7 @@ pub enum JoinsFault {
 
 /// Reads parts, one behind another, and writes what they are joined to. Without `past_faults` a part behind one that
 /// ends with a fault isn't counted; with it each faulty part counts as if it had none, and its fault is one more behind
-/// and is told on `errors` as it is read. The source is one of which nothing was read yet.
+/// and is reported on `errors` as it is read. The source is one of which nothing was read yet.
 ///
 /// # Errors
 ///
@@ -79,7 +79,7 @@ pub fn join<A: Allocator + Copy, R: Source, W: Sink, E: Sink>(
         (R.remaining source.new) }
     ensures known { (R.read source.new).is_at_end ≡ true → IsAtEnd (R.remaining source.new) }
 
-    // What the sink is known to hold grew by what it took.
+    // What the sink is known to hold grew by what it accepted.
     ensures contents { (bytes : List ℕ) → (W.written sink.new).bytes ≡ (W.written sink.old).bytes ++ bytes
         → Appends (W.contents sink.old) (W.contents sink.new) bytes }
 

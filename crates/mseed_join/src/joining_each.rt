@@ -10,9 +10,9 @@ ghost use Rattle.mseed_join.specs.private.Bordered.{IsCutShort, IsEachReading, I
 ghost use Rattle.mseed_join.specs.private.Refused.{refusal};
 ghost use Rattle.mseed_join.specs.private.Taking.{border_by};
 
-use crate::borders::push_told;
+use crate::borders::push_reported;
 use crate::joining::{Form, Joined, JoinsFault, push_joined, refused};
-use crate::joint::{JointPart, Told};
+use crate::joint::{JointPart, Reported};
 use crate::parts::tell_passed;
 use crate::reader::{PartsFault, Reader};
 use mseed_audit::Memory;
@@ -47,7 +47,7 @@ pub fn join_each<A: Allocator + Copy, R: Source, W: Sink, E: Sink>(
         (R.remaining source.new) }
     ensures known { (R.read source.new).is_at_end ≡ true → IsAtEnd (R.remaining source.new) }
 
-    // What the sink is known to hold grew by what it took.
+    // What the sink is known to hold grew by what it accepted.
     ensures contents { (bytes : List ℕ) → (W.written sink.new).bytes ≡ (W.written sink.old).bytes ++ bytes
         → Appends (W.contents sink.old) (W.contents sink.new) bytes }
 
@@ -86,7 +86,7 @@ fn read_each<A: Allocator + Copy, R: Source, W: Sink, E: Sink>(
 ) -> Result<JointPart<A>, JoinsFault>
     requires read { R.read source.old ≡ nothing_read }
     requires text { text.old.items ≡ [] }
-    ensures told { IsEachReading result past (R.read source.new) (W.written sink.old) (W.written sink.new)
+    ensures reported { IsEachReading result past (R.read source.new) (W.written sink.old) (W.written sink.new)
         (E.written errors.old) (E.written errors.new) text.new.items }
     ensures more { TellsMore (R.read source.old) (R.read source.new) (R.remaining source.old)
         (R.remaining source.new) }
@@ -101,9 +101,9 @@ fn read_each<A: Allocator + Copy, R: Source, W: Sink, E: Sink>(
     };
     'lines: loop {
         match reader.next(source) {
-            Ok(Some(told)) => {
-                tell_passed(errors, &told);
-                add_border(sink, text, &told)?;
+            Ok(Some(reported)) => {
+                tell_passed(errors, &reported);
+                add_border(sink, text, &reported)?;
             }
             Ok(None) => return Ok(reader.into_joint()),
             Err(fault) => return Err(stop(sink, text, fault)),
@@ -115,16 +115,16 @@ fn read_each<A: Allocator + Copy, R: Source, W: Sink, E: Sink>(
 fn add_border<A: Allocator, W: Sink>(
     sink: &mut W,
     text: &mut Vec<u8, A>,
-    told: &Told,
+    reported: &Reported,
 ) -> Result<(), JoinsFault>
     ensures ok { OnOk result (MovesOn (W.written sink.old) (W.written sink.new) text.old.items text.new.items
-        (border_lines (border_by told.now))) }
+        (border_lines (border_by reported.now))) }
     ensures err { IfErr result (λ fault. IsCutShort fault (W.written sink.old) (W.written sink.new)
-        (text.old.items ++ border_lines (border_by told.now))) }
+        (text.old.items ++ border_lines (border_by reported.now))) }
     ensures contents { TakesMore (W.written sink.old) (W.written sink.new) (W.contents sink.old) (W.contents sink.new) }
     ensures beside { W.beside sink.new ≡ W.beside sink.old }
 {
-    match push_told(text, told) {
+    match push_reported(text, reported) {
         Ok(()) => {}
         Err(_) => return Err(JoinsFault::Memory),
     }

@@ -35,7 +35,7 @@ pub struct JointPart<A: Allocator = Global> {
 
 /// What a line of a part tells a listener.
 #[derive(Clone, Copy, Debug, PartialEq, Eq)]
-pub(crate) enum Told {
+pub(crate) enum Reported {
     /// Nothing.
     Nothing,
     /// What is found between a channel and its further records: they begin so, and the finding's number and offset are
@@ -113,7 +113,7 @@ impl<A: Allocator + Copy> Joint<A> {
     /// # Errors
     ///
     /// `Bad` where no parts that can be joined go on so, `Memory` where there was no room for a channel that is new.
-    pub(crate) fn take_line(&mut self, line: &[u8]) -> Result<Told, LineFault>
+    pub(crate) fn take_line(&mut self, line: &[u8]) -> Result<Reported, LineFault>
         requires parts { self.old.parts < 2 ^ 63 }
         requires ended { (body : List ℕ) × HasNoEnd body × (line.now ≡ body ++ codes "\n") }
         ensures step { (lines : List ℕ) (s : Stage) → IsReadTo lines s self.old
@@ -144,7 +144,7 @@ impl<A: Allocator + Copy> Joint<A> {
     }
 
     /// Takes the first line of a part.
-    fn take_header(&mut self, line: &[u8]) -> Result<Told, LineFault>
+    fn take_header(&mut self, line: &[u8]) -> Result<Reported, LineFault>
         requires { self.old.parts < 2 ^ 63 }
         ensures step { (lines : List ℕ) (s : Stage) → IsReadTo lines s self.old → May s.behind Line.header
             → OnOk result (IsStep lines s Line.header result self.old self.new) }
@@ -157,11 +157,11 @@ impl<A: Allocator + Copy> Joint<A> {
         }
         self.parts += 1;
         self.place = Place::Channels(None);
-        Ok(Told::Nothing)
+        Ok(Reported::Nothing)
     }
 
     /// Takes a channel or the counts.
-    fn take_row(&mut self, last: Option<Codes>, line: &[u8]) -> Result<Told, LineFault>
+    fn take_row(&mut self, last: Option<Codes>, line: &[u8]) -> Result<Reported, LineFault>
         requires place { self.old.place ≡ Place.Channels last }
         requires ended { (body : List ℕ) × HasNoEnd body × (line.now ≡ body ++ codes "\n") }
         ensures step { (lines : List ℕ) (s : Stage) → IsReadTo lines s self.old
@@ -180,7 +180,12 @@ impl<A: Allocator + Copy> Joint<A> {
     }
 
     /// Takes a fault, the number of faults behind, or the first line of the next part.
-    fn take_ending(&mut self, bytes: u64, has_faults: bool, line: &[u8]) -> Result<Told, LineFault>
+    fn take_ending(
+        &mut self,
+        bytes: u64,
+        has_faults: bool,
+        line: &[u8],
+    ) -> Result<Reported, LineFault>
         requires parts { self.old.parts < 2 ^ 63 }
         requires place { self.old.place ≡ Place.Whole bytes has_faults }
         requires ended { (body : List ℕ) × HasNoEnd body × (line.now ≡ body ++ codes "\n") }
@@ -200,7 +205,7 @@ impl<A: Allocator + Copy> Joint<A> {
     }
 
     /// Takes a channel that is in order.
-    fn take_channel(&mut self, codes: Codes, channel: &Channel) -> Result<Told, LineFault>
+    fn take_channel(&mut self, codes: Codes, channel: &Channel) -> Result<Reported, LineFault>
         ensures { (lines : List ℕ) (s : Stage) → IsReadTo lines s self.old → IsLine (Line.channel codes channel.now)
             → May s.behind (Line.channel codes channel.now)
             → IsStep lines s (Line.channel codes channel.now) result self.old self.new }
@@ -210,14 +215,14 @@ impl<A: Allocator + Copy> Joint<A> {
         match self.so_far.end {
             Some(_) => {
                 self.place = Place::Channels(Some(codes));
-                return Ok(Told::Nothing);
+                return Ok(Reported::Nothing);
             }
             None => {}
         }
         match self.so_far.part.add_channel(codes, channel) {
             Ok(found) => {
                 self.place = Place::Channels(Some(codes));
-                Ok(told_of(codes, channel, found))
+                Ok(reported_of(codes, channel, found))
             }
             Err(JoinFault::Limit) => Err(LineFault::Bad),
             Err(JoinFault::Memory) => Err(LineFault::Memory),
@@ -225,7 +230,7 @@ impl<A: Allocator + Copy> Joint<A> {
     }
 
     /// Takes the counts.
-    fn take_counts(&mut self, records: u64, bytes: u64) -> Result<Told, LineFault>
+    fn take_counts(&mut self, records: u64, bytes: u64) -> Result<Reported, LineFault>
         ensures { (lines : List ℕ) (s : Stage) → IsReadTo lines s self.old → IsLine (Line.counts records bytes)
             → May s.behind (Line.counts records bytes)
             → IsStep lines s (Line.counts records bytes) result self.old self.new }
@@ -237,17 +242,17 @@ impl<A: Allocator + Copy> Joint<A> {
             has_faults: false,
         };
         match self.so_far.end {
-            Some(_) => return Ok(Told::Nothing),
+            Some(_) => return Ok(Reported::Nothing),
             None => {}
         }
         match self.so_far.part.add_counts(records, bytes) {
-            Ok(()) => Ok(Told::Nothing),
+            Ok(()) => Ok(Reported::Nothing),
             Err(_) => Err(LineFault::Bad),
         }
     }
 
     /// Takes the number of faults behind.
-    fn take_faults(&mut self, faults: u64, bytes: u64) -> Result<Told, LineFault>
+    fn take_faults(&mut self, faults: u64, bytes: u64) -> Result<Reported, LineFault>
         requires { self.old.place ≡ Place.Whole bytes false }
         ensures { (lines : List ℕ) (s : Stage) → IsReadTo lines s self.old → IsLine (Line.faults faults)
             → May s.behind (Line.faults faults)
@@ -259,20 +264,20 @@ impl<A: Allocator + Copy> Joint<A> {
             has_faults: true,
         };
         match self.so_far.end {
-            Some(_) => return Ok(Told::Nothing),
+            Some(_) => return Ok(Reported::Nothing),
             None => {}
         }
         match sum(self.so_far.faults, faults) {
             Some(all) => {
                 self.so_far.faults = all;
-                Ok(Told::Nothing)
+                Ok(Reported::Nothing)
             }
             None => Err(LineFault::Bad),
         }
     }
 
     /// Takes the fault with which a part of so many bytes ends.
-    fn take_fault(&mut self, fault: StreamFault, bytes: u64) -> Result<Told, LineFault>
+    fn take_fault(&mut self, fault: StreamFault, bytes: u64) -> Result<Reported, LineFault>
         ensures { (lines : List ℕ) (s : Stage) → IsReadTo lines s self.old → IsLine (Line.fault bytes fault)
             → May s.behind (Line.fault bytes fault)
             → IsStep lines s (Line.fault bytes fault) result self.old self.new }
@@ -280,17 +285,17 @@ impl<A: Allocator + Copy> Joint<A> {
         joining_laws();
         self.place = Place::Start;
         match self.so_far.end {
-            Some(_) => return Ok(Told::Nothing),
+            Some(_) => return Ok(Reported::Nothing),
             None => {}
         }
         if !self.past {
             self.so_far.end = Some(fault_behind(self.so_far.part.bytes(), &fault));
-            return Ok(Told::Nothing);
+            return Ok(Reported::Nothing);
         }
         match sum(self.so_far.faults, 1) {
             Some(all) => {
                 self.so_far.faults = all;
-                Ok(Told::Passed {
+                Ok(Reported::Passed {
                     part: self.parts,
                     fault,
                 })
@@ -337,17 +342,17 @@ fn is_behind(last: Option<Codes>, codes: Codes) -> bool
     }
 }
 
-/// What is told of a channel, by what is found between it and its further records.
-fn told_of(codes: Codes, channel: &Channel, found: Option<Finding>) -> Told
+/// What is reported of a channel, by what is found between it and its further records.
+fn reported_of(codes: Codes, channel: &Channel, found: Option<Finding>) -> Reported
     ensures passed { passed_by result ≡ [] }
     ensures border { border_by result ≡ border_at codes (head_in channel.now.findings) found }
 {
     match (found, channel.findings.head()) {
-        (Some(finding), Some(head)) => Told::Border {
+        (Some(finding), Some(head)) => Reported::Border {
             codes,
             start: head.start,
             finding,
         },
-        _ => Told::Nothing,
+        _ => Reported::Nothing,
     }
 }

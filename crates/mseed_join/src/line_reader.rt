@@ -37,7 +37,7 @@ pub(crate) enum Ahead {
 
 /// Reads lines out of a source, each of 512 bytes at most, and lends each out of its one buffer.
 ///
-/// Contracts see it as a `LinesRead`, and say by `IsReadBy` how it stands to what its source told.
+/// Contracts see it as a `LinesRead`, and say by `IsReadBy` how it stands to what its source gave.
 #[derive(Drop)]
 pub(crate) struct LineReader<A: Allocator> {
     buffer: Vec<u8, A>,
@@ -51,7 +51,7 @@ pub(crate) struct LineReader<A: Allocator> {
     lines: u64,
     // How many bytes were read in all.
     bytes: u64,
-    // How often the source was asked.
+    // How often the source was called.
     reads: u64,
 }
 
@@ -76,7 +76,7 @@ impl<A: Allocator> Model for LineReader<A> {
 }
 
 impl<A: Allocator> LineReader<A> {
-    /// A reader of which nothing was asked yet.
+    /// A reader of which nothing was called yet.
     ///
     /// # Errors
     ///
@@ -111,7 +111,7 @@ impl<A: Allocator> LineReader<A> {
     pub(crate) fn look<R: Source>(&mut self, source: &mut R) -> Result<Ahead, StreamFault>
         ensures ahead { IfOk result (λ a. LiesAhead a self.new (R.read source.new).is_at_end) }
 
-        // What is told is held behind what was held before, and no line is passed.
+        // What is reported is held behind what was held before, and no line is passed.
         ensures more { Grows (R.read source.old) (R.read source.new) (R.remaining source.old) (R.remaining source.new)
             self.old self.new }
         ensures along { (start : BytesRead) → IsReadBy start (R.read source.old) self.old
@@ -208,7 +208,7 @@ impl<A: Allocator> LineReader<A> {
         requires { length self.old.held < 512 }
         ensures more { Grows (R.read source.old) (R.read source.new) (R.remaining source.old) (R.remaining source.new)
             self.old self.new }
-        ensures asked { OnOk result (self.new.reads ≡ self.old.reads + 1) }
+        ensures called { OnOk result (self.new.reads ≡ self.old.reads + 1) }
         ensures turns { OnOk result (self.new.reads ≤ 2 ^ 40) }
         ensures whole { result ≡ Ok false → (R.read source.new).is_at_end ≡ false }
         ensures ended { result ≡ Ok true → ((R.read source.new).is_at_end ≡ true) × (self.new.held ≡ self.old.held)
@@ -225,7 +225,7 @@ impl<A: Allocator> LineReader<A> {
         self.read(source)
     }
 
-    /// Moves what is held to the buffer's front.
+    /// Moves what is held to the buffer's start.
     fn make_room(&mut self)
         ensures { self.new ≡ record self.old { room = 2 ^ 16 - length self.old.held } }
     {
@@ -240,7 +240,7 @@ impl<A: Allocator> LineReader<A> {
         requires turns { self.old.reads < 2 ^ 40 }
         ensures more { Grows (R.read source.old) (R.read source.new) (R.remaining source.old) (R.remaining source.new)
             self.old self.new }
-        ensures asked { self.new.reads ≡ self.old.reads + 1 }
+        ensures called { self.new.reads ≡ self.old.reads + 1 }
         ensures whole { result ≡ Ok false → (R.read source.new).is_at_end ≡ false }
         ensures ended { result ≡ Ok true → ((R.read source.new).is_at_end ≡ true) × (self.new.held ≡ self.old.held)
             × IsAtEnd (R.remaining source.new) }

@@ -1,4 +1,4 @@
-//! Words and numbers at the front of a text.
+//! Words and numbers at the start of a text.
 ghost use Rattle.std.specs.Prelude.{◌≡◌, ◌+◌, ◌-◌, ◌*◌, ◌≤◌, ◌<◌, ◌^◌, IfSome, IfNone, pos, neg_ℤ, ◌≤ℤ◌};
 ghost use Rattle.std.specs.Option.{option_map};
 ghost use Rattle.mseed_join.specs.private.Reading.{after, behind_at, number_at, integer_at, more_at, is_digit};

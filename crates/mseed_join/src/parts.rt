@@ -5,10 +5,10 @@ ghost use Rattle.mseed_stream.specs.Cutting.{TellsMore};
 ghost use Rattle.mseed_stream.specs.Device.{nothing_read};
 ghost use Rattle.mseed_stream.specs.Telling.{Tells};
 ghost use Rattle.mseed_join.specs.ReadParts.{IsReadOutcome};
-ghost use Rattle.mseed_join.specs.Reached.{AreTold, passed_line};
+ghost use Rattle.mseed_join.specs.Reached.{AreReported, passed_line};
 ghost use Rattle.mseed_join.specs.private.Taking.{passed_by};
 
-use crate::joint::{JointPart, Told};
+use crate::joint::{JointPart, Reported};
 use crate::reader::{PartsFault, Reader};
 use mseed_audit::Piece::{Count, Words};
 use mseed_audit::{Memory, fault_line_of, line_of};
@@ -49,20 +49,20 @@ pub fn read_parts<A: Allocator + Copy, R: Source, E: Sink>(
     };
     'lines: loop {
         match reader.next(source)? {
-            Some(told) => tell_passed(errors, &told),
+            Some(reported) => tell_passed(errors, &reported),
             None => return Ok(reader.into_joint()),
         }
     }
 }
 
 /// Tells a fault that is passed.
-pub(crate) fn tell_passed<E: Sink>(errors: &mut E, told: &Told)
-    ensures { AreTold (passed_by told.now) (E.written errors.old) (E.written errors.new) }
+pub(crate) fn tell_passed<E: Sink>(errors: &mut E, reported: &Reported)
+    ensures { AreReported (passed_by reported.now) (E.written errors.old) (E.written errors.new) }
 {
-    match told {
-        Told::Passed { part, fault } => tell_fault(errors, *part, fault),
-        Told::Nothing => {}
-        Told::Border { .. } => {}
+    match reported {
+        Reported::Passed { part, fault } => tell_fault(errors, *part, fault),
+        Reported::Nothing => {}
+        Reported::Border { .. } => {}
     }
 }
 

@@ -6,7 +6,7 @@ ghost use Rattle.mseed_stream.specs.Device.{BytesRead};
 ghost use Rattle.mseed_join.specs.Reached.{Stage, start};
 ghost use Rattle.mseed_join.specs.private.Along.{IsAlong, IsNextStep};
 
-use crate::joint::{Joint, JointPart, LineFault, Told};
+use crate::joint::{Joint, JointPart, LineFault, Reported};
 use crate::law::lines_are_short;
 use crate::line_reader::{Ahead, LineReader};
 use mseed_audit::Memory;
@@ -57,12 +57,13 @@ impl<A: Allocator + Copy> Reader<A> {
     ///
     /// `Line` where the next line is bad, `Stream` where the source failed, or wasn't at its end after 2^40 reads, and
     /// `Memory` where there was no room for a channel that is new.
-    pub(crate) fn next<R: Source>(&mut self, source: &mut R) -> Result<Option<Told>, PartsFault>
+    pub(crate) fn next<R: Source>(&mut self, source: &mut R) -> Result<Option<Reported>, PartsFault>
         requires { (past : Bool) × (h : BytesRead) × (s : Stage) × IsAlong past h (R.read source.old) s self.old }
         ensures step { (past : Bool) (h : BytesRead) (s : Stage) → IsAlong past h (R.read source.old) s self.old
             → IsNextStep past h s result (R.read source.new) self.new }
-        ensures line { (told : Told) → result ≡ Ok (Some told) → self.new.lines.lines ≡ self.old.lines.lines + 1 }
-        ensures few { (told : Told) → result ≡ Ok (Some told) → self.old.lines.lines ≤ 2 ^ 56 }
+        ensures line { (reported : Reported) → result ≡ Ok (Some reported)
+            → self.new.lines.lines ≡ self.old.lines.lines + 1 }
+        ensures few { (reported : Reported) → result ≡ Ok (Some reported) → self.old.lines.lines ≤ 2 ^ 56 }
         ensures more { TellsMore (R.read source.old) (R.read source.new) (R.remaining source.old)
             (R.remaining source.new) }
         ensures known { (R.read source.old).is_at_end ≡ false → (R.read source.new).is_at_end ≡ true
@@ -77,9 +78,9 @@ impl<A: Allocator + Copy> Reader<A> {
         let number = self.lines.lines() + 1;
         match ahead {
             Ahead::Line => match self.joint.take_line(self.lines.line()) {
-                Ok(told) => {
+                Ok(reported) => {
                     self.lines.pass();
-                    Ok(Some(told))
+                    Ok(Some(reported))
                 }
                 Err(LineFault::Bad) => Err(PartsFault::Line(number)),
                 Err(LineFault::Memory) => Err(PartsFault::Memory),

@@ -21,7 +21,7 @@ pub const HEADER: &[u8] = b"mseed part 1\n";
 ///
 /// # Errors
 ///
-/// `AllocError` where memory is refused. What was there stays in front, and a part of the line may have been added
+/// `AllocError` where memory is refused. What was there stays, and a part of the line may have been added
 /// behind it.
 pub fn push_channel_line<A: Allocator>(
     text: &mut Vec<u8, A>,
@@ -49,7 +49,7 @@ pub fn push_channel_line<A: Allocator>(
 ///
 /// # Errors
 ///
-/// `AllocError` where memory is refused. What was there stays in front, and a part of the line may have been added
+/// `AllocError` where memory is refused. What was there stays, and a part of the line may have been added
 /// behind it.
 pub fn push_counts_line<A: Allocator>(
     text: &mut Vec<u8, A>,
@@ -75,7 +75,7 @@ pub fn push_counts_line<A: Allocator>(
 ///
 /// # Errors
 ///
-/// `AllocError` where memory is refused. What was there stays in front, and a part of the line may have been added
+/// `AllocError` where memory is refused. What was there stays, and a part of the line may have been added
 /// behind it.
 pub fn push_faults_line<A: Allocator>(text: &mut Vec<u8, A>, faults: u64) -> Result<(), AllocError>
     ensures ok { OnOk result (text.new.items ≡ text.old.items ++ faults_line faults) }

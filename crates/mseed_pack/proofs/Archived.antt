@@ -114,7 +114,7 @@ others_gone key (p ∷ ps) vs reads apart are =
     ap (λ (us : List View). filter (is_of key) us) cut.parts ∙ filter-append (is_of key) cut.prefix cut.back
     ∙ (λ i. first i ++ second i)
 
--- where nothing in front is of these channels
+-- where nothing before it is of these channels
 abbrev Gone : List View → List Packed → Type 0
 Gone prefix packed = AllByRecursion (λ (p : Packed). filter (is_of p.series.codes) prefix ≡ []) packed
 

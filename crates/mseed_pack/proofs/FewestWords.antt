@@ -42,7 +42,7 @@ none_in_use : (vs : List DataWord) → AllByRecursion IsEmptyWord vs → length 
 none_in_use [] h = refl
 none_in_use (v ∷ vs) h = let code : (v.code == 0) ≡ true = eq-eqb v.code 0 h.0.0 in rw code (none_in_use vs h.1)
 
--- those are in use that took differences
+-- those are in use that accepted differences
 all_in_use : (s : Scheme) (ws vs : List DataWord) (ds rest : List ℤ) → PacksRun s ws ds rest
     → AllByRecursion IsEmptyWord vs → length (in_use (ws ++ vs)) ≡ length ws
 all_in_use s [] vs ds rest run h = none_in_use vs h

@@ -163,7 +163,7 @@ follows_at s trace slow first b v samples next x y =
           before_is = x.rate;
           next_is = y.rate;
           same = refl;
-          one_step = x.told;
+          one_step = x.reported;
           joins = same_joins (start_of b) (instant_at s first) (count_of b) n rate (step_in (leap_of b.bytes)) step
               (start_of v) (instant_at s (first + n)) x.start x.count x.step y.start floor;
         },

@@ -11,7 +11,7 @@ use Rattle.mseed_audit.specs.Series.{Trace}
 use Rattle.mseed_pack.specs.declared.batch.Place.{Place}
 use Rattle.mseed_pack.specs.declared.options.Options.{Options}
 use Rattle.mseed_pack.specs.Packing.{Piece, ArePlaced, IsPacked, PacksUpTo}
-use Rattle.mseed_pack.specs.Outcome.{PacksOn, TookSo, TookAll, TookPrefix}
+use Rattle.mseed_pack.specs.Outcome.{PacksOn, EmittedSo, EmittedAll, EmittedPrefix}
 
 -- a piece at the end
 placed_more : (ps : List Piece) (p : Piece) (number first : ℕ) → ArePlaced number first ps
@@ -98,8 +98,8 @@ packs_more s o records first n b h inside one =
 pub packs_none : (s : Trace) (o : Options) → PacksUpTo s o [] s.samples
 packs_none s o = record { pieces = []; bytes = refl; joined = refl; placed = tt; each = tt }
 
-pub took_none : (s : Trace) (o : Options) (written : BytesWritten) → TookSo s o 0 0 written written
-took_none s o written = record {
+pub emitted_none : (s : Trace) (o : Options) (written : BytesWritten) → EmittedSo s o 0 0 written written
+emitted_none s o written = record {
   records = [];
   packing = packs_none s o;
   count_is = refl;
@@ -180,10 +180,10 @@ on_join s o place mid next a b h k =
       bytes_are = (λ i. first i ++ second i) ∙ sym (concat_all h.records k.records);
     }
 
-pub took_more : (s : Trace) (o : Options) (place next : Place) (b : List ℕ) (old mid new : BytesWritten)
-    → TookSo s o place.number place.first old mid → PacksOn s o place next b
-    → new.bytes ≡ mid.bytes ++ b → new.failures ≡ mid.failures → TookSo s o next.number next.first old new
-took_more s o place next b old mid new h on told fine =
+pub emitted_more : (s : Trace) (o : Options) (place next : Place) (b : List ℕ) (old mid new : BytesWritten)
+    → EmittedSo s o place.number place.first old mid → PacksOn s o place next b
+    → new.bytes ≡ mid.bytes ++ b → new.failures ≡ mid.failures → EmittedSo s o next.number next.first old new
+emitted_more s o place next b old mid new h on reported fine =
     let all : length (concat (h.records ++ on.records)) ≡ length (concat h.records) + length b =
     ap (λ (l : List ℕ). length l) (concat_all h.records on.records)
     ∙ length-append (concat h.records) (concat on.records)
@@ -196,7 +196,7 @@ took_more s o place next b old mid new h on told fine =
       count_is = on.count_is ∙ ap (λ (m : ℕ). m + length on.records) h.count_is
           ∙ sym (length-append h.records on.records);
       long = omega (arith, all, long, longer);
-      bytes = told ∙ ap (λ (l : List ℕ). l ++ b) h.bytes ∙ append_assoc old.bytes (concat h.records) b
+      bytes = reported ∙ ap (λ (l : List ℕ). l ++ b) h.bytes ∙ append_assoc old.bytes (concat h.records) b
           ∙ ap (λ (l : List ℕ). old.bytes ++ (concat h.records ++ l)) on.bytes_are
           ∙ ap (λ (l : List ℕ). old.bytes ++ l) (sym (concat_all h.records on.records));
       failures = fine ∙ h.failures;
@@ -284,11 +284,12 @@ packs_prefix s o prefix back left h =
     let c = cut s o 0 0 prefix back h.pieces left s.samples h.bytes h.joined h.placed h.each in
     (c.left, record { pieces = c.pieces; bytes = c.bytes; joined = c.joined; placed = c.placed; each = c.each })
 
-pub took_prefix : (s : Trace) (o : Options) (place next : Place) (taken : ℕ) (b : List ℕ) (old mid new : BytesWritten)
-    → TookSo s o place.number place.first old mid → PacksOn s o place next b
+pub emitted_prefix : (s : Trace) (o : Options) (place next : Place) (taken : ℕ) (b : List ℕ)
+    (old mid new : BytesWritten)
+    → EmittedSo s o place.number place.first old mid → PacksOn s o place next b
     → taken < length b → new.bytes ≡ mid.bytes ++ take taken b → new.failures ≡ mid.failures + 1
-    → TookPrefix s o (place.number * 2 ^ o.exponent + taken) old new
-took_prefix s o place next taken b old mid new h on part told failed =
+    → EmittedPrefix s o (place.number * 2 ^ o.exponent + taken) old new
+emitted_prefix s o place next taken b old mid new h on part reported failed =
     let same : length b ≡ length (concat on.records) = ap (λ (l : List ℕ). length l) on.bytes_are in
     let at = ends_in on.records taken (omega (arith, part, same)) in
     let whole = at.whole in
@@ -329,14 +330,15 @@ took_prefix s o place next taken b old mid new h on part told failed =
       packing = prefix.1;
       whole = omega (arith, long, whole, lead_long);
       part = omega (arith, long, inside, lead_long);
-      bytes = told ∙ ap (λ (l : List ℕ). l ++ take taken b) h.bytes
+      bytes = reported ∙ ap (λ (l : List ℕ). l ++ take taken b) h.bytes
           ∙ append_assoc old.bytes (concat h.records) (take taken b) ∙ ap (λ (l : List ℕ). old.bytes ++ l) (sym cut_at);
       failures = failed ∙ ap (λ (m : ℕ). m + 1) h.failures;
     }
 
-pub took_all : (s : Trace) (o : Options) (number first : ℕ) (old new : BytesWritten) → TookSo s o number first old new
-    → length s.samples ≤ first → TookAll s o number old new
-took_all s o number first old new h end = record {
+pub emitted_all : (s : Trace) (o : Options) (number first : ℕ) (old new : BytesWritten)
+    → EmittedSo s o number first old new
+    → length s.samples ≤ first → EmittedAll s o number old new
+emitted_all s o number first old new h end = record {
   records = h.records;
   packing = subst (λ (l : List ℤ). PacksUpTo s o h.records l) (drop_all first s.samples end) h.packing;
   count_is = h.count_is;

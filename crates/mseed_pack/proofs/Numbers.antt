@@ -19,7 +19,7 @@ pub residue_32 : (z : ℤ) → IsWithin 32 z → of_z w32 z ≡ residue (2 ^ 32)
 residue_32 (pos n) h = let high = h.1 in omega (arith, ints, high)
 residue_32 (negsuc n) h = let low = h.0 in omega (arith, ints, low)
 
--- one more in front of what stood there
+-- one more before what stood there
 pub one_more : (w size index : ℕ) (prefix bytes p q buf : List ℕ) → length prefix ≡ w * index → w * index + w ≤ size
     → length p ≡ size → p ≡ prefix ++ drop (w * index) q
     → buf ≡ bytes ++ drop w (drop (w * index) p) → put_mid (w * index) (length p - w * index) p buf ≡ (prefix ++ bytes)

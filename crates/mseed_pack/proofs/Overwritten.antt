@@ -33,20 +33,20 @@ joined a b r n least = ⊎_elim
     let here : n ≡ length r = omega (arith, least, full) in
     let mine : over a r ≡ take (length r) a = over_full a r (omega (arith, full)) in
     let size : length (take (length r) a) ≡ length r = length-take-le (length r) a (omega (arith, full)) in
-    let front : take n (over a r) ≡ take (length r) a = ap (λ (l : List ℕ). take n l) mine
+    let leading : take n (over a r) ≡ take (length r) a = ap (λ (l : List ℕ). take n l) mine
     ∙ take_all n (take (length r) a) (omega (arith, here, size)) in
     let none : drop n (over a r) ≡ [] = ap (λ (l : List ℕ). drop n l) mine
     ∙ drop_all n (take (length r) a) (omega (arith, here, size)) in
     let rest : over b (drop n (over a r)) ≡ [] = ap (λ (l : List ℕ). over b l) none
     ∙ drop_all (length b) [] (omega arith) in
-    (λ i. front i ++ rest i) ∙ append-nil (take (length r) a)
+    (λ i. leading i ++ rest i) ∙ append-nil (take (length r) a)
     ∙ sym (take-append-le (length r) a b (omega (arith, full)))
     ∙ sym (over_full (a ++ b) r (omega (arith, full, length-append a b))))
     (λ (room : length a ≤ length r).
     let here : length a ≡ n = omega (arith, least, room) in
     let left : List ℕ = drop (length a) r in
     let mine : over a r ≡ a ++ left = over_whole a r room in
-    let front : take n (over a r) ≡ a = ap (λ (l : List ℕ). take n l) mine ∙ take_at a left n here in
+    let leading : take n (over a r) ≡ a = ap (λ (l : List ℕ). take n l) mine ∙ take_at a left n here in
     let behind : drop n (over a r) ≡ left = ap (λ (l : List ℕ). drop n l) mine ∙ drop_at a left n here in
     let rest : over b (drop n (over a r)) ≡ over b left = ap (λ (l : List ℕ). over b l) behind in
     let size : length a + length left ≡ length r = omega (arith, room, length-drop (length a) r) in
@@ -54,7 +54,7 @@ joined a b r n least = ⊎_elim
     ∙ ap (λ (m : ℕ). take m (a ++ b)) size in
     let further : drop (length b) left ≡ drop (length (a ++ b)) r = drop-drop (length b) (length a) r
     ∙ ap (λ (m : ℕ). drop m r) (sym (length-append a b)) in
-    (λ i. front i ++ rest i) ∙ sym (append_assoc a (take (length left) b) (drop (length b) left))
+    (λ i. leading i ++ rest i) ∙ sym (append_assoc a (take (length left) b) (drop (length b) left))
     ∙ (λ i. some i ++ further i))
     (cases_lt (length r) (length a))
 

@@ -1,4 +1,4 @@
--- What two sinks that failed took of one series.
+-- What two sinks that failed accepted of one series.
 use Rattle.std.proofs.Common.{◌≡◌, ◌⊎◌, inl, inr, ℕ, ◌+◌, ◌<◌, ◌≤◌, List, [], ◌∷◌, ◌++◌, length, length-append, take}
 use Rattle.std.proofs.Common.{drop, sym, ap, subst, ◌∙◌, arith, ⊎_elim, ℤ}
 use Rattle.std.specs.List.{concat}
@@ -8,11 +8,11 @@ use Rattle.mseed_stream.specs.Device.{BytesWritten, IsPrefixOf}
 use Rattle.mseed_audit.specs.Series.{Trace}
 use Rattle.mseed_pack.specs.declared.options.Options.{Options}
 use Rattle.mseed_pack.specs.Prefixes.{ArePrefixes, HaveTakenPrefixes}
-use Rattle.mseed_pack.specs.Outcome.{TookPrefix}
+use Rattle.mseed_pack.specs.Outcome.{EmittedPrefix}
 use Rattle.mseed_pack.specs.Packing.{PacksUpTo}
 use Rattle.mseed_pack.proofs.Growing.{concat_all, concat_more}
 
--- what is said of records
+-- what is given of records
 abbrev pub OnePrefix : Type 0
 OnePrefix = (s : Trace) (o : Options) (records others : List (List ℕ)) (left rest : List ℤ)
     → PacksUpTo s o records left → PacksUpTo s o others rest → ArePrefixes records others
@@ -57,7 +57,7 @@ inside records last n h =
     omega (arith, h, size, length-append (concat records) last)
 
 pub taken_prefixes : OnePrefix → (s : Trace) (o : Options) (n m : ℕ) (old new before after : BytesWritten)
-    → TookPrefix s o n old new → TookPrefix s o m before after → HaveTakenPrefixes old new before after
+    → EmittedPrefix s o n old new → EmittedPrefix s o m before after → HaveTakenPrefixes old new before after
 taken_prefixes one s o n m old new before after h k =
     let records : List (List ℕ) = h.records ++ h.last ∷ [] in
     let others : List (List ℕ) = k.records ++ k.last ∷ [] in

@@ -1,4 +1,4 @@
--- A header in front of a payload, and the lengths of records.
+-- A header before a payload, and the lengths of records.
 use Rattle.std.proofs.Common.{◌≡◌, ℕ, ◌+◌, ◌-◌, ◌*◌, ◌%◌, ◌^◌, ◌≤◌, List, [], ◌++◌, length, take, drop, sym, ap, ◌∙◌}
 use Rattle.std.proofs.Common.{arith, length-append}
 use borrow.Rule.Slice.PartMut.{put_mid, post_of}

@@ -1,4 +1,4 @@
--- Bytes of whole frames are told by their words' codes and bits, X0 and Xn.
+-- Bytes of whole frames are reported by their words' codes and bits, X0 and Xn.
 use Rattle.std.proofs.Common.{◌≡◌, ◌≢◌, ℕ, zero, suc, ◌+◌, ◌-◌, ◌*◌, ◌/◌, ◌%◌, ◌^◌, ◌<◌, ◌≤◌, List, ◌∷◌, length, drop}
 use Rattle.std.proofs.Common.{get_or, refl, sym, ap, subst, ◌∙◌, arith, ◌⊎◌, inl, inr, ⊎_elim}
 use Rattle.std.proofs.Math.Nat.{div-div-eq-div-mul}
@@ -108,7 +108,7 @@ frame_word p q a b frame codes =
     ∙ sym (no_higher (word_at q (16 * frame)) (word_lt q b (16 * frame))))
     (λ k h. sym (code_of_frame p frame k h) ∙ codes (15 - k) (omega arith) ∙ code_of_frame q frame k h)
 
--- four bytes are told by their number
+-- four bytes are reported by their number
 four_bytes : (a b c d e f g h : ℕ) → a < 256 → b < 256 → c < 256 → d < 256 → e < 256 → f < 256 → g < 256 → h < 256
     → a * 256 ^ 3 + (b * 256 ^ 2 + (c * 256 ^ 1 + (d * 256 ^ 0 + 0))) ≡ e * 256 ^ 3
     + (f * 256 ^ 2 + (g * 256 ^ 1 + (h * 256 ^ 0 + 0))) → (a ≡ e) × (b ≡ f) × (c ≡ g) × (d ≡ h)

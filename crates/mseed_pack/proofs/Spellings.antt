@@ -16,7 +16,7 @@ pub residue_lt : (m : ℕ) (z : ℤ) → 0 < m → residue m z < m
 residue_lt m (pos n) h = mod-lt n h
 residue_lt m (negsuc n) h = omega (arith, h)
 
--- bytes in front move the places on
+-- bytes before it move the places on
 pub from_behind : (prefix xs : List ℕ) (n : ℕ) → big_from (length prefix) n (prefix ++ xs) ≡ big_from 0 n xs
 from_behind [] xs n = refl
 from_behind (a ∷ prefix) xs n = big_from-cons (length prefix) n a (prefix ++ xs) ∙ from_behind prefix xs n

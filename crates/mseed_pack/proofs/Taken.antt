@@ -1,10 +1,10 @@
--- What a sink took by two calls, and what it is then known to hold.
+-- What a sink accepted by two calls, and what it is then known to hold.
 use Rattle.std.proofs.Common.{◌≡◌, ◌++◌, ◌∙◌, ℕ, List, Option, ap, append_assoc}
 use Rattle.std.proofs.KnownBytes.{Appends-trans}
 use Rattle.std.specs.Io.KnownBytes.{Appends}
 use Rattle.mseed_stream.specs.Device.{BytesWritten}
 
--- what more a sink took, and what it's known to hold
+-- what more a sink accepted, and what it's known to hold
 abbrev pub TakesMore : BytesWritten → BytesWritten → Option (List ℕ) → Option (List ℕ) → Type 0
 TakesMore old new held holds = (more : List ℕ) × (new.bytes ≡ old.bytes ++ more) × Appends held holds more
 

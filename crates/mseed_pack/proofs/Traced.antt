@@ -21,7 +21,7 @@ use Rattle.mseed_time.specs.Rate.{Ratio, rate_of}
 use Rattle.mseed_time.specs.Ratios.{ratio_of}
 use Rattle.mseed_record.specs.Header.{key_at, factor_at, multiplier_at}
 use Rattle.mseed_record.specs.View.{View, IsView, leap_of}
-use Rattle.mseed_record.proofs.Asked.{record_long}
+use Rattle.mseed_record.proofs.Called.{record_long}
 use Rattle.mseed_steim.specs.Reading.{count_of}
 use Rattle.mseed_stream.proofs.Records.{view_record}
 use Rattle.mseed_audit.specs.Channels.{is_of}

@@ -147,10 +147,10 @@ abbrev leap_by : ℕ → Leap
 leap_by flags =
     cond (bit_at flags 4 == 1) (cond (bit_at flags 5 == 1) Both Positive) (cond (bit_at flags 5 == 1) Negative NoLeap)
 
-told : (o : Option LeapStep) → (step_in (leap_by (flags_of o)) ≡ o) × (leap_by (flags_of o) ≢ Both)
-told None = (refl, λ e. cc)
-told (Some Plus) = (refl, λ e. cc)
-told (Some Minus) = (refl, λ e. cc)
+reported : (o : Option LeapStep) → (step_in (leap_by (flags_of o)) ≡ o) × (leap_by (flags_of o) ≢ Both)
+reported None = (refl, λ e. cc)
+reported (Some Plus) = (refl, λ e. cc)
+reported (Some Minus) = (refl, λ e. cc)
 
 no_fault : (t : Parts) → IsTime t → first_fault t ≡ None
 no_fault t h = grind (arith, nat_tests)
@@ -182,7 +182,7 @@ pub record IsAt (s : Trace) (first : ℕ) (v : View) (samples : List ℤ) : Type
   pub start : start_of v ≡ instant_at s first
   pub count : count_of v ≡ length samples
   pub step : step_in (leap_of v.bytes) ≡ step_behind s (first + length samples)
-  pub told : leap_of v.bytes ≢ Both
+  pub reported : leap_of v.bytes ≢ Both
   pub whole : IsWhole v samples
 
 known : (v : View) (t : Parts) (f m : ℤ) (r : Ratio) → time_at v.order v.bytes ≡ t → first_fault t ≡ None
@@ -277,7 +277,7 @@ at headers spells s o p trace fits here k =
     let flags : activity_at v.bytes ≡ flags_of (step_behind s (p.first + length p.samples)) =
     back.activity ∙ k.fields.activity in
     let leap : leap_of v.bytes ≡ leap_by (flags_of (step_behind s (p.first + length p.samples))) = ap leap_by flags in
-    let tells = told (step_behind s (p.first + length p.samples)) in
+    let tells = reported (step_behind s (p.first + length p.samples)) in
     let within = short s p k.within in
     let some = k.some in
     record {
@@ -293,6 +293,6 @@ at headers spells s o p trace fits here k =
       start = back.start ∙ k.fields.start.value;
       count = back.samples ∙ k.fields.samples;
       step = ap step_in leap ∙ tells.0;
-      told = λ e. tells.1 (sym leap ∙ e);
+      reported = λ e. tells.1 (sym leap ∙ e);
       whole = whole_of spells s o p k slice back;
     }

@@ -24,8 +24,8 @@ pub record IsTrace (s : Trace) : Type 0 where
   pub multiplier_counts : s.rate.multiplier ≢ pos 0
   pub steps : AreSteps (length s.samples) s.steps
 
--- so far the sink took so many records, that hold so many samples of the series, and none of its calls failed
-pub record TookSo (s : Trace) (o : Options) (number first : ℕ) (old new : BytesWritten) : Type 0 where
+-- so far the sink accepted so many records, that hold so many samples of the series, and none of its calls failed
+pub record EmittedSo (s : Trace) (o : Options) (number first : ℕ) (old new : BytesWritten) : Type 0 where
   pub records : List (List ℕ)
   pub packing : PacksUpTo s o records (drop first s.samples)
   pub count_is : number ≡ length records
@@ -43,8 +43,8 @@ pub record PacksOn (s : Trace) (o : Options) (place next : Place) (bytes : List 
   pub long : next.number * 2 ^ o.exponent ≡ place.number * 2 ^ o.exponent + length bytes
   pub bytes_are : bytes ≡ concat records
 
--- the sink took the records that the series is packed into, so many, and none of its calls failed
-pub record TookAll (s : Trace) (o : Options) (count : ℕ) (old new : BytesWritten) : Type 0 where
+-- the sink accepted the records that the series is packed into, so many, and none of its calls failed
+pub record EmittedAll (s : Trace) (o : Options) (count : ℕ) (old new : BytesWritten) : Type 0 where
   pub records : List (List ℕ)
   pub packing : IsPacking s o records
   pub count_is : count ≡ length records
@@ -61,7 +61,7 @@ pub record FillsRoom (s : Trace) (o : Options) (count : ℕ) (old new : List ℕ
 
 -- The sink failed, once it had taken so many bytes of records that the series is packed into: all of those before the
 -- last, and of that a part.
-pub record TookPrefix (s : Trace) (o : Options) (taken : ℕ) (old new : BytesWritten) : Type 0 where
+pub record EmittedPrefix (s : Trace) (o : Options) (taken : ℕ) (old new : BytesWritten) : Type 0 where
   pub records : List (List ℕ)
   pub last : List ℕ
   pub left : List ℤ
@@ -71,14 +71,14 @@ pub record TookPrefix (s : Trace) (o : Options) (taken : ℕ) (old new : BytesWr
   pub bytes : new.bytes ≡ old.bytes ++ take taken (concat (records ++ last ∷ []))
   pub failures : new.failures ≡ old.failures + 1
 
--- a series that doesn't fit is refused before the sink is asked
+-- a series that doesn't fit is refused before the sink is called
 abbrev pub IsRefused : Trace → Options → PackFault → BytesWritten → BytesWritten → Type 0
 IsRefused s o fault old new = IsMisfit s o fault × (new ≡ old)
 
 -- by the answer: a series that fits was written, or a prefix of it; one that doesn't, not at all
 abbrev pub IsOutcome : Result ℕ PackFault → Trace → Options → BytesWritten → BytesWritten → Type 0
-IsOutcome (Ok count) s o old new = Fits s o × TookAll s o count old new
-IsOutcome (Err (Write taken)) s o old new = Fits s o × TookPrefix s o taken old new
+IsOutcome (Ok count) s o old new = Fits s o × EmittedAll s o count old new
+IsOutcome (Err (Write taken)) s o old new = Fits s o × EmittedPrefix s o taken old new
 IsOutcome (Err Empty) s o old new = IsRefused s o Empty old new
 IsOutcome (Err RateTooHigh) s o old new = IsRefused s o RateTooHigh old new
 IsOutcome (Err TimeOutOfRange) s o old new = IsRefused s o TimeOutOfRange old new

@@ -7,7 +7,7 @@ abbrev pub ArePrefixes : List (List ℕ) → List (List ℕ) → Type 0
 ArePrefixes records others =
     ((rest : List (List ℕ)) × (others ≡ records ++ rest)) ⊎ ((rest : List (List ℕ)) × (records ≡ others ++ rest))
 
--- each sink took some bytes more, and those of one are a prefix of those of the other
+-- each sink accepted some bytes more, and those of one are a prefix of those of the other
 pub record HaveTakenPrefixes (old new before after : BytesWritten) : Type 0 where
   pub here : List ℕ
   pub there : List ℕ

@@ -16,7 +16,7 @@ ghost use Rattle.mseed_pack.specs.declared.options.Encoding.TheVariants.{Steim2}
 ghost use Rattle.mseed_pack.specs.FewestWords.{HasFewestWords};
 ghost use Rattle.mseed_pack.specs.Fitting.{Fits, IsMisfit};
 ghost use Rattle.mseed_pack.specs.Prefixes.{ArePrefixes, HaveTakenPrefixes};
-ghost use Rattle.mseed_pack.specs.Outcome.{IsTrace, TookPrefix};
+ghost use Rattle.mseed_pack.specs.Outcome.{IsTrace, EmittedPrefix};
 ghost use Rattle.mseed_pack.specs.Packing.{PacksUpTo, IsPacking};
 ghost use Rattle.mseed_pack.specs.ReadBack.{AreApart, AreViewsOf, HaveSamples, IsAssembled, IsPartOf, IsTimedFrom};
 ghost use Rattle.mseed_pack.specs.ReadBack.{Packed, ReadsAs, StandsIn, records_of_all};
@@ -64,11 +64,11 @@ pub fn a_packing_exists(series: &SeriesView, options: &Options)
     }
 }
 
-/// Where the packing of a series failed twice, each sink took a prefix of what the other one took, or the other way
-/// round.
+/// Where the packing of a series failed twice, each sink accepted a prefix of what the other one accepted, or the other
+/// way round.
 pub fn one_prefix()
-    ensures { (s : Trace) (o : Options) (n m : ℕ) (old new before after : BytesWritten) → TookPrefix s o n old new
-        → TookPrefix s o m before after → HaveTakenPrefixes old new before after }
+    ensures { (s : Trace) (o : Options) (n m : ℕ) (old new before after : BytesWritten) → EmittedPrefix s o n old new
+        → EmittedPrefix s o m before after → HaveTakenPrefixes old new before after }
 {
     one_packing();
 }

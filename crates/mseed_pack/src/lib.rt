@@ -1,6 +1,6 @@
 //! Packing a series into miniSEED records (SEED Reference Manual 2.4, chapter 8 and appendix B).
 //!
-//! What is packed is one list of records, byte for byte: which one is said in `specs/Packing`.
+//! What is packed is one list of records, byte for byte: which one is stated in `specs/Packing`.
 #![tactic(auto)]
 
 mod batch;

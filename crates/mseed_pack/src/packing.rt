@@ -6,7 +6,7 @@ ghost use Rattle.mseed_audit.specs.Series.{AreSteps};
 ghost use Rattle.mseed_pack.specs.private.Filling.{HoldsDifferences};
 ghost use Rattle.mseed_pack.specs.Fitting.{Fits};
 ghost use Rattle.mseed_pack.specs.FewestWords.{HasFewestWords};
-ghost use Rattle.mseed_pack.specs.Outcome.{IsOutcome, IsTrace, TookAll, TookPrefix};
+ghost use Rattle.mseed_pack.specs.Outcome.{IsOutcome, IsTrace, EmittedAll, EmittedPrefix};
 ghost use Rattle.mseed_pack.specs.Packing.{IsPacking};
 ghost use Rattle.mseed_pack.specs.ReadBack.{ReadsAs};
 ghost use Rattle.mseed_pack.specs.declared.options.Encoding.TheVariants.{Steim2};
@@ -41,7 +41,7 @@ pub fn pack<A: Allocator + Copy, W: Sink>(
     ensures outcome { IsOutcome result series.now options.now (W.written sink.old) (W.written sink.new) }
     ensures beside { W.beside sink.new ≡ W.beside sink.old }
 
-    // What the sink is known to hold grew by what it took.
+    // What the sink is known to hold grew by what it accepted.
     ensures contents { (bytes : List ℕ) → (W.written sink.new).bytes ≡ (W.written sink.old).bytes ++ bytes
         → Appends (W.contents sink.old) (W.contents sink.new) bytes }
 
@@ -72,7 +72,7 @@ pub fn pack_view<W: Sink>(
     ensures outcome { IsOutcome result (trace_of series.now) options.now (W.written sink.old) (W.written sink.new) }
     ensures beside { W.beside sink.new ≡ W.beside sink.old }
 
-    // What the sink is known to hold grew by what it took.
+    // What the sink is known to hold grew by what it accepted.
     ensures contents { (bytes : List ℕ) → (W.written sink.new).bytes ≡ (W.written sink.old).bytes ++ bytes
         → Appends (W.contents sink.old) (W.contents sink.new) bytes }
 
@@ -111,12 +111,12 @@ fn pack_if_fit<W: Sink>(
     }
 }
 
-/// [`pack_view`] of a series that is known to fit, as [`fit_view`] says: nothing is asked of it again. The numbers of
+/// [`pack_view`] of a series that is known to fit, as [`fit_view`] says: nothing of it is checked again. The numbers of
 /// samples before its leap seconds rise strictly, from 1 to at most the number of samples.
 ///
 /// # Errors
 ///
-/// How many bytes the sink took before it failed.
+/// How many bytes the sink accepted before it failed.
 pub fn pack_fitting<W: Sink>(
     series: &SeriesView,
     options: &Options,
@@ -125,9 +125,9 @@ pub fn pack_fitting<W: Sink>(
     requires fits { Fits (trace_of series.now) options.now }
     requires steps { AreSteps (length series.now.samples.now) series.now.steps.now }
     ensures ok { IfOk result (λ count.
-        TookAll (trace_of series.now) options.now count (W.written sink.old) (W.written sink.new)) }
+        EmittedAll (trace_of series.now) options.now count (W.written sink.old) (W.written sink.new)) }
     ensures err { IfErr result (λ taken.
-        TookPrefix (trace_of series.now) options.now taken (W.written sink.old) (W.written sink.new)) }
+        EmittedPrefix (trace_of series.now) options.now taken (W.written sink.old) (W.written sink.new)) }
     ensures contents { (bytes : List ℕ) → (W.written sink.new).bytes ≡ (W.written sink.old).bytes ++ bytes
         → Appends (W.contents sink.old) (W.contents sink.new) bytes }
     ensures beside { W.beside sink.new ≡ W.beside sink.old }
@@ -156,7 +156,7 @@ impl Packer {
     ///
     /// # Errors
     ///
-    /// How many bytes the sink took before it failed.
+    /// How many bytes the sink accepted before it failed.
     pub fn pack_fitting<W: Sink>(
         &mut self,
         series: &SeriesView,
@@ -166,9 +166,9 @@ impl Packer {
         requires fits { Fits (trace_of series.now) options.now }
         requires steps { AreSteps (length series.now.samples.now) series.now.steps.now }
         ensures ok { IfOk result (λ count.
-            TookAll (trace_of series.now) options.now count (W.written sink.old) (W.written sink.new)) }
+            EmittedAll (trace_of series.now) options.now count (W.written sink.old) (W.written sink.new)) }
         ensures err { IfErr result (λ taken.
-            TookPrefix (trace_of series.now) options.now taken (W.written sink.old) (W.written sink.new)) }
+            EmittedPrefix (trace_of series.now) options.now taken (W.written sink.old) (W.written sink.new)) }
         ensures contents { (bytes : List ℕ) → (W.written sink.new).bytes ≡ (W.written sink.old).bytes ++ bytes
             → Appends (W.contents sink.old) (W.contents sink.new) bytes }
         ensures beside { W.beside sink.new ≡ W.beside sink.old }
@@ -191,9 +191,9 @@ fn pack_through<W: Sink>(
     requires long { 4096 ≤ length records.old }
     requires held { HoldsDifferences series.now.samples.now window.old }
     ensures ok { IfOk result (λ count.
-        TookAll (trace_of series.now) options.now count (W.written sink.old) (W.written sink.new)) }
+        EmittedAll (trace_of series.now) options.now count (W.written sink.old) (W.written sink.new)) }
     ensures err { IfErr result (λ taken.
-        TookPrefix (trace_of series.now) options.now taken (W.written sink.old) (W.written sink.new)) }
+        EmittedPrefix (trace_of series.now) options.now taken (W.written sink.old) (W.written sink.new)) }
     ensures contents { (bytes : List ℕ) → (W.written sink.new).bytes ≡ (W.written sink.old).bytes ++ bytes
         → Appends (W.contents sink.old) (W.contents sink.new) bytes }
     ensures beside { W.beside sink.new ≡ W.beside sink.old }

@@ -11,7 +11,7 @@ use Rattle.mseed_audit.specs.declared.finding.Why.TheVariants.{RateChange}
 use Rattle.mseed_audit.specs.Channels.{Placed, sample_count}
 use Rattle.mseed_audit.specs.Judging.{known_rate, why_by, why_from, why_after, IsFound}
 use Rattle.mseed_audit.specs.Judging.{time as by_time, rate as by_rate, read as by_read, after as by_after}
-use Rattle.mseed_audit.specs.Told.{last_of}
+use Rattle.mseed_audit.specs.Reported.{last_of}
 use Rattle.mseed_audit.specs.Verdict.{finding_at, AreFindings, none, one}
 use Rattle.mseed_audit.specs.declared.channel.Channel.{Channel}
 use Rattle.mseed_audit.specs.declared.channel.Findings.{Findings}
@@ -60,7 +60,7 @@ found_is h q None head = refl
 found_is h q (Some why) head =
     λ i. record { number = sym head.number i; offset = sym head.offset i; why = why } ∷ []
 
--- a record that is judged behind another has the border's finding in front of what is found of it alone
+-- a record that is judged behind another has the border's finding before what is found of it alone
 border_found : HaveOneFinding → (t : Option Tail) (b : View) (h : Option Head) (q : Placed) (qs : List Placed)
     (found : List Finding) → IsTailOf t b → IsHeadOf h q → AreFindings None (q ∷ qs) found
     → AreFindings (Some b) (q ∷ qs) (option_to_list (border_of t h) ++ found)

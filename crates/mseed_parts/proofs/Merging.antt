@@ -22,7 +22,7 @@ use Rattle.mseed_audit.specs.declared.channel.Head.{Head}
 use Rattle.mseed_audit.specs.declared.finding.Finding.{Finding}
 use Rattle.mseed_audit.specs.Audit.{head_in}
 use Rattle.mseed_audit.specs.Channels.{added_from, same_key}
-use Rattle.mseed_audit.specs.Told.{Told, AreToldOf}
+use Rattle.mseed_audit.specs.Reported.{Reported, AreReportedOf}
 use Rattle.mseed_audit.proofs.Maps.{keys_alike, same_back, same_is, same_itself}
 use Rattle.mseed_parts.specs.Borders.{border_at, border_with, borders_with}
 use Rattle.mseed_parts.specs.Joining.{border_between, moved_channel}
@@ -31,8 +31,8 @@ use Rattle.mseed_parts.specs.Notices.{notices_of}
 use Rattle.mseed_parts.specs.Parts.{Held, IsAscending, IsPartOf, kept_of}
 use Rattle.mseed_parts.proofs.Adding.{Entries}
 use Rattle.mseed_parts.proofs.Behind.{HaveOneFinding}
-use Rattle.mseed_parts.proofs.Noticing.{border_in, border_is_in, told_at_key, with_key}
-use Rattle.mseed_parts.proofs.Rising.{told_rise}
+use Rattle.mseed_parts.proofs.Noticing.{border_in, border_is_in, reported_at_key, with_key}
+use Rattle.mseed_parts.proofs.Rising.{reported_rise}
 
 -- ---- the borders of one channel among all
 abbrev no_notices : List Notice
@@ -190,9 +190,9 @@ alike_within (suc most) (n ∷ ns) ms le alike =
     (IsPermutation-sym ms (with_key k ms ++ without_key k ms) (parts ms)))
 
 -- ---- the findings of two archives one behind another
-pub findings_merge : HaveOneFinding → (a b : Held) (xs ys : List View) (first second whole : List Told)
-    → IsPartOf a xs → IsPartOf b ys → HaveBytes (xs ++ ys) → AreToldOf (added_from 0 xs) first
-    → AreToldOf (added_from 0 ys) second → AreToldOf (added_from 0 (xs ++ ys)) whole
+pub findings_merge : HaveOneFinding → (a b : Held) (xs ys : List View) (first second whole : List Reported)
+    → IsPartOf a xs → IsPartOf b ys → HaveBytes (xs ++ ys) → AreReportedOf (added_from 0 xs) first
+    → AreReportedOf (added_from 0 ys) second → AreReportedOf (added_from 0 (xs ++ ys)) whole
     → AreMerged (notices_of first ++ moved_notices a.records a.bytes (notices_of second))
     (border_notices (borders_with a b.channels)) (notices_of whole)
 findings_merge only a b xs ys first second whole p q some alone other all =
@@ -209,7 +209,7 @@ findings_merge only a b xs ys first second whole p q some alone other all =
     ∙ ap (λ (ns : List Notice). ns ++ border) (filter-append (λ n. same_key key n.key) ones twos)
     ∙ append_assoc here there border in
     let is : here ++ (border ++ there) ≡ with_key key (notices_of whole) =
-    sym (told_at_key only key a b xs ys first second whole p q alone other all
+    sym (reported_at_key only key a b xs ys first second whole p q alone other all
     ∙ ap (λ (ns : List Notice). here ++ (ns ++ there)) (sym (borders_by_key key a b.channels q.ascending))) in
     subst (λ (ns : List Notice). IsPermutation ns (with_key key (notices_of whole))) (sym split)
     (subst (λ (ns : List Notice). IsPermutation (here ++ (there ++ border)) ns) is
@@ -218,5 +218,5 @@ findings_merge only a b xs ys first second whole p q some alone other all =
     record {
       members = alike_within (length ((ones ++ twos) ++ between)) ((ones ++ twos) ++ between) (notices_of whole)
           (omega arith) by_key;
-      rise = told_rise (xs ++ ys) whole some all;
+      rise = reported_rise (xs ++ ys) whole some all;
     }

@@ -1,4 +1,4 @@
--- What is told of a channel in two archives one behind another: of each alone, and between them.
+-- What is reported of a channel in two archives one behind another: of each alone, and between them.
 use Rattle.std.proofs.Common.{◌≡◌, ℕ, List, [], ◌∷◌, ◌++◌, map, Bool, true, false, cond, Option, Some, None}
 use Rattle.std.proofs.Common.{refl, sym, ap, ◌∙◌, subst, append-nil}
 use Rattle.std.specs.List.{filter}
@@ -16,7 +16,7 @@ use Rattle.mseed_audit.specs.declared.tail.Tail.{Tail}
 use Rattle.mseed_audit.specs.Audit.{IsHeadOf, Stands, StandsAt, head_in, tail_in}
 use Rattle.mseed_audit.specs.Channels.{Placed, added_from, is_of, numbered, records_of, same_key}
 use Rattle.mseed_audit.specs.Judging.{rate_in, rate_unless, time_fault_of}
-use Rattle.mseed_audit.specs.Told.{Told, AreToldOf, last_of, told_with}
+use Rattle.mseed_audit.specs.Reported.{Reported, AreReportedOf, last_of, reported_with}
 use Rattle.mseed_audit.proofs.Maps.{same_is}
 use Rattle.mseed_parts.specs.Borders.{Border, border_at, border_with}
 use Rattle.mseed_parts.specs.Joining.{border_between, border_of, border_why, found_at, moved_channel, moved_head}
@@ -26,8 +26,9 @@ use Rattle.mseed_parts.specs.Parts.{Held, IsPartOf, kept_of}
 use Rattle.mseed_parts.proofs.Behind.{HaveOneFinding, last_is}
 use Rattle.mseed_parts.proofs.Moving.{head_moves, stands_at_moved}
 use Rattle.mseed_parts.proofs.Placing.{moved, records_append}
-use Rattle.mseed_parts.proofs.Telling.{AreToldIn, none, border_told, key_of, moved_told, told_append, told_border}
-use Rattle.mseed_parts.proofs.Telling.{told_moved, told_one, telling_channel}
+use Rattle.mseed_parts.proofs.Telling.{AreReportedIn, none, border_reported, key_of, moved_reported, reported_append}
+use Rattle.mseed_parts.proofs.Telling.{reported_border}
+use Rattle.mseed_parts.proofs.Telling.{reported_moved, reported_one, telling_channel}
 
 -- ---- those with a key
 abbrev pub with_key : List ℕ → List Notice → List Notice
@@ -46,19 +47,21 @@ filter_map_same {X} {Y} f p q same (x ∷ xs) =
     by true e = ap (λ (ys : List Y). f x ∷ ys) e
     by false e = e
 
-pub with_told : (key : List ℕ) (told : List Told) → with_key key (notices_of told) ≡ notices_of (told_with key told)
-with_told key told =
-    filter_map_same notice_of (λ t. same_key key (key_at t.view.bytes)) (λ n. same_key key n.key) (λ t. refl) told
+pub with_reported : (key : List ℕ) (reported : List Reported)
+    → with_key key (notices_of reported) ≡ notices_of (reported_with key reported)
+with_reported key reported =
+    filter_map_same notice_of (λ t. same_key key (key_at t.view.bytes)) (λ n. same_key key n.key) (λ t. refl) reported
 
 pub with_moved : (key : List ℕ) (d e : ℕ) (ns : List Notice)
     → with_key key (moved_notices d e ns) ≡ moved_notices d e (with_key key ns)
 with_moved key d e ns =
     filter_map_same (moved_notice d e) (λ n. same_key key n.key) (λ n. same_key key n.key) (λ n. refl) ns
 
-pub notices_moved : (d e : ℕ) (told : List Told)
-    → notices_of (map (moved_told d e) told) ≡ moved_notices d e (notices_of told)
+pub notices_moved : (d e : ℕ) (reported : List Reported)
+    → notices_of (map (moved_reported d e) reported) ≡ moved_notices d e (notices_of reported)
 notices_moved d e [] = refl
-notices_moved d e (t ∷ told) = ap (λ (ns : List Notice). notice_of (moved_told d e t) ∷ ns) (notices_moved d e told)
+notices_moved d e (t ∷ reported) = ap (λ (ns : List Notice). notice_of (moved_reported d e t) ∷ ns)
+    (notices_moved d e reported)
 
 -- ---- a border
 -- a record whose rate is known begins in its range
@@ -67,15 +70,15 @@ in_range : (fault : Option TimeFault) (rate : Option Ratio) (known : Ratio) → 
 in_range None rate known e = refl
 in_range (Some fault) rate known e = cc (e)
 
--- what is told of it
+-- what is reported of it
 same_notice : (key : List ℕ) (t : Option Tail) (h : Option Head) (q : Placed) → key ≡ key_at q.view.bytes
-    → IsHeadOf h q → notices_of (border_told q (border_of t h)) ≡ border_notices (border_at key h (border_of t h))
+    → IsHeadOf h q → notices_of (border_reported q (border_of t h)) ≡ border_notices (border_at key h (border_of t h))
 same_notice key None None q e is = refl
 same_notice key None (Some h) q e is = refl
 same_notice key (Some t) None q e is = refl
 same_notice key (Some t) (Some h) q e is = by (border_why t h)
   where
-    by : (why : Option Why) → notices_of (border_told q (found_at h why))
+    by : (why : Option Why) → notices_of (border_reported q (found_at h why))
         ≡ border_notices (border_at key (Some h) (found_at h why))
     by None = refl
     by (Some why) =
@@ -110,76 +113,81 @@ border_is_in key a o c e =
     ∙ ap (λ (bs : List Border). border_notices bs) (same_start key a.records a.bytes (head_in c.findings) between)
 
 -- ---- records with further ones behind
-pub record IsToldWith (key : List ℕ) (c o : Option Channel) (ps qs : List Placed) (told further : List Told) : Type 0
+pub record IsReportedWith (key : List ℕ) (c o : Option Channel) (ps qs : List Placed)
+    (reported further : List Reported) : Type 0
   where
-    pub between : List Told
-    pub all : AreToldIn None (ps ++ qs) (told ++ (between ++ further))
+    pub between : List Reported
+    pub all : AreReportedIn None (ps ++ qs) (reported ++ (between ++ further))
     pub notices : notices_of between ≡ border_in key c o
 
-none_told : (ps : List Placed) (told : List Told) → ps ≡ [] → AreToldIn None ps told → told ≡ []
-none_told [] told e (none _) = refl
-none_told (p ∷ ps) told e are = cc (e)
+none_reported : (ps : List Placed) (reported : List Reported) → ps ≡ [] → AreReportedIn None ps reported → reported ≡ []
+none_reported [] reported e (none _) = refl
+none_reported (p ∷ ps) reported e are = cc (e)
 
 -- behind none, and before none
-told_behind : (ps qs : List Placed) (told further : List Told) → ps ≡ [] → AreToldIn None ps told
-    → AreToldIn None qs further → AreToldIn None (ps ++ qs) (told ++ further)
-told_behind ps qs told further e are more =
-    subst (λ (rs : List Placed). AreToldIn None (rs ++ qs) (told ++ further)) (sym e)
-    (subst (λ (ts : List Told). AreToldIn None qs (ts ++ further)) (sym (none_told ps told e are)) more)
+reported_behind : (ps qs : List Placed) (reported further : List Reported) → ps ≡ [] → AreReportedIn None ps reported
+    → AreReportedIn None qs further → AreReportedIn None (ps ++ qs) (reported ++ further)
+reported_behind ps qs reported further e are more =
+    subst (λ (rs : List Placed). AreReportedIn None (rs ++ qs) (reported ++ further)) (sym e)
+    (subst (λ (ts : List Reported). AreReportedIn None qs (ts ++ further)) (sym (none_reported ps reported e are)) more)
 
-told_before : (ps qs : List Placed) (told further : List Told) → qs ≡ [] → AreToldIn None ps told
-    → AreToldIn None qs further → AreToldIn None (ps ++ qs) (told ++ further)
-told_before ps qs told further e are more =
-    subst (λ (rs : List Placed). AreToldIn None (ps ++ rs) (told ++ further)) (sym e)
-    (subst (λ (ts : List Told). AreToldIn None (ps ++ []) (told ++ ts)) (sym (none_told qs further e more))
-    (subst (λ (rs : List Placed). AreToldIn None rs (told ++ [])) (sym (append-nil ps))
-    (subst (λ (ts : List Told). AreToldIn None ps ts) (sym (append-nil told)) are)))
+reported_before : (ps qs : List Placed) (reported further : List Reported) → qs ≡ [] → AreReportedIn None ps reported
+    → AreReportedIn None qs further → AreReportedIn None (ps ++ qs) (reported ++ further)
+reported_before ps qs reported further e are more =
+    subst (λ (rs : List Placed). AreReportedIn None (ps ++ rs) (reported ++ further)) (sym e)
+    (subst (λ (ts : List Reported). AreReportedIn None (ps ++ []) (reported ++ ts))
+    (sym (none_reported qs further e more))
+    (subst (λ (rs : List Placed). AreReportedIn None rs (reported ++ [])) (sym (append-nil ps))
+    (subst (λ (ts : List Reported). AreReportedIn None ps ts) (sym (append-nil reported)) are)))
 
 no_border : (key : List ℕ) (h : Option Head) → border_at key h None ≡ []
 no_border key None = refl
 no_border key (Some h) = refl
 
-told_both : HaveOneFinding → (key : List ℕ) (c o : Channel) (ps qs : List Placed) (told further : List Told)
+reported_both : HaveOneFinding → (key : List ℕ) (c o : Channel) (ps qs : List Placed) (reported further : List Reported)
     → Stands c ps → Stands o qs → ((q : Placed) (rest : List Placed) → qs ≡ q ∷ rest → key ≡ key_at q.view.bytes)
-    → AreToldIn None ps told → AreToldIn None qs further → IsToldWith key (Some c) (Some o) ps qs told further
-told_both only key c o ps qs told further s t keys are more =
+    → AreReportedIn None ps reported → AreReportedIn None qs further
+    → IsReportedWith key (Some c) (Some o) ps qs reported further
+reported_both only key c o ps qs reported further s t keys are more =
     let border : Option Finding = border_of (tail_in c.findings) (head_in o.findings) in
-    let between : List Told = border_told t.first border in
-    let alone : AreToldIn None (t.first ∷ t.rest) further =
-    subst (λ (rs : List Placed). AreToldIn None rs further) t.begins more in
-    let behind : AreToldIn (Some s.last.view) (t.first ∷ t.rest) (between ++ further) =
-    told_border only (tail_in c.findings) s.last.view (head_in o.findings) t.first t.rest further s.tail t.head alone in
-    let all : AreToldIn (last_of None ps) qs (between ++ further) =
-    subst (λ (v : Option View). AreToldIn v qs (between ++ further)) (sym (last_is ps s.prefix s.last s.ends))
-    (subst (λ (rs : List Placed). AreToldIn (Some s.last.view) rs (between ++ further)) (sym t.begins) behind) in
+    let between : List Reported = border_reported t.first border in
+    let alone : AreReportedIn None (t.first ∷ t.rest) further =
+    subst (λ (rs : List Placed). AreReportedIn None rs further) t.begins more in
+    let behind : AreReportedIn (Some s.last.view) (t.first ∷ t.rest) (between ++ further) =
+    reported_border only (tail_in c.findings) s.last.view (head_in o.findings) t.first t.rest further s.tail t.head
+    alone in
+    let all : AreReportedIn (last_of None ps) qs (between ++ further) =
+    subst (λ (v : Option View). AreReportedIn v qs (between ++ further)) (sym (last_is ps s.prefix s.last s.ends))
+    (subst (λ (rs : List Placed). AreReportedIn (Some s.last.view) rs (between ++ further)) (sym t.begins) behind) in
     record {
       between = between;
-      all = told_append None ps qs told (between ++ further) are all;
+      all = reported_append None ps qs reported (between ++ further) are all;
       notices = same_notice key (tail_in c.findings) (head_in o.findings) t.first (keys t.first t.rest t.begins)
           t.head;
     }
 
-told_joined : HaveOneFinding → (key : List ℕ) (c o : Option Channel) (ps qs : List Placed) (told further : List Told)
+reported_joined : HaveOneFinding → (key : List ℕ) (c o : Option Channel) (ps qs : List Placed)
+    (reported further : List Reported)
     → StandsAt c ps → StandsAt o qs
     → ((q : Placed) (rest : List Placed) → qs ≡ q ∷ rest → key ≡ key_at q.view.bytes)
-    → AreToldIn None ps told → AreToldIn None qs further → IsToldWith key c o ps qs told further
-told_joined only key None None ps qs told further s t keys are more = record {
+    → AreReportedIn None ps reported → AreReportedIn None qs further → IsReportedWith key c o ps qs reported further
+reported_joined only key None None ps qs reported further s t keys are more = record {
   between = [];
-  all = told_behind ps qs told further s are more;
+  all = reported_behind ps qs reported further s are more;
   notices = refl;
 }
-told_joined only key None (Some o) ps qs told further s t keys are more = record {
+reported_joined only key None (Some o) ps qs reported further s t keys are more = record {
   between = [];
-  all = told_behind ps qs told further s are more;
+  all = reported_behind ps qs reported further s are more;
   notices = ap border_notices (sym (no_border key (head_in o.findings)));
 }
-told_joined only key (Some c) None ps qs told further s t keys are more = record {
+reported_joined only key (Some c) None ps qs reported further s t keys are more = record {
   between = [];
-  all = told_before ps qs told further t are more;
+  all = reported_before ps qs reported further t are more;
   notices = refl;
 }
-told_joined only key (Some c) (Some o) ps qs told further s t keys are more =
-    told_both only key c o ps qs told further s t keys are more
+reported_joined only key (Some c) (Some o) ps qs reported further s t keys are more =
+    reported_both only key c o ps qs reported further s t keys are more
 
 -- the first record of a channel has its key
 first_with : (key : List ℕ) (ps : List Placed) (q : Placed) (rest : List Placed)
@@ -202,42 +210,43 @@ moved_first key d e (p ∷ ps) keys q rest is =
     keys p ps refl ∙ ap (λ (r : Placed). key_at r.view.bytes) same
 
 -- ---- of two archives one behind another
-pub told_at_key : HaveOneFinding → (key : List ℕ) (a b : Held) (xs ys : List View) (first second whole : List Told)
-    → IsPartOf a xs → IsPartOf b ys → AreToldOf (added_from 0 xs) first → AreToldOf (added_from 0 ys) second
-    → AreToldOf (added_from 0 (xs ++ ys)) whole
+pub reported_at_key : HaveOneFinding → (key : List ℕ) (a b : Held) (xs ys : List View)
+    (first second whole : List Reported)
+    → IsPartOf a xs → IsPartOf b ys → AreReportedOf (added_from 0 xs) first → AreReportedOf (added_from 0 ys) second
+    → AreReportedOf (added_from 0 (xs ++ ys)) whole
     → with_key key (notices_of whole) ≡ with_key key (notices_of first)
     ++ (border_in key (kept_of key a.channels) (option_map (moved_channel a.records a.bytes) (kept_of key b.channels))
     ++ with_key key (moved_notices a.records a.bytes (notices_of second)))
-told_at_key only key a b xs ys first second whole p q alone other all =
+reported_at_key only key a b xs ys first second whole p q alone other all =
     let d : ℕ = a.records in
     let e : ℕ = a.bytes in
     let c : Option Channel = kept_of key a.channels in
     let o : Option Channel = option_map (moved_channel d e) (kept_of key b.channels) in
     let ours : List Placed = records_of key (added_from 0 xs) in
     let theirs : List Placed = records_of key (added_from 0 ys) in
-    let ones : List Told = told_with key first in
-    let twos : List Told = told_with key second in
+    let ones : List Reported = reported_with key first in
+    let twos : List Reported = reported_with key second in
     let keys : (r : Placed) (rest : List Placed) → map (moved d e) theirs ≡ r ∷ rest → key ≡ key_at r.view.bytes =
     moved_first key d e theirs (λ r rest is.
     same_is key (key_at r.view.bytes) (key_of key r.view (first_with key (numbered 1 (added_from 0 ys)) r rest is))) in
-    let j : IsToldWith key c o ours (map (moved d e) theirs) ones (map (moved_told d e) twos) =
-    told_joined only key c o ours (map (moved d e) theirs) ones (map (moved_told d e) twos) (p.each key)
+    let j : IsReportedWith key c o ours (map (moved d e) theirs) ones (map (moved_reported d e) twos) =
+    reported_joined only key c o ours (map (moved d e) theirs) ones (map (moved_reported d e) twos) (p.each key)
     (stands_at_moved d e (kept_of key b.channels) theirs (q.each key)) keys
     (telling_channel (added_from 0 xs) first key alone)
-    (told_moved d e None theirs twos (telling_channel (added_from 0 ys) second key other)) in
+    (reported_moved d e None theirs twos (telling_channel (added_from 0 ys) second key other)) in
     let records : ours ++ map (moved d e) theirs ≡ records_of key (added_from 0 (xs ++ ys)) =
     (λ i. ours ++ map (moved (p.records i) (p.bytes i)) theirs) ∙ sym (records_append key xs ys) in
-    let same : told_with key whole ≡ ones ++ (j.between ++ map (moved_told d e) twos) =
-    told_one only None (records_of key (added_from 0 (xs ++ ys))) (told_with key whole)
-    (ones ++ (j.between ++ map (moved_told d e) twos))
+    let same : reported_with key whole ≡ ones ++ (j.between ++ map (moved_reported d e) twos) =
+    reported_one only None (records_of key (added_from 0 (xs ++ ys))) (reported_with key whole)
+    (ones ++ (j.between ++ map (moved_reported d e) twos))
     (telling_channel (added_from 0 (xs ++ ys)) whole key all)
-    (subst (λ (ps : List Placed). AreToldIn None ps (ones ++ (j.between ++ map (moved_told d e) twos))) records
+    (subst (λ (ps : List Placed). AreReportedIn None ps (ones ++ (j.between ++ map (moved_reported d e) twos))) records
     j.all) in
-    let last : notices_of (map (moved_told d e) twos) ≡ with_key key (moved_notices d e (notices_of second)) =
-    notices_moved d e twos ∙ ap (λ (ns : List Notice). moved_notices d e ns) (sym (with_told key second))
+    let last : notices_of (map (moved_reported d e) twos) ≡ with_key key (moved_notices d e (notices_of second)) =
+    notices_moved d e twos ∙ ap (λ (ns : List Notice). moved_notices d e ns) (sym (with_reported key second))
     ∙ sym (with_moved key d e (notices_of second)) in
-    with_told key whole ∙ ap notices_of same
-    ∙ map-append notice_of ones (j.between ++ map (moved_told d e) twos)
+    with_reported key whole ∙ ap notices_of same
+    ∙ map-append notice_of ones (j.between ++ map (moved_reported d e) twos)
     ∙ ap (λ (ns : List Notice). notices_of ones ++ ns)
-    (map-append notice_of j.between (map (moved_told d e) twos))
-    ∙ (λ i. sym (with_told key first) i ++ (j.notices i ++ last i))
+    (map-append notice_of j.between (map (moved_reported d e) twos))
+    ∙ (λ i. sym (with_reported key first) i ++ (j.notices i ++ last i))

@@ -1,4 +1,4 @@
--- What is told of an archive stands there by its offsets, and merged lists are one.
+-- What is reported of an archive stands there by its offsets, and merged lists are one.
 use Rattle.std.proofs.Common.{◌≡◌, ℕ, ◌+◌, ◌≤◌, ◌<◌, List, [], ◌∷◌, ◌++◌, length, Option, Some, None, refl, sym, ap}
 use Rattle.std.proofs.Common.{subst, arith, ◌⊎◌, inl, inr, IsPermutation}
 use Rattle.std.specs.List.{AllByRecursion}
@@ -7,7 +7,7 @@ use Rattle.std.proofs.lemmas.List.Sorted.{All-permutation, IsPermutation-sym, Is
 use Rattle.mseed_record.specs.View.{View}
 use Rattle.mseed_audit.specs.declared.finding.Why.{Why}
 use Rattle.mseed_audit.specs.Channels.{Placed, added_from, numbered}
-use Rattle.mseed_audit.specs.Told.{Told, AreTold, AreToldOf, told_at, none, one}
+use Rattle.mseed_audit.specs.Reported.{Reported, AreReported, AreReportedOf, reported_at, none, one}
 use Rattle.mseed_parts.specs.Notices.{AreMerged, HaveBytes, Notice, RiseFrom, notices_of}
 use Rattle.mseed_parts.proofs.Placing.{placed_behind}
 
@@ -15,37 +15,39 @@ rise_before : (least lower : ℕ) (ns : List Notice) → lower ≤ least → Ris
 rise_before least lower [] le rise = tt
 rise_before least lower (n ∷ ns) le rise = (omega (arith, le, rise.0), rise.1)
 
-rise_at : (offset next number : ℕ) (v : View) (why : Option Why) (told : List Told) → offset < next
-    → RiseFrom next (notices_of told)
-    → RiseFrom offset (notices_of (told_at (record { view = v; offset = offset; number = number }) why ++ told))
-rise_at offset next number v None told lt rise = rise_before next offset (notices_of told) (omega (arith, lt)) rise
-rise_at offset next number v (Some why) told lt rise =
-    (omega arith, rise_before next (offset + 1) (notices_of told) (omega (arith, lt)) rise)
+rise_at : (offset next number : ℕ) (v : View) (why : Option Why) (reported : List Reported) → offset < next
+    → RiseFrom next (notices_of reported)
+    → RiseFrom offset (notices_of (reported_at (record { view = v; offset = offset; number = number }) why ++ reported))
+rise_at offset next number v None reported lt rise =
+    rise_before next offset (notices_of reported) (omega (arith, lt)) rise
+rise_at offset next number v (Some why) reported lt rise =
+    (omega arith, rise_before next (offset + 1) (notices_of reported) (omega (arith, lt)) rise)
 
-rise_from : (earlier : List Placed) (number offset : ℕ) (vs : List View) (told : List Told) → HaveBytes vs
-    → AreTold earlier (numbered number (added_from offset vs)) told → RiseFrom offset (notices_of told)
-rise_from earlier number offset [] told some (none _) = tt
-rise_from earlier number offset (v ∷ vs) told some (one _ p _ why rest h later) =
+rise_from : (earlier : List Placed) (number offset : ℕ) (vs : List View) (reported : List Reported) → HaveBytes vs
+    → AreReported earlier (numbered number (added_from offset vs)) reported → RiseFrom offset (notices_of reported)
+rise_from earlier number offset [] reported some (none _) = tt
+rise_from earlier number offset (v ∷ vs) reported some (one _ p _ why rest h later) =
     rise_at offset (offset + length v.bytes) number v why rest (let has = some.0 in omega (arith, has))
     (rise_from (earlier ++ p ∷ []) (number + 1) (offset + length v.bytes) vs rest some.1 later)
 
-pub told_rise : (views : List View) (told : List Told) → HaveBytes views → AreToldOf (added_from 0 views) told
-    → RiseFrom 0 (notices_of told)
-told_rise views told some are = rise_from [] 1 0 views told some are
+pub reported_rise : (views : List View) (reported : List Reported) → HaveBytes views
+    → AreReportedOf (added_from 0 views) reported
+    → RiseFrom 0 (notices_of reported)
+reported_rise views reported some are = rise_from [] 1 0 views reported some are
 
--- ---- what is told of the first records
-told_prefix : (earlier ps qs : List Placed) (all : List Told) → AreTold earlier (ps ++ qs) all
-    → (first : List Told) × AreTold earlier ps first
-told_prefix earlier [] qs all are = ([], none earlier)
-told_prefix earlier (p ∷ ps) qs all (one _ _ _ why rest h later) =
-    let more = told_prefix (earlier ++ p ∷ []) ps qs rest later in
-    (told_at p why ++ more.0, one earlier p ps why more.0 h more.1)
+-- ---- what is reported of the first records
+reported_prefix : (earlier ps qs : List Placed) (all : List Reported) → AreReported earlier (ps ++ qs) all
+    → (first : List Reported) × AreReported earlier ps first
+reported_prefix earlier [] qs all are = ([], none earlier)
+reported_prefix earlier (p ∷ ps) qs all (one _ _ _ why rest h later) =
+    let more = reported_prefix (earlier ++ p ∷ []) ps qs rest later in
+    (reported_at p why ++ more.0, one earlier p ps why more.0 h more.1)
 
-pub told_first : (xs ys : List View) (whole : List Told) → AreToldOf (added_from 0 (xs ++ ys)) whole
-    → (first : List Told) × AreToldOf (added_from 0 xs) first
-told_first xs ys whole are =
-    told_prefix [] (numbered 1 (added_from 0 xs)) _ whole
-    (subst (λ (ps : List Placed). AreTold [] ps whole) (placed_behind xs ys) are)
+pub reported_first : (xs ys : List View) (whole : List Reported) → AreReportedOf (added_from 0 (xs ++ ys)) whole
+    → (first : List Reported) × AreReportedOf (added_from 0 xs) first
+reported_first xs ys whole are =
+    reported_prefix [] (numbered 1 (added_from 0 xs)) _ whole
+    (subst (λ (ps : List Placed). AreReported [] ps whole) (placed_behind xs ys) are)
 
 -- ---- two lists are merged in one way
 abbrev IsIn : List Notice → Notice → Type 0

@@ -1,4 +1,4 @@
--- What is told of findings: of the records of archives, and of the borders where their parts are joined.
+-- What is reported of findings: of the records of archives, and of the borders where their parts are joined.
 use Rattle.std.specs.Prelude.{⊤, ◌≤◌, ◌<◌, ℕ, ℤ, ◌+◌, List, [], ◌∷◌, ◌++◌, length, map, Option, None, IsPermutation}
 use Rattle.std.specs.List.{AllByRecursion}
 use Rattle.mseed_time.specs.declared.fault.TimeFault.{TimeFault}
@@ -6,11 +6,11 @@ use Rattle.mseed_record.specs.Header.{key_at}
 use Rattle.mseed_record.specs.View.{View, start_of}
 use Rattle.mseed_audit.specs.declared.finding.Finding.{Finding}
 use Rattle.mseed_audit.specs.Judging.{time_fault_of}
-use Rattle.mseed_audit.specs.Told.{Told}
+use Rattle.mseed_audit.specs.Reported.{Reported}
 use Rattle.mseed_parts.specs.Borders.{Border}
 use Rattle.mseed_parts.specs.Joining.{moved_finding}
 
--- a finding that is told: the channel, the start of the record, unless a field of it is out of its range, and the
+-- a finding that is reported: the channel, the start of the record, unless a field of it is out of its range, and the
 -- finding
 pub record Notice : Type 0 where
   pub key : List ℕ
@@ -18,7 +18,7 @@ pub record Notice : Type 0 where
   pub start : ℤ
   pub finding : Finding
 
-abbrev pub notice_of : Told → Notice
+abbrev pub notice_of : Reported → Notice
 notice_of t = record {
   key = key_at t.view.bytes;
   fault = time_fault_of t.view;
@@ -26,8 +26,8 @@ notice_of t = record {
   finding = t.finding;
 }
 
-abbrev pub notices_of : List Told → List Notice
-notices_of told = map notice_of told
+abbrev pub notices_of : List Reported → List Notice
+notices_of reported = map notice_of reported
 
 -- of a border: its record's start is in its range
 abbrev pub border_notice : Border → Notice

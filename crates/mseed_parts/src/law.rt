@@ -3,7 +3,7 @@ ghost use Rattle.std.specs.Prelude.{◌≡◌, ◌∷◌, ◌++◌, List, [], �
 ghost use Rattle.mseed_record.specs.View.{View};
 ghost use Rattle.mseed_audit.specs.declared.channel.Channel.{Channel};
 ghost use Rattle.mseed_audit.specs.Channels.{added_from};
-ghost use Rattle.mseed_audit.specs.Told.{Told, AreToldOf};
+ghost use Rattle.mseed_audit.specs.Reported.{Reported, AreReportedOf};
 ghost use Rattle.mseed_parts.specs.Borders.{borders_with};
 ghost use Rattle.mseed_parts.specs.Notices.{AreMerged, HaveBytes, Notice, border_notices, moved_notices, notices_of};
 ghost use Rattle.mseed_parts.specs.Parts.{Held, IsAscending, IsPartOf, IsJoint, kept_of, one_channel};
@@ -29,9 +29,10 @@ pub fn parts_add_up()
 /// The findings of two archives, those of the second with their numbers and offsets gone up, and the findings at the
 /// borders of their parts, merged by offset, are the findings of the archives one behind another.
 pub fn findings_add_up()
-    ensures merged { (a b : Held) (xs ys : List View) (first second whole : List Told) → IsPartOf a xs → IsPartOf b ys
-        → HaveBytes (xs ++ ys) → AreToldOf (added_from 0 xs) first → AreToldOf (added_from 0 ys) second
-        → AreToldOf (added_from 0 (xs ++ ys)) whole
+    ensures merged { (a b : Held) (xs ys : List View) (first second whole : List Reported) → IsPartOf a xs
+        → IsPartOf b ys → HaveBytes (xs ++ ys) → AreReportedOf (added_from 0 xs) first
+        → AreReportedOf (added_from 0 ys) second
+        → AreReportedOf (added_from 0 (xs ++ ys)) whole
         → AreMerged (notices_of first ++ moved_notices a.records a.bytes (notices_of second))
         (border_notices (borders_with a b.channels)) (notices_of whole) }
 

@@ -54,7 +54,7 @@ reached_next r prefix next h e is small =
       );
     }
 
--- what is said of a header is said of all bytes that begin with it
+-- what holds of a header holds of all bytes that begin with it
 version3_more : (prefix more : List ℕ) → 3 ≤ length prefix → is_version3 (prefix ++ more) ≡ is_version3 prefix
 version3_more [] more h = absurd (omega arith)
 version3_more (a ∷ []) more h = absurd (omega arith)

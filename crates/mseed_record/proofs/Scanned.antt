@@ -12,7 +12,7 @@ use Rattle.mseed_record.proofs.Framed.{framed}
 use Rattle.mseed_record.proofs.Answered.{answered}
 use Rattle.mseed_record.proofs.Refused.{refused}
 use Rattle.mseed_record.proofs.Needed.{needed}
-use Rattle.mseed_record.proofs.Asked.{needs_more, few_asked, asked}
+use Rattle.mseed_record.proofs.Called.{needs_more, few_called, called}
 use Rattle.mseed_record.proofs.OneAnswer.{one_answer}
 
 framed_by : (prefix : List ℕ) (k : ℕ) (a : Scan) → ((i : ℕ) → get_or prefix i 0 < 256) → Decides prefix a → a ≡ Record k
@@ -44,6 +44,6 @@ scanned prefix a octets d =
       record_is = λ k. (λ e. framed_by prefix k a octets d e, λ r. answered prefix k a d r.0 r.1);
       refused_is = λ f e. refused prefix f (subst (λ (x : Scan). Decides prefix x) e d);
       needed_is = λ k e. needed prefix k octets (needs k e);
-      bound = λ k e. (needs_more prefix k (needed prefix k octets (needs k e)), few_asked prefix k octets (needs k e));
-      least = λ k e more n r. asked prefix more k n (needs k e) r;
+      bound = λ k e. (needs_more prefix k (needed prefix k octets (needs k e)), few_called prefix k octets (needs k e));
+      least = λ k e more n r. called prefix more k n (needs k e) r;
     }

@@ -26,7 +26,7 @@ pub enum FrameFault {
 /// What the prefix of an input is.
 #[derive(Clone, Copy, Debug, PartialEq, Eq)]
 pub enum Scan {
-    /// So many bytes are needed before it can be said.
+    /// So many bytes are needed before that is known.
     Need(usize),
     /// The first so many bytes are a record.
     Record(usize),
@@ -39,7 +39,7 @@ pub enum Scan {
 pub enum ViewFault {
     /// No bytes that may come make a record of them.
     Not(FrameFault),
-    /// So many bytes are needed before it can be said.
+    /// So many bytes are needed before that is known.
     Short(usize),
 }
 

@@ -28,7 +28,7 @@ pub(crate) struct Reached {
     order: Order,
     /// Behind the first four bytes of the last blockette, or behind the header: the next can't begin before.
     low: usize,
-    /// Where the next blockette is said to begin; 0 where there is none.
+    /// Where the next blockette begins by what this one says; 0 where there is none.
     offset: usize,
 }
 

@@ -12,7 +12,7 @@ use crate::framer::Framer;
 /// Says whether a record begins the bytes, and how many bytes it has, by the first framing step that
 /// applies (SEED manual, chapter 8, "Data record blockettes": the length is blockette 1000's).
 ///
-/// `Need` names how many bytes there have to be in all before more can be said, `Not` the step by which
+/// `Need` names how many bytes there have to be in all before more is known, `Not` the step by which
 /// no bytes that may come can help. Each blockette up to the first 1000 is looked at once; a [`Framer`]
 /// goes on along them while more bytes come.
 pub fn scan(prefix: &[u8]) -> Scan
@@ -24,7 +24,7 @@ pub fn scan(prefix: &[u8]) -> Scan
     ensures refused { (f : FrameFault) → result ≡ Not f → HasNoRecord prefix.now }
     ensures needed { (k : ℕ) → result ≡ Need k → Needs prefix.now k }
 
-    // What is asked for is more than there is, no more than the longest record has, and no more than any record
+    // What is requested is more than there is, no more than the longest record has, and no more than any record
     // that may come has.
     ensures bound { (k : ℕ) → result ≡ Need k → (length prefix.now < k) × (k ≤ 2 ^ 20) }
     ensures least { (k : ℕ) → result ≡ Need k → HasNoShorter prefix.now k }

@@ -97,9 +97,9 @@ fn packs_an_archive_and_leaves_out_its_log(rt: HostRuntime) {
     wanted[128..].copy_from_slice(&with(&[(0, b"000002"), (26, &[10])]));
     let packed = output.into_inner();
     assert_eq!(rt; packed.as_slice(), wanted.as_slice());
-    let told = lines.into_inner();
+    let reported = lines.into_inner();
     assert_eq!(rt;
-        told.as_slice(),
+        reported.as_slice(),
         b"mseed: XX_STA__LOG is broken\n".as_slice()
     );
 }

@@ -13,7 +13,7 @@ use Rattle.slink_feed.specs.Attending.{attending, is_at_end, is_closed, replies}
 use Rattle.slink_feed.specs.private.Replying.{HasSent, IsReplyFault, IsSendFault}
 use Rattle.slink_feed.specs.Rounds.{Attending}
 use Rattle.slink_feed.specs.Serving.{Standing}
-use Rattle.slink_feed.specs.Turns.{failed_once, is_empty, told_once}
+use Rattle.slink_feed.specs.Turns.{failed_once, is_empty, reported_once}
 use Rattle.slink_feed.specs.Window.{Window}
 
 or_false : (b : Bool) → (b || false) ≡ b
@@ -33,14 +33,14 @@ read_with h bytes failed ends = record {
   is_at_end = ends;
 }
 
--- a read that failed, and one that told bytes
+-- a read that failed, and one that reported bytes
 pub failed_is : (h : BytesRead) (e : Failed) (buf : List ℕ) → read_also h (Err e) buf ≡ failed_once h
 failed_is h e buf = ap (λ (b : List ℕ). read_with h b 1 (h.is_at_end || false)) (append-nil h.bytes)
     ∙ ap (read_with h h.bytes 1) (or_false h.is_at_end)
 
-pub told_is : (h : BytesRead) (n : ℕ) (buf : List ℕ) → 0 < n → n ≤ length buf
-    → read_also {E = Failed} h (Ok n) buf ≡ told_once h (take n buf)
-told_is h n buf some bound = elim (eqb_tells n 0) [
+pub reported_is : (h : BytesRead) (n : ℕ) (buf : List ℕ) → 0 < n → n ≤ length buf
+    → read_also {E = Failed} h (Ok n) buf ≡ reported_once h (take n buf)
+reported_is h n buf some bound = elim (eqb_tells n 0) [
   | inl none ↦ absurd (omega (arith, none.1, some))
   | inr other ↦
       let ends : (h.is_at_end || ((n == 0) && not (length buf == 0))) ≡ (h.is_at_end || is_empty (take n buf)) =
@@ -68,7 +68,7 @@ module _ (feed : List Window) (old : Attending) (before : BytesRead) where
       → new.session.state.phase ≡ Closed → after ≡ before → Attends feed old new before after turns.Closed
   all_sent_and_closed new after count sent shut same = is_closed sent.sends shut same
 
-  -- a read leaves what the link took as it was
+  -- a read leaves what the link accepted as it was
   module _ (session : Standing) (sent_written written : BytesWritten) (count : ℕ)
       (sent : HasSent feed old (attending session sent_written) count) (unshut : session.state.phase ≢ Closed)
       (same : written ≡ sent_written) where
@@ -80,18 +80,18 @@ module _ (feed : List Window) (old : Attending) (before : BytesRead) where
         → IsServeFault feed old (attending session written) before after faults.Read
     reading_failed after read = at_read goes_on read
 
-    pub read_to_its_end : (after : BytesRead) → after ≡ told_once before []
+    pub read_to_its_end : (after : BytesRead) → after ≡ reported_once before []
         → Attends feed old (attending session written) before after turns.Closed
     read_to_its_end after read = is_at_end goes_on read
 
-    pub all_answered : (new : Attending) (after : BytesRead) (bytes : List ℕ) → after ≡ told_once before bytes
+    pub all_answered : (new : Attending) (after : BytesRead) (bytes : List ℕ) → after ≡ reported_once before bytes
         → 0 < length bytes → length bytes ≤ 512 → RepliesToAll feed (attending session written) new bytes
         → Attends feed old new before after turns.Goes
     all_answered new after bytes read some few done =
         replies (attending session written) bytes goes_on read some few done
 
     pub answering_failed : (new : Attending) (after : BytesRead) (bytes : List ℕ) (fault : LinkFault)
-        → after ≡ told_once before bytes → length bytes ≤ 512
+        → after ≡ reported_once before bytes → length bytes ≤ 512
         → IsReplyFault fault feed (attending session written) new bytes count
         → IsServeFault feed old new before after fault
     answering_failed new after bytes faults.Read read few fails = absurd fails

@@ -1,4 +1,4 @@
--- What the link of one session takes in its turns is what it was asked for.
+-- What the link of one session takes in its turns is what it was requested.
 use Rattle.std.proofs.Common.{◌≡◌, ℕ, ◌+◌, ◌<◌, ◌==◌, inl, inr, refl, sym, ap, subst, ◌∙◌, arith, Bool, true, false}
 use Rattle.std.proofs.Common.{if◌then◌else◌, List, [], ◌∷◌, ◌++◌, append_assoc, append-nil, length, take, drop}
 use Rattle.std.proofs.Common.{take-append-drop, Option, Some, None, slice_get}
@@ -26,7 +26,7 @@ use Rattle.slink_feed.specs.Connection.{FailsInTurn, SendsStretches, ShowPushed,
 use Rattle.slink_feed.specs.Connection.{fails_now, no_turn, turn_taken}
 use Rattle.slink_feed.specs.Rounds.{Attending, Gives, SendsAll, all_sent, place_behind}
 use Rattle.slink_feed.specs.Running.{HasStream, Stands, StandsFor}
-use Rattle.slink_feed.specs.Sending.{AreAsked, AreShown, Asked, IsReadFrom, packet_in, packets_of}
+use Rattle.slink_feed.specs.Sending.{AreCalled, AreShown, Called, IsReadFrom, packet_in, packets_of}
 use Rattle.slink_feed.specs.Serving.{Answers, IsAnswer, Serves, Standing, Takes, none_served, piece_served}
 use Rattle.slink_feed.specs.Session.{IsBefore, State, all_done, answered_in, at_next, grant_at, in_streaming, packet_at}
 use Rattle.slink_feed.specs.Session.{reply_at_next, sent, sent_bytes, sent_in, sent_of}
@@ -34,7 +34,7 @@ use Rattle.slink_feed.specs.Window.{Shows, Window, record_at}
 use Rattle.slink_feed.proofs.Closing.{Open, open_or}
 use Rattle.slink_feed.proofs.Sendings.{IsOn, answer_read, read_on, none_either, set_other, stretch_sent}
 
--- A session streams on, or is closed, once it was asked.
+-- A session streams on, or is closed, once it was called.
 on_packet : (t : State) (place : ℕ) (h : Grant) (o : Option (List ℕ)) → t.phase ≡ Streaming
     → IsOn (packet_at t place h o).0.phase
 on_packet t place h None on = inr refl
@@ -122,8 +122,8 @@ grants_read : (s t : State) → IsReadFrom s t → t.grants ≡ s.grants
 grants_read s t (inl same) = ap (λ (u : State). u.grants) same
 grants_read s t (inr shut) = ap (λ (u : State). u.grants) shut
 
-none_sent : (k : ℕ) (asked : List Asked) (s : State) → IsOn s.phase → grant_at s.grants k ≡ None → AreAsked s asked
-    → packets_of k asked ≡ []
+none_sent : (k : ℕ) (called : List Called) (s : State) → IsOn s.phase → grant_at s.grants k ≡ None → AreCalled s called
+    → packets_of k called ≡ []
 none_sent k [] s on at_k are = refl
 none_sent k (a ∷ more) s on at_k are =
     let t : State = are.0 in
@@ -142,29 +142,29 @@ read_further s t u (inr shut) (inl same) = inr (same ∙ shut)
 read_further s t u (inr shut) (inr again) =
     inr (again ∙ ap (λ gs. record { phase = Closed; grants = gs }) (ap (λ (x : State). x.grants) shut))
 
-read_first : (s t : State) (asked : List Asked) → IsReadFrom s t → AreAsked t asked → AreAsked s asked
+read_first : (s t : State) (called : List Called) → IsReadFrom s t → AreCalled t called → AreCalled s called
 read_first s t [] read are = tt
 read_first s t (a ∷ more) read are = (are.0, read_further s t are.0 read are.1, are.2, are.3)
 
 -- what a round asks for
-abbrev asks : List Window → ℕ → List Sent → List Asked
+abbrev asks : List Window → ℕ → List Sent → List Called
 asks feed k [] = []
 asks feed k (a ∷ more) = record { feed = feed; place = k; answer = a } ∷ asks feed (place_behind feed k) more
 
-asks_then : (feed : List Window) (k last : ℕ) (s u v : State) (given : List Sent) (rest : List Asked)
-    → Gives feed k s given last u → IsReadFrom u v → AreAsked v rest → AreAsked s (asks feed k given ++ rest)
+asks_then : (feed : List Window) (k last : ℕ) (s u v : State) (given : List Sent) (rest : List Called)
+    → Gives feed k s given last u → IsReadFrom u v → AreCalled v rest → AreCalled s (asks feed k given ++ rest)
 asks_then feed k last s u v [] rest gives read are =
     read_first s v rest (subst (λ (x : State). IsReadFrom x v) gives.1 read) are
 asks_then feed k last s u v (a ∷ more) rest gives read are =
     (s, inl refl, gives.0, asks_then feed (place_behind feed k) last (sent feed s k).0 u v more rest gives.1 read are)
 
-asks_bytes : (feed : List Window) (k : ℕ) (given : List Sent) (rest : List Asked)
+asks_bytes : (feed : List Window) (k : ℕ) (given : List Sent) (rest : List Called)
     → bytes_sent (asks feed k given ++ rest) ≡ all_sent given ++ bytes_sent rest
 asks_bytes feed k [] rest = refl
 asks_bytes feed k (a ∷ more) rest = ap (λ b. sent_bytes a ++ b) (asks_bytes feed (place_behind feed k) more rest)
     ∙ sym (append_assoc (sent_bytes a) (all_sent more) (bytes_sent rest))
 
-asks_shown : (feed : List Window) (k j first : ℕ) (pushed : List (List ℕ)) (given : List Sent) (rest : List Asked)
+asks_shown : (feed : List Window) (k j first : ℕ) (pushed : List (List ℕ)) (given : List Sent) (rest : List Called)
     → ((w : Window) × (n : ℕ) × (slice_get feed k ≡ Some w) × Shows w first (take n pushed))
     → AreShown k first pushed rest → AreShown k first pushed (asks feed j given ++ rest)
 asks_shown feed k j first pushed [] rest shown are = are
@@ -173,23 +173,23 @@ asks_shown feed k j first pushed (a ∷ more) rest shown are =
 
 -- What was sent in turns.
 record Wrote (feeds : List (List Window)) (s : State) (bytes : List ℕ) : Type 0 where
-  asked : List Asked
-  are_asked : AreAsked s asked
-  bytes_are : bytes ≡ bytes_sent asked
-  shown : (k first : ℕ) (pushed : List (List ℕ)) → ShowPushed k first pushed feeds → AreShown k first pushed asked
+  called : List Called
+  are_called : AreCalled s called
+  bytes_are : bytes ≡ bytes_sent called
+  shown : (k first : ℕ) (pushed : List (List ℕ)) → ShowPushed k first pushed feeds → AreShown k first pushed called
 
 nothing_wrote : (s : State) → Wrote [] s []
-nothing_wrote s = record { asked = []; are_asked = tt; bytes_are = refl; shown = λ k first pushed shown. tt }
+nothing_wrote s = record { called = []; are_called = tt; bytes_are = refl; shown = λ k first pushed shown. tt }
 
 stretches : (feeds : List (List Window)) (s : State) (bytes : List ℕ) → IsOn s.phase → Wrote feeds s bytes
     → SendsStretches feeds s bytes
 stretches feeds s bytes on w = record {
-  asked = w.asked;
-  are_asked = w.are_asked;
+  called = w.called;
+  are_called = w.are_called;
   bytes_are = w.bytes_are;
-  stretch = λ k first pushed g at_k shown. stretch_sent k first pushed w.asked s g on at_k w.are_asked
+  stretch = λ k first pushed g at_k shown. stretch_sent k first pushed w.called s g on at_k w.are_called
       (w.shown k first pushed shown);
-  none = λ k at_k. none_sent k w.asked s on at_k w.are_asked;
+  none = λ k at_k. none_sent k w.called s on at_k w.are_called;
 }
 
 -- what a session that streams replies: nothing
@@ -314,11 +314,11 @@ module _ (feed : List Window) where
   wrote_more : (feeds : List (List Window)) (a now : Attending) (bytes : List ℕ) (t : TurnOn a now)
       → Wrote feeds now.session.state bytes → Wrote (feed ∷ feeds) a.session.state (all_sent t.given ++ bytes)
   wrote_more feeds a now bytes t w = record {
-    asked = asks feed 0 t.given ++ w.asked;
-    are_asked = asks_then feed 0 t.place a.session.state t.state now.session.state t.given w.asked t.gives t.read
-        w.are_asked;
-    bytes_are = ap (λ b. all_sent t.given ++ b) w.bytes_are ∙ sym (asks_bytes feed 0 t.given w.asked);
-    shown = λ k first pushed shown. asks_shown feed k 0 first pushed t.given w.asked shown.0
+    called = asks feed 0 t.given ++ w.called;
+    are_called = asks_then feed 0 t.place a.session.state t.state now.session.state t.given w.called t.gives t.read
+        w.are_called;
+    bytes_are = ap (λ b. all_sent t.given ++ b) w.bytes_are ∙ sym (asks_bytes feed 0 t.given w.called);
+    shown = λ k first pushed shown. asks_shown feed k 0 first pushed t.given w.called shown.0
         (w.shown k first pushed shown.1);
   }
 
@@ -346,8 +346,8 @@ PrefixWrote feeds a b = (bytes prefix : List ℕ) × IsPrefixOf prefix bytes
 sent_wrote : (feed : List Window) (a : Attending) (u : State) (given : List Sent) (place : ℕ)
     → Gives feed 0 a.session.state given place u → Wrote (feed ∷ []) a.session.state (all_sent given)
 sent_wrote feed a u given place gives = record {
-  asked = asks feed 0 given ++ [];
-  are_asked = asks_then feed 0 place a.session.state u u given [] gives (inl refl) tt;
+  called = asks feed 0 given ++ [];
+  are_called = asks_then feed 0 place a.session.state u u given [] gives (inl refl) tt;
   bytes_are = sym (append-nil (all_sent given)) ∙ sym (asks_bytes feed 0 given []);
   shown = λ k first pushed shown. asks_shown feed k 0 first pushed given [] shown.0 tt;
 }

@@ -1,4 +1,4 @@
--- What a client told of the bytes that it took so far, event by event.
+-- What a client reported the bytes that it accepted so far, event by event.
 use Rattle.std.proofs.Common.{◌≡◌, ◌≢◌, ℕ, ◌+◌, ◌-◌, ◌*◌, ◌≤◌, ◌<◌, zero, suc, refl, sym, ap, subst, ◌∙◌, arith, List}
 use Rattle.std.proofs.Common.{[], ◌∷◌, ◌++◌, append_assoc, append-nil, length, length-append, length-drop, take}
 use Rattle.std.proofs.Common.{take_all, drop}
@@ -11,23 +11,23 @@ use Rattle.slink_feed.specs.declared.turn.LinkFault.{LinkFault}
 use Rattle.slink_feed.specs.declared.turn.LinkFault.TheVariants as faults
 use Rattle.slink_feed.specs.declared.turn.Turn.TheVariants as turns
 use Rattle.slink_feed.specs.private.Delivery.{ComesTo, FailsToOutput, IsDelivered, IsUndelivered, IsUnwritten}
-use Rattle.slink_feed.specs.Fetching.{Delivers, FailsAt, Fetches, Fetching, ReadsOn, Takes, bytes_told, joined_by}
-use Rattle.slink_feed.specs.Fetching.{line_written, lines_written, record_told}
+use Rattle.slink_feed.specs.Fetching.{Delivers, FailsAt, Fetches, Fetching, ReadsOn, Takes, bytes_reported, joined_by}
+use Rattle.slink_feed.specs.Fetching.{line_written, lines_written, record_reported}
 use Rattle.slink_feed.specs.Listening.{Brings, IsLinked, Listening, Reads, telling}
-use Rattle.slink_feed.specs.Turns.{Took, TookPrefix, told_once}
+use Rattle.slink_feed.specs.Turns.{Emitted, EmittedPrefix, reported_once}
 use Rattle.slink_feed.proofs.Goings.{says_on, still_linked, tells_on}
 use Rattle.slink_feed.proofs.Prefixes.{from_offset}
 use Rattle.slink_feed.proofs.Received.{reads_more}
 
 pub record SoFar (old now : Fetching) (bytes : List ℕ) (offset written_count output_count_is : ℕ) : Type 0 where
-  pub told : List Event
+  pub reported : List Event
   pub within : offset ≤ length bytes
-  pub reads : ReadsOn old.client (take offset bytes) told now.client
+  pub reads : ReadsOn old.client (take offset bytes) reported now.client
   pub linked : IsLinked old.client.talk.stage → now.client.talk.stage ≢ Unlinked
-  pub written : Took old.written now.written (lines_written told)
-  pub output : Took old.output now.output (bytes_told told)
-  pub written_counted : written_count ≡ length (lines_written told)
-  pub output_counted : output_count_is ≡ length (bytes_told told)
+  pub written : Emitted old.written now.written (lines_written reported)
+  pub output : Emitted old.output now.output (bytes_reported reported)
+  pub written_counted : written_count ≡ length (lines_written reported)
+  pub output_counted : output_count_is ≡ length (bytes_reported reported)
   pub written_few : written_count ≤ 32 * offset
   pub output_few : output_count_is ≤ 512 * offset
 
@@ -43,12 +43,12 @@ reads_further a b c xs ys es fs one more start stream before reads =
     (subst (λ (t : List Event). Reads start ((stream ++ xs) ++ ys) t c) (append_assoc before es fs)
     (more start (stream ++ xs) (before ++ es) (one start stream before reads)))
 
-pub took_none : (s : BytesWritten) → Took s s []
-took_none s = record { bytes = sym (append-nil s.bytes); failures = refl }
+pub emitted_none : (s : BytesWritten) → Emitted s s []
+emitted_none s = record { bytes = sym (append-nil s.bytes); failures = refl }
 
-pub took_further : (a b c : BytesWritten) (xs ys all : List ℕ) → all ≡ xs ++ ys → Took a b xs → Took b c ys
-    → Took a c all
-took_further a b c xs ys all e one more = record {
+pub emitted_further : (a b c : BytesWritten) (xs ys all : List ℕ) → all ≡ xs ++ ys → Emitted a b xs → Emitted b c ys
+    → Emitted a c all
+emitted_further a b c xs ys all e one more = record {
   bytes = more.bytes ∙ (ap (λ s. s ++ ys) one.bytes ∙ (append_assoc a.bytes xs ys ∙ ap (λ s. a.bytes ++ s) (sym e)));
   failures = more.failures ∙ one.failures;
 }
@@ -59,7 +59,7 @@ take_past (x ∷ xs) ys n = let one : suc (length xs) + n ≡ suc (length xs + n
     ap (λ m. take m (x ∷ (xs ++ ys))) one ∙ ap (λ s. x ∷ s) (take_past xs ys n)
 
 pub prefix_further : (a b c : BytesWritten) (xs ys all : List ℕ) (count n : ℕ) → all ≡ xs ++ ys → count ≡ length xs + n
-    → Took a b xs → TookPrefix b c ys n → TookPrefix a c all count
+    → Emitted a b xs → EmittedPrefix b c ys n → EmittedPrefix a c all count
 prefix_further a b c xs ys all count n e is one more = record {
   bytes = more.bytes ∙ (ap (λ s. s ++ take n ys) one.bytes ∙ (append_assoc a.bytes xs (take n ys)
       ∙ ap (λ s. a.bytes ++ s) (sym (take_past xs ys n)
@@ -109,7 +109,7 @@ pub record IsPiece (now new : Listening) (bytes : List ℕ) (offset used : ℕ) 
   pub some : 0 < used
   pub bound : used ≤ length bytes - offset
 
--- what is heard of it is one
+-- what is received of it is one
 pub piece_of : (now new : Listening) (bytes : List ℕ) (offset used : ℕ) (event : Event) → IsLinked now.talk.stage
     → ComesTo event used (take (length bytes - offset) (drop offset bytes)) now new
     → IsPiece now new bytes offset used event
@@ -145,12 +145,12 @@ is_prefix (b ∷ bs) (suc n) = let more : IsPrefixOf (take n bs) bs = is_prefix 
 
 pub nothing_so_far : (s : Fetching) (bytes : List ℕ) → SoFar s s bytes 0 0 0
 nothing_so_far s bytes = record {
-  told = [];
+  reported = [];
   within = omega arith;
   reads = reads_none s.client;
   linked = λ linked e. subst IsLinked e linked;
-  written = took_none s.written;
-  output = took_none s.output;
+  written = emitted_none s.written;
+  output = emitted_none s.output;
   written_counted = refl;
   output_counted = refl;
   written_few = omega arith;
@@ -160,44 +160,49 @@ nothing_so_far s bytes = record {
 module _ (old now new : Fetching) (bytes : List ℕ) (offset used : ℕ) (event : Event) (before : Counts)
     (so_far : SoFar old now bytes offset before.written before.output)
     (piece : IsPiece now.client new.client bytes offset used event) where
-  further : ReadsOn old.client (take (offset + used) bytes) (so_far.told ++ telling event) new.client
-  further = subst (λ (s : List ℕ). ReadsOn old.client s (so_far.told ++ telling event) new.client)
+  further : ReadsOn old.client (take (offset + used) bytes) (so_far.reported ++ telling event) new.client
+  further = subst (λ (s : List ℕ). ReadsOn old.client s (so_far.reported ++ telling event) new.client)
       (piece_is bytes offset used)
       (reads_further old.client now.client new.client (take offset bytes)
-      (take used (take (length bytes - offset) (drop offset bytes))) so_far.told (telling event) so_far.reads
+      (take used (take (length bytes - offset) (drop offset bytes))) so_far.reported (telling event) so_far.reads
       piece.reads)
 
   pub one_more : (after : Counts) → IsDelivered event before after now.written new.written now.output new.output
       → SoFar old new bytes (offset + used) after.written after.output
   one_more after done =
-      let lines : lines_written (so_far.told ++ telling event) ≡ lines_written so_far.told ++ line_written event =
-      joined_once line_written so_far.told event refl in
-      let records : bytes_told (so_far.told ++ telling event) ≡ bytes_told so_far.told ++ record_told event =
-      joined_once record_told so_far.told event refl in
+      let lines : lines_written (so_far.reported ++ telling event) ≡ lines_written so_far.reported ++ line_written
+      event =
+      joined_once line_written so_far.reported event refl in
+      let records : bytes_reported (so_far.reported ++ telling event) ≡ bytes_reported so_far.reported ++
+      record_reported event =
+      joined_once record_reported so_far.reported event refl in
       record {
-        told = so_far.told ++ telling event;
+        reported = so_far.reported ++ telling event;
         within = omega (arith, so_far.within, piece.bound);
         reads = further;
         linked = λ linked. still_linked now.client.talk
             (now.client.kept ++ take used (take (length bytes - offset) (drop offset bytes))) new.client event
             piece.brings piece.linked;
-        written = took_further old.written now.written new.written (lines_written so_far.told) (line_written event)
-            (lines_written (so_far.told ++ telling event)) lines so_far.written done.written;
-        output = took_further old.output now.output new.output (bytes_told so_far.told) (record_told event)
-            (bytes_told (so_far.told ++ telling event)) records so_far.output done.output;
+        written = emitted_further old.written now.written new.written (lines_written so_far.reported)
+            (line_written event)
+            (lines_written (so_far.reported ++ telling event)) lines so_far.written done.written;
+        output = emitted_further old.output now.output new.output (bytes_reported so_far.reported)
+            (record_reported event)
+            (bytes_reported (so_far.reported ++ telling event)) records so_far.output done.output;
         written_counted = done.written_count ∙ (ap (λ n. n + length (line_written event)) so_far.written_counted
-            ∙ (sym (length-append (lines_written so_far.told) (line_written event)) ∙ ap length (sym lines)));
-        output_counted = done.output_count ∙ (ap (λ n. n + length (record_told event)) so_far.output_counted
-            ∙ (sym (length-append (bytes_told so_far.told) (record_told event)) ∙ ap length (sym records)));
+            ∙ (sym (length-append (lines_written so_far.reported) (line_written event)) ∙ ap length (sym lines)));
+        output_counted = done.output_count ∙ (ap (λ n. n + length (record_reported event)) so_far.output_counted
+            ∙ (sym (length-append (bytes_reported so_far.reported) (record_reported event)) ∙ ap length (sym records)));
         written_few = omega (arith, done.written_count, done.short, so_far.written_few, piece.some);
         output_few = omega (arith, done.output_count, done.sized, so_far.output_few, piece.some);
       }
 
-  takes_last : telling event ≡ event ∷ [] → Takes old.client new.client bytes (so_far.told ++ event ∷ [])
+  takes_last : telling event ≡ event ∷ [] → Takes old.client new.client bytes (so_far.reported ++ event ∷ [])
   takes_last one = record {
     taken = take (offset + used) bytes;
     prefix = is_prefix bytes (offset + used);
-    reads = subst (λ (es : List Event). ReadsOn old.client (take (offset + used) bytes) (so_far.told ++ es) new.client)
+    reads = subst (λ (es : List Event). ReadsOn old.client (take (offset + used) bytes) (so_far.reported ++ es)
+        new.client)
         one further;
   }
 
@@ -206,44 +211,49 @@ module _ (old now new : Fetching) (bytes : List ℕ) (offset used : ℕ) (event 
   fails_at_say count cut =
       let some : 0 < length (line_written event) = omega (arith, cut.written.part) in
       let one : telling event ≡ event ∷ [] = telling_some line_written event refl some in
-      let lines : lines_written (so_far.told ++ event ∷ []) ≡ lines_written so_far.told ++ line_written event =
-      ap (λ es. lines_written (so_far.told ++ es)) (sym one) ∙ joined_once line_written so_far.told event refl in
-      let counted : count ≡ length (lines_written so_far.told) + cut.more =
+      let lines : lines_written (so_far.reported ++ event ∷ []) ≡ lines_written so_far.reported ++ line_written event =
+      ap (λ es. lines_written (so_far.reported ++ es)) (sym one)
+      ∙ joined_once line_written so_far.reported event refl in
+      let counted : count ≡ length (lines_written so_far.reported) + cut.more =
       cut.count_is ∙ ap (λ n. n + cut.more) so_far.written_counted in
       record {
-        told = so_far.told;
+        reported = so_far.reported;
         last = event;
         takes = takes_last one;
         linked = says_on now.client.talk
             (now.client.kept ++ take used (take (length bytes - offset) (drop offset bytes))) new.client event
             piece.brings some;
-        written = prefix_further old.written now.written new.written (lines_written so_far.told) (line_written event)
-            (lines_written (so_far.told ++ event ∷ [])) count cut.more lines counted so_far.written cut.written;
+        written = prefix_further old.written now.written new.written (lines_written so_far.reported)
+            (line_written event)
+            (lines_written (so_far.reported ++ event ∷ [])) count cut.more lines counted so_far.written cut.written;
         behind = omega (arith, counted);
-        output = subst (λ (o : BytesWritten). Took old.output o (bytes_told so_far.told)) (sym cut.output)
+        output = subst (λ (o : BytesWritten). Emitted old.output o (bytes_reported so_far.reported)) (sym cut.output)
             so_far.output;
       }
 
   fails_at_write : (count : ℕ) → FailsToOutput event before.output count now.written new.written now.output new.output
       → FailsAt (faults.Output count) old new bytes
   fails_at_write count cut =
-      let some : 0 < length (record_told event) = omega (arith, cut.output.part) in
-      let one : telling event ≡ event ∷ [] = telling_some record_told event refl some in
-      let records : bytes_told (so_far.told ++ event ∷ []) ≡ bytes_told so_far.told ++ record_told event =
-      ap (λ es. bytes_told (so_far.told ++ es)) (sym one) ∙ joined_once record_told so_far.told event refl in
-      let counted : count ≡ length (bytes_told so_far.told) + cut.more =
+      let some : 0 < length (record_reported event) = omega (arith, cut.output.part) in
+      let one : telling event ≡ event ∷ [] = telling_some record_reported event refl some in
+      let records : bytes_reported (so_far.reported ++ event ∷ []) ≡ bytes_reported so_far.reported ++ record_reported
+      event =
+      ap (λ es. bytes_reported (so_far.reported ++ es)) (sym one)
+      ∙ joined_once record_reported so_far.reported event refl in
+      let counted : count ≡ length (bytes_reported so_far.reported) + cut.more =
       cut.count_is ∙ ap (λ n. n + cut.more) so_far.output_counted in
       record {
-        told = so_far.told;
+        reported = so_far.reported;
         last = event;
         takes = takes_last one;
         linked = tells_on now.client.talk
             (now.client.kept ++ take used (take (length bytes - offset) (drop offset bytes))) new.client event
             piece.brings some;
-        written = subst (λ (o : BytesWritten). Took old.written o (lines_written so_far.told)) (sym cut.written)
+        written = subst (λ (o : BytesWritten). Emitted old.written o (lines_written so_far.reported)) (sym cut.written)
             so_far.written;
-        output = prefix_further old.output now.output new.output (bytes_told so_far.told) (record_told event)
-            (bytes_told (so_far.told ++ event ∷ [])) count cut.more records counted so_far.output cut.output;
+        output = prefix_further old.output now.output new.output (bytes_reported so_far.reported)
+            (record_reported event)
+            (bytes_reported (so_far.reported ++ event ∷ [])) count cut.more records counted so_far.output cut.output;
         behind = omega (arith, counted);
       }
 
@@ -259,7 +269,7 @@ pub all_delivered : (old now : Fetching) (bytes : List ℕ) (offset written_coun
     → SoFar old now bytes offset written_count output_count_is
     → Delivers old now bytes
 all_delivered old now bytes offset written_count output_count_is ends so_far = record {
-  told = so_far.told;
+  reported = so_far.reported;
   takes = record { taken = take offset bytes; prefix = is_prefix bytes offset; reads = so_far.reads };
   whole = λ linked. take_all offset bytes (ends linked);
   linked = so_far.linked;
@@ -270,7 +280,7 @@ all_delivered old now bytes offset written_count output_count_is ends so_far = r
 pub nothing_delivered : (s : Fetching) → Delivers s s []
 nothing_delivered s = all_delivered s s [] 0 0 0 (λ linked. omega arith) (nothing_so_far s [])
 
-pub closed_turn : (old new : Fetching) (before after : BytesRead) → new ≡ old → after ≡ told_once before []
+pub closed_turn : (old new : Fetching) (before after : BytesRead) → new ≡ old → after ≡ reported_once before []
     → Fetches old new before after turns.Closed
 closed_turn old new before after same read = record {
   bytes = [];

@@ -19,7 +19,7 @@ one_fails false q h = refl
 same_some : (v w : Window) → Some v ≡ Some w → v ≡ w
 same_some v w e = cc e
 
--- what was asked of the first k places
+-- what was called of the first k places
 abbrev pub first_done : List Window → Grants → ℕ → Bool
 first_done feed grants k = list_all (λ p. is_done p.0 p.1) (take k (zip feed grants))
 

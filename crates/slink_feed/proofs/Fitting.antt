@@ -14,7 +14,7 @@ use Rattle.slink_feed.specs.declared.session.Phase.{Phase}
 use Rattle.slink_feed.specs.declared.session.Phase.TheVariants.{Fresh, Chosen, Granted, Streaming, Closed}
 use Rattle.slink_feed.specs.Grant.{grant_of}
 use Rattle.slink_feed.specs.Rings.{station_at}
-use Rattle.slink_feed.specs.Session.{Fits, IsReached, State, IsChosenOf, at, grant_at, answered, answered_in, asked}
+use Rattle.slink_feed.specs.Session.{Fits, IsReached, State, IsChosenOf, at, grant_at, answered, answered_in, called}
 use Rattle.slink_feed.specs.Session.{chosen, granted, in_chosen, in_fresh, in_granted, in_streaming}
 use Rattle.slink_feed.specs.Window.{Window, ahead_of, oldest_of, resolve_of, with_record}
 use Rattle.slink_feed.proofs.Reached.{reached_with, reached_without}
@@ -74,9 +74,9 @@ fits_ring feed s mode k number None at lt f = f
 fits_ring feed s mode k number (Some w) at lt f =
     fits_granted feed s mode k w (grant_of mode number w) at lt (λ p e. granted_within mode number w p e) f
 
-fits_asked : (feed : List Window) (s : State) (mode : Mode) (k : ℕ) (number : Option ℕ) → k < length feed → Fits feed s
-    → Fits feed (asked feed k mode number s).0
-fits_asked feed s mode k number lt f = fits_ring feed s mode k number (slice_get feed k) refl lt f
+fits_called : (feed : List Window) (s : State) (mode : Mode) (k : ℕ) (number : Option ℕ) → k < length feed → Fits feed s
+    → Fits feed (called feed k mode number s).0
+fits_called feed s mode k number lt f = fits_ring feed s mode k number (slice_get feed k) refl lt f
 
 fits_fresh : (feed : List Window) (s : State) (c : Command) → Fits feed s → Fits feed (in_fresh feed s c).0
 fits_fresh feed s Hello f = f
@@ -93,8 +93,8 @@ fits_when_chosen : (feed : List Window) (k : ℕ) (s : State) (c : Command) → 
 fits_when_chosen feed k s Hello lt f = f
 fits_when_chosen feed k s (Station sta net) lt f = fits_station feed s sta net f
 fits_when_chosen feed k s SelectAll lt f = f
-fits_when_chosen feed k s (Data number) lt f = fits_asked feed s Modes.Data k number lt f
-fits_when_chosen feed k s (Fetch number) lt f = fits_asked feed s Modes.Fetch k number lt f
+fits_when_chosen feed k s (Data number) lt f = fits_called feed s Modes.Data k number lt f
+fits_when_chosen feed k s (Fetch number) lt f = fits_called feed s Modes.Fetch k number lt f
 fits_when_chosen feed k s End lt f = f
 fits_when_chosen feed k s Bye lt f = (tt, f.1)
 fits_when_chosen feed k s Other lt f = f
@@ -104,8 +104,8 @@ fits_when_granted : (feed : List Window) (k : ℕ) (s : State) (c : Command) →
 fits_when_granted feed k s Hello lt f = f
 fits_when_granted feed k s (Station sta net) lt f = fits_station feed s sta net f
 fits_when_granted feed k s SelectAll lt f = f
-fits_when_granted feed k s (Data number) lt f = fits_asked feed s Modes.Data k number lt f
-fits_when_granted feed k s (Fetch number) lt f = fits_asked feed s Modes.Fetch k number lt f
+fits_when_granted feed k s (Data number) lt f = fits_called feed s Modes.Data k number lt f
+fits_when_granted feed k s (Fetch number) lt f = fits_called feed s Modes.Fetch k number lt f
 fits_when_granted feed k s End lt f = (tt, f.1)
 fits_when_granted feed k s Bye lt f = (tt, f.1)
 fits_when_granted feed k s Other lt f = f

@@ -11,15 +11,15 @@ use Rattle.slink_feed.specs.declared.dialogue.Stage.TheVariants.{Unlinked, Stati
 use Rattle.slink_feed.specs.declared.dialogue.Wanted.{Wanted}
 use Rattle.slink_feed.specs.Dialogue.{Talk, Whole, Reply, Packet, End, Garbage, answer_of, at_packet, bearer, ended}
 use Rattle.slink_feed.specs.Dialogue.{read_at, if_wanted, is_taken, next_at, says_number, says_place, to_answer}
-use Rattle.slink_feed.specs.Dialogue.{to_place, told}
+use Rattle.slink_feed.specs.Dialogue.{to_place, reported}
 use Rattle.slink_feed.specs.Dialogue.{want_at}
-use Rattle.slink_feed.specs.Fetching.{line_written, record_told}
+use Rattle.slink_feed.specs.Fetching.{line_written, record_reported}
 use Rattle.slink_feed.specs.Listening.{Brings, IsLinked, Listening, begun, whole}
 
--- More is taken of the link, or nothing is said or told of.
+-- More is taken of the link, or nothing is sent or reported.
 pub data GoesOn (x : Talk × Event) : Type 0 where
   goes_on : IsLinked x.0.stage → GoesOn x
-  stays_quiet : line_written x.1 ≡ [] → record_told x.1 ≡ [] → GoesOn x
+  stays_quiet : line_written x.1 ≡ [] → record_reported x.1 ≡ [] → GoesOn x
 
 at_end : (t : Talk) (ending : Ending) → GoesOn (ended ending t)
 at_end t endings.End = stays_quiet refl refl
@@ -39,7 +39,7 @@ at_answer t k next Refusal on = at_end t (endings.Refused k)
 at_answer t k next Neither on = at_end t endings.Garbage
 
 at_number : (t : Talk) (k n want : ℕ) (r : List ℕ) (same : Bool) → IsLinked t.stage
-    → GoesOn (if same then told k n r t else ended (endings.Gap k want n) t)
+    → GoesOn (if same then reported k n r t else ended (endings.Gap k want n) t)
 at_number t k n want r true linked = goes_on linked
 at_number t k n want r false linked = at_end t (endings.Gap k want n)
 
@@ -78,20 +78,20 @@ at_whole t (Ended e) Garbage is = stays_quiet refl refl
 pub goes_on_by : (talk : Talk) (bytes : List ℕ) (new : Listening) (event : Event) → Brings talk bytes new event
     → GoesOn (new.talk, event)
 goes_on_by talk bytes new event (whole w is h none) = subst GoesOn h (at_whole talk talk.stage w refl)
-goes_on_by talk bytes new event (begun is same quiet) = stays_quiet (ap line_written quiet) (ap record_told quiet)
+goes_on_by talk bytes new event (begun is same quiet) = stays_quiet (ap line_written quiet) (ap record_reported quiet)
 
 pub says_on : (talk : Talk) (bytes : List ℕ) (new : Listening) (event : Event) → Brings talk bytes new event
     → 0 < length (line_written event) → IsLinked new.talk.stage
 says_on talk bytes new event brings some = elim (goes_on_by talk bytes new event brings) [
   | goes_on linked ↦ linked
-  | stays_quiet written told ↦ absurd (omega (arith, some, ap length written))
+  | stays_quiet written reported ↦ absurd (omega (arith, some, ap length written))
 ]
 
 pub tells_on : (talk : Talk) (bytes : List ℕ) (new : Listening) (event : Event) → Brings talk bytes new event
-    → 0 < length (record_told event) → IsLinked new.talk.stage
+    → 0 < length (record_reported event) → IsLinked new.talk.stage
 tells_on talk bytes new event brings some = elim (goes_on_by talk bytes new event brings) [
   | goes_on linked ↦ linked
-  | stays_quiet written told ↦ absurd (omega (arith, some, ap length told))
+  | stays_quiet written reported ↦ absurd (omega (arith, some, ap length reported))
 ]
 
 -- A link is linked until it is at an end.
@@ -106,7 +106,7 @@ answers_linked t k next Refusal on = λ e. cc e
 answers_linked t k next Neither on = λ e. cc e
 
 number_linked : (t : Talk) (k n want : ℕ) (r : List ℕ) (same : Bool) → t.stage ≢ Unlinked
-    → (if same then told k n r t else ended (endings.Gap k want n) t).0.stage ≢ Unlinked
+    → (if same then reported k n r t else ended (endings.Gap k want n) t).0.stage ≢ Unlinked
 number_linked t k n want r true linked = linked
 number_linked t k n want r false linked = λ e. cc e
 

@@ -1,4 +1,4 @@
--- What notes that an output took records, over one call after another.
+-- What notes that an output accepted records, over one call after another.
 use Rattle.std.proofs.Common.{◌≡◌, ◌∙◌, Bool, inl, inr, refl, arith}
 use Rattle.mseed_stream.specs.Device.{BytesWritten}
 use Rattle.slink_feed.specs.Fetching.{Notes}

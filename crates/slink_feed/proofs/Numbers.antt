@@ -19,11 +19,11 @@ use Rattle.slink_feed.specs.declared.dialogue.Wanted.{Wanted}
 use Rattle.slink_feed.specs.Dialogue.{Talk, Wants, Whole, Reply, Packet, End, Garbage, answer_of, at_packet, bearer}
 use Rattle.slink_feed.specs.Dialogue.{ahead_of, is_ahead, is_taken}
 use Rattle.slink_feed.specs.Dialogue.{ended, read_at, if_wanted, is_borne, next_at, next_set, says, says_number}
-use Rattle.slink_feed.specs.Dialogue.{says_place, to_answer, to_place, told, want_at, with_next}
+use Rattle.slink_feed.specs.Dialogue.{says_place, to_answer, to_place, reported, want_at, with_next}
 use Rattle.slink_feed.specs.Holding.{AreRising, GoBy, IsNext, Rise, Turn, connects, brings, numbers_in, numbers_of}
 use Rattle.slink_feed.specs.Holding.{talk_behind, turned}
 
--- what comes of a turn for a place: nothing is told of it; or a record, of the number that it wants, if any
+-- what comes of a turn for a place: nothing is reported of it; or a record, of the number that it wants, if any
 pub data Moved (k : ℕ) (t : Talk) (x : Talk × Event) : Type 0 where
   stays : numbers_in k x.1 ≡ [] → next_at x.0.wants k ≡ next_at t.wants k → Moved k t x
   moves : (n : ℕ) → numbers_in k x.1 ≡ n ∷ [] → IfSome (next_at t.wants k) (λ want. IsNext t.holes want n)
@@ -77,9 +77,9 @@ next_other wants j k n (Some v) other =
     ap (option_and_then (λ (x : Wanted). x.next))
     (set_other wants j k (Some (record { place = v.place; next = Some n })) other)
 
-pub moved_told : (k j n : ℕ) (bytes : List ℕ) (t : Talk) (w : Wanted) → want_at t.wants j ≡ Some w
-    → IfSome (next_at t.wants j) (λ want. IsNext t.holes want n) → Moved k t (told j n bytes t)
-moved_told k j n bytes t w at wanted = elim (eqb_tells j k) [
+pub moved_reported : (k j n : ℕ) (bytes : List ℕ) (t : Talk) (w : Wanted) → want_at t.wants j ≡ Some w
+    → IfSome (next_at t.wants j) (λ want. IsNext t.holes want n) → Moved k t (reported j n bytes t)
+moved_reported k j n bytes t w at wanted = elim (eqb_tells j k) [
   | inl same ↦ moves n (ap (λ b. if b then n ∷ [] else []) same.0)
       (subst (λ i. IfSome (next_at t.wants i) (λ want. IsNext t.holes want n)) same.1 wanted)
       (ap (next_at (with_next t.wants j ((n + 1) % 2 ^ 24))) (sym same.1)
@@ -90,9 +90,9 @@ moved_told k j n bytes t w at wanted = elim (eqb_tells j k) [
 
 moved_if : (k j n : ℕ) (bytes : List ℕ) (t : Talk) (w : Wanted) (b : Bool) (want : ℕ) → want_at t.wants j ≡ Some w
     → next_at t.wants j ≡ Some want → (b ≡ true → IsNext t.holes want n)
-    → Moved k t (if b then told j n bytes t else ended (endings.Gap j want n) t)
+    → Moved k t (if b then reported j n bytes t else ended (endings.Gap j want n) t)
 moved_if k j n bytes t w true want at is same =
-    moved_told k j n bytes t w at (subst (λ o. IfSome o (λ x. IsNext t.holes x n)) (sym is) (same refl))
+    moved_reported k j n bytes t w at (subst (λ o. IfSome o (λ x. IsNext t.holes x n)) (sym is) (same refl))
 moved_if k j n bytes t w false want at is same = moved_end k t (endings.Gap j want n)
 
 -- what is taken where a number is wanted
@@ -124,7 +124,7 @@ taken_next holes want n h = elim (eqb_tells n want) [
 
 moved_wanted : (k j n : ℕ) (bytes : List ℕ) (t : Talk) (w : Wanted) (o : Option ℕ) → want_at t.wants j ≡ Some w
     → next_at t.wants j ≡ o → Moved k t (if_wanted o j n bytes t)
-moved_wanted k j n bytes t w None at is = moved_told k j n bytes t w at
+moved_wanted k j n bytes t w None at is = moved_reported k j n bytes t w at
     (subst (λ o. IfSome o (λ x. IsNext t.holes x n)) (sym is) tt)
 moved_wanted k j n bytes t w (Some want) at is =
     moved_if k j n bytes t w (is_taken t.holes want n) want at is (taken_next t.holes want n)
@@ -201,7 +201,7 @@ kept_answer j t next Refusal same = refl
 kept_answer j t next Neither same = refl
 
 kept_if : (j n want : ℕ) (bytes : List ℕ) (t : Talk) (b : Bool)
-    → (if b then told j n bytes t else ended (endings.Gap j want n) t).0.holes ≡ t.holes
+    → (if b then reported j n bytes t else ended (endings.Gap j want n) t).0.holes ≡ t.holes
 kept_if j n want bytes t true = refl
 kept_if j n want bytes t false = refl
 

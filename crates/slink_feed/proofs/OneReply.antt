@@ -176,7 +176,7 @@ module _ (feed : List Window) where
     left : List ℕ
     split : bytes ≡ prefix ++ left
     lines : List (List ℕ)
-    told : (lines_of (stream ++ prefix)).lines ≡ (lines_of stream).lines ++ lines
+    reported : (lines_of (stream ++ prefix)).lines ≡ (lines_of stream).lines ++ lines
     out : List ℕ
     comes : Comes (lines_of (stream ++ prefix)).is_too_long s.state lines last.state out
     sent : all ≡ way ++ out
@@ -191,7 +191,7 @@ module _ (feed : List Window) where
     left = bytes;
     split = refl;
     lines = [];
-    told = ap (λ b. (lines_of b).lines) (append-nil stream) ∙ sym (append-nil (lines_of stream).lines);
+    reported = ap (λ b. (lines_of b).lines) (append-nil stream) ∙ sym (append-nil (lines_of stream).lines);
     out = [];
     comes = subst (λ t. Comes t s.state [] last.state []) (sym (ap (λ b. (lines_of b).is_too_long) (append-nil stream)
         ∙ fits)) (ap (λ (x : Standing). x.state) same, refl);
@@ -214,7 +214,7 @@ module _ (feed : List Window) where
       )
 
   module _ (u now last : Standing) (stream piece others way all : List ℕ) (reply : Reply) where
-    -- a piece that told nothing
+    -- a piece that reported nothing
     ran_more : (now.state ≡ u.state) × (reply ≡ written.Nothing) → Tells More stream (stream ++ piece)
         → Ran now (stream ++ piece) others (way ++ reply_bytes reply) last all
         → Ran u stream (piece ++ others) way last all
@@ -223,8 +223,8 @@ module _ (feed : List Window) where
       left = r.left;
       split = ap (λ b. piece ++ b) r.split ∙ sym (append_assoc piece r.prefix r.left);
       lines = r.lines;
-      told = ap (λ b. (lines_of b).lines) (sym (append_assoc stream piece r.prefix))
-          ∙ (r.told ∙ ap (λ ls. ls ++ r.lines) tells.0);
+      reported = ap (λ b. (lines_of b).lines) (sym (append_assoc stream piece r.prefix))
+          ∙ (r.reported ∙ ap (λ ls. ls ++ r.lines) tells.0);
       out = r.out;
       comes = subst (λ b. Comes (lines_of b).is_too_long u.state r.lines last.state r.out)
           (append_assoc stream piece r.prefix)
@@ -248,8 +248,9 @@ module _ (feed : List Window) where
           left = r.left;
           split = ap (λ b. piece ++ b) r.split ∙ sym (append_assoc piece r.prefix r.left);
           lines = line ∷ r.lines;
-          told = ap (λ b. (lines_of b).lines) (sym (append_assoc stream piece r.prefix))
-              ∙ (r.told ∙ (ap (λ ls. ls ++ r.lines) tells ∙ append_assoc (lines_of stream).lines (line ∷ []) r.lines));
+          reported = ap (λ b. (lines_of b).lines) (sym (append_assoc stream piece r.prefix))
+              ∙ (r.reported ∙ (ap (λ ls. ls ++ r.lines) tells
+              ∙ append_assoc (lines_of stream).lines (line ∷ []) r.lines));
           out = reply_bytes (answered feed u.state c).1 ++ r.out;
           comes = subst (λ b. Comes (lines_of b).is_too_long u.state (line ∷ r.lines) last.state
               (reply_bytes (answered feed u.state c).1 ++ r.out)) (append_assoc stream piece r.prefix)
@@ -273,7 +274,7 @@ module _ (feed : List Window) where
           left = others;
           split = refl;
           lines = [];
-          told = tells.0 ∙ sym (append-nil (lines_of stream).lines);
+          reported = tells.0 ∙ sym (append-nil (lines_of stream).lines);
           out = reply_bytes (ended u.state).1;
           comes = subst (λ t. Comes t u.state [] last.state (reply_bytes (ended u.state).1)) (sym tells.1) (
             u.state,
@@ -320,7 +321,7 @@ module _ (feed : List Window) where
             (λ _. takes.held stream awake (held awake)) fits_still)))
       ]
 
-  -- of two runs the one that took no more
+  -- of two runs the one that accepted no more
   ran_further : (s a b : Standing) (stream bytes way x y : List ℕ) (p : Ran s stream bytes way a x)
       (q : Ran s stream bytes way b y) → (z : List ℕ) × (q.prefix ≡ p.prefix ++ z)
       → (a.state ≡ b.state) × (p.out ≡ q.out)
@@ -330,7 +331,7 @@ module _ (feed : List Window) where
       let g : Grows (lines_of (stream ++ p.prefix)) (lines_of (stream ++ q.prefix)) =
       subst (λ z. Grows (lines_of (stream ++ p.prefix)) (lines_of z)) (sym at) (grows (stream ++ p.prefix) far.0) in
       let lines : q.lines ≡ p.lines ++ g.more = append_cancel_left (lines_of stream).lines q.lines (p.lines ++ g.more)
-      (sym q.told ∙ (g.lines ∙ (ap (λ ls. ls ++ g.more) p.told
+      (sym q.reported ∙ (g.lines ∙ (ap (λ ls. ls ++ g.more) p.reported
       ∙ append_assoc (lines_of stream).lines p.lines g.more))) in
       let q_comes : Comes (lines_of (stream ++ q.prefix)).is_too_long s.state (p.lines ++ g.more) b.state q.out =
       subst (λ ls. Comes (lines_of (stream ++ q.prefix)).is_too_long s.state ls b.state q.out) lines q.comes in
@@ -342,8 +343,8 @@ module _ (feed : List Window) where
             let same : q.prefix ≡ p.prefix =
             far.1 ∙ (ap (λ z. p.prefix ++ z) (nothing far.0 whole) ∙ append-nil p.prefix) in
             let none : q.lines ≡ p.lines =
-            append_cancel_left (lines_of stream).lines q.lines p.lines (sym q.told
-            ∙ (ap (λ z. (lines_of (stream ++ z)).lines) same ∙ p.told)) in
+            append_cancel_left (lines_of stream).lines q.lines p.lines (sym q.reported
+            ∙ (ap (λ z. (lines_of (stream ++ z)).lines) same ∙ p.reported)) in
             comes_once (lines_of (stream ++ p.prefix)).is_too_long s.state a.state b.state p.lines p.out q.out p.comes
             (subst (λ z. Comes (lines_of (stream ++ z)).is_too_long s.state p.lines b.state q.out) same
             (subst (λ ls. Comes (lines_of (stream ++ q.prefix)).is_too_long s.state ls b.state q.out) none q.comes)))
@@ -530,29 +531,29 @@ module _ (feed : List Window) where
         ++ lines → (lines_of (((stream ++ prefix) ++ piece) ++ rest)).lines
         ≡ (lines_of ((stream ++ prefix) ++ piece)).lines ++ more
         → (grows stream bytes).more ≡ lines ++ more
-    all_lines lines more told on =
+    all_lines lines more reported on =
         append_cancel_left (lines_of stream).lines (grows stream bytes).more (lines ++ more)
         (sym (grows stream bytes).lines
         ∙ (ap (λ b. (lines_of b).lines) (sym all_bytes)
-        ∙ (on ∙ (ap (λ ls. ls ++ more) told ∙ append_assoc (lines_of stream).lines lines more))))
+        ∙ (on ∙ (ap (λ ls. ls ++ more) reported ∙ append_assoc (lines_of stream).lines lines more))))
 
     cut_at : (u v : State) (lines : List (List ℕ)) (reply : Reply) (n : ℕ) (what : What)
         → n < length (reply_bytes reply) → (lines_of (stream ++ prefix)).lines ≡ (lines_of stream).lines ++ lines
         → Tells what (stream ++ prefix) ((stream ++ prefix) ++ piece)
         → IsAnswer feed u what v reply → CutAt lines (grows stream bytes).more u v reply
-    cut_at u v lines reply n More part told tells is = absurd (replies_some reply n part is.1)
-    cut_at u v lines reply n (Line line) part told tells is =
+    cut_at u v lines reply n More part reported tells is = absurd (replies_some reply n part is.1)
+    cut_at u v lines reply n (Line line) part reported tells is =
         let on : Grows (lines_of ((stream ++ prefix) ++ piece)) (lines_of (((stream ++ prefix) ++ piece) ++ rest)) =
         grows ((stream ++ prefix) ++ piece) rest in
         at_line line.items on.more is.0
         (all_lines (lines ++ line.items ∷ []) on.more (tells.0
-        ∙ (ap (λ ls. ls ++ line.items ∷ []) told ∙ append_assoc (lines_of stream).lines lines (line.items ∷ [])))
+        ∙ (ap (λ ls. ls ++ line.items ∷ []) reported ∙ append_assoc (lines_of stream).lines lines (line.items ∷ [])))
         on.lines ∙ append_assoc lines (line.items ∷ []) on.more)
         is.1 is.2
-    cut_at u v lines reply n TooLong part told tells is =
+    cut_at u v lines reply n TooLong part reported tells is =
         let on : Grows (lines_of ((stream ++ prefix) ++ piece)) (lines_of (((stream ++ prefix) ++ piece) ++ rest)) =
         grows ((stream ++ prefix) ++ piece) rest in
-        at_over (all_lines lines on.more (tells.0 ∙ told) on.lines
+        at_over (all_lines lines on.more (tells.0 ∙ reported) on.lines
         ∙ (ap (λ m. lines ++ m) (on.over tells.1).0 ∙ append-nil lines)) is
 
   -- So a session is cut off whose reply was written in part.
@@ -582,7 +583,7 @@ module _ (feed : List Window) where
                 replied = comes_open (lines_of (stream ++ r.prefix)).is_too_long s.state u.state r.lines r.out r.comes
                     awake;
                 last = cut_at stream prefix piece rest bytes split u.state last.state r.lines reply n answer.0 part
-                    (ap (λ b. (lines_of (stream ++ b)).lines) (sym whole) ∙ r.told) answer.1 answer.2;
+                    (ap (λ b. (lines_of (stream ++ b)).lines) (sym whole) ∙ r.reported) answer.1 answer.2;
               };
               sent = r.sent;
             })

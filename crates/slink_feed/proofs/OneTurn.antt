@@ -17,12 +17,12 @@ use Rattle.slink_feed.specs.declared.turn.LinkFault.TheVariants as faults
 use Rattle.slink_feed.specs.declared.turn.Turn.{Turn}
 use Rattle.slink_feed.specs.Attending.{Attends, FailsToReply, GoesOn, IsServeFault, RepliesToAll, at_read, at_reply}
 use Rattle.slink_feed.specs.Attending.{at_send, is_at_end, is_closed, replies}
-use Rattle.slink_feed.specs.Connection.{AreAlike, TookAlike}
+use Rattle.slink_feed.specs.Connection.{AreAlike, EmittedAlike}
 use Rattle.slink_feed.specs.Rounds.{Attending, FailsToSend, Gives, HasWaited, SendsAll, all_sent, place_behind}
 use Rattle.slink_feed.specs.Running.{Stands, StandsFor}
 use Rattle.slink_feed.specs.Serving.{Serves, Standing}
 use Rattle.slink_feed.specs.Session.{State, all_done, at_next, grant_at, packet_at, sent, sent_bytes, sent_in, sent_of}
-use Rattle.slink_feed.specs.Turns.{told_once}
+use Rattle.slink_feed.specs.Turns.{reported_once}
 use Rattle.slink_feed.specs.Window.{Window, record_at}
 use Rattle.slink_feed.proofs.Closing.{Open, standings_same}
 use Rattle.slink_feed.proofs.Connected.{shut_given}
@@ -251,7 +251,7 @@ sent_once feed old a b p q =
       failures = p.written.failures ∙ sym q.written.failures;
     }
 
--- A link that failed at a write took no more than what came before and a part of that.
+-- A link that failed at a write accepted no more than what came before and a part of that.
 last_behind : (given more rest : List Sent) (last x : Sent) → given ++ last ∷ [] ≡ more ++ x ∷ rest
     → (some : List Sent) × (given ≡ more ++ some)
 last_behind given [] rest last x e = (given, refl)
@@ -297,17 +297,19 @@ sending_failed_once feed old a b n p q =
       failures = p.written.failures ∙ sym q.written.failures;
     }
 
--- What one read told is told by what was read.
-still_unread : (before : BytesRead) (bytes : List ℕ) → before ≡ told_once before bytes → ⊥
+-- What one read reported is reported by what was read.
+still_unread : (before : BytesRead) (bytes : List ℕ) → before ≡ reported_once before bytes → ⊥
 still_unread before bytes e = let calls : before.calls ≡ before.calls + 1 = ap (λ (h : BytesRead). h.calls) e in
     omega (arith, calls)
 
-told_same : (before : BytesRead) (some more : List ℕ) → told_once before some ≡ told_once before more → some ≡ more
-told_same before some more e = append_cancel_left before.bytes some more (ap (λ (h : BytesRead). h.bytes) e)
+reported_same : (before : BytesRead) (some more : List ℕ) → reported_once before some ≡ reported_once before more
+    → some ≡ more
+reported_same before some more e = append_cancel_left before.bytes some more (ap (λ (h : BytesRead). h.bytes) e)
 
-nothing_told : (before : BytesRead) (bytes : List ℕ) → 0 < length bytes → told_once before [] ≡ told_once before bytes
+nothing_reported : (before : BytesRead) (bytes : List ℕ) → 0 < length bytes
+    → reported_once before [] ≡ reported_once before bytes
     → ⊥
-nothing_told before bytes some e = let none : 0 ≡ length bytes = ap length (told_same before [] bytes e) in
+nothing_reported before bytes some e = let none : 0 ≡ length bytes = ap length (reported_same before [] bytes e) in
     omega (arith, some, none)
 
 replied_alike : (feed : List Window) (old m n a b : Attending) (bytes more : List ℕ) → Stands old.session
@@ -351,24 +353,24 @@ turned_once feed old a b before after t u stands (is_at_end g e) (is_closed q ov
 turned_once feed old a b before after t u stands (is_at_end g e) (is_at_end h f) =
     (refl, sent_once feed old a b g.sends h.sends)
 turned_once feed old a b before after t u stands (is_at_end g e) (replies n more h f some few q) =
-    absurd (nothing_told before more some (sym e ∙ f))
+    absurd (nothing_reported before more some (sym e ∙ f))
 turned_once feed old a b before after t u stands (replies m bytes g e some few p) (is_closed q over f) =
     absurd (still_unread before bytes (sym f ∙ e))
 turned_once feed old a b before after t u stands (replies m bytes g e some few p) (is_at_end h f) =
-    absurd (nothing_told before bytes some (sym f ∙ e))
+    absurd (nothing_reported before bytes some (sym f ∙ e))
 turned_once feed old a b before after t u stands (replies m bytes g e some few p) (replies n more h f much short q) =
-    (refl, replied_alike feed old m n a b bytes more stands g h (told_same before more bytes (sym f ∙ e)) p q)
+    (refl, replied_alike feed old m n a b bytes more stands g h (reported_same before more bytes (sym f ∙ e)) p q)
 
 -- A link that failed in a turn.
-took_alike : (a b : Attending) → AreAlike a b → TookAlike a b
-took_alike a b same = record { state = same.state; bytes = same.bytes; failures = same.failures }
+emitted_alike : (a b : Attending) → AreAlike a b → EmittedAlike a b
+emitted_alike a b same = record { state = same.state; bytes = same.bytes; failures = same.failures }
 
 -- it failed in a reply
 cut_alike : (feed : List Window) (old m n a b : Attending) (bytes more : List ℕ) (count : ℕ) → Stands old.session
     → GoesOn feed old m → GoesOn feed old n → more ≡ bytes → FailsToReply feed m a bytes → FailsToReply feed n b more
     → length a.written.bytes ≡ length old.written.bytes + count
     → length b.written.bytes ≡ length old.written.bytes + count
-    → TookAlike a b
+    → EmittedAlike a b
 cut_alike feed old m n a b bytes more count stands g h same p q long short =
     let mid : AreAlike m n = sent_once feed old m n g.sends h.sends in
     let session : n.session ≡ m.session = sym (standings_same m.session n.session mid.state (mid.held g.open_still)) in
@@ -403,17 +405,17 @@ cut_alike feed old m n a b bytes more count stands g h same p q long short =
 
 pub cut_once : (feed : List Window) (old a b : Attending) (before after : BytesRead) (fault : LinkFault)
     → Stands old.session → IsServeFault feed old a before after fault → IsServeFault feed old b before after fault
-    → TookAlike a b
+    → EmittedAlike a b
 cut_once feed old a b before after (faults.Write count) stands (at_send n p e) (at_send m q f) =
-    took_alike a b (sending_failed_once feed old a b count p q)
+    emitted_alike a b (sending_failed_once feed old a b count p q)
 cut_once feed old a b before after (faults.Write count) stands (at_send n p e) (at_reply m mid bytes h f few q long) =
     absurd (still_unread before bytes (sym e ∙ f))
 cut_once feed old a b before after faults.Read stands (at_read g e) (at_read h f) =
-    took_alike a b (sent_once feed old a b g.sends h.sends)
+    emitted_alike a b (sent_once feed old a b g.sends h.sends)
 cut_once feed old a b before after (faults.Write count) stands (at_reply m mid bytes h f few q long) (at_send n p e) =
     absurd (still_unread before bytes (sym e ∙ f))
 cut_once feed old a b before after (faults.Write count) stands (at_reply n mid bytes g e few p long)
     (at_reply m other more h f short q total) =
-    cut_alike feed old mid other a b bytes more count stands g h (told_same before more bytes (sym f ∙ e)) p q long
+    cut_alike feed old mid other a b bytes more count stands g h (reported_same before more bytes (sym f ∙ e)) p q long
     total
 cut_once feed old a b before after (faults.Output count) stands p q = elim p [ ]

@@ -1,4 +1,4 @@
--- Of the packets of a link that is cut off, the whole ones are told.
+-- Of the packets of a link that is cut off, the whole ones are reported.
 use Rattle.std.proofs.Common.{◌≡◌, ℕ, ◌+◌, ◌-◌, ◌/◌, ◌^◌, ◌<◌, ◌≤◌, inl, inr, suc, refl, sym, ap, subst, ◌∙◌, arith}
 use Rattle.std.proofs.Common.{true, ◌==◌, ◌&&◌, ◌||◌, if◌then◌else◌, List, [], ◌∷◌, ◌++◌, append_assoc, length}
 use Rattle.std.proofs.Common.{length-append, take}
@@ -18,7 +18,7 @@ use Rattle.slink_feed.specs.declared.dialogue.Stage.TheVariants.{Packets}
 use Rattle.slink_feed.specs.Cutting.{IsBegun, IsWhole}
 use Rattle.slink_feed.specs.Delivered.{AreWanted, Numbered, all_packets, record_events}
 use Rattle.slink_feed.specs.Dialogue.{Talk, Whole, Packet, at_packet, bearer, ended, is_ahead, read, read_at, if_wanted}
-use Rattle.slink_feed.specs.Dialogue.{next_at, told}
+use Rattle.slink_feed.specs.Dialogue.{next_at, reported}
 use Rattle.slink_feed.specs.Listening.{AreBrought, Brought, Listening, Reads, bytes_of, events_of, talk_after, telling}
 use Rattle.slink_feed.proofs.Received.{begun_none}
 use Rattle.slink_feed.proofs.Wholes.{prefix_begun}
@@ -38,20 +38,20 @@ packet_whole t r at long small =
 same_here : (n m : ℕ) → n ≡ m → (n == m) ≡ true
 same_here n m e = elim (eqb_tells n m) [ inl same ↦ same.0 | inr other ↦ absurd (other.1 e) ]
 
-pub wanted_told : (o : Option ℕ) (k n : ℕ) (bytes : List ℕ) (t : Talk) → IfSome o (λ want. n ≡ want)
-    → if_wanted o k n bytes t ≡ told k n bytes t
-wanted_told None k n bytes t is = refl
-wanted_told (Some want) k n bytes t is =
-    ap (λ b. if b || (t.holes && is_ahead want n) then told k n bytes t else ended (endings.Gap k want n) t)
+pub wanted_reported : (o : Option ℕ) (k n : ℕ) (bytes : List ℕ) (t : Talk) → IfSome o (λ want. n ≡ want)
+    → if_wanted o k n bytes t ≡ reported k n bytes t
+wanted_reported None k n bytes t is = refl
+wanted_reported (Some want) k n bytes t is =
+    ap (λ b. if b || (t.holes && is_ahead want n) then reported k n bytes t else ended (endings.Gap k want n) t)
     (same_here n want is)
 
 packet_read : (t : Talk) (r : Numbered) → t.stage ≡ Packets → bearer t.wants r.bytes ≡ Some r.place
     → IfSome (next_at t.wants r.place) (λ want. r.number ≡ want)
-    → read t (Packet r.number r.bytes) ≡ told r.place r.number r.bytes t
+    → read t (Packet r.number r.bytes) ≡ reported r.place r.number r.bytes t
 packet_read t r at bears wanted =
     ap (λ (s : Stage). read_at s t (Packet r.number r.bytes)) at
     ∙ (ap (λ o. at_packet o r.number r.bytes t) bears
-    ∙ wanted_told (next_at t.wants r.place) r.place r.number r.bytes t wanted)
+    ∙ wanted_reported (next_at t.wants r.place) r.place r.number r.bytes t wanted)
 
 take_past : (p rest : List ℕ) (m : ℕ) → take (length p + m) (p ++ rest) ≡ p ++ take m rest
 take_past [] rest m = ap (λ n. take n rest) (let e : 0 + m ≡ m = omega arith in e)
@@ -59,7 +59,7 @@ take_past (x ∷ p) rest m =
     ap (λ n. take n (x ∷ (p ++ rest))) (let e : suc (length p) + m ≡ suc (length p + m) = omega arith in e)
     ∙ ap (λ xs. x ∷ xs) (take_past p rest m)
 
--- so many bytes of the packets were delivered: what is told of them, and what the client comes to
+-- so many bytes of the packets were delivered: what is reported of them, and what the client comes to
 abbrev Prefixed : Talk → List Numbered → ℕ → Type 0
 Prefixed t items d = (now : Listening) × Reads t (take d (all_packets items)) (record_events (take (d / 520) items)) now
 
@@ -96,15 +96,15 @@ part_prefixed t r rs d at long small lt =
           (record { brought = []; are_brought = tt; bytes = refl; events_are = refl; talk = refl; is_begun = begun })),
     )
 
--- the first packet is told
+-- the first packet is reported
 whole_prefixed : (t : Talk) (r : Numbered) (rs : List Numbered) (d : ℕ) → t.stage ≡ Packets → AreWanted t (r ∷ rs)
-    → 520 ≤ d → Prefixed (told r.place r.number r.bytes t).0 rs (d - 520) → Prefixed t (r ∷ rs) d
+    → 520 ≤ d → Prefixed (reported r.place r.number r.bytes t).0 rs (d - 520) → Prefixed t (r ∷ rs) d
 whole_prefixed t r rs d at are ge more =
     let p : List ℕ = packet_bytes r.number r.bytes in
-    let u : Talk = (told r.place r.number r.bytes t).0 in
+    let u : Talk = (reported r.place r.number r.bytes t).0 in
     let w : Whole = Packet r.number r.bytes in
     let bs : List Brought = more.1.brought in
-    let h : read t w ≡ told r.place r.number r.bytes t = packet_read t r at are.2 are.3 in
+    let h : read t w ≡ reported r.place r.number r.bytes t = packet_read t r at are.2 are.3 in
     let all : length p ≡ 520 = packet_long r.number r.bytes are.0 in
     let stream : take d (p ++ all_packets rs) ≡ p ++ take (d - 520) (all_packets rs) =
     ap (λ n. take n (p ++ all_packets rs)) (let e : d ≡ length p + (d - 520) = omega (arith, all, ge) in e)
@@ -129,13 +129,14 @@ whole_prefixed t r rs d at are ge more =
           (sym count) reading),
     )
 
-pub prefixes_told : (items : List Numbered) (t : Talk) (d : ℕ) → t.stage ≡ Packets → AreWanted t items
+pub prefixes_reported : (items : List Numbered) (t : Talk) (d : ℕ) → t.stage ≡ Packets → AreWanted t items
     → d ≤ length (all_packets items) → Prefixed t items d
-prefixes_told [] t d at are within = let none : d ≡ 0 = omega (arith, within) in
+prefixes_reported [] t d at are within = let none : d ≡ 0 = omega (arith, within) in
     subst (λ n. Prefixed t [] n) (sym none) (none_prefixed t)
-prefixes_told (r ∷ rs) t d at are within = elim (cases_lt d 520) [
+prefixes_reported (r ∷ rs) t d at are within = elim (cases_lt d 520) [
   | inl lt ↦ part_prefixed t r rs d at are.0 are.1 lt
-  | inr ge ↦ whole_prefixed t r rs d at are ge (prefixes_told rs (told r.place r.number r.bytes t).0 (d - 520) at are.4
+  | inr ge ↦ whole_prefixed t r rs d at are ge (prefixes_reported rs (reported r.place r.number r.bytes t).0 (d - 520)
+      at are.4
       (omega (
         arith,
         within,

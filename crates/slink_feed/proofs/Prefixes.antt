@@ -13,9 +13,9 @@ get_here [] ys y = refl
 get_here (x ∷ xs) ys y = get_here xs ys y
 
 -- what was taken in two parts
-pub took_more : (start kept new bytes : List ℕ) (used m : ℕ) → kept ≡ start ++ take used bytes
+pub emitted_more : (start kept new bytes : List ℕ) (used m : ℕ) → kept ≡ start ++ take used bytes
     → new ≡ kept ++ take m (take (length bytes - used) (drop used bytes)) → new ≡ start ++ take (used + m) bytes
-took_more start kept new bytes used m before more =
+emitted_more start kept new bytes used m before more =
     more ∙ (ap (λ ks. ks ++ take m (take (length bytes - used) (drop used bytes))) before
     ∙ (append_assoc start (take used bytes) (take m (take (length bytes - used) (drop used bytes)))
     ∙ ap (λ r. start ++ r) (ap (λ r. take used bytes ++ take m r) (take_rest bytes used)

@@ -1,4 +1,4 @@
--- Where no first record is told of, and the client doesn't go past holes, nothing is told.
+-- Where no first record is reported, and the client doesn't go past holes, nothing is reported.
 use Rattle.std.proofs.Common.{◌≡◌, ◌≢◌, ℕ, ◌+◌, ◌%◌, ◌^◌, inl, inr, zero, suc, refl, sym, ap, subst, ◌∙◌, arith, Bool}
 use Rattle.std.proofs.Common.{true}
 use Rattle.std.proofs.Common.{false, ◌==◌, if◌then◌else◌, List, [], ◌∷◌, ◌++◌, replicate, set, slice_get, unwrap_or}
@@ -12,11 +12,11 @@ use Rattle.slink_feed.specs.Dialogue.{Wants, next_at, want_at, with_next}
 use Rattle.slink_feed.specs.Holding.{GoBy}
 use Rattle.slink_feed.specs.Teller.{Telling, first_lines, hole_line, hole_lines, if_other, lines_of, telling_of}
 use Rattle.slink_feed.specs.Teller.{telling_past}
-use Rattle.slink_feed.specs.Told.{AreOf, HasTold, numbers_at}
+use Rattle.slink_feed.specs.Reported.{AreOf, HasReported, numbers_at}
 use Rattle.slink_feed.proofs.Numbers.{bearer_some, next_here, next_other}
 use Rattle.slink_feed.proofs.Telling.{of_same, places_next}
 
--- no first record is to be told of
+-- no first record is to be reported
 abbrev AreQuiet : List Bool → Type 0
 AreQuiet firsts = (k : ℕ) → unwrap_or (slice_get firsts k) false ≡ false
 
@@ -78,7 +78,7 @@ quiet_lines t last (r ∷ rs) quiet of go =
     go_parts (next_at t.wants p) r.number (numbers_at p rs) (last p)
     (go_here p r rs (next_at t.wants p) (last p) refl (go p)) in
     let first : List (List ℕ) = first_lines (unwrap_or (slice_get t.firsts p) false) (want_at t.wants p) r.number in
-    let untold : first ≡ [] = ap (λ b. first_lines b (want_at t.wants p) r.number) (quiet p) in
+    let unreported : first ≡ [] = ap (λ b. first_lines b (want_at t.wants p) r.number) (quiet p) in
     let next_p : next_at wants p ≡ Some m = next_here t.wants p m (want_at t.wants p) some.0 refl some.1 in
     let rest : lines_of past rs ≡ [] =
     quiet_lines past last rs (quiet_set t.firsts p quiet)
@@ -91,9 +91,9 @@ quiet_lines t last (r ∷ rs) quiet of go =
           (go_there k r rs (next_at t.wants k) (last k) other.1 (go k))
     ]) in
     ap (λ hole. (hole ++ first) ++ lines_of past rs) (no_hole (want_at t.wants p) r.number parts.0)
-    ∙ (ap (λ lines. lines ++ lines_of past rs) untold ∙ rest)
+    ∙ (ap (λ lines. lines ++ lines_of past rs) unreported ∙ rest)
 
-pub nothing_told : (old new : Wants) (rs : List Numbered) → HasTold false old new rs
+pub nothing_reported : (old new : Wants) (rs : List Numbered) → HasReported false old new rs
     → lines_of (telling_of old false) rs ≡ []
-nothing_told old new rs h =
+nothing_reported old new rs h =
     quiet_lines (telling_of old false) (λ k. next_at new k) rs (none_first 16) h.are_of h.go_on

@@ -86,11 +86,11 @@ packet_brings t d talk bytes slice kept part x e at is whole_part same packet sa
     whole w (packet_whole t bytes w at (subst (λ (b : List ℕ). IsPacket b packet.0 packet.1) same packet.2, long.2))
     (paired d talk x e (read t w) (ap (λ (s : Stage). read_at s t w) at ∙ packet.3) same_talk same_event) none
 
--- a packet at the front of bytes, whose record is wanted
-pub front_brings : (t new : Talk) (bytes packet r : List ℕ) (n k : ℕ) → t.stage ≡ Packets → packet ≡ take 520 bytes
+-- a packet at the start of bytes, whose record is wanted
+pub leading_brings : (t new : Talk) (bytes packet r : List ℕ) (n k : ℕ) → t.stage ≡ Packets → packet ≡ take 520 bytes
     → 520 ≤ length bytes → IsPacket packet n r → at_packet (bearer t.wants r) n r t ≡ (new, events.Record k n r)
     → Brings t (take 520 bytes) (record { talk = new; kept = [] }) (events.Record k n r)
-front_brings t new bytes packet r n k at same long is h =
+leading_brings t new bytes packet r n k at same long is h =
     let w : Whole = Packet n r in
     whole w (packet_whole t (take 520 bytes) w at
     (subst (λ (b : List ℕ). IsPacket b n r) same is, length-take-le 520 bytes long))

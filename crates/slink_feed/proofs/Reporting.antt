@@ -1,4 +1,4 @@
--- What is told of records and taken by the output, one after another.
+-- What is reported of records and taken by the output, one after another.
 use Rattle.std.proofs.Common.{◌≡◌, ℕ, ◌+◌, ◌≤◌, ◌<◌, refl, sym, ap, subst, ◌∙◌, arith, List, [], ◌∷◌, ◌++◌}
 use Rattle.std.proofs.Common.{append_assoc}
 use Rattle.std.proofs.Common.{Bool, append-nil, length, length-append, take}
@@ -11,29 +11,29 @@ use Rattle.slink_feed.specs.declared.turn.LinkFault.{LinkFault}
 use Rattle.slink_feed.specs.declared.turn.LinkFault.TheVariants as faults
 use Rattle.slink_feed.specs.Delivered.{Numbered}
 use Rattle.slink_feed.specs.Dialogue.{Talk, read}
-use Rattle.slink_feed.specs.Fetching.{Fetching, line_written, record_told}
+use Rattle.slink_feed.specs.Fetching.{Fetching, line_written, record_reported}
 use Rattle.slink_feed.specs.Listening.{Brings, Listening, begun, telling, whole}
 use Rattle.slink_feed.specs.private.Delivery.{FailsToHear, Hears, IsDelivered, IsUndelivered}
-use Rattle.slink_feed.specs.Reports.{AreReported, Kept, Reports, TakesRecords, all, but_last}
-use Rattle.slink_feed.specs.Teller.{AreTold, Telling, lines_at, lines_of, none, one, telling_behind, telling_past}
-use Rattle.slink_feed.specs.Told.{HasTold, bytes_in, record_in, records_told}
-use Rattle.slink_feed.specs.Turns.{Took, TookPrefix}
+use Rattle.slink_feed.specs.Reports.{AreHandedOver, Kept, Reports, TakesRecords, all, but_last}
+use Rattle.slink_feed.specs.Teller.{AreReported, Telling, lines_at, lines_of, none, one, telling_behind, telling_past}
+use Rattle.slink_feed.specs.Reported.{HasReported, bytes_in, record_in, records_reported}
+use Rattle.slink_feed.specs.Turns.{Emitted, EmittedPrefix}
 use Rattle.slink_feed.proofs.Numbers.{kept_read}
-use Rattle.slink_feed.proofs.Telling.{bytes_both, comes_read, told_both, told_none, told_one}
+use Rattle.slink_feed.proofs.Telling.{bytes_both, comes_read, reported_both, reported_none, reported_one}
 
 -- What a sink takes, one part after another.
-pub took_none : (old : BytesWritten) → Took old old []
-took_none old = record { bytes = sym (append-nil old.bytes); failures = refl }
+pub emitted_none : (old : BytesWritten) → Emitted old old []
+emitted_none old = record { bytes = sym (append-nil old.bytes); failures = refl }
 
-pub took_both : (a b c : BytesWritten) (xs ys : List ℕ) → Took a b xs → Took b c ys → Took a c (xs ++ ys)
-took_both a b c xs ys p q = record {
+pub emitted_both : (a b c : BytesWritten) (xs ys : List ℕ) → Emitted a b xs → Emitted b c ys → Emitted a c (xs ++ ys)
+emitted_both a b c xs ys p q = record {
   bytes = q.bytes ∙ (ap (λ z. z ++ ys) p.bytes ∙ append_assoc a.bytes xs ys);
   failures = q.failures ∙ p.failures;
 }
 
-pub took_prefix : (a b c : BytesWritten) (xs ys : List ℕ) (n : ℕ) → Took a b xs → TookPrefix b c ys n
-    → TookPrefix a c (xs ++ ys) (length xs + n)
-took_prefix a b c xs ys n p q = record {
+pub emitted_prefix : (a b c : BytesWritten) (xs ys : List ℕ) (n : ℕ) → Emitted a b xs → EmittedPrefix b c ys n
+    → EmittedPrefix a c (xs ++ ys) (length xs + n)
+emitted_prefix a b c xs ys n p q = record {
   bytes = q.bytes ∙ (ap (λ z. z ++ take n ys) p.bytes
       ∙ (append_assoc a.bytes xs (take n ys) ∙ ap (λ z. a.bytes ++ z) (sym (take-append-add xs ys n))));
   part = omega (arith, q.part, length-append xs ys);
@@ -42,29 +42,34 @@ took_prefix a b c xs ys n p q = record {
 
 -- What the output takes of records.
 pub takes_none : (old : BytesWritten) → TakesRecords [] old old
-takes_none old = all (took_none old)
+takes_none old = all (emitted_none old)
 
-pub takes_both : (a b c : BytesWritten) (some more : List Numbered) → Took a b (bytes_in some) → TakesRecords more b c
+pub takes_both : (a b c : BytesWritten) (some more : List Numbered) → Emitted a b (bytes_in some)
+    → TakesRecords more b c
     → TakesRecords (some ++ more) a c
 takes_both a b c some more p q = elim q [
-  | all took ↦ all (subst (Took a c) (sym (bytes_both some more))
-      (took_both a b c (bytes_in some) (bytes_in more) p took))
-  | but_last prefix last n is behind took ↦
+  | all emitted ↦ all (subst (Emitted a c) (sym (bytes_both some more))
+      (emitted_both a b c (bytes_in some) (bytes_in more) p emitted))
+  | but_last prefix last n is behind emitted ↦
       but_last (some ++ prefix) last (length (bytes_in some) + n) (ap (λ rs. some ++ rs) is
       ∙ sym (append_assoc some prefix (last ∷ [])))
       (omega (arith, behind, ap length (bytes_both some prefix), length-append (bytes_in some) (bytes_in prefix)))
-      (subst (λ bytes. TookPrefix a c bytes (length (bytes_in some) + n)) (sym (bytes_both some more))
-      (took_prefix a b c (bytes_in some) (bytes_in more) n p took))
+      (subst (λ bytes. EmittedPrefix a c bytes (length (bytes_in some) + n)) (sym (bytes_both some more))
+      (emitted_prefix a b c (bytes_in some) (bytes_in more) n p emitted))
 ]
 
--- Where the output didn't fail, it took all.
+-- Where the output didn't fail, it accepted all.
 pub all_taken : (rs : List Numbered) (a b : BytesWritten) → TakesRecords rs a b → b.failures ≡ a.failures
-    → Took a b (bytes_in rs)
+    → Emitted a b (bytes_in rs)
 all_taken rs a b takes fine =
-    elim takes [ all took ↦ took | but_last prefix last n is behind took ↦ absurd (omega (arith, took.failures, fine)) ]
+    elim takes [
+      | all emitted ↦ emitted
+      | but_last prefix last n is behind emitted ↦
+          absurd (omega (arith, emitted.failures, fine))
+    ]
 
 -- the bytes of the record that an event tells of
-pub record_bytes : (e : Event) → record_told e ≡ bytes_in (record_in e)
+pub record_bytes : (e : Event) → record_reported e ≡ bytes_in (record_in e)
 record_bytes events.None = refl
 record_bytes (events.Say line) = refl
 record_bytes (events.Record k n bytes) = sym (append-nil bytes)
@@ -86,7 +91,7 @@ line_alone events.Garbage some = refl
 line_alone events.Foreign some = refl
 
 -- an event with bytes for the output tells of a record
-pub record_alone : (e : Event) → 0 < length (record_told e) → (r : Numbered) × (record_in e ≡ r ∷ [])
+pub record_alone : (e : Event) → 0 < length (record_reported e) → (r : Numbered) × (record_in e ≡ r ∷ [])
 record_alone events.None some = absurd (omega (arith, some))
 record_alone (events.Say line) some = absurd (omega (arith, some))
 record_alone (events.Record k n bytes) some = (record { place = k; number = n; bytes = bytes }, refl)
@@ -96,7 +101,7 @@ record_alone (events.Gap k want got) some = absurd (omega (arith, some))
 record_alone events.Garbage some = absurd (omega (arith, some))
 record_alone events.Foreign some = absurd (omega (arith, some))
 
-event_alone : (e : Event) → records_told (telling e) ≡ record_in e
+event_alone : (e : Event) → records_reported (telling e) ≡ record_in e
 event_alone events.None = refl
 event_alone (events.Say line) = refl
 event_alone (events.Record k n bytes) = refl
@@ -106,9 +111,9 @@ event_alone (events.Gap k want got) = refl
 event_alone events.Garbage = refl
 event_alone events.Foreign = refl
 
--- Lines that are told, one after another.
-pub lines_both : (xs ys : List (List ℕ)) (a b c : BytesWritten) → AreTold xs a b → AreTold ys b c
-    → AreTold (xs ++ ys) a c
+-- Lines that are reported, one after another.
+pub lines_both : (xs ys : List (List ℕ)) (a b c : BytesWritten) → AreReported xs a b → AreReported ys b c
+    → AreReported (xs ++ ys) a c
 lines_both _ ys _ _ c (none now) more = more
 lines_both _ ys _ _ c (one line lines old now new tells rest) more =
     one line (lines ++ ys) old now c tells (lines_both lines ys now new c rest more)
@@ -127,49 +132,49 @@ behind_more : (t : Telling) (some more : List Numbered)
 behind_more t [] more = refl
 behind_more t (r ∷ rs) more = behind_more (telling_past t r.place r.number) rs more
 
--- Records that are told of and taken, one after another.
-pub reported_none : (a : Kept) → AreReported [] a a
-reported_none a = record { took = takes_none a.output; telling = refl; lines = none a.errors }
+-- Records that are reported and taken, one after another.
+pub handed_over_none : (a : Kept) → AreHandedOver [] a a
+handed_over_none a = record { emitted = takes_none a.output; telling = refl; lines = none a.errors }
 
-pub reported_both : (some more : List Numbered) (a b c : Kept) → AreReported some a b
-    → b.output.failures ≡ a.output.failures → AreReported more b c → AreReported (some ++ more) a c
-reported_both some more a b c p fine q = record {
-  took = takes_both a.output b.output c.output some more (all_taken some a.output b.output p.took fine) q.took;
+pub handed_over_both : (some more : List Numbered) (a b c : Kept) → AreHandedOver some a b
+    → b.output.failures ≡ a.output.failures → AreHandedOver more b c → AreHandedOver (some ++ more) a c
+handed_over_both some more a b c p fine q = record {
+  emitted = takes_both a.output b.output c.output some more (all_taken some a.output b.output p.emitted fine) q.emitted;
   telling = q.telling ∙ (ap (λ t. telling_behind t more) p.telling ∙ sym (behind_more a.telling some more));
-  lines = subst (λ ls. AreTold ls a.errors c.errors) (sym (lines_more a.telling some more))
+  lines = subst (λ ls. AreReported ls a.errors c.errors) (sym (lines_more a.telling some more))
       (lines_both (lines_of a.telling some) (lines_of (telling_behind a.telling some) more) a.errors b.errors c.errors
-      p.lines (subst (λ t. AreTold (lines_of t more) b.errors c.errors) p.telling q.lines));
+      p.lines (subst (λ t. AreReported (lines_of t more) b.errors c.errors) p.telling q.lines));
 }
 
 pub reports_none : (t : Talk) (a : Kept) → Reports t t a a
 reports_none t a = record {
   records = [];
-  told = told_none t.holes t.wants;
+  reported = reported_none t.holes t.wants;
   holes = refl;
-  reported = reported_none a;
+  handed_over = handed_over_none a;
 }
 
 pub reports_both : (old now new : Talk) (a b c : Kept) → Reports old now a b → b.output.failures ≡ a.output.failures
     → Reports now new b c → Reports old new a c
 reports_both old now new a b c p fine q = record {
   records = p.records ++ q.records;
-  told = told_both old.holes old.wants now.wants new.wants p.records q.records p.told
-      (subst (λ (h : Bool). HasTold h now.wants new.wants q.records) p.holes q.told);
+  reported = reported_both old.holes old.wants now.wants new.wants p.records q.records p.reported
+      (subst (λ (h : Bool). HasReported h now.wants new.wants q.records) p.holes q.reported);
   holes = q.holes ∙ p.holes;
-  reported = reported_both p.records q.records a b c p.reported fine q.reported;
+  handed_over = handed_over_both p.records q.records a b c p.handed_over fine q.handed_over;
 }
 
 -- What an event tells of.
-told_event : (talk : Talk) (bytes : List ℕ) (new : Listening) (event : Event) → Brings talk bytes new event
-    → HasTold talk.holes talk.wants new.talk.wants (record_in event)
-told_event talk bytes new event (whole w is h nothing) =
-    subst (λ rs. HasTold talk.holes talk.wants new.talk.wants rs) (event_alone event)
-    (subst (λ (x : Talk × Event). HasTold talk.holes talk.wants x.0.wants (records_told (telling x.1))) h
-    (told_one talk (read talk w) (comes_read talk talk.stage bytes w is)))
-told_event talk bytes new event (begun is same quiet) =
-    subst (λ (e : Event). HasTold talk.holes talk.wants new.talk.wants (record_in e)) (sym quiet)
-    (subst (λ (l : Listening). HasTold talk.holes talk.wants l.talk.wants []) (sym same)
-    (told_none talk.holes talk.wants))
+reported_event : (talk : Talk) (bytes : List ℕ) (new : Listening) (event : Event) → Brings talk bytes new event
+    → HasReported talk.holes talk.wants new.talk.wants (record_in event)
+reported_event talk bytes new event (whole w is h nothing) =
+    subst (λ rs. HasReported talk.holes talk.wants new.talk.wants rs) (event_alone event)
+    (subst (λ (x : Talk × Event). HasReported talk.holes talk.wants x.0.wants (records_reported (telling x.1))) h
+    (reported_one talk (read talk w) (comes_read talk talk.stage bytes w is)))
+reported_event talk bytes new event (begun is same quiet) =
+    subst (λ (e : Event). HasReported talk.holes talk.wants new.talk.wants (record_in e)) (sym quiet)
+    (subst (λ (l : Listening). HasReported talk.holes talk.wants l.talk.wants []) (sym same)
+    (reported_none talk.holes talk.wants))
 
 -- It doesn't change whether the client goes past holes.
 pub kept_event : (talk : Talk) (bytes : List ℕ) (new : Listening) (event : Event) → Brings talk bytes new event
@@ -181,7 +186,7 @@ kept_event talk bytes new event (begun is same quiet) = ap (λ (l : Listening). 
 -- What the output takes of it.
 pub takes_event : (event : Event) (before after : Counts) (w w' o o' : BytesWritten)
     → IsDelivered event before after w w' o o' → TakesRecords (record_in event) o o'
-takes_event event before after w w' o o' done = all (subst (Took o o') (record_bytes event) done.output)
+takes_event event before after w w' o o' done = all (subst (Emitted o o') (record_bytes event) done.output)
 
 pub takes_cut : (fault : LinkFault) (event : Event) (before : Counts) (w w' o o' : BytesWritten)
     → IsUndelivered fault event before w w' o o' → TakesRecords (record_in event) o o'
@@ -194,45 +199,45 @@ takes_cut (faults.Output count) event before w w' o o' cut =
     let alone : (r : Numbered) × (record_in event ≡ r ∷ []) =
     record_alone event (omega (arith, cut.output.part)) in
     but_last [] alone.0 cut.more alone.1 (omega arith)
-    (subst (λ bytes. TookPrefix o o' bytes cut.more) (record_bytes event) cut.output)
+    (subst (λ bytes. EmittedPrefix o o' bytes cut.more) (record_bytes event) cut.output)
 
 -- one event more
 pub reports_more : (first : Talk) (now new : Listening) (bytes : List ℕ) (event : Event) (a b c : Kept)
     → Reports first now.talk a b → b.output.failures ≡ a.output.failures → Brings now.talk bytes new event
     → TakesRecords (record_in event) b.output c.output → c.telling ≡ telling_behind b.telling (record_in event)
-    → AreTold (lines_of b.telling (record_in event)) b.errors c.errors → Reports first new.talk a c
-reports_more first now new bytes event a b c p fine brings took telling lines =
+    → AreReported (lines_of b.telling (record_in event)) b.errors c.errors → Reports first new.talk a c
+reports_more first now new bytes event a b c p fine brings emitted telling lines =
     reports_both first now.talk new.talk a b c p fine
     (record {
       records = record_in event;
-      told = told_event now.talk bytes new event brings;
+      reported = reported_event now.talk bytes new event brings;
       holes = kept_event now.talk bytes new event brings;
-      reported = record { took = took; telling = telling; lines = lines };
+      handed_over = record { emitted = emitted; telling = telling; lines = lines };
     })
 
--- what is heard of bytes
-pub reports_heard : (first : Talk) (bytes : List ℕ) (used : ℕ) (before after : Counts) (now new : Fetching)
+-- what is received of bytes
+pub reports_received : (first : Talk) (bytes : List ℕ) (used : ℕ) (before after : Counts) (now new : Fetching)
     (a b c : Kept) → now.output ≡ b.output → new.output ≡ c.output → Reports first now.client.talk a b
     → b.output.failures ≡ a.output.failures → Hears bytes used before after now new b c
     → Reports first new.client.talk a c
-reports_heard first bytes used before after now new a b c from to p fine heard =
-    let done : TakesRecords (record_in heard.event) now.output new.output =
-    takes_event heard.event before after now.written new.written now.output new.output heard.done in
-    reports_more first now.client new.client (now.client.kept ++ take used bytes) heard.event a b c p fine
-    heard.comes.brings
-    (subst (λ (o : BytesWritten). TakesRecords (record_in heard.event) o c.output) from
-    (subst (λ (o : BytesWritten). TakesRecords (record_in heard.event) now.output o) to done))
-    heard.told.telling heard.told.lines
+reports_received first bytes used before after now new a b c from to p fine received =
+    let done : TakesRecords (record_in received.event) now.output new.output =
+    takes_event received.event before after now.written new.written now.output new.output received.done in
+    reports_more first now.client new.client (now.client.kept ++ take used bytes) received.event a b c p fine
+    received.comes.brings
+    (subst (λ (o : BytesWritten). TakesRecords (record_in received.event) o c.output) from
+    (subst (λ (o : BytesWritten). TakesRecords (record_in received.event) now.output o) to done))
+    received.reported.telling received.reported.lines
 
 pub reports_cut : (first : Talk) (bytes : List ℕ) (fault : LinkFault) (before : Counts) (now new : Fetching)
     (a b c : Kept) → now.output ≡ b.output → new.output ≡ c.output → Reports first now.client.talk a b
     → b.output.failures ≡ a.output.failures → FailsToHear fault bytes before now new b c
     → Reports first new.client.talk a c
-reports_cut first bytes fault before now new a b c from to p fine heard =
-    let done : TakesRecords (record_in heard.event) now.output new.output =
-    takes_cut fault heard.event before now.written new.written now.output new.output heard.cut in
-    reports_more first now.client new.client (now.client.kept ++ take heard.used bytes) heard.event a b c p fine
-    heard.comes.brings
-    (subst (λ (o : BytesWritten). TakesRecords (record_in heard.event) o c.output) from
-    (subst (λ (o : BytesWritten). TakesRecords (record_in heard.event) now.output o) to done))
-    heard.told.telling heard.told.lines
+reports_cut first bytes fault before now new a b c from to p fine received =
+    let done : TakesRecords (record_in received.event) now.output new.output =
+    takes_cut fault received.event before now.written new.written now.output new.output received.cut in
+    reports_more first now.client new.client (now.client.kept ++ take received.used bytes) received.event a b c p fine
+    received.comes.brings
+    (subst (λ (o : BytesWritten). TakesRecords (record_in received.event) o c.output) from
+    (subst (λ (o : BytesWritten). TakesRecords (record_in received.event) now.output o) to done))
+    received.reported.telling received.reported.lines

@@ -18,7 +18,7 @@ use Rattle.slink_feed.specs.declared.session.Sent.TheVariants as Sents
 use Rattle.slink_feed.specs.Serving.{IsAnswer}
 use Rattle.slink_feed.specs.Session.{Grants, State, all_done, answered_in, at_next, grant_at, in_streaming, packet_at}
 use Rattle.slink_feed.specs.Session.{sent, sent_in, sent_of}
-use Rattle.slink_feed.specs.Sending.{AreAsked, AreShown, Asked, IsReadFrom, IsStretch, packet_in, packets_from}
+use Rattle.slink_feed.specs.Sending.{AreCalled, AreShown, Called, IsReadFrom, IsStretch, packet_in, packets_from}
 use Rattle.slink_feed.specs.Sending.{packets_of}
 use Rattle.slink_feed.specs.Window.{Shows, Window, oldest_of, record_at}
 
@@ -71,7 +71,7 @@ drop_next [] i x h = absurd (let bad : None ≡ Some x = h in cc bad)
 drop_next (y ∷ ys) zero x h = let same : Some y ≡ Some x = h in let one : y ≡ x = cc same in ap (λ z. z ∷ ys) one
 drop_next (y ∷ ys) (suc i) x h = drop_next ys i x h
 
--- one packet more in front of a stretch
+-- one packet more before a stretch
 stretch_more : (first p : ℕ) (pushed packets : List (List ℕ)) (x : List ℕ) → first ≤ p
     → slice_get pushed (p - first) ≡ Some x → IsStretch first pushed (p + 1) packets
     → IsStretch first pushed p (packet_bytes (p % 2 ^ 24) x ∷ packets)
@@ -172,7 +172,7 @@ read_grants s t (inr closed) = ap (λ (u : State). u.grants) closed
 same_here : (n : ℕ) → (n == n) ≡ true
 same_here n = elim (eqb_tells n n) [ inl same ↦ same.0 | inr other ↦ absurd (other.1 refl) ]
 
-sent_more : (k first : ℕ) (pushed : List (List ℕ)) (a : Asked) (packets : List (List ℕ)) (g : Grant) (w : Window)
+sent_more : (k first : ℕ) (pushed : List (List ℕ)) (a : Called) (packets : List (List ℕ)) (g : Grant) (w : Window)
     (n : ℕ) (bytes : List ℕ) → a.place ≡ k → a.answer ≡ Sents.Packet (packet_bytes (g.position % 2 ^ 24) bytes)
     → Shows w first (take n pushed) → record_at w g.position ≡ Some bytes
     → IsStretch first pushed (g.position + 1) packets
@@ -186,24 +186,24 @@ sent_more k first pushed a packets g w n bytes same is shows read rest =
     subst (λ ps. IsStretch first pushed g.position (ps ++ packets)) (sym one)
     (stretch_more first g.position pushed packets bytes shown.0 shown.1 rest)
 
-pub stretch_sent : (k first : ℕ) (pushed : List (List ℕ)) (more : List Asked) (s : State) (g : Grant) → IsOn s.phase
-    → grant_at s.grants k ≡ Some g → AreAsked s more → AreShown k first pushed more
+pub stretch_sent : (k first : ℕ) (pushed : List (List ℕ)) (more : List Called) (s : State) (g : Grant) → IsOn s.phase
+    → grant_at s.grants k ≡ Some g → AreCalled s more → AreShown k first pushed more
     → IsStretch first pushed g.position (packets_of k more)
-stretch_sent k first pushed [] s g on at_k asked shown = refl
-stretch_sent k first pushed (a ∷ more) s g on at_k asked shown =
-    let t : State = asked.0 in
-    let grant : grant_at t.grants k ≡ Some g = ap (λ gs. grant_at gs k) (read_grants s t asked.1) ∙ at_k in
-    elim (step_sent k a.place g a.feed t grant (read_on s t asked.1 on)) [
+stretch_sent k first pushed [] s g on at_k called shown = refl
+stretch_sent k first pushed (a ∷ more) s g on at_k called shown =
+    let t : State = called.0 in
+    let grant : grant_at t.grants k ≡ Some g = ap (λ gs. grant_at gs k) (read_grants s t called.1) ∙ at_k in
+    elim (step_sent k a.place g a.feed t grant (read_on s t called.1 on)) [
       | quiet none stays goes ↦ subst (λ ps. IsStretch first pushed g.position (ps ++ packets_of k more))
-          (sym (ap (λ y. if a.place == k then packet_in y else []) (sym asked.2) ∙ none))
-          (stretch_sent k first pushed more (sent a.feed t a.place).0 g goes stays asked.3 shown.1)
+          (sym (ap (λ y. if a.place == k then packet_in y else []) (sym called.2) ∙ none))
+          (stretch_sent k first pushed more (sent a.feed t a.place).0 g goes stays called.3 shown.1)
       | went w bytes same is here read stays goes ↦
           let both : Some shown.0.0 ≡ Some w = sym shown.0.2 ∙ here in
           let one : shown.0.0 ≡ w = cc both in
-          sent_more k first pushed a (packets_of k more) g w shown.0.1 bytes same (sym asked.2 ∙ is)
+          sent_more k first pushed a (packets_of k more) g w shown.0.1 bytes same (sym called.2 ∙ is)
           (subst (λ (v : Window). Shows v first (take shown.0.1 pushed)) one shown.0.3) read
           (stretch_sent k first pushed more (sent a.feed t a.place).0
-          (record { mode = g.mode; position = g.position + 1 }) goes stays asked.3 shown.1)
+          (record { mode = g.mode; position = g.position + 1 }) goes stays called.3 shown.1)
     ]
 
 -- what a line leaves of a session that streams

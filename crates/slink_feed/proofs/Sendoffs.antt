@@ -1,4 +1,4 @@
--- What a session gave so far, and which of the bytes it took were answered.
+-- What a session gave so far, and which of the bytes it accepted were answered.
 use Rattle.std.proofs.Common.{◌≡◌, ◌≢◌, ℕ, ◌+◌, ◌-◌, ◌*◌, ◌≤◌, ◌<◌, ◌⊎◌, zero, suc, refl, sym, ap, subst, ◌∙◌, arith}
 use Rattle.std.proofs.Common.{inl, inr, if◌then◌else◌, List, [], ◌∷◌, ◌++◌, append_assoc, append-nil, length}
 use Rattle.std.proofs.Common.{length-append, replicate, take, take_all, drop, Result, Err, IfErr}
@@ -18,9 +18,9 @@ use Rattle.slink_feed.specs.private.Replying.{waits_after}
 use Rattle.slink_feed.specs.Rounds.{Attending, FailsToSend, Gives, HasWaited, all_sent, place_behind}
 use Rattle.slink_feed.specs.Serving.{Serves, Standing, Takes, none_served, piece_served}
 use Rattle.slink_feed.specs.Session.{AreReached, State, sent, sent_bytes}
-use Rattle.slink_feed.specs.Turns.{Took}
+use Rattle.slink_feed.specs.Turns.{Emitted}
 use Rattle.slink_feed.specs.Window.{Window}
-use Rattle.slink_feed.proofs.Deliveries.{prefix_further, piece_is, took_further, took_none}
+use Rattle.slink_feed.proofs.Deliveries.{prefix_further, piece_is, emitted_further, emitted_none}
 use Rattle.slink_feed.proofs.Dues.{Moves, due, few_due, moved, moves, waits}
 
 pub record SentSoFar (feed : List Window) (old now : Attending) (k waits written : ℕ) : Type 0 where
@@ -28,7 +28,7 @@ pub record SentSoFar (feed : List Window) (old now : Attending) (k waits written
   pub gives : Gives feed 0 old.session.state given k now.session.state
   pub waited : HasWaited waits given
   pub held : now.session.held ≡ old.session.held
-  pub took : Took old.written now.written (all_sent given)
+  pub emitted : Emitted old.written now.written (all_sent given)
   pub counted : written ≡ length (all_sent given)
   pub few : written + 520 * due feed now.session.state ≤ 520 * due feed old.session.state
   pub within : 0 < length feed → k < length feed
@@ -40,7 +40,7 @@ nothing_sent feed s = record {
   gives = (refl, refl);
   waited = ([], refl);
   held = refl;
-  took = took_none s.written;
+  emitted = emitted_none s.written;
   counted = refl;
   few = omega arith;
   within = λ some. some;
@@ -124,8 +124,8 @@ module _ (feed : List Window) (old now new : Attending) (k waits_now written : �
     gives = gives;
     waited = waited_more so_far.given x.1 waits_now so_far.waited;
     held = held ∙ so_far.held;
-    took = took_further old.written now.written new.written (all_sent so_far.given) (sent_bytes x.1)
-        (all_sent (so_far.given ++ x.1 ∷ [])) (all_more so_far.given x.1) so_far.took done.written;
+    emitted = emitted_further old.written now.written new.written (all_sent so_far.given) (sent_bytes x.1)
+        (all_sent (so_far.given ++ x.1 ∷ [])) (all_more so_far.given x.1) so_far.emitted done.written;
     counted = done.count ∙ (ap (λ n. n + length (sent_bytes x.1)) so_far.counted
         ∙ (sym (length-append (all_sent so_far.given) (sent_bytes x.1)) ∙ ap length (sym (all_more so_far.given x.1))));
     few =
@@ -151,7 +151,7 @@ module _ (feed : List Window) (old now new : Attending) (k waits_now written : �
         gives = gives;
         held = held ∙ so_far.held;
         written = prefix_further old.written now.written new.written (all_sent so_far.given) (sent_bytes x.1)
-            (all_sent (so_far.given ++ x.1 ∷ [])) after cut.more (all_more so_far.given x.1) counted so_far.took
+            (all_sent (so_far.given ++ x.1 ∷ [])) after cut.more (all_more so_far.given x.1) counted so_far.emitted
             cut.written;
         behind = omega (arith, counted);
       }
@@ -195,9 +195,9 @@ has_sent feed old now k n written most ends so_far = record {
           subst (λ m. HasWaited m so_far.given) same so_far.waited)
     ];
     held = so_far.held;
-    written = so_far.took;
+    written = so_far.emitted;
   };
-  counted = ap length so_far.took.bytes
+  counted = ap length so_far.emitted.bytes
       ∙ (length-append old.written.bytes (all_sent so_far.given)
       ∙ ap (λ m. length old.written.bytes + m) (sym so_far.counted));
   few = omega (arith, so_far.few, few_due feed old.session.state, most);
@@ -207,7 +207,7 @@ pub few_written : (feed : List Window) (old now : Attending) (k n written : ℕ)
     → SentSoFar feed old now k n written → written ≤ 1099511627776
 few_written feed old now k n written most so_far = omega (arith, so_far.few, few_due feed old.session.state, most)
 
--- the bytes that a session took are answered
+-- the bytes that a session accepted are answered
 pub record RepliedSoFar (feed : List Window) (old now : Attending) (bytes : List ℕ) (start before written : ℕ) : Type
     0 where
   pub within : start ≤ length bytes

@@ -25,21 +25,21 @@ closed_or Closed = inl refl
 true_false : (b : Rattle.std.proofs.Common.Bool) → b ≡ true → b ≡ false → ⊥
 true_false b t f = let bad : true ≡ false = sym t ∙ f in cc bad
 
--- something is told of no byte at all only where a line was too long
-nothing_told : (what : What) (stream : List ℕ) (count : ℕ) → 0 < count → (lines_of stream).is_too_long ≡ false
+-- something is reported of no byte at all only where a line was too long
+nothing_reported : (what : What) (stream : List ℕ) (count : ℕ) → 0 < count → (lines_of stream).is_too_long ≡ false
     → Tells what stream stream → (what ≡ More → 0 ≡ count) → ⊥
-nothing_told More stream count some short tells whole = let e : 0 ≡ count = whole refl in omega (arith, e, some)
-nothing_told (Line line) stream count some short tells whole =
+nothing_reported More stream count some short tells whole = let e : 0 ≡ count = whole refl in omega (arith, e, some)
+nothing_reported (Line line) stream count some short tells whole =
     let long : length (lines_of stream).lines ≡ length ((lines_of stream).lines ++ line.items ∷ []) =
     ap length tells.0 in
     omega (arith, long, length-append (lines_of stream).lines (line.items ∷ []))
-nothing_told TooLong stream count some short tells whole = true_false (lines_of stream).is_too_long tells.1 short
+nothing_reported TooLong stream count some short tells whole = true_false (lines_of stream).is_too_long tells.1 short
 
 -- some bytes are taken
 takes_some : (stream bytes : List ℕ) (used : ℕ) → 0 < length bytes → (lines_of stream).is_too_long ≡ false
     → TakesWhole stream (stream ++ take used bytes) used (length bytes) → 0 < used
 takes_some stream bytes zero some short whole =
-    absurd (nothing_told whole.0 stream (length bytes) some short
+    absurd (nothing_reported whole.0 stream (length bytes) some short
     (subst (λ s. Tells whole.0 stream s) (append-nil stream) whole.1) whole.2)
 takes_some stream bytes (suc n) some short whole = omega arith
 

@@ -6,7 +6,7 @@ use Rattle.std.proofs.lemmas.List.{length-set}
 use Rattle.slink_wire.specs.Packet.{packet_bytes}
 use Rattle.slink_feed.specs.declared.dialogue.Wanted.{Wanted}
 use Rattle.slink_feed.specs.Delivered.{AreBorne, AreWanted, all_packets, joined, numbered}
-use Rattle.slink_feed.specs.Dialogue.{Talk, Wants, bearer, is_borne, next_at, next_set, told, want_at, with_next}
+use Rattle.slink_feed.specs.Dialogue.{Talk, Wants, bearer, is_borne, next_at, next_set, reported, want_at, with_next}
 use Rattle.slink_feed.specs.Sending.{packets_from}
 use Rattle.slink_feed.proofs.Numbers.{bearer_some, next_here}
 
@@ -46,7 +46,7 @@ stretch_wanted k g (r ∷ rs) t are wanted =
       omega arith,
       are.1,
       wanted,
-      stretch_wanted k (g + 1) rs (told k (g % 2 ^ 24) r t).0 (borne_set t.wants k n rs are.2)
+      stretch_wanted k (g + 1) rs (reported k (g % 2 ^ 24) r t).0 (borne_set t.wants k n rs are.2)
           (subst (λ o. IfSome o (λ want. (g + 1) % 2 ^ 24 ≡ want)) (sym next) same),
     )
 

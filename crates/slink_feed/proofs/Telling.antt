@@ -20,19 +20,19 @@ use Rattle.slink_feed.specs.Delivered.{Numbered}
 use Rattle.slink_feed.specs.Dialogue.{Talk, Wants, Whole, Reply, Packet, End, Garbage, answer_of, at_packet, bearer}
 use Rattle.slink_feed.specs.Dialogue.{is_taken}
 use Rattle.slink_feed.specs.Dialogue.{ended, read, read_at, if_wanted, is_borne, next_at, next_set, says_number}
-use Rattle.slink_feed.specs.Dialogue.{says_place, to_answer, to_place, told, want_at}
+use Rattle.slink_feed.specs.Dialogue.{says_place, to_answer, to_place, reported, want_at}
 use Rattle.slink_feed.specs.Holding.{GoBy, GoOn, IsNext}
 use Rattle.slink_feed.specs.Listening.{AreBrought, Brought, Listening, Reads, events_of, talk_after, telling}
-use Rattle.slink_feed.specs.Told.{AreOf, HasTold, bytes_in, numbers_at, places_of, record_in, records_told}
-use Rattle.slink_feed.proofs.Numbers.{Moved, moves, stays, bearer_some, get_want, go_on_more, kept_read, moved_told}
+use Rattle.slink_feed.specs.Reported.{AreOf, HasReported, bytes_in, numbers_at, places_of, record_in, records_reported}
+use Rattle.slink_feed.proofs.Numbers.{Moved, moves, stays, bearer_some, get_want, go_on_more, kept_read, moved_reported}
 use Rattle.slink_feed.proofs.Numbers.{taken_next}
 
--- what comes of a whole: nothing is told of; or a record, of the place that it bears and of the number that this wants
+-- what comes of a whole: nothing is reported; or a record, of the place that it bears and of the number that this wants
 pub data Comes (t : Talk) (x : Talk × Event) : Type 0 where
-  nothing : records_told (telling x.1) ≡ [] → x.0.wants ≡ t.wants → Comes t x
+  nothing : records_reported (telling x.1) ≡ [] → x.0.wants ≡ t.wants → Comes t x
   a_record : (k n : ℕ) (bytes : List ℕ) → length bytes ≡ 512 → bearer t.wants bytes ≡ Some k
       → IfSome (next_at t.wants k) (λ want. IsNext t.holes want n)
-      → x ≡ told k n bytes t → Comes t x
+      → x ≡ reported k n bytes t → Comes t x
 
 comes_end : (t : Talk) (ending : Ending) → Comes t (ended ending t)
 comes_end t endings.End = nothing refl refl
@@ -53,7 +53,7 @@ comes_answer k t next Neither comes = comes_end t endings.Garbage
 
 comes_if : (k n : ℕ) (bytes : List ℕ) (t : Talk) (b : Bool) (want : ℕ) → length bytes ≡ 512
     → bearer t.wants bytes ≡ Some k → next_at t.wants k ≡ Some want → (b ≡ true → IsNext t.holes want n)
-    → Comes t (if b then told k n bytes t else ended (endings.Gap k want n) t)
+    → Comes t (if b then reported k n bytes t else ended (endings.Gap k want n) t)
 comes_if k n bytes t true want long bears is same =
     a_record k n bytes long bears (subst (λ o. IfSome o (λ x. IsNext t.holes x n)) (sym is) (same refl)) refl
 comes_if k n bytes t false want long bears is same = comes_end t (endings.Gap k want n)
@@ -149,13 +149,13 @@ go_both holes (Some want) now last (n ∷ ns) more on too =
     (on.0, go_both holes (Some ((n + 1) % 2 ^ 24)) now last ns more on.1 too)
 
 -- nothing more
-pub told_none : (holes : Bool) (wants : Wants) → HasTold holes wants wants []
-told_none holes wants = record { places = refl; are_of = tt; go_on = λ k. refl }
+pub reported_none : (holes : Bool) (wants : Wants) → HasReported holes wants wants []
+reported_none holes wants = record { places = refl; are_of = tt; go_on = λ k. refl }
 
 -- one link after another
-pub told_both : (holes : Bool) (old now new : Wants) (some more : List Numbered) → HasTold holes old now some
-    → HasTold holes now new more → HasTold holes old new (some ++ more)
-told_both holes old now new some more h too = record {
+pub reported_both : (holes : Bool) (old now new : Wants) (some more : List Numbered) → HasReported holes old now some
+    → HasReported holes now new more → HasReported holes old new (some ++ more)
+reported_both holes old now new some more h too = record {
   places = too.places ∙ h.places;
   are_of = of_both old some more h.are_of (of_same old now more h.places too.are_of);
   go_on = λ k. subst (λ ns. GoBy holes (next_at old k) ns (next_at new k)) (sym (numbers_both k some more))
@@ -170,11 +170,11 @@ places_next wants k n (Some w) at =
     map-set_same place_of wants k (Some (record { place = w.place; next = Some n })) None
     (sym (ap place_of (get_want wants k ∙ at)))
 
-go_one : (j k n : ℕ) (bytes : List ℕ) (t : Talk) → Moved j t (told k n bytes t)
+go_one : (j k n : ℕ) (bytes : List ℕ) (t : Talk) → Moved j t (reported k n bytes t)
     → GoBy t.holes (next_at t.wants j) (numbers_at j (record { place = k; number = n; bytes = bytes } ∷ []))
-    (next_at (told k n bytes t).0.wants j)
+    (next_at (reported k n bytes t).0.wants j)
 go_one j k n bytes t moved =
-    let last : Option ℕ = next_at (told k n bytes t).0.wants j in
+    let last : Option ℕ = next_at (reported k n bytes t).0.wants j in
     let here : List ℕ = if k == j then n ∷ [] else [] in
     elim moved [
       | stays none same ↦ subst (λ ns. GoBy t.holes (next_at t.wants j) ns last) (sym (append-nil here ∙ none)) same
@@ -182,59 +182,61 @@ go_one j k n bytes t moved =
           (sym (append-nil here ∙ one)) (go_on_more t.holes (next_at t.wants j) last m [] wanted next)
     ]
 
-told_record : (k n : ℕ) (bytes : List ℕ) (t : Talk) → length bytes ≡ 512 → bearer t.wants bytes ≡ Some k
+reported_record : (k n : ℕ) (bytes : List ℕ) (t : Talk) → length bytes ≡ 512 → bearer t.wants bytes ≡ Some k
     → IfSome (next_at t.wants k) (λ want. IsNext t.holes want n)
-    → HasTold t.holes t.wants (told k n bytes t).0.wants (record { place = k; number = n; bytes = bytes } ∷ [])
-told_record k n bytes t long bears wanted =
+    → HasReported t.holes t.wants (reported k n bytes t).0.wants (record { place = k; number = n; bytes = bytes } ∷ [])
+reported_record k n bytes t long bears wanted =
     let some : (w : Wanted) × (want_at t.wants k ≡ Some w) = bearer_some t.wants bytes k bears in record {
       places = places_next t.wants k ((n + 1) % 2 ^ 24) (want_at t.wants k) refl;
       are_of = (long, bears, tt);
-      go_on = λ j. go_one j k n bytes t (moved_told j k n bytes t some.0 some.1 wanted);
+      go_on = λ j. go_one j k n bytes t (moved_reported j k n bytes t some.0 some.1 wanted);
     }
 
-pub told_one : (t : Talk) (x : Talk × Event) → Comes t x
-    → HasTold t.holes t.wants x.0.wants (records_told (telling x.1))
-told_one t x comes = elim comes [
-  | nothing none same ↦ subst (λ rs. HasTold t.holes t.wants x.0.wants rs) (sym none)
-      (subst (λ ws. HasTold t.holes t.wants ws []) (sym same) (told_none t.holes t.wants))
+pub reported_one : (t : Talk) (x : Talk × Event) → Comes t x
+    → HasReported t.holes t.wants x.0.wants (records_reported (telling x.1))
+reported_one t x comes = elim comes [
+  | nothing none same ↦ subst (λ rs. HasReported t.holes t.wants x.0.wants rs) (sym none)
+      (subst (λ ws. HasReported t.holes t.wants ws []) (sym same) (reported_none t.holes t.wants))
   | a_record k n bytes long bears wanted is ↦ subst
-      (λ (y : Talk × Event). HasTold t.holes t.wants y.0.wants (records_told (telling y.1))) (sym is)
-      (told_record k n bytes t long bears wanted)
+      (λ (y : Talk × Event). HasReported t.holes t.wants y.0.wants (records_reported (telling y.1))) (sym is)
+      (reported_record k n bytes t long bears wanted)
 ]
 
-pub records_both : (some more : List Event) → records_told (some ++ more) ≡ records_told some ++ records_told more
+pub records_both : (some more : List Event) → records_reported (some ++ more) ≡ records_reported some ++
+    records_reported more
 records_both [] more = refl
 records_both (e ∷ es) more = ap (λ rs. record_in e ++ rs) (records_both es more)
-    ∙ sym (append_assoc (record_in e) (records_told es) (records_told more))
+    ∙ sym (append_assoc (record_in e) (records_reported es) (records_reported more))
 
 pub bytes_both : (some more : List Numbered) → bytes_in (some ++ more) ≡ bytes_in some ++ bytes_in more
 bytes_both [] more = refl
 bytes_both (r ∷ rs) more = ap (λ bytes. r.bytes ++ bytes) (bytes_both rs more)
     ∙ sym (append_assoc r.bytes (bytes_in rs) (bytes_in more))
 
-told_brought : (t : Talk) (bs : List Brought) → AreBrought t bs
-    → HasTold t.holes t.wants (talk_after t bs).wants (records_told (events_of t bs))
-told_brought t [] are = told_none t.holes t.wants
-told_brought t (b ∷ bs) are =
+reported_brought : (t : Talk) (bs : List Brought) → AreBrought t bs
+    → HasReported t.holes t.wants (talk_after t bs).wants (records_reported (events_of t bs))
+reported_brought t [] are = reported_none t.holes t.wants
+reported_brought t (b ∷ bs) are =
     let x : Talk × Event = read t b.whole in
-    let one : HasTold t.holes t.wants x.0.wants (records_told (telling x.1)) =
-    told_one t x (comes_read t t.stage b.bytes b.whole are.0) in
-    let more : HasTold t.holes x.0.wants (talk_after x.0 bs).wants (records_told (events_of x.0 bs)) =
-    subst (λ (h : Bool). HasTold h x.0.wants (talk_after x.0 bs).wants (records_told (events_of x.0 bs)))
-    (kept_read t t.stage b.whole) (told_brought x.0 bs are.1) in
-    subst (λ rs. HasTold t.holes t.wants (talk_after x.0 bs).wants rs)
+    let one : HasReported t.holes t.wants x.0.wants (records_reported (telling x.1)) =
+    reported_one t x (comes_read t t.stage b.bytes b.whole are.0) in
+    let more : HasReported t.holes x.0.wants (talk_after x.0 bs).wants (records_reported (events_of x.0 bs)) =
+    subst (λ (h : Bool). HasReported h x.0.wants (talk_after x.0 bs).wants (records_reported (events_of x.0 bs)))
+    (kept_read t t.stage b.whole) (reported_brought x.0 bs are.1) in
+    subst (λ rs. HasReported t.holes t.wants (talk_after x.0 bs).wants rs)
     (sym (records_both (telling x.1) (events_of x.0 bs)))
-    (told_both t.holes t.wants x.0.wants (talk_after x.0 bs).wants (records_told (telling x.1))
-    (records_told (events_of x.0 bs)) one more)
+    (reported_both t.holes t.wants x.0.wants (talk_after x.0 bs).wants (records_reported (telling x.1))
+    (records_reported (events_of x.0 bs)) one more)
 
 -- what a client tells of a link
-pub told_link : (start : Talk) (stream : List ℕ) (events : List Event) (now : Listening)
-    → Reads start stream events now → HasTold start.holes start.wants now.talk.wants (records_told events)
-told_link start stream events now reads =
-    subst (λ es. HasTold start.holes start.wants now.talk.wants (records_told es)) (sym reads.events_are)
-    (subst (λ (u : Talk). HasTold start.holes start.wants u.wants (records_told (events_of start reads.brought)))
+pub reported_link : (start : Talk) (stream : List ℕ) (events : List Event) (now : Listening)
+    → Reads start stream events now → HasReported start.holes start.wants now.talk.wants (records_reported events)
+reported_link start stream events now reads =
+    subst (λ es. HasReported start.holes start.wants now.talk.wants (records_reported es)) (sym reads.events_are)
+    (subst (λ (u : Talk). HasReported start.holes start.wants u.wants
+    (records_reported (events_of start reads.brought)))
     (sym reads.talk)
-    (told_brought start reads.brought reads.are_brought))
+    (reported_brought start reads.brought reads.are_brought))
 
 -- It stays whether the client goes past holes.
 kept_brought : (t : Talk) (bs : List Brought) → (talk_after t bs).holes ≡ t.holes
@@ -260,10 +262,10 @@ go_far n (m ∷ ns) last short on =
     (arith, on.0) in e)
 
 -- the number of the records is what a place's number moves by
-pub told_far : (old new : Wants) (records : List Numbered) (k n : ℕ) → HasTold false old new records
+pub reported_far : (old new : Wants) (records : List Numbered) (k n : ℕ) → HasReported false old new records
     → n < 2 ^ 24
     → next_at old k ≡ Some n
     → next_at new k ≡ Some ((n + length (numbers_at k records)) % 2 ^ 24)
-told_far old new records k n h short at =
+reported_far old new records k n h short at =
     go_far n (numbers_at k records) (next_at new k) short
     (subst (λ o. GoOn o (numbers_at k records) (next_at new k)) at (h.go_on k))

@@ -12,75 +12,80 @@ use Rattle.slink_feed.specs.declared.dialogue.Event.{Event}
 use Rattle.slink_feed.specs.declared.dialogue.Event.TheVariants as events
 use Rattle.slink_feed.specs.declared.dialogue.Wanted.{Wanted}
 use Rattle.slink_feed.specs.Dialogue.{Wants, want_at}
-use Rattle.slink_feed.specs.Teller.{AreTold, Telling, first_line, first_lines, hole_line, hole_lines, if_other}
+use Rattle.slink_feed.specs.Teller.{AreReported, Telling, first_line, first_lines, hole_line, hole_lines, if_other}
 use Rattle.slink_feed.specs.Teller.{lines_at}
 use Rattle.slink_feed.specs.Teller.{lines_of, none, one, word_of, words_of}
-use Rattle.slink_feed.specs.Told.{record_in}
+use Rattle.slink_feed.specs.Reported.{record_in}
 use Rattle.slink_feed.proofs.Reporting.{lines_both}
 
 -- a line, by its text
-pub told_line : (line text : List ℕ) (a b : BytesWritten) → line ≡ text → Tells line a b → AreTold (text ∷ []) a b
-told_line line text a b same tells = one text [] a b b (subst (λ l. Tells l a b) same tells) (none b)
+pub reported_line : (line text : List ℕ) (a b : BytesWritten) → line ≡ text → Tells line a b
+    → AreReported (text ∷ []) a b
+reported_line line text a b same tells = one text [] a b b (subst (λ l. Tells l a b) same tells) (none b)
 
-pub other_told : (place : Fields) (o : Option ℕ) (want got : ℕ) (a b : BytesWritten) → o ≡ Some want → want ≢ got
-    → AreTold (hole_line place want got ∷ []) a b → AreTold (if_other place o got) a b
-other_told place o want got a b is other told =
-    subst (λ (x : Option ℕ). AreTold (if_other place x got) a b) (sym is)
+pub other_reported : (place : Fields) (o : Option ℕ) (want got : ℕ) (a b : BytesWritten) → o ≡ Some want → want ≢ got
+    → AreReported (hole_line place want got ∷ []) a b → AreReported (if_other place o got) a b
+other_reported place o want got a b is other reported =
+    subst (λ (x : Option ℕ). AreReported (if_other place x got) a b) (sym is)
     (elim (eqb_tells got want) [
       | inl same ↦ absurd (other (sym same.1))
-      | inr not_so ↦ subst (λ (t : Bool). AreTold (if t then [] else hole_line place want got ∷ []) a b) (sym not_so.0)
-          told
+      | inr not_so ↦ subst (λ (t : Bool). AreReported (if t then [] else hole_line place want got ∷ []) a b)
+          (sym not_so.0)
+          reported
     ])
 
 pub other_same : (place : Fields) (o : Option ℕ) (want got : ℕ) (a : BytesWritten) → o ≡ Some want → want ≡ got
-    → AreTold (if_other place o got) a a
+    → AreReported (if_other place o got) a a
 other_same place o want got a is same =
-    subst (λ (x : Option ℕ). AreTold (if_other place x got) a a) (sym is)
+    subst (λ (x : Option ℕ). AreReported (if_other place x got) a a) (sym is)
     (elim (eqb_tells got want) [
-      | inl so ↦ subst (λ (t : Bool). AreTold (if t then [] else hole_line place want got ∷ []) a a) (sym so.0) (none a)
+      | inl so ↦ subst (λ (t : Bool). AreReported (if t then [] else hole_line place want got ∷ []) a a) (sym so.0)
+          (none a)
       | inr not_so ↦ absurd (not_so.1 (sym same))
     ])
 
 pub other_none : (place : Fields) (o : Option ℕ) (got : ℕ) (a : BytesWritten) → o ≡ None
-    → AreTold (if_other place o got) a a
-other_none place o got a is = subst (λ (x : Option ℕ). AreTold (if_other place x got) a a) (sym is) (none a)
+    → AreReported (if_other place o got) a a
+other_none place o got a is = subst (λ (x : Option ℕ). AreReported (if_other place x got) a a) (sym is) (none a)
 
-pub hole_told : (o : Option Wanted) (w : Wanted) (number : ℕ) (a b : BytesWritten) → o ≡ Some w
-    → AreTold (if_other w.place w.next number) a b → AreTold (hole_lines o number) a b
-hole_told o w number a b is told = subst (λ (x : Option Wanted). AreTold (hole_lines x number) a b) (sym is) told
+pub hole_reported : (o : Option Wanted) (w : Wanted) (number : ℕ) (a b : BytesWritten) → o ≡ Some w
+    → AreReported (if_other w.place w.next number) a b → AreReported (hole_lines o number) a b
+hole_reported o w number a b is reported = subst (λ (x : Option Wanted). AreReported (hole_lines x number) a b)
+    (sym is) reported
 
-pub hole_none : (o : Option Wanted) (number : ℕ) (a : BytesWritten) → o ≡ None → AreTold (hole_lines o number) a a
-hole_none o number a is = subst (λ (x : Option Wanted). AreTold (hole_lines x number) a a) (sym is) (none a)
+pub hole_none : (o : Option Wanted) (number : ℕ) (a : BytesWritten) → o ≡ None → AreReported (hole_lines o number) a a
+hole_none o number a is = subst (λ (x : Option Wanted). AreReported (hole_lines x number) a a) (sym is) (none a)
 
-pub first_told : (first : Bool) (o : Option Wanted) (w : Wanted) (number : ℕ) (a b : BytesWritten) → first ≡ true
-    → o ≡ Some w → AreTold (first_line w.place number ∷ []) a b → AreTold (first_lines first o number) a b
-first_told first o w number a b set is told =
-    subst (λ (t : Bool). AreTold (first_lines t o number) a b) (sym set)
-    (subst (λ (x : Option Wanted). AreTold (first_lines true x number) a b) (sym is) told)
+pub first_reported : (first : Bool) (o : Option Wanted) (w : Wanted) (number : ℕ) (a b : BytesWritten) → first ≡ true
+    → o ≡ Some w → AreReported (first_line w.place number ∷ []) a b → AreReported (first_lines first o number) a b
+first_reported first o w number a b set is reported =
+    subst (λ (t : Bool). AreReported (first_lines t o number) a b) (sym set)
+    (subst (λ (x : Option Wanted). AreReported (first_lines true x number) a b) (sym is) reported)
 
 pub first_none : (first : Bool) (o : Option Wanted) (number : ℕ) (a : BytesWritten) → o ≡ None
-    → AreTold (first_lines first o number) a a
-first_none true o number a is = subst (λ (x : Option Wanted). AreTold (first_lines true x number) a a) (sym is) (none a)
+    → AreReported (first_lines first o number) a a
+first_none true o number a is = subst (λ (x : Option Wanted). AreReported (first_lines true x number) a a) (sym is)
+    (none a)
 first_none false o number a is = none a
 
 pub no_first : (first : Bool) (o : Option Wanted) (number : ℕ) (a : BytesWritten) → first ≡ false
-    → AreTold (first_lines first o number) a a
-no_first first o number a unset = subst (λ (t : Bool). AreTold (first_lines t o number) a a) (sym unset) (none a)
+    → AreReported (first_lines first o number) a a
+no_first first o number a unset = subst (λ (t : Bool). AreReported (first_lines t o number) a a) (sym unset) (none a)
 
 -- the lines of a record
-pub lines_told : (t : Telling) (k number : ℕ) (o : Option Wanted) (first : Bool) (a b c : BytesWritten)
-    → o ≡ want_at t.wants k → first ≡ unwrap_or (slice_get t.firsts k) false → AreTold (hole_lines o number) a b
-    → AreTold (first_lines first o number) b c → AreTold (lines_at t k number) a c
-lines_told t k number o first a b c is set hole told =
-    subst (λ (x : Option Wanted). AreTold (hole_lines x number
+pub lines_reported : (t : Telling) (k number : ℕ) (o : Option Wanted) (first : Bool) (a b c : BytesWritten)
+    → o ≡ want_at t.wants k → first ≡ unwrap_or (slice_get t.firsts k) false → AreReported (hole_lines o number) a b
+    → AreReported (first_lines first o number) b c → AreReported (lines_at t k number) a c
+lines_reported t k number o first a b c is set hole reported =
+    subst (λ (x : Option Wanted). AreReported (hole_lines x number
     ++ first_lines (unwrap_or (slice_get t.firsts k) false) x number) a c) is
-    (subst (λ (f : Bool). AreTold (hole_lines o number ++ first_lines f o number) a c) set
-    (lines_both (hole_lines o number) (first_lines first o number) a b c hole told))
+    (subst (λ (f : Bool). AreReported (hole_lines o number ++ first_lines f o number) a c) set
+    (lines_both (hole_lines o number) (first_lines first o number) a b c hole reported))
 
 -- an event that tells of no record
-pub told_quiet : (t : Telling) (event : Event) (a : BytesWritten) → record_in event ≡ []
-    → AreTold (lines_of t (record_in event)) a a
-told_quiet t event a quiet = subst (λ rs. AreTold (lines_of t rs) a a) (sym quiet) (none a)
+pub reported_quiet : (t : Telling) (event : Event) (a : BytesWritten) → record_in event ≡ []
+    → AreReported (lines_of t (record_in event)) a a
+reported_quiet t event a quiet = subst (λ rs. AreReported (lines_of t rs) a a) (sym quiet) (none a)
 
 quiet_two : (e : Event) → (e ≡ events.Garbage) ⊎ (e ≡ events.Foreign) → record_in e ≡ []
 quiet_two e h = elim h [ inl is ↦ ap record_in is | inr is ↦ ap record_in is ]
@@ -96,15 +101,15 @@ quiet_four e h = elim h [
   ]
 ]
 
-pub told_two : (t : Telling) (e : Event) (a : BytesWritten) → (e ≡ events.Garbage) ⊎ (e ≡ events.Foreign)
-    → AreTold (lines_of t (record_in e)) a a
-told_two t e a h = told_quiet t e a (quiet_two e h)
+pub reported_two : (t : Telling) (e : Event) (a : BytesWritten) → (e ≡ events.Garbage) ⊎ (e ≡ events.Foreign)
+    → AreReported (lines_of t (record_in e)) a a
+reported_two t e a h = reported_quiet t e a (quiet_two e h)
 
-pub told_four : (t : Telling) (e : Event) (a : BytesWritten) → (e ≡ events.None)
+pub reported_four : (t : Telling) (e : Event) (a : BytesWritten) → (e ≡ events.None)
     ⊎ ((e ≡ events.End)
     ⊎ (((k : ℕ) × (e ≡ events.Refused k)) ⊎ ((k want got : ℕ) × (e ≡ events.Gap k want got))))
-    → AreTold (lines_of t (record_in e)) a a
-told_four t e a h = told_quiet t e a (quiet_four e h)
+    → AreReported (lines_of t (record_in e)) a a
+reported_four t e a h = reported_quiet t e a (quiet_four e h)
 
 -- one place more
 pub words_more : (ws : Wants) (i : ℕ) (d : Option Wanted) → i < length ws

@@ -69,7 +69,7 @@ lacks_before a z line is some lacks i cr lf =
     ∙ (ap (λ (xs : List ℕ). slice_get xs j) (sym split) ∙ get_left a z j lt) in
     lacks i (here i (omega (arith, within)) ∙ cr) (here (i + 1) within ∙ lf)
 
--- bytes that are begun have no whole in front
+-- bytes that are begun have no whole before it
 reply_begun_no : (a z : List ℕ) (w : Whole) → IsReplyBegun (a ++ z) → IsWholeReply a w → ⊥
 reply_begun_no a z (Reply line) begun is = reply_end a z line is.0 begun.0
 reply_begun_no a z (Packet n r) begun is = is

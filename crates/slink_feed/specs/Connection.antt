@@ -7,7 +7,7 @@ use Rattle.slink_feed.specs.declared.turn.LinkFault.{LinkFault}
 use Rattle.slink_feed.specs.declared.turn.Turn.{Turn}
 use Rattle.slink_feed.specs.Attending.{Attends, IsServeFault}
 use Rattle.slink_feed.specs.Rounds.{Attending}
-use Rattle.slink_feed.specs.Sending.{AreAsked, Asked, IsStretch, packets_of}
+use Rattle.slink_feed.specs.Sending.{AreCalled, Called, IsStretch, packets_of}
 use Rattle.slink_feed.specs.Session.{State, grant_at, sent_bytes}
 use Rattle.slink_feed.specs.Window.{Shows, Window}
 
@@ -35,23 +35,23 @@ ShowPushed k first pushed (feed ∷ feeds) =
     × ShowPushed k first pushed feeds
 
 -- the bytes of what was sent, one after another
-abbrev pub bytes_sent : List Asked → List ℕ
+abbrev pub bytes_sent : List Called → List ℕ
 bytes_sent [] = []
 bytes_sent (a ∷ more) = sent_bytes a.answer ++ bytes_sent more
 
--- In these turns a session sent these bytes, of packets, and `END` where all that was asked for was sent: the packets
+-- In these turns a session sent these bytes, of packets, and `END` where all that was requested was sent: the packets
 -- of
 -- each place that has a grant are those of a stretch of its pushed records from the grant on, and there is none of any
 -- other place.
 pub record SendsStretches (feeds : List (List Window)) (s : State) (bytes : List ℕ) : Type 0 where
-  pub asked : List Asked
-  pub are_asked : AreAsked s asked
-  pub bytes_are : bytes ≡ bytes_sent asked
+  pub called : List Called
+  pub are_called : AreCalled s called
+  pub bytes_are : bytes ≡ bytes_sent called
   pub stretch : (k first : ℕ) (pushed : List (List ℕ)) (g : Grant) → grant_at s.grants k ≡ Some g
-      → ShowPushed k first pushed feeds → IsStretch first pushed g.position (packets_of k asked)
-  pub none : (k : ℕ) → grant_at s.grants k ≡ None → packets_of k asked ≡ []
+      → ShowPushed k first pushed feeds → IsStretch first pushed g.position (packets_of k called)
+  pub none : (k : ℕ) → grant_at s.grants k ≡ None → packets_of k called ≡ []
 
--- Two turns came to the same: the session stands so, and the link took the same bytes. What a session holds that is
+-- Two turns came to the same: the session stands so, and the link accepted the same bytes. What a session holds that is
 -- closed tells nothing.
 pub record AreAlike (a b : Attending) : Type 0 where
   pub state : a.session.state ≡ b.session.state
@@ -59,8 +59,8 @@ pub record AreAlike (a b : Attending) : Type 0 where
   pub bytes : a.written.bytes ≡ b.written.bytes
   pub failures : a.written.failures ≡ b.written.failures
 
--- Two turns left the session in the same state, and the link took the same bytes.
-pub record TookAlike (a b : Attending) : Type 0 where
+-- Two turns left the session in the same state, and the link accepted the same bytes.
+pub record EmittedAlike (a b : Attending) : Type 0 where
   pub state : a.session.state ≡ b.session.state
   pub bytes : a.written.bytes ≡ b.written.bytes
   pub failures : a.written.failures ≡ b.written.failures

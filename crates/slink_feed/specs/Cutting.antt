@@ -24,8 +24,8 @@ IsReplyBegun bytes = LacksEnd bytes × (length bytes < 256)
 abbrev pub Begins : List ℕ → ℕ → Type 0
 Begins bytes b = slice_get bytes 0 ≡ Some b
 
--- No packet and no end: the first byte is neither `S` nor `E`; three bytes with an `E` in front that aren't `END`; or
--- eight with an `S` in front that are no packet's first.
+-- No packet and no end: the first byte is neither `S` nor `E`; three bytes with an `E` before it that aren't `END`; or
+-- eight with an `S` before it that are no packet's first.
 pub data IsNoPacket (bytes : List ℕ) : Type 0 where
   no_first : (b : ℕ) → Begins bytes b → b ≢ 83 → b ≢ 69 → length bytes ≡ 1 → IsNoPacket bytes
   no_end : Begins bytes 69 → length bytes ≡ 3 → bytes ≢ codes "END" → IsNoPacket bytes

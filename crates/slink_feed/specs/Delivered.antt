@@ -3,7 +3,7 @@ use Rattle.std.specs.Prelude.{◌≡◌, ℕ, ◌+◌, ◌%◌, ◌^◌, ◌<◌
 use Rattle.slink_wire.specs.Packet.{packet_bytes}
 use Rattle.slink_feed.specs.declared.dialogue.Event.{Event}
 use Rattle.slink_feed.specs.declared.dialogue.Event.TheVariants as events
-use Rattle.slink_feed.specs.Dialogue.{Talk, Wants, bearer, next_at, told}
+use Rattle.slink_feed.specs.Dialogue.{Talk, Wants, bearer, next_at, reported}
 
 -- a record of the place at an index, with its number modulo 2^24
 pub record Numbered : Type 0 where
@@ -16,7 +16,7 @@ abbrev pub AreWanted : Talk → List Numbered → Type 0
 AreWanted t [] = Unit {0}
 AreWanted t (r ∷ rs) = (length r.bytes ≡ 512) × (r.number < 2 ^ 24) × (bearer t.wants r.bytes ≡ Some r.place)
     × IfSome (next_at t.wants r.place) (λ want. r.number ≡ want)
-    × AreWanted (told r.place r.number r.bytes t).0 rs
+    × AreWanted (reported r.place r.number r.bytes t).0 rs
 
 -- the bytes of their packets, one after another
 abbrev pub all_packets : List Numbered → List ℕ
@@ -33,7 +33,7 @@ abbrev pub numbered : ℕ → ℕ → List (List ℕ) → List Numbered
 numbered k number [] = []
 numbered k number (r ∷ rs) = record { place = k; number = number % 2 ^ 24; bytes = r } ∷ numbered k (number + 1) rs
 
--- Each has 512 bytes, and bears this place as the first of those that are asked for.
+-- Each has 512 bytes, and bears this place as the first of those that are requested.
 abbrev pub AreBorne : Wants → ℕ → List (List ℕ) → Type 0
 AreBorne wants k [] = Unit {0}
 AreBorne wants k (r ∷ rs) = (length r ≡ 512) × (bearer wants r ≡ Some k) × AreBorne wants k rs

@@ -21,7 +21,7 @@ use Rattle.slink_feed.specs.declared.dialogue.Stage.{Stage}
 use Rattle.slink_feed.specs.declared.dialogue.Stage.TheVariants.{Unlinked, Station, Number, Packets, Ended}
 use Rattle.slink_feed.specs.declared.dialogue.Wanted.{Wanted}
 
--- the places that are asked for, in their order, and the number that each wants next
+-- the places that are requested, in their order, and the number that each wants next
 abbrev pub Wants : Type 0
 Wants = List (Option Wanted)
 
@@ -32,7 +32,7 @@ wanted_of p = Some (record { place = p.0; next = p.1 })
 abbrev pub wants_of : List (Fields × Option ℕ) → Wants
 wants_of places = map wanted_of places ++ replicate (16 - length places) None
 
--- Numbers are told modulo 2^24.
+-- Numbers count modulo 2^24.
 abbrev pub AreNumbers : List (Fields × Option ℕ) → Type 0
 AreNumbers places = All (λ p. IfSome p.1 (λ n. n < 2 ^ 24)) places
 
@@ -46,7 +46,7 @@ next_at wants k = option_and_then (λ w. w.next) (want_at wants k)
 abbrev pub AreShort : Wants → Type 0
 AreShort wants = (k n : ℕ) → next_at wants k ≡ Some n → n < 2 ^ 24
 
--- a place of sixteen is asked for
+-- a place of sixteen is requested
 abbrev pub IsStage : Stage → Type 0
 IsStage Unlinked = Unit {0}
 IsStage (Station k) = k < 16
@@ -79,7 +79,7 @@ event_of endings.Foreign = events.Foreign
 abbrev pub ended : Ending → Talk → Talk × Event
 ended ending t = (record t { stage = Ended ending }, event_of ending)
 
--- a line is said
+-- a line is sent
 abbrev pub says : Talk → Stage → Request → Talk × Event
 says t stage request = (record t { stage = stage }, events.Say (record { items = request_bytes request }))
 
@@ -119,7 +119,7 @@ is_borne bytes (Some w) = bytes_eq (slice_range bytes 8 13) w.place.station
 abbrev pub bearer : Wants → List ℕ → Option ℕ
 bearer wants bytes = position (is_borne bytes) wants
 
--- A record is told, and the next number is wanted of its place.
+-- A record is reported, and the next number is wanted of its place.
 abbrev pub next_set : Option Wanted → Wants → ℕ → ℕ → Wants
 next_set None wants k n = wants
 next_set (Some w) wants k n = slice_set wants k (Some (record { place = w.place; next = Some n }))
@@ -127,8 +127,12 @@ next_set (Some w) wants k n = slice_set wants k (Some (record { place = w.place;
 abbrev pub with_next : Wants → ℕ → ℕ → Wants
 with_next wants k n = next_set (want_at wants k) wants k n
 
-abbrev pub told : ℕ → ℕ → List ℕ → Talk → Talk × Event
-told k number bytes t = (record t { wants = with_next t.wants k ((number + 1) % 2 ^ 24) }, events.Record k number bytes)
+abbrev pub reported : ℕ → ℕ → List ℕ → Talk → Talk × Event
+reported k number bytes t = (
+  record t { wants = with_next t.wants k ((number + 1) % 2 ^ 24) },
+  events.Record k number
+      bytes,
+)
 
 -- how far a number is ahead of one below 2^24, modulo 2^24
 abbrev pub ahead_of : ℕ → ℕ → ℕ
@@ -144,9 +148,9 @@ is_taken holes want number = number == want || (holes && is_ahead want number)
 
 -- unless another number is wanted
 abbrev pub if_wanted : Option ℕ → ℕ → ℕ → List ℕ → Talk → Talk × Event
-if_wanted None k number bytes t = told k number bytes t
+if_wanted None k number bytes t = reported k number bytes t
 if_wanted (Some want) k number bytes t =
-    if is_taken t.holes want number then told k number bytes t else ended (endings.Gap k want number) t
+    if is_taken t.holes want number then reported k number bytes t else ended (endings.Gap k want number) t
 
 -- a packet: its place is sought first
 abbrev pub at_packet : Option ℕ → ℕ → List ℕ → Talk → Talk × Event

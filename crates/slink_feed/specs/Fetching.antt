@@ -1,4 +1,4 @@
--- A turn of a client with its link: one read, and what comes of the bytes that it told.
+-- A turn of a client with its link: one read, and what comes of the bytes that it gave.
 use Rattle.std.specs.Prelude.{◌≡◌, ◌≢◌, ◌⊎◌, ℕ, ◌≤◌, ◌<◌, Bool, true, false, List, [], ◌∷◌, ◌++◌, length}
 use Rattle.mseed_stream.specs.Device.{BytesRead, IsPrefixOf, BytesWritten}
 use Rattle.slink_feed.specs.declared.dialogue.Ending.{Ending}
@@ -13,7 +13,7 @@ use Rattle.slink_feed.specs.declared.turn.Turn.{Turn}
 use Rattle.slink_feed.specs.declared.turn.Turn.TheVariants as turns
 use Rattle.slink_feed.specs.Dialogue.{Talk}
 use Rattle.slink_feed.specs.Listening.{IsLinked, Listening, Reads}
-use Rattle.slink_feed.specs.Turns.{Took, TookPrefix, failed_once, told_once}
+use Rattle.slink_feed.specs.Turns.{Emitted, EmittedPrefix, failed_once, reported_once}
 
 -- the line that an event says
 abbrev pub line_written : Event → List ℕ
@@ -27,15 +27,15 @@ line_written events.Garbage = []
 line_written events.Foreign = []
 
 -- the bytes of the record that an event tells of
-abbrev pub record_told : Event → List ℕ
-record_told events.None = []
-record_told (events.Say line) = []
-record_told (events.Record k number bytes) = bytes
-record_told events.End = []
-record_told (events.Refused k) = []
-record_told (events.Gap k want got) = []
-record_told events.Garbage = []
-record_told events.Foreign = []
+abbrev pub record_reported : Event → List ℕ
+record_reported events.None = []
+record_reported (events.Say line) = []
+record_reported (events.Record k number bytes) = bytes
+record_reported events.End = []
+record_reported (events.Refused k) = []
+record_reported (events.Gap k want got) = []
+record_reported events.Garbage = []
+record_reported events.Foreign = []
 
 -- what each event gives, one after another
 abbrev pub joined_by : (Event → List ℕ) → List Event → List ℕ
@@ -44,60 +44,60 @@ joined_by given (e ∷ es) = given e ++ joined_by given es
 
 -- the lines that events say
 abbrev pub lines_written : List Event → List ℕ
-lines_written told = joined_by line_written told
+lines_written reported = joined_by line_written reported
 
 -- the bytes of the records that they tell of
-abbrev pub bytes_told : List Event → List ℕ
-bytes_told told = joined_by record_told told
+abbrev pub bytes_reported : List Event → List ℕ
+bytes_reported reported = joined_by record_reported reported
 
 -- A client reads on by these bytes, of which it tells these events, whatever it read before.
 abbrev pub ReadsOn : Listening → List ℕ → List Event → Listening → Type 0
-ReadsOn old bytes told new = (start : Talk) (stream : List ℕ) (before : List Event)
-    → Reads start stream before old → Reads start (stream ++ bytes) (before ++ told) new
+ReadsOn old bytes reported new = (start : Talk) (stream : List ℕ) (before : List Event)
+    → Reads start stream before old → Reads start (stream ++ bytes) (before ++ reported) new
 
--- Of these bytes a client took a prefix, of which it tells these events.
-pub record Takes (old new : Listening) (bytes : List ℕ) (told : List Event) : Type 0 where
+-- Of these bytes a client accepted a prefix, of which it tells these events.
+pub record Takes (old new : Listening) (bytes : List ℕ) (reported : List Event) : Type 0 where
   pub taken : List ℕ
   pub prefix : IsPrefixOf taken bytes
-  pub reads : ReadsOn old taken told new
+  pub reads : ReadsOn old taken reported new
 
--- a client with what its link took so far, and its output
+-- a client with what its link accepted so far, and its output
 pub record Fetching : Type 0 where
   pub client : Listening
   pub written : BytesWritten
   pub output : BytesWritten
 
--- A client took these bytes: all of them, unless it came to an end. The lines that it says went to the link, and the
--- records that it tells of went to the output.
+-- A client accepted these bytes: all of them, unless it came to an end. The lines that it says went to the link, and
+-- the records that it tells of went to the output.
 pub record Delivers (old new : Fetching) (bytes : List ℕ) : Type 0 where
-  pub told : List Event
-  pub takes : Takes old.client new.client bytes told
+  pub reported : List Event
+  pub takes : Takes old.client new.client bytes reported
   pub whole : IsLinked new.client.talk.stage → takes.taken ≡ bytes
   pub linked : IsLinked old.client.talk.stage → new.client.talk.stage ≢ Unlinked
-  pub written : Took old.written new.written (lines_written told)
-  pub output : Took old.output new.output (bytes_told told)
+  pub written : Emitted old.written new.written (lines_written reported)
+  pub output : Emitted old.output new.output (bytes_reported reported)
 
 -- The link failed within the line of the last event, once it had taken so many bytes.
 pub record FailsToSay (old new : Fetching) (bytes : List ℕ) (count : ℕ) : Type 0 where
-  pub told : List Event
+  pub reported : List Event
   pub last : Event
-  pub takes : Takes old.client new.client bytes (told ++ last ∷ [])
+  pub takes : Takes old.client new.client bytes (reported ++ last ∷ [])
   pub linked : IsLinked new.client.talk.stage
-  pub written : TookPrefix old.written new.written (lines_written (told ++ last ∷ [])) count
-  pub behind : length (lines_written told) ≤ count
-  pub output : Took old.output new.output (bytes_told told)
+  pub written : EmittedPrefix old.written new.written (lines_written (reported ++ last ∷ [])) count
+  pub behind : length (lines_written reported) ≤ count
+  pub output : Emitted old.output new.output (bytes_reported reported)
 
 -- The output failed within the record of the last event, once it had taken so many bytes.
 pub record FailsToWrite (old new : Fetching) (bytes : List ℕ) (count : ℕ) : Type 0 where
-  pub told : List Event
+  pub reported : List Event
   pub last : Event
-  pub takes : Takes old.client new.client bytes (told ++ last ∷ [])
+  pub takes : Takes old.client new.client bytes (reported ++ last ∷ [])
   pub linked : IsLinked new.client.talk.stage
-  pub written : Took old.written new.written (lines_written told)
-  pub output : TookPrefix old.output new.output (bytes_told (told ++ last ∷ [])) count
-  pub behind : length (bytes_told told) ≤ count
+  pub written : Emitted old.written new.written (lines_written reported)
+  pub output : EmittedPrefix old.output new.output (bytes_reported (reported ++ last ∷ [])) count
+  pub behind : length (bytes_reported reported) ≤ count
 
--- what failed while a client took these bytes
+-- what failed while a client accepted these bytes
 abbrev pub FailsAt : LinkFault → Fetching → Fetching → List ℕ → Type 0
 FailsAt faults.Read old new bytes = ⊥
 FailsAt (faults.Write count) old new bytes = FailsToSay old new bytes count
@@ -118,24 +118,24 @@ turn_at (Number k) = turns.Goes
 turn_at Packets = turns.Goes
 turn_at (Ended ending) = turn_of ending
 
--- Where the link told nothing, it is closed.
+-- Where the link gave nothing, it is closed.
 abbrev pub turn_after : List ℕ → Stage → Turn
 turn_after [] stage = turns.Closed
 turn_after (b ∷ bs) stage = turn_at stage
 
--- A turn: one read told these bytes, at most 1024, and what came of them is done.
+-- A turn: one read gave these bytes, at most 1024, and what came of them is done.
 pub record Fetches (old new : Fetching) (before after : BytesRead) (turn : Turn) : Type 0 where
   pub bytes : List ℕ
-  pub read : after ≡ told_once before bytes
+  pub read : after ≡ reported_once before bytes
   pub most : length bytes ≤ 1024
   pub delivers : Delivers old new bytes
   pub nothing : bytes ≡ [] → new ≡ old
   pub turn_is : turn ≡ turn_after bytes new.client.talk.stage
 
--- A turn in which a write failed: one read told these bytes.
+-- A turn in which a write failed: one read gave these bytes.
 pub record IsCutShort (old new : Fetching) (before after : BytesRead) (fault : LinkFault) : Type 0 where
   pub bytes : List ℕ
-  pub read : after ≡ told_once before bytes
+  pub read : after ≡ reported_once before bytes
   pub most : length bytes ≤ 1024
   pub fails : FailsAt fault old new bytes
 
@@ -145,12 +145,12 @@ IsFetchFault faults.Read old new before after = (new ≡ old) × (after ≡ fail
 IsFetchFault (faults.Write count) old new before after = IsCutShort old new before after (faults.Write count)
 IsFetchFault (faults.Output count) old new before after = IsCutShort old new before after (faults.Output count)
 
--- a client with what the two devices took so far
+-- a client with what the two devices accepted so far
 abbrev pub fetching : Listening → BytesWritten → BytesWritten → Fetching
 fetching client written output = record { client = client; written = written; output = output }
 
--- What notes that the output took records: it is set where it was set before, or where the output took some, unless the
--- output failed.
+-- What notes that the output accepted records: it is set where it was set before, or where the output accepted some,
+-- unless the output failed.
 pub record Notes (was is : Bool) (old new : BytesWritten) : Type 0 where
   pub yes : is ≡ true → (was ≡ true) ⊎ (length old.bytes < length new.bytes)
   pub no : is ≡ false → was ≡ false

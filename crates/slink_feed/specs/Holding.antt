@@ -14,7 +14,7 @@ abbrev pub turned : Talk → Turn → Talk × Event
 turned t connects = says_place 0 t
 turned t (brings w) = read t w
 
--- the numbers of the records that are told of a place
+-- the numbers of the records that are reported of a place
 abbrev pub numbers_in : ℕ → Event → List ℕ
 numbers_in k events.None = []
 numbers_in k (events.Say bytes) = []

@@ -9,7 +9,7 @@ pub mod Cutting
 pub mod Listening
 pub mod Delivered
 pub mod Holding
-pub mod Told
+pub mod Reported
 pub mod Teller
 pub mod Reports
 pub mod Sending

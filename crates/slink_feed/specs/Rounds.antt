@@ -1,4 +1,4 @@
--- What a session sends that is asked for a packet of one place after another, round and round.
+-- What a session sends of which a packet of one place after another is requested, round and round.
 use Rattle.std.specs.Prelude.{◌≡◌, ℕ, ◌+◌, ◌≤◌, ◌==◌, ◌⊎◌, List, [], ◌∷◌, ◌++◌, length, replicate, if◌then◌else◌}
 use Rattle.mseed_stream.specs.Device.{BytesWritten}
 use Rattle.slink_feed.specs.declared.session.Phase.TheVariants.{Closed}
@@ -6,14 +6,14 @@ use Rattle.slink_feed.specs.declared.session.Sent.{Sent}
 use Rattle.slink_feed.specs.declared.session.Sent.TheVariants.{Wait}
 use Rattle.slink_feed.specs.Serving.{Standing}
 use Rattle.slink_feed.specs.Session.{State, sent, sent_bytes}
-use Rattle.slink_feed.specs.Turns.{Took, TookPrefix}
+use Rattle.slink_feed.specs.Turns.{Emitted, EmittedPrefix}
 use Rattle.slink_feed.specs.Window.{Window}
 
 -- the place behind another; behind the last place the first one
 abbrev pub place_behind : List Window → ℕ → ℕ
 place_behind feed k = if k + 1 == length feed then 0 else k + 1
 
--- Asked for a packet of this place, then of the one behind it, and so on, a session gives these. It comes to the other
+-- Called for a packet of this place, then of the one behind it, and so on, a session gives these. It comes to the other
 -- place and state.
 abbrev pub Gives : List Window → ℕ → State → List Sent → ℕ → State → Type 0
 Gives feed k s [] last new = (last ≡ k) × (new ≡ s)
@@ -29,12 +29,12 @@ all_sent (a ∷ more) = sent_bytes a ++ all_sent more
 abbrev pub HasWaited : ℕ → List Sent → Type 0
 HasWaited n given = (before : List Sent) × (given ≡ before ++ replicate n Wait)
 
--- a session with what its link took so far
+-- a session with what its link accepted so far
 pub record Attending : Type 0 where
   pub session : Standing
   pub written : BytesWritten
 
--- A session was asked from the first place on, until it is closed or a whole round of the places gives nothing. All
+-- A session was called from the first place on, until it is closed or a whole round of the places gives nothing. All
 -- that
 -- it gave was written.
 pub record SendsAll (feed : List Window) (old new : Attending) : Type 0 where
@@ -43,7 +43,7 @@ pub record SendsAll (feed : List Window) (old new : Attending) : Type 0 where
   pub gives : Gives feed 0 old.session.state given place new.session.state
   pub ends : (new.session.state.phase ≡ Closed) ⊎ HasWaited (length feed) given
   pub held : new.session.held ≡ old.session.held
-  pub written : Took old.written new.written (all_sent given)
+  pub written : Emitted old.written new.written (all_sent given)
 
 -- The link failed within the last that it gave, once it had taken so many bytes. The session stands behind that.
 pub record FailsToSend (feed : List Window) (old new : Attending) (count : ℕ) : Type 0 where
@@ -52,5 +52,5 @@ pub record FailsToSend (feed : List Window) (old new : Attending) (count : ℕ) 
   pub place : ℕ
   pub gives : Gives feed 0 old.session.state (given ++ last ∷ []) place new.session.state
   pub held : new.session.held ≡ old.session.held
-  pub written : TookPrefix old.written new.written (all_sent (given ++ last ∷ [])) count
+  pub written : EmittedPrefix old.written new.written (all_sent (given ++ last ∷ [])) count
   pub behind : length (all_sent given) ≤ count

@@ -8,8 +8,8 @@ use Rattle.slink_feed.specs.declared.session.Sent.TheVariants as Sents
 use Rattle.slink_feed.specs.Session.{State, at, sent}
 use Rattle.slink_feed.specs.Window.{Shows, Window}
 
--- A session that streams was asked for a packet of a place: the feed as it stood, the place, and what was sent.
-pub record Asked : Type 0 where
+-- A packet of a place was requested of a session that streams: the feed as it stood, the place, and what was sent.
+pub record Called : Type 0 where
   pub feed : List Window
   pub place : ℕ
   pub answer : Sent
@@ -18,11 +18,11 @@ pub record Asked : Type 0 where
 abbrev pub IsReadFrom : State → State → Type 0
 IsReadFrom s new = (new ≡ s) ⊎ (new ≡ at Closed s.grants)
 
--- It was asked again and again, with any lines in between.
-abbrev pub AreAsked : State → List Asked → Type 0
-AreAsked s [] = Unit {0}
-AreAsked s (a ∷ more) = (t : State) × IsReadFrom s t × ((sent a.feed t a.place).1 ≡ a.answer)
-    × AreAsked (sent a.feed t a.place).0 more
+-- It was called again and again, with any lines in between.
+abbrev pub AreCalled : State → List Called → Type 0
+AreCalled s [] = Unit {0}
+AreCalled s (a ∷ more) = (t : State) × IsReadFrom s t × ((sent a.feed t a.place).1 ≡ a.answer)
+    × AreCalled (sent a.feed t a.place).0 more
 
 -- the packets that were sent of a place
 abbrev pub packet_in : Sent → List (List ℕ)
@@ -32,12 +32,12 @@ packet_in Sents.Done = []
 packet_in Sents.Overrun = []
 packet_in Sents.Closed = []
 
-abbrev pub packets_of : ℕ → List Asked → List (List ℕ)
+abbrev pub packets_of : ℕ → List Called → List (List ℕ)
 packets_of k [] = []
 packets_of k (a ∷ more) = (if a.place == k then packet_in a.answer else []) ++ packets_of k more
 
 -- the ring of the place shows the last of the records that were pushed so far, which are a prefix of these
-abbrev pub AreShown : ℕ → ℕ → List (List ℕ) → List Asked → Type 0
+abbrev pub AreShown : ℕ → ℕ → List (List ℕ) → List Called → Type 0
 AreShown k first pushed [] = Unit {0}
 AreShown k first pushed (a ∷ more) =
     ((w : Window) × (n : ℕ) × (slice_get a.feed k ≡ Some w) × Shows w first (take n pushed))

@@ -67,8 +67,8 @@ granted mode k None s = (s, Replies.Error)
 granted mode k (Some position) s =
     (at (Granted k) (slice_set s.grants k (Some (record { mode = mode; position = position }))), Replies.Ok)
 
-abbrev pub asked : List Window → ℕ → Mode → Option ℕ → State → State × Reply
-asked feed k mode number s = granted mode k (option_and_then (grant_of mode number) (slice_get feed k)) s
+abbrev pub called : List Window → ℕ → Mode → Option ℕ → State → State × Reply
+called feed k mode number s = granted mode k (option_and_then (grant_of mode number) (slice_get feed k)) s
 
 -- The answers, state by command. Where no new state stands, state and grants stay.
 abbrev pub in_fresh : List Window → State → Command → State × Reply
@@ -85,8 +85,8 @@ abbrev pub in_chosen : List Window → ℕ → State → Command → State × Re
 in_chosen feed k s Hello = (s, Replies.Hello)
 in_chosen feed k s (Station sta net) = chosen (station_at feed sta net) s
 in_chosen feed k s SelectAll = (s, Replies.Ok)
-in_chosen feed k s (Data number) = asked feed k Modes.Data number s
-in_chosen feed k s (Fetch number) = asked feed k Modes.Fetch number s
+in_chosen feed k s (Data number) = called feed k Modes.Data number s
+in_chosen feed k s (Fetch number) = called feed k Modes.Fetch number s
 in_chosen feed k s End = (s, Replies.Error)
 in_chosen feed k s Bye = (at Closed s.grants, Replies.Nothing)
 in_chosen feed k s Other = (s, Replies.Error)
@@ -95,8 +95,8 @@ abbrev pub in_granted : List Window → ℕ → State → Command → State × R
 in_granted feed k s Hello = (s, Replies.Hello)
 in_granted feed k s (Station sta net) = chosen (station_at feed sta net) s
 in_granted feed k s SelectAll = (s, Replies.Ok)
-in_granted feed k s (Data number) = asked feed k Modes.Data number s
-in_granted feed k s (Fetch number) = asked feed k Modes.Fetch number s
+in_granted feed k s (Data number) = called feed k Modes.Data number s
+in_granted feed k s (Fetch number) = called feed k Modes.Fetch number s
 in_granted feed k s End = (at Streaming s.grants, Replies.Nothing)
 in_granted feed k s Bye = (at Closed s.grants, Replies.Nothing)
 in_granted feed k s Other = (s, Replies.Error)
@@ -162,7 +162,7 @@ sent_in (Granted place) feed s k = (s, Sents.Wait)
 sent_in Streaming feed s k = sent_of feed s k (grant_at s.grants k) (slice_get feed k)
 sent_in Closed feed s k = (s, Sents.Closed)
 
--- what is sent of a place when it is asked for, and the state afterwards
+-- what is sent of a place when it is requested, and the state afterwards
 abbrev pub sent : List Window → State → ℕ → State × Sent
 sent feed s k = sent_in s.phase feed s k
 

@@ -1,4 +1,4 @@
--- What is told on standard error of records before they are written, and of what is wanted next.
+-- What is reported on standard error of records before they are written, and of what is wanted next.
 use Rattle.std.specs.Prelude.{ℕ, Bool, true, false, ◌+◌, ◌%◌, ◌^◌, ◌==◌, List, [], ◌∷◌, ◌++◌, codes, replicate}
 use Rattle.std.specs.Prelude.{drop, Option, Some, None, slice_get, slice_set, unwrap_or, if◌then◌else◌}
 use Rattle.mseed_stream.specs.Device.{BytesWritten}
@@ -9,14 +9,14 @@ use Rattle.slink_feed.specs.declared.dialogue.Wanted.{Wanted}
 use Rattle.slink_feed.specs.Delivered.{Numbered}
 use Rattle.slink_feed.specs.Dialogue.{Wants, want_at, with_next}
 
--- Lines were written, each as far as the device took it.
-pub data AreTold : List (List ℕ) → BytesWritten → BytesWritten → Type 0 where
-  none : (now : BytesWritten) → AreTold [] now now
+-- Lines were written, each as far as the device accepted it.
+pub data AreReported : List (List ℕ) → BytesWritten → BytesWritten → Type 0 where
+  none : (now : BytesWritten) → AreReported [] now now
   one : (line : List ℕ) (lines : List (List ℕ)) (old now new : BytesWritten) → Tells line old now
-      → AreTold lines now new → AreTold (line ∷ lines) old new
+      → AreReported lines now new → AreReported (line ∷ lines) old new
 
--- what is told of records: which number each place wants next, of which places the first record is to be told, and the
--- last record that was told of, by the index of its place and its number
+-- what is reported of records: which number each place wants next, of which places the first record is to be reported,
+-- and the last record that was reported, by the index of its place and its number
 pub record Telling : Type 0 where
   pub wants : List (Option Wanted)
   pub firsts : List Bool
@@ -53,7 +53,7 @@ abbrev pub lines_at : Telling → ℕ → ℕ → List (List ℕ)
 lines_at t k number = hole_lines (want_at t.wants k) number
     ++ first_lines (unwrap_or (slice_get t.firsts k) false) (want_at t.wants k) number
 
--- what is told from there on
+-- what is reported from there on
 abbrev pub telling_past : Telling → ℕ → ℕ → Telling
 telling_past t k number = record {
   wants = with_next t.wants k ((number + 1) % 2 ^ 24);
@@ -97,14 +97,14 @@ next_line first others = codes "mseed: next" ++ options_of first ++ words_of oth
 abbrev pub next_line_of : Wants → List ℕ
 next_line_of wants = next_line (want_at wants 0) (drop 1 wants)
 
--- what is wanted then: where the output failed, the last record that was told of again
+-- what is wanted then: where the output failed, the last record that was reported again
 abbrev pub wants_left : Bool → Option (ℕ × ℕ) → Wants → Wants
 wants_left failed None wants = wants
 wants_left false (Some last) wants = wants
 wants_left true (Some last) wants = with_next wants last.0 last.1
 
--- what one who tells of records has come to: what is told, and whether the output took a whole record since it was
--- asked to note that
+-- what one who tells of records has come to: what is reported, and whether the output accepted a whole record since it
+-- was called to note that
 pub record Account : Type 0 where
   pub telling : Telling
   pub received : Bool

@@ -6,26 +6,26 @@ abbrev pub is_empty : List ℕ → Bool
 is_empty [] = true
 is_empty (b ∷ bs) = false
 
--- one read more, which told these bytes: none of them, where the link is at its end
-abbrev pub told_once : BytesRead → List ℕ → BytesRead
-told_once h told = record {
-  bytes = h.bytes ++ told;
+-- one read more, which gave these bytes: none of them, where the link is at its end
+abbrev pub reported_once : BytesRead → List ℕ → BytesRead
+reported_once h reported = record {
+  bytes = h.bytes ++ reported;
   calls = h.calls + 1;
   failures = h.failures;
-  is_at_end = h.is_at_end || is_empty told;
+  is_at_end = h.is_at_end || is_empty reported;
 }
 
 -- one read more, which failed
 abbrev pub failed_once : BytesRead → BytesRead
 failed_once h = record { bytes = h.bytes; calls = h.calls + 1; failures = h.failures + 1; is_at_end = h.is_at_end }
 
--- A sink took these bytes, and didn't fail.
-pub record Took (old new : BytesWritten) (more : List ℕ) : Type 0 where
+-- A sink accepted these bytes, and didn't fail.
+pub record Emitted (old new : BytesWritten) (more : List ℕ) : Type 0 where
   pub bytes : new.bytes ≡ old.bytes ++ more
   pub failures : new.failures ≡ old.failures
 
--- A sink took so many of these bytes, and not all, and failed.
-pub record TookPrefix (old new : BytesWritten) (more : List ℕ) (count : ℕ) : Type 0 where
+-- A sink accepted so many of these bytes, and not all, and failed.
+pub record EmittedPrefix (old new : BytesWritten) (more : List ℕ) (count : ℕ) : Type 0 where
   pub bytes : new.bytes ≡ old.bytes ++ take count more
   pub part : count < length more
   pub failures : new.failures ≡ old.failures + 1

@@ -22,9 +22,9 @@ use std::marker::Model;
 
 /// A client that asks for the records of up to sixteen places over one link, and over another once that is lost.
 ///
-/// It takes no memory. A record is wanted once: the number that a place wants next moves by each record that is told of
-/// it, and by nothing else, so that each link goes on behind the last record of the one before. One that goes past
-/// holes leaves records out, and tells none twice.
+/// It takes no memory. A record is wanted once: the number that a place wants next moves by each record that is
+/// reported it, and by nothing else, so that each link goes on behind the last record of the one before. One that goes
+/// past holes leaves records out, and tells none twice.
 #[derive(Drop)]
 pub struct Client {
     dialogue: Dialogue,
@@ -80,7 +80,7 @@ impl Client {
         self.dialogue.next(k)
     }
 
-    /// The places that are asked for, each with the number that it wants next.
+    /// The places that are requested, each with the number that it wants next.
     pub(crate) fn wants(&self) -> &[Option<Wanted>; 16]
         ensures { result.now ≡ self.now.talk.wants }
     {
@@ -116,7 +116,7 @@ impl Client {
         // Before the first link all bytes are dropped.
         ensures unlinked { self.old.talk.stage ≡ Stage.Unlinked
             → (result.0 ≡ length bytes.now) × (result.1 ≡ Event.None) × (self.new ≡ self.old) }
-        // Behind the last event of a link nothing is taken, and it is told again.
+        // Behind the last event of a link nothing is taken, and it is reported again.
         ensures ended { (ending : Ending) → self.old.talk.stage ≡ Stage.Ended ending
             → (result.0 ≡ 0) × (result.1 ≡ event_of ending) × (self.new ≡ self.old) }
     {
@@ -134,7 +134,7 @@ impl Client {
         }
     }
 
-    /// Takes the packet at the front of bytes, where nothing is kept and its record is wanted, and lends the record
+    /// Takes the packet at the start of bytes, where nothing is kept and its record is wanted, and lends the record
     /// with the index of its place and its number. Else nothing is taken.
     pub(crate) fn take_record<'a>(&mut self, bytes: &'a [u8]) -> Option<(usize, u32, &'a [u8; 512])>
         ensures brings { IfSome result (λ r. Brings self.old.talk (self.old.kept ++ take 520 bytes.now) self.new
@@ -146,7 +146,7 @@ impl Client {
             return None;
         }
         match self.dialogue.stage() {
-            Stage::Packets => read_front(&mut self.dialogue, bytes),
+            Stage::Packets => read_leading(&mut self.dialogue, bytes),
             Stage::Unlinked | Stage::Station(_) | Stage::Number(_) | Stage::Ended(_) => None,
         }
     }
@@ -178,7 +178,7 @@ impl Client {
         }
     }
 
-    /// Whether packets are awaited: the client has said all that it has to say.
+    /// Whether packets are awaited: the client has sent all that it has to say.
     pub fn is_streaming(&self) -> bool
         ensures yes { OnTrue result (self.now.talk.stage ≡ Stage.Packets) }
         ensures no { OnFalse result (self.now.talk.stage ≢ Stage.Packets) }
@@ -189,7 +189,7 @@ impl Client {
         }
     }
 
-    /// What a turn comes to in which the link told bytes.
+    /// What a turn comes to in which the link gave bytes.
     pub(crate) fn turn(&self) -> Turn
         ensures { result ≡ turn_at self.now.talk.stage }
     {
@@ -243,8 +243,8 @@ fn read_packets(dialogue: &mut Dialogue, kept: &mut ArrayVec<u8, 520>, part: Par
     event
 }
 
-/// Hears the packet at the front of bytes, where its record is wanted.
-fn read_front<'a>(dialogue: &mut Dialogue, bytes: &'a [u8]) -> Option<(usize, u32, &'a [u8; 512])>
+/// Hears the packet at the start of bytes, where its record is wanted.
+fn read_leading<'a>(dialogue: &mut Dialogue, bytes: &'a [u8]) -> Option<(usize, u32, &'a [u8; 512])>
     requires { dialogue.old.stage ≡ Stage.Packets }
     ensures brings { IfSome result (λ r. Brings dialogue.old (take 520 bytes.now)
         (record { talk = dialogue.new; kept = [] }) (Event.Record r.0 r.1 r.2.now)) }
@@ -268,7 +268,7 @@ fn read_packet(dialogue: &mut Dialogue, bytes: &[u8]) -> Event
     requires { (n : ℕ) × HasHead bytes.now n × (length bytes.now ≡ 520) }
     ensures read { (n : ℕ) × (r : List ℕ) × IsPacket bytes.now n r
         × (at_packet (bearer dialogue.old.wants r) n r dialogue.old ≡ (dialogue.new, result)) }
-    ensures told { result ≢ Event.None }
+    ensures reported { result ≢ Event.None }
 {
     let Some(packet) = bytes.first_chunk() else {
         unreachable!();

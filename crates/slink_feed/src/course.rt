@@ -8,7 +8,7 @@ ghost use Rattle.slink_feed.specs.declared.grant.Grant.{Grant};
 ghost use Rattle.slink_feed.specs.declared.session.Phase.{Phase};
 ghost use Rattle.slink_feed.specs.declared.session.Sent.{Sent};
 ghost use Rattle.slink_feed.specs.Serving.{IsAnswer};
-ghost use Rattle.slink_feed.specs.Session.{AreReached, Fits, all_done, answered, asked, at, at_next, chosen, ended};
+ghost use Rattle.slink_feed.specs.Session.{AreReached, Fits, all_done, answered, called, at, at_next, chosen, ended};
 ghost use Rattle.slink_feed.specs.Session.{grant_at, in_chosen, in_fresh, in_granted, in_streaming, is_done, sent};
 ghost use Rattle.slink_feed.specs.Session.{sent_from};
 
@@ -234,7 +234,7 @@ impl Course {
         }
     }
 
-    /// Answers what bytes of the stream told.
+    /// Answers what bytes of the stream gave.
     pub(crate) fn answer_to<A: Allocator>(&mut self, feed: &Feed<A>, what: What) -> Reply
         requires { Fits feed.now self.old }
         ensures answer { IsAnswer feed.now self.old what self.new result }
@@ -321,7 +321,7 @@ impl Course {
         }
     }
 
-    /// Grants what is asked for of the chosen place, if it can be had.
+    /// Grants what is requested of the chosen place, if it can be had.
     fn ask<A: Allocator>(
         &mut self,
         feed: &Feed<A>,
@@ -330,7 +330,7 @@ impl Course {
         number: Option<u32>,
     ) -> Reply
         requires { k < length feed.now }
-        ensures answered { asked feed.now k mode number self.old ≡ (self.new, result) }
+        ensures answered { called feed.now k mode number self.old ≡ (self.new, result) }
     {
         match first_granted(feed.ring(k), mode, number) {
             Some(position) => {

@@ -10,7 +10,7 @@ use slink_wire::Packet;
 /// The most bytes of a reply, with its CR LF.
 const LONGEST_REPLY: usize = 256;
 
-/// The bytes of a packet in front of its record.
+/// The bytes of a packet before its record.
 const HEAD: usize = 8;
 
 /// The bytes of a packet.

@@ -16,7 +16,7 @@ use std::marker::Model;
 /// A line that a client says.
 pub type Bytes = ArrayVec<u8, 32>;
 
-/// A place that is asked for.
+/// A place that is requested.
 #[derive(Clone, Copy)]
 pub struct Wanted {
     /// The station whose records are wanted.
@@ -25,7 +25,7 @@ pub struct Wanted {
     pub next: Option<u32>,
 }
 
-/// What a client waits for. The places are told by their indices.
+/// What a client waits for. The places are named by their indices.
 #[derive(Clone, Copy)]
 pub enum Stage {
     /// A link.
@@ -43,7 +43,7 @@ pub enum Stage {
 /// Why nothing more of a link is taken.
 #[derive(Clone, Copy)]
 pub enum Ending {
-    /// The server has sent all that was asked for.
+    /// The server has sent all that was requested.
     End,
     /// The server refused this place.
     Refused(usize),
@@ -62,7 +62,7 @@ pub enum Ending {
     Foreign,
 }
 
-/// What a client tells of the bytes that it took.
+/// What a client tells of the bytes that it accepted.
 #[derive(Debug, PartialEq, Eq, Drop)]
 pub enum Event {
     /// Nothing yet.
@@ -71,7 +71,7 @@ pub enum Event {
     Say(Bytes),
     /// A record of the place at this index, with its number modulo 2^24.
     Record(usize, u32, [u8; 512]),
-    /// The server has sent all that was asked for.
+    /// The server has sent all that was requested.
     End,
     /// The server refused the place at this index.
     Refused(usize),
@@ -158,7 +158,7 @@ fn is_borne(bytes: &[u8; 512], want: &Option<Wanted>) -> bool
     }
 }
 
-/// The places that are asked for, in their order.
+/// The places that are requested, in their order.
 fn wants_of(places: &[(Place, Option<u32>)]) -> [Option<Wanted>; 16]
     requires { length places.now ≤ 16 }
     ensures { result ≡ wants_of places.now }
@@ -206,7 +206,7 @@ impl Dialogue {
         self.stage
     }
 
-    /// The places that are asked for.
+    /// The places that are requested.
     pub(crate) fn wants(&self) -> &[Option<Wanted>; 16]
         ensures { result.now ≡ self.now.wants }
     {
@@ -274,7 +274,7 @@ impl Dialogue {
     pub(crate) fn read_reply(&mut self, line: &[u8]) -> Event
         requires { AwaitsReply self.old.stage }
         ensures read { read self.old (Reply line.now) ≡ (self.new, result) }
-        ensures told { result ≢ Event.None }
+        ensures reported { result ≢ Event.None }
     {
         match self.stage {
             Stage::Station(k) => self.read_station(k, answer_of(line)),
@@ -287,7 +287,7 @@ impl Dialogue {
     fn read_station(&mut self, k: usize, answer: Answer) -> Event
         requires { k < 16 }
         ensures read { to_answer answer k (says_number k self.old) self.old ≡ (self.new, result) }
-        ensures told { result ≢ Event.None }
+        ensures reported { result ≢ Event.None }
     {
         match answer {
             Answer::Granted => Event::Say(self.say_number(k)),
@@ -300,7 +300,7 @@ impl Dialogue {
     fn read_number(&mut self, k: usize, answer: Answer) -> Event
         requires { k < 16 }
         ensures read { to_answer answer k (says_place (k + 1) self.old) self.old ≡ (self.new, result) }
-        ensures told { result ≢ Event.None }
+        ensures reported { result ≢ Event.None }
     {
         match answer {
             Answer::Granted => Event::Say(self.say_place(k + 1)),
@@ -313,7 +313,7 @@ impl Dialogue {
     pub(crate) fn read_packet(&mut self, number: u32, bytes: &[u8; 512]) -> Event
         requires { number < 2 ^ 24 }
         ensures read { at_packet (bearer self.old.wants bytes.now) number bytes.now self.old ≡ (self.new, result) }
-        ensures told { result ≢ Event.None }
+        ensures reported { result ≢ Event.None }
     {
         match self.bearer(bytes) {
             Some(k) => self.read_record(k, number, bytes),
@@ -326,7 +326,7 @@ impl Dialogue {
         requires place { k < 16 }
         requires number { number < 2 ^ 24 }
         ensures read { if_wanted (next_at self.old.wants k) k number bytes.now self.old ≡ (self.new, result) }
-        ensures told { result ≢ Event.None }
+        ensures reported { result ≢ Event.None }
     {
         match self.next(k) {
             Some(want) if !self.is_taken(want, number) => self.end(Ending::Gap {
@@ -341,7 +341,7 @@ impl Dialogue {
         }
     }
 
-    /// Hears a packet whose record is wanted, and answers the index of its place. Of another one nothing is heard.
+    /// Hears a packet whose record is wanted, and answers the index of its place. Of another one nothing is received.
     pub(crate) fn read_wanted(&mut self, number: u32, bytes: &[u8; 512]) -> Option<usize>
         requires { number < 2 ^ 24 }
         ensures read { IfSome result (λ k. at_packet (bearer self.old.wants bytes.now) number bytes.now self.old
@@ -404,7 +404,7 @@ impl Dialogue {
     /// Takes nothing more of the link.
     pub(crate) fn end(&mut self, ending: Ending) -> Event
         ensures read { ended ending self.old ≡ (self.new, result) }
-        ensures told { result ≢ Event.None }
+        ensures reported { result ≢ Event.None }
     {
         self.stage = Stage::Ended(ending);
         ending.event()

@@ -4,11 +4,11 @@ ghost use Rattle.std.specs.Bool.{OnFalse, OnTrue};
 ghost use Rattle.mseed_stream.specs.Device.{BytesWritten};
 ghost use Rattle.slink_feed.specs.declared.dialogue.Event.{Event};
 ghost use Rattle.slink_feed.specs.Fetching.{Delivers, FailsAt, Fetches, IsFetchFault, Notes, fetching};
-ghost use Rattle.slink_feed.specs.private.Delivery.{FailsToHear, Hears, IsDelivered, IsToldOf, IsUndelivered};
+ghost use Rattle.slink_feed.specs.private.Delivery.{FailsToHear, Hears, IsDelivered, IsReportedOf, IsUndelivered};
 ghost use Rattle.slink_feed.specs.Listening.{IsLinked, Reads};
 ghost use Rattle.slink_feed.specs.Reports.{Reports, kept};
-ghost use Rattle.slink_feed.specs.Teller.{AreTold, lines_of, telling_behind};
-ghost use Rattle.slink_feed.specs.Told.{record_in};
+ghost use Rattle.slink_feed.specs.Teller.{AreReported, lines_of, telling_behind};
+ghost use Rattle.slink_feed.specs.Reported.{record_in};
 
 use crate::client::Client;
 use crate::cutting::PACKET;
@@ -21,7 +21,7 @@ use std::io::sink;
 /// Room for what a turn reads, which is lent to one turn after another.
 pub type Room = [u8; PACKET];
 
-/// How many bytes the link and the output took in a turn so far.
+/// How many bytes the link and the output accepted in a turn so far.
 #[derive(Clone, Copy)]
 pub(crate) struct Counts {
     pub(crate) written: usize,
@@ -57,8 +57,8 @@ pub fn fetch_turn<S: Duplex, W: Sink>(
     fetch_turn_telling(client, link, output, &mut nowhere, &mut teller)
 }
 
-/// Takes a turn with a client's link as [`fetch_turn`]. Each record is told of on `errors` before it is written, and
-/// the teller notes that the output took one.
+/// Takes a turn with a client's link as [`fetch_turn`]. Each record is reported on `errors` before it is written, and
+/// the teller notes that the output accepted one.
 ///
 /// # Errors
 ///
@@ -152,7 +152,7 @@ fn read<L: Sink, W: Sink, E: Sink>(
         if !client.is_linked() {
             break;
         }
-        let heard = hear(
+        let incoming = hear(
             client,
             &bytes[offset..],
             link,
@@ -161,15 +161,15 @@ fn read<L: Sink, W: Sink, E: Sink>(
             teller,
             counts,
         )?;
-        offset += heard.used;
-        counts = heard.counts;
+        offset += incoming.used;
+        counts = incoming.counts;
     }
     Ok(())
 }
 
-/// How many bytes were taken, and what the link and the output took by then.
+/// How many bytes were taken, and what the link and the output accepted by then.
 #[derive(Clone, Copy)]
-pub(crate) struct Heard {
+pub(crate) struct Received {
     used: usize,
     counts: Counts,
 }
@@ -184,12 +184,12 @@ fn hear<L: Sink, W: Sink, E: Sink>(
     errors: &mut E,
     teller: &mut Teller,
     counts: Counts,
-) -> Result<Heard, LinkFault>
+) -> Result<Received, LinkFault>
     requires linked { IsLinked client.old.talk.stage }
     requires some { 0 < length bytes.now }
     requires written { counts.written ≤ 2 ^ 32 }
     requires output { counts.output ≤ 2 ^ 32 }
-    ensures ok { IfOk result (λ heard. Hears bytes.now heard.used counts heard.counts
+    ensures ok { IfOk result (λ incoming. Hears bytes.now incoming.used counts incoming.counts
         (fetching client.old (L.written link.old) (W.written output.old))
         (fetching client.new (L.written link.new) (W.written output.new))
         (kept (W.written output.old) (E.written errors.old) teller.old.telling)
@@ -205,7 +205,7 @@ fn hear<L: Sink, W: Sink, E: Sink>(
     match client.take_record(bytes) {
         Some((place, number, record)) => {
             let counts = deliver_record(place, number, record, output, errors, teller, counts)?;
-            Ok(Heard {
+            Ok(Received {
                 used: PACKET,
                 counts,
             })
@@ -213,7 +213,7 @@ fn hear<L: Sink, W: Sink, E: Sink>(
         None => {
             let (used, event) = client.take(bytes);
             let after = deliver(&event, link, output, errors, teller, counts)?;
-            Ok(Heard {
+            Ok(Received {
                 used,
                 counts: after,
             })
@@ -221,7 +221,7 @@ fn hear<L: Sink, W: Sink, E: Sink>(
     }
 }
 
-/// Puts what an event tells where it belongs: a line to the link, and a record, once it was told of, to the output.
+/// Puts what an event tells where it belongs: a line to the link, and a record, once it was reported, to the output.
 fn deliver<L: Sink, W: Sink, E: Sink>(
     event: &Event,
     link: &mut L,
@@ -238,9 +238,9 @@ fn deliver<L: Sink, W: Sink, E: Sink>(
         (L.written link.new)
         (W.written output.old) (W.written output.new)) }
     ensures received { Notes teller.old.received teller.new.received (W.written output.old) (W.written output.new) }
-    // A record is told of before it is written, also where that fails.
+    // A record is reported before it is written, also where that fails.
     ensures telling { teller.new.telling ≡ telling_behind teller.old.telling (record_in event.now) }
-    ensures lines { AreTold (lines_of teller.old.telling (record_in event.now)) (E.written errors.old)
+    ensures lines { AreReported (lines_of teller.old.telling (record_in event.now)) (E.written errors.old)
         (E.written errors.new) }
     ensures beside { L.beside link.new ≡ L.beside link.old }
 {
@@ -272,13 +272,13 @@ fn deliver_record<W: Sink, E: Sink>(
 ) -> Result<Counts, LinkFault>
     requires written { counts.written ≤ 2 ^ 32 }
     requires output { counts.output ≤ 2 ^ 32 }
-    // Whatever the link took, it stays so.
+    // Whatever the link accepted, it stays so.
     ensures ok { (link : BytesWritten) → IfOk result (λ after. IsDelivered (Event.Record place number bytes.now) counts
         after link link (W.written output.old) (W.written output.new)) }
     ensures fault { (link : BytesWritten) → IfErr result (λ fault. IsUndelivered fault
         (Event.Record place number bytes.now) counts link link (W.written output.old) (W.written output.new)) }
     ensures received { Notes teller.old.received teller.new.received (W.written output.old) (W.written output.new) }
-    ensures told { IsToldOf (Event.Record place number bytes.now)
+    ensures reported { IsReportedOf (Event.Record place number bytes.now)
         (kept (W.written output.old) (E.written errors.old) teller.old.telling)
         (kept (W.written output.new) (E.written errors.new) teller.new.telling) }
 {

@@ -24,7 +24,7 @@ pub struct Grant {
 }
 
 impl Grant {
-    /// Whether all records before the next one were asked for, and sent.
+    /// Whether all records before the next one were requested, and sent.
     pub(crate) fn is_fetched(self, next: u64) -> bool
         ensures { result ≡ (is_fetch self.mode && (self.position == next)) }
     {

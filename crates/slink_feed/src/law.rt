@@ -12,7 +12,8 @@ ghost use Rattle.slink_feed.specs.declared.grant.Mode.{Mode};
 ghost use Rattle.slink_feed.specs.Grant.{grant_of};
 ghost use Rattle.slink_feed.specs.Holding.{AreRising, GoOn, Turn, numbers_of, talk_behind};
 ghost use Rattle.slink_feed.specs.Listening.{Listening, Reads};
-ghost use Rattle.slink_feed.specs.Sending.{AreAsked, AreShown, Asked, IsReadFrom, IsStretch, packets_from, packets_of};
+ghost use Rattle.slink_feed.specs.Sending.{AreCalled, AreShown, Called, IsReadFrom, IsStretch, packets_from};
+ghost use Rattle.slink_feed.specs.Sending.{packets_of};
 ghost use Rattle.slink_feed.specs.Serving.{IsAnswer};
 ghost use Rattle.slink_feed.specs.Session.{State, grant_at};
 ghost use Rattle.slink_feed.specs.Window.{Window, oldest_of};
@@ -39,11 +40,12 @@ pub fn granted_behind_the_last()
 {}
 
 /// What one session sends of a place is a stretch of the records that were pushed there, from its grant on: whatever is
-/// pushed, said and asked for meanwhile.
+/// pushed, sent and requested meanwhile.
 pub fn a_stretch_is_sent()
-    ensures stretch { (k first : ℕ) (pushed : List (List ℕ)) (asked : List Asked) (s : State) (g : Grant)
+    ensures stretch { (k first : ℕ) (pushed : List (List ℕ)) (called : List Called) (s : State) (g : Grant)
         → s.phase ≡ Phase.Streaming → grant_at s.grants k ≡ Some g
-        → AreAsked s asked → AreShown k first pushed asked → IsStretch first pushed g.position (packets_of k asked) }
+        → AreCalled s called → AreShown k first pushed called
+        → IsStretch first pushed g.position (packets_of k called) }
     // Lines leave a session that streams as it is, or close it.
     ensures lines { (feed : List Window) (s new : State) (what : What) (reply : Reply)
         → s.phase ≡ Phase.Streaming → IsAnswer feed s what new reply → IsReadFrom s new }
@@ -67,7 +69,7 @@ pub fn no_record_twice()
 
 /// Of the packets of a link that is cut off at any byte, a client that wants their records tells of those that were
 /// delivered whole, one after another, and of no other.
-pub fn whole_packets_are_told()
+pub fn whole_packets_are_reported()
     ensures { (records : List Numbered) (t : Talk) (delivered : ℕ)
         → t.stage ≡ Stage.Packets → AreWanted t records → delivered ≤ length (all_packets records)
         → (now : Listening) × Reads t (take delivered (all_packets records))
@@ -76,7 +78,7 @@ pub fn whole_packets_are_told()
 
 /// A stretch of a place's records is wanted where it begins with the number that the place wants, or the place wants
 /// none: so of what a session sends to such a client, on a link that is cut off at any byte, the whole packets are
-/// told.
+/// reported.
 pub fn a_stretch_is_wanted()
     ensures wanted { (k number : ℕ) (records : List (List ℕ)) (t : Talk)
         → AreBorne t.wants k records → IfSome (next_at t.wants k) (λ want. number % 2 ^ 24 ≡ want)

@@ -11,11 +11,11 @@ mod feed;
 mod fetching;
 mod grant;
 mod law;
+mod reported;
 mod ring;
 mod serving;
 mod session;
 mod teller;
-mod told;
 mod turn;
 
 pub use client::Client;
@@ -26,11 +26,11 @@ pub use fetching::{Room, fetch_turn, fetch_turn_in, fetch_turn_telling};
 pub use grant::{Grant, Mode};
 pub use law::{
     a_stretch_is_sent, a_stretch_is_wanted, each_record_once, granted_behind_the_last,
-    no_record_twice, one_reading, whole_packets_are_told,
+    no_record_twice, one_reading, whole_packets_are_reported,
 };
+pub use reported::wants_move_by_records;
 pub use ring::{Ring, RingFault};
 pub use serving::serve_turn;
 pub use session::{Phase, Sent, Session};
 pub use teller::Teller;
-pub use told::wants_move_by_records;
 pub use turn::{LinkFault, Turn};

@@ -10,7 +10,7 @@ use slink_wire::Place;
 use std::alloc::{Allocator, Global};
 use std::marker::Model;
 
-/// Numbers are told modulo this.
+/// Numbers count modulo this.
 pub(crate) const SPAN: u64 = 1 << 24;
 
 /// The most records that a ring keeps.

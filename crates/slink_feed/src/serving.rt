@@ -24,7 +24,7 @@ const ROOM: usize = 512;
 /// writes the reply to each line.
 ///
 /// The answer is `Closed` where the session is closed before the read, or the link is at its end; else it is `Goes`. A
-/// session that a line closes is told by the next turn.
+/// session that a line closes is reported by the next turn.
 ///
 /// It is lent the same feed at every call, whose rings keep their indices.
 ///

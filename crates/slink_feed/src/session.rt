@@ -17,7 +17,7 @@ use slink_wire::{Lines, Reply, Took};
 use std::alloc::Allocator;
 use std::marker::Model;
 
-/// How far a session has come. The places are told by their indices in the feed.
+/// How far a session has come. The places are named by their indices in the feed.
 #[derive(Clone, Copy, Debug, PartialEq, Eq)]
 pub enum Phase {
     /// No place is chosen.
@@ -32,14 +32,14 @@ pub enum Phase {
     Closed,
 }
 
-/// What a session sends when it is asked for a packet of a place.
+/// What a session sends when a packet of a place is requested.
 #[derive(Debug, PartialEq, Eq, Drop)]
 pub enum Sent {
     /// The packet of the next record.
     Packet([u8; 520]),
     /// Nothing now.
     Wait,
-    /// All that was asked for was sent: the session is closed, and `END` is to be sent.
+    /// All that was requested was sent: the session is closed, and `END` is to be sent.
     Done,
     /// The next record has left the ring: the session is closed.
     Overrun,
@@ -180,7 +180,7 @@ impl Session {
         self.course.is_closed()
     }
 
-    /// Whether records are sent: the link has said all that it has to say.
+    /// Whether records are sent: the link has sent all that it has to say.
     pub fn is_streaming(&self) -> bool
         ensures yes { OnTrue result (self.now.state.phase ≡ Phase.Streaming) }
         ensures no { OnFalse result (self.now.state.phase ≢ Phase.Streaming) }

@@ -1,8 +1,9 @@
-//! What is told on standard error of the records of a fetch, and of what it wants next.
+//! What is reported on standard error of the records of a fetch, and of what it wants next.
 ghost use Rattle.std.specs.Prelude.{◌≡◌, ◌+◌, ◌++◌, ◌≤◌, true, false, length, slice_get, unwrap_or};
 ghost use Rattle.mseed_stream.specs.Telling.{Tells};
 ghost use Rattle.slink_feed.specs.Dialogue.{want_at, with_next};
-ghost use Rattle.slink_feed.specs.Teller.{AreTold, first_line, first_lines, hole_line, hole_lines, if_other, lines_at};
+ghost use Rattle.slink_feed.specs.Teller.{AreReported, first_line, first_lines, hole_line, hole_lines, if_other};
+ghost use Rattle.slink_feed.specs.Teller.{lines_at};
 ghost use Rattle.slink_feed.specs.Teller.{next_line, next_line_of, number_behind, options_of, telling_of, telling_past};
 ghost use Rattle.slink_feed.specs.Teller.{wants_left, word_of};
 
@@ -133,7 +134,7 @@ fn want_next(wants: &mut [Option<Wanted>; 16], k: usize, number: u32)
 
 /// Tells of a hole, where another number is wanted of a place than the one that came.
 fn tell_if_other<E: Sink>(place: &Place, want: Option<u32>, got: u32, errors: &mut E)
-    ensures { AreTold (if_other place.now want got) (E.written errors.old) (E.written errors.new) }
+    ensures { AreReported (if_other place.now want got) (E.written errors.old) (E.written errors.new) }
 {
     match want {
         Some(want) => {
@@ -147,7 +148,7 @@ fn tell_if_other<E: Sink>(place: &Place, want: Option<u32>, got: u32, errors: &m
 
 /// Tells of a hole, where there is one before a record.
 fn tell_hole<E: Sink>(want: &Option<Wanted>, number: u32, errors: &mut E)
-    ensures { AreTold (hole_lines want.now number) (E.written errors.old) (E.written errors.new) }
+    ensures { AreReported (hole_lines want.now number) (E.written errors.old) (E.written errors.new) }
 {
     match want {
         Some(wanted) => tell_if_other(&wanted.place, wanted.next, number, errors),
@@ -157,7 +158,7 @@ fn tell_hole<E: Sink>(want: &Option<Wanted>, number: u32, errors: &mut E)
 
 /// Tells of a place's first record.
 fn tell_first<E: Sink>(is_first: bool, want: &Option<Wanted>, number: u32, errors: &mut E)
-    ensures { AreTold (first_lines is_first want.now number) (E.written errors.old) (E.written errors.new) }
+    ensures { AreReported (first_lines is_first want.now number) (E.written errors.old) (E.written errors.new) }
 {
     match want {
         Some(wanted) => {
@@ -191,7 +192,7 @@ impl Model for Teller {
 }
 
 impl Teller {
-    /// For the records that a client wants. The first one of each place is told of where `firsts` says so, and each
+    /// For the records that a client wants. The first one of each place is reported where `firsts` says so, and each
     /// hole in any case.
     pub fn new(client: &Client, firsts: bool) -> Teller
         ensures { result ≡ record { telling = telling_of client.now.talk.wants firsts; received = false } }
@@ -214,7 +215,7 @@ impl Teller {
         }
     }
 
-    /// Whether the next record of the place at an index is its first, of which is to be told.
+    /// Whether the next record of the place at an index is its first, of which is to be reported.
     fn is_first(&self, k: usize) -> bool
         ensures { result ≡ unwrap_or (slice_get self.now.telling.firsts k) false }
     {
@@ -239,7 +240,7 @@ impl Teller {
     /// Tells of the record of the place at an index, with its number: it is about to be written.
     pub(crate) fn note<E: Sink>(&mut self, k: usize, number: u32, errors: &mut E)
         ensures telling { self.new ≡ record self.old { telling = telling_past self.old.telling k number } }
-        ensures lines { AreTold (lines_at self.old.telling k number) (E.written errors.old) (E.written errors.new) }
+        ensures lines { AreReported (lines_at self.old.telling k number) (E.written errors.old) (E.written errors.new) }
     {
         let want = self.want(k);
         tell_hole(&want, number, errors);
@@ -247,28 +248,28 @@ impl Teller {
         self.pass(k, number);
     }
 
-    /// The output took a whole record.
+    /// The output accepted a whole record.
     pub(crate) fn receive(&mut self)
         ensures { self.new ≡ record self.old { received = true } }
     {
         self.received = true;
     }
 
-    /// Forgets that the output took a whole record.
+    /// Forgets that the output accepted a whole record.
     pub fn begin(&mut self)
         ensures { self.new ≡ record self.old { received = false } }
     {
         self.received = false;
     }
 
-    /// Whether the output took a whole record since the last `begin`.
+    /// Whether the output accepted a whole record since the last `begin`.
     pub fn has_received(&self) -> bool
         ensures { result ≡ self.now.received }
     {
         self.received
     }
 
-    /// What a client wants; where the output `failed`, the last record that was told of again.
+    /// What a client wants; where the output `failed`, the last record that was reported again.
     fn wants_left(&self, client: &Client, failed: bool) -> [Option<Wanted>; 16]
         ensures { result ≡ wants_left failed self.now.telling.last client.now.talk.wants }
     {
@@ -285,7 +286,7 @@ impl Teller {
     }
 
     /// Tells the words of a fetch that goes on with what a client wants. Where the output `failed`, the last record
-    /// that was told of is wanted again.
+    /// that was reported is wanted again.
     pub fn tell_next<E: Sink>(&self, client: &Client, failed: bool, errors: &mut E)
         ensures { Tells (next_line_of (wants_left failed self.now.telling.last client.now.talk.wants))
             (E.written errors.old) (E.written errors.new) }

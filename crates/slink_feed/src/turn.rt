@@ -8,9 +8,9 @@ use thiserror::Error;
 pub enum Turn {
     /// The next turn is to be taken.
     Goes,
-    /// Nothing more comes of the link: it told its end, or the session is closed.
+    /// Nothing more comes of the link: it reported its end, or the session is closed.
     Closed,
-    /// The client has all that was asked for.
+    /// The client has all that was requested.
     Ended,
     /// The client takes nothing more of the link, for the reason that this event tells.
     Stopped(Event),

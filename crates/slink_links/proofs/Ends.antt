@@ -1,4 +1,4 @@
--- What is told at the end of a fetch.
+-- What is reported at the end of a fetch.
 use Rattle.std.proofs.Common.{◌≡◌, ◌∙◌, refl, ap, subst, sym, Bool, true, false, ℕ, List, [], ◌∷◌, Option}
 use Rattle.mseed_stream.specs.Device.{BytesWritten}
 use Rattle.mseed_stream.specs.Telling.{Tells}
@@ -6,54 +6,56 @@ use Rattle.slink_feed.specs.Delivered.{Numbered}
 use Rattle.slink_feed.specs.Dialogue.{Wants}
 use Rattle.slink_feed.specs.Listening.{Listening}
 use Rattle.slink_feed.specs.Reports.{kept}
-use Rattle.slink_feed.specs.Teller.{AreTold, Telling, lines_of, next_line_of, none, one, telling_behind, telling_of}
+use Rattle.slink_feed.specs.Teller.{AreReported, Telling, lines_of, next_line_of, none, one, telling_behind, telling_of}
 use Rattle.slink_feed.specs.Teller.{wants_left}
-use Rattle.slink_feed.specs.Told.{HasTold}
-use Rattle.slink_feed.proofs.Quiet.{nothing_told}
+use Rattle.slink_feed.specs.Reported.{HasReported}
+use Rattle.slink_feed.proofs.Quiet.{nothing_reported}
 use Rattle.slink_links.specs.declared.fetching.FetchEnd.{FetchEnd}
 use Rattle.slink_links.specs.Fetched.{FetchesTelling, TellsOfAll, TellsOfFetch, is_unwritten, next_lines}
 
--- the words of a fetch that goes on, where they are asked for
-pub next_told : (asked failed unwritten : Bool) (last : Option (ℕ × ℕ)) (wants : Wants) (a b : BytesWritten)
-    → asked ≡ true → failed ≡ unwritten → Tells (next_line_of (wants_left failed last wants)) a b
-    → AreTold (next_lines asked (wants_left unwritten last wants)) a b
-next_told asked failed unwritten last wants a b set same tells =
-    subst (λ (t : Bool). AreTold (next_lines t (wants_left unwritten last wants)) a b) (sym set)
-    (subst (λ (f : Bool). AreTold (next_lines true (wants_left f last wants)) a b) same
+-- the words of a fetch that goes on, where they are requested
+pub next_reported : (called failed unwritten : Bool) (last : Option (ℕ × ℕ)) (wants : Wants) (a b : BytesWritten)
+    → called ≡ true → failed ≡ unwritten → Tells (next_line_of (wants_left failed last wants)) a b
+    → AreReported (next_lines called (wants_left unwritten last wants)) a b
+next_reported called failed unwritten last wants a b set same tells =
+    subst (λ (t : Bool). AreReported (next_lines t (wants_left unwritten last wants)) a b) (sym set)
+    (subst (λ (f : Bool). AreReported (next_lines true (wants_left f last wants)) a b) same
     (one (next_line_of (wants_left failed last wants)) [] a b b tells (none b)))
 
-pub next_untold : (asked : Bool) (wants : Wants) (a : BytesWritten) → asked ≡ false
-    → AreTold (next_lines asked wants) a a
-next_untold asked wants a unset = subst (λ (t : Bool). AreTold (next_lines t wants) a a) (sym unset) (none a)
+pub next_unreported : (called : Bool) (wants : Wants) (a : BytesWritten) → called ≡ false
+    → AreReported (next_lines called wants) a a
+next_unreported called wants a unset = subst (λ (t : Bool). AreReported (next_lines t wants) a a) (sym unset) (none a)
 
--- nothing but the line of the end is told
-none_told : (lines : List (List ℕ)) (a b : BytesWritten) → lines ≡ [] → AreTold lines a b → b ≡ a
-none_told _ _ _ is (none now) = refl
-none_told _ _ _ is (one line lines old now new tells rest) = absurd (let bad : line ∷ lines ≡ [] = is in cc bad)
+-- nothing but the line of the end is reported
+none_reported : (lines : List (List ℕ)) (a b : BytesWritten) → lines ≡ [] → AreReported lines a b → b ≡ a
+none_reported _ _ _ is (none now) = refl
+none_reported _ _ _ is (one line lines old now new tells rest) = absurd (let bad : line ∷ lines ≡ [] = is in cc bad)
 
-pub end_told : (end : FetchEnd) (old new : Wants) (records : List Numbered) (a d : BytesWritten)
-    → HasTold false old new records → TellsOfAll false end records old new a d → TellsOfFetch end a d
-end_told end old new records a d told all =
-    let first : all.told ≡ a =
-    none_told (lines_of (telling_of old false) records) a all.told (nothing_told old new records told) all.lines in
-    let last : d ≡ all.ended = none_told [] all.ended d refl all.next in
+pub end_reported : (end : FetchEnd) (old new : Wants) (records : List Numbered) (a d : BytesWritten)
+    → HasReported false old new records → TellsOfAll false end records old new a d → TellsOfFetch end a d
+end_reported end old new records a d reported all =
+    let first : all.reported ≡ a =
+    none_reported (lines_of (telling_of old false) records) a all.reported (nothing_reported old new records reported)
+    all.lines in
+    let last : d ≡ all.ended = none_reported [] all.ended d refl all.next in
     subst (λ (x : BytesWritten). TellsOfFetch end a x) (sym last)
     (subst (λ (x : BytesWritten). TellsOfFetch end x all.ended) first all.end_line)
 
--- all that is told
-pub all_told : (firsts : Bool) (end : FetchEnd) (old new : Listening) (t u : Telling) (o p a b c d : BytesWritten)
+-- all that is reported
+pub all_reported : (firsts : Bool) (end : FetchEnd) (old new : Listening) (t u : Telling) (o p a b c d : BytesWritten)
     (f : FetchesTelling end old new (kept o a t) (kept p b u)) → t ≡ telling_of old.talk.wants firsts
-    → TellsOfFetch end b c → AreTold (next_lines firsts (wants_left (is_unwritten end) u.last new.talk.wants)) c d
+    → TellsOfFetch end b c → AreReported (next_lines firsts (wants_left (is_unwritten end) u.last new.talk.wants)) c d
     → TellsOfAll firsts end f.fetched.records old.talk.wants new.talk.wants a d
-all_told firsts end old new t u o p a b c d f begun ended next =
+all_reported firsts end old new t u o p a b c d f begun ended next =
     let records : List Numbered = f.fetched.records in
     let first : Telling = telling_of old.talk.wants firsts in
     let behind : u ≡ telling_behind first records =
-    f.reported.telling ∙ ap (λ (x : Telling). telling_behind x records) begun in record {
-      told = b;
+    f.handed_over.telling ∙ ap (λ (x : Telling). telling_behind x records) begun in record {
+      reported = b;
       ended = c;
-      lines = subst (λ (x : Telling). AreTold (lines_of x records) a b) begun f.reported.lines;
+      lines = subst (λ (x : Telling). AreReported (lines_of x records) a b) begun f.handed_over.lines;
       end_line = ended;
-      next = subst (λ (x : Telling). AreTold (next_lines firsts (wants_left (is_unwritten end) x.last new.talk.wants)) c
+      next = subst (λ (x : Telling). AreReported (next_lines firsts
+          (wants_left (is_unwritten end) x.last new.talk.wants)) c
           d) behind next;
     }

@@ -16,17 +16,20 @@ use Rattle.slink_feed.specs.declared.turn.LinkFault.TheVariants as faults
 use Rattle.slink_feed.specs.declared.turn.Turn.{Turn}
 use Rattle.slink_feed.specs.Delivered.{Numbered}
 use Rattle.slink_feed.specs.Dialogue.{Talk, Wants, says_place, to_place, want_at}
-use Rattle.slink_feed.specs.Fetching.{Delivers, FailsToSay, FailsToWrite, Fetches, IsFetchFault, ReadsOn, bytes_told}
-use Rattle.slink_feed.specs.Fetching.{fetching, line_written, lines_written, record_told, turn_after, turn_of}
+use Rattle.slink_feed.specs.Fetching.{Delivers, FailsToSay, FailsToWrite, Fetches, IsFetchFault, ReadsOn}
+use Rattle.slink_feed.specs.Fetching.{bytes_reported}
+use Rattle.slink_feed.specs.Fetching.{fetching, line_written, lines_written, record_reported, turn_after, turn_of}
 use Rattle.slink_feed.specs.Listening.{IsLinked, Listening, Reads}
-use Rattle.slink_feed.specs.Told.{HasTold, bytes_in, record_in, records_told}
-use Rattle.slink_feed.specs.Turns.{Took, TookPrefix}
+use Rattle.slink_feed.specs.Reported.{HasReported, bytes_in, record_in, records_reported}
+use Rattle.slink_feed.specs.Turns.{Emitted, EmittedPrefix}
 use Rattle.slink_feed.specs.Reports.{Kept, TakesRecords, Reports, all, but_last}
 use Rattle.slink_feed.proofs.Numbers.{kept_place}
 use Rattle.slink_feed.proofs.OneReading as one
-use Rattle.slink_feed.proofs.Reporting.{all_taken, line_alone, record_alone, record_bytes, reported_both, reported_none}
+use Rattle.slink_feed.proofs.Reporting.{all_taken, line_alone, record_alone, record_bytes, handed_over_both}
+use Rattle.slink_feed.proofs.Reporting.{handed_over_none}
 use Rattle.slink_feed.proofs.Reporting.{takes_both, takes_none}
-use Rattle.slink_feed.proofs.Telling.{bytes_both, records_both, kept_link, told_both, told_far, told_link, told_none}
+use Rattle.slink_feed.proofs.Telling.{bytes_both, records_both, kept_link, reported_both, reported_far, reported_link}
+use Rattle.slink_feed.proofs.Telling.{reported_none}
 use Rattle.slink_feed.proofs.Telling.{wants_written}
 use Rattle.slink_links.specs.declared.fetching.FetchEnd.{FetchEnd}
 use Rattle.slink_links.specs.declared.fetching.FetchEnd.TheVariants.{Done, Refused, BadFeed, WriteFailed, LinkFailed}
@@ -35,54 +38,56 @@ use Rattle.slink_links.specs.Fetched.{WasFetchedOver}
 use Rattle.slink_links.specs.Fetched.{HaveMoved, IsFetchedOver, IsReading, IsUnended, StandsAt, StandsBy}
 use Rattle.slink_links.specs.Fetched.{FetchesTelling, end_by, failures_by, over_none, over_one_more, over_the_last}
 
--- What a sink took, said of an equal list.
-pub took_as : (a b : BytesWritten) (xs ys : List ℕ) → b.bytes ≡ a.bytes ++ xs → b.failures ≡ a.failures → xs ≡ ys
-    → Took a b ys
-took_as a b xs ys bytes fine same = subst (Took a b) same (record { bytes = bytes; failures = fine })
+-- What a sink accepted, stated of an equal list.
+pub emitted_as : (a b : BytesWritten) (xs ys : List ℕ) → b.bytes ≡ a.bytes ++ xs → b.failures ≡ a.failures → xs ≡ ys
+    → Emitted a b ys
+emitted_as a b xs ys bytes fine same = subst (Emitted a b) same (record { bytes = bytes; failures = fine })
 
-pub took_prefix_as : (a b : BytesWritten) (xs ys : List ℕ) (n : ℕ) → b.bytes ≡ a.bytes ++ take n xs → n < length xs
-    → b.failures ≡ a.failures + 1 → xs ≡ ys → TookPrefix a b ys n
-took_prefix_as a b xs ys n bytes within failed same =
-    subst (λ zs. TookPrefix a b zs n) same (record { bytes = bytes; part = within; failures = failed })
+pub emitted_prefix_as : (a b : BytesWritten) (xs ys : List ℕ) (n : ℕ) → b.bytes ≡ a.bytes ++ take n xs → n < length xs
+    → b.failures ≡ a.failures + 1 → xs ≡ ys → EmittedPrefix a b ys n
+emitted_prefix_as a b xs ys n bytes within failed same =
+    subst (λ zs. EmittedPrefix a b zs n) same (record { bytes = bytes; part = within; failures = failed })
 
 -- the bytes of the records that events tell of
-told_bytes : (es : List Event) → bytes_told es ≡ bytes_in (records_told es)
-told_bytes [] = refl
-told_bytes (e ∷ es) = ap (λ bytes. bytes ++ bytes_told es) (record_bytes e)
-    ∙ (ap (λ bytes. bytes_in (record_in e) ++ bytes) (told_bytes es) ∙ sym (bytes_both (record_in e) (records_told es)))
+reported_bytes : (es : List Event) → bytes_reported es ≡ bytes_in (records_reported es)
+reported_bytes [] = refl
+reported_bytes (e ∷ es) = ap (λ bytes. bytes ++ bytes_reported es) (record_bytes e)
+    ∙ (ap (λ bytes. bytes_in (record_in e) ++ bytes) (reported_bytes es)
+    ∙ sym (bytes_both (record_in e) (records_reported es)))
 
 lines_both : (es : List Event) (e : Event) → lines_written (es ++ e ∷ []) ≡ lines_written es ++ line_written e
 lines_both [] e = append-nil (line_written e)
 lines_both (x ∷ es) e = ap (λ bytes. line_written x ++ bytes) (lines_both es e)
     ∙ sym (append_assoc (line_written x) (lines_written es) (line_written e))
 
-records_last : (es : List Event) (e : Event) → records_told (es ++ e ∷ []) ≡ records_told es ++ record_in e
-records_last es e = records_both es (e ∷ []) ∙ ap (λ rs. records_told es ++ rs) (append-nil (record_in e))
+records_last : (es : List Event) (e : Event) → records_reported (es ++ e ∷ []) ≡ records_reported es ++ record_in e
+records_last es e = records_both es (e ∷ []) ∙ ap (λ rs. records_reported es ++ rs) (append-nil (record_in e))
 
 -- a line that wasn't taken whole
 unwritten_none : (es : List Event) (e : Event) (n : ℕ) → n < length (lines_written (es ++ e ∷ []))
-    → length (lines_written es) ≤ n → records_told (es ++ e ∷ []) ≡ records_told es
+    → length (lines_written es) ≤ n → records_reported (es ++ e ∷ []) ≡ records_reported es
 unwritten_none es e n part behind =
     let long : 0 < length (line_written e) =
     omega (arith, part, behind, ap length (lines_both es e), length-append (lines_written es) (line_written e)) in
-    records_last es e ∙ (ap (λ rs. records_told es ++ rs) (line_alone e long) ∙ append-nil (records_told es))
+    records_last es e ∙ (ap (λ rs. records_reported es ++ rs) (line_alone e long) ∙ append-nil (records_reported es))
 
 -- a record that wasn't taken whole
 left_unwritten : (es : List Event) (e : Event) (n : ℕ) (old new : BytesWritten)
-    → TookPrefix old new (bytes_told (es ++ e ∷ [])) n
-    → length (bytes_told es) ≤ n → TakesRecords (records_told (es ++ e ∷ [])) old new
-left_unwritten es e n old new took behind =
-    let whole : bytes_told (es ++ e ∷ []) ≡ bytes_in (records_told es) ++ bytes_in (record_in e) =
-    told_bytes (es ++ e ∷ []) ∙ (ap bytes_in (records_last es e) ∙ bytes_both (records_told es) (record_in e)) in
-    let sum : length (bytes_told (es ++ e ∷ [])) ≡ length (bytes_in (records_told es)) + length
+    → EmittedPrefix old new (bytes_reported (es ++ e ∷ [])) n
+    → length (bytes_reported es) ≤ n → TakesRecords (records_reported (es ++ e ∷ [])) old new
+left_unwritten es e n old new emitted behind =
+    let whole : bytes_reported (es ++ e ∷ []) ≡ bytes_in (records_reported es) ++ bytes_in (record_in e) =
+    reported_bytes (es ++ e ∷ []) ∙ (ap bytes_in (records_last es e)
+    ∙ bytes_both (records_reported es) (record_in e)) in
+    let sum : length (bytes_reported (es ++ e ∷ [])) ≡ length (bytes_in (records_reported es)) + length
     (bytes_in (record_in e)) =
-    ap length whole ∙ length-append (bytes_in (records_told es)) (bytes_in (record_in e)) in
-    let long : 0 < length (record_told e) =
-    omega (arith, took.part, behind, sum, ap length (told_bytes es), ap length (record_bytes e)) in
+    ap length whole ∙ length-append (bytes_in (records_reported es)) (bytes_in (record_in e)) in
+    let long : 0 < length (record_reported e) =
+    omega (arith, emitted.part, behind, sum, ap length (reported_bytes es), ap length (record_bytes e)) in
     let last : (r : Numbered) × (record_in e ≡ r ∷ []) = record_alone e long in
-    but_last (records_told es) last.0 n (records_last es e ∙ ap (λ rs. records_told es ++ rs) last.1)
-    (omega (arith, behind, ap length (told_bytes es)))
-    (subst (λ bytes. TookPrefix old new bytes n) (told_bytes (es ++ e ∷ [])) took)
+    but_last (records_reported es) last.0 n (records_last es e ∙ ap (λ rs. records_reported es ++ rs) last.1)
+    (omega (arith, behind, ap length (reported_bytes es)))
+    (subst (λ bytes. EmittedPrefix old new bytes n) (reported_bytes (es ++ e ∷ [])) emitted)
 
 -- Reading on, one turn after another.
 on_none : (now : Listening) → ReadsOn now [] [] now
@@ -98,21 +103,22 @@ on_both a b c xs ys some more p q start stream before reads =
     (q start (stream ++ xs) (before ++ some) (p start stream before reads)))
 
 -- By no bytes nothing changes.
-same_by_none : (old new : Listening) (told : List Event) → IsReading old → ReadsOn old [] told new → new ≡ old
-same_by_none old new told reading on =
-    let again : Reads reading.0 reading.1 (reading.2 ++ told) new =
-    subst (λ s. Reads reading.0 s (reading.2 ++ told) new) (append-nil reading.1)
+same_by_none : (old new : Listening) (reported : List Event) → IsReading old → ReadsOn old [] reported new → new ≡ old
+same_by_none old new reported reading on =
+    let again : Reads reading.0 reading.1 (reading.2 ++ reported) new =
+    subst (λ s. Reads reading.0 s (reading.2 ++ reported) new) (append-nil reading.1)
     (on reading.0 reading.1 reading.2 reading.3) in
-    sym (one.one_reading reading.0 reading.1 reading.2 (reading.2 ++ told) old new reading.3 again).1
+    sym (one.one_reading reading.0 reading.1 reading.2 (reading.2 ++ reported) old new reading.3 again).1
 
 no_prefix : (xs ys : List ℕ) → IsPrefixOf xs ys → ys ≡ [] → xs ≡ []
 no_prefix [] ys prefix none = refl
 no_prefix (x ∷ xs) ys prefix none = absurd (let bad : [] ≡ x ∷ (xs ++ prefix.0) = sym none ∙ prefix.1 in cc bad)
 
-reading_on : (old new : Listening) (bytes : List ℕ) (told : List Event) → IsReading old → ReadsOn old bytes told new
+reading_on : (old new : Listening) (bytes : List ℕ) (reported : List Event) → IsReading old
+    → ReadsOn old bytes reported new
     → IsReading new
-reading_on old new bytes told reading on =
-    (reading.0, reading.1 ++ bytes, reading.2 ++ told, on reading.0 reading.1 reading.2 reading.3)
+reading_on old new bytes reported reading on =
+    (reading.0, reading.1 ++ bytes, reading.2 ++ reported, on reading.0 reading.1 reading.2 reading.3)
 
 linked_unended : (stage : Stage) → IsLinked stage → IsUnended stage
 linked_unended Unlinked linked = tt
@@ -139,7 +145,7 @@ stands_turn (b ∷ bs) (Number k) old new at some unended = subst IsLinked (sym 
 stands_turn (b ∷ bs) Packets old new at some unended = subst IsLinked (sym at) tt
 stands_turn (b ∷ bs) (Ended ending) old new at some unended = stands_stopped ending old new at
 
--- What a link told is taken whole while there is no end.
+-- What a link gave is taken whole while there is no end.
 some_end : (end : FetchEnd) → Some end ≡ None → ⊥
 some_end end e = cc
 
@@ -196,34 +202,35 @@ fine_turn (b ∷ bs) (Number k) = refl
 fine_turn (b ∷ bs) Packets = refl
 fine_turn (b ∷ bs) (Ended ending) = fine_stopped ending
 
-unended_none : (old new : Listening) (bytes taken : List ℕ) (told : List Event) → IsReading old
-    → IsUnended old.talk.stage → ReadsOn old taken told new → IsPrefixOf taken bytes → bytes ≡ []
+unended_none : (old new : Listening) (bytes taken : List ℕ) (reported : List Event) → IsReading old
+    → IsUnended old.talk.stage → ReadsOn old taken reported new → IsPrefixOf taken bytes → bytes ≡ []
     → IsUnended new.talk.stage
-unended_none old new bytes taken told reading unended on prefix none =
+unended_none old new bytes taken reported reading unended on prefix none =
     let nothing : taken ≡ [] = no_prefix taken bytes prefix none in
     subst (λ (now : Listening). IsUnended now.talk.stage)
-    (sym (same_by_none old new told reading (subst (λ xs. ReadsOn old xs told new) nothing on))) unended
+    (sym (same_by_none old new reported reading (subst (λ xs. ReadsOn old xs reported new) nothing on))) unended
 
 turned_ok : (turn : Turn) (old new : Listening) (s0 s1 w0 w1 : BytesWritten) (h0 h1 : BytesRead)
     → Fetches (fetching old s0 w0) (fetching new s1 w1) h0 h1 turn → IsReading old → IsLinked old.talk.stage
     → HasTurned (end_by (Ok turn)) old new h0 h1 w0 w1
 turned_ok turn old new s0 s1 w0 w1 h0 h1 f reading linked =
     let d : Delivers (fetching old s0 w0) (fetching new s1 w1) f.bytes = f.delivers in
-    let took : Took w0 w1 (bytes_in (records_told d.told)) = subst (Took w0 w1) (told_bytes d.told) d.output in
+    let emitted : Emitted w0 w1 (bytes_in (records_reported d.reported)) =
+    subst (Emitted w0 w1) (reported_bytes d.reported) d.output in
     let some : ¬ (new.talk.stage ≡ Unlinked) = d.linked linked in
     let by : end_by (Ok turn) ≡ end_by (Ok (turn_after f.bytes new.talk.stage)) = ap (λ t. end_by (Ok t)) f.turn_is in
     record {
       bytes = d.takes.taken;
       taken = prefix_taken (end_by (Ok turn)) h0 h1 f.bytes d.takes.taken (ap (λ (h : BytesRead). h.bytes) f.read)
           d.takes.prefix (λ goes. d.whole (goes_linked f.bytes new.talk.stage some (sym by ∙ goes)));
-      told = d.told;
+      reported = d.reported;
       reads = d.takes.reads;
-      took = all took;
+      emitted = all emitted;
       stands = subst (λ end. StandsBy end old new) (sym by)
           (stands_turn f.bytes new.talk.stage old new refl some
-          (unended_none old new f.bytes d.takes.taken d.told reading (linked_unended old.talk.stage linked)
+          (unended_none old new f.bytes d.takes.taken d.reported reading (linked_unended old.talk.stage linked)
           d.takes.reads d.takes.prefix));
-      failures = took.failures ∙ let none : failures_by (end_by (Ok turn)) ≡ 0 =
+      failures = emitted.failures ∙ let none : failures_by (end_by (Ok turn)) ≡ 0 =
           ap failures_by by ∙ fine_turn f.bytes new.talk.stage in omega (arith, none);
     }
 
@@ -235,34 +242,35 @@ turned_err faults.Read old new s0 s1 w0 w1 h0 h1 f reading linked =
     let output : w1 ≡ w0 = ap (λ x. x.output) f.0 in record {
       bytes = [];
       taken = none_taken (Some LinkFailed) h0 h1 (ap (λ (h : BytesRead). h.bytes) f.1);
-      told = [];
+      reported = [];
       reads = subst (ReadsOn old [] []) (sym client) (on_none old);
-      took = subst (TakesRecords [] w0) (sym output) (takes_none w0);
+      emitted = subst (TakesRecords [] w0) (sym output) (takes_none w0);
       stands = inl (subst (λ (now : Listening). IsUnended now.talk.stage) (sym client)
           (linked_unended old.talk.stage linked));
       failures = ap (λ (w : BytesWritten). w.failures) output ∙ omega arith;
     }
 turned_err (faults.Write n) old new s0 s1 w0 w1 h0 h1 f reading linked =
     let x : FailsToSay (fetching old s0 w0) (fetching new s1 w1) f.bytes n = f.fails in
-    let took : Took w0 w1 (bytes_in (records_told x.told)) = subst (Took w0 w1) (told_bytes x.told) x.output in record {
+    let emitted : Emitted w0 w1 (bytes_in (records_reported x.reported)) =
+    subst (Emitted w0 w1) (reported_bytes x.reported) x.output in record {
       bytes = x.takes.taken;
       taken = prefix_taken (Some LinkFailed) h0 h1 f.bytes x.takes.taken (ap (λ (h : BytesRead). h.bytes) f.read)
           x.takes.prefix (λ goes. absurd (some_end LinkFailed goes));
-      told = x.told ++ x.last ∷ [];
+      reported = x.reported ++ x.last ∷ [];
       reads = x.takes.reads;
-      took = subst (λ rs. TakesRecords rs w0 w1) (sym (unwritten_none x.told x.last n x.written.part x.behind))
-          (all took);
+      emitted = subst (λ rs. TakesRecords rs w0 w1) (sym (unwritten_none x.reported x.last n x.written.part x.behind))
+          (all emitted);
       stands = inl (linked_unended new.talk.stage x.linked);
-      failures = took.failures ∙ omega arith;
+      failures = emitted.failures ∙ omega arith;
     }
 turned_err (faults.Output n) old new s0 s1 w0 w1 h0 h1 f reading linked =
     let x : FailsToWrite (fetching old s0 w0) (fetching new s1 w1) f.bytes n = f.fails in record {
       bytes = x.takes.taken;
       taken = prefix_taken (Some WriteFailed) h0 h1 f.bytes x.takes.taken (ap (λ (h : BytesRead). h.bytes) f.read)
           x.takes.prefix (λ goes. absurd (some_end WriteFailed goes));
-      told = x.told ++ x.last ∷ [];
+      reported = x.reported ++ x.last ∷ [];
       reads = x.takes.reads;
-      took = left_unwritten x.told x.last n w0 w1 x.output x.behind;
+      emitted = left_unwritten x.reported x.last n w0 w1 x.output x.behind;
       stands = linked_unended new.talk.stage x.linked;
       failures = x.output.failures;
     }
@@ -283,9 +291,9 @@ pub turned_none : (now : Listening) (read : BytesRead) (written : BytesWritten) 
 turned_none now read written linked = record {
   bytes = [];
   taken = none_taken None read read refl;
-  told = [];
+  reported = [];
   reads = on_none now;
-  took = takes_none written;
+  emitted = takes_none written;
   stands = linked;
   failures = omega arith;
 }
@@ -307,14 +315,14 @@ stands_on (Some LinkFailed) a b c linked stands =
 pub turned_both : (end : Option FetchEnd) (a b c : Listening) (h i j : BytesRead) (s t u : BytesWritten)
     → HasTurned None a b h i s t → HasTurned end b c i j t u → HasTurned end a c h j s u
 turned_both end a b c h i j s t u p q =
-    let took : Took s t (bytes_in (records_told p.told)) =
-    all_taken (records_told p.told) s t p.took (p.failures ∙ omega arith) in record {
+    let emitted : Emitted s t (bytes_in (records_reported p.reported)) =
+    all_taken (records_reported p.reported) s t p.emitted (p.failures ∙ omega arith) in record {
       bytes = p.bytes ++ q.bytes;
       taken = taken_both end h i j p.bytes q.bytes p.taken q.taken;
-      told = p.told ++ q.told;
-      reads = on_both a b c p.bytes q.bytes p.told q.told p.reads q.reads;
-      took = subst (λ rs. TakesRecords rs s u) (sym (records_both p.told q.told))
-          (takes_both s t u (records_told p.told) (records_told q.told) took q.took);
+      reported = p.reported ++ q.reported;
+      reads = on_both a b c p.bytes q.bytes p.reported q.reported p.reads q.reads;
+      emitted = subst (λ rs. TakesRecords rs s u) (sym (records_both p.reported q.reported))
+          (takes_both s t u (records_reported p.reported) (records_reported q.reported) emitted q.emitted);
       stands = stands_on end a b c p.stands q.stands;
       failures = omega (arith, p.failures, q.failures);
     }
@@ -325,16 +333,16 @@ pub turned_out : (a b : Listening) (h i : BytesRead) (s t : BytesWritten) → Ha
 turned_out a b h i s t p = record {
   bytes = p.bytes;
   taken = record { prefix = p.taken.prefix; whole = λ goes. absurd (some_end LinkFailed goes) };
-  told = p.told;
+  reported = p.reported;
   reads = p.reads;
-  took = p.took;
+  emitted = p.emitted;
   stands = inl (linked_unended b.talk.stage p.stands);
   failures = p.failures;
 }
 
 pub turned_reading : (end : Option FetchEnd) (a b : Listening) (h i : BytesRead) (s t : BytesWritten) → IsReading a
     → HasTurned end a b h i s t → IsReading b
-turned_reading end a b h i s t reading p = reading_on a b p.bytes p.told reading p.reads
+turned_reading end a b h i s t reading p = reading_on a b p.bytes p.reported reading p.reads
 
 -- A new link changes nothing of what is wanted.
 written_linked : (t : Talk) (o : Option Wanted) → IsLinked (to_place o 0 t).0.stage
@@ -356,17 +364,17 @@ connected_holes : (old : Talk) (new : Talk) (event : Event) → says_place 0 old
     → new.holes ≡ old.holes
 connected_holes old new event says = ap (λ p. p.0.holes) (sym says) ∙ kept_place 0 old (want_at old.wants 0)
 
-connected_told : (old : Talk) (new : Talk) (event : Event) (wants : Wants) (records : List Numbered)
-    → says_place 0 old ≡ (new, event) → HasTold new.holes new.wants wants records
-    → HasTold old.holes old.wants wants records
-connected_told old new event wants records says told =
-    subst (λ (h : Bool). HasTold h old.wants wants records) (connected_holes old new event says)
-    (subst (λ ws. HasTold new.holes ws wants records) (connected_wants old new event says) told)
+connected_reported : (old : Talk) (new : Talk) (event : Event) (wants : Wants) (records : List Numbered)
+    → says_place 0 old ≡ (new, event) → HasReported new.holes new.wants wants records
+    → HasReported old.holes old.wants wants records
+connected_reported old new event wants records says reported =
+    subst (λ (h : Bool). HasReported h old.wants wants records) (connected_holes old new event says)
+    (subst (λ ws. HasReported new.holes ws wants records) (connected_wants old new event says) reported)
 
-moved_by : (holes : Bool) (old new : Wants) (records : List Numbered) → HasTold holes old new records
+moved_by : (holes : Bool) (old new : Wants) (records : List Numbered) → HasReported holes old new records
     → HaveMoved holes old new records
-moved_by holes old new records told plain k n short at =
-    told_far old new records k n (subst (λ (h : Bool). HasTold h old new records) plain told) short at
+moved_by holes old new records reported plain k n short at =
+    reported_far old new records k n (subst (λ (h : Bool). HasReported h old new records) plain reported) short at
 
 stands_linked : (end : FetchEnd) (old now new : Listening) → IsUnended now.talk.stage → StandsAt end now new
     → StandsAt end old new
@@ -385,16 +393,16 @@ pub fetched_link : (end : FetchEnd) (old now new : Listening) (event : Event) (h
     → says_place 0 old.talk ≡ (now.talk, event) → Reads now.talk [] [] now → HasTurned (Some end) now new h i s t
     → HasFetched end old new s t
 fetched_link end old now new event h i s t says reads p =
-    let all : Reads now.talk p.bytes p.told new = p.reads now.talk [] [] reads in
+    let all : Reads now.talk p.bytes p.reported new = p.reads now.talk [] [] reads in
     let same : now.talk.holes ≡ old.talk.holes = connected_holes old.talk now.talk event says in
-    let told : HasTold old.talk.holes old.talk.wants new.talk.wants (records_told p.told) =
-    connected_told old.talk now.talk event new.talk.wants (records_told p.told) says
-    (told_link now.talk p.bytes p.told new all) in record {
-      records = records_told p.told;
-      told = told;
-      moved = moved_by old.talk.holes old.talk.wants new.talk.wants (records_told p.told) told;
-      holes = kept_link now.talk p.bytes p.told new all ∙ same;
-      took = p.took;
+    let reported : HasReported old.talk.holes old.talk.wants new.talk.wants (records_reported p.reported) =
+    connected_reported old.talk now.talk event new.talk.wants (records_reported p.reported) says
+    (reported_link now.talk p.bytes p.reported new all) in record {
+      records = records_reported p.reported;
+      reported = reported;
+      moved = moved_by old.talk.holes old.talk.wants new.talk.wants (records_reported p.reported) reported;
+      holes = kept_link now.talk p.bytes p.reported new all ∙ same;
+      emitted = p.emitted;
       stands = stands_linked end old now new (connected_unended old.talk now.talk event says) p.stands;
       failures = p.failures;
     }
@@ -408,28 +416,28 @@ read_link end old now new event h i s t says reads p = record {
   begins = says;
   bytes = p.bytes;
   prefix = p.taken.prefix;
-  told = p.told;
+  reported = p.reported;
   reads = p.reads now.talk [] [] reads;
-  took = p.took;
+  emitted = p.emitted;
 }
 
--- its records are those that were told of
+-- its records are those that were reported
 pub fetched_telling : (end : FetchEnd) (old now new : Listening) (event : Event) (a b : Kept)
     → says_place 0 old.talk ≡ (now.talk, event) → HasFetched end old new a.output b.output
     → Reports now.talk new.talk a b → FetchesTelling end old new a b
 fetched_telling end old now new event a b says f p =
-    let told : HasTold old.talk.holes old.talk.wants new.talk.wants p.records =
-    connected_told old.talk now.talk event new.talk.wants p.records says p.told in record {
+    let reported : HasReported old.talk.holes old.talk.wants new.talk.wants p.records =
+    connected_reported old.talk now.talk event new.talk.wants p.records says p.reported in record {
       fetched = record {
         records = p.records;
-        told = told;
-        moved = moved_by old.talk.holes old.talk.wants new.talk.wants p.records told;
+        reported = reported;
+        moved = moved_by old.talk.holes old.talk.wants new.talk.wants p.records reported;
         holes = f.holes;
-        took = p.reported.took;
+        emitted = p.handed_over.emitted;
         stands = f.stands;
         failures = f.failures;
       };
-      reported = p.reported;
+      handed_over = p.handed_over;
     }
 
 -- no link yet
@@ -437,14 +445,14 @@ pub fetched_none : (now : Listening) (a : Kept) → FetchesTelling LinkFailed no
 fetched_none now a = record {
   fetched = record {
     records = [];
-    told = told_none now.talk.holes now.talk.wants;
-    moved = moved_by now.talk.holes now.talk.wants now.talk.wants [] (told_none now.talk.holes now.talk.wants);
+    reported = reported_none now.talk.holes now.talk.wants;
+    moved = moved_by now.talk.holes now.talk.wants now.talk.wants [] (reported_none now.talk.holes now.talk.wants);
     holes = refl;
-    took = takes_none a.output;
+    emitted = takes_none a.output;
     stands = inr refl;
     failures = omega arith;
   };
-  reported = reported_none a;
+  handed_over = handed_over_none a;
 }
 
 stands_behind : (end : FetchEnd) (a b c : Listening) → StandsAt LinkFailed a b → StandsAt end b c → StandsAt end a c
@@ -464,20 +472,21 @@ fetched_both end a b c s t u x y =
     let p : HasFetched LinkFailed a b s.output t.output = x.fetched in
     let q : HasFetched end b c t.output u.output = y.fetched in
     let fine : t.output.failures ≡ s.output.failures = p.failures ∙ omega arith in
-    let took : Took s.output t.output (bytes_in p.records) = all_taken p.records s.output t.output p.took fine in
-    let told : HasTold a.talk.holes a.talk.wants c.talk.wants (p.records ++ q.records) =
-    told_both a.talk.holes a.talk.wants b.talk.wants c.talk.wants p.records q.records p.told
-    (subst (λ (h : Bool). HasTold h b.talk.wants c.talk.wants q.records) p.holes q.told) in record {
+    let emitted : Emitted s.output t.output (bytes_in p.records) =
+    all_taken p.records s.output t.output p.emitted fine in
+    let reported : HasReported a.talk.holes a.talk.wants c.talk.wants (p.records ++ q.records) =
+    reported_both a.talk.holes a.talk.wants b.talk.wants c.talk.wants p.records q.records p.reported
+    (subst (λ (h : Bool). HasReported h b.talk.wants c.talk.wants q.records) p.holes q.reported) in record {
       fetched = record {
         records = p.records ++ q.records;
-        told = told;
-        moved = moved_by a.talk.holes a.talk.wants c.talk.wants (p.records ++ q.records) told;
+        reported = reported;
+        moved = moved_by a.talk.holes a.talk.wants c.talk.wants (p.records ++ q.records) reported;
         holes = q.holes ∙ p.holes;
-        took = takes_both s.output t.output u.output p.records q.records took q.took;
+        emitted = takes_both s.output t.output u.output p.records q.records emitted q.emitted;
         stands = stands_behind end a b c p.stands q.stands;
         failures = omega (arith, p.failures, q.failures);
       };
-      reported = reported_both p.records q.records s t u x.reported fine y.reported;
+      handed_over = handed_over_both p.records q.records s t u x.handed_over fine y.handed_over;
     }
 
 -- no link given back yet

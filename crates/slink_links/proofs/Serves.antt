@@ -33,10 +33,10 @@ turn_fine : (feed : List Window) (old new : Attending) (before after : BytesRead
     → Attends feed old new before after turn → failures_of after new.written ≡ failures_of before old.written
 turn_fine feed old new before after _ (is_closed sends closed same) =
     omega (arith, sends.written.failures, ap (λ (h : BytesRead). h.failures) same)
-turn_fine feed old new before after _ (is_at_end goes told) =
-    omega (arith, goes.sends.written.failures, ap (λ (h : BytesRead). h.failures) told)
-turn_fine feed old new before after _ (replies now bytes goes told some few answered) =
-    omega (arith, goes.sends.written.failures, answered.failures, ap (λ (h : BytesRead). h.failures) told)
+turn_fine feed old new before after _ (is_at_end goes reported) =
+    omega (arith, goes.sends.written.failures, ap (λ (h : BytesRead). h.failures) reported)
+turn_fine feed old new before after _ (replies now bytes goes reported some few answered) =
+    omega (arith, goes.sends.written.failures, answered.failures, ap (λ (h : BytesRead). h.failures) reported)
 
 fault_counted : (feed : List Window) (old new : Attending) (before after : BytesRead) (fault : LinkFault)
     → IsServeFault feed old new before after fault → failures_of after new.written ≡ failures_of before old.written + 1
@@ -44,13 +44,13 @@ fault_counted feed old new before after _ (at_send count fails same) =
     omega (arith, fails.written.failures, ap (λ (h : BytesRead). h.failures) same)
 fault_counted feed old new before after _ (at_read goes failed) =
     omega (arith, goes.sends.written.failures, ap (λ (h : BytesRead). h.failures) failed)
-fault_counted feed old new before after _ (at_reply count now bytes goes told few fails size) =
+fault_counted feed old new before after _ (at_reply count now bytes goes reported few fails size) =
     omega (
       arith,
       goes.sends.written.failures,
       fails.replies.failures,
       fails.written.failures,
-      ap (λ (h : BytesRead). h.failures) told,
+      ap (λ (h : BytesRead). h.failures) reported,
     )
 
 turns_fine : (feed : List Window) (first : Attending) (before : BytesRead) (n : ℕ) (now : Attending) (mid : BytesRead)
@@ -117,8 +117,8 @@ goes_ends (inr (inr (event, e))) = cc
 closes : (feed : List Window) (old new : Attending) (before after : BytesRead) (turn : Turn)
     → Attends feed old new before after turn → Ends turn → turn ≡ Turn.Closed
 closes feed old new before after _ (is_closed sends closed same) ends = refl
-closes feed old new before after _ (is_at_end goes told) ends = refl
-closes feed old new before after _ (replies now bytes goes told some few answered) ends = absurd (goes_ends ends)
+closes feed old new before after _ (is_at_end goes reported) ends = refl
+closes feed old new before after _ (replies now bytes goes reported some few answered) ends = absurd (goes_ends ends)
 
 pub served_end : (feed : List Window) (n : ℕ) (h0 h1 h2 : BytesRead) (s0 s1 s2 : BytesWritten) (now last : Standing)
     (turn : Turn)

@@ -7,9 +7,9 @@ use Rattle.slink_feed.specs.Delivered.{Numbered}
 use Rattle.slink_feed.specs.Dialogue.{Wants}
 use Rattle.slink_feed.specs.Fetching.{Notes}
 use Rattle.slink_feed.specs.Listening.{Listening}
-use Rattle.slink_feed.specs.Told.{AreOf, bytes_in, records_told}
-use Rattle.slink_feed.specs.Turns.{Took}
-use Rattle.slink_feed.proofs.Telling.{told_link}
+use Rattle.slink_feed.specs.Reported.{AreOf, bytes_in, records_reported}
+use Rattle.slink_feed.specs.Turns.{Emitted}
+use Rattle.slink_feed.proofs.Telling.{reported_link}
 use Rattle.slink_links.specs.declared.fetching.FetchEnd.{FetchEnd}
 use Rattle.slink_links.specs.declared.fetching.FetchEnd.TheVariants.{LinkFailed}
 use Rattle.slink_links.specs.Fetched.{Calls, HasBrought, HasFetched, HasPaused, HasTried, HaveFailed, WasFetchedOver}
@@ -41,23 +41,23 @@ behind_most : (n : ℕ) (tries : List Bool) → behind_after n tries ≤ n + len
 behind_most n [] = omega arith
 behind_most n (t ∷ ts) = omega (arith, since_most t n, behind_most (pauses_since t n + 1) ts)
 
--- Whether a link brought a record shows in what the output took.
+-- Whether a link brought a record shows in what the output accepted.
 false_true : false ≡ true → ⊥
 false_true e = cc
 
-brought_of : (received : Bool) (rs : List Numbered) (wants : Wants) (a b : BytesWritten) → Took a b (bytes_in rs)
+brought_of : (received : Bool) (rs : List Numbered) (wants : Wants) (a b : BytesWritten) → Emitted a b (bytes_in rs)
     → Notes false received a b → b.failures ≡ a.failures → AreOf wants rs → HasBrought received rs
-brought_of false [] wants a b took notes fine of = refl
-brought_of true [] wants a b took notes fine of = absurd (elim (notes.yes refl) [
+brought_of false [] wants a b emitted notes fine of = refl
+brought_of true [] wants a b emitted notes fine of = absurd (elim (notes.yes refl) [
   | inl was ↦ false_true was
-  | inr grown ↦ omega (arith, grown, ap length took.bytes, length-append a.bytes [])
+  | inr grown ↦ omega (arith, grown, ap length emitted.bytes, length-append a.bytes [])
 ])
-brought_of true (r ∷ rs) wants a b took notes fine of = refl
-brought_of false (r ∷ rs) wants a b took notes fine of =
+brought_of true (r ∷ rs) wants a b emitted notes fine of = refl
+brought_of false (r ∷ rs) wants a b emitted notes fine of =
     absurd (omega (
       arith,
       ap length (notes.none refl fine),
-      ap length took.bytes,
+      ap length emitted.bytes,
       length-append a.bytes (r.bytes ++ bytes_in rs),
       length-append r.bytes (bytes_in rs),
       of.0,
@@ -65,11 +65,11 @@ brought_of false (r ∷ rs) wants a b took notes fine of =
 
 brought_by : (end : FetchEnd) (received : Bool) (old new : Listening) (link : Exchange) (a b : BytesWritten)
     (over : WasFetchedOver end old new link a b) → b.failures ≡ a.failures → Notes false received a b
-    → HasBrought received (records_told over.read.told)
+    → HasBrought received (records_reported over.read.reported)
 brought_by end received old new link a b over fine notes =
-    brought_of received (records_told over.read.told) over.read.begun.talk.wants a b
-    (all_taken (records_told over.read.told) a b over.read.took fine) notes fine
-    (told_link over.read.begun.talk over.read.bytes over.read.told new over.read.reads).are_of
+    brought_of received (records_reported over.read.reported) over.read.begun.talk.wants a b
+    (all_taken (records_reported over.read.reported) a b over.read.emitted fine) notes fine
+    (reported_link over.read.begun.talk over.read.bytes over.read.reported new over.read.reads).are_of
 
 -- a try over a link that was had
 pub tried_over : (end : FetchEnd) (received : Bool) (old new : Listening) (link : Exchange)
@@ -99,7 +99,7 @@ pub record AreTried (old now : Listening) (a b : BytesWritten) (before after : C
   pub failed : HaveFailed tries old now links a b
   pub dials : after.dials ≡ before.dials + length tries
   pub given_back : after.given_back ≡ before.given_back ++ links
-  pub asked : after.asked ≡ before.asked ++ pauses_from 0 tries
+  pub called : after.called ≡ before.called ++ pauses_from 0 tries
   pub counted : count ≡ behind_after 0 tries
 
 pub nothing_tried : (now : Listening) (written : BytesWritten) (calls : Calls)
@@ -110,7 +110,7 @@ nothing_tried now written calls = record {
   failed = none now written;
   dials = omega arith;
   given_back = sym (append-nil calls.given_back);
-  asked = sym (append-nil calls.asked);
+  called = sym (append-nil calls.called);
   counted = refl;
 }
 
@@ -121,18 +121,18 @@ few_counted old now a b before after count p = omega (arith, p.counted, p.dials,
 pub tried_more : (received : Bool) (old now new : Listening) (a b c : BytesWritten) (before mid after : Calls)
     (count next : ℕ) → AreTried old now a b before mid count
     → HasTried LinkFailed received now new mid.given_back after.given_back b c → after.dials ≡ mid.dials + 1
-    → after.asked ≡ mid.asked ++ pause_behind (pauses_since received count) ∷ []
+    → after.called ≡ mid.called ++ pause_behind (pauses_since received count) ∷ []
     → next ≡ pauses_since received count + 1 → AreTried old new a c before after next
-tried_more received old now new a b c before mid after count next p q dials asked is = record {
+tried_more received old now new a b c before mid after count next p q dials called is = record {
   tries = p.tries ++ received ∷ [];
   links = p.links ++ q.links;
   failed = one_more p.tries received old now new p.links q.links a b c p.failed q.tried;
   dials = omega (arith, dials, p.dials, length-append p.tries (received ∷ []));
   given_back = q.given_back ∙ (ap (λ xs. xs ++ q.links) p.given_back
       ∙ append_assoc before.given_back p.links q.links);
-  asked = asked ∙ (ap (λ xs. xs ++ pause_behind (pauses_since received count) ∷ []) p.asked
-      ∙ (append_assoc before.asked (pauses_from 0 p.tries) (pause_behind (pauses_since received count) ∷ [])
-      ∙ ap (λ xs. before.asked ++ xs)
+  called = called ∙ (ap (λ xs. xs ++ pause_behind (pauses_since received count) ∷ []) p.called
+      ∙ (append_assoc before.called (pauses_from 0 p.tries) (pause_behind (pauses_since received count) ∷ [])
+      ∙ ap (λ xs. before.called ++ xs)
       (ap (λ n. pauses_from 0 p.tries ++ pause_behind (pauses_since received n) ∷ []) p.counted
       ∙ sym (pauses_more 0 p.tries received))));
   counted = is ∙ (ap (λ n. pauses_since received n + 1) p.counted ∙ sym (behind_more 0 p.tries received));
@@ -141,9 +141,9 @@ tried_more received old now new a b c before mid after count next p q dials aske
 pub tried_last : (end : FetchEnd) (received : Bool) (old now new : Listening) (a b c : BytesWritten)
     (before mid after : Calls) (count : ℕ) → AreTried old now a b before mid count
     → HasTried end received now new mid.given_back after.given_back b c → after.dials ≡ mid.dials + 1
-    → after.asked ≡ mid.asked → HasPaused end old new a c before after
-tried_last end received old now new a b c before mid after count p q dials asked =
+    → after.called ≡ mid.called → HasPaused end old new a c before after
+tried_last end received old now new a b c before mid after count p q dials called =
     tried p.tries received now b p.links q.links p.failed q.tried
     (omega (arith, dials, p.dials))
     (q.given_back ∙ (ap (λ xs. xs ++ q.links) p.given_back ∙ append_assoc before.given_back p.links q.links))
-    (asked ∙ p.asked)
+    (called ∙ p.called)

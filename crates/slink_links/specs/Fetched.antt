@@ -1,4 +1,4 @@
--- How fetching over one link after another ends, and what the output took by then.
+-- How fetching over one link after another ends, and what the output accepted by then.
 use Rattle.std.specs.Prelude.{◌≡◌, ◌⊎◌, ℕ, ◌+◌, ◌%◌, ◌^◌, ◌<◌, ◌≤◌, Bool, true, false, List, ◌∷◌, ◌++◌, [], length}
 use Rattle.std.specs.Prelude.{Option, Some, None}
 use Rattle.std.specs.Prelude.{Result, Ok, Err, IfOk, IfErr, codes}
@@ -18,10 +18,10 @@ use Rattle.slink_feed.specs.Delivered.{Numbered}
 use Rattle.slink_feed.specs.Dialogue.{Talk, Wants, next_at, says_place}
 use Rattle.slink_feed.specs.Fetching.{Fetches, Fetching, IsFetchFault, ReadsOn, fetching, line_written}
 use Rattle.slink_feed.specs.Listening.{IsLinked, Listening, Reads}
-use Rattle.slink_feed.specs.Reports.{AreReported, Kept, TakesRecords}
-use Rattle.slink_feed.specs.Teller.{AreTold, lines_of, next_line_of, telling_behind, telling_of, wants_left}
-use Rattle.slink_feed.specs.Told.{HasTold, numbers_at, records_told}
-use Rattle.slink_feed.specs.Turns.{Took, TookPrefix}
+use Rattle.slink_feed.specs.Reports.{AreHandedOver, Kept, TakesRecords}
+use Rattle.slink_feed.specs.Teller.{AreReported, lines_of, next_line_of, telling_behind, telling_of, wants_left}
+use Rattle.slink_feed.specs.Reported.{HasReported, numbers_at, records_reported}
+use Rattle.slink_feed.specs.Turns.{Emitted, EmittedPrefix}
 use Rattle.slink_links.specs.declared.fetching.FetchEnd.{FetchEnd}
 use Rattle.slink_links.specs.declared.fetching.FetchEnd.TheVariants.{Done, Refused, BadFeed, WriteFailed, LinkFailed}
 use Rattle.mseed_stream.specs.Telling.{Tells}
@@ -88,20 +88,20 @@ TellsOfFetch BadFeed old new = Tells (codes "mseed: bad feed\n") old new
 TellsOfFetch WriteFailed old new = Tells (codes "mseed: write failed\n") old new
 TellsOfFetch LinkFailed old new = Tells (codes "mseed: link failed\n") old new
 
--- Links were fetched over, up to an end: a client told of these records, and the output took them.
+-- Links were fetched over, up to an end: a client reported these records, and the output accepted them.
 pub record HasFetched (end : FetchEnd) (old new : Listening) (written_old written_new : BytesWritten) : Type 0 where
   pub records : List Numbered
-  pub told : HasTold old.talk.holes old.talk.wants new.talk.wants records
+  pub reported : HasReported old.talk.holes old.talk.wants new.talk.wants records
   pub moved : HaveMoved old.talk.holes old.talk.wants new.talk.wants records
   pub holes : new.talk.holes ≡ old.talk.holes
-  pub took : TakesRecords records written_old written_new
+  pub emitted : TakesRecords records written_old written_new
   pub stands : StandsAt end old new
   pub failures : written_new.failures ≡ written_old.failures + output_failures end
 
--- Links were fetched over so, and standard error was told of the records before the output took them.
+-- Links were fetched over so, and standard error was informed of the records before the output accepted them.
 pub record FetchesTelling (end : FetchEnd) (old new : Listening) (before after : Kept) : Type 0 where
   pub fetched : HasFetched end old new before.output after.output
-  pub reported : AreReported fetched.records before after
+  pub handed_over : AreHandedOver fetched.records before after
 
 -- whether the last record wasn't taken whole
 abbrev pub is_unwritten : FetchEnd → Bool
@@ -111,7 +111,7 @@ is_unwritten BadFeed = false
 is_unwritten WriteFailed = true
 is_unwritten LinkFailed = false
 
--- the words of a fetch that goes on, where they are asked for
+-- the words of a fetch that goes on, where they are requested
 abbrev pub next_lines : Bool → Wants → List (List ℕ)
 next_lines false wants = []
 next_lines true wants = next_line_of wants ∷ []
@@ -121,15 +121,15 @@ abbrev pub left_behind : Bool → FetchEnd → List Numbered → Wants → Wants
 left_behind firsts end records old new =
     wants_left (is_unwritten end) (telling_behind (telling_of old firsts) records).last new
 
--- Standard error took the lines of these records, each before the output took a byte of it; then the line that says how
--- the fetch ended; and at last, where the first records are told of, the words of a fetch that goes on.
+-- Standard error accepted the lines of these records, each before the output accepted a byte of it; then the line that
+-- says how the fetch ended; and at last, where the first records are reported, the words of a fetch that goes on.
 pub record TellsOfAll (firsts : Bool) (end : FetchEnd) (records : List Numbered) (old new : Wants)
     (before after : BytesWritten) : Type 0 where
-  pub told : BytesWritten
+  pub reported : BytesWritten
   pub ended : BytesWritten
-  pub lines : AreTold (lines_of (telling_of old firsts) records) before told
-  pub end_line : TellsOfFetch end told ended
-  pub next : AreTold (next_lines firsts (left_behind firsts end records old new)) ended after
+  pub lines : AreReported (lines_of (telling_of old firsts) records) before reported
+  pub end_line : TellsOfFetch end reported ended
+  pub next : AreReported (next_lines firsts (left_behind firsts end records old new)) ended after
 
 -- how a fetch ends by the event at which a client stopped
 abbrev pub stopped_by : Event → FetchEnd
@@ -161,20 +161,20 @@ abbrev pub failures_by : Option FetchEnd → ℕ
 failures_by None = 0
 failures_by (Some end) = output_failures end
 
--- Of what a link told meanwhile these bytes were taken: all of it while there is no end, and else a prefix.
+-- Of what a link gave meanwhile these bytes were taken: all of it while there is no end, and else a prefix.
 pub record AreTaken (end : Option FetchEnd) (bytes : List ℕ) (read_old read_new : BytesRead) : Type 0 where
   pub prefix : IsPrefixOf (read_old.bytes ++ bytes) read_new.bytes
   pub whole : end ≡ None → read_new.bytes ≡ read_old.bytes ++ bytes
 
--- Turns were taken with a link, up to an end or not: a client read on by what the link told, and the output took the
--- records that it told of.
+-- Turns were taken with a link, up to an end or not: a client read on by what the link gave, and the output accepted
+-- the records that it reported.
 pub record HasTurned (end : Option FetchEnd) (old new : Listening) (read_old read_new : BytesRead)
     (written_old written_new : BytesWritten) : Type 0 where
   pub bytes : List ℕ
   pub taken : AreTaken end bytes read_old read_new
-  pub told : List Event
-  pub reads : ReadsOn old bytes told new
-  pub took : TakesRecords (records_told told) written_old written_new
+  pub reported : List Event
+  pub reads : ReadsOn old bytes reported new
+  pub emitted : TakesRecords (records_reported reported) written_old written_new
   pub stands : StandsBy end old new
   pub failures : written_new.failures ≡ written_old.failures + failures_by end
 
@@ -183,7 +183,7 @@ abbrev pub IsReading : Listening → Type 0
 IsReading now = (start : Talk) × (stream : List ℕ) × (events : List Event) × Reads start stream events now
 
 -- A link was fetched over: a client begins on it, reads a prefix of what came over it, and tells of these events, whose
--- records the output took.
+-- records the output accepted.
 pub record HasReadLink (old new : Listening) (read_old read_new : BytesRead)
     (written_old written_new : BytesWritten) : Type 0 where
   pub begun : Listening
@@ -191,9 +191,9 @@ pub record HasReadLink (old new : Listening) (read_old read_new : BytesRead)
   pub begins : says_place 0 old.talk ≡ (begun.talk, line)
   pub bytes : List ℕ
   pub prefix : IsPrefixOf (read_old.bytes ++ bytes) read_new.bytes
-  pub told : List Event
-  pub reads : Reads begun.talk bytes told new
-  pub took : TakesRecords (records_told told) written_old written_new
+  pub reported : List Event
+  pub reads : Reads begun.talk bytes reported new
+  pub emitted : TakesRecords (records_reported reported) written_old written_new
 
 -- A turn was taken with a link, by which the fetch ends so, or goes on.
 pub record IsTurnBy (end : Option FetchEnd) (old new : Fetching) (before after : BytesRead) : Type 0 where
@@ -226,11 +226,11 @@ pub data IsFetchedOver (old : Fetching) (before : BytesRead) : FetchEnd → Fetc
   by_turns : (end : FetchEnd) (begun : Listening) (line : Event) (written : BytesWritten) (new : Fetching)
       (after : BytesRead)
       → Begins old.client begun line
-      → Took old.written written (line_written line)
+      → Emitted old.written written (line_written line)
       → HasTakenAll (fetching begun written old.output) before end new after
       → IsFetchedOver old before end new after
   unwritten : (begun : Listening) (line : Event) (written : BytesWritten) (count : ℕ) → Begins old.client begun line
-      → TookPrefix old.written written (line_written line) count
+      → EmittedPrefix old.written written (line_written line) count
       → IsFetchedOver old before LinkFailed (fetching begun written old.output) before
 
 -- A link was fetched over from its first byte on: what came over it was read, and turns were taken with it up to the
@@ -266,12 +266,12 @@ HasBrought received [] = received ≡ false
 HasBrought received (r ∷ rs) = received ≡ true
 
 -- One try: its dial failed; or a link was had and fetched over, which brought a record or didn't. Where the fetch ends
--- by it, that isn't asked.
+-- by it, that isn't called.
 pub data IsTry (end : FetchEnd) (received : Bool) (old new : Listening) (a b : BytesWritten) : List Exchange → Type 0
   where
     undialled : end ≡ LinkFailed → received ≡ false → new ≡ old → b ≡ a → IsTry end received old new a b []
     dialled : (link : Exchange) (over : WasFetchedOver end old new link a b)
-        → (end ≡ LinkFailed → HasBrought received (records_told over.read.told))
+        → (end ≡ LinkFailed → HasBrought received (records_reported over.read.reported))
         → IsTry end received old new a b (link ∷ [])
 
 -- A try, whose link was given back behind those before.
@@ -293,10 +293,10 @@ pub data HaveFailed : List Bool → Listening → Listening → List Exchange �
 pub record Calls : Type 0 where
   pub dials : ℕ
   pub given_back : List Exchange
-  pub asked : List ℕ
+  pub called : List ℕ
 
 abbrev pub calls_of : ℕ → List Exchange → List ℕ → Calls
-calls_of dials given_back asked = record { dials = dials; given_back = given_back; asked = asked }
+calls_of dials given_back called = record { dials = dials; given_back = given_back; called = called }
 
 -- No try was made; or tries that failed, behind each of which was paused, and a last one.
 pub data HasPaused (end : FetchEnd) (old new : Listening) (a b : BytesWritten) (before after : Calls) : Type 0 where
@@ -306,4 +306,4 @@ pub data HasPaused (end : FetchEnd) (old new : Listening) (a b : BytesWritten) (
       → HaveFailed tries old now links a written → IsTry end received now new written b others
       → after.dials ≡ before.dials + length tries + 1
       → after.given_back ≡ before.given_back ++ (links ++ others)
-      → after.asked ≡ before.asked ++ pauses_from 0 tries → HasPaused end old new a b before after
+      → after.called ≡ before.called ++ pauses_from 0 tries → HasPaused end old new a b before after

@@ -62,8 +62,8 @@ pub record HasServedEach (feed : List Window) (before after : List Exchange) : T
   pub given_back : after ≡ before ++ links
   pub served : All (WasServed feed) links
 
--- the exit status, and what standard error took
-pub data HasServed (status : ℕ) (told_old told_new : BytesWritten) : Type 0 where
-  all_went_well : status ≡ 0 → told_new ≡ told_old → HasServed status told_old told_new
-  something_failed : status ≡ 2 → Tells (codes "mseed: link failed\n") told_old told_new
-      → HasServed status told_old told_new
+-- the exit status, and what standard error accepted
+pub data HasServed (status : ℕ) (reported_old reported_new : BytesWritten) : Type 0 where
+  all_went_well : status ≡ 0 → reported_new ≡ reported_old → HasServed status reported_old reported_new
+  something_failed : status ≡ 2 → Tells (codes "mseed: link failed\n") reported_old reported_new
+      → HasServed status reported_old reported_new

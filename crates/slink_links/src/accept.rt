@@ -7,7 +7,7 @@ ghost use Rattle.slink_links.specs.Served.{has_failed};
 
 use crate::settle::Settle;
 
-/// Where links come from, one after another: each is given back before the next one is asked for.
+/// Where links come from, one after another: each is given back before the next one is requested.
 pub trait Accept {
     type Link: Settle + Drop;
 
@@ -33,10 +33,10 @@ pub trait Accept {
         ensures unread { IfSome result (λ link. Self.Link.Source.read link ≡ nothing_read) }
         ensures unwritten { IfSome result (λ link. Self.Link.Sink.written link ≡ nothing_written) };
 
-    /// Takes a link back and closes it, and is told whether it failed.
+    /// Takes a link back and closes it, and is informed whether it failed.
     fn hang_up(&mut self, link: Self::Link, failed: bool)
         requires out { AreOut 1 (calls self.old) (failures self.old) (given_back self.old) }
-        requires told { failed ≡ has_failed (Self.Link.Source.read link) (Self.Link.Sink.written link) }
+        requires reported { failed ≡ has_failed (Self.Link.Source.read link) (Self.Link.Sink.written link) }
         ensures lost { lost self.new ≡ lost self.old + (if failed then 1 else 0) }
         ensures given_back { given_back self.new
             ≡ given_back self.old ++ exchange (Self.Link.Source.read link) (Self.Link.Sink.written link) ∷ [] }

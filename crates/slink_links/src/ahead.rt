@@ -8,13 +8,13 @@ use std::marker::Model;
 /// So many bytes are read at once, where they are there.
 const ROOM: usize = 1 << 15;
 
-/// A stream of which all that is there is read at once, and told piece by piece. It isn't asked while something is left
-/// to tell, so that a client that takes a packet at a time costs the system one read for many.
+/// A stream of which all that is there is read at once, and handed on piece by piece. It isn't called while something
+/// is left to tell, so that a client that takes a packet at a time costs the system one read for many.
 #[derive(Drop)]
 pub(crate) struct Ahead<S> {
     stream: S,
     bytes: [u8; ROOM],
-    told: usize,
+    reported: usize,
     count: usize,
 }
 
@@ -25,7 +25,7 @@ impl<S> Model for Ahead<S> {
 
     ghost view = { λ a. a.stream };
 
-    ghost invariant = { λ a. (a.told ≤ a.count) × (a.count ≤ 32768) };
+    ghost invariant = { λ a. (a.reported ≤ a.count) × (a.count ≤ 32768) };
 }
 
 impl<S> Ahead<S> {
@@ -36,7 +36,7 @@ impl<S> Ahead<S> {
         Ahead {
             stream,
             bytes: [0; ROOM],
-            told: 0,
+            reported: 0,
             count: 0,
         }
     }
@@ -51,15 +51,15 @@ impl<S> Ahead<S> {
 
 impl<S: Read> Read for Ahead<S> {
     fn read(&mut self, buf: &mut [u8]) -> io::Result<usize> {
-        if self.told == self.count {
+        if self.reported == self.count {
             let count = self.stream.read(&mut self.bytes)?;
-            self.told = 0;
+            self.reported = 0;
             self.count = count;
         }
-        let held = &self.bytes[self.told..self.count];
+        let held = &self.bytes[self.reported..self.count];
         let n = held.len().min(buf.len());
         buf[..n].copy_from_slice(&held[..n]);
-        self.told += n;
+        self.reported += n;
         Ok(n)
     }
 }

@@ -15,7 +15,7 @@ const PATIENCE: u64 = 2;
 /// The bytes that one read has room for.
 const ROOM: usize = 1024;
 
-/// Closes a stream once the other side has closed it, or has said many bytes more, or was given time to. The system
+/// Closes a stream once the other side has closed it, or has sent many bytes more, or was given time to. The system
 /// resets a stream that is closed while a byte of it is unread, or to which one comes later, and then drops what
 /// the other side hasn't received.
 pub(crate) fn close<C: Clock, S: Read + OpenStream + Drop>(clock: &C, mut stream: S) {

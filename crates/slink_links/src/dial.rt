@@ -6,7 +6,7 @@ ghost use Rattle.slink_links.specs.Out.{AreOut};
 
 use crate::settle::Settle;
 
-/// Where links are asked for, one after another: each is given back before the next one is asked for.
+/// Where links are requested, one after another: each is given back before the next one is requested.
 pub trait Dial {
     type Link: Settle + Drop;
 

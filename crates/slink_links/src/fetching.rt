@@ -5,7 +5,7 @@ ghost use Rattle.slink_feed.specs.declared.dialogue.Stage.{Stage};
 ghost use Rattle.slink_feed.specs.Fetching.{Notes, fetching};
 ghost use Rattle.slink_feed.specs.Listening.{IsLinked};
 ghost use Rattle.slink_feed.specs.Reports.{Reports, kept};
-ghost use Rattle.slink_feed.specs.Teller.{AreTold, wants_left};
+ghost use Rattle.slink_feed.specs.Teller.{AreReported, wants_left};
 ghost use Rattle.slink_links.specs.Fetched.{HasDialled, HasFetched, HasReadEach, HasReadLink, HasTakenAll, HasTurned};
 ghost use Rattle.slink_links.specs.Out.{AreOut};
 ghost use Rattle.slink_links.specs.Fetched.{HasPaused, IsFetchedOver, IsReading, IsTurnBy, TellsOfFetch, calls_of};
@@ -24,7 +24,7 @@ use std::io::sink;
 /// How a fetch ended.
 #[derive(Clone, Copy, Debug, PartialEq, Eq)]
 pub enum FetchEnd {
-    /// The server said `END`: that it has sent all that was asked for.
+    /// The server sent `END`: that it has sent all that was requested.
     Done,
     /// The server refused a place.
     Refused,
@@ -36,8 +36,8 @@ pub enum FetchEnd {
     LinkFailed,
 }
 
-/// Fetches over one link after another, at most so many, until the server says that it has sent all that was asked for,
-/// and gives each back. A `dial` that fails uses up a try. Each record goes to the output as soon as it is told of.
+/// Fetches over one link after another, at most so many, until the server says that it has sent all that was requested,
+/// and gives each back. A `dial` that fails uses up a try. Each record goes to the output as soon as it is reported.
 /// Behind each try but the last it waits by `waits`: a tenth of a second, and then twice as long each time, up to five
 /// seconds; a received record begins anew.
 ///
@@ -56,7 +56,7 @@ pub fn fetch_all<D: Dial, P: Pause, W: Sink, E: Sink>(
     requires { AreOut 0 (D.calls dialler.old) (D.failures dialler.old) (D.given_back dialler.old) }
     ensures dials { D.calls dialler.new ≤ D.calls dialler.old + tries }
     ensures done { result ≡ 0 → client.new.talk.stage ≡ Stage.Ended Ending.End }
-    // What the client told of went to the output, and the status and the line are by how it ended. Each link was
+    // What the client reported went to the output, and the status and the line are by how it ended. Each link was
     // fetched over before it was given back, one behind another, and all but the last one failed. Between the tries it
     // paused, by which of them brought a record.
     ensures end { (end : FetchEnd)
@@ -68,9 +68,9 @@ pub fn fetch_all<D: Dial, P: Pause, W: Sink, E: Sink>(
         × TellsOfAll tell_next end fetched.records client.old.talk.wants client.new.talk.wants (E.written errors.old)
         (E.written errors.new)
         × HasPaused end client.old client.new (W.written output.old) (W.written output.new)
-        (calls_of (D.calls dialler.old) (D.given_back dialler.old) (P.asked waits.old))
-        (calls_of (D.calls dialler.new) (D.given_back dialler.new) (P.asked waits.new)) }
-    // Where nothing more is asked for, standard error takes the line of the end alone.
+        (calls_of (D.calls dialler.old) (D.given_back dialler.old) (P.called waits.old))
+        (calls_of (D.calls dialler.new) (D.given_back dialler.new) (P.called waits.new)) }
+    // Where nothing more is requested, standard error takes the line of the end alone.
     ensures quiet { tell_next ≡ false → client.old.talk.holes ≡ false
         → (end : FetchEnd) × (result ≡ fetch_status end)
         × TellsOfFetch end (E.written errors.old) (E.written errors.new) }
@@ -84,19 +84,19 @@ pub fn fetch_all<D: Dial, P: Pause, W: Sink, E: Sink>(
     fetch_status(end)
 }
 
-/// Tells the words of a fetch that goes on, where they are asked for.
+/// Tells the words of a fetch that goes on, where they are requested.
 fn tell_next_of<E: Sink>(
-    is_asked: bool,
+    is_called: bool,
     teller: &Teller,
     client: &Client,
     end: FetchEnd,
     errors: &mut E,
 )
-    ensures { AreTold (next_lines is_asked
+    ensures { AreReported (next_lines is_called
         (wants_left (is_unwritten end) teller.now.telling.last client.now.talk.wants)) (E.written errors.old)
         (E.written errors.new) }
 {
-    if is_asked {
+    if is_called {
         teller.tell_next(client, is_unwritten(end), errors);
     }
 }
@@ -154,8 +154,8 @@ fn fetch_links<D: Dial, P: Pause, W: Sink, E: Sink>(
     ensures read { HasReadEach result client.old client.new (D.given_back dialler.old) (D.given_back dialler.new)
         (W.written output.old) (W.written output.new) }
     ensures paused { HasPaused result client.old client.new (W.written output.old) (W.written output.new)
-        (calls_of (D.calls dialler.old) (D.given_back dialler.old) (P.asked waits.old))
-        (calls_of (D.calls dialler.new) (D.given_back dialler.new) (P.asked waits.new)) }
+        (calls_of (D.calls dialler.old) (D.given_back dialler.old) (P.called waits.old))
+        (calls_of (D.calls dialler.new) (D.given_back dialler.new) (P.called waits.new)) }
 {
     if tries == 0 {
         return FetchEnd::LinkFailed;
@@ -217,8 +217,8 @@ pub fn fetch_link<S: Settle, W: Sink>(client: &mut Client, link: &mut S, output:
     fetch_link_telling(client, link, output, &mut nowhere, &mut teller)
 }
 
-/// Fetches over one link as [`fetch_link`], tells of each record before it is written, and notes that the output took
-/// one.
+/// Fetches over one link as [`fetch_link`], tells of each record before it is written, and notes that the output
+/// accepted one.
 fn fetch_link_telling<S: Settle, W: Sink, E: Sink>(
     client: &mut Client,
     link: &mut S,

@@ -12,7 +12,7 @@ const PACKET: usize = 520;
 const ROOM: usize = 63 * PACKET;
 
 /// A stream that gathers packets. They are written before anything shorter is, before the stream is read, and before a
-/// packet for which there is no room, which then goes out at once. An error in writing them is told at that call.
+/// packet for which there is no room, which then goes out at once. An error in writing them is reported at that call.
 #[derive(Drop)]
 pub(crate) struct Gathering<S> {
     stream: S,

@@ -36,7 +36,7 @@ fn padded<const N: usize>(text: &[u8]) -> [u8; N]
     bytes
 }
 
-/// A name that the system is asked for: at most 253 bytes.
+/// A name that the system is called for: at most 253 bytes.
 #[derive(Clone, Copy)]
 pub struct Name {
     bytes: [u8; LONGEST],

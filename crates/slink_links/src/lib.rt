@@ -1,4 +1,4 @@
-//! The feed of SeedLink 3 over one link after another: serving it to as many connections as are asked for, fetching
+//! The feed of SeedLink 3 over one link after another: serving it to as many connections as are requested, fetching
 //! over as many tries, and TCP.
 //!
 //! [`serve_all`] takes its links from an [`Accept`], and [`fetch_all`] from a [`Dial`]; each gives every link back, and

@@ -8,37 +8,37 @@ use std::time::{Clock, Duration};
 
 /// What waits.
 pub trait Pause {
-    // How long it was asked to wait so far, in tenths of a second, in order.
-    ghost asked: { Self → List ℕ };
+    // How long it was to wait so far, in tenths of a second, in order.
+    ghost called: { Self → List ℕ };
 
     /// Waits for so many tenths of a second.
     fn pause(&mut self, tenths: u8)
-        ensures { asked self.new ≡ asked self.old ++ tenths ∷ [] };
+        ensures { called self.new ≡ called self.old ++ tenths ∷ [] };
 }
 
 /// Waits by a clock.
 #[derive(Drop)]
 pub(crate) struct Sleeper<'a, C: Clock> {
     clock: &'a C,
-    asked: Tally,
+    called: Tally,
 }
 
 impl<'a, C: Clock> Sleeper<'a, C> {
-    /// It was asked for nothing yet.
+    /// It had no call yet.
     pub(crate) fn new(clock: &'a C) -> Sleeper<'a, C> {
         Sleeper {
             clock,
-            asked: Tally::new(),
+            called: Tally::new(),
         }
     }
 }
 
 impl<C: Clock> Pause for Sleeper<'_, C> {
-    ghost asked = { λ s. s.asked.bytes };
+    ghost called = { λ s. s.called.bytes };
 
     fn pause(&mut self, tenths: u8) {
         thread::sleep(self.clock, Duration::from_millis(u64::from(tenths) * 100));
-        self.asked.record(&[tenths], false);
+        self.called.record(&[tenths], false);
     }
 }
 
@@ -62,7 +62,7 @@ fn pause_behind(count: usize) -> u8
 /// next one comes.
 pub(crate) fn wait_behind<P: Pause>(received: bool, count: usize, waits: &mut P) -> usize
     requires { count + 1 < 2 ^ 64 }
-    ensures asked { P.asked waits.new ≡ P.asked waits.old ++ pause_behind (pauses_since received count) ∷ [] }
+    ensures called { P.called waits.new ≡ P.called waits.old ++ pause_behind (pauses_since received count) ∷ [] }
     ensures next { result ≡ pauses_since received count + 1 }
 {
     let count = if received { 0 } else { count };

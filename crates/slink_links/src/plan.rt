@@ -29,8 +29,8 @@ pub struct FetchPlan {
     pub tries: u32,
     /// How long the server may be silent.
     pub timeout: Timeout,
-    /// Whether standard error is told of the first record of each place and, at the end, of what is wanted next.
+    /// Whether standard error is informed of the first record of each place and, at the end, of what is wanted next.
     pub tell_next: bool,
-    /// A new client, for the places that were asked for.
+    /// A new client, for the places that were requested.
     pub client: Client,
 }

@@ -26,7 +26,7 @@ pub fn serve_planned<B: Allocator, A: Accept, E: Sink>(
     ensures accepts { A.calls acceptor.new ≡ A.calls acceptor.old + plan.now.connections }
     ensures fine { result ≡ 0
         ↔ (A.failures acceptor.new ≡ A.failures acceptor.old) × (A.lost acceptor.new ≡ A.lost acceptor.old) }
-    ensures told { HasServed result (E.written errors.old) (E.written errors.new) }
+    ensures reported { HasServed result (E.written errors.old) (E.written errors.new) }
     ensures out { AreOut 0 (A.calls acceptor.new) (A.failures acceptor.new) (A.given_back acceptor.new) }
     ensures served { HasServedEach plan.now.feed (A.given_back acceptor.old) (A.given_back acceptor.new) }
 {
@@ -53,9 +53,9 @@ pub fn fetch_planned<D: Dial, P: Pause, W: Sink, E: Sink>(
         × TellsOfAll plan.old.tell_next end fetched.records plan.old.client.talk.wants plan.new.client.talk.wants
         (E.written errors.old) (E.written errors.new)
         × HasPaused end plan.old.client plan.new.client (W.written output.old) (W.written output.new)
-        (calls_of (D.calls dialler.old) (D.given_back dialler.old) (P.asked waits.old))
-        (calls_of (D.calls dialler.new) (D.given_back dialler.new) (P.asked waits.new)) }
-    // Where nothing more is asked for, standard error takes the line of the end alone.
+        (calls_of (D.calls dialler.old) (D.given_back dialler.old) (P.called waits.old))
+        (calls_of (D.calls dialler.new) (D.given_back dialler.new) (P.called waits.new)) }
+    // Where nothing more is requested, standard error takes the line of the end alone.
     ensures quiet { plan.old.tell_next ≡ false → plan.old.client.talk.holes ≡ false
         → (end : FetchEnd) × (result ≡ fetch_status end)
         × TellsOfFetch end (E.written errors.old) (E.written errors.new) }

@@ -28,7 +28,7 @@ pub fn serve_all<B: Allocator, A: Accept, E: Sink>(
     ensures accepts { A.calls acceptor.new ≡ A.calls acceptor.old + connections }
     ensures fine { result ≡ 0
         ↔ (A.failures acceptor.new ≡ A.failures acceptor.old) × (A.lost acceptor.new ≡ A.lost acceptor.old) }
-    ensures told { HasServed result (E.written errors.old) (E.written errors.new) }
+    ensures reported { HasServed result (E.written errors.old) (E.written errors.new) }
     // Each link was given back before the next connection, and was served by then.
     ensures out { AreOut 0 (A.calls acceptor.new) (A.failures acceptor.new) (A.given_back acceptor.new) }
     ensures served { HasServedEach feed.now (A.given_back acceptor.old) (A.given_back acceptor.new) }

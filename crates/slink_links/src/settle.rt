@@ -1,10 +1,10 @@
-//! A link that is told when its handshake is over.
+//! A link that is informed when its handshake is over.
 
 use mseed_stream::Duplex;
 
-/// A link that is told when its handshake is over, so that it can bound the time that one takes. Nothing is read or
+/// A link that is informed when its handshake is over, so that it can bound the time that one takes. Nothing is read or
 /// written by it.
 pub trait Settle: Duplex {
-    /// The client has said all that it has to say, and packets are sent. It may be told more than once.
+    /// The client has sent all that it has to say, and packets are sent. It may be reported more than once.
     fn settle(&self) {}
 }

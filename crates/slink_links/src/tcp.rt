@@ -38,7 +38,7 @@ fn socket_of(address: Address, port: u16) -> SocketAddr {
     SocketAddr::from((Ipv4Addr::from(address.octets), port))
 }
 
-/// A new stream with its bounds. Its bytes go out at once, where the stream can be told so.
+/// A new stream with its bounds. Its bytes go out at once, where the stream can be made so.
 ///
 /// # Errors
 ///
@@ -203,7 +203,7 @@ impl<'a, N: Net + Clock> Listening<'a, N> {
     fn next_link(&self) -> io::Result<Counted<Gathering<Patient<'a, N, N::Stream>>>>
         ensures { IfOk result (λ link. (read_by link ≡ nothing_read) × (written_by link ≡ nothing_written)) }
     {
-        // A client that has said all may be silent for as long as it likes.
+        // A client that has sent all may be silent for as long as it likes.
         let limits = Limits {
             all: self.timeout.limit(),
             reads: None,
@@ -348,7 +348,7 @@ pub fn fetch<N: Net + Clock, W: Sink, E: Sink>(
         × (result ≡ fetch_status end)
         × TellsOfAll plan.old.tell_next end fetched.records plan.old.client.talk.wants plan.new.client.talk.wants
         (E.written errors.old) (E.written errors.new) }
-    // Where nothing more is asked for, standard error takes the line of the end alone.
+    // Where nothing more is requested, standard error takes the line of the end alone.
     ensures quiet { plan.old.tell_next ≡ false → plan.old.client.talk.holes ≡ false
         → (end : FetchEnd) × (result ≡ fetch_status end)
         × TellsOfFetch end (E.written errors.old) (E.written errors.new) }

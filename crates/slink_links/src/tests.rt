@@ -24,15 +24,15 @@ pub(crate) const ALL: usize = 1 << 20;
 /// Tells its bytes, and takes bytes while there is room; then it fails.
 #[derive(Drop)]
 pub(crate) struct Pipe<'a> {
-    told: &'a [u8],
+    reported: &'a [u8],
     room: usize,
     taken: Vec<u8>,
 }
 
 impl<'a> Pipe<'a> {
-    pub(crate) fn new(alloc: Global, told: &'a [u8], room: usize) -> Pipe<'a> {
+    pub(crate) fn new(alloc: Global, reported: &'a [u8], room: usize) -> Pipe<'a> {
         Pipe {
-            told,
+            reported,
             room,
             taken: Vec::new(alloc),
         }
@@ -41,10 +41,10 @@ impl<'a> Pipe<'a> {
 
 impl Read for Pipe<'_> {
     fn read(&mut self, buf: &mut [u8]) -> io::Result<usize> {
-        let n = self.told.len().min(buf.len());
-        let (told, rest) = self.told.split_at(n);
-        buf[..n].copy_from_slice(told);
-        self.told = rest;
+        let n = self.reported.len().min(buf.len());
+        let (reported, rest) = self.reported.split_at(n);
+        buf[..n].copy_from_slice(reported);
+        self.reported = rest;
         Ok(n)
     }
 }
@@ -66,27 +66,27 @@ impl Write for Pipe<'_> {
 
 impl Settle for Counted<Pipe<'_>> {}
 
-/// What is asked to wait, and doesn't.
+/// What is to wait, and doesn't.
 #[derive(Drop)]
 pub(crate) struct Clockless {
-    asked: Tally,
+    called: Tally,
     pub(crate) tenths: Vec<u8>,
 }
 
 impl Clockless {
     pub(crate) fn new(alloc: Global) -> Clockless {
         Clockless {
-            asked: Tally::new(),
+            called: Tally::new(),
             tenths: Vec::new(alloc),
         }
     }
 }
 
 impl Pause for Clockless {
-    ghost asked = { λ c. c.asked.bytes };
+    ghost called = { λ c. c.called.bytes };
 
     fn pause(&mut self, tenths: u8) {
-        self.asked.record(&[tenths], false);
+        self.called.record(&[tenths], false);
         let _ = self.tenths.push(tenths);
     }
 }
@@ -96,12 +96,12 @@ pub(crate) fn output(alloc: Global, room: usize) -> Counted<Pipe<'static>> {
     Counted::new(Pipe::new(alloc, b"", room))
 }
 
-/// What an output took.
+/// What an output accepted.
 pub(crate) fn taken_by(output: Counted<Pipe>) -> Vec<u8> {
     output.into_inner().taken
 }
 
-/// Links, the last of which comes first, and calls that fail; and what each link took that was given back.
+/// Links, the last of which comes first, and calls that fail; and what each link accepted that was given back.
 #[derive(Drop)]
 struct Links<'a> {
     coming: Vec<Option<Pipe<'a>>>,
@@ -118,7 +118,7 @@ impl<'a> Links<'a> {
     {
         let mut coming = Vec::new(alloc);
         for link in links.iter().rev() {
-            coming.push(link.map(|(told, room)| Pipe::new(alloc, told, room)))?;
+            coming.push(link.map(|(reported, room)| Pipe::new(alloc, reported, room)))?;
         }
         Ok(Links {
             coming,

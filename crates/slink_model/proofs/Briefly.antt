@@ -85,7 +85,7 @@ lack_few places first (step ∷ steps) w v run most differ of t short =
           (λ i. omega (arith, short i, step_pushes w run.0 step i run.1)),
     )
 
--- In fewer than 2^24 steps nothing else is asked.
+-- In fewer than 2^24 steps nothing else is called.
 pub brief_lacks : (setup : Setup) (steps : List Step) (now : WorldState) (run : AllHappen (opening setup) steps now)
     → IsSchedule setup steps → length steps < 2 ^ 24 → LackFew setup.first (opening setup) steps now run
 brief_lacks setup steps now run is brief =

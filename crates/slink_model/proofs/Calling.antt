@@ -26,20 +26,20 @@ use Rattle.slink_feed.specs.Grant.{grant_of}
 use Rattle.slink_feed.specs.Listening.{IsLinked}
 use Rattle.slink_feed.specs.Rings.{station_at}
 use Rattle.slink_feed.specs.Serving.{Answers, Serves, Standing, none_served, piece_served}
-use Rattle.slink_feed.specs.Session.{Grants, IsBefore, State, answered, asked, at, chosen, grant_at, granted}
+use Rattle.slink_feed.specs.Session.{Grants, IsBefore, State, answered, called, at, chosen, grant_at, granted}
 use Rattle.slink_model.specs.Spared.{AreAskable}
 use Rattle.slink_model.specs.Stretch.{IsSchedule, LackFew, Resumes}
 use Rattle.slink_model.specs.Ties.{Item, Accepted, Refused, Leaves, Places, item_bytes, way_bytes}
 use Rattle.slink_feed.specs.Window.{Window}
 use Rattle.slink_model.specs.World.{AllHappen, Both, Differ, Happens, IsServed, LinkState, WorldState, opening}
-use Rattle.slink_model.proofs.Answering.{Comes, IsPending, asked_on, it_came, not_yet, quiet_on}
+use Rattle.slink_model.proofs.Answering.{Comes, IsPending, called_on, it_came, not_yet, quiet_on}
 use Rattle.slink_feed.proofs.Closing.{Open, open_or}
 use Rattle.slink_model.proofs.Commanded.{grant_set, leaves}
 use Rattle.slink_feed.proofs.Items.{put_there, same_or_not}
 use Rattle.slink_model.proofs.Lined.{IsAnswered, IsAsking}
 use Rattle.slink_model.proofs.Requested.{end_command, number_command, station_command}
 use Rattle.slink_model.proofs.Resumed.{resume_granted}
-use Rattle.slink_model.proofs.Shaking.{IsReadyFor, LinkTalks, Shakes, asked_place, asks_end, asks_number, asks_place}
+use Rattle.slink_model.proofs.Shaking.{IsReadyFor, LinkTalks, Shakes, called_place, asks_end, asks_number, asks_place}
 use Rattle.slink_model.proofs.Shaking.{has_none, has_number, has_place, in_phase, is_short, number_granted}
 use Rattle.slink_model.proofs.Shaking.{place_chosen, streams}
 use Rattle.slink_model.proofs.Sparing.{IsTalking, WorldTalks, talks_after}
@@ -142,11 +142,11 @@ module _ (places : Places) (differ : Differ places) (codes : (k : ℕ) (p : Fiel
   pending_number k taken phase asks = record {
     request = numbered mode (number k);
     awake = open_at l.session.state.phase (Chosen k) phase tt;
-    known = number_command mode (number k) (is_short places differ codes w.client t.asked w.windows t.ringed (number k)
-        (λ x e. t.asked.short k x e));
+    known = number_command mode (number k) (is_short places differ codes w.client t.called w.windows t.ringed (number k)
+        (λ x e. t.called.short k x e));
     stays_open = λ new reply is. granted_open l.session.state new reply k mode
         (option_and_then (grant_of mode (number k)) (slice_get w.windows k)) phase
-        (number_granted places differ codes w.client t.asked w.windows t.ringed l.session.state new reply k mode
+        (number_granted places differ codes w.client t.called w.windows t.ringed l.session.state new reply k mode
         (number k) phase is);
     asks = asks;
   }
@@ -158,14 +158,14 @@ module _ (places : Places) (differ : Differ places) (codes : (k : ℕ) (p : Fiel
   pending_place k v taken want ready asks =
       let at_k : (IsField 5 v.place.station × IsField 2 v.place.network)
       × (station_at w.windows v.place.station (Some v.place.network) ≡ Some k) =
-      asked_place places differ codes w.client t.asked w.windows t.ringed k v want in
+      called_place places differ codes w.client t.called w.windows t.ringed k v want in
       record {
         request = requests.Station v.place;
         awake = ready_for_open k l.session.state.phase ready;
         known = station_command v.place at_k.0.0 at_k.0.1;
         stays_open = λ new reply is.
             (chosen_open l.session.state new reply k
-            (place_chosen places differ codes w.client t.asked w.windows t.ringed l.session.state new reply k v ready
+            (place_chosen places differ codes w.client t.called w.windows t.ringed l.session.state new reply k v ready
             at_k.1 is)).1;
         asks = asks;
       }
@@ -176,7 +176,7 @@ module _ (places : Places) (differ : Differ places) (codes : (k : ℕ) (p : Fiel
       → new ≡ at Streaming l.session.state.grants
   end_streams new reply k phase is =
       let done : ◌≡◌ {A = State × Reply} (at Streaming l.session.state.grants, replies.Nothing) (new, reply) =
-      in_phase places differ codes w.client t.asked w.windows t.ringed (Granted k) l.session.state new reply
+      in_phase places differ codes w.client t.called w.windows t.ringed (Granted k) l.session.state new reply
       requests.End phase is in
       sym (ap (λ (x : State × Reply). x.0) done)
 
@@ -197,12 +197,12 @@ module _ (places : Places) (differ : Differ places) (codes : (k : ℕ) (p : Fiel
       → IsPending w.windows l.session.state taken l.to_server
       ⊎ (Open l.session.state.phase → IsAnswered taken l.to_server)
   pending_or taken items (asks_place k v stage want ready asks none) = inl (pending_place k v taken want ready asks)
-  pending_or taken items (has_place k stage phase told one) = inr (λ _. told)
+  pending_or taken items (has_place k stage phase reported one) = inr (λ _. reported)
   pending_or taken items (asks_number k stage phase asks none) = inl (pending_number k taken phase asks)
-  pending_or taken items (has_number k stage phase told one) = inr (λ _. told)
-  pending_or taken items (has_none k stage phase told one) = inr (λ _. told)
+  pending_or taken items (has_number k stage phase reported one) = inr (λ _. reported)
+  pending_or taken items (has_none k stage phase reported one) = inr (λ _. reported)
   pending_or taken items (asks_end k stage phase asks none) = inl (pending_end k taken phase asks)
-  pending_or taken items (streams stage over sent told) = inr told
+  pending_or taken items (streams stage over sent reported) = inr reported
 
 module _ (places : Places) (differ : Differ places) (codes : (k : ℕ) (p : Fields × Option ℕ)
     → slice_get places k ≡ Some p → IsField 5 p.0.station × IsField 2 p.0.network) (w : WorldState)
@@ -214,7 +214,7 @@ module _ (places : Places) (differ : Differ places) (codes : (k : ℕ) (p : Fiel
   abbrev NumberComes : ℕ → Type 0
   NumberComes k = ((m.session.state ≡ l.session.state) × (m.to_client ≡ l.to_client))
       ⊎ ((reply : Reply) × (m.to_client ≡ l.to_client ++ reply_bytes reply)
-      × (asked w.windows k (mode places differ codes w t l) (number places differ codes w t l k) l.session.state
+      × (called w.windows k (mode places differ codes w t l) (number places differ codes w t l k) l.session.state
       ≡ (m.session.state, reply)))
 
   -- the line of a request comes, or doesn't yet
@@ -226,14 +226,14 @@ module _ (places : Places) (differ : Differ places) (codes : (k : ℕ) (p : Fiel
   request_comes : (taken : List ℕ) (p : IsPending w.windows l.session.state taken l.to_server)
       → (Open l.session.state.phase → IsHeld l.session.held taken) → RequestComes p.request
   request_comes taken p held =
-      which (asked_on w.windows l.session.state p.request p.awake p.known p.stays_open l.session (take n l.to_server)
+      which (called_on w.windows l.session.state p.request p.awake p.known p.stays_open l.session (take n l.to_server)
       l.to_client m.session m.to_client (drop n l.to_server) taken served.serves refl (held p.awake)
       (subst (IsAsking (request_line p.request) taken) all_bytes p.asks))
     where
       which : Comes w.windows l.session.state p.request p.awake p.known p.stays_open m.session l.to_client m.to_client
           (taken ++ take n l.to_server) (drop n l.to_server) → RequestComes p.request
       which (not_yet same sent kept asks) = inl (same, sent)
-      which (it_came reply sent done kept told) = inr (reply, sent, done)
+      which (it_came reply sent done kept reported) = inr (reply, sent, done)
 
   number_comes : (k : ℕ) (taken : List ℕ) → l.session.state.phase ≡ Chosen k
       → (Open l.session.state.phase → IsHeld l.session.held taken)
@@ -245,7 +245,7 @@ module _ (places : Places) (differ : Differ places) (codes : (k : ℕ) (p : Fiel
         | inr done ↦ inr (
           done.0,
           done.1,
-          number_granted places differ codes w.client t.asked w.windows t.ringed
+          number_granted places differ codes w.client t.called w.windows t.ringed
               l.session.state m.session.state done.0 k (mode places differ codes w t l)
               (number places differ codes w t l k)
               phase done.2,
@@ -259,11 +259,11 @@ module _ (places : Places) (differ : Differ places) (codes : (k : ℕ) (p : Fiel
   place_comes k v taken want ready held asks =
       let at_k : (IsField 5 v.place.station × IsField 2 v.place.network)
       × (station_at w.windows v.place.station (Some v.place.network) ≡ Some k) =
-      asked_place places differ codes w.client t.asked w.windows t.ringed k v want in
+      called_place places differ codes w.client t.called w.windows t.ringed k v want in
       elim (request_comes taken (pending_place places differ codes w t l k v taken want ready asks) held) [
         | inl still ↦ inl (ap (λ (s : State). s.grants) still.0)
         | inr done ↦ inr (chosen_open l.session.state m.session.state done.0 k
-            (place_chosen places differ codes w.client t.asked w.windows t.ringed l.session.state m.session.state
+            (place_chosen places differ codes w.client t.called w.windows t.ringed l.session.state m.session.state
             done.0 k
             v ready at_k.1 done.2)).0
       ]
@@ -278,17 +278,17 @@ module _ (places : Places) (differ : Differ places) (codes : (k : ℕ) (p : Fiel
             done.2)
       ]
 
-  told_comes : (p : Phase) (taken : List ℕ) → l.session.state.phase ≡ p → IsBefore p
+  reported_comes : (p : Phase) (taken : List ℕ) → l.session.state.phase ≡ p → IsBefore p
       → (Open l.session.state.phase → IsHeld l.session.held taken) → IsAnswered taken l.to_server
       → m.session.state.grants ≡ l.session.state.grants
-  told_comes p taken phase before held told =
+  reported_comes p taken phase before held reported =
       let awake : Open l.session.state.phase = open_at l.session.state.phase p phase before in
       ap (λ (s : State). s.grants) (quiet_on w.windows l.session (take n l.to_server) l.to_client m.session m.to_client
-      (drop n l.to_server) taken served.serves awake (held awake) (subst (IsAnswered taken) all_bytes told)).state
+      (drop n l.to_server) taken served.serves awake (held awake) (subst (IsAnswered taken) all_bytes reported)).state
 
   -- by the number that is wanted, where the line is taken
   by_number : (k : ℕ) (reply : Reply) → l.to_client ≡ [] → m.to_client ≡ l.to_client ++ reply_bytes reply
-      → asked w.windows k (mode places differ codes w t l) (number places differ codes w t l k) l.session.state
+      → called w.windows k (mode places differ codes w t l) (number places differ codes w t l k) l.session.state
       ≡ (m.session.state, reply) → IsAnsweredBy w k l m
   by_number k reply none sent is = record {
     reply = reply;
@@ -309,19 +309,19 @@ module _ (places : Places) (differ : Differ places) (codes : (k : ℕ) (p : Fiel
   awaited k taken items awaits flow held (asks_place j v stage want ready asks none) =
       absurd (not_number k w.client.talk.stage (Station j) stage awaits.0 (λ e. let bad : Station j ≡ Number k = e in
       cc bad))
-  awaited k taken items awaits flow held (has_place j stage phase told one) =
+  awaited k taken items awaits flow held (has_place j stage phase reported one) =
       absurd (not_number k w.client.talk.stage (Station j) stage awaits.0 (λ e. let bad : Station j ≡ Number k = e in
       cc bad))
   awaited k taken items awaits flow held (asks_number j stage phase asks none) =
       let same : j ≡ k = stage_number j k w.client.talk.stage stage awaits.0 in
       comes_to k awaits (subst NumberComes same (number_comes j taken phase held asks))
-  awaited k taken items awaits flow held (has_number j stage phase told one) =
+  awaited k taken items awaits flow held (has_number j stage phase reported one) =
       absurd (no_reply (w.client.kept ++ l.to_client) items Accepted awaits.1 flow one (omega arith))
-  awaited k taken items awaits flow held (has_none j stage phase told one) =
+  awaited k taken items awaits flow held (has_none j stage phase reported one) =
       absurd (no_reply (w.client.kept ++ l.to_client) items Refused awaits.1 flow one (omega arith))
   awaited k taken items awaits flow held (asks_end j stage phase asks none) =
       absurd (not_number k w.client.talk.stage Packets stage awaits.0 (λ e. let bad : Packets ≡ Number k = e in cc bad))
-  awaited k taken items awaits flow held (streams stage over sent told) =
+  awaited k taken items awaits flow held (streams stage over sent reported) =
       absurd (not_number k w.client.talk.stage Packets stage awaits.0 (λ e. let bad : Packets ≡ Number k = e in cc bad))
 
   -- a grant that is there now was there, or is the answer
@@ -353,17 +353,17 @@ module _ (places : Places) (differ : Differ places) (codes : (k : ℕ) (p : Fiel
         | inl same ↦ had k g same here
         | inr dropped ↦ inl (dropped_there l.session.state.grants m.session.state.grants j k g dropped here)
       ]
-  only_so k g taken items here flow held (has_place j stage phase told one) =
-      had k g (told_comes (Chosen j) taken phase tt held told) here
+  only_so k g taken items here flow held (has_place j stage phase reported one) =
+      had k g (reported_comes (Chosen j) taken phase tt held reported) here
   only_so k g taken items here flow held (asks_number j stage phase asks none) =
       number_had j k g (stage, flow ∙ ap way_bytes none) here (number_comes j taken phase held asks)
-  only_so k g taken items here flow held (has_number j stage phase told one) =
-      had k g (told_comes (Granted j) taken phase tt held told) here
-  only_so k g taken items here flow held (has_none j stage phase told one) =
-      had k g (told_comes (Chosen j) taken phase tt held told) here
+  only_so k g taken items here flow held (has_number j stage phase reported one) =
+      had k g (reported_comes (Granted j) taken phase tt held reported) here
+  only_so k g taken items here flow held (has_none j stage phase reported one) =
+      had k g (reported_comes (Chosen j) taken phase tt held reported) here
   only_so k g taken items here flow held (asks_end j stage phase asks none) =
       had k g (end_comes j taken phase held asks) here
-  only_so k g taken items here flow held (streams stage over sent told) =
+  only_so k g taken items here flow held (streams stage over sent reported) =
       had k g (grants_on w.windows l.session (take n l.to_server) l.to_client m.session m.to_client taken served.serves
       over held) here
 

@@ -18,7 +18,7 @@ use Rattle.slink_feed.specs.declared.session.Phase.TheVariants.{Fresh, Chosen, G
 use Rattle.slink_feed.specs.Grant.{grant_of}
 use Rattle.slink_feed.specs.Rings.{station_at}
 use Rattle.slink_feed.specs.Serving.{IsAnswer}
-use Rattle.slink_feed.specs.Session.{Grants, IsBefore, State, answered_in, asked, at, chosen, grant_at, granted}
+use Rattle.slink_feed.specs.Session.{Grants, IsBefore, State, answered_in, called, at, chosen, grant_at, granted}
 use Rattle.slink_feed.specs.Session.{in_chosen, in_fresh, in_granted, in_streaming, reply_at_next}
 use Rattle.slink_model.specs.Ties.{IsGranted, Leaves, dropped, given, same}
 use Rattle.slink_feed.specs.Window.{Window, ahead_of, oldest_of, resolve_of}
@@ -79,7 +79,7 @@ module _ (feed : List Window) (s : State) where
   ask_of mode j number None here = stay
   ask_of mode j number (Some w) here = give mode j w (grant_of mode number w) here (λ p e. granted_at mode number w p e)
 
-  ask : (mode : Mode) (j : ℕ) (number : Option ℕ) → Grants_stay (asked feed j mode number s).0
+  ask : (mode : Mode) (j : ℕ) (number : Option ℕ) → Grants_stay (called feed j mode number s).0
   ask mode j number = ask_of mode j number (slice_get feed j) refl
 
   leaves_fresh : (c : Command) → Grants_stay (in_fresh feed s c).0

@@ -1,4 +1,4 @@
--- What a client reads of items, by how many bytes of them it took.
+-- What a client reads of items, by how many bytes of them it accepted.
 use Rattle.std.proofs.Common.{◌≡◌, ◌≢◌, ℕ, ◌+◌, ◌-◌, ◌%◌, ◌^◌, ◌<◌, inl, inr, refl, sym, ap, subst, ◌∙◌, arith, List}
 use Rattle.std.proofs.Common.{[], ◌∷◌, ◌++◌, length, length-drop, map, set, take, drop, take-append-drop, codes, Option}
 use Rattle.std.proofs.Common.{Some, None, slice_get}
@@ -21,7 +21,7 @@ use Rattle.slink_model.specs.Counted.{Gained, behind, events_upon, on_item, part
 use Rattle.slink_model.specs.Counted.{with_events}
 use Rattle.slink_feed.specs.Cutting.{IsBegun, IsWhole}
 use Rattle.slink_feed.specs.Dialogue.{Talk, Wants, Reply, Packet, End, at_packet, bearer, ended, read, read_at}
-use Rattle.slink_feed.specs.Dialogue.{next_at, next_set, numbered, says, to_place, told, want_at, with_next}
+use Rattle.slink_feed.specs.Dialogue.{next_at, next_set, numbered, says, to_place, reported, want_at, with_next}
 use Rattle.slink_feed.specs.Listening.{AreBrought, IsLinked, events_of, talk_after, telling}
 use Rattle.slink_feed.specs.Session.{Grants, State, grant_at}
 use Rattle.slink_model.specs.Ties.{Item, Accepted, Refused, Greeted, Carried, Finished, Places, item_bytes, of_place}
@@ -31,19 +31,20 @@ use Rattle.slink_feed.proofs.Closing.{Open}
 use Rattle.slink_model.proofs.Calling.{open_at}
 use Rattle.slink_model.proofs.Counting.{brought_of, whole_of, whole_or}
 use Rattle.slink_model.proofs.Counts.{EndsIn}
-use Rattle.slink_feed.proofs.Prefixed.{wanted_told}
+use Rattle.slink_feed.proofs.Prefixed.{wanted_reported}
 use Rattle.slink_feed.proofs.Received.{begun_none}
 use Rattle.slink_model.proofs.Items.{carried_here, carried_there}
 use Rattle.slink_feed.proofs.Items.{is_within, put_here, put_there, same_or_not}
 use Rattle.slink_model.proofs.Lined.{IsAnswered, asks_more}
 use Rattle.slink_feed.proofs.OneReading.{IsRest}
-use Rattle.slink_model.proofs.OneWorld.{told_events}
+use Rattle.slink_model.proofs.OneWorld.{reported_events}
 use Rattle.slink_model.proofs.Outcomes.{packet_length}
 use Rattle.slink_wire.proofs.RequestLines.{end_line, station_line}
 use Rattle.slink_model.proofs.Requested.{also_at, number_line}
-use Rattle.slink_model.proofs.Shaken.{asked_next, bearer_found, lacks_end, some_if, suited_next, suited_wanted}
+use Rattle.slink_model.proofs.Shaken.{called_next, bearer_found, lacks_end, some_if, suited_next, suited_wanted}
 use Rattle.slink_model.proofs.Shaken.{want_slot}
-use Rattle.slink_model.proofs.Shaking.{AreAsked, AreBorne, AreSent, IsSuited, Shakes, asks_end, asks_number, asks_place}
+use Rattle.slink_model.proofs.Shaking.{AreCalled, AreBorne, AreSent, IsSuited, Shakes, asks_end, asks_number}
+use Rattle.slink_model.proofs.Shaking.{asks_place}
 use Rattle.slink_model.proofs.Shaking.{has_none, has_number, has_place, streams}
 use Rattle.slink_feed.proofs.Wholes.{prefix_begun}
 
@@ -56,7 +57,7 @@ same_more : (t : Talk) (i : Item) (ws : List Item) → read t (whole_of i) ≡ o
     → Same (read t (whole_of i)).0 ws → Same t (i ∷ ws)
 same_more t i ws h more = (
   more.0 ∙ ap (λ (x : Talk × Event). talk_upon x.0 ws) h,
-  λ f g. told_events f (read t (whole_of i)).1 (events_of (read t (whole_of i)).0 (map brought_of ws)) g
+  λ f g. reported_events f (read t (whole_of i)).1 (events_of (read t (whole_of i)).0 (map brought_of ws)) g
       ∙ (more.1 f (with_event f (read t (whole_of i)).1 g)
       ∙ ap (λ (x : Talk × Event). with_events f (events_upon x.0 ws) (with_event f x.1 g)) h),
 )
@@ -75,7 +76,7 @@ module _ (places : Places) (differ : Differ places) (codes_are : (k : ℕ) (p : 
   -- packets on their way
   pub record Streams (grants : Grants) (phase : Phase) (t : Talk) (items : List Item) : Type 0 where
     pub stage : t.stage ≡ Packets
-    pub asked : AreAsked places t.wants
+    pub called : AreCalled places t.wants
     pub borne : AreBorne places items
     pub suited : (k : ℕ) → IsSuited (next_at t.wants k) (grant_at grants k) (of_place k items)
     pub sent : AreSent items
@@ -120,7 +121,7 @@ module _ (places : Places) (differ : Differ places) (codes_are : (k : ℕ) (p : 
     x = (m + 1) % 2 ^ 24
 
     found : (bearer t.wants r ≡ Some k) × (v : Wanted) × (want_at t.wants k ≡ Some v)
-    found = bearer_found places differ codes_are t.wants k s.borne.0.0 r s.asked s.borne.0.1 s.borne.0.3
+    found = bearer_found places differ codes_are t.wants k s.borne.0.0 r s.called s.borne.0.1 s.borne.0.3
 
     of_k : of_place k (Carried k n r ∷ rest) ≡ (n, r) ∷ of_place k rest
     of_k = ap (λ b. b ++ of_place k rest) (carried_here k n r)
@@ -128,14 +129,14 @@ module _ (places : Places) (differ : Differ places) (codes_are : (k : ℕ) (p : 
     suited_k : IsSuited (next_at t.wants k) (grant_at grants k) ((n, r) ∷ of_place k rest)
     suited_k = subst (IsSuited (next_at t.wants k) (grant_at grants k)) of_k (s.suited k)
 
-    pub packet_told : read t (Packet m r) ≡ told k m r t
-    packet_told = ap (λ (y : Stage). read_at y t (Packet m r)) s.stage
+    pub packet_reported : read t (Packet m r) ≡ reported k m r t
+    packet_reported = ap (λ (y : Stage). read_at y t (Packet m r)) s.stage
         ∙ (ap (λ (o : Option ℕ). at_packet o m r t) found.0
-        ∙ wanted_told (next_at t.wants k) k m r t
+        ∙ wanted_reported (next_at t.wants k) k m r t
         (some_if (next_at t.wants k) m (suited_wanted (next_at t.wants k) (grant_at grants k) n r (of_place k rest)
         suited_k)))
 
-    pub packet_next : Streams grants phase (told k m r t).0 rest
+    pub packet_next : Streams grants phase (reported k m r t).0 rest
     packet_next =
         let ws : Wants = with_next t.wants k x in
         let v : Wanted = record { place = found.1.place; next = Some x } in
@@ -151,7 +152,7 @@ module _ (places : Places) (differ : Differ places) (codes_are : (k : ℕ) (p : 
         λ i ne. ap (λ b. b ++ of_place i rest) (carried_there k i n r (λ q. ne (sym q))) in
         record {
           stage = s.stage;
-          asked = asked_next places differ codes_are t.wants k x found.1 found.2 (omega arith) s.asked;
+          called = called_next places differ codes_are t.wants k x found.1 found.2 (omega arith) s.called;
           borne = s.borne.1;
           suited = λ i. elim (same_or_not i k) [
             | inl q ↦ subst (λ y. IsSuited (next_at ws y) (grant_at grants y) (of_place y rest)) (sym q)
@@ -164,19 +165,19 @@ module _ (places : Places) (differ : Differ places) (codes_are : (k : ℕ) (p : 
           ends = s.ends;
         }
 
-    pub packet_prefix : (ws bs : List Item) (p : ℕ) → Prefix grants phase (told k m r t).0 ws bs p
+    pub packet_prefix : (ws bs : List Item) (p : ℕ) → Prefix grants phase (reported k m r t).0 ws bs p
         → Prefix grants phase t (Carried k n r ∷ ws) bs p
     packet_prefix ws bs p h =
         let h' : Prefix grants phase (read t (Packet m r)).0 ws bs p =
-        subst (λ (y : Talk × Event). Prefix grants phase y.0 ws bs p) (sym packet_told) h in
+        subst (λ (y : Talk × Event). Prefix grants phase y.0 ws bs p) (sym packet_reported) h in
         record {
           are = (at_stage t (Carried k n r) s.stage (carried_whole k n r s.borne.0.2), h'.are);
           is_begun = h'.is_begun;
           unwritten = λ f g. ap (λ (z : Gained). z.to_server)
-              (told_events f (read t (Packet m r)).1 (events_of (read t (Packet m r)).0 (map brought_of ws)) g)
+              (reported_events f (read t (Packet m r)).1 (events_of (read t (Packet m r)).0 (map brought_of ws)) g)
               ∙ (h'.unwritten f (with_event f (read t (Packet m r)).1 g)
-              ∙ ap (λ (y : Talk × Event). (with_event f y.1 g).to_server) packet_told);
-          same = same_more t (Carried k n r) ws (packet_told
+              ∙ ap (λ (y : Talk × Event). (with_event f y.1 g).to_server) packet_reported);
+          same = same_more t (Carried k n r) ws (packet_reported
               ∙ ap (λ (y : Stage). on_item y (Carried k n r) t) (sym s.stage)) h'.same;
           after = h'.after;
         }
@@ -212,7 +213,7 @@ module _ (places : Places) (differ : Differ places) (codes_are : (k : ℕ) (p : 
       whole_or (Carried k n r) rest d (λ ws bs p. Prefix grants phase t ws bs p)
       (λ fits. packet_prefix grants phase t k n r rest s (wholes (d - size) rest) (behind (d - size) rest)
       (part (d - size) rest)
-      (streamed_prefix rest grants phase (told k (n % 2 ^ 24) r t).0 (d - size)
+      (streamed_prefix rest grants phase (reported k (n % 2 ^ 24) r t).0 (d - size)
       (packet_next grants phase t k n r rest s)))
       (λ lt. none_prefix grants phase t (Carried k n r) rest d (carried_whole k n r s.borne.0.2) lt s)
   streamed_prefix (Finished ∷ []) grants phase t d s =
@@ -252,7 +253,7 @@ module _ (places : Places) (differ : Differ places) (codes_are : (k : ℕ) (p : 
       quiet = λ f g same over. absurd (over linked);
     }
 
-    -- a line is said
+    -- a line is sent
     line_written : (i : Item) (stage : Stage) (request : Request) → Open s.phase
         → read t (whole_of i) ≡ on_item t.stage i t → IsWhole t.stage (item_bytes i) (whole_of i)
         → read t (whole_of i) ≡ says t stage request → IsLinked stage
@@ -276,7 +277,7 @@ module _ (places : Places) (differ : Differ places) (codes_are : (k : ℕ) (p : 
         → IsWhole t.stage (item_bytes Refused) (whole_of Refused)
         → read t (Reply (codes "ERROR")) ≡ ended (endings.Refused k) t → IsAnswered taken way
         → Outcome s taken way t (Refused ∷ []) [] 0
-    refusal_read k awake on whole h told = record {
+    refusal_read k awake on whole h reported = record {
       are = (whole, tt);
       is_begun = λ _. begun_none (read t (Reply (codes "ERROR"))).0.stage;
       same = same_more t Refused [] on (refl, λ f g. refl);
@@ -284,7 +285,7 @@ module _ (places : Places) (differ : Differ places) (codes_are : (k : ℕ) (p : 
       after = λ f g same linked. absurd (subst (λ (y : Talk × Event). IsLinked y.0.stage) h linked);
       quiet = λ f g same _ _. subst
           (λ (y : Talk × Event). IsAnswered taken (with_events f (telling y.1 ++ []) g).to_server) (sym h)
-          (subst (IsAnswered taken) (sym same) told);
+          (subst (IsAnswered taken) (sym same) reported);
     }
 
     one_or : (i : Item) (d : ℕ) → IsLinked t.stage → IsWhole t.stage (item_bytes i) (whole_of i)
@@ -300,19 +301,19 @@ module _ (places : Places) (differ : Differ places) (codes_are : (k : ℕ) (p : 
     error_reply : (k : ℕ) → IsWhole (Number k) (item_bytes Refused) (whole_of Refused)
     error_reply k = (refl, lacks_end (codes "ERROR" ++ 13 ∷ []) refl, omega arith)
 
-    next_written : (k : ℕ) (o : Option Wanted) → AreAsked places t.wants → t.stage ≡ Number k → s.phase ≡ Granted k
+    next_written : (k : ℕ) (o : Option Wanted) → AreCalled places t.wants → t.stage ≡ Number k → s.phase ≡ Granted k
         → IsAnswered taken way → want_at t.wants (k + 1) ≡ o
         → read t (Reply (codes "OK")) ≡ on_item t.stage Accepted t
         → read t (Reply (codes "OK")) ≡ to_place o (k + 1) t
         → ((i : ℕ) → IsSuited (next_at t.wants i) (grant_at s.grants i) []) → Outcome s taken way t (Accepted ∷ []) [] 0
-    next_written k None asked stage phase told want on h suited =
+    next_written k None called stage phase reported want on h suited =
         line_written Accepted Packets requests.End (open_at s.phase (Granted k) phase tt) on
         (subst (λ (y : Stage). IsWhole y (item_bytes Accepted) (whole_of Accepted)) (sym stage) (ok_reply k)) h tt
-        suited (asks_end k refl phase (asks_more (request_line requests.End) taken way end_line told) refl)
-    next_written k (Some w) asked stage phase told want on h suited =
+        suited (asks_end k refl phase (asks_more (request_line requests.End) taken way end_line reported) refl)
+    next_written k (Some w) called stage phase reported want on h suited =
         let q : (p : Fields × Option ℕ) × (slice_get places (k + 1) ≡ Some p) × (w.place ≡ p.0) =
         also_at (λ (x : Wanted). x.place) (λ (p : Fields × Option ℕ). p.0) (want_at t.wants (k + 1))
-        (slice_get places (k + 1)) w (asked.alike (k + 1)) want in
+        (slice_get places (k + 1)) w (called.alike (k + 1)) want in
         let fields : IsField 5 w.place.station × IsField 2 w.place.network =
         subst (λ (f : Fields). IsField 5 f.station × IsField 2 f.network) (sym q.2) (codes_are (k + 1) q.0 q.1) in
         line_written Accepted (Station (k + 1)) (requests.Station w.place) (open_at s.phase (Granted k) phase tt) on
@@ -320,10 +321,10 @@ module _ (places : Places) (differ : Differ places) (codes_are : (k : ℕ) (p : 
         suited
         (asks_place (k + 1) w refl want (inr (k, refl, phase))
         (asks_more (request_line (requests.Station w.place)) taken way (station_line w.place fields.0 fields.1)
-        told) refl)
+        reported) refl)
 
-    -- by who has said what
-    module _ (items : List Item) (d : ℕ) (asked : AreAsked places t.wants) (borne : AreBorne places items)
+    -- by who has sent what
+    module _ (items : List Item) (d : ℕ) (called : AreCalled places t.wants) (borne : AreBorne places items)
         (suited : (k : ℕ) → IsSuited (next_at t.wants k) (grant_at s.grants k) (of_place k items))
         (ends : EndsIn s.phase items)
         (shakes : Shakes t s.phase taken way items) where
@@ -370,7 +371,7 @@ module _ (places : Places) (differ : Differ places) (codes_are : (k : ℕ) (p : 
       by_shakes (has_number k stage phase written one) =
           subst Result (sym one) (one_or Accepted d (there (Number k) stage tt)
           (whole_at (Number k) Accepted stage (ok_reply k))
-          (next_written k (want_at t.wants (k + 1)) asked stage phase written refl
+          (next_written k (want_at t.wants (k + 1)) called stage phase written refl
           (on_is Accepted (Number k) stage refl)
           (ap (λ (y : Stage). read_at y t (Reply (codes "OK"))) stage) (suits Accepted (λ i. refl) one))
           (subst (Left s taken t way) one left))
@@ -385,7 +386,7 @@ module _ (places : Places) (differ : Differ places) (codes_are : (k : ℕ) (p : 
       by_shakes (streams stage later sent written) =
           let prefix : Prefix s.grants s.phase t (wholes d items) (behind d items) (part d items) =
           streamed_prefix items s.grants s.phase t d
-          (record { stage = stage; asked = asked; borne = borne; suited = suited; sent = sent; ends = ends }) in
+          (record { stage = stage; called = called; borne = borne; suited = suited; sent = sent; ends = ends }) in
           record {
             are = prefix.are;
             is_begun = prefix.is_begun;

@@ -13,7 +13,7 @@ use Rattle.slink_feed.specs.declared.dialogue.Stage.{Stage}
 use Rattle.slink_feed.specs.declared.dialogue.Stage.TheVariants.{Station, Number, Packets, Ended}
 use Rattle.slink_feed.specs.declared.dialogue.Wanted.{Wanted}
 use Rattle.slink_feed.specs.declared.session.Phase.{Phase}
-use Rattle.slink_feed.specs.Dialogue.{Talk, ended, says_place, to_place, told, want_at}
+use Rattle.slink_feed.specs.Dialogue.{Talk, ended, says_place, to_place, reported, want_at}
 use Rattle.slink_feed.specs.Listening.{IsLinked}
 use Rattle.slink_feed.specs.Session.{sent}
 use Rattle.slink_feed.specs.Window.{Window}
@@ -180,7 +180,7 @@ module _ (places : Places) (f : Numbers) where
   held_packets (Refused ∷ is) t g p sent borne wide linked = absurd sent.0
   held_packets (Greeted ∷ is) t g p sent borne wide linked = absurd sent.0
   held_packets (Carried j n r ∷ is) t g p sent borne wide linked =
-      let x : Talk × Event = told j (n % 2 ^ 24) r t in
+      let x : Talk × Event = reported j (n % 2 ^ 24) r t in
       let h : on_item t.stage (Carried j n r) t ≡ x = ap (λ (s : Stage). on_item s (Carried j n r) t) p in
       let within : j < length places = is_within places j borne.0.0 borne.0.1 in
       let lt : j < length g.held = omega (arith, within, wide) in
@@ -200,7 +200,7 @@ module _ (places : Places) (f : Numbers) where
       absurd (subst (λ (u : Talk). IsLinked u.stage) (unlinked_upon x.0 is (λ l. l)).0
       (subst (λ (y : Talk × Event). IsLinked (talk_upon y.0 is).stage) h linked))
 
--- a line that is said brings nothing
+-- a line that is given brings nothing
 placed : (f : Numbers) (k : ℕ) (o : Option Wanted) (t : Talk) (g : Gained)
     → (with_event f (to_place o k t).1 g).held ≡ g.held
 placed f k None t g = refl

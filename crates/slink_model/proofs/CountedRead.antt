@@ -27,9 +27,9 @@ use Rattle.slink_model.proofs.Counts.{Counts, Pinned, pinned_as}
 use Rattle.slink_model.proofs.Lined.{IsAnswered}
 use Rattle.slink_feed.proofs.OneReading.{one_brought}
 use Rattle.slink_model.proofs.OneWorld.{ReadAllOf, gained, read_all, linked_or, lost_all, rest_is}
-use Rattle.slink_model.proofs.Shaking.{AreAsked}
+use Rattle.slink_model.proofs.Shaking.{AreCalled}
 
--- with bytes in front of what was said
+-- with bytes before what was stated
 abbrev put : List ℕ → Gained → Gained
 put a g = record g { to_server = a ++ g.to_server }
 
@@ -73,7 +73,7 @@ module _ (places : Places) (differ : Differ places) (codes : (k : ℕ) (p : Fiel
     → slice_get places k ≡ Some p → IsField 5 p.0.station × IsField 2 p.0.network) (w v : WorldState) (n : ℕ)
     (l m : LinkState) (c : CountedLink)
     (tie : Counts places w.client c l) (h : IsRead n w v l m) (keeps : IsBegun w.client.talk.stage w.client.kept)
-    (asked : AreAsked places w.client.talk.wants) where
+    (called : AreCalled places w.client.talk.wants) where
   abbrev its : List Item
   its = behind c.delivered c.sent
 
@@ -160,7 +160,7 @@ module _ (places : Places) (differ : Differ places) (codes : (k : ℕ) (p : Fiel
       let rest : List ℕ = take (part e its) (way_bytes (behind e its)) in
       let out : Outcome places differ codes l.session.state before l.to_server w.client.talk (wholes e its)
       (behind e its) (part e its)
-      = read_outcome places differ codes l.session.state before l.to_server w.client.talk its e asked pin.flows.borne
+      = read_outcome places differ codes l.session.state before l.to_server w.client.talk its e called pin.flows.borne
       pin.flows.suited pin.ends pin.shakes in
       let x : ReadAllOf l.first_sent (taking w l) (take n l.to_client) (taking v m) =
       read_all l.first_sent (taking w l) (take n l.to_client) (taking v m) h.reads keeps in

@@ -1,4 +1,4 @@
--- The counts of a link once a packet of it was asked for.
+-- The counts of a link once a packet of it was requested.
 use Rattle.std.proofs.Common.{◌≡◌, ℕ, ◌+◌, ◌%◌, ◌^◌, ◌<◌, ◌==◌, inl, inr, refl, sym, ap, subst, ◌∙◌, arith, Bool, true}
 use Rattle.std.proofs.Common.{false, if◌then◌else◌, List, [], ◌∷◌, ◌++◌, append-nil, length, length-append, set, take}
 use Rattle.std.proofs.Common.{drop, Option, Some, None, slice_get, unwrap_or, ◌≤◌}

@@ -26,7 +26,7 @@ use Rattle.slink_model.proofs.Counts.{EndsIn}
 use Rattle.slink_feed.proofs.Items.{is_within, within_is}
 use Rattle.slink_model.proofs.OneWorld.{linked_or}
 use Rattle.slink_model.proofs.Requested.{also_at}
-use Rattle.slink_model.proofs.Shaking.{AreAsked, AreBorne, AreSent, IsBorne, IsSent, Shakes, asks_end, asks_number}
+use Rattle.slink_model.proofs.Shaking.{AreCalled, AreBorne, AreSent, IsBorne, IsSent, Shakes, asks_end, asks_number}
 use Rattle.slink_model.proofs.Shaking.{asks_place, has_none, has_number, has_place, streams}
 
 -- how many replies a client read that waits for this
@@ -159,7 +159,7 @@ packets_more (Greeted ∷ xs) ys a b = absurd a
 packets_more (Carried k n r ∷ xs) ys a b = (a.0, packets_more xs ys a.1 b)
 packets_more (Finished ∷ xs) ys a b = absurd a
 
-module _ (places : Places) (talk : Talk) (asked : AreAsked places talk.wants) (n : ℕ) (l : CountedLink)
+module _ (places : Places) (talk : Talk) (called : AreCalled places talk.wants) (n : ℕ) (l : CountedLink)
     (f : LinkFacts places talk l) (h : Shape places talk.stage l.sent l.delivered) where
   abbrev its : List Item
   its = behind l.delivered l.sent
@@ -249,7 +249,7 @@ module _ (places : Places) (talk : Talk) (asked : AreAsked places talk.wants) (n
           let q : (p : Fields × Option ℕ) × (slice_get places (k + 1) ≡ Some p) = within_is places (k + 1) more in
           let w : (x : Wanted) × (want_at talk.wants (k + 1) ≡ Some x) × (q.0.0 ≡ x.place) =
           also_at (λ (p : Fields × Option ℕ). p.0) (λ (x : Wanted). x.place) (slice_get places (k + 1))
-          (want_at talk.wants (k + 1)) q.0 (sym (asked.alike (k + 1))) q.1 in
+          (want_at talk.wants (k + 1)) q.0 (sym (called.alike (k + 1))) q.1 in
           let bad : None ≡ Some w.0 = sym want ∙ w.1 in cc bad
 
       past : ((k + 1 < length places) → ⊥) → length places ≤ k + 1
@@ -260,42 +260,42 @@ module _ (places : Places) (talk : Talk) (asked : AreAsked places talk.wants) (n
   after_number k (Some w) one stage want none =
       let q : (p : Fields × Option ℕ) × (slice_get places (k + 1) ≡ Some p) × (w.place ≡ p.0) =
       also_at (λ (x : Wanted). x.place) (λ (p : Fields × Option ℕ). p.0) (want_at talk.wants (k + 1))
-      (slice_get places (k + 1)) w (asked.alike (k + 1)) want in
+      (slice_get places (k + 1)) w (called.alike (k + 1)) want in
       reply_read (Station (k + 1)) one (subst AwaitsReply (sym stage) tt)
       (let r : replies_at places talk.stage ≡ 2 * k + 1 = ap (replies_at places) stage in
       omega (arith, r)) (is_within places (k + 1) q.0 q.1) none
 
   by_shakes : Shakes talk f.phase f.taken f.way its → Result its
   by_shakes (asks_place k w stage want ready asks none) = nothing none
-  by_shakes (has_place k stage phase told one) = one_item Accepted one (λ none linked.
+  by_shakes (has_place k stage phase reported one) = one_item Accepted one (λ none linked.
       subst (λ (t : Stage). Shape places (on_item t Accepted talk).0.stage l.sent d) (sym stage)
       (reply_read (Number k) one (subst AwaitsReply (sym stage) tt)
       (let r : replies_at places talk.stage ≡ 2 * k = ap (replies_at places) stage in
       omega (arith, r)) (subst (IsWithin places) stage h.within) none))
   by_shakes (asks_number k stage phase asks none) = nothing none
-  by_shakes (has_number k stage phase told one) = one_item Accepted one (λ none linked.
+  by_shakes (has_number k stage phase reported one) = one_item Accepted one (λ none linked.
       subst (λ (t : Stage). Shape places (on_item t Accepted talk).0.stage l.sent d) (sym stage)
       (after_number k (want_at talk.wants (k + 1)) one stage refl none))
-  by_shakes (has_none k stage phase told one) =
+  by_shakes (has_none k stage phase reported one) =
       one_item Refused one (λ none linked.
       absurd (subst (λ (t : Stage). IsLinked (on_item t Refused talk).0.stage) stage linked))
   by_shakes (asks_end k stage phase asks none) = nothing none
-  by_shakes (streams stage later sent told) = packets_read stage sent
+  by_shakes (streams stage later sent reported) = packets_read stage sent
 
   pub shape_read : IsLinked (talk_upon talk (news n l)).stage → Shape places (talk_upon talk (news n l)).stage l.sent d
   shape_read linked = by_shakes f.shakes left linked
 
 -- what a step makes of it
-connect_shaped : (places : Places) (talk : Talk) (o : Option Wanted) → 0 < length places → AreAsked places talk.wants
+connect_shaped : (places : Places) (talk : Talk) (o : Option Wanted) → 0 < length places → AreCalled places talk.wants
     → want_at talk.wants 0 ≡ o
     → AreShaped places (to_place o 0 talk).0 (Some (new_link (written (to_place o 0 talk).1)))
-connect_shaped places talk None some asked want =
+connect_shaped places talk None some called want =
     let p : (p : Fields × Option ℕ) × (slice_get places 0 ≡ Some p) = within_is places 0 some in
     let first : (x : Wanted) × (want_at talk.wants 0 ≡ Some x) × (p.0.0 ≡ x.place) =
     also_at (λ (x : Fields × Option ℕ). x.0) (λ (x : Wanted). x.place) (slice_get places 0) (want_at talk.wants 0)
-    p.0 (sym (asked.alike 0)) p.1 in
+    p.0 (sym (called.alike 0)) p.1 in
     absurd (let bad : None ≡ Some first.0 = sym want ∙ first.1 in cc bad)
-connect_shaped places talk (Some w) some asked want = λ _. record {
+connect_shaped places talk (Some w) some called want = λ _. record {
   packets = [];
   sent_is = refl;
   done = omega arith;
@@ -318,43 +318,43 @@ sent_shaped places feed talk k (Some l) f h =
     λ linked. shape_more places talk l.sent (items_sent feed l.session.grants k (sent feed l.session k).1) l.delivered
     (f linked).few (h linked)
 
-read_shaped : (places : Places) (c : Counted) (n : ℕ) (q : Option CountedLink) → AreAsked places c.talk.wants
+read_shaped : (places : Places) (c : Counted) (n : ℕ) (q : Option CountedLink) → AreCalled places c.talk.wants
     → AreFacts places c.talk q → AreShaped places c.talk q → AreShaped places c.talk c.link
     → AreShaped places (read_by n c q).talk (read_by n c q).link
-read_shaped places c n None asked f h same = same
-read_shaped places c n (Some l) asked f h same = λ linked. elim (linked_or c.talk.stage) [
-  | inl there ↦ shape_read places c.talk asked n l (f there) (h there) linked
+read_shaped places c n None called f h same = same
+read_shaped places c n (Some l) called f h same = λ linked. elim (linked_or c.talk.stage) [
+  | inl there ↦ shape_read places c.talk called n l (f there) (h there) linked
   | inr over ↦ absurd (over (subst (λ (t : Talk). IsLinked t.stage) (unlinked_upon c.talk (news n l) over).0 linked))
 ]
 
 pub step_shaped : (setup : Setup) (c : Counted) (step : Step) → 0 < length setup.places.items
-    → AreAsked setup.places.items c.talk.wants → AreFacts setup.places.items c.talk c.link
+    → AreCalled setup.places.items c.talk.wants → AreFacts setup.places.items c.talk c.link
     → AreShaped setup.places.items c.talk c.link
     → AreShaped setup.places.items (counted_step setup c step).talk (counted_step setup c step).link
-step_shaped setup c (Append k b) some asked f h = h
-step_shaped setup c Connect some asked f h =
-    connect_shaped setup.places.items c.talk (want_at c.talk.wants 0) some asked refl
-step_shaped setup c (ToServer n) some asked f h =
+step_shaped setup c (Append k b) some called f h = h
+step_shaped setup c Connect some called f h =
+    connect_shaped setup.places.items c.talk (want_at c.talk.wants 0) some called refl
+step_shaped setup c (ToServer n) some called f h =
     served_shaped setup.places.items (windows_of setup c) c.talk n c.link f h
-step_shaped setup c (ToClient n) some asked f h = read_shaped setup.places.items c n c.link asked f h h
-step_shaped setup c (Send k) some asked f h = sent_shaped setup.places.items (windows_of setup c) c.talk k c.link f h
-step_shaped setup c Cut some asked f h = tt
+step_shaped setup c (ToClient n) some called f h = read_shaped setup.places.items c n c.link called f h h
+step_shaped setup c (Send k) some called f h = sent_shaped setup.places.items (windows_of setup c) c.talk k c.link f h
+step_shaped setup c Cut some called f h = tt
 
--- what is told of it
+-- what is reported of it
 packets_sent : (talk : Talk) (phase : Phase) (taken way : List ℕ) (is : List Item) → talk.stage ≡ Packets
     → Shakes talk phase taken way is → AreSent is
 packets_sent talk phase taken way is p (asks_place k w stage want ready asks none) =
     absurd (let bad : Station k ≡ Packets = sym stage ∙ p in cc bad)
-packets_sent talk phase taken way is p (has_place k stage at told one) =
+packets_sent talk phase taken way is p (has_place k stage at reported one) =
     absurd (let bad : Station k ≡ Packets = sym stage ∙ p in cc bad)
 packets_sent talk phase taken way is p (asks_number k stage at asks none) =
     absurd (let bad : Number k ≡ Packets = sym stage ∙ p in cc bad)
-packets_sent talk phase taken way is p (has_number k stage at told one) =
+packets_sent talk phase taken way is p (has_number k stage at reported one) =
     absurd (let bad : Number k ≡ Packets = sym stage ∙ p in cc bad)
-packets_sent talk phase taken way is p (has_none k stage at told one) =
+packets_sent talk phase taken way is p (has_none k stage at reported one) =
     absurd (let bad : Number k ≡ Packets = sym stage ∙ p in cc bad)
 packets_sent talk phase taken way is p (asks_end k stage at asks none) = subst AreSent (sym none) tt
-packets_sent talk phase taken way is p (streams stage later sent told) = sent
+packets_sent talk phase taken way is p (streams stage later sent reported) = sent
 
 items_are : (places : Places) (phase : Phase) (prefix is : List Item) → ArePackets prefix → AreSent is
     → AreBorne places is → EndsIn phase is → AreItems (prefix ++ is)

@@ -36,7 +36,7 @@ use Rattle.slink_model.proofs.Lined.{begins_asking}
 use Rattle.slink_model.proofs.OneWorld.{Keeps, step_keeps}
 use Rattle.slink_wire.proofs.RequestLines.{station_line}
 use Rattle.slink_model.proofs.Requested.{also_at}
-use Rattle.slink_model.proofs.Shaking.{IsSuited, asks_place, AreAsked}
+use Rattle.slink_model.proofs.Shaking.{IsSuited, asks_place, AreCalled}
 use Rattle.slink_model.proofs.Sparing.{WorldTalks, opening_talks, step_talks}
 use Rattle.slink_model.proofs.Worlds.{AreOf, each_of, none_granted}
 
@@ -131,7 +131,7 @@ module _ (setup : Setup) (differ : Differ setup.places.items) (codes : (k : ℕ)
       let p : (p : Fields × Option ℕ) × (slice_get places 0 ≡ Some p) = within_is places 0 some in
       let first : (x : Wanted) × (want_at talk.wants 0 ≡ Some x) × (p.0.0 ≡ x.place) =
       also_at (λ (x : Fields × Option ℕ). x.0) (λ (x : Wanted). x.place) (slice_get places 0)
-      (want_at talk.wants 0) p.0 (sym (t.asked.alike 0)) p.1 in
+      (want_at talk.wants 0) p.0 (sym (t.called.alike 0)) p.1 in
       let fields : IsField 5 first.0.place.station × IsField 2 first.0.place.network =
       subst (λ (f : Fields). IsField 5 f.station × IsField 2 f.network) first.2 (codes 0 p.0 p.1) in
       let says : says_place 0 talk ≡ to_place (Some first.0) 0 talk =
@@ -202,7 +202,7 @@ module _ (setup : Setup) (differ : Differ setup.places.items) (codes : (k : ℕ)
   served_links w n (Some c) None p t counts s = absurd counts
   served_links w n (Some c) (Some l) None t counts s = absurd s
   served_links w n (Some c) (Some l) (Some m) t counts s =
-      served_counts places differ codes w.client t.asked w.windows t.ringed n l m s c counts
+      served_counts places differ codes w.client t.called w.windows t.ringed n l m s c counts
 
   -- Send
   sent_links : (w : WorldState) (k : ℕ) (q : Option CountedLink) (o : Option LinkState) → Talks w
@@ -225,12 +225,12 @@ module _ (setup : Setup) (differ : Differ setup.places.items) (codes : (k : ℕ)
   read_world w v n (Some c) None p t keeps windows same pushed was now h unlinked counts = absurd counts
   read_world w v n (Some c) (Some l) None t keeps windows same pushed was now h unlinked counts = absurd h
   read_world w v n (Some c) (Some l) (Some m) t keeps windows same pushed was now h unlinked counts =
-      let r : ReadCounts places differ codes w v n l m c counts h keeps t.asked =
-      read_counts places differ codes w v n l m c counts h keeps t.asked in
-      let d : CountedLink = now_counted places differ codes w v n l m c counts h keeps t.asked in
+      let r : ReadCounts places differ codes w v n l m c counts h keeps t.called =
+      read_counts places differ codes w v n l m c counts h keeps t.called in
+      let d : CountedLink = now_counted places differ codes w v n l m c counts h keeps t.called in
       let talk : Talk = talk_upon w.client.talk (news n c) in
-      let held : Lists = (gains places differ codes w v n l m c counts h keeps t.asked).held in
-      let start : Numbers = (gains places differ codes w v n l m c counts h keeps t.asked).start in
+      let held : Lists = (gains places differ codes w v n l m c counts h keeps t.called).held in
+      let start : Numbers = (gains places differ codes w v n l m c counts h keeps t.called).start in
       record {
         link = Some d;
         is = ap (λ (x : Lists). record { pushed = x; talk = talk; held = held; start = start; link = Some d })
@@ -308,10 +308,10 @@ module _ (setup : Setup) (differ : Differ setup.places.items) (codes : (k : ℕ)
       all_world steps run.0 v (counted_step setup c step) run.2 some of.2
       (step_talks places differ codes w run.0 step some of.0 of.1 run.1 t)
       (step_keeps places differ codes w t keeps step run.0 run.1) next
-      (step_shaped setup c step some (subst (λ (x : Counted). AreAsked places x.talk.wants) (sym i.is) t.asked)
+      (step_shaped setup c step some (subst (λ (x : Counted). AreCalled places x.talk.wants) (sym i.is) t.called)
       (facts_of c w i) shaped)
 
-  -- what is told of it
+  -- what is reported of it
   link_counted : (client : Listening) (c : CountedLink) (l : LinkState) → Counts places client c l
       → IsCountedLink client.talk client.kept c l
   link_counted client c l k = record {

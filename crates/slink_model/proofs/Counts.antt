@@ -1,4 +1,4 @@
--- The counts of a link, with who has said what.
+-- The counts of a link, with who has sent what.
 use Rattle.std.proofs.Common.{◌≡◌, ℕ, ◌+◌, ◌≤◌, ◌%◌, ◌^◌, inl, inr, refl, sym, ap, subst, ◌∙◌, arith, Bool, true, false}
 use Rattle.std.proofs.Common.{◌&&◌, not, List, [], ◌∷◌, ◌++◌, append-nil, length, length-append, length-drop, set, take}
 use Rattle.std.proofs.Common.{drop, take-append-drop, Option, Some, None, slice_get}
@@ -31,7 +31,7 @@ use Rattle.slink_feed.specs.Session.{State, answered, at, chosen, grant_at, gran
 use Rattle.slink_model.specs.Ties.{Item, Accepted, Refused, Greeted, Carried, Finished, Places, items_of, way_bytes}
 use Rattle.slink_feed.specs.Window.{Window}
 use Rattle.slink_model.specs.World.{Differ, IsServed, LinkState}
-use Rattle.slink_model.proofs.Answering.{Comes, IsOn, asked_on, it_came, not_yet, quiet_on}
+use Rattle.slink_model.proofs.Answering.{Comes, IsOn, called_on, it_came, not_yet, quiet_on}
 use Rattle.slink_feed.proofs.Closing.{Open, open_or, shut_on}
 use Rattle.slink_model.proofs.Calling.{chosen_open, granted_open, open_at, ready_for_open}
 use Rattle.slink_model.proofs.Counting.{behind_more, drop_on, take_on}
@@ -39,7 +39,7 @@ use Rattle.slink_model.proofs.Items.{reply_items, way_more}
 use Rattle.slink_model.proofs.Lined.{IsAnswered, IsAsking}
 use Rattle.slink_model.proofs.OneWorld.{linked_or}
 use Rattle.slink_model.proofs.Requested.{end_command, number_command, station_command}
-use Rattle.slink_model.proofs.Shaking.{AreAsked, AreRinged, Flows, IsSuited, Shakes, a_grant, asked_place, asks_end}
+use Rattle.slink_model.proofs.Shaking.{AreCalled, AreRinged, Flows, IsSuited, Shakes, a_grant, called_place, asks_end}
 use Rattle.slink_model.proofs.Shaking.{asks_number, asks_place, granted_alike, has_none, has_number, has_place}
 use Rattle.slink_model.proofs.Shaking.{in_phase, is_short, no_grant, none_suited, number_granted, place_chosen, replied}
 use Rattle.slink_model.proofs.Shaking.{streams, unanswered}
@@ -100,10 +100,11 @@ waits_false taken written way is few = elim (leb_tells (taken + 2) (length writt
 
 module _ (places : Places) (differ : Differ places) (codes : (k : ℕ) (p : Fields × Option ℕ)
     → slice_get places k ≡ Some p → IsField 5 p.0.station × IsField 2 p.0.network) (client : Listening)
-    (asked : AreAsked places client.talk.wants)
+    (called : AreCalled places client.talk.wants)
     (feed : List Window) (ringed : AreRinged places feed) where
   -- what an answer leaves
-  module _ (s : State) (taken rest way : List ℕ) (items : List Item) (none : items ≡ []) (told : IsAnswered taken rest)
+  module _ (s : State) (taken rest way : List ℕ) (items : List Item) (none : items ≡ [])
+      (reported : IsAnswered taken rest)
       (f : Flows places client s.grants way items) where
     abbrev Left : State → Reply → List Item → Type 0
     Left now reply its = Pinned places client now taken rest (way ++ reply_bytes reply) (its ++ items_of reply)
@@ -115,19 +116,19 @@ module _ (places : Places) (differ : Differ places) (codes : (k : ℕ) (p : Fiel
         (subst (λ (z : Reply). Left now z []) (sym q) (subst (λ (z : State). Left z other []) (sym p) h))
 
     suits : (k : ℕ) → IsSuited (next_at client.talk.wants k) (grant_at s.grants k) []
-    suits = none_suited places differ codes client asked feed ringed s.grants way items none f
+    suits = none_suited places differ codes client called feed ringed s.grants way items none f
 
     place_left : (now : State) (reply : Reply) (k : ℕ) → client.talk.stage ≡ Station k
         → chosen (Some k) s ≡ (now, reply) → Left now reply items
     place_left now reply k stage is =
         left_as now (at (Chosen k) (set s.grants k None)) reply replies.Ok (sym (ap (λ (x : State × Reply). x.0) is))
         (sym (ap (λ (x : State × Reply). x.1) is)) (record {
-          flows = replied places differ codes client asked feed ringed s.grants (set s.grants k None) way items
-              replies.Ok none (λ i. no_grant places differ codes client asked feed ringed s.grants k i suits) (
+          flows = replied places differ codes client called feed ringed s.grants (set s.grants k None) way items
+              replies.Ok none (λ i. no_grant places differ codes client called feed ringed s.grants k i suits) (
                 tt,
                 tt,
               ) f;
-          shakes = has_place k stage refl told refl;
+          shakes = has_place k stage refl reported refl;
           ends = tt;
         })
 
@@ -137,20 +138,20 @@ module _ (places : Places) (differ : Differ places) (codes : (k : ℕ) (p : Fiel
     number_left now reply k mode None stage phase is wanted =
         left_as now s reply replies.Error (sym (ap (λ (x : State × Reply). x.0) is))
         (sym (ap (λ (x : State × Reply). x.1) is)) (record {
-          flows = replied places differ codes client asked feed ringed s.grants s.grants way items replies.Error none
+          flows = replied places differ codes client called feed ringed s.grants s.grants way items replies.Error none
               suits (tt, tt) f;
-          shakes = has_none k stage phase told refl;
+          shakes = has_none k stage phase reported refl;
           ends = tt;
         })
     number_left now reply k mode (Some p) stage phase is wanted =
         let g : Grant = record { mode = mode; position = p } in
         left_as now (at (Granted k) (set s.grants k (Some g))) reply replies.Ok
         (sym (ap (λ (x : State × Reply). x.0) is)) (sym (ap (λ (x : State × Reply). x.1) is)) (record {
-          flows = replied places differ codes client asked feed ringed s.grants (set s.grants k (Some g)) way items
+          flows = replied places differ codes client called feed ringed s.grants (set s.grants k (Some g)) way items
               replies.Ok none
-              (λ i. a_grant places differ codes client asked feed ringed s.grants k i g (λ m e. wanted p m refl e)
+              (λ i. a_grant places differ codes client called feed ringed s.grants k i g (λ m e. wanted p m refl e)
               suits) (tt, tt) f;
-          shakes = has_number k stage refl told refl;
+          shakes = has_number k stage refl reported refl;
           ends = tt;
         })
 
@@ -159,9 +160,9 @@ module _ (places : Places) (differ : Differ places) (codes : (k : ℕ) (p : Fiel
     end_left now reply stage is =
         left_as now (at Streaming s.grants) reply replies.Nothing (sym (ap (λ (x : State × Reply). x.0) is))
         (sym (ap (λ (x : State × Reply). x.1) is)) (record {
-          flows = unanswered places differ codes client asked feed ringed s.grants s.grants way [] replies.Nothing refl
+          flows = unanswered places differ codes client called feed ringed s.grants s.grants way [] replies.Nothing refl
               refl (subst (Flows places client s.grants way) none f);
-          shakes = streams stage (λ b. b) tt (λ _. told);
+          shakes = streams stage (λ b. b) tt (λ _. reported);
           ends = tt;
         })
 
@@ -267,21 +268,21 @@ module _ (places : Places) (differ : Differ places) (codes : (k : ℕ) (p : Fiel
         (λ _. omega (arith, few, length-drop n l.to_server))
 
     -- all lines are answered
-    told_counted : Open s.phase → IsAnswered before l.to_server
+    reported_counted : Open s.phase → IsAnswered before l.to_server
         → (IsLinked client.talk.stage → IsAnswered (before ++ bytes) rest
         → Pinned places client s (before ++ bytes) rest l.to_client items)
         → Counts places client (served_by feed client.talk n c) m
-    told_counted awake told pinned =
+    reported_counted awake reported pinned =
         let on : IsOn feed l.session m.session l.to_client m.to_client (before ++ bytes) rest =
         quiet_on feed l.session bytes l.to_client m.session m.to_client rest before served.serves awake
-        (counts.held awake) (subst (IsAnswered before) cut told) in
+        (counts.held awake) (subst (IsAnswered before) cut reported) in
         let none : waits c.taken c.written ≡ false =
-        waits_false c.taken c.written l.to_server counts.to_server (answered_few before l.to_server told) in
+        waits_false c.taken c.written l.to_server counts.to_server (answered_few before l.to_server reported) in
         made (served_by feed client.talk n c) replies.Nothing
         (ap (λ t. if_come (t && not (waits (taken_by n c) c.written)) feed client.talk base) none
         ∙ base_is (sym on.state)) (nothing_more on.sent) (λ _. on.held)
-        (λ there. pinned_still on.state (pinned there on.told)) (λ over _. on.told)
-        (λ _. answered_few (before ++ bytes) rest on.told)
+        (λ there. pinned_still on.state (pinned there on.reported)) (λ over _. on.reported)
+        (λ _. answered_few (before ++ bytes) rest on.reported)
 
     -- a line waits
     request_counted : (r : Request) (awake : Open s.phase) (known : IsCommand (request_line r) (requested r))
@@ -296,7 +297,7 @@ module _ (places : Places) (differ : Differ places) (codes : (k : ℕ) (p : Fiel
         → Pinned places client now (before ++ bytes) rest (l.to_client ++ reply_bytes reply) (items ++ items_of reply))
         → Counts places client (served_by feed client.talk n c) m
     request_counted r awake known stays_open there answer asks still next =
-        which (asked_on feed s r awake known stays_open l.session bytes l.to_client m.session m.to_client rest before
+        which (called_on feed s r awake known stays_open l.session bytes l.to_client m.session m.to_client rest before
         served.serves refl (counts.held awake) (subst (IsAsking (request_line r) before) cut asks))
       where
         old : waits c.taken c.written ≡ true
@@ -317,37 +318,38 @@ module _ (places : Places) (differ : Differ places) (codes : (k : ℕ) (p : Fiel
             (λ _. kept)
             (λ _. pinned_still same (still more)) (λ over _. absurd (over there))
             (λ shut. absurd (awake (ap (λ (x : State). x.phase) (sym same) ∙ shut)))
-        which (it_came reply sent done kept told) =
+        which (it_came reply sent done kept reported) =
             let is : answer_at client.talk.stage feed client.talk c.session ≡ (m.session.state, reply) =
             ap (λ (x : State). answer_at client.talk.stage feed client.talk x) (sym counts.session)
             ∙ answer m.session.state reply done in
             made (served_by feed client.talk n c) reply
             (served_as false (waits_false (taken_by n c) c.written rest drop_now
-            (answered_few (before ++ bytes) rest told)) ∙ ap (λ (x : State × Reply). counted_reply x base) is) sent
+            (answered_few (before ++ bytes) rest reported)) ∙ ap (λ (x : State × Reply). counted_reply x base) is) sent
             (λ _. kept)
-            (λ _. next m.session.state reply done told) (λ over _. absurd (over there))
-            (λ _. answered_few (before ++ bytes) rest told)
+            (λ _. next m.session.state reply done reported) (λ over _. absurd (over there))
+            (λ _. answered_few (before ++ bytes) rest reported)
 
-    -- by who has said what
+    -- by who has sent what
     by_shakes : IsLinked client.talk.stage → Flows places client s.grants l.to_client items → EndsIn s.phase items
         → Shakes client.talk s.phase before l.to_server items → Counts places client (served_by feed client.talk n c) m
     by_shakes there f ends (asks_place k w stage want ready asks none) =
         let at_k : (IsField 5 w.place.station × IsField 2 w.place.network)
         × (station_at feed w.place.station (Some w.place.network) ≡ Some k) =
-        asked_place places differ codes client asked feed ringed k w want in
+        called_place places differ codes client called feed ringed k w want in
         let choose : (now : State) (reply : Reply)
         → answered feed s (requested (requests.Station w.place)) ≡ (now, reply)
         → chosen (Some k) s ≡ (now, reply) =
-        λ now reply is. place_chosen places differ codes client asked feed ringed s now reply k w ready at_k.1 is in
+        λ now reply is. place_chosen places differ codes client called feed ringed s now reply k w ready at_k.1 is in
         request_counted (requests.Station w.place) (ready_for_open k s.phase ready)
         (station_command w.place at_k.0.0 at_k.0.1)
         (λ new reply is. (chosen_open s new reply k (choose new reply is)).1) there
         (λ now reply is. ap (λ (x : Stage). answer_at x feed client.talk s) stage ∙ choose now reply is) asks
         (λ more. record { flows = f; shakes = asks_place k w stage want ready more none; ends = ends })
-        (λ now reply is told. place_left s (before ++ bytes) rest l.to_client items none told f now reply k stage
+        (λ now reply is reported. place_left s (before ++ bytes) rest l.to_client items none reported f now reply k
+        stage
         (choose now reply is))
-    by_shakes there f ends (has_place k stage phase told one) =
-        told_counted (open_at s.phase (Chosen k) phase tt) told
+    by_shakes there f ends (has_place k stage phase reported one) =
+        reported_counted (open_at s.phase (Chosen k) phase tt) reported
         (λ _ more. record { flows = f; shakes = has_place k stage phase more one; ends = ends })
     by_shakes there f ends (asks_number k stage phase asks none) =
         let mode : Mode = client.talk.mode in
@@ -355,40 +357,41 @@ module _ (places : Places) (differ : Differ places) (codes : (k : ℕ) (p : Fiel
         let o : Option ℕ = option_and_then (grant_of mode number) (slice_get feed k) in
         let grant : (now : State) (reply : Reply) → answered feed s (requested (numbered mode number)) ≡ (now, reply)
         → granted mode k o s ≡ (now, reply) =
-        λ now reply is. number_granted places differ codes client asked feed ringed s now reply k mode number phase
+        λ now reply is. number_granted places differ codes client called feed ringed s now reply k mode number phase
         is in
         request_counted (numbered mode number) (open_at s.phase (Chosen k) phase tt)
-        (number_command mode number (is_short places differ codes client asked feed ringed number
-        (λ x e. asked.short k x e))) (λ new reply is. granted_open s new reply k mode o phase (grant new reply is))
+        (number_command mode number (is_short places differ codes client called feed ringed number
+        (λ x e. called.short k x e))) (λ new reply is. granted_open s new reply k mode o phase (grant new reply is))
         there
         (λ now reply is. ap (λ (x : Stage). answer_at x feed client.talk s) stage ∙ grant now reply is) asks
         (λ more. record { flows = f; shakes = asks_number k stage phase more none; ends = ends })
-        (λ now reply is told. number_left s (before ++ bytes) rest l.to_client items none told f now reply k mode o
+        (λ now reply is reported. number_left s (before ++ bytes) rest l.to_client items none reported f now reply k
+        mode o
         stage phase (grant now reply is)
-        (λ p m e wanted. granted_alike places differ codes client asked feed ringed mode number (slice_get feed k) p m
-        e wanted (asked.short k m wanted)))
-    by_shakes there f ends (has_number k stage phase told one) =
-        told_counted (open_at s.phase (Granted k) phase tt) told
+        (λ p m e wanted. granted_alike places differ codes client called feed ringed mode number (slice_get feed k) p m
+        e wanted (called.short k m wanted)))
+    by_shakes there f ends (has_number k stage phase reported one) =
+        reported_counted (open_at s.phase (Granted k) phase tt) reported
         (λ _ more. record { flows = f; shakes = has_number k stage phase more one; ends = ends })
-    by_shakes there f ends (has_none k stage phase told one) =
-        told_counted (open_at s.phase (Chosen k) phase tt) told
+    by_shakes there f ends (has_none k stage phase reported one) =
+        reported_counted (open_at s.phase (Chosen k) phase tt) reported
         (λ _ more. record { flows = f; shakes = has_none k stage phase more one; ends = ends })
     by_shakes there f ends (asks_end k stage phase asks none) =
         let streaming : (now : State) (reply : Reply) → answered feed s (requested requests.End) ≡ (now, reply)
         → ◌≡◌ {A = State × Reply} (at Streaming s.grants, replies.Nothing) (now, reply) =
-        λ now reply is. in_phase places differ codes client asked feed ringed (Granted k) s now reply requests.End
+        λ now reply is. in_phase places differ codes client called feed ringed (Granted k) s now reply requests.End
         phase is in
         request_counted requests.End (open_at s.phase (Granted k) phase tt) end_command
         (λ new reply is. subst (λ (x : State × Reply). Open x.0.phase) (streaming new reply is)
         (λ e. let bad : Streaming ≡ Closed = e in cc bad)) there
         (λ now reply is. ap (λ (x : Stage). answer_at x feed client.talk s) stage ∙ streaming now reply is) asks
         (λ more. record { flows = f; shakes = asks_end k stage phase more none; ends = ends })
-        (λ now reply is told. end_left s (before ++ bytes) rest l.to_client items none told f now reply stage
+        (λ now reply is reported. end_left s (before ++ bytes) rest l.to_client items none reported f now reply stage
         (streaming now reply is))
-    by_shakes there f ends (streams stage later sent told) = elim (open_or s.phase) [
+    by_shakes there f ends (streams stage later sent reported) = elim (open_or s.phase) [
       | inl shut ↦ shut_counted shut
           (λ _. record { flows = f; shakes = streams stage later sent (λ awake. absurd (awake shut)); ends = ends })
-      | inr awake ↦ told_counted awake (told awake)
+      | inr awake ↦ reported_counted awake (reported awake)
           (λ _ more. record { flows = f; shakes = streams stage later sent (λ _. more); ends = ends })
     ]
 
@@ -398,6 +401,6 @@ module _ (places : Places) (differ : Differ places) (codes : (k : ℕ) (p : Fiel
           by_shakes there p.flows p.ends p.shakes
       | inr over ↦ elim (open_or s.phase) [
         | inl shut ↦ shut_counted shut (λ there. absurd (over there))
-        | inr awake ↦ told_counted awake (counts.quiet over awake) (λ there _. absurd (over there))
+        | inr awake ↦ reported_counted awake (counts.quiet over awake) (λ there _. absurd (over there))
       ]
     ]

@@ -1,4 +1,4 @@
--- Which line waits for its answer, as more bytes of the lines that were said are taken.
+-- Which line waits for its answer, as more bytes of the lines that were sent are taken.
 use Rattle.std.proofs.Common.{◌≡◌, ℕ, ◌≤◌, refl, sym, ap, ◌∙◌, arith, Bool, true, false, List, [], ◌∷◌, ◌++◌}
 use Rattle.std.proofs.Common.{append_assoc, length, length-append, take, take_all}
 use Rattle.std.proofs.lemmas.List.{append_cancel_left, length-take-le}
@@ -20,21 +20,21 @@ pub lines_more : (lines : List (List ℕ)) (line : List ℕ) → AreLines lines 
 lines_more [] line are is = (is, tt)
 lines_more (l ∷ lines) line are is = (are.0, lines_more lines line are.1 is)
 
--- the last line of some was asked last, and isn't told yet
+-- the last line of some was called last, and isn't reported yet
 pub record IsAsking (line taken way : List ℕ) : Type 0 where
   pub before : List (List ℕ)
   pub are_lines : AreLines (before ++ line ∷ [])
   pub written : taken ++ way ≡ written_bytes (before ++ line ∷ [])
-  pub told : (lines_of taken).lines ≡ before
+  pub reported : (lines_of taken).lines ≡ before
 
--- all lines are told
+-- all lines are reported
 pub record IsAnswered (taken way : List ℕ) : Type 0 where
   pub before : List (List ℕ)
   pub are_lines : AreLines before
   pub written : taken ++ way ≡ written_bytes before
-  pub told : (lines_of taken).lines ≡ before
+  pub reported : (lines_of taken).lines ≡ before
 
--- one line more is said
+-- one line more is sent
 pub asks_more : (line taken way : List ℕ) → IsLine line → IsAnswered taken way
     → IsAsking line taken (way ++ (line ++ 13 ∷ 10 ∷ []))
 asks_more line taken way is a = record {
@@ -42,28 +42,28 @@ asks_more line taken way is a = record {
   are_lines = lines_more a.before line a.are_lines is;
   written = sym (append_assoc taken way (line ++ 13 ∷ 10 ∷ []))
       ∙ (ap (λ b. b ++ (line ++ 13 ∷ 10 ∷ [])) a.written ∙ sym (bytes_more a.before line));
-  told = a.told;
+  reported = a.reported;
 }
 
 asks_first : (line : List ℕ) → IsLine line → (lines_of []).lines ≡ [] → IsAsking line [] (line ++ 13 ∷ 10 ∷ [])
-asks_first line is none = record { before = []; are_lines = (is, tt); written = refl; told = none }
+asks_first line is none = record { before = []; are_lines = (is, tt); written = refl; reported = none }
 
 pub begins_asking : (line : List ℕ) → IsLine line → IsAsking line [] (line ++ 13 ∷ 10 ∷ [])
 begins_asking line is = asks_first line is none_quiet.0
 
 -- more bytes are taken
-one_more : (before told : List (List ℕ)) (x : List ℕ) (c : ℕ) → told ≡ take c before → c ≤ length before
-    → told ≡ before ++ x ∷ [] → ⊥
-one_more before told x c is le e =
-    let short : length told ≡ length (take c before) = ap length is in
-    let long : length told ≡ length (before ++ x ∷ []) = ap length e in
+one_more : (before reported : List (List ℕ)) (x : List ℕ) (c : ℕ) → reported ≡ take c before → c ≤ length before
+    → reported ≡ before ++ x ∷ [] → ⊥
+one_more before reported x c is le e =
+    let short : length reported ≡ length (take c before) = ap length is in
+    let long : length reported ≡ length (before ++ x ∷ []) = ap length e in
     omega (arith, short, long, length-take-le c before le, length-append before (x ∷ []), le)
 
-last_told : (before told : List (List ℕ)) (line x : List ℕ) (c : ℕ) → told ≡ take c (before ++ line ∷ [])
-    → c ≤ length (before ++ line ∷ []) → told ≡ before ++ x ∷ [] → line ≡ x
-last_told before told line x c is le e =
-    let short : length told ≡ length (take c (before ++ line ∷ [])) = ap length is in
-    let long : length told ≡ length (before ++ x ∷ []) = ap length e in
+last_reported : (before reported : List (List ℕ)) (line x : List ℕ) (c : ℕ) → reported ≡ take c (before ++ line ∷ [])
+    → c ≤ length (before ++ line ∷ []) → reported ≡ before ++ x ∷ [] → line ≡ x
+last_reported before reported line x c is le e =
+    let short : length reported ≡ length (take c (before ++ line ∷ [])) = ap length is in
+    let long : length reported ≡ length (before ++ x ∷ []) = ap length e in
     let all : take c (before ++ line ∷ []) ≡ before ++ line ∷ [] =
     take_all c (before ++ line ∷ []) (omega (
       arith,
@@ -79,42 +79,42 @@ last_told before told line x c is le e =
 true_false : (b : Bool) → b ≡ true → b ≡ false → ⊥
 true_false b t f = let bad : true ≡ false = sym t ∙ f in cc bad
 
--- what more bytes tell: nothing, or the line that was asked last
+-- what more bytes tell: nothing, or the line that was called last
 pub data IsRead (line taken way : List ℕ) : What → Type 0 where
   nothing : IsAsking line taken way → IsRead line taken way More
   the_line : (items : List ℕ) → items ≡ line → IsAnswered taken way
       → IsRead line taken way (Line (record { items = items }))
 
-pub more_asked : (line taken piece way : List ℕ) (what : What) → IsAsking line taken (piece ++ way)
+pub more_called : (line taken piece way : List ℕ) (what : What) → IsAsking line taken (piece ++ way)
     → Tells what taken (taken ++ piece) → IsRead line (taken ++ piece) way what
-more_asked line taken piece way More a tells = nothing (record {
+more_called line taken piece way More a tells = nothing (record {
   before = a.before;
   are_lines = a.are_lines;
   written = append_assoc taken piece way ∙ a.written;
-  told = tells.0 ∙ a.told;
+  reported = tells.0 ∙ a.reported;
 })
-more_asked line taken piece way (Line l) a tells =
+more_called line taken piece way (Line l) a tells =
     let written : (taken ++ piece) ++ way ≡ written_bytes (a.before ++ line ∷ []) = append_assoc taken piece way
     ∙ a.written in
-    let told : SpellsPrefix (taken ++ piece) (a.before ++ line ∷ []) =
+    let reported : SpellsPrefix (taken ++ piece) (a.before ++ line ∷ []) =
     prefix_spelled (a.before ++ line ∷ []) (taken ++ piece) way a.are_lines written in
     let now : (lines_of (taken ++ piece)).lines ≡ a.before ++ l.items ∷ [] =
-    tells.0 ∙ ap (λ ls. ls ++ l.items ∷ []) a.told in
+    tells.0 ∙ ap (λ ls. ls ++ l.items ∷ []) a.reported in
     let same : line ≡ l.items =
-    last_told a.before (lines_of (taken ++ piece)).lines line l.items told.0 told.2 told.1 now in
+    last_reported a.before (lines_of (taken ++ piece)).lines line l.items reported.0 reported.2 reported.1 now in
     the_line l.items (sym same) (record {
       before = a.before ++ line ∷ [];
       are_lines = a.are_lines;
       written = written;
-      told = now ∙ ap (λ x. a.before ++ x ∷ []) (sym same);
+      reported = now ∙ ap (λ x. a.before ++ x ∷ []) (sym same);
     })
-more_asked line taken piece way TooLong a tells =
-    let told : SpellsPrefix (taken ++ piece) (a.before ++ line ∷ []) =
+more_called line taken piece way TooLong a tells =
+    let reported : SpellsPrefix (taken ++ piece) (a.before ++ line ∷ []) =
     prefix_spelled (a.before ++ line ∷ []) (taken ++ piece) way a.are_lines (append_assoc taken piece way
     ∙ a.written) in
-    absurd (true_false (lines_of (taken ++ piece)).is_too_long tells.1 told.3)
+    absurd (true_false (lines_of (taken ++ piece)).is_too_long tells.1 reported.3)
 
--- nothing is told any more
+-- nothing is reported any more
 pub more_answered : (taken piece way : List ℕ) (what : What) → IsAnswered taken (piece ++ way)
     → Tells what taken (taken ++ piece) → (what ≡ More) × IsAnswered (taken ++ piece) way
 more_answered taken piece way More a tells = (
@@ -123,15 +123,15 @@ more_answered taken piece way More a tells = (
     before = a.before;
     are_lines = a.are_lines;
     written = append_assoc taken piece way ∙ a.written;
-    told = tells.0 ∙ a.told;
+    reported = tells.0 ∙ a.reported;
   },
 )
 more_answered taken piece way (Line l) a tells =
-    let told : SpellsPrefix (taken ++ piece) a.before =
+    let reported : SpellsPrefix (taken ++ piece) a.before =
     prefix_spelled a.before (taken ++ piece) way a.are_lines (append_assoc taken piece way ∙ a.written) in
-    absurd (one_more a.before (lines_of (taken ++ piece)).lines l.items told.0 told.2 told.1 (tells.0
-    ∙ ap (λ ls. ls ++ l.items ∷ []) a.told))
+    absurd (one_more a.before (lines_of (taken ++ piece)).lines l.items reported.0 reported.2 reported.1 (tells.0
+    ∙ ap (λ ls. ls ++ l.items ∷ []) a.reported))
 more_answered taken piece way TooLong a tells =
-    let told : SpellsPrefix (taken ++ piece) a.before =
+    let reported : SpellsPrefix (taken ++ piece) a.before =
     prefix_spelled a.before (taken ++ piece) way a.are_lines (append_assoc taken piece way ∙ a.written) in
-    absurd (true_false (lines_of (taken ++ piece)).is_too_long tells.1 told.3)
+    absurd (true_false (lines_of (taken ++ piece)).is_too_long tells.1 reported.3)

@@ -1,4 +1,4 @@
--- A link after each answer of the session, and after each packet that is asked for.
+-- A link after each answer of the session, and after each packet that is requested.
 use Rattle.std.proofs.Common.{◌≡◌, ◌≢◌, ℕ, ◌+◌, ◌-◌, ◌%◌, ◌^◌, ◌<◌, ◌≤◌, inl, inr, zero, suc, refl, sym, ap, subst, ◌∙◌}
 use Rattle.std.proofs.Common.{arith, Bool, true, false, ◌==◌, List, [], ◌∷◌, ◌++◌, append-nil, length, length-set}
 use Rattle.std.proofs.Common.{get_or, Option, Some, None, option_map, slice_get, if◌then◌else◌, codes}
@@ -286,7 +286,7 @@ module _ (places : Places) (first : ℕ) (windows : List Window) (pushed : Lists
       streamed s first_sent way k (grant_at s.grants k) (slice_get windows k) lt most phase refl refl long l
   sent_in_phase Closed s first_sent way k lt most phase long l = nothing_sent s first_sent way s (λ b. b) refl l
 
-  -- once a packet was asked for
+  -- once a packet was requested
   pub sent_link : (s : State) (first_sent : Numbers) (way : List ℕ) (k : ℕ) → k < length places → length places ≤ 16
       → ((w : Window) (n : ℕ) (r : List ℕ) → slice_get windows k ≡ Some w → record_at w n ≡ Some r → length r ≡ 512)
       → Linked s first_sent way

@@ -29,7 +29,7 @@ use Rattle.slink_feed.specs.Window.{Window}
 use Rattle.slink_model.specs.World.{AllHappen, Both, Connects, Delivers, Differ, Happens, Reads, IsRead, IsServed}
 use Rattle.slink_model.specs.World.{LinkState, Numbers, Taking, WorldState, none_read, noted, opening, piece_read}
 use Rattle.slink_model.specs.World.{piece_lost, pushed_to, written, taking}
-use Rattle.slink_model.proofs.Answering.{Comes, IsOn, IsPending, asked_on, it_came, not_both, not_yet, quiet_on}
+use Rattle.slink_model.proofs.Answering.{Comes, IsOn, IsPending, called_on, it_came, not_both, not_yet, quiet_on}
 use Rattle.slink_feed.proofs.Closing.{Open, open_or, shut_on, held_same, standings_same}
 use Rattle.slink_model.proofs.Calling.{pending_or}
 use Rattle.slink_feed.proofs.Received.{begun_after, begun_none}
@@ -54,16 +54,16 @@ same_gained f (events.Gap k want got) t = refl
 same_gained f events.Garbage t = refl
 same_gained f events.Foreign t = refl
 
-pub told_events : (f : Numbers) (e : Event) (es : List Event) (g : Gained)
+pub reported_events : (f : Numbers) (e : Event) (es : List Event) (g : Gained)
     → with_events f (telling e ++ es) g ≡ with_events f es (with_event f e g)
-told_events f (events.Say line) es g = refl
-told_events f (events.Record k n bytes) es g = refl
-told_events f events.None es g = refl
-told_events f events.End es g = refl
-told_events f (events.Refused k) es g = refl
-told_events f (events.Gap k want got) es g = refl
-told_events f events.Garbage es g = refl
-told_events f events.Foreign es g = refl
+reported_events f (events.Say line) es g = refl
+reported_events f (events.Record k n bytes) es g = refl
+reported_events f events.None es g = refl
+reported_events f events.End es g = refl
+reported_events f (events.Refused k) es g = refl
+reported_events f (events.Gap k want got) es g = refl
+reported_events f events.Garbage es g = refl
+reported_events f events.Foreign es g = refl
 
 -- the wholes that a client read, and what was lost behind its end
 pub record ReadAllOf (f : Numbers) (t : Taking) (bytes : List ℕ) (last : Taking) : Type 0 where
@@ -113,7 +113,7 @@ read_whole f u v now all piece rest e w split is h none more =
           (ap (λ (c : Listening). c.talk) client ∙ sym talk)
           ∙ (ap (with_events f (events_of (read u.client.talk w).0 more.brought))
           (same_gained f e (record u { client = now }) ∙ ap (λ (x : Event). with_event f x (gained u)) (sym event))
-          ∙ sym (told_events f (read u.client.talk w).1 (events_of (read u.client.talk w).0 more.brought)
+          ∙ sym (reported_events f (read u.client.talk w).1 (events_of (read u.client.talk w).0 more.brought)
           (gained u))));
       is_begun = more.is_begun;
       all = more.all;
@@ -236,20 +236,20 @@ module _ (feed : List Window) (s : Standing) (bytes way rest taken : List ℕ) (
 
   quiet_once : (a b : Standing) (x y : List ℕ) → Serves feed s bytes way a x → Serves feed s bytes way b y
       → Open s.state.phase → IsAnswered taken (bytes ++ rest) → (a ≡ b) × (x ≡ y)
-  quiet_once a b x y p q awake told =
+  quiet_once a b x y p q awake reported =
       let one : IsOn feed s a way x (taken ++ bytes) rest =
-      quiet_on feed s bytes way a x rest taken p awake (held awake) told in
+      quiet_on feed s bytes way a x rest taken p awake (held awake) reported in
       let two : IsOn feed s b way y (taken ++ bytes) rest =
-      quiet_on feed s bytes way b y rest taken q awake (held awake) told in (
+      quiet_on feed s bytes way b y rest taken q awake (held awake) reported in (
         standings_same a b (one.state ∙ sym two.state) (held_same a.held b.held (taken ++ bytes) one.held two.held),
         one.sent ∙ sym two.sent,
       )
 
-  pub told_once : (a b : Standing) (x y : List ℕ) → Serves feed s bytes way a x → Serves feed s bytes way b y
+  pub reported_once : (a b : Standing) (x y : List ℕ) → Serves feed s bytes way a x → Serves feed s bytes way b y
       → (Open s.state.phase → IsAnswered taken (bytes ++ rest)) → (a ≡ b) × (x ≡ y)
-  told_once a b x y p q told = elim (open_or s.state.phase) [
+  reported_once a b x y p q reported = elim (open_or s.state.phase) [
     | inl shut ↦ shut_once a b x y p q shut
-    | inr awake ↦ quiet_once a b x y p q awake (told awake)
+    | inr awake ↦ quiet_once a b x y p q awake (reported awake)
   ]
 
   module _ (pending : IsPending feed s.state taken (bytes ++ rest)) where
@@ -260,11 +260,11 @@ module _ (feed : List Window) (s : Standing) (bytes way rest taken : List ℕ) (
     both_done : (a b : Standing) (x y : List ℕ) → Done a x → Done b y → (a ≡ b) × (x ≡ y)
     both_done a b x y (not_yet p sent kept asks) (not_yet q sent' kept' asks') =
         (standings_same a b (p ∙ sym q) (held_same a.held b.held (taken ++ bytes) kept kept'), sent ∙ sym sent')
-    both_done a b x y (not_yet p sent kept asks) (it_came r sent' done kept' told) =
-        absurd (not_both (request_line pending.request) (taken ++ bytes) rest asks told)
-    both_done a b x y (it_came r sent done kept told) (not_yet q sent' kept' asks') =
-        absurd (not_both (request_line pending.request) (taken ++ bytes) rest asks' told)
-    both_done a b x y (it_came r sent done kept told) (it_came r' sent' done' kept' told') =
+    both_done a b x y (not_yet p sent kept asks) (it_came r sent' done kept' reported) =
+        absurd (not_both (request_line pending.request) (taken ++ bytes) rest asks reported)
+    both_done a b x y (it_came r sent done kept reported) (not_yet q sent' kept' asks') =
+        absurd (not_both (request_line pending.request) (taken ++ bytes) rest asks' reported)
+    both_done a b x y (it_came r sent done kept reported) (it_came r' sent' done' kept' reported') =
         let same : ◌≡◌ {A = State × Reply} (a.state, r) (b.state, r') = sym done ∙ done' in (
           standings_same a b (ap (λ (z : State × Reply). z.0) same)
               (held_same a.held b.held (taken ++ bytes) kept kept'),
@@ -272,12 +272,12 @@ module _ (feed : List Window) (s : Standing) (bytes way rest taken : List ℕ) (
               ∙ (ap (λ (z : State × Reply). way ++ reply_bytes z.1) same ∙ sym sent'),
         )
 
-    pub asked_once : (a b : Standing) (x y : List ℕ) → Serves feed s bytes way a x → Serves feed s bytes way b y
+    pub called_once : (a b : Standing) (x y : List ℕ) → Serves feed s bytes way a x → Serves feed s bytes way b y
         → (a ≡ b) × (x ≡ y)
-    asked_once a b x y p q = both_done a b x y
-        (asked_on feed s.state pending.request pending.awake pending.known pending.stays_open s bytes way a x rest
+    called_once a b x y p q = both_done a b x y
+        (called_on feed s.state pending.request pending.awake pending.known pending.stays_open s bytes way a x rest
         taken p refl (held pending.awake) pending.asks)
-        (asked_on feed s.state pending.request pending.awake pending.known pending.stays_open s bytes way b y rest
+        (called_on feed s.state pending.request pending.awake pending.known pending.stays_open s bytes way b y rest
         taken q refl (held pending.awake) pending.asks)
 
 -- a stage is linked, or not
@@ -329,15 +329,16 @@ module _ (places : Places) (differ : Differ places) (codes : (k : ℕ) (p : Fiel
   served_once n l a b talks p q = elim (linked_or w.client.talk.stage) [
     | inl linked ↦ of (let x : LinkTalks places w.client l.session l.to_server l.to_client = talks.0 linked in
         elim (pending_or places differ codes w t l x.taken x.items x.shakes) [
-          | inl pending ↦ asked_once w.windows l.session (take n l.to_server) l.to_client (drop n l.to_server) x.taken
+          | inl pending ↦ called_once w.windows l.session (take n l.to_server) l.to_client (drop n l.to_server) x.taken
               x.held (subst (IsPending w.windows l.session.state x.taken) cut pending) a.session b.session a.to_client
               b.to_client p.serves q.serves
-          | inr told ↦ told_once w.windows l.session (take n l.to_server) l.to_client (drop n l.to_server) x.taken
+          | inr reported ↦ reported_once w.windows l.session (take n l.to_server) l.to_client (drop n l.to_server)
+              x.taken
               x.held a.session b.session a.to_client b.to_client p.serves q.serves
-              (λ awake. subst (IsAnswered x.taken) cut (told awake))
+              (λ awake. subst (IsAnswered x.taken) cut (reported awake))
         ])
     | inr over ↦ of (let x : IsQuiet l.session l.to_server = talks.1 over in
-        told_once w.windows l.session (take n l.to_server) l.to_client (drop n l.to_server) x.0
+        reported_once w.windows l.session (take n l.to_server) l.to_client (drop n l.to_server) x.0
         (λ awake. (x.1 awake).0) a.session b.session a.to_client b.to_client p.serves q.serves
         (λ awake. subst (IsAnswered x.0) cut (x.1 awake).1))
   ]

@@ -24,12 +24,12 @@ use Rattle.slink_feed.specs.Cutting.{IsWhole}
 use Rattle.slink_feed.specs.Dialogue.{Talk, Whole, Reply, Packet, End, Garbage, answer_of, at_packet, bearer, ended}
 use Rattle.slink_feed.specs.Dialogue.{event_of, is_ahead, is_taken, read, read_at, if_wanted, next_at, says_number}
 use Rattle.slink_feed.specs.Dialogue.{says_place, to_answer}
-use Rattle.slink_feed.specs.Dialogue.{to_place, told, want_at, with_next}
+use Rattle.slink_feed.specs.Dialogue.{to_place, reported, want_at, with_next}
 use Rattle.slink_feed.specs.Listening.{Brings, Listening, begun, whole}
 use Rattle.slink_model.specs.Ties.{AreWhole, Item, Accepted, Refused, Greeted, Carried, Finished, Outcome, ends, says}
-use Rattle.slink_model.specs.Ties.{takes, told_of, waits, way_bytes}
+use Rattle.slink_model.specs.Ties.{takes, reported_of, waits, way_bytes}
 
-quiet_ending : (ending : Ending) → told_of (event_of ending) ≡ None
+quiet_ending : (ending : Ending) → reported_of (event_of ending) ≡ None
 quiet_ending endings.End = refl
 quiet_ending (endings.Refused k) = refl
 quiet_ending (endings.Gap k want got) = refl
@@ -70,9 +70,9 @@ granted_is : (line : List ℕ) → answer_of line ≡ Granted → line ≡ codes
 granted_is line h = bytes_same line (codes "OK")
     (only_ok (bytes_eq line (codes "OK")) (starts_with nat_eq line (codes "ERROR")) h)
 
--- what is said leaves what is wanted
+-- what is stated leaves what is wanted
 pub place_written : (o : Option Wanted) (k : ℕ) (t : Talk) → ((to_place o k t).0.wants ≡ t.wants)
-    × (told_of (to_place o k t).1 ≡ None)
+    × (reported_of (to_place o k t).1 ≡ None)
 place_written None k t = (refl, refl)
 place_written (Some w) k t = (refl, refl)
 
@@ -83,7 +83,7 @@ module _ (t : Talk) (bytes way : List ℕ) (new : Listening) (e : Event) (plain 
   has_ended items ending h none =
       let talk : new.talk ≡ record t { stage = Ended ending } = sym (ap (λ (p : Talk × Event). p.0) h) in
       let event : event_of ending ≡ e = ap (λ (p : Talk × Event). p.1) h in
-      ends ending talk none (ap told_of (sym event) ∙ quiet_ending ending)
+      ends ending talk none (ap reported_of (sym event) ∙ quiet_ending ending)
 
   -- only an `OK` begins so
   accepted_first : (items : List Item) → codes "OK" ++ (line_end ++ way) ≡ way_bytes items
@@ -147,28 +147,28 @@ module _ (t : Talk) (bytes way : List ℕ) (new : Listening) (e : Event) (plain 
   -- a reply that is read, where an `OK` is answered by a line
   has_reply : (items : List Item) (line : List ℕ) (k : ℕ) (next : Talk × Event) (a : Answer) → answer_of line ≡ a
       → bytes ≡ line ++ line_end → bytes ++ way ≡ way_bytes items
-      → (next.0.wants ≡ t.wants) × (told_of next.1 ≡ None) → to_answer a k next t ≡ (new.talk, e) → new.kept ≡ []
+      → (next.0.wants ≡ t.wants) × (reported_of next.1 ≡ None) → to_answer a k next t ≡ (new.talk, e) → new.kept ≡ []
       → Outcome t items bytes way new e
   has_reply items line k next Granted a is h quiet read none =
       let ok : line ≡ codes "OK" = granted_is line a in
       let top : (rest : List Item) × (items ≡ Accepted ∷ rest) × (way ≡ way_bytes rest) =
       accepted_first items (ap (λ xs. (xs ++ line_end) ++ way) (sym ok) ∙ (ap (λ xs. xs ++ way) (sym is) ∙ h)) in
       says top.0 top.1 top.2 (ap (λ (p : Talk × Event). p.0.wants) (sym read) ∙ quiet.0) none
-      (ap (λ (p : Talk × Event). told_of p.1) (sym read) ∙ quiet.1)
+      (ap (λ (p : Talk × Event). reported_of p.1) (sym read) ∙ quiet.1)
   has_reply items line k next Refusal a is h quiet read none = has_ended items (endings.Refused k) read none
   has_reply items line k next Neither a is h quiet read none = has_ended items endings.Garbage read none
 
-  has_told : (items : List Item) (n j : ℕ) (r : List ℕ) (k m : ℕ) (rest : List Item) → items ≡ Carried k m r ∷ rest
+  has_reported : (items : List Item) (n j : ℕ) (r : List ℕ) (k m : ℕ) (rest : List Item) → items ≡ Carried k m r ∷ rest
       → way ≡ way_bytes rest → n ≡ m % 2 ^ 24 → bearer t.wants r ≡ Some j
-      → ((w : ℕ) → next_at t.wants j ≡ Some w → n ≡ w) → told j n r t ≡ (new.talk, e) → new.kept ≡ []
+      → ((w : ℕ) → next_at t.wants j ≡ Some w → n ≡ w) → reported j n r t ≡ (new.talk, e) → new.kept ≡ []
       → Outcome t items bytes way new e
-  has_told items n j r k m rest is left number at wanted read none =
+  has_reported items n j r k m rest is left number at wanted read none =
       let talk : new.talk ≡ record t { wants = with_next t.wants j ((n + 1) % 2 ^ 24) } =
       sym (ap (λ (p : Talk × Event). p.0) read) in
       let event : e ≡ events.Record j n r = sym (ap (λ (p : Talk × Event). p.1) read) in
       takes k j m r rest is left at (λ w next. sym number ∙ wanted w next)
       (talk ∙ ap (λ x. record t { wants = with_next t.wants j ((x + 1) % 2 ^ 24) }) number) none
-      (ap told_of event ∙ ap (λ x. Some (record { index = j; number = x; bytes = r })) number)
+      (ap reported_of event ∙ ap (λ x. Some (record { index = j; number = x; bytes = r })) number)
 
   -- a packet of a place that is there
   has_wanted : (items : List Item) (n j : ℕ) (r : List ℕ) (k m : ℕ) (rest : List Item) (o : Option ℕ)
@@ -176,19 +176,22 @@ module _ (t : Talk) (bytes way : List ℕ) (new : Listening) (e : Event) (plain 
       → next_at t.wants j ≡ o
       → if_wanted o j n r t ≡ (new.talk, e) → new.kept ≡ [] → Outcome t items bytes way new e
   has_wanted items n j r k m rest None is left number at next read none =
-      has_told items n j r k m rest is left number at (λ w some. absurd (let bad : None ≡ Some w = sym next ∙ some in
+      has_reported items n j r k m rest is left number at (λ w some. absurd (let bad : None ≡ Some w =
+      sym next ∙ some in
       cc bad)) read none
   has_wanted items n j r k m rest (Some want) is left number at next read none =
       let taken : (b : Bool) → (n == want) ≡ b → is_taken t.holes want n ≡ b || (false && is_ahead want n) =
       λ b same. ap (λ (x : Bool). x || (t.holes && is_ahead want n)) same
       ∙ ap (λ (h : Bool). b || (h && is_ahead want n)) plain in
       elim (eqb_tells n want) [
-        | inl same ↦ has_told items n j r k m rest is left number at (λ w some. let both : Some want ≡ Some w = sym next
+        | inl same ↦ has_reported items n j r k m rest is left number at (λ w some. let both : Some want ≡ Some w =
+            sym next
             ∙ some in let one : want ≡ w = cc both in same.1 ∙ one)
-            (ap (λ (b : Bool). if b then told j n r t else ended (endings.Gap j want n) t) (sym (taken true same.0))
+            (ap (λ (b : Bool). if b then reported j n r t else ended (endings.Gap j want n) t) (sym (taken true same.0))
             ∙ read) none
         | inr other ↦ has_ended items (endings.Gap j want n)
-            (ap (λ (b : Bool). if b then told j n r t else ended (endings.Gap j want n) t) (sym (taken false other.0))
+            (ap (λ (b : Bool). if b then reported j n r t else ended (endings.Gap j want n) t)
+            (sym (taken false other.0))
             ∙ read) none
       ]
 
@@ -227,4 +230,4 @@ module _ (t : Talk) (bytes way : List ℕ) (new : Listening) (e : Event) (plain 
   pub outcome : (items : List Item) → AreWhole items → bytes ++ way ≡ way_bytes items → Brings t bytes new e
       → Outcome t items bytes way new e
   outcome items are h (whole w is read none) = has_whole t.stage items w are h is read none
-  outcome items are h (begun is same quiet) = waits same (ap told_of quiet)
+  outcome items are h (begun is same quiet) = waits same (ap reported_of quiet)

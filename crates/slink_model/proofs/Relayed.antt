@@ -327,10 +327,14 @@ some_are xs h none = absurd (let e : (length xs == 0) ≡ true = ap (λ (ys : Li
     let bad : false ≡ true = h ∙ e in cc bad)
 
 -- the steps that are fed
-long_told : (rs : List (List ℕ)) → ((i : ℕ) → i < length rs → length (get_or rs i []) ≡ 512)
+long_reported : (rs : List (List ℕ)) → ((i : ℕ) → i < length rs → length (get_or rs i []) ≡ 512)
     → AllByRecursion (λ (r : List ℕ). length r ≡ 512) rs
-long_told [] told = tt
-long_told (r ∷ rs) told = (told 0 (omega arith), long_told rs (λ i lt. told (suc i) (omega (arith, lt))))
+long_reported [] reported = tt
+long_reported (r ∷ rs) reported = (
+  reported 0 (omega arith),
+  long_reported rs
+      (λ i lt. reported (suc i) (omega (arith, lt))),
+)
 
 abbrev pub SayKeys : Type 0
 SayKeys = (s : Trace) (before held after : List (List ℕ)) (views : List View) → ReadsAs s (before ++ (held ++ after))
@@ -341,8 +345,8 @@ pub fed_are_of : SayKeys → (s : Trace) (setup : Setup) (of : IsOfChannel setup
     (rs : List (List ℕ)) (all : List Step) → ReadsAs s rs → ((i : ℕ) → i < length rs → length (get_or rs i []) ≡ 512)
     → All IsOfOne steps
     → all ≡ fed steps rs → All (IsOf setup.places.items) all
-fed_are_of say s setup of steps rs all reads told one is =
-    let long = long_told rs told in
+fed_are_of say s setup of steps rs all reads reported one is =
+    let long = long_reported rs reported in
     let keys = say s [] rs [] reads.views (subst (ReadsAs s) (sym (append-nil rs)) reads) reads.are_views in
     subst (All (IsOf setup.places.items)) (sym is)
     (all_of setup s.codes of steps rs one (bear s setup of rs reads.views reads.are_views long keys))

@@ -1,4 +1,4 @@
--- The number that is granted is the one that is asked for, modulo 2^24.
+-- The number that is granted is the one that is requested, modulo 2^24.
 use Rattle.std.proofs.Common.{◌≡◌, ℕ, ◌+◌, ◌-◌, ◌%◌, ◌^◌, inl, inr, sym, ap, ◌∙◌, arith, Some, None, if◌then◌else◌}
 use Rattle.std.proofs.lemmas.Bool.Decides.{leb_tells}
 use Rattle.slink_feed.specs.Window.{Window, ahead_of, oldest_of, resolve_of}

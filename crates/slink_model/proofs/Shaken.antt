@@ -29,14 +29,14 @@ use Rattle.slink_feed.specs.declared.session.Phase.TheVariants.{Chosen, Granted,
 use Rattle.slink_feed.specs.Cutting.{IsWhole, LacksEnd}
 use Rattle.slink_feed.specs.Dialogue.{Talk, Wants, Whole, Reply, Packet, End, at_packet, bearer, ended, event_of, read}
 use Rattle.slink_feed.specs.Dialogue.{read_at, is_borne, next_at, next_set, numbered, says_number, says_place}
-use Rattle.slink_feed.specs.Dialogue.{to_place, told, want_at, with_next}
+use Rattle.slink_feed.specs.Dialogue.{to_place, reported, want_at, with_next}
 use Rattle.slink_feed.specs.Listening.{Brings, IsLinked, Listening, begun, whole}
 use Rattle.slink_feed.specs.Serving.{Standing}
 use Rattle.slink_feed.specs.Session.{IsBefore, grant_at}
 use Rattle.slink_model.specs.Spared.{IsFair, IsSpared}
 use Rattle.slink_model.specs.Ties.{Item, Accepted, Refused, Greeted, Carried, Finished, Places, of_place, way_bytes}
 use Rattle.slink_model.specs.World.{Differ, Reads, Numbers, Taking, none_read, noted, piece_read, piece_lost}
-use Rattle.slink_feed.proofs.Prefixed.{wanted_told}
+use Rattle.slink_feed.proofs.Prefixed.{wanted_reported}
 use Rattle.slink_feed.proofs.Received.{begun_none}
 use Rattle.slink_model.proofs.Items.{carried_here, carried_there}
 use Rattle.slink_feed.proofs.Items.{is_within, put_here, put_there, same_or_not}
@@ -46,7 +46,7 @@ use Rattle.slink_feed.proofs.OneReading.{one_prefix, seen_same}
 use Rattle.slink_model.proofs.Outcomes.{packet_length}
 use Rattle.slink_wire.proofs.RequestLines.{end_line, station_line}
 use Rattle.slink_model.proofs.Requested.{also_at, both_pass, by_cases, first_found, number_line}
-use Rattle.slink_model.proofs.Shaking.{AreAsked, AreBorne, AreSent, Flows, IsQuiet, IsSuited, LinkTalks, Shakes}
+use Rattle.slink_model.proofs.Shaking.{AreCalled, AreBorne, AreSent, Flows, IsQuiet, IsSuited, LinkTalks, Shakes}
 use Rattle.slink_model.proofs.Shaking.{asks_end, asks_number, asks_place, has_none, has_number, has_place, streams}
 use Rattle.slink_model.proofs.Taken.{borne_is, one_place, same_client}
 use Rattle.slink_feed.proofs.Wholes.{begun_no_whole, one_whole}
@@ -68,7 +68,7 @@ lacks_byte (x ∷ xs) (suc j) lacks is =
 pub lacks_end : (bytes : List ℕ) → Lacks 10 bytes → LacksEnd bytes
 lacks_end bytes lacks i cr lf = lacks_byte bytes (i + 1) lacks lf
 
--- what stands in front of a stream is one whole
+-- what stands before a stream is one whole
 the_whole : (stage : Stage) (b a left rest : List ℕ) (w v : Whole) → IsWhole stage b w → IsWhole stage a v
     → b ++ left ≡ a ++ rest → (w ≡ v) × (left ≡ rest)
 the_whole stage b a left rest w v p q e =
@@ -96,7 +96,7 @@ pub suited_wanted : (want : Option ℕ) (o : Option Grant) (n : ℕ) (r : List �
 suited_wanted want None n r rest s m e = absurd (omega (arith, ap length s))
 suited_wanted want (Some g) n r rest s m e = ap (λ x. x % 2 ^ 24) s.1.0 ∙ s.3 m e
 
--- the next one is wanted once it is told
+-- the next one is wanted once it is reported
 pub suited_next : (want : Option ℕ) (o : Option Grant) (n : ℕ) (r : List ℕ) (rest : List (ℕ × List ℕ))
     → IsSuited want o ((n, r) ∷ rest) → IsSuited (Some ((n % 2 ^ 24 + 1) % 2 ^ 24)) o rest
 suited_next want None n r rest s = absurd (omega (arith, ap length s))
@@ -110,13 +110,13 @@ suited_next want (Some g) n r rest s = (
 module _ (places : Places) (differ : Differ places) (codes_are : (k : ℕ) (p : Fields × Option ℕ)
     → slice_get places k ≡ Some p → IsField 5 p.0.station × IsField 2 p.0.network) where
   -- A record's place is found.
-  pub bearer_found : (wants : Wants) (k : ℕ) (p : Fields × Option ℕ) (r : List ℕ) → AreAsked places wants
+  pub bearer_found : (wants : Wants) (k : ℕ) (p : Fields × Option ℕ) (r : List ℕ) → AreCalled places wants
       → slice_get places k ≡ Some p → Bears r p.0 → (bearer wants r ≡ Some k) × (w : Wanted)
       × (want_at wants k ≡ Some w)
-  bearer_found wants k p r asked here bears =
+  bearer_found wants k p r called here bears =
       let at_k : (w : Wanted) × (want_at wants k ≡ Some w) × (p.0 ≡ w.place) =
       also_at (λ (q : Fields × Option ℕ). q.0) (λ (w : Wanted). w.place) (slice_get places k) (want_at wants k) p
-      (sym (asked.alike k)) here in
+      (sym (called.alike k)) here in
       let borne : Bears r at_k.0.place = subst (Bears r) at_k.2 bears in
       let passes : is_borne r (Some at_k.0) ≡ true =
       both_pass (bytes_eq (slice_range r 8 13) at_k.0.place.station)
@@ -129,7 +129,7 @@ module _ (places : Places) (differ : Differ places) (codes_are : (k : ℕ) (p : 
       let v : (w : Wanted) × (y ≡ Some w) × Bears r w.place = borne_is r y is in
       let q : (x : Fields × Option ℕ) × (slice_get places j ≡ Some x) × (v.0.place ≡ x.0) =
       also_at (λ (w : Wanted). w.place) (λ (x : Fields × Option ℕ). x.0) (want_at wants j) (slice_get places j) v.0
-      (asked.alike j) (ap (λ o. unwrap_or o None) at_j ∙ v.1) in
+      (called.alike j) (ap (λ o. unwrap_or o None) at_j ∙ v.1) in
       let same : j ≡ k = differ j k q.0 p q.1 here (one_place r q.0.0 p.0 (subst (Bears r) q.2 v.2) bears) in
       omega (arith, lt, same))) in (
         position_from-zero (is_borne r) wants ∙ (first ∙ ap (λ n. Some n) (let e : 0 + k ≡ k = omega arith in e)),
@@ -138,28 +138,28 @@ module _ (places : Places) (differ : Differ places) (codes_are : (k : ℕ) (p : 
       )
 
   -- another number is wanted of a place
-  pub asked_next : (wants : Wants) (k x : ℕ) (w : Wanted) → want_at wants k ≡ Some w → x < 2 ^ 24
-      → AreAsked places wants → AreAsked places (with_next wants k x)
-  asked_next wants k x w is short asked =
+  pub called_next : (wants : Wants) (k x : ℕ) (w : Wanted) → want_at wants k ≡ Some w → x < 2 ^ 24
+      → AreCalled places wants → AreCalled places (with_next wants k x)
+  called_next wants k x w is short called =
       let v : Wanted = record { place = w.place; next = Some x } in
       let ws : Wants = set wants k (Some v) in
       let becomes : with_next wants k x ≡ ws = ap (λ (o : Option Wanted). next_set o wants k x) is in
       let lt : k < length wants = is_within wants k (Some w) (want_slot (slice_get wants k) w is) in
       let want_k : want_at ws k ≡ Some v = put_here wants k (Some v) None lt in
       let want_i : (i : ℕ) → i ≢ k → want_at ws i ≡ want_at wants i = λ i ne. put_there wants k i (Some v) None ne in
-      subst (AreAsked places) (sym becomes) (record {
+      subst (AreCalled places) (sym becomes) (record {
         alike = λ i. elim (same_or_not i k) [
           | inl e ↦ subst (λ y. option_map (λ (z : Wanted). z.place) (want_at ws y) ≡ option_map
               (λ (p : Fields × Option ℕ). p.0) (slice_get places y)) (sym e)
               (ap (option_map (λ (z : Wanted). z.place)) want_k
-              ∙ (sym (ap (option_map (λ (z : Wanted). z.place)) is) ∙ asked.alike k))
-          | inr ne ↦ ap (option_map (λ (z : Wanted). z.place)) (want_i i ne) ∙ asked.alike i
+              ∙ (sym (ap (option_map (λ (z : Wanted). z.place)) is) ∙ called.alike k))
+          | inr ne ↦ ap (option_map (λ (z : Wanted). z.place)) (want_i i ne) ∙ called.alike i
         ];
         short = λ i n at_i. elim (same_or_not i k) [
           | inl e ↦ let both_are : Some x ≡ Some n = sym (ap (option_and_then (λ (z : Wanted). z.next)) want_k)
               ∙ subst (λ y. next_at ws y ≡ Some n) e at_i in
               let same : x ≡ n = cc both_are in omega (arith, same, short)
-          | inr ne ↦ asked.short i n (sym (ap (option_and_then (λ (z : Wanted). z.next)) (want_i i ne)) ∙ at_i)
+          | inr ne ↦ called.short i n (sym (ap (option_and_then (λ (z : Wanted). z.next)) (want_i i ne)) ∙ at_i)
         ];
       })
 
@@ -167,7 +167,7 @@ module _ (places : Places) (differ : Differ places) (codes_are : (k : ℕ) (p : 
     -- what the client has come to, with what is on its way
     pub record ClientTalks (client : Listening) (to_server way : List ℕ) : Type 0 where
       pub spared : IsSpared client.talk.stage
-      pub asked : AreAsked places client.talk.wants
+      pub called : AreCalled places client.talk.wants
       pub link : IsLinked client.talk.stage → LinkTalks places client session to_server way
       pub quiet : ¬ (IsLinked client.talk.stage) → IsQuiet session to_server
 
@@ -176,11 +176,11 @@ module _ (places : Places) (differ : Differ places) (codes_are : (k : ℕ) (p : 
 
     -- the link is ended
     ended_talks : (talk : Talk) (new : Listening) (ending : Ending) (to_server way : List ℕ)
-        → new.talk ≡ record talk { stage = Ended ending } → IsFair ending → AreAsked places talk.wants
+        → new.talk ≡ record talk { stage = Ended ending } → IsFair ending → AreCalled places talk.wants
         → IsQuiet session to_server → ClientTalks new to_server way
-    ended_talks talk new ending to_server way is fair asked quiet = record {
+    ended_talks talk new ending to_server way is fair called quiet = record {
       spared = subst (λ (t : Talk). IsSpared t.stage) (sym is) fair;
-      asked = subst (λ (t : Talk). AreAsked places t.wants) (sym is) asked;
+      called = subst (λ (t : Talk). AreCalled places t.wants) (sym is) called;
       link = λ linked. absurd (subst (λ (t : Talk). IsLinked t.stage) is linked);
       quiet = λ _. quiet;
     }
@@ -203,19 +203,19 @@ module _ (places : Places) (differ : Differ places) (codes_are : (k : ℕ) (p : 
         → new ≡ record { talk = talk; kept = [] }
     seen_as talk new is none = seen_same new (record { talk = talk; kept = [] }) is none
 
-    -- a line is said
+    -- a line is sent
     written_talks : (t : Taking) (new : Listening) (stage : Stage) (request : Request) (e : Event) (left taken : List ℕ)
         → ◌≡◌ {A = Talk × Event} (
           record t.client.talk { stage = stage },
           events.Say (record { items = request_bytes request }),
         ) (new.talk, e) → new.kept ≡ [] → left ≡ []
-        → IsSpared stage → IsLinked stage → AreAsked places t.client.talk.wants
+        → IsSpared stage → IsLinked stage → AreCalled places t.client.talk.wants
         → ((k : ℕ) → IsSuited (next_at t.client.talk.wants k) (grant_at session.state.grants k) [])
         → (¬ (session.state.phase ≡ Closed) → IsHeld session.held taken)
         → Shakes (record t.client.talk { stage = stage }) session.state.phase taken
         (t.to_server ++ request_bytes request) []
         → ClientTalks new (Way t new e) left
-    written_talks t new stage request e left taken h none gone spared linked asked suited held shakes =
+    written_talks t new stage request e left taken h none gone spared linked called suited held shakes =
         let talk : Talk = record t.client.talk { stage = stage } in
         let is : new ≡ record { talk = talk; kept = [] } =
         seen_as talk new (sym (ap (λ (p : Talk × Event). p.0) h)) none in
@@ -230,7 +230,7 @@ module _ (places : Places) (differ : Differ places) (codes_are : (k : ℕ) (p : 
           shakes = shakes;
         } in
         let done : ClientTalks (record { talk = talk; kept = [] }) (t.to_server ++ request_bytes request) [] =
-        record { spared = spared; asked = asked; link = λ _. link; quiet = λ over. absurd (over linked) } in
+        record { spared = spared; called = called; link = λ _. link; quiet = λ over. absurd (over linked) } in
         subst (λ w. ClientTalks new w left) (sym (ap (λ (x : Event). Way t new x) event))
         (subst (λ (c : Listening). ClientTalks c (t.to_server ++ request_bytes request) left) (sym is)
         (subst (ClientTalks (record { talk = talk; kept = [] }) (t.to_server ++ request_bytes request))
@@ -246,12 +246,12 @@ module _ (places : Places) (differ : Differ places) (codes_are : (k : ℕ) (p : 
 
     -- where a STATION is to be answered
     place_talks : (t : Taking) (new : Listening) (bytes left : List ℕ) (e : Event) (w : Whole) (k : ℕ)
-        (l : LinkTalks places t.client session t.to_server (bytes ++ left)) → AreAsked places t.client.talk.wants
+        (l : LinkTalks places t.client session t.to_server (bytes ++ left)) → AreCalled places t.client.talk.wants
         → t.client.talk.stage ≡ Station k
         → session.state.phase ≡ Chosen k → IsAnswered l.taken t.to_server → l.items ≡ Accepted ∷ []
         → IsWhole t.client.talk.stage (t.client.kept ++ bytes) w → read t.client.talk w ≡ (new.talk, e)
         → new.kept ≡ [] → ClientTalks new (Way t new e) left
-    place_talks t new bytes left e w k l asked stage phase told one is h none =
+    place_talks t new bytes left e w k l called stage phase reported one is h none =
         let flow : (t.client.kept ++ bytes) ++ left ≡ (codes "OK" ++ line_end) ++ [] =
         append_assoc t.client.kept bytes left ∙ (l.flows.flow ∙ ap way_bytes one) in
         let the : (w ≡ Reply (codes "OK")) × (left ≡ []) =
@@ -265,41 +265,41 @@ module _ (places : Places) (differ : Differ places) (codes_are : (k : ℕ) (p : 
         sym (ap (λ (s : Stage). read_at s t.client.talk (Reply (codes "OK"))) stage)
         ∙ (ap (read t.client.talk) (sym the.0) ∙ h) in
         let request : Request = numbered t.client.talk.mode (next_at t.client.talk.wants k) in
-        written_talks t new (Number k) request e left l.taken written none the.1 tt tt asked
+        written_talks t new (Number k) request e left l.taken written none the.1 tt tt called
         (reply_suited t.client (bytes ++ left) l.items Accepted one (λ i. refl) l.flows) l.held
         (asks_number k refl phase
         (asks_more (request_line request) l.taken t.to_server
-        (number_line t.client.talk.mode (next_at t.client.talk.wants k)) told) refl)
+        (number_line t.client.talk.mode (next_at t.client.talk.wants k)) reported) refl)
 
     -- where a DATA or FETCH is answered by `OK`
     next_talks : (t : Taking) (new : Listening) (left taken : List ℕ) (e : Event) (k : ℕ) (o : Option Wanted)
-        → AreAsked places t.client.talk.wants → session.state.phase ≡ Granted k → IsAnswered taken t.to_server
+        → AreCalled places t.client.talk.wants → session.state.phase ≡ Granted k → IsAnswered taken t.to_server
         → want_at t.client.talk.wants (k + 1) ≡ o → to_place o (k + 1) t.client.talk ≡ (new.talk, e) → new.kept ≡ []
         → left ≡ [] → ((i : ℕ) → IsSuited (next_at t.client.talk.wants i) (grant_at session.state.grants i) [])
         → (¬ (session.state.phase ≡ Closed) → IsHeld session.held taken) → ClientTalks new (Way t new e) left
-    next_talks t new left taken e k None asked phase told want written none gone suited held =
-        written_talks t new Packets requests.End e left taken written none gone tt tt asked suited held
-        (asks_end k refl phase (asks_more (request_line requests.End) taken t.to_server end_line told) refl)
-    next_talks t new left taken e k (Some w) asked phase told want written none gone suited held =
+    next_talks t new left taken e k None called phase reported want written none gone suited held =
+        written_talks t new Packets requests.End e left taken written none gone tt tt called suited held
+        (asks_end k refl phase (asks_more (request_line requests.End) taken t.to_server end_line reported) refl)
+    next_talks t new left taken e k (Some w) called phase reported want written none gone suited held =
         let q : (p : Fields × Option ℕ) × (slice_get places (k + 1) ≡ Some p) × (w.place ≡ p.0) =
         also_at (λ (x : Wanted). x.place) (λ (p : Fields × Option ℕ). p.0) (want_at t.client.talk.wants (k + 1))
-        (slice_get places (k + 1)) w (asked.alike (k + 1)) want in
+        (slice_get places (k + 1)) w (called.alike (k + 1)) want in
         let fields : IsField 5 w.place.station × IsField 2 w.place.network =
         subst (λ (f : Fields). IsField 5 f.station × IsField 2 f.network) (sym q.2) (codes_are (k + 1) q.0 q.1) in
-        written_talks t new (Station (k + 1)) (requests.Station w.place) e left taken written none gone tt tt asked
+        written_talks t new (Station (k + 1)) (requests.Station w.place) e left taken written none gone tt tt called
         suited
         held
         (asks_place (k + 1) w refl want (inr (k, refl, phase))
         (asks_more (request_line (requests.Station w.place)) taken t.to_server
-        (station_line w.place fields.0 fields.1) told) refl)
+        (station_line w.place fields.0 fields.1) reported) refl)
 
     number_talks : (t : Taking) (new : Listening) (bytes left : List ℕ) (e : Event) (w : Whole) (k : ℕ)
-        (l : LinkTalks places t.client session t.to_server (bytes ++ left)) → AreAsked places t.client.talk.wants
+        (l : LinkTalks places t.client session t.to_server (bytes ++ left)) → AreCalled places t.client.talk.wants
         → t.client.talk.stage ≡ Number k
         → session.state.phase ≡ Granted k → IsAnswered l.taken t.to_server → l.items ≡ Accepted ∷ []
         → IsWhole t.client.talk.stage (t.client.kept ++ bytes) w → read t.client.talk w ≡ (new.talk, e)
         → new.kept ≡ [] → ClientTalks new (Way t new e) left
-    number_talks t new bytes left e w k l asked stage phase told one is h none =
+    number_talks t new bytes left e w k l called stage phase reported one is h none =
         let flow : (t.client.kept ++ bytes) ++ left ≡ (codes "OK" ++ line_end) ++ [] =
         append_assoc t.client.kept bytes left ∙ (l.flows.flow ∙ ap way_bytes one) in
         let the : (w ≡ Reply (codes "OK")) × (left ≡ []) =
@@ -312,17 +312,18 @@ module _ (places : Places) (differ : Differ places) (codes_are : (k : ℕ) (p : 
         let written : says_place (k + 1) t.client.talk ≡ (new.talk, e) =
         sym (ap (λ (s : Stage). read_at s t.client.talk (Reply (codes "OK"))) stage)
         ∙ (ap (read t.client.talk) (sym the.0) ∙ h) in
-        next_talks t new left l.taken e k (want_at t.client.talk.wants (k + 1)) asked phase told refl written none the.1
+        next_talks t new left l.taken e k (want_at t.client.talk.wants (k + 1)) called phase reported refl written
+        none the.1
         (reply_suited t.client (bytes ++ left) l.items Accepted one (λ i. refl) l.flows) l.held
 
     -- and where by `ERROR`
     refused_talks : (t : Taking) (new : Listening) (bytes left : List ℕ) (e : Event) (w : Whole) (k : ℕ)
-        (l : LinkTalks places t.client session t.to_server (bytes ++ left)) → AreAsked places t.client.talk.wants
+        (l : LinkTalks places t.client session t.to_server (bytes ++ left)) → AreCalled places t.client.talk.wants
         → t.client.talk.stage ≡ Number k
         → IsAnswered l.taken t.to_server → l.items ≡ Refused ∷ []
         → IsWhole t.client.talk.stage (t.client.kept ++ bytes) w → read t.client.talk w ≡ (new.talk, e)
         → ClientTalks new (Way t new e) left
-    refused_talks t new bytes left e w k l asked stage told one is h =
+    refused_talks t new bytes left e w k l called stage reported one is h =
         let flow : (t.client.kept ++ bytes) ++ left ≡ (codes "ERROR" ++ line_end) ++ [] =
         append_assoc t.client.kept bytes left ∙ (l.flows.flow ∙ ap way_bytes one) in
         let the : (w ≡ Reply (codes "ERROR")) × (left ≡ []) =
@@ -336,18 +337,18 @@ module _ (places : Places) (differ : Differ places) (codes_are : (k : ℕ) (p : 
         sym (ap (λ (s : Stage). read_at s t.client.talk (Reply (codes "ERROR"))) stage)
         ∙ (ap (read t.client.talk) (sym the.0) ∙ h) in
         ended_talks t.client.talk new (endings.Refused k) (Way t new e) left
-        (sym (ap (λ (p : Talk × Event). p.0) written)) tt asked
-        (ended_quiet t new (endings.Refused k) e written (l.taken, λ awake. (l.held awake, told)))
+        (sym (ap (λ (p : Talk × Event). p.0) written)) tt called
+        (ended_quiet t new (endings.Refused k) e written (l.taken, λ awake. (l.held awake, reported)))
 
     -- a packet comes
     packet_talks : (t : Taking) (new : Listening) (bytes left : List ℕ) (e : Event) (w : Whole) (k n : ℕ) (r : List ℕ)
         (rest : List Item) (l : LinkTalks places t.client session t.to_server (bytes ++ left))
-        → IsSpared t.client.talk.stage → AreAsked places t.client.talk.wants
+        → IsSpared t.client.talk.stage → AreCalled places t.client.talk.wants
         → t.client.talk.stage ≡ Packets → ¬ (IsBefore session.state.phase) → AreSent rest
         → (¬ (session.state.phase ≡ Closed) → IsAnswered l.taken t.to_server) → l.items ≡ Carried k n r ∷ rest
         → IsWhole t.client.talk.stage (t.client.kept ++ bytes) w → read t.client.talk w ≡ (new.talk, e) → new.kept ≡ []
         → ClientTalks new (Way t new e) left
-    packet_talks t new bytes left e w k n r rest l spared asked stage later sent answered one is h none =
+    packet_talks t new bytes left e w k n r rest l spared called stage later sent answered one is h none =
         let m : ℕ = n % 2 ^ 24 in
         let x : ℕ = (m + 1) % 2 ^ 24 in
         let borne : ((p : Fields × Option ℕ) × (slice_get places k ≡ Some p) × (length r ≡ 512) × Bears r p.0)
@@ -361,15 +362,15 @@ module _ (places : Places) (differ : Differ places) (codes_are : (k : ℕ) (p : 
           packet_length m r borne.0.2,
         ) flow in
         let found : (bearer t.client.talk.wants r ≡ Some k) × (v : Wanted) × (want_at t.client.talk.wants k ≡ Some v) =
-        bearer_found t.client.talk.wants k borne.0.0 r asked borne.0.1 borne.0.3 in
+        bearer_found t.client.talk.wants k borne.0.0 r called borne.0.1 borne.0.3 in
         let of_k : of_place k l.items ≡ (n, r) ∷ of_place k rest = ap (of_place k) one
         ∙ ap (λ b. b ++ of_place k rest) (carried_here k n r) in
         let suited_k : IsSuited (next_at t.client.talk.wants k) (grant_at session.state.grants k)
         ((n, r) ∷ of_place k rest) =
         subst (IsSuited (next_at t.client.talk.wants k) (grant_at session.state.grants k)) of_k
         (l.flows.suited k) in
-        let written : told k m r t.client.talk ≡ (new.talk, e) =
-        sym (wanted_told (next_at t.client.talk.wants k) k m r t.client.talk
+        let written : reported k m r t.client.talk ≡ (new.talk, e) =
+        sym (wanted_reported (next_at t.client.talk.wants k) k m r t.client.talk
         (some_if (next_at t.client.talk.wants k) m
         (suited_wanted (next_at t.client.talk.wants k) (grant_at session.state.grants k) n r (of_place k rest)
         suited_k)))
@@ -416,7 +417,7 @@ module _ (places : Places) (differ : Differ places) (codes_are : (k : ℕ) (p : 
         let done : ClientTalks (record { talk = talk; kept = [] }) t.to_server (way_bytes rest) =
         record {
           spared = spared;
-          asked = asked_next t.client.talk.wants k x found.1 found.2 (omega arith) asked;
+          called = called_next t.client.talk.wants k x found.1 found.2 (omega arith) called;
           link = λ _. link;
           quiet = λ over. absurd (over (subst IsLinked (sym stage) tt));
         } in
@@ -426,12 +427,12 @@ module _ (places : Places) (differ : Differ places) (codes_are : (k : ℕ) (p : 
 
     -- the end comes
     end_talks : (t : Taking) (new : Listening) (bytes left : List ℕ) (e : Event) (w : Whole) (rest : List Item)
-        (l : LinkTalks places t.client session t.to_server (bytes ++ left)) → AreAsked places t.client.talk.wants
+        (l : LinkTalks places t.client session t.to_server (bytes ++ left)) → AreCalled places t.client.talk.wants
         → t.client.talk.stage ≡ Packets
         → (¬ (session.state.phase ≡ Closed) → IsAnswered l.taken t.to_server) → l.items ≡ Finished ∷ rest
         → IsWhole t.client.talk.stage (t.client.kept ++ bytes) w → read t.client.talk w ≡ (new.talk, e)
         → ClientTalks new (Way t new e) left
-    end_talks t new bytes left e w rest l asked stage answered one is h =
+    end_talks t new bytes left e w rest l called stage answered one is h =
         let flow : (t.client.kept ++ bytes) ++ left ≡ codes "END" ++ way_bytes rest =
         append_assoc t.client.kept bytes left ∙ (l.flows.flow ∙ ap way_bytes one) in
         let the : (w ≡ End) × (left ≡ way_bytes rest) =
@@ -440,7 +441,7 @@ module _ (places : Places) (differ : Differ places) (codes_are : (k : ℕ) (p : 
         let written : ended endings.End t.client.talk ≡ (new.talk, e) =
         sym (ap (λ (s : Stage). read_at s t.client.talk End) stage) ∙ (ap (read t.client.talk) (sym the.0) ∙ h) in
         ended_talks t.client.talk new endings.End (Way t new e) left (sym (ap (λ (p : Talk × Event). p.0) written)) tt
-        asked (ended_quiet t new endings.End e written (l.taken, λ awake. (l.held awake, answered awake)))
+        called (ended_quiet t new endings.End e written (l.taken, λ awake. (l.held awake, answered awake)))
 
     nothing_talks : (t : Taking) (new : Listening) (bytes left way : List ℕ) (w : Whole)
         (l : LinkTalks places t.client session t.to_server (bytes ++ left)) → l.items ≡ []
@@ -451,52 +452,52 @@ module _ (places : Places) (differ : Differ places) (codes_are : (k : ℕ) (p : 
 
     stream_talks : (t : Taking) (new : Listening) (bytes left : List ℕ) (e : Event) (w : Whole) (items : List Item)
         (l : LinkTalks places t.client session t.to_server (bytes ++ left)) → IsSpared t.client.talk.stage
-        → AreAsked places t.client.talk.wants
+        → AreCalled places t.client.talk.wants
         → t.client.talk.stage ≡ Packets → ¬ (IsBefore session.state.phase) → AreSent items
         → (¬ (session.state.phase ≡ Closed) → IsAnswered l.taken t.to_server) → l.items ≡ items
         → IsWhole t.client.talk.stage (t.client.kept ++ bytes) w → read t.client.talk w ≡ (new.talk, e)
         → new.kept ≡ [] → ClientTalks new (Way t new e) left
-    stream_talks t new bytes left e w [] l spared asked stage later sent answered one is h none =
+    stream_talks t new bytes left e w [] l spared called stage later sent answered one is h none =
         nothing_talks t new bytes left (Way t new e) w l one is
-    stream_talks t new bytes left e w (Accepted ∷ rest) l spared asked stage later sent answered one is h none =
+    stream_talks t new bytes left e w (Accepted ∷ rest) l spared called stage later sent answered one is h none =
         absurd sent.0
-    stream_talks t new bytes left e w (Refused ∷ rest) l spared asked stage later sent answered one is h none =
+    stream_talks t new bytes left e w (Refused ∷ rest) l spared called stage later sent answered one is h none =
         absurd sent.0
-    stream_talks t new bytes left e w (Greeted ∷ rest) l spared asked stage later sent answered one is h none =
+    stream_talks t new bytes left e w (Greeted ∷ rest) l spared called stage later sent answered one is h none =
         absurd sent.0
-    stream_talks t new bytes left e w (Carried k n r ∷ rest) l spared asked stage later sent answered one is h none =
-        packet_talks t new bytes left e w k n r rest l spared asked stage later sent.1 answered one is h none
-    stream_talks t new bytes left e w (Finished ∷ rest) l spared asked stage later sent answered one is h none =
-        end_talks t new bytes left e w rest l asked stage answered one is h
+    stream_talks t new bytes left e w (Carried k n r ∷ rest) l spared called stage later sent answered one is h none =
+        packet_talks t new bytes left e w k n r rest l spared called stage later sent.1 answered one is h none
+    stream_talks t new bytes left e w (Finished ∷ rest) l spared called stage later sent answered one is h none =
+        end_talks t new bytes left e w rest l called stage answered one is h
 
     whole_talks : (t : Taking) (new : Listening) (bytes left : List ℕ) (e : Event) (w : Whole)
         (l : LinkTalks places t.client session t.to_server (bytes ++ left)) → IsSpared t.client.talk.stage
-        → AreAsked places t.client.talk.wants
+        → AreCalled places t.client.talk.wants
         → Shakes t.client.talk session.state.phase l.taken t.to_server l.items
         → IsWhole t.client.talk.stage (t.client.kept ++ bytes) w → read t.client.talk w ≡ (new.talk, e)
         → new.kept ≡ [] → ClientTalks new (Way t new e) left
-    whole_talks t new bytes left e w l spared asked (asks_place k v stage want ready asks one) is h none =
+    whole_talks t new bytes left e w l spared called (asks_place k v stage want ready asks one) is h none =
         nothing_talks t new bytes left (Way t new e) w l one is
-    whole_talks t new bytes left e w l spared asked (has_place k stage phase written one) is h none =
-        place_talks t new bytes left e w k l asked stage phase written one is h none
-    whole_talks t new bytes left e w l spared asked (asks_number k stage phase asks one) is h none =
+    whole_talks t new bytes left e w l spared called (has_place k stage phase written one) is h none =
+        place_talks t new bytes left e w k l called stage phase written one is h none
+    whole_talks t new bytes left e w l spared called (asks_number k stage phase asks one) is h none =
         nothing_talks t new bytes left (Way t new e) w l one is
-    whole_talks t new bytes left e w l spared asked (has_number k stage phase written one) is h none =
-        number_talks t new bytes left e w k l asked stage phase written one is h none
-    whole_talks t new bytes left e w l spared asked (has_none k stage phase written one) is h none =
-        refused_talks t new bytes left e w k l asked stage written one is h
-    whole_talks t new bytes left e w l spared asked (asks_end k stage phase asks one) is h none =
+    whole_talks t new bytes left e w l spared called (has_number k stage phase written one) is h none =
+        number_talks t new bytes left e w k l called stage phase written one is h none
+    whole_talks t new bytes left e w l spared called (has_none k stage phase written one) is h none =
+        refused_talks t new bytes left e w k l called stage written one is h
+    whole_talks t new bytes left e w l spared called (asks_end k stage phase asks one) is h none =
         nothing_talks t new bytes left (Way t new e) w l one is
-    whole_talks t new bytes left e w l spared asked (streams stage later sent answered) is h none =
-        stream_talks t new bytes left e w l.items l spared asked stage later sent answered refl is h none
+    whole_talks t new bytes left e w l spared called (streams stage later sent answered) is h none =
+        stream_talks t new bytes left e w l.items l spared called stage later sent answered refl is h none
 
     -- more is kept
     kept_talks : (t : Taking) (new : Listening) (bytes left : List ℕ) (e : Event)
         (l : LinkTalks places t.client session t.to_server (bytes ++ left)) → IsSpared t.client.talk.stage
-        → IsLinked t.client.talk.stage → AreAsked places t.client.talk.wants
+        → IsLinked t.client.talk.stage → AreCalled places t.client.talk.wants
         → new ≡ record { talk = t.client.talk; kept = t.client.kept ++ bytes } → e ≡ events.None
         → ClientTalks new (Way t new e) left
-    kept_talks t new bytes left e l spared linked asked same quiet =
+    kept_talks t new bytes left e l spared linked called same quiet =
         let link : LinkTalks places (record { talk = t.client.talk; kept = t.client.kept ++ bytes }) session
         t.to_server left = record {
           taken = l.taken;
@@ -510,7 +511,7 @@ module _ (places : Places) (differ : Differ places) (codes_are : (k : ℕ) (p : 
           shakes = l.shakes;
         } in
         let done : ClientTalks (record { talk = t.client.talk; kept = t.client.kept ++ bytes }) t.to_server left =
-        record { spared = spared; asked = asked; link = λ _. link; quiet = λ over. absurd (over linked) } in
+        record { spared = spared; called = called; link = λ _. link; quiet = λ over. absurd (over linked) } in
         subst (λ b. ClientTalks new b left) (sym (ap (λ (y : Event). Way t new y) quiet))
         (subst (λ (c : Listening). ClientTalks c t.to_server left) (sym same) done)
 
@@ -519,9 +520,9 @@ module _ (places : Places) (differ : Differ places) (codes_are : (k : ℕ) (p : 
         → ClientTalks new (Way t new e) left
     piece_talks t new bytes left e linked (whole w is h none) c =
         let l : LinkTalks places t.client session t.to_server (bytes ++ left) = c.link linked in
-        whole_talks t new bytes left e w l c.spared c.asked l.shakes is h none
+        whole_talks t new bytes left e w l c.spared c.called l.shakes is h none
     piece_talks t new bytes left e linked (begun is same quiet) c =
-        kept_talks t new bytes left e (c.link linked) c.spared linked c.asked same quiet
+        kept_talks t new bytes left e (c.link linked) c.spared linked c.called same quiet
 
     -- all of these bytes are taken, piece by piece
     pub reads_talks : (t : Taking) (bytes : List ℕ) (last : Taking) (left : List ℕ) → Reads first_sent t bytes last
@@ -535,4 +536,4 @@ module _ (places : Places) (differ : Differ places) (codes_are : (k : ℕ) (p : 
         (subst (ClientTalks u.client u.to_server) (ap (λ b. b ++ left) split ∙ append_assoc piece rest left) c)))
     reads_talks t bytes last left (piece_lost u v all piece rest split over more) c =
         reads_talks u rest v left more
-        (record { spared = c.spared; asked = c.asked; link = λ linked. absurd (over linked); quiet = c.quiet })
+        (record { spared = c.spared; called = c.called; link = λ linked. absurd (over linked); quiet = c.quiet })

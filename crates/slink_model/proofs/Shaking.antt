@@ -1,4 +1,4 @@
--- How client and session stand to one another over a link: who has said what, and what is on its way.
+-- How client and session stand to one another over a link: who has sent what, and what is on its way.
 use Rattle.std.proofs.Common.{◌≡◌, ℕ, ◌+◌, ◌%◌, ◌^◌, ◌<◌, ◌⊎◌, inl, inr, refl, sym, ap, subst, ◌∙◌, arith, List, []}
 use Rattle.std.proofs.Common.{◌∷◌, ◌++◌, append-nil, append_assoc, length, set, Option, Some, None, option_map}
 use Rattle.std.proofs.Common.{slice_get}
@@ -33,7 +33,7 @@ use Rattle.slink_feed.specs.Window.{Window}
 use Rattle.slink_model.specs.World.{Differ}
 use Rattle.slink_model.proofs.Commanded.{grant_set, leaves}
 use Rattle.slink_model.proofs.Items.{flow_more, reply_carries, reply_items}
-use Rattle.slink_model.proofs.Lined.{IsAnswered, IsAsking, IsRead, more_answered, more_asked, nothing, the_line}
+use Rattle.slink_model.proofs.Lined.{IsAnswered, IsAsking, IsRead, more_answered, more_called, nothing, the_line}
 use Rattle.slink_model.proofs.Requested.{also_at, end_command, number_command, request_answered, station_command}
 use Rattle.slink_model.proofs.Requested.{station_found}
 use Rattle.slink_model.proofs.Resolved.{resolved_alike}
@@ -80,11 +80,11 @@ pub record Flows (places : Places) (client : Listening) (grants : List (Option G
   pub borne : AreBorne places items
   pub suited : (k : ℕ) → IsSuited (next_at client.talk.wants k) (grant_at grants k) (of_place k items)
 
--- where the session stands when a place is asked for: at the beginning, or behind the grant of the place before
+-- where the session stands when a place is requested: at the beginning, or behind the grant of the place before
 abbrev pub IsReadyFor : ℕ → Phase → Type 0
 IsReadyFor k phase = ((k ≡ 0) × (phase ≡ Fresh)) ⊎ ((j : ℕ) × (k ≡ j + 1) × (phase ≡ Granted j))
 
--- who has said what: a line is on its way or its reply is, or the packets are
+-- who has sent what: a line is on its way or its reply is, or the packets are
 pub data Shakes (talk : Talk) (phase : Phase) (taken way : List ℕ) (items : List Item) : Type 0 where
   asks_place : (k : ℕ) (w : Wanted) → talk.stage ≡ Station k → want_at talk.wants k ≡ Some w → IsReadyFor k phase
       → IsAsking (request_line (requests.Station w.place)) taken way → items ≡ []
@@ -116,8 +116,8 @@ pub record LinkTalks (places : Places) (client : Listening) (session : Standing)
 abbrev pub IsQuiet : Standing → List ℕ → Type 0
 IsQuiet s way = (taken : List ℕ) × (¬ (s.state.phase ≡ Closed) → IsHeld s.held taken × IsAnswered taken way)
 
--- The places are asked for, in their order.
-pub record AreAsked (places : Places) (wants : List (Option Wanted)) : Type 0 where
+-- The places are requested, in their order.
+pub record AreCalled (places : Places) (wants : List (Option Wanted)) : Type 0 where
   pub alike : (k : ℕ) → option_map (λ (w : Wanted). w.place) (want_at wants k) ≡ option_map
       (λ (p : Fields × Option ℕ). p.0) (slice_get places k)
   pub short : AreShort wants
@@ -130,7 +130,7 @@ pub record AreRinged (places : Places) (feed : List Window) : Type 0 where
 
 module _ (places : Places) (differ : Differ places) (codes : (k : ℕ) (p : Fields × Option ℕ)
     → slice_get places k ≡ Some p → IsField 5 p.0.station × IsField 2 p.0.network) (client : Listening)
-    (asked_for : AreAsked places client.talk.wants)
+    (called_for : AreCalled places client.talk.wants)
     (feed : List Window) (ringed : AreRinged places feed) where
   abbrev pub Talks : Standing → List ℕ → List ℕ → Type 0
   Talks s to_server to_client = LinkTalks places client s to_server to_client
@@ -194,7 +194,7 @@ module _ (places : Places) (differ : Differ places) (codes : (k : ℕ) (p : Fiel
       → client.talk.stage ≡ Station k → chosen (Some k) s.state ≡ (now.state, reply) → IsAnswered taken rest
       → items ≡ []
       → Flows places client s.state.grants way items → Then now taken rest way reply
-  place_answered s now taken rest way items reply k stage is told none f held =
+  place_answered s now taken rest way items reply k stage is reported none f held =
       let state : now.state ≡ at (Chosen k) (set s.state.grants k None) = sym (ap (λ (x : State × Reply). x.0) is) in
       let ok : reply ≡ replies.Ok = sym (ap (λ (x : State × Reply). x.1) is) in
       let done : Flows places client (set s.state.grants k None) (way ++ reply_bytes replies.Ok) (Accepted ∷ []) =
@@ -207,7 +207,7 @@ module _ (places : Places) (differ : Differ places) (codes : (k : ℕ) (p : Fiel
         flows = subst (λ (x : State). Flows places client x.grants (way ++ reply_bytes reply) (Accepted ∷ []))
             (sym state) (subst (λ r. Flows places client (set s.state.grants k None) (way ++ reply_bytes r)
             (Accepted ∷ [])) (sym ok) done);
-        shakes = has_place k stage (ap (λ (x : State). x.phase) state) told refl;
+        shakes = has_place k stage (ap (λ (x : State). x.phase) state) reported refl;
       }
 
   -- DATA and FETCH
@@ -216,7 +216,7 @@ module _ (places : Places) (differ : Differ places) (codes : (k : ℕ) (p : Fiel
       → granted mode k o s.state ≡ (now.state, reply)
       → ((p m : ℕ) → o ≡ Some p → next_at client.talk.wants k ≡ Some m → p % 2 ^ 24 ≡ m) → IsAnswered taken rest
       → items ≡ [] → Flows places client s.state.grants way items → Then now taken rest way reply
-  number_answered s now taken rest way items reply k mode None stage phase is wanted told none f held =
+  number_answered s now taken rest way items reply k mode None stage phase is wanted reported none f held =
       let state : now.state ≡ s.state = sym (ap (λ (x : State × Reply). x.0) is) in
       let error : reply ≡ replies.Error = sym (ap (λ (x : State × Reply). x.1) is) in
       let done : Flows places client s.state.grants (way ++ reply_bytes replies.Error) (Refused ∷ []) =
@@ -229,9 +229,9 @@ module _ (places : Places) (differ : Differ places) (codes : (k : ℕ) (p : Fiel
         flows = subst (λ (x : State). Flows places client x.grants (way ++ reply_bytes reply) (Refused ∷ []))
             (sym state) (subst (λ r. Flows places client s.state.grants (way ++ reply_bytes r) (Refused ∷ []))
             (sym error) done);
-        shakes = has_none k stage (ap (λ (x : State). x.phase) state ∙ phase) told refl;
+        shakes = has_none k stage (ap (λ (x : State). x.phase) state ∙ phase) reported refl;
       }
-  number_answered s now taken rest way items reply k mode (Some p) stage phase is wanted told none f held =
+  number_answered s now taken rest way items reply k mode (Some p) stage phase is wanted reported none f held =
       let g : Grant = record { mode = mode; position = p } in
       let state : now.state ≡ at (Granted k) (set s.state.grants k (Some g)) =
       sym (ap (λ (x : State × Reply). x.0) is) in
@@ -247,7 +247,7 @@ module _ (places : Places) (differ : Differ places) (codes : (k : ℕ) (p : Fiel
         flows = subst (λ (x : State). Flows places client x.grants (way ++ reply_bytes reply) (Accepted ∷ []))
             (sym state) (subst (λ r. Flows places client (set s.state.grants k (Some g)) (way ++ reply_bytes r)
             (Accepted ∷ [])) (sym ok) done);
-        shakes = has_number k stage (ap (λ (x : State). x.phase) state) told refl;
+        shakes = has_number k stage (ap (λ (x : State). x.phase) state) reported refl;
       }
 
   -- END
@@ -256,7 +256,7 @@ module _ (places : Places) (differ : Differ places) (codes : (k : ℕ) (p : Fiel
       → ◌≡◌ {A = State × Reply} (at Streaming s.state.grants, replies.Nothing) (now.state, reply)
       → IsAnswered taken rest → items ≡ []
       → Flows places client s.state.grants way items → Then now taken rest way reply
-  end_answered s now taken rest way items reply stage is told none f held =
+  end_answered s now taken rest way items reply stage is reported none f held =
       let state : now.state ≡ at Streaming s.state.grants = sym (ap (λ (x : State × Reply). x.0) is) in
       let quiet : reply ≡ replies.Nothing = sym (ap (λ (x : State × Reply). x.1) is) in
       record {
@@ -265,10 +265,10 @@ module _ (places : Places) (differ : Differ places) (codes : (k : ℕ) (p : Fiel
         items = items;
         flows = unanswered s.state.grants now.state.grants way items reply (ap (λ (x : State). x.grants) state) quiet f;
         shakes = streams stage (λ before. subst (λ (x : State). IsBefore x.phase) state before)
-            (subst AreSent (sym none) tt) (λ _. told);
+            (subst AreSent (sym none) tt) (λ _. reported);
       }
 
-  -- nothing comes of a piece, and what was asked or answered stays so
+  -- nothing comes of a piece, and what was called or answered stays so
   stays_put : (s now : Standing) (taken rest way : List ℕ) (items : List Item) (reply : Reply) → now.state ≡ s.state
       → reply ≡ replies.Nothing → Shakes client.talk s.state.phase taken rest items
       → Flows places client s.state.grants way items → Then now taken rest way reply
@@ -280,7 +280,7 @@ module _ (places : Places) (differ : Differ places) (codes : (k : ℕ) (p : Fiel
     shakes = subst (λ (x : State). Shakes client.talk x.phase taken rest items) (sym same) shakes;
   }
 
-  -- the ring of the place that is asked for
+  -- the ring of the place that is requested
   pub in_phase : (phase : Phase) (s new : State) (reply : Reply) (r : Request) → s.phase ≡ phase
       → answered feed s (requested r) ≡ (new, reply) → answered_in phase feed s (requested r) ≡ (new, reply)
   in_phase phase s new reply r at_phase is = ap (λ (p : Phase). answered_in p feed s (requested r)) (sym at_phase) ∙ is
@@ -314,21 +314,21 @@ module _ (places : Places) (differ : Differ places) (codes : (k : ℕ) (p : Fiel
   granted_alike modes.Fetch (Some n) (Some w) p m is wanted short = let same : n ≡ m = cc wanted in
       resolved_alike w n p is ∙ (let e : n % 2 ^ 24 ≡ m = omega (arith, same, short) in e)
 
-  -- the place that is asked for
-  pub asked_place : (k : ℕ) (w : Wanted) → want_at client.talk.wants k ≡ Some w
+  -- the place that is requested
+  pub called_place : (k : ℕ) (w : Wanted) → want_at client.talk.wants k ≡ Some w
       → (IsField 5 w.place.station × IsField 2 w.place.network)
       × (station_at feed w.place.station (Some w.place.network) ≡ Some k)
-  asked_place k w is =
+  called_place k w is =
       let q : (p : Fields × Option ℕ) × (slice_get places k ≡ Some p) × (w.place ≡ p.0) =
       also_at (λ (x : Wanted). x.place) (λ (p : Fields × Option ℕ). p.0) (want_at client.talk.wants k)
-      (slice_get places k) w (asked_for.alike k) is in
+      (slice_get places k) w (called_for.alike k) is in
       subst (λ (f : Fields). (IsField 5 f.station × IsField 2 f.network)
       × (station_at feed f.station (Some f.network) ≡ Some k)) (sym q.2) (
         codes k q.0 q.1,
         station_found places feed k q.0 differ ringed.alike q.1,
       )
 
-  -- the line that was asked last, or nothing yet
+  -- the line that was called last, or nothing yet
   place_read : (s now : Standing) (taken rest way : List ℕ) (items : List Item) (reply : Reply) (what : What) (k : ℕ)
       (w : Wanted) → client.talk.stage ≡ Station k → want_at client.talk.wants k ≡ Some w → IsReadyFor k s.state.phase
       → items ≡ []
@@ -336,13 +336,14 @@ module _ (places : Places) (differ : Differ places) (codes : (k : ℕ) (p : Fiel
       → Flows places client s.state.grants way items → Then now taken rest way reply
   place_read s now taken rest way items reply More k w stage want ready none (nothing asks) is f held =
       stays_put s now taken rest way items reply is.0 is.1 (asks_place k w stage want ready asks none) f held
-  place_read s now taken rest way items reply (Line l) k w stage want ready none (the_line bytes same told) is f held =
+  place_read s now taken rest way items reply (Line l) k w stage want ready none (the_line bytes same reported) is f
+      held =
       let at_k : (IsField 5 w.place.station × IsField 2 w.place.network)
-      × (station_at feed w.place.station (Some w.place.network) ≡ Some k) = asked_place k w want in
+      × (station_at feed w.place.station (Some w.place.network) ≡ Some k) = called_place k w want in
       place_answered s now taken rest way items reply k stage
       (place_chosen s.state now.state reply k w ready at_k.1
       (request_answered feed s.state now.state bytes (requests.Station w.place) reply same
-      (station_command w.place at_k.0.0 at_k.0.1) is)) told none f held
+      (station_command w.place at_k.0.0 at_k.0.1) is)) reported none f held
   place_read s now taken rest way items reply TooLong k w stage want ready none read is f held = elim read [ ]
 
   pub is_short : (o : Option ℕ) → ((n : ℕ) → o ≡ Some n → n < 2 ^ 24) → IsShort o
@@ -356,15 +357,15 @@ module _ (places : Places) (differ : Differ places) (codes : (k : ℕ) (p : Fiel
       → Then now taken rest way reply
   number_read s now taken rest way items reply More k stage phase none (nothing asks) is f held =
       stays_put s now taken rest way items reply is.0 is.1 (asks_number k stage phase asks none) f held
-  number_read s now taken rest way items reply (Line l) k stage phase none (the_line bytes same told) is f held =
+  number_read s now taken rest way items reply (Line l) k stage phase none (the_line bytes same reported) is f held =
       let mode : Mode = client.talk.mode in
       let number : Option ℕ = next_at client.talk.wants k in
       number_answered s now taken rest way items reply k mode
       (option_and_then (grant_of mode number) (slice_get feed k)) stage phase
       (number_granted s.state now.state reply k mode number phase
       (request_answered feed s.state now.state bytes (numbered mode number) reply same
-      (number_command mode number (is_short number (λ n e. asked_for.short k n e))) is))
-      (λ p m e wanted. granted_alike mode number (slice_get feed k) p m e wanted (asked_for.short k m wanted)) told
+      (number_command mode number (is_short number (λ n e. called_for.short k n e))) is))
+      (λ p m e wanted. granted_alike mode number (slice_get feed k) p m e wanted (called_for.short k m wanted)) reported
       none f held
   number_read s now taken rest way items reply TooLong k stage phase none read is f held = elim read [ ]
 
@@ -374,13 +375,13 @@ module _ (places : Places) (differ : Differ places) (codes : (k : ℕ) (p : Fiel
       → Flows places client s.state.grants way items → Then now taken rest way reply
   end_read s now taken rest way items reply More k stage phase none (nothing asks) is f held =
       stays_put s now taken rest way items reply is.0 is.1 (asks_end k stage phase asks none) f held
-  end_read s now taken rest way items reply (Line l) k stage phase none (the_line bytes same told) is f held =
+  end_read s now taken rest way items reply (Line l) k stage phase none (the_line bytes same reported) is f held =
       end_answered s now taken rest way items reply stage
       (in_phase (Granted k) s.state now.state reply requests.End phase
-      (request_answered feed s.state now.state bytes requests.End reply same end_command is)) told none f held
+      (request_answered feed s.state now.state bytes requests.End reply same end_command is)) reported none f held
   end_read s now taken rest way items reply TooLong k stage phase none read is f held = elim read [ ]
 
-  -- nothing is said any more
+  -- nothing is sent any more
   put_by : (s now : Standing) (taken rest way : List ℕ) (items : List Item) (reply : Reply) (what : What) → what ≡ More
       → IsAnswer feed s.state what now.state reply → Shakes client.talk s.state.phase taken rest items
       → Flows places client s.state.grants way items → Then now taken rest way reply
@@ -404,7 +405,7 @@ module _ (places : Places) (differ : Differ places) (codes : (k : ℕ) (p : Fiel
       → client.talk.stage ≡ Packets → ¬ (IsBefore s.state.phase) → AreSent items → IsAnswered taken rest
       → IsAnswer feed s.state what now.state reply
       → Flows places client s.state.grants way items → Then now taken rest way reply
-  streamed s now taken rest way items reply what stage not_before sent told is f held =
+  streamed s now taken rest way items reply what stage not_before sent reported is f held =
       let l : (now.state.grants ≡ s.state.grants) × (reply ≡ replies.Nothing) × ¬ (IsBefore now.state.phase) =
       later s.state.phase s.state now.state reply refl not_before (leaves feed s.state what now.state reply is) in
       record {
@@ -412,7 +413,7 @@ module _ (places : Places) (differ : Differ places) (codes : (k : ℕ) (p : Fiel
         held = held;
         items = items;
         flows = unanswered s.state.grants now.state.grants way items reply l.0 l.1 f;
-        shakes = streams stage l.2 sent (λ _. told);
+        shakes = streams stage l.2 sent (λ _. reported);
       }
 
   piece_shaken : (s now : Standing) (taken piece rest way : List ℕ) (items : List Item) (reply : Reply) (what : What)
@@ -422,26 +423,32 @@ module _ (places : Places) (differ : Differ places) (codes : (k : ℕ) (p : Fiel
   piece_shaken s now taken piece rest way items reply what awake tells is (asks_place k w stage want ready asks none) f
       held =
       place_read s now (taken ++ piece) rest way items reply what k w stage want ready none
-      (more_asked (request_line (requests.Station w.place)) taken piece rest what asks tells) is f held
-  piece_shaken s now taken piece rest way items reply what awake tells is (has_place k stage phase told one) f held =
-      let more : (what ≡ More) × IsAnswered (taken ++ piece) rest = more_answered taken piece rest what told tells in
+      (more_called (request_line (requests.Station w.place)) taken piece rest what asks tells) is f held
+  piece_shaken s now taken piece rest way items reply what awake tells is (has_place k stage phase reported one) f
+      held =
+      let more : (what ≡ More) × IsAnswered (taken ++ piece) rest =
+      more_answered taken piece rest what reported tells in
       put_by s now (taken ++ piece) rest way items reply what more.0 is (has_place k stage phase more.1 one) f held
   piece_shaken s now taken piece rest way items reply what awake tells is (asks_number k stage phase asks none) f held =
       number_read s now (taken ++ piece) rest way items reply what k stage phase none
-      (more_asked (request_line (numbered client.talk.mode (next_at client.talk.wants k))) taken piece rest what
+      (more_called (request_line (numbered client.talk.mode (next_at client.talk.wants k))) taken piece rest what
       asks tells) is f held
-  piece_shaken s now taken piece rest way items reply what awake tells is (has_number k stage phase told one) f held =
-      let more : (what ≡ More) × IsAnswered (taken ++ piece) rest = more_answered taken piece rest what told tells in
+  piece_shaken s now taken piece rest way items reply what awake tells is (has_number k stage phase reported one) f
+      held =
+      let more : (what ≡ More) × IsAnswered (taken ++ piece) rest =
+      more_answered taken piece rest what reported tells in
       put_by s now (taken ++ piece) rest way items reply what more.0 is (has_number k stage phase more.1 one) f held
-  piece_shaken s now taken piece rest way items reply what awake tells is (has_none k stage phase told one) f held =
-      let more : (what ≡ More) × IsAnswered (taken ++ piece) rest = more_answered taken piece rest what told tells in
+  piece_shaken s now taken piece rest way items reply what awake tells is (has_none k stage phase reported one) f held =
+      let more : (what ≡ More) × IsAnswered (taken ++ piece) rest =
+      more_answered taken piece rest what reported tells in
       put_by s now (taken ++ piece) rest way items reply what more.0 is (has_none k stage phase more.1 one) f held
   piece_shaken s now taken piece rest way items reply what awake tells is (asks_end k stage phase asks none) f held =
       end_read s now (taken ++ piece) rest way items reply what k stage phase none
-      (more_asked (request_line requests.End) taken piece rest what asks tells) is f held
-  piece_shaken s now taken piece rest way items reply what awake tells is (streams stage not_before sent told) f held =
+      (more_called (request_line requests.End) taken piece rest what asks tells) is f held
+  piece_shaken s now taken piece rest way items reply what awake tells is (streams stage not_before sent reported) f
+      held =
       streamed s now (taken ++ piece) rest way items reply what stage not_before sent
-      (more_answered taken piece rest what (told awake) tells).1 is f held
+      (more_answered taken piece rest what (reported awake) tells).1 is f held
 
   pub closed_or : (phase : Phase) → (phase ≡ Closed) ⊎ ¬ (phase ≡ Closed)
   closed_or Fresh = inr (λ e. let bad : Fresh ≡ Closed = e in cc bad)
@@ -460,17 +467,17 @@ module _ (places : Places) (differ : Differ places) (codes : (k : ℕ) (p : Fiel
     | inl fresh ↦ before_open s.state.phase Fresh fresh.1 tt shut
     | inr behind ↦ before_open s.state.phase (Granted behind.0) behind.2 tt shut
   ])
-  shut_shaken s taken now_taken way rest items shut (has_place k stage phase told one) =
+  shut_shaken s taken now_taken way rest items shut (has_place k stage phase reported one) =
       absurd (before_open s.state.phase (Chosen k) phase tt shut)
   shut_shaken s taken now_taken way rest items shut (asks_number k stage phase asks none) =
       absurd (before_open s.state.phase (Chosen k) phase tt shut)
-  shut_shaken s taken now_taken way rest items shut (has_number k stage phase told one) =
+  shut_shaken s taken now_taken way rest items shut (has_number k stage phase reported one) =
       absurd (before_open s.state.phase (Granted k) phase tt shut)
-  shut_shaken s taken now_taken way rest items shut (has_none k stage phase told one) =
+  shut_shaken s taken now_taken way rest items shut (has_none k stage phase reported one) =
       absurd (before_open s.state.phase (Chosen k) phase tt shut)
   shut_shaken s taken now_taken way rest items shut (asks_end k stage phase asks none) =
       absurd (before_open s.state.phase (Granted k) phase tt shut)
-  shut_shaken s taken now_taken way rest items shut (streams stage not_before sent told) =
+  shut_shaken s taken now_taken way rest items shut (streams stage not_before sent reported) =
       streams stage not_before sent (λ over. absurd (over shut))
 
   -- a piece is taken

@@ -1,4 +1,4 @@
--- Each step keeps client and session in step, so that a client is told no gap, and nothing that it can't read.
+-- Each step keeps client and session in step, so that a client is reported no gap, and nothing that it can't read.
 use Rattle.std.proofs.Common.{◌≡◌, ◌≢◌, All, ℕ, ◌+◌, ◌-◌, ◌%◌, ◌^◌, ◌<◌, ◌≤◌, inl, inr, zero, suc, refl, sym, ap, subst}
 use Rattle.std.proofs.Common.{◌∙◌, arith, Bool, true, false, ◌==◌, if◌then◌else◌, List, [], ◌∷◌, ◌++◌, append-nil}
 use Rattle.std.proofs.Common.{length, length-append, map, replicate, set, take, drop, take-append-drop, Option, Some}
@@ -37,7 +37,7 @@ use Rattle.slink_model.proofs.Lined.{IsAnswered, begins_asking}
 use Rattle.slink_wire.proofs.RequestLines.{station_line}
 use Rattle.slink_model.proofs.Requested.{also_at}
 use Rattle.slink_model.proofs.Shaken.{ClientTalks, reads_talks}
-use Rattle.slink_model.proofs.Shaking.{AreAsked, AreBorne, AreFrom, AreRinged, AreSent, IsSuited, IsQuiet, LinkTalks}
+use Rattle.slink_model.proofs.Shaking.{AreCalled, AreBorne, AreFrom, AreRinged, AreSent, IsSuited, IsQuiet, LinkTalks}
 use Rattle.slink_model.proofs.Shaking.{Shakes, asks_end, asks_number, asks_place, has_none, has_number, has_place}
 use Rattle.slink_model.proofs.Shaking.{serves_talks, streams}
 use Rattle.slink_feed.proofs.Wanting.{short_all}
@@ -86,17 +86,17 @@ streaming_is talk phase taken way items later (asks_place k w stage want ready a
       | inl fresh ↦ before_no phase Fresh fresh.1 tt later
       | inr behind ↦ before_no phase (Granted behind.0) behind.2 tt later
     ])
-streaming_is talk phase taken way items later (has_place k stage is told one) =
+streaming_is talk phase taken way items later (has_place k stage is reported one) =
     absurd (before_no phase (Chosen k) is tt later)
 streaming_is talk phase taken way items later (asks_number k stage is asks none) =
     absurd (before_no phase (Chosen k) is tt later)
-streaming_is talk phase taken way items later (has_number k stage is told one) =
+streaming_is talk phase taken way items later (has_number k stage is reported one) =
     absurd (before_no phase (Granted k) is tt later)
-streaming_is talk phase taken way items later (has_none k stage is told one) =
+streaming_is talk phase taken way items later (has_none k stage is reported one) =
     absurd (before_no phase (Chosen k) is tt later)
 streaming_is talk phase taken way items later (asks_end k stage is asks none) =
     absurd (before_no phase (Granted k) is tt later)
-streaming_is talk phase taken way items later (streams stage over sent told) = (stage, sent, told)
+streaming_is talk phase taken way items later (streams stage over sent reported) = (stage, sent, reported)
 
 -- a record of the window is one of the ring's
 pub window_sound : (w : Window) (n : ℕ) (r : List ℕ) → AreSound w.place w.records → record_at w n ≡ Some r
@@ -229,7 +229,7 @@ module _ (places : Places) (differ : Differ places) (codes_are : (k : ℕ) (p : 
   pub record WorldTalks (w : WorldState) : Type 0 where
     pub ringed : AreRinged places w.windows
     pub spared : IsSpared w.client.talk.stage
-    pub asked : AreAsked places w.client.talk.wants
+    pub called : AreCalled places w.client.talk.wants
     pub link : IsTalking w.client w.link
 
   -- Append
@@ -272,7 +272,7 @@ module _ (places : Places) (differ : Differ places) (codes_are : (k : ℕ) (p : 
       record {
         ringed = ring_more w.windows k b v here long (subst (Bears b) one of.2) t.ringed;
         spared = t.spared;
-        asked = t.asked;
+        called = t.called;
         link = t.link;
       }
 
@@ -283,7 +283,7 @@ module _ (places : Places) (differ : Differ places) (codes_are : (k : ℕ) (p : 
       let p : (p : Fields × Option ℕ) × (slice_get places 0 ≡ Some p) = within_is places 0 some in
       let first : (x : Wanted) × (want_at talk.wants 0 ≡ Some x) × (p.0.0 ≡ x.place) =
       also_at (λ (x : Fields × Option ℕ). x.0) (λ (x : Wanted). x.place) (slice_get places 0)
-      (want_at talk.wants 0) p.0 (sym (t.asked.alike 0)) p.1 in
+      (want_at talk.wants 0) p.0 (sym (t.called.alike 0)) p.1 in
       let fields : IsField 5 first.0.place.station × IsField 2 first.0.place.network =
       subst (λ (f : Fields). IsField 5 f.station × IsField 2 f.network) first.2 (codes_are 0 p.0 p.1) in
       let says : says_place 0 talk ≡ to_place (Some first.0) 0 talk =
@@ -312,7 +312,7 @@ module _ (places : Places) (differ : Differ places) (codes_are : (k : ℕ) (p : 
           to_server = written (to_place (Some first.0) 0 talk).1;
           to_client = [];
         });
-      }) = record { ringed = t.ringed; spared = tt; asked = t.asked; link = (λ _. link, λ over. absurd (over tt)) } in
+      }) = record { ringed = t.ringed; spared = tt; called = t.called; link = (λ _. link, λ over. absurd (over tt)) } in
       subst WorldTalks (sym c.becomes) (subst (λ (x : Talk × Event). WorldTalks (record w {
         client = record { talk = x.0; kept = [] };
         link = Some (record {
@@ -326,8 +326,8 @@ module _ (places : Places) (differ : Differ places) (codes_are : (k : ℕ) (p : 
   -- a link that changes alone
   relinked : (w : WorldState) (o : Option LinkState) → WorldTalks w → IsTalking w.client o
       → WorldTalks (record w { link = o })
-  relinked w None t l = record { ringed = t.ringed; spared = t.spared; asked = t.asked; link = tt }
-  relinked w (Some m) t l = record { ringed = t.ringed; spared = t.spared; asked = t.asked; link = l }
+  relinked w None t l = record { ringed = t.ringed; spared = t.spared; called = t.called; link = tt }
+  relinked w (Some m) t l = record { ringed = t.ringed; spared = t.spared; called = t.called; link = l }
 
   -- ToServer
   served_talks : (w : WorldState) (n : ℕ) (o p : Option LinkState) → WorldTalks w → IsTalking w.client o
@@ -338,7 +338,7 @@ module _ (places : Places) (differ : Differ places) (codes_are : (k : ℕ) (p : 
   served_talks w n (Some l) (Some m) t talks s =
       let all : l.to_server ≡ take n l.to_server ++ drop n l.to_server = sym (take-append-drop n l.to_server) in (
         λ linked. subst (λ b. LinkTalks places w.client m.session b m.to_client) (sym s.left)
-            (serves_talks places differ codes_are w.client t.asked w.windows t.ringed l.session (take n l.to_server)
+            (serves_talks places differ codes_are w.client t.called w.windows t.ringed l.session (take n l.to_server)
             l.to_client m.session m.to_client (drop n l.to_server) s.serves
             (subst (λ b. LinkTalks places w.client l.session b l.to_client) all (talks.0 linked))),
         λ over. subst (IsQuiet m.session) (sym s.left)
@@ -369,7 +369,7 @@ module _ (places : Places) (differ : Differ places) (codes_are : (k : ℕ) (p : 
       let c : ClientTalks places differ codes_are l.session l.first_sent w.client l.to_server
       (take n l.to_client ++ drop n l.to_client) = record {
         spared = t.spared;
-        asked = t.asked;
+        called = t.called;
         link = λ linked. subst (LinkTalks places w.client l.session l.to_server) all (talks.0 linked);
         quiet = λ over. talks.1 over;
       } in
@@ -379,7 +379,7 @@ module _ (places : Places) (differ : Differ places) (codes_are : (k : ℕ) (p : 
       record {
         ringed = subst (AreRinged places) (sym windows) t.ringed;
         spared = d.spared;
-        asked = d.asked;
+        called = d.called;
         link = subst (IsTalking v.client) (sym link) (
           λ linked. subst (λ (x : Standing). LinkTalks places v.client x m.to_server m.to_client) (sym s.session)
               (subst (LinkTalks places v.client l.session m.to_server) (sym s.left) (d.link linked)),
@@ -449,7 +449,7 @@ module _ (setup : Setup) (steps : List Step) (now : WorldState) (run : AllHappen
               ∙ here);
         };
         spared = tt;
-        asked = record {
+        called = record {
           alike = opening_alike ps (16 - length ps);
           short = short_all ps (wants_of ps) askable.numbers refl;
         };
@@ -460,6 +460,6 @@ module _ (setup : Setup) (steps : List Step) (now : WorldState) (run : AllHappen
   talks_after = all_talks setup.places.items is.differ askable.codes steps (opening setup) now run askable.some
       (each_of setup.places.items steps is.of_places is.sound) opening_talks
 
-  -- After any steps the client was told of no gap, and of nothing that it can't read.
+  -- After any steps the client was informed of no gap, and of nothing that it can't read.
   pub client_spared : IsSpared now.client.talk.stage
   client_spared = talks_after.spared

@@ -17,7 +17,8 @@ use Rattle.slink_feed.specs.Listening.{Brings, IsLinked, Listening}
 use Rattle.slink_feed.specs.Session.{State, grant_at}
 use Rattle.slink_feed.proofs.Reporting.{kept_event}
 use Rattle.slink_model.specs.Ties.{AllHold, AreOfPlaces, AreWanted, AreWhole, Carried, Holds, IsOnWay, Item, LinkTies}
-use Rattle.slink_model.specs.Ties.{Outcome, Places, Told, ends, of_place, says, takes, WantFirst, told_of, waits}
+use Rattle.slink_model.specs.Ties.{Outcome, Places, Reported, ends, of_place, says, takes, WantFirst, reported_of}
+use Rattle.slink_model.specs.Ties.{waits}
 use Rattle.slink_model.specs.Ties.{way_bytes}
 use Rattle.slink_model.specs.World.{Differ, Reads, Lists, Numbers, Taking, none_read, noted, number_at, or_else}
 use Rattle.slink_model.specs.World.{piece_read, piece_lost, with_first, with_one}
@@ -90,7 +91,7 @@ bearer_is wants r j h =
     let is : (w : Wanted) × (at.0 ≡ Some w) × Bears r w.place = borne_is r at.0 at.2 in
     (is.0, at.1 ∙ ap (λ o. Some o) is.1, is.2)
 
-quiet_held : (f : Numbers) (e : Event) (t : Taking) → told_of e ≡ None → ((noted f e t).held ≡ t.held)
+quiet_held : (f : Numbers) (e : Event) (t : Taking) → reported_of e ≡ None → ((noted f e t).held ≡ t.held)
     × ((noted f e t).start ≡ t.start)
 quiet_held f events.None t h = (refl, refl)
 quiet_held f (events.Say bytes) t h = (refl, refl)
@@ -112,28 +113,28 @@ same_client f (events.Gap k want got) t = refl
 same_client f events.Garbage t = refl
 same_client f events.Foreign t = refl
 
-told_is : (a b : Told) → Some a ≡ Some b → a ≡ b
-told_is a b e = cc e
+reported_is : (a b : Reported) → Some a ≡ Some b → a ≡ b
+reported_is a b e = cc e
 
-no_told : {A : Type 0} → (a : Told) → None ≡ Some a → A
-no_told a e = absurd (let bad : None ≡ Some a = e in cc bad)
+no_reported : {A : Type 0} → (a : Reported) → None ≡ Some a → A
+no_reported a e = absurd (let bad : None ≡ Some a = e in cc bad)
 
-told_held : (f : Numbers) (e : Event) (t : Taking) (a : Told) → told_of e ≡ Some a
+reported_held : (f : Numbers) (e : Event) (t : Taking) (a : Reported) → reported_of e ≡ Some a
     → ((noted f e t).held ≡ with_one t.held a.index a.bytes)
     × ((noted f e t).start ≡ with_first t.start a.index (number_at f a.index))
-told_held f events.None t a h = no_told a h
-told_held f (events.Say bytes) t a h = no_told a h
-told_held f (events.Record k n r) t a h =
+reported_held f events.None t a h = no_reported a h
+reported_held f (events.Say bytes) t a h = no_reported a h
+reported_held f (events.Record k n r) t a h =
     let same : (record { index = k; number = n; bytes = r }) ≡ a =
-    told_is (record { index = k; number = n; bytes = r }) a h in (
-      ap (λ (x : Told). with_one t.held x.index x.bytes) same,
-      ap (λ (x : Told). with_first t.start x.index (number_at f x.index)) same,
+    reported_is (record { index = k; number = n; bytes = r }) a h in (
+      ap (λ (x : Reported). with_one t.held x.index x.bytes) same,
+      ap (λ (x : Reported). with_first t.start x.index (number_at f x.index)) same,
     )
-told_held f events.End t a h = no_told a h
-told_held f (events.Refused k) t a h = no_told a h
-told_held f (events.Gap k want got) t a h = no_told a h
-told_held f events.Garbage t a h = no_told a h
-told_held f events.Foreign t a h = no_told a h
+reported_held f events.End t a h = no_reported a h
+reported_held f (events.Refused k) t a h = no_reported a h
+reported_held f (events.Gap k want got) t a h = no_reported a h
+reported_held f events.Garbage t a h = no_reported a h
+reported_held f events.Foreign t a h = no_reported a h
 
 -- what is on its way of a place is granted, and was pushed
 way_first : (few : ℕ → Type 0) (first : ℕ) (F held : List (List ℕ)) (start sent : Option ℕ) (grant : Option Grant)
@@ -156,7 +157,7 @@ module _ (places : Places) (first : ℕ) (pushed : Lists) (state : State) (first
     pub long : (length held ≡ length places) × (length start ≡ length places)
     pub link : LinkTies places first few pushed client held start state first_sent way
 
-  -- nothing is told, and what is wanted stays
+  -- nothing is reported, and what is wanted stays
   quiet_ties : (client new : Listening) (held : Lists) (start : Numbers) (way left : List ℕ)
       → new.talk.wants ≡ client.talk.wants → new.talk.holes ≡ client.talk.holes → ClientTies client held start way
       → (l : List Item) → AreWhole l → (IsLinked new.talk.stage → new.kept ++ left ≡ way_bytes l)
@@ -335,8 +336,8 @@ module _ (places : Places) (first : ℕ) (pushed : Lists) (state : State) (first
   outcome_ties : (client new : Listening) (held held' : Lists) (start start' : Numbers) (way piece left : List ℕ)
       (e : Event) → (c : ClientTies client held start (piece ++ left)) → IsLinked client.talk.stage
       → Outcome client.talk c.link.items (client.kept ++ piece) left new e → new.talk.holes ≡ client.talk.holes
-      → (told_of e ≡ None → (held' ≡ held) × (start' ≡ start))
-      → ((a : Told) → told_of e ≡ Some a → (held' ≡ with_one held a.index a.bytes)
+      → (reported_of e ≡ None → (held' ≡ held) × (start' ≡ start))
+      → ((a : Reported) → reported_of e ≡ Some a → (held' ≡ with_one held a.index a.bytes)
       × (start' ≡ with_first start a.index (number_at first_sent a.index)))
       → ClientTies new held' start' left
   outcome_ties client new held held' start start' way piece left e c linked (waits same quiet) holes stays
@@ -363,12 +364,12 @@ module _ (places : Places) (first : ℕ) (pushed : Lists) (state : State) (first
       subst (λ s. ClientTies new held' s left) (sym (stays quiet).1)
       (subst (λ h. ClientTies new h start left) (sym (stays quiet).0) done)
   outcome_ties client new held held' start start' way piece left e c linked
-      (takes k j n r rest is flow bears wanted talk none told) holes stays takes_it =
+      (takes k j n r rest is flow bears wanted talk none reported) holes stays takes_it =
       let done : ClientTies new (with_one held j r) (with_first start j (number_at first_sent j)) left
       = taken_ties client new held start (piece ++ left) left k j n r rest c is flow bears wanted
       (ap (λ (x : Talk). x.wants) talk) holes none in
       let it : (held' ≡ with_one held j r) × (start' ≡ with_first start j (number_at first_sent j)) =
-      takes_it (record { index = j; number = n % 2 ^ 24; bytes = r }) told in
+      takes_it (record { index = j; number = n % 2 ^ 24; bytes = r }) reported in
       subst (λ s. ClientTies new held' s left) (sym it.1)
       (subst (λ h. ClientTies new h (with_first start j (number_at first_sent j)) left) (sym it.0) done)
 
@@ -387,7 +388,7 @@ module _ (places : Places) (first : ℕ) (pushed : Lists) (state : State) (first
       (sym (same_client first_sent e u))
       (outcome_ties t.client now t.held (noted first_sent e u).held t.start (noted first_sent e u).start left piece
       left e c linked out (kept_event t.client.talk (t.client.kept ++ piece) now e brings)
-      (λ q. quiet_held first_sent e u q) (λ a q. told_held first_sent e u a q))
+      (λ q. quiet_held first_sent e u q) (λ a q. reported_held first_sent e u a q))
 
   -- all of these bytes are taken, piece by piece
   pub reads_ties : (t : Taking) (bytes : List ℕ) (last : Taking) (left : List ℕ) → Reads first_sent t bytes last

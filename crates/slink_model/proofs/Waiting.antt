@@ -10,72 +10,75 @@ use Rattle.slink_wire.proofs.WrittenBack.{lacks_prefix, lines_lf, lines_then, no
 use Rattle.slink_model.proofs.Lined.{IsAnswered, IsAsking, bytes_more}
 use Rattle.slink_model.proofs.Outcomes.{same_cut}
 
-abbrev told : List ℕ → ℕ
-told bytes = length (lines_of bytes).lines
+abbrev reported : List ℕ → ℕ
+reported bytes = length (lines_of bytes).lines
 
--- how many lines are told with one more in front
-one_told : (line rest : List ℕ) → IsLine line → told (line ++ 13 ∷ rest) ≡ suc (told rest)
-one_told line rest is = ap (λ (s : Spelled). length s.lines) (lines_then line rest is)
+-- how many lines are reported with one more before it
+one_reported : (line rest : List ℕ) → IsLine line → reported (line ++ 13 ∷ rest) ≡ suc (reported rest)
+one_reported line rest is = ap (λ (s : Spelled). length s.lines) (lines_then line rest is)
 
-line_untold : (line : List ℕ) → IsLine line → told line ≡ 0
-line_untold line is = ap length (part_quiet line is.no_cr is.short).0
+line_unreported : (line : List ℕ) → IsLine line → reported line ≡ 0
+line_unreported line is = ap length (part_quiet line is.no_cr is.short).0
 
-prefix_untold : (line t z : List ℕ) → IsLine line → line ≡ t ++ z → told t ≡ 0
-prefix_untold line t z is e =
+prefix_unreported : (line t z : List ℕ) → IsLine line → line ≡ t ++ z → reported t ≡ 0
+prefix_unreported line t z is e =
     ap length (part_quiet t (lacks_prefix t z (subst (Lacks 13) e is.no_cr))
     (let long : length line ≡ length (t ++ z) = ap length e in omega (arith, long, length-append t z, is.short))).0
 
-none_told : told [] ≡ 0
-none_told = ap length none_quiet.0
+none_reported : reported [] ≡ 0
+none_reported = ap length none_quiet.0
 
 no_lines : (lines : List (List ℕ)) (w : List ℕ) → w ≡ 10 ∷ written_bytes lines → 0 ≡ length lines → length w ≤ 1
 no_lines [] w e none = omega (arith, ap length e)
 no_lines (l ∷ lines) w e none = absurd (omega (arith, none))
 
-behind_lf : (lines : List (List ℕ)) (z w : List ℕ) → z ++ w ≡ 10 ∷ written_bytes lines → told z ≡ length lines
-    → ((u : List ℕ) → u ++ w ≡ written_bytes lines → told u ≡ length lines → length w ≤ 1) → length w ≤ 1
-behind_lf lines [] w e all more = no_lines lines w e (sym none_told ∙ all)
+behind_lf : (lines : List (List ℕ)) (z w : List ℕ) → z ++ w ≡ 10 ∷ written_bytes lines → reported z ≡ length lines
+    → ((u : List ℕ) → u ++ w ≡ written_bytes lines → reported u ≡ length lines → length w ≤ 1) → length w ≤ 1
+behind_lf lines [] w e all more = no_lines lines w e (sym none_reported ∙ all)
 behind_lf lines (x ∷ u) w e all more =
     let first : x ≡ 10 = cc e in
     let others : u ++ w ≡ written_bytes lines = cc e in
-    more u others (ap (λ (s : Spelled). length s.lines) (sym (lines_lf u)) ∙ (ap (λ b. told (b ∷ u)) (sym first) ∙ all))
+    more u others (ap (λ (s : Spelled). length s.lines) (sym (lines_lf u))
+    ∙ (ap (λ b. reported (b ∷ u)) (sym first) ∙ all))
 
 behind_cr : (line : List ℕ) (lines : List (List ℕ)) (z w : List ℕ) → IsLine line
     → z ++ w ≡ 13 ∷ 10 ∷ written_bytes lines
-    → told (line ++ z) ≡ suc (length lines)
-    → ((u : List ℕ) → u ++ w ≡ written_bytes lines → told u ≡ length lines → length w ≤ 1) → length w ≤ 1
-behind_cr line lines [] w is e all more = absurd (omega (arith, line_untold line is, ap told (append-nil line), all))
+    → reported (line ++ z) ≡ suc (length lines)
+    → ((u : List ℕ) → u ++ w ≡ written_bytes lines → reported u ≡ length lines → length w ≤ 1) → length w ≤ 1
+behind_cr line lines [] w is e all more = absurd (omega
+    (arith, line_unreported line is, ap reported (append-nil line), all))
 behind_cr line lines (x ∷ z) w is e all more =
     let first : x ≡ 13 = cc e in
     let others : z ++ w ≡ 10 ∷ written_bytes lines = cc e in
-    let count : suc (told z) ≡ suc (length lines) = sym (one_told line z is)
-    ∙ (ap (λ b. told (line ++ b ∷ z)) (sym first) ∙ all) in
+    let count : suc (reported z) ≡ suc (length lines) = sym (one_reported line z is)
+    ∙ (ap (λ b. reported (line ++ b ∷ z)) (sym first) ∙ all) in
     behind_lf lines z w others (omega (arith, count)) more
 
 few_left : (lines : List (List ℕ)) (t w : List ℕ) → AreLines lines → t ++ w ≡ written_bytes lines
-    → told t ≡ length lines
+    → reported t ≡ length lines
     → length w ≤ 1
 few_left [] t w are e all = omega (arith, ap length e, length-append t w)
 few_left (line ∷ lines) t w are e all = elim (prefixes t line w (13 ∷ 10 ∷ written_bytes lines) e) [
-  | inl more ↦ absurd (omega (arith, prefix_untold line t more.0 are.0 more.1, all))
+  | inl more ↦ absurd (omega (arith, prefix_unreported line t more.0 are.0 more.1, all))
   | inr more ↦ behind_cr line lines more.0 w are.0
       (append_cancel_left line (more.0 ++ w) (13 ∷ 10 ∷ written_bytes lines) (sym (append_assoc line more.0 w)
       ∙ (ap (λ b. b ++ w) (sym more.1) ∙ e)))
-      (ap told (sym more.1) ∙ all) (λ u same count. few_left lines u w are.1 same count)
+      (ap reported (sym more.1) ∙ all) (λ u same count. few_left lines u w are.1 same count)
 ]
 
--- No more than an LF is on its way once all lines are told.
+-- No more than an LF is on its way once all lines are reported.
 pub answered_few : (taken way : List ℕ) → IsAnswered taken way → length way ≤ 1
-answered_few taken way a = few_left a.before taken way a.are_lines a.written (ap length a.told)
+answered_few taken way a = few_left a.before taken way a.are_lines a.written (ap length a.reported)
 
-all_told : (lines : List (List ℕ)) (rest : List ℕ) → AreLines lines
-    → told (written_bytes lines ++ rest) ≡ length lines + told rest
-all_told [] rest are = let e : told rest ≡ 0 + told rest = omega arith in e
-all_told (line ∷ lines) rest are =
-    let more : told (written_bytes lines ++ rest) ≡ length lines + told rest = all_told lines rest are.1 in
-    let prefix : told ((line ++ 13 ∷ 10 ∷ written_bytes lines) ++ rest) ≡ suc (told (written_bytes lines ++ rest)) =
-    ap told (append_assoc line (13 ∷ 10 ∷ written_bytes lines) rest)
-    ∙ (one_told line (10 ∷ (written_bytes lines ++ rest)) are.0
+all_reported : (lines : List (List ℕ)) (rest : List ℕ) → AreLines lines
+    → reported (written_bytes lines ++ rest) ≡ length lines + reported rest
+all_reported [] rest are = let e : reported rest ≡ 0 + reported rest = omega arith in e
+all_reported (line ∷ lines) rest are =
+    let more : reported (written_bytes lines ++ rest) ≡ length lines + reported rest = all_reported lines rest are.1 in
+    let prefix : reported ((line ++ 13 ∷ 10 ∷ written_bytes lines) ++ rest) ≡ suc
+    (reported (written_bytes lines ++ rest)) =
+    ap reported (append_assoc line (13 ∷ 10 ∷ written_bytes lines) rest)
+    ∙ (one_reported line (10 ∷ (written_bytes lines ++ rest)) are.0
     ∙ ap (λ (s : Spelled). suc (length s.lines)) (lines_lf (written_bytes lines ++ rest))) in
     omega (arith, more, prefix)
 
@@ -84,14 +87,14 @@ the_last [] line are = (tt, are.0)
 the_last (l ∷ before) line are = let more : AreLines before × IsLine line = the_last before line are.1 in
     ((are.0, more.0), more.1)
 
--- The CR and LF of a line that isn't told are on their way.
+-- The CR and LF of a line that isn't reported are on their way.
 pub asking_waits : (line taken way : List ℕ) → IsAsking line taken way → 2 ≤ length way
 asking_waits line taken [] a =
-    let all : told (written_bytes (a.before ++ line ∷ []) ++ []) ≡ length (a.before ++ line ∷ []) + told [] =
-    all_told (a.before ++ line ∷ []) [] a.are_lines in
-    let same : told (written_bytes (a.before ++ line ∷ []) ++ []) ≡ length a.before =
-    ap told (append-nil (written_bytes (a.before ++ line ∷ [])) ∙ (sym a.written ∙ append-nil taken))
-    ∙ ap length a.told in
+    let all : reported (written_bytes (a.before ++ line ∷ []) ++ []) ≡ length (a.before ++ line ∷ []) + reported [] =
+    all_reported (a.before ++ line ∷ []) [] a.are_lines in
+    let same : reported (written_bytes (a.before ++ line ∷ []) ++ []) ≡ length a.before =
+    ap reported (append-nil (written_bytes (a.before ++ line ∷ [])) ∙ (sym a.written ∙ append-nil taken))
+    ∙ ap length a.reported in
     absurd (omega (arith, all, same, length-append a.before (line ∷ [])))
 asking_waits line taken (x ∷ []) a =
     let are : AreLines a.before × IsLine line = the_last a.before line a.are_lines in
@@ -108,8 +111,8 @@ asking_waits line taken (x ∷ []) a =
     ) in
     let cut : taken ≡ written_bytes a.before ++ (line ++ 13 ∷ []) =
     (same_cut taken (x ∷ []) (written_bytes a.before ++ (line ++ 13 ∷ [])) (10 ∷ []) long split).0 in
-    let all : told (written_bytes a.before ++ (line ++ 13 ∷ [])) ≡ length a.before + told (line ++ 13 ∷ []) =
-    all_told a.before (line ++ 13 ∷ []) are.0 in
-    let one : told (line ++ 13 ∷ []) ≡ suc (told []) = one_told line [] are.1 in
-    absurd (omega (arith, all, one, ap told cut, ap length a.told))
+    let all : reported (written_bytes a.before ++ (line ++ 13 ∷ [])) ≡ length a.before + reported (line ++ 13 ∷ []) =
+    all_reported a.before (line ++ 13 ∷ []) are.0 in
+    let one : reported (line ++ 13 ∷ []) ≡ suc (reported []) = one_reported line [] are.1 in
+    absurd (omega (arith, all, one, ap reported cut, ap length a.reported))
 asking_waits line taken (x ∷ y ∷ way) a = omega arith

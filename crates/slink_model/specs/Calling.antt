@@ -6,7 +6,7 @@ use Rattle.slink_feed.specs.declared.dialogue.Stage.TheVariants.{Number}
 use Rattle.slink_feed.specs.declared.grant.Grant.{Grant}
 use Rattle.slink_feed.specs.Dialogue.{next_at}
 use Rattle.slink_feed.specs.Listening.{IsLinked}
-use Rattle.slink_feed.specs.Session.{asked, grant_at, granted}
+use Rattle.slink_feed.specs.Session.{called, grant_at, granted}
 use Rattle.slink_model.specs.Stretch.{resumed}
 use Rattle.slink_feed.specs.Window.{Window}
 use Rattle.slink_model.specs.World.{LinkState, WorldState, number_at}
@@ -25,7 +25,7 @@ IsUnanswered l m = (m.session.state ≡ l.session.state) × (m.to_client ≡ [])
 pub record IsAnswered (w : WorldState) (k : ℕ) (l m : LinkState) : Type 0 where
   pub reply : Reply
   pub written : m.to_client ≡ reply_bytes reply
-  pub number : asked w.windows k w.client.talk.mode (next_at w.client.talk.wants k) l.session.state ≡ (
+  pub number : called w.windows k w.client.talk.mode (next_at w.client.talk.wants k) l.session.state ≡ (
     m.session.state,
     reply,
   )

@@ -1,5 +1,5 @@
 -- The counted world: where the steps of a schedule lead to, by lists and counts alone. A place has the list of all
--- records that were pushed. A link has what the client said, what the server sent, in whole replies and packets, and
+-- records that were pushed. A link has what the client sent, what the server sent, in whole replies and packets, and
 -- how
 -- many bytes of each were taken. There is no ring, no buffer, and no part of a line, a reply or a packet.
 use Rattle.std.specs.Prelude.{◌≡◌, ℕ, Bool, true, false, not, min, ◌+◌, ◌-◌, ◌*◌, ◌%◌, ◌^◌, ◌≤◌, ◌&&◌, List, [], ◌∷◌}
@@ -21,17 +21,17 @@ use Rattle.slink_feed.specs.declared.session.Sent.TheVariants as sents
 use Rattle.slink_model.specs.declared.world.Setup.{Setup}
 use Rattle.slink_model.specs.declared.world.Step.{Step}
 use Rattle.slink_model.specs.declared.world.Step.TheVariants.{Append, Connect, ToServer, ToClient, Send, Cut}
-use Rattle.slink_feed.specs.Dialogue.{Talk, ended, next_at, says_number, says_place, told, wants_of}
+use Rattle.slink_feed.specs.Dialogue.{Talk, ended, next_at, says_number, says_place, reported, wants_of}
 use Rattle.slink_feed.specs.Listening.{IsLinked}
-use Rattle.slink_feed.specs.Session.{Grants, State, asked, at, chosen, grant_at, sent}
+use Rattle.slink_feed.specs.Session.{Grants, State, called, at, chosen, grant_at, sent}
 use Rattle.slink_model.specs.Ties.{Item, Accepted, Refused, Greeted, Carried, Finished, item_bytes, items_of, way_bytes}
 use Rattle.slink_feed.specs.Window.{Window, record_at, window}
 use Rattle.slink_model.specs.World.{LinkState, Lists, Numbers, WorldState, first_after, number_at, written, with_first}
 use Rattle.slink_model.specs.World.{with_one}
 
 -- a link: where its session stands, the number of the first packet that was sent of each place; the bytes of all lines
--- that the client said, and how many of them the server took; all that the server sent, and how many bytes of it the
--- client took
+-- that the client sent, and how many of them the server accepted; all that the server sent, and how many bytes of it
+-- the client accepted
 pub record CountedLink : Type 0 where
   pub session : State
   pub first_sent : List (Option ℕ)
@@ -67,13 +67,13 @@ shown_all setup (p ∷ ps) (records ∷ pushed) = shown_of setup p records ∷ s
 abbrev pub windows_of : Setup → Counted → List Window
 windows_of setup c = shown_all setup setup.places.items c.pushed
 
--- What answers the line that a client said last, by what it waits for: its place is chosen; what it asks for is
+-- What answers the line that a client sent last, by what it waits for: its place is chosen; what it asks for is
 -- granted, if
 -- there is that grant; or packets may follow.
 abbrev pub answer_at : Stage → List Window → Talk → State → State × ServerReply
 answer_at Unlinked feed t s = (s, replies.Nothing)
 answer_at (Station k) feed t s = chosen (Some k) s
-answer_at (Number k) feed t s = asked feed k t.mode (next_at t.wants k) s
+answer_at (Number k) feed t s = called feed k t.mode (next_at t.wants k) s
 answer_at Packets feed t s = (at Streaming s.grants, replies.Nothing)
 answer_at (Ended ending) feed t s = (s, replies.Nothing)
 
@@ -84,7 +84,7 @@ waits taken written = nat_le (taken + 2) (length written)
 abbrev pub replied : State × ServerReply → CountedLink → CountedLink
 replied x l = record l { session = x.0; sent = l.sent ++ items_of x.1 }
 
--- The line that was said last is answered, if its CR has come.
+-- The line that was sent last is answered, if its CR has come.
 abbrev pub if_come : Bool → List Window → Talk → CountedLink → CountedLink
 if_come true feed talk l = replied (answer_at talk.stage feed talk l.session) l
 if_come false feed talk l = l
@@ -110,7 +110,7 @@ items_sent feed grants k sents.Wait = []
 items_sent feed grants k sents.Overrun = []
 items_sent feed grants k sents.Closed = []
 
--- The session is asked for a packet of a place.
+-- The session is called for a packet of a place.
 abbrev pub sent_by : List Window → ℕ → CountedLink → CountedLink
 sent_by feed k l = record l {
   session = (sent feed l.session k).0;
@@ -139,7 +139,7 @@ on_item (Station k) Accepted t = says_number k t
 on_item (Station k) Refused t = ended (endings.Refused k) t
 on_item (Number k) Accepted t = says_place (k + 1) t
 on_item (Number k) Refused t = ended (endings.Refused k) t
-on_item Packets (Carried k n r) t = told k (n % 2 ^ 24) r t
+on_item Packets (Carried k n r) t = reported k (n % 2 ^ 24) r t
 on_item Packets Finished t = ended endings.End t
 on_item stage item t = (t, events.None)
 
@@ -229,7 +229,7 @@ counted_opening setup = record {
 }
 
 -- The link of a world is the counted one: its session stands where that one does, and has what was begun of the lines
--- that were taken; what is on its way is what was said or sent and isn't taken; and the client has kept what was
+-- that were taken; what is on its way is what was written or sent and isn't taken; and the client has kept what was
 -- delivered of the first reply or packet that isn't whole.
 pub record IsCountedLink (talk : Talk) (kept : List ℕ) (c : CountedLink) (l : LinkState) : Type 0 where
   pub session : l.session.state ≡ c.session

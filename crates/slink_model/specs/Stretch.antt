@@ -9,7 +9,7 @@ use Rattle.slink_model.specs.declared.world.Step.{Step}
 use Rattle.slink_model.specs.declared.world.Step.TheVariants.{Append, Connect, ToServer, ToClient, Send, Cut}
 use Rattle.slink_feed.specs.Dialogue.{next_at}
 use Rattle.slink_feed.specs.Listening.{IsLinked}
-use Rattle.slink_feed.specs.Session.{State, asked, grant_at, granted}
+use Rattle.slink_feed.specs.Session.{State, called, grant_at, granted}
 use Rattle.slink_model.specs.Ties.{AreNext, Holds, Item, WantFirst, of_place, way_bytes}
 use Rattle.slink_feed.specs.Window.{Window, oldest_of}
 use Rattle.slink_model.specs.World.{AllHappen, Differ, IsOf, LinkState, WorldState, number_at}
@@ -54,12 +54,12 @@ pub record HoldsStretches (places : List (Fields × Option ℕ)) (first : ℕ) (
 abbrev pub resumed : Window → ℕ → Option ℕ
 resumed w number = if nat_le (oldest_of w) number && nat_le number w.next then Some number else None
 
--- Where something is held of a place, and the number that is wanted next of it is asked for, the answer is the grant of
+-- Where something is held of a place, and the number that is wanted next of it is requested, the answer is the grant of
 -- the record behind the last one held, where there is that grant, and else the refusal.
 abbrev pub Resumes : WorldState → Type 0
 Resumes w = (k start : ℕ) (ring : Window) (mode : Mode) (s : State) → number_at w.start k ≡ Some start
     → slice_get w.windows k ≡ Some ring
-    → asked w.windows k mode (next_at w.client.talk.wants k) s
+    → called w.windows k mode (next_at w.client.talk.wants k) s
     ≡ granted mode k (resumed ring (start + length (slice_index_or w.held k []))) s
 
 -- What a link has on its way to the client, behind the bytes that the client kept, are replies and packets; those of a

@@ -96,31 +96,31 @@ abbrev pub AreSound : Fields → List (List ℕ) → Type 0
 AreSound place pushed = (i : ℕ) (r : List ℕ) → slice_get pushed i ≡ Some r → (length r ≡ 512) × Bears r place
 
 -- a record that a client's event tells of: the index of its place, its number modulo 2^24, its bytes
-pub record Told : Type 0 where
+pub record Reported : Type 0 where
   pub index : ℕ
   pub number : ℕ
   pub bytes : List ℕ
 
-abbrev pub told_of : Event → Option Told
-told_of events.None = None
-told_of (events.Say bytes) = None
-told_of (events.Record k number bytes) = Some (record { index = k; number = number; bytes = bytes })
-told_of events.End = None
-told_of (events.Refused k) = None
-told_of (events.Gap k want got) = None
-told_of events.Garbage = None
-told_of events.Foreign = None
+abbrev pub reported_of : Event → Option Reported
+reported_of events.None = None
+reported_of (events.Say bytes) = None
+reported_of (events.Record k number bytes) = Some (record { index = k; number = number; bytes = bytes })
+reported_of events.End = None
+reported_of (events.Refused k) = None
+reported_of (events.Gap k want got) = None
+reported_of events.Garbage = None
+reported_of events.Foreign = None
 
 -- what comes of bytes that a client takes
 pub data Outcome (t : Talk) (items : List Item) (bytes way : List ℕ) (new : Listening) (e : Event) : Type 0 where
-  waits : new ≡ record { talk = t; kept = bytes } → told_of e ≡ None → Outcome t items bytes way new e
+  waits : new ≡ record { talk = t; kept = bytes } → reported_of e ≡ None → Outcome t items bytes way new e
   says : (rest : List Item) → items ≡ Accepted ∷ rest → way ≡ way_bytes rest → new.talk.wants ≡ t.wants → new.kept ≡ []
-      → told_of e ≡ None → Outcome t items bytes way new e
+      → reported_of e ≡ None → Outcome t items bytes way new e
   takes : (k j n : ℕ) (r : List ℕ) (rest : List Item) → items ≡ Carried k n r ∷ rest → way ≡ way_bytes rest
       → bearer t.wants r ≡ Some j → ((w : ℕ) → next_at t.wants j ≡ Some w → n % 2 ^ 24 ≡ w)
       → new.talk ≡ record t { wants = with_next t.wants j ((n % 2 ^ 24 + 1) % 2 ^ 24) } → new.kept ≡ []
-      → told_of e ≡ Some (record { index = j; number = n % 2 ^ 24; bytes = r }) → Outcome t items bytes way new e
-  ends : (ending : Ending) → new.talk ≡ record t { stage = Ended ending } → new.kept ≡ [] → told_of e ≡ None
+      → reported_of e ≡ Some (record { index = j; number = n % 2 ^ 24; bytes = r }) → Outcome t items bytes way new e
+  ends : (ending : Ending) → new.talk ≡ record t { stage = Ended ending } → new.kept ≡ [] → reported_of e ≡ None
       → Outcome t items bytes way new e
 
 -- the records that are carried are of these places, and have 512 bytes

@@ -74,8 +74,8 @@ pub record Taking : Type 0 where
 abbrev pub with_client : Listening → Lists → Numbers → List ℕ → Taking
 with_client client held start to_server = record { client = client; held = held; start = start; to_server = to_server }
 
--- what comes of an event: a record is held, and what is said goes on its way. The first record of a place that is held
--- is the first that the link was sent.
+-- what comes of an event: a record is held, and what is written goes on its way. The first record of a place that is
+-- held is the first that the link was sent.
 abbrev pub noted : Numbers → Event → Taking → Taking
 noted first_sent (events.Say line) t = record t { to_server = t.to_server ++ line.items }
 noted first_sent (events.Record k number bytes) t =
@@ -101,7 +101,7 @@ first_after first_sent grants k sents.Wait = first_sent
 first_after first_sent grants k sents.Overrun = first_sent
 first_after first_sent grants k sents.Closed = first_sent
 
--- The link once a packet of a place was asked for.
+-- The link once a packet of a place was requested.
 abbrev pub sent_on : List Window → ℕ → LinkState → LinkState
 sent_on feed k l = record {
   session = record { state = (sent feed l.session.state k).0; held = l.session.held };

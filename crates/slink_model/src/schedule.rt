@@ -146,7 +146,7 @@ pub fn run_schedule(alloc: Global, setup: &Setup, steps: &[Step]) -> Result<Worl
         → LackFew setup.now.first (opening setup.now) steps.now (seen w) run → 0 < length setup.now.places.items
         → (l : LinkState) → (seen w).link ≡ Some l → IsLinked (seen w).client.talk.stage
         → GoesOn setup.now.places.items (seen w) l) }
-    // The client is told of no gap, and of nothing that it can't read, whatever is lacking.
+    // The client is informed of no gap, and of nothing that it can't read, whatever is lacking.
     ensures spared { IfOk result (λ w. 0 < length setup.now.places.items → IsSpared (seen w).client.talk.stage) }
     // No other world comes of the steps.
     ensures only { IfOk result (λ w. 0 < length setup.now.places.items

@@ -58,9 +58,9 @@ pub fn carries_a_stretch()
         → (l : LinkState) → now.link ≡ Some l → IsCarried setup.places.items setup.first now l }
 {}
 
-/// After any steps of a schedule, the link of a client has ended only where all that was asked for was sent or a place
-/// was refused: it is told of no gap, of no record of another place, and of no bytes that are neither a reply, a packet
-/// nor the end.
+/// After any steps of a schedule, the link of a client has ended only where all that was requested was sent or a place
+/// was refused: it is informed of no gap, of no record of another place, and of no bytes that are neither a reply, a
+/// packet nor the end.
 #[tactic(auto, using(crate::proofs::Sparing::client_spared))]
 pub fn spares_the_client()
     ensures spared { (setup : Setup) (steps : List Step) (now : WorldState) → AllHappen (opening setup) steps now

@@ -26,7 +26,7 @@ pub struct Setup {
     pub mode: Mode,
 }
 
-/// A step of a schedule. The places are told by their indices.
+/// A step of a schedule. The places are named by their indices.
 #[derive(Clone, Copy)]
 pub enum Step {
     /// A record of this place is pushed.
@@ -37,7 +37,7 @@ pub enum Step {
     ToServer(usize),
     /// So many bytes, or all where there are fewer, come to the client.
     ToClient(usize),
-    /// The session is asked for a packet of this place.
+    /// The session is called for a packet of this place.
     Send(usize),
     /// The link is lost, with all bytes on their way.
     Cut,
@@ -65,7 +65,7 @@ pub struct World {
     pub pushed: Vec<Vec<[u8; 512]>>,
     /// The client, which outlives its links.
     pub client: Client,
-    /// The records that the client took of each place.
+    /// The records that the client accepted of each place.
     pub held: Vec<Vec<[u8; 512]>>,
     /// The number of the first record held of each place, where one is held.
     pub start: Vec<Option<u64>>,
@@ -148,7 +148,7 @@ impl Link {
         Ok(())
     }
 
-    /// The session is asked for a packet.
+    /// The session is called for a packet.
     fn send(&mut self, feed: &Feed, k: usize) -> Result<(), Memory>
         requires in_range { k < length feed.now }
         requires serving { IsServing feed.now (link_state self.old) }
@@ -222,7 +222,7 @@ impl World {
         }
     }
 
-    /// The session is asked for a packet.
+    /// The session is called for a packet.
     fn send(&mut self, k: usize) -> Result<(), Memory>
         requires in_range { k < length self.old.feed }
         requires running { IsRunning (seen self.old) }

@@ -1,15 +1,15 @@
--- What calls told, one after another.
+-- What calls reported, one after another.
 use Rattle.std.proofs.Common.{◌≡◌, ℕ, refl, sym, ap, ◌∙◌, List, [], ◌∷◌, ◌++◌, append_assoc, append-nil}
 use Rattle.slink_wire.specs.declared.lines.What.{What}
 use Rattle.slink_wire.specs.declared.lines.What.TheVariants.{More, Line, TooLong}
 use Rattle.slink_wire.specs.Lines.{lines_of}
 use Rattle.slink_wire.specs.Taking.{AreCalls, Call, Tells, bytes_in, line_in, lines_in}
 
-told : (what : What) (before after : List ℕ) → Tells what before after
+reported : (what : What) (before after : List ℕ) → Tells what before after
     → (lines_of after).lines ≡ (lines_of before).lines ++ line_in what
-told More before after h = h.0 ∙ sym (append-nil (lines_of before).lines)
-told (Line line) before after h = h.0
-told TooLong before after h = h.0 ∙ sym (append-nil (lines_of before).lines)
+reported More before after h = h.0 ∙ sym (append-nil (lines_of before).lines)
+reported (Line line) before after h = h.0
+reported TooLong before after h = h.0 ∙ sym (append-nil (lines_of before).lines)
 
 behind : (stream : List ℕ) (calls : List Call) → AreCalls stream calls
     → (lines_of (stream ++ bytes_in calls)).lines ≡ (lines_of stream).lines ++ lines_in calls
@@ -17,7 +17,7 @@ behind stream [] h = ap (λ s. (lines_of s).lines) (append-nil stream) ∙ sym (
 behind stream (call ∷ calls) h =
     ap (λ s. (lines_of s).lines) (sym (append_assoc stream call.bytes (bytes_in calls)))
     ∙ (behind (stream ++ call.bytes) calls h.1
-    ∙ (ap (λ ls. ls ++ lines_in calls) (told call.what stream (stream ++ call.bytes) h.0)
+    ∙ (ap (λ ls. ls ++ lines_in calls) (reported call.what stream (stream ++ call.bytes) h.0)
     ∙ append_assoc (lines_of stream).lines (line_in call.what) (lines_in calls)))
 
 no_lines : (lines_of []).lines ≡ []

@@ -13,7 +13,7 @@ pub both : (a b : Bool) → (a && b) ≡ true → (a ≡ true) × (b ≡ true)
 both true b h = (refl, h)
 both false b h = absurd (let c : false ≡ true = h in cc c)
 
--- the elements in front fail, and the next one passes
+-- the elements before it fail, and the next one passes
 pub first_at : (p : ℕ → Bool) (xs : List ℕ) (y : ℕ) (ys : List ℕ) → list_all (λ x. not (p x)) xs ≡ true → p y ≡ true
     → position_or_len p (xs ++ y ∷ ys) ≡ length xs
 first_at p [] y ys h t = ap (λ v. cond (not v) (1 + prefix_len (λ x. not (p x)) ys) 0) t

@@ -79,7 +79,7 @@ other_leads lines line b fits on =
           (sym room.0) ((refl, refl), (refl, refl)))
     ])
 
--- an LF in front is dropped
+-- an LF before it is dropped
 lf_leads : (lines : List (List ℕ)) (line : List ℕ) → length line ≤ 255 → IsStripped line
     → LeadsOf (record { lines = lines; begun = line; is_too_long = false }) (continued 10 lines line false)
     (lf_step line 10)
@@ -158,7 +158,7 @@ step_open line b = choice_open (b == 13) (cr_step line) (if b == 10 then lf_step
     (choice_open (length line == 0) (begun [], More) (other_step line b) (λ e. refl) (other_open line b))
     (other_open line b))
 
--- so many bytes of a piece were taken, and nothing was told
+-- so many bytes of a piece were taken, and nothing was reported
 pub record TakenTo (old now : Held) (piece : List ℕ) (i : ℕ) : Type 0 where
   pub goes_on : now.is_too_long ≡ false
   pub held : (stream : List ℕ) → IsHeld old stream → IsHeld now (stream ++ take i piece)

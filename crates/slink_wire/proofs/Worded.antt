@@ -13,7 +13,7 @@ use Rattle.slink_wire.proofs.Cuts.{Lacks, byte_at, first_at, none_at, place_boun
 abbrev keeps : List (List ℕ) → List (List ℕ)
 keeps ws = filter (λ w. not (length w == 0)) ws
 
--- a space in front says nothing
+-- a space before it says nothing
 words_space : (bs : List ℕ) → words (32 ∷ bs) ≡ words bs
 unfolding words
 words_space bs = refl

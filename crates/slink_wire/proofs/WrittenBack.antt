@@ -1,4 +1,4 @@
--- Lines that are said are spelled again, and of a prefix of the stream a prefix of them.
+-- Lines that are written are spelled again, and of a prefix of the stream a prefix of them.
 use Rattle.std.proofs.Common.{◌≡◌, ℕ, ◌<◌, ◌≤◌, inl, inr, suc, refl, sym, ap, subst, ◌∙◌, arith, Bool, true, false, not}
 use Rattle.std.proofs.Common.{cond, ◌==◌, ◌&&◌, nat_lt, if◌then◌else◌, List, [], ◌∷◌, ◌++◌, append-nil, append_assoc}
 use Rattle.std.proofs.Common.{length, length-append}
@@ -81,7 +81,7 @@ pub lines_lf : (rest : List ℕ) → lines_of (10 ∷ rest) ≡ lines_of rest
 unfolding lines_of
 lines_lf rest = lf_spelled (slice_split (λ b. b == 13) rest) (has_piece (λ b. b == 13) rest)
 
--- no line is told, and none is too long
+-- no line is reported, and none is too long
 abbrev pub Quiet : List ℕ → Type 0
 Quiet bytes = ((lines_of bytes).lines ≡ []) × ((lines_of bytes).is_too_long ≡ false)
 
@@ -100,52 +100,54 @@ part_quiet part lacks short =
 pub none_quiet : Quiet []
 none_quiet = part_quiet [] refl (omega arith)
 
-none_told : (bytes : List ℕ) (lines : List (List ℕ)) → Quiet bytes → SpellsPrefix bytes lines
-none_told bytes lines quiet = (0, omega arith, quiet.0, quiet.1)
+none_reported : (bytes : List ℕ) (lines : List (List ℕ)) → Quiet bytes → SpellsPrefix bytes lines
+none_reported bytes lines quiet = (0, omega arith, quiet.0, quiet.1)
 
-one_told : (line rest : List ℕ) (lines : List (List ℕ)) → IsLine line → SpellsPrefix rest lines
+one_reported : (line rest : List ℕ) (lines : List (List ℕ)) → IsLine line → SpellsPrefix rest lines
     → SpellsPrefix (line ++ 13 ∷ rest) (line ∷ lines)
-one_told line rest lines is told = (
-  suc told.0,
-  omega (arith, told.1),
-  ap (λ (s : Spelled). s.lines) (lines_then line rest is) ∙ ap (λ ls. line ∷ ls) told.2,
-  ap (λ (s : Spelled). s.is_too_long) (lines_then line rest is) ∙ told.3,
+one_reported line rest lines is reported = (
+  suc reported.0,
+  omega (arith, reported.1),
+  ap (λ (s : Spelled). s.lines) (lines_then line rest is) ∙ ap (λ ls. line ∷ ls) reported.2,
+  ap (λ (s : Spelled). s.is_too_long) (lines_then line rest is) ∙ reported.3,
 )
 
 pub lacks_prefix : (t z : List ℕ) → Lacks 13 (t ++ z) → Lacks 13 t
 lacks_prefix t z h = (both (list_all (λ b. not (b == 13)) t) (list_all (λ b. not (b == 13)) z)
     (sym (list_all-append (λ b. not (b == 13)) t z) ∙ h)).0
 
-prefix_told : (line t z : List ℕ) (lines : List (List ℕ)) → IsLine line → line ≡ t ++ z → SpellsPrefix t lines
-prefix_told line t z lines is e =
-    none_told t lines (part_quiet t (lacks_prefix t z (subst (Lacks 13) e is.no_cr))
+prefix_reported : (line t z : List ℕ) (lines : List (List ℕ)) → IsLine line → line ≡ t ++ z → SpellsPrefix t lines
+prefix_reported line t z lines is e =
+    none_reported t lines (part_quiet t (lacks_prefix t z (subst (Lacks 13) e is.no_cr))
     (let long : length line ≡ length (t ++ z) = ap length e in omega (arith, long, length-append t z, is.short)))
 
 -- what stands behind a line's CR
-behind_told : (z w rest : List ℕ) (lines : List (List ℕ)) → z ++ w ≡ 10 ∷ rest
+behind_reported : (z w rest : List ℕ) (lines : List (List ℕ)) → z ++ w ≡ 10 ∷ rest
     → ((u : List ℕ) → u ++ w ≡ rest → SpellsPrefix u lines) → SpellsPrefix z lines
-behind_told [] w rest lines e more = none_told [] lines none_quiet
-behind_told (x ∷ u) w rest lines e more =
+behind_reported [] w rest lines e more = none_reported [] lines none_quiet
+behind_reported (x ∷ u) w rest lines e more =
     let first : x ≡ 10 = cc e in
     let others : u ++ w ≡ rest = cc e in
-    let told : SpellsPrefix u lines = more u others in
+    let reported : SpellsPrefix u lines = more u others in
     subst (λ b. SpellsPrefix (b ∷ u) lines) (sym first) (
-      told.0,
-      told.1,
+      reported.0,
+      reported.1,
       ap (λ (s : Spelled). s.lines) (lines_lf u)
-          ∙ told.2,
-      ap (λ (s : Spelled). s.is_too_long) (lines_lf u) ∙ told.3,
+          ∙ reported.2,
+      ap (λ (s : Spelled). s.is_too_long) (lines_lf u) ∙ reported.3,
     )
 
-ended_told : (line t z w rest : List ℕ) (lines : List (List ℕ)) → IsLine line → t ≡ line ++ z → z ++ w ≡ 13 ∷ 10 ∷ rest
+ended_reported : (line t z w rest : List ℕ) (lines : List (List ℕ)) → IsLine line → t ≡ line ++ z
+    → z ++ w ≡ 13 ∷ 10 ∷ rest
     → ((u : List ℕ) → u ++ w ≡ rest → SpellsPrefix u lines) → SpellsPrefix t (line ∷ lines)
-ended_told line t [] w rest lines is e left more =
-    prefix_told line t [] (line ∷ lines) is (let same : t ≡ line = e ∙ append-nil line in sym same ∙ sym (append-nil t))
-ended_told line t (x ∷ z) w rest lines is e left more =
+ended_reported line t [] w rest lines is e left more =
+    prefix_reported line t [] (line ∷ lines) is (let same : t ≡ line =
+    e ∙ append-nil line in sym same ∙ sym (append-nil t))
+ended_reported line t (x ∷ z) w rest lines is e left more =
     let first : x ≡ 13 = cc left in
     let others : z ++ w ≡ 10 ∷ rest = cc left in
     subst (λ b. SpellsPrefix b (line ∷ lines)) (sym (e ∙ ap (λ b. line ++ b ∷ z) first))
-    (one_told line z lines is (behind_told z w rest lines others more))
+    (one_reported line z lines is (behind_reported z w rest lines others more))
 
 pub nothing_left : (t w : List ℕ) → t ++ w ≡ [] → t ≡ []
 nothing_left [] w e = refl
@@ -154,10 +156,10 @@ nothing_left (x ∷ t) w e = absurd (let bad : x ∷ (t ++ w) ≡ [] = e in cc b
 -- of a prefix of the lines' bytes
 pub prefix_spelled : (lines : List (List ℕ)) (t w : List ℕ) → AreLines lines → t ++ w ≡ written_bytes lines
     → SpellsPrefix t lines
-prefix_spelled [] t w are e = subst (λ b. SpellsPrefix b []) (sym (nothing_left t w e)) (none_told [] [] none_quiet)
+prefix_spelled [] t w are e = subst (λ b. SpellsPrefix b []) (sym (nothing_left t w e)) (none_reported [] [] none_quiet)
 prefix_spelled (line ∷ lines) t w are e = elim (prefixes t line w (13 ∷ 10 ∷ written_bytes lines) e) [
-  | inl more ↦ prefix_told line t more.0 (line ∷ lines) are.0 more.1
-  | inr more ↦ ended_told line t more.0 w (written_bytes lines) lines are.0 more.1
+  | inl more ↦ prefix_reported line t more.0 (line ∷ lines) are.0 more.1
+  | inr more ↦ ended_reported line t more.0 w (written_bytes lines) lines are.0 more.1
       (append_cancel_left line (more.0 ++ w) (13 ∷ 10 ∷ written_bytes lines) (sym (append_assoc line more.0 w)
       ∙ (ap (λ b. b ++ w) (sym more.1) ∙ e)))
       (λ u same. prefix_spelled lines u w are.1 same)

@@ -1,4 +1,4 @@
--- Command lines out of a stream of bytes (SeedLink 3, commands). A CR ends a line; LF bytes in front of a line are
+-- Command lines out of a stream of bytes (SeedLink 3, commands). A CR ends a line; LF bytes before a line are
 -- dropped, and so is an empty line.
 use Rattle.std.specs.Prelude.{◌≡◌, ℕ, Bool, true, false, ◌==◌, nat_lt, if◌then◌else◌, List, [], ◌∷◌, ◌++◌, length}
 use Rattle.std.specs.List.{slice_split}
@@ -9,7 +9,7 @@ pub record Spelled : Type 0 where
   pub begun : List ℕ
   pub is_too_long : Bool
 
--- a piece without the LF bytes in front
+-- a piece without the LF bytes before it
 abbrev pub stripped : List ℕ → List ℕ
 stripped [] = []
 stripped (b ∷ bs) = if b == 10 then stripped bs else b ∷ bs

@@ -11,7 +11,7 @@ Tells (Line line) before after = ((lines_of after).lines ≡ (lines_of before).l
     × ((lines_of after).is_too_long ≡ false)
 Tells TooLong before after = ((lines_of after).lines ≡ (lines_of before).lines) × ((lines_of after).is_too_long ≡ true)
 
--- a call: the bytes that it took, and what was read of it
+-- a call: the bytes that it accepted, and what was read of it
 pub record Call : Type 0 where
   pub bytes : List ℕ
   pub what : What
@@ -21,12 +21,12 @@ abbrev pub AreCalls : List ℕ → List Call → Type 0
 AreCalls stream [] = Unit {0}
 AreCalls stream (call ∷ calls) = Tells call.what stream (stream ++ call.bytes) × AreCalls (stream ++ call.bytes) calls
 
--- the bytes that calls took
+-- the bytes that calls accepted
 abbrev pub bytes_in : List Call → List ℕ
 bytes_in [] = []
 bytes_in (call ∷ calls) = call.bytes ++ bytes_in calls
 
--- the lines that they told
+-- the lines that they reported
 abbrev pub line_in : What → List (List ℕ)
 line_in More = []
 line_in (Line line) = line.items ∷ []

@@ -1,9 +1,9 @@
--- Lines as they are said: each with CR LF behind it.
+-- Lines as they are written: each with CR LF behind it.
 use Rattle.std.specs.Prelude.{◌≡◌, ℕ, ◌==◌, ◌≤◌, not, IsTrue, false, List, [], ◌∷◌, ◌++◌, length, take}
 use Rattle.std.specs.List.{list_all}
 use Rattle.slink_wire.specs.Lines.{Spelled, lines_of, stripped}
 
--- A line that a stream has as it stands: 1 to 255 bytes, no CR among them, and no LF in front.
+-- A line that a stream has as it stands: 1 to 255 bytes, no CR among them, and no LF before it.
 pub record IsLine (line : List ℕ) : Type 0 where
   pub some : 1 ≤ length line
   pub short : length line ≤ 255

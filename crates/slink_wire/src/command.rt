@@ -11,7 +11,7 @@ use crate::words::{Words, words_of};
 /// What a line commands.
 #[derive(Clone, Copy, Debug, PartialEq, Eq)]
 pub enum Command {
-    /// The server's name is asked.
+    /// The server's name is requested.
     Hello,
     /// A station is chosen, in a network or in any. The codes are filled with spaces, as in a record's header.
     Station {
@@ -20,11 +20,11 @@ pub enum Command {
         /// The network's code, where one is named.
         net: Option<[u8; 2]>,
     },
-    /// All channels are asked for.
+    /// All channels are requested.
     SelectAll,
-    /// Records are asked for as they come, from the next one on or from a number.
+    /// Records are requested as they come, from the next one on or from a number.
     Data(Option<u32>),
-    /// The records that are there are asked for, from the oldest one on or from a number.
+    /// The records that are there are requested, from the oldest one on or from a number.
     Fetch(Option<u32>),
     /// The records are to be sent.
     End,

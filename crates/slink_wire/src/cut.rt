@@ -25,7 +25,7 @@ fn place_of_other(bytes: &[u8], byte: u8) -> Option<usize>
     bytes.iter().position(|b| *b != byte)
 }
 
-/// How many such bytes stand in front.
+/// How many such bytes stand before it.
 #[tactic(auto, using(crate::proofs::Cuts::place_or_all))]
 pub(crate) fn first_other(bytes: &[u8], byte: u8) -> usize
     ensures value { result ≡ position_or_len (λ b. not (b == byte)) bytes.now }

@@ -9,7 +9,8 @@ ghost use Rattle.slink_wire.specs.Request.{HasPlace, IsSpelled, request_line, re
 ghost use Rattle.slink_wire.specs.Written.{AreLines, IsLine, SpellsPrefix, only_lines, written_bytes};
 ghost use Rattle.slink_wire.specs.Taking.{AreCalls, Call, bytes_in, lines_in};
 
-/// However a stream of command lines is cut into the pieces that are taken, its lines are told, each once and in order.
+/// However a stream of command lines is cut into the pieces that are taken, its lines are reported, each once and in
+/// order.
 #[tactic(auto, using(crate::proofs::Calls::calls_tell, crate::proofs::Calls::calls_alike))]
 pub fn any_pieces()
     ensures lines { (calls : List Call) → AreCalls [] calls → lines_in calls ≡ (lines_of (bytes_in calls)).lines }
@@ -17,8 +18,8 @@ pub fn any_pieces()
         → lines_in a ≡ lines_in b }
 {}
 
-/// Lines that are said, each with CR LF, are what the stream spells; a prefix of the stream spells a prefix of them.
-/// Each line that any stream spells can be said so.
+/// Lines that are written, each with CR LF, are what the stream spells; a prefix of the stream spells a prefix of them.
+/// Each line that any stream spells can be written so.
 #[tactic(auto, using(crate::proofs::WrittenBack::whole_spelled, crate::proofs::WrittenBack::prefix_spelled, crate::proofs::WrittenBack::spelled_lines))]
 pub fn lines_read_back()
     ensures whole { (lines : List (List ℕ)) → AreLines lines → lines_of (written_bytes lines) ≡ only_lines lines }

@@ -7,7 +7,7 @@ ghost use Rattle.slink_wire.specs.Taking.{Tells};
 use arrayvec::ArrayVec;
 use std::marker::Model;
 
-/// What the bytes that a call took tell.
+/// What the bytes that a call accepted tell.
 #[derive(Debug, Drop)]
 pub enum What {
     /// No line ended.
@@ -18,7 +18,7 @@ pub enum What {
     TooLong,
 }
 
-/// How many bytes a call took, and what they tell.
+/// How many bytes a call accepted, and what they tell.
 #[derive(Debug, Drop)]
 pub struct Took {
     /// The number of bytes that were taken.
@@ -90,7 +90,7 @@ impl Lines {
         ensures held { (stream : List ℕ) → IsHeld self.old stream
             → IsHeld self.new (stream ++ take result.used piece.now) }
         // The answer is what these bytes add to what the stream spells.
-        ensures told { (stream : List ℕ) → IsHeld self.old stream
+        ensures reported { (stream : List ℕ) → IsHeld self.old stream
             → Tells result.what stream (stream ++ take result.used piece.now) }
         // Fewer of them add nothing, so that it stops where there is something to tell.
         ensures first { (stream : List ℕ) (k : ℕ) → IsHeld self.old stream → k < result.used

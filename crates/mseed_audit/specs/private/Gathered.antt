@@ -13,20 +13,20 @@ use Rattle.mseed_audit.specs.declared.each.EachFault.{EachFault}
 use Rattle.mseed_audit.specs.declared.each.EachFault.TheVariants.{Write, Memory}
 use Rattle.mseed_audit.specs.Audit.{Held, IsAuditOf}
 use Rattle.mseed_audit.specs.Channels.{Added, added_from}
-use Rattle.mseed_audit.specs.Each.{TookFirst, TookPart}
+use Rattle.mseed_audit.specs.Each.{EmittedFirst, EmittedPart}
 use Rattle.mseed_audit.specs.Summary.{IsGathered}
-use Rattle.mseed_audit.specs.Text.{told_lines}
-use Rattle.mseed_audit.specs.Told.{Told, AreToldOf}
+use Rattle.mseed_audit.specs.Text.{reported_lines}
+use Rattle.mseed_audit.specs.Reported.{Reported, AreReportedOf}
 
--- the lines of what is told, where records have lines
-abbrev pub lines_by : Lines → List Told → List ℕ
-lines_by OfVerdicts told = []
-lines_by OfRecords told = told_lines told
+-- the lines of what is reported, where records have lines
+abbrev pub lines_by : Lines → List Reported → List ℕ
+lines_by OfVerdicts reported = []
+lines_by OfRecords reported = reported_lines reported
 
--- of some records something is told, of more of them more, whose lines were added to a text
-pub record IsToldMore (lines : Lines) (added further : List Added) (text next : List ℕ) : Type 0 where
-  pub more : List Told
-  pub told : (earlier : List Told) → AreToldOf added earlier → AreToldOf further (earlier ++ more)
+-- of some records something is reported, of more of them more, whose lines were added to a text
+pub record IsReportedMore (lines : Lines) (added further : List Added) (text next : List ℕ) : Type 0 where
+  pub more : List Reported
+  pub reported : (earlier : List Reported) → AreReportedOf added earlier → AreReportedOf further (earlier ++ more)
   pub text_is : next ≡ text ++ lines_by lines more
 
 -- a record more was handed out than these, and it was added, with its line, if it has one
@@ -35,8 +35,8 @@ pub record IsOneMore (lines : Lines) (views : List View) (old new : BytesRead) (
   pub view : View
   pub handed : HasHandedOut new c (views ++ view ∷ [])
   pub audit : IsAuditOf held (added_from 0 (views ++ view ∷ []))
-  pub told : IsToldMore lines (added_from 0 views) (added_from 0 (views ++ view ∷ [])) text next
-  pub asked : old.calls < new.calls
+  pub reported : IsReportedMore lines (added_from 0 views) (added_from 0 (views ++ view ∷ [])) text next
+  pub called : old.calls < new.calls
   pub few : held.added ≤ new.calls
 
 -- What comes next of an input, behind these records that were added: one more, its end, so that they are all, or a
@@ -50,5 +50,5 @@ IsNext lines (Err e) views offset old new c held text next = AreViews new.bytes 
 
 -- a prefix of some text was written before the fault, which is the output's where the output failed
 abbrev pub IsPrefixWritten : EachFault → BytesWritten → BytesWritten → List ℕ → Type 0
-IsPrefixWritten Write old new text = (new.failures ≡ old.failures + 1) × TookPart old new text
-IsPrefixWritten Memory old new text = (new.failures ≡ old.failures) × TookFirst old new text
+IsPrefixWritten Write old new text = (new.failures ≡ old.failures + 1) × EmittedPart old new text
+IsPrefixWritten Memory old new text = (new.failures ≡ old.failures) × EmittedFirst old new text

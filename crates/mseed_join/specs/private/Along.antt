@@ -4,7 +4,7 @@ use Rattle.mseed_stream.specs.Device.{BytesRead}
 use Rattle.mseed_stream.specs.Fault.{IsStreamFault}
 use Rattle.mseed_join.specs.declared.joint.Place.{Place}
 use Rattle.mseed_join.specs.declared.joint.Place.TheVariants.{Start, Channels, Whole}
-use Rattle.mseed_join.specs.declared.joint.Told.{Told}
+use Rattle.mseed_join.specs.declared.joint.Reported.{Reported}
 use Rattle.mseed_join.specs.declared.reader.PartsFault.{PartsFault}
 use Rattle.mseed_join.specs.declared.reader.PartsFault.TheVariants.{Line, Stream, Memory}
 use Rattle.mseed_join.specs.declared.reader.Reader.{Reader}
@@ -13,7 +13,7 @@ use Rattle.mseed_join.specs.Reached.{AreLinesRead, Stage, parts_at}
 use Rattle.mseed_join.specs.ReadParts.{written_of}
 use Rattle.mseed_join.specs.Written.{Spells}
 use Rattle.mseed_join.specs.private.LineReading.{GoesOn, IsReadBy}
-use Rattle.mseed_join.specs.private.Taking.{IsReadTo, IsToldMore}
+use Rattle.mseed_join.specs.private.Taking.{IsReadTo, IsReportedMore}
 
 -- a part can be over here
 abbrev pub can_end : Place → Bool
@@ -31,7 +31,7 @@ pub record IsAlong {A : Type 0} (past : Bool) (h now : BytesRead) (s : Stage) (r
 -- the input's end: all that was read is the texts of these parts
 pub record HasEnded {A : Type 0} (past : Bool) (h now : BytesRead) (s : Stage) (r : Reader A) : Type 0 where
   pub bytes : List ℕ
-  pub told : now.bytes ≡ h.bytes ++ bytes
+  pub reported : now.bytes ≡ h.bytes ++ bytes
   pub at_end : now.is_at_end ≡ true
   pub spells : Spells bytes (parts_at s)
   pub joint : IsJointOf past (parts_at s) (written_of r.joint.so_far)
@@ -39,7 +39,7 @@ pub record HasEnded {A : Type 0} (past : Bool) (h now : BytesRead) (s : Stage) (
 -- a bad line, behind those that were passed
 pub record IsBadBehind (past : Bool) (h now : BytesRead) (s : Stage) (k : ℕ) : Type 0 where
   pub bytes : List ℕ
-  pub told : now.bytes ≡ h.bytes ++ bytes
+  pub reported : now.bytes ≡ h.bytes ++ bytes
   pub bad : IsBadLine past bytes now.is_at_end k
   pub count : ℕ
   pub behind : k ≡ count + 1
@@ -48,7 +48,7 @@ pub record IsBadBehind (past : Bool) (h now : BytesRead) (s : Stage) (k : ℕ) :
 -- no line more was passed, of all that was read
 pub record IsStoppedAt (h now : BytesRead) (s : Stage) : Type 0 where
   pub bytes : List ℕ
-  pub told : now.bytes ≡ h.bytes ++ bytes
+  pub reported : now.bytes ≡ h.bytes ++ bytes
   pub count : ℕ
   pub before : AreLinesRead bytes count s
 
@@ -58,10 +58,11 @@ pub record IsFailedAt (past : Bool) (h now : BytesRead) (s : Stage) : Type 0 whe
   pub none_bad : HasNoBadLine past stopped.bytes
 
 -- by what one step answers
-abbrev pub IsNextStep : {A : Type 0} → Bool → BytesRead → Stage → Result (Option Told) PartsFault → BytesRead → Reader A
+abbrev pub IsNextStep : {A : Type 0} → Bool → BytesRead → Stage → Result (Option Reported) PartsFault → BytesRead
+    → Reader A
     → Type 0
-IsNextStep past h s (Ok (Some told)) now r =
-    (t : Stage) × (IsAlong past h now t r × IsToldMore past s t told × (now.is_at_end ≡ false))
+IsNextStep past h s (Ok (Some reported)) now r =
+    (t : Stage) × (IsAlong past h now t r × IsReportedMore past s t reported × (now.is_at_end ≡ false))
 IsNextStep past h s (Ok None) now r = HasEnded past h now s r
 IsNextStep past h s (Err (Line k)) now r = IsBadBehind past h now s k
 IsNextStep past h s (Err (Stream fault)) now r = IsStreamFault fault h now × IsFailedAt past h now s

@@ -1,7 +1,7 @@
 -- The lines of borders, gathered as parts are read: no public contract is stated by these words.
 use Rattle.std.specs.Prelude.{◌≡◌, ℕ, ◌+◌, List, ◌++◌, Bool, Result, Ok, Err}
 use Rattle.mseed_stream.specs.Device.{BytesRead, BytesWritten}
-use Rattle.mseed_audit.specs.Each.{AreGathered, TookFirst, TookPart}
+use Rattle.mseed_audit.specs.Each.{AreGathered, EmittedFirst, EmittedPart}
 use Rattle.mseed_join.specs.declared.joining.JoinsFault.{JoinsFault}
 use Rattle.mseed_join.specs.declared.joining.JoinsFault.TheVariants.{Line, Stream, Write, Memory}
 use Rattle.mseed_join.specs.declared.joint.JointPart.{JointPart}
@@ -9,7 +9,7 @@ use Rattle.mseed_join.specs.Borders.{Border, border_lines}
 use Rattle.mseed_join.specs.JoinsEach.{IsJoinEachOutcome, IsReadEach}
 use Rattle.mseed_join.specs.ReadParts.{written_of}
 
--- a line was added to what is gathered, of which the output took some
+-- a line was added to what is gathered, of which the output accepted some
 pub record MovesOn (old new : BytesWritten) (text next line : List ℕ) : Type 0 where
   pub gathered : AreGathered old new next (text ++ line)
   pub fine : new.failures ≡ old.failures
@@ -18,24 +18,24 @@ pub record MovesOn (old new : BytesWritten) (text next line : List ℕ) : Type 0
 abbrev pub IsCutShort : JoinsFault → BytesWritten → BytesWritten → List ℕ → Type 0
 IsCutShort (Line k) old new text = ⊥
 IsCutShort (Stream fault) old new text = ⊥
-IsCutShort Write old new text = (new.failures ≡ old.failures + 1) × TookPart old new text
-IsCutShort Memory old new text = (new.failures ≡ old.failures) × TookFirst old new text
+IsCutShort Write old new text = (new.failures ≡ old.failures + 1) × EmittedPart old new text
+IsCutShort Memory old new text = (new.failures ≡ old.failures) × EmittedFirst old new text
 
 -- what is gathered was written before a fault, which is the output's where the output failed
 pub data IsFlushed (fault : JoinsFault) (old new : BytesWritten) (text : List ℕ) : JoinsFault → Type 0 where
   all : new.bytes ≡ old.bytes ++ text → new.failures ≡ old.failures → IsFlushed fault old new text fault
-  short : new.failures ≡ old.failures + 1 → TookPart old new text → IsFlushed fault old new text Write
+  short : new.failures ≡ old.failures + 1 → EmittedPart old new text → IsFlushed fault old new text Write
 
 -- all parts were read, and the last lines of their borders are gathered
 pub record AreAllEach (past : Bool) {A : Type 0} (joint : JointPart A) (h : BytesRead)
-    (old new told now : BytesWritten) (text : List ℕ) : Type 0 where
+    (old new reported now : BytesWritten) (text : List ℕ) : Type 0 where
   pub found : List Border
-  pub read : IsReadEach past h (written_of joint) found told now
+  pub read : IsReadEach past h (written_of joint) found reported now
   pub gathered : AreGathered old new text (border_lines found)
   pub fine : new.failures ≡ old.failures
 
 -- by the outcome
 abbrev pub IsEachReading : {A : Type 0} → Result (JointPart A) JoinsFault → Bool → BytesRead → BytesWritten
     → BytesWritten → BytesWritten → BytesWritten → List ℕ → Type 0
-IsEachReading (Ok joint) past h old new told now text = AreAllEach past joint h old new told now text
-IsEachReading (Err fault) past h old new told now text = IsJoinEachOutcome past (Err fault) h old new told now
+IsEachReading (Ok joint) past h old new reported now text = AreAllEach past joint h old new reported now text
+IsEachReading (Err fault) past h old new reported now text = IsJoinEachOutcome past (Err fault) h old new reported now

@@ -43,24 +43,24 @@ LiesAhead Nothing r at_end = (at_end ≡ true) × (r.held ≡ [])
 -- what more was read, and is held behind what was held before
 pub record Grows (old new : BytesRead) (left rest : Option (List ℕ)) (r after : LinesRead) : Type 0 where
   pub more : List ℕ
-  pub asked : ℕ
-  pub told : new.bytes ≡ old.bytes ++ more
+  pub called : ℕ
+  pub reported : new.bytes ≡ old.bytes ++ more
   pub known : Consumes left rest more
   pub held : after.held ≡ r.held ++ more
   pub lines : after.lines ≡ r.lines
   pub bytes : after.bytes ≡ r.bytes + length more
-  pub calls : new.calls ≡ old.calls + asked
-  pub reads : after.reads ≡ r.reads + asked
+  pub calls : new.calls ≡ old.calls + called
+  pub reads : after.reads ≡ r.reads + called
 
 -- what was read since the reader was made is whole lines that were passed, and what is held
 pub record IsReadBy (start now : BytesRead) (r : LinesRead) : Type 0 where
   pub passed : List ℕ
-  pub told : now.bytes ≡ start.bytes ++ passed ++ r.held
+  pub reported : now.bytes ≡ start.bytes ++ passed ++ r.held
   pub lines : AreLines passed r.lines
   pub bytes : r.bytes ≡ length passed + length r.held
   pub calls : now.calls ≡ start.calls + r.reads
 
--- no read since then failed, or told the input's end
+-- no read since then failed, or reported the input's end
 pub record GoesOn (start now : BytesRead) (r : LinesRead) : Type 0 where
   pub failures : now.failures ≡ start.failures
   pub is_at_end : 0 < r.reads → now.is_at_end ≡ false

@@ -1,4 +1,4 @@
--- Reading from left to right: what stands in front, and the bytes behind it; or nothing.
+-- Reading from left to right: what stands before it, and the bytes behind it; or nothing.
 use Rattle.std.specs.Prelude.{ℕ, zero, suc, ◌+◌, ◌-◌, ◌*◌, ◌^◌, ◌==◌, ◌&&◌, nat_le, nat_lt, nat_eq, Bool, if◌then◌else◌}
 use Rattle.std.specs.Prelude.{List, [], ◌∷◌, ◌++◌, length, take, drop, codes, ℤ, pos, negsuc, Option, Some, None}
 use Rattle.std.specs.Cmp.Lexicographic.{pointwise}

@@ -12,8 +12,8 @@ use Rattle.mseed_join.specs.declared.joint.LineFault.{LineFault}
 use Rattle.mseed_join.specs.declared.joint.LineFault.TheVariants.{Bad, Memory as NoMemory}
 use Rattle.mseed_join.specs.declared.joint.Place.{Place}
 use Rattle.mseed_join.specs.declared.joint.Place.TheVariants.{Start, Channels, Whole}
-use Rattle.mseed_join.specs.declared.joint.Told.{Told}
-use Rattle.mseed_join.specs.declared.joint.Told.TheVariants.{Nothing, Border as AtBorder, Passed}
+use Rattle.mseed_join.specs.declared.joint.Reported.{Reported}
+use Rattle.mseed_join.specs.declared.joint.Reported.TheVariants.{Nothing, Border as AtBorder, Passed}
 use Rattle.mseed_join.specs.Borders.{AreBordersOf, Border}
 use Rattle.mseed_join.specs.Joined.{Begins, IsJointOf}
 use Rattle.mseed_join.specs.Lines.{Line, text_of_line}
@@ -56,38 +56,39 @@ pub record IsReadTo {A : Type 0} (lines : List ℕ) (s : Stage) (j : Joint A) : 
   pub number : j.parts ≡ length (parts_at s)
 
 -- ---- what a line tells
-abbrev pub passed_by : Told → List (List ℕ)
+abbrev pub passed_by : Reported → List (List ℕ)
 passed_by Nothing = []
 passed_by (AtBorder key start found) = []
 passed_by (Passed number fault) = passed_line number fault ∷ []
 
-abbrev pub border_by : Told → List Border
+abbrev pub border_by : Reported → List Border
 border_by Nothing = []
 border_by (AtBorder key start found) = record { key = key; start = start; finding = found } ∷ []
 border_by (Passed number fault) = []
 
 -- of the parts so far it is what one more line adds
-pub record IsToldMore (past : Bool) (s t : Stage) (told : Told) : Type 0 where
-  pub passed : passed_lines past (parts_at t) ≡ passed_lines past (parts_at s) ++ passed_by told
+pub record IsReportedMore (past : Bool) (s t : Stage) (reported : Reported) : Type 0 where
+  pub passed : passed_lines past (parts_at t) ≡ passed_lines past (parts_at s) ++ passed_by reported
   pub borders : (found : List Border) → AreBordersOf past (parts_at s) found
-      → AreBordersOf past (parts_at t) (found ++ border_by told)
+      → AreBordersOf past (parts_at t) (found ++ border_by reported)
 
 -- ---- one more line
-pub record IsTaken {A : Type 0} (lines line : List ℕ) (s t : Stage) (tells : Told) (old new : Joint A) : Type 0 where
-  pub read : IsReadTo (lines ++ line) t new
-  pub told : IsToldMore old.past s t tells
-  pub past : new.past ≡ old.past
-  pub parts : new.parts ≡ length (parts_at t)
+pub record IsTaken {A : Type 0} (lines line : List ℕ) (s t : Stage) (tells : Reported) (old new : Joint A) : Type 0
+  where
+    pub read : IsReadTo (lines ++ line) t new
+    pub reported : IsReportedMore old.past s t tells
+    pub past : new.past ≡ old.past
+    pub parts : new.parts ≡ length (parts_at t)
 
 -- this line, which can stand there
-abbrev pub IsStep : {A : Type 0} → List ℕ → Stage → Line → Result Told LineFault → Joint A → Joint A → Type 0
-IsStep lines s x (Ok told) old new = IsTaken lines (text_of_line x) s (to s x) told old new
+abbrev pub IsStep : {A : Type 0} → List ℕ → Stage → Line → Result Reported LineFault → Joint A → Joint A → Type 0
+IsStep lines s x (Ok reported) old new = IsTaken lines (text_of_line x) s (to s x) reported old new
 IsStep lines s x (Err Bad) old new = Begins old.past (lines ++ text_of_line x) → ⊥
 IsStep lines s x (Err NoMemory) old new = ⊤
 
 -- any line
-abbrev pub IsLineStep : {A : Type 0} → List ℕ → Stage → List ℕ → Result Told LineFault → Joint A → Joint A → Type 0
-IsLineStep lines s line (Ok told) old new = (t : Stage) × IsTaken lines line s t told old new
+abbrev pub IsLineStep : {A : Type 0} → List ℕ → Stage → List ℕ → Result Reported LineFault → Joint A → Joint A → Type 0
+IsLineStep lines s line (Ok reported) old new = (t : Stage) × IsTaken lines line s t reported old new
 IsLineStep lines s line (Err Bad) old new = Begins old.past (lines ++ line) → ⊥
 IsLineStep lines s line (Err NoMemory) old new = ⊤
 

@@ -68,7 +68,7 @@ enum Answer {
     Fault(StreamFault),
 }
 
-/// The next answer. The cutter can be asked again, whatever it was.
+/// The next answer. The cutter can be called again, whatever it was.
 fn next_answer<A: Allocator, R: Source>(cutter: &mut Cutter<A>, source: &mut R) -> Answer
     requires { IsAlong (R.read source.old) cutter.old }
     ensures { IsAlong (R.read source.new) cutter.new }

@@ -41,7 +41,7 @@ fn hello_failing_behind(calls_before_failure: Option<usize>) -> Counted<Dripping
     })
 }
 
-/// Says that it is at its end, and tells a byte when it is asked again.
+/// Says that it is at its end, and tells a byte when it is called again.
 #[derive(Drop)]
 struct Waking {
     calls: u8,
@@ -116,15 +116,15 @@ fn reads_one_byte_a_call(rt: HostRuntime) -> Result<(), Fail> {
 #[test]
 fn says_where_a_read_failed(rt: HostRuntime) -> Result<(), Fail> {
     let hello = b"hello".as_slice();
-    for told in 0..6 {
-        let mut source = hello_failing_behind(Some(told));
+    for reported in 0..6 {
+        let mut source = hello_failing_behind(Some(reported));
         let fault = read_all(rt.alloc(), &mut source).err();
         assert!(rt;
-            fault == Some(StreamFault::Read(told as u64)),
-            "behind {told} bytes"
+            fault == Some(StreamFault::Read(reported as u64)),
+            "behind {reported} bytes"
         );
         let rest = read_all(rt.alloc(), &mut source)?;
-        assert_eq!(rt; rest.as_slice(), &hello[told..]);
+        assert_eq!(rt; rest.as_slice(), &hello[reported..]);
     }
     Ok(())
 }
@@ -186,15 +186,15 @@ fn writes_what_there_is_room_for(rt: HostRuntime) {
 
 #[test]
 fn answers_memory_where_a_allocation_is_refused(rt: HostRuntime) -> Result<(), Fail> {
-    let told = [7; 600];
+    let reported = [7; 600];
     let mut was_refused = false;
     let mut was_read = false;
     for size in 0..100 {
         let heap = LocalHeap::new(rt.alloc(), size * 16)?;
-        match read_all_in(&heap, &mut Counted::new(told.as_slice())) {
+        match read_all_in(&heap, &mut Counted::new(reported.as_slice())) {
             Ok(bytes) => {
                 was_read = true;
-                assert_eq!(rt; bytes.as_slice(), told.as_slice());
+                assert_eq!(rt; bytes.as_slice(), reported.as_slice());
             }
             Err(fault) => {
                 was_refused = true;

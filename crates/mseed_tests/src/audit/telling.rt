@@ -9,12 +9,12 @@ use std::io;
 use std::io::Write;
 use std::test::Fail;
 
-/// What is told of the first record and one that begins half a sample and a microsecond late.
+/// What is reported of the first record and one that begins half a sample and a microsecond late.
 const GAP: &str = "128 XX_STA__BHZ record 2 start 2024-01-01T00:00:00.825001 gap 25001\n\
     XX_STA__BHZ broken findings 1 first record 2 offset 128 gap 25001\n\
     records 2 channels 1\n";
 
-/// What is told of two channels, with a silent record, a start that is no time, and no rate.
+/// What is reported of two channels, with a silent record, a start that is no time, and no rate.
 const MANY: &str = "0 XX_STA__BHZ record 1 start fault hour time hour\n\
     384 XX_STA__BHN record 4 start 2024-01-01T00:00:00.000000 overlap 800000\n\
     640 XX_STA__BHZ record 6 start 2024-01-01T00:00:00.000000 norate\n\
@@ -151,11 +151,11 @@ fn tells_as_records_come(rt: HostRuntime) -> Result<(), Fail> {
     for room in [text.len(), 70_000, 1000] {
         let mut sink = sink_with(rt.alloc(), room);
         let answer = audit_each(rt.alloc(), &mut Counted::new(bytes.as_slice()), &mut sink);
-        let told = sink.get_ref();
+        let reported = sink.get_ref();
         assert_eq!(rt; answer.is_ok(), room == text.len(), "{room}");
-        assert_eq!(rt; told.taken.len(), room, "{room}");
-        assert!(rt; text.starts_with(told.taken.as_slice()), "{room}");
-        assert!(rt; room == 1000 || told.writes > 1, "{room}");
+        assert_eq!(rt; reported.taken.len(), room, "{room}");
+        assert!(rt; text.starts_with(reported.taken.as_slice()), "{room}");
+        assert!(rt; room == 1000 || reported.writes > 1, "{room}");
     }
     Ok(())
 }
@@ -164,13 +164,13 @@ fn tells_as_records_come(rt: HostRuntime) -> Result<(), Fail> {
 fn tells_a_prefix_where_memory_is_refused(rt: HostRuntime) -> Result<(), Fail> {
     let bytes = many();
     let mut was_refused = false;
-    let mut was_told = false;
+    let mut was_reported = false;
     for size in 0..400 {
         let heap = LocalHeap::new(rt.alloc(), size * 16)?;
         let mut sink = sink_with(rt.alloc(), 1 << 20);
         match audit_each(&heap, &mut Counted::new(bytes.as_slice()), &mut sink) {
             Ok(_) => {
-                was_told = true;
+                was_reported = true;
                 assert_eq!(rt; sink.get_ref().taken.as_slice(), MANY.as_bytes());
             }
             Err(fault) => {
@@ -180,6 +180,6 @@ fn tells_a_prefix_where_memory_is_refused(rt: HostRuntime) -> Result<(), Fail> {
             }
         }
     }
-    assert!(rt; was_refused && was_told);
+    assert!(rt; was_refused && was_reported);
     Ok(())
 }

@@ -37,7 +37,7 @@ const OF_BOTH: &str = "mseed part 1\n\
     records 2 bytes 256\n\
     fault at 256 truncated 1\n";
 
-/// What is told of both.
+/// What is reported of both.
 const TOLD: &str = "128 XX_STA__BHZ record 2 start 2024-01-01T00:00:00.825001 gap 25001\n";
 
 /// The first record, the late one and a byte more.
@@ -70,10 +70,10 @@ fn writes_parts(rt: HostRuntime) {
         (&bytes[128..256], OF_LATE, summary(1, false)),
         (&bytes, OF_BOTH, summary(2, true)),
     ];
-    for (row, (bytes, text, told)) in rows.iter().enumerate() {
+    for (row, (bytes, text, reported)) in rows.iter().enumerate() {
         let mut sink = Counted::new(Vec::new(rt.alloc()));
         let answer = audit_part(rt.alloc(), &mut Counted::new(*bytes), &mut sink);
-        assert_eq!(rt; answer, Ok(*told), "row {row}");
+        assert_eq!(rt; answer, Ok(*reported), "row {row}");
         assert_eq!(rt; sink.into_inner().as_slice(), text.as_bytes(), "row {row}");
     }
 }

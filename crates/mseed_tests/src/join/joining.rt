@@ -1,4 +1,4 @@
-//! Parts that are joined: rows with what is written, told and answered.
+//! Parts that are joined: rows with what is written, reported and answered.
 
 use super::auditing::{OF_FIRST, OF_LATE};
 use linked_list_allocator::LocalHeap;
@@ -32,26 +32,26 @@ const PASSED: &str = "XX_STA__BHZ broken findings 1 first record 2 offset 128 ga
     records 2 channels 1\n\
     faults 1\n";
 
-/// What is told of that fault.
+/// What is reported of that fault.
 const TOLD: &str = "mseed: part 1 fault at 128 truncated 1\n";
 
-/// What is joined and how, and what is written, told and answered.
+/// What is joined and how, and what is written, reported and answered.
 #[derive(Clone, Copy, Debug)]
 struct Row {
     form: Form,
     past_faults: bool,
     parts: [&'static str; 3],
     text: &'static str,
-    told: &'static str,
+    reported: &'static str,
     joined: Joined,
 }
 
-/// Both records, of which the first ends as it is said.
+/// Both records, of which the first ends as the table says.
 fn both(
     form: Form,
     past_faults: bool,
     end: &'static str,
-    (text, told): (&'static str, &'static str),
+    (text, reported): (&'static str, &'static str),
     (broken, fault): (u64, bool),
 ) -> Row {
     Row {
@@ -59,7 +59,7 @@ fn both(
         past_faults,
         parts: [OF_FIRST, end, OF_LATE],
         text,
-        told,
+        reported,
         joined: Joined { broken, fault },
     }
 }
@@ -71,7 +71,7 @@ fn joins_parts(rt: HostRuntime) -> Result<(), Fail> {
         past_faults: false,
         parts: ["", "", ""],
         text: "records 0 channels 0\n",
-        told: "",
+        reported: "",
         joined: Joined {
             broken: 0,
             fault: false,
@@ -109,7 +109,7 @@ fn joins_parts(rt: HostRuntime) -> Result<(), Fail> {
         );
         assert_eq!(rt;
             errors.into_inner().as_slice(),
-            row.told.as_bytes(),
+            row.reported.as_bytes(),
             "row {index}"
         );
     }

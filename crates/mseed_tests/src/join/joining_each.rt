@@ -1,4 +1,4 @@
-//! Parts that are joined with a line for each border: rows with what is written, told and answered.
+//! Parts that are joined with a line for each border: rows with what is written, reported and answered.
 
 use super::auditing::{OF_FIRST, OF_LATE};
 use linked_list_allocator::LocalHeap;
@@ -31,16 +31,16 @@ const CUT: &str =
 /// The last line of the part of an archive that ends with a fault behind its first record.
 const FAULT: &str = "fault at 128 truncated 1\n";
 
-/// What is told of that fault.
+/// What is reported of that fault.
 const TOLD: &str = "mseed: part 1 fault at 128 truncated 1\n";
 
-/// What is joined and how, and what is written, told and answered.
+/// What is joined and how, and what is written, reported and answered.
 #[derive(Clone, Copy, Debug)]
 struct Row {
     past_faults: bool,
     parts: [&'static str; 3],
     text: &'static str,
-    told: &'static str,
+    reported: &'static str,
     joined: Result<Joined, JoinsFault>,
 }
 
@@ -49,7 +49,7 @@ const ROWS: [Row; 5] = [
         past_faults: false,
         parts: ["", "", ""],
         text: "records 0 channels 0\n",
-        told: "",
+        reported: "",
         joined: Ok(Joined {
             broken: 0,
             fault: false,
@@ -59,7 +59,7 @@ const ROWS: [Row; 5] = [
         past_faults: false,
         parts: [OF_FIRST, "", OF_LATE],
         text: EACH,
-        told: "",
+        reported: "",
         joined: Ok(Joined {
             broken: 1,
             fault: false,
@@ -69,7 +69,7 @@ const ROWS: [Row; 5] = [
         past_faults: false,
         parts: [OF_FIRST, FAULT, OF_LATE],
         text: CUT,
-        told: "",
+        reported: "",
         joined: Ok(Joined {
             broken: 0,
             fault: true,
@@ -79,7 +79,7 @@ const ROWS: [Row; 5] = [
         past_faults: true,
         parts: [OF_FIRST, FAULT, OF_LATE],
         text: PASSED,
-        told: TOLD,
+        reported: TOLD,
         joined: Ok(Joined {
             broken: 1,
             fault: true,
@@ -89,7 +89,7 @@ const ROWS: [Row; 5] = [
         past_faults: false,
         parts: [OF_FIRST, OF_LATE, "mseed part 2\n"],
         text: BORDER,
-        told: "",
+        reported: "",
         joined: Err(JoinsFault::Line(7)),
     },
 ];
@@ -114,7 +114,7 @@ fn joins_with_borders(rt: HostRuntime) -> Result<(), Fail> {
         );
         assert_eq!(rt;
             errors.into_inner().as_slice(),
-            row.told.as_bytes(),
+            row.reported.as_bytes(),
             "row {index}"
         );
     }

@@ -5,30 +5,30 @@ use Rattle.slink_feed.specs.declared.dialogue.Event.{Event}
 use Rattle.slink_feed.specs.declared.fetching.Counts.{Counts}
 use Rattle.slink_feed.specs.declared.turn.LinkFault.{LinkFault}
 use Rattle.slink_feed.specs.declared.turn.LinkFault.TheVariants as faults
-use Rattle.slink_feed.specs.Fetching.{Fetching, line_written, record_told}
+use Rattle.slink_feed.specs.Fetching.{Fetching, line_written, record_reported}
 use Rattle.slink_feed.specs.Listening.{Brings, Listening}
 use Rattle.slink_feed.specs.Reports.{Kept}
-use Rattle.slink_feed.specs.Teller.{AreTold, lines_of, telling_behind}
-use Rattle.slink_feed.specs.Told.{record_in}
-use Rattle.slink_feed.specs.Turns.{Took, TookPrefix}
+use Rattle.slink_feed.specs.Teller.{AreReported, lines_of, telling_behind}
+use Rattle.slink_feed.specs.Reported.{record_in}
+use Rattle.slink_feed.specs.Turns.{Emitted, EmittedPrefix}
 
--- Its line went to the link, and its record to the output; so many bytes each of them took now.
+-- Its line went to the link, and its record to the output; so many bytes each of them accepted now.
 pub record IsDelivered (event : Event) (before after : Counts)
     (written_old written_new output_old output_new : BytesWritten) : Type
     0 where
-  pub written : Took written_old written_new (line_written event)
-  pub output : Took output_old output_new (record_told event)
+  pub written : Emitted written_old written_new (line_written event)
+  pub output : Emitted output_old output_new (record_reported event)
   pub written_count : after.written ≡ before.written + length (line_written event)
-  pub output_count : after.output ≡ before.output + length (record_told event)
+  pub output_count : after.output ≡ before.output + length (record_reported event)
   pub short : length (line_written event) ≤ 32
-  pub sized : length (record_told event) ≤ 512
+  pub sized : length (record_reported event) ≤ 512
 
 -- The link failed within the event's line.
 pub record IsUnwritten (event : Event) (before count : ℕ)
     (written_old written_new output_old output_new : BytesWritten) : Type 0 where
   pub more : ℕ
   pub count_is : count ≡ before + more
-  pub written : TookPrefix written_old written_new (line_written event) more
+  pub written : EmittedPrefix written_old written_new (line_written event) more
   pub output : output_new ≡ output_old
 
 -- The output failed within the event's record.
@@ -38,7 +38,7 @@ pub record FailsToOutput (event : Event) (before count : ℕ)
   pub more : ℕ
   pub count_is : count ≡ before + more
   pub written : written_new ≡ written_old
-  pub output : TookPrefix output_old output_new (record_told event) more
+  pub output : EmittedPrefix output_old output_new (record_reported event) more
 
 abbrev pub IsUndelivered : LinkFault → Event → Counts → BytesWritten → BytesWritten → BytesWritten → BytesWritten
     → Type 0
@@ -54,23 +54,23 @@ pub record ComesTo (event : Event) (used : ℕ) (bytes : List ℕ) (old new : Li
   pub some : 0 < used
   pub bound : used ≤ length bytes
 
--- A record that an event tells of was told of.
-pub record IsToldOf (event : Event) (old new : Kept) : Type 0 where
+-- A record that an event tells of was reported.
+pub record IsReportedOf (event : Event) (old new : Kept) : Type 0 where
   pub telling : new.telling ≡ telling_behind old.telling (record_in event)
-  pub lines : AreTold (lines_of old.telling (record_in event)) old.errors new.errors
+  pub lines : AreReported (lines_of old.telling (record_in event)) old.errors new.errors
 
--- Of these bytes so many were taken, and what they come to was told of and delivered.
+-- Of these bytes so many were taken, and what they come to was reported and delivered.
 pub record Hears (bytes : List ℕ) (used : ℕ) (before after : Counts) (old new : Fetching) (was is : Kept) : Type 0 where
   pub event : Event
   pub comes : ComesTo event used bytes old.client new.client
-  pub told : IsToldOf event was is
+  pub reported : IsReportedOf event was is
   pub done : IsDelivered event before after old.written new.written old.output new.output
 
--- It was told of, and a device failed at it.
+-- It was reported, and a device failed at it.
 pub record FailsToHear (fault : LinkFault) (bytes : List ℕ) (before : Counts) (old new : Fetching)
     (was is : Kept) : Type 0 where
   pub event : Event
   pub used : ℕ
   pub comes : ComesTo event used bytes old.client new.client
-  pub told : IsToldOf event was is
+  pub reported : IsReportedOf event was is
   pub cut : IsUndelivered fault event before old.written new.written old.output new.output

@@ -9,18 +9,18 @@ use Rattle.slink_feed.specs.declared.turn.LinkFault.TheVariants as faults
 use Rattle.slink_feed.specs.Attending.{FailsToReply}
 use Rattle.slink_feed.specs.Rounds.{Attending, FailsToSend, SendsAll}
 use Rattle.slink_feed.specs.Session.{sent, sent_bytes}
-use Rattle.slink_feed.specs.Turns.{Took, TookPrefix}
+use Rattle.slink_feed.specs.Turns.{Emitted, EmittedPrefix}
 use Rattle.slink_feed.specs.Window.{Window}
 
 -- Behind so many bytes these were written.
 pub record IsWritten (old new : BytesWritten) (bytes : List ℕ) (before after : ℕ) : Type 0 where
-  pub written : Took old new bytes
+  pub written : Emitted old new bytes
   pub count : after ≡ before + length bytes
 
 -- Behind so many bytes a prefix of these was.
 pub record IsUnwritten (old new : BytesWritten) (bytes : List ℕ) (before after : ℕ) : Type 0 where
   pub more : ℕ
-  pub written : TookPrefix old new bytes more
+  pub written : EmittedPrefix old new bytes more
   pub count : after ≡ before + more
 
 abbrev pub IsSayFault : LinkFault → BytesWritten → BytesWritten → List ℕ → ℕ → Type 0
@@ -66,7 +66,7 @@ IsSendFault faults.Read feed old new = ⊥
 IsSendFault (faults.Write count) feed old new = FailsToSend feed old new count
 IsSendFault (faults.Output count) feed old new = ⊥
 
--- The link failed within a reply; with so many before, the bytes that it took are counted.
+-- The link failed within a reply; with so many before, the bytes that it accepted are counted.
 pub record HasFailed (feed : List Window) (old new : Attending) (bytes : List ℕ) (before after : ℕ) : Type 0 where
   pub fails : FailsToReply feed old new bytes
   pub counted : length new.written.bytes + before ≡ length old.written.bytes + after

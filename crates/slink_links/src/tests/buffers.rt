@@ -13,11 +13,11 @@ fn packet(byte: u8) -> [u8; 520] {
 
 #[test]
 fn reads_ahead(rt: HostRuntime) -> Result<(), Fail> {
-    let mut told = Vec::new(rt.alloc());
+    let mut reported = Vec::new(rt.alloc());
     for byte in 0..70 {
-        told.extend_from_slice(&packet(byte))?;
+        reported.extend_from_slice(&packet(byte))?;
     }
-    let mut stream = Ahead::new(Pipe::new(rt.alloc(), told.as_slice(), ALL));
+    let mut stream = Ahead::new(Pipe::new(rt.alloc(), reported.as_slice(), ALL));
     let mut read = Vec::new(rt.alloc());
     let mut room = [0; 501];
     for _ in 0..100 {
@@ -25,7 +25,7 @@ fn reads_ahead(rt: HostRuntime) -> Result<(), Fail> {
         read.extend_from_slice(room.get(..count).unwrap_or(b""))?;
     }
     assert_eq!(rt; stream.read(&mut room)?, 0);
-    assert!(rt; read.as_slice() == told.as_slice());
+    assert!(rt; read.as_slice() == reported.as_slice());
     Ok(())
 }
 

@@ -36,11 +36,11 @@ fn fetch_over(
     all: &[u8],
     counts: &[Option<usize>],
 ) -> Result<Fetched, Fail> {
-    let mut told = Vec::new(alloc);
+    let mut reported = Vec::new(alloc);
     for count in counts {
-        told.push(count.map(|n| (all.get(..n).unwrap_or(all), ALL)))?;
+        reported.push(count.map(|n| (all.get(..n).unwrap_or(all), ALL)))?;
     }
-    let mut links = Links::new(alloc, told.as_slice())?;
+    let mut links = Links::new(alloc, reported.as_slice())?;
     let mut records = output(alloc, ALL);
     let mut errors = output(alloc, ALL);
     let mut waits = Clockless::new(alloc);
@@ -66,7 +66,7 @@ fn fetch_over(
 fn fetches_over_one_link_after_another(rt: HostRuntime) -> Result<(), Fail> {
     let all = two_packets(rt.alloc())?;
     // At most so many tries; of the links that come, how many bytes each tells; the status; how many bytes of records 1
-    // and 2 are written; and how many links took the lines of the client.
+    // and 2 are written; and how many links accepted the lines of the client.
     let rows: [(u64, &[Option<usize>], u8, usize, usize); 6] = [
         (1, &[Some(1051)], 0, 1024, 1),
         // Cut off in the packet of record 1, and then behind it.
@@ -102,8 +102,8 @@ fn goes_on_behind_the_last_record(rt: HostRuntime) -> Result<(), Fail> {
     second.extend_from_slice(b"OK\r\nOK\r\n")?;
     second.extend_from_slice(all.as_slice().get(8 + 520..).unwrap_or(b""))?;
     let first = all.as_slice().get(..8 + 520 + 100).unwrap_or(b"");
-    let told = [Some((first, ALL)), Some((second.as_slice(), ALL))];
-    let mut links = Links::new(rt.alloc(), &told)?;
+    let reported = [Some((first, ALL)), Some((second.as_slice(), ALL))];
+    let mut links = Links::new(rt.alloc(), &reported)?;
     let mut plan = FetchPlan {
         host: Host::Address(Address::local()),
         port: 0,
@@ -138,9 +138,9 @@ fn ends_at_once_where_no_try_helps(rt: HostRuntime) -> Result<(), Fail> {
         (b"OKAY\r\n", ALL, b"mseed: bad feed\n"),
         (all.as_slice(), 511, b"mseed: write failed\n"),
     ];
-    for (told, room, line) in &rows {
-        let told = [Some((*told, ALL)), Some((all.as_slice(), ALL))];
-        let mut links = Links::new(rt.alloc(), &told)?;
+    for (reported, room, line) in &rows {
+        let reported = [Some((*reported, ALL)), Some((all.as_slice(), ALL))];
+        let mut links = Links::new(rt.alloc(), &reported)?;
         let mut records = output(rt.alloc(), *room);
         let mut errors = output(rt.alloc(), ALL);
         let mut waits = Clockless::new(rt.alloc());
@@ -204,8 +204,8 @@ fn tells_where_to_go_on(rt: HostRuntime) -> Result<(), Fail> {
             b"mseed: refused\nmseed: next --network XX --station STA --from 000001\n",
         ),
     ];
-    for (told, room, lines) in &rows {
-        let mut links = Links::new(rt.alloc(), &[Some((*told, ALL))])?;
+    for (reported, room, lines) in &rows {
+        let mut links = Links::new(rt.alloc(), &[Some((*reported, ALL))])?;
         let mut records = output(rt.alloc(), *room);
         let mut errors = output(rt.alloc(), ALL);
         let mut waits = Clockless::new(rt.alloc());

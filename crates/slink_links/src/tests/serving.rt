@@ -21,7 +21,7 @@ fn serves_each_connection(rt: HostRuntime) -> Result<(), Fail> {
     let all = two_packets(rt.alloc())?;
     let all = all.as_slice();
     let silent: Option<(&[u8], usize)> = Some((b"", ALL));
-    // How many connections, the links that come, the status, and how many of all bytes each link took.
+    // How many connections, the links that come, the status, and how many of all bytes each link accepted.
     let rows: [(u64, &[Option<(&[u8], usize)>], u8, &[usize]); 8] = [
         (0, &[asking(ALL)], 0, &[]),
         (1, &[asking(ALL)], 0, &[1051]),

@@ -1,4 +1,4 @@
--- What a sink in memory took.
+-- What a sink in memory accepted.
 use Rattle.mseed_stream.specs.Device.{BytesWritten}
 use Rattle.slink_model.specs.declared.kept.Kept.{Kept}
 

@@ -5,7 +5,7 @@ use Rattle.mseed_stream.specs.Device.{BytesRead}
 use Rattle.mseed_stream.specs.Walk.{HasHandedOut}
 use Rattle.mseed_audit.specs.Channels.{Added, added_from}
 use Rattle.mseed_audit.specs.Audit.{IsAuditOf}
-use Rattle.mseed_audit.specs.private.Gathered.{IsToldMore}
+use Rattle.mseed_audit.specs.private.Gathered.{IsReportedMore}
 use Rattle.mseed_audit.proofs.Views.{added_more}
 use Rattle.mseed_audit.proofs.archive.add_next.Goals as goal
 
@@ -16,38 +16,39 @@ returns-in-Some-clause-next g c = λ views before is.
     let shown = c.in-Some.ensures.record in
     let same : view.bytes ≡ take (length c.bytes-size.result.now) lent =
     shown.1 ∙ ap (λ (xs : List ℕ). take (length xs) lent) (sym c.bytes-size.ensures.value) in
-    let calls = ap (λ (h : BytesRead). h.calls) c.pass.ensures.told in
-    let added = rw c.offset-offset.ensures at c.in_ok-add_told.ensures.adds (added_from 0 views) is in
-    let told = rw c.offset-offset.ensures at c.in_ok-add_told.ensures.told (added_from 0 views) is in
+    let calls = ap (λ (h : BytesRead). h.calls) c.pass.ensures.reported in
+    let added = rw c.offset-offset.ensures at c.in_ok-add_reported.ensures.adds (added_from 0 views) is in
+    let reported = rw c.offset-offset.ensures at c.in_ok-add_reported.ensures.reported (added_from 0 views) is in
     let further = added_more (g.R.Source.read c.args.source.now).bytes c.args.cutter.now.offset views view
     before.records in
     record {
       view = view;
       handed = c.pass.ensures.handed views view before shown.0 same;
-      audit = subst (λ (xs : List Added). IsAuditOf c.add_told.new.audit xs) (sym further) added;
-      told = subst (λ (xs : List Added). IsToldMore c.args.lines (added_from 0 views) xs c.args.text.now.items
-          c.add_told.new.text.items) (sym further) told;
-      asked = omega (arith, calls);
-      few = omega (arith, calls, c.requires.few, c.in_ok-add_told.ensures.number);
+      audit = subst (λ (xs : List Added). IsAuditOf c.add_reported.new.audit xs) (sym further) added;
+      reported = subst (λ (xs : List Added). IsReportedMore c.args.lines (added_from 0 views) xs c.args.text.now.items
+          c.add_reported.new.text.items) (sym further) reported;
+      called = omega (arith, calls);
+      few = omega (arith, calls, c.requires.few, c.in_ok-add_reported.ensures.number);
     }
 
-pub returns-in_ok-add_told-in-Ok-Some-clause-next : goal.returns-in_ok-add_told-in-Ok-Some-clause-next
-returns-in_ok-add_told-in-Ok-Some-clause-next g c = λ views before is.
+pub returns-in_ok-add_reported-in-Ok-Some-clause-next : goal.returns-in_ok-add_reported-in-Ok-Some-clause-next
+returns-in_ok-add_reported-in-Ok-Some-clause-next g c = λ views before is.
     let view : View = view_of c.in-Ok-Some.view in
     let some = c.in-Ok-Some.field-0-is in
-    let asked = rw some at c.in-Ok-Some.ensures.asked in
+    let called = rw some at c.in-Ok-Some.ensures.called in
     let handed : HasHandedOut (g.R.Source.read c.next.new.source) c.next.follows.lender-at-none (views ++ view ∷ []) =
     search rules in
-    let added = rw c.offset-offset.ensures at c.in_ok-add_told-in-Ok-Some.ensures.adds (added_from 0 views) is in
-    let told = rw c.offset-offset.ensures at c.in_ok-add_told-in-Ok-Some.ensures.told (added_from 0 views) is in
+    let added = rw c.offset-offset.ensures at c.in_ok-add_reported-in-Ok-Some.ensures.adds (added_from 0 views) is in
+    let reported = rw c.offset-offset.ensures at c.in_ok-add_reported-in-Ok-Some.ensures.reported (added_from 0 views)
+    is in
     let further = added_more (g.R.Source.read c.args.source.now).bytes c.args.cutter.now.offset views view
     before.records in
     record {
       view = view;
       handed = handed;
-      audit = subst (λ (xs : List Added). IsAuditOf c.add_told-in-Ok-Some.new.audit xs) (sym further) added;
-      told = subst (λ (xs : List Added). IsToldMore c.args.lines (added_from 0 views) xs c.args.text.now.items
-          c.add_told-in-Ok-Some.new.text.items) (sym further) told;
-      asked = asked;
-      few = omega (arith, asked, c.requires.few, c.in_ok-add_told-in-Ok-Some.ensures.number);
+      audit = subst (λ (xs : List Added). IsAuditOf c.add_reported-in-Ok-Some.new.audit xs) (sym further) added;
+      reported = subst (λ (xs : List Added). IsReportedMore c.args.lines (added_from 0 views) xs c.args.text.now.items
+          c.add_reported-in-Ok-Some.new.text.items) (sym further) reported;
+      called = called;
+      few = omega (arith, called, c.requires.few, c.in_ok-add_reported-in-Ok-Some.ensures.number);
     }

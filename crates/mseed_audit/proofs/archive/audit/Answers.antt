@@ -2,7 +2,7 @@ use Rattle.std.proofs.Common.{◌∙◌, ap, length, take}
 use Rattle.mseed_stream.specs.Device.{BytesRead, BytesWritten}
 use Rattle.mseed_audit.specs.Summary.{broken_count}
 use Rattle.mseed_audit.proofs.Outcomes.{with_verdicts, audited, text_is, summary_is, written, cut_off}
-use Rattle.mseed_audit.proofs.Told.{grew, grew_none}
+use Rattle.mseed_audit.proofs.Reported.{grew, grew_none}
 use Rattle.mseed_audit.proofs.archive.audit.Goals as goal
 
 pub returns-in-Ok-write_all_of-clause-outcome : goal.returns-in-Ok-write_all_of-clause-outcome

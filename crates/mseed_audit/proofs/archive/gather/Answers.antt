@@ -1,6 +1,6 @@
 use Rattle.std.proofs.Common.{◌++◌, ◌∷◌, [], ◌∙◌, List}
 use Rattle.mseed_record.specs.View.{View}
-use Rattle.mseed_audit.proofs.Told.{tells_on}
+use Rattle.mseed_audit.proofs.Reported.{tells_on}
 use Rattle.mseed_audit.proofs.archive.gather.Goals as goal
 
 pub records-preserved : goal.records-preserved

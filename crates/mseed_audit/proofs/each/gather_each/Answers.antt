@@ -4,10 +4,10 @@ use Rattle.mseed_record.specs.View.{View}
 use Rattle.mseed_stream.specs.Device.{BytesRead, BytesWritten}
 use Rattle.mseed_audit.specs.declared.each.EachFault.{EachFault}
 use Rattle.mseed_audit.specs.Each.{AreGathered}
-use Rattle.mseed_audit.specs.Told.{Told, none}
-use Rattle.mseed_audit.proofs.Gathers.{cut_short, gathered_all, gathered_told, gathered_written, memory_short}
+use Rattle.mseed_audit.specs.Reported.{Reported, none}
+use Rattle.mseed_audit.proofs.Gathers.{cut_short, gathered_all, gathered_reported, gathered_written, memory_short}
 use Rattle.mseed_audit.proofs.Gathers.{takes_none, takes_on, telling_err}
-use Rattle.mseed_audit.proofs.Told.{tells_on}
+use Rattle.mseed_audit.proofs.Reported.{tells_on}
 use Rattle.mseed_audit.proofs.each.gather_each.Goals as goal
 
 pub records-init : goal.records-init
@@ -27,35 +27,35 @@ records-init g c =
       sink_beside = refl;
     }
 
-pub returns-in-Err-clause-told : goal.returns-in-Err-clause-told
-returns-in-Err-clause-told g c =
+pub returns-in-Err-clause-reported : goal.returns-in-Err-clause-reported
+returns-in-Err-clause-reported g c =
     let views : List View = c.records.invariant.added.0 in
     let before = c.records.invariant.added.1 in
-    let told : List Told = before.2.0 in
+    let reported : List Reported = before.2.0 in
     let first : BytesWritten = g.W.Sink.written c.args.sink.now in
     let old : BytesWritten = g.W.Sink.written c.records.sink in
     let shown = c.in-Err.ensures.next views before.0 before.1 in
     memory_short (g.R.Source.read c.add_next.new.source) first old c.records.text.items c.records.cutter.offset views
-    told shown c.records.invariant.fine before.2.1.1 before.2.1.0
+    reported shown c.records.invariant.fine before.2.1.1 before.2.1.0
 
 pub records-preserved : goal.records-preserved
 records-preserved g c =
     let views : List View = c.records.invariant.added.0 in
     let before = c.records.invariant.added.1 in
-    let told : List Told = before.2.0 in
+    let reported : List Reported = before.2.0 in
     let next = rw c.in-Ok-Added.field-0-is at c.in-Ok-Added.ensures.next views before.0 before.1 in
-    let further : List Told = next.told.more in
+    let further : List Reported = next.reported.more in
     let first : BytesWritten = g.W.Sink.written c.args.sink.now in
     let old : BytesWritten = g.W.Sink.written c.records.sink in
-    let lines = gathered_told first old c.records.text.items c.add_next.new.text.items told further before.2.1.1
-    next.told.text_is in
+    let lines = gathered_reported first old c.records.text.items c.add_next.new.text.items reported further before.2.1.1
+    next.reported.text_is in
     record {
       along = next.handed.along;
       few = next.few;
       fine = c.records.invariant.fine;
       added = (
         views ++ next.view ∷ [],
-        (next.handed, next.audit, (told ++ further, (next.told.told told before.2.1.0, lines))),
+        (next.handed, next.audit, (reported ++ further, (next.reported.reported reported before.2.1.0, lines))),
       );
       more = tells_on (g.R.Source.read c.args.source.now) (g.R.Source.read c.records.source)
           (g.R.Source.read c.add_next.new.source) _ _ _ c.records.invariant.more c.in-Ok-Added.ensures.more;
@@ -68,15 +68,15 @@ pub records-preserved-in-Continue-1 : goal.records-preserved-in-Continue-1
 records-preserved-in-Continue-1 g c =
     let views : List View = c.records.invariant.added.0 in
     let before = c.records.invariant.added.1 in
-    let told : List Told = before.2.0 in
+    let reported : List Reported = before.2.0 in
     let next = rw c.in-Ok-Added.field-0-is at c.in-Ok-Added.ensures.next views before.0 before.1 in
-    let further : List Told = next.told.more in
+    let further : List Reported = next.reported.more in
     let first : BytesWritten = g.W.Sink.written c.args.sink.now in
     let old : BytesWritten = g.W.Sink.written c.records.sink in
     let new : BytesWritten = g.W.Sink.written c.write_out.new.sink in
     let write = c.in_ok-write_out.ensures in
-    let lines = gathered_told first old c.records.text.items c.add_next.new.text.items told further before.2.1.1
-    next.told.text_is in
+    let lines = gathered_reported first old c.records.text.items c.add_next.new.text.items reported further before.2.1.1
+    next.reported.text_is in
     let written = gathered_written first old new c.add_next.new.text.items c.write_out.new.text.items _ lines write.ok
     write.text in
     record {
@@ -85,7 +85,7 @@ records-preserved-in-Continue-1 g c =
       fine = write.fine ∙ c.records.invariant.fine;
       added = (
         views ++ next.view ∷ [],
-        (next.handed, next.audit, (told ++ further, (next.told.told told before.2.1.0, written))),
+        (next.handed, next.audit, (reported ++ further, (next.reported.reported reported before.2.1.0, written))),
       );
       more = tells_on (g.R.Source.read c.args.source.now) (g.R.Source.read c.records.source)
           (g.R.Source.read c.add_next.new.source) _ _ _ c.records.invariant.more c.in-Ok-Added.ensures.more;
@@ -94,21 +94,21 @@ records-preserved-in-Continue-1 g c =
       sink_beside = write.beside ∙ c.records.invariant.sink_beside;
     }
 
-pub returns-in_err-write_out-clause-told : goal.returns-in_err-write_out-clause-told
-returns-in_err-write_out-clause-told g c =
+pub returns-in_err-write_out-clause-reported : goal.returns-in_err-write_out-clause-reported
+returns-in_err-write_out-clause-reported g c =
     let views : List View = c.records.invariant.added.0 in
     let before = c.records.invariant.added.1 in
-    let told : List Told = before.2.0 in
+    let reported : List Reported = before.2.0 in
     let next = rw c.in-Ok-Added.field-0-is at c.in-Ok-Added.ensures.next views before.0 before.1 in
-    let further : List Told = next.told.more in
+    let further : List Reported = next.reported.more in
     let read : BytesRead = g.R.Source.read c.add_next.new.source in
     let first : BytesWritten = g.W.Sink.written c.args.sink.now in
     let old : BytesWritten = g.W.Sink.written c.records.sink in
     let new : BytesWritten = g.W.Sink.written c.write_out.new.sink in
     let fault : EachFault = c.in_err-write_out.field-0.0 in
     let short = cut_short fault read first old new c.records.text.items c.add_next.new.text.items
-    c.add_next.new.cutter.offset (views ++ next.view ∷ []) told further next.handed.records c.records.invariant.fine
-    before.2.1.1 (next.told.told told before.2.1.0) next.told.text_is c.in_err-write_out.ensures.err in
+    c.add_next.new.cutter.offset (views ++ next.view ∷ []) reported further next.handed.records c.records.invariant.fine
+    before.2.1.1 (next.reported.reported reported before.2.1.0) next.reported.text_is c.in_err-write_out.ensures.err in
     telling_err c.from_residual.result _ fault read first new c.write_out.new.text.items c.from_residual.ensures.1
     (λ e q. q) short
 

@@ -5,8 +5,8 @@ use Rattle.mseed_stream.specs.Walk.{HasHandedOut}
 use Rattle.mseed_audit.specs.Audit.{IsAuditOf}
 use Rattle.mseed_audit.specs.Channels.{added_from}
 use Rattle.mseed_audit.specs.Each.{AreGathered, TakesMore}
-use Rattle.mseed_audit.specs.Text.{told_lines}
-use Rattle.mseed_audit.specs.Told.{Told, AreToldOf}
+use Rattle.mseed_audit.specs.Text.{reported_lines}
+use Rattle.mseed_audit.specs.Reported.{Reported, AreReportedOf}
 use Rattle.mseed_audit.proofs.each.gather_each.Given as goal
 
 abbrev pub invariant-records : goal.invariant-records
@@ -16,8 +16,8 @@ invariant-records g l = record {
   fine : (g.W.Sink.written l.sink).failures ≡ (g.W.Sink.written l.fn.sink).failures;
   added : (views : List View) × (HasHandedOut (g.R.Source.read l.source) l.cutter views
       × IsAuditOf l.audit (added_from 0 views)
-      × ((told : List Told) × (AreToldOf (added_from 0 views) told
-      × AreGathered (g.W.Sink.written l.fn.sink) (g.W.Sink.written l.sink) l.text.items (told_lines told))));
+      × ((reported : List Reported) × (AreReportedOf (added_from 0 views) reported
+      × AreGathered (g.W.Sink.written l.fn.sink) (g.W.Sink.written l.sink) l.text.items (reported_lines reported))));
   more : TellsMore (g.R.Source.read l.fn.source) (g.R.Source.read l.source) (g.R.Source.remaining l.fn.source)
       (g.R.Source.remaining l.source);
   takes : TakesMore (g.W.Sink.written l.fn.sink) (g.W.Sink.written l.sink) (g.W.Sink.contents l.fn.sink)

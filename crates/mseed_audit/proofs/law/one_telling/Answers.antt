@@ -1,8 +1,8 @@
 use Rattle.mseed_audit.proofs.OneTelling.{each_one, telling_one}
 use Rattle.mseed_audit.proofs.law.one_telling.Goals as goal
 
-pub returns-clause-told : goal.returns-clause-told
-returns-clause-told c = λ added a b. telling_one c.one_fault.ensures.one c.one_fault.ensures.excludes added a b
+pub returns-clause-reported : goal.returns-clause-reported
+returns-clause-reported c = λ added a b. telling_one c.one_fault.ensures.one c.one_fault.ensures.excludes added a b
 
 pub returns-clause-text : goal.returns-clause-text
 returns-clause-text c = λ h a b. each_one c.one_fault.ensures.one c.one_fault.ensures.excludes

@@ -9,9 +9,9 @@ returns-in-Ok-clause-shown c = λ some.
     let a = c.in-Ok.ensures.outcome.0 in
     let w = c.in-Ok.ensures.outcome.1 in
     let whole : List ℕ = part_text a.written in
-    let told = c.audit_part.ensures.contents whole w.text in
+    let reported = c.audit_part.ensures.contents whole w.text in
     let none : c.new-sink.result.inner.items ≡ [] = ap (λ v. v.items) c.new-sink.ensures.inner ∙ c.new.ensures.items in
-    let held : c.audit_part.new.sink.inner.items ≡ whole = told ∙ ap (λ (xs : List ℕ). xs ++ whole) none in
+    let held : c.audit_part.new.sink.inner.items ≡ whole = reported ∙ ap (λ (xs : List ℕ). xs ++ whole) none in
     let lent : c.deref.result.now ≡ whole = c.deref.ensures.value ∙ ap (λ v. v.items) c.get_ref.ensures ∙ held in
     shown SaysPart c.args.bytes.now c.args.room.now c.show.new.room c.new-source.result c.audit_part.new.source
     c.in-Ok.summary whole c.deref.result.now c.show.new.totals c.show.result

@@ -1,6 +1,6 @@
 use Rattle.std.proofs.Common.{take}
 use Rattle.mseed_stream.specs.Device.{BytesRead}
-use Rattle.mseed_audit.proofs.Told.{grew, grew_none}
+use Rattle.mseed_audit.proofs.Reported.{grew, grew_none}
 use Rattle.mseed_join.proofs.Parting.{part_cut_off, part_written}
 use Rattle.mseed_join.proofs.auditing.audit_part.Goals as goal
 

@@ -3,7 +3,7 @@ use Rattle.std.proofs.lemmas.Result.{IfOk-equal}
 use Rattle.mseed_time.specs.Text.{time_text}
 use Rattle.mseed_audit.specs.declared.finding.Finding.{Finding}
 use Rattle.mseed_audit.specs.Text.{name_text, why_text}
-use Rattle.mseed_audit.proofs.Prefixes.{told_joined}
+use Rattle.mseed_audit.proofs.Prefixes.{reported_joined}
 use Rattle.mseed_join.proofs.borders.push_border_line.Goals as goal
 
 pub returns : goal.returns
@@ -16,6 +16,6 @@ returns g c =
     let a5 = rw a4 at c.in_ok-push_pieces-3.ensures.ok in
     let a6 = rw a5 at c.in_ok-push_why.ensures.ok in
     let a7 = rw a6 at c.push_pieces-4.ensures.ok in
-    IfOk-equal c.push_pieces-4.result _ _ _ a7 (told_joined c.args.text.now.items (decimal f.offset) (codes " ")
+    IfOk-equal c.push_pieces-4.result _ _ _ a7 (reported_joined c.args.text.now.items (decimal f.offset) (codes " ")
     (name_text c.args.codes.now) (codes " record ") (decimal f.number) (codes " start ") (time_text c.args.start)
     (codes " ") (why_text f.why) (codes "\n"))

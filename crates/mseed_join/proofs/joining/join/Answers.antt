@@ -1,6 +1,6 @@
 use Rattle.std.proofs.Common.{Err, sym, subst, take}
 use Rattle.mseed_stream.specs.Device.{BytesRead, BytesWritten}
-use Rattle.mseed_audit.proofs.Told.{grew, grew_none}
+use Rattle.mseed_audit.proofs.Reported.{grew, grew_none}
 use Rattle.mseed_join.specs.Joins.{IsJoinOutcome}
 use Rattle.mseed_join.specs.declared.joining.JoinsFault.{JoinsFault}
 use Rattle.mseed_join.proofs.Refusing.{refused_so}
@@ -10,12 +10,12 @@ pub returns-in-Err-clause-outcome : goal.returns-in-Err-clause-outcome
 returns-in-Err-clause-outcome g c =
     let h : BytesRead = g.R.Source.read c.read_parts.new.source in
     let old : BytesWritten = g.W.Sink.written c.args.sink.now in
-    let told : BytesWritten = g.E.Sink.written c.args.errors.now in
+    let reported : BytesWritten = g.E.Sink.written c.args.errors.now in
     let now : BytesWritten = g.E.Sink.written c.read_parts.new.errors in
-    subst (λ (r : JoinsFault). IsJoinOutcome c.args.form c.args.past_faults (Err r) h old old told now)
+    subst (λ (r : JoinsFault). IsJoinOutcome c.args.form c.args.past_faults (Err r) h old old reported now)
     (sym c.refused.ensures)
     (refused_so g.row.A.Denot c.args.form c.args.past_faults c.in-Err.fault (g.R.Source.read c.args.source.now) h old
-    told now c.requires c.in-Err.ensures.outcome)
+    reported now c.requires c.in-Err.ensures.outcome)
 
 pub returns-in-Err-clause-contents : goal.returns-in-Err-clause-contents
 returns-in-Err-clause-contents g c = grew_none (g.W.Sink.written c.args.sink.now) (g.W.Sink.contents c.args.sink.now)

@@ -1,7 +1,7 @@
 use Rattle.std.proofs.Common.{take}
 use Rattle.mseed_stream.specs.Device.{BytesWritten}
 use Rattle.mseed_audit.proofs.Gathers.{takes_on}
-use Rattle.mseed_audit.proofs.Told.{grew}
+use Rattle.mseed_audit.proofs.Reported.{grew}
 use Rattle.mseed_join.proofs.Each.{each_cut_off, each_no_memory, each_written}
 use Rattle.mseed_join.proofs.joining_each.join_each.Goals as goal
 
@@ -15,7 +15,7 @@ pub returns-in-Err-clause-outcome : goal.returns-in-Err-clause-outcome
 returns-in-Err-clause-outcome g c =
     each_no_memory c.args.past_faults _ (g.R.Source.read c.read_each.new.source) (g.W.Sink.written c.args.sink.now)
     (g.W.Sink.written c.read_each.new.sink) (g.E.Sink.written c.args.errors.now)
-    (g.E.Sink.written c.read_each.new.errors) c.read_each.new.text.items c.in_ok-part.ensures.told
+    (g.E.Sink.written c.read_each.new.errors) c.read_each.new.text.items c.in_ok-part.ensures.reported
 
 pub returns-in-Err-clause-contents : goal.returns-in-Err-clause-contents
 returns-in-Err-clause-contents g c = λ bytes same.
@@ -30,7 +30,7 @@ returns-in-Ok-write_all_of-clause-outcome g c =
     (g.W.Sink.written c.args.sink.now) (g.W.Sink.written c.read_each.new.sink)
     (g.W.Sink.written c.write_all_of.new.sink) (g.E.Sink.written c.args.errors.now)
     (g.E.Sink.written c.read_each.new.errors) c.read_each.new.text.items c.push_joined.new.text.items
-    c.deref.result.now c.in_ok-part.ensures.told c.in-Ok.ensures.text c.deref.ensures.value c.in-Ok.ensures.answer
+    c.deref.result.now c.in_ok-part.ensures.reported c.in-Ok.ensures.text c.deref.ensures.value c.in-Ok.ensures.answer
     write.ok write.fine
 
 pub returns-clause-outcome : goal.returns-clause-outcome
@@ -39,7 +39,7 @@ returns-clause-outcome g c =
     each_cut_off c.args.past_faults _ (g.R.Source.read c.read_each.new.source) (g.W.Sink.written c.args.sink.now)
     (g.W.Sink.written c.read_each.new.sink) (g.W.Sink.written c.write_all_of.new.sink)
     (g.E.Sink.written c.args.errors.now) (g.E.Sink.written c.read_each.new.errors) c.read_each.new.text.items
-    c.push_joined.new.text.items c.deref.result.now c.in-Err-write_all_of.field-0 c.in_ok-part.ensures.told
+    c.push_joined.new.text.items c.deref.result.now c.in-Err-write_all_of.field-0 c.in_ok-part.ensures.reported
     c.in-Ok.ensures.text c.deref.ensures.value write.err write.within write.failed
 
 pub returns-in-Ok-write_all_of-clause-contents : goal.returns-in-Ok-write_all_of-clause-contents

@@ -3,26 +3,26 @@ use Rattle.mseed_stream.specs.Device.{BytesRead, BytesWritten}
 use Rattle.std.proofs.KnownBytes.{Consumes-nil}
 use Rattle.mseed_audit.specs.Each.{AreGathered}
 use Rattle.mseed_audit.proofs.Gathers.{gathered_all, takes_none, takes_on}
-use Rattle.mseed_audit.proofs.Told.{tells_on}
+use Rattle.mseed_audit.proofs.Reported.{tells_on}
 use Rattle.mseed_join.specs.Borders.{AreBorders, Border}
-use Rattle.mseed_join.specs.Reached.{AreTold, start}
+use Rattle.mseed_join.specs.Reached.{AreReported, start}
 use Rattle.mseed_join.specs.private.Bordered.{IsEachReading, IsFlushed}
 use Rattle.mseed_join.specs.private.Refused.{refusal}
 use Rattle.mseed_join.specs.private.Taking.{border_by}
-use Rattle.mseed_join.proofs.Along.{none_told, told_also}
+use Rattle.mseed_join.proofs.Along.{none_reported, reported_also}
 use Rattle.mseed_join.proofs.Each.{all_each, along_by, cut_each, err_each, fault_each, moved_on}
 use Rattle.mseed_join.proofs.Each.{nothing_each}
 use Rattle.mseed_join.proofs.joining_each.read_each.Goals as goal
 
-pub returns-in-Err-clause-told : goal.returns-in-Err-clause-told
-returns-in-Err-clause-told g c =
+pub returns-in-Err-clause-reported : goal.returns-in-Err-clause-reported
+returns-in-Err-clause-reported g c =
     nothing_each c.args.past (g.R.Source.read c.args.source.now) (g.W.Sink.written c.args.sink.now)
     (g.E.Sink.written c.args.errors.now) c.requires.read
 
 pub lines-init : goal.lines-init
 lines-init g c =
     let first : BytesWritten = g.W.Sink.written c.args.sink.now in
-    let told : BytesWritten = g.E.Sink.written c.args.errors.now in
+    let reported : BytesWritten = g.E.Sink.written c.args.errors.now in
     let empty : AreGathered first first c.args.text.now.items [] =
     subst (λ (xs : List ℕ). AreGathered first first xs []) (sym c.requires.text) (gathered_all first []) in
     record {
@@ -30,7 +30,7 @@ lines-init g c =
         start,
         (
           c.in-Ok.ensures (g.R.Source.read c.args.source.now),
-          none_told c.args.past told,
+          none_reported c.args.past reported,
           ([], (AreBorders.none [], empty)),
         ),
       );
@@ -59,15 +59,15 @@ lines-preserved g c =
         step.0,
         (
           step.1.0,
-          subst (λ (lines : List (List ℕ)). AreTold lines (g.E.Sink.written c.args.errors.now)
+          subst (λ (lines : List (List ℕ)). AreReported lines (g.E.Sink.written c.args.errors.now)
               (g.E.Sink.written c.tell_passed.new.errors)) (sym step.1.1.passed)
-              (told_also _ _ _ _ _ along.1.1 c.tell_passed.ensures),
+              (reported_also _ _ _ _ _ along.1.1 c.tell_passed.ensures),
           (
-            found ++ border_by c.in-Ok-Some.told,
+            found ++ border_by c.in-Ok-Some.reported,
             (
               step.1.1.borders found along.1.2.1.0,
               moved_on first (g.W.Sink.written c.lines.sink) (g.W.Sink.written c.add_border.new.sink)
-                  c.lines.text.items c.add_border.new.text.items found (border_by c.in-Ok-Some.told) along.1.2.1.1
+                  c.lines.text.items c.add_border.new.text.items found (border_by c.in-Ok-Some.reported) along.1.2.1.1
                   add.ok,
             ),
           ),
@@ -83,8 +83,8 @@ lines-preserved g c =
       sink_beside = add.beside ∙ c.lines.invariant.sink_beside;
     }
 
-pub returns-in_err-add_border-in-Ok-Some-clause-told : goal.returns-in_err-add_border-in-Ok-Some-clause-told
-returns-in_err-add_border-in-Ok-Some-clause-told g c =
+pub returns-in_err-add_border-in-Ok-Some-clause-reported : goal.returns-in_err-add_border-in-Ok-Some-clause-reported
+returns-in_err-add_border-in-Ok-Some-clause-reported g c =
     let h : BytesRead = g.R.Source.read c.args.source.now in
     let now : BytesRead = g.R.Source.read c.next.new.source in
     let first : BytesWritten = g.W.Sink.written c.args.sink.now in
@@ -92,17 +92,17 @@ returns-in_err-add_border-in-Ok-Some-clause-told g c =
     let along = c.lines.invariant.along in
     let step = rw c.in-Ok-Some.field-0-is at c.in-Ok-Some.ensures.step c.args.past h along.0 along.1.0 in
     let found : List Border = along.1.2.0 in
-    let told = subst (λ (lines : List (List ℕ)). AreTold lines (g.E.Sink.written c.args.errors.now)
+    let reported = subst (λ (lines : List (List ℕ)). AreReported lines (g.E.Sink.written c.args.errors.now)
     (g.E.Sink.written c.tell_passed.new.errors)) (sym step.1.1.passed)
-    (told_also _ _ _ _ _ along.1.1 c.tell_passed.ensures) in
+    (reported_also _ _ _ _ _ along.1.1 c.tell_passed.ensures) in
     err_each c.from_residual.result _ c.in_err-add_border-in-Ok-Some.field-0.0 c.args.past now first new
     (g.E.Sink.written c.args.errors.now) (g.E.Sink.written c.tell_passed.new.errors) c.add_border.new.text.items
     c.from_residual.ensures.1 (λ e q. q)
     (cut_each c.args.past h now step.0 c.in_err-add_border-in-Ok-Some.field-0.0 first (g.W.Sink.written c.lines.sink)
     new
     (g.E.Sink.written c.args.errors.now) (g.E.Sink.written c.tell_passed.new.errors) c.lines.text.items found
-    (border_by c.in-Ok-Some.told) c.requires.read (along_by c.args.past h now step.0 c.next.new.self step.1.0)
-    (step.1.1.borders found along.1.2.1.0) told along.1.2.1.1 c.lines.invariant.fine
+    (border_by c.in-Ok-Some.reported) c.requires.read (along_by c.args.past h now step.0 c.next.new.self step.1.0)
+    (step.1.1.borders found along.1.2.1.0) reported along.1.2.1.1 c.lines.invariant.fine
     c.in_err-add_border-in-Ok-Some.ensures.err)
 
 pub returns-in_err-add_border-in-Ok-Some-clause-more : goal.returns-in_err-add_border-in-Ok-Some-clause-more
@@ -116,22 +116,23 @@ returns-in_err-add_border-in-Ok-Some-clause-contents g c =
     (g.W.Sink.written c.add_border.new.sink) _ _ _ c.lines.invariant.takes
     c.in_err-add_border-in-Ok-Some.ensures.contents
 
-pub returns-in-Ok-None-clause-told : goal.returns-in-Ok-None-clause-told
-returns-in-Ok-None-clause-told g c =
+pub returns-in-Ok-None-clause-reported : goal.returns-in-Ok-None-clause-reported
+returns-in-Ok-None-clause-reported g c =
     let h : BytesRead = g.R.Source.read c.args.source.now in
     let now : BytesRead = g.R.Source.read c.next.new.source in
     let first : BytesWritten = g.W.Sink.written c.args.sink.now in
     let old : BytesWritten = g.W.Sink.written c.lines.sink in
-    let told : BytesWritten = g.E.Sink.written c.args.errors.now in
+    let reported : BytesWritten = g.E.Sink.written c.args.errors.now in
     let at : BytesWritten = g.E.Sink.written c.lines.errors in
     let along = c.lines.invariant.along in
     let step = rw c.in-Ok-None.field-0-is at c.in-Ok-None.ensures.step c.args.past h along.0 along.1.0 in
-    subst (λ j. IsEachReading (Ok j) c.args.past now first old told at c.lines.text.items) (sym c.into_joint.ensures)
-    (all_each c.args.past h now along.0 c.next.new.self first old told at c.lines.text.items along.1.2.0
+    subst (λ j. IsEachReading (Ok j) c.args.past now first old reported at c.lines.text.items)
+    (sym c.into_joint.ensures)
+    (all_each c.args.past h now along.0 c.next.new.self first old reported at c.lines.text.items along.1.2.0
     c.requires.read step along.1.2.1.0 along.1.1 along.1.2.1.1 c.lines.invariant.fine)
 
-pub returns-in-Err-next-clause-told : goal.returns-in-Err-next-clause-told
-returns-in-Err-next-clause-told g c =
+pub returns-in-Err-next-clause-reported : goal.returns-in-Err-next-clause-reported
+returns-in-Err-next-clause-reported g c =
     let h : BytesRead = g.R.Source.read c.args.source.now in
     let now : BytesRead = g.R.Source.read c.next.new.source in
     let along = c.lines.invariant.along in

@@ -2,14 +2,14 @@ use Rattle.std.proofs.Common.{◌≡◌, ◌+◌, ◌-◌, ◌^◌, false, List}
 use Rattle.mseed_stream.specs.Cutting.{TellsMore}
 use Rattle.mseed_audit.specs.Each.{AreGathered, TakesMore}
 use Rattle.mseed_join.specs.Borders.{AreBordersOf, Border, border_lines}
-use Rattle.mseed_join.specs.Reached.{AreTold, Stage, parts_at, passed_lines}
+use Rattle.mseed_join.specs.Reached.{AreReported, Stage, parts_at, passed_lines}
 use Rattle.mseed_join.specs.private.Along.{IsAlong}
 use Rattle.mseed_join.proofs.joining_each.read_each.Given as goal
 
 abbrev pub invariant-lines : goal.invariant-lines
 invariant-lines g l = record {
   along : (s : Stage) × (IsAlong l.fn.past (g.R.Source.read l.fn.source) (g.R.Source.read l.source) s l.reader
-      × AreTold (passed_lines l.fn.past (parts_at s)) (g.E.Sink.written l.fn.errors) (g.E.Sink.written l.errors)
+      × AreReported (passed_lines l.fn.past (parts_at s)) (g.E.Sink.written l.fn.errors) (g.E.Sink.written l.errors)
       × ((found : List Border) × (AreBordersOf l.fn.past (parts_at s) found
       × AreGathered (g.W.Sink.written l.fn.sink) (g.W.Sink.written l.sink) l.text.items (border_lines found))));
   fine : (g.W.Sink.written l.sink).failures ≡ (g.W.Sink.written l.fn.sink).failures;

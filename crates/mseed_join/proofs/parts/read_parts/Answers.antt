@@ -1,27 +1,27 @@
 use Rattle.std.proofs.Common.{rules, ◌≡◌, ◌∙◌, ℕ, List, [], append-nil, arith, ap, sym, subst, refl, Ok, Err}
 use Rattle.mseed_stream.specs.Device.{BytesRead, BytesWritten}
 use Rattle.std.proofs.KnownBytes.{Consumes-nil}
-use Rattle.mseed_audit.proofs.Told.{tells_on}
+use Rattle.mseed_audit.proofs.Reported.{tells_on}
 use Rattle.mseed_join.specs.declared.reader.PartsFault.{PartsFault}
-use Rattle.mseed_join.specs.Reached.{AreTold, start}
+use Rattle.mseed_join.specs.Reached.{AreReported, start}
 use Rattle.mseed_join.specs.ReadParts.{IsReadOutcome}
-use Rattle.mseed_join.proofs.Along.{all_read, failed, none_read, none_told, stopped, told_also}
+use Rattle.mseed_join.proofs.Along.{all_read, failed, none_read, none_reported, stopped, reported_also}
 use Rattle.mseed_join.proofs.parts.read_parts.Goals as goal
 
 pub returns-in-Err-clause-outcome : goal.returns-in-Err-clause-outcome
 returns-in-Err-clause-outcome g c =
     let h : BytesRead = g.R.Source.read c.args.source.now in
-    let told : BytesWritten = g.E.Sink.written c.args.errors.now in
-    stopped c.args.past h h start told told (none_read h) (none_told c.args.past told)
+    let reported : BytesWritten = g.E.Sink.written c.args.errors.now in
+    stopped c.args.past h h start reported reported (none_read h) (none_reported c.args.past reported)
 
 pub lines-init : goal.lines-init
 lines-init g c =
-    let told : BytesWritten = g.E.Sink.written c.args.errors.now in record {
+    let reported : BytesWritten = g.E.Sink.written c.args.errors.now in record {
       along = (
         start,
         (
           c.in-Ok.ensures (g.R.Source.read c.args.source.now),
-          none_told c.args.past told,
+          none_reported c.args.past reported,
         ),
       );
       goes_on = ap (λ (h : BytesRead). h.is_at_end) c.requires;
@@ -33,42 +33,42 @@ lines-init g c =
       beside = refl;
     }
 
-pub returns-in_err-told-clause-outcome : goal.returns-in_err-told-clause-outcome
-returns-in_err-told-clause-outcome g c =
+pub returns-in_err-reported-clause-outcome : goal.returns-in_err-reported-clause-outcome
+returns-in_err-reported-clause-outcome g c =
     let h : BytesRead = g.R.Source.read c.args.source.now in
     let now : BytesRead = g.R.Source.read c.next.new.source in
-    let told : BytesWritten = g.E.Sink.written c.args.errors.now in
+    let reported : BytesWritten = g.E.Sink.written c.args.errors.now in
     let at : BytesWritten = g.E.Sink.written c.lines.errors in
     let along = c.lines.invariant.along in
-    let fault : PartsFault = c.in_err-told.field-0.0 in
-    let step = c.in_err-told.ensures.step c.args.past h along.0 along.1.0 in
+    let fault : PartsFault = c.in_err-reported.field-0.0 in
+    let step = c.in_err-reported.ensures.step c.args.past h along.0 along.1.0 in
     let same : c.from_residual.result ≡ Err fault = search rules in
-    subst (λ r. IsReadOutcome r c.args.past h now told at) (sym same)
-    (failed c.args.past h now along.0 c.next.new.self fault told at step along.1.1)
+    subst (λ r. IsReadOutcome r c.args.past h now reported at) (sym same)
+    (failed c.args.past h now along.0 c.next.new.self fault reported at step along.1.1)
 
-pub returns-in_err-told-clause-more : goal.returns-in_err-told-clause-more
-returns-in_err-told-clause-more g c = tells_on (g.R.Source.read c.args.source.now) (g.R.Source.read c.lines.source)
+pub returns-in_err-reported-clause-more : goal.returns-in_err-reported-clause-more
+returns-in_err-reported-clause-more g c = tells_on (g.R.Source.read c.args.source.now) (g.R.Source.read c.lines.source)
     (g.R.Source.read c.next.new.source) _ _ _ c.lines.invariant.more c.next.ensures.more
 
 pub lines-smaller : goal.lines-smaller
 lines-smaller g c =
-    let line = c.in_ok-told.ensures.line c.in-Some.told (ap Ok c.in-Some.is) in
-    let few = c.in_ok-told.ensures.few c.in-Some.told (ap Ok c.in-Some.is) in
+    let line = c.in_ok-reported.ensures.line c.in-Some.reported (ap Ok c.in-Some.is) in
+    let few = c.in_ok-reported.ensures.few c.in-Some.reported (ap Ok c.in-Some.is) in
     omega (arith, line, few)
 
 pub lines-preserved : goal.lines-preserved
 lines-preserved g c =
     let h : BytesRead = g.R.Source.read c.args.source.now in
     let along = c.lines.invariant.along in
-    let step = rw c.in-Some.is at c.in_ok-told.ensures.step c.args.past h along.0 along.1.0 in
+    let step = rw c.in-Some.is at c.in_ok-reported.ensures.step c.args.past h along.0 along.1.0 in
     record {
       along = (
         step.0,
         (
           step.1.0,
-          subst (λ (lines : List (List ℕ)). AreTold lines (g.E.Sink.written c.args.errors.now)
+          subst (λ (lines : List (List ℕ)). AreReported lines (g.E.Sink.written c.args.errors.now)
               (g.E.Sink.written c.tell_passed.new.errors)) (sym step.1.1.passed)
-              (told_also _ _ _ _ _ along.1.1 c.tell_passed.ensures),
+              (reported_also _ _ _ _ _ along.1.1 c.tell_passed.ensures),
         ),
       );
       goes_on = step.1.2;
@@ -82,7 +82,7 @@ returns-in-None-clause-outcome g c =
     let h : BytesRead = g.R.Source.read c.args.source.now in
     let now : BytesRead = g.R.Source.read c.next.new.source in
     let along = c.lines.invariant.along in
-    let step = rw c.in-None.is at c.in_ok-told.ensures.step c.args.past h along.0 along.1.0 in
+    let step = rw c.in-None.is at c.in_ok-reported.ensures.step c.args.past h along.0 along.1.0 in
     subst (λ j. IsReadOutcome (Ok j) c.args.past h now (g.E.Sink.written c.args.errors.now)
     (g.E.Sink.written c.lines.errors)) (sym c.into_joint.ensures)
     (all_read c.args.past h now along.0 c.next.new.self _ _ step along.1.1)

@@ -16,14 +16,14 @@ loop-sample-preserved c =
     let limit = to_z w32 (of_z w32 c.args.limit) in
     let inside : i < length xs = c.loop-sample-test.true in
     let same : to_z w32 (of_z w32 (get_or xs i (pos 0))) ≡ get_or xs i (pos 0) = to_z-of_z w32 _ (search rules) in
-    let told : (b : Bool) → IsTrue b ↔ IsUnder limit (to_z w32 (of_z w32 (get_or xs i (pos 0))))
+    let reported : (b : Bool) → IsTrue b ↔ IsUnder limit (to_z w32 (of_z w32 (get_or xs i (pos 0))))
     → IsTrue b ↔ IsUnder limit (get_or xs i (pos 0)) =
     λ b h. subst (λ (z : ℤ). IsTrue b ↔ IsUnder limit z) same h in
     elim c.if-not-is_within.branch [
       | then-not-is_within w ↦ rw w.near-is
-          (near_not limit xs i inside (λ p. false≢true ((told false w.if-not-is_within.ensures).1 p)))
+          (near_not limit xs i inside (λ p. false≢true ((reported false w.if-not-is_within.ensures).1 p)))
       | else-not-is_within w ↦ rw w.near-is
-          (near_more limit c.loop-sample.near xs i inside ((told true w.if-not-is_within.ensures).0 refl)
+          (near_more limit c.loop-sample.near xs i inside ((reported true w.if-not-is_within.ensures).0 refl)
           c.loop-sample.invariant)
     ]
 

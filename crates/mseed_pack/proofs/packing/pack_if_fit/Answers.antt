@@ -1,4 +1,4 @@
-use Rattle.mseed_audit.proofs.Told.{grew_none}
+use Rattle.mseed_audit.proofs.Reported.{grew_none}
 use Rattle.mseed_pack.proofs.packing.pack_if_fit.Goals as goal
 
 pub returns-in-Err-clause-contents : goal.returns-in-Err-clause-contents

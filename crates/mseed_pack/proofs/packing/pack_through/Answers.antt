@@ -1,8 +1,8 @@
 use Rattle.std.proofs.Common.{◌≡◌, ◌+◌, ◌*◌, ◌^◌, ℕ, sym, ap, subst, ◌∙◌, take}
-use Rattle.mseed_pack.specs.Outcome.{TookPrefix}
+use Rattle.mseed_pack.specs.Outcome.{EmittedPrefix}
 use Rattle.mseed_pack.specs.Traces.{trace_of}
-use Rattle.mseed_pack.proofs.Growing.{took_more, took_prefix}
-use Rattle.mseed_audit.proofs.Told.{grew}
+use Rattle.mseed_pack.proofs.Growing.{emitted_more, emitted_prefix}
+use Rattle.mseed_audit.proofs.Reported.{grew}
 use Rattle.mseed_pack.proofs.Taken.{takes_on}
 use Rattle.mseed_pack.proofs.packing.pack_through.Goals as goal
 
@@ -12,13 +12,14 @@ returns-in-Err-clause-err g c =
     let o = c.args.options.now in
     let l = c.loop-place in
     let b = take c.gather-batch.result.bytes c.gather-batch.new.out in
-    let prefix = took_prefix s o l.place c.gather-batch.result.next c.in-Err.taken b (g.W.Sink.written c.args.sink.now)
-    (g.W.Sink.written l.sink) (g.W.Sink.written c.write_all_of.new.sink) l.invariant.took
+    let prefix = emitted_prefix s o l.place c.gather-batch.result.next c.in-Err.taken b
+    (g.W.Sink.written c.args.sink.now)
+    (g.W.Sink.written l.sink) (g.W.Sink.written c.write_all_of.new.sink) l.invariant.emitted
     c.gather-batch.ensures.on c.in-Err.ensures.within c.in-Err.ensures.err c.in-Err.ensures.failed in
     let number : l.place.number * 2 ^ o.exponent ≡ c.from.result * c.length_of-length.result =
     ap (λ (m : ℕ). m * 2 ^ o.exponent) (sym c.from.ensures)
     ∙ ap (λ (m : ℕ). c.from.result * m) (sym c.length_of-length.ensures.value) in
-    subst (λ (m : ℕ). TookPrefix s o (m + c.in-Err.taken) (g.W.Sink.written c.args.sink.now)
+    subst (λ (m : ℕ). EmittedPrefix s o (m + c.in-Err.taken) (g.W.Sink.written c.args.sink.now)
     (g.W.Sink.written c.write_all_of.new.sink)) number prefix
 
 pub returns-in-Err-clause-contents : goal.returns-in-Err-clause-contents
@@ -50,8 +51,8 @@ loop-place-preserved g c =
     record {
       held = c.gather-batch.ensures.held;
       standing = c.gather-batch.ensures.standing;
-      took = took_more s o l.place c.gather-batch.result.next b (g.W.Sink.written c.args.sink.now)
-          (g.W.Sink.written l.sink) (g.W.Sink.written c.write_all_of.new.sink) l.invariant.took
+      emitted = emitted_more s o l.place c.gather-batch.result.next b (g.W.Sink.written c.args.sink.now)
+          (g.W.Sink.written l.sink) (g.W.Sink.written c.write_all_of.new.sink) l.invariant.emitted
           c.gather-batch.ensures.on c.in_default.ensures.ok c.in_default.ensures.fine;
       contents = takes_on (g.W.Sink.written c.args.sink.now) (g.W.Sink.written l.sink)
           (g.W.Sink.written c.write_all_of.new.sink) (g.W.Sink.contents c.args.sink.now) (g.W.Sink.contents l.sink)

@@ -1,6 +1,6 @@
 use Rattle.std.proofs.Common.{◌≡◌, ◌-◌, length}
 use Rattle.mseed_pack.specs.private.Filling.{HoldsDifferences}
-use Rattle.mseed_pack.specs.Outcome.{TookSo}
+use Rattle.mseed_pack.specs.Outcome.{EmittedSo}
 use Rattle.mseed_pack.specs.private.Standing.{StandsAt}
 use Rattle.mseed_pack.specs.Traces.{trace_of}
 use Rattle.mseed_pack.proofs.Taken.{TakesMore}
@@ -10,7 +10,7 @@ abbrev pub invariant-loop-place : goal.invariant-loop-place
 invariant-loop-place g l = record {
   held : HoldsDifferences l.series.samples.now l.window;
   standing : StandsAt l.series.steps.now (length l.series.samples.now) l.place;
-  took : TookSo (trace_of l.series) l.options l.place.number l.place.first (g.W.Sink.written l.fn.sink)
+  emitted : EmittedSo (trace_of l.series) l.options l.place.number l.place.first (g.W.Sink.written l.fn.sink)
       (g.W.Sink.written l.sink);
   contents : TakesMore (g.W.Sink.written l.fn.sink) (g.W.Sink.written l.sink) (g.W.Sink.contents l.fn.sink)
       (g.W.Sink.contents l.sink);

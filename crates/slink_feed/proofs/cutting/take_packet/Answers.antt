@@ -2,12 +2,12 @@ use Rattle.std.proofs.Common.{◌-◌, ◌<◌, subst, arith, take, drop, length
 use Rattle.std.proofs.lemmas.List.{length-drop, length-take}
 use Rattle.slink_feed.specs.private.Parts.{IsPacketPart}
 use Rattle.slink_feed.specs.declared.cutting.Part.{Part}
-use Rattle.slink_feed.proofs.Prefixes.{took_more}
+use Rattle.slink_feed.proofs.Prefixes.{emitted_more}
 use Rattle.slink_feed.proofs.cutting.take_packet.Goals as goal
 
 pub loop-used-preserved : goal.loop-used-preserved
 loop-used-preserved c = record {
-  kept = took_more c.args.kept.now.items c.loop-used.kept.items c.take_part-more.new.kept.items c.args.bytes.now
+  kept = emitted_more c.args.kept.now.items c.loop-used.kept.items c.take_part-more.new.kept.items c.args.bytes.now
       c.loop-used.used c.take_part-more.result.0 c.loop-used.invariant.kept c.take_part-more.ensures.kept;
   begun = subst (λ (p : Part). IsPacketPart c.take_part-more.new.kept.items p) c.in-Begun.is
       c.take_part-more.ensures.part;
@@ -23,7 +23,7 @@ loop-used-preserved c = record {
 
 pub returns-in_default : goal.returns-in_default
 returns-in_default c = record {
-  kept = took_more c.args.kept.now.items c.loop-used.kept.items c.take_part-more.new.kept.items c.args.bytes.now
+  kept = emitted_more c.args.kept.now.items c.loop-used.kept.items c.take_part-more.new.kept.items c.args.bytes.now
       c.loop-used.used c.take_part-more.result.0 c.loop-used.invariant.kept c.take_part-more.ensures.kept;
   part = c.take_part-more.ensures.part;
   whole = λ e. absurd (c.in_default.not-Begun e);

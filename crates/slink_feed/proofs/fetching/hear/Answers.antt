@@ -10,7 +10,7 @@ pub returns-in_ok-counts-in-Some-clause-ok : goal.returns-in_ok-counts-in-Some-c
 returns-in_ok-counts-in-Some-clause-ok g c = record {
   event = events.Record c.in-Some.place c.in-Some.number c.in-Some.record.now;
   comes = record { brings = c.in-Some.ensures.brings; some = omega arith; bound = c.in-Some.ensures.long };
-  told = c.deliver_record.ensures.told;
+  reported = c.deliver_record.ensures.reported;
   done = c.in_ok-counts-in-Some.ensures.ok (g.L.Sink.written c.args.link.now);
 }
 
@@ -28,7 +28,7 @@ returns-in_err-counts-in-Some-clause-fault g c =
       event = events.Record c.in-Some.place c.in-Some.number c.in-Some.record.now;
       used = 520;
       comes = record { brings = c.in-Some.ensures.brings; some = omega arith; bound = c.in-Some.ensures.long };
-      told = c.deliver_record.ensures.told;
+      reported = c.deliver_record.ensures.reported;
       cut = c.in_err-counts-in-Some.ensures.fault (g.L.Sink.written c.args.link.now);
     } in
     search (rules, fails)
@@ -47,7 +47,7 @@ returns-in_ok-after-in-None-clause-ok g c =
       event = c.take-used.result.1;
       comes = subst (λ (l : Listening). ComesTo c.take-used.result.1 c.take-used.result.0 c.args.bytes.now l
           c.take-used.new.self) c.in-None.ensures.none comes;
-      told = record { telling = c.deliver.ensures.telling; lines = c.deliver.ensures.lines };
+      reported = record { telling = c.deliver.ensures.telling; lines = c.deliver.ensures.lines };
       done = c.in_ok-after-in-None.ensures.ok;
     }
 
@@ -74,7 +74,7 @@ returns-in_err-after-in-None-clause-fault g c =
       used = c.take-used.result.0;
       comes = subst (λ (l : Listening). ComesTo c.take-used.result.1 c.take-used.result.0 c.args.bytes.now l
           c.take-used.new.self) c.in-None.ensures.none comes;
-      told = record { telling = c.deliver.ensures.telling; lines = c.deliver.ensures.lines };
+      reported = record { telling = c.deliver.ensures.telling; lines = c.deliver.ensures.lines };
       cut = c.in_err-after-in-None.ensures.fault;
     } in
     search (rules, fails)

@@ -4,7 +4,7 @@ use Rattle.slink_feed.specs.private.Delivery.{FailsToHear, Hears}
 use Rattle.slink_feed.proofs.Deliveries.{IsPiece, all_delivered, fails_here, nothing_so_far, one_more, piece_of}
 use Rattle.slink_feed.specs.Reports.{Kept, kept}
 use Rattle.slink_feed.proofs.Noting.{nothing_noted, notes_both}
-use Rattle.slink_feed.proofs.Reporting.{reports_none, reports_cut, reports_heard}
+use Rattle.slink_feed.proofs.Reporting.{reports_none, reports_cut, reports_received}
 use Rattle.slink_feed.proofs.fetching.read.Goals as goal
 
 pub loop-offset-init : goal.loop-offset-init
@@ -16,42 +16,42 @@ loop-offset-init g c = record {
   beside = refl;
 }
 
-pub returns-in_err-heard-clause-fault : goal.returns-in_err-heard-clause-fault
-returns-in_err-heard-clause-fault g c =
+pub returns-in_err-incoming-clause-fault : goal.returns-in_err-incoming-clause-fault
+returns-in_err-incoming-clause-fault g c =
     let old : Fetching = fetching c.args.client.now (g.L.Sink.written c.args.link.now)
     (g.W.Sink.written c.args.output.now) in
     let now : Fetching = fetching c.loop-offset.client (g.L.Sink.written c.loop-offset.link)
     (g.W.Sink.written c.loop-offset.output) in
     let new : Fetching = fetching c.hear.new.client (g.L.Sink.written c.hear.new.link)
     (g.W.Sink.written c.hear.new.output) in
-    let heard : FailsToHear c.in_err-heard.field-0.0
+    let incoming : FailsToHear c.in_err-incoming.field-0.0
     (take (length c.args.bytes.now - c.loop-offset.offset) (drop c.loop-offset.offset c.args.bytes.now))
     c.loop-offset.counts now new
     (kept (g.W.Sink.written c.loop-offset.output) (g.E.Sink.written c.loop-offset.errors)
     c.loop-offset.teller.telling)
     (kept (g.W.Sink.written c.hear.new.output) (g.E.Sink.written c.hear.new.errors) c.hear.new.teller.telling) =
-    c.in_err-heard.ensures.fault in
-    let piece : IsPiece c.loop-offset.client c.hear.new.client c.args.bytes.now c.loop-offset.offset heard.used
-    heard.event =
-    piece_of c.loop-offset.client c.hear.new.client c.args.bytes.now c.loop-offset.offset heard.used heard.event
-    c.if-not-is_linked.ensures.yes heard.comes in
-    let fails : FailsAt c.in_err-heard.field-0.0 old new c.args.bytes.now =
-    fails_here old now new c.args.bytes.now c.loop-offset.offset heard.used heard.event
-    c.loop-offset.counts c.loop-offset.invariant.so_far piece c.in_err-heard.field-0.0 heard.cut in
+    c.in_err-incoming.ensures.fault in
+    let piece : IsPiece c.loop-offset.client c.hear.new.client c.args.bytes.now c.loop-offset.offset incoming.used
+    incoming.event =
+    piece_of c.loop-offset.client c.hear.new.client c.args.bytes.now c.loop-offset.offset incoming.used incoming.event
+    c.if-not-is_linked.ensures.yes incoming.comes in
+    let fails : FailsAt c.in_err-incoming.field-0.0 old new c.args.bytes.now =
+    fails_here old now new c.args.bytes.now c.loop-offset.offset incoming.used incoming.event
+    c.loop-offset.counts c.loop-offset.invariant.so_far piece c.in_err-incoming.field-0.0 incoming.cut in
     search (rules, fails)
 
-pub returns-in_err-heard-clause-received : goal.returns-in_err-heard-clause-received
-returns-in_err-heard-clause-received g c =
+pub returns-in_err-incoming-clause-received : goal.returns-in_err-incoming-clause-received
+returns-in_err-incoming-clause-received g c =
     notes_both c.args.teller.now.received c.loop-offset.teller.received c.hear.new.teller.received
     (g.W.Sink.written c.args.output.now) (g.W.Sink.written c.loop-offset.output)
     (g.W.Sink.written c.hear.new.output) c.loop-offset.invariant.so_far.output.failures
     c.loop-offset.invariant.received c.hear.ensures.received
 
-pub returns-in_err-heard-clause-reports : goal.returns-in_err-heard-clause-reports
-returns-in_err-heard-clause-reports g c =
+pub returns-in_err-incoming-clause-reports : goal.returns-in_err-incoming-clause-reports
+returns-in_err-incoming-clause-reports g c =
     reports_cut c.args.client.now.talk
     (take (length c.args.bytes.now - c.loop-offset.offset) (drop c.loop-offset.offset c.args.bytes.now))
-    c.in_err-heard.field-0.0 c.loop-offset.counts
+    c.in_err-incoming.field-0.0 c.loop-offset.counts
     (fetching c.loop-offset.client (g.L.Sink.written c.loop-offset.link) (g.W.Sink.written c.loop-offset.output))
     (fetching c.hear.new.client (g.L.Sink.written c.hear.new.link) (g.W.Sink.written c.hear.new.output))
     (kept (g.W.Sink.written c.args.output.now) (g.E.Sink.written c.args.errors.now) c.args.teller.now.telling)
@@ -59,7 +59,7 @@ returns-in_err-heard-clause-reports g c =
     c.loop-offset.teller.telling)
     (kept (g.W.Sink.written c.hear.new.output) (g.E.Sink.written c.hear.new.errors) c.hear.new.teller.telling)
     refl refl c.loop-offset.invariant.reports c.loop-offset.invariant.so_far.output.failures
-    c.in_err-heard.ensures.fault
+    c.in_err-incoming.ensures.fault
 
 pub loop-offset-preserved : goal.loop-offset-preserved
 loop-offset-preserved g c =
@@ -77,22 +77,23 @@ loop-offset-preserved g c =
     c.hear.new.teller.telling in
     let rest : List ℕ = take (length c.args.bytes.now - c.loop-offset.offset)
     (drop c.loop-offset.offset c.args.bytes.now) in
-    let heard : Hears rest c.in_ok-heard.heard.used c.loop-offset.counts c.in_ok-heard.heard.counts now new mid
-    after = c.in_ok-heard.ensures.ok in
+    let incoming : Hears rest c.in_ok-incoming.incoming.used c.loop-offset.counts c.in_ok-incoming.incoming.counts now
+    new mid
+    after = c.in_ok-incoming.ensures.ok in
     let piece : IsPiece c.loop-offset.client c.hear.new.client c.args.bytes.now c.loop-offset.offset
-    c.in_ok-heard.heard.used heard.event =
+    c.in_ok-incoming.incoming.used incoming.event =
     piece_of c.loop-offset.client c.hear.new.client c.args.bytes.now c.loop-offset.offset
-    c.in_ok-heard.heard.used heard.event c.if-not-is_linked.ensures.yes heard.comes in
+    c.in_ok-incoming.incoming.used incoming.event c.if-not-is_linked.ensures.yes incoming.comes in
     record {
-      so_far = one_more old now new c.args.bytes.now c.loop-offset.offset c.in_ok-heard.heard.used heard.event
-          c.loop-offset.counts c.loop-offset.invariant.so_far piece c.in_ok-heard.heard.counts heard.done;
+      so_far = one_more old now new c.args.bytes.now c.loop-offset.offset c.in_ok-incoming.incoming.used incoming.event
+          c.loop-offset.counts c.loop-offset.invariant.so_far piece c.in_ok-incoming.incoming.counts incoming.done;
       received = notes_both c.args.teller.now.received c.loop-offset.teller.received c.hear.new.teller.received
           (g.W.Sink.written c.args.output.now) (g.W.Sink.written c.loop-offset.output)
           (g.W.Sink.written c.hear.new.output) c.loop-offset.invariant.so_far.output.failures
           c.loop-offset.invariant.received c.hear.ensures.received;
-      reports = reports_heard c.args.client.now.talk rest c.in_ok-heard.heard.used c.loop-offset.counts
-          c.in_ok-heard.heard.counts now new before mid after refl refl c.loop-offset.invariant.reports
-          c.loop-offset.invariant.so_far.output.failures heard;
+      reports = reports_received c.args.client.now.talk rest c.in_ok-incoming.incoming.used c.loop-offset.counts
+          c.in_ok-incoming.incoming.counts now new before mid after refl refl c.loop-offset.invariant.reports
+          c.loop-offset.invariant.so_far.output.failures incoming;
       beside = c.hear.ensures.beside ∙ c.loop-offset.invariant.beside;
     }
 

@@ -3,7 +3,7 @@ use Rattle.slink_feed.proofs.Sendings.{answer_read, stretch_sent}
 use Rattle.slink_feed.proofs.law.a_stretch_is_sent.Goals as goal
 
 pub returns-clause-stretch : goal.returns-clause-stretch
-returns-clause-stretch c = λ k first pushed asked s g on at_k are shown. stretch_sent k first pushed asked s g
+returns-clause-stretch c = λ k first pushed called s g on at_k are shown. stretch_sent k first pushed called s g
     (inl on) at_k are shown
 
 pub returns-clause-lines : goal.returns-clause-lines

@@ -4,9 +4,9 @@ use Rattle.std.proofs.lemmas.Result.{err_from_is_err_and}
 use Rattle.mseed_stream.specs.Device.{BytesRead}
 use Rattle.slink_feed.specs.Attending.{IsServeFault, attending}
 use Rattle.slink_feed.specs.Rounds.{Attending}
-use Rattle.slink_feed.specs.Turns.{failed_once, told_once}
+use Rattle.slink_feed.specs.Turns.{failed_once, reported_once}
 use Rattle.slink_feed.proofs.Attended.{all_answered, all_sent_and_closed, answering_failed, failed_is, read_to_its_end}
-use Rattle.slink_feed.proofs.Attended.{reading_failed, sending_failed, told_is}
+use Rattle.slink_feed.proofs.Attended.{reading_failed, sending_failed, reported_is}
 use Rattle.slink_feed.proofs.Sendoffs.{passed_on}
 use Rattle.slink_feed.proofs.serving.serve_turn.Goals as goal
 
@@ -56,10 +56,11 @@ returns-then-count-eq0-clause-ok g c =
     let same : g.S.Sink.written c.pull.new.self ≡ g.S.Sink.written c.send_all.new.link =
     sym (g.met.S.Duplex.reads_apart c.pull.new.self)
     ∙ (c.pull.ensures.beside ∙ g.met.S.Duplex.reads_apart c.send_all.new.link) in
-    let read : g.S.Source.read c.pull.new.self ≡ told_once (g.S.Source.read c.send_all.new.link) [] = search rules in
+    let read : g.S.Source.read c.pull.new.self ≡ reported_once (g.S.Source.read c.send_all.new.link) [] =
+    search rules in
     read_to_its_end c.args.feed.now _ _ c.send_all.new.session (g.S.Sink.written c.send_all.new.link) _
     c.in_ok-written.written
-    c.in_ok-written.ensures.ok c.if-is_closed.ensures.no same _ (read ∙ ap (λ (h : BytesRead). told_once h []) sent)
+    c.in_ok-written.ensures.ok c.if-is_closed.ensures.no same _ (read ∙ ap (λ (h : BytesRead). reported_once h []) sent)
 
 pub returns-in_err-reply_to_all-clause-fault : goal.returns-in_err-reply_to_all-clause-fault
 returns-in_err-reply_to_all-clause-fault g c =
@@ -78,10 +79,10 @@ returns-in_err-reply_to_all-clause-fault g c =
     let replied : g.S.Source.read c.reply_to_all.new.link ≡ g.S.Source.read c.pull.new.self =
     sym (g.met.S.Duplex.writes_apart c.reply_to_all.new.link)
     ∙ (c.reply_to_all.ensures.beside ∙ g.met.S.Duplex.writes_apart c.pull.new.self) in
-    let read : g.S.Source.read c.reply_to_all.new.link ≡ told_once (g.S.Source.read c.args.link.now) bytes =
+    let read : g.S.Source.read c.reply_to_all.new.link ≡ reported_once (g.S.Source.read c.args.link.now) bytes =
     replied ∙ (c.in-Ok.ensures.read
-    ∙ (told_is (g.S.Source.read c.send_all.new.link) c.in-Ok.count c.pull.new.buf some c.in-Ok.ensures.bound
-    ∙ ap (λ (h : BytesRead). told_once h bytes) sent)) in
+    ∙ (reported_is (g.S.Source.read c.send_all.new.link) c.in-Ok.count c.pull.new.buf some c.in-Ok.ensures.bound
+    ∙ ap (λ (h : BytesRead). reported_once h bytes) sent)) in
     passed_on c.from_residual-in_err-reply_to_all.result c.in_err-reply_to_all.field-0.0
     (λ fault. IsServeFault c.args.feed.now old new (g.S.Source.read c.args.link.now)
     (g.S.Source.read c.reply_to_all.new.link) fault)
@@ -108,10 +109,10 @@ returns-clause-ok g c =
     let replied : g.S.Source.read c.reply_to_all.new.link ≡ g.S.Source.read c.pull.new.self =
     sym (g.met.S.Duplex.writes_apart c.reply_to_all.new.link)
     ∙ (c.reply_to_all.ensures.beside ∙ g.met.S.Duplex.writes_apart c.pull.new.self) in
-    let read : g.S.Source.read c.reply_to_all.new.link ≡ told_once (g.S.Source.read c.args.link.now) bytes =
+    let read : g.S.Source.read c.reply_to_all.new.link ≡ reported_once (g.S.Source.read c.args.link.now) bytes =
     replied ∙ (c.in-Ok.ensures.read
-    ∙ (told_is (g.S.Source.read c.send_all.new.link) c.in-Ok.count c.pull.new.buf some c.in-Ok.ensures.bound
-    ∙ ap (λ (h : BytesRead). told_once h bytes) sent)) in
+    ∙ (reported_is (g.S.Source.read c.send_all.new.link) c.in-Ok.count c.pull.new.buf some c.in-Ok.ensures.bound
+    ∙ ap (λ (h : BytesRead). reported_once h bytes) sent)) in
     all_answered c.args.feed.now _ _ c.send_all.new.session (g.S.Sink.written c.send_all.new.link)
     (g.S.Sink.written c.pull.new.self) c.in_ok-written.written c.in_ok-written.ensures.ok c.if-is_closed.ensures.no same
     _ _ bytes read (omega (arith, long, some)) few c.in_ok-reply_to_all.ensures.ok

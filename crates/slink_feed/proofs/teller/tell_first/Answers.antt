@@ -1,13 +1,13 @@
 use Rattle.std.proofs.Common.{◌∙◌}
 use Rattle.slink_feed.specs.Teller.{first_line}
-use Rattle.slink_feed.proofs.Tellings.{first_none, first_told, no_first, told_line}
+use Rattle.slink_feed.proofs.Tellings.{first_none, first_reported, no_first, reported_line}
 use Rattle.slink_feed.proofs.teller.tell_first.Goals as goal
 
 pub returns-then-is_first : goal.returns-then-is_first
 returns-then-is_first g c =
-    first_told c.args.is_first c.args.want.now c.in-Some.wanted c.args.number (g.E.Sink.written c.args.errors.now)
+    first_reported c.args.is_first c.args.want.now c.in-Some.wanted c.args.number (g.E.Sink.written c.args.errors.now)
     (g.E.Sink.written c.tell.new.errors) c.if-is_first.true c.in-Some.is
-    (told_line c.as_slice.result.now (first_line c.in-Some.wanted.place c.args.number)
+    (reported_line c.as_slice.result.now (first_line c.in-Some.wanted.place c.args.number)
     (g.E.Sink.written c.args.errors.now) (g.E.Sink.written c.tell.new.errors)
     (c.as_slice.ensures.value ∙ c.first_line.ensures) c.tell.ensures)
 

@@ -1,13 +1,13 @@
 use Rattle.std.proofs.Common.{◌∙◌}
 use Rattle.slink_feed.specs.Teller.{hole_line}
-use Rattle.slink_feed.proofs.Tellings.{other_none, other_same, other_told, told_line}
+use Rattle.slink_feed.proofs.Tellings.{other_none, other_same, other_reported, reported_line}
 use Rattle.slink_feed.proofs.teller.tell_if_other.Goals as goal
 
 pub returns-then-want-got : goal.returns-then-want-got
 returns-then-want-got g c =
-    other_told c.args.place.now c.args.want c.in-Some.want c.args.got (g.E.Sink.written c.args.errors.now)
+    other_reported c.args.place.now c.args.want c.in-Some.want c.args.got (g.E.Sink.written c.args.errors.now)
     (g.E.Sink.written c.tell.new.errors) c.in-Some.is c.if-want-got.true
-    (told_line c.as_slice.result.now (hole_line c.args.place.now c.in-Some.want c.args.got)
+    (reported_line c.as_slice.result.now (hole_line c.args.place.now c.in-Some.want c.args.got)
     (g.E.Sink.written c.args.errors.now) (g.E.Sink.written c.tell.new.errors)
     (c.as_slice.ensures.value ∙ c.hole_line.ensures) c.tell.ensures)
 

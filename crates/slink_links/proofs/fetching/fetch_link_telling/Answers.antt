@@ -6,8 +6,8 @@ use Rattle.slink_links.specs.declared.fetching.FetchEnd.TheVariants.{LinkFailed}
 use Rattle.slink_links.specs.Fetched.{HasReadLink, HasTakenAll, IsFetchedOver, by_turns, unwritten}
 use Rattle.slink_feed.specs.Reports.{Kept, kept}
 use Rattle.slink_feed.proofs.Reporting.{reports_none}
-use Rattle.slink_links.proofs.Fetches.{connected_linked, fetched_link, fetched_telling, read_link, took_as}
-use Rattle.slink_links.proofs.Fetches.{took_prefix_as, turned_none}
+use Rattle.slink_links.proofs.Fetches.{connected_linked, fetched_link, fetched_telling, read_link, emitted_as}
+use Rattle.slink_links.proofs.Fetches.{emitted_prefix_as, turned_none}
 use Rattle.slink_links.proofs.Fetches.{turned_out}
 use Rattle.slink_links.proofs.fetching.fetch_link_telling.Goals as goal
 
@@ -88,7 +88,7 @@ returns-in-Ok-clause-turns g c =
     by_turns c.take_turns.result c.connect-line.new.self (Say c.connect-line.result)
     (g.S.Sink.written c.write_all_of.new.sink) last after
     (record { says = c.connect-line.ensures.written; kept = c.connect-line.ensures.dropped })
-    (took_as (g.S.Sink.written c.args.link.now) (g.S.Sink.written c.write_all_of.new.sink) c.as_slice.result.now
+    (emitted_as (g.S.Sink.written c.args.link.now) (g.S.Sink.written c.write_all_of.new.sink) c.as_slice.result.now
     c.connect-line.result.items c.in-Ok.ensures.ok c.in-Ok.ensures.fine c.as_slice.ensures.value)
     (subst (λ (h : BytesRead). HasTakenAll first h c.take_turns.result last after) same c.take_turns.ensures.taken)
 
@@ -106,6 +106,7 @@ returns-in-Err-clause-turns g c =
     (unwritten c.connect-line.new.self (Say c.connect-line.result) (g.S.Sink.written c.write_all_of.new.sink)
     c.in-Err.field-0
     (record { says = c.connect-line.ensures.written; kept = c.connect-line.ensures.dropped })
-    (took_prefix_as (g.S.Sink.written c.args.link.now) (g.S.Sink.written c.write_all_of.new.sink) c.as_slice.result.now
+    (emitted_prefix_as (g.S.Sink.written c.args.link.now) (g.S.Sink.written c.write_all_of.new.sink)
+    c.as_slice.result.now
     c.connect-line.result.items c.in-Err.field-0
     c.in-Err.ensures.err c.in-Err.ensures.within c.in-Err.ensures.failed c.as_slice.ensures.value))

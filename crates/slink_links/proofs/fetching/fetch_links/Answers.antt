@@ -18,7 +18,7 @@ returns-then-tries-eq0-clause-read g c =
 pub loop-dialled-init : goal.loop-dialled-init
 loop-dialled-init g c =
     let before : Calls = calls_of (g.D.Dial.calls c.args.dialler.now) (g.D.Dial.given_back c.args.dialler.now)
-    (g.P.Pause.asked c.args.waits.now) in
+    (g.P.Pause.called c.args.waits.now) in
     record {
       fetched = fetched_none c.args.client.now
           (kept (g.W.Sink.written c.args.output.now) (g.E.Sink.written c.args.errors.now) c.args.teller.now.telling);
@@ -48,12 +48,12 @@ returns-then-ne-clause-read g c =
 pub returns-then-ne-clause-paused : goal.returns-then-ne-clause-paused
 returns-then-ne-clause-paused g c =
     let before : Calls = calls_of (g.D.Dial.calls c.args.dialler.now) (g.D.Dial.given_back c.args.dialler.now)
-    (g.P.Pause.asked c.args.waits.now) in
+    (g.P.Pause.called c.args.waits.now) in
     let mid : Calls = calls_of (g.D.Dial.calls c.loop-dialled.dialler) (g.D.Dial.given_back c.loop-dialled.dialler)
-    (g.P.Pause.asked c.loop-dialled.waits) in
+    (g.P.Pause.called c.loop-dialled.waits) in
     let after : Calls = calls_of (g.D.Dial.calls c.try_link-end.new.dialler)
     (g.D.Dial.given_back c.try_link-end.new.dialler)
-    (g.P.Pause.asked c.loop-dialled.waits) in
+    (g.P.Pause.called c.loop-dialled.waits) in
     tried_last c.try_link-end.result.0 c.try_link-end.result.1 c.args.client.now c.loop-dialled.client
     c.try_link-end.new.client (g.W.Sink.written c.args.output.now) (g.W.Sink.written c.loop-dialled.output)
     (g.W.Sink.written c.try_link-end.new.output)
@@ -63,9 +63,9 @@ returns-then-ne-clause-paused g c =
 pub wait_behind-count-requires : goal.wait_behind-count-requires
 wait_behind-count-requires g c =
     let before : Calls = calls_of (g.D.Dial.calls c.args.dialler.now) (g.D.Dial.given_back c.args.dialler.now)
-    (g.P.Pause.asked c.args.waits.now) in
+    (g.P.Pause.called c.args.waits.now) in
     let mid : Calls = calls_of (g.D.Dial.calls c.loop-dialled.dialler) (g.D.Dial.given_back c.loop-dialled.dialler)
-    (g.P.Pause.asked c.loop-dialled.waits) in
+    (g.P.Pause.called c.loop-dialled.waits) in
     omega (
       arith,
       few_counted c.args.client.now c.loop-dialled.client (g.W.Sink.written c.args.output.now)
@@ -89,12 +89,12 @@ loop-dialled-preserved g c =
     let links_now = g.D.Dial.given_back c.loop-dialled.dialler in
     let links_new = g.D.Dial.given_back c.try_link-end.new.dialler in
     let before : Calls = calls_of (g.D.Dial.calls c.args.dialler.now) (g.D.Dial.given_back c.args.dialler.now)
-    (g.P.Pause.asked c.args.waits.now) in
+    (g.P.Pause.called c.args.waits.now) in
     let mid : Calls = calls_of (g.D.Dial.calls c.loop-dialled.dialler) (g.D.Dial.given_back c.loop-dialled.dialler)
-    (g.P.Pause.asked c.loop-dialled.waits) in
+    (g.P.Pause.called c.loop-dialled.waits) in
     let after : Calls = calls_of (g.D.Dial.calls c.try_link-end.new.dialler)
     (g.D.Dial.given_back c.try_link-end.new.dialler)
-    (g.P.Pause.asked c.wait_behind-count.new.waits) in
+    (g.P.Pause.called c.wait_behind-count.new.waits) in
     record {
       fetched = fetched_both LinkFailed c.args.client.now now new
           (kept (g.W.Sink.written c.args.output.now) (g.E.Sink.written c.args.errors.now) c.args.teller.now.telling)
@@ -110,7 +110,7 @@ loop-dialled-preserved g c =
       tried = tried_more c.try_link-end.result.1 c.args.client.now now new first written_now written_new before mid
           after c.loop-dialled.count c.wait_behind-count.result c.loop-dialled.invariant.tried
           (subst (λ end. HasTried end c.try_link-end.result.1 now new links_now links_new written_now written_new)
-          same c.try_link-end.ensures.tried) c.try_link-end.ensures.dialled c.wait_behind-count.ensures.asked
+          same c.try_link-end.ensures.tried) c.try_link-end.ensures.dialled c.wait_behind-count.ensures.called
           c.wait_behind-count.ensures.next;
     }
 
@@ -134,12 +134,12 @@ returns-clause-read g c =
 pub returns-clause-paused : goal.returns-clause-paused
 returns-clause-paused g c =
     let before : Calls = calls_of (g.D.Dial.calls c.args.dialler.now) (g.D.Dial.given_back c.args.dialler.now)
-    (g.P.Pause.asked c.args.waits.now) in
+    (g.P.Pause.called c.args.waits.now) in
     let mid : Calls = calls_of (g.D.Dial.calls c.loop-dialled.dialler) (g.D.Dial.given_back c.loop-dialled.dialler)
-    (g.P.Pause.asked c.loop-dialled.waits) in
+    (g.P.Pause.called c.loop-dialled.waits) in
     let after : Calls = calls_of (g.D.Dial.calls c.try_link-end-2.new.dialler)
     (g.D.Dial.given_back c.try_link-end-2.new.dialler)
-    (g.P.Pause.asked c.loop-dialled.waits) in
+    (g.P.Pause.called c.loop-dialled.waits) in
     tried_last c.try_link-end-2.result.0 c.try_link-end-2.result.1 c.args.client.now c.loop-dialled.client
     c.try_link-end-2.new.client (g.W.Sink.written c.args.output.now) (g.W.Sink.written c.loop-dialled.output)
     (g.W.Sink.written c.try_link-end-2.new.output)

@@ -16,6 +16,6 @@ invariant-loop-dialled g l = record {
   read : HasReadEach LinkFailed l.fn.client l.client (g.D.Dial.given_back l.fn.dialler) (g.D.Dial.given_back l.dialler)
       (g.W.Sink.written l.fn.output) (g.W.Sink.written l.output);
   tried : AreTried l.fn.client l.client (g.W.Sink.written l.fn.output) (g.W.Sink.written l.output)
-      (calls_of (g.D.Dial.calls l.fn.dialler) (g.D.Dial.given_back l.fn.dialler) (g.P.Pause.asked l.fn.waits))
-      (calls_of (g.D.Dial.calls l.dialler) (g.D.Dial.given_back l.dialler) (g.P.Pause.asked l.waits)) l.count;
+      (calls_of (g.D.Dial.calls l.fn.dialler) (g.D.Dial.given_back l.fn.dialler) (g.P.Pause.called l.fn.waits))
+      (calls_of (g.D.Dial.calls l.dialler) (g.D.Dial.given_back l.dialler) (g.P.Pause.called l.waits)) l.count;
 }

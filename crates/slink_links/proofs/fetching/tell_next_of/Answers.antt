@@ -1,16 +1,16 @@
 use Rattle.slink_feed.specs.Teller.{wants_left}
 use Rattle.slink_links.specs.Fetched.{is_unwritten}
-use Rattle.slink_links.proofs.Ends.{next_told, next_untold}
+use Rattle.slink_links.proofs.Ends.{next_reported, next_unreported}
 use Rattle.slink_links.proofs.fetching.tell_next_of.Goals as goal
 
-pub returns-then-is_asked : goal.returns-then-is_asked
-returns-then-is_asked g c =
-    next_told c.args.is_asked c.is_unwritten.result (is_unwritten c.args.end) c.args.teller.now.telling.last
+pub returns-then-is_called : goal.returns-then-is_called
+returns-then-is_called g c =
+    next_reported c.args.is_called c.is_unwritten.result (is_unwritten c.args.end) c.args.teller.now.telling.last
     c.args.client.now.talk.wants (g.E.Sink.written c.args.errors.now) (g.E.Sink.written c.tell_next.new.errors)
-    c.if-is_asked.true c.is_unwritten.ensures c.tell_next.ensures
+    c.if-is_called.true c.is_unwritten.ensures c.tell_next.ensures
 
-pub returns-else-is_asked : goal.returns-else-is_asked
-returns-else-is_asked g c =
-    next_untold c.args.is_asked
+pub returns-else-is_called : goal.returns-else-is_called
+returns-else-is_called g c =
+    next_unreported c.args.is_called
     (wants_left (is_unwritten c.args.end) c.args.teller.now.telling.last c.args.client.now.talk.wants)
-    (g.E.Sink.written c.args.errors.now) c.if-is_asked.false
+    (g.E.Sink.written c.args.errors.now) c.if-is_called.false

@@ -11,7 +11,7 @@ hang_up-requires g c = record {
     c.in-Some.ensures.failures,
     ap length c.in-Some.ensures.given_back,
   );
-  told = ap not c.is_ok-is_fine.ensures.value
+  reported = ap not c.is_ok-is_fine.ensures.value
       ∙ failed_exactly c.args.feed.now c.serve_link.result (g.A.Link.Source.read c.in-Some.link)
       (g.A.Link.Source.read c.serve_link.new.link)
       (g.A.Link.Sink.written c.in-Some.link) (g.A.Link.Sink.written c.serve_link.new.link) c.in-Some.ensures.unread

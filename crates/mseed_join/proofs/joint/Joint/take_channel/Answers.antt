@@ -12,9 +12,9 @@ returns-in-Some g c = channel_skipped c.args.self.now _ c.in-Some.is c.args.code
 pub returns-in-Ok : goal.returns-in-Ok
 returns-in-Ok g c =
     let found = c.in-Ok.ensures.border in
-    channel_added c.joined_in_turn.ensures.channel c.joining_laws.ensures.one c.args.self.now _ c.told_of.result
-    c.told_of.ensures.passed c.in-None.is c.args.codes c.args.channel.now
-    (c.told_of.ensures.border
+    channel_added c.joined_in_turn.ensures.channel c.joining_laws.ensures.one c.args.self.now _ c.reported_of.result
+    c.reported_of.ensures.passed c.in-None.is c.args.codes c.args.channel.now
+    (c.reported_of.ensures.border
     ∙ ap (λ (o : Option Finding). border_at c.args.codes (head_in c.args.channel.now.findings) o) found)
     c.in-Ok.ensures.joined c.in-Ok.ensures.fits refl refl
 

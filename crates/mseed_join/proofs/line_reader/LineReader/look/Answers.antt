@@ -84,10 +84,10 @@ loop-ahead-preserved g c =
     let now : BytesRead = g.R.Source.read c.loop-ahead.source in
     let seen : LinesRead = c.see.new.self in
     let more = grows_seen first now _ _ c.args.self.now c.loop-ahead.self seen seen.size c.see.ensures.stays inv.more in
-    let asked = c.in_ok-fill.ensures.asked in
+    let called = c.in_ok-fill.ensures.called in
     record {
       more = grows_on first now _ _ _ _ c.args.self.now seen c.fill.new.self more c.fill.ensures.more;
-      still = λ same. absurd (omega (arith, same, asked, more.reads));
+      still = λ same. absurd (omega (arith, same, called, more.reads));
       going_on = λ less. c.in_ok-fill.ensures.whole (ap (λ (b : Bool). Ok b) c.if-branch.false);
       failures = c.in_ok-fill.ensures.fine ∙ inv.failures;
       beside = c.fill.ensures.beside ∙ inv.beside;

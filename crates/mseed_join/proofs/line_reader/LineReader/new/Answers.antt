@@ -6,7 +6,7 @@ use Rattle.mseed_join.proofs.line_reader.LineReader.new.Goals as goal
 pub returns-clause-along : goal.returns-clause-along
 returns-clause-along g c start = record {
   passed = [];
-  told = sym (append-nil (start.bytes ++ []) ∙ append-nil start.bytes);
+  reported = sym (append-nil (start.bytes ++ []) ∙ append-nil start.bytes);
   lines = none;
   bytes = refl;
   calls = omega arith;

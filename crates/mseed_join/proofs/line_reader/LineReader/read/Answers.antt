@@ -7,7 +7,7 @@ use Rattle.std.proofs.KnownBytes.{Consumes-nil, Consumes-kept}
 use Rattle.mseed_stream.specs.Device.{BytesRead}
 use Rattle.mseed_stream.proofs.Filled.{written_back}
 use Rattle.mseed_join.specs.private.LineReading.{LinesRead}
-use Rattle.mseed_join.proofs.LinesAhead.{held_more, told_end}
+use Rattle.mseed_join.proofs.LinesAhead.{held_more, reported_end}
 use Rattle.mseed_join.proofs.line_reader.LineReader.read.Goals as goal
 
 pub returns-in-Ok-clause-more : goal.returns-in-Ok-clause-more
@@ -15,7 +15,7 @@ returns-in-Ok-clause-more g c =
     let i = c.self.inside in
     let n : ℕ = c.in-Ok.n in
     let now : List ℕ = c.pull_behind.new.buffer in
-    let told : List ℕ = take n (drop i.end now) in
+    let reported : List ℕ = take n (drop i.end now) in
     let size : length now ≡ i.buffer.len = c.pull_behind.auto.buffer ∙ c.deref_mut.ensures.len in
     let same : take i.end now ≡ take i.end i.buffer.items = c.in-Ok.ensures.before
     ∙ ap (λ (xs : List ℕ). take i.end xs) c.deref_mut.ensures.value in
@@ -23,14 +23,14 @@ returns-in-Ok-clause-more g c =
     let room : i.end + n ≤ length now = omega (arith, c.in-Ok.ensures.bound, c.pull_behind.auto.buffer) in
     let low : i.begin ≤ i.end = omega (arith, c.self.invariant.1) in
     record {
-      more = told;
-      asked = 1;
-      told = ap (λ (h : BytesRead). h.bytes) c.in-Ok.ensures.read;
+      more = reported;
+      called = 1;
+      reported = ap (λ (h : BytesRead). h.bytes) c.in-Ok.ensures.read;
       known = c.in-Ok.ensures.known.0;
       held = ap (λ (xs : List ℕ). slice_range xs i.begin (i.end + n))
           (written_back now i.buffer.items i.buffer.len size)
           ∙ (held_more i.buffer.items now i.begin i.end n same low (omega (arith, room))
-          ∙ ap (λ (r : LinesRead). r.held ++ told) c.self.view_is);
+          ∙ ap (λ (r : LinesRead). r.held ++ reported) c.self.view_is);
       lines = ap (λ (r : LinesRead). r.lines) c.self.view_is;
       bytes = omega (
         arith,
@@ -56,8 +56,8 @@ returns-in-Err-clause-more g c =
     let end : i.end ≡ i.end + 0 = omega arith in
     record {
       more = [];
-      asked = 1;
-      told = ap (λ (h : BytesRead). h.bytes) c.in-Err.ensures.read;
+      called = 1;
+      reported = ap (λ (h : BytesRead). h.bytes) c.in-Err.ensures.read;
       known = Consumes-kept _ _ _ [] (Consumes-nil (g.R.Source.remaining c.args.source.now)) c.in-Err.ensures.known;
       held = ap (λ (xs : List ℕ). slice_range xs i.begin i.end) (written_back now i.buffer.items i.buffer.len size)
           ∙ (ap (λ (k : ℕ). slice_range now i.begin k) end
@@ -86,7 +86,7 @@ returns-in-Ok-clause-ended g c ends =
     omega (arith, length-drop i.end now, size, room, c.requires.room, c.self.invariant.0) in
     let held : List ℕ = c.args.self.now.held in (
       ap (λ (h : BytesRead). h.is_at_end) c.in-Ok.ensures.read
-          ∙ told_end (g.R.Source.read c.args.source.now).is_at_end n (drop i.end now) zero some,
+          ∙ reported_end (g.R.Source.read c.args.source.now).is_at_end n (drop i.end now) zero some,
       (returns-in-Ok-clause-more g c).held
           ∙ (ap (λ (k : ℕ). held ++ take k (drop i.end now)) zero ∙ append-nil held),
       c.in-Ok.ensures.known.1 zero some,

@@ -4,7 +4,7 @@ use Rattle.mseed_stream.specs.Device.{BytesRead}
 use Rattle.mseed_join.specs.Joined.{HasNoEnd}
 use Rattle.mseed_join.specs.private.Along.{IsBadBehind}
 use Rattle.mseed_join.specs.private.LineReading.{GoesOn, IsLineAhead}
-use Rattle.mseed_join.specs.private.Taking.{IsToldMore}
+use Rattle.mseed_join.specs.private.Taking.{IsReportedMore}
 use Rattle.mseed_join.proofs.Along.{looked, looked_few, whole_line, long_line, unended_line, lacking, has_ended}
 use Rattle.mseed_join.proofs.Along.{fails, line_taken, some_read}
 use Rattle.mseed_join.proofs.reader.Reader.next.Goals as goal
@@ -47,9 +47,10 @@ returns-in-Ok-take_line-clause-step g c = λ past h s along.
       step.0,
       (
         line_taken past h now s step.0 c.line.result.now c.look.new.self c.pass.new.self c.args.self.now.joint _
-            c.in-Ok-take_line.told l refl held (c.pass.ensures.along h now l.by) (c.pass.ensures.goes_on h now goes_on)
+            c.in-Ok-take_line.reported l refl held (c.pass.ensures.along h now l.by)
+            (c.pass.ensures.goes_on h now goes_on)
             step.1,
-        subst (λ (p : Bool). IsToldMore p s step.0 c.in-Ok-take_line.told) l.past_is step.1.told,
+        subst (λ (p : Bool). IsReportedMore p s step.0 c.in-Ok-take_line.reported) l.past_is step.1.reported,
         goes_on.is_at_end (some_read h now c.look.new.self l.by line c.lines-number.ensures.reads),
       ),
     )
@@ -108,7 +109,7 @@ returns-in-Unended-clause-step g c = λ past h s along.
     (unended_line past h now s c.look.new.self c.args.self.now.joint l left.0 left.1 left.2)
 
 pub returns-in-Ok-take_line-clause-few : goal.returns-in-Ok-take_line-clause-few
-returns-in-Ok-take_line-clause-few g c = λ told is.
+returns-in-Ok-take_line-clause-few g c = λ reported is.
     let known = c.requires in
     let l = looked known.0 known.1 (g.R.Source.read c.args.source.now) (g.R.Source.read c.look.new.source) _ _
     known.2 c.args.self.now c.look.new.self known.3 c.look.ensures.more (c.look.ensures.along known.1 known.3.by) in

@@ -2,7 +2,7 @@ use Rattle.std.proofs.Common.{◌∙◌, ◌++◌, ap, subst, sym, take}
 use Rattle.slink_wire.specs.Lines.{IsHeld}
 use Rattle.slink_feed.specs.Running.{Stands}
 use Rattle.slink_feed.specs.Serving.{Standing}
-use Rattle.slink_feed.proofs.Answered.{answer_told}
+use Rattle.slink_feed.proofs.Answered.{answer_reported}
 use Rattle.slink_feed.proofs.Stands.{piece_taken, still_stands}
 use Rattle.slink_feed.proofs.session.Session.take.Goals as goal
 
@@ -14,7 +14,7 @@ invariant_of-self g c =
     c.self.invariant (record {
       held = λ stream open_still held. c.take-used.ensures.held stream held;
       answers = λ stream open_still held.
-          (c.take-used.result.what, c.take-used.ensures.told stream held, c.answer_to.ensures.answer);
+          (c.take-used.result.what, c.take-used.ensures.reported stream held, c.answer_to.ensures.answer);
       closed = λ shut. absurd (c.if-is_closed.ensures.no shut);
     })
 
@@ -25,16 +25,16 @@ returns-clause-held g c stream open_still held =
 
 pub returns-clause-answers : goal.returns-clause-answers
 returns-clause-answers g c stream open_still held =
-    answer_told c.args.feed.now c.args.self.now.state c.self.inside.course c.args.self.now.held c.self.inside.lines
+    answer_reported c.args.feed.now c.args.self.now.state c.self.inside.course c.args.self.now.held c.self.inside.lines
     stream (stream ++ take c.take-used.result.used c.args.bytes.now) c.take-used.result.what
     c.answer_to.new.self c.answer_to.result (ap (λ (s : Standing). s.state) c.self.view_is)
-    (ap (λ (s : Standing). s.held) c.self.view_is) (λ h. c.take-used.ensures.told stream h)
+    (ap (λ (s : Standing). s.held) c.self.view_is) (λ h. c.take-used.ensures.reported stream h)
     c.answer_to.ensures.answer held
 
 pub returns-clause-whole : goal.returns-clause-whole
 returns-clause-whole g c stream open_still held = (
   c.take-used.result.what,
-  c.take-used.ensures.told stream (subst (λ (s : Standing). IsHeld s.held stream) (sym c.self.view_is) held),
+  c.take-used.ensures.reported stream (subst (λ (s : Standing). IsHeld s.held stream) (sym c.self.view_is) held),
   c.take-used.ensures.whole,
 )
 

@@ -11,7 +11,7 @@ pub returns-in_default : goal.returns-in_default
 returns-in_default c = record {
   held = (λ stream h. (taken_byte c.args.self.now c.loop-i.self c.take_byte.new.self c.args.piece.now c.loop-i.i
       c.take_byte.result c.loop-i-test.true c.take_byte.ensures c.loop-i.invariant stream h).0);
-  told = (λ stream h. (taken_byte c.args.self.now c.loop-i.self c.take_byte.new.self c.args.piece.now c.loop-i.i
+  reported = (λ stream h. (taken_byte c.args.self.now c.loop-i.self c.take_byte.new.self c.args.piece.now c.loop-i.i
       c.take_byte.result c.loop-i-test.true c.take_byte.ensures c.loop-i.invariant stream h).1);
   first = (λ stream k h lt. c.loop-i.invariant.quiet stream k h (omega arith));
   whole = (λ e. absurd (c.in_default.not-More e));

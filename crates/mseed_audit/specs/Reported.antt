@@ -1,4 +1,4 @@
--- What is told of the records of an archive, one after another: each with a finding, and no other.
+-- What is reported of the records of an archive, one after another: each with a finding, and no other.
 use Rattle.std.specs.Prelude.{◌≡◌, ◌<◌, ◌++◌, ℕ, List, [], ◌∷◌, map, Option, Some, None}
 use Rattle.std.specs.List.{filter}
 use Rattle.mseed_record.specs.Header.{key_at}
@@ -30,33 +30,37 @@ abbrev pub IsFoundBehind : List Placed → View → Option Why → Type 0
 IsFoundBehind earlier v why = IsFoundOf (channel_in (key_at v.bytes) earlier) v why
 
 -- a record with a finding
-pub record Told : Type 0 where
+pub record Reported : Type 0 where
   pub view : View
   pub finding : Finding
 
--- what is told of a record, by what is found of it
-abbrev pub told_at : Placed → Option Why → List Told
-told_at p None = []
-told_at p (Some why) = record { view = p.view; finding = record { number = p.number; offset = p.offset; why = why } }
+-- what is reported of a record, by what is found of it
+abbrev pub reported_at : Placed → Option Why → List Reported
+reported_at p None = []
+reported_at p (Some why) = record {
+  view = p.view;
+  finding =
+      record { number = p.number; offset = p.offset; why = why };
+}
     ∷ []
 
--- what is told of the records behind others: each that has a finding, in their order
-pub data AreTold : List Placed → List Placed → List Told → Type 0 where
-  none : (earlier : List Placed) → AreTold earlier [] []
-  one : (earlier : List Placed) (p : Placed) (ps : List Placed) (why : Option Why) (told : List Told)
+-- what is reported of the records behind others: each that has a finding, in their order
+pub data AreReported : List Placed → List Placed → List Reported → Type 0 where
+  none : (earlier : List Placed) → AreReported earlier [] []
+  one : (earlier : List Placed) (p : Placed) (ps : List Placed) (why : Option Why) (reported : List Reported)
       → IsFoundBehind earlier p.view why
-      → AreTold (earlier ++ p ∷ []) ps told → AreTold earlier (p ∷ ps) (told_at p why ++ told)
+      → AreReported (earlier ++ p ∷ []) ps reported → AreReported earlier (p ∷ ps) (reported_at p why ++ reported)
 
--- what is told of all records of an archive
-abbrev pub AreToldOf : List Added → List Told → Type 0
-AreToldOf added told = AreTold [] (numbered 1 added) told
+-- what is reported of all records of an archive
+abbrev pub AreReportedOf : List Added → List Reported → Type 0
+AreReportedOf added reported = AreReported [] (numbered 1 added) reported
 
--- what is told of those with this key
-abbrev pub told_with : List ℕ → List Told → List Told
-told_with key told = filter (λ t. same_key key (key_at t.view.bytes)) told
+-- what is reported of those with this key
+abbrev pub reported_with : List ℕ → List Reported → List Reported
+reported_with key reported = filter (λ t. same_key key (key_at t.view.bytes)) reported
 
-abbrev pub findings_in : List Told → List Finding
-findings_in told = map (λ t. t.finding) told
+abbrev pub findings_in : List Reported → List Finding
+findings_in reported = map (λ t. t.finding) reported
 
 -- how many findings a channel has, by its verdict, if it has one
 abbrev pub finding_count : Option Verdict → ℕ

@@ -1,4 +1,4 @@
--- Texts in front of what follows them, joined from the left to the right.
+-- Texts before what follows them, joined from the left to the right.
 use Rattle.std.proofs.Common.{◌≡◌, ℕ, suc, List, [], ◌++◌, Option, Some, ℤ, refl, sym, ap, ◌∙◌, append_assoc, arith}
 use Rattle.std.specs.Prelude.{decimal, codes}
 use Rattle.std.specs.Fmt.{signed_decimal}
@@ -21,40 +21,40 @@ use Rattle.mseed_join.proofs.Digits.{Ends}
 abbrev pub ratio_then : Ratio → List ℕ → List ℕ
 ratio_then r rest = decimal r.num ++ (codes "/" ++ (decimal r.den ++ rest))
 
-pub ratio_front : (r : Ratio) (rest : List ℕ) → ratio_text r ++ rest ≡ ratio_then r rest
-ratio_front r rest = simp append_assoc
+pub ratio_leading : (r : Ratio) (rest : List ℕ) → ratio_text r ++ rest ≡ ratio_then r rest
+ratio_leading r rest = simp append_assoc
 
 abbrev pub head_then : Head → List ℕ → List ℕ
 head_then h rest =
     decimal h.number ++ (codes " " ++ (decimal h.offset ++ (codes " " ++ (signed_decimal h.start ++ (codes " "
     ++ ratio_then h.rate rest)))))
 
-pub head_front : (h : Head) (rest : List ℕ) → head_text h ++ rest ≡ head_then h rest
-head_front h rest = simp append_assoc
+pub head_leading : (h : Head) (rest : List ℕ) → head_text h ++ rest ≡ head_then h rest
+head_leading h rest = simp append_assoc
 
 abbrev pub tail_then : Tail → List ℕ → List ℕ
 tail_then t rest =
     signed_decimal t.start ++ (codes " " ++ (decimal t.samples ++ (codes " " ++ ratio_then t.rate (codes " "
     ++ (leap_text t.leap ++ rest)))))
 
-pub tail_front : (t : Tail) (rest : List ℕ) → tail_text t ++ rest ≡ tail_then t rest
-tail_front t rest = simp append_assoc
+pub tail_leading : (t : Tail) (rest : List ℕ) → tail_text t ++ rest ≡ tail_then t rest
+tail_leading t rest = simp append_assoc
 
-pub bad_word_front : (frame word : ℕ) (rest : List ℕ) → read_text (BadWord frame word) ++ rest
+pub bad_word_leading : (frame word : ℕ) (rest : List ℕ) → read_text (BadWord frame word) ++ rest
     ≡ codes "badword " ++ (decimal frame ++ (codes " " ++ (decimal word ++ rest)))
-bad_word_front frame word rest = simp append_assoc
+bad_word_leading frame word rest = simp append_assoc
 
-pub last_differs_front : (found constant : ℤ) (rest : List ℕ) → read_text (LastDiffers found constant) ++ rest
+pub last_differs_leading : (found constant : ℤ) (rest : List ℕ) → read_text (LastDiffers found constant) ++ rest
     ≡ codes "lastdiffers " ++ (signed_decimal found ++ (codes " " ++ (signed_decimal constant ++ rest)))
-last_differs_front found constant rest = simp append_assoc
+last_differs_leading found constant rest = simp append_assoc
 
 abbrev pub first_then : Finding → List ℕ → List ℕ
 first_then f rest =
     codes " first " ++ (decimal f.number ++
     (codes " " ++ (decimal f.offset ++ (codes " " ++ (why_text f.why ++ rest)))))
 
-pub first_front : (f : Finding) (rest : List ℕ) → (codes " " ++ first_text f) ++ rest ≡ first_then f rest
-first_front f rest = simp append_assoc
+pub first_leading : (f : Finding) (rest : List ℕ) → (codes " " ++ first_text f) ++ rest ≡ first_then f rest
+first_leading f rest = simp append_assoc
 
 -- the findings, by the number of them and what follows it
 abbrev pub findings_then : Option Head → Option Tail → ℕ → List ℕ → List ℕ
@@ -62,9 +62,9 @@ findings_then head tail count rest =
     codes " head " ++ (text_or_none head_text head ++ (codes " tail " ++ (text_or_none tail_text tail
     ++ (codes " findings " ++ (decimal count ++ rest)))))
 
-pub nothing_front : (head : Head) (tail : Tail) (rest : List ℕ)
+pub nothing_leading : (head : Head) (tail : Tail) (rest : List ℕ)
     → findings_text (Nothing head tail) ++ rest ≡ findings_then (Some head) (Some tail) 0 rest
-nothing_front head tail rest =
+nothing_leading head tail rest =
     joined (head_text head) (tail_text tail)
     ∙ ap (λ (ds : List ℕ). codes " head " ++ (head_text head ++ (codes " tail " ++ (tail_text tail
     ++ (codes " findings " ++ (ds ++ rest)))))) zero_text
@@ -76,32 +76,32 @@ nothing_front head tail rest =
         ≡ codes " head " ++ (a ++ (codes " tail " ++ (b ++ (codes " findings " ++ (codes "0" ++ rest)))))
     joined a b = simp append_assoc
 
-pub counted_front : (count : ℕ) (first : Finding) (head : Option Head) (tail : Option Tail) (rest : List ℕ)
+pub counted_leading : (count : ℕ) (first : Finding) (head : Option Head) (tail : Option Tail) (rest : List ℕ)
     → findings_text (Counted count first head tail) ++ rest ≡ findings_then head tail count (first_then first rest)
-counted_front count first head tail rest =
+counted_leading count first head tail rest =
     joined (text_or_none head_text head) (text_or_none tail_text tail) (decimal count) (first_text first)
-    ∙ ap (λ (z : List ℕ). findings_then head tail count z) (first_front first rest)
+    ∙ ap (λ (z : List ℕ). findings_then head tail count z) (first_leading first rest)
   where
     joined : (a b c d : List ℕ)
         → (codes " head " ++ a ++ codes " tail " ++ b ++ codes " findings " ++ c ++ codes " " ++ d) ++ rest
         ≡ codes " head " ++ (a ++ (codes " tail " ++ (b ++ (codes " findings " ++ (c ++ ((codes " " ++ d) ++ rest))))))
     joined a b c d = simp append_assoc
 
-pub channel_front : (key : List ℕ) (c : Channel) → channel_line key c
+pub channel_leading : (key : List ℕ) (c : Channel) → channel_line key c
     ≡ key_text key ++ (codes " records " ++ (decimal c.records ++ (codes " samples " ++ (decimal c.samples
     ++ (findings_text c.findings ++ codes "\n")))))
-channel_front key c = joined (key_text key) (decimal c.records) (decimal c.samples) (findings_text c.findings)
+channel_leading key c = joined (key_text key) (decimal c.records) (decimal c.samples) (findings_text c.findings)
   where
     joined : (a b d f : List ℕ) → a ++ codes " records " ++ b ++ codes " samples " ++ d ++ f ++ codes "\n"
         ≡ a ++ (codes " records " ++ (b ++ (codes " samples " ++ (d ++ (f ++ codes "\n")))))
     joined a b d f = simp append_assoc
 
-pub counts_front : (records bytes : ℕ) → counts_line records bytes
+pub counts_leading : (records bytes : ℕ) → counts_line records bytes
     ≡ codes "records " ++ (decimal records ++ (codes " bytes " ++ (decimal bytes ++ codes "\n")))
-counts_front records bytes = simp append_assoc
+counts_leading records bytes = simp append_assoc
 
-pub faults_front : (n : ℕ) → faults_line (suc n) ≡ codes "faults " ++ (decimal (suc n) ++ codes "\n")
-faults_front n = simp append_assoc
+pub faults_leading : (n : ℕ) → faults_line (suc n) ≡ codes "faults " ++ (decimal (suc n) ++ codes "\n")
+faults_leading n = simp append_assoc
 
 -- what fails, behind the offset
 abbrev pub fault_words : StreamFault → List ℕ
@@ -121,33 +121,34 @@ offset_of (Read offset) = offset
 offset_of (Turns offset) = offset
 offset_of Memory = 0
 
-abbrev pub IsTold : StreamFault → Type 0
-IsTold Memory = ⊥
-IsTold f = Unit {0}
+abbrev pub IsReported : StreamFault → Type 0
+IsReported Memory = ⊥
+IsReported f = Unit {0}
 
-fault_front : (f : StreamFault) → IsTold f → fault_line f ≡ fault_then (offset_of f) f
-fault_front (Frame offset f) t = framed (decimal offset) (frame_words f)
+fault_leading : (f : StreamFault) → IsReported f → fault_line f ≡ fault_then (offset_of f) f
+fault_leading (Frame offset f) t = framed (decimal offset) (frame_words f)
   where
     framed : (a b : List ℕ) → codes "fault at " ++ a ++ codes " " ++ b ++ codes "\n"
         ≡ codes "fault at " ++ (a ++ (codes " " ++ (b ++ codes "\n")))
     framed a b = simp append_assoc
-fault_front (Truncated offset have) t = cut (decimal offset) (decimal have)
+fault_leading (Truncated offset have) t = cut (decimal offset) (decimal have)
   where
     cut : (a b : List ℕ) → codes "fault at " ++ a ++ codes " truncated " ++ b ++ codes "\n"
         ≡ codes "fault at " ++ (a ++ (codes " " ++ ((codes "truncated " ++ b) ++ codes "\n")))
     cut a b = simp append_assoc
-fault_front (Read offset) t = simp append_assoc
-fault_front (Turns offset) t = simp append_assoc
-fault_front Memory t = absurd t
+fault_leading (Read offset) t = simp append_assoc
+fault_leading (Turns offset) t = simp append_assoc
+fault_leading Memory t = absurd t
 
 -- behind so many bytes
 pub fault_of : (f : StreamFault) (bytes : ℕ) → IsFaultBehind bytes f
     → fault_line f ≡ codes "fault at " ++ (decimal bytes ++ (codes " " ++ (fault_words f ++ codes "\n")))
-fault_of (Frame offset f) bytes l = fault_front (Frame offset f) tt ∙ ap (λ (n : ℕ). fault_then n (Frame offset f)) l.0
+fault_of (Frame offset f) bytes l = fault_leading (Frame offset f) tt
+    ∙ ap (λ (n : ℕ). fault_then n (Frame offset f)) l.0
 fault_of (Truncated offset have) bytes l =
-    fault_front (Truncated offset have) tt ∙ ap (λ (n : ℕ). fault_then n (Truncated offset have)) l.0
-fault_of (Read offset) bytes l = fault_front (Read offset) tt ∙ ap (λ (n : ℕ). fault_then n (Read offset)) l
-fault_of (Turns offset) bytes l = fault_front (Turns offset) tt ∙ ap (λ (n : ℕ). fault_then n (Turns offset)) l
+    fault_leading (Truncated offset have) tt ∙ ap (λ (n : ℕ). fault_then n (Truncated offset have)) l.0
+fault_of (Read offset) bytes l = fault_leading (Read offset) tt ∙ ap (λ (n : ℕ). fault_then n (Read offset)) l
+fault_of (Turns offset) bytes l = fault_leading (Turns offset) tt ∙ ap (λ (n : ℕ). fault_then n (Turns offset)) l
 fault_of Memory bytes l = absurd l
 
 -- a channel's findings begin with a space

@@ -5,8 +5,8 @@ use Rattle.mseed_record.specs.View.{View}
 use Rattle.mseed_record.specs.Viewing.{view_of}
 use Rattle.mseed_audit.specs.declared.finding.Finding.{Finding}
 use Rattle.mseed_audit.specs.Text.{name_text, start_text, why_text}
-use Rattle.mseed_audit.proofs.Prefixes.{told_joined}
-use Rattle.mseed_audit.proofs.text.push_told_line.Goals as goal
+use Rattle.mseed_audit.proofs.Prefixes.{reported_joined}
+use Rattle.mseed_audit.proofs.text.push_reported_line.Goals as goal
 
 pub returns : goal.returns
 returns g c =
@@ -19,6 +19,6 @@ returns g c =
     let a5 = rw a4 at c.in_ok-push_pieces-3.ensures.ok in
     let a6 = rw a5 at c.in_ok-push_why.ensures.ok in
     let a7 = rw a6 at c.push_pieces-4.ensures.ok in
-    IfOk-equal c.push_pieces-4.result _ _ _ a7 (told_joined c.args.text.now.items (decimal f.offset) (codes " ")
+    IfOk-equal c.push_pieces-4.result _ _ _ a7 (reported_joined c.args.text.now.items (decimal f.offset) (codes " ")
     (name_text (key_at v.bytes)) (codes " record ") (decimal f.number) (codes " start ") (start_text v) (codes " ")
     (why_text f.why) (codes "\n"))

@@ -17,14 +17,14 @@ use Rattle.mseed_record.proofs.Passing.{none_within}
 use Rattle.mseed_record.proofs.Framed.{passes_above, other_at, record_room}
 use Rattle.mseed_record.proofs.Prefixes.{Alike, alike_cut, byte_alike, number_alike, order_alike}
 
--- bytes are asked for behind those that are there
+-- bytes are requested behind those that are there
 pub needs_more : (b : List ℕ) (n : ℕ) → Needs b n → length b < n
 needs_more b n (header s) = omega arith
 needs_more b n (blockette order os last d p i s) = s
 needs_more b n (exponent order os last d p t i s) = s
 needs_more b n (record_end k s h) = s
 
--- what is asked for at an offset
+-- what is requested at an offset
 data Asks (order : Order) (prefix : List ℕ) (o n : ℕ) : Type 0 where
   head : n ≡ o + 4 → Asks order prefix o n
   rest : n ≡ o + 8 → Asks order prefix o n
@@ -69,7 +69,7 @@ record Ends (order : Order) (b : List ℕ) (last : ℕ) : Type 0 where
   type : type_at order b last ≡ 1000
   size : length b ≡ 2 ^ exponent_at b last
 
--- what is asked for at the first 1000 of a record
+-- what is requested at the first 1000 of a record
 asks_last : (order : Order) (b prefix : List ℕ) (o n : ℕ) → Alike b prefix → Ends order b o → Asks order prefix o n
     → n ≤ length b
 asks_last order b prefix o n alike ends (head e) = omega (arith, ends.room)
@@ -80,7 +80,7 @@ asks_last order b prefix o n alike ends (whole t l m e) =
     let size : length b ≡ n = ends.size ∙ (ap (λ (k : ℕ). 2 ^ k) same ∙ sym e) in
     omega (arith, size)
 
--- what is asked for at a blockette of a record before its first 1000
+-- what is requested at a blockette of a record before its first 1000
 asks_other : (order : Order) (b prefix : List ℕ) (o last n : ℕ) → Alike b prefix → Ends order b last
     → type_at order b o ≢ 1000 → o + 4 ≤ last → Asks order prefix o n → n ≤ length b
 asks_other order b prefix o last n alike ends other on (head e) = omega (arith, ends.room)
@@ -93,31 +93,31 @@ asks_other order b prefix o last n alike ends other on (whole t l m e) =
 -- along one chain in the prefix and in a record that begins with it
 asks_along : (order : Order) (b prefix : List ℕ) (low o : ℕ) (passed os : List ℕ) (last n : ℕ) → Alike b prefix
     → Ends order b last → DecidesFrom order prefix low o passed (Need n) → Passes order b o os last → n ≤ length b
-asks_along order b prefix low o [] [] last n alike ends asked there =
+asks_along order b prefix low o [] [] last n alike ends called there =
     asks_last order b prefix o n alike (subst (λ (k : ℕ). Ends order b k) (sym there) ends)
-    (asks order prefix low o n asked)
-asks_along order b prefix low o [] (q ∷ os) last n alike ends asked there =
+    (asks order prefix low o n called)
+asks_along order b prefix low o [] (q ∷ os) last n alike ends called there =
     let further : next_at order b o ≤ last = passes_above order b (next_at order b o) os last there.3 in
-    asks_other order b prefix o last n alike ends there.1 (omega (arith, there.2)) (asks order prefix low o n asked)
-asks_along order b prefix low o (p ∷ passed) [] last n alike ends asked there =
-    let within : o + 4 ≤ length prefix = (none_within order prefix low o asked.1).1 in
+    asks_other order b prefix o last n alike ends there.1 (omega (arith, there.2)) (asks order prefix low o n called)
+asks_along order b prefix low o (p ∷ passed) [] last n alike ends called there =
+    let within : o + 4 ≤ length prefix = (none_within order prefix low o called.1).1 in
     let same : type_at order b o ≡ type_at order prefix o =
     number_alike order 2 o b prefix alike (omega (arith, there, ends.room)) (omega arith) in
-    absurd (other_at order prefix low o asked.1 (sym same ∙ (ap (λ (k : ℕ). type_at order b k) there ∙ ends.type)))
-asks_along order b prefix low o (p ∷ passed) (q ∷ os) last n alike ends asked there =
-    let within : o + 4 ≤ length prefix = (none_within order prefix low o asked.1).1 in
+    absurd (other_at order prefix low o called.1 (sym same ∙ (ap (λ (k : ℕ). type_at order b k) there ∙ ends.type)))
+asks_along order b prefix low o (p ∷ passed) (q ∷ os) last n alike ends called there =
+    let within : o + 4 ≤ length prefix = (none_within order prefix low o called.1).1 in
     let further : next_at order b o ≤ last = passes_above order b (next_at order b o) os last there.3 in
     let same : next_at order b o ≡ next_at order prefix o =
     number_alike order 2 (o + 2) b prefix alike (omega (arith, there.2, ends.room)) (omega arith) in
-    asks_along order b prefix (o + 4) (next_at order prefix o) passed os last n alike ends asked.2
+    asks_along order b prefix (o + 4) (next_at order prefix o) passed os last n alike ends called.2
     (subst (λ (k : ℕ). Passes order b k os last) same there.3)
 
-asked_by : (prefix b : List ℕ) (n : ℕ) (order : Order) (os : List ℕ) (last : ℕ) → Alike b prefix
+called_by : (prefix b : List ℕ) (n : ℕ) (order : Order) (os : List ℕ) (last : ℕ) → Alike b prefix
     → IsRecordBy order os last b → Decides prefix (Need n) → n ≤ length b
-asked_by prefix b n order os last alike r (short _ s) =
+called_by prefix b n order os last alike r (short _ s) =
     let room = record_room order os last b r in
     omega (arith, room)
-asked_by prefix b n order os last alike r (by_chain found passed answer _ long _ dated asked) =
+called_by prefix b n order os last alike r (by_chain found passed answer _ long _ dated called) =
     let room = record_room order os last b r in
     let one : Some found ≡ Some order =
     sym dated ∙ (sym (order_alike b prefix alike (omega (arith, room)) long) ∙ r.order_is) in
@@ -128,14 +128,14 @@ asked_by prefix b n order os last alike r (by_chain found passed answer _ long _
     subst (λ (k : ℕ). Passes order b k os last) start r.chain.others in
     let steps : DecidesFrom order prefix 48 (blockette_at order prefix) passed (Need n) =
     subst (λ (chosen : Order). DecidesFrom chosen prefix 48 (blockette_at chosen prefix) passed (Need n)) same
-    asked in
+    called in
     asks_along order b prefix 48 (blockette_at order prefix) passed os last n alike
     (record { room = room.1; type = r.chain.found; size = r.size }) steps there
 
--- a record has all the bytes that are asked for at its beginning
-pub asked : (prefix more : List ℕ) (n k : ℕ) → Decides prefix (Need n) → IsRecord (take k (prefix ++ more))
+-- a record has all the bytes that are requested at its beginning
+pub called : (prefix more : List ℕ) (n k : ℕ) → Decides prefix (Need n) → IsRecord (take k (prefix ++ more))
     → n ≤ length (take k (prefix ++ more))
-asked prefix more n k d r = asked_by prefix (take k (prefix ++ more)) n r.0 r.1.0 r.1.1.0 (alike_cut prefix more k)
+called prefix more n k d r = called_by prefix (take k (prefix ++ more)) n r.0 r.1.0 r.1.1.0 (alike_cut prefix more k)
     r.1.1.1
     d
 
@@ -160,10 +160,10 @@ few_along order prefix low o (p ∷ passed) n octets small d =
     few_along order prefix (o + 4) (next_at order prefix o) passed n octets (number_small order prefix (o + 2) octets)
     d.2
 
--- no more bytes are asked for than the longest record has
-pub few_asked : (prefix : List ℕ) (n : ℕ) → ((i : ℕ) → get_or prefix i 0 < 256) → Decides prefix (Need n) → n ≤ 2 ^ 20
-few_asked prefix n octets (short _ s) = omega arith
-few_asked prefix n octets (by_chain order passed answer _ long _ dated d) =
+-- no more bytes are requested than the longest record has
+pub few_called : (prefix : List ℕ) (n : ℕ) → ((i : ℕ) → get_or prefix i 0 < 256) → Decides prefix (Need n) → n ≤ 2 ^ 20
+few_called prefix n octets (short _ s) = omega arith
+few_called prefix n octets (by_chain order passed answer _ long _ dated d) =
     few_along order prefix 48 (blockette_at order prefix) passed n octets (number_small order prefix 46 octets) d
 
 -- a record has more than its header

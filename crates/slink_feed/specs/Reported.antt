@@ -20,9 +20,9 @@ record_in events.Garbage = []
 record_in events.Foreign = []
 
 -- the records that events tell of, in their order
-abbrev pub records_told : List Event → List Numbered
-records_told [] = []
-records_told (e ∷ es) = record_in e ++ records_told es
+abbrev pub records_reported : List Event → List Numbered
+records_reported [] = []
+records_reported (e ∷ es) = record_in e ++ records_reported es
 
 -- the numbers of the records of a place
 abbrev pub numbers_at : ℕ → List Numbered → List ℕ
@@ -34,19 +34,19 @@ abbrev pub bytes_in : List Numbered → List ℕ
 bytes_in [] = []
 bytes_in (r ∷ rs) = r.bytes ++ bytes_in rs
 
--- Each has 512 bytes, and bears its place as the first of those that are asked for.
+-- Each has 512 bytes, and bears its place as the first of those that are requested.
 abbrev pub AreOf : Wants → List Numbered → Type 0
 AreOf wants [] = Unit {0}
 AreOf wants (r ∷ rs) = (length r.bytes ≡ 512) × (bearer wants r.bytes ≡ Some r.place) × AreOf wants rs
 
--- the places that are asked for
+-- the places that are requested
 abbrev pub places_of : Wants → List (Option Fields)
 places_of wants = map (option_map (λ w. w.place)) wants
 
--- A client told of these records: each is a whole one of one of its places, which stay. The numbers of those of a place
--- go up, from the one that it wanted, if any, to the one before the next that it wants: one by one, or, past holes,
--- with some left out.
-pub record HasTold (holes : Bool) (old new : Wants) (records : List Numbered) : Type 0 where
+-- A client reported these records: each is a whole one of one of its places, which stay. The numbers of those of a
+-- place go up, from the one that it wanted, if any, to the one before the next that it wants: one by one, or, past
+-- holes, with some left out.
+pub record HasReported (holes : Bool) (old new : Wants) (records : List Numbered) : Type 0 where
   pub places : places_of new ≡ places_of old
   pub are_of : AreOf old records
   pub go_on : (k : ℕ) → GoBy holes (next_at old k) (numbers_at k records) (next_at new k)

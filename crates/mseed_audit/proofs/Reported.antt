@@ -1,4 +1,4 @@
--- What a device told or took by two calls, and what it is then known to have left or to hold.
+-- What a device gave or accepted by two calls, and what it is then known to have left or to hold.
 use Rattle.std.proofs.Common.{◌≡◌, ◌++◌, [], ◌∙◌, ℕ, List, Option, ap, sym, subst, append_assoc, append-nil}
 use Rattle.std.proofs.KnownBytes.{Appends-nil, Consumes-trans}
 use Rattle.std.proofs.lemmas.List.{append_cancel_left}

@@ -1,0 +1,11 @@
+use Rattle.slink_feed.proofs.Telling.{reported_both, reported_far, reported_link}
+use Rattle.slink_feed.proofs.reported.wants_move_by_records.Goals as goal
+
+pub returns-clause-link : goal.returns-clause-link
+returns-clause-link c = λ start stream events now reads. reported_link start stream events now reads
+
+pub returns-clause-links : goal.returns-clause-links
+returns-clause-links c = λ holes old now new some more h too. reported_both holes old now new some more h too
+
+pub returns-clause-moved : goal.returns-clause-moved
+returns-clause-moved c = λ old new records k n h short at. reported_far old new records k n h short at
