@@ -14,7 +14,7 @@ use Rattle.mseed_stream.specs.Cutting.{IsStop, IsReadTo, is_short, asks_of}
 use Rattle.mseed_stream.specs.private.Steps.{IsFillFault, IsCuttingFault, IsAnswerAtEnd}
 use Rattle.mseed_stream.specs.declared.fault.StreamFault.{StreamFault}
 use Rattle.mseed_stream.specs.declared.fault.StreamFault.TheVariants.{Frame, Truncated, Read, Turns, Memory}
-use Rattle.mseed_record.proofs.Asked.{record_more}
+use Rattle.mseed_record.proofs.Called.{record_more}
 use Rattle.mseed_stream.proofs.Stops.{record_whole, none_short}
 
 -- a record that is found is all that is held, and the input isn't at its end
@@ -69,18 +69,18 @@ pub same_end : (end is_at_end : Bool) → (is_at_end ≡ false → end ≡ false
 same_end end true at_false at_true = at_true refl
 same_end end false at_false at_true = at_false refl
 
--- all was read that was asked for, while the input isn't at its end
+-- all was read that was requested, while the input isn't at its end
 pub stop_here : (b : List ℕ) (is_at_end : Bool) → IsReadTo b is_at_end → is_at_end ≡ false → IsStop b (length b)
 stop_here b is_at_end stops e = subst (λ (x : Bool). IsReadTo b x) e stops
 
--- what is held of a record, and how often the source was asked for it: once for its header, and for the rest
-pub asked_twice : (held prefix : List ℕ) (old new : ℕ) → old < new → (held ≡ [] → new ≤ old + 1 → length prefix ≤ 48)
+-- what is held of a record, and how often the source was called for it: once for its header, and for the rest
+pub called_twice : (held prefix : List ℕ) (old new : ℕ) → old < new → (held ≡ [] → new ≤ old + 1 → length prefix ≤ 48)
     → IsRecord prefix → old + 2 ≤ new + asks_of held
-asked_twice [] prefix old new more few r = ⊎_elim
+called_twice [] prefix old new more few r = ⊎_elim
     (λ (less : new < old + 2). absurd (omega (arith, few refl (omega arith), record_more prefix r)))
     (λ (many : old + 2 ≤ new). omega (arith, many))
     (cases_lt new (old + 2))
-asked_twice (x ∷ xs) prefix old new more few r = omega arith
+called_twice (x ∷ xs) prefix old new more few r = omega arith
 
 -- the first reads for a record are those for its header
 pub first_fill : (before after : List ℕ) (needed : ℕ) (is_at_end : Bool) → before ≡ [] → Decides before (Need needed)
@@ -107,12 +107,12 @@ grown_none before after more e l =
     empty [] h = refl
     empty (x ∷ xs) h = absurd (omega arith)
 
--- where nothing was asked, nothing more is held
-pub none_asked : (first before after more : List ℕ) (o m n : ℕ) → after ≡ before ++ more → m ≤ n → o ≤ m
+-- where nothing was called, nothing more is held
+pub none_called : (first before after more : List ℕ) (o m n : ℕ) → after ≡ before ++ more → m ≤ n → o ≤ m
     → (m ≤ o → before ≡ first) → (length before < length after → m < n) → n ≤ o → after ≡ first
-none_asked first before after [] o m n grown calls asked same quiet none = grown ∙ append-nil before
+none_called first before after [] o m n grown calls called same quiet none = grown ∙ append-nil before
     ∙ same (omega (arith, none, calls))
-none_asked first before after (x ∷ more) o m n grown calls asked same quiet none =
+none_called first before after (x ∷ more) o m n grown calls called same quiet none =
     let size : length after ≡ length before + length (x ∷ more) = ap (λ (xs : List ℕ). length xs) grown
     ∙ length-append before (x ∷ more) in
-    absurd (omega (arith, quiet (omega (arith, size)), none, asked))
+    absurd (omega (arith, quiet (omega (arith, size)), none, called))

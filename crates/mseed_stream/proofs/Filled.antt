@@ -1,6 +1,6 @@
 -- What one more read adds to what a cutter holds.
-use Rattle.std.proofs.Common.{◌≡◌, ℕ, ◌+◌, ◌-◌, ◌^◌, ◌<◌, ◌≤◌, ◌++◌, List, [], length, take, drop, false, sym, ap}
-use Rattle.std.proofs.Common.{subst, ◌∙◌, arith, length-append}
+use Rattle.std.proofs.Common.{◌≡◌, ℕ, ◌+◌, ◌-◌, ◌^◌, ◌<◌, ◌≤◌, ◌++◌, List, length, take, drop, false, sym, ap}
+use Rattle.std.proofs.Common.{◌∙◌, arith, length-append}
 use Rattle.std.proofs.lemmas.List.{take-take, drop-append-le}
 use Rattle.std.proofs.Math.Seq.{take-add, take-append_seam}
 use Rattle.std.specs.Prelude.{slice_range}
@@ -33,7 +33,7 @@ read_more h now c after more is lent lent_after offset prefix bytes calls reads 
     let held : held_of c ≡ c.prefix = held_is c lent in
     let held_after : held_of after ≡ c.prefix ++ more = held_is after lent_after ∙ prefix in
     let size : length h.bytes ≡ c.offset + length c.prefix =
-    is.told ∙ ap (λ (xs : List ℕ). c.offset + length xs) held in
+    is.reported ∙ ap (λ (xs : List ℕ). c.offset + length xs) held in
     let size_now : length now.bytes ≡ length h.bytes + length more = ap (λ (xs : List ℕ). length xs) bytes
     ∙ length-append h.bytes more in
     let size_held : length (held_of after) ≡ length c.prefix + length more = ap (λ (xs : List ℕ). length xs) held_after
@@ -41,56 +41,18 @@ read_more h now c after more is lent lent_after offset prefix bytes calls reads 
     let size_prefix : length after.prefix ≡ length c.prefix + length more = ap (λ (xs : List ℕ). length xs) prefix
     ∙ length-append c.prefix more in
     let bounded = is.few_bytes in
-    let asked = is.reads in
+    let called = is.reads in
     record {
-      told = omega arith;
+      reported = omega arith;
       held = ap (λ (xs : List ℕ). drop after.offset xs) bytes
           ∙ (ap (λ (n : ℕ). drop n (h.bytes ++ more)) offset ∙ (drop-append-le c.offset h.bytes more (omega arith)
           ∙ (ap (λ (xs : List ℕ). xs ++ more) (is.held ∙ held) ∙ sym held_after)));
-      reads = calls ∙ (ap (λ (n : ℕ). n + 1) asked ∙ sym reads);
+      reads = calls ∙ (ap (λ (n : ℕ). n + 1) called ∙ sym reads);
       few_reads = omega arith;
       few_bytes = omega arith;
       within = within;
       small = small;
     }
-
--- where nothing was held, as many bytes told by two reads
-pub read_whole : (h now : BytesRead) (c middle after : Standing) (room : ℕ) (bytes : List ℕ) → IsRead h c
-    → c.is_lent ≡ false → c.prefix ≡ [] → middle ≡ record c { room = room } → room ≤ 2 ^ 20
-    → after ≡ record middle { prefix = bytes; reads = middle.reads + 2 } → now.bytes ≡ h.bytes ++ bytes
-    → now.calls ≡ h.calls + 2 → c.reads + 2 ≤ 2 ^ 40 → length bytes ≤ room → IsRead now after
-read_whole h now c middle after room bytes is lent none middle_is small after_is told calls few fits =
-    let target : Standing = record {
-      offset = c.offset;
-      prefix = bytes;
-      is_lent = c.is_lent;
-      room = room;
-      reads = c.reads + 2;
-      answer = c.answer;
-    } in
-    let same : after ≡ target =
-    after_is ∙ ap (λ (m : Standing). let n : Standing = record m { prefix = bytes; reads = m.reads + 2 } in
-    n) middle_is in
-    let held : held_of c ≡ [] = held_is c lent ∙ none in
-    let held_after : held_of target ≡ bytes = held_is target lent in
-    let size : length h.bytes ≡ c.offset + 0 = is.told ∙ ap (λ (xs : List ℕ). c.offset + length xs) held in
-    let size_now : length now.bytes ≡ length h.bytes + length bytes = ap (λ (xs : List ℕ). length xs) told
-    ∙ length-append h.bytes bytes in
-    let size_held : length (held_of target) ≡ length bytes = ap (λ (xs : List ℕ). length xs) held_after in
-    let bounded = is.few_bytes in
-    let asked = is.reads in
-    let read : IsRead now target = record {
-      told = omega arith;
-      held = ap (λ (xs : List ℕ). drop c.offset xs) told
-          ∙ (drop-append-le c.offset h.bytes bytes (omega arith)
-          ∙ (ap (λ (xs : List ℕ). xs ++ bytes) (is.held ∙ held) ∙ sym held_after));
-      reads = calls ∙ ap (λ (n : ℕ). n + 2) asked;
-      few_reads = few;
-      few_bytes = omega arith;
-      within = fits;
-      small = small;
-    } in
-    subst (λ (s : Standing). IsRead now s) (sym same) read
 
 -- the header, and then the rest, are all of them
 pub two_parts : (bytes : List ℕ) (m n : ℕ) → m ≤ n → take n bytes ≡ take m bytes ++ take (n - m) (drop m bytes)
@@ -98,18 +60,18 @@ two_parts bytes m n l =
     let all : m + (n - m) ≡ n = omega arith in
     ap (λ (k : ℕ). take k bytes) (sym all) ∙ take-add m (n - m) bytes
 
--- what is held grows by what is told
+-- what is held grows by what is read
 pub held_grows : (h now : BytesRead) (c after : Standing) (more : List ℕ) → IsRead h c → IsRead now after
     → c.is_lent ≡ false → after.is_lent ≡ false → after.offset ≡ c.offset → now.bytes ≡ h.bytes ++ more
     → after.prefix ≡ c.prefix ++ more
 held_grows h now c after more is then lent lent_after offset bytes =
-    let size = is.told in
+    let size = is.reported in
     let within : c.offset ≤ length h.bytes = omega arith in
     sym (then.held ∙ held_is after lent_after)
     ∙ (ap (λ (xs : List ℕ). drop after.offset xs) bytes ∙ (ap (λ (n : ℕ). drop n (h.bytes ++ more)) offset
     ∙ (drop-append-le c.offset h.bytes more within ∙ ap (λ (xs : List ℕ). xs ++ more) (is.held ∙ held_is c lent))))
 
--- and stays where nothing is told
+-- and stays where nothing is read
 pub held_stays : (h now : BytesRead) (c after : Standing) → IsRead h c → IsRead now after → c.is_lent ≡ false
     → after.is_lent ≡ false → after.offset ≡ c.offset → now ≡ h → after.prefix ≡ c.prefix
 held_stays h now c after is then lent lent_after offset same =

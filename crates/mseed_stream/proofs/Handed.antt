@@ -13,7 +13,7 @@ use Rattle.mseed_stream.specs.Device.{BytesRead}
 use Rattle.mseed_stream.specs.Cutting.{read_from, moves_by, handed_by, IfEnds, IsCutFault, IsCleanEnd}
 use Rattle.mseed_stream.specs.declared.fault.StreamFault.{StreamFault}
 use Rattle.mseed_stream.specs.declared.fault.StreamFault.TheVariants.{Frame, Truncated, Read, Turns, Memory}
-use Rattle.mseed_record.proofs.Asked.{record_long}
+use Rattle.mseed_record.proofs.Called.{record_long}
 use Rattle.mseed_stream.proofs.Stops.{none_short}
 
 -- no prefix of a rest with an end is a record
@@ -30,7 +30,7 @@ pub all_more : (xs : List (List ℕ)) (x : List ℕ) → AllByRecursion IsRecord
 all_more [] x all is = (is, tt)
 all_more (y ∷ ys) x all is = (all.0, all_more ys x all.1 is)
 
--- what was handed out stays where more is told
+-- what was handed out stays where more is read
 same_prefix : (old new more : List ℕ) (offset : ℕ) → offset ≤ length old → new ≡ old ++ more
     → take offset new ≡ take offset old
 same_prefix old new more offset l e = ap (λ (xs : List ℕ). take offset xs) e ∙ take-append-le offset old more l
@@ -73,7 +73,7 @@ records_after (Ok None) old new more offset records l e is has =
 records_after (Err f) old new more offset records l e is has =
     records_stay old.bytes new.bytes more offset records l e has
 
--- the bytes told are those records and then the rest
+-- the bytes read are those records and then the rest
 archive_of : (old new more : List ℕ) (offset : ℕ) (records : List (List ℕ)) → offset ≤ length old → new ≡ old ++ more
     → HasRecords old offset records → HasNoFurther (drop offset new) → IsArchive new records (drop offset new)
 archive_of old new more offset records l e has none = record {

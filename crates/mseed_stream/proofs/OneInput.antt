@@ -9,12 +9,12 @@ use Rattle.mseed_record.specs.declared.frame.Scan.TheVariants.{Need, Not}
 use Rattle.mseed_record.specs.declared.frame.FrameFault.{FrameFault}
 use Rattle.mseed_record.specs.Scan.{Decides}
 use Rattle.mseed_record.specs.View.{View, IsView}
-use Rattle.mseed_record.proofs.Asked.{record_long}
+use Rattle.mseed_record.proofs.Called.{record_long}
 use Rattle.mseed_record.proofs.OneAnswer.{one_answer}
 use Rattle.mseed_record.proofs.Viewed.{view_once}
 use Rattle.mseed_stream.specs.Device.{BytesRead}
 use Rattle.mseed_stream.specs.Archive.{HasNoFurther, IsArchive, End, clean, frame, truncated, IsEndOf, is_frame}
-use Rattle.mseed_stream.specs.Cutting.{IsStop, at_start, asked_for, FallsShort, IsReadTo, read_from}
+use Rattle.mseed_stream.specs.Cutting.{IsStop, at_start, called_for, FallsShort, IsReadTo, read_from}
 use Rattle.mseed_stream.specs.Walk.{bytes_in, AreViews, IsEnd, AreAllViews}
 use Rattle.mseed_stream.specs.declared.fault.StreamFault.{StreamFault}
 use Rattle.mseed_stream.specs.declared.fault.StreamFault.TheVariants.{Frame, Truncated, Read, Turns, Memory}
@@ -26,19 +26,19 @@ use Rattle.mseed_stream.proofs.Stops.{none_short}
 -- how many stops there are before one
 abbrev index : (b : List ℕ) (n : ℕ) → IsStop b n → ℕ
 index b _ at_start = 0
-index b n (asked_for m _ s l d) = suc (index b m s)
+index b n (called_for m _ s l d) = suc (index b m s)
 
 same_stop : (b : List ℕ) (n m : ℕ) (s : IsStop b n) (t : IsStop b m) → index b n s ≡ index b m t → n ≡ m
 same_stop b _ _ at_start at_start e = refl
-same_stop b _ m at_start (asked_for k _ t l d) e = absurd (omega arith)
-same_stop b n _ (asked_for k _ s l d) at_start e = absurd (omega arith)
-same_stop b n m (asked_for k _ s l d) (asked_for j _ t w c) e =
+same_stop b _ m at_start (called_for k _ t l d) e = absurd (omega arith)
+same_stop b n _ (called_for k _ s l d) at_start e = absurd (omega arith)
+same_stop b n m (called_for k _ s l d) (called_for j _ t w c) e =
     let before : k ≡ j = same_stop b k j s t (omega arith) in
     let asks : Decides (take k b) (Need m) = subst (λ (i : ℕ). Decides (take i b) (Need m)) (sym before) c in
     let same : Need n ≡ Need m = one_answer (take k b) (Need n) (Need m) d asks in
     cc
 
--- a stop before another is within the bytes, and more is asked for there
+-- a stop before another is within the bytes, and more is requested there
 record Earlier (b : List ℕ) (n : ℕ) : Type 0 where
   within : n ≤ length b
   next : ℕ
@@ -46,7 +46,7 @@ record Earlier (b : List ℕ) (n : ℕ) : Type 0 where
 
 earlier : (b : List ℕ) (n m : ℕ) (s : IsStop b n) (t : IsStop b m) → index b n s < index b m t → Earlier b n
 earlier b n _ s at_start less = absurd (omega arith)
-earlier b n m s (asked_for k _ t l d) less = ⊎_elim
+earlier b n m s (called_for k _ t l d) less = ⊎_elim
     (λ (more : index b n s < index b k t). earlier b n k s t more)
     (λ (last : index b k t ≤ index b n s).
     let same : n ≡ k = same_stop b n k s t (omega (arith, less, last)) in
@@ -159,9 +159,9 @@ not_both b t f = false≢true (sym f ∙ t)
 ends : (end : Option StreamFault) (offset : ℕ) (h : BytesRead) → IsEnd end offset h → Ended offset h end
 ends None offset h is = by_bytes clean is.0.0 is.1 (λ going. absurd (not_both h.is_at_end is.0.1 going)) refl
 ends (Some (Frame n f)) offset h is =
-    let told : List ℕ = read_from offset h in
+    let reported : List ℕ = read_from offset h in
     by_bytes (frame f) is.0.1 is.2
-    (λ going. (f, (subst (λ (b : Bool). IsReadTo told b) going is.0.2, refused_of told f is.0.1)))
+    (λ going. (f, (subst (λ (b : Bool). IsReadTo reported b) going is.0.2, refused_of reported f is.0.1)))
     (ap (λ (k : ℕ). Some (Frame k f)) is.0.0)
 ends (Some (Truncated n have)) offset h is =
     by_bytes (truncated have) is.0.1 is.2 (λ going. absurd (not_both h.is_at_end is.0.2 going))

@@ -2,6 +2,7 @@
 use Rattle.std.proofs.Common.{◌≡◌, ℕ, ◌+◌, ◌-◌, ◌^◌, ◌≤◌, ◌++◌, List, [], ◌∷◌, length, take, drop, false, refl, sym, ap}
 use Rattle.std.proofs.Common.{subst, ◌∙◌, arith, append_assoc, length-append, drop-drop}
 use Rattle.std.proofs.lemmas.List.{drop_all, drop-append-le, length-take-le}
+use Rattle.std.proofs.Math.Nat.{pow-le-pow_right}
 use Rattle.mseed_record.specs.Record.{IsRecord}
 use Rattle.mseed_record.specs.Scan.{short}
 use Rattle.mseed_record.specs.View.{View, IsView}
@@ -11,12 +12,16 @@ use Rattle.mseed_stream.specs.Cutting.{lent_whole}
 use Rattle.mseed_stream.specs.Device.{BytesRead, lent_also}
 use Rattle.mseed_stream.specs.Standing.{Standing}
 use Rattle.mseed_stream.specs.Walk.{HasHandedOut, bytes_in}
-use Rattle.mseed_stream.proofs.Ahead.{record_few}
 use Rattle.mseed_stream.proofs.Handed.{records_more}
 use Rattle.mseed_stream.proofs.Settled.{nothing_ended}
 use Rattle.mseed_stream.proofs.Walks.{handed_record}
 
--- two parts are told as one
+-- a record has no more bytes than the longest
+pub record_few : (b : List ℕ) → IsRecord b → length b ≤ 2 ^ 20
+record_few b r = let by = r.1.1.1 in
+    subst (λ (n : ℕ). n ≤ 2 ^ 20) (sym by.size) (pow-le-pow_right {n = 2} (omega arith) by.exponent_high)
+
+-- two parts are read as one
 pub lent_twice : (h : BytesRead) (xs ys : List ℕ) → lent_also (lent_also h xs) ys ≡ lent_whole h (xs ++ ys)
 lent_twice h xs ys =
     let calls : h.calls + 1 + 1 ≡ h.calls + 2 = omega arith in
@@ -51,11 +56,11 @@ stands_behind here old size is none =
 passed_read : (h : BytesRead) (c : Standing) (bytes : List ℕ) → IsRead h c → held_of c ≡ [] → c.reads + 2 ≤ 2 ^ 40
     → length bytes ≤ 2 ^ 20 → IsRead (lent_whole h bytes) (passed c (length bytes))
 passed_read h c bytes is none few small =
-    let size : length h.bytes ≡ c.offset + 0 = is.told ∙ ap (λ (xs : List ℕ). c.offset + length xs) none in
+    let size : length h.bytes ≡ c.offset + 0 = is.reported ∙ ap (λ (xs : List ℕ). c.offset + length xs) none in
     let size_now : length (h.bytes ++ bytes) ≡ length h.bytes + length bytes = length-append h.bytes bytes in
     let bounded = is.few_bytes in
     record {
-      told = omega arith;
+      reported = omega arith;
       held = drop_all (c.offset + length bytes) (h.bytes ++ bytes) (omega arith);
       reads = ap (λ (n : ℕ). n + 2) is.reads;
       few_reads = few;
@@ -80,11 +85,11 @@ passed_along h c size lent is ahead =
       ended = nothing_ended c.answer (λ e. IsEnding e (c.offset + size) (lent_whole h bytes)) ahead.goes_on;
     }
 
--- what is told from the offset on
-told_then : (h : BytesRead) (c : Standing) (bytes : List ℕ) → IsRead h c → held_of c ≡ []
+-- what is read from the offset on
+reported_then : (h : BytesRead) (c : Standing) (bytes : List ℕ) → IsRead h c → held_of c ≡ []
     → read_from c.offset (lent_whole h bytes) ≡ bytes
-told_then h c bytes is none =
-    let size : length h.bytes ≡ c.offset + 0 = is.told ∙ ap (λ (xs : List ℕ). c.offset + length xs) none in
+reported_then h c bytes is none =
+    let size : length h.bytes ≡ c.offset + 0 = is.reported ∙ ap (λ (xs : List ℕ). c.offset + length xs) none in
     drop-append-le c.offset h.bytes bytes (omega arith) ∙ ap (λ (xs : List ℕ). xs ++ bytes) (is.held ∙ none)
 
 pub passed_records : (h : BytesRead) (c : Standing) (size : ℕ) (lent : List ℕ) (records : List (List ℕ)) → IsRead h c
@@ -94,12 +99,12 @@ passed_records h c size lent records is ahead has =
     let bytes : List ℕ = take size lent in
     let now : BytesRead = lent_whole h bytes in
     let long : length bytes ≡ size = length-take-le size lent ahead.whole in
-    let told : read_from c.offset now ≡ bytes = told_then h c bytes is ahead.none in
-    let within : c.offset ≤ length h.bytes = omega (arith, is.told) in
+    let reported : read_from c.offset now ≡ bytes = reported_then h c bytes is ahead.none in
+    let within : c.offset ≤ length h.bytes = omega (arith, is.reported) in
     let more = records_more h.bytes now.bytes bytes c.offset records within refl
-    (subst IsRecord (sym told) ahead.is_record) has in
+    (subst IsRecord (sym reported) ahead.is_record) has in
     subst (λ (n : ℕ). HasRecords now.bytes (c.offset + n) (records ++ bytes ∷ [])) long
-    (subst (λ (xs : List ℕ). HasRecords now.bytes (c.offset + length xs) (records ++ xs ∷ [])) told more)
+    (subst (λ (xs : List ℕ). HasRecords now.bytes (c.offset + length xs) (records ++ xs ∷ [])) reported more)
 
 pub passed_handed : (h : BytesRead) (c : Standing) (size : ℕ) (lent : List ℕ) (views : List View) (v : View)
     → IsAhead size c lent → HasHandedOut h c views → IsView v → v.bytes ≡ take size lent
@@ -109,12 +114,12 @@ passed_handed h c size lent views v ahead before is same =
     let now : BytesRead = lent_whole h bytes in
     let read = before.along.read in
     let long : length bytes ≡ size = length-take-le size lent ahead.whole in
-    let told : read_from c.offset now ≡ bytes = told_then h c bytes read ahead.none in
-    let within : c.offset ≤ length h.bytes = omega (arith, read.told) in
+    let reported : read_from c.offset now ≡ bytes = reported_then h c bytes read ahead.none in
+    let within : c.offset ≤ length h.bytes = omega (arith, read.reported) in
     let more = records_more h.bytes now.bytes bytes c.offset (bytes_in views) within refl
-    (subst IsRecord (sym told) ahead.is_record) before.records.records in
+    (subst IsRecord (sym reported) ahead.is_record) before.records.records in
     let offset : c.offset + size ≡ c.offset + length (read_from c.offset now) = ap (λ (n : ℕ). c.offset + n) (sym long)
-    ∙ ap (λ (xs : List ℕ). c.offset + length xs) (sym told) in
+    ∙ ap (λ (xs : List ℕ). c.offset + length xs) (sym reported) in
     let asks : asks_of (held_of c) ≡ 0 = ap (λ (xs : List ℕ). asks_of xs) ahead.none in
-    handed_record h now c (passed c size) views v before is (same ∙ sym told) more
+    handed_record h now c (passed c size) views v before is (same ∙ sym reported) more
     (passed_along h c size lent before.along ahead) offset ahead.goes_on refl (omega (arith, asks))

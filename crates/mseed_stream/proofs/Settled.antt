@@ -1,4 +1,4 @@
--- A cutter stays along what its source told, whatever it answers.
+-- A cutter stays along what its source gave, whatever it answers.
 use Rattle.std.proofs.Common.{◌≡◌, ◌≢◌, ℕ, ◌+◌, ◌*◌, ◌<◌, ◌≤◌, Bool, true, false, List, [], ◌∷◌, length, Option, Some}
 use Rattle.std.proofs.Common.{None, Result, Ok, Err, IfOk, IfErr, IfSome, refl, sym, ap, subst, ◌∙◌, arith, ⊎_elim}
 use Rattle.std.proofs.lemmas.Bool.{cases_lt}
@@ -18,13 +18,13 @@ use Rattle.mseed_stream.specs.declared.fault.StreamFault.{StreamFault}
 use Rattle.mseed_stream.specs.declared.fault.StreamFault.TheVariants.{Frame, Truncated, Read, Turns, Memory}
 use Rattle.mseed_stream.proofs.Filled.{held_is}
 
--- what is told from the offset on is what is held
-pub told_is : (h : BytesRead) (c : Standing) → IsRead h c → c.is_lent ≡ false → read_from c.offset h ≡ c.prefix
-told_is h c is lent = is.held ∙ held_is c lent
+-- what is read from the offset on is what is held
+pub reported_is : (h : BytesRead) (c : Standing) → IsRead h c → c.is_lent ≡ false → read_from c.offset h ≡ c.prefix
+reported_is h c is lent = is.held ∙ held_is c lent
 
-told_size : (h : BytesRead) (c : Standing) → IsRead h c → c.is_lent ≡ false
+reported_size : (h : BytesRead) (c : Standing) → IsRead h c → c.is_lent ≡ false
     → length h.bytes ≡ c.offset + length c.prefix
-told_size h c is lent = is.told ∙ ap (λ (xs : List ℕ). c.offset + length xs) (held_is c lent)
+reported_size h c is lent = is.reported ∙ ap (λ (xs : List ℕ). c.offset + length xs) (held_is c lent)
 
 pub nothing_ended : (answer : Option Ending) (P : Ending → Type 0) → answer ≡ None → IfSome answer P
 nothing_ended answer P e = subst (λ (o : Option Ending). IfSome o P) (sym e) tt
@@ -32,9 +32,9 @@ nothing_ended answer P e = subst (λ (o : Option Ending). IfSome o P) (sym e) tt
 -- a record was lent
 lent_read : (h : BytesRead) (c : Standing) → IsRead h c → c.is_lent ≡ false → IsRead h (settled c (Ok true))
 lent_read h c is lent =
-    let size = told_size h c is lent in
+    let size = reported_size h c is lent in
     record {
-      told = omega arith;
+      reported = omega arith;
       held = drop_all (c.offset + length c.prefix) h.bytes (omega arith);
       reads = is.reads;
       few_reads = is.few_reads;
@@ -47,7 +47,7 @@ lent_read h c is lent =
 kept_read : (h : BytesRead) (c : Standing) (answer : Option Ending) → IsRead h c
     → IsRead h (record c { answer = answer })
 kept_read h c answer is = record {
-  told = is.told;
+  reported = is.reported;
   held = is.held;
   reads = is.reads;
   few_reads = is.few_reads;
@@ -79,7 +79,7 @@ along_record h c is lent goes going_on = record {
 
 pub clean_end : (h : BytesRead) (c : Standing) → IsRead h c → c.is_lent ≡ false → c.prefix ≡ []
     → IsEndOf (read_from c.offset h) clean
-clean_end h c is lent empty = is_clean (told_is h c is lent ∙ empty)
+clean_end h c is lent empty = is_clean (reported_is h c is lent ∙ empty)
 
 along_fault : (h : BytesRead) (c : Standing) (e : StreamFault) → IsRead h c → e ≢ Memory → IsCutFault e c.offset h
     → IsAlong h (record c { answer = Some (Fault e) })
@@ -100,14 +100,14 @@ along_memory h c is lent goes stop going_on n asks =
 pub cut_fault : (e : StreamFault) (c after : Standing) (old new : BytesRead) → IsRead new after → after.is_lent ≡ false
     → after.offset ≡ c.offset → IsCuttingFault e c after old new → IsCutFault e after.offset new
 cut_fault (Frame n f) c after old new is lent offset it =
-    let told = sym (told_is new after is lent) in (
+    let reported = sym (reported_is new after is lent) in (
       it.0 ∙ sym offset,
-      subst (λ (xs : List ℕ). IsEndOf xs (frame f)) told it.2,
-      subst (λ (xs : List ℕ). IsReadTo xs new.is_at_end) told it.3,
+      subst (λ (xs : List ℕ). IsEndOf xs (frame f)) reported it.2,
+      subst (λ (xs : List ℕ). IsReadTo xs new.is_at_end) reported it.3,
     )
 cut_fault (Truncated n have) c after old new is lent offset it = (
   it.0 ∙ sym offset,
-  subst (λ (xs : List ℕ). IsEndOf xs (truncated have)) (sym (told_is new after is lent)) it.2,
+  subst (λ (xs : List ℕ). IsEndOf xs (truncated have)) (sym (reported_is new after is lent)) it.2,
   it.3,
 )
 cut_fault (Read n) c after old new is lent offset it =
@@ -115,11 +115,11 @@ cut_fault (Read n) c after old new is lent offset it =
       it.0 ∙ sym offset,
       omega arith,
       it.2,
-      subst (λ (xs : List ℕ). FallsShort xs) (sym (told_is new after is lent))
+      subst (λ (xs : List ℕ). FallsShort xs) (sym (reported_is new after is lent))
           it.3,
     )
 cut_fault (Turns n) c after old new is lent offset it =
-    (it.0 ∙ sym offset, it.2, it.3, subst (λ (xs : List ℕ). FallsShort xs) (sym (told_is new after is lent)) it.4)
+    (it.0 ∙ sym offset, it.2, it.3, subst (λ (xs : List ℕ). FallsShort xs) (sym (reported_is new after is lent)) it.4)
 cut_fault Memory c after old new is lent offset it = tt
 
 -- by each answer

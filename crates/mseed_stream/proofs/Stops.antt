@@ -6,30 +6,30 @@ use Rattle.std.proofs.Math.Seq.{take-length}
 use Rattle.mseed_record.specs.declared.frame.Scan.TheVariants.{Need}
 use Rattle.mseed_record.specs.Record.{IsRecord}
 use Rattle.mseed_record.specs.Scan.{Decides}
-use Rattle.mseed_record.proofs.Asked.{asked, record_long}
+use Rattle.mseed_record.proofs.Called.{called, record_long}
 use Rattle.mseed_stream.specs.Archive.{HasNoFurther}
-use Rattle.mseed_stream.specs.Cutting.{IsStop, at_start, asked_for, FallsShort}
+use Rattle.mseed_stream.specs.Cutting.{IsStop, at_start, called_for, FallsShort}
 
--- stops stay where more is told
+-- stops stay where more is read
 pub stop_grows : (b more : List ℕ) (n : ℕ) → IsStop b n → IsStop (b ++ more) n
 stop_grows b more _ at_start = at_start
-stop_grows b more n (asked_for m _ s l d) =
+stop_grows b more n (called_for m _ s l d) =
     let same : take m (b ++ more) ≡ take m b = take-append-le m b more l in
-    asked_for m n (stop_grows b more m s) (omega (arith, length-append b more))
+    called_for m n (stop_grows b more m s) (omega (arith, length-append b more))
     (subst (λ (xs : List ℕ). Decides xs (Need n)) (sym same) d)
 
--- the next stop, where all that was asked for is there
+-- the next stop, where all that was requested is there
 pub stop_next : (b : List ℕ) (n : ℕ) → IsStop b (length b) → Decides b (Need n) → IsStop b n
-stop_next b n s d = asked_for (length b) n s (omega arith)
+stop_next b n s d = called_for (length b) n s (omega arith)
     (subst (λ (xs : List ℕ). Decides xs (Need n)) (sym (take-length b)) d)
 
 -- no record ends before a stop
 pub stop_record : (b : List ℕ) (n k : ℕ) → IsStop b n → IsRecord (take k b) → n ≤ length (take k b)
 stop_record b _ k at_start r = omega (arith, record_long (take k b) r)
-stop_record b n k (asked_for m _ s l d) r =
+stop_record b n k (called_for m _ s l d) r =
     let whole_is : take m b ++ drop m b ≡ b = take-append-drop m b in
     subst (λ (xs : List ℕ). n ≤ length (take k xs)) whole_is
-    (asked (take m b) (drop m b) n k d (subst (λ (xs : List ℕ). IsRecord (take k xs)) (sym whole_is) r))
+    (called (take m b) (drop m b) n k d (subst (λ (xs : List ℕ). IsRecord (take k xs)) (sym whole_is) r))
 
 -- short of a stop there's no record
 pub none_short : (b : List ℕ) → FallsShort b → HasNoFurther b

@@ -32,19 +32,19 @@ bytes_more [] v = refl
 bytes_more (w ∷ views) v = ap (λ (xs : List (List ℕ)). w.bytes ∷ xs) (bytes_more views v)
 
 -- one more record
-pub views_more : (old new : List ℕ) (offset : ℕ) (views : List View) (v : View) (told : List ℕ)
-    → AreViews old offset views → IsView v → v.bytes ≡ told
-    → HasRecords new (offset + length told) (bytes_in views ++ told ∷ [])
-    → AreViews new (offset + length told) (views ++ v ∷ [])
-views_more old new offset views v told before is same has = record {
+pub views_more : (old new : List ℕ) (offset : ℕ) (views : List View) (v : View) (reported : List ℕ)
+    → AreViews old offset views → IsView v → v.bytes ≡ reported
+    → HasRecords new (offset + length reported) (bytes_in views ++ reported ∷ [])
+    → AreViews new (offset + length reported) (views ++ v ∷ [])
+views_more old new offset views v reported before is same has = record {
   each = all_more views v before.each is;
-  records = subst (λ (xs : List (List ℕ)). HasRecords new (offset + length told) xs)
+  records = subst (λ (xs : List (List ℕ)). HasRecords new (offset + length reported) xs)
       (ap (λ (xs : List ℕ). bytes_in views ++ xs ∷ []) (sym same) ∙ bytes_more views v) has;
   offset_is = size_more views v
       ∙ (ap (λ (n : ℕ). n + length v.bytes) before.offset_is ∙ ap (λ (xs : List ℕ). offset + length xs) same);
 }
 
--- they stay while more is told
+-- they stay while more is read
 pub views_stay : (old new more : List ℕ) (offset : ℕ) (views : List View) → offset ≤ length old → new ≡ old ++ more
     → AreViews old offset views → AreViews new offset views
 views_stay old new more offset views within e before =
@@ -67,14 +67,14 @@ pub handed_record : (h now : BytesRead) (c after : Standing) (views : List View)
     → IsAlong now after → after.offset ≡ c.offset + length (read_from c.offset now) → after.answer ≡ None
     → now.failures ≡ h.failures → h.calls + 2 + asks_of (held_of after) ≤ now.calls + asks_of (held_of c)
     → HasHandedOut now after (views ++ v ∷ [])
-handed_record h now c after views v before is same has along offset goes fine asked =
+handed_record h now c after views v before is same has along offset goes fine called =
     let more = views_more h.bytes now.bytes c.offset views v (read_from c.offset now) before.records is same has in
     record {
       along = along;
       goes_on = goes;
       fine = fine ∙ before.fine;
       records = subst (λ (n : ℕ). AreViews now.bytes n (views ++ v ∷ [])) (sym offset) more;
-      asked = omega (arith, before.asked, asked, length_more views v);
+      called = omega (arith, before.called, called, length_more views v);
     }
 
 -- memory was refused
@@ -82,29 +82,29 @@ pub handed_none : (h now : BytesRead) (c after : Standing) (views : List View) (
     → now.bytes ≡ h.bytes ++ more → IsAlong now after → after.offset ≡ c.offset → after.answer ≡ None
     → now.failures ≡ h.failures → h.calls + asks_of (held_of after) ≤ now.calls + asks_of (held_of c)
     → HasHandedOut now after (views ++ [])
-handed_none h now c after views more before told along offset goes fine asked =
-    let within : c.offset ≤ length h.bytes = omega (arith, before.along.read.told) in
-    let stay = views_stay h.bytes now.bytes more c.offset views within told before.records in
+handed_none h now c after views more before reported along offset goes fine called =
+    let within : c.offset ≤ length h.bytes = omega (arith, before.along.read.reported) in
+    let stay = views_stay h.bytes now.bytes more c.offset views within reported before.records in
     let same : HasHandedOut now after views = record {
       along = along;
       goes_on = goes;
       fine = fine ∙ before.fine;
       records = subst (λ (n : ℕ). AreViews now.bytes n views) (sym offset) stay;
-      asked = omega (arith, before.asked, asked);
+      called = omega (arith, before.called, called);
     } in
     subst (λ (vs : List View). HasHandedOut now after vs) (sym (append-nil views)) same
 
 few_views : (h : BytesRead) (c : Standing) (views : List View) → HasHandedOut h c views → length views < 2 ^ 40
-few_views h c views before = omega (arith, before.asked, before.along.read.reads, before.along.read.few_reads)
+few_views h c views before = omega (arith, before.called, before.along.read.reads, before.along.read.few_reads)
 
 -- the input ended
 pub all_views : {X : Type 0} (r : Result (Option X) StreamFault) (h now : BytesRead) (c : Standing) (views : List View)
     (more : List ℕ) → HasHandedOut h c views → now.bytes ≡ h.bytes ++ more → (r ≡ Ok None → IsCleanEnd c.offset now)
     → IfErr r (λ e. IsCutFault e c.offset now) → now.failures ≡ h.failures + failed_by r
     → IfEnds r (AreAllViews now views (end_of r))
-all_views r h now c views more before told end fault failed =
-    let within : c.offset ≤ length h.bytes = omega (arith, before.along.read.told) in
-    let stay = views_stay h.bytes now.bytes more c.offset views within told before.records in
+all_views r h now c views more before reported end fault failed =
+    let within : c.offset ≤ length h.bytes = omega (arith, before.along.read.reported) in
+    let stay = views_stay h.bytes now.bytes more c.offset views within reported before.records in
     let few = few_views h c views before in
     go r end fault failed stay few
   where

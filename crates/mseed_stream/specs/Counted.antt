@@ -16,7 +16,7 @@ read_by c = record {
   is_at_end = c.is_at_end;
 }
 
--- what it took so far
+-- what it accepted so far
 abbrev pub written_by : {T : Type 0} → Counted T → BytesWritten
 written_by c = record { bytes = c.writes.bytes; calls = c.writes.calls; failures = c.writes.failures }
 

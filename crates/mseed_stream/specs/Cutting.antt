@@ -1,4 +1,4 @@
--- How a cutter stands to what its source told, and what its answers mean.
+-- How a cutter stands to what its source gave, and what its answers mean.
 use Rattle.std.specs.Prelude.{⊤, ◌≡◌, ◌≢◌, Bool, true, false, ℕ, ◌+◌, ◌*◌, ◌^◌, ◌<◌, ◌≤◌, List, [], ◌∷◌, ◌++◌, length}
 use Rattle.std.specs.Prelude.{take, drop, if◌then◌else◌, Option, Some, None, IfSome, Result, Ok, Err}
 use Rattle.std.specs.Io.KnownBytes.{Consumes}
@@ -17,13 +17,13 @@ use Rattle.mseed_stream.specs.declared.fault.StreamFault.TheVariants.{Frame, Tru
 -- framing steps ask for at the one before.
 pub data IsStop (bytes : List ℕ) : ℕ → Type 0 where
   at_start : IsStop bytes 0
-  asked_for : (m n : ℕ) → IsStop bytes m → m ≤ length bytes → Decides (take m bytes) (Need n) → IsStop bytes n
+  called_for : (m n : ℕ) → IsStop bytes m → m ≤ length bytes → Decides (take m bytes) (Need n) → IsStop bytes n
 
--- the bytes told from the offset on, by what is held
+-- the bytes read from the offset on, by what is held
 abbrev pub held_of : Standing → List ℕ
 held_of c = if c.is_lent then [] else c.prefix
 
--- what was told from an offset on
+-- what was read from an offset on
 abbrev pub read_from : ℕ → BytesRead → List ℕ
 read_from offset h = drop offset h.bytes
 
@@ -37,7 +37,7 @@ IsReadTo bytes false = IsStop bytes (length bytes)
 IsReadTo bytes true = FallsShort bytes
 
 -- What a fault means, of the offset where the next record begins and of what was read. Bytes are refused once all
--- that was asked for is there, or at the input's end; where a read failed or the turns ran out, more was asked for.
+-- that was requested is there, or at the input's end; where a read failed or the turns ran out, more was requested.
 abbrev pub IsCutFault : StreamFault → ℕ → BytesRead → Type 0
 IsCutFault (Frame n f) offset h = (n ≡ offset) × IsEndOf (read_from offset h) (frame f)
     × IsReadTo (read_from offset h) h.is_at_end
@@ -56,9 +56,9 @@ abbrev pub IsEnding : Ending → ℕ → BytesRead → Type 0
 IsEnding Clean offset h = IsCleanEnd offset h
 IsEnding (Fault e) offset h = IsCutFault e offset h × (e ≢ Memory)
 
--- A cutter holds of what its source told the bytes from the offset on, and was alone to ask it.
+-- A cutter holds of what its source gave the bytes from the offset on, and was alone to ask it.
 pub record IsRead (h : BytesRead) (c : Standing) : Type 0 where
-  pub told : length h.bytes ≡ c.offset + length (held_of c)
+  pub reported : length h.bytes ≡ c.offset + length (held_of c)
   pub held : read_from c.offset h ≡ held_of c
   pub reads : h.calls ≡ c.reads
   pub few_reads : c.reads ≤ 2 ^ 40
@@ -84,7 +84,7 @@ pub record IsAhead (size : ℕ) (c : Standing) (lent : List ℕ) : Type 0 where
   pub goes_on : c.answer ≡ None
   pub turns : c.reads + 2 ≤ 2 ^ 40
 
--- what was read of a source, with a record more that it held whole: by two asks
+-- what was read of a source, with a record more that it held whole: by two calls
 abbrev pub lent_whole : BytesRead → List ℕ → BytesRead
 lent_whole h bytes = record {
   bytes = h.bytes ++ bytes;
@@ -93,11 +93,11 @@ lent_whole h bytes = record {
   is_at_end = h.is_at_end;
 }
 
--- what more a source told, and what it's known to have left
+-- what more a source gave, and what it's known to have left
 abbrev pub TellsMore : BytesRead → BytesRead → Option (List ℕ) → Option (List ℕ) → Type 0
 TellsMore old new left rest = (more : List ℕ) × (new.bytes ≡ old.bytes ++ more) × Consumes left rest more
 
--- whether less was read before an answer than was asked for: at the input's end, a failed read and the last turn
+-- whether less was read before an answer than was requested: at the input's end, a failed read and the last turn
 abbrev pub is_short : {X : Type 0} → Result X StreamFault → Bool → Bool
 is_short (Err (Read n)) is_at_end = true
 is_short (Err (Turns n)) is_at_end = true
@@ -116,7 +116,7 @@ moves_by (Ok (Some r)) bytes = length bytes
 moves_by (Ok None) bytes = 0
 moves_by (Err e) bytes = 0
 
--- how often at least a source was asked for bytes that are held
+-- how often at least a source was called for bytes that are held
 abbrev pub asks_of : List ℕ → ℕ
 asks_of [] = 0
 asks_of (x ∷ xs) = 1

@@ -9,7 +9,7 @@ pub record BytesRead : Type 0 where
   pub failures : ℕ
   pub is_at_end : Bool
 
--- what a sink took: its bytes, and the calls made and failed
+-- what a sink accepted: its bytes, and the calls made and failed
 pub record BytesWritten : Type 0 where
   pub bytes : List ℕ
   pub calls : ℕ
@@ -47,7 +47,7 @@ read_also h r buf = record {
   is_at_end = h.is_at_end || is_end r (length buf);
 }
 
--- so many bytes more, told by one call
+-- so many bytes more, read by one call
 abbrev pub lent_also : BytesRead → List ℕ → BytesRead
 lent_also h more = record {
   bytes = h.bytes ++ more;

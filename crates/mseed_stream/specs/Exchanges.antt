@@ -5,7 +5,7 @@ use Rattle.mseed_stream.specs.Counted.{read_by, written_by}
 use Rattle.mseed_stream.specs.Device.{BytesRead, BytesWritten}
 use Rattle.mseed_stream.specs.declared.counted.Counted.{Counted}
 
--- what a link told, and what it took
+-- what a link gave, and what it accepted
 pub record Exchange : Type 0 where
   pub read : BytesRead
   pub written : BytesWritten

@@ -26,7 +26,7 @@ pub record GoesOnBehind (bytes : List ℕ) (offset : ℕ) (records : List (List 
   pub before : HasRecords bytes offset records
   pub further : (k : ℕ) × ((k ≤ length (drop offset bytes)) × IsRecord (take k (drop offset bytes)))
 
--- what a fault means: the end of the bytes, the 2^40th record, or a record for which memory was asked
+-- what a fault means: the end of the bytes, the 2^40th record, or a record for which memory was requested
 abbrev pub IsSplitFault : StreamFault → List ℕ → Type 0
 IsSplitFault (Frame n f) bytes = (records : List (List ℕ)) × EndsBehind bytes n records (frame f)
 IsSplitFault (Truncated n have) bytes = (records : List (List ℕ)) × EndsBehind bytes n records (truncated have)

@@ -7,7 +7,7 @@ pub record TellsAll (line : List ℕ) (old new : BytesWritten) : Type 0 where
   pub text : new.bytes ≡ old.bytes ++ line
   pub fine : new.failures ≡ old.failures
 
--- a prefix of a line was written, and then the device failed, and wasn't asked again
+-- a prefix of a line was written, and then the device failed, and wasn't called again
 pub record TellsPrefix (line : List ℕ) (old new : BytesWritten) : Type 0 where
   pub prefix : (n : ℕ) × ((n < length line) × (new.bytes ≡ old.bytes ++ take n line))
   pub failed : new.failures ≡ old.failures + 1

@@ -33,7 +33,7 @@ pub record HasHandedOut (h : BytesRead) (c : Standing) (views : List View) : Typ
   pub goes_on : c.answer ≡ None
   pub fine : h.failures ≡ 0
   pub records : AreViews h.bytes c.offset views
-  pub asked : 2 * length views + asks_of (held_of c) ≤ h.calls
+  pub called : 2 * length views + asks_of (held_of c) ≤ h.calls
 
 -- these are all the records of an input, fewer than 2^40, and it ends so behind them
 pub record AreAllViews (h : BytesRead) (views : List View) (end : Option StreamFault) : Type 0 where

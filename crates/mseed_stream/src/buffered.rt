@@ -17,7 +17,7 @@ pub struct Buffered<T, A: Allocator = Global> {
 impl<T: Read, A: Allocator> Buffered<T, A> {
     ghost use Rattle.mseed_stream.specs.Buffered.{read_through, reader_of};
 
-    /// The reader, of which nothing was asked yet: what stands in its buffer is the first that is lent.
+    /// The reader, of which nothing was called yet: what stands in its buffer is the first that is lent.
     pub fn new(reader: BufReader<T, A>) -> Buffered<T, A>
         ensures read { read_through result ≡ nothing_read }
         ensures reader { reader_of result ≡ reader }

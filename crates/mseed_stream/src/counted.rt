@@ -8,8 +8,8 @@ use std::io::{Read, Write};
 
 /// A reader or writer as a [`Source`] or [`Sink`]: it counts what goes through. It lends nothing.
 ///
-/// One that both reads and writes is both. A reader that said 0 for a slice that isn't empty is
-/// at its end, and isn't asked again. An error of any kind counts as a failure, and is not tried
+/// One that both reads and writes is both. A reader that answered 0 for a slice that isn't empty is
+/// at its end, and isn't called again. An error of any kind counts as a failure, and is not tried
 /// again here.
 #[derive(Drop)]
 pub struct Counted<T> {
@@ -22,7 +22,7 @@ pub struct Counted<T> {
 impl<T> Counted<T> {
     ghost use Rattle.mseed_stream.specs.Counted.{read_by, written_by, inner_of};
 
-    /// The reader or writer, of which nothing was asked yet.
+    /// The reader or writer, of which nothing was called yet.
     pub fn new(inner: T) -> Counted<T>
         ensures read { read_by result ≡ nothing_read }
         ensures written { written_by result ≡ nothing_written }

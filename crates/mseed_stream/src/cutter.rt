@@ -19,7 +19,7 @@ ghost use Rattle.mseed_stream.specs.private.Steps.{IsFillFault, IsAnswerAtEnd, I
 
 use crate::device::{Failed, Sink, Source};
 use crate::fault::StreamFault;
-use mseed_record::{Framer, RecordView, Scan, scan};
+use mseed_record::{Framer, RecordView, Scan};
 use std::alloc::{Allocator, Global};
 use std::marker::Model;
 
@@ -54,12 +54,12 @@ impl Ending {
 ///
 /// It reads up to what framing asks for ([`Scan::Need`]), or to the input's end, before it looks at the
 /// bytes again, and so never past a record's end. The buffer is kept from record to record: once it has
-/// room for the longest, no more memory is asked for.
+/// room for the longest, no more memory is requested.
 ///
-/// Contracts see a cutter as a `Standing`, and say by `IsAlong` how it stands to what its source told.
+/// Contracts see a cutter as a `Standing`, and say by `IsAlong` how it stands to what its source gave.
 #[derive(Drop)]
 pub struct Cutter<A: Allocator = Global> {
-    // The bytes that were told and not handed out, and room behind them.
+    // The bytes that were read and not handed out, and room behind them.
     held: Vec<u8, A>,
     // How many bytes stand at its beginning.
     have: usize,
@@ -67,7 +67,7 @@ pub struct Cutter<A: Allocator = Global> {
     is_lent: bool,
     // Where the next record begins.
     offset: u64,
-    // How often the source was asked.
+    // How often the source was called.
     reads: u64,
     // How far framing has come along the bytes at its beginning.
     framer: Framer,
@@ -103,7 +103,7 @@ impl<A: Allocator> Cutter<A> {
     ghost use denote.Follow.{follows_so};
     ghost use Rattle.std.specs.Borrow.{sem};
 
-    /// A cutter of which nothing was asked yet. It takes no memory.
+    /// A cutter of which nothing was called yet. It takes no memory.
     pub fn new(alloc: A) -> Cutter<A>
         ensures along { IsAlong nothing_read result }
         ensures offset { result.offset ≡ 0 }
@@ -144,22 +144,22 @@ impl<A: Allocator> Cutter<A> {
     /// is the same at each call, and the cutter alone asks it, from its first read on.
     ///
     /// After `None`, and after any fault but `Memory`, the same is answered for ever, and the source isn't
-    /// asked again.
+    /// called again.
     ///
     /// # Errors
     ///
     /// `Frame` where no bytes that may come can make a record of those at the offset; `Truncated` where the
     /// input ended while more was needed; `Read` where the source failed; `Turns` where 2^40 reads were
-    /// made; `Memory` where more room was needed than there is. After `Memory` no byte told is lost, and a
+    /// made; `Memory` where more room was needed than there is. After `Memory` no byte reported is lost, and a
     /// further call goes on.
     pub fn next<R: Source>(&mut self, source: &mut R) -> Result<Option<RecordView<'_>>, StreamFault>
         requires { IsAlong (R.read source.old) self.old }
 
-        // What the source told is kept, and what it is known to have left is what was read of it.
+        // What the source gave is kept, and what it is known to have left is what was read of it.
         ensures more { TellsMore (R.read source.old) (R.read source.new) (R.remaining source.old)
             (R.remaining source.new) }
 
-        // A record is lent as its view: the bytes told from the offset on.
+        // A record is lent as its view: the bytes read from the offset on.
         ensures record { IfOk result (λ o. IfSome o (λ r. IsView (view_of r)
             × ((view_of r).bytes ≡ read_from self.old.offset (R.read source.new)))) }
 
@@ -174,7 +174,7 @@ impl<A: Allocator> Cutter<A> {
             → HasRecords (R.read source.new).bytes (self.old.offset + moves_by result (read_from self.old.offset
             (R.read source.new))) (records ++ handed_by result (read_from self.old.offset (R.read source.new))) }
 
-        // Where the records end for ever, those so far and the rest are the archive of the bytes told.
+        // Where the records end for ever, those so far and the rest are the archive of the bytes read.
         ensures archive { (records : List (List ℕ)) → HasRecords (R.read source.old).bytes self.old.offset records
             → IfEnds result (IsArchive (R.read source.new).bytes records (read_from self.old.offset
             (R.read source.new))) }
@@ -183,7 +183,7 @@ impl<A: Allocator> Cutter<A> {
         ensures all { (views : List View) → HasHandedOut (R.read source.old) self.old views
             → IfEnds result (AreAllViews (R.read source.new) views (end_of result)) }
 
-        // Memory is wanted only where framing asked for more than the buffer ever had.
+        // Memory is wanted only where framing wanted more than the buffer ever had.
         ensures memory { result ≡ Err StreamFault.Memory
             → NeedsRoom self.old.room (read_from self.old.offset (R.read source.new)) }
 
@@ -193,13 +193,13 @@ impl<A: Allocator> Cutter<A> {
             (R.read source.new).is_at_end) }
 
         // A record asks the source.
-        ensures asked { IfOk result (λ o. IfSome o (λ r. (R.read source.old).calls < (R.read source.new).calls)) }
+        ensures called { IfOk result (λ o. IfSome o (λ r. (R.read source.old).calls < (R.read source.new).calls)) }
 
         // A read failed exactly where the answer says so.
         ensures failed { self.old.answer ≡ None
             → (R.read source.new).failures ≡ (R.read source.old).failures + failed_by result }
 
-        // The answer for ever is given again, and the source is not asked.
+        // The answer for ever is given again, and the source is not called.
         ensures repeats { IfSome self.old.answer (λ e. (result ≡ answer_of e)
             × (R.read source.new ≡ R.read source.old)) }
 
@@ -269,8 +269,8 @@ impl<A: Allocator> Cutter<A> {
         requires along { IsAlong (R.read source.old) self.old }
         requires ahead { IsAhead size self.old (R.lent source.old) }
 
-        // The source told the record, by two asks that didn't fail, and holds what follows.
-        ensures told { R.read source.new ≡ lent_whole (R.read source.old) (take size (R.lent source.old)) }
+        // The source gave the record, by two calls that didn't fail, and holds what follows.
+        ensures reported { R.read source.new ≡ lent_whole (R.read source.old) (take size (R.lent source.old)) }
         ensures rest { R.lent source.new ≡ drop size (R.lent source.old) }
         ensures known { Consumes (R.remaining source.old) (R.remaining source.new) (take size (R.lent source.old)) }
         ensures beside { R.beside source.new ≡ R.beside source.old }
@@ -316,7 +316,7 @@ impl<A: Allocator> Cutter<A> {
         ensures read_to { self.old.answer ≡ None
             → IsReadTo (read_from self.old.offset (R.read source.new)) (is_short result
             (R.read source.new).is_at_end) }
-        ensures asked { (R.read source.old).calls + 2 * count_of result + asks_of (held_of self.new) ≤
+        ensures called { (R.read source.old).calls + 2 * count_of result + asks_of (held_of self.new) ≤
             (R.read source.new).calls + asks_of (held_of self.old) }
         ensures failed { self.old.answer ≡ None
             → (R.read source.new).failures ≡ (R.read source.old).failures + failed_by result }
@@ -372,64 +372,8 @@ impl<A: Allocator> Cutter<A> {
         }
     }
 
-    /// Reads to the next record's end, or answers that the input ended where a record ended.
-    fn cut<R: Source>(&mut self, source: &mut R) -> Result<bool, StreamFault>
-        requires { MayCut (R.read source.old) self.old }
-        ensures cut { IsCut result self.old self.new (R.read source.old) (R.read source.new) }
-        ensures more { TellsMore (R.read source.old) (R.read source.new) (R.remaining source.old)
-            (R.remaining source.new) }
-        ensures known { (R.read source.new).is_at_end ≡ true → IsAtEnd (R.remaining source.new) }
-        ensures beside { R.beside source.new ≡ R.beside source.old }
-    {
-        if let Some(size) = self.foresee(source) {
-            if self.make_room(size).is_ok() {
-                self.take_whole(source, size);
-                return Ok(true);
-            }
-        }
-        self.cut_by_stops(source)
-    }
-
-    /// The length of the next record, where nothing of it is held here and the source holds it whole.
-    fn foresee<R: Source>(&self, source: &R) -> Option<usize>
-        ensures none { IfSome result (λ n. self.now.prefix ≡ []) }
-        ensures turns { IfSome result (λ n. self.now.reads + 2 ≤ 2 ^ 40) }
-        ensures size { IfSome result (λ n. (48 ≤ n) × (n ≤ 2 ^ 20)) }
-        ensures whole { IfSome result (λ n. (n ≤ length (R.lent source.now)) × IsRecord (take n (R.lent source.now))) }
-    {
-        if self.have > 0 || self.reads > TURNS - 2 {
-            return None;
-        }
-        match scan(source.lend()) {
-            Scan::Record(size) => Some(size),
-            _ => None,
-        }
-    }
-
-    /// Takes so many of the bytes that the source holds, as framing asks for them: the header, and then the rest.
-    fn take_whole<R: Source>(&mut self, source: &mut R, size: usize)
-        requires none { self.old.prefix ≡ [] }
-        requires turns { self.old.reads + 2 ≤ 2 ^ 40 }
-        requires header { 48 ≤ size }
-        requires room { size ≤ self.old.room }
-        requires whole { size ≤ length (R.lent source.old) }
-        ensures stays { self.new ≡ record self.old {
-          prefix = take size (R.lent source.old);
-          reads = self.old.reads + 2;
-        } }
-        ensures told { R.read source.new ≡ lent_whole (R.read source.old) (take size (R.lent source.old)) }
-        ensures known { Consumes (R.remaining source.old) (R.remaining source.new) (take size (R.lent source.old)) }
-        ensures beside { R.beside source.new ≡ R.beside source.old }
-    {
-        copy_prefix(&mut self.held, source.lend(), size);
-        tell_whole(source, size);
-        self.reads += 2;
-        self.have = size;
-        self.framer = Framer::new();
-    }
-
     /// Reads from stop to stop up to the next record's end, or answers that the input ended where a record ended.
-    fn cut_by_stops<R: Source>(&mut self, source: &mut R) -> Result<bool, StreamFault>
+    fn cut<R: Source>(&mut self, source: &mut R) -> Result<bool, StreamFault>
         requires { MayCut (R.read source.old) self.old }
         ensures cut { IsCut result self.old self.new (R.read source.old) (R.read source.new) }
         ensures more { TellsMore (R.read source.old) (R.read source.new) (R.remaining source.old)
@@ -506,7 +450,7 @@ impl<A: Allocator> Cutter<A> {
         ensures fault { IfErr result (λ e. IsFillFault e self.old.offset self.old.room needed (R.read source.old)
             (R.read source.new)) }
         ensures short { OnErr result (length self.new.prefix < needed) }
-        ensures asked { OnOk result ((R.read source.old).calls < (R.read source.new).calls) }
+        ensures called { OnOk result ((R.read source.old).calls < (R.read source.new).calls) }
         ensures calls { (R.read source.old).calls ≤ (R.read source.new).calls }
         ensures quiet { length self.old.prefix < length self.new.prefix
             → (R.read source.old).calls < (R.read source.new).calls }
@@ -528,20 +472,11 @@ impl<A: Allocator> Cutter<A> {
     }
 }
 
-/// Copies the prefix of the bytes, so many of them.
-fn copy_prefix(held: &mut [u8], bytes: &[u8], size: usize)
-    requires room { size ≤ length held.old }
-    requires whole { size ≤ length bytes.now }
-    ensures { take size held.new ≡ take size bytes.now }
-{
-    held[..size].copy_from_slice(&bytes[..size]);
-}
-
 /// Has the source tell so many of the bytes that it holds, as framing asks for them: the header, and then the rest.
 fn tell_whole<R: Source>(source: &mut R, size: usize)
     requires header { 48 ≤ size }
     requires whole { size ≤ length (R.lent source.old) }
-    ensures told { R.read source.new ≡ lent_whole (R.read source.old) (take size (R.lent source.old)) }
+    ensures reported { R.read source.new ≡ lent_whole (R.read source.old) (take size (R.lent source.old)) }
     ensures rest { R.lent source.new ≡ drop size (R.lent source.old) }
     ensures known { Consumes (R.remaining source.old) (R.remaining source.new) (take size (R.lent source.old)) }
     ensures beside { R.beside source.new ≡ R.beside source.old }

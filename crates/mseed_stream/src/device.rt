@@ -14,7 +14,7 @@ pub struct Failed;
 ///
 /// Contracts name four things of a source: `read`, the record of what was read of it so far;
 /// `remaining`, the bytes that it has left, where they are known; `lent`, those of them that it
-/// holds already; and `beside`, what it took meanwhile, where it is a sink as well.
+/// holds already; and `beside`, what it accepted meanwhile, where it is a sink as well.
 pub trait Source {
     // What was read of it so far.
     ghost read: { Self → BytesRead };
@@ -25,13 +25,13 @@ pub trait Source {
     // The bytes that it holds already, and tells next.
     ghost lent: { Self → List ℕ } = { λ _. [] };
 
-    // What it took so far, where it is a sink as well. A read leaves it as it was.
+    // What it accepted so far, where it is a sink as well. A read leaves it as it was.
     ghost beside: { Self → BytesWritten } = { λ _. nothing_written };
 
     /// Reads once, into the beginning of `buf`, and answers how many bytes it read.
     ///
     /// The first 0 for a slice that isn't empty is the input's end. From then on each answer is
-    /// `Ok(0)`, and the device isn't asked. A short answer is no end.
+    /// `Ok(0)`, and the device isn't called. A short answer is no end.
     ///
     /// # Errors
     ///
@@ -45,7 +45,7 @@ pub trait Source {
         ensures first { ComesFirst (lent self.old) result buf.new }
         ensures beside { beside self.new ≡ beside self.old };
 
-    /// The bytes that it holds already, and tells next: nothing, where it holds none. It isn't asked.
+    /// The bytes that it holds already, and tells next: nothing, where it holds none. It isn't called.
     fn lend(&self) -> &[u8]
         ensures bytes { result.now ≡ lent self.now }
         ensures known { IfSome (remaining self.now) (λ left. StartsWith left (lent self.now)) };
@@ -61,11 +61,11 @@ pub trait Source {
 
 /// Where bytes go to.
 ///
-/// Contracts name three things of a sink: `written`, the record of what it took so far; `contents`,
+/// Contracts name three things of a sink: `written`, the record of what it accepted so far; `contents`,
 /// the bytes that it holds, where they are known; and `beside`, what was read of it meanwhile, where it
 /// is a source as well.
 pub trait Sink {
-    // What it took so far.
+    // What it accepted so far.
     ghost written: { Self → BytesWritten };
 
     // The bytes that it holds, where they are known.
@@ -74,13 +74,13 @@ pub trait Sink {
     // What was read of it so far, where it is a source as well. A write leaves it as it was.
     ghost beside: { Self → BytesRead } = { λ _. nothing_read };
 
-    /// Writes once, from the beginning of `bytes`, and answers how many bytes it took.
+    /// Writes once, from the beginning of `bytes`, and answers how many bytes it accepted.
     ///
     /// Of a slice that isn't empty it takes at least one byte, or it fails.
     ///
     /// # Errors
     ///
-    /// `Failed` where the device failed, or took none of the bytes that there were.
+    /// `Failed` where the device failed, or accepted none of the bytes that there were.
     fn put(&mut self, bytes: &[u8]) -> Result<usize, Failed>
         ensures bound { IfOk result (λ n. n ≤ length bytes.now) }
         ensures progress { IfOk result (λ n. 0 < length bytes.now → 0 < n) }
@@ -92,7 +92,7 @@ pub trait Sink {
 /// A source and a sink in one, as a socket is, of which a read writes nothing and a write reads
 /// nothing.
 pub trait Duplex: Source + Sink {
-    // What a read leaves as it was is what it took.
+    // What a read leaves as it was is what it accepted.
     ghost reads_apart: { (s : Self) → Self.Source.beside s ≡ Self.Sink.written s };
 
     // What a write leaves as it was is what was read of it.

@@ -7,11 +7,11 @@ use crate::counted::Counted;
 use crate::tally::Tally;
 use std::marker::{Model, PhantomData};
 
-/// What each link told and took, in order.
+/// What each link gave and accepted, in order.
 #[derive(Drop)]
 pub struct Exchanges {
     marker: PhantomData<u8>,
-    /// Of each link, the bytes that it told and those that it took.
+    /// Of each link, the bytes that it gave and those that it accepted.
     pub ghost all: { List Exchange } by { exchanges_code },
 }
 

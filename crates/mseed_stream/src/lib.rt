@@ -1,4 +1,4 @@
-//! Reading and writing devices by what they told, took and were asked.
+//! Reading and writing devices by what they gave, accepted and were called for.
 //!
 //! A [`Source`] tells bytes and a [`Sink`] takes them. Each has a record, for proofs alone, of all
 //! the bytes that went through it, of the calls that were made and of those that failed, so that a

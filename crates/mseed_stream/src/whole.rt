@@ -19,9 +19,9 @@ const ROOM: usize = 4096;
 ///
 /// # Errors
 ///
-/// `Read` where the source failed, with the number of bytes told before; `Turns` where it wasn't
-/// at its end after 2^40 reads; `Memory` where there was no room for bytes that it told. The bytes
-/// told in the call are lost then.
+/// `Read` where the source failed, with the number of bytes read before; `Turns` where it wasn't
+/// at its end after 2^40 reads; `Memory` where there was no room for bytes that it reported. The bytes
+/// reported in the call are lost then.
 pub fn read_all<R: Source>(alloc: Global, source: &mut R) -> Result<Vec<u8>, StreamFault>
     ensures ok { IfOk result (λ bytes.
         (R.read source.new).bytes ≡ (R.read source.old).bytes ++ bytes.items) }
@@ -34,7 +34,7 @@ pub fn read_all<R: Source>(alloc: Global, source: &mut R) -> Result<Vec<u8>, Str
     ensures fault { IfErr result (λ fault.
         IsStreamFault fault (R.read source.old) (R.read source.new)) }
 
-    // Memory is asked for only where a byte was told.
+    // Memory is requested only where a byte was read.
     ensures memory { result ≡ Err StreamFault.Memory
         → length (R.read source.old).bytes < length (R.read source.new).bytes }
     ensures prefix { IsPrefixOf (R.read source.old).bytes (R.read source.new).bytes }
@@ -63,7 +63,7 @@ pub fn read_all_in<A: Allocator, R: Source>(
     ensures fault { IfErr result (λ fault.
         IsStreamFault fault (R.read source.old) (R.read source.new)) }
 
-    // Memory is asked for only where a byte was told.
+    // Memory is requested only where a byte was read.
     ensures memory { result ≡ Err StreamFault.Memory
         → length (R.read source.old).bytes < length (R.read source.new).bytes }
     ensures prefix { IsPrefixOf (R.read source.old).bytes (R.read source.new).bytes }
@@ -89,7 +89,7 @@ pub fn read_all_in<A: Allocator, R: Source>(
 /// # Errors
 ///
 /// How many of the bytes were taken before the sink failed: fewer than there are. The sink isn't
-/// asked again.
+/// called again.
 pub fn write_all_of<W: Sink>(sink: &mut W, bytes: &[u8]) -> Result<(), usize>
     ensures ok { OnOk result ((W.written sink.new).bytes ≡ (W.written sink.old).bytes ++ bytes.now) }
     ensures fine { OnOk result ((W.written sink.new).failures ≡ (W.written sink.old).failures) }
@@ -98,7 +98,7 @@ pub fn write_all_of<W: Sink>(sink: &mut W, bytes: &[u8]) -> Result<(), usize>
     ensures within { IfErr result (λ n. n < length bytes.now) }
     ensures failed { OnErr result ((W.written sink.new).failures ≡ (W.written sink.old).failures + 1) }
 
-    // What the sink is known to hold grew by what it took.
+    // What the sink is known to hold grew by what it accepted.
     ensures known { MatchResult result
         (λ _. Appends (W.contents sink.old) (W.contents sink.new) bytes.now)
         (λ n. Appends (W.contents sink.old) (W.contents sink.new) (take n bytes.now)) }

@@ -43,7 +43,7 @@ pub record MayCut (h : BytesRead) (c : Standing) : Type 0 where
   pub asks : (k : ℕ) × Decides c.prefix (Need k)
   pub going_on : h.is_at_end ≡ false
 
--- what the reads for one record come to: what was told is held up to a stop, and is a record, nothing at the input's
+-- what the reads for one record come to: what was read is held up to a stop, and is a record, nothing at the input's
 -- end, or the bytes of a fault
 pub record IsCut (answer : Result Bool StreamFault) (c after : Standing) (old new : BytesRead) : Type 0 where
   pub read : IsRead new after
@@ -51,7 +51,7 @@ pub record IsCut (answer : Result Bool StreamFault) (c after : Standing) (old ne
   pub room : c.room ≤ after.room
   pub stop : IsReadTo after.prefix (is_short answer new.is_at_end)
   pub found : answer ≡ Ok true → IsRecord after.prefix × (new.is_at_end ≡ false)
-  pub asked : answer ≡ Ok true → old.calls + 2 ≤ new.calls + asks_of c.prefix
+  pub called : answer ≡ Ok true → old.calls + 2 ≤ new.calls + asks_of c.prefix
   pub quiet : (new.calls ≤ old.calls → after.prefix ≡ c.prefix) × (old.calls ≤ new.calls)
   pub ended : answer ≡ Ok false → (after.prefix ≡ []) × (new.is_at_end ≡ true)
   pub fine : OnOk answer (new.failures ≡ old.failures)

@@ -12,17 +12,17 @@ consume-requires-2 g c =
     let lent : List ℕ = g.R.Source.lent c.args.source.now in
     omega (arith, ap (λ (xs : List ℕ). length xs) c.consume.ensures.rest, length-drop 48 lent, c.requires.whole)
 
-pub returns-clause-told : goal.returns-clause-told
-returns-clause-told g c =
+pub returns-clause-reported : goal.returns-clause-reported
+returns-clause-reported g c =
     let lent : List ℕ = g.R.Source.lent c.args.source.now in
     let size : ℕ = c.args.size in
-    let told : BytesRead = g.R.Source.read c.args.source.now in
+    let reported : BytesRead = g.R.Source.read c.args.source.now in
     let later : List ℕ = take (size - 48) (g.R.Source.lent c.consume.new.self) in
     let parts : take 48 lent ++ later ≡ take size lent =
     ap (λ (xs : List ℕ). take 48 lent ++ take (size - 48) xs) c.consume.ensures.rest
     ∙ sym (two_parts lent 48 size c.requires.header) in
     c.consume-2.ensures.read ∙ (ap (λ (h : BytesRead). lent_also h later) c.consume.ensures.read
-    ∙ (lent_twice told (take 48 lent) later ∙ ap (λ (xs : List ℕ). lent_whole told xs) parts))
+    ∙ (lent_twice reported (take 48 lent) later ∙ ap (λ (xs : List ℕ). lent_whole reported xs) parts))
 
 pub returns-clause-rest : goal.returns-clause-rest
 returns-clause-rest g c =

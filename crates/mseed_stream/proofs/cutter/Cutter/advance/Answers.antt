@@ -9,7 +9,7 @@ use Rattle.mseed_stream.specs.Archive.{IsEndOf, clean}
 use Rattle.mseed_stream.specs.Cutting.{IsAlong, IsCutFault, read_from}
 use Rattle.mseed_stream.specs.private.Steps.{lent_of}
 use Rattle.mseed_stream.proofs.Handed.{records_after, archive_at}
-use Rattle.mseed_stream.proofs.Settled.{along_settled, clean_end, nothing_found, told_is, record_found, fault_found}
+use Rattle.mseed_stream.proofs.Settled.{along_settled, clean_end, nothing_found, reported_is, record_found, fault_found}
 use Rattle.mseed_stream.proofs.Settled.{fault_again, end_again}
 use Rattle.mseed_stream.proofs.cutter.Cutter.advance.Goals as goal
 
@@ -39,14 +39,14 @@ returns-clause-end g c e =
 pub returns-in-Some-clause-archive : goal.returns-in-Some-clause-archive
 returns-in-Some-clause-archive g c records has =
     let offset : ℕ = c.args.self.now.offset in
-    let told : BytesRead = g.R.Source.read c.args.source.now in
-    let within : offset ≤ length told.bytes = omega (arith, c.requires.read.told) in
+    let reported : BytesRead = g.R.Source.read c.args.source.now in
+    let within : offset ≤ length reported.bytes = omega (arith, c.requires.read.reported) in
     let same : c.args.self.now.answer ≡ Some c.in-Some.ending = sym (ap (λ (s : Standing). s.answer) c.self.view_is)
     ∙ c.in-Some.is in
-    archive_at c.answer.result told told [] offset records within (sym (append-nil told.bytes)) has
-    (end_again c.answer.result c.args.self.now.answer c.in-Some.ending offset told same c.answer.ensures
+    archive_at c.answer.result reported reported [] offset records within (sym (append-nil reported.bytes)) has
+    (end_again c.answer.result c.args.self.now.answer c.in-Some.ending offset reported same c.answer.ensures
     c.requires.ended)
-    (fault_again c.answer.result c.args.self.now.answer c.in-Some.ending offset told same c.answer.ensures
+    (fault_again c.answer.result c.args.self.now.answer c.in-Some.ending offset reported same c.answer.ensures
     c.requires.ended)
 
 pub returns-clause-records : goal.returns-clause-records
@@ -56,13 +56,13 @@ returns-clause-records g c records has =
     let offset : ℕ = c.args.self.now.offset in
     let old : BytesRead = g.R.Source.read c.args.source.now in
     let new : BytesRead = g.R.Source.read c.cut-found.new.source in
-    let within : offset ≤ length old.bytes = omega (arith, c.requires.read.told) in
+    let within : offset ≤ length old.bytes = omega (arith, c.requires.read.reported) in
     let same_offset : after.offset ≡ offset = cut.stays.0 ∙ ap (λ (s : Standing). s.offset) c.forget.ensures in
-    let told : after.prefix ≡ read_from offset new = sym (told_is new after cut.read cut.stays.1)
+    let reported : after.prefix ≡ read_from offset new = sym (reported_is new after cut.read cut.stays.1)
     ∙ ap (λ (n : ℕ). read_from n new) same_offset in
     let found = record_found c.cut-found.result (length after.prefix) after.prefix new.is_at_end cut.found in
     let is = subst (λ (xs : List ℕ). IfOk (lent_of (length after.prefix) c.cut-found.result)
-    (λ o. IfSome o (λ m. IsRecord xs))) told found in
+    (λ o. IfSome o (λ m. IsRecord xs))) reported found in
     let handed = subst (λ (r : Result (Option ℕ) StreamFault). IfOk r
     (λ o. IfSome o (λ m. IsRecord (read_from offset new)))) (sym c.settle.ensures.answer) is in
     records_after c.settle.result old new c.cut-found.ensures.more.0 offset records within c.cut-found.ensures.more.1
@@ -90,7 +90,7 @@ returns-clause-archive g c records has =
     let offset : ℕ = c.args.self.now.offset in
     let old : BytesRead = g.R.Source.read c.args.source.now in
     let new : BytesRead = g.R.Source.read c.cut-found.new.source in
-    let within : offset ≤ length old.bytes = omega (arith, c.requires.read.told) in
+    let within : offset ≤ length old.bytes = omega (arith, c.requires.read.reported) in
     let same_offset : after.offset ≡ offset = cut.stays.0 ∙ ap (λ (s : Standing). s.offset) c.forget.ensures in
     archive_at c.settle.result old new c.cut-found.ensures.more.0 offset records within c.cut-found.ensures.more.1 has
     (returns-clause-end g c) (returns-clause-fault g c)

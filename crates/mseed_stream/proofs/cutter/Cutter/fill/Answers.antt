@@ -18,7 +18,7 @@ loop-self-preserved g c =
     let n : ℕ = c.in-Ok.n in
     let now : List ℕ = c.pull_between.new.held in
     let items : List ℕ = i.held.items in
-    let told : List ℕ = take n (slice_range now have c.args.needed) in
+    let reported : List ℕ = take n (slice_range now have c.args.needed) in
     let before : Standing = record {
       offset = i.offset;
       prefix = take have items;
@@ -43,24 +43,24 @@ loop-self-preserved g c =
     ∙ ap (λ (xs : List ℕ). take have xs) c.deref_mut.ensures.value in
     let bound : have + n ≤ c.args.needed = c.in-Ok.ensures.bound in
     let fits : c.args.needed ≤ room = inv.fits in
-    let prefix : prefix_now ≡ take have items ++ told =
+    let prefix : prefix_now ≡ take have items ++ reported =
     ap (λ (xs : List ℕ). take (have + n) xs) (written_back now items room size)
     ∙ prefix_more items now have n c.args.needed same bound in
-    let bytes : new.bytes ≡ old.bytes ++ told = ap (λ (h : BytesRead). h.bytes) c.in-Ok.ensures.read in
+    let bytes : new.bytes ≡ old.bytes ++ reported = ap (λ (h : BytesRead). h.bytes) c.in-Ok.ensures.read in
     let calls : new.calls ≡ old.calls + 1 = ap (λ (h : BytesRead). h.calls) c.in-Ok.ensures.read in
     let within : length prefix_now ≤ room =
     omega (arith, length-take (have + n) (take room (now ++ drop (length now) items))) in
     let few : i.reads < 2 ^ 40 = omega (arith, inv.read.few_reads, c.if-self-eq-TURNS.false) in
     let small : room ≤ 2 ^ 20 = inv.read.small in
     record {
-      read = read_more old new before after told inv.read inv.not_lent inv.not_lent refl prefix bytes calls refl few
+      read = read_more old new before after reported inv.read inv.not_lent inv.not_lent refl prefix bytes calls refl few
           within small;
       not_lent = inv.not_lent;
       more = (
-        inv.more.0 ++ told,
+        inv.more.0 ++ reported,
         bytes
-            ∙ (ap (λ (xs : List ℕ). xs ++ told) inv.more.1
-            ∙ append_assoc (g.R.Source.read c.args.source.now).bytes inv.more.0 told),
+            ∙ (ap (λ (xs : List ℕ). xs ++ reported) inv.more.1
+            ∙ append_assoc (g.R.Source.read c.args.source.now).bytes inv.more.0 reported),
         Consumes-trans _ _ _ _ _ inv.more.2 c.in-Ok.ensures.known.0,
       );
       offset = inv.offset;
@@ -69,10 +69,10 @@ loop-self-preserved g c =
       fits = inv.fits;
       within = bound;
       framer = subst (λ (xs : List ℕ). IsFramerOf i.framer xs) (sym prefix)
-          (framer_more i.framer (take have items) told inv.framer);
+          (framer_more i.framer (take have items) reported inv.framer);
       going_on = grind (arith, common_steps, c.in-Ok.ensures.read);
       calls = omega (arith, calls, inv.calls);
-      asked = λ grown. omega (arith, calls, inv.calls);
+      called = λ grown. omega (arith, calls, inv.calls);
       failures = grind (arith, common_steps, c.in-Ok.ensures.read);
       beside = c.in-Ok.ensures.beside ∙ inv.beside;
     }

@@ -24,7 +24,7 @@ invariant-loop-self g l = let c = l.self-inside in record {
   framer : IsFramerOf c.framer (take c.have c.held.items);
   going_on : (g.R.Source.read l.source).is_at_end ≡ false;
   calls : (g.R.Source.read l.fn.source).calls ≤ (g.R.Source.read l.source).calls;
-  asked : length l.fn.self.prefix < c.have → (g.R.Source.read l.fn.source).calls < (g.R.Source.read l.source).calls;
+  called : length l.fn.self.prefix < c.have → (g.R.Source.read l.fn.source).calls < (g.R.Source.read l.source).calls;
   failures : (g.R.Source.read l.source).failures ≡ (g.R.Source.read l.fn.source).failures;
   beside : g.R.Source.beside l.source ≡ g.R.Source.beside l.fn.source;
 }

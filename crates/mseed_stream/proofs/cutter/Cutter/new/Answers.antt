@@ -6,7 +6,7 @@ use Rattle.mseed_stream.proofs.cutter.Cutter.new.Goals as goal
 pub returns-clause-along : goal.returns-clause-along
 returns-clause-along g c = record {
   read = record {
-    told = refl;
+    reported = refl;
     held = refl;
     reads = refl;
     few_reads = omega arith;
@@ -26,5 +26,5 @@ returns-clause-handed g c = record {
   goes_on = refl;
   fine = refl;
   records = record { each = tt; records = record { joined = refl; each = tt }; offset_is = refl };
-  asked = omega arith;
+  called = omega arith;
 }

@@ -35,22 +35,22 @@ returns-in-Some g c =
     let after : Standing = c.advance.new.self in
     let old : BytesRead = g.R.Source.read c.args.source.now in
     let new : BytesRead = g.R.Source.read c.advance.new.source in
-    let told : List ℕ = read_from before.offset new in
+    let reported : List ℕ = read_from before.offset new in
     let view : View = view_of c.of_record.result in
     let items : List ℕ = c.self.inside.held.items in
     let prefix : take c.self.inside.have items ≡ after.prefix = ap (λ (s : Standing). s.prefix) c.self.view_is in
     let size : length items ≡ length c.deref.result.now = ap (λ (xs : List ℕ). length xs) (sym c.deref.ensures.value) in
     let within : c.self.inside.have ≤ length items = omega (arith, size, c.deref.ensures.len, c.self.invariant.0) in
-    let bytes : view.bytes ≡ told = c.of_record.ensures.bytes
+    let bytes : view.bytes ≡ reported = c.of_record.ensures.bytes
     ∙ (ap (λ (xs : List ℕ). take c.in-Some.length xs) c.deref.ensures.value
     ∙ (taken items after.prefix c.self.inside.have c.in-Some.length prefix it.record.0 within ∙ it.record.2)) in
-    let moved : after.offset ≡ before.offset + length told =
+    let moved : after.offset ≡ before.offset + length reported =
     it.offset ∙ ap (λ (xs : List ℕ). before.offset + length xs) it.record.2 in
     let handed = λ (views : List View) (h : HasHandedOut old before views). subst
     (λ (x : Standing). HasHandedOut new x (views ++ view ∷ [])) (sym c.self.view_is)
     (handed_record old new before after views view h c.of_record.ensures.view bytes
     (it.records (bytes_in views) h.records.records) it.along moved it.kept (omega (arith, it.failed h.goes_on))
-    it.asked) in (
+    it.called) in (
       (
         refl,
         λ _. tt,
@@ -72,7 +72,7 @@ returns-in-Some g c =
         all = λ views h. tt;
         memory = λ e. cc;
         read_to = it.read_to;
-        asked = omega (arith, it.asked, few_asks (held_of before));
+        called = omega (arith, it.called, few_asks (held_of before));
         failed = it.failed;
         repeats = no_record before.answer c.in-Some.length c.of_record.result (new ≡ old) it.repeats;
         most = it.most;

@@ -1,7 +1,7 @@
 use Rattle.std.proofs.Common.{◌≡◌, ◌+◌, ◌-◌, ◌≤◌, ◌^◌, [], length, true, false, if◌then◌else◌}
 use Rattle.std.specs.Io.KnownBytes.{IsAtEnd}
 use Rattle.mseed_stream.specs.Cutting.{IsRead, IsReadTo, TellsMore}
-use Rattle.mseed_stream.proofs.cutter.Cutter.cut_by_stops.Given as goal
+use Rattle.mseed_stream.proofs.cutter.Cutter.cut.Given as goal
 
 abbrev pub invariant-stops : goal.invariant-stops
 invariant-stops g l = record {
@@ -16,7 +16,7 @@ invariant-stops g l = record {
   end : (g.R.Source.read l.source).is_at_end ≡ l.is_at_end;
   known : l.is_at_end ≡ true → IsAtEnd (g.R.Source.remaining l.source);
   calls : (g.R.Source.read l.fn.source).calls ≤ (g.R.Source.read l.source).calls;
-  asked : (g.R.Source.read l.source).calls ≤ (g.R.Source.read l.fn.source).calls → l.self.prefix ≡ l.fn.self.prefix;
+  called : (g.R.Source.read l.source).calls ≤ (g.R.Source.read l.fn.source).calls → l.self.prefix ≡ l.fn.self.prefix;
   header : l.fn.self.prefix ≡ [] → (g.R.Source.read l.source).calls ≤ (g.R.Source.read l.fn.source).calls + 1
       → length l.self.prefix ≤ 48;
   failures : (g.R.Source.read l.source).failures ≡ (g.R.Source.read l.fn.source).failures;
