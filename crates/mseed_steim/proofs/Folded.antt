@@ -44,7 +44,7 @@ pub fits_not : (z : ℤ) → fits z ≡ false → ¬ (IsSample z)
 fits_not (pos n) e s = let h : 2 ^ 31 ≤ n = grind (arith, nat_tests) in omega (arith, ints, s.1)
 fits_not (negsuc n) e s = let h : 2 ^ 31 ≤ n = grind (arith, nat_tests) in omega (arith, ints, s.0)
 
--- a difference in front
+-- a difference before it
 more_folded : (n m : ℕ) (l d : ℤ) (items : List (Result ℤ BadWordAt)) (mets : List ℤ) (r : Result Sum ReadFault)
     → IsSample (l +ℤ d) → Folds n (m + 1) (l +ℤ d) items mets r → Folds n m l (Ok d ∷ items) ((l +ℤ d) ∷ mets) r
 more_folded n m l d items mets r fit (done next ds ss more e count same adds all met last kept) =

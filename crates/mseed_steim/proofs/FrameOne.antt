@@ -208,21 +208,21 @@ tells_one a b c d A B C D =
     (one_9 a b c d A B C D)) (one_10 a b c d A B C D)) (one_11 a b c d A B C D)) (one_12 a b c d A B C D))
     (one_13 a b c d A B C D)) (one_14 a b c d A B C D)) (one_15 a b c d A B C D)
 
-abbrev pub Told_one : (ℕ → ℕ) → (ℕ → ℕ) → (ℕ → ℕ) → (ℕ → ℤ) → ℕ → Type 0
-Told_one count whole least moved w = count w < 128 → (pos (whole w) ≡ moved w +ℤ pos (least w)) × (whole w ≤ 131072)
+abbrev pub Reported_one : (ℕ → ℕ) → (ℕ → ℕ) → (ℕ → ℕ) → (ℕ → ℤ) → ℕ → Type 0
+Reported_one count whole least moved w = count w < 128 → (pos (whole w) ≡ moved w +ℤ pos (least w)) × (whole w ≤ 131072)
     × (least w ≤ 65536)
 
 step : (x X l L : ℕ) (m M : ℤ) → pos x ≡ m +ℤ pos l → pos X ≡ M +ℤ pos L → pos (x + X) ≡ (m +ℤ M) +ℤ pos (l + L)
 step x X l L m M f h = omega (arith, ints, f, h)
 
-told_all_one : (count whole least : ℕ → ℕ) (moved : ℕ → ℤ) → ((w : ℕ) → Told_one count whole least moved w)
+reported_all_one : (count whole least : ℕ → ℕ) (moved : ℕ → ℤ) → ((w : ℕ) → Reported_one count whole least moved w)
     → (ws : List ℕ) → sum_l (map count ws) < 128
     → (pos (sum_l (map whole ws)) ≡ sum_z (map moved ws) +ℤ pos (sum_l (map least ws)))
     × (sum_l (map whole ws) ≤ 131072 * length ws) × (sum_l (map least ws) ≤ 65536 * length ws)
-told_all_one count whole least moved h [] lt = (refl, omega arith, omega arith)
-told_all_one count whole least moved h (w ∷ ws) lt =
+reported_all_one count whole least moved h [] lt = (refl, omega arith, omega arith)
+reported_all_one count whole least moved h (w ∷ ws) lt =
     let a = h w (omega (arith, lt)) in
-    let b = told_all_one count whole least moved h ws (omega (arith, lt)) in (
+    let b = reported_all_one count whole least moved h ws (omega (arith, lt)) in (
       step (whole w) (sum_l (map whole ws)) (least w) (sum_l (map least ws)) (moved w) (sum_z (map moved ws)) a.0 b.0,
       omega (arith, a.1, b.1),
       omega (arith, a.2, b.2),
@@ -266,10 +266,10 @@ sums_512 l (w ∷ ws) = let ih = sums_512 l ws in omega (arith, ih)
 abbrev whole_at_one : List ℕ → ℕ → ℕ → ℕ
 whole_at_one f from w = whole_one (row_at f from w) (byte_at f 0 w) (byte_at f 1 w) (byte_at f 2 w) (byte_at f 3 w)
 
-told_one : (f : List ℕ) (from : ℕ) → ((k : ℕ) → get_or f k 0 < 256) → (w : ℕ)
-    → Told_one (λ w. get_or counts_one (row_at f from w) 0) (whole_at_one f from)
+reported_one : (f : List ℕ) (from : ℕ) → ((k : ℕ) → get_or f k 0 < 256) → (w : ℕ)
+    → Reported_one (λ w. get_or counts_one (row_at f from w) 0) (whole_at_one f from)
     (λ w. 512 * least_one (row_at f from w)) (moved_one f from) w
-told_one f from h w =
+reported_one f from h w =
     tells_one (byte_at f 0 w) (byte_at f 1 w) (byte_at f 2 w) (byte_at f 3 w) (h (4 * w + 0)) (h (4 * w + 1))
     (h (4 * w + 2)) (h (4 * w + 3)) (row_at f from w) (row_small f from h w)
 
@@ -285,8 +285,8 @@ pub frame_sum_one : (f : List ℕ) (from : ℕ) → ((k : ℕ) → get_or f k 0 
     → sum_l (map (λ w. get_or counts_one (row_at f from w) 0) words) < 128
     → to_z w32 r ≡ sum_z (map (moved_one f from) words)
 frame_sum_one f from h r le LO HI come small lo hi l few =
-    let all = told_all_one (λ w. get_or counts_one (row_at f from w) 0) (whole_at_one f from)
-    (λ w. 512 * least_one (row_at f from w)) (moved_one f from) (told_one f from h) words few in
+    let all = reported_all_one (λ w. get_or counts_one (row_at f from w) 0) (whole_at_one f from)
+    (λ w. 512 * least_one (row_at f from w)) (moved_one f from) (reported_one f from h) words few in
     let W : ℕ = sum_l (map (whole_at_one f from) words) in
     let L : ℕ = sum_l (map (λ w. 512 * least_one (row_at f from w)) words) in
     let is_w : LO + 256 * HI ≡ W =

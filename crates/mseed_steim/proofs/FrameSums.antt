@@ -12,8 +12,9 @@ use Rattle.mseed_steim.specs.private.Lanes.{least_coarse_two}
 use Rattle.mseed_steim.proofs.LaneSums.{long_words}
 use Rattle.mseed_steim.proofs.FrameWords.{tells, whole, least}
 
-abbrev pub Told : (ℕ → ℕ) → (ℕ → ℕ) → (ℕ → ℕ) → (ℕ → ℤ) → ℕ → Type 0
-Told count whole least moved w = count w < 128 → (whole w % 128 ≡ 0) × (pos (whole w / 128) ≡ moved w +ℤ pos (least w))
+abbrev pub Reported : (ℕ → ℕ) → (ℕ → ℕ) → (ℕ → ℕ) → (ℕ → ℤ) → ℕ → Type 0
+Reported count whole least moved w = count w < 128 → (whole w % 128 ≡ 0)
+    × (pos (whole w / 128) ≡ moved w +ℤ pos (least w))
     × (whole w / 128 ≤ 65536) × (least w ≤ 32768)
 
 step : (x X l L : ℕ) (m M : ℤ) → x % 128 ≡ 0 → pos (x / 128) ≡ m +ℤ pos l → X % 128 ≡ 0 → pos (X / 128) ≡ M +ℤ pos L
@@ -22,15 +23,16 @@ step x X l L m M e f g h =
     let k : (x + X) / 128 ≡ x / 128 + X / 128 = omega (arith, e, g) in
     ap pos k ∙ omega (arith, ints, f, h)
 
-pub told_all : (count whole least : ℕ → ℕ) (moved : ℕ → ℤ) → ((w : ℕ) → Told count whole least moved w) → (ws : List ℕ)
+pub reported_all : (count whole least : ℕ → ℕ) (moved : ℕ → ℤ) → ((w : ℕ) → Reported count whole least moved w)
+    → (ws : List ℕ)
     → sum_l (map count ws) < 128
     → (sum_l (map whole ws) % 128 ≡ 0)
     × (pos (sum_l (map whole ws) / 128) ≡ sum_z (map moved ws) +ℤ pos (sum_l (map least ws)))
     × (sum_l (map whole ws) / 128 ≤ 65536 * length ws) × (sum_l (map least ws) ≤ 32768 * length ws)
-told_all count whole least moved h [] lt = (refl, refl, omega arith, omega arith)
-told_all count whole least moved h (w ∷ ws) lt =
+reported_all count whole least moved h [] lt = (refl, refl, omega arith, omega arith)
+reported_all count whole least moved h (w ∷ ws) lt =
     let a = h w (omega (arith, lt)) in
-    let b = told_all count whole least moved h ws (omega (arith, lt)) in (
+    let b = reported_all count whole least moved h ws (omega (arith, lt)) in (
       omega (arith, a.0, b.0),
       step (whole w) (sum_l (map whole ws)) (least w) (sum_l (map least ws)) (moved w) (sum_z (map moved ws)) a.0 a.1
           b.0 b.1,
@@ -86,10 +88,10 @@ row_small f from h w =
 abbrev pub whole_at : List ℕ → ℕ → ℕ → ℕ
 whole_at f from w = whole (row_at f from w) (byte_at f 0 w) (byte_at f 1 w) (byte_at f 2 w) (byte_at f 3 w)
 
-told : (f : List ℕ) (from : ℕ) → ((k : ℕ) → get_or f k 0 < 256) → (w : ℕ)
-    → Told (λ w. get_or counts_two (row_at f from w) 0) (whole_at f from) (λ w. least (row_at f from w))
+reported : (f : List ℕ) (from : ℕ) → ((k : ℕ) → get_or f k 0 < 256) → (w : ℕ)
+    → Reported (λ w. get_or counts_two (row_at f from w) 0) (whole_at f from) (λ w. least (row_at f from w))
     (moved_two f from) w
-told f from h w =
+reported f from h w =
     tells (byte_at f 0 w) (byte_at f 1 w) (byte_at f 2 w) (byte_at f 3 w) (h (4 * w + 0)) (h (4 * w + 1))
     (h (4 * w + 2)) (h (4 * w + 3)) (row_at f from w) (row_small f from h w)
 
@@ -114,8 +116,8 @@ pub frame_sum : (f : List ℕ) (from : ℕ) → ((k : ℕ) → get_or f k 0 < 25
     → to_z w32 (of_z w32 (to_z w32 ((r + 134217728) % 4294967296 / 128) -ℤ pos 1048576))
     ≡ sum_z (map (moved_two f from) words)
 frame_sum f from h r le far ON FI CO come small on fi co l c few =
-    let all = told_all (λ w. get_or counts_two (row_at f from w) 0) (whole_at f from) (λ w. least (row_at f from w))
-    (moved_two f from) (told f from h) words few in
+    let all = reported_all (λ w. get_or counts_two (row_at f from w) 0) (whole_at f from) (λ w. least (row_at f from w))
+    (moved_two f from) (reported f from h) words few in
     let W : ℕ = sum_l (map (whole_at f from) words) in
     let L : ℕ = sum_l (map (λ w. least (row_at f from w)) words) in
     let is_w : 128 * ON + FI + 32768 * CO ≡ W =

@@ -1,5 +1,5 @@
 -- A frame's words, unpacked one after another, spell what they say.
-use Rattle.std.proofs.Common.{◌≡◌, ◌≢◌, ℕ, zero, suc, ◌+◌, ◌-◌, ◌*◌, ◌%◌, ◌^◌, ◌<◌, ◌≤◌, List, ◌∷◌, ◌++◌, length, map}
+use Rattle.std.proofs.Common.{◌≡◌, ◌≢◌, ℕ, zero, suc, ◌+◌, ◌-◌, ◌*◌, ◌%◌, ◌^◌, ◌<◌, ◌≤◌, List, ◌∷◌, ◌++◌, map}
 use Rattle.std.proofs.Common.{take, drop, get_or, ℤ, refl, sym, ap, subst, ◌∙◌, append_assoc, append-nil, arith, inl}
 use Rattle.std.proofs.Common.{inr, Some, Ok, Result}
 use Rattle.std.specs.List.{range_with_len}

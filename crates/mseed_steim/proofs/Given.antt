@@ -23,7 +23,7 @@ IsWord w = w.bits < 2 ^ 32
 pub word_small : (p : List ℕ) (k : ℕ) → ((i : ℕ) → get_or p i 0 < 256) → word_at p k < 2 ^ 32
 word_small p k octets = big_from-lt 0 4 (drop (4 * k) p) (λ i. rw (get_or-drop (4 * k) p i 0) (octets (4 * k + i)))
 
--- a word in front, with what it spells
+-- a word before it, with what it spells
 more_given : (s : Scheme) (w : DataWord) (ws : List DataWord) (ds : List ℤ) (items : List (Result ℤ BadWordAt))
     → Spells s w.code w.bits ds → Gives s ws items → Gives s (w ∷ ws) (map Ok ds ++ items)
 more_given s w ws ds items p (all es run e) =

@@ -26,7 +26,7 @@ yes x limit k m a b = (λ _. b, λ _. a)
 no : (x limit k m : ℕ) → limit ≤ x → m < k → (x < limit) ↔ (k ≤ m)
 no x limit k m a b = (λ h. absurd (omega (arith, h, a)), λ h. absurd (omega (arith, h, b)))
 
-record Two_told (x m : ℕ) : Type 0 where
+record Two_reported (x m : ℕ) : Type 0 where
   pub at_2 : (x < 16384) ↔ (2 ≤ m)
   pub at_3 : (x < 512) ↔ (3 ≤ m)
   pub at_4 : (x < 128) ↔ (4 ≤ m)
@@ -34,7 +34,7 @@ record Two_told (x m : ℕ) : Type 0 where
   pub at_6 : (x < 16) ↔ (6 ≤ m)
   pub at_7 : (x < 8) ↔ (7 ≤ m)
 
-level_two_7 : (x : ℕ) → x < 8 → Two_told x (most_two x)
+level_two_7 : (x : ℕ) → x < 8 → Two_reported x (most_two x)
 level_two_7 x high =
     let value : most_two x ≡ 7 = rw (
       lt-ltb x 16384 (omega (arith, high)),
@@ -44,7 +44,7 @@ level_two_7 x high =
       lt-ltb x 16 (omega (arith, high)),
       lt-ltb x 8 (omega (arith, high)),
     ) refl in
-    subst (λ (m : ℕ). Two_told x m) (sym value) (record {
+    subst (λ (m : ℕ). Two_reported x m) (sym value) (record {
       at_2 = yes x 16384 2 7 (omega (arith, high)) (omega arith);
       at_3 = yes x 512 3 7 (omega (arith, high)) (omega arith);
       at_4 = yes x 128 4 7 (omega (arith, high)) (omega arith);
@@ -53,7 +53,7 @@ level_two_7 x high =
       at_7 = yes x 8 7 7 (omega (arith, high)) (omega arith);
     })
 
-level_two_6 : (x : ℕ) → 8 ≤ x → x < 16 → Two_told x (most_two x)
+level_two_6 : (x : ℕ) → 8 ≤ x → x < 16 → Two_reported x (most_two x)
 level_two_6 x low high =
     let value : most_two x ≡ 6 = rw (
       lt-ltb x 16384 (omega (arith, high)),
@@ -63,7 +63,7 @@ level_two_6 x low high =
       lt-ltb x 16 (omega (arith, high)),
       le-ltb x 8 (omega (arith, low)),
     ) refl in
-    subst (λ (m : ℕ). Two_told x m) (sym value) (record {
+    subst (λ (m : ℕ). Two_reported x m) (sym value) (record {
       at_2 = yes x 16384 2 6 (omega (arith, high)) (omega arith);
       at_3 = yes x 512 3 6 (omega (arith, high)) (omega arith);
       at_4 = yes x 128 4 6 (omega (arith, high)) (omega arith);
@@ -72,7 +72,7 @@ level_two_6 x low high =
       at_7 = no x 8 7 6 (omega (arith, low)) (omega arith);
     })
 
-level_two_5 : (x : ℕ) → 16 ≤ x → x < 32 → Two_told x (most_two x)
+level_two_5 : (x : ℕ) → 16 ≤ x → x < 32 → Two_reported x (most_two x)
 level_two_5 x low high =
     let value : most_two x ≡ 5 = rw (
       lt-ltb x 16384 (omega (arith, high)),
@@ -82,7 +82,7 @@ level_two_5 x low high =
       le-ltb x 16 (omega (arith, low)),
       le-ltb x 8 (omega (arith, low)),
     ) refl in
-    subst (λ (m : ℕ). Two_told x m) (sym value) (record {
+    subst (λ (m : ℕ). Two_reported x m) (sym value) (record {
       at_2 = yes x 16384 2 5 (omega (arith, high)) (omega arith);
       at_3 = yes x 512 3 5 (omega (arith, high)) (omega arith);
       at_4 = yes x 128 4 5 (omega (arith, high)) (omega arith);
@@ -91,7 +91,7 @@ level_two_5 x low high =
       at_7 = no x 8 7 5 (omega (arith, low)) (omega arith);
     })
 
-level_two_4 : (x : ℕ) → 32 ≤ x → x < 128 → Two_told x (most_two x)
+level_two_4 : (x : ℕ) → 32 ≤ x → x < 128 → Two_reported x (most_two x)
 level_two_4 x low high =
     let value : most_two x ≡ 4 = rw (
       lt-ltb x 16384 (omega (arith, high)),
@@ -101,7 +101,7 @@ level_two_4 x low high =
       le-ltb x 16 (omega (arith, low)),
       le-ltb x 8 (omega (arith, low)),
     ) refl in
-    subst (λ (m : ℕ). Two_told x m) (sym value) (record {
+    subst (λ (m : ℕ). Two_reported x m) (sym value) (record {
       at_2 = yes x 16384 2 4 (omega (arith, high)) (omega arith);
       at_3 = yes x 512 3 4 (omega (arith, high)) (omega arith);
       at_4 = yes x 128 4 4 (omega (arith, high)) (omega arith);
@@ -110,7 +110,7 @@ level_two_4 x low high =
       at_7 = no x 8 7 4 (omega (arith, low)) (omega arith);
     })
 
-level_two_3 : (x : ℕ) → 128 ≤ x → x < 512 → Two_told x (most_two x)
+level_two_3 : (x : ℕ) → 128 ≤ x → x < 512 → Two_reported x (most_two x)
 level_two_3 x low high =
     let value : most_two x ≡ 3 = rw (
       lt-ltb x 16384 (omega (arith, high)),
@@ -120,7 +120,7 @@ level_two_3 x low high =
       le-ltb x 16 (omega (arith, low)),
       le-ltb x 8 (omega (arith, low)),
     ) refl in
-    subst (λ (m : ℕ). Two_told x m) (sym value) (record {
+    subst (λ (m : ℕ). Two_reported x m) (sym value) (record {
       at_2 = yes x 16384 2 3 (omega (arith, high)) (omega arith);
       at_3 = yes x 512 3 3 (omega (arith, high)) (omega arith);
       at_4 = no x 128 4 3 (omega (arith, low)) (omega arith);
@@ -129,7 +129,7 @@ level_two_3 x low high =
       at_7 = no x 8 7 3 (omega (arith, low)) (omega arith);
     })
 
-level_two_2 : (x : ℕ) → 512 ≤ x → x < 16384 → Two_told x (most_two x)
+level_two_2 : (x : ℕ) → 512 ≤ x → x < 16384 → Two_reported x (most_two x)
 level_two_2 x low high =
     let value : most_two x ≡ 2 = rw (
       lt-ltb x 16384 (omega (arith, high)),
@@ -139,7 +139,7 @@ level_two_2 x low high =
       le-ltb x 16 (omega (arith, low)),
       le-ltb x 8 (omega (arith, low)),
     ) refl in
-    subst (λ (m : ℕ). Two_told x m) (sym value) (record {
+    subst (λ (m : ℕ). Two_reported x m) (sym value) (record {
       at_2 = yes x 16384 2 2 (omega (arith, high)) (omega arith);
       at_3 = no x 512 3 2 (omega (arith, low)) (omega arith);
       at_4 = no x 128 4 2 (omega (arith, low)) (omega arith);
@@ -148,7 +148,7 @@ level_two_2 x low high =
       at_7 = no x 8 7 2 (omega (arith, low)) (omega arith);
     })
 
-level_two_1 : (x : ℕ) → 16384 ≤ x → Two_told x (most_two x)
+level_two_1 : (x : ℕ) → 16384 ≤ x → Two_reported x (most_two x)
 level_two_1 x low =
     let value : most_two x ≡ 1 = rw (
       le-ltb x 16384 (omega (arith, low)),
@@ -158,7 +158,7 @@ level_two_1 x low =
       le-ltb x 16 (omega (arith, low)),
       le-ltb x 8 (omega (arith, low)),
     ) refl in
-    subst (λ (m : ℕ). Two_told x m) (sym value) (record {
+    subst (λ (m : ℕ). Two_reported x m) (sym value) (record {
       at_2 = no x 16384 2 1 (omega (arith, low)) (omega arith);
       at_3 = no x 512 3 1 (omega (arith, low)) (omega arith);
       at_4 = no x 128 4 1 (omega (arith, low)) (omega arith);
@@ -167,8 +167,8 @@ level_two_1 x low =
       at_7 = no x 8 7 1 (omega (arith, low)) (omega arith);
     })
 
-two_told : (x : ℕ) → Two_told x (most_two x)
-two_told x =
+two_reported : (x : ℕ) → Two_reported x (most_two x)
+two_reported x =
     ⊎_elim (λ (a8 : x < 8). level_two_7 x a8) (λ (b8 : 8 ≤ x).
     ⊎_elim (λ (a16 : x < 16). level_two_6 x b8 a16) (λ (b16 : 16 ≤ x).
     ⊎_elim (λ (a32 : x < 32). level_two_5 x b16 a32) (λ (b32 : 32 ≤ x).
@@ -178,36 +178,36 @@ two_told x =
     level_two_1 x b16384) (cases_lt x 16384)) (cases_lt x 512)) (cases_lt x 128)) (cases_lt x 32)) (cases_lt x 16))
     (cases_lt x 8)
 
-record One_told (x m : ℕ) : Type 0 where
+record One_reported (x m : ℕ) : Type 0 where
   pub at_2 : (x < 16384) ↔ (2 ≤ m)
   pub at_4 : (x < 64) ↔ (4 ≤ m)
 
-level_one_4 : (x : ℕ) → x < 64 → One_told x (most_one x)
+level_one_4 : (x : ℕ) → x < 64 → One_reported x (most_one x)
 level_one_4 x high =
     let value : most_one x ≡ 4 = rw (lt-ltb x 16384 (omega (arith, high)), lt-ltb x 64 (omega (arith, high))) refl in
-    subst (λ (m : ℕ). One_told x m) (sym value) (record {
+    subst (λ (m : ℕ). One_reported x m) (sym value) (record {
       at_2 = yes x 16384 2 4 (omega (arith, high)) (omega arith);
       at_4 = yes x 64 4 4 (omega (arith, high)) (omega arith);
     })
 
-level_one_2 : (x : ℕ) → 64 ≤ x → x < 16384 → One_told x (most_one x)
+level_one_2 : (x : ℕ) → 64 ≤ x → x < 16384 → One_reported x (most_one x)
 level_one_2 x low high =
     let value : most_one x ≡ 2 = rw (lt-ltb x 16384 (omega (arith, high)), le-ltb x 64 (omega (arith, low))) refl in
-    subst (λ (m : ℕ). One_told x m) (sym value) (record {
+    subst (λ (m : ℕ). One_reported x m) (sym value) (record {
       at_2 = yes x 16384 2 2 (omega (arith, high)) (omega arith);
       at_4 = no x 64 4 2 (omega (arith, low)) (omega arith);
     })
 
-level_one_1 : (x : ℕ) → 16384 ≤ x → One_told x (most_one x)
+level_one_1 : (x : ℕ) → 16384 ≤ x → One_reported x (most_one x)
 level_one_1 x low =
     let value : most_one x ≡ 1 = rw (le-ltb x 16384 (omega (arith, low)), le-ltb x 64 (omega (arith, low))) refl in
-    subst (λ (m : ℕ). One_told x m) (sym value) (record {
+    subst (λ (m : ℕ). One_reported x m) (sym value) (record {
       at_2 = no x 16384 2 1 (omega (arith, low)) (omega arith);
       at_4 = no x 64 4 1 (omega (arith, low)) (omega arith);
     })
 
-one_told : (x : ℕ) → One_told x (most_one x)
-one_told x =
+one_reported : (x : ℕ) → One_reported x (most_one x)
+one_reported x =
     ⊎_elim (λ (a : x < 64). level_one_4 x a) (λ (b : 64 ≤ x).
     ⊎_elim (λ (a : x < 16384). level_one_2 x b a) (λ (d : 16384 ≤ x). level_one_1 x d) (cases_lt x 16384))
     (cases_lt x 64)
@@ -245,31 +245,31 @@ by_row s z k row found h r e =
 
 two_fits_2 : (z : ℤ) → Fits_row Two z 2
 two_fits_2 z = by_row Two z 2 _ refl (both _ _ _ (back _ _ (within_by z (size_of z) refl 15))
-    (both _ _ _ (near_below (size_of z) 16384 (omega arith)) (two_told (near (size_of z))).at_2))
+    (both _ _ _ (near_below (size_of z) 16384 (omega arith)) (two_reported (near (size_of z))).at_2))
 
 two_fits_3 : (z : ℤ) → Fits_row Two z 3
 two_fits_3 z = by_row Two z 3 _ refl (both _ _ _ (back _ _ (within_by z (size_of z) refl 10))
-    (both _ _ _ (near_below (size_of z) 512 (omega arith)) (two_told (near (size_of z))).at_3))
+    (both _ _ _ (near_below (size_of z) 512 (omega arith)) (two_reported (near (size_of z))).at_3))
 
 two_fits_4 : (z : ℤ) → Fits_row Two z 4
 two_fits_4 z = by_row Two z 4 _ refl
     (both _ _ _ (back _ _ (within_by z (size_of z) refl 8))
-    (both _ _ _ (near_below (size_of z) 128 (omega arith)) (two_told (near (size_of z))).at_4))
+    (both _ _ _ (near_below (size_of z) 128 (omega arith)) (two_reported (near (size_of z))).at_4))
 
 two_fits_5 : (z : ℤ) → Fits_row Two z 5
 two_fits_5 z = by_row Two z 5 _ refl
     (both _ _ _ (back _ _ (within_by z (size_of z) refl 6))
-    (both _ _ _ (near_below (size_of z) 32 (omega arith)) (two_told (near (size_of z))).at_5))
+    (both _ _ _ (near_below (size_of z) 32 (omega arith)) (two_reported (near (size_of z))).at_5))
 
 two_fits_6 : (z : ℤ) → Fits_row Two z 6
 two_fits_6 z = by_row Two z 6 _ refl
     (both _ _ _ (back _ _ (within_by z (size_of z) refl 5))
-    (both _ _ _ (near_below (size_of z) 16 (omega arith)) (two_told (near (size_of z))).at_6))
+    (both _ _ _ (near_below (size_of z) 16 (omega arith)) (two_reported (near (size_of z))).at_6))
 
 two_fits_7 : (z : ℤ) → Fits_row Two z 7
 two_fits_7 z = by_row Two z 7 _ refl
     (both _ _ _ (back _ _ (within_by z (size_of z) refl 4))
-    (both _ _ _ (near_below (size_of z) 8 (omega arith)) (two_told (near (size_of z))).at_7))
+    (both _ _ _ (near_below (size_of z) 8 (omega arith)) (two_reported (near (size_of z))).at_7))
 
 halved_2 : (n : ℕ) → (n < 2 ^ 15) ↔ (n / 2 < 16384)
 halved_2 n = (λ h. omega (arith, h), λ h. omega (arith, h))
@@ -277,7 +277,7 @@ halved_2 n = (λ h. omega (arith, h), λ h. omega (arith, h))
 one_fits_2 : (z : ℤ) → Fits_row One z 2
 one_fits_2 z = by_row One z 2 _ refl (both _ _ _ (back _ _ (within_by z (size_of z) refl 16))
     (both _ _ _ (halved_2 (size_of z)) (both _ _ _ (near_below (size_of z / 2) 16384 (omega arith))
-    (one_told (near (size_of z / 2))).at_2)))
+    (one_reported (near (size_of z / 2))).at_2)))
 
 halved_4 : (n : ℕ) → (n < 2 ^ 7) ↔ (n / 2 < 64)
 halved_4 n = (λ h. omega (arith, h), λ h. omega (arith, h))
@@ -286,7 +286,7 @@ one_fits_4 : (z : ℤ) → Fits_row One z 4
 one_fits_4 z = by_row One z 4 _ refl
     (both _ _ _ (back _ _ (within_by z (size_of z) refl 8))
     (both _ _ _ (halved_4 (size_of z)) (both _ _ _ (near_below (size_of z / 2) 64 (omega arith))
-    (one_told (near (size_of z / 2))).at_4)))
+    (one_reported (near (size_of z / 2))).at_4)))
 
 eight : (P : ℕ → Type 0) → P 0 → P 1 → P 2 → P 3 → P 4 → P 5 → P 6 → P 7 → (i : ℕ) → i < 8 → P i
 eight P a b c d e f g h =
@@ -408,7 +408,7 @@ zero_at zero i = refl
 zero_at (suc n) zero = refl
 zero_at (suc n) (suc i) = zero_at n i
 
--- nothing is told
+-- nothing is reported
 pub tells_none : (s : Scheme) (ds : List ℤ) (begin : ℕ) → Tells s ds (record { begin = begin; most = replicate 80 0 })
 tells_none s ds begin = (
   λ i h. subst (λ (m : ℕ). IsAhead s (drop (begin + i) ds) m) (sym (zero_at 80 i))
@@ -424,10 +424,10 @@ pub tells_again : (s : Scheme) (ds : List ℤ) (begin : ℕ) (most : List ℕ)
 tells_again s ds begin most h none =
     (λ i l. subst (λ (xs : List ℤ). IsAhead s xs (get_or most i 0)) (drop-drop i begin ds) (h i l), none)
 
--- what is told of a place
+-- what is reported of a place
 pub tells_at : (s : Scheme) (ds : List ℤ) (a : Ahead) (place i : ℕ) → Tells s ds a → i < 80 → a.begin + i ≡ place
     → IsAhead s (drop place ds) (get_or a.most i 0)
-tells_at s ds a place i told h e = subst (λ (n : ℕ). IsAhead s (drop n ds) (get_or a.most i 0)) e (told.0 i h)
+tells_at s ds a place i reported h e = subst (λ (n : ℕ). IsAhead s (drop n ds) (get_or a.most i 0)) e (reported.0 i h)
 
 -- no word takes more than seven
 pub fullest_few : (s : Scheme) (ds : List ℤ) (code word used : ℕ) → IsFullest s ds code word used → used ≤ 7

@@ -25,35 +25,14 @@ minus_sum (x ∷ xs) (y ∷ ys) e h =
     let small : y < 4294967296 = h.0.fits in
     omega (arith, ih, small)
 
-pub shl7_sum : (n : ℕ) (xs : List ℕ) → length xs ≡ n
-    → sum_l (zip2 (λ a b. a * 2 ^ b % 4294967296) xs (replicate n 7)) % 4294967296 ≡ 128 * sum_l xs % 4294967296
-shl7_sum n [] e = refl
-shl7_sum zero (x ∷ xs) e = absurd (omega arith)
-shl7_sum (suc n) (x ∷ xs) e = let ih = shl7_sum n xs (omega arith) in omega (arith, ih)
-
-pub shl10_sum : (n : ℕ) (xs : List ℕ) → length xs ≡ n
-    → sum_l (zip2 (λ a b. a * 2 ^ b % 4294967296) xs (replicate n 10)) % 4294967296 ≡ 1024 * sum_l xs % 4294967296
-shl10_sum n [] e = refl
-shl10_sum zero (x ∷ xs) e = absurd (omega arith)
-shl10_sum (suc n) (x ∷ xs) e = let ih = shl10_sum n xs (omega arith) in omega (arith, ih)
-
-pub shl15_sum : (n : ℕ) (xs : List ℕ) → length xs ≡ n
-    → sum_l (zip2 (λ a b. a * 2 ^ b % 4294967296) xs (replicate n 15)) % 4294967296 ≡ 32768 * sum_l xs % 4294967296
-shl15_sum n [] e = refl
-shl15_sum zero (x ∷ xs) e = absurd (omega arith)
-shl15_sum (suc n) (x ∷ xs) e = let ih = shl15_sum n xs (omega arith) in omega (arith, ih)
-
-pub shl8_sum : (n : ℕ) (xs : List ℕ) → length xs ≡ n
-    → sum_l (zip2 (λ a b. a * 2 ^ b % 4294967296) xs (replicate n 8)) % 4294967296 ≡ 256 * sum_l xs % 4294967296
-shl8_sum n [] e = refl
-shl8_sum zero (x ∷ xs) e = absurd (omega arith)
-shl8_sum (suc n) (x ∷ xs) e = let ih = shl8_sum n xs (omega arith) in omega (arith, ih)
-
-pub shl9_sum : (n : ℕ) (xs : List ℕ) → length xs ≡ n
-    → sum_l (zip2 (λ a b. a * 2 ^ b % 4294967296) xs (replicate n 9)) % 4294967296 ≡ 512 * sum_l xs % 4294967296
-shl9_sum n [] e = refl
-shl9_sum zero (x ∷ xs) e = absurd (omega arith)
-shl9_sum (suc n) (x ∷ xs) e = let ih = shl9_sum n xs (omega arith) in omega (arith, ih)
+pub shl_sum : (k n : ℕ) (xs : List ℕ) → length xs ≡ n
+    → sum_l (zip2 (λ a b. a * 2 ^ b % 4294967296) xs (replicate n k)) % 4294967296 ≡ 2 ^ k * sum_l xs % 4294967296
+shl_sum k n [] e = omega arith
+shl_sum k zero (x ∷ xs) e = absurd (omega arith)
+shl_sum k (suc n) (x ∷ xs) e =
+    let ih = shl_sum k n xs (omega arith) in
+    let more : 2 ^ k * (x + sum_l xs) ≡ x * 2 ^ k + 2 ^ k * sum_l xs = omega arith in
+    omega (arith, ih, more)
 
 pub fold_sum : (a : ℕ) (xs : List ℕ)
     → fold_l (λ s x. (s + x) % 4294967296) (a % 4294967296) xs ≡ (a + sum_l xs) % 4294967296

@@ -153,7 +153,7 @@ run_prefix s (w ∷ ws) prefix rest run =
       ),
     )
 
--- none of the differences that words took is too large
+-- none of the differences that words accepted is too large
 large_later : (s : Scheme) (ds : List ℤ) (used k : ℕ) → used ≤ k → IsTooLargeAt s ds k
     → IsTooLargeAt s (drop used ds) (k - used)
 large_later s ds used k h large =

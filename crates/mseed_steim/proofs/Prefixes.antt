@@ -6,7 +6,7 @@ use Rattle.mseed_steim.specs.Spelling.{SpellsNone}
 use Rattle.mseed_steim.specs.Frames.{DataWord}
 use Rattle.mseed_steim.specs.Runs.{SpellsRun, place_of, Gives, all, broken}
 
--- some differences in front of items
+-- some differences before items
 prefixes_all : (ds es : List ℤ) (more : List (Result ℤ BadWordAt)) → map Ok es ≡ map Ok ds ++ more
     → (t : List ℤ) × (es ≡ ds ++ t)
 prefixes_all [] es more e = (es, refl)

@@ -194,7 +194,7 @@ spelled_fits s ds h (c, (w, Spells.row g d e p)) =
     let range : All (IsWithin found.row.width) ds = subst (λ (x : ℕ). All (IsWithin x) ds) found.same p.range in
     record { row = found.row; found = rw p.count found.found; range = range }
 
--- a word with 0 in the bits of which nothing is said is that of its row
+-- a word with 0 in the bits that may be anything is that of its row
 plain_sum : (s : Scheme) (c d word : ℕ) (g : Group) (ds : List ℤ) → HasRow s c d g → IsGroup g d word ds
     → (s ≡ Two → length ds ≡ 7 → word / 2 ^ 28 % 4 ≡ 0) → word ≡ cond g.marked (d * 2 ^ 30) 0 + positional g.width ds
 plain_sum s c d word g ds found p plain = ⊎_elim

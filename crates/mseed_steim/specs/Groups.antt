@@ -5,7 +5,7 @@ use Rattle.mseed_steim.specs.declared.scheme.Scheme.{Scheme}
 use Rattle.mseed_steim.specs.declared.scheme.Scheme.TheVariants.{One, Two}
 
 -- What a word holds: `count` differences of `width` bits. Where it's marked, its top two bits are the
--- dnib. Its bits 29 and 28 can be any of `spare` values: four where nothing is said of them.
+-- dnib. Its bits 29 and 28 can be any of `spare` values: four where nothing is given of them.
 pub record Group : Type 0 where
   pub marked : Bool
   pub spare : ℕ
@@ -20,7 +20,7 @@ plain count width = Some (record { marked = false; spare = 1; count = count; wid
 abbrev pub marked : ℕ → ℕ → Option Group
 marked count width = Some (record { marked = true; spare = 1; count = count; width = width })
 
--- a dnib, two bits of which nothing is said, and 28 bits of differences
+-- a dnib, two bits that may be anything, and 28 bits of differences
 abbrev pub spared : ℕ → ℕ → Option Group
 spared count width = Some (record { marked = true; spare = 4; count = count; width = width })
 

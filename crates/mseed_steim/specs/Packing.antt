@@ -12,7 +12,7 @@ abbrev pub CanSpell : Scheme → List ℤ → Type 0
 CanSpell scheme ds = (code : ℕ) × ((word : ℕ) × Spells scheme code word ds)
 
 -- The word takes the largest number of the differences: it spells the first `used`, at least one, and no word
--- spells a longer prefix. The bits of a word of seven of which nothing is said are 0.
+-- spells a longer prefix. The bits of a word of seven that may be anything are 0.
 pub record IsFullest (scheme : Scheme) (ds : List ℤ) (code word used : ℕ) : Type 0 where
   pub some : 0 < used
   pub inside : used ≤ length ds
@@ -20,7 +20,7 @@ pub record IsFullest (scheme : Scheme) (ds : List ℤ) (code word used : ℕ) : 
   pub plain : scheme ≡ Two → used ≡ 7 → word / 2 ^ 28 % 4 ≡ 0
   pub largest : (k : ℕ) → used < k → k ≤ length ds → ¬ (CanSpell scheme (take k ds))
 
--- Each word in turn takes the largest number of the differences that are left; `rest` is what no word took.
+-- Each word in turn takes the largest number of the differences that are left; `rest` is what no word accepted.
 abbrev pub PacksRun : Scheme → List DataWord → List ℤ → List ℤ → Type 0
 PacksRun scheme [] ds rest = ds ≡ rest
 PacksRun scheme (w ∷ ws) ds rest =

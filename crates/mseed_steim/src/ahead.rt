@@ -12,7 +12,7 @@ use std::simd::prelude::*;
 /// How many differences are looked at ahead.
 const AHEAD: usize = 64;
 
-/// How many places are told of: for a word eight differences are read.
+/// How many places are reported: for a word eight differences are read.
 const KNOWN: usize = AHEAD - 7;
 
 /// How many bytes it takes to tell of each place among them how many a word takes there.
@@ -145,7 +145,7 @@ fn bound(held: &mut [u8; ROOM])
     }
 }
 
-/// The most differences that are held from each of the first 57 places on; nothing is told of others.
+/// The most differences that are held from each of the first 57 places on; nothing is reported of others.
 fn look_ahead(scheme: Scheme, diffs: &[i32], most: &mut [u8; ROOM])
     requires { 64 ≤ length diffs.now }
     ensures ahead { (i : ℕ) → i < 80 → IsAhead scheme (drop i diffs.now) (slice_index most.new i) }
@@ -180,7 +180,7 @@ impl Ahead {
         Ahead { begin: 0, most }
     }
 
-    /// The most differences that are held from a place on; less than two where nothing is told of them.
+    /// The most differences that are held from a place on; less than two where nothing is reported of them.
     #[inline(always)]
     pub(crate) fn most_at(&mut self, scheme: Scheme, diffs: &[i32], place: usize) -> usize
         requires tells { Tells scheme diffs.now self.old }

@@ -10,8 +10,7 @@ ghost use Rattle.mseed_steim.specs.Frames.{words_from};
 ghost use Rattle.mseed_steim.specs.private.Moves.{MovesBy};
 
 use crate::lanes::{
-    Rows, minus, part, part_by, planes, plus, rows_of, sum_of, tally, times_128, times_256,
-    times_512, times_1024, times_32768, turn,
+    Rows, minus, part, part_by, planes, plus, rows_of, shifted, sum_of, tally, turn,
 };
 use crate::scheme::Scheme;
 use std::simd::prelude::*;
@@ -146,9 +145,9 @@ pub(crate) fn frame_two(frame: &[u8; 64], begin: Rows) -> Moved
     let least = tally(rows, rows_two!(64, 0, 192, 20, 12, 7));
     let least_coarse = tally(rows, rows_two!(0, 128, 0, 0, 0, 0));
     // all of them 128-fold, so that what is divided is one number, and comes out even
-    let coarse = times_32768(minus(coarse, least_coarse));
-    let raised = plus(plus(times_128(ones), fine), coarse);
-    let sum = sum_of(minus(raised, times_1024(least)));
+    let coarse = shifted(minus(coarse, least_coarse), 15);
+    let raised = plus(plus(shifted(ones, 7), fine), coarse);
+    let sum = sum_of(minus(raised, shifted(least, 10)));
     // 2^20 more than the sum, which is no less than 0
     let more = sum.wrapping_add(1 << 27) >> 7;
     Moved {
@@ -217,8 +216,8 @@ pub(crate) fn frame_one(frame: &[u8; 64], begin: Rows) -> Moved
     let low = low_of(turned_a, turned_b, turned_c, turned_d, rows);
     let high = high_of(turned_a, turned_c, rows);
     let least = tally(rows, rows_one!(1, 128));
-    let raised = plus(low, times_256(high));
-    let sum = sum_of(minus(raised, times_512(least)));
+    let raised = plus(low, shifted(high, 8));
+    let sum = sum_of(minus(raised, shifted(least, 9)));
     Moved {
         count,
         by: sum.cast_signed(),

@@ -4,7 +4,7 @@
 //! each; a part's bits count for a power of 2 in that difference. By row, a table says which bits are a part
 //! (a mask), and for how much they count (a weight, at most 64).
 
-ghost use Rattle.std.specs.Prelude.{◌≡◌, ◌<◌, ◌≤◌, ◌+◌, ◌*◌, ◌%◌, ℕ, length, map, slice_index, bit_and};
+ghost use Rattle.std.specs.Prelude.{◌≡◌, ◌<◌, ◌≤◌, ◌+◌, ◌*◌, ◌%◌, ◌^◌, ℕ, length, map, slice_index, bit_and};
 ghost use Rattle.std.specs.Simd.Lanes.{Each1, all_below, sum_l};
 ghost use lib.Dec.{T};
 ghost use Rattle.mseed_steim.specs.private.Lanes.{words, byte_at, row_at, Begins, kept, kept_by, turned};
@@ -165,39 +165,13 @@ pub(crate) fn minus(a: u32x4, b: u32x4) -> u32x4
     a - b
 }
 
+/// Each lane, with its bits moved up by so many places.
 #[inline(always)]
-pub(crate) fn times_128(a: u32x4) -> u32x4
-    ensures { sum_l result % 4294967296 ≡ 128 * sum_l a % 4294967296 }
+pub(crate) fn shifted(a: u32x4, bits: u32) -> u32x4
+    requires { bits < 32 }
+    ensures { sum_l result % 4294967296 ≡ 2 ^ bits * sum_l a % 4294967296 }
 {
-    a << u32x4::splat(7)
-}
-
-#[inline(always)]
-pub(crate) fn times_256(a: u32x4) -> u32x4
-    ensures { sum_l result % 4294967296 ≡ 256 * sum_l a % 4294967296 }
-{
-    a << u32x4::splat(8)
-}
-
-#[inline(always)]
-pub(crate) fn times_512(a: u32x4) -> u32x4
-    ensures { sum_l result % 4294967296 ≡ 512 * sum_l a % 4294967296 }
-{
-    a << u32x4::splat(9)
-}
-
-#[inline(always)]
-pub(crate) fn times_1024(a: u32x4) -> u32x4
-    ensures { sum_l result % 4294967296 ≡ 1024 * sum_l a % 4294967296 }
-{
-    a << u32x4::splat(10)
-}
-
-#[inline(always)]
-pub(crate) fn times_32768(a: u32x4) -> u32x4
-    ensures { sum_l result % 4294967296 ≡ 32768 * sum_l a % 4294967296 }
-{
-    a << u32x4::splat(15)
+    a << u32x4::splat(bits)
 }
 
 /// The sum of a vector's lanes.

@@ -60,7 +60,7 @@ IsLayout scheme layout =
     × (layout.head ≡ layout.row.dnib * 2 ^ 30)
     × ArePlaces layout.row.width layout.row.count layout.places
 
--- What was found from a place on is so of the differences, and nothing is told of the last places.
+-- What was found from a place on is so of the differences, and nothing is reported of the last places.
 abbrev pub Tells : Scheme → List ℤ → Ahead → Type 0
 Tells scheme ds ahead =
     ((i : ℕ) → i < 80 → IsAhead scheme (drop (ahead.begin + i) ds) (slice_index_or ahead.most i 0))

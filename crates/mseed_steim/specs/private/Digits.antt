@@ -1,4 +1,4 @@
--- The digits of a word, one by one. What they are is said in Spelling; a test of a word's differences
+-- The digits of a word, one by one. What they are is stated in Spelling; a test of a word's differences
 -- goes by these, and each public contract by what is spelled.
 use Rattle.std.specs.Prelude.{ℕ, zero, suc, ◌-◌, ◌*◌, ◌/◌, ◌%◌, ◌^◌, ◌==◌, nat_lt, if◌then◌else◌, List, [], ◌∷◌, ℤ, pos}
 use Rattle.std.specs.Prelude.{negsuc, Option, Some, None}

@@ -1,4 +1,4 @@
--- The differences of words one by one, by the words' digits. What they are is said in Runs.
+-- The differences of words one by one, by the words' digits. What they are is stated in Runs.
 use Rattle.std.specs.Prelude.{List, [], ◌∷◌, ◌++◌, map, ℤ, Option, Some, None, Result, Ok, Err}
 use Rattle.mseed_steim.specs.declared.scheme.Scheme.{Scheme}
 use Rattle.mseed_steim.specs.declared.differences.BadWordAt.{BadWordAt}

@@ -12,7 +12,7 @@ pub record Moves (moved : Moved) (ds : List ℤ) : Type 0 where
   pub by : total ds ≡ moved.by
   pub near : span ds ≤ 2 ^ 20
 
--- it moves by the differences of these words; said where none of them is bad or holds one of 30 or 32 bits
+-- it moves by the differences of these words; given where none of them is bad or holds one of 30 or 32 bits
 abbrev pub MovesBy : Scheme → List DataWord → Moved → Type 0
 MovesBy scheme words moved =
     moved.count < 128 → (ds : List ℤ)

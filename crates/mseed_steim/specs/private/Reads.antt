@@ -7,7 +7,7 @@ use Rattle.mseed_steim.specs.Frames.{DataWord}
 abbrev pub as_data : Word → DataWord
 as_data w = record { frame = w.frame; place = w.place; code = w.code; bits = w.bits }
 
--- the words, with one in front that has been read
+-- the words, with one before it that has been read
 abbrev pub with_first : Option Word → List DataWord → List DataWord
 with_first None words = words
 with_first (Some w) words = as_data w ∷ words

@@ -1,4 +1,4 @@
--- The rows of the table of groups, by how many differences they have. What a word spells is said in Spelling.
+-- The rows of the table of groups, by how many differences they have. What a word spells is stated in Spelling.
 use Rattle.std.specs.Prelude.{◌≡◌, ℕ, ◌-◌, ◌*◌, ◌^◌, ◌<◌, ◌≤◌, ◌==◌, nat_lt, if◌then◌else◌, List, take, slice_index_or}
 use Rattle.std.specs.Prelude.{ℤ, Option, Some, None, All}
 use Rattle.mseed_steim.specs.declared.scheme.Scheme.{Scheme}

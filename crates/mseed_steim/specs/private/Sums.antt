@@ -1,4 +1,4 @@
--- A walk over items that adds them up. What it answers is said in Samples.
+-- A walk over items that adds them up. What it answers is stated in Samples.
 use Rattle.std.specs.Prelude.{◌≡◌, ⊤, ℕ, ◌+◌, ◌^◌, ◌==◌, nat_lt, Bool, if◌then◌else◌, List, [], ◌∷◌, ◌++◌, take, ℤ, pos}
 use Rattle.std.specs.Prelude.{negsuc, ◌+ℤ◌, Option, Some, None, Result, Ok, Err}
 use Rattle.mseed_steim.specs.declared.differences.BadWordAt.{BadWordAt}

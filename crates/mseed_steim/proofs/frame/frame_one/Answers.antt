@@ -32,7 +32,7 @@ returns-clause-by c = λ from begins few.
     let high = c.high_of-high.ensures R A B C D rows a x in
     let least = c.tally-least.ensures R rows in
     let come = lanes_come_one _ _ _ _ _ _ _ _ _ _ low high
-    c.times_256.ensures c.plus-raised.ensures c.times_512.ensures c.minus.ensures c.sum_of-sum.ensures in
+    c.shifted.ensures c.plus-raised.ensures c.shifted-2.ensures c.minus.ensures c.sum_of-sum.ensures in
     ap (λ z. to_z w32 (of_z w32 z)) c.cast_signed.ensures
     ∙ ap (λ n. to_z w32 n) (of_z-to_z w32 c.sum_of-sum.result c.sum_of-sum.type_inv)
     ∙ frame_sum_one f from c.fits-frame _ _ _ _ come c.sum_of-sum.type_inv refl refl least

@@ -34,8 +34,8 @@ returns-clause-by c = λ from begins few.
     let least = c.tally-least.ensures R rows in
     let far = c.tally-least_coarse.ensures R rows in
     let come = lanes_come _ _ _ _ _ _ _ _ _ _ _ _ _ _ _ _ ones fine coarse
-    c.minus.ensures c.times_32768-coarse.ensures c.times_128.ensures c.plus.ensures c.plus-raised.ensures
-    c.times_1024.ensures c.minus-2.ensures c.sum_of-sum.ensures in
+    c.minus.ensures c.shifted-coarse.ensures c.shifted.ensures c.plus.ensures c.plus-raised.ensures
+    c.shifted-2.ensures c.minus-2.ensures c.sum_of-sum.ensures in
     frame_sum f from c.fits-frame _ _ _ _ _ _ come c.sum_of-sum.type_inv refl refl refl least far
     (subst (λ n. n < 128) count few)
 

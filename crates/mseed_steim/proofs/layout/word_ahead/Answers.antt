@@ -15,18 +15,18 @@ returns c =
     let ds = c.args.diffs.now in
     let known = c.requires.ahead c.requires.some in
     let layout = c.layout_of-layout.result.now in
-    let told = c.layout_of-layout.ensures known.2.0 known.2.1.0 in
+    let reported = c.layout_of-layout.ensures known.2.0 known.2.1.0 in
     let best : IsBestRow c.args.scheme ds (length ds) (Some layout.row) =
-    subst (λ (r : Row). IsBestRow c.args.scheme ds (length ds) (Some r)) (sym told.0) known.2.1.1 in
+    subst (λ (r : Row). IsBestRow c.args.scheme ds (length ds) (Some r)) (sym reported.0) known.2.1.1 in
     let is = (row_is c.args.scheme layout.row.count layout.row best.0).0 in
     let prefix = take layout.row.count ds in
     let long : length prefix ≡ layout.row.count = length-take-le layout.row.count ds best.1 in
-    let head : layout.head ≡ layout.row.dnib * 1073741824 % 4294967296 = omega (arith, told.1.2, is.dnib) in
+    let head : layout.head ≡ layout.row.dnib * 1073741824 % 4294967296 = omega (arith, reported.1.2, is.dnib) in
     let joined = dnib_joined layout.row.dnib layout.row.width prefix is.dnib (rw long is.room)
     (λ some. rw long (is.apart some)) in
     let word : bit_or layout.head c.join.result ≡ layout.row.dnib * 2 ^ 30 + positional layout.row.width prefix =
     rw (head, c.join.ensures) joined in
-    let count : layout.row.count ≡ c.taken.result = ap (λ (r : Row). r.count) told.0
+    let count : layout.row.count ≡ c.taken.result = ap (λ (r : Row). r.count) reported.0
     ∙ (row_is c.args.scheme (taken c.args.scheme c.args.most) known.2.0 known.2.1.0).1 ∙ sym c.taken.ensures in
     subst (λ (n : ℕ). IsFullest c.args.scheme ds layout.row.code (bit_or layout.head c.join.result) n) count
     (is_fullest c.args.scheme ds layout.row (bit_or layout.head c.join.result) best.0 best.1 best.2 best.3 word)

@@ -60,10 +60,12 @@ loop-index-preserved-in-Some c =
       same = c.loop-index.invariant.same
           ∙ ap (λ (ws : List DataWord). fold c.args.samples c.loop-index.sum (items_of c.args.scheme ws)) parts
           ∙ c.in-Some.ensures.goes_on c.args.payload.now c.loop-index.index 1 _ (inl (refl, refl))
-          (rw c.as_chunks.ensures.front (frame_at (length c.args.payload.now / 64) c.args.payload.now c.loop-index.index
+          (rw c.as_chunks.ensures.front (frame_at (length c.args.payload.now / 64) c.args.payload.now
+          c.loop-index.index
           inside));
       kept = c.in-Some.ensures.kept c.args.payload.now c.loop-index.index 1 _ (inl (refl, refl))
-          (rw c.as_chunks.ensures.front (frame_at (length c.args.payload.now / 64) c.args.payload.now c.loop-index.index
+          (rw c.as_chunks.ensures.front (frame_at (length c.args.payload.now / 64) c.args.payload.now
+          c.loop-index.index
           inside))
           ∙ ap (λ (ws : List DataWord). take c.loop-index.sum.met c.loop-index.out ++ met_in c.args.samples
           c.loop-index.sum (items_of c.args.scheme ws)) (sym parts)

@@ -17,7 +17,7 @@ returns c =
     let ds = c.args.diffs.now in
     let place = c.args.place in
     let new = c.if-diffs-place-lt-AHEAD.self in
-    let told : Tells s ds new = elim c.if-diffs-place-lt-AHEAD.branch [
+    let reported : Tells s ds new = elim c.if-diffs-place-lt-AHEAD.branch [
       | then-diffs-place-lt-AHEAD w ↦ rw w.self-is (tells_none s ds place)
       | else-diffs-place-lt-AHEAD w ↦ rw w.self-is
           (tells_again s ds place w.look_ahead.new.most (rw (take_rest ds place) at w.look_ahead.ensures.ahead)
@@ -27,9 +27,9 @@ returns c =
       | then-diffs-place-lt-AHEAD w ↦ rw w.self-is refl
       | else-diffs-place-lt-AHEAD w ↦ rw w.self-is refl
     ] in
-    let here = tells_at s ds new place 0 told (omega arith) (omega (arith, begin)) in
+    let here = tells_at s ds new place 0 reported (omega arith) (omega (arith, begin)) in
     record {
-      tells = told;
+      tells = reported;
       ahead = subst (λ (m : ℕ). IsAhead s (drop place ds) m) (sym c.from-2.ensures) here;
       from = omega (arith, begin);
       to = omega (arith, begin);
